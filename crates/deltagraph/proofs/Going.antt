@@ -1,0 +1,168 @@
+-- The run so far, and how each turn lengthens it.
+use Rattle.std.proofs.Common.{◌≡◌, ℕ, ◌+◌, true, false, List, [], ◌∷◌, ◌++◌, Option, Some, None, IfSome, Result, Ok, Err, OnOk, OnErr, length, take, refl, sym, ◌∙◌, ap, subst, append_assoc, arith, length-append}
+use Rattle.std.specs.Option.{option_map}
+use Rattle.std.specs.Result.{is_err}
+use Rattle.std.proofs.lemmas.List.{append-nil}
+use Rattle.std.proofs.Math.Seq.{take-append-add}
+use Rattle.dg_model.specs.declared.reply.Reply.{Reply}
+use Rattle.dg_model.specs.Machine.{MachineState, names_in}
+use Rattle.dg_model.specs.Run.{Run}
+use Rattle.dg_model.specs.Script.{Entry, script}
+use Rattle.dg_model.specs.Text.{text, texts}
+use Rattle.dg_model.proofs.Runs.{run_more, texts_more}
+use Rattle.dg_io.specs.Told.{grown, GrowsByPart}
+use Rattle.dg_io.specs.Reading.{Reading}
+use Rattle.dg_session.specs.Parts.{Parts}
+use Rattle.dg_session.specs.Session.{StandsFor}
+use Rattle.deltagraph.specs.declared.status.Status.{Status}
+use Rattle.deltagraph.specs.declared.status.Status.TheVariants as status
+use Rattle.deltagraph.specs.Served.{Served, Gained}
+use Rattle.deltagraph.specs.Turns.{Replies, asked}
+
+-- The run from m so far: the entries answered, and those to come.
+pub record Going (m : MachineState) (left before : Option (List ℕ)) (session : Parts) (more : Option (List Entry)) (written : Option (List ℕ)) : Type 0 where
+  pub entries : List Entry
+  pub replies : List Reply
+  pub state : MachineState
+  pub run : Run m entries replies state
+  pub stands : StandsFor session state
+  pub front : option_map script left ≡ option_map (λ rest. entries ++ rest) more
+  pub gained : written ≡ grown before (texts [] replies)
+
+map-nothing : {A : Type 0} (o : Option (List A)) → o ≡ option_map (λ rest. [] ++ rest) o
+map-nothing None = refl
+map-nothing (Some xs) = refl
+
+grown-nil : (o : Option (List ℕ)) → o ≡ grown o []
+grown-nil None = refl
+grown-nil (Some xs) = ap (λ ys. Some ys) (sym (append-nil xs))
+
+grown-append : (o : Option (List ℕ)) (a b : List ℕ) → grown (grown o a) b ≡ grown o (a ++ b)
+grown-append None a b = refl
+grown-append (Some xs) a b = ap (λ ys. Some ys) (append_assoc xs a b)
+
+front_more : (o : Option (List Entry)) (entries : List Entry) (e : Entry)
+    → option_map (λ rest. entries ++ rest) (option_map (λ rest. e ∷ rest) o) ≡ option_map (λ rest. (entries ++ e ∷ []) ++ rest) o
+front_more None entries e = refl
+front_more (Some rest) entries e = ap (λ es. Some es) (sym (append_assoc entries (e ∷ []) rest))
+
+-- before the first turn
+pub going_first : (m : MachineState) (left before : Option (List ℕ)) (session : Parts) → StandsFor session m
+    → Going m left before session (option_map script left) before
+going_first m left before session stands = record {
+  entries = [];
+  replies = [];
+  state = m;
+  run = refl;
+  stands = stands;
+  front = map-nothing (option_map script left);
+  gained = grown-nil before;
+}
+
+-- a turn with no reply
+pub going_skip : (m : MachineState) (left before : Option (List ℕ)) (old new : Parts) (more rest : Option (List Entry)) (written : Option (List ℕ))
+    → Going m left before old more written → more ≡ rest → new ≡ old → Going m left before new rest written
+going_skip m left before old new more rest written going same kept =
+    subst (λ (es : Option (List Entry)). Going m left before new es written) same
+    (subst (λ (s : Parts). Going m left before s more written) (sym kept) going)
+
+-- a turn with a reply that was written
+pub going_on : (m : MachineState) (left before : Option (List ℕ)) (old new : Parts) (more rest : Option (List Entry)) (written : Option (List ℕ)) (e : Entry) (r : Reply)
+    → Going m left before old more written → more ≡ option_map (λ es. e ∷ es) rest → Replies e old new r
+    → Going m left before new rest (grown written (text [] r))
+going_on m left before old new more rest written e r going is replies =
+    let next = replies going.state going.stands in record {
+      entries = going.entries ++ e ∷ [];
+      replies = going.replies ++ r ∷ [];
+      state = next.0;
+      run = run_more m going.state next.0 going.entries going.replies e r going.run next.1;
+      stands = next.2;
+      front = going.front ∙ ap (option_map (λ es. going.entries ++ es)) is ∙ front_more rest going.entries e;
+      gained =
+          ap (λ o. grown o (text [] r)) going.gained
+          ∙ grown-append before (texts [] going.replies) (text [] r)
+          ∙ ap (grown before) (sym (texts_more [] going.replies r));
+    }
+
+-- the names of the machine are none today
+no_names : (session : Parts) (m : MachineState) → StandsFor session m → [] ≡ names_in m.index
+no_names session m stands = sym (ap names_in stands.index ∙ stands.names)
+
+-- a run that is cut
+pub served_cut : (s : Status) (m : MachineState) (left before : Option (List ℕ)) (session : Parts) (more : Option (List Entry)) (written : Option (List ℕ))
+    → Going m left before session more written → (s ≡ status.Done → IfSome more (λ rest. rest ≡ []))
+    → ((due : List ℕ) → written ≡ grown before due → Gained s before due written)
+    → Served m s left before written
+served_cut s m left before session more written going whole gained = record {
+  entries = going.entries;
+  replies = going.replies;
+  last = going.state;
+  run = going.run;
+  more = more;
+  front = going.front;
+  whole = whole;
+  gained = gained (texts (names_in going.state.index) going.replies)
+      (going.gained ∙ ap (λ (names : List (List ℕ)). grown before (texts names going.replies)) (no_names session going.state going.stands));
+}
+
+-- nothing was answered
+pub served_nothing : (s : Status) (m : MachineState) (left before : Option (List ℕ))
+    → (s ≡ status.Done → ⊥) → (before ≡ grown before [] → Gained s before [] before)
+    → Served m s left before before
+served_nothing s m left before undone gained = record {
+  entries = [];
+  replies = [];
+  last = m;
+  run = refl;
+  more = option_map script left;
+  front = map-nothing (option_map script left);
+  whole = λ done. absurd (undone done);
+  gained = gained (grown-nil before);
+}
+
+-- a proper prefix of a later piece is one of all pieces
+part_later : (before written after : Option (List ℕ)) (due piece : List ℕ) → written ≡ grown before due
+    → GrowsByPart written piece after → GrowsByPart before (due ++ piece) after
+part_later before written after due piece is part = (
+  length due + part.0,
+  omega (arith, length-append due piece, part.1),
+  part.2 ∙ ap (λ o. grown o (take part.0 piece)) is ∙ grown-append before due (take part.0 piece)
+      ∙ ap (grown before) (sym (take-append-add due piece part.0)),
+)
+
+-- the reply of the last turn was written in part
+pub served_part : (m : MachineState) (left before : Option (List ℕ)) (old new : Parts) (more rest : Option (List Entry)) (written after : Option (List ℕ)) (e : Entry) (r : Reply)
+    → Going m left before old more written → more ≡ option_map (λ es. e ∷ es) rest → Replies e old new r
+    → GrowsByPart written (text [] r) after → Served m status.SinkFault left before after
+unfolding going_on
+served_part m left before old new more rest written after e r going is replies part =
+    let now = going_on m left before old new more rest written e r going is replies in record {
+      entries = now.entries;
+      replies = now.replies;
+      last = now.state;
+      run = now.run;
+      more = rest;
+      front = now.front;
+      whole = λ done. cc;
+      gained =
+          subst (λ (due : List ℕ). GrowsByPart before due after)
+          (sym (texts_more [] going.replies r) ∙ ap (λ (names : List (List ℕ)). texts names now.replies) (no_names new now.state now.stands))
+          (part_later before written after (texts [] going.replies) (text [] r) going.gained part);
+    }
+
+-- before anything is read, the entries to come are those of the script
+pub asked_first : (r : Reading) (left : Option (List ℕ)) (limit : ℕ)
+    → r ≡ record { held = []; long = false; ended = false; taken = 0; limit = limit; text = [] }
+    → option_map script left ≡ asked r left
+asked_first r None limit is = refl
+asked_first r (Some bytes) limit is =
+    ap (λ (x : Reading). asked x (Some bytes)) (sym is)
+
+-- what is said of an error, where the test says that it is one
+pub at_err : {T E : Type 0} (r : Result T E) (P : Type 0) → is_err r ≡ true → OnErr r P → P
+at_err (Ok x) P test says = absurd (cc)
+at_err (Err e) P test says = says
+
+pub at_ok : {T E : Type 0} (r : Result T E) (P : Type 0) → is_err r ≡ false → OnOk r P → P
+at_ok (Ok x) P test says = says
+at_ok (Err e) P test says = absurd (cc)

@@ -1,0 +1,76 @@
+-- How a turn follows from its line.
+use Rattle.std.proofs.Common.{◌≡◌, ℕ, ◌+◌, List, ◌∷◌, Option, length, refl, sym, ◌∙◌, ap, subst}
+use Rattle.std.specs.Option.{option_map}
+use Rattle.dg_model.specs.declared.command.Command.{Command}
+use Rattle.dg_model.specs.declared.reply.Head.TheVariants as head
+use Rattle.dg_model.specs.declared.reply.Refusal.TheVariants as refusal
+use Rattle.dg_model.specs.declared.reply.Reply.{Reply}
+use Rattle.dg_model.specs.Answer.{headed}
+use Rattle.dg_model.specs.Lines.{ScriptLine, Text, Long}
+use Rattle.dg_model.specs.Run.{Step, Leaves_grammar, Too_long}
+use Rattle.dg_model.specs.Script as script
+use Rattle.dg_model.proofs.Entries.{told_other, told_asked}
+use Rattle.dg_io.specs.Told.{Gives}
+use Rattle.dg_io.specs.Reading.{Reading, Comes, EndsWith}
+use Rattle.dg_line.specs.declared.command.Syntax.{Syntax}
+use Rattle.dg_session.specs.Parts.{Parts}
+use Rattle.dg_session.specs.Session.{Steps}
+use Rattle.deltagraph.specs.declared.turn.Meaning.TheVariants as meaning
+use Rattle.deltagraph.specs.Takes.{Takes, EndsWithin}
+use Rattle.deltagraph.specs.Turns.{Means, Replies}
+
+-- some entry comes first, and is given the reply
+abbrev pub IsReplied : Option (List ScriptLine) → Option (List ScriptLine) → Parts → Parts → Reply → Type 0
+IsReplied start after old new reply =
+    (e : script.Entry)
+    × (option_map script.entries_of start ≡ option_map (λ more. e ∷ more) (option_map script.entries_of after))
+    × Replies e old new reply
+
+-- the turn at a line that is in no command
+pub leaves_turn : (start after : Option (List ScriptLine)) (line text : List ℕ) (syntax : Syntax) (column : ℕ) (session : Parts) (reply : Reply)
+    → text ≡ line → column ≡ syntax.0 → Comes (Text line) start after → Means (meaning.Other syntax) text
+    → reply ≡ headed (head.Refused (refusal.Syntax column)) → IsReplied start after session session reply
+leaves_turn start after line text syntax column session reply same at comes means is =
+    let means_line = subst (λ (l : List ℕ). Means (meaning.Other syntax) l) same means in
+    let said : reply ≡ headed (head.Refused (refusal.Syntax syntax.0)) = is ∙ ap (λ (k : ℕ). headed (head.Refused (refusal.Syntax k))) at in (
+      script.No_command line,
+      told_other start after (Text line) (script.No_command line) comes means_line.0,
+      λ m stands. (
+        m,
+        subst (λ (r : Reply). Step m (script.No_command line) r m) (sym said) (Leaves_grammar line syntax.0 means_line.1),
+        stands,
+      ),
+    )
+
+-- the turn at a command
+pub command_turn : (start before after : Option (List ScriptLine)) (line text : List ℕ) (command : Command) (old new : Parts) (reply : Reply)
+    → text ≡ line → Comes (Text line) start before → Means (meaning.Command command) text
+    → Steps command before after old new reply → IsReplied start after old new reply
+command_turn start before after line text command old new reply same comes means steps = (
+  script.Asked command steps.0,
+  told_asked start before after (Text line) command steps.0 comes
+      (subst (λ (l : List ℕ). Means (meaning.Command command) l) same means) steps.1,
+  steps.2,
+)
+
+-- the turn at a line that is too long
+pub long_turn : (start after : Option (List ScriptLine)) (session : Parts) (reply : Reply)
+    → Comes Long start after → reply ≡ headed (head.Refused refusal.LineLong) → IsReplied start after session session reply
+long_turn start after session reply comes is = (
+  script.Long_line,
+  told_other start after Long script.Long_line comes refl,
+  λ m stands. (m, subst (λ (r : Reply). Step m script.Long_line r m) (sym is) Too_long, stands),
+)
+
+-- what one line takes
+pub takes_of : (old new : Reading) (before after : Option (List ℕ))
+    → ((bytes : List ℕ) × Gives before bytes after × (new.taken ≡ old.taken + length bytes))
+    → new.limit ≡ old.limit → (EndsWith old before → EndsWith new after) → EndsWithin new → Takes old before new after
+takes_of old new before after taken limit at_end within = record {
+  bytes = taken.0;
+  gives = taken.1;
+  taken = taken.2;
+  limit = limit;
+  at_end = at_end;
+  within = λ old_within. within;
+}

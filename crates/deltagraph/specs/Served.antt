@@ -1,0 +1,54 @@
+-- What the program owes for a script: the replies of a run of the machine.
+use Rattle.std.specs.Prelude.{◌≡◌, ℕ, ◌<◌, ◌≤◌, Bool, false, ◌==◌, ◌⊎◌, not, List, [], ◌∷◌, ◌++◌, length, IfSome, Option, slice_index}
+use Rattle.std.specs.Option.{option_map}
+use Rattle.dg_model.specs.declared.limits.Limits.{Limits}
+use Rattle.dg_model.specs.declared.reply.Reply.{Reply}
+use Rattle.dg_model.specs.Machine.{MachineState, names_in}
+use Rattle.dg_model.specs.Run.{Run}
+use Rattle.dg_model.specs.Script.{Entry, script}
+use Rattle.dg_model.specs.Text.{texts}
+use Rattle.dg_io.specs.Told.{grown, GrowsByPart}
+use Rattle.deltagraph.specs.declared.status.Status.{Status}
+use Rattle.deltagraph.specs.declared.status.Status.TheVariants as status
+
+-- the exit status
+abbrev pub code_of : Status → ℕ
+code_of status.Done = 0
+code_of status.Words = 2
+code_of status.SourceFault = 3
+code_of status.SinkFault = 4
+code_of status.NoMemory = 6
+code_of status.ScriptLimit = 9
+
+-- one word that does not begin with `-`
+abbrev pub is_written_form : List (List ℕ) → Bool
+is_written_form [] = false
+is_written_form (index ∷ []) = not (slice_index index 0 == 45)
+is_written_form (index ∷ other ∷ more) = false
+
+-- what the sink gained: the texts of the replies, or where it failed a proper prefix of them
+abbrev pub Gained : Status → Option (List ℕ) → List ℕ → Option (List ℕ) → Type 0
+Gained status.Done before due after = after ≡ grown before due
+Gained status.Words before due after = after ≡ grown before due
+Gained status.SourceFault before due after = after ≡ grown before due
+Gained status.SinkFault before due after = GrowsByPart before due after
+Gained status.NoMemory before due after = after ≡ grown before due
+Gained status.ScriptLimit before due after = after ≡ grown before due
+
+-- What the sink gained is the texts of a run of the machine from m over the first entries of the
+-- script; with `Done` over all of them.
+pub record Served (m : MachineState) (s : Status) (left before after : Option (List ℕ)) : Type 0 where
+  pub entries : List Entry
+  pub replies : List Reply
+  pub last : MachineState
+  pub run : Run m entries replies last
+  pub more : Option (List Entry)
+  pub front : option_map script left ≡ option_map (λ rest. entries ++ rest) more
+  pub whole : s ≡ status.Done → IfSome more (λ rest. rest ≡ [])
+  pub gained : Gained s before (texts (names_in last.index) replies) after
+
+-- Where nothing failed, the script is answered to its end exactly where it has fewer bytes than the
+-- limit; want of memory before the first command is free.
+pub record Completes (limits : Limits) (s : Status) (script_bytes : List ℕ) : Type 0 where
+  pub short : length script_bytes < limits.script_bytes → (s ≡ status.Done) ⊎ (s ≡ status.NoMemory)
+  pub long : limits.script_bytes ≤ length script_bytes → (s ≡ status.ScriptLimit) ⊎ (s ≡ status.NoMemory)

@@ -1,0 +1,47 @@
+ghost use Rattle.std.specs.Prelude.{◌≡◌};
+ghost use Rattle.deltagraph.specs.Served.{code_of};
+
+/// How a run ended.
+#[derive(Clone, Copy, Debug, PartialEq, Eq)]
+pub enum Status {
+    /// The script was read to its end, and every reply was written.
+    Done,
+    /// The words on the command line are not of the written form.
+    Words,
+    /// A read of the script failed.
+    SourceFault,
+    /// A write of a reply failed.
+    SinkFault,
+    /// There was no memory to begin with.
+    NoMemory,
+    /// As many bytes of the script as the limit were taken, and another is needed.
+    ScriptLimit,
+}
+
+impl Status {
+    /// The exit status of the program.
+    pub fn code(&self) -> u8
+        ensures { result ≡ code_of self.now }
+    {
+        match self {
+            Status::Done => 0,
+            Status::Words => 2,
+            Status::SourceFault => 3,
+            Status::SinkFault => 4,
+            Status::NoMemory => 6,
+            Status::ScriptLimit => 9,
+        }
+    }
+
+    /// What the program says of it on standard error, after its name.
+    pub fn message(&self) -> Option<&'static str> {
+        match self {
+            Status::Done => None,
+            Status::Words => Some("usage: deltagraph INDEX"),
+            Status::SourceFault => Some("reading the script failed"),
+            Status::SinkFault => Some("writing failed"),
+            Status::NoMemory => Some("out of memory"),
+            Status::ScriptLimit => Some("the script is too long"),
+        }
+    }
+}

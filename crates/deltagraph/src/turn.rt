@@ -1,0 +1,118 @@
+ghost use Rattle.std.specs.Prelude.{◌≡◌, ◌<◌, ◌≤◌, ℕ, IsTrue, List, IfOk, OnErr, IsErrOf};
+ghost use Rattle.dg_io.specs.Told.{Rose};
+ghost use Rattle.dg_io.specs.Reading.{told, to_come, NeedsByte};
+ghost use Rattle.dg_model.specs.Answer.{headed};
+ghost use Rattle.deltagraph.specs.Turns.{Turns, TurnsAt, Means, Falls, EndsAt, GoesOn, asked};
+ghost use Rattle.deltagraph.specs.Takes.{Takes};
+
+use dg_io::{Line, LineFault, Lines, Source};
+use dg_line::{Syntax, read_command};
+use dg_model::{BodyLines, Command, Head, Refusal, Reply};
+use dg_session::{Session, Stop};
+use std::alloc::Global;
+use std::thread::Threads;
+
+// The first byte of a line that is skipped.
+const COMMENT: u8 = b'#';
+
+/// What one turn over the script comes to.
+#[derive(Drop)]
+pub enum Turn {
+    /// The script is at its end.
+    End,
+    /// The line has no reply.
+    Skipped,
+    /// The reply to a command, or to a line that is in none.
+    Replied(Reply),
+}
+
+/// What a line is where a command is expected.
+#[derive(Clone, Copy)]
+pub enum Meaning {
+    /// It is empty, or begins with `#`.
+    Skipped,
+    /// It is this command.
+    Command(Command),
+    /// It is in no command.
+    Other(Syntax),
+}
+
+/// Takes the next line of the script and, where it is a command, the lines that follow it, and
+/// carries it out.
+///
+/// `Stop::Read` where a read of the source failed, `Stop::Limit` where another byte is needed and as
+/// many as the limit were taken. The session is then as before.
+pub fn next_turn<R: Threads, S: Source>(
+    rt: &R,
+    alloc: Global,
+    session: &mut Session,
+    lines: &mut Lines,
+    source: &mut S,
+) -> Result<Turn, Stop>
+    ensures turn { IfOk result (λ turn. Turns turn (asked lines.old (S.left source.old)) (asked lines.new (S.left source.new)) session.old session.new) }
+    ensures stop { OnErr result (session.new ≡ session.old) }
+    ensures falls { IfOk result (λ turn. Falls turn (to_come lines.old) (to_come lines.new)) }
+    ensures read { IsErrOf result Stop.Read → Rose (S.faults source.old) (S.faults source.new) }
+    ensures limit { IsErrOf result Stop.Limit → (lines.new.taken ≡ lines.new.limit) × NeedsByte lines.new }
+    ensures takes { Takes lines.old (S.left source.old) lines.new (S.left source.new) }
+    ensures end { IfOk result (λ turn. EndsAt turn lines.new) }
+    ensures counted { S.faults source.old ≤ S.faults source.new }
+{
+    match lines.next(source) {
+        Ok(Line::End) => Ok(Turn::End),
+        Ok(Line::TooLong) => Ok(Turn::Replied(refused(alloc, Refusal::LineLong))),
+        Ok(Line::Text(_)) => turn_of(rt, alloc, session, lines, source),
+        Err(LineFault::Read) => Err(Stop::Read),
+        Err(LineFault::Limit) => Err(Stop::Limit),
+    }
+}
+
+// The turn at a line of the script, which was just taken.
+fn turn_of<R: Threads, S: Source>(
+    rt: &R,
+    alloc: Global,
+    session: &mut Session,
+    lines: &mut Lines,
+    source: &mut S,
+) -> Result<Turn, Stop>
+    ensures turn { IfOk result (λ turn. TurnsAt turn lines.old.text (told lines.old (S.left source.old)) (told lines.new (S.left source.new)) session.old session.new) }
+    ensures goes_on { IfOk result (λ turn. GoesOn turn) }
+    ensures stop { OnErr result (session.new ≡ session.old) }
+    ensures kept { to_come lines.new ≤ to_come lines.old }
+    ensures read { IsErrOf result Stop.Read → Rose (S.faults source.old) (S.faults source.new) }
+    ensures limit { IsErrOf result Stop.Limit → (lines.new.taken ≡ lines.new.limit) × NeedsByte lines.new }
+    ensures takes { Takes lines.old (S.left source.old) lines.new (S.left source.new) }
+    ensures counted { S.faults source.old ≤ S.faults source.new }
+{
+    match meaning_of(lines.text()) {
+        Meaning::Skipped => Ok(Turn::Skipped),
+        Meaning::Other(Syntax(column)) => Ok(Turn::Replied(refused(
+            alloc,
+            Refusal::Syntax(column),
+        ))),
+        Meaning::Command(command) => Ok(Turn::Replied(session.step(rt, &command, lines, source)?)),
+    }
+}
+
+// What the line is.
+fn meaning_of(line: &[u8]) -> Meaning
+    ensures { Means result line.now }
+{
+    match line {
+        [] | [COMMENT, ..] => Meaning::Skipped,
+        _ => match read_command(line) {
+            Ok(command) => Meaning::Command(command),
+            Err(syntax) => Meaning::Other(syntax),
+        },
+    }
+}
+
+// The reply that refuses a line. It takes no memory.
+fn refused(alloc: Global, refusal: Refusal) -> Reply
+    ensures { result ≡ headed (Head.Refused refusal) }
+{
+    Reply {
+        head: Head::Refused(refusal),
+        body: BodyLines::new(alloc),
+    }
+}

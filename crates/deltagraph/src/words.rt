@@ -1,0 +1,36 @@
+ghost use Rattle.std.specs.Prelude.{◌≡◌, map, string_bytes};
+ghost use Rattle.deltagraph.specs.Served.{is_written_form};
+
+use crate::status::Status;
+use std::env;
+use std::io::ErrorKind;
+
+// What the word of an option begins with.
+const DASH: u8 = b'-';
+
+/// The words after the program's own name. `Status::NoMemory` for want of memory, and
+/// `Status::Words` where a word is no text in UTF-8.
+pub fn words_after_name(rt: &HostRuntime) -> Result<Vec<String>, Status> {
+    match env::args(rt) {
+        Ok(args) => args
+            .skip(1)
+            .collect(rt.alloc())
+            .map_err(|_| Status::NoMemory),
+        Err(error) if error.kind() == ErrorKind::OutOfMemory => Err(Status::NoMemory),
+        Err(_) => Err(Status::Words),
+    }
+}
+
+/// Whether the words after the program's name are of the written form: one word, the index, that
+/// does not begin with `-`.
+pub fn are_written(words: &[String]) -> bool
+    ensures { result ≡ is_written_form (map string_bytes words.now) }
+{
+    match words {
+        [index] => match index.as_bytes() {
+            [first, ..] => *first != DASH,
+            [] => true,
+        },
+        _ => false,
+    }
+}

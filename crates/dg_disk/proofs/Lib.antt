@@ -1,0 +1,4 @@
+pub mod Tearing
+pub mod Passing
+pub mod Watching
+pub mod Telling

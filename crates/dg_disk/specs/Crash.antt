@@ -1,0 +1,41 @@
+-- What a crash may leave of a disk's bytes. It is a fact about lists of bytes: it holds of each list that
+-- a crash at that moment may leave.
+use Rattle.std.specs.Prelude.{◌≡◌, ◌⊎◌, ◌↔◌, ℕ, ◌+◌, ◌≤◌, List, length, take, drop, IfSome, Option}
+
+-- The bytes after a write of len bytes at the place that a crash cut short: bytes before the range and
+-- behind it are as they were, those in it may be any, and nothing is cut. So the bytes end anywhere from
+-- their old end to the later of this and the end of the range.
+pub record Torn (place len : ℕ) (old new : List ℕ) : Type 0 where
+  pub before : take place new ≡ take place old
+  pub behind : drop (place + len) new ≡ drop (place + len) old
+  pub kept : length old ≤ length new
+
+-- what a crash may leave now is what it might have left before, with that write torn
+abbrev pub LeavesTorn : ℕ → ℕ → (List ℕ → Type 0) → (List ℕ → Type 0) → Type 0
+LeavesTorn place len old new = (c : List ℕ) → new c → (d : List ℕ) × old d × Torn place len d c
+
+-- a crash may leave the same as before
+abbrev pub LeavesSame : (List ℕ → Type 0) → (List ℕ → Type 0) → Type 0
+LeavesSame old new = (c : List ℕ) → old c ↔ new c
+
+-- a crash may leave nothing that it might not have left before
+abbrev pub LeavesNoMore : (List ℕ → Type 0) → (List ℕ → Type 0) → Type 0
+LeavesNoMore old new = (c : List ℕ) → new c → old c
+
+-- a crash leaves the image and nothing else, where the image is told
+abbrev pub IsSettled : Option (List ℕ) → (List ℕ → Type 0) → Type 0
+IsSettled image leaves = IfSome image (λ bytes. (c : List ℕ) → leaves c → c ≡ bytes)
+
+-- Time goes on from one moment to another: a crash at some moment since t may have left what one up to the
+-- first moment might have left, or what one may leave now, and nothing else.
+pub record Passes (first last : ℕ) (old_since new_since : ℕ → List ℕ → Type 0) (leaves : List ℕ → Type 0) : Type 0 where
+  pub later : first ≤ last
+  pub either : (t : ℕ) (c : List ℕ) → t ≤ first → new_since t c → old_since t c ⊎ leaves c
+  pub earlier : (t : ℕ) (c : List ℕ) → t ≤ first → old_since t c → new_since t c
+
+-- A crash at any moment from one state of a disk to a later one leaves bytes that have P.
+pub record LeavesOnly {D : Type 0} (moment : D → ℕ) (left_since : D → ℕ → List ℕ → Type 0) (old new : D) (P : List ℕ → Type 0) : Type 0 where
+  pub later : moment old ≤ moment new
+  pub within : (c : List ℕ) → left_since new (moment old) c → P c
+  -- the same for whoever began to watch at an earlier moment
+  pub since : (t : ℕ) (c : List ℕ) → t ≤ moment old → left_since new t c → left_since old t c ⊎ P c

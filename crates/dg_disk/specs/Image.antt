@@ -1,0 +1,32 @@
+-- What the calls of a disk say of its image, the list of its bytes as they read. `None` is a disk that
+-- tells no image. Whether a disk tells its image stays the same over every call.
+use Rattle.std.specs.Prelude.{◌≡◌, ℕ, ◌+◌, ◌≤◌, List, ◌++◌, length, take, drop, slice_range, IfSome, Option}
+use Rattle.std.specs.Option.{option_map}
+
+-- the image has this length, where it is told
+abbrev pub IsLengthOf : Option (List ℕ) → ℕ → Type 0
+IsLengthOf image n = IfSome image (λ bytes. n ≡ length bytes)
+
+-- the place is within the image or at its end, where the image is told
+abbrev pub HasPlace : Option (List ℕ) → ℕ → Type 0
+HasPlace image place = IfSome image (λ bytes. place ≤ length bytes)
+
+-- so many bytes from the place on are within the image, where it is told
+abbrev pub HasRange : Option (List ℕ) → ℕ → ℕ → Type 0
+HasRange image place len = IfSome image (λ bytes. place + len ≤ length bytes)
+
+-- these are the bytes of the image from the place on, where it is told
+abbrev pub IsRangeOf : Option (List ℕ) → ℕ → List ℕ → Type 0
+IsRangeOf image place range = IfSome image (λ bytes. range ≡ slice_range bytes place (place + length range))
+
+-- the bytes with the piece at the place: those before it and those behind it are as they were
+abbrev pub put_at : ℕ → List ℕ → List ℕ → List ℕ
+put_at place piece bytes = take place bytes ++ piece ++ drop (place + length piece) bytes
+
+-- the image with the piece at the place, where it is told
+abbrev pub with_piece : ℕ → List ℕ → Option (List ℕ) → Option (List ℕ)
+with_piece place piece image = option_map (put_at place piece) image
+
+-- The image after a failed write of len bytes at the place: some bytes stand there, that many or fewer.
+abbrev pub WritesPart : ℕ → ℕ → Option (List ℕ) → Option (List ℕ) → Type 0
+WritesPart place len old new = (bytes : List ℕ) × (length bytes ≤ len) × (new ≡ with_piece place bytes old)

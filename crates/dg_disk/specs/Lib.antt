@@ -1,0 +1,6 @@
+pub mod Counts
+pub mod Image
+pub mod Crash
+pub mod Deeds
+pub mod Memory
+pub mod Entries

@@ -1,0 +1,13 @@
+//! The disk that an index stands on: the trait `Disk`, its form in memory for tests and its form over
+//! a real file.
+#![tactic(auto)]
+
+mod disk;
+mod file;
+mod memory;
+#[cfg(test)]
+mod tests;
+
+pub use disk::{Disk, Failed};
+pub use file::FileDisk;
+pub use memory::MemoryDisk;

@@ -1,0 +1,5 @@
+pub mod Feeds
+pub mod Ranges
+pub mod Cutting
+pub mod Growing
+pub mod Going

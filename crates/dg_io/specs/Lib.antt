@@ -1,0 +1,6 @@
+pub mod Told
+pub mod Reading
+pub mod Memory
+pub mod Feed
+pub mod Buffer
+pub mod Standard

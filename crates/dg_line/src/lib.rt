@@ -1,0 +1,19 @@
+//! Lines to values, and values to lines: which line of the script is which command or change, and
+//! the text of a reply. docs/SCRIPT.md has the grammar.
+#![tactic(auto)]
+
+mod change;
+mod command;
+mod grammar;
+mod page;
+mod reply;
+#[cfg(test)]
+mod tests;
+mod words;
+
+pub use change::{ChangeFault, read_change};
+pub use command::{Syntax, read_command};
+pub use dg_model::{
+    BodyLine, BodyLines, Change, Columns, Command, Element, Head, Refusal, Reply, What,
+};
+pub use reply::write_reply;

@@ -1,0 +1,269 @@
+ghost use Rattle.std.specs.Prelude.{◌≡◌, ◌≤◌, ◌++◌, [], ◌∷◌, map, take, codes, decimal, if◌then◌else◌, OnOk, OnErr};
+ghost use Rattle.dg_model.specs.Text.{text, body_text, head_words, element_words, body_words, refusal_words, name_text};
+ghost use Rattle.dg_io.specs.Told.{grown, GrowsByPart, Rose};
+ghost use Rattle.dg_line.specs.Page.{Passes, word_bytes};
+
+use crate::page::{Page, Word};
+use dg_io::{Failed, Sink};
+use dg_model::{BodyLine, Element, Head, Refusal, Reply};
+
+/// The most words that a line of a reply has.
+const WORDS_MAX: usize = 5;
+
+/// What stands behind the last word of a row.
+const NO_WORD: Word<'static> = Word::Text(b"");
+
+const OK: Word<'static> = Word::Text(b"ok");
+
+const REFUSED: Word<'static> = Word::Text(b"refused");
+
+/// The words of a line.
+#[derive(Clone, Copy)]
+struct Row<'a> {
+    words: [Word<'a>; WORDS_MAX],
+    len: usize,
+}
+
+/// Writes the text of a reply: the head line, the lines of the body, and `end`. `Failed` where a
+/// write failed: then a part of the text is written, and never all of it.
+pub fn write_reply<K: Sink>(sink: &mut K, reply: &Reply) -> Result<(), Failed>
+    ensures ok { OnOk result (K.written sink.new ≡ grown (K.written sink.old) (text [] reply.now)) }
+    ensures err { OnErr result (GrowsByPart (K.written sink.old) (text [] reply.now) (K.written sink.new)) }
+    ensures cause { OnErr result (Rose (K.faults sink.old) (K.faults sink.new)) }
+    ensures counted { K.faults sink.old ≤ K.faults sink.new }
+{
+    let mut page = Page::new();
+    let head = head_row(&reply.head);
+    page.put_line(sink, &head.words[..head.len])?;
+    put_body(&mut page, sink, reply.body.as_slice())?;
+    page.put_line(sink, &[Word::Text(b"end")])?;
+    page.flush(sink)
+}
+
+fn put_body<K: Sink>(page: &mut Page, sink: &mut K, lines: &[BodyLine]) -> Result<(), Failed>
+    ensures ok { OnOk result (Passes (K.written sink.old) (page.old ++ body_text [] lines.now) (K.written sink.new) page.new) }
+    ensures err { OnErr result (GrowsByPart (K.written sink.old) (page.old ++ body_text [] lines.now) (K.written sink.new)) }
+    ensures cause { OnErr result (Rose (K.faults sink.old) (K.faults sink.new)) }
+    ensures counted { K.faults sink.old ≤ K.faults sink.new }
+{
+    for line in lines {
+        let row = body_row(line);
+        page.put_line(sink, &row.words[..row.len])?;
+    }
+    Ok(())
+}
+
+fn head_row(head: &Head) -> Row<'static>
+    ensures words { map word_bytes (take result.len result.words) ≡ head_words head.now }
+    ensures len { result.len ≤ WORDS_MAX }
+{
+    match *head {
+        Head::Loaded {
+            events,
+            total,
+            last,
+        } => Row {
+            words: [
+                OK,
+                Word::Text(b"load"),
+                Word::Number(events),
+                Word::Number(total),
+                Word::Number(last),
+            ],
+            len: 5,
+        },
+        Head::At { handle, weight } => Row {
+            words: [
+                OK,
+                Word::Text(b"at"),
+                Word::Number(u64::from(handle)),
+                Word::Number(weight),
+                NO_WORD,
+            ],
+            len: 4,
+        },
+        Head::List { handle, lines } => Row {
+            words: [
+                OK,
+                Word::Text(b"list"),
+                Word::Number(u64::from(handle)),
+                Word::Number(lines),
+                NO_WORD,
+            ],
+            len: 4,
+        },
+        Head::Refused(refusal) => refusal_row(refusal),
+    }
+}
+
+fn refusal_row(refusal: Refusal) -> Row<'static>
+    ensures words { map word_bytes (take result.len result.words) ≡ codes "refused" ∷ refusal_words refusal }
+    ensures len { result.len ≤ WORDS_MAX }
+{
+    match refusal {
+        Refusal::Syntax(column) => refused_with(b"1", b"syntax", Word::Number(u64::from(column))),
+        Refusal::ShortBatch(read, asked) => refused_with_both(
+            b"5",
+            b"short-batch",
+            u64::from(read),
+            u64::from(asked),
+        ),
+        Refusal::BadChange(number, reason) => refused_with_both(
+            b"6",
+            b"bad-change",
+            u64::from(number),
+            u64::from(reason),
+        ),
+        Refusal::OutOfRange(None) => refused_with(b"7", b"out-of-range", Word::Text(b"empty")),
+        Refusal::OutOfRange(Some((first, last))) => refused_with_both(
+            b"7",
+            b"out-of-range",
+            first,
+            last,
+        ),
+        Refusal::UnknownHandle(handle) => refused_with(
+            b"8",
+            b"unknown-handle",
+            Word::Number(u64::from(handle)),
+        ),
+        Refusal::PoolFull(live, asked) => refused_with_both(
+            b"9",
+            b"pool-full",
+            u64::from(live),
+            u64::from(asked),
+        ),
+        Refusal::OutOfMemory => refused(b"16", b"out-of-memory"),
+        Refusal::LineLong => refused(b"18", b"line-long"),
+        Refusal::AlreadyLoaded => refused(b"20", b"already-loaded"),
+    }
+}
+
+// A refusal that keeps nothing: its number and its name.
+fn refused(number: &'static [u8], name: &'static [u8]) -> Row<'static>
+    ensures words { map word_bytes (take result.len result.words) ≡ codes "refused" ∷ number.now ∷ name.now ∷ [] }
+    ensures len { result.len ≤ WORDS_MAX }
+{
+    Row {
+        words: [
+            REFUSED,
+            Word::Text(number),
+            Word::Text(name),
+            NO_WORD,
+            NO_WORD,
+        ],
+        len: 3,
+    }
+}
+
+// A refusal that keeps one word.
+fn refused_with(number: &'static [u8], name: &'static [u8], kept: Word<'static>) -> Row<'static>
+    ensures words { map word_bytes (take result.len result.words) ≡ codes "refused" ∷ number.now ∷ name.now ∷ word_bytes kept.entry ∷ [] }
+    ensures len { result.len ≤ WORDS_MAX }
+{
+    Row {
+        words: [REFUSED, Word::Text(number), Word::Text(name), kept, NO_WORD],
+        len: 4,
+    }
+}
+
+// A refusal that keeps two numbers.
+fn refused_with_both(
+    number: &'static [u8],
+    name: &'static [u8],
+    first: u64,
+    second: u64,
+) -> Row<'static>
+    ensures words { map word_bytes (take result.len result.words) ≡ codes "refused" ∷ number.now ∷ name.now ∷ decimal first ∷ decimal second ∷ [] }
+    ensures len { result.len ≤ WORDS_MAX }
+{
+    Row {
+        words: [
+            REFUSED,
+            Word::Text(number),
+            Word::Text(name),
+            Word::Number(first),
+            Word::Number(second),
+        ],
+        len: 5,
+    }
+}
+
+// The words of a body line.
+fn body_row(line: &BodyLine) -> Row<'static>
+    ensures words { map word_bytes (take result.len result.words) ≡ body_words [] line.now }
+    ensures len { result.len ≤ WORDS_MAX }
+{
+    match line {
+        BodyLine::Element(element) => element_row(element),
+    }
+}
+
+fn element_row(element: &Element) -> Row<'static>
+    ensures words { map word_bytes (take result.len result.words) ≡ element_words [] element.now }
+    ensures len { result.len ≤ WORDS_MAX }
+{
+    match *element {
+        Element::Node { id } => Row {
+            words: [
+                Word::Text(b"node"),
+                Word::Number(id),
+                NO_WORD,
+                NO_WORD,
+                NO_WORD,
+            ],
+            len: 2,
+        },
+        Element::Edge {
+            id,
+            src,
+            dst,
+            directed,
+        } => Row {
+            words: [
+                Word::Text(b"edge"),
+                Word::Number(id),
+                Word::Number(src),
+                Word::Number(dst),
+                direction(directed),
+            ],
+            len: 5,
+        },
+        Element::NodeAttr { id, key, value } => Row {
+            words: [
+                Word::Text(b"nattr"),
+                Word::Number(id),
+                name(key),
+                name(value),
+                NO_WORD,
+            ],
+            len: 4,
+        },
+        Element::EdgeAttr { id, key, value } => Row {
+            words: [
+                Word::Text(b"eattr"),
+                Word::Number(id),
+                name(key),
+                name(value),
+                NO_WORD,
+            ],
+            len: 4,
+        },
+    }
+}
+
+fn direction(directed: bool) -> Word<'static>
+    ensures { word_bytes result ≡ (if directed then codes "dir" else codes "undir") }
+{
+    Word::Text(if directed {
+        b"dir".as_slice()
+    } else {
+        b"undir".as_slice()
+    })
+}
+
+// The text of the name of this number. There is no list of names yet, and each name is empty.
+fn name(number: u32) -> Word<'static>
+    ensures { word_bytes result ≡ name_text [] number }
+{
+    Word::Text(b"")
+}

@@ -1,0 +1,4 @@
+pub mod Entries
+pub mod Runs
+pub mod Sets
+mod Rows

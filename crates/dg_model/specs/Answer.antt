@@ -1,0 +1,101 @@
+-- The machine's answer to a command and the lines that follow it: a reply and a new state. A
+-- refusal is the first that holds in the order of the tests here, and keeps the state.
+use Rattle.std.specs.Prelude.{ℕ, ◌+◌, Bool, true, false, ◌||◌, not, List, [], ◌∷◌, ◌++◌, Option, Some, None, Result, Ok, Err, if◌then◌else◌, length, map, nat_lt, nat_le, is_some}
+use Rattle.dg_model.specs.declared.command.Command.{Command}
+use Rattle.dg_model.specs.declared.command.Command.TheVariants as command
+use Rattle.dg_model.specs.declared.element.Element.{Element}
+use Rattle.dg_model.specs.declared.element.Columns.{Columns}
+use Rattle.dg_model.specs.declared.limits.TheConstants.{LIVE_HANDLES_MAX}
+use Rattle.dg_model.specs.declared.reply.BodyLine.TheVariants as line
+use Rattle.dg_model.specs.declared.reply.Head.{Head}
+use Rattle.dg_model.specs.declared.reply.Head.TheVariants as head
+use Rattle.dg_model.specs.declared.reply.Refusal.{Refusal}
+use Rattle.dg_model.specs.declared.reply.Refusal.TheVariants as refusal
+use Rattle.dg_model.specs.declared.reply.Reply.{Reply}
+use Rattle.dg_model.specs.declared.stands.Stands.{Stands}
+use Rattle.dg_model.specs.declared.stands.Stands.TheVariants.{Overlay}
+use Rattle.dg_model.specs.Batch.{batch_of}
+use Rattle.dg_model.specs.History.{History, Batch, events_of, span_of, in_range, last_time_from}
+use Rattle.dg_model.specs.Lines.{ScriptLine}
+use Rattle.dg_model.specs.Machine.{MachineState, entry_at, elements}
+
+pub record Answered : Type 0 where
+  pub reply : Reply
+  pub state : MachineState
+
+-- a reply of a head line alone
+abbrev pub headed : Head → Reply
+headed h = record { head = h; body = [] }
+
+-- the refusal, and the state as before
+abbrev pub refuse : MachineState → Refusal → Answered
+refuse m r = record { reply = headed (head.Refused r); state = m }
+
+-- the lines that follow a command
+abbrev pub following : Command → ℕ
+following (command.Load count) = count
+following (command.At t cols) = 0
+following (command.List handle) = 0
+
+-- lines follow commands of this kind
+abbrev pub is_followed : Command → Bool
+is_followed (command.Load count) = true
+is_followed (command.At t cols) = false
+is_followed (command.List handle) = false
+
+-- the history with one more batch
+abbrev pub with_batch : History → Batch → History
+with_batch z b = record { params = z.params; batches = z.batches ++ b ∷ [] }
+
+-- the reply to a load, and the state with its batch
+abbrev pub loaded : MachineState → History → Result Batch (ℕ × ℕ) → Answered
+loaded m z (Err fault) = refuse m (refusal.BadChange fault.0 fault.1)
+loaded m z (Ok b) = record {
+  reply = headed (head.Loaded (length b.events) (length (events_of z) + length b.events) (last_time_from 0 b.events));
+  state = record m { index = Some (with_batch z b) };
+}
+
+abbrev pub answer_load : MachineState → History → ℕ → List ScriptLine → Answered
+answer_load m z count lines =
+    if nat_lt (length lines) count then refuse m (refusal.ShortBatch (length lines) count)
+    else (if is_some (span_of (events_of z)) then refuse m refusal.AlreadyLoaded
+    else loaded m z (batch_of z lines))
+
+-- the reply to a retrieval, and the state with its handle
+abbrev pub answer_at : MachineState → History → ℕ → Columns → Answered
+answer_at m z t cols =
+    if not (in_range (span_of (events_of z)) t) then refuse m (refusal.OutOfRange (span_of (events_of z)))
+    else (if nat_le LIVE_HANDLES_MAX (length m.table) then refuse m (refusal.PoolFull (length m.table) 1)
+    else record {
+      reply = headed (head.At m.next 0);
+      state = record m { table = m.table ++ (m.next, Overlay t cols None) ∷ []; next = m.next + 1 };
+    })
+
+-- the listing of a set
+abbrev pub listing : ℕ → List Element → Reply
+listing handle set = record { head = head.List handle (length set); body = map (λ x. line.Element x) set }
+
+abbrev pub answer_list : MachineState → History → ℕ → Option Stands → Answered
+answer_list m z handle None = refuse m (refusal.UnknownHandle handle)
+answer_list m z handle (Some stands) = record { reply = listing handle (elements z stands); state = m }
+
+-- the answer over the history z of the machine's index
+abbrev pub answer : MachineState → History → Command → List ScriptLine → Answered
+answer m z (command.Load count) lines = answer_load m z count lines
+answer m z (command.At t cols) lines = answer_at m z t cols
+answer m z (command.List handle) lines = answer_list m z handle (entry_at handle m.table)
+
+-- want of memory
+abbrev pub no_memory : Reply
+no_memory = headed (head.Refused refusal.OutOfMemory)
+
+abbrev pub is_refusal : Head → Bool
+is_refusal (head.Refused r) = true
+is_refusal (head.Loaded events total last) = false
+is_refusal (head.At handle weight) = false
+is_refusal (head.List handle lines) = false
+
+-- Want of memory may be answered by a command that lines follow, and by one that is not refused.
+-- Every other refusal is decided before any memory is taken.
+abbrev pub may_lack_memory : MachineState → History → Command → List ScriptLine → Bool
+may_lack_memory m z c lines = is_followed c || not (is_refusal (answer m z c lines).reply.head)

@@ -1,0 +1,98 @@
+-- The grammar of the script: which line is which command, and which line of a batch is which change.
+use Rattle.std.specs.Prelude.{ℕ, Bool, true, false, List, [], ◌∷◌, Option, Some, None, if◌then◌else◌, codes, option_and_then}
+use Rattle.std.specs.Option.{option_map}
+use Rattle.std.specs.Str.{bytes_eq}
+use Rattle.dg_model.specs.declared.element.Columns.{Columns}
+use Rattle.dg_model.specs.declared.command.Command.{Command}
+use Rattle.dg_model.specs.declared.command.Command.TheVariants as command
+use Rattle.dg_model.specs.declared.event.Change.{Change}
+use Rattle.dg_model.specs.declared.event.What.{What}
+use Rattle.dg_model.specs.declared.event.What.TheVariants.{AddNode, RemoveNode, AddEdge, RemoveEdge}
+use Rattle.dg_model.specs.declared.limits.TheConstants.{BATCH_LINES_MAX, TIME_MAX}
+use Rattle.dg_model.specs.Lines.{ScriptLine, Text, Long}
+use Rattle.dg_model.specs.Words.{words, number}
+
+abbrev pub is_word : List ℕ → List ℕ → Bool
+is_word a b = bytes_eq a b
+
+abbrev pub time_of : List ℕ → Option ℕ
+time_of word = number 0 TIME_MAX word
+
+-- an id of a node or an edge, or a seed
+abbrev pub id_of : List ℕ → Option ℕ
+id_of word = number 0 18446744073709551615 word
+
+abbrev pub handle_of : List ℕ → Option ℕ
+handle_of word = number 1 4294967295 word
+
+-- `s`, `sn`, `se` or `sne`: structure, and the attributes of nodes and of edges
+abbrev pub columns_of : List ℕ → Option Columns
+columns_of word =
+    if is_word word (codes "s") then Some (record { nodes_attr = false; edges_attr = false })
+    else (if is_word word (codes "sn") then Some (record { nodes_attr = true; edges_attr = false })
+    else (if is_word word (codes "se") then Some (record { nodes_attr = false; edges_attr = true })
+    else (if is_word word (codes "sne") then Some (record { nodes_attr = true; edges_attr = true }) else None)))
+
+-- `load COUNT`
+abbrev pub load_of : List (List ℕ) → Option Command
+load_of (count ∷ []) = option_map (λ n. command.Load n) (number 1 BATCH_LINES_MAX count)
+load_of rest = None
+
+-- `at TIME COLS`
+abbrev pub at_of : List (List ℕ) → Option Command
+at_of (time ∷ cols ∷ []) = option_and_then (λ t. option_map (λ c. command.At t c) (columns_of cols)) (time_of time)
+at_of rest = None
+
+-- `list HANDLE`
+abbrev pub list_of : List (List ℕ) → Option Command
+list_of (handle ∷ []) = option_map (λ h. command.List h) (handle_of handle)
+list_of rest = None
+
+abbrev pub command_of_words : List (List ℕ) → Option Command
+command_of_words [] = None
+command_of_words (verb ∷ rest) =
+    if is_word verb (codes "load") then load_of rest
+    else (if is_word verb (codes "at") then at_of rest
+    else (if is_word verb (codes "list") then list_of rest else None))
+
+-- the command that the line is
+abbrev pub command_of : List ℕ → Option Command
+command_of line = command_of_words (words line)
+
+-- `dir` or `undir`: whether an edge is directed
+abbrev pub direction_of : List ℕ → Option Bool
+direction_of word = if is_word word (codes "dir") then Some true else (if is_word word (codes "undir") then Some false else None)
+
+-- what a change of one id asks for
+abbrev pub one_id : (ℕ → What) → List (List ℕ) → Option What
+one_id make (id ∷ []) = option_map make (id_of id)
+one_id make rest = None
+
+-- `ID SRC DST dir` or `ID SRC DST undir`
+abbrev pub new_edge : List (List ℕ) → Option What
+new_edge (id ∷ src ∷ dst ∷ direction ∷ []) =
+    option_and_then (λ n. option_and_then (λ a. option_and_then (λ b.
+    option_map (λ d. AddEdge n a b d) (direction_of direction)) (id_of dst)) (id_of src)) (id_of id)
+new_edge rest = None
+
+abbrev pub what_of : List (List ℕ) → Option What
+what_of [] = None
+what_of (verb ∷ rest) =
+    if is_word verb (codes "+node") then one_id (λ n. AddNode n) rest
+    else (if is_word verb (codes "-node") then one_id (λ n. RemoveNode n) rest
+    else (if is_word verb (codes "+edge") then new_edge rest
+    else (if is_word verb (codes "-edge") then one_id (λ n. RemoveEdge n) rest else None)))
+
+abbrev pub change_of_words : List (List ℕ) → Option Change
+change_of_words [] = None
+change_of_words (time ∷ rest) =
+    option_and_then (λ t. option_map (λ w. record { time = t; what = w }) (what_of rest)) (time_of time)
+
+-- the change that the line of a batch is
+abbrev pub change_of : List ℕ → Option Change
+change_of line = change_of_words (words line)
+
+-- a line of more bytes than a line may have is no change
+abbrev pub change_in : ScriptLine → Option Change
+change_in (Text line) = change_of line
+change_in Long = None

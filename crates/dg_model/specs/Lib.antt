@@ -1,0 +1,16 @@
+pub mod Lines
+pub mod Elements
+pub mod Sets
+pub mod Composition
+pub mod Effect
+pub mod Replay
+pub mod Completion
+pub mod Words
+pub mod Grammar
+pub mod History
+pub mod Batch
+pub mod Text
+pub mod Machine
+pub mod Answer
+pub mod Script
+pub mod Run

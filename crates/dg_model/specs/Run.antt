@@ -1,0 +1,33 @@
+-- The runs of the machine: a reply to each entry, one after another.
+use Rattle.std.specs.Prelude.{◌≡◌, ℕ, ◌+◌, ◌≤◌, List, [], ◌∷◌, Some, length, IsTrue}
+use Rattle.dg_model.specs.declared.command.Command.{Command}
+use Rattle.dg_model.specs.declared.reply.Head.TheVariants as head
+use Rattle.dg_model.specs.declared.reply.Refusal.TheVariants as refusal
+use Rattle.dg_model.specs.declared.reply.Reply.{Reply}
+use Rattle.dg_model.specs.Answer.{answer, headed, no_memory, may_lack_memory}
+use Rattle.dg_model.specs.History.{History}
+use Rattle.dg_model.specs.Lines.{ScriptLine}
+use Rattle.dg_model.specs.Machine.{MachineState}
+use Rattle.dg_model.specs.Script.{Entry, Asked, No_command, Long_line}
+
+-- a column of the line, from 1, or the one after its last
+pub record IsColumn (line : List ℕ) (column : ℕ) : Type 0 where
+  pub from_one : 1 ≤ column
+  pub within : column ≤ length line + 1
+
+-- From the state m the machine may give the entry this reply, and go on in the new state.
+pub data Step (m : MachineState) : Entry → Reply → MachineState → Type 0 where
+  Answers : (z : History) (c : Command) (lines : List ScriptLine) → m.index ≡ Some z
+      → Step m (Asked c lines) (answer m z c lines).reply (answer m z c lines).state
+  Lacks_memory : (z : History) (c : Command) (lines : List ScriptLine) → m.index ≡ Some z
+      → IsTrue (may_lack_memory m z c lines) → Step m (Asked c lines) no_memory m
+  Leaves_grammar : (line : List ℕ) (column : ℕ) → IsColumn line column
+      → Step m (No_command line) (headed (head.Refused (refusal.Syntax column))) m
+  Too_long : Step m Long_line (headed (head.Refused refusal.LineLong)) m
+
+-- the machine gives the entries these replies, in order, and ends in the new state
+abbrev pub Run : MachineState → List Entry → List Reply → MachineState → Type 0
+Run m [] [] new = new ≡ m
+Run m (e ∷ entries) (r ∷ replies) new = (mid : MachineState) × Step m e r mid × Run mid entries replies new
+Run m [] (r ∷ replies) new = ⊥
+Run m (e ∷ entries) [] new = ⊥

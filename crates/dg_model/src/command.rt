@@ -1,0 +1,12 @@
+use crate::element::Columns;
+
+/// A command of the script. docs/SCRIPT.md has its grammar.
+#[derive(Clone, Copy, Debug, PartialEq, Eq, Hash)]
+pub enum Command {
+    /// Read `count` change lines, and add them to the empty history as one batch.
+    Load { count: u32 },
+    /// Retrieve the graph as of the instant `t`, in these columns, as a new handle.
+    At { t: u64, cols: Columns },
+    /// List the elements of a handle.
+    List { handle: u32 },
+}

@@ -1,0 +1,26 @@
+//! The words of deltagraph: the plain types of elements, events, commands and replies, and, in
+//! `specs/`, the definitions that every contract of the crates above cites. docs/MODEL.md is their
+//! prose.
+#![tactic(auto)]
+
+mod command;
+mod element;
+mod event;
+mod limits;
+mod params;
+mod reply;
+mod stands;
+
+pub use command::Command;
+pub use element::{Column, Columns, Element};
+pub use event::{
+    Body, Change, Event, REASON_EDGE_EXISTS, REASON_EDGE_IN_USE, REASON_FORM, REASON_NO_EDGE,
+    REASON_NO_END, REASON_NO_NODE, REASON_NODE_EXISTS, REASON_NODE_IN_USE, REASON_TIME, What,
+};
+pub use limits::{
+    BATCH_LINES_MAX, FIRST_HANDLE, LINE_BYTES_MAX, LIVE_HANDLES_MAX, Limits, SCRIPT_BYTES_MAX,
+    TIME_MAX,
+};
+pub use params::{Function, Params};
+pub use reply::{BodyLine, BodyLines, Head, Refusal, Reply};
+pub use stands::Stands;

@@ -1,0 +1,21 @@
+/// The parameters with which an index is made. They never change.
+#[derive(Clone, Copy, Debug, PartialEq, Eq, Hash)]
+pub struct Params {
+    /// The leaf list size: events from one leaf to the next.
+    pub l: u32,
+    /// The arity: children of an interior node.
+    pub k: u32,
+    /// How an interior node's set is made from those of its children.
+    pub function: Function,
+}
+
+/// The differential functions.
+#[derive(Clone, Copy, Debug, PartialEq, Eq, Hash)]
+pub enum Function {
+    /// The elements of every child.
+    Intersection,
+    /// The elements of at least one child.
+    Union,
+    /// By a hash of the element, half of them from the last child and the others from the first.
+    Balanced,
+}

@@ -1,0 +1,24 @@
+-- The first and the last event of a list, and its span.
+use Rattle.std.proofs.Common.{◌≡◌, ◌-◌, List, [], ◌∷◌, Some, length, ◌∙◌, ap, sym, arith}
+use Rattle.std.specs.Prelude.{slice_get}
+use Rattle.dg_model.specs.declared.event.Event.{Event}
+use Rattle.dg_model.specs.History.{last_time_from, span_of}
+
+last_is : (e : Event) (es : List Event) (last : Event) → slice_get (e ∷ es) (length es) ≡ Some last → last_time_from e.time es ≡ last.time
+last_is e [] last is = cc
+last_is e (f ∷ es) last is = last_is f es last is
+
+pub span_is : (es : List Event) (first last : Event) → Some first ≡ slice_get es 0 → Some last ≡ slice_get es (length es - 1)
+    → Some (first.time, last.time) ≡ span_of es
+span_is [] first last a b = cc
+span_is (e ∷ es) first last a b =
+    let at_end : slice_get (e ∷ es) (length es) ≡ Some last = ap (slice_get (e ∷ es)) (let n : length es ≡ length (e ∷ es) - 1 = omega arith in n) ∙ sym b in
+    let is_first : first ≡ e = cc in
+    let is_last : last_time_from e.time es ≡ last.time = last_is e es last at_end in
+    cc
+
+pub last_instant_is : (es : List Event) (last : Event) → Some last ≡ slice_get es (length es - 1) → last.time ≡ last_time_from 0 es
+last_instant_is [] last is = cc
+last_instant_is (e ∷ es) last is =
+    let at_end : slice_get (e ∷ es) (length es) ≡ Some last = ap (slice_get (e ∷ es)) (let n : length es ≡ length (e ∷ es) - 1 = omega arith in n) ∙ sym is in
+    sym (last_is e es last at_end)

@@ -1,0 +1,4 @@
+pub mod Parts
+pub mod Prepared
+pub mod Following
+pub mod Session

@@ -1,0 +1,11 @@
+-- What a session keeps.
+use Rattle.std.specs.Prelude.{ℕ, List}
+use Rattle.dg_model.specs.declared.event.Event.{Event}
+use Rattle.dg_model.specs.declared.limits.Limits.{Limits}
+use Rattle.dg_model.specs.declared.stands.Stands.{Stands}
+
+pub record Parts : Type 0 where
+  pub limits : Limits  -- the bounds within which it works
+  pub events : List Event  -- the events of the history, in their order
+  pub table : List (ℕ × Stands)  -- the live handles, with what they stand for, the oldest first
+  pub next : ℕ  -- the number of the next handle

@@ -1,0 +1,11 @@
+use Rattle.std.proofs.Common.{subst, sym}
+use Rattle.dg_model.specs.Elements.{IsSet}
+use Rattle.dg_model.proofs.Sets.{IsSet-unioned}
+use Rattle.dg_set.proofs.set.Set.union.Goals as goal
+
+pub invariant_of-result : goal.invariant_of-result
+invariant_of-result c =
+    let left = c.deref.result.now in
+    let right = c.deref-2.result.now in
+    let left_set = subst IsSet (sym c.deref.ensures.value) c.self.invariant in
+    subst IsSet (sym c.in_ok-items.ensures) (IsSet-unioned left right left_set)

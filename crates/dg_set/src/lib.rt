@@ -1,0 +1,12 @@
+//! Sets of elements: a graph at an instant, kept as the strictly rising list of its elements.
+//! docs/MODEL.md has the definitions.
+#![tactic(auto)]
+
+mod merge;
+mod place;
+mod set;
+#[cfg(test)]
+mod tests;
+
+pub use dg_model::Element;
+pub use set::Set;

@@ -1,0 +1,101 @@
+ghost use Rattle.std.specs.Prelude.{◌≡◌, IfOk};
+ghost use Rattle.dg_model.specs.Elements.{IsSet};
+ghost use Rattle.dg_model.specs.Sets.{unioned, met, without_all};
+
+use dg_model::Element;
+use std::alloc::{AllocError, Global};
+use std::cmp::Ordering;
+
+/// The items of either set, each once. An `Err` says that memory ran out.
+pub(crate) fn union(
+    alloc: Global,
+    left: &[Element],
+    right: &[Element],
+) -> Result<Vec<Element>, AllocError>
+    requires left_set { IsSet left.now }
+    requires right_set { IsSet right.now }
+    ensures { IfOk result (λ out. out.items ≡ unioned left.now right.now) }
+{
+    let mut out = Vec::with_capacity(alloc, left.len().saturating_add(right.len()))?;
+    let mut i = 0;
+    let mut j = 0;
+    while i < left.len() && j < right.len() {
+        match left[i].cmp(&right[j]) {
+            Ordering::Less => {
+                out.push(left[i])?;
+                i += 1;
+            }
+            Ordering::Equal => {
+                // In both sets: taken once.
+                out.push(left[i])?;
+                i += 1;
+                j += 1;
+            }
+            Ordering::Greater => {
+                out.push(right[j])?;
+                j += 1;
+            }
+        }
+    }
+    out.extend_from_slice(&left[i..])?;
+    out.extend_from_slice(&right[j..])?;
+    Ok(out)
+}
+
+/// The items of both sets. An `Err` says that memory ran out.
+pub(crate) fn meet(
+    alloc: Global,
+    left: &[Element],
+    right: &[Element],
+) -> Result<Vec<Element>, AllocError>
+    requires left_set { IsSet left.now }
+    requires right_set { IsSet right.now }
+    ensures { IfOk result (λ both. both.items ≡ met left.now right.now) }
+{
+    let mut both = Vec::with_capacity(alloc, left.len().min(right.len()))?;
+    let mut i = 0;
+    let mut j = 0;
+    while i < left.len() && j < right.len() {
+        match left[i].cmp(&right[j]) {
+            Ordering::Less => i += 1,
+            Ordering::Equal => {
+                both.push(left[i])?;
+                i += 1;
+                j += 1;
+            }
+            Ordering::Greater => j += 1,
+        }
+    }
+    Ok(both)
+}
+
+/// The items of `left` that `right` does not have. An `Err` says that memory ran out.
+pub(crate) fn minus(
+    alloc: Global,
+    left: &[Element],
+    right: &[Element],
+) -> Result<Vec<Element>, AllocError>
+    requires left_set { IsSet left.now }
+    requires right_set { IsSet right.now }
+    ensures { IfOk result (λ kept. kept.items ≡ without_all left.now right.now) }
+{
+    let mut kept = Vec::with_capacity(alloc, left.len())?;
+    let mut i = 0;
+    let mut j = 0;
+    while i < left.len() && j < right.len() {
+        match left[i].cmp(&right[j]) {
+            Ordering::Less => {
+                kept.push(left[i])?;
+                i += 1;
+            }
+            Ordering::Equal => {
+                // In both sets: left out.
+                i += 1;
+                j += 1;
+            }
+            Ordering::Greater => j += 1,
+        }
+    }
+    kept.extend_from_slice(&left[i..])?;
+    Ok(kept)
+}

@@ -1,0 +1,135 @@
+ghost use Rattle.std.specs.Prelude.{◌≡◌, ◌↔◌, List, [], length, not, is_ok, IfOk, IfErr, IsOk, if◌then◌else◌};
+ghost use Rattle.dg_model.specs.Elements.{IsSet, has, put, take_out};
+ghost use Rattle.dg_model.specs.Sets.{unioned, met, without_all};
+ghost use Rattle.dg_set.specs.Places.{IsFirstFault};
+
+use crate::merge;
+use crate::place::{first_fault, place};
+use dg_model::Element;
+use std::alloc::{AllocError, Global};
+use std::marker::Model;
+
+/// A set of elements, seen as the strictly rising list of them.
+#[derive(Drop)]
+pub struct Set {
+    items: Vec<Element>,
+}
+
+impl Model for Set {
+    ghost use Rattle.std.specs.Prelude.{List};
+    ghost use Rattle.dg_model.specs.declared.element.Element.{Element};
+    ghost use Rattle.dg_model.specs.Elements.{IsSet};
+
+    ghost Value = { List Element };
+
+    ghost view = { λ set. set.items.items };
+
+    ghost invariant = { λ set. IsSet set.items.items };
+}
+
+impl Set {
+    /// A set with no elements, whose memory comes from `alloc`. Takes no memory yet.
+    pub fn new(alloc: Global) -> Set
+        ensures { result ≡ [] }
+    {
+        Set {
+            items: Vec::new(alloc),
+        }
+    }
+
+    /// The set of the items of a list that rises strictly. Takes no memory. An `Err` gives the
+    /// first place whose item is not greater than the one before it.
+    pub fn from_sorted(items: Vec<Element>) -> Result<Set, usize>
+        ensures ok { IfOk result (λ set. set ≡ items.items) }
+        ensures exact { IsOk result ↔ IsSet items.items }
+        ensures first { IfErr result (λ at. IsFirstFault items.items at) }
+    {
+        match first_fault(&items) {
+            None => Ok(Set { items }),
+            Some(at) => Err(at),
+        }
+    }
+
+    /// Whether the element is in the set.
+    pub fn has(&self, element: &Element) -> bool
+        ensures { result ≡ has self.now element.now }
+    {
+        place(&self.items, element).is_ok()
+    }
+
+    /// How many elements the set has.
+    pub fn len(&self) -> u64
+        ensures { result ≡ length self.now }
+    {
+        self.items.len() as u64
+    }
+
+    /// The elements in their order.
+    pub fn items(&self) -> &[Element]
+        ensures value { result.now ≡ self.now }
+        ensures set { IsSet self.now }
+    {
+        self.items.as_slice()
+    }
+
+    /// Adds the element, and answers whether it is new. An `Err` says that memory ran out, and the
+    /// set is as it was.
+    pub fn insert(&mut self, element: Element) -> Result<bool, AllocError>
+        ensures after { self.new ≡ (if is_ok result then put element self.old else self.old) }
+        ensures new { IfOk result (λ was_new. was_new ≡ not (has self.old element)) }
+    {
+        match place(&self.items, &element) {
+            Ok(_) => Ok(false),
+            Err(at) => {
+                self.items.insert(at, element)?;
+                Ok(true)
+            }
+        }
+    }
+
+    /// Takes the element out, and answers whether it was there.
+    pub fn remove(&mut self, element: &Element) -> bool
+        ensures after { self.new ≡ take_out element.now self.old }
+        ensures was { result ≡ has self.old element.now }
+    {
+        match place(&self.items, element) {
+            Ok(at) => {
+                self.items.remove(at);
+                true
+            }
+            Err(_) => false,
+        }
+    }
+
+    /// The elements of either set. An `Err` says that memory ran out.
+    pub fn union(&self, other: &Set) -> Result<Set, AllocError>
+        ensures { IfOk result (λ set. set ≡ unioned self.now other.now) }
+    {
+        let items = merge::union(*self.items.allocator(), &self.items, &other.items)?;
+        Ok(Set { items })
+    }
+
+    /// The elements of both sets. An `Err` says that memory ran out.
+    pub fn meet(&self, other: &Set) -> Result<Set, AllocError>
+        ensures { IfOk result (λ set. set ≡ met self.now other.now) }
+    {
+        let items = merge::meet(*self.items.allocator(), &self.items, &other.items)?;
+        Ok(Set { items })
+    }
+
+    /// The elements that `other` does not have. An `Err` says that memory ran out.
+    pub fn minus(&self, other: &Set) -> Result<Set, AllocError>
+        ensures { IfOk result (λ set. set ≡ without_all self.now other.now) }
+    {
+        let items = merge::minus(*self.items.allocator(), &self.items, &other.items)?;
+        Ok(Set { items })
+    }
+
+    /// The same set once more. An `Err` says that memory ran out.
+    pub fn copy(&self) -> Result<Set, AllocError>
+        ensures { IfOk result (λ set. set ≡ self.now) }
+    {
+        let items = Vec::from_slice(*self.items.allocator(), &self.items)?;
+        Ok(Set { items })
+    }
+}

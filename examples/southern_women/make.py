@@ -1,0 +1,87 @@
+#!/usr/bin/env python3
+"""Writes `script` and `replies` from `attendance.csv` and the dates of the events.
+
+The facts: who of 18 women was at which of 14 social events, and the dates of the events, from
+Davis, Gardner and Gardner, "Deep South" (1941), figure 3, as the package networkx ships the
+attendance (`davis_southern_women_graph`). The figure has no year; days are counted in a year of
+365 days.
+
+The replies are made here, from plain sets, and never by the program.
+"""
+import csv
+from datetime import date
+
+DATES = {  # event: month, day
+    1: (6, 27), 2: (3, 2), 3: (4, 12), 4: (9, 26), 5: (2, 25), 6: (5, 19), 7: (3, 15),
+    8: (9, 16), 9: (4, 8), 10: (6, 10), 11: (2, 23), 12: (4, 7), 13: (11, 21), 14: (8, 3),
+}
+EVENT_NODE = 100  # the node of event e is 100 + e
+ASKED = ["53 s", "54 s", "66 s", "103 s", "216 sne", "325 s", "326 s", "400 s"]
+
+
+def day(event):
+    month, of_month = DATES[event]
+    return (date(2026, month, of_month) - date(2025, 12, 31)).days
+
+
+def changes(attendance, women):
+    """(day, line, kind, ids) in the order of the days: the event, who comes for the first time, who is there."""
+    seen, found = set(), []
+    for event in sorted(DATES, key=day):
+        there = [women[w] for w, e in attendance if e == event]
+        t = day(event)
+        found.append((t, f"+node {EVENT_NODE + event}", ("node", EVENT_NODE + event)))
+        for woman in sorted(there):
+            if woman not in seen:
+                seen.add(woman)
+                found.append((t, f"+node {woman}", ("node", woman)))
+        for woman in sorted(there):
+            edge = 100 * woman + event
+            found.append((t, f"+edge {edge} {woman} {EVENT_NODE + event} undir",
+                          ("edge", edge, woman, EVENT_NODE + event)))
+    return found
+
+
+def main():
+    with open("attendance.csv", newline="") as file:
+        attendance = [(row["woman"], int(row["event"])) for row in csv.DictReader(file)]
+    women = {}
+    for name, _ in attendance:
+        women.setdefault(name, len(women) + 1)
+
+    batch = changes(attendance, women)
+    first, last = batch[0][0], batch[-1][0]
+    script = ["# Who was at which event, through one year: women 1 to 18, events 101 to 114."]
+    script += [f"# {number} {name}" for name, number in women.items()]
+    script += [f"load {len(batch)}"] + [f"{t} {line}" for t, line, _ in batch]
+    replies = [f"ok load {len(batch)} {len(batch)} {last}", "end"]
+
+    handles = []
+    for asked in ASKED:
+        script.append(f"at {asked}")
+        t = int(asked.split()[0])
+        if first <= t <= last:
+            handles.append(t)
+            replies += [f"ok at {len(handles)} 0", "end"]
+        else:
+            replies += [f"refused 7 out-of-range {first} {last}", "end"]
+    for handle, t in enumerate(handles, 1):
+        script.append(f"list {handle}")
+        there = [what for at, _, what in batch if at <= t]
+        nodes = sorted(what[1] for what in there if what[0] == "node")
+        edges = sorted(what[1:] for what in there if what[0] == "edge")
+        replies.append(f"ok list {handle} {len(nodes) + len(edges)}")
+        replies += [f"node {node}" for node in nodes]
+        replies += [f"edge {edge} {src} {dst} undir" for edge, src, dst in edges]
+        replies.append("end")
+    script.append(f"list {len(handles) + 1}")
+    replies += [f"refused 8 unknown-handle {len(handles) + 1}", "end"]
+
+    with open("script", "w") as file:
+        file.write("\n".join(script) + "\n")
+    with open("replies", "w") as file:
+        file.write("\n".join(replies) + "\n")
+
+
+if __name__ == "__main__":
+    main()
