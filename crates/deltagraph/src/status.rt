@@ -37,7 +37,7 @@ impl Status {
     pub fn message(&self) -> Option<&'static str> {
         match self {
             Status::Done => None,
-            Status::Words => Some("usage: deltagraph INDEX"),
+            Status::Words => Some("usage: deltagraph [--cache N] [--checked] INDEX"),
             Status::SourceFault => Some("reading the script failed"),
             Status::SinkFault => Some("writing failed"),
             Status::NoMemory => Some("out of memory"),

@@ -1,0 +1,29 @@
+-- What the contracts of deltas say of their sets.
+use Rattle.std.specs.Prelude.{◌≡◌, Bool, true, false, List, [], ◌∷◌}
+use Rattle.dg_model.specs.declared.element.Element.{Element}
+use Rattle.dg_model.specs.Elements.{has}
+use Rattle.dg_model.specs.Sets.{unioned, without_all}
+use Rattle.dg_model.specs.Composition.{Delta, Says, In, Out, As_it_was, applied}
+
+-- no element is in both
+abbrev pub AreApart : List Element → List Element → Type 0
+AreApart a b = (x : Element) → has a x ≡ true → has b x ≡ false
+
+-- a delta and then a later one, as one: each set is the first delta's, without what the later delta
+-- names for the other set, and with what it names for this one
+abbrev pub composed : Delta → Delta → Delta
+composed a b = record {
+  minus = unioned (without_all a.minus b.plus) b.minus;
+  plus = unioned (without_all a.plus b.minus) b.plus;
+}
+
+-- the set after each delta of the list in turn
+abbrev pub applied_in_turn : List Delta → List Element → List Element
+applied_in_turn [] set = set
+applied_in_turn (d ∷ later) set = applied_in_turn later (applied d set)
+
+-- whether an element is in after what was said of it, by whether it was in before
+abbrev pub is_in_after : Says → Bool → Bool
+is_in_after In was = true
+is_in_after Out was = false
+is_in_after As_it_was was = was

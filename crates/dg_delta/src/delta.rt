@@ -1,0 +1,117 @@
+ghost use Rattle.std.specs.Prelude.{◌≡◌, ◌↔◌, [], ◌∷◌, IfOk, IfSome, IsSome};
+ghost use Rattle.dg_model.specs.Elements.{IsSet};
+ghost use Rattle.dg_model.specs.Composition.{IsDelta, between, applied, reversed, Composes};
+ghost use Rattle.dg_delta.specs.Deltas.{AreApart, composed};
+
+use crate::apart::are_apart;
+use dg_set::Set;
+use std::alloc::{AllocError, Global};
+use std::marker::Model;
+
+/// What turns one set of elements into another: the elements of `minus` are taken out, and those of
+/// `plus` put in. The two share no element.
+#[derive(Drop)]
+pub struct Delta {
+    minus: Set,
+    plus: Set,
+}
+
+impl Model for Delta {
+    ghost use Rattle.dg_model.specs.Composition.{Delta, IsDelta};
+
+    ghost Value = { Delta };
+
+    ghost view = { λ d. record { minus = d.minus; plus = d.plus } };
+
+    ghost invariant = { λ d. IsDelta (record { minus = d.minus; plus = d.plus }) };
+}
+
+impl Delta {
+    /// The delta that changes nothing. Takes no memory.
+    pub fn new(alloc: Global) -> Delta
+        ensures { result ≡ record { minus = []; plus = [] } }
+    {
+        Delta::of(Set::new(alloc), Set::new(alloc))
+    }
+
+    /// The delta of two sets, or `None` exactly where they share an element. Takes no memory.
+    pub fn from_sets(minus: Set, plus: Set) -> Option<Delta>
+        ensures exact { IsSome result ↔ AreApart minus plus }
+        ensures sets { IfSome result (λ d. d ≡ record { minus = minus; plus = plus }) }
+    {
+        if are_apart(minus.items(), plus.items()) {
+            Some(Delta::of(minus, plus))
+        } else {
+            None
+        }
+    }
+
+    /// The elements that are taken out.
+    pub fn minus(&self) -> &Set
+        ensures value { result.now ≡ self.now.minus }
+        ensures delta { IsDelta self.now }
+    {
+        &self.minus
+    }
+
+    /// The elements that are put in.
+    pub fn plus(&self) -> &Set
+        ensures value { result.now ≡ self.now.plus }
+        ensures delta { IsDelta self.now }
+    {
+        &self.plus
+    }
+
+    /// The exact delta from `a` to `b`: it names no element that is in both or in neither. An `Err`
+    /// says that memory ran out.
+    pub fn between(a: &Set, b: &Set) -> Result<Delta, AllocError>
+        ensures { IfOk result (λ d. d ≡ between a.now b.now) }
+    {
+        let minus = a.minus(b)?;
+        let plus = b.minus(a)?;
+        Ok(Delta::of(minus, plus))
+    }
+
+    /// The set without the elements of `minus`, and with those of `plus`. An `Err` says that memory
+    /// ran out.
+    pub fn apply(&self, set: &Set) -> Result<Set, AllocError>
+        ensures { IfOk result (λ s. s ≡ applied self.now set.now) }
+    {
+        set.minus(&self.minus)?.union(&self.plus)
+    }
+
+    /// This delta and then `later`, as one: of each element `later` decides where it names it, and
+    /// else this delta. An `Err` says that memory ran out.
+    pub fn compose(&self, later: &Delta) -> Result<Delta, AllocError>
+        ensures composes { IfOk result (λ d. Composes d (self.now ∷ later.now ∷ [])) }
+        ensures sets { IfOk result (λ d. d ≡ composed self.now later.now) }
+    {
+        let minus = self.minus.minus(&later.plus)?.union(&later.minus)?;
+        let plus = self.plus.minus(&later.minus)?.union(&later.plus)?;
+        Ok(Delta::of(minus, plus))
+    }
+
+    /// The delta that leads back: its two sets are changed over. Takes no memory.
+    pub fn reverse(self) -> Delta
+        ensures { result ≡ reversed self }
+    {
+        Delta::of(self.plus, self.minus)
+    }
+
+    // The delta of two sets that share no element.
+    fn of(minus: Set, plus: Set) -> Delta
+        requires { AreApart minus plus }
+        ensures { result ≡ record { minus = minus; plus = plus } }
+    {
+        rises(&minus);
+        rises(&plus);
+        Delta { minus, plus }
+    }
+}
+
+// Tells the proofs that the set rises strictly. It does nothing.
+fn rises(set: &Set)
+    ensures { IsSet set.now }
+{
+    set.items();
+}
