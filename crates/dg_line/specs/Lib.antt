@@ -1,2 +1,5 @@
 pub mod Space
 pub mod Page
+pub mod Front
+pub mod Row
+pub mod Form

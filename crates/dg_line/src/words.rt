@@ -5,10 +5,11 @@ ghost use Rattle.dg_line.specs.Space.{is_space};
 
 use std::marker::Model;
 
+/// What parts two words of a line.
 pub const SPACE: u8 = b' ';
 
 /// The base of the numbers of a script.
-pub const TEN: u64 = 10;
+const TEN: u64 = 10;
 
 /// The words of a line that are still to be read. Exactly one space parts two words.
 #[derive(Drop)]
@@ -114,7 +115,7 @@ fn has_leading_zero(word: &[u8]) -> bool
     word.len() > 1 && word[0] == b'0'
 }
 
-// The number with one digit more at its end, where the byte is a digit and the number fits.
+/// The number with one digit more at its end, where the byte is a digit and the number fits.
 pub fn with_digit(value: u64, byte: u8) -> Option<u64>
     ensures some { IfSome result (λ n. (48 ≤ byte) × (byte ≤ 57) × (n ≡ value * 10 + (byte - 48))) }
     ensures none { IfNone result (48 ≤ byte → byte ≤ 57 → 2 ^ 64 ≤ value * 10 + (byte - 48)) }

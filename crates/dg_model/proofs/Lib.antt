@@ -2,3 +2,4 @@ pub mod Entries
 pub mod Runs
 pub mod Sets
 mod Rows
+mod ColumnRows

@@ -3,6 +3,8 @@ pub mod Elements
 pub mod Sets
 pub mod Composition
 pub mod Effect
+pub mod Columns
+pub mod Combine
 pub mod Replay
 pub mod Completion
 pub mod Words

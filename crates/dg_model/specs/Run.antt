@@ -1,19 +1,27 @@
 -- The runs of the machine: a reply to each entry, one after another.
-use Rattle.std.specs.Prelude.{◌≡◌, ℕ, ◌+◌, ◌≤◌, List, [], ◌∷◌, Some, length, IsTrue}
+use Rattle.std.specs.Prelude.{◌≡◌, ℕ, ◌+◌, ◌-◌, ◌≤◌, List, [], ◌∷◌, ◌++◌, Some, is_some, length, take, IsTrue}
 use Rattle.dg_model.specs.declared.command.Command.{Command}
 use Rattle.dg_model.specs.declared.reply.Head.TheVariants as head
 use Rattle.dg_model.specs.declared.reply.Refusal.TheVariants as refusal
 use Rattle.dg_model.specs.declared.reply.Reply.{Reply}
 use Rattle.dg_model.specs.Answer.{answer, headed, no_memory, may_lack_memory}
+use Rattle.dg_model.specs.Grammar.{command_of}
 use Rattle.dg_model.specs.History.{History}
 use Rattle.dg_model.specs.Lines.{ScriptLine}
 use Rattle.dg_model.specs.Machine.{MachineState}
 use Rattle.dg_model.specs.Script.{Entry, Asked, No_command, Long_line}
 
--- a column of the line, from 1, or the one after its last
+-- the bytes begin some command
+abbrev pub Begins : List ℕ → Type 0
+Begins bytes = (rest : List ℕ) × IsTrue (is_some (command_of (bytes ++ rest)))
+
+-- The column, from 1, at which a line leaves the grammar of commands: one more than the length of the
+-- longest front of the line that begins some command.
 pub record IsColumn (line : List ℕ) (column : ℕ) : Type 0 where
   pub from_one : 1 ≤ column
   pub within : column ≤ length line + 1
+  pub begins : Begins (take (column - 1) line)
+  pub longest : (n : ℕ) → column ≤ n → n ≤ length line → Begins (take n line) → ⊥
 
 -- From the state m the machine may give the entry this reply, and go on in the new state.
 pub data Step (m : MachineState) : Entry → Reply → MachineState → Type 0 where

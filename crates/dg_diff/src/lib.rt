@@ -1,0 +1,12 @@
+//! The differential functions: how the set of an interior node of the index is made from the sets of
+//! its children. docs/MODEL.md has the definitions.
+#![tactic(auto)]
+
+mod hashing;
+mod interior;
+#[cfg(test)]
+mod tests;
+
+pub use dg_model::Function;
+pub use hashing::part;
+pub use interior::combine;

@@ -1,0 +1,18 @@
+-- The lines of the commands, by their words.
+use Rattle.std.specs.Prelude.{ℕ, zero, suc, List, [], ◌∷◌, codes}
+use Rattle.dg_model.specs.declared.limits.TheConstants.{BATCH_LINES_MAX, TIME_MAX}
+use Rattle.dg_line.specs.Front.{IsOneOf, IsNumber}
+use Rattle.dg_line.specs.Row.{Parted}
+
+-- the line is one of the words
+abbrev pub Only : List ℕ → List ℕ → Type 0
+Only word = IsOneOf 1 (word ∷ [])
+
+abbrev pub column_words : List (List ℕ)
+column_words = codes "s" ∷ codes "sn" ∷ codes "se" ∷ codes "sne" ∷ []
+
+-- the lines of the command at a place of the table: `load COUNT`, `at TIME COLS` and `list HANDLE`
+abbrev pub IsForm : ℕ → List ℕ → Type 0
+IsForm zero = Parted (Only (codes "load")) (IsNumber 1 BATCH_LINES_MAX)
+IsForm (suc zero) = Parted (Only (codes "at")) (Parted (IsNumber 0 TIME_MAX) (IsOneOf 4 column_words))
+IsForm (suc (suc k)) = Parted (Only (codes "list")) (IsNumber 1 4294967295)

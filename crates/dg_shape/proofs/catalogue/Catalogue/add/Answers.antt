@@ -1,0 +1,38 @@
+use Rattle.std.proofs.Common.{◌≡◌, ◌+◌, ◌≤◌, [], ◌∷◌, ◌++◌, ap, subst, sym, ◌∙◌}
+use Rattle.indexmap.proofs.CallerLemmas.{insert_entry-new}
+use Rattle.dg_shape.specs.declared.catalogue.Entry.{Entry}
+use Rattle.dg_shape.specs.declared.catalogue.TheConstants.{BYTES_MAX}
+use Rattle.dg_shape.specs.Entries.{Holdings, total, bytes_of}
+use Rattle.dg_shape.proofs.Records.{from_ok, look_up_is, still_sound, added_held, added_others, added_bytes}
+use Rattle.dg_shape.proofs.catalogue.Catalogue.add.Goals as goal
+
+-- the record that is added
+abbrev added : (c : goal.After-unwrap) → Entry
+added c = record { lengths = c.args.lengths; place = c.args.place; ends = c.args.ends }
+
+-- it stands last
+last : (c : goal.After-unwrap) → c.insert.new.self.entries ≡ c.self.inside.records.entries ++ (c.args.key, added c) ∷ []
+last c =
+    from_ok c.insert.result c.unwrap.result _ c.unwrap.ensures c.insert.ensures.entries
+    ∙ insert_entry-new _ c.self.inside.records c.args.key (added c)
+    (look_up_is c.self.inside.records.entries c.args.self.now c.args.key (ap (λ (h : Holdings). h.entries) c.self.view_is) ∙ c.requires.lacks)
+
+pub invariant_of-self : goal.invariant_of-self
+invariant_of-self c =
+    let bytes = subst (λ (h : Holdings). bytes_of h.entries + total c.args.lengths ≤ BYTES_MAX) (sym c.self.view_is) c.requires.bytes in
+    still_sound _ _ c.args.key (added c) (last c) c.self.invariant bytes c.requires.placed c.requires.numbered c.requires.ends
+
+put_last : (c : goal.After-unwrap) → c.insert.new.self.entries ≡ c.args.self.now.entries ++ (c.args.key, added c) ∷ []
+put_last c = last c ∙ ap (λ (h : Holdings). h.entries ++ (c.args.key, added c) ∷ []) c.self.view_is
+
+pub returns-clause-entries : goal.returns-clause-entries
+returns-clause-entries c = put_last c
+
+pub returns-clause-held : goal.returns-clause-held
+returns-clause-held c = added_held c.args.self.now.entries _ c.args.key (added c) (put_last c) c.requires.lacks
+
+pub returns-clause-others : goal.returns-clause-others
+returns-clause-others c = added_others c.args.self.now.entries _ c.args.key (added c) (put_last c)
+
+pub returns-clause-bytes : goal.returns-clause-bytes
+returns-clause-bytes c = added_bytes c.args.self.now.entries _ c.args.key (added c) (put_last c)

@@ -1,0 +1,58 @@
+-- What a catalogue tells of the records of an index.
+use Rattle.std.specs.Prelude.{◌≡◌, ℕ, ◌+◌, ◌≤◌, List, Option, Some, None, is_some, slice_index, sum_by}
+use Rattle.std.specs.List.{All}
+use Rattle.std.specs.Map.{keys_of, values_of}
+use Rattle.dg_model.specs.declared.element.Column.{Column}
+use Rattle.dg_model.specs.declared.element.Column.TheVariants.{Structure, NodeAttr, EdgeAttr}
+use Rattle.dg_shape.specs.declared.catalogue.Ends.{Ends}
+use Rattle.dg_shape.specs.declared.catalogue.Entry.{Entry}
+use Rattle.dg_shape.specs.declared.catalogue.TheConstants.{BYTES_MAX}
+use Rattle.dg_shape.specs.declared.node.Key.{Key}
+use Rattle.dg_shape.specs.Keys.{is_list, IsNumbered}
+
+-- What a catalogue holds: its records in the order in which they were added, no key twice, the first
+-- and last instant of the history, and the number of records for which it has room.
+pub record Holdings : Type 0 where
+  pub entries : List (Key × Entry)
+  pub span : Option Ends
+  pub spare : ℕ
+
+-- the bytes of the three columns together
+abbrev pub total : List ℕ → ℕ
+total lengths = slice_index lengths 0 + slice_index lengths 1 + slice_index lengths 2
+
+-- the bytes of all records
+abbrev pub bytes_of : List (Key × Entry) → ℕ
+bytes_of entries = sum_by (λ e. total e.1.lengths) entries
+
+-- the bytes of one column
+abbrev pub length_in : Entry → Column → ℕ
+length_in e Structure = slice_index e.lengths 0
+length_in e NodeAttr = slice_index e.lengths 1
+length_in e EdgeAttr = slice_index e.lengths 2
+
+-- the byte at which a column begins: the columns stand one after another
+abbrev pub place_in : Entry → Column → ℕ
+place_in e Structure = e.place
+place_in e NodeAttr = e.place + slice_index e.lengths 0
+place_in e EdgeAttr = e.place + slice_index e.lengths 0 + slice_index e.lengths 1
+
+-- the instants of the history, once a batch with these is added
+abbrev pub spanned : Option Ends → Ends → Ends
+spanned None ends = ends
+spanned (Some span) ends = record span { last = ends.last }
+
+-- the record ends in time
+abbrev pub IsPlaced : Entry → Type 0
+IsPlaced e = e.place + total e.lengths ≤ BYTES_MAX
+
+-- there are instants exactly for a list
+abbrev pub EndsIfList : Key × Entry → Type 0
+EndsIfList e = is_some e.1.ends ≡ is_list e.0
+
+-- what holds of the records of each catalogue, beside that no key is there twice
+pub record IsSound (entries : List (Key × Entry)) : Type 0 where
+  pub bytes : bytes_of entries ≤ BYTES_MAX
+  pub placed : All IsPlaced (values_of entries)
+  pub numbered : All IsNumbered (keys_of entries)
+  pub ends : All EndsIfList entries

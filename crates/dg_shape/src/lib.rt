@@ -1,0 +1,11 @@
+//! The index of a history: the names of its nodes and of its stored records, and the catalogue,
+//! which tells how long each record is and where it stands.
+#![tactic(auto)]
+
+mod catalogue;
+mod node;
+#[cfg(test)]
+mod tests;
+
+pub use catalogue::{BYTES_MAX, Catalogue, Ends, Entry, LISTS_MAX};
+pub use node::{Key, NodeId};
