@@ -1,12 +1,13 @@
 #!/usr/bin/env python3
-"""Writes `script` and `replies` from `attendance.csv` and the dates of the events.
+"""Writes the scripts and replies of two runs from `attendance.csv` and the dates of the events.
 
 The facts: who of 18 women was at which of 14 social events, and the dates of the events, from
 Davis, Gardner and Gardner, "Deep South" (1941), figure 3, as the package networkx ships the
 attendance (`davis_southern_women_graph`). The figure has no year; days are counted in a year of
 365 days.
 
-The replies are made here, from plain sets, and never by the program.
+The first run makes the index and loads the history, the second asks for it as of several days. The
+replies are made here, from plain sets, and never by the program.
 """
 import csv
 from datetime import date
@@ -42,6 +43,11 @@ def changes(attendance, women):
     return found
 
 
+def write(name, lines):
+    with open(name, "w") as file:
+        file.write("\n".join(lines) + "\n")
+
+
 def main():
     with open("attendance.csv", newline="") as file:
         attendance = [(row["woman"], int(row["event"])) for row in csv.DictReader(file)]
@@ -53,10 +59,12 @@ def main():
     first, last = batch[0][0], batch[-1][0]
     script = ["# Who was at which event, through one year: women 1 to 18, events 101 to 114."]
     script += [f"# {number} {name}" for name, number in women.items()]
+    script += ["create 16 4 intersection"]
     script += [f"load {len(batch)}"] + [f"{t} {line}" for t, line, _ in batch]
-    replies = [f"ok load {len(batch)} {len(batch)} {last}", "end"]
+    write("1.script", script)
+    write("1.replies", ["ok create", "end", f"ok load {len(batch)} {len(batch)} {last}", "end"])
 
-    handles = []
+    script, replies, handles = ["# The graph as of several days."], [], []
     for asked in ASKED:
         script.append(f"at {asked}")
         t = int(asked.split()[0])
@@ -76,11 +84,8 @@ def main():
         replies.append("end")
     script.append(f"list {len(handles) + 1}")
     replies += [f"refused 8 unknown-handle {len(handles) + 1}", "end"]
-
-    with open("script", "w") as file:
-        file.write("\n".join(script) + "\n")
-    with open("replies", "w") as file:
-        file.write("\n".join(replies) + "\n")
+    write("2.script", script)
+    write("2.replies", replies)
 
 
 if __name__ == "__main__":

@@ -1,6 +1,7 @@
 -- How the bytes taken add up over a run, and what they say of its end.
 use Rattle.std.proofs.Common.{◌≡◌, ℕ, ◌<◌, ◌≤◌, inl, inr, false, IsTrue, List, [], ◌++◌, Option, Some, None, IfSome, length, refl, sym, ◌∙◌, ap, subst, append_assoc, arith, length-append}
 use Rattle.std.specs.Option.{option_map}
+use Rattle.dg_model.specs.declared.fault.StartFault.{StartFault}
 use Rattle.dg_model.specs.declared.limits.Limits.{Limits}
 use Rattle.dg_io.specs.Told.{Gives, IsAtEnd}
 use Rattle.dg_io.specs.Reading.{Reading}
@@ -66,22 +67,25 @@ long_enough script taken limit (Some xs) gives is =
 -- Where nothing failed, the length of the script decides.
 pub completes_of : (limits : Limits) (s : Status) (left rest : Option (List ℕ))
     → (s ≡ status.Words → ⊥) → (s ≡ status.SourceFault → ⊥) → (s ≡ status.SinkFault → ⊥)
+    → (s ≡ status.DiskFault → ⊥) → ((fault : StartFault) → s ≡ status.Refused fault → ⊥)
     → (s ≡ status.Done → IfSome left (λ script. length script < limits.script_bytes))
     → (s ≡ status.ScriptLimit → (taken : List ℕ) × Gives left taken rest × (length taken ≡ limits.script_bytes))
     → IfSome left (λ script. Completes limits s script)
-completes_of limits s None rest words source sink done limit = tt
-completes_of limits status.Done (Some script) rest words source sink done limit = record {
+completes_of limits s None rest words source sink disk refused done limit = tt
+completes_of limits status.Done (Some script) rest words source sink disk refused done limit = record {
   short = λ less. inl refl;
   long = λ more. absurd (let less : length script < limits.script_bytes = done refl in omega arith);
 }
-completes_of limits status.Words (Some script) rest words source sink done limit = absurd (words refl)
-completes_of limits status.SourceFault (Some script) rest words source sink done limit = absurd (source refl)
-completes_of limits status.SinkFault (Some script) rest words source sink done limit = absurd (sink refl)
-completes_of limits status.NoMemory (Some script) rest words source sink done limit = record {
+completes_of limits status.Words (Some script) rest words source sink disk refused done limit = absurd (words refl)
+completes_of limits status.SourceFault (Some script) rest words source sink disk refused done limit = absurd (source refl)
+completes_of limits status.SinkFault (Some script) rest words source sink disk refused done limit = absurd (sink refl)
+completes_of limits status.DiskFault (Some script) rest words source sink disk refused done limit = absurd (disk refl)
+completes_of limits (status.Refused fault) (Some script) rest words source sink disk refused done limit = absurd (refused fault refl)
+completes_of limits status.NoMemory (Some script) rest words source sink disk refused done limit = record {
   short = λ less. inr refl;
   long = λ more. inr refl;
 }
-completes_of limits status.ScriptLimit (Some script) rest words source sink done limit =
+completes_of limits status.ScriptLimit (Some script) rest words source sink disk refused done limit =
     let got = limit refl in record {
       short = λ less. absurd (let more : limits.script_bytes ≤ length script = long_enough script got.0 limits.script_bytes rest got.1 got.2 in omega arith);
       long = λ more. inl refl;

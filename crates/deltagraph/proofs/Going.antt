@@ -1,11 +1,17 @@
 -- The run so far, and how each turn lengthens it.
 use Rattle.std.proofs.Common.{◌≡◌, ℕ, ◌+◌, true, false, List, [], ◌∷◌, ◌++◌, Option, Some, None, IfSome, Result, Ok, Err, OnOk, OnErr, length, take, refl, sym, ◌∙◌, ap, subst, append_assoc, arith, length-append}
 use Rattle.std.specs.Option.{option_map}
+use Rattle.std.specs.List.{flat_map}
 use Rattle.std.specs.Result.{is_err}
 use Rattle.std.proofs.lemmas.List.{append-nil}
 use Rattle.std.proofs.Math.Seq.{take-append-add}
 use Rattle.dg_model.specs.declared.reply.Reply.{Reply}
-use Rattle.dg_model.specs.Machine.{MachineState, names_in}
+use Rattle.dg_model.specs.declared.event.Event.{Event}
+use Rattle.dg_model.specs.declared.limits.Limits.{Limits}
+use Rattle.dg_model.specs.Cut.{IsCut}
+use Rattle.dg_model.specs.History.{History, Batch}
+use Rattle.dg_model.specs.Legal.{StandsAs, AreLegalAfter}
+use Rattle.dg_model.specs.Machine.{MachineState, machine_at, names_in}
 use Rattle.dg_model.specs.Run.{Run}
 use Rattle.dg_model.specs.Script.{Entry, script}
 use Rattle.dg_model.specs.Text.{text, texts}
@@ -16,16 +22,16 @@ use Rattle.dg_session.specs.Parts.{Parts}
 use Rattle.dg_session.specs.Session.{StandsFor}
 use Rattle.deltagraph.specs.declared.status.Status.{Status}
 use Rattle.deltagraph.specs.declared.status.Status.TheVariants as status
-use Rattle.deltagraph.specs.Served.{Served, Gained}
+use Rattle.deltagraph.specs.Served.{Served, Gained, Kept, Cut_off}
 use Rattle.deltagraph.specs.Turns.{Replies, asked}
 
--- The run from m so far: the entries answered, and those to come.
-pub record Going (m : MachineState) (left before : Option (List ℕ)) (session : Parts) (more : Option (List Entry)) (written : Option (List ℕ)) : Type 0 where
+-- The run from m so far, over the image now: the entries answered, and those to come.
+pub record Going (m : MachineState) (left before : Option (List ℕ)) (session : Parts) (image : List ℕ) (more : Option (List Entry)) (written : Option (List ℕ)) : Type 0 where
   pub entries : List Entry
   pub replies : List Reply
   pub state : MachineState
   pub run : Run m entries replies state
-  pub stands : StandsFor session state
+  pub stands : StandsFor session image state
   pub front : option_map script left ≡ option_map (λ rest. entries ++ rest) more
   pub gained : written ≡ grown before (texts [] replies)
 
@@ -47,9 +53,9 @@ front_more None entries e = refl
 front_more (Some rest) entries e = ap (λ es. Some es) (sym (append_assoc entries (e ∷ []) rest))
 
 -- before the first turn
-pub going_first : (m : MachineState) (left before : Option (List ℕ)) (session : Parts) → StandsFor session m
-    → Going m left before session (option_map script left) before
-going_first m left before session stands = record {
+pub going_first : (m : MachineState) (left before : Option (List ℕ)) (session : Parts) (image : List ℕ) → StandsFor session image m
+    → Going m left before session image (option_map script left) before
+going_first m left before session image stands = record {
   entries = [];
   replies = [];
   state = m;
@@ -59,18 +65,11 @@ going_first m left before session stands = record {
   gained = grown-nil before;
 }
 
--- a turn with no reply
-pub going_skip : (m : MachineState) (left before : Option (List ℕ)) (old new : Parts) (more rest : Option (List Entry)) (written : Option (List ℕ))
-    → Going m left before old more written → more ≡ rest → new ≡ old → Going m left before new rest written
-going_skip m left before old new more rest written going same kept =
-    subst (λ (es : Option (List Entry)). Going m left before new es written) same
-    (subst (λ (s : Parts). Going m left before s more written) (sym kept) going)
-
 -- a turn with a reply that was written
-pub going_on : (m : MachineState) (left before : Option (List ℕ)) (old new : Parts) (more rest : Option (List Entry)) (written : Option (List ℕ)) (e : Entry) (r : Reply)
-    → Going m left before old more written → more ≡ option_map (λ es. e ∷ es) rest → Replies e old new r
-    → Going m left before new rest (grown written (text [] r))
-going_on m left before old new more rest written e r going is replies =
+pub going_on : (m : MachineState) (left before : Option (List ℕ)) (old new : Parts) (image now : List ℕ) (more rest : Option (List Entry)) (written : Option (List ℕ)) (e : Entry) (r : Reply)
+    → Going m left before old image more written → more ≡ option_map (λ es. e ∷ es) rest → Replies e old image new now r
+    → Going m left before new now rest (grown written (text [] r))
+going_on m left before old new image now more rest written e r going is replies =
     let next = replies going.state going.stands in record {
       entries = going.entries ++ e ∷ [];
       replies = going.replies ++ r ∷ [];
@@ -84,16 +83,27 @@ going_on m left before old new more rest written e r going is replies =
           ∙ ap (grown before) (sym (texts_more [] going.replies r));
     }
 
--- the names of the machine are none today
-no_names : (session : Parts) (m : MachineState) → StandsFor session m → [] ≡ names_in m.index
-no_names session m stands = sym (ap names_in stands.index ∙ stands.names)
+-- legal batches bring no names
+nameless : (before : List Event) (batches : List Batch) → AreLegalAfter before batches → flat_map (λ (b : Batch). b.names) batches ≡ []
+nameless before [] legal = refl
+nameless before (b ∷ more) legal =
+    ap (λ (names : List (List ℕ)). names ++ flat_map (λ (c : Batch). c.names) more) legal.0.nameless
+    ∙ nameless (before ++ b.events) more legal.1
 
--- a run that is cut
-pub served_cut : (s : Status) (m : MachineState) (left before : Option (List ℕ)) (session : Parts) (more : Option (List Entry)) (written : Option (List ℕ))
-    → Going m left before session more written → (s ≡ status.Done → IfSome more (λ rest. rest ≡ []))
+-- a machine over an image has no names
+names_none : (index : Option History) (image : List ℕ) → StandsAs index image → [] ≡ names_in index
+names_none None image stands = refl
+names_none (Some z) image stands = sym (nameless [] z.batches stands.legal.batches)
+
+no_names : (session : Parts) (image : List ℕ) (m : MachineState) → StandsFor session image m → [] ≡ names_in m.index
+no_names session image m stands = names_none m.index image stands.image_stands
+
+-- a run that ends between two entries
+pub served_cut : (s : Status) (m : MachineState) (left before : Option (List ℕ)) (session : Parts) (image : List ℕ) (more : Option (List Entry)) (written : Option (List ℕ))
+    → Going m left before session image more written → (s ≡ status.Done → IfSome more (λ rest. rest ≡ []))
     → ((due : List ℕ) → written ≡ grown before due → Gained s before due written)
-    → Served m s left before written
-served_cut s m left before session more written going whole gained = record {
+    → Served m s left before written (Some image)
+served_cut s m left before session image more written going whole gained = record {
   entries = going.entries;
   replies = going.replies;
   last = going.state;
@@ -102,22 +112,47 @@ served_cut s m left before session more written going whole gained = record {
   front = going.front;
   whole = whole;
   gained = gained (texts (names_in going.state.index) going.replies)
-      (going.gained ∙ ap (λ (names : List (List ℕ)). grown before (texts names going.replies)) (no_names session going.state going.stands));
+      (going.gained ∙ ap (λ (names : List (List ℕ)). grown before (texts names going.replies)) (no_names session image going.state going.stands));
+  stands = Kept going.stands.image_stands;
 }
 
+comes_first : (more rest : Option (List Entry)) (e : Entry) → more ≡ option_map (λ es. e ∷ es) rest
+    → (later : List Entry) × IfSome more (λ entries. entries ≡ e ∷ later)
+comes_first more None e is = ([], subst (λ (o : Option (List Entry)). IfSome o (λ entries. entries ≡ e ∷ [])) (sym is) tt)
+comes_first more (Some later) e is = (later, subst (λ (o : Option (List Entry)). IfSome o (λ entries. entries ≡ e ∷ later)) (sym is) refl)
+
+-- a run that a failure of the disk cuts off within an entry
+pub served_broken : (m : MachineState) (left before : Option (List ℕ)) (session : Parts) (image now : List ℕ) (more rest : Option (List Entry)) (written : Option (List ℕ)) (e : Entry)
+    → Going m left before session image more written → more ≡ option_map (λ es. e ∷ es) rest
+    → ((k : MachineState) → StandsFor session image k → IsCut k e image now)
+    → Served m status.DiskFault left before written (Some now)
+served_broken m left before session image now more rest written e going is cut =
+    let first = comes_first more rest e is in record {
+      entries = going.entries;
+      replies = going.replies;
+      last = going.state;
+      run = going.run;
+      more = more;
+      front = going.front;
+      whole = λ done. cc;
+      gained = going.gained ∙ ap (λ (names : List (List ℕ)). grown before (texts names going.replies)) (no_names session image going.state going.stands);
+      stands = Cut_off e first.0 image refl first.1 going.stands.image_stands (cut going.state going.stands);
+    }
+
 -- nothing was answered
-pub served_nothing : (s : Status) (m : MachineState) (left before : Option (List ℕ))
+pub served_nothing : (s : Status) (limits : Limits) (index : Option History) (left before : Option (List ℕ)) (image : List ℕ) → StandsAs index image
     → (s ≡ status.Done → ⊥) → (before ≡ grown before [] → Gained s before [] before)
-    → Served m s left before before
-served_nothing s m left before undone gained = record {
+    → Served (machine_at limits index) s left before before (Some image)
+served_nothing s limits index left before image stands undone gained = record {
   entries = [];
   replies = [];
-  last = m;
+  last = machine_at limits index;
   run = refl;
   more = option_map script left;
   front = map-nothing (option_map script left);
   whole = λ done. absurd (undone done);
   gained = gained (grown-nil before);
+  stands = Kept stands;
 }
 
 -- a proper prefix of a later piece is one of all pieces
@@ -131,23 +166,24 @@ part_later before written after due piece is part = (
 )
 
 -- the reply of the last turn was written in part
-pub served_part : (m : MachineState) (left before : Option (List ℕ)) (old new : Parts) (more rest : Option (List Entry)) (written after : Option (List ℕ)) (e : Entry) (r : Reply)
-    → Going m left before old more written → more ≡ option_map (λ es. e ∷ es) rest → Replies e old new r
-    → GrowsByPart written (text [] r) after → Served m status.SinkFault left before after
+pub served_part : (m : MachineState) (left before : Option (List ℕ)) (old new : Parts) (image now : List ℕ) (more rest : Option (List Entry)) (written after : Option (List ℕ)) (e : Entry) (r : Reply)
+    → Going m left before old image more written → more ≡ option_map (λ es. e ∷ es) rest → Replies e old image new now r
+    → GrowsByPart written (text [] r) after → Served m status.SinkFault left before after (Some now)
 unfolding going_on
-served_part m left before old new more rest written after e r going is replies part =
-    let now = going_on m left before old new more rest written e r going is replies in record {
-      entries = now.entries;
-      replies = now.replies;
-      last = now.state;
-      run = now.run;
+served_part m left before old new image now more rest written after e r going is replies part =
+    let next = going_on m left before old new image now more rest written e r going is replies in record {
+      entries = next.entries;
+      replies = next.replies;
+      last = next.state;
+      run = next.run;
       more = rest;
-      front = now.front;
+      front = next.front;
       whole = λ done. cc;
       gained =
           subst (λ (due : List ℕ). GrowsByPart before due after)
-          (sym (texts_more [] going.replies r) ∙ ap (λ (names : List (List ℕ)). texts names now.replies) (no_names new now.state now.stands))
+          (sym (texts_more [] going.replies r) ∙ ap (λ (names : List (List ℕ)). texts names next.replies) (no_names new now next.state next.stands))
           (part_later before written after (texts [] going.replies) (text [] r) going.gained part);
+      stands = Kept next.stands.image_stands;
     }
 
 -- before anything is read, the entries to come are those of the script

@@ -1,3 +1,5 @@
-pub mod Going
 pub mod Counts
 pub mod Turning
+pub mod Going
+pub mod Over
+pub mod Starts

@@ -1,11 +1,12 @@
 -- How a turn follows from its line.
-use Rattle.std.proofs.Common.{◌≡◌, ℕ, ◌+◌, List, ◌∷◌, Option, length, refl, sym, ◌∙◌, ap, subst}
+use Rattle.std.proofs.Common.{◌≡◌, ℕ, ◌+◌, Bool, true, false, cond, List, ◌∷◌, Option, Some, None, length, refl, sym, ◌∙◌, ap, subst}
 use Rattle.std.specs.Option.{option_map}
 use Rattle.dg_model.specs.declared.command.Command.{Command}
 use Rattle.dg_model.specs.declared.reply.Head.TheVariants as head
 use Rattle.dg_model.specs.declared.reply.Refusal.TheVariants as refusal
 use Rattle.dg_model.specs.declared.reply.Reply.{Reply}
 use Rattle.dg_model.specs.Answer.{headed}
+use Rattle.dg_model.specs.Grammar.{command_of}
 use Rattle.dg_model.specs.Lines.{ScriptLine, Text, Long}
 use Rattle.dg_model.specs.Run.{Step, Leaves_grammar, Too_long}
 use Rattle.dg_model.specs.Script as script
@@ -13,54 +14,86 @@ use Rattle.dg_model.proofs.Entries.{told_other, told_asked}
 use Rattle.dg_io.specs.Told.{Gives}
 use Rattle.dg_io.specs.Reading.{Reading, Comes, EndsWith}
 use Rattle.dg_line.specs.declared.command.Syntax.{Syntax}
+use Rattle.dg_session.specs.Session.{BothTold}
 use Rattle.dg_session.specs.Parts.{Parts}
-use Rattle.dg_session.specs.Session.{Steps}
+use Rattle.dg_session.specs.Session.{Steps, Stops}
 use Rattle.deltagraph.specs.declared.turn.Meaning.TheVariants as meaning
 use Rattle.deltagraph.specs.Takes.{Takes, EndsWithin}
-use Rattle.deltagraph.specs.Turns.{Means, Replies}
+use Rattle.deltagraph.specs.Turns.{Breaks, Means, Replies}
+
+some_injective : (x y : List ℕ) → Some x ≡ Some y → x ≡ y
+some_injective x y same = cc
+
+-- what holds of each image holds of one that stays
+pub same_told : (image : Option (List ℕ)) (P : List ℕ → List ℕ → Type 0) → ((x : List ℕ) → P x x) → BothTold image image P
+same_told image P each x y is then_is =
+    let both : Some x ≡ Some y = sym is ∙ then_is in
+    subst (λ (z : List ℕ). P x z) (some_injective x y both) (each x)
 
 -- some entry comes first, and is given the reply
-abbrev pub IsReplied : Option (List ScriptLine) → Option (List ScriptLine) → Parts → Parts → Reply → Type 0
-IsReplied start after old new reply =
+abbrev pub IsReplied : Option (List ScriptLine) → Option (List ScriptLine) → Parts → Option (List ℕ) → Parts → Option (List ℕ) → Reply → Type 0
+IsReplied start after old image new now reply =
     (e : script.Entry)
     × (option_map script.entries_of start ≡ option_map (λ more. e ∷ more) (option_map script.entries_of after))
-    × Replies e old new reply
+    × BothTold image now (λ x y. Replies e old x new y reply)
 
 -- the turn at a line that is in no command
-pub leaves_turn : (start after : Option (List ScriptLine)) (line text : List ℕ) (syntax : Syntax) (column : ℕ) (session : Parts) (reply : Reply)
+pub leaves_turn : (start after : Option (List ScriptLine)) (line text : List ℕ) (syntax : Syntax) (column : ℕ) (session : Parts) (image : Option (List ℕ)) (reply : Reply)
     → text ≡ line → column ≡ syntax.0 → Comes (Text line) start after → Means (meaning.Other syntax) text
-    → reply ≡ headed (head.Refused (refusal.Syntax column)) → IsReplied start after session session reply
-leaves_turn start after line text syntax column session reply same at comes means is =
+    → reply ≡ headed (head.Refused (refusal.Syntax column)) → IsReplied start after session image session image reply
+leaves_turn start after line text syntax column session image reply same at comes means is =
     let means_line = subst (λ (l : List ℕ). Means (meaning.Other syntax) l) same means in
     let said : reply ≡ headed (head.Refused (refusal.Syntax syntax.0)) = is ∙ ap (λ (k : ℕ). headed (head.Refused (refusal.Syntax k))) at in (
       script.No_command line,
       told_other start after (Text line) (script.No_command line) comes means_line.0,
-      λ m stands. (
+      same_told image (λ x y. Replies (script.No_command line) session x session y reply) (λ x m stands. (
         m,
         subst (λ (r : Reply). Step m (script.No_command line) r m) (sym said) (Leaves_grammar line syntax.0 means_line.1),
         stands,
-      ),
+      )),
     )
 
 -- the turn at a command
-pub command_turn : (start before after : Option (List ScriptLine)) (line text : List ℕ) (command : Command) (old new : Parts) (reply : Reply)
+pub command_turn : (start before after : Option (List ScriptLine)) (line text : List ℕ) (command : Command) (old new : Parts) (image now : Option (List ℕ)) (reply : Reply)
     → text ≡ line → Comes (Text line) start before → Means (meaning.Command command) text
-    → Steps command before after old new reply → IsReplied start after old new reply
-command_turn start before after line text command old new reply same comes means steps = (
+    → Steps command before after old image new now reply → IsReplied start after old image new now reply
+command_turn start before after line text command old new image now reply same comes means steps = (
   script.Asked command steps.0,
   told_asked start before after (Text line) command steps.0 comes
       (subst (λ (l : List ℕ). Means (meaning.Command command) l) same means) steps.1,
   steps.2,
 )
 
+-- the turn at a command that the disk's failure cut off
+pub broken_turn : (start before after : Option (List ScriptLine)) (line text : List ℕ) (command : Command) (old : Parts) (image now : Option (List ℕ))
+    → text ≡ line → Comes (Text line) start before → Means (meaning.Command command) text
+    → Stops command before after old image now → Breaks (option_map script.entries_of start) (option_map script.entries_of after) old image now
+broken_turn start before after line text command old image now same comes means stops = (
+  script.Asked command stops.0,
+  told_asked start before after (Text line) command stops.0 comes
+      (subst (λ (l : List ℕ). Means (meaning.Command command) l) same means) stops.1,
+  stops.2,
+)
+
 -- the turn at a line that is too long
-pub long_turn : (start after : Option (List ScriptLine)) (session : Parts) (reply : Reply)
-    → Comes Long start after → reply ≡ headed (head.Refused refusal.LineLong) → IsReplied start after session session reply
-long_turn start after session reply comes is = (
+pub long_turn : (start after : Option (List ScriptLine)) (session : Parts) (image : Option (List ℕ)) (reply : Reply)
+    → Comes Long start after → reply ≡ headed (head.Refused refusal.LineLong) → IsReplied start after session image session image reply
+long_turn start after session image reply comes is = (
   script.Long_line,
   told_other start after Long script.Long_line comes refl,
-  λ m stands. (m, subst (λ (r : Reply). Step m script.Long_line r m) (sym is) Too_long, stands),
+  same_told image (λ x y. Replies script.Long_line session x session y reply)
+      (λ x m stands. (m, subst (λ (r : Reply). Step m script.Long_line r m) (sym is) Too_long, stands)),
 )
+
+-- a line that means a command is that command
+by_test : (b : Bool) (line : List ℕ) (o : Option Command) (c : Command)
+    → cond b script.Skipped (script.read_as line o) ≡ script.Command_is c → o ≡ Some c
+by_test true line o c e = absurd (cc)
+by_test false line (Some d) c e = cc
+by_test false line None c e = absurd (cc)
+
+pub is_command : (line : List ℕ) (c : Command) → Means (meaning.Command c) line → (text : List ℕ) × (command_of text ≡ Some c)
+is_command line c means = (line, by_test (script.is_skipped line) line (command_of line) c means)
 
 -- what one line takes
 pub takes_of : (old new : Reading) (before after : Option (List ℕ))

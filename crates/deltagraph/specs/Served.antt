@@ -1,8 +1,11 @@
--- What the program owes for a script: the replies of a run of the machine.
+-- What the program owes for a script: the replies of a run of the machine, and an index file that
+-- stands for the machine's history.
 use Rattle.std.specs.Prelude.{◌≡◌, ℕ, ◌<◌, ◌≤◌, Bool, false, ◌==◌, ◌⊎◌, not, List, [], ◌∷◌, ◌++◌, length, IfSome, Option, slice_index}
 use Rattle.std.specs.Option.{option_map}
 use Rattle.dg_model.specs.declared.limits.Limits.{Limits}
 use Rattle.dg_model.specs.declared.reply.Reply.{Reply}
+use Rattle.dg_model.specs.Cut.{IsCut}
+use Rattle.dg_model.specs.Legal.{StandsAs}
 use Rattle.dg_model.specs.Machine.{MachineState, names_in}
 use Rattle.dg_model.specs.Run.{Run}
 use Rattle.dg_model.specs.Script.{Entry, script}
@@ -10,15 +13,6 @@ use Rattle.dg_model.specs.Text.{texts}
 use Rattle.dg_io.specs.Told.{grown, GrowsByPart}
 use Rattle.deltagraph.specs.declared.status.Status.{Status}
 use Rattle.deltagraph.specs.declared.status.Status.TheVariants as status
-
--- the exit status
-abbrev pub code_of : Status → ℕ
-code_of status.Done = 0
-code_of status.Words = 2
-code_of status.SourceFault = 3
-code_of status.SinkFault = 4
-code_of status.NoMemory = 6
-code_of status.ScriptLimit = 9
 
 -- one word that does not begin with `-`
 abbrev pub is_written_form : List (List ℕ) → Bool
@@ -32,12 +26,22 @@ Gained status.Done before due after = after ≡ grown before due
 Gained status.Words before due after = after ≡ grown before due
 Gained status.SourceFault before due after = after ≡ grown before due
 Gained status.SinkFault before due after = GrowsByPart before due after
+Gained status.DiskFault before due after = after ≡ grown before due
 Gained status.NoMemory before due after = after ≡ grown before due
+Gained (status.Refused fault) before due after = after ≡ grown before due
 Gained status.ScriptLimit before due after = after ≡ grown before due
 
+-- The image now, where a run ended in the state m with these entries still to come: it stands for the
+-- index of m; or the disk failed, and the first of these entries was cut off over an image that stood
+-- for the index of m.
+pub data Remains (s : Status) (m : MachineState) (more : Option (List Entry)) (now : List ℕ) : Type 0 where
+  Kept : StandsAs m.index now → Remains s m more now
+  Cut_off : (e : Entry) (rest : List Entry) (before : List ℕ) → s ≡ status.DiskFault → IfSome more (λ entries. entries ≡ e ∷ rest)
+      → StandsAs m.index before → IsCut m e before now → Remains s m more now
+
 -- What the sink gained is the texts of a run of the machine from m over the first entries of the
--- script; with `Done` over all of them.
-pub record Served (m : MachineState) (s : Status) (left before after : Option (List ℕ)) : Type 0 where
+-- script; with `Done` over all of them. The index file keeps what the run came to.
+pub record Served (m : MachineState) (s : Status) (left before after image_after : Option (List ℕ)) : Type 0 where
   pub entries : List Entry
   pub replies : List Reply
   pub last : MachineState
@@ -46,6 +50,7 @@ pub record Served (m : MachineState) (s : Status) (left before after : Option (L
   pub front : option_map script left ≡ option_map (λ rest. entries ++ rest) more
   pub whole : s ≡ status.Done → IfSome more (λ rest. rest ≡ [])
   pub gained : Gained s before (texts (names_in last.index) replies) after
+  pub stands : IfSome image_after (λ now. Remains s last more now)
 
 -- Where nothing failed, the script is answered to its end exactly where it has fewer bytes than the
 -- limit; want of memory before the first command is free.

@@ -1,12 +1,15 @@
--- What one turn over the script does: to the entries to come, to the session, and in reply.
+-- What one turn over the script does: to the entries to come, to the session and its image, and in
+-- reply.
 use Rattle.std.specs.Prelude.{◌≡◌, ℕ, ◌<◌, List, [], ◌∷◌, IsTrue, IfSome, Option}
 use Rattle.std.specs.Option.{option_map}
 use Rattle.dg_model.specs.declared.reply.Reply.{Reply}
+use Rattle.dg_model.specs.Cut.{IsCut}
 use Rattle.dg_model.specs.Lines.{ScriptLine, Text}
 use Rattle.dg_model.specs.Machine.{MachineState}
 use Rattle.dg_model.specs.Run.{Step, IsColumn}
 use Rattle.dg_model.specs.Script as script
 use Rattle.dg_io.specs.Reading.{Reading, told, Comes}
+use Rattle.dg_session.specs.Session.{BothTold}
 use Rattle.dg_session.specs.Session.{StandsFor}
 use Rattle.dg_session.specs.Parts.{Parts}
 use Rattle.deltagraph.specs.declared.turn.Meaning.{Meaning}
@@ -24,16 +27,25 @@ Means (meaning.Other syntax) line = (script.meaning (Text line) ≡ script.Other
 abbrev pub asked : Reading → Option (List ℕ) → Option (List script.Entry)
 asked r left = option_map script.entries_of (told r left)
 
--- from every state that the session stands for, the machine may give the entry this reply
-abbrev pub Replies : script.Entry → Parts → Parts → Reply → Type 0
-Replies e old new reply = (m : MachineState) → StandsFor old m → (k : MachineState) × Step m e reply k × StandsFor new k
+-- from every state that the session stands for over its image, the machine may give the entry this
+-- reply, and the session then stands for the new state over the image then
+abbrev pub Replies : script.Entry → Parts → List ℕ → Parts → List ℕ → Reply → Type 0
+Replies e old image new now reply =
+    (m : MachineState) → StandsFor old image m → (k : MachineState) × Step m e reply k × StandsFor new now k
 
--- what the turn says of the entries to come and of the session, before it and after it
-abbrev pub Turns : Turn → Option (List script.Entry) → Option (List script.Entry) → Parts → Parts → Type 0
-Turns turn.End before after old new = IfSome before (λ rest. rest ≡ []) × (before ≡ after) × (new ≡ old)
-Turns turn.Skipped before after old new = (before ≡ after) × (new ≡ old)
-Turns (turn.Replied reply) before after old new =
-    (e : script.Entry) × (before ≡ option_map (λ more. e ∷ more) after) × Replies e old new reply
+-- what the turn says of the entries to come and of the session and its image, before it and after it
+abbrev pub Turns : Turn → Option (List script.Entry) → Option (List script.Entry) → Parts → Option (List ℕ) → Parts → Option (List ℕ) → Type 0
+Turns turn.End before after old image new now = IfSome before (λ rest. rest ≡ []) × (before ≡ after) × (new ≡ old) × (now ≡ image)
+Turns turn.Skipped before after old image new now = (before ≡ after) × (new ≡ old) × (now ≡ image)
+Turns (turn.Replied reply) before after old image new now =
+    (e : script.Entry) × (before ≡ option_map (λ more. e ∷ more) after)
+    × BothTold image now (λ x y. Replies e old x new y reply)
+
+-- the disk failed within the first of the entries to come, and the image is that of a cut
+abbrev pub Breaks : Option (List script.Entry) → Option (List script.Entry) → Parts → Option (List ℕ) → Option (List ℕ) → Type 0
+Breaks before after old image now =
+    (e : script.Entry) × (before ≡ option_map (λ more. e ∷ more) after)
+    × BothTold image now (λ x y. (m : MachineState) → StandsFor old x m → IsCut m e x y)
 
 -- each turn but the last takes something
 abbrev pub Falls : Turn → ℕ → ℕ → Type 0
@@ -49,10 +61,15 @@ EndsAt (turn.Replied reply) r = Unit {0}
 
 -- the same where the first line was just taken: before it the entries were those of it and the
 -- lines to come
-abbrev pub TurnsAt : Turn → List ℕ → Option (List ScriptLine) → Option (List ScriptLine) → Parts → Parts → Type 0
-TurnsAt turn line before after old new =
+abbrev pub TurnsAt : Turn → List ℕ → Option (List ScriptLine) → Option (List ScriptLine) → Parts → Option (List ℕ) → Parts → Option (List ℕ) → Type 0
+TurnsAt turn line before after old image new now =
     (start : Option (List ScriptLine)) → Comes (Text line) start before
-    → Turns turn (option_map script.entries_of start) (option_map script.entries_of after) old new
+    → Turns turn (option_map script.entries_of start) (option_map script.entries_of after) old image new now
+
+abbrev pub BreaksAt : List ℕ → Option (List ScriptLine) → Option (List ScriptLine) → Parts → Option (List ℕ) → Option (List ℕ) → Type 0
+BreaksAt line before after old image now =
+    (start : Option (List ScriptLine)) → Comes (Text line) start before
+    → Breaks (option_map script.entries_of start) (option_map script.entries_of after) old image now
 
 -- the turn is not the last
 abbrev pub GoesOn : Turn → Type 0

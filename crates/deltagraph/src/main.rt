@@ -1,5 +1,5 @@
-//! `deltagraph INDEX` carries out a script of commands, read from standard input, and writes the
-//! reply to each of them.
+//! `deltagraph INDEX` carries out a script of commands, read from standard input, over the index file
+//! of that name, and writes the reply to each of them.
 #![tactic(auto)]
 
 mod serve;
@@ -9,19 +9,30 @@ mod tests;
 mod turn;
 mod words;
 
+use dg_disk::FileDisk;
 use dg_io::{StdSink, StdSource};
 use serve::serve;
 use status::Status;
 use std::io;
 use std::process::ExitCode;
-use words::words_after_name;
+use words::{index_word, words_after_name};
 
 fn main(rt: HostRuntime) -> io::Result<ExitCode> {
-    let status = match words_after_name(&rt) {
-        Ok(words) => {
+    let status = match words_and_index(&rt) {
+        Ok((words, index)) => {
+            // Where the words name no index, the disk is never called.
+            let path = index.unwrap_or(String::new(rt.alloc()));
+            let mut disk = FileDisk::new(&rt, path);
             let mut source = StdSource::new(rt.stdin());
             let mut sink = StdSink::new(rt.stdout());
-            serve(&rt, rt.alloc(), words.as_slice(), &mut source, &mut sink)
+            serve(
+                &rt,
+                rt.alloc(),
+                words.as_slice(),
+                &mut source,
+                &mut sink,
+                &mut disk,
+            )
         }
         Err(status) => status,
     };
@@ -29,4 +40,14 @@ fn main(rt: HostRuntime) -> io::Result<ExitCode> {
         eprintln!(rt; "deltagraph: {message}")?;
     }
     Ok(ExitCode::from(status.code()))
+}
+
+// The words after the program's own name, and the index that they name, if they are of the written
+// form. `Status::NoMemory` for want of memory, and `Status::Words` where a word is no text in UTF-8.
+fn words_and_index(rt: &HostRuntime) -> Result<(Vec<String>, Option<String>), Status> {
+    let words = words_after_name(rt)?;
+    match index_word(rt.alloc(), words.as_slice()) {
+        Ok(index) => Ok((words, index)),
+        Err(_) => Err(Status::NoMemory),
+    }
 }

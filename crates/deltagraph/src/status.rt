@@ -1,5 +1,7 @@
 ghost use Rattle.std.specs.Prelude.{◌≡◌};
-ghost use Rattle.deltagraph.specs.Served.{code_of};
+ghost use Rattle.deltagraph.specs.Ends.{code_of, end_of};
+
+use dg_model::StartFault;
 
 /// How a run ended.
 #[derive(Clone, Copy, Debug, PartialEq, Eq)]
@@ -12,10 +14,28 @@ pub enum Status {
     SourceFault,
     /// A write of a reply failed.
     SinkFault,
+    /// The disk failed.
+    DiskFault,
     /// There was no memory to begin with.
     NoMemory,
+    /// The index file is not one that a run begins over, for this reason: never `StartFault::Disk` or
+    /// `StartFault::Memory`.
+    Refused(StartFault),
     /// As many bytes of the script as the limit were taken, and another is needed.
     ScriptLimit,
+}
+
+impl From<StartFault> for Status {
+    ghost from_gives = { λ fault status. status ≡ end_of fault };
+
+    /// How a run ends whose session does not begin.
+    fn from(fault: StartFault) -> Status {
+        match fault {
+            StartFault::Disk => Status::DiskFault,
+            StartFault::Memory => Status::NoMemory,
+            _ => Status::Refused(fault),
+        }
+    }
 }
 
 impl Status {
@@ -28,7 +48,9 @@ impl Status {
             Status::Words => 2,
             Status::SourceFault => 3,
             Status::SinkFault => 4,
+            Status::DiskFault => 5,
             Status::NoMemory => 6,
+            Status::Refused(_) => 7,
             Status::ScriptLimit => 9,
         }
     }
@@ -40,7 +62,9 @@ impl Status {
             Status::Words => Some("usage: deltagraph [--cache N] [--checked] INDEX"),
             Status::SourceFault => Some("reading the script failed"),
             Status::SinkFault => Some("writing failed"),
+            Status::DiskFault => Some("the index file failed"),
             Status::NoMemory => Some("out of memory"),
+            Status::Refused(_) => Some("the index is refused"),
             Status::ScriptLimit => Some("the script is too long"),
         }
     }

@@ -1,10 +1,12 @@
-ghost use Rattle.std.specs.Prelude.{◌≡◌, ◌<◌, ◌≤◌, ℕ, IsTrue, List, IfOk, OnErr, IsErrOf};
+ghost use Rattle.std.specs.Prelude.{◌≡◌, ◌<◌, ◌≤◌, ℕ, IsTrue, List, IfOk, IfSome, OnOk, IsErrOf, is_some};
 ghost use Rattle.dg_io.specs.Told.{Rose};
 ghost use Rattle.dg_io.specs.Reading.{told, to_come, NeedsByte};
 ghost use Rattle.dg_model.specs.Answer.{headed};
-ghost use Rattle.deltagraph.specs.Turns.{Turns, TurnsAt, Means, Falls, EndsAt, GoesOn, asked};
+ghost use Rattle.dg_session.specs.Session.{IsHeldBy};
+ghost use Rattle.deltagraph.specs.Turns.{Breaks, BreaksAt, EndsAt, Falls, GoesOn, Means, Turns, TurnsAt, asked};
 ghost use Rattle.deltagraph.specs.Takes.{Takes};
 
+use dg_disk::Disk;
 use dg_io::{Line, LineFault, Lines, Source};
 use dg_line::{Syntax, read_command};
 use dg_model::{BodyLines, Command, Head, Refusal, Reply};
@@ -41,48 +43,67 @@ pub enum Meaning {
 /// carries it out.
 ///
 /// `Stop::Read` where a read of the source failed, `Stop::Limit` where another byte is needed and as
-/// many as the limit were taken. The session is then as before.
-pub fn next_turn<R: Threads, S: Source>(
+/// many as the limit were taken: the session and its image are then as before. `Stop::Store` where a
+/// write or a sync of the disk failed.
+pub fn next_turn<R: Threads, S: Source, D: Disk>(
     rt: &R,
     alloc: Global,
     session: &mut Session,
     lines: &mut Lines,
     source: &mut S,
+    disk: &mut D,
 ) -> Result<Turn, Stop>
-    ensures turn { IfOk result (λ turn. Turns turn (asked lines.old (S.left source.old)) (asked lines.new (S.left source.new)) session.old session.new) }
-    ensures stop { OnErr result (session.new ≡ session.old) }
+    requires { IfSome (D.image disk.old) (λ image. IsHeldBy session.old.index image) }
+    ensures turn { IfOk result (λ turn. Turns turn (asked lines.old (S.left source.old)) (asked lines.new (S.left source.new)) session.old (D.image disk.old) session.new (D.image disk.new)) }
+    ensures held { OnOk result (IfSome (D.image disk.new) (λ image. IsHeldBy session.new.index image)) }
+    ensures told { is_some (D.image disk.new) ≡ is_some (D.image disk.old) }
+    ensures stop { IsErrOf result Stop.Read → (session.new ≡ session.old) × (D.image disk.new ≡ D.image disk.old) }
+    ensures stop_limit { IsErrOf result Stop.Limit → (session.new ≡ session.old) × (D.image disk.new ≡ D.image disk.old) }
+    ensures store { IsErrOf result Stop.Store → Breaks (asked lines.old (S.left source.old)) (asked lines.new (S.left source.new)) session.old (D.image disk.old) (D.image disk.new) }
+    ensures store_cause { IsErrOf result Stop.Store → Rose (D.write_faults disk.old) (D.write_faults disk.new) }
     ensures falls { IfOk result (λ turn. Falls turn (to_come lines.old) (to_come lines.new)) }
     ensures read { IsErrOf result Stop.Read → Rose (S.faults source.old) (S.faults source.new) }
     ensures limit { IsErrOf result Stop.Limit → (lines.new.taken ≡ lines.new.limit) × NeedsByte lines.new }
     ensures takes { Takes lines.old (S.left source.old) lines.new (S.left source.new) }
     ensures end { IfOk result (λ turn. EndsAt turn lines.new) }
     ensures counted { S.faults source.old ≤ S.faults source.new }
+    ensures disk_counted { D.faults disk.old ≤ D.faults disk.new }
+    ensures disk_write_counted { D.write_faults disk.old ≤ D.write_faults disk.new }
 {
     match lines.next(source) {
         Ok(Line::End) => Ok(Turn::End),
         Ok(Line::TooLong) => Ok(Turn::Replied(refused(alloc, Refusal::LineLong))),
-        Ok(Line::Text(_)) => turn_of(rt, alloc, session, lines, source),
+        Ok(Line::Text(_)) => turn_of(rt, alloc, session, lines, source, disk),
         Err(LineFault::Read) => Err(Stop::Read),
         Err(LineFault::Limit) => Err(Stop::Limit),
     }
 }
 
 // The turn at a line of the script, which was just taken.
-fn turn_of<R: Threads, S: Source>(
+fn turn_of<R: Threads, S: Source, D: Disk>(
     rt: &R,
     alloc: Global,
     session: &mut Session,
     lines: &mut Lines,
     source: &mut S,
+    disk: &mut D,
 ) -> Result<Turn, Stop>
-    ensures turn { IfOk result (λ turn. TurnsAt turn lines.old.text (told lines.old (S.left source.old)) (told lines.new (S.left source.new)) session.old session.new) }
+    requires { IfSome (D.image disk.old) (λ image. IsHeldBy session.old.index image) }
+    ensures turn { IfOk result (λ turn. TurnsAt turn lines.old.text (told lines.old (S.left source.old)) (told lines.new (S.left source.new)) session.old (D.image disk.old) session.new (D.image disk.new)) }
     ensures goes_on { IfOk result (λ turn. GoesOn turn) }
-    ensures stop { OnErr result (session.new ≡ session.old) }
+    ensures held { OnOk result (IfSome (D.image disk.new) (λ image. IsHeldBy session.new.index image)) }
+    ensures told { is_some (D.image disk.new) ≡ is_some (D.image disk.old) }
+    ensures stop { IsErrOf result Stop.Read → (session.new ≡ session.old) × (D.image disk.new ≡ D.image disk.old) }
+    ensures stop_limit { IsErrOf result Stop.Limit → (session.new ≡ session.old) × (D.image disk.new ≡ D.image disk.old) }
+    ensures store { IsErrOf result Stop.Store → BreaksAt lines.old.text (told lines.old (S.left source.old)) (told lines.new (S.left source.new)) session.old (D.image disk.old) (D.image disk.new) }
+    ensures store_cause { IsErrOf result Stop.Store → Rose (D.write_faults disk.old) (D.write_faults disk.new) }
     ensures kept { to_come lines.new ≤ to_come lines.old }
     ensures read { IsErrOf result Stop.Read → Rose (S.faults source.old) (S.faults source.new) }
     ensures limit { IsErrOf result Stop.Limit → (lines.new.taken ≡ lines.new.limit) × NeedsByte lines.new }
     ensures takes { Takes lines.old (S.left source.old) lines.new (S.left source.new) }
     ensures counted { S.faults source.old ≤ S.faults source.new }
+    ensures disk_counted { D.faults disk.old ≤ D.faults disk.new }
+    ensures disk_write_counted { D.write_faults disk.old ≤ D.write_faults disk.new }
 {
     match meaning_of(lines.text()) {
         Meaning::Skipped => Ok(Turn::Skipped),
@@ -90,7 +111,9 @@ fn turn_of<R: Threads, S: Source>(
             alloc,
             Refusal::Syntax(column),
         ))),
-        Meaning::Command(command) => Ok(Turn::Replied(session.step(rt, &command, lines, source)?)),
+        Meaning::Command(command) => Ok(Turn::Replied(session.step(
+            rt, &command, lines, source, disk,
+        )?)),
     }
 }
 

@@ -1,7 +1,8 @@
-ghost use Rattle.std.specs.Prelude.{◌≡◌, map, string_bytes};
+ghost use Rattle.std.specs.Prelude.{◌≡◌, false, true, [], ◌∷◌, map, string_bytes, IfOk, MatchOption};
 ghost use Rattle.deltagraph.specs.Served.{is_written_form};
 
 use crate::status::Status;
+use std::alloc::{AllocError, Global};
 use std::env;
 use std::io::ErrorKind;
 
@@ -32,5 +33,16 @@ pub fn are_written(words: &[String]) -> bool
             [] => true,
         },
         _ => false,
+    }
+}
+
+/// The index: the one word, where the words after the program's name are of the written form, and
+/// none where they are not. `AllocError` for want of memory.
+pub fn index_word(alloc: Global, words: &[String]) -> Result<Option<String>, AllocError>
+    ensures { let given = map string_bytes words.now in IfOk result (λ index. MatchOption index (is_written_form given ≡ false) (λ word. (is_written_form given ≡ true) × (given ≡ string_bytes word ∷ []))) }
+{
+    match words {
+        [index] if are_written(words) => Ok(Some(String::from_str(alloc, index)?)),
+        _ => Ok(None),
     }
 }

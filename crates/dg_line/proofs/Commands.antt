@@ -14,14 +14,15 @@ use Rattle.std.specs.List.{AllByRecursion}
 use Rattle.std.proofs.lemmas.List.Elements.{All-from_recursion}
 use Rattle.dg_model.specs.declared.element.Columns.{Columns}
 use Rattle.dg_model.specs.declared.command.Command.TheVariants as command
-use Rattle.dg_model.specs.Grammar.{command_of, command_of_words, load_of, at_of, list_of, columns_of, time_of}
+use Rattle.dg_model.specs.declared.params.Function.{Function}
+use Rattle.dg_model.specs.Grammar.{command_of, command_of_words, create_of, load_of, at_of, list_of, columns_of, function_of, n32_of, time_of}
 use Rattle.dg_model.specs.Run.{Begins, IsColumn}
 use Rattle.dg_model.specs.Words.{words, number}
 use Rattle.dg_line.specs.declared.grammar.Slot.TheVariants as slot
 use Rattle.dg_line.specs.Space.{is_space}
 use Rattle.dg_line.specs.Front.{Begun, IsFront, IsOneOf, IsNumber, texts}
 use Rattle.dg_line.specs.Row.{IsSound}
-use Rattle.dg_line.specs.Form.{IsForm, Only, column_words}
+use Rattle.dg_line.specs.Form.{IsForm, Only, column_words, function_words}
 use Rattle.dg_line.proofs.NumberLemmas.{own}
 use Rattle.dg_line.proofs.Fronts.{Plain, cut_less}
 use Rattle.dg_line.proofs.FrontNumbers.{told, is_number}
@@ -116,6 +117,38 @@ at_whole (Some t) (Some c) h g = refl
 at_whole (Some t) None h g = g
 at_whole None p h g = h
 
+create_parts : (l k : Option ℕ) (f : Option Function)
+    → Is (option_and_then (λ m. option_and_then (λ n. option_map (λ g. command.Create m n g) f) k) l) → Is l × Is k × Is f
+create_parts (Some m) (Some n) (Some g) h = (refl, refl, refl)
+create_parts (Some m) (Some n) None h = absurd (false≢true h)
+create_parts (Some m) None f h = absurd (false≢true h)
+create_parts None k f h = absurd (false≢true h)
+
+create_whole : (l k : Option ℕ) (f : Option Function) → Is l → Is k → Is f
+    → Is (option_and_then (λ m. option_and_then (λ n. option_map (λ g. command.Create m n g) f) k) l)
+create_whole (Some m) (Some n) (Some g) a b c = refl
+create_whole (Some m) (Some n) None a b c = c
+create_whole (Some m) None f a b c = b
+create_whole None k f a b c = a
+
+function_told : (word : List ℕ) → Is (function_of word) → IsOneOf 3 function_words word
+function_told word h = elim (either_of (bytes_eq word (codes "intersection")) _ _ h) [
+  | inl a ↦ (0, omega arith, sym (same_word word (codes "intersection") a.0))
+  | inr h1 ↦ elim (either_of (bytes_eq word (codes "union")) _ _ h1) [
+    | inl a ↦ (1, omega arith, sym (same_word word (codes "union") a.0))
+    | inr h2 ↦ elim (either_of (bytes_eq word (codes "balanced")) _ _ h2) [
+      | inl a ↦ (2, omega arith, sym (same_word word (codes "balanced") a.0))
+      | inr h3 ↦ absurd (false≢true h3)
+    ]
+  ]
+]
+
+function_is : (k : ℕ) (word : List ℕ) → k < 3 → get_or function_words k [] ≡ word → Is (function_of word)
+function_is zero word l e = subst (λ (w : List ℕ). Is (function_of w)) e refl
+function_is (suc zero) word l e = subst (λ (w : List ℕ). Is (function_of w)) e refl
+function_is (suc (suc zero)) word l e = subst (λ (w : List ℕ). Is (function_of w)) e refl
+function_is (suc (suc (suc k))) word l e = absurd (omega arith)
+
 columns_told : (word : List ℕ) → Is (columns_of word) → IsOneOf 4 column_words word
 columns_told word h = elim (either_of (bytes_eq word (codes "s")) _ _ h) [
   | inl a ↦ (0, omega arith, sym (same_word word (codes "s") a.0))
@@ -148,7 +181,7 @@ only_is word w h = at h.0 h.1 h.2
     at zero l e = e
     at (suc k) l e = absurd (omega arith)
 
-load_line : (w b : List ℕ) → w ≡ codes "load" → Is (load_of (words b)) → IsForm 0 (w ++ 32 ∷ b)
+load_line : (w b : List ℕ) → w ≡ codes "load" → Is (load_of (words b)) → IsForm 1 (w ++ 32 ∷ b)
 load_line w b verb h =
     let e = one_word load_of (λ x y rest. refl) b h in
     let number : Is (load_of (b ∷ [])) = subst (λ (ws : List (List ℕ)). Is (load_of ws)) e h in
@@ -160,7 +193,7 @@ load_line w b verb h =
       goes_on = mapped (λ n. command.Load n) _ number;
     }
 
-list_line : (w b : List ℕ) → w ≡ codes "list" → Is (list_of (words b)) → IsForm 2 (w ++ 32 ∷ b)
+list_line : (w b : List ℕ) → w ≡ codes "list" → Is (list_of (words b)) → IsForm 3 (w ++ 32 ∷ b)
 list_line w b verb h =
     let e = one_word list_of (λ x y rest. refl) b h in
     let number : Is (list_of (b ∷ [])) = subst (λ (ws : List (List ℕ)). Is (list_of ws)) e h in
@@ -172,7 +205,7 @@ list_line w b verb h =
       goes_on = mapped (λ n. command.List n) _ number;
     }
 
-at_line : (w b : List ℕ) → w ≡ codes "at" → Is (at_of (words b)) → IsForm 1 (w ++ 32 ∷ b)
+at_line : (w b : List ℕ) → w ≡ codes "at" → Is (at_of (words b)) → IsForm 2 (w ++ 32 ∷ b)
 at_line w b verb h = elim (cut b) [
   | Whole plain e ↦ absurd (false≢true (subst (λ (ws : List (List ℕ)). Is (at_of ws)) e h))
   | Split t c parts e ↦
@@ -189,8 +222,37 @@ at_line w b verb h = elim (cut b) [
       }
 ]
 
+create_line : (w b : List ℕ) → w ≡ codes "create" → Is (create_of (words b)) → IsForm 0 (w ++ 32 ∷ b)
+create_line w b verb h = elim (cut b) [
+  | Whole plain e ↦ absurd (false≢true (subst (λ (ws : List (List ℕ)). Is (create_of ws)) e h))
+  | Split l c parts e ↦ second l c parts (subst (λ (ws : List (List ℕ)). Is (create_of ws)) e h)
+]
+  where
+    second : (l c : List ℕ) → b ≡ l ++ 32 ∷ c → Is (create_of (l ∷ words c)) → IsForm 0 (w ++ 32 ∷ b)
+    second l c parts h = elim (cut c) [
+      | Whole plain e ↦ absurd (false≢true (subst (λ (ws : List (List ℕ)). Is (create_of (l ∷ ws))) e h))
+      | Split k d more e ↦
+          let all : Is (create_of (l ∷ k ∷ words d)) = subst (λ (ws : List (List ℕ)). Is (create_of (l ∷ ws))) e h in
+          let last = one_word (λ ws. create_of (l ∷ k ∷ ws)) (λ x y rest. refl) d all in
+          let three : Is (create_of (l ∷ k ∷ d ∷ [])) = subst (λ (ws : List (List ℕ)). Is (create_of (l ∷ k ∷ ws))) last all in
+          let told = create_parts (n32_of l) (n32_of k) (function_of d) three in
+          record {
+            word = w;
+            after = b;
+            parts = refl;
+            taken = subst (Only (codes "create")) (sym verb) (only (codes "create"));
+            goes_on = record {
+              word = l;
+              after = c;
+              parts = parts;
+              taken = told.0;
+              goes_on = record { word = k; after = d; parts = more; taken = told.1; goes_on = function_told d told.2 };
+            };
+          }
+    ]
+
 -- a line with a command is one of the table's
-pub command_is_form : (line : List ℕ) → Is (command_of line) → (i : ℕ) × (i < 3) × IsForm i line
+pub command_is_form : (line : List ℕ) → Is (command_of line) → (i : ℕ) × (i < 4) × IsForm i line
 command_is_form line h = elim (cut line) [
   | Whole plain e ↦ absurd (alone line (subst (λ (ws : List (List ℕ)). Is (command_of_words ws)) e h))
   | Split w b parts e ↦
@@ -200,25 +262,31 @@ command_is_form line h = elim (cut line) [
 ]
   where
     alone : (w : List ℕ) → Is (command_of_words (w ∷ [])) → ⊥
-    alone w g = elim (either_of (bytes_eq w (codes "load")) _ _ g) [
+    alone w g = elim (either_of (bytes_eq w (codes "create")) _ _ g) [
       | inl a ↦ false≢true a.1
-      | inr g1 ↦ elim (either_of (bytes_eq w (codes "at")) _ _ g1) [
+      | inr g0 ↦ elim (either_of (bytes_eq w (codes "load")) _ _ g0) [
         | inl a ↦ false≢true a.1
-        | inr g2 ↦ elim (either_of (bytes_eq w (codes "list")) _ _ g2) [
+        | inr g1 ↦ elim (either_of (bytes_eq w (codes "at")) _ _ g1) [
           | inl a ↦ false≢true a.1
-          | inr g3 ↦ false≢true g3
+          | inr g2 ↦ elim (either_of (bytes_eq w (codes "list")) _ _ g2) [
+            | inl a ↦ false≢true a.1
+            | inr g3 ↦ false≢true g3
+          ]
         ]
       ]
     ]
 
-    split : (w b : List ℕ) → Is (command_of_words (w ∷ words b)) → (i : ℕ) × (i < 3) × IsForm i (w ++ 32 ∷ b)
-    split w b g = elim (either_of (bytes_eq w (codes "load")) _ _ g) [
-      | inl a ↦ (0, omega arith, load_line w b (same_word w (codes "load") a.0) a.1)
-      | inr g1 ↦ elim (either_of (bytes_eq w (codes "at")) _ _ g1) [
-        | inl a ↦ (1, omega arith, at_line w b (same_word w (codes "at") a.0) a.1)
-        | inr g2 ↦ elim (either_of (bytes_eq w (codes "list")) _ _ g2) [
-          | inl a ↦ (2, omega arith, list_line w b (same_word w (codes "list") a.0) a.1)
-          | inr g3 ↦ absurd (false≢true g3)
+    split : (w b : List ℕ) → Is (command_of_words (w ∷ words b)) → (i : ℕ) × (i < 4) × IsForm i (w ++ 32 ∷ b)
+    split w b g = elim (either_of (bytes_eq w (codes "create")) _ _ g) [
+      | inl a ↦ (0, omega arith, create_line w b (same_word w (codes "create") a.0) a.1)
+      | inr g0 ↦ elim (either_of (bytes_eq w (codes "load")) _ _ g0) [
+        | inl a ↦ (1, omega arith, load_line w b (same_word w (codes "load") a.0) a.1)
+        | inr g1 ↦ elim (either_of (bytes_eq w (codes "at")) _ _ g1) [
+          | inl a ↦ (2, omega arith, at_line w b (same_word w (codes "at") a.0) a.1)
+          | inr g2 ↦ elim (either_of (bytes_eq w (codes "list")) _ _ g2) [
+            | inl a ↦ (3, omega arith, list_line w b (same_word w (codes "list") a.0) a.1)
+            | inr g3 ↦ absurd (false≢true g3)
+          ]
         ]
       ]
     ]
@@ -296,8 +364,24 @@ short_words : (n : ℕ) (ws : List (List ℕ)) (w : List ℕ) → n ≡ length w
 short_words n ws w size e h = let below = h.1 in (fine_at ws h.0 w e (omega arith) h.2).1
 
 -- a line of the table is short
-form_short : (i : ℕ) (line : List ℕ) → IsForm i line → length line ≤ 63
+form_short : (i : ℕ) (line : List ℕ) → IsForm i line → length line ≤ 84
 form_short zero line p =
+    let q = p.goes_on in
+    let r = q.goes_on in
+    omega (
+      arith,
+      ap length p.parts,
+      length-append p.word (32 ∷ p.after),
+      short_words 1 (codes "create" ∷ []) p.word refl refl p.taken,
+      ap length q.parts,
+      length-append q.word (32 ∷ q.after),
+      number_short 0 4294967295 q.word (omega arith) q.taken,
+      ap length r.parts,
+      length-append r.word (32 ∷ r.after),
+      number_short 0 4294967295 r.word (omega arith) r.taken,
+      short_words 3 function_words r.after refl refl r.goes_on,
+    )
+form_short (suc zero) line p =
     omega (
       arith,
       ap length p.parts,
@@ -305,7 +389,7 @@ form_short zero line p =
       short_words 1 (codes "load" ∷ []) p.word refl refl p.taken,
       number_short 1 65536 p.after (omega arith) p.goes_on,
     )
-form_short (suc zero) line p =
+form_short (suc (suc zero)) line p =
     let q = p.goes_on in
     omega (
       arith,
@@ -317,7 +401,7 @@ form_short (suc zero) line p =
       number_short 0 9223372036854775807 q.word (omega arith) q.taken,
       short_words 4 column_words q.after refl refl q.goes_on,
     )
-form_short (suc (suc k)) line p =
+form_short (suc (suc (suc k))) line p =
     omega (
       arith,
       ap length p.parts,
@@ -326,7 +410,7 @@ form_short (suc (suc k)) line p =
       number_short 1 4294967295 p.after (omega arith) p.goes_on,
     )
 
-pub front_short : (i : ℕ) (bytes : List ℕ) (n : ℕ) → IsFront (IsForm i) bytes n → n ≤ 63
+pub front_short : (i : ℕ) (bytes : List ℕ) (n : ℕ) → IsFront (IsForm i) bytes n → n ≤ 84
 front_short i bytes zero f = omega arith
 front_short i bytes (suc n) f =
     let b = f.begins (omega arith) in
@@ -335,13 +419,27 @@ front_short i bytes (suc n) f =
 -- a line of the table has a command
 pub form_is_command : (i : ℕ) (line : List ℕ) → IsForm i line → Is (command_of line)
 form_is_command zero line p =
+    let q = p.goes_on in
+    let r = q.goes_on in
+    let one = words_one r.after (plain_words 3 function_words r.after refl refl r.goes_on) in
+    let verb = only_is (codes "create") p.word p.taken in
+    let cut = words_cut p.word p.after (plain_words 1 (codes "create" ∷ []) p.word refl refl p.taken) in
+    let next = words_cut q.word q.after (plain_number 0 4294967295 q.word (omega arith) q.taken) in
+    let third = words_cut r.word r.after (plain_number 0 4294967295 r.word (omega arith) r.taken) in
+    let last : words q.after ≡ r.word ∷ r.after ∷ [] =
+    ap words r.parts ∙ third ∙ ap (λ (ws : List (List ℕ)). r.word ∷ ws) one in
+    command_by_words line (codes "create" ∷ q.word ∷ r.word ∷ r.after ∷ [])
+    (ap words p.parts ∙ cut ∙ ap (λ (w : List ℕ). w ∷ words p.after) (sym verb)
+    ∙ ap (λ (ws : List (List ℕ)). codes "create" ∷ ws) (ap words q.parts ∙ next ∙ ap (λ (ws : List (List ℕ)). q.word ∷ ws) last))
+    (create_whole (n32_of q.word) (n32_of r.word) (function_of r.after) q.taken r.taken (function_is r.goes_on.0 r.after r.goes_on.1 r.goes_on.2))
+form_is_command (suc zero) line p =
     let one = words_one p.after (plain_number 1 65536 p.after (omega arith) p.goes_on) in
     let verb = only_is (codes "load") p.word p.taken in
     let cut = words_cut p.word p.after (plain_words 1 (codes "load" ∷ []) p.word refl refl p.taken) in
     command_by_words line (codes "load" ∷ p.after ∷ [])
     (ap words p.parts ∙ cut ∙ ap (λ (w : List ℕ). w ∷ words p.after) (sym verb) ∙ ap (λ (ws : List (List ℕ)). codes "load" ∷ ws) one)
     (map_is (λ n. command.Load n) (number 1 65536 p.after) p.goes_on)
-form_is_command (suc zero) line p =
+form_is_command (suc (suc zero)) line p =
     let q = p.goes_on in
     let one = words_one q.after (plain_words 4 column_words q.after refl refl q.goes_on) in
     let verb = only_is (codes "at") p.word p.taken in
@@ -351,7 +449,7 @@ form_is_command (suc zero) line p =
     (ap words p.parts ∙ cut ∙ ap (λ (w : List ℕ). w ∷ words p.after) (sym verb)
     ∙ ap (λ (ws : List (List ℕ)). codes "at" ∷ ws) (ap words q.parts ∙ next ∙ ap (λ (ws : List (List ℕ)). q.word ∷ ws) one))
     (at_whole (time_of q.word) (columns_of q.after) q.taken (columns_are q.goes_on.0 q.after q.goes_on.1 q.goes_on.2))
-form_is_command (suc (suc k)) line p =
+form_is_command (suc (suc (suc k))) line p =
     let one = words_one p.after (plain_number 1 4294967295 p.after (omega arith) p.goes_on) in
     let verb = only_is (codes "list") p.word p.taken in
     let cut = words_cut p.word p.after (plain_words 1 (codes "list" ∷ []) p.word refl refl p.taken) in
@@ -363,7 +461,7 @@ form_is_command (suc (suc k)) line p =
 pub begins_nothing : Begins []
 begins_nothing = (
   codes "load" ++ 32 ∷ decimal 1,
-  form_is_command 0 (codes "load" ++ 32 ∷ decimal 1) (record {
+  form_is_command 1 (codes "load" ++ 32 ∷ decimal 1) (record {
     word = codes "load";
     after = decimal 1;
     parts = refl;
@@ -387,12 +485,14 @@ begins_longer i line longest n k so_far f is = by_test (ltb longest n) refl
         let same : longest ≡ k = omega arith in
         subst (λ (m : ℕ). Begins (take m line)) same so_far
 
--- what holds of each of the three commands holds at each place of the table
-pub at_each : {X : Type 0} (P : ℕ → X → Type 0) (x y z d : X) (i : ℕ) → i < 3 → P 0 x → P 1 y → P 2 z → P i (get_or (x ∷ y ∷ z ∷ []) i d)
-at_each P x y z d zero l h0 h1 h2 = h0
-at_each P x y z d (suc zero) l h0 h1 h2 = h1
-at_each P x y z d (suc (suc zero)) l h0 h1 h2 = h2
-at_each P x y z d (suc (suc (suc i))) l h0 h1 h2 = absurd (omega arith)
+-- what holds of each of the four commands holds at each place of the table
+pub at_each : {X : Type 0} (P : ℕ → X → Type 0) (w x y z d : X) (i : ℕ) → i < 4 → P 0 w → P 1 x → P 2 y → P 3 z
+    → P i (get_or (w ∷ x ∷ y ∷ z ∷ []) i d)
+at_each P w x y z d zero l h0 h1 h2 h3 = h0
+at_each P w x y z d (suc zero) l h0 h1 h2 h3 = h1
+at_each P w x y z d (suc (suc zero)) l h0 h1 h2 h3 = h2
+at_each P w x y z d (suc (suc (suc zero))) l h0 h1 h2 h3 = h3
+at_each P w x y z d (suc (suc (suc (suc i)))) l h0 h1 h2 h3 = absurd (omega arith)
 
 -- the longest front of each command up to one
 pub longest_more : (line : List ℕ) (i longest n k : ℕ) → k ≡ max longest n → IsFront (IsForm i) line n
@@ -405,7 +505,7 @@ longest_more line i longest n k is f so_far j l a b e h = elim (cut_less j i l) 
 
 -- the column behind the longest front
 pub column_is : (line : List ℕ) (longest column : ℕ) → longest ≤ length line → column ≡ longest + 1 → Begins (take longest line)
-    → ((j : ℕ) → j < 3 → (a b : List ℕ) → a ++ b ≡ line → Begun (IsForm j) a → length a ≤ longest) → IsColumn line column
+    → ((j : ℕ) → j < 4 → (a b : List ℕ) → a ++ b ≡ line → Begun (IsForm j) a → length a ≤ longest) → IsColumn line column
 column_is line longest column within is begins most = record {
   from_one = omega arith;
   within = omega arith;

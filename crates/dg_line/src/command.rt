@@ -1,11 +1,11 @@
 ghost use Rattle.std.specs.Prelude.{◌≡◌, IfErr, List, ℕ};
 ghost use Rattle.std.specs.Result.{result_ok};
-ghost use Rattle.dg_model.specs.Grammar.{columns_of, load_of, at_of, list_of, command_of};
+ghost use Rattle.dg_model.specs.Grammar.{columns_of, function_of, n32_of, create_of, load_of, at_of, list_of, command_of};
 ghost use Rattle.dg_model.specs.Run.{IsColumn};
 
 use crate::grammar::column;
 use crate::words::{Words, number};
-use dg_model::{BATCH_LINES_MAX, Columns, Command, FIRST_HANDLE, TIME_MAX};
+use dg_model::{BATCH_LINES_MAX, Columns, Command, FIRST_HANDLE, Function, TIME_MAX};
 
 /// The line is in no command; the column, from 1, at which it leaves the grammar.
 #[derive(Clone, Copy, Debug, PartialEq, Eq)]
@@ -17,7 +17,9 @@ fn command(line: &[u8]) -> Option<Command>
 {
     let mut words = Words::of(line);
     let verb = words.next()?;
-    if verb == b"load".as_slice() {
+    if verb == b"create".as_slice() {
+        create(words)
+    } else if verb == b"load".as_slice() {
         load(words)
     } else if verb == b"at".as_slice() {
         at(words)
@@ -26,6 +28,20 @@ fn command(line: &[u8]) -> Option<Command>
     } else {
         None
     }
+}
+
+// `create N32 N32 FUNCTION`, from the words after `create`.
+fn create(mut words: Words) -> Option<Command>
+    ensures { result ≡ create_of words.entry }
+{
+    let l = words.next()?;
+    let k = words.next()?;
+    let name = words.only()?;
+    Some(Command::Create {
+        l: n32(l)?,
+        k: n32(k)?,
+        function: function(name)?,
+    })
 }
 
 // `load COUNT`, from the words after `load`.
@@ -61,6 +77,29 @@ fn list(words: Words) -> Option<Command>
     Some(Command::List {
         handle: handle as u32,
     })
+}
+
+// A number of 32 bits.
+fn n32(word: &[u8]) -> Option<u32>
+    ensures { result ≡ n32_of word.now }
+{
+    let value = number(word, 0, u64::from(u32::MAX))?;
+    Some(value as u32)
+}
+
+// The differential function of this name.
+fn function(name: &[u8]) -> Option<Function>
+    ensures { result ≡ function_of name.now }
+{
+    if name == b"intersection".as_slice() {
+        Some(Function::Intersection)
+    } else if name == b"union".as_slice() {
+        Some(Function::Union)
+    } else if name == b"balanced".as_slice() {
+        Some(Function::Balanced)
+    } else {
+        None
+    }
 }
 
 // The columns that `s`, `sn`, `se` or `sne` asks for.

@@ -18,6 +18,13 @@ enum Slot {
     Number { least: u64, greatest: u64 },
 }
 
+const N32: Slot = Slot::Number {
+    least: 0,
+    greatest: u32::MAX as u64,
+};
+
+const FUNCTION: Slot = Slot::OneOf(&[b"intersection", b"union", b"balanced"]);
+
 const COUNT: Slot = Slot::Number {
     least: 1,
     greatest: BATCH_LINES_MAX as u64,
@@ -37,6 +44,7 @@ const COLUMNS: Slot = Slot::OneOf(&[b"s", b"sn", b"se", b"sne"]);
 
 /// The commands, each as its places.
 const COMMANDS: &[&[Slot]] = &[
+    &[Slot::OneOf(&[b"create"]), N32, N32, FUNCTION],
     &[Slot::OneOf(&[b"load"]), COUNT],
     &[Slot::OneOf(&[b"at"]), TIME, COLUMNS],
     &[Slot::OneOf(&[b"list"]), HANDLE],

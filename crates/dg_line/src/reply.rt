@@ -58,6 +58,10 @@ fn head_row(head: &Head) -> Row<'static>
     ensures len { result.len ≤ WORDS_MAX }
 {
     match *head {
+        Head::Created => Row {
+            words: [OK, Word::Text(b"create"), NO_WORD, NO_WORD, NO_WORD],
+            len: 2,
+        },
         Head::Loaded {
             events,
             total,
@@ -102,6 +106,9 @@ fn refusal_row(refusal: Refusal) -> Row<'static>
 {
     match refusal {
         Refusal::Syntax(column) => refused_with(b"1", b"syntax", Word::Number(u64::from(column))),
+        Refusal::NoIndex => refused(b"2", b"no-index"),
+        Refusal::IndexExists => refused(b"3", b"index-exists"),
+        Refusal::Parameters => refused(b"4", b"parameters"),
         Refusal::ShortBatch(read, asked) => refused_with_both(
             b"5",
             b"short-batch",
@@ -132,6 +139,7 @@ fn refusal_row(refusal: Refusal) -> Row<'static>
             u64::from(live),
             u64::from(asked),
         ),
+        Refusal::FileFull(needed, limit) => refused_with_both(b"13", b"file-full", needed, limit),
         Refusal::OutOfMemory => refused(b"16", b"out-of-memory"),
         Refusal::LineLong => refused(b"18", b"line-long"),
         Refusal::AlreadyLoaded => refused(b"20", b"already-loaded"),

@@ -7,6 +7,18 @@ fn a_line_of_no_command_leaves_the_grammar_at_its_column(rt: HostRuntime) {
     let lines = [
         ("", 1),
         ("frob", 1),
+        ("c", 2),
+        ("create", 7),
+        ("create 2 2", 11),
+        ("create 2 2 ", 12),
+        ("create 2 2 s", 12),
+        ("create 2 2 inter", 17),
+        ("create 2 2 unions", 17),
+        ("create 2 2 union 2", 17),
+        ("create 02 2 union", 9),
+        ("create 2  2 union", 10),
+        ("create 4294967296 2 union", 17),
+        ("create 2 4294967296 union", 19),
         ("Load 1", 1),
         (" list 1", 1),
         ("lo", 3),
@@ -53,6 +65,30 @@ fn a_line_of_the_grammar_is_its_command(rt: HostRuntime) {
         nodes_attr: true,
         edges_attr: true,
     };
+    assert_eq!(rt;
+        read_command(b"create 2 3 intersection"),
+        Ok(Command::Create {
+            l: 2,
+            k: 3,
+            function: Function::Intersection
+        })
+    );
+    assert_eq!(rt;
+        read_command(b"create 0 4294967295 union"),
+        Ok(Command::Create {
+            l: 0,
+            k: u32::MAX,
+            function: Function::Union
+        })
+    );
+    assert_eq!(rt;
+        read_command(b"create 65537 1 balanced"),
+        Ok(Command::Create {
+            l: 65537,
+            k: 1,
+            function: Function::Balanced
+        })
+    );
     assert_eq!(rt; read_command(b"load 1"), Ok(Command::Load { count: 1 }));
     assert_eq!(rt;
         read_command(b"load 65536"),
@@ -139,6 +175,7 @@ fn a_line_of_a_batch_is_its_change_or_none(rt: HostRuntime) {
 fn a_short_reply_is_one_write(rt: HostRuntime) -> Result<(), Fail> {
     let alloc = rt.alloc();
     let heads = [
+        (Head::Created, "ok create\nend\n"),
         (
             Head::Loaded {
                 events: 2,
@@ -165,6 +202,15 @@ fn a_short_reply_is_one_write(rt: HostRuntime) -> Result<(), Fail> {
             Head::Refused(Refusal::Syntax(26)),
             "refused 1 syntax 26\nend\n",
         ),
+        (Head::Refused(Refusal::NoIndex), "refused 2 no-index\nend\n"),
+        (
+            Head::Refused(Refusal::IndexExists),
+            "refused 3 index-exists\nend\n",
+        ),
+        (
+            Head::Refused(Refusal::Parameters),
+            "refused 4 parameters\nend\n",
+        ),
         (
             Head::Refused(Refusal::ShortBatch(1, 2)),
             "refused 5 short-batch 1 2\nend\n",
@@ -188,6 +234,10 @@ fn a_short_reply_is_one_write(rt: HostRuntime) -> Result<(), Fail> {
         (
             Head::Refused(Refusal::PoolFull(127, 1)),
             "refused 9 pool-full 127 1\nend\n",
+        ),
+        (
+            Head::Refused(Refusal::FileFull(173, 172)),
+            "refused 13 file-full 173 172\nend\n",
         ),
         (
             Head::Refused(Refusal::OutOfMemory),

@@ -3,3 +3,5 @@ pub mod Runs
 pub mod Sets
 mod Rows
 mod ColumnRows
+mod ReadingRows
+mod FileRows

@@ -1,23 +1,17 @@
 -- Worked examples, computed by the definitions: each script with the text that is due.
 use Rattle.std.specs.Prelude.{◌≡◌, ℕ, List, [], ◌∷◌, ◌++◌, Option, Some, None, codes, refl}
 use Rattle.std.specs.Fmt.{digits}
-use Rattle.dg_model.specs.declared.command.Command.{Command}
 use Rattle.dg_model.specs.declared.params.Function.TheVariants.{Intersection}
 use Rattle.dg_model.specs.declared.reply.Refusal.TheVariants as refusal
 use Rattle.dg_model.specs.Answer.{Answered, answer, refuse}
 use Rattle.dg_model.specs.History.{History, empty_history}
-use Rattle.dg_model.specs.Lines.{ScriptLine}
 use Rattle.dg_model.specs.Machine.{MachineState, machine_at}
 use Rattle.dg_model.specs.Script.{Entry, Asked, No_command, Long_line, script}
 use Rattle.dg_model.specs.Text.{text}
 
 -- the answer with ample memory; the column of a line that is no command is given
-asked : MachineState → Option History → Command → List ScriptLine → Answered
-asked m (Some z) c lines = answer m z c lines
-asked m None c lines = refuse m refusal.OutOfMemory
-
 answered : ℕ → MachineState → Entry → Answered
-answered column m (Asked c lines) = asked m m.index c lines
+answered column m (Asked c lines) = answer m c lines
 answered column m (No_command line) = refuse m (refusal.Syntax column)
 answered column m Long_line = refuse m refusal.LineLong
 
@@ -26,23 +20,50 @@ output column m [] = []
 output column m (e ∷ entries) =
     let a = answered column m e in text [] a.reply ++ output column a.state entries
 
+-- what the script is due over this index, with so many bytes for the file
+due_in : ℕ → Option History → List ℕ → List ℕ
+due_in room index bytes =
+    output 1 (machine_at (record { script_bytes = 1099511627776; file_bytes = room }) index) (script bytes)
+
 -- what the script is due from an empty history
 due : List ℕ → List ℕ
-due bytes =
-    output 1 (machine_at (record { script_bytes = 1099511627776 })
-    (Some (empty_history (record { l = 2; k = 2; function = Intersection })))) (script bytes)
+due bytes = due_in 281474976710656 (Some (empty_history (record { l = 2; k = 2; function = Intersection }))) bytes
+
+-- what the script is due where there is no index
+due_of_none : List ℕ → List ℕ
+due_of_none bytes = due_in 281474976710656 None bytes
 
 load_at_list : due (codes "load 2\n10 +node 1\n20 +node 2\nat 10 s\nlist 1\n")
     ≡ codes "ok load 2 2 20\nend\nok at 1 0\nend\nok list 1 1\nnode 1\nend\n"
-unfolding digits due output answered asked
+unfolding digits due due_in output answered
 load_at_list = refl
 
 edges : due (codes "# five changes\r\nload 4\n10 +node 1\n20 +node 2\n30 +edge 5 1 2 dir\n50 -edge 5\n\nat 9 s\nat 51 s\nat 30 sne\nat 50 s\nlist 1\nlist 2\nlist 3")
     ≡ codes "ok load 4 4 50\nend\nrefused 7 out-of-range 10 50\nend\nrefused 7 out-of-range 10 50\nend\nok at 1 0\nend\nok at 2 0\nend\nok list 1 3\nnode 1\nnode 2\nedge 5 1 2 dir\nend\nok list 2 2\nnode 1\nnode 2\nend\nrefused 8 unknown-handle 3\nend\n"
-unfolding digits due output answered asked
+unfolding digits due due_in output answered
 edges = refl
 
 refusals : due (codes "load 2\n5 +node 1\n4 +node 2\nload 2\n5 +node 1\n6 +node 1\nload 1\n5 -node 1\nload 3\n5 +node 1\n5 +edge 1 1 1 undir\n5 -node 1\nload 3\n5 +node 1\n5 +edge 1 1 1 undir\n5 +edge 1 2 2 dir\nload 1\n5 -edge 1\nload 2\n5 +node 1\n5 +edge 1 1 2 dir\nload 1\n05 +node 1\nlist 1\nfrob\nat 5 s\nload 1\n5 +node 7\nload 1\n6 +node 8\nload 2\n7 +node 9")
     ≡ codes "refused 6 bad-change 2 1\nend\nrefused 6 bad-change 2 2\nend\nrefused 6 bad-change 1 3\nend\nrefused 6 bad-change 3 4\nend\nrefused 6 bad-change 3 5\nend\nrefused 6 bad-change 1 6\nend\nrefused 6 bad-change 2 8\nend\nrefused 6 bad-change 1 10\nend\nrefused 8 unknown-handle 1\nend\nrefused 1 syntax 1\nend\nrefused 7 out-of-range empty\nend\nok load 1 1 5\nend\nrefused 20 already-loaded\nend\nrefused 5 short-batch 1 2\nend\n"
-unfolding digits due output answered asked
+unfolding digits due due_in output answered
 refusals = refl
+
+made_and_loaded : due_of_none (codes "create 2 2 intersection\nload 3\n10 +node 1\n20 +node 2\n30 +edge 5 1 2 dir\nat 30 s\nlist 1\n")
+    ≡ codes "ok create\nend\nok load 3 3 30\nend\nok at 1 0\nend\nok list 1 3\nnode 1\nnode 2\nedge 5 1 2 dir\nend\n"
+unfolding digits due_of_none due_in output answered
+made_and_loaded = refl
+
+parameters : due_of_none (codes "create 1 2 union\ncreate 2 65 union\ncreate 2 2 union\ncreate 1 1 union\nlist 1\nat 5 s\n")
+    ≡ codes "refused 4 parameters\nend\nrefused 4 parameters\nend\nok create\nend\nrefused 3 index-exists\nend\nrefused 8 unknown-handle 1\nend\nrefused 7 out-of-range empty\nend\n"
+unfolding digits due_of_none due_in output answered
+parameters = refl
+
+without_index : due_of_none (codes "at 5 s\nload 2\n10 +node 1\n9 +node 1\nload 2\n10 +node 1\n")
+    ≡ codes "refused 2 no-index\nend\nrefused 2 no-index\nend\nrefused 5 short-batch 1 2\nend\n"
+unfolding digits due_of_none due_in output answered
+without_index = refl
+
+file_full : due_in 172 None (codes "create 2 2 intersection\nload 3\n10 +node 1\n20 +node 2\n30 +edge 5 1 2 dir\nat 30 s\n")
+    ≡ codes "ok create\nend\nrefused 13 file-full 173 172\nend\nrefused 7 out-of-range empty\nend\n"
+unfolding digits due_in output answered
+file_full = refl

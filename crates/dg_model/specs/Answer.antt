@@ -6,6 +6,7 @@ use Rattle.dg_model.specs.declared.command.Command.TheVariants as command
 use Rattle.dg_model.specs.declared.element.Element.{Element}
 use Rattle.dg_model.specs.declared.element.Columns.{Columns}
 use Rattle.dg_model.specs.declared.limits.TheConstants.{LIVE_HANDLES_MAX}
+use Rattle.dg_model.specs.declared.params.Function.{Function}
 use Rattle.dg_model.specs.declared.reply.BodyLine.TheVariants as line
 use Rattle.dg_model.specs.declared.reply.Head.{Head}
 use Rattle.dg_model.specs.declared.reply.Head.TheVariants as head
@@ -15,7 +16,8 @@ use Rattle.dg_model.specs.declared.reply.Reply.{Reply}
 use Rattle.dg_model.specs.declared.stands.Stands.{Stands}
 use Rattle.dg_model.specs.declared.stands.Stands.TheVariants.{Overlay}
 use Rattle.dg_model.specs.Batch.{batch_of}
-use Rattle.dg_model.specs.History.{History, Batch, events_of, span_of, in_range, last_time_from}
+use Rattle.dg_model.specs.File.{size}
+use Rattle.dg_model.specs.History.{History, Batch, are_parameters, empty_history, with_batch, events_of, span_of, in_range, last_time_from}
 use Rattle.dg_model.specs.Lines.{ScriptLine}
 use Rattle.dg_model.specs.Machine.{MachineState, entry_at, elements}
 
@@ -33,37 +35,52 @@ refuse m r = record { reply = headed (head.Refused r); state = m }
 
 -- the lines that follow a command
 abbrev pub following : Command → ℕ
+following (command.Create l k function) = 0
 following (command.Load count) = count
 following (command.At t cols) = 0
 following (command.List handle) = 0
 
 -- lines follow commands of this kind
 abbrev pub is_followed : Command → Bool
+is_followed (command.Create l k function) = false
 is_followed (command.Load count) = true
 is_followed (command.At t cols) = false
 is_followed (command.List handle) = false
 
--- the history with one more batch
-abbrev pub with_batch : History → Batch → History
-with_batch z b = record { params = z.params; batches = z.batches ++ b ∷ [] }
+-- the reply to the making of an index, and the state with an index that has no event
+abbrev pub answer_create : MachineState → ℕ → ℕ → Function → Answered
+answer_create m l k function =
+    if is_some m.index then refuse m refusal.IndexExists
+    else (if not (are_parameters l k) then refuse m refusal.Parameters
+    else record {
+      reply = headed head.Created;
+      state = record m { index = Some (empty_history (record { l = l; k = k; function = function })) };
+    })
 
 -- the reply to a load, and the state with its batch
 abbrev pub loaded : MachineState → History → Result Batch (ℕ × ℕ) → Answered
 loaded m z (Err fault) = refuse m (refusal.BadChange fault.0 fault.1)
-loaded m z (Ok b) = record {
-  reply = headed (head.Loaded (length b.events) (length (events_of z) + length b.events) (last_time_from 0 b.events));
-  state = record m { index = Some (with_batch z b) };
-}
+loaded m z (Ok b) =
+    if nat_lt m.limits.file_bytes (size (with_batch z b)) then refuse m (refusal.FileFull (size (with_batch z b)) m.limits.file_bytes)
+    else record {
+      reply = headed (head.Loaded (length b.events) (length (events_of z) + length b.events) (last_time_from 0 b.events));
+      state = record m { index = Some (with_batch z b) };
+    }
 
-abbrev pub answer_load : MachineState → History → ℕ → List ScriptLine → Answered
-answer_load m z count lines =
-    if nat_lt (length lines) count then refuse m (refusal.ShortBatch (length lines) count)
-    else (if is_some (span_of (events_of z)) then refuse m refusal.AlreadyLoaded
-    else loaded m z (batch_of z lines))
+-- the reply to a load of these lines into the history, if there is one
+abbrev pub load_into : MachineState → Option History → List ScriptLine → Answered
+load_into m None lines = refuse m refusal.NoIndex
+load_into m (Some z) lines =
+    if is_some (span_of (events_of z)) then refuse m refusal.AlreadyLoaded else loaded m z (batch_of z lines)
+
+abbrev pub answer_load : MachineState → ℕ → List ScriptLine → Answered
+answer_load m count lines =
+    if nat_lt (length lines) count then refuse m (refusal.ShortBatch (length lines) count) else load_into m m.index lines
 
 -- the reply to a retrieval, and the state with its handle
-abbrev pub answer_at : MachineState → History → ℕ → Columns → Answered
-answer_at m z t cols =
+abbrev pub answer_at : MachineState → Option History → ℕ → Columns → Answered
+answer_at m None t cols = refuse m refusal.NoIndex
+answer_at m (Some z) t cols =
     if not (in_range (span_of (events_of z)) t) then refuse m (refusal.OutOfRange (span_of (events_of z)))
     else (if nat_le LIVE_HANDLES_MAX (length m.table) then refuse m (refusal.PoolFull (length m.table) 1)
     else record {
@@ -75,15 +92,20 @@ answer_at m z t cols =
 abbrev pub listing : ℕ → List Element → Reply
 listing handle set = record { head = head.List handle (length set); body = map (λ x. line.Element x) set }
 
-abbrev pub answer_list : MachineState → History → ℕ → Option Stands → Answered
-answer_list m z handle None = refuse m (refusal.UnknownHandle handle)
-answer_list m z handle (Some stands) = record { reply = listing handle (elements z stands); state = m }
+-- The listing of what a live handle stands for. Without an index no handle is live.
+abbrev pub list_of : MachineState → Option History → ℕ → Stands → Answered
+list_of m None handle stands = refuse m (refusal.UnknownHandle handle)
+list_of m (Some z) handle stands = record { reply = listing handle (elements z stands); state = m }
 
--- the answer over the history z of the machine's index
-abbrev pub answer : MachineState → History → Command → List ScriptLine → Answered
-answer m z (command.Load count) lines = answer_load m z count lines
-answer m z (command.At t cols) lines = answer_at m z t cols
-answer m z (command.List handle) lines = answer_list m z handle (entry_at handle m.table)
+abbrev pub answer_list : MachineState → Option History → ℕ → Option Stands → Answered
+answer_list m index handle None = refuse m (refusal.UnknownHandle handle)
+answer_list m index handle (Some stands) = list_of m index handle stands
+
+abbrev pub answer : MachineState → Command → List ScriptLine → Answered
+answer m (command.Create l k function) lines = answer_create m l k function
+answer m (command.Load count) lines = answer_load m count lines
+answer m (command.At t cols) lines = answer_at m m.index t cols
+answer m (command.List handle) lines = answer_list m m.index handle (entry_at handle m.table)
 
 -- want of memory
 abbrev pub no_memory : Reply
@@ -91,11 +113,12 @@ no_memory = headed (head.Refused refusal.OutOfMemory)
 
 abbrev pub is_refusal : Head → Bool
 is_refusal (head.Refused r) = true
+is_refusal head.Created = false
 is_refusal (head.Loaded events total last) = false
 is_refusal (head.At handle weight) = false
 is_refusal (head.List handle lines) = false
 
 -- Want of memory may be answered by a command that lines follow, and by one that is not refused.
 -- Every other refusal is decided before any memory is taken.
-abbrev pub may_lack_memory : MachineState → History → Command → List ScriptLine → Bool
-may_lack_memory m z c lines = is_followed c || not (is_refusal (answer m z c lines).reply.head)
+abbrev pub may_lack_memory : MachineState → Command → List ScriptLine → Bool
+may_lack_memory m c lines = is_followed c || not (is_refusal (answer m c lines).reply.head)

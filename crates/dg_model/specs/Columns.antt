@@ -9,6 +9,7 @@ use Rattle.dg_model.specs.declared.element.Element.TheVariants as element
 use Rattle.dg_model.specs.declared.event.Body.{Body}
 use Rattle.dg_model.specs.declared.event.Body.TheVariants as body
 use Rattle.dg_model.specs.declared.event.Event.{Event}
+use Rattle.dg_model.specs.declared.placed.Placed.{Placed}
 use Rattle.dg_model.specs.Elements.{bit, column_of}
 use Rattle.dg_model.specs.Composition.{Delta}
 
@@ -75,11 +76,7 @@ body_bytes (body.EdgeRemoved id src dst directed) = 4 ∷ (eight id ++ (eight sr
 body_bytes (body.NodeAttr id key old new) = eight id ++ (four key ++ (value_bytes old ++ value_bytes new))
 body_bytes (body.EdgeAttr id key old new) = eight id ++ (four key ++ (value_bytes old ++ value_bytes new))
 
--- an event, and its position in its list or piece, from 0
-pub record Placed : Type 0 where
-  pub at : ℕ
-  pub event : Event
-
+-- the events with their positions, from n on
 abbrev pub placed_from : ℕ → List Event → List Placed
 placed_from n [] = []
 placed_from n (e ∷ events) = record { at = n; event = e } ∷ placed_from (n + 1) events

@@ -9,6 +9,8 @@ use Rattle.dg_model.specs.declared.event.Change.{Change}
 use Rattle.dg_model.specs.declared.event.What.{What}
 use Rattle.dg_model.specs.declared.event.What.TheVariants.{AddNode, RemoveNode, AddEdge, RemoveEdge}
 use Rattle.dg_model.specs.declared.limits.TheConstants.{BATCH_LINES_MAX, TIME_MAX}
+use Rattle.dg_model.specs.declared.params.Function.{Function}
+use Rattle.dg_model.specs.declared.params.Function.TheVariants.{Intersection, Union, Balanced}
 use Rattle.dg_model.specs.Lines.{ScriptLine, Text, Long}
 use Rattle.dg_model.specs.Words.{words, number}
 
@@ -25,6 +27,16 @@ id_of word = number 0 18446744073709551615 word
 abbrev pub handle_of : List ℕ → Option ℕ
 handle_of word = number 1 4294967295 word
 
+-- a number of 32 bits
+abbrev pub n32_of : List ℕ → Option ℕ
+n32_of word = number 0 4294967295 word
+
+abbrev pub function_of : List ℕ → Option Function
+function_of word =
+    if is_word word (codes "intersection") then Some Intersection
+    else (if is_word word (codes "union") then Some Union
+    else (if is_word word (codes "balanced") then Some Balanced else None))
+
 -- `s`, `sn`, `se` or `sne`: structure, and the attributes of nodes and of edges
 abbrev pub columns_of : List ℕ → Option Columns
 columns_of word =
@@ -32,6 +44,12 @@ columns_of word =
     else (if is_word word (codes "sn") then Some (record { nodes_attr = true; edges_attr = false })
     else (if is_word word (codes "se") then Some (record { nodes_attr = false; edges_attr = true })
     else (if is_word word (codes "sne") then Some (record { nodes_attr = true; edges_attr = true }) else None)))
+
+-- `create N32 N32 FUNCTION`
+abbrev pub create_of : List (List ℕ) → Option Command
+create_of (l ∷ k ∷ function ∷ []) =
+    option_and_then (λ m. option_and_then (λ n. option_map (λ f. command.Create m n f) (function_of function)) (n32_of k)) (n32_of l)
+create_of rest = None
 
 -- `load COUNT`
 abbrev pub load_of : List (List ℕ) → Option Command
@@ -51,9 +69,10 @@ list_of rest = None
 abbrev pub command_of_words : List (List ℕ) → Option Command
 command_of_words [] = None
 command_of_words (verb ∷ rest) =
-    if is_word verb (codes "load") then load_of rest
+    if is_word verb (codes "create") then create_of rest
+    else (if is_word verb (codes "load") then load_of rest
     else (if is_word verb (codes "at") then at_of rest
-    else (if is_word verb (codes "list") then list_of rest else None))
+    else (if is_word verb (codes "list") then list_of rest else None)))
 
 -- the command that the line is
 abbrev pub command_of : List ℕ → Option Command

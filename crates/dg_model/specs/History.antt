@@ -1,8 +1,13 @@
 -- The history of a graph: the parameters of its index, and its batches.
-use Rattle.std.specs.Prelude.{ℕ, ◌+◌, Bool, false, ◌&&◌, List, [], ◌∷◌, Option, Some, None, nat_le}
+use Rattle.std.specs.Prelude.{ℕ, ◌+◌, Bool, false, ◌&&◌, List, [], ◌∷◌, ◌++◌, Option, Some, None, nat_le}
 use Rattle.std.specs.List.{flat_map}
 use Rattle.dg_model.specs.declared.event.Event.{Event}
 use Rattle.dg_model.specs.declared.params.Params.{Params}
+use Rattle.dg_model.specs.declared.params.TheConstants.{LEAF_MIN, LEAF_MAX, ARITY_MIN, ARITY_MAX}
+
+-- the leaf list size and the arity are in their ranges
+abbrev pub are_parameters : ℕ → ℕ → Bool
+are_parameters l k = nat_le LEAF_MIN l && (nat_le l LEAF_MAX && (nat_le ARITY_MIN k && nat_le k ARITY_MAX))
 
 -- A batch has the texts of the names that it brings, which are numbered on from those before it,
 -- and its events.
@@ -17,6 +22,10 @@ pub record History : Type 0 where
 -- the history that has these parameters and no event
 abbrev pub empty_history : Params → History
 empty_history params = record { params = params; batches = [] }
+
+-- the history with one more batch
+abbrev pub with_batch : History → Batch → History
+with_batch z b = record { params = z.params; batches = z.batches ++ b ∷ [] }
 
 -- all names, in the order of their numbers
 abbrev pub names_of : History → List (List ℕ)

@@ -1,13 +1,13 @@
 -- The machine that keeps only the events and a table of handles.
-use Rattle.std.specs.Prelude.{ℕ, ◌==◌, List, [], ◌∷◌, Option, Some, None, if◌then◌else◌}
+use Rattle.std.specs.Prelude.{ℕ, ◌≤◌, ◌==◌, List, [], ◌∷◌, Option, Some, None, if◌then◌else◌}
 use Rattle.dg_model.specs.declared.element.Element.{Element}
+use Rattle.dg_model.specs.declared.event.Event.{Event}
 use Rattle.dg_model.specs.declared.limits.Limits.{Limits}
-use Rattle.dg_model.specs.declared.limits.TheConstants.{FIRST_HANDLE}
-use Rattle.dg_model.specs.declared.params.Params.{Params}
+use Rattle.dg_model.specs.declared.limits.TheConstants.{FIRST_HANDLE, FILE_BYTES_MAX, SCRIPT_BYTES_MAX}
 use Rattle.dg_model.specs.declared.stands.Stands.{Stands}
 use Rattle.dg_model.specs.declared.stands.Stands.TheVariants.{Overlay}
 use Rattle.dg_model.specs.Elements.{shown}
-use Rattle.dg_model.specs.History.{History, empty_history, events_of, names_of}
+use Rattle.dg_model.specs.History.{History, events_of, names_of}
 use Rattle.dg_model.specs.Replay.{replay_at}
 
 -- The limits; an index or none, and its history; the live handles with what they stand for, in the
@@ -22,9 +22,15 @@ pub record MachineState : Type 0 where
 abbrev pub machine_at : Limits → Option History → MachineState
 machine_at limits index = record { limits = limits; index = index; table = []; next = FIRST_HANDLE }
 
--- the machine over an index with no event
-pub data StartsEmpty (limits : Limits) : MachineState → Type 0 where
-  At_parameters : (params : Params) → StartsEmpty limits (machine_at limits (Some (empty_history params)))
+-- no limit is above its standard value
+pub record IsWithin (limits : Limits) : Type 0 where
+  pub script : limits.script_bytes ≤ SCRIPT_BYTES_MAX
+  pub file : limits.file_bytes ≤ FILE_BYTES_MAX
+
+-- the events of the machine's history
+abbrev pub events_in : Option History → List Event
+events_in None = []
+events_in (Some z) = events_of z
 
 -- the names of the machine's history
 abbrev pub names_in : Option History → List (List ℕ)

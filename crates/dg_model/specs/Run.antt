@@ -1,12 +1,11 @@
 -- The runs of the machine: a reply to each entry, one after another.
-use Rattle.std.specs.Prelude.{◌≡◌, ℕ, ◌+◌, ◌-◌, ◌≤◌, List, [], ◌∷◌, ◌++◌, Some, is_some, length, take, IsTrue}
+use Rattle.std.specs.Prelude.{◌≡◌, ℕ, ◌+◌, ◌-◌, ◌≤◌, List, [], ◌∷◌, ◌++◌, is_some, length, take, IsTrue}
 use Rattle.dg_model.specs.declared.command.Command.{Command}
 use Rattle.dg_model.specs.declared.reply.Head.TheVariants as head
 use Rattle.dg_model.specs.declared.reply.Refusal.TheVariants as refusal
 use Rattle.dg_model.specs.declared.reply.Reply.{Reply}
 use Rattle.dg_model.specs.Answer.{answer, headed, no_memory, may_lack_memory}
 use Rattle.dg_model.specs.Grammar.{command_of}
-use Rattle.dg_model.specs.History.{History}
 use Rattle.dg_model.specs.Lines.{ScriptLine}
 use Rattle.dg_model.specs.Machine.{MachineState}
 use Rattle.dg_model.specs.Script.{Entry, Asked, No_command, Long_line}
@@ -25,10 +24,8 @@ pub record IsColumn (line : List ℕ) (column : ℕ) : Type 0 where
 
 -- From the state m the machine may give the entry this reply, and go on in the new state.
 pub data Step (m : MachineState) : Entry → Reply → MachineState → Type 0 where
-  Answers : (z : History) (c : Command) (lines : List ScriptLine) → m.index ≡ Some z
-      → Step m (Asked c lines) (answer m z c lines).reply (answer m z c lines).state
-  Lacks_memory : (z : History) (c : Command) (lines : List ScriptLine) → m.index ≡ Some z
-      → IsTrue (may_lack_memory m z c lines) → Step m (Asked c lines) no_memory m
+  Answers : (c : Command) (lines : List ScriptLine) → Step m (Asked c lines) (answer m c lines).reply (answer m c lines).state
+  Lacks_memory : (c : Command) (lines : List ScriptLine) → IsTrue (may_lack_memory m c lines) → Step m (Asked c lines) no_memory m
   Leaves_grammar : (line : List ℕ) (column : ℕ) → IsColumn line column
       → Step m (No_command line) (headed (head.Refused (refusal.Syntax column))) m
   Too_long : Step m Long_line (headed (head.Refused refusal.LineLong)) m

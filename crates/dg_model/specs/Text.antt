@@ -30,18 +30,23 @@ body_words names (line.Element x) = element_words names x
 -- the number and the name of a refusal, and what it keeps
 abbrev pub refusal_words : Refusal → List (List ℕ)
 refusal_words (refusal.Syntax column) = codes "1" ∷ codes "syntax" ∷ decimal column ∷ []
+refusal_words refusal.NoIndex = codes "2" ∷ codes "no-index" ∷ []
+refusal_words refusal.IndexExists = codes "3" ∷ codes "index-exists" ∷ []
+refusal_words refusal.Parameters = codes "4" ∷ codes "parameters" ∷ []
 refusal_words (refusal.ShortBatch read asked) = codes "5" ∷ codes "short-batch" ∷ decimal read ∷ decimal asked ∷ []
 refusal_words (refusal.BadChange number reason) = codes "6" ∷ codes "bad-change" ∷ decimal number ∷ decimal reason ∷ []
 refusal_words (refusal.OutOfRange None) = codes "7" ∷ codes "out-of-range" ∷ codes "empty" ∷ []
 refusal_words (refusal.OutOfRange (Some ends)) = codes "7" ∷ codes "out-of-range" ∷ decimal ends.0 ∷ decimal ends.1 ∷ []
 refusal_words (refusal.UnknownHandle handle) = codes "8" ∷ codes "unknown-handle" ∷ decimal handle ∷ []
 refusal_words (refusal.PoolFull live asked) = codes "9" ∷ codes "pool-full" ∷ decimal live ∷ decimal asked ∷ []
+refusal_words (refusal.FileFull needed limit) = codes "13" ∷ codes "file-full" ∷ decimal needed ∷ decimal limit ∷ []
 refusal_words refusal.OutOfMemory = codes "16" ∷ codes "out-of-memory" ∷ []
 refusal_words refusal.LineLong = codes "18" ∷ codes "line-long" ∷ []
 refusal_words refusal.AlreadyLoaded = codes "20" ∷ codes "already-loaded" ∷ []
 
 -- the words of a head line
 abbrev pub head_words : Head → List (List ℕ)
+head_words head.Created = codes "ok" ∷ codes "create" ∷ []
 head_words (head.Loaded events total last) = codes "ok" ∷ codes "load" ∷ decimal events ∷ decimal total ∷ decimal last ∷ []
 head_words (head.At handle weight) = codes "ok" ∷ codes "at" ∷ decimal handle ∷ decimal weight ∷ []
 head_words (head.List handle lines) = codes "ok" ∷ codes "list" ∷ decimal handle ∷ decimal lines ∷ []

@@ -1,8 +1,11 @@
 use crate::element::Columns;
+use crate::params::Function;
 
 /// A command of the script. docs/SCRIPT.md has its grammar.
 #[derive(Clone, Copy, Debug, PartialEq, Eq, Hash)]
 pub enum Command {
+    /// Make an empty index with this leaf list size, arity and differential function.
+    Create { l: u32, k: u32, function: Function },
     /// Read `count` change lines, and add them to the empty history as one batch.
     Load { count: u32 },
     /// Retrieve the graph as of the instant `t`, in these columns, as a new handle.

@@ -5,16 +5,24 @@ ghost use Rattle.std.specs.Prelude.{◌≡◌};
 pub struct Limits {
     /// How many bytes of the script may be taken. A script has to have fewer.
     pub script_bytes: u64,
+    /// How many bytes of the index file may be in use.
+    pub file_bytes: u64,
 }
 
 /// The bytes of a script, at the standard limits: a script has fewer.
 pub const SCRIPT_BYTES_MAX: u64 = 1_099_511_627_776;
 
+/// The bytes of an index file that may be in use, at the standard limits.
+pub const FILE_BYTES_MAX: u64 = 281_474_976_710_656;
+
 /// The most bytes that a line may have, its line end not counted.
 pub const LINE_BYTES_MAX: usize = 4096;
 
-/// The most lines of a batch.
+/// The most lines of a batch, and so the most events.
 pub const BATCH_LINES_MAX: u32 = 65_536;
+
+/// The most events of a history: 2^28.
+pub const EVENTS_MAX: u64 = 268_435_456;
 
 /// The last instant.
 pub const TIME_MAX: u64 = 9_223_372_036_854_775_807;
@@ -28,10 +36,11 @@ pub const FIRST_HANDLE: u32 = 1;
 impl Limits {
     /// The limits of the program.
     pub fn standard() -> Limits
-        ensures { result ≡ record { script_bytes = SCRIPT_BYTES_MAX } }
+        ensures { result ≡ record { script_bytes = SCRIPT_BYTES_MAX; file_bytes = FILE_BYTES_MAX } }
     {
         Limits {
             script_bytes: SCRIPT_BYTES_MAX,
+            file_bytes: FILE_BYTES_MAX,
         }
     }
 }

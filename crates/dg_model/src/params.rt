@@ -1,3 +1,15 @@
+/// The least leaf list size.
+pub const LEAF_MIN: u32 = 2;
+
+/// The greatest leaf list size.
+pub const LEAF_MAX: u32 = 65_536;
+
+/// The least arity.
+pub const ARITY_MIN: u32 = 2;
+
+/// The greatest arity.
+pub const ARITY_MAX: u32 = 64;
+
 /// The parameters with which an index is made. They never change.
 #[derive(Clone, Copy, Debug, PartialEq, Eq, Hash)]
 pub struct Params {

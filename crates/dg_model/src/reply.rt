@@ -16,6 +16,8 @@ pub struct Reply {
 /// The first line of a reply.
 #[derive(Clone, Copy, Debug, PartialEq, Eq, Hash)]
 pub enum Head {
+    /// An index was made.
+    Created,
     /// A batch was loaded: its events, the events of the history, and the last instant.
     Loaded { events: u64, total: u64, last: u64 },
     /// A graph was retrieved as this handle, by a plan of this weight.
@@ -31,6 +33,12 @@ pub enum Head {
 pub enum Refusal {
     /// 1: the line is no command; the column at which it leaves the grammar, from 1.
     Syntax(u32),
+    /// 2: there is no index.
+    NoIndex,
+    /// 3: there is an index.
+    IndexExists,
+    /// 4: the leaf list size or the arity is outside its range.
+    Parameters,
     /// 5: the input ended within the batch; the lines read and the lines asked for.
     ShortBatch(u32, u32),
     /// 6: a line of the batch is refused; the line, from 1, and the reason.
@@ -41,6 +49,8 @@ pub enum Refusal {
     UnknownHandle(u32),
     /// 9: too many handles; those that live and those asked for.
     PoolFull(u32, u32),
+    /// 13: the file has no room for the batch; the bytes that it would take, and the limit.
+    FileFull(u64, u64),
     /// 16: want of memory.
     OutOfMemory,
     /// 18: the line has more than `LINE_BYTES_MAX` bytes.

@@ -1,5 +1,5 @@
 -- The answer to a retrieval.
-use Rattle.std.proofs.Common.{◌≡◌, ℕ, ◌+◌, ◌<◌, ◌≤◌, Bool, true, false, not, List, [], ◌∷◌, ◌++◌, Option, None, if◌then◌else◌, IsTrue, length, refl, sym, ◌∙◌, ap, subst, nat_le}
+use Rattle.std.proofs.Common.{◌≡◌, ℕ, ◌+◌, ◌<◌, ◌≤◌, Bool, true, false, not, List, [], ◌∷◌, ◌++◌, Option, Some, None, if◌then◌else◌, IsTrue, length, refl, sym, ◌∙◌, ap, subst, nat_le}
 use borrow.Author.Tests.{le-leb, lt-leb}
 use Rattle.dg_model.specs.declared.command.Command.TheVariants as command
 use Rattle.dg_model.specs.declared.element.Columns.{Columns}
@@ -12,10 +12,11 @@ use Rattle.dg_model.specs.declared.stands.Stands.{Stands}
 use Rattle.dg_model.specs.declared.stands.Stands.TheVariants.{Overlay}
 use Rattle.dg_model.specs.Answer.{Answered, answer_at, headed, refuse, no_memory, is_refusal}
 use Rattle.dg_model.specs.History.{History, events_of, span_of, in_range}
-use Rattle.dg_model.specs.Machine.{MachineState}
-use Rattle.dg_session.proofs.Moving.{moves, refused, lacking}
+use Rattle.dg_model.specs.Machine.{MachineState, events_in}
+use Rattle.dg_model.specs.Opening.{Opening}
+use Rattle.dg_session.proofs.Moving.{moves, refused, lacking, no_index, some_index}
 use Rattle.dg_session.specs.Parts.{Parts}
-use Rattle.dg_session.specs.Session.{Moves}
+use Rattle.dg_session.specs.Session.{Moves, StandsFor}
 
 room : (xs ys : List (ℕ × Stands)) → xs ≡ ys → length ys < LIVE_HANDLES_MAX → nat_le LIVE_HANDLES_MAX (length xs) ≡ false
 room xs ys e few = ap (λ zs. nat_le LIVE_HANDLES_MAX (length zs)) e ∙ lt-leb LIVE_HANDLES_MAX (length ys) few
@@ -30,67 +31,76 @@ by_tests m within full ends t cols =
       state = record m { table = m.table ++ (m.next, Overlay t cols None) ∷ []; next = m.next + 1 };
     })
 
-at_is : (m : MachineState) (z : History) (t : ℕ) (cols : Columns) (es : List Event) (within full : Bool) → events_of z ≡ es
-    → in_range (span_of es) t ≡ within → nat_le LIVE_HANDLES_MAX (length m.table) ≡ full
-    → answer_at m z t cols ≡ by_tests m within full (span_of es) t cols
-at_is m z t cols es within full e a b =
-    ap (λ xs. by_tests m (in_range (span_of xs) t) (nat_le LIVE_HANDLES_MAX (length m.table)) (span_of xs) t cols) e
-    ∙ ap (λ x. by_tests m x (nat_le LIVE_HANDLES_MAX (length m.table)) (span_of es) t cols) a
-    ∙ ap (λ x. by_tests m within x (span_of es) t cols) b
+at_is : (p : Parts) (image : List ℕ) (o : Opening) (m : MachineState) (t : ℕ) (cols : Columns) (within full : Bool) → p.index ≡ Some o → StandsFor p image m
+    → in_range (span_of p.events) t ≡ within → nat_le LIVE_HANDLES_MAX (length m.table) ≡ full
+    → answer_at m m.index t cols ≡ by_tests m within full (span_of p.events) t cols
+at_is p image o m t cols within full there s a b =
+    let z = some_index o m.index (sym there ∙ s.index) in
+    let events : events_of z.0 ≡ p.events = sym (s.events ∙ ap events_in z.1) in
+    ap (λ (i : Option History). answer_at m i t cols) z.1
+    ∙ ap (λ xs. by_tests m (in_range (span_of xs) t) (nat_le LIVE_HANDLES_MAX (length m.table)) (span_of xs) t cols) events
+    ∙ ap (λ x. by_tests m x (nat_le LIVE_HANDLES_MAX (length m.table)) (span_of p.events) t cols) a
+    ∙ ap (λ x. by_tests m within x (span_of p.events) t cols) b
+
+-- there is no index
+pub at_none : (old : Parts) (image : List ℕ) (t : ℕ) (cols : Columns) (reply : Reply) → old.index ≡ None → reply ≡ headed (head.Refused refusal.NoIndex)
+    → Moves (command.At t cols) [] old image old image reply
+at_none old image t cols reply none reply_is =
+    subst (λ (r : Reply). Moves (command.At t cols) [] old image old image r) (sym reply_is)
+    (refused (command.At t cols) [] old image refusal.NoIndex
+    (λ m s. ap (λ (i : Option History). answer_at m i t cols) (no_index m.index (sym none ∙ s.index))))
 
 -- the instant is not in the history
-pub at_out : (p old : Parts) (t : ℕ) (cols : Columns) (reply : Reply) → p ≡ old → reply ≡ (headed (head.Refused (refusal.OutOfRange (span_of p.events)))) → in_range (span_of p.events) t ≡ false
-    → Moves (command.At t cols) [] old old reply
-at_out p old t cols reply is reply_is out =
-    subst (λ (r : Reply). Moves (command.At t cols) [] old old r) (sym reply_is)
-    (subst (λ (x : Parts). Moves (command.At t cols) [] x x (headed (head.Refused (refusal.OutOfRange (span_of p.events))))) is
-    (refused (command.At t cols) [] p (refusal.OutOfRange (span_of p.events))
-    (λ m s. at_is m s.history t cols p.events false (nat_le LIVE_HANDLES_MAX (length m.table)) s.events out refl)))
+pub at_out : (p : Parts) (image : List ℕ) (o : Opening) (t : ℕ) (cols : Columns) (reply : Reply) → p.index ≡ Some o → reply ≡ (headed (head.Refused (refusal.OutOfRange (span_of p.events)))) → in_range (span_of p.events) t ≡ false
+    → Moves (command.At t cols) [] p image p image reply
+at_out p image o t cols reply there reply_is out =
+    subst (λ (r : Reply). Moves (command.At t cols) [] p image p image r) (sym reply_is)
+    (refused (command.At t cols) [] p image (refusal.OutOfRange (span_of p.events))
+    (λ m s. at_is p image o m t cols false (nat_le LIVE_HANDLES_MAX (length m.table)) there s out refl))
 
 -- too many handles live
-pub at_full : (p old : Parts) (t live : ℕ) (cols : Columns) (reply : Reply) → p ≡ old → reply ≡ (headed (head.Refused (refusal.PoolFull live 1))) → in_range (span_of p.events) t ≡ true
+pub at_full : (p : Parts) (image : List ℕ) (o : Opening) (t live : ℕ) (cols : Columns) (reply : Reply) → p.index ≡ Some o → reply ≡ (headed (head.Refused (refusal.PoolFull live 1))) → in_range (span_of p.events) t ≡ true
     → live ≡ length p.table → LIVE_HANDLES_MAX ≤ live
-    → Moves (command.At t cols) [] old old reply
-at_full p old t live cols reply is reply_is within live_is many =
-    subst (λ (r : Reply). Moves (command.At t cols) [] old old r) (sym reply_is)
-    (subst (λ (x : Parts). Moves (command.At t cols) [] x x (headed (head.Refused (refusal.PoolFull live 1)))) is
-    (refused (command.At t cols) [] p (refusal.PoolFull live 1)
-    (λ m s. let n : length m.table ≡ live = ap length s.table ∙ sym live_is in
-    at_is m s.history t cols p.events true true s.events within (ap (nat_le LIVE_HANDLES_MAX) n ∙ le-leb LIVE_HANDLES_MAX live many)
-    ∙ ap (λ n. refuse m (refusal.PoolFull n 1)) n)))
+    → Moves (command.At t cols) [] p image p image reply
+at_full p image o t live cols reply there reply_is within live_is many =
+    subst (λ (r : Reply). Moves (command.At t cols) [] p image p image r) (sym reply_is)
+    (refused (command.At t cols) [] p image (refusal.PoolFull live 1)
+    (λ m s. let n : length m.table ≡ live = ap length (sym s.table) ∙ sym live_is in
+    at_is p image o m t cols true true there s within (ap (nat_le LIVE_HANDLES_MAX) n ∙ le-leb LIVE_HANDLES_MAX live many)
+    ∙ ap (λ n. refuse m (refusal.PoolFull n 1)) n))
 
 -- memory lacked for a handle
-pub at_lacks : (p old new : Parts) (t : ℕ) (cols : Columns) (reply : Reply) → p ≡ old → new ≡ p → reply ≡ no_memory → in_range (span_of p.events) t ≡ true → length p.table < LIVE_HANDLES_MAX
-    → Moves (command.At t cols) [] old new reply
-at_lacks p old new t cols reply is new_is reply_is within few =
-    subst (λ (r : Reply). Moves (command.At t cols) [] old new r) (sym reply_is)
-    (subst (λ (x : Parts). Moves (command.At t cols) [] old x no_memory) (sym (new_is ∙ is))
-    (subst (λ (x : Parts). Moves (command.At t cols) [] x x no_memory) is
-    (lacking (command.At t cols) [] p
+pub at_lacks : (p new : Parts) (image : List ℕ) (o : Opening) (t : ℕ) (cols : Columns) (reply : Reply) → p.index ≡ Some o → new ≡ p → reply ≡ no_memory → in_range (span_of p.events) t ≡ true → length p.table < LIVE_HANDLES_MAX
+    → Moves (command.At t cols) [] p image new image reply
+at_lacks p new image o t cols reply there new_is reply_is within few =
+    subst (λ (r : Reply). Moves (command.At t cols) [] p image new image r) (sym reply_is)
+    (subst (λ (x : Parts). Moves (command.At t cols) [] p image x image no_memory) (sym new_is)
+    (lacking (command.At t cols) [] p image
     (λ m s. subst (λ (a : Answered). IsTrue (not (is_refusal a.reply.head)))
-    (sym (at_is m s.history t cols p.events true false s.events within (room m.table p.table s.table few))) refl))))
+    (sym (at_is p image o m t cols true false there s within (room m.table p.table (sym s.table) few))) refl)))
 
 -- a new handle
-pub at_new : (p old new : Parts) (t : ℕ) (cols : Columns) (reply : Reply) → p ≡ old → reply ≡ (headed (head.At p.next 0)) → in_range (span_of p.events) t ≡ true → length p.table < LIVE_HANDLES_MAX
-    → new ≡ record { limits = p.limits; events = p.events; table = p.table ++ (p.next, Overlay t cols None) ∷ []; next = p.next + 1 }
-    → Moves (command.At t cols) [] old new reply
-at_new p old new t cols reply is reply_is within few after =
-    subst (λ (r : Reply). Moves (command.At t cols) [] old new r) (sym reply_is)
-    (subst (λ (x : Parts). Moves (command.At t cols) [] x new (headed (head.At p.next 0))) is
-    (moves (command.At t cols) [] p new (headed (head.At p.next 0))
+pub at_new : (p new : Parts) (image : List ℕ) (o : Opening) (t : ℕ) (cols : Columns) (reply : Reply) → p.index ≡ Some o → reply ≡ (headed (head.At p.next 0)) → in_range (span_of p.events) t ≡ true → length p.table < LIVE_HANDLES_MAX
+    → new ≡ record p { table = p.table ++ (p.next, Overlay t cols None) ∷ []; next = p.next + 1 }
+    → Moves (command.At t cols) [] p image new image reply
+at_new p new image o t cols reply there reply_is within few after =
+    subst (λ (r : Reply). Moves (command.At t cols) [] p image new image r) (sym reply_is)
+    (subst (λ (x : Parts). Moves (command.At t cols) [] p image x image (headed (head.At p.next 0))) (sym after)
+    (moves (command.At t cols) [] p image (record p { table = p.table ++ (p.next, Overlay t cols None) ∷ []; next = p.next + 1 }) image (headed (head.At p.next 0))
     (λ m s.
+    let z = some_index o m.index (sym there ∙ s.index) in
     let k : MachineState = record m { table = m.table ++ (m.next, Overlay t cols None) ∷ []; next = m.next + 1 } in (
       k,
-      at_is m s.history t cols p.events true false s.events within (room m.table p.table s.table few)
-          ∙ ap (λ (n : ℕ). let a : Answered = record { reply = headed (head.At n 0); state = k } in a) s.next,
+      at_is p image o m t cols true false there s within (room m.table p.table (sym s.table) few)
+          ∙ ap (λ (n : ℕ). let a : Answered = record { reply = headed (head.At n 0); state = k } in a) (sym s.next),
       record {
-        history = s.history;
+        image_stands = s.image_stands;
         index = s.index;
-        events = s.events ∙ sym (ap (λ (x : Parts). x.events) after);
-        names = s.names;
-        limits = s.limits ∙ sym (ap (λ (x : Parts). x.limits) after);
-        table = ap (λ (xs : List (ℕ × Stands)). xs ++ (m.next, Overlay t cols None) ∷ []) s.table
-            ∙ ap (λ (n : ℕ). p.table ++ (n, Overlay t cols None) ∷ []) s.next ∙ sym (ap (λ (x : Parts). x.table) after);
-        next = ap (λ n. n + 1) s.next ∙ sym (ap (λ (x : Parts). x.next) after);
+        events = s.events;
+        limits = s.limits;
+        table = ap (λ (xs : List (ℕ × Stands)). xs ++ (p.next, Overlay t cols None) ∷ []) s.table
+            ∙ ap (λ (n : ℕ). m.table ++ (n, Overlay t cols None) ∷ []) s.next;
+        next = ap (λ n. n + 1) s.next;
+        no_handles = λ h. let e : Some z.0 ≡ None = sym z.1 ∙ h in cc;
       },
     ))))

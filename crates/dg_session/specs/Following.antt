@@ -9,8 +9,8 @@ use Rattle.dg_model.specs.Grammar.{change_in}
 use Rattle.dg_model.specs.Lines.{ScriptLine}
 use Rattle.dg_session.specs.declared.following.Following.{Following}
 use Rattle.dg_session.specs.declared.following.Following.TheVariants.{Line, End}
-use Rattle.dg_session.specs.declared.following.Stop.{Stop}
-use Rattle.dg_session.specs.declared.following.Stop.TheVariants as stop
+use Rattle.dg_session.specs.declared.stop.Stop.{Stop}
+use Rattle.dg_session.specs.declared.stop.Stop.TheVariants as stop
 
 -- why a step stops, by why a line is not given
 abbrev pub stop_of : LineFault → Stop

@@ -1,11 +1,13 @@
 -- What a session keeps.
-use Rattle.std.specs.Prelude.{ℕ, List}
+use Rattle.std.specs.Prelude.{ℕ, List, Option}
 use Rattle.dg_model.specs.declared.event.Event.{Event}
 use Rattle.dg_model.specs.declared.limits.Limits.{Limits}
 use Rattle.dg_model.specs.declared.stands.Stands.{Stands}
+use Rattle.dg_model.specs.Opening.{Opening}
 
 pub record Parts : Type 0 where
   pub limits : Limits  -- the bounds within which it works
+  pub index : Option Opening  -- what its image is opened as, where there is an index
   pub events : List Event  -- the events of the history, in their order
   pub table : List (ℕ × Stands)  -- the live handles, with what they stand for, the oldest first
   pub next : ℕ  -- the number of the next handle

@@ -1,16 +1,20 @@
 -- How the steps of a session are steps of the machine.
-use Rattle.std.specs.Prelude.{◌≡◌, List, [], Option, Some}
+use Rattle.std.specs.Prelude.{◌≡◌, ℕ, Bool, true, false, List, [], Option, Some, None, Ok}
+use Rattle.std.specs.Option.{option_map}
 use Rattle.dg_model.specs.declared.command.Command.{Command}
+use Rattle.dg_model.specs.declared.command.Command.TheVariants as command
 use Rattle.dg_model.specs.declared.element.Element.{Element}
 use Rattle.dg_model.specs.declared.event.Event.{Event}
 use Rattle.dg_model.specs.declared.reply.Reply.{Reply}
 use Rattle.dg_model.specs.declared.stands.Stands.{Stands}
 use Rattle.dg_model.specs.declared.stands.Stands.TheVariants.{Overlay}
 use Rattle.dg_model.specs.Answer.{following}
+use Rattle.dg_model.specs.Cut.{IsCut}
 use Rattle.dg_model.specs.Elements.{shown}
-use Rattle.dg_model.specs.History.{History, events_of, names_of}
+use Rattle.dg_model.specs.Legal.{StandsAs, is_blank}
 use Rattle.dg_model.specs.Lines.{ScriptLine}
-use Rattle.dg_model.specs.Machine.{MachineState}
+use Rattle.dg_model.specs.Machine.{MachineState, events_in}
+use Rattle.dg_model.specs.Opening.{Opening, opening, opening_of}
 use Rattle.dg_model.specs.Replay.{replay_at}
 use Rattle.dg_model.specs.Run.{Step}
 use Rattle.dg_model.specs.Script.{Asked, Follows}
@@ -20,23 +24,51 @@ use Rattle.dg_session.specs.Parts.{Parts}
 abbrev pub elements_among : List Event → Stands → List Element
 elements_among events (Overlay t cols on) = shown (replay_at events t) cols
 
--- the session stands for this state of the machine
-pub record StandsFor (session : Parts) (m : MachineState) : Type 0 where
-  pub history : History
-  pub index : m.index ≡ Some history
-  pub events : events_of history ≡ session.events
-  pub names : names_of history ≡ []
-  pub limits : m.limits ≡ session.limits
-  pub table : m.table ≡ session.table
-  pub next : m.next ≡ session.next
+-- commands of this kind write to the disk
+abbrev pub is_writing : Command → Bool
+is_writing (command.Create l k function) = true
+is_writing (command.Load count) = true
+is_writing (command.At t cols) = false
+is_writing (command.List handle) = false
+
+-- the session stands for this state of the machine, over the image
+pub record StandsFor (session : Parts) (image : List ℕ) (m : MachineState) : Type 0 where
+  pub image_stands : StandsAs m.index image
+  pub index : session.index ≡ option_map opening_of m.index
+  pub events : session.events ≡ events_in m.index
+  pub limits : session.limits ≡ m.limits
+  pub table : session.table ≡ m.table
+  pub next : session.next ≡ m.next
+  pub no_handles : m.index ≡ None → m.table ≡ []
+
+-- the fact holds of the two images, where the disk tells them
+abbrev pub BothTold : Option (List ℕ) → Option (List ℕ) → (List ℕ → List ℕ → Type 0) → Type 0
+BothTold a b P = (x y : List ℕ) → a ≡ Some x → b ≡ Some y → P x y
+
+-- the image is as the session's last call left it
+abbrev pub IsHeldBy : Option Opening → List ℕ → Type 0
+IsHeldBy None image = is_blank image ≡ true
+IsHeldBy (Some o) image = opening image ≡ Ok o
 
 -- from every state that the session stands for, the machine may give the reply and go on to one that
 -- it then stands for
-abbrev pub Moves : Command → List ScriptLine → Parts → Parts → Reply → Type 0
-Moves command got old new reply =
-    (m : MachineState) → StandsFor old m → (k : MachineState) × Step m (Asked command got) reply k × StandsFor new k
+abbrev pub Moves : Command → List ScriptLine → Parts → List ℕ → Parts → List ℕ → Reply → Type 0
+Moves command got old before new after reply =
+    (m : MachineState) → StandsFor old before m → (k : MachineState) × Step m (Asked command got) reply k × StandsFor new after k
 
--- the same, over the lines that follow the command
-abbrev pub Steps : Command → Option (List ScriptLine) → Option (List ScriptLine) → Parts → Parts → Reply → Type 0
-Steps command before after old new reply =
-    (got : List ScriptLine) × Follows (following command) before got after × Moves command got old new reply
+-- the image is what the command may leave where the disk failed, from every state that the session
+-- stands for
+abbrev pub Cuts : Command → List ScriptLine → Parts → List ℕ → List ℕ → Type 0
+Cuts command got old before after = (m : MachineState) → StandsFor old before m → IsCut m (Asked command got) before after
+
+-- the command and the lines that follow it make such a step, where the disk tells its image
+abbrev pub Steps : Command → Option (List ScriptLine) → Option (List ScriptLine) → Parts → Option (List ℕ) → Parts → Option (List ℕ) → Reply → Type 0
+Steps command lines_before lines_after old before new after reply =
+    (got : List ScriptLine) × Follows (following command) lines_before got lines_after
+    × BothTold before after (λ image then_image. Moves command got old image new then_image reply)
+
+-- the command and the lines that follow it were cut off so, where the disk tells its image
+abbrev pub Stops : Command → Option (List ScriptLine) → Option (List ScriptLine) → Parts → Option (List ℕ) → Option (List ℕ) → Type 0
+Stops command lines_before lines_after old before after =
+    (got : List ScriptLine) × Follows (following command) lines_before got lines_after
+    × BothTold before after (λ image then_image. Cuts command got old image then_image)

@@ -3,32 +3,13 @@ ghost use Rattle.dg_io.specs.Told.{Rose};
 ghost use Rattle.dg_io.specs.Reading.{told, NeedsByte};
 ghost use Rattle.dg_model.specs.Lines.{ScriptLine};
 ghost use Rattle.dg_model.specs.Script.{Follows};
-ghost use Rattle.dg_session.specs.Following.{stop_of, FollowingComes, Advances, Gathers};
+ghost use Rattle.dg_session.specs.Following.{FollowingComes, Advances, Gathers};
 
-use dg_io::{Line, LineFault, Lines, Source};
+use crate::stop::Stop;
+use dg_io::{Line, Lines, Source};
 use dg_line::read_change;
 use dg_model::Change;
 use std::alloc::Global;
-
-/// Why a step ends before its command is answered. The session is then as it was.
-#[derive(Clone, Copy, Debug, PartialEq, Eq)]
-pub enum Stop {
-    /// A read of the source failed.
-    Read,
-    /// Another byte is needed, and as many as the limit allows were taken.
-    Limit,
-}
-
-impl From<LineFault> for Stop {
-    ghost from_gives = { λ fault stop. stop ≡ stop_of fault };
-
-    fn from(fault: LineFault) -> Stop {
-        match fault {
-            LineFault::Read => Stop::Read,
-            LineFault::Limit => Stop::Limit,
-        }
-    }
-}
 
 /// What the lines that follow a load came to.
 #[derive(Drop)]
@@ -59,6 +40,7 @@ fn next_following<S: Source>(lines: &mut Lines, source: &mut S) -> Result<Follow
         lines.new (S.left source.new) (S.faults source.new) }
     ensures read { IsErrOf result Stop.Read → Rose (S.faults source.old) (S.faults source.new) }
     ensures limit { IsErrOf result Stop.Limit → (lines.new.taken ≡ lines.new.limit) × NeedsByte lines.new }
+    ensures no_store { IsErrOf result Stop.Store → ⊥ }
 {
     let next = match lines.next(source)? {
         Line::Text(_) => Following::Line(read_change(lines.text()).ok()),
@@ -87,6 +69,7 @@ pub fn gather<S: Source>(
         lines.new (S.left source.new) (S.faults source.new) }
     ensures read { IsErrOf result Stop.Read → Rose (S.faults source.old) (S.faults source.new) }
     ensures limit { IsErrOf result Stop.Limit → (lines.new.taken ≡ lines.new.limit) × NeedsByte lines.new }
+    ensures no_store { IsErrOf result Stop.Store → ⊥ }
 {
     let mut changes = Vec::new(alloc);
     let mut lacking = changes.reserve(count as usize).is_err();

@@ -1,13 +1,14 @@
-ghost use Rattle.std.specs.Prelude.{◌≡◌, map, IfOk, OnOk};
+ghost use Rattle.std.specs.Prelude.{◌≡◌, ◌&&◌, not, is_some, map, IfOk, OnOk};
 ghost use Rattle.std.specs.List.{list_any};
 ghost use Rattle.dg_model.specs.declared.reply.BodyLine.TheVariants as line;
-ghost use Rattle.dg_model.specs.Completion.{has_node, is_edge, edge_of, needs_node, needs_edge, complete};
+ghost use Rattle.dg_model.specs.Completion.{has_node, is_edge, edge_of, needs_node, needs_edge, complete, completes, is_found};
 ghost use Rattle.dg_model.specs.Effect.{forwards};
 ghost use Rattle.dg_model.specs.Elements.{shown};
+ghost use Rattle.dg_model.specs.File.{first_time_of};
 ghost use Rattle.dg_model.specs.History.{last_time_from, span_of};
 ghost use Rattle.dg_model.specs.Replay.{replay_at};
 
-use dg_event::{asks, column_of, effect};
+use dg_event::{asks, column_of, compare, effect};
 use dg_model::{
     Body, BodyLine, Columns, Element, Event, REASON_EDGE_EXISTS, REASON_EDGE_IN_USE,
     REASON_NO_EDGE, REASON_NO_END, REASON_NO_NODE, REASON_NODE_EXISTS, REASON_NODE_IN_USE, What,
@@ -155,6 +156,62 @@ fn remove_edge(graph: &Set, id: u64) -> Result<Body, u8>
     })
 }
 
+// Whether the element that was found is this one.
+fn is_found(found: Option<Element>, element: &Element) -> bool
+    ensures { result ≡ is_found found element.now }
+{
+    match found {
+        Some(other) => compare(&other, element).is_eq(),
+        None => false,
+    }
+}
+
+/// Whether some change comes to this in the graph.
+pub fn completes(graph: &Set, body: &Body) -> bool
+    ensures { result ≡ completes graph.now body.now }
+{
+    match *body {
+        Body::NodeAdded { id } => !has_node(graph, id),
+        Body::NodeRemoved { id } => has_node(graph, id) && !is_node_needed(graph.items(), id),
+        Body::EdgeAdded {
+            id,
+            src,
+            dst,
+            directed: _,
+        } => adds_edge(graph, id, src, dst),
+        Body::EdgeRemoved {
+            id,
+            src,
+            dst,
+            directed,
+        } => removes_edge(
+            graph,
+            id,
+            &Element::Edge {
+                id,
+                src,
+                dst,
+                directed,
+            },
+        ),
+        Body::NodeAttr { .. } | Body::EdgeAttr { .. } => false,
+    }
+}
+
+// Whether an edge may be added: its id is free, and its ends are there.
+fn adds_edge(graph: &Set, id: u64, src: u64, dst: u64) -> bool
+    ensures { result ≡ not (is_some (edge_of graph.now id)) && (has_node graph.now src && has_node graph.now dst) }
+{
+    edge_of(graph.items(), id).is_none() && has_node(graph, src) && has_node(graph, dst)
+}
+
+// Whether this edge may be removed: it is there, and no attribute needs it.
+fn removes_edge(graph: &Set, id: u64, edge: &Element) -> bool
+    ensures { result ≡ is_found (edge_of graph.now id) edge.now && not (list_any (needs_edge id) graph.now) }
+{
+    is_found(edge_of(graph.items(), id), edge) && !is_edge_needed(graph.items(), id)
+}
+
 /// Takes the graph past the event. On want of memory the graph may lack what the event removes.
 pub fn apply(graph: &mut Set, event: &Event) -> Result<(), AllocError>
     ensures { OnOk result (graph.new ≡ forwards graph.old event.now) }
@@ -201,6 +258,16 @@ pub fn span(events: &[Event]) -> Option<(u64, u64)>
     match (events.first(), events.last()) {
         (Some(first), Some(last)) => Some((first.time, last.time)),
         _ => None,
+    }
+}
+
+/// The instant of the first event, or 0 where there is none.
+pub fn first_instant(events: &[Event]) -> u64
+    ensures { result ≡ first_time_of events.now }
+{
+    match events.first() {
+        Some(first) => first.time,
+        None => 0,
     }
 }
 

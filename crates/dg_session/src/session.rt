@@ -1,22 +1,36 @@
-ghost use Rattle.std.specs.Prelude.{◌≡◌, ℕ, ◌+◌, ◌<◌, ◌≤◌, IsTrue, IsErrOf, OnErr, List, [], length, map, IfOk};
+ghost use Rattle.std.specs.Prelude.{◌≡◌, ◌⊎◌, ℕ, ◌+◌, ◌<◌, ◌≤◌, IsTrue, IfErr, IfSome, IsErrOf, OnErr, OnOk, List, [], Option, Some, is_some, true, length, map, IfOk};
+ghost use Rattle.dg_disk.specs.Counts.{Rose as DiskRose};
 ghost use Rattle.dg_io.specs.Told.{Gives, Rose};
 ghost use Rattle.dg_io.specs.Reading.{told, to_come, EndsWith, NeedsByte};
+ghost use Rattle.dg_model.specs.declared.limits.TheConstants.{BATCH_LINES_MAX};
 ghost use Rattle.dg_model.specs.declared.reply.BodyLine.TheVariants as line;
 ghost use Rattle.dg_model.specs.Answer.{headed, no_memory};
-ghost use Rattle.dg_model.specs.History.{in_range, last_time_from};
+ghost use Rattle.dg_model.specs.Grammar.{command_of};
+ghost use Rattle.dg_model.specs.History.{History, are_parameters, in_range, last_time_from};
+ghost use Rattle.dg_model.specs.Legal.{StandsAs};
 ghost use Rattle.dg_model.specs.Lines.{ScriptLine};
-ghost use Rattle.dg_model.specs.Machine.{MachineState, StartsEmpty};
+ghost use Rattle.dg_model.specs.Machine.{IsWithin, machine_at};
+ghost use Rattle.dg_model.specs.Starting.{start_of};
 ghost use Rattle.dg_session.specs.Following.{Gathers};
-ghost use Rattle.dg_session.specs.Session.{StandsFor, Moves, Steps, elements_among};
+ghost use Rattle.dg_session.specs.Kept.{HasBatch, HasNoBatch, IsFirstBatch, Keeps, KeepsOrNot, WereGathered};
+ghost use Rattle.dg_session.specs.Session.{BothTold, Cuts, IsHeldBy, Moves, StandsFor, Steps, Stops, elements_among, is_writing};
+ghost use Rattle.dg_session.specs.Started.{Refuses, StartsAs, index_opening};
+ghost use Rattle.dg_session.specs.declared.stop.Stop.TheVariants as stop;
 
 use crate::batch::{PrepareFault, prepare};
-use crate::following::{Gathered, Stop, gather};
+use crate::following::{Gathered, gather};
 use crate::graph::{last_instant, listing, replay_at, span};
+use crate::history::open;
+use crate::keeping::{KeepFault, keep_batch};
+use crate::laws::law_images_start_as_they_stand;
+use crate::stop::Stop;
 use crate::table::{Entry, entry_at};
+use dg_disk::Disk;
+use dg_file::{CreateFault, Index, law_batches_are_added, law_batches_are_measured};
 use dg_io::{Lines, Source};
 use dg_model::{
-    BodyLine, BodyLines, Columns, Command, Event, FIRST_HANDLE, Head, LIVE_HANDLES_MAX, Limits,
-    Refusal, Reply, Stands,
+    ARITY_MAX, ARITY_MIN, BodyLine, BodyLines, Columns, Command, Event, FIRST_HANDLE, Head,
+    LEAF_MAX, LEAF_MIN, LIVE_HANDLES_MAX, Limits, Params, Refusal, Reply, Stands, StartFault,
 };
 use dg_set::Set;
 use std::alloc::{AllocError, Global};
@@ -32,17 +46,26 @@ const EARLIEST_INSTANT: u64 = 0;
 // A retrieval asks for one handle.
 const HANDLES_ASKED: u32 = 1;
 
-/// Why a session cannot begin.
-#[derive(Clone, Copy, Debug, PartialEq, Eq)]
-pub enum StartFault {
-    /// Want of memory.
-    Memory,
+// The number of the first piece of an index.
+const FIRST_PIECE: u32 = 0;
+
+// A write to the disk failed.
+#[derive(Drop)]
+struct StoreFailed;
+
+impl From<StoreFailed> for Stop {
+    ghost from_gives = { λ _ to. to ≡ stop.Store };
+
+    fn from(_: StoreFailed) -> Stop {
+        Stop::Store
+    }
 }
 
-/// The events of a history, and the live handles over them.
+/// The index of a history and its events, and the live handles over them.
 #[derive(Drop)]
 pub struct Session {
     limits: Limits,
+    index: Option<Index>,
     events: Vec<Event>,
     table: Vec<Entry>,
     next: u32,
@@ -51,34 +74,60 @@ pub struct Session {
 
 impl Model for Session {
     ghost use Rattle.std.specs.Prelude.{◌≡◌, ◌+◌, ◌≤◌, vec_len};
-    ghost use Rattle.dg_model.specs.declared.limits.TheConstants.{FIRST_HANDLE, LIVE_HANDLES_MAX};
+    ghost use Rattle.dg_model.specs.declared.limits.TheConstants.{FILE_BYTES_MAX, FIRST_HANDLE, LIVE_HANDLES_MAX, SCRIPT_BYTES_MAX};
     ghost use Rattle.dg_session.specs.Parts.{Parts};
+    ghost use Rattle.dg_session.specs.Started.{index_opening};
 
     ghost Value = { Parts };
 
     ghost view = { λ s. record {
       limits = s.limits;
+      index = index_opening s.index;
       events = s.events.items;
       table = s.table.items;
       next = s.next;
     } };
 
     ghost invariant = { λ s.
-        (vec_len s.table ≤ LIVE_HANDLES_MAX) × (s.next ≡ FIRST_HANDLE + vec_len s.table) };
+        (vec_len s.table ≤ LIVE_HANDLES_MAX) × (s.next ≡ FIRST_HANDLE + vec_len s.table)
+        × (s.limits.script_bytes ≤ SCRIPT_BYTES_MAX) × (s.limits.file_bytes ≤ FILE_BYTES_MAX) };
 }
 
 impl Session {
-    /// A session over an empty history, within these limits, with room for every handle that may
-    /// live. `StartFault::Memory` for want of memory.
-    pub fn start<R: Threads>(_rt: &R, alloc: Global, limits: Limits) -> Result<Session, StartFault>
-        ensures { IfOk result (λ session. (m : MachineState) → StartsEmpty limits m → StandsFor session m) }
+    /// A session over the index file that the disk has, within these limits, with room for every
+    /// handle that may live. Where the file has no index yet, the session has none.
+    ///
+    /// `StartFault` says why not: the disk failed, the file is not one of an index, a segment, a record
+    /// or an event of it is not right, or memory lacks. An image that stands for a history, or for
+    /// none, is refused only for the disk or for memory.
+    pub fn start<R: Threads, D: Disk>(
+        _rt: &R,
+        alloc: Global,
+        disk: &mut D,
+        limits: Limits,
+    ) -> Result<Session, StartFault>
+        requires limits { IsWithin limits }
+        ensures started { IfOk result (λ session. IfSome (D.image disk.old) (λ image. StartsAs limits session (start_of image))) }
+        ensures stands { IfOk result (λ session. IfSome (D.image disk.old) (λ image. (index : Option History)
+            → StandsAs index image → StandsFor session image (machine_at limits index))) }
+        ensures held { IfOk result (λ session. IfSome (D.image disk.new) (λ image. IsHeldBy session.index image)) }
+        ensures refused { IfErr result (λ fault. IfSome (D.image disk.old) (λ image. Refuses fault (start_of image))) }
+        ensures never { IfErr result (λ fault. IfSome (D.image disk.old) (λ image. (index : Option History)
+            → StandsAs index image → (fault ≡ StartFault.Disk) ⊎ (fault ≡ StartFault.Memory))) }
+        ensures cause { IsErrOf result StartFault.Disk → DiskRose (D.faults disk.old) (D.faults disk.new) }
+        ensures same_image { D.image disk.new ≡ D.image disk.old }
+        ensures counted { D.faults disk.old ≤ D.faults disk.new }
+        ensures write_counted { D.write_faults disk.old ≤ D.write_faults disk.new }
     {
+        law_images_start_as_they_stand();
         let Ok(table) = Vec::with_capacity(alloc, LIVE_HANDLES_MAX) else {
             return Err(StartFault::Memory);
         };
+        let opened = open(alloc, disk)?;
         Ok(Session {
             limits,
-            events: Vec::new(alloc),
+            index: opened.index,
+            events: opened.events,
             table,
             next: FIRST_HANDLE,
             alloc,
@@ -86,22 +135,37 @@ impl Session {
     }
 
     /// Carries out the command, and answers it. A load reads the lines that follow it, whatever its
-    /// answer is. A reply of `Refusal::OutOfMemory` or of another refusal leaves the session as it
-    /// was.
+    /// answer is. A reply of `Refusal::OutOfMemory` or of another refusal leaves the session and the
+    /// disk's image as they were.
     ///
     /// `Stop::Read` where a read of the source failed, `Stop::Limit` where another byte is needed and
-    /// as many as the limit allows were taken. The session is then as it was.
-    pub fn step<R: Threads, S: Source>(
+    /// as many as the limit allows were taken: the session is then as it was. `Stop::Store` where the
+    /// disk failed while an index was made or a batch was loaded: the image is then as before the
+    /// command or as after it.
+    pub fn step<R: Threads, S: Source, D: Disk>(
         &mut self,
         _rt: &R,
         command: &Command,
         lines: &mut Lines,
         source: &mut S,
+        disk: &mut D,
     ) -> Result<Reply, Stop>
+        requires command { (line : List ℕ) × (command_of line ≡ Some command.now) }
+        requires image { IfSome (D.image disk.old) (λ image. IsHeldBy self.old.index image) }
         ensures step { IfOk result (λ reply. Steps command.now
             (told lines.old (S.left source.old)) (told lines.new (S.left source.new))
-            self.old self.new reply) }
-        ensures stop { OnErr result (self.new ≡ self.old) }
+            self.old (D.image disk.old) self.new (D.image disk.new) reply) }
+        ensures held { OnOk result (IfSome (D.image disk.new) (λ image. IsHeldBy self.new.index image)) }
+        ensures told { is_some (D.image disk.new) ≡ is_some (D.image disk.old) }
+        ensures stop { IsErrOf result Stop.Read → (self.new ≡ self.old) × (D.image disk.new ≡ D.image disk.old) }
+        ensures stop_limit { IsErrOf result Stop.Limit → (self.new ≡ self.old) × (D.image disk.new ≡ D.image disk.old) }
+        ensures store { IsErrOf result Stop.Store → Stops command.now
+            (told lines.old (S.left source.old)) (told lines.new (S.left source.new))
+            self.old (D.image disk.old) (D.image disk.new) }
+        ensures store_cause { IsErrOf result Stop.Store → DiskRose (D.write_faults disk.old) (D.write_faults disk.new) }
+        ensures store_command { IsErrOf result Stop.Store → is_writing command.now ≡ true }
+        ensures disk_counted { D.faults disk.old ≤ D.faults disk.new }
+        ensures disk_write_counted { D.write_faults disk.old ≤ D.write_faults disk.new }
         ensures kept { to_come lines.new ≤ to_come lines.old }
         ensures read { IsErrOf result Stop.Read → Rose (S.faults source.old) (S.faults source.new) }
         ensures limit { IsErrOf result Stop.Limit → (lines.new.taken ≡ lines.new.limit) × NeedsByte lines.new }
@@ -114,29 +178,80 @@ impl Session {
         ensures counted { S.faults source.old ≤ S.faults source.new }
     {
         match *command {
+            Command::Create { l, k, function } => Ok(self.create(disk, Params { l, k, function })?),
             Command::Load { count } => {
                 let gathered = gather(self.alloc, count, lines, source)?;
-                Ok(self.load(count, gathered))
+                Ok(self.load(disk, count, gathered)?)
             }
             Command::At { t, cols } => Ok(self.at(t, cols)),
             Command::List { handle } => Ok(self.list(handle)),
         }
     }
 
+    // An empty index with these parameters.
+    fn create<D: Disk>(&mut self, disk: &mut D, params: Params) -> Result<Reply, StoreFailed>
+        requires image { IfSome (D.image disk.old) (λ image. IsHeldBy self.old.index image) }
+        ensures moves { IfOk result (λ reply. BothTold (D.image disk.old) (D.image disk.new) (λ before after.
+            Moves (Command.Create params.l params.k params.function) [] self.old before self.new after reply)) }
+        ensures held { OnOk result (IfSome (D.image disk.new) (λ image. IsHeldBy self.new.index image)) }
+        ensures store { OnErr result (BothTold (D.image disk.old) (D.image disk.new) (λ before after.
+            Cuts (Command.Create params.l params.k params.function) [] self.old before after)) }
+        ensures cause { OnErr result (DiskRose (D.write_faults disk.old) (D.write_faults disk.new)) }
+        ensures told { is_some (D.image disk.new) ≡ is_some (D.image disk.old) }
+        ensures counted { D.faults disk.old ≤ D.faults disk.new }
+        ensures write_counted { D.write_faults disk.old ≤ D.write_faults disk.new }
+    {
+        if self.index.is_some() {
+            return Ok(refused(self.alloc, Refusal::IndexExists));
+        }
+        if !are_parameters(params) {
+            return Ok(refused(self.alloc, Refusal::Parameters));
+        }
+        match Index::create(self.alloc, disk, params) {
+            Ok(index) => {
+                self.index = Some(index);
+                Ok(headed(self.alloc, Head::Created))
+            }
+            Err(CreateFault::Memory) => Ok(no_memory(self.alloc)),
+            Err(CreateFault::Disk) => Err(StoreFailed),
+        }
+    }
+
     // The batch of these lines, as the history's first.
-    fn load(&mut self, count: u32, gathered: Gathered) -> Reply
-        ensures { (got : List ScriptLine)
+    fn load<D: Disk>(
+        &mut self,
+        disk: &mut D,
+        count: u32,
+        gathered: Gathered,
+    ) -> Result<Reply, StoreFailed>
+        requires some { 1 ≤ count }
+        requires few { count ≤ BATCH_LINES_MAX }
+        requires gathered { WereGathered count gathered.read gathered.lacking gathered.changes.items }
+        requires image { IfSome (D.image disk.old) (λ image. IsHeldBy self.old.index image) }
+        ensures moves { IfOk result (λ reply. (got : List ScriptLine)
             → Gathers got gathered.read gathered.lacking gathered.changes.items
-            → Moves (Command.Load count) got self.old self.new result }
+            → BothTold (D.image disk.old) (D.image disk.new) (λ before after.
+            Moves (Command.Load count) got self.old before self.new after reply)) }
+        ensures held { OnOk result (IfSome (D.image disk.new) (λ image. IsHeldBy self.new.index image)) }
+        ensures store { OnErr result ((got : List ScriptLine)
+            → Gathers got gathered.read gathered.lacking gathered.changes.items
+            → BothTold (D.image disk.old) (D.image disk.new) (λ before after.
+            Cuts (Command.Load count) got self.old before after)) }
+        ensures cause { OnErr result (DiskRose (D.write_faults disk.old) (D.write_faults disk.new)) }
+        ensures told { is_some (D.image disk.new) ≡ is_some (D.image disk.old) }
+        ensures counted { D.faults disk.old ≤ D.faults disk.new }
+        ensures write_counted { D.write_faults disk.old ≤ D.write_faults disk.new }
     {
         if gathered.read < count {
-            return refused(self.alloc, Refusal::ShortBatch(gathered.read, count));
+            return Ok(refused(self.alloc, Refusal::ShortBatch(gathered.read, count)));
         }
-        if span(&self.events).is_some() {
-            return refused(self.alloc, Refusal::AlreadyLoaded);
+        match has_batch(&self.index) {
+            None => return Ok(refused(self.alloc, Refusal::NoIndex)),
+            Some(true) => return Ok(refused(self.alloc, Refusal::AlreadyLoaded)),
+            Some(false) => {}
         }
         if gathered.lacking {
-            return no_memory(self.alloc);
+            return Ok(no_memory(self.alloc));
         }
         match prepare(
             self.alloc,
@@ -144,17 +259,48 @@ impl Session {
             Set::new(self.alloc),
             &gathered.changes,
         ) {
-            Ok(events) => self.keep(events),
-            Err(PrepareFault::BadChange { line, reason }) => refused(
+            Ok(events) => self.keep(disk, events),
+            Err(PrepareFault::BadChange { line, reason }) => Ok(refused(
                 self.alloc,
                 Refusal::BadChange(line, reason),
-            ),
-            Err(PrepareFault::Memory) => no_memory(self.alloc),
+            )),
+            Err(PrepareFault::Memory) => Ok(no_memory(self.alloc)),
+        }
+    }
+
+    // The events of the first batch, in the file and as the history.
+    fn keep<D: Disk>(&mut self, disk: &mut D, events: Vec<Event>) -> Result<Reply, StoreFailed>
+        requires index { HasNoBatch self.old.index }
+        requires legal { IsFirstBatch events.items }
+        requires image { IfSome (D.image disk.old) (λ image. IsHeldBy self.old.index image) }
+        ensures keeps { IfOk result (λ reply. BothTold (D.image disk.old) (D.image disk.new) (λ before after.
+            Keeps events.items self.old before self.new after reply)) }
+        ensures held { OnOk result (IfSome (D.image disk.new) (λ image. IsHeldBy self.new.index image)) }
+        ensures store { OnErr result (BothTold (D.image disk.old) (D.image disk.new) (KeepsOrNot events.items self.old)) }
+        ensures cause { OnErr result (DiskRose (D.write_faults disk.old) (D.write_faults disk.new)) }
+        ensures told { is_some (D.image disk.new) ≡ is_some (D.image disk.old) }
+        ensures counted { D.faults disk.old ≤ D.faults disk.new }
+        ensures write_counted { D.write_faults disk.old ≤ D.write_faults disk.new }
+    {
+        law_batches_are_added();
+        law_batches_are_measured();
+        let limit = self.limits.file_bytes;
+        let Some(index) = &mut self.index else {
+            return Ok(refused(self.alloc, Refusal::NoIndex));
+        };
+        match keep_batch(self.alloc, index, disk, &events, limit) {
+            Ok(()) => Ok(self.hold(events)),
+            Err(KeepFault::FileFull(needed)) => Ok(refused(
+                self.alloc,
+                Refusal::FileFull(needed, limit),
+            )),
+            Err(KeepFault::Memory) => Ok(no_memory(self.alloc)),
+            Err(KeepFault::Store) => Err(StoreFailed),
         }
     }
 
     // The events of the first batch, as the history.
-    fn keep(&mut self, events: Vec<Event>) -> Reply
+    fn hold(&mut self, events: Vec<Event>) -> Reply
         ensures kept { self.new ≡ record self.old { events = events.items } }
         ensures reply { let count = length events.items in
             result ≡ headed (Head.Loaded count count (last_time_from 0 events.items)) }
@@ -174,8 +320,12 @@ impl Session {
 
     // A new handle for the graph as of `t` in these columns.
     fn at(&mut self, t: u64, cols: Columns) -> Reply
-        ensures { Moves (Command.At t cols) [] self.old self.new result }
+        ensures moves { (image : List ℕ) → Moves (Command.At t cols) [] self.old image self.new image result }
+        ensures index { self.new.index ≡ self.old.index }
     {
+        if self.index.is_none() {
+            return refused(self.alloc, Refusal::NoIndex);
+        }
         let ends = span(&self.events);
         if !in_range(ends, t) {
             return refused(self.alloc, Refusal::OutOfRange(ends));
@@ -201,7 +351,7 @@ impl Session {
 
     // The elements of a handle.
     fn list(&self, handle: u32) -> Reply
-        ensures { Moves (Command.List handle) [] self.now self.now result }
+        ensures { (image : List ℕ) → Moves (Command.List handle) [] self.now image self.now image result }
     {
         let Some(stands) = entry_at(&self.table, handle) else {
             return refused(self.alloc, Refusal::UnknownHandle(handle));
@@ -217,6 +367,21 @@ impl Session {
             Err(_) => no_memory(self.alloc),
         }
     }
+}
+
+// Whether the leaf list size and the arity are in their ranges.
+fn are_parameters(params: Params) -> bool
+    ensures { result ≡ are_parameters params.l params.k }
+{
+    LEAF_MIN <= params.l && params.l <= LEAF_MAX && ARITY_MIN <= params.k && params.k <= ARITY_MAX
+}
+
+// Whether the index has a batch, where there is an index.
+fn has_batch(index: &Option<Index>) -> Option<bool>
+    ensures { HasBatch result (index_opening index.now) }
+{
+    let index = index.as_ref()?;
+    Some(index.batch(FIRST_PIECE).is_some())
 }
 
 // Whether the instant lies between the ends.

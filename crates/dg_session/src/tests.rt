@@ -1,16 +1,21 @@
-use crate::Session;
+ghost use Rattle.dg_disk.specs.Memory.{image_of};
+ghost use Rattle.dg_session.specs.Session.{IsHeldBy};
+
+use crate::{Session, StartFault};
+use dg_disk::MemoryDisk;
 use dg_io::{Lines, MemorySource};
-use dg_model::{BodyLine, Columns, Command, Element, Head, Limits, REASON_NODE_IN_USE, Refusal};
-use std::alloc::AllocError;
+use dg_line::read_command;
+use dg_model::{
+    BodyLine, Column, Element, Head, Key, Limits, REASON_NODE_IN_USE, Refusal, SCRIPT_BYTES_MAX,
+};
 use std::test::Fail;
+use std::thread::Threads;
+
+// More bytes than the index file of a test has, and more calls than its disk gets.
+const MANY: usize = 1000;
 
 // More bytes than the script of a test has.
 const NO_LIMIT: u64 = 1000;
-
-const STRUCTURE: Columns = Columns {
-    nodes_attr: false,
-    edges_attr: false,
-};
 
 const NODES: [BodyLine; 2] = [
     BodyLine::Element(Element::Node { id: 1 }),
@@ -28,39 +33,72 @@ const NODES_AND_EDGE: [BodyLine; 3] = [
     }),
 ];
 
-// The lines that follow the loads below, in their order.
-const FOLLOWING: &[u8] = b"1 +node 1\n1 +edge 7 1 1 undir\n2 -node 1\n\
+// The lines that follow the loads of the first test, in their order.
+const FOLLOWING: &[u8] = b"1 +node 1\n1 +node 1\n1 +edge 7 1 1 undir\n2 -node 1\n\
     10 +node 2\n20 +node 1\n30 +edge 5 1 2 dir\n50 -edge 5\n\
     60 +node 3\n70 +node 4\n";
 
+// The line of a command, and the head and the body of the reply that is due.
+type Case = (&'static [u8], Head, &'static [BodyLine]);
+
+// The number of the first case that is answered otherwise, if there is one.
+fn first_other<R: Threads>(
+    rt: &R,
+    session: &mut Session,
+    cases: &[Case],
+    source: &mut MemorySource,
+    disk: &mut MemoryDisk,
+) -> Option<usize>
+    requires { IsHeldBy session.old.index (image_of disk.old) }
+{
+    let mut lines = Lines::new(NO_LIMIT);
+    for (number, case) in cases.iter().enumerate() {
+        let Ok(command) = read_command(case.0) else {
+            return Some(number);
+        };
+        let Ok(reply) = session.step(rt, &command, &mut lines, source, disk) else {
+            return Some(number);
+        };
+        if reply.head != case.1 || reply.body.as_slice() != case.2 {
+            return Some(number);
+        }
+    }
+    None
+}
+
 #[test]
-fn answers_commands_with_ample_memory(rt: HostRuntime) -> Result<(), Fail> {
-    let at = |t| Command::At { t, cols: STRUCTURE };
+fn answers_commands_over_a_file_and_again_after_a_restart(rt: HostRuntime) -> Result<(), Fail> {
     let loaded = Head::Loaded {
         events: 4,
         total: 4,
         last: 50,
     };
-    let cases: [(Command, Head, &[BodyLine]); 11] = [
-        (at(0), Head::Refused(Refusal::OutOfRange(None)), &[]),
+    let first: [Case; 17] = [
+        (b"list 1", Head::Refused(Refusal::UnknownHandle(1)), &[]),
+        (b"at 0 s", Head::Refused(Refusal::NoIndex), &[]),
+        (b"load 1", Head::Refused(Refusal::NoIndex), &[]),
+        (b"create 1 2 union", Head::Refused(Refusal::Parameters), &[]),
+        (b"create 2 2 union", Head::Created, &[]),
         (
-            Command::Load { count: 3 },
+            b"create 2 2 union",
+            Head::Refused(Refusal::IndexExists),
+            &[],
+        ),
+        (b"at 0 s", Head::Refused(Refusal::OutOfRange(None)), &[]),
+        (
+            b"load 3",
             Head::Refused(Refusal::BadChange(3, REASON_NODE_IN_USE)),
             &[],
         ),
-        (Command::Load { count: 4 }, loaded, &[]),
+        (b"load 4", loaded, &[]),
+        (b"load 1", Head::Refused(Refusal::AlreadyLoaded), &[]),
         (
-            Command::Load { count: 1 },
-            Head::Refused(Refusal::AlreadyLoaded),
-            &[],
-        ),
-        (
-            at(9),
+            b"at 9 s",
             Head::Refused(Refusal::OutOfRange(Some((10, 50)))),
             &[],
         ),
         (
-            at(30),
+            b"at 30 s",
             Head::At {
                 handle: 1,
                 weight: 0,
@@ -68,7 +106,7 @@ fn answers_commands_with_ample_memory(rt: HostRuntime) -> Result<(), Fail> {
             &[],
         ),
         (
-            at(50),
+            b"at 50 s",
             Head::At {
                 handle: 2,
                 weight: 0,
@@ -76,7 +114,7 @@ fn answers_commands_with_ample_memory(rt: HostRuntime) -> Result<(), Fail> {
             &[],
         ),
         (
-            Command::List { handle: 1 },
+            b"list 1",
             Head::List {
                 handle: 1,
                 lines: 3,
@@ -84,33 +122,143 @@ fn answers_commands_with_ample_memory(rt: HostRuntime) -> Result<(), Fail> {
             &NODES_AND_EDGE,
         ),
         (
-            Command::List { handle: 2 },
+            b"list 2",
             Head::List {
                 handle: 2,
                 lines: 2,
             },
             &NODES,
         ),
+        (b"list 3", Head::Refused(Refusal::UnknownHandle(3)), &[]),
+        (b"load 2", Head::Refused(Refusal::ShortBatch(1, 2)), &[]),
+    ];
+    let second: [Case; 4] = [
+        (b"list 1", Head::Refused(Refusal::UnknownHandle(1)), &[]),
         (
-            Command::List { handle: 3 },
-            Head::Refused(Refusal::UnknownHandle(3)),
+            b"create 2 2 union",
+            Head::Refused(Refusal::IndexExists),
             &[],
         ),
         (
-            Command::Load { count: 2 },
-            Head::Refused(Refusal::ShortBatch(1, 2)),
+            b"at 30 s",
+            Head::At {
+                handle: 1,
+                weight: 0,
+            },
             &[],
+        ),
+        (
+            b"list 1",
+            Head::List {
+                handle: 1,
+                lines: 3,
+            },
+            &NODES_AND_EDGE,
         ),
     ];
     let mut source = MemorySource::new(rt.alloc(), FOLLOWING, 7, &[])?;
-    let mut lines = Lines::new(NO_LIMIT);
-    let mut session = Session::start(&rt, rt.alloc(), Limits::standard()).map_err(|_| AllocError)?;
-    for (command, head, body) in cases {
-        let reply = session
-            .step(&rt, &command, &mut lines, &mut source)
-            .map_err(|_| AllocError)?;
-        assert_eq!(rt; reply.head, head, "{command:?}");
-        assert_eq!(rt; reply.body.as_slice(), body, "{command:?}");
+    let mut disk = MemoryDisk::new(rt.alloc(), b"", MANY, MANY, &[])?;
+    for cases in [first.as_slice(), second.as_slice()] {
+        match Session::start(&rt, rt.alloc(), &mut disk, Limits::standard()) {
+            Ok(mut session) => {
+                let other = first_other(&rt, &mut session, cases, &mut source, &mut disk);
+                assert_eq!(rt; other, None);
+            }
+            Err(_) => return Err("not started".into()),
+        }
+    }
+    Ok(())
+}
+
+#[test]
+fn a_batch_fits_the_file_to_the_byte_or_is_refused(rt: HostRuntime) -> Result<(), Fail> {
+    let loaded = Head::Loaded {
+        events: 1,
+        total: 1,
+        last: 10,
+    };
+    // A batch of one node takes 100 bytes, after the 18 of an empty index.
+    let cases: [(u64, usize, [Case; 2], Option<usize>); 3] = [
+        (
+            118,
+            MANY,
+            [
+                (b"create 2 2 union", Head::Created, &[]),
+                (b"load 1", loaded, &[]),
+            ],
+            None,
+        ),
+        (
+            117,
+            MANY,
+            [
+                (b"create 2 2 union", Head::Created, &[]),
+                (b"load 1", Head::Refused(Refusal::FileFull(118, 117)), &[]),
+            ],
+            None,
+        ),
+        (
+            118,
+            50,
+            [
+                (b"create 2 2 union", Head::Created, &[]),
+                (b"load 1", loaded, &[]),
+            ],
+            Some(1),
+        ),
+    ];
+    for (file_bytes, room, replies, other) in cases {
+        let limits = Limits {
+            script_bytes: SCRIPT_BYTES_MAX,
+            file_bytes,
+        };
+        let mut source = MemorySource::new(rt.alloc(), b"10 +node 1\n", 7, &[])?;
+        let mut disk = MemoryDisk::new(rt.alloc(), b"", room, MANY, &[])?;
+        if file_bytes <= Limits::standard().file_bytes {
+            match Session::start(&rt, rt.alloc(), &mut disk, limits) {
+                Ok(mut session) => {
+                    let found = first_other(&rt, &mut session, &replies, &mut source, &mut disk);
+                    assert_eq!(rt; found, other);
+                }
+                Err(_) => return Err("not started".into()),
+            }
+        }
+    }
+    Ok(())
+}
+
+// A file with the header and one segment, of one event at 10, by the kind of the event and the first
+// byte.
+fn file(kind: u8, gate: u8) -> [u8; 118] {
+    [
+        gate, 68, 71, 82, 65, 80, 72, 49, 0, 0, 0, 2, 0, 0, 0, 2, 1, // header
+        1, 0, 0, 0, 0, 0, 0, 0, 60, 0, 0, 0, 0, 0, 0, 0, 23, // gate and lengths
+        0, 0, 0, 0, 0, 0, 0, 1, // events
+        0, 0, 0, 0, 0, 0, 0, 10, 0, 0, 0, 0, 0, 0, 0, 10, // times
+        0, 0, 0, 0, 0, 0, 0, 0, 0, 0, 0, 0, // names, lists and deltas
+        0, 0, 0, 0, 0, 0, 0, 23, 0, 0, 0, 0, 0, 0, 0, 0, 0, 0, 0, 0, 0, 0, 0, 0, // columns
+        0, 0, 0, 1, 0, 0, 0, 0, 0, 0, 0, 0, 0, 10, kind, 0, 0, 0, 0, 0, 0, 0, 1, // the event
+        0, // gate
+    ]
+}
+
+#[test]
+fn a_file_that_is_not_right_is_refused(rt: HostRuntime) -> Result<(), Fail> {
+    let foreign = file(1, 9);
+    let cases: [(&[u8], Option<StartFault>); 5] = [
+        (&file(1, 1), None),
+        (&foreign, Some(StartFault::Foreign)),
+        (&file(1, 1)[..100], Some(StartFault::Damaged(18))),
+        (
+            &file(7, 1),
+            Some(StartFault::BadRecord(Key::Piece(0), Column::Structure)),
+        ),
+        (&file(2, 1), Some(StartFault::BadRecent(1))),
+    ];
+    for (image, fault) in cases {
+        let mut disk = MemoryDisk::new(rt.alloc(), image, MANY, MANY, &[])?;
+        let started = Session::start(&rt, rt.alloc(), &mut disk, Limits::standard());
+        assert_eq!(rt; started.err(), fault);
     }
     Ok(())
 }

@@ -7,8 +7,9 @@ use Rattle.dg_model.specs.declared.element.Column.TheVariants.{Structure, NodeAt
 use Rattle.dg_shape.specs.declared.catalogue.Ends.{Ends}
 use Rattle.dg_shape.specs.declared.catalogue.Entry.{Entry}
 use Rattle.dg_shape.specs.declared.catalogue.TheConstants.{BYTES_MAX}
-use Rattle.dg_shape.specs.declared.node.Key.{Key}
-use Rattle.dg_shape.specs.Keys.{is_list, IsNumbered}
+use Rattle.dg_model.specs.declared.node.Key.{Key}
+use Rattle.dg_model.specs.Keys.{is_list}
+use Rattle.dg_shape.specs.Keys.{IsNumbered}
 
 -- What a catalogue holds: its records in the order in which they were added, no key twice, the first
 -- and last instant of the history, and the number of records for which it has room.

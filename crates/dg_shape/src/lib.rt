@@ -3,9 +3,8 @@
 #![tactic(auto)]
 
 mod catalogue;
-mod node;
 #[cfg(test)]
 mod tests;
 
 pub use catalogue::{BYTES_MAX, Catalogue, Ends, Entry, LISTS_MAX};
-pub use node::{Key, NodeId};
+pub use dg_model::{Key, NodeId};

@@ -1,0 +1,10 @@
+pub mod Steps
+pub mod Loops
+pub mod Written
+pub mod Elements
+pub mod Fields
+pub mod OneSpelling
+pub mod ReadBack
+pub mod DeltasBack
+pub mod Rows
+pub mod MergedBack

@@ -1,0 +1,10 @@
+use Rattle.std.proofs.Common.{◌≡◌, ◌-◌, ◌≤◌, length, None}
+use Rattle.dg_model.specs.Reading.{elements_at}
+use Rattle.dg_columns.proofs.Elements.{after_front}
+use Rattle.dg_columns.proofs.delta_reading.elements_at.Given as goal
+
+abbrev pub invariant-loop : goal.invariant-loop
+invariant-loop l = record {
+  so_far : after_front l.items.items (elements_at (l.count - l.counter) l.col l.names l.bytes l.others l.at l.last) ≡ elements_at l.count l.col l.names l.bytes l.others l.start None;
+  within : l.at ≤ length l.bytes;
+}

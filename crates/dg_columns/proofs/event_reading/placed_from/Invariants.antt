@@ -1,0 +1,10 @@
+use Rattle.std.proofs.Common.{◌≡◌, ◌-◌, ◌≤◌, length}
+use Rattle.dg_model.specs.Reading.{events_at}
+use Rattle.dg_columns.proofs.Loops.{with_front}
+use Rattle.dg_columns.proofs.event_reading.placed_from.Given as goal
+
+abbrev pub invariant-loop : goal.invariant-loop
+invariant-loop l = record {
+  so_far : with_front l.placed.items (events_at (l.count - l.counter) l.col l.names l.bytes l.at l.low l.earliest) ≡ events_at l.count l.col l.names l.bytes 4 0 0;
+  within : l.at ≤ length l.bytes;
+}

@@ -1,0 +1,5 @@
+use Rattle.dg_columns.proofs.OneSpelling.{delta_spelled}
+use Rattle.dg_columns.proofs.laws.law_deltas_have_one_spelling.Goals as goal
+
+pub returns : goal.returns
+returns c = delta_spelled

@@ -1,0 +1,6 @@
+pub mod Gives
+pub mod Fields
+pub mod Names
+pub mod Laws
+pub mod Ranges
+pub mod Rows

@@ -1,0 +1,219 @@
+//! Reading a delta's column.
+
+ghost use Rattle.std.specs.Prelude.{◌≡◌, ◌+◌, ◌≤◌, ◌==◌, ◌&&◌, not, length, Ok, IfOk, IfErr, OnOk};
+ghost use Rattle.dg_model.specs.Elements.{element_cmp};
+ghost use Rattle.dg_model.specs.Reading.{four_bytes, element_at, element_size, rises_from, elements_at, delta_in};
+ghost use Rattle.dg_delta.specs.Deltas.{AreApart};
+ghost use Rattle.dg_columns.specs.Gives.{Gives, Fails};
+ghost use Rattle.dg_columns.specs.Fields.{attr_at, next_element_at};
+
+use crate::delta_writing::element_size;
+use crate::edge::edge_at;
+use crate::fault::ReadFault;
+use crate::layout::{COUNT_SIZE, EDGE, NODE, SMALLEST_ELEMENT};
+use crate::numbers::{byte_at, name_at, u32_at, u64_at};
+use dg_delta::{Delta, Element, Set};
+use dg_model::Column;
+use std::alloc::Global;
+use std::cmp::Ordering;
+
+/// A value without its kind.
+#[derive(Clone, Copy, Debug, PartialEq, Eq)]
+pub(crate) struct AttrFields {
+    pub(crate) id: u64,
+    pub(crate) key: u32,
+    pub(crate) value: u32,
+}
+
+// The fields of a value.
+fn attr_at(bytes: &[u8], at: usize, names: u32) -> Result<AttrFields, ReadFault>
+    requires { at ≤ length bytes.now }
+    ensures fields { Gives (λ attr. attr) result (attr_at names bytes.now at) }
+    ensures fits { OnOk result (at + 16 ≤ length bytes.now) }
+{
+    let id = u64_at(bytes, at)?;
+    let key = name_at(bytes, at + 8, names)?;
+    let value = name_at(bytes, at + 12, names)?;
+    Ok(AttrFields { id, key, value })
+}
+
+// A node or an edge.
+fn structure_at(bytes: &[u8], at: usize, names: u32) -> Result<Element, ReadFault>
+    requires { at ≤ length bytes.now }
+    ensures element { Gives (λ x. x) result (element_at Column.Structure names bytes.now at) }
+    ensures fits { IfOk result (λ x. at + element_size x ≤ length bytes.now) }
+{
+    let kind = byte_at(bytes, at, NODE, EDGE)?;
+    if kind == NODE {
+        let id = u64_at(bytes, at + 1)?;
+        Ok(Element::Node { id })
+    } else {
+        let edge = edge_at(bytes, at + 1)?;
+        Ok(Element::Edge {
+            id: edge.id,
+            src: edge.src,
+            dst: edge.dst,
+            directed: edge.directed,
+        })
+    }
+}
+
+// The element of the column at the place.
+fn element_at(bytes: &[u8], at: usize, col: Column, names: u32) -> Result<Element, ReadFault>
+    requires { at ≤ length bytes.now }
+    ensures element { Gives (λ x. x) result (element_at col names bytes.now at) }
+    ensures fits { IfOk result (λ x. at + element_size x ≤ length bytes.now) }
+{
+    match col {
+        Column::Structure => structure_at(bytes, at, names),
+        Column::NodeAttr => {
+            let attr = attr_at(bytes, at, names)?;
+            Ok(Element::NodeAttr {
+                id: attr.id,
+                key: attr.key,
+                value: attr.value,
+            })
+        }
+        Column::EdgeAttr => {
+            let attr = attr_at(bytes, at, names)?;
+            Ok(Element::EdgeAttr {
+                id: attr.id,
+                key: attr.key,
+                value: attr.value,
+            })
+        }
+    }
+}
+
+fn compare(left: &Element, right: &Element) -> Ordering
+    ensures { result ≡ element_cmp left.now right.now }
+{
+    left.cmp(right)
+}
+
+// Whether the element comes after the one before it, if there is one.
+fn rises_from(last: Option<Element>, element: &Element) -> bool
+    ensures { result ≡ rises_from last element.now }
+{
+    match last {
+        None => true,
+        Some(last) => compare(&last, element).is_lt(),
+    }
+}
+
+// The element at the place, which comes after the last one and is not among the others.
+fn next_element_at(
+    bytes: &[u8],
+    at: usize,
+    col: Column,
+    names: u32,
+    last: Option<Element>,
+    others: &Set,
+) -> Result<Element, ReadFault>
+    requires { at ≤ length bytes.now }
+    ensures element { Gives (λ x. x) result (next_element_at col names bytes.now others.now at last) }
+    ensures fits { IfOk result (λ x. at + element_size x ≤ length bytes.now) }
+{
+    let element = element_at(bytes, at, col, names)?;
+    if rises_from(last, &element) && !others.has(&element) {
+        Ok(element)
+    } else {
+        Err(ReadFault::Damaged(at as u64))
+    }
+}
+
+// So many elements from the place on, and the place behind them.
+fn elements_at(
+    alloc: Global,
+    bytes: &[u8],
+    start: usize,
+    count: u32,
+    col: Column,
+    names: u32,
+    others: &Set,
+) -> Result<(Vec<Element>, usize), ReadFault>
+    requires { start ≤ length bytes.now }
+    ensures elements { Gives (λ p. (p.0.items, p.1)) result (elements_at count col names bytes.now others.now start None) }
+    ensures fits { IfOk result (λ p. p.1 ≤ length bytes.now) }
+{
+    // The bytes bound what is reserved: the count is not trusted.
+    let room = (count as usize).min(bytes.len() / SMALLEST_ELEMENT);
+    let mut items = Vec::with_capacity(alloc, room)?;
+    let mut at = start;
+    let mut last = None;
+    for _ in 0..count {
+        let element = next_element_at(bytes, at, col, names, last, others)?;
+        at += element_size(&element);
+        last = Some(element);
+        items.push(element)?;
+    }
+    Ok((items, at))
+}
+
+// So many elements as a set, none of them among the others, and the place behind them.
+fn set_at(
+    alloc: Global,
+    bytes: &[u8],
+    start: usize,
+    count: u32,
+    col: Column,
+    names: u32,
+    others: &Set,
+) -> Result<(Set, usize), ReadFault>
+    requires { start ≤ length bytes.now }
+    ensures elements { Gives (λ p. (p.0, p.1)) result (elements_at count col names bytes.now others.now start None) }
+    ensures fits { IfOk result (λ p. p.1 ≤ length bytes.now) }
+    ensures apart { IfOk result (λ p. AreApart others.now p.0) }
+{
+    let (items, end) = elements_at(alloc, bytes, start, count, col, names, others)?;
+    match Set::from_sorted(items) {
+        Ok(set) => Ok((set, end)),
+        Err(_) => unreachable!(),
+    }
+}
+
+// The count of the elements to put in, which is not 0 where no element is taken out.
+fn in_count_at(bytes: &[u8], at: usize, out_count: u32) -> Result<u32, ReadFault>
+    requires { at ≤ length bytes.now }
+    ensures number { Gives (λ n. n) result (four_bytes (λ n. not (out_count == 0 && n == 0)) bytes.now at) }
+    ensures fits { OnOk result (at + 4 ≤ length bytes.now) }
+{
+    let count = u32_at(bytes, at)?;
+    if out_count == 0 && count == 0 {
+        Err(ReadFault::Damaged(at as u64))
+    } else {
+        Ok(count)
+    }
+}
+
+// The delta of two sets that share no element.
+fn delta_of(minus: Set, plus: Set) -> Delta
+    requires { AreApart minus plus }
+    ensures { result ≡ record { minus = minus; plus = plus } }
+{
+    match Delta::from_sets(minus, plus) {
+        Some(delta) => delta,
+        None => unreachable!(),
+    }
+}
+
+/// The delta of one column, in a history with so many names. `Damaged` gives the place of the first
+/// byte of the first field that does not fit in the bytes or breaks a rule of the format
+/// (docs/FORMATS.md), `Memory` says that memory ran out.
+pub fn read_delta(alloc: Global, bytes: &[u8], col: Column, names: u32) -> Result<Delta, ReadFault>
+    ensures ok { IfOk result (λ d. delta_in col names bytes.now ≡ Ok d) }
+    ensures err { IfErr result (λ fault. Fails fault (delta_in col names bytes.now)) }
+{
+    if bytes.is_empty() {
+        return Ok(Delta::new(alloc));
+    }
+    let none = Set::new(alloc);
+    let out_count = u32_at(bytes, 0)?;
+    let (minus, at) = set_at(alloc, bytes, COUNT_SIZE, out_count, col, names, &none)?;
+    let in_count = in_count_at(bytes, at, out_count)?;
+    let (plus, end) = set_at(alloc, bytes, at + COUNT_SIZE, in_count, col, names, &minus)?;
+    if end != bytes.len() {
+        return Err(ReadFault::Damaged(end as u64));
+    }
+    Ok(delta_of(minus, plus))
+}

@@ -1,0 +1,56 @@
+//! Nodes and edges, which events and elements spell alike.
+
+ghost use Rattle.std.specs.Prelude.{◌≡◌, ◌+◌, ◌++◌, ◌≤◌, length, OnOk};
+ghost use Rattle.dg_columns.specs.Gives.{Gives};
+ghost use Rattle.dg_columns.specs.Fields.{edge_at, node_bytes, edge_bytes};
+
+use crate::fault::ReadFault;
+use crate::numbers::{byte_at, u64_at};
+use std::alloc::AllocError;
+
+/// An edge without its kind.
+#[derive(Clone, Copy, Debug, PartialEq, Eq)]
+pub(crate) struct EdgeFields {
+    pub(crate) id: u64,
+    pub(crate) src: u64,
+    pub(crate) dst: u64,
+    pub(crate) directed: bool,
+}
+
+/// The fields of an edge, after its kind.
+pub(crate) fn edge_at(bytes: &[u8], at: usize) -> Result<EdgeFields, ReadFault>
+    requires { at ≤ length bytes.now }
+    ensures fields { Gives (λ edge. edge) result (edge_at bytes.now at) }
+    ensures fits { OnOk result (at + 25 ≤ length bytes.now) }
+{
+    let id = u64_at(bytes, at)?;
+    let src = u64_at(bytes, at + 8)?;
+    let dst = u64_at(bytes, at + 16)?;
+    let directed = byte_at(bytes, at + 24, 0, 1)?;
+    Ok(EdgeFields {
+        id,
+        src,
+        dst,
+        directed: directed == 1,
+    })
+}
+
+/// The kind and the id of a node.
+pub(crate) fn write_node(out: &mut Vec<u8>, kind: u8, id: u64) -> Result<(), AllocError>
+    ensures { OnOk result (out.new.items ≡ out.old.items ++ node_bytes kind id) }
+{
+    out.push(kind)?;
+    out.extend_from_slice(&id.to_be_bytes())
+}
+
+/// The kind and the fields of an edge.
+pub(crate) fn write_edge(out: &mut Vec<u8>, kind: u8, edge: EdgeFields) -> Result<(), AllocError>
+    ensures { OnOk result (out.new.items ≡ out.old.items ++ edge_bytes kind edge) }
+{
+    out.push(kind)?;
+    out.extend_from_slice(&edge.id.to_be_bytes())?;
+    out.extend_from_slice(&edge.src.to_be_bytes())?;
+    out.extend_from_slice(&edge.dst.to_be_bytes())?;
+    out.push(u8::from(edge.directed))?;
+    Ok(())
+}

@@ -1,0 +1,126 @@
+//! The fields of an event after its position and instant.
+
+ghost use Rattle.std.specs.Prelude.{◌≡◌, ◌+◌, ◌≤◌, length, OnOk, IfOk};
+ghost use Rattle.dg_model.specs.Reading.{body_at, body_size, value_of};
+ghost use Rattle.dg_columns.specs.Gives.{Gives};
+ghost use Rattle.dg_columns.specs.Fields.{value_at};
+
+use crate::edge::edge_at;
+use crate::fault::ReadFault;
+use crate::layout::{
+    CHANGE_SIZE, EDGE_ADDED, EDGE_REMOVED, EDGE_SIZE, NODE_ADDED, NODE_REMOVED, NODE_SIZE,
+};
+use crate::numbers::{byte_at, name_at, new_at, old_at, u64_at};
+use dg_model::{Body, Column};
+
+/// A value's change without its kind.
+#[derive(Clone, Copy, Debug, PartialEq, Eq)]
+pub(crate) struct ValueFields {
+    pub(crate) id: u64,
+    pub(crate) key: u32,
+    pub(crate) old: Option<u32>,
+    pub(crate) new: Option<u32>,
+}
+
+/// The bytes that a body takes in its column.
+pub(crate) fn body_size(body: &Body) -> usize
+    ensures { result ≡ body_size body.now }
+{
+    match body {
+        Body::NodeAdded { .. } | Body::NodeRemoved { .. } => NODE_SIZE,
+        Body::EdgeAdded { .. } | Body::EdgeRemoved { .. } => EDGE_SIZE,
+        Body::NodeAttr { .. } | Body::EdgeAttr { .. } => CHANGE_SIZE,
+    }
+}
+
+// The value that a number spells: none, or the name of the number less 1.
+fn value_of(number: u32) -> Option<u32>
+    ensures { result ≡ value_of number }
+{
+    if number == 0 { None } else { Some(number - 1) }
+}
+
+/// The fields of a value's change.
+pub(crate) fn value_at(bytes: &[u8], at: usize, names: u32) -> Result<ValueFields, ReadFault>
+    requires { at ≤ length bytes.now }
+    ensures fields { Gives (λ value. value) result (value_at names bytes.now at) }
+    ensures fits { OnOk result (at + 20 ≤ length bytes.now) }
+{
+    let id = u64_at(bytes, at)?;
+    let key = name_at(bytes, at + 8, names)?;
+    let old = old_at(bytes, at + 12, names)?;
+    let new = new_at(bytes, at + 16, names, old)?;
+    Ok(ValueFields {
+        id,
+        key,
+        old: value_of(old),
+        new: value_of(new),
+    })
+}
+
+// What a structure event changes.
+fn structure_at(bytes: &[u8], at: usize, names: u32) -> Result<Body, ReadFault>
+    requires { at ≤ length bytes.now }
+    ensures body { Gives (λ body. body) result (body_at Column.Structure names bytes.now at) }
+    ensures fits { IfOk result (λ body. at + body_size body ≤ length bytes.now) }
+{
+    let kind = byte_at(bytes, at, NODE_ADDED, EDGE_REMOVED)?;
+    let at = at + 1;
+    match kind {
+        NODE_ADDED => {
+            let id = u64_at(bytes, at)?;
+            Ok(Body::NodeAdded { id })
+        }
+        NODE_REMOVED => {
+            let id = u64_at(bytes, at)?;
+            Ok(Body::NodeRemoved { id })
+        }
+        EDGE_ADDED => {
+            let edge = edge_at(bytes, at)?;
+            Ok(Body::EdgeAdded {
+                id: edge.id,
+                src: edge.src,
+                dst: edge.dst,
+                directed: edge.directed,
+            })
+        }
+        _ => {
+            let edge = edge_at(bytes, at)?;
+            Ok(Body::EdgeRemoved {
+                id: edge.id,
+                src: edge.src,
+                dst: edge.dst,
+                directed: edge.directed,
+            })
+        }
+    }
+}
+
+/// What an event of the column changes.
+pub(crate) fn body_at(bytes: &[u8], at: usize, col: Column, names: u32) -> Result<Body, ReadFault>
+    requires { at ≤ length bytes.now }
+    ensures body { Gives (λ body. body) result (body_at col names bytes.now at) }
+    ensures fits { IfOk result (λ body. at + body_size body ≤ length bytes.now) }
+{
+    match col {
+        Column::Structure => structure_at(bytes, at, names),
+        Column::NodeAttr => {
+            let value = value_at(bytes, at, names)?;
+            Ok(Body::NodeAttr {
+                id: value.id,
+                key: value.key,
+                old: value.old,
+                new: value.new,
+            })
+        }
+        Column::EdgeAttr => {
+            let value = value_at(bytes, at, names)?;
+            Ok(Body::EdgeAttr {
+                id: value.id,
+                key: value.key,
+                old: value.old,
+                new: value.new,
+            })
+        }
+    }
+}

@@ -1,0 +1,84 @@
+//! Reading an event column.
+
+ghost use Rattle.std.specs.Prelude.{◌≡◌, ◌+◌, ◌≤◌, length, Ok, IfOk, IfErr};
+ghost use Rattle.dg_model.specs.Reading.{body_size, events_at, events_in};
+ghost use Rattle.dg_columns.specs.Gives.{Gives, Fails};
+ghost use Rattle.dg_columns.specs.Fields.{placed_at};
+
+use crate::event_fields::{body_at, body_size};
+use crate::fault::ReadFault;
+use crate::layout::{COUNT_SIZE, SMALLEST_EVENT, STAMP_SIZE};
+use crate::numbers::{count_at, position_at, time_at};
+use dg_model::{Column, Event, Placed, TIME_MAX};
+use std::alloc::Global;
+
+// The event at the place, with its position.
+fn placed_at(
+    bytes: &[u8],
+    at: usize,
+    col: Column,
+    names: u32,
+    low: u32,
+    earliest: u64,
+) -> Result<Placed, ReadFault>
+    requires { at ≤ length bytes.now }
+    ensures placed { Gives (λ p. p) result (placed_at col names bytes.now at low earliest) }
+    ensures fits { IfOk result (λ p. at + 10 + body_size p.event.body ≤ length bytes.now) }
+{
+    let position = position_at(bytes, at, low)?;
+    let time = time_at(bytes, at + 2, earliest, TIME_MAX)?;
+    let body = body_at(bytes, at + STAMP_SIZE, col, names)?;
+    Ok(Placed {
+        at: position,
+        event: Event { time, body },
+    })
+}
+
+// The events of a column, which follow its count.
+fn placed_from(
+    alloc: Global,
+    bytes: &[u8],
+    col: Column,
+    names: u32,
+    count: u32,
+) -> Result<Vec<Placed>, ReadFault>
+    requires { 4 ≤ length bytes.now }
+    ensures { Gives (λ v. v.items) result (events_at count col names bytes.now 4 0 0) }
+{
+    // The bytes bound what is reserved: the count is not trusted.
+    let room = (count as usize).min(bytes.len() / SMALLEST_EVENT);
+    let mut placed = Vec::with_capacity(alloc, room)?;
+    let mut at = COUNT_SIZE;
+    let mut low = 0;
+    let mut earliest = 0;
+    for _ in 0..count {
+        let event = placed_at(bytes, at, col, names, low, earliest)?;
+        at += STAMP_SIZE + body_size(&event.event.body);
+        low = u32::from(event.at) + 1;
+        earliest = event.event.time;
+        placed.push(event)?;
+    }
+    if at != bytes.len() {
+        return Err(ReadFault::Damaged(at as u64));
+    }
+    Ok(placed)
+}
+
+/// The events of a column with their positions, in a history with so many names. `Damaged` gives the
+/// place of the first byte of the first field that does not fit in the bytes or breaks a rule of the
+/// format (docs/FORMATS.md), `Memory` says that memory ran out.
+pub fn read_events(
+    alloc: Global,
+    bytes: &[u8],
+    col: Column,
+    names: u32,
+) -> Result<Vec<Placed>, ReadFault>
+    ensures ok { IfOk result (λ placed. events_in col names bytes.now ≡ Ok placed.items) }
+    ensures err { IfErr result (λ fault. Fails fault (events_in col names bytes.now)) }
+{
+    if bytes.is_empty() {
+        return Ok(Vec::new(alloc));
+    }
+    let count = count_at(bytes, 0, 1)?;
+    placed_from(alloc, bytes, col, names, count)
+}

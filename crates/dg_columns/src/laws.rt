@@ -1,0 +1,36 @@
+//! The laws of columns. Each function does nothing: its clause is the law, proved of the definitions.
+
+ghost use Rattle.dg_columns.specs.Laws.{
+  EventsHaveOneSpelling,
+  DeltasHaveOneSpelling,
+  EventsAreReadBack,
+  EventsAreMergedBack,
+  DeltasAreReadBack,
+};
+
+/// Bytes that are read as events are the one spelling of these events.
+pub fn law_events_have_one_spelling()
+    ensures { EventsHaveOneSpelling }
+{}
+
+/// Bytes that are read as a delta are the one spelling of its two sets.
+pub fn law_deltas_have_one_spelling()
+    ensures { DeltasHaveOneSpelling }
+{}
+
+/// The column of events in their ranges and in order of time is read as the events of that column,
+/// with their positions.
+pub fn law_events_are_read_back()
+    ensures { EventsAreReadBack }
+{}
+
+/// The three columns of a list of events in order of time are merged to the list.
+pub fn law_events_are_merged_back()
+    ensures { EventsAreMergedBack }
+{}
+
+/// The column of a delta whose elements are in their ranges is read as the delta of that column's
+/// elements.
+pub fn law_deltas_are_read_back()
+    ensures { DeltasAreReadBack }
+{}

@@ -1,0 +1,43 @@
+//! The sizes and kinds of the format (docs/FORMATS.md). Sizes are in bytes.
+
+/// The count at the head of a list.
+pub(crate) const COUNT_SIZE: usize = 4;
+
+/// An event's position and instant.
+pub(crate) const STAMP_SIZE: usize = 10;
+
+/// A node, or its event: a kind and an id.
+pub(crate) const NODE_SIZE: usize = 9;
+
+/// An edge, or its event: a kind, three ids, and whether it is directed.
+pub(crate) const EDGE_SIZE: usize = 26;
+
+/// The event of a value: an id, a key, the old value and the new one.
+pub(crate) const CHANGE_SIZE: usize = 20;
+
+/// A value: an id, a key, and the value.
+pub(crate) const VALUE_SIZE: usize = 16;
+
+/// The fewest bytes that an event takes.
+pub(crate) const SMALLEST_EVENT: usize = STAMP_SIZE + NODE_SIZE;
+
+/// The fewest bytes that an element takes.
+pub(crate) const SMALLEST_ELEMENT: usize = NODE_SIZE;
+
+/// The kind of the event that adds a node.
+pub(crate) const NODE_ADDED: u8 = 1;
+
+/// The kind of the event that removes a node.
+pub(crate) const NODE_REMOVED: u8 = 2;
+
+/// The kind of the event that adds an edge.
+pub(crate) const EDGE_ADDED: u8 = 3;
+
+/// The kind of the event that removes an edge.
+pub(crate) const EDGE_REMOVED: u8 = 4;
+
+/// The kind of a node.
+pub(crate) const NODE: u8 = 1;
+
+/// The kind of an edge.
+pub(crate) const EDGE: u8 = 2;

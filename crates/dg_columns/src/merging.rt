@@ -1,0 +1,94 @@
+//! Merging the events of the three columns to the list that they come from.
+
+ghost use Rattle.std.specs.Prelude.{◌≡◌, Some, None, IfOk, IsErrOf};
+ghost use Rattle.std.specs.Option.{option_and_then};
+ghost use Rattle.dg_model.specs.Merging.{if_never_fall, merged};
+ghost use Rattle.dg_columns.specs.Rows.{filled, events_of};
+ghost use Rattle.dg_columns.specs.declared.merging.MergeFault.TheVariants.{Memory};
+
+use dg_model::{Event, Placed};
+use std::alloc::{AllocError, AllocFailed, Global};
+
+/// What keeps three columns from being one list of events.
+#[derive(Clone, Copy, Debug, PartialEq, Eq)]
+pub enum MergeFault {
+    /// The positions of the events are not those from 0 to one less than the length of the list, each
+    /// once; or the times fall somewhere in the order of the positions.
+    Places,
+    /// Memory ran out.
+    Memory,
+}
+
+impl From<AllocError> for MergeFault {
+    ghost from_gives = { λ _ e. e ≡ Memory };
+
+    fn from(_error: AllocError) -> MergeFault {
+        MergeFault::Memory
+    }
+}
+
+impl<T: Drop> From<AllocFailed<T>> for MergeFault {
+    ghost from_gives = { λ _ e. e ≡ Memory };
+
+    fn from(_error: AllocFailed<T>) -> MergeFault {
+        MergeFault::Memory
+    }
+}
+
+// Puts the events into the empty places of the row. An event whose position is past the row, or is
+// taken, is left out.
+fn fill(row: &mut [Option<Event>], placed: &[Placed])
+    ensures { row.new ≡ filled 0 row.old placed.now }
+{
+    for event in placed {
+        let at = usize::from(event.at);
+        if at < row.len() && row[at].is_none() {
+            row[at] = Some(event.event);
+        }
+    }
+}
+
+// The events of the places, where none is empty and the times do not fall.
+fn in_order(alloc: Global, row: &[Option<Event>]) -> Result<Vec<Event>, MergeFault>
+    ensures ok { IfOk result (λ events. option_and_then if_never_fall (events_of row.now) ≡ Some events.items) }
+    ensures places { IsErrOf result MergeFault.Places → option_and_then if_never_fall (events_of row.now) ≡ None }
+{
+    let mut events = Vec::with_capacity(alloc, row.len())?;
+    let mut earliest = 0;
+    for place in row {
+        let Some(event) = *place else {
+            return Err(MergeFault::Places);
+        };
+        if event.time < earliest {
+            return Err(MergeFault::Places);
+        }
+        earliest = event.time;
+        events.push(event)?;
+    }
+    Ok(events)
+}
+
+/// The events of the three columns as one list of `len` events, in the order of their positions.
+/// `Places` says that the columns have no such list: there are more or fewer events, a position is
+/// missing, taken twice or not below `len`, or the times fall. `Memory` says that memory ran out.
+pub fn merge(
+    alloc: Global,
+    structure: &[Placed],
+    node_attrs: &[Placed],
+    edge_attrs: &[Placed],
+    len: u32,
+) -> Result<Vec<Event>, MergeFault>
+    ensures ok { IfOk result (λ events. merged structure.now node_attrs.now edge_attrs.now len ≡ Some events.items) }
+    ensures places { IsErrOf result MergeFault.Places → merged structure.now node_attrs.now edge_attrs.now len ≡ None }
+{
+    let len = len as usize;
+    if structure.len() + node_attrs.len() + edge_attrs.len() != len {
+        return Err(MergeFault::Places);
+    }
+    // There are as many events as places, so where no place stays empty, no event was left out.
+    let mut row = vec![in alloc; None; len]?;
+    fill(&mut row, structure);
+    fill(&mut row, node_attrs);
+    fill(&mut row, edge_attrs);
+    in_order(alloc, &row)
+}

@@ -1,0 +1,11 @@
+pub mod Ranges
+pub mod Fronts
+pub mod Opened
+pub mod Histories
+pub mod Heads
+pub mod Moves
+pub mod Creations
+pub mod Found
+pub mod Holding
+pub mod Steps
+pub mod Fetching

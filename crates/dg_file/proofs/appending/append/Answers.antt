@@ -1,0 +1,22 @@
+use Rattle.std.proofs.Common.{◌≡◌, ℕ, ◌+◌, ◌-◌, ◌≤◌, ◌++◌, ◌∷◌, List, [], length, inl, arith}
+use Rattle.std.proofs.lemmas.Result.{on_ok_weaker, on_err_weaker}
+use Rattle.dg_file.specs.Growth.{Grown, Keeps, GatedOrNot}
+use Rattle.dg_file.specs.Index.{segment_bytes}
+use Rattle.dg_file.proofs.Moves.{moved_after, moved_weaker, grown_keeps, on_err_any, gate_opened, gate_left}
+use Rattle.dg_file.proofs.appending.append.Goals as goal
+
+pub put_down-requires : goal.put_down-requires
+put_down-requires g c =
+    moved_after _ _ (Keeps c.args.used) (λ b. c.args.used - 1 ≤ length b) (λ a b k. omega (arith, k.reach)) c.write_segment.ensures.part
+
+pub returns-in_err-write_segment-clause-part : goal.returns-in_err-write_segment-clause-part
+returns-in_err-write_segment-clause-part g c =
+    on_err_any c.from_residual.result (moved_weaker _ _ (Keeps c.args.used) (GatedOrNot c.args.used (segment_bytes c.args.segment.now)) (λ a b k. inl k) c.write_segment.ensures.part)
+
+pub returns-clause-part : goal.returns-clause-part
+returns-clause-part g c =
+    on_err_weaker c.put_down.result (gate_left _ _ _ c.args.used (segment_bytes c.args.segment.now) c.requires.some c.in_ok-write_segment.ensures.written) c.put_down.ensures.part
+
+pub returns-clause-written : goal.returns-clause-written
+returns-clause-written g c =
+    on_ok_weaker c.put_down.result (gate_opened _ _ _ c.args.used 1 (segment_bytes c.args.segment.now) c.requires.some c.in_ok-write_segment.ensures.written) c.put_down.ensures.written

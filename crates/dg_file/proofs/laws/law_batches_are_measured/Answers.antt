@@ -1,0 +1,5 @@
+use Rattle.dg_file.proofs.Histories.{measured}
+use Rattle.dg_file.proofs.laws.law_batches_are_measured.Goals as goal
+
+pub returns : goal.returns
+returns c = measured

@@ -1,0 +1,29 @@
+-- How writes change a disk's image.
+use Rattle.std.specs.Prelude.{◌≡◌, ◌⊎◌, ℕ, ◌-◌, ◌≤◌, List, [], ◌∷◌, ◌++◌, Option, Some, None, length, take}
+
+-- The disk tells its image before and after, and the fact holds of the two; or it tells neither.
+abbrev pub Moved : Option (List ℕ) → Option (List ℕ) → (List ℕ → List ℕ → Type 0) → Type 0
+Moved None None P = Unit {0}
+Moved None (Some after) P = ⊥
+Moved (Some before) None P = ⊥
+Moved (Some before) (Some after) P = P before after
+
+-- the bytes before the place are as they were, and the bytes reach up to it
+pub record Keeps (place : ℕ) (before after : List ℕ) : Type 0 where
+  pub same : take place after ≡ take place before
+  pub reach : place ≤ length after
+
+-- the bytes reached up to the place, and now the piece stands behind those before it
+pub record Grown (place : ℕ) (piece before after : List ℕ) : Type 0 where
+  pub reached : place ≤ length before
+  pub rest : List ℕ
+  pub is : after ≡ take place before ++ (piece ++ rest)
+
+-- behind the bytes before the place stand this gate, the text and a closed gate
+pub record Gated (place gate : ℕ) (text before after : List ℕ) : Type 0 where
+  pub rest : List ℕ
+  pub is : after ≡ take place before ++ gate ∷ (text ++ 0 ∷ rest)
+
+-- what a failure leaves: the gate is as it was, or it has any byte and the text is behind it
+abbrev pub GatedOrNot : ℕ → List ℕ → List ℕ → List ℕ → Type 0
+GatedOrNot used text before after = Keeps used before after ⊎ ((gate : ℕ) × Gated (used - 1) gate text before after)

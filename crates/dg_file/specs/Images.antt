@@ -1,0 +1,52 @@
+-- What the calls of an index say of the disk's image before and after them.
+use Rattle.std.specs.Prelude.{◌≡◌, ◌⊎◌, ℕ, ◌+◌, Bool, true, false, List, [], ◌∷◌, ◌++◌, Option, Some, None, Result, Ok, Err, IfSome, length, take, drop, if◌then◌else◌, ◌==◌}
+use Rattle.dg_disk.specs.Counts.{raised_by}
+use Rattle.dg_model.specs.declared.params.Params.{Params}
+use Rattle.dg_model.specs.History.{History, Batch, empty_history, with_batch}
+use Rattle.dg_model.specs.Legal.{IsLegal, IsImageOf, is_blank}
+use Rattle.dg_model.specs.Opening.{Opening, Unopened, No_index, Not_ours, Damaged_at}
+use Rattle.dg_file.specs.declared.fault.ReopenFault.{ReopenFault}
+use Rattle.dg_file.specs.declared.fault.ReopenFault.TheVariants as fault
+use Rattle.dg_file.specs.Index.{NewSegment, new_segment_of}
+
+-- the fact of the bytes before and after, where the disk tells both
+abbrev pub BothTold : Option (List ℕ) → Option (List ℕ) → (List ℕ → List ℕ → Type 0) → Type 0
+BothTold old new P = IfSome old (λ before. IfSome new (λ after. P before after))
+
+-- What a failure may leave of a blank image in which an index was to be made: no index, the new index,
+-- or an image of 18 bytes of which at most the first has changed.
+abbrev pub IsMadeInPart : Params → List ℕ → List ℕ → Type 0
+IsMadeInPart params old new =
+    (is_blank new ≡ true) ⊎ IsImageOf (empty_history params) new
+    ⊎ ((length old ≡ 18) × (length new ≡ 18) × (drop 1 new ≡ drop 1 old))
+
+-- the fault says why the image is not opened; of a failure and of want of memory nothing is said
+abbrev pub Refuses : ReopenFault → Result Opening Unopened → Type 0
+Refuses fault.Blank due = due ≡ Err No_index
+Refuses fault.Foreign due = due ≡ Err Not_ours
+Refuses (fault.Damaged place) due = due ≡ Err (Damaged_at place)
+Refuses fault.Disk due = Unit {0}
+Refuses fault.Memory due = Unit {0}
+
+-- of each history and each batch that the segment is of: the image of that history becomes one of it
+-- with the batch
+abbrev pub GainsBatch : NewSegment → List ℕ → List ℕ → Type 0
+GainsBatch s before after =
+    (z : History) (b : Batch) → IsImageOf z before → IsLegal (with_batch z b) → s ≡ new_segment_of b → IsImageOf (with_batch z b) after
+
+-- or it stays one of it
+abbrev pub GainsBatchOrNot : NewSegment → List ℕ → List ℕ → Type 0
+GainsBatchOrNot s before after =
+    (z : History) (b : Batch) → IsImageOf z before → IsLegal (with_batch z b) → s ≡ new_segment_of b → IsImageOf z after ⊎ IsImageOf (with_batch z b) after
+
+-- the fault says that no segment stands at the place, or that the disk failed
+abbrev pub MissesSegment : ℕ → Bool → ReopenFault → Type 0
+MissesSegment place stands (fault.Damaged at) = (at ≡ place) × (stands ≡ false)
+MissesSegment place stands fault.Disk = Unit {0}
+MissesSegment place stands fault.Memory = ⊥
+MissesSegment place stands fault.Blank = ⊥
+MissesSegment place stands fault.Foreign = ⊥
+
+-- The count of bytes read, after a read of n more. Where n is 0 nothing is read.
+abbrev pub taken_after : ℕ → ℕ → ℕ
+taken_after n count = if n == 0 then count else raised_by n count

@@ -1,0 +1,30 @@
+-- What holds of what an index keeps.
+use Rattle.std.specs.Prelude.{◌≡◌, ℕ, ◌≤◌, true, List, map}
+use Rattle.dg_model.specs.declared.limits.TheConstants.{FILE_BYTES_MAX}
+use Rattle.dg_model.specs.declared.params.Params.{Params}
+use Rattle.dg_model.specs.History.{are_parameters}
+use Rattle.dg_model.specs.Opening.{Segment}
+use Rattle.dg_shape.specs.Entries.{Holdings, bytes_of}
+use Rattle.dg_file.specs.declared.batch.Batch.{Batch}
+use Rattle.dg_file.specs.Held.{batch_in, pieces_from, segments_held, span_in}
+use Rattle.dg_file.specs.Index.{AreInTurn, events_after}
+
+-- the catalogue and the batches are those of the same segments
+pub record AreHeld (segments : List Segment) (catalogue : Holdings) (batches : List Batch) : Type 0 where
+  pub pieces : catalogue.entries ≡ pieces_from 0 segments
+  pub notes : batches ≡ map batch_in segments
+  pub span : catalogue.span ≡ span_in segments
+
+-- the parameters, the segments and the bytes in use are those of an index
+pub record IsIndex (params : Params) (segments : List Segment) (used : ℕ) : Type 0 where
+  pub parameters : are_parameters params.l params.k ≡ true
+  pub in_turn : AreInTurn 0 0 segments
+  pub begun : 18 ≤ used
+  pub within : used ≤ FILE_BYTES_MAX
+
+-- what holds of the fields of an index
+pub record IsSound (params : Params) (catalogue : Holdings) (batches : List Batch) (events used : ℕ) : Type 0 where
+  pub held : AreHeld (segments_held batches catalogue.entries) catalogue batches
+  pub sound : IsIndex params (segments_held batches catalogue.entries) used
+  pub count : events ≡ events_after 0 (segments_held batches catalogue.entries)
+  pub bytes : bytes_of catalogue.entries ≤ used

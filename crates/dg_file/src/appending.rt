@@ -1,0 +1,84 @@
+//! Writing a segment behind the closed gate that ends the file, and opening that gate.
+
+ghost use Rattle.std.specs.Prelude.{◌≡◌, ◌≤◌, ◌<◌, ◌+◌, ◌-◌, ◌^◌, ◌++◌, ◌∷◌, [], length, OnOk, OnErr, IfOk};
+ghost use Rattle.dg_disk.specs.Counts.{Rose};
+ghost use Rattle.dg_disk.specs.Image.{HasPlace};
+ghost use Rattle.dg_file.specs.Index.{blobs_size, segment_bytes};
+ghost use Rattle.dg_file.specs.Growth.{Moved, Keeps, Grown, Gated, GatedOrNot};
+
+use crate::disk_calls::put_down;
+use crate::head::head_of;
+use crate::header::{CLOSED, OPEN};
+use crate::segment::Segment;
+use dg_disk::{Disk, Failed};
+
+// Puts a piece, which may be empty, at the place. Answers the place behind it.
+fn put<D: Disk>(disk: &mut D, place: u64, piece: &[u8]) -> Result<u64, Failed>
+    requires place { HasPlace (D.image disk.old) place }
+    requires fits { place + length piece.now < 2 ^ 64 }
+    ensures behind { IfOk result (λ n. n ≡ place + length piece.now) }
+    ensures written { OnOk result (Moved (D.image disk.old) (D.image disk.new) (Grown place piece.now)) }
+    ensures part { Moved (D.image disk.old) (D.image disk.new) (Keeps place) }
+    ensures cause { OnErr result (Rose (D.write_faults disk.old) (D.write_faults disk.new)) }
+    ensures counted { D.faults disk.old ≤ D.faults disk.new }
+    ensures write_counted { D.write_faults disk.old ≤ D.write_faults disk.new }
+    ensures same_taken { D.taken disk.new ≡ D.taken disk.old }
+{
+    if piece.is_empty() {
+        return Ok(place);
+    }
+    disk.write_at(place, piece)?;
+    Ok(place + piece.len() as u64)
+}
+
+// Puts the columns of the segment at the place. Answers the place behind them.
+fn put_columns<D: Disk>(disk: &mut D, place: u64, segment: &Segment) -> Result<u64, Failed>
+    requires place { HasPlace (D.image disk.old) place }
+    requires fits { place + blobs_size segment.now < 2 ^ 64 }
+    ensures behind { IfOk result (λ n. n ≡ place + blobs_size segment.now) }
+    ensures written { OnOk result (Moved (D.image disk.old) (D.image disk.new) (Grown place (segment.now.structure ++ (segment.now.node_attrs ++ segment.now.edge_attrs)))) }
+    ensures part { Moved (D.image disk.old) (D.image disk.new) (Keeps place) }
+    ensures cause { OnErr result (Rose (D.write_faults disk.old) (D.write_faults disk.new)) }
+    ensures counted { D.faults disk.old ≤ D.faults disk.new }
+    ensures write_counted { D.write_faults disk.old ≤ D.write_faults disk.new }
+    ensures same_taken { D.taken disk.new ≡ D.taken disk.old }
+{
+    let nodes_place = put(disk, place, segment.structure())?;
+    let edges_place = put(disk, nodes_place, segment.node_attrs())?;
+    put(disk, edges_place, segment.edge_attrs())
+}
+
+// Writes the segment from the place on, and a closed gate behind it, and brings them to the device.
+fn write_segment<D: Disk>(disk: &mut D, place: u64, segment: &Segment) -> Result<(), Failed>
+    requires place { HasPlace (D.image disk.old) place }
+    requires fits { place + blobs_size segment.now + 77 < 2 ^ 64 }
+    ensures written { OnOk result (Moved (D.image disk.old) (D.image disk.new) (Grown place (segment_bytes segment.now ++ 0 ∷ []))) }
+    ensures part { Moved (D.image disk.old) (D.image disk.new) (Keeps place) }
+    ensures cause { OnErr result (Rose (D.write_faults disk.old) (D.write_faults disk.new)) }
+    ensures counted { D.faults disk.old ≤ D.faults disk.new }
+    ensures write_counted { D.write_faults disk.old ≤ D.write_faults disk.new }
+    ensures same_taken { D.taken disk.new ≡ D.taken disk.old }
+{
+    let head = head_of(segment);
+    let columns_place = put(disk, place, &head)?;
+    let gate_place = put_columns(disk, columns_place, segment)?;
+    put(disk, gate_place, &[CLOSED])?;
+    disk.sync()
+}
+
+/// Writes the segment and a closed gate behind the first `used` bytes, the last of which is a closed
+/// gate, and opens that gate once they are on the device. `Failed` where the disk failed.
+pub(crate) fn append<D: Disk>(disk: &mut D, used: u64, segment: &Segment) -> Result<(), Failed>
+    requires place { HasPlace (D.image disk.old) used }
+    requires some { 1 ≤ used }
+    requires fits { used + blobs_size segment.now + 77 < 2 ^ 64 }
+    ensures written { OnOk result (Moved (D.image disk.old) (D.image disk.new) (Gated (used - 1) 1 (segment_bytes segment.now))) }
+    ensures part { OnErr result (Moved (D.image disk.old) (D.image disk.new) (GatedOrNot used (segment_bytes segment.now))) }
+    ensures cause { OnErr result (Rose (D.write_faults disk.old) (D.write_faults disk.new)) }
+    ensures counted { D.faults disk.old ≤ D.faults disk.new }
+    ensures write_counted { D.write_faults disk.old ≤ D.write_faults disk.new }
+    ensures same_taken { D.taken disk.new ≡ D.taken disk.old }
+{
+    write_segment(disk, used, segment)?;
+    put_down(disk, used - 1, &[OPEN])
+}

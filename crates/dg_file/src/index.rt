@@ -1,0 +1,351 @@
+ghost use Rattle.std.specs.Prelude.{◌≡◌, ◌≢◌, ◌≤◌, ◌<◌, ◌+◌, ◌-◌, ◌^◌, ℕ, List, [], ◌∷◌, ◌++◌, true, false, length, map, min, Some, None, Ok, Err, is_some, slice_get, IsSome, IfSome, IfOk, IfErr, OnOk, OnErr, IsErrOf};
+ghost use Rattle.std.specs.Option.{option_map};
+ghost use Rattle.dg_disk.specs.Counts.{Rose};
+ghost use Rattle.dg_disk.specs.Image.{IsLengthOf};
+ghost use Rattle.dg_model.specs.declared.limits.TheConstants.{EVENTS_MAX, FILE_BYTES_MAX};
+ghost use Rattle.dg_model.specs.History.{are_parameters, empty_history, with_batch};
+ghost use Rattle.dg_model.specs.Legal.{IsImageOf, is_blank};
+ghost use Rattle.dg_model.specs.Opening.{opening, opening_of, column_of_piece, may_follow};
+ghost use Rattle.dg_shape.specs.Entries.{total};
+ghost use Rattle.dg_file.specs.Index.{piece_of, needed_for, with_segment, IsDue, AreInTurn, events_after, earliest_after};
+ghost use Rattle.dg_file.specs.Images.{BothTold, IsMadeInPart, Refuses, GainsBatch, GainsBatchOrNot, taken_after};
+ghost use Rattle.dg_file.specs.Held.{batch_in, pieces_from, span_in, segment_noted};
+ghost use Rattle.dg_file.specs.Headers.{IsOpenedSoFar};
+
+use crate::appending::append;
+use crate::batch::Batch;
+use crate::fault::{CommitFault, CreateFault, FetchFault, ReopenFault};
+use crate::head::HEAD_BYTES;
+use crate::header::{HEADER_BYTES, OPEN};
+use crate::making::write_header;
+use crate::reading::{read_header, read_range, read_segment};
+use crate::segment::{BARE_BYTES, Segment};
+use dg_disk::Disk;
+use dg_model::{Column, Key, Params};
+use dg_shape::{Catalogue, Ends};
+use std::alloc::{AllocError, Global};
+use std::marker::Model;
+
+/// An index over the disk with which it was made or reopened. It tells what the disk's image is opened
+/// as, and how many segments it may get without taking memory.
+#[derive(Drop)]
+pub struct Index {
+    alloc: Global,
+    params: Params,
+    // the piece of each segment
+    catalogue: Catalogue,
+    batches: Vec<Batch>,
+    // the events of all segments
+    events: u64,
+    // the place behind the closed gate that ends the file
+    used: u64,
+}
+
+impl Model for Index {
+    ghost use Rattle.std.specs.Prelude.{◌-◌, min, vec_len};
+    ghost use Rattle.std.specs.Vec.{vec_capacity};
+    ghost use Rattle.dg_file.specs.Index.{IndexState};
+
+    ghost Value = { IndexState };
+
+    ghost use Rattle.dg_file.specs.Held.{segments_held};
+    ghost use Rattle.dg_file.specs.Invariant.{IsSound};
+
+    ghost view = { λ x. record { opening = record { params = x.params; segments = segments_held x.batches.items x.catalogue.entries; used = x.used }; room = min x.catalogue.spare (vec_capacity x.batches - vec_len x.batches) } };
+
+    ghost invariant = { λ x. IsSound x.params x.catalogue x.batches.items x.events x.used };
+}
+
+impl Index {
+    // An index without a segment. Takes no memory yet.
+    fn empty(alloc: Global, params: Params) -> Index
+        requires { are_parameters params.l params.k ≡ true }
+        ensures { result.opening ≡ opening_of (empty_history params) }
+    {
+        Index {
+            alloc,
+            params,
+            catalogue: Catalogue::new(alloc),
+            batches: Vec::new(alloc),
+            events: 0,
+            used: HEADER_BYTES as u64,
+        }
+    }
+
+    // Makes room for one more segment.
+    fn reserve(&mut self) -> Result<(), AllocError>
+        ensures room { OnOk result (1 ≤ self.new.room) }
+        ensures same { self.new.opening ≡ self.old.opening }
+        ensures kept { self.old.room ≤ self.new.room }
+    {
+        self.catalogue.reserve(1)?;
+        self.batches.reserve(1)
+    }
+
+    // Notes a segment behind the bytes in use, of which there are `used` then. There is room for it.
+    fn note(&mut self, batch: Batch, lengths: [u64; 3], used: u64)
+        requires room { 1 ≤ self.old.room }
+        requires due { may_follow (events_after 0 self.old.opening.segments) (earliest_after 0 self.old.opening.segments) (segment_noted self.old.opening.used batch lengths) ≡ true }
+        requires used { used ≡ self.old.opening.used + 77 + total lengths }
+        requires within { used ≤ FILE_BYTES_MAX }
+        ensures { self.new.opening ≡ record self.old.opening { segments = self.old.opening.segments ++ segment_noted self.old.opening.used batch lengths ∷ []; used = used } }
+    {
+        let key = Key::Piece(self.batches.len() as u32);
+        self.catalogue
+            .add(key, lengths, self.used + HEAD_BYTES as u64, None);
+        self.catalogue.add_batch(batch.ends);
+        // There is room, so this cannot fail.
+        let _ = self.batches.push(batch);
+        self.events += batch.events;
+        self.used = used;
+    }
+
+    // The events of all segments.
+    fn events(&self) -> u64
+        ensures events { result ≡ events_after 0 self.now.opening.segments }
+        ensures few { result ≤ EVENTS_MAX }
+    {
+        self.events
+    }
+
+    // The earliest time that the next batch may begin with.
+    fn earliest(&self) -> u64
+        ensures { result ≡ earliest_after 0 self.now.opening.segments }
+    {
+        match self.catalogue.span() {
+            Some(span) => span.last + 1,
+            None => 0,
+        }
+    }
+
+    /// Makes an index with these parameters and without a batch on a disk that has none. The gate of
+    /// its header is opened once all else is on the device. `CreateFault::Memory` for want of memory,
+    /// with nothing written; `CreateFault::Disk` where the disk failed.
+    pub fn create<D: Disk>(
+        alloc: Global,
+        disk: &mut D,
+        params: Params,
+    ) -> Result<Index, CreateFault>
+        requires parameters { are_parameters params.l params.k ≡ true }
+        requires blank { IfSome (D.image disk.old) (λ image. is_blank image ≡ true) }
+        ensures made { IfOk result (λ index. index.opening ≡ opening_of (empty_history params)) }
+        ensures opened { OnOk result (IfSome (D.image disk.new) (λ image. opening image ≡ Ok (opening_of (empty_history params)))) }
+        ensures image { OnOk result (IfSome (D.image disk.new) (λ image. IsImageOf (empty_history params) image)) }
+        ensures part { IsErrOf result CreateFault.Disk → BothTold (D.image disk.old) (D.image disk.new) (λ old new. IsMadeInPart params old new) }
+        ensures memory { IsErrOf result CreateFault.Memory → (D.image disk.new ≡ D.image disk.old) × (D.faults disk.new ≡ D.faults disk.old) × (D.write_faults disk.new ≡ D.write_faults disk.old) }
+        ensures told { is_some (D.image disk.new) ≡ is_some (D.image disk.old) }
+        ensures cause { IsErrOf result CreateFault.Disk → Rose (D.write_faults disk.old) (D.write_faults disk.new) }
+        ensures counted { D.faults disk.old ≤ D.faults disk.new }
+        ensures write_counted { D.write_faults disk.old ≤ D.write_faults disk.new }
+        ensures same_taken { D.taken disk.new ≡ D.taken disk.old }
+    {
+        let mut index = Index::empty(alloc, params);
+        if index.reserve().is_err() {
+            return Err(CreateFault::Memory);
+        }
+        match write_header(disk, params) {
+            Ok(()) => Ok(index),
+            Err(_) => Err(CreateFault::Disk),
+        }
+    }
+
+    /// Opens the index that the disk has. It reads the header and each segment's head and gate, each
+    /// once, and no column. `ReopenFault::Blank` where there is no index, `ReopenFault::Foreign` where
+    /// the file is not one of an index, `ReopenFault::Damaged` with the place of the first segment that
+    /// breaks a rule, `ReopenFault::Disk` where the disk failed, `ReopenFault::Memory` for want of
+    /// memory.
+    pub fn reopen<D: Disk>(alloc: Global, disk: &mut D) -> Result<Index, ReopenFault>
+        ensures opened { IfOk result (λ index. IfSome (D.image disk.old) (λ image. opening image ≡ Ok index.opening)) }
+        ensures refused { IfErr result (λ fault. IfSome (D.image disk.old) (λ image. Refuses fault (opening image))) }
+        ensures cause { IsErrOf result ReopenFault.Disk → Rose (D.faults disk.old) (D.faults disk.new) }
+        ensures same_image { D.image disk.new ≡ D.image disk.old }
+        ensures counted { D.faults disk.old ≤ D.faults disk.new }
+        ensures write_counted { D.write_faults disk.old ≤ D.write_faults disk.new }
+    {
+        let found = read_header(disk)?;
+        let mut index = Index::empty(alloc, found.params);
+        index.read_segments(disk, found.len, found.gate)?;
+        Ok(index)
+    }
+
+    // Reads the segments from the gate with this byte on, in an image of so many bytes.
+    fn read_segments<D: Disk>(
+        &mut self,
+        disk: &mut D,
+        len: u64,
+        gate: u8,
+    ) -> Result<(), ReopenFault>
+        requires so_far { IfSome (D.image disk.old) (λ image. IsOpenedSoFar image self.old.opening gate) }
+        requires len { IsLengthOf (D.image disk.old) len }
+        requires within { self.old.opening.used ≤ len }
+        ensures opened { OnOk result (IfSome (D.image disk.old) (λ image. opening image ≡ Ok self.new.opening)) }
+        ensures refused { IfErr result (λ fault. IfSome (D.image disk.old) (λ image. Refuses fault (opening image))) }
+        ensures cause { IsErrOf result ReopenFault.Disk → Rose (D.faults disk.old) (D.faults disk.new) }
+        ensures same_image { D.image disk.new ≡ D.image disk.old }
+        ensures counted { D.faults disk.old ≤ D.faults disk.new }
+        ensures same_write_faults { D.write_faults disk.new ≡ D.write_faults disk.old }
+    {
+        let mut gate = gate;
+        while gate == OPEN {
+            gate = self.read_next(disk, len)?;
+        }
+        Ok(())
+    }
+
+    // Reads the segment behind the bytes in use, whose gate is open. Answers the byte of the gate
+    // behind it.
+    fn read_next<D: Disk>(&mut self, disk: &mut D, len: u64) -> Result<u8, ReopenFault>
+        requires so_far { IfSome (D.image disk.old) (λ image. IsOpenedSoFar image self.old.opening 1) }
+        requires len { IsLengthOf (D.image disk.old) len }
+        requires within { self.old.opening.used ≤ len }
+        ensures so_far { IfOk result (λ gate. IfSome (D.image disk.old) (λ image. IsOpenedSoFar image self.new.opening gate)) }
+        ensures within { OnOk result (self.new.opening.used ≤ len) }
+        ensures progress { OnOk result (self.old.opening.used < self.new.opening.used) }
+        ensures refused { IfErr result (λ fault. IfSome (D.image disk.old) (λ image. Refuses fault (opening image))) }
+        ensures cause { IsErrOf result ReopenFault.Disk → Rose (D.faults disk.old) (D.faults disk.new) }
+        ensures same_image { D.image disk.new ≡ D.image disk.old }
+        ensures counted { D.faults disk.old ≤ D.faults disk.new }
+        ensures same_write_faults { D.write_faults disk.new ≡ D.write_faults disk.old }
+    {
+        if self.reserve().is_err() {
+            return Err(ReopenFault::Memory);
+        }
+        let place = self.used();
+        let found = read_segment(disk, place, len, self.events(), self.earliest())?;
+        let head = found.head;
+        let ends = Ends {
+            first: head.first,
+            last: head.last,
+        };
+        let batch = Batch {
+            events: head.events,
+            ends,
+        };
+        self.note(
+            batch,
+            head.lengths,
+            place + HEAD_BYTES as u64 + head.blobs + 1,
+        );
+        Ok(found.gate)
+    }
+
+    /// Reads a column of a segment's piece. `FetchFault::Disk` where the disk failed,
+    /// `FetchFault::Memory` for want of memory.
+    pub fn fetch<D: Disk>(
+        &mut self,
+        disk: &mut D,
+        key: Key,
+        col: Column,
+    ) -> Result<Vec<u8>, FetchFault>
+        requires held { IsSome (piece_of self.old.opening key) }
+        requires image { IfSome (D.image disk.old) (λ image. opening image ≡ Ok self.old.opening) }
+        ensures bytes { IfOk result (λ bytes. IfSome (D.image disk.old) (λ image. IfSome (piece_of self.old.opening key) (λ s. bytes.items ≡ column_of_piece image s col))) }
+        ensures same { self.new ≡ self.old }
+        ensures same_image { D.image disk.new ≡ D.image disk.old }
+        ensures cause { IsErrOf result FetchFault.Disk → Rose (D.faults disk.old) (D.faults disk.new) }
+        ensures counted { D.faults disk.old ≤ D.faults disk.new }
+        ensures same_write_faults { D.write_faults disk.new ≡ D.write_faults disk.old }
+        ensures taken { IfOk result (λ bytes. D.taken disk.new ≡ taken_after (length bytes.items) (D.taken disk.old)) }
+        ensures none_taken { OnErr result (D.taken disk.new ≡ D.taken disk.old) }
+    {
+        let len = self.catalogue.length(key, col).unwrap();
+        let place = self.catalogue.place(key, col).unwrap();
+        read_range(self.alloc, disk, place, len)
+    }
+
+    /// Makes room for one segment more. `AllocError` for want of memory.
+    pub fn make_room(&mut self, _segment: &Segment) -> Result<(), AllocError>
+        ensures room { OnOk result (1 ≤ self.new.room) }
+        ensures same { self.new.opening ≡ self.old.opening }
+        ensures kept { self.old.room ≤ self.new.room }
+    {
+        self.reserve()
+    }
+
+    /// Adds the segment of a batch to the file, which may have `limit` bytes in use. The segment's gate
+    /// is opened once all of it is on the device. Takes no memory. `CommitFault::FileFull` with the
+    /// bytes that would be in use, where they are more than `limit`: then nothing is written.
+    /// `CommitFault::Disk` where the disk failed.
+    pub fn commit<D: Disk>(
+        &mut self,
+        disk: &mut D,
+        segment: Segment,
+        limit: u64,
+    ) -> Result<(), CommitFault>
+        requires room { 1 ≤ self.old.room }
+        requires limit { limit ≤ FILE_BYTES_MAX }
+        requires due { IsDue self.old.opening segment }
+        requires image { IfSome (D.image disk.old) (λ image. opening image ≡ Ok self.old.opening) }
+        ensures ok { OnOk result (self.new.opening ≡ with_segment self.old.opening segment) }
+        ensures opened { OnOk result (IfSome (D.image disk.new) (λ image. opening image ≡ Ok self.new.opening)) }
+        ensures history { OnOk result (BothTold (D.image disk.old) (D.image disk.new) (GainsBatch segment)) }
+        ensures part { IsErrOf result CommitFault.Disk → BothTold (D.image disk.old) (D.image disk.new) (GainsBatchOrNot segment) }
+        ensures fits { OnOk result (needed_for self.old.opening segment ≤ limit) }
+        ensures disk_fits { IsErrOf result CommitFault.Disk → needed_for self.old.opening segment ≤ limit }
+        ensures full { (n : ℕ) → result ≡ Err (CommitFault.FileFull n) → (n ≡ needed_for self.old.opening segment) × (limit < n) × (self.new ≡ self.old) × (D.image disk.new ≡ D.image disk.old) × (D.faults disk.new ≡ D.faults disk.old) × (D.write_faults disk.new ≡ D.write_faults disk.old) }
+        ensures told { is_some (D.image disk.new) ≡ is_some (D.image disk.old) }
+        ensures cause { IsErrOf result CommitFault.Disk → Rose (D.write_faults disk.old) (D.write_faults disk.new) }
+        ensures counted { D.faults disk.old ≤ D.faults disk.new }
+        ensures write_counted { D.write_faults disk.old ≤ D.write_faults disk.new }
+        ensures same_taken { D.taken disk.new ≡ D.taken disk.old }
+    {
+        self.facts();
+        let used = self.used();
+        let lengths = segment.lengths();
+        let [structure, node_attrs, edge_attrs] = lengths;
+        let needed = used + BARE_BYTES as u64 + structure + node_attrs + edge_attrs;
+        if limit < needed {
+            return Err(CommitFault::FileFull(needed));
+        }
+        match append(disk, used, &segment) {
+            Ok(()) => {
+                self.note(segment.batch(), lengths, needed);
+                Ok(())
+            }
+            Err(_) => Err(CommitFault::Disk),
+        }
+    }
+
+    /// What is known of the pieces of the segments, each by its number from 0, and of the times of
+    /// the history.
+    pub fn catalogue(&self) -> &Catalogue
+        ensures entries { result.now.entries ≡ pieces_from 0 self.now.opening.segments }
+        ensures span { result.now.span ≡ span_in self.now.opening.segments }
+    {
+        &self.catalogue
+    }
+
+    /// The parameters with which the index was made.
+    pub fn params(&self) -> Params
+        ensures { result ≡ self.now.opening.params }
+    {
+        self.params
+    }
+
+    /// The bytes in use, up to the closed gate and with it.
+    pub fn used(&self) -> u64
+        ensures { result ≡ self.now.opening.used }
+    {
+        self.used
+    }
+
+    /// The batch of the segment of this number, from 0, or `None` where there is no such segment.
+    pub fn batch(&self, piece: u32) -> Option<Batch>
+        ensures { result ≡ option_map batch_in (slice_get self.now.opening.segments piece) }
+    {
+        self.batches.get(piece as usize).copied()
+    }
+
+    /// What holds of each index. Does nothing.
+    pub fn facts(&self)
+        ensures parameters { are_parameters self.now.opening.params.l self.now.opening.params.k ≡ true }
+        ensures begun { 18 ≤ self.now.opening.used }
+        ensures within { self.now.opening.used ≤ FILE_BYTES_MAX }
+        ensures in_turn { AreInTurn 0 0 self.now.opening.segments }
+        ensures events { events_after 0 self.now.opening.segments ≤ EVENTS_MAX }
+        ensures few { length self.now.opening.segments ≤ events_after 0 self.now.opening.segments }
+        ensures number { length self.now.opening.segments < 2 ^ 32 }
+    {
+        let _ = &self.used;
+    }
+}

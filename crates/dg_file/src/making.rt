@@ -1,0 +1,30 @@
+//! Writing the header of a new index.
+
+ghost use Rattle.std.specs.Prelude.{◌≡◌, ◌≤◌, true, OnOk, OnErr, IfSome};
+ghost use Rattle.dg_disk.specs.Counts.{Rose};
+ghost use Rattle.dg_model.specs.History.{are_parameters, empty_history};
+ghost use Rattle.dg_model.specs.Legal.{IsImageOf, is_blank};
+ghost use Rattle.dg_file.specs.Growth.{Moved};
+ghost use Rattle.dg_file.specs.Images.{IsMadeInPart};
+
+use crate::disk_calls::put_down;
+use crate::header::{CLOSED, OPEN, header_behind_gate};
+use dg_disk::{Disk, Failed};
+use dg_model::Params;
+
+/// Writes the header of an index without a batch, its own gate closed as long as the rest is not on the
+/// device. `Failed` where the disk failed.
+pub(crate) fn write_header<D: Disk>(disk: &mut D, params: Params) -> Result<(), Failed>
+    requires parameters { are_parameters params.l params.k ≡ true }
+    requires blank { IfSome (D.image disk.old) (λ image. is_blank image ≡ true) }
+    ensures image { OnOk result (Moved (D.image disk.old) (D.image disk.new) (λ before after. IsImageOf (empty_history params) after)) }
+    ensures part { OnErr result (Moved (D.image disk.old) (D.image disk.new) (IsMadeInPart params)) }
+    ensures cause { OnErr result (Rose (D.write_faults disk.old) (D.write_faults disk.new)) }
+    ensures counted { D.faults disk.old ≤ D.faults disk.new }
+    ensures write_counted { D.write_faults disk.old ≤ D.write_faults disk.new }
+    ensures same_taken { D.taken disk.new ≡ D.taken disk.old }
+{
+    put_down(disk, 0, &[CLOSED])?;
+    put_down(disk, 1, &header_behind_gate(params))?;
+    put_down(disk, 0, &[OPEN])
+}

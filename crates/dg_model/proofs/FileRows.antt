@@ -1,0 +1,79 @@
+-- A worked file, computed by the definitions.
+use Rattle.std.specs.Prelude.{◌≡◌, ℕ, ◌+◌, List, [], ◌∷◌, ◌++◌, Some, Ok, Err, true, refl, take, drop}
+use Rattle.dg_model.specs.declared.element.Column.TheVariants as column
+use Rattle.dg_model.specs.declared.event.Body.TheVariants as body
+use Rattle.dg_model.specs.declared.fault.StartFault.TheVariants as fault
+use Rattle.dg_model.specs.declared.node.Key.TheVariants as key
+use Rattle.dg_model.specs.declared.params.Function.TheVariants.{Intersection}
+use Rattle.dg_model.specs.File.{file, size}
+use Rattle.dg_model.specs.History.{History, events_of}
+use Rattle.dg_model.specs.Opening.{opening, opening_of, No_index, Not_ours, Damaged_at}
+use Rattle.dg_model.specs.Starting.{start_of}
+
+three_events : History
+three_events = record {
+  params = record { l = 2; k = 2; function = Intersection };
+  batches = record {
+    names = [];
+    events =
+        record { time = 10; body = body.NodeAdded 1 }
+        ∷ record { time = 20; body = body.NodeAdded 2 }
+        ∷ record { time = 30; body = body.EdgeAdded 5 1 2 true } ∷ [];
+  } ∷ [];
+}
+
+-- a header of 18 bytes, two lengths, a directory of 60, a piece of 78, and a gate
+size_of_three_events : size three_events ≡ 173
+unfolding three_events
+size_of_three_events = refl
+
+-- with a closed gate and bytes without meaning behind it
+image : List ℕ
+image = file three_events ++ 7 ∷ 1 ∷ 2 ∷ []
+
+opened : opening image ≡ Ok (opening_of three_events)
+unfolding three_events image
+opened = refl
+
+started : start_of image ≡ Ok (Some (record { opening = opening_of three_events; events = events_of three_events }))
+unfolding three_events image
+started = refl
+
+-- the image with this byte at the place
+changed : ℕ → ℕ → List ℕ
+changed place byte = take place image ++ byte ∷ drop (place + 1) image
+
+-- a gate that is not 1 is closed
+gate_of_seven : opening (changed 17 7) ≡ Ok (record { params = three_events.params; segments = []; used = 18 })
+unfolding three_events image changed
+gate_of_seven = refl
+
+other_magic : opening (changed 1 88) ≡ Err Not_ours
+unfolding three_events image changed
+other_magic = refl
+
+arity_of_0 : start_of (changed 15 0) ≡ Err fault.Foreign
+unfolding three_events image changed
+arity_of_0 = refl
+
+too_short : opening (take 172 image) ≡ Err (Damaged_at 18)
+unfolding three_events image
+too_short = refl
+
+no_events : start_of (changed 41 0) ≡ Err (fault.Damaged 18)
+unfolding three_events image changed
+no_events = refl
+
+blank : opening (take 17 image) ≡ Err No_index
+unfolding three_events image
+blank = refl
+
+-- the kind of the first event
+no_such_kind : start_of (changed 108 9) ≡ Err (fault.BadRecord (key.Piece 0) column.Structure)
+unfolding three_events image changed
+no_such_kind = refl
+
+-- the second event adds the node of the first
+added_twice : start_of (changed 135 1) ≡ Err (fault.BadRecent 2)
+unfolding three_events image changed
+added_twice = refl

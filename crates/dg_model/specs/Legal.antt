@@ -1,0 +1,62 @@
+-- Which histories are legal, and which images of the index file stand for a history or for none.
+use Rattle.std.specs.Prelude.{◌≡◌, ◌≢◌, ℕ, ◌<◌, ◌≤◌, ◌^◌, Bool, true, ◌&&◌, ◌||◌, ◌==◌, not, List, [], ◌∷◌, ◌++◌, Option, Some, None, Ok, All, IfSome, length, map, take, nat_lt, slice_get, slice_index}
+use Rattle.dg_model.specs.declared.event.Body.{Body}
+use Rattle.dg_model.specs.declared.event.Body.TheVariants as body
+use Rattle.dg_model.specs.declared.event.Change.{Change}
+use Rattle.dg_model.specs.declared.event.Event.{Event}
+use Rattle.dg_model.specs.declared.limits.TheConstants.{BATCH_LINES_MAX, EVENTS_MAX, FILE_BYTES_MAX, TIME_MAX}
+use Rattle.dg_model.specs.Batch.{completed}
+use Rattle.dg_model.specs.File.{file, size}
+use Rattle.dg_model.specs.History.{History, Batch, are_parameters, events_of, span_of, earliest_next}
+use Rattle.dg_model.specs.Replay.{replay}
+
+-- every id is of 64 bits, and every name's number is below the number of names
+abbrev pub FitsBody : ℕ → Body → Type 0
+FitsBody names (body.NodeAdded id) = id < 2 ^ 64
+FitsBody names (body.NodeRemoved id) = id < 2 ^ 64
+FitsBody names (body.EdgeAdded id src dst directed) = (id < 2 ^ 64) × (src < 2 ^ 64) × (dst < 2 ^ 64)
+FitsBody names (body.EdgeRemoved id src dst directed) = (id < 2 ^ 64) × (src < 2 ^ 64) × (dst < 2 ^ 64)
+FitsBody names (body.NodeAttr id key old new) =
+    (id < 2 ^ 64) × (key < names) × IfSome old (λ n. n < names) × IfSome new (λ n. n < names)
+FitsBody names (body.EdgeAttr id key old new) =
+    (id < 2 ^ 64) × (key < names) × IfSome old (λ n. n < names) × IfSome new (λ n. n < names)
+
+abbrev pub FitsEvent : ℕ → Event → Type 0
+FitsEvent names e = (e.time ≤ TIME_MAX) × FitsBody names e.body
+
+-- The events of a batch are the completions of some changes after the events before it, in their
+-- time; there are as many as a batch may have. A batch brings no name yet.
+pub record IsLegalBatch (before : List Event) (b : Batch) : Type 0 where
+  pub some : 1 ≤ length b.events
+  pub few : length b.events ≤ BATCH_LINES_MAX
+  pub changes : List Change
+  pub comes : completed 1 (earliest_next (span_of before)) (replay before) (map (λ (c : Change). Some c) changes) ≡ Ok b.events
+  pub fits : All (FitsEvent 0) b.events
+  pub nameless : b.names ≡ []
+
+abbrev pub AreLegalAfter : List Event → List Batch → Type 0
+AreLegalAfter before [] = Unit {0}
+AreLegalAfter before (b ∷ more) = IsLegalBatch before b × AreLegalAfter (before ++ b.events) more
+
+pub record IsLegal (z : History) : Type 0 where
+  pub parameters : are_parameters z.params.l z.params.k ≡ true
+  pub batches : AreLegalAfter [] z.batches
+  pub few : length (events_of z) ≤ EVENTS_MAX
+
+-- the image begins with the file of the history, and the gate behind it is closed
+pub record IsImageOf (z : History) (image : List ℕ) : Type 0 where
+  pub legal : IsLegal z
+  pub fits : size z ≤ FILE_BYTES_MAX
+  pub begins : take (length (file z)) image ≡ file z
+  pub gate : ℕ
+  pub there : slice_get image (length (file z)) ≡ Some gate
+  pub closed : gate ≢ 1
+
+-- the image is no index: it has fewer bytes than a header, or as many and its gate is closed
+abbrev pub is_blank : List ℕ → Bool
+is_blank image = nat_lt (length image) 18 || (length image == 18 && not (slice_index image 0 == 1))
+
+-- the image stands for an index with this history, or for none
+abbrev pub StandsAs : Option History → List ℕ → Type 0
+StandsAs None image = is_blank image ≡ true
+StandsAs (Some z) image = IsImageOf z image

@@ -1,0 +1,162 @@
+-- What is known of events that some changes come to.
+use Rattle.std.proofs.Common.{◌≡◌, ℕ, zero, suc, ◌+◌, ◌<◌, ◌≤◌, ◌^◌, ◌==◌, Bool, true, false, not, ◌&&◌, ◌||◌, List, [], ◌∷◌, ◌++◌, Option, Some, None, Result, Ok, Err, if◌then◌else◌, length, map, find, filter, refl, sym, ◌∙◌, ap, subst, nat_lt, nat_le, arith}
+use Rattle.std.specs.Prelude.{All, IfSome, is_some}
+use Rattle.std.specs.List.{list_any}
+use Rattle.std.proofs.lemmas.List.Elements.{All-nil, All-cons, All-head, All-tail, All-filter}
+use borrow.Author.Tests.{ltb-false, eqb-true, le-leb}
+use Rattle.dg_model.specs.declared.element.Element.{Element}
+use Rattle.dg_model.specs.declared.element.Element.TheVariants as element
+use Rattle.dg_model.specs.declared.event.Body.{Body}
+use Rattle.dg_model.specs.declared.event.Body.TheVariants as body
+use Rattle.dg_model.specs.declared.event.Change.{Change}
+use Rattle.dg_model.specs.declared.event.Event.{Event}
+use Rattle.dg_model.specs.declared.event.What.{What}
+use Rattle.dg_model.specs.declared.event.What.TheVariants as what
+use Rattle.dg_model.specs.declared.event.TheConstants.{REASON_NODE_EXISTS, REASON_NO_NODE, REASON_NODE_IN_USE, REASON_EDGE_EXISTS, REASON_EDGE_IN_USE, REASON_NO_END, REASON_TIME}
+use Rattle.dg_model.specs.Batch.{completed, event_of, go_on, on_value}
+use Rattle.dg_model.specs.Completion.{has_node, is_edge, edge_of, needs_node, needs_edge, edge_removal, complete, completes, is_found}
+use Rattle.dg_model.specs.Effect.{forwards}
+use Rattle.dg_model.specs.Elements.{same}
+use Rattle.dg_model.proofs.Sets.{same_itself}
+
+-- the element that is found is one that was looked for
+pub find_is : {A : Type 0} (p : A → Bool) (xs : List A) (x : A) → find p xs ≡ Some x → p x ≡ true
+find_is p [] x h = cc
+find_is p (y ∷ xs) x h = go (p y) refl h (λ e. find_is p xs x e)
+  where
+    go : (b : Bool) → p y ≡ b → (if b then Some y else find p xs) ≡ Some x → (find p xs ≡ Some x → p x ≡ true) → p x ≡ true
+    go true py e later = let s : y ≡ x = cc in ap p (sym s) ∙ py
+    go false py e later = later e
+
+-- a change that comes to this
+node_added : (id : ℕ) (set : List Element) (b : Body) (there : Bool) → has_node set id ≡ there
+    → (if there then Err REASON_NODE_EXISTS else Ok (body.NodeAdded id)) ≡ Ok b → completes set b ≡ true
+node_added id set b true is h = cc
+node_added id set b false is h = let e : body.NodeAdded id ≡ b = cc in subst (λ (x : Body). completes set x ≡ true) e (ap not is)
+
+node_removed : (id : ℕ) (set : List Element) (b : Body) (there used : Bool) → has_node set id ≡ there → list_any (needs_node id) set ≡ used
+    → (if not there then Err REASON_NO_NODE else (if used then Err REASON_NODE_IN_USE else Ok (body.NodeRemoved id))) ≡ Ok b → completes set b ≡ true
+node_removed id set b false used is is_used h = cc
+node_removed id set b true true is is_used h = cc
+node_removed id set b true false is is_used h =
+    let e : body.NodeRemoved id ≡ b = cc in
+    subst (λ (x : Body). completes set x ≡ true) e (ap (λ x. x && not (list_any (needs_node id) set)) is ∙ ap not is_used)
+
+edge_added : (id src dst : ℕ) (directed : Bool) (set : List Element) (b : Body) (there ends : Bool)
+    → is_some (edge_of set id) ≡ there → (has_node set src && has_node set dst) ≡ ends
+    → (if there then Err REASON_EDGE_EXISTS else (if ends then Ok (body.EdgeAdded id src dst directed) else Err REASON_NO_END)) ≡ Ok b → completes set b ≡ true
+edge_added id src dst directed set b true ends is is_ends h = cc
+edge_added id src dst directed set b false false is is_ends h = cc
+edge_added id src dst directed set b false true is is_ends h =
+    let e : body.EdgeAdded id src dst directed ≡ b = cc in
+    subst (λ (x : Body). completes set x ≡ true) e (ap (λ x. not x && (has_node set src && has_node set dst)) is ∙ is_ends)
+
+edge_removed : (id : ℕ) (set : List Element) (b : Body) (needed : Bool) (found : Option Element)
+    → list_any (needs_edge id) set ≡ needed → edge_of set id ≡ found → edge_removal needed found ≡ Ok b → completes set b ≡ true
+edge_removed id set b needed None is_needed is h = cc
+edge_removed id set b needed (Some (element.Node n)) is_needed is h = cc
+edge_removed id set b needed (Some (element.NodeAttr n key value)) is_needed is h = cc
+edge_removed id set b needed (Some (element.EdgeAttr n key value)) is_needed is h = cc
+edge_removed id set b true (Some (element.Edge n src dst directed)) is_needed is h = cc
+edge_removed id set b false (Some (element.Edge n src dst directed)) is_needed is h =
+    let e : body.EdgeRemoved n src dst directed ≡ b = cc in
+    let same_id : n ≡ id = eqb-true n id (find_is (is_edge id) set (element.Edge n src dst directed) is) in
+    let there : is_found (edge_of set n) (element.Edge n src dst directed) ≡ true =
+    ap (λ (k : ℕ). is_found (edge_of set k) (element.Edge n src dst directed)) same_id
+    ∙ ap (λ (x : Option Element). is_found x (element.Edge n src dst directed)) is ∙ same_itself (element.Edge n src dst directed) in
+    let free : list_any (needs_edge n) set ≡ false = ap (λ (k : ℕ). list_any (needs_edge k) set) same_id ∙ is_needed in
+    subst (λ (x : Body). completes set x ≡ true) e (ap (λ x. x && not (list_any (needs_edge n) set)) there ∙ ap not free)
+
+pub comes_to : (w : What) (set : List Element) (b : Body) → complete w set ≡ Ok b → completes set b ≡ true
+comes_to (what.AddNode id) set b h = node_added id set b (has_node set id) refl h
+comes_to (what.RemoveNode id) set b h = node_removed id set b (has_node set id) (list_any (needs_node id) set) refl refl h
+comes_to (what.AddEdge id src dst directed) set b h =
+    edge_added id src dst directed set b (is_some (edge_of set id)) (has_node set src && has_node set dst) refl refl h
+comes_to (what.RemoveEdge id) set b h = edge_removed id set b (list_any (needs_edge id) set) (edge_of set id) refl refl h
+
+-- the event of a change that comes to one
+pub record Comes (earliest : ℕ) (set : List Element) (c : Change) (e : Event) : Type 0 where
+  pub time : e.time ≡ c.time
+  pub late : earliest ≤ c.time
+  pub body : complete c.what set ≡ Ok e.body
+
+event_comes : (earliest : ℕ) (set : List Element) (c : Change) (e : Event) → event_of earliest set c ≡ Ok e → Comes earliest set c e
+event_comes earliest set c e h = by_time (nat_lt c.time earliest) refl h
+  where
+    by_body : (r : Result Body ℕ) → complete c.what set ≡ r → nat_lt c.time earliest ≡ false
+        → on_value (λ (b : Body). record { time = c.time; body = b }) r ≡ Ok e → Comes earliest set c e
+    by_body (Err x) is late k = cc
+    by_body (Ok b) is late k =
+        let s : (let x : Event = record { time = c.time; body = b } in x) ≡ e = cc in
+        subst (λ (x : Event). Comes earliest set c x) s (record { time = refl; late = ltb-false c.time earliest late; body = is })
+
+    by_time : (early : Bool) → nat_lt c.time earliest ≡ early
+        → (if early then Err REASON_TIME else on_value (λ (b : Body). record { time = c.time; body = b }) (complete c.what set)) ≡ Ok e → Comes earliest set c e
+    by_time true is k = cc
+    by_time false is k = by_body (complete c.what set) refl is k
+
+-- each change comes to its event after those before it
+abbrev pub AllCome : ℕ → List Element → List (Option Change) → List Event → Type 0
+AllCome earliest set [] [] = Unit {0}
+AllCome earliest set [] (e ∷ events) = ⊥
+AllCome earliest set (None ∷ changes) events = ⊥
+AllCome earliest set (Some c ∷ changes) [] = ⊥
+AllCome earliest set (Some c ∷ changes) (e ∷ events) = Comes earliest set c e × AllCome e.time (forwards set e) changes events
+
+pub all_come : (n earliest : ℕ) (set : List Element) (changes : List (Option Change)) (events : List Event)
+    → completed n earliest set changes ≡ Ok events → AllCome earliest set changes events
+all_come n earliest set [] [] h = tt
+all_come n earliest set [] (e ∷ events) h = cc
+all_come n earliest set (None ∷ changes) events h = cc
+all_come n earliest set (Some c ∷ changes) events h =
+    by_event (event_of earliest set c) refl h (λ e more k. all_come (n + 1) e.time (forwards set e) changes more k)
+  where
+    by_rest : (e : Event) (r : Result (List Event) (ℕ × ℕ)) → event_of earliest set c ≡ Ok e
+        → on_value (λ (es : List Event). e ∷ es) r ≡ Ok events
+        → ((more : List Event) → r ≡ Ok more → AllCome e.time (forwards set e) changes more)
+        → AllCome earliest set (Some c ∷ changes) events
+    by_rest e (Err x) is k next = cc
+    by_rest e (Ok more) is k next =
+        let s : e ∷ more ≡ events = cc in
+        subst (λ (es : List Event). AllCome earliest set (Some c ∷ changes) es) s (event_comes earliest set c e is, next more refl)
+
+    by_event : (r : Result Event ℕ) → event_of earliest set c ≡ r
+        → go_on n (λ e. completed (n + 1) e.time (forwards set e) changes) r ≡ Ok events
+        → ((e : Event) (more : List Event) → completed (n + 1) e.time (forwards set e) changes ≡ Ok more → AllCome e.time (forwards set e) changes more)
+        → AllCome earliest set (Some c ∷ changes) events
+    by_event (Err x) is k next = cc
+    by_event (Ok e) is k next = by_rest e (completed (n + 1) e.time (forwards set e) changes) is k (next e)
+
+-- events that are right after one another, in order of time
+abbrev pub AreRight : ℕ → List Element → List Event → Type 0
+AreRight earliest set [] = Unit {0}
+AreRight earliest set (e ∷ events) = (earliest ≤ e.time) × (completes set e.body ≡ true) × AreRight e.time (forwards set e) events
+
+pub are_right : (earliest : ℕ) (set : List Element) (changes : List (Option Change)) (events : List Event)
+    → AllCome earliest set changes events → AreRight earliest set events
+are_right earliest set [] [] h = tt
+are_right earliest set [] (e ∷ events) h = absurd h
+are_right earliest set (None ∷ changes) events h = absurd h
+are_right earliest set (Some c ∷ changes) [] h = absurd h
+are_right earliest set (Some c ∷ changes) (e ∷ events) h =
+    (omega (arith, h.0.late, h.0.time), comes_to c.what set e.body h.0.body, are_right e.time (forwards set e) changes events h.1)
+
+-- as many events as changes
+pub as_many : (earliest : ℕ) (set : List Element) (changes : List (Option Change)) (events : List Event)
+    → AllCome earliest set changes events → length events ≡ length changes
+as_many earliest set [] [] h = refl
+as_many earliest set [] (e ∷ events) h = absurd h
+as_many earliest set (None ∷ changes) events h = absurd h
+as_many earliest set (Some c ∷ changes) [] h = absurd h
+as_many earliest set (Some c ∷ changes) (e ∷ events) h = omega (arith, as_many e.time (forwards set e) changes events h.1)
+
+-- every line has a change
+pub all_changes : (earliest : ℕ) (set : List Element) (changes : List (Option Change)) (events : List Event)
+    → AllCome earliest set changes events → (cs : List Change) × (changes ≡ map (λ (c : Change). Some c) cs)
+all_changes earliest set [] [] h = ([], refl)
+all_changes earliest set [] (e ∷ events) h = absurd h
+all_changes earliest set (None ∷ changes) events h = absurd h
+all_changes earliest set (Some c ∷ changes) [] h = absurd h
+all_changes earliest set (Some c ∷ changes) (e ∷ events) h =
+    let more = all_changes e.time (forwards set e) changes events h.1 in
+    (c ∷ more.0, ap (λ (cs : List (Option Change)). Some c ∷ cs) more.1)

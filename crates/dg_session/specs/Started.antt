@@ -1,0 +1,65 @@
+-- How a session starts over an image.
+use Rattle.std.specs.Prelude.{◌≡◌, ℕ, ◌+◌, List, [], ◌∷◌, ◌++◌, Option, Some, None, Result, Ok, Err, length, map, slice_get}
+use Rattle.dg_file.specs.Index.{IndexState}
+use Rattle.dg_model.specs.declared.element.Element.{Element}
+use Rattle.dg_model.specs.declared.event.Event.{Event}
+use Rattle.dg_model.specs.declared.fault.StartFault.{StartFault}
+use Rattle.dg_model.specs.declared.fault.StartFault.TheVariants as fault
+use Rattle.dg_model.specs.declared.limits.Limits.{Limits}
+use Rattle.dg_model.specs.declared.limits.TheConstants.{FIRST_HANDLE}
+use Rattle.dg_model.specs.History.{History}
+use Rattle.dg_model.specs.Legal.{StandsAs}
+use Rattle.dg_model.specs.Machine.{events_in}
+use Rattle.dg_model.specs.Opening.{Opening, Segment, opening_of}
+use Rattle.dg_model.specs.Starting.{Started, first_wrong, start_of}
+use Rattle.std.specs.Option.{option_map}
+use Rattle.dg_session.specs.Parts.{Parts}
+
+-- what the image of an index is opened as, where there is an index
+abbrev pub index_opening : Option IndexState → Option Opening
+index_opening index = option_map (λ (i : IndexState). i.opening) index
+
+-- what a start comes to, as the index and the events that it gives
+abbrev pub started_with : Option Opening → List Event → Option Started
+started_with None events = None
+started_with (Some o) events = Some (record { opening = o; events = events })
+
+-- The fault is the reason of what is due. Of a failure of the disk and of want of memory nothing is
+-- said.
+abbrev pub Refuses : {A : Type 0} → StartFault → Result A StartFault → Type 0
+Refuses fault.Disk due = Unit {0}
+Refuses fault.Foreign due = due ≡ Err fault.Foreign
+Refuses (fault.Damaged place) due = due ≡ Err (fault.Damaged place)
+Refuses (fault.BadRecord key col) due = due ≡ Err (fault.BadRecord key col)
+Refuses (fault.BadRecent number) due = due ≡ Err (fault.BadRecent number)
+Refuses fault.Memory due = Unit {0}
+
+-- the session has no handle yet, and the index and the events that are due
+pub record StartsAs (limits : Limits) (session : Parts) (due : Result (Option Started) StartFault) : Type 0 where
+  pub started : due ≡ Ok (started_with session.index session.events)
+  pub no_index : session.index ≡ None → session.events ≡ []
+  pub limits_are : session.limits ≡ limits
+  pub table : session.table ≡ []
+  pub next : session.next ≡ FIRST_HANDLE
+
+-- the fact holds of the image, where the disk tells it, and of the segment of the piece
+abbrev pub InPiece : Option (List ℕ) → Opening → ℕ → (List ℕ → Segment → Type 0) → Type 0
+InPiece told o piece P = (image : List ℕ) (s : Segment) → told ≡ Some image → slice_get o.segments piece ≡ Some s → P image s
+
+-- the number that was found, or else what comes later
+abbrev pub or_later : Option ℕ → Option ℕ → Option ℕ
+or_later None later = later
+or_later (Some n) later = Some n
+
+-- The first of the segment's events that is not right has this number; where all are right, they lead
+-- from one set to the other.
+abbrev pub FirstWrong : Segment → ℕ → List Element → List Event → Option ℕ → List Element → Type 0
+FirstWrong s number set events wrong after =
+    (more : List (Segment × Event)) → first_wrong number set (map (λ (e : Event). (s, e)) events ++ more)
+    ≡ or_later wrong (first_wrong (number + length events) after more)
+
+-- what an image that stands for a history, or for none, starts as
+abbrev pub StartsAsItStands : Type 0
+StartsAsItStands =
+    (index : Option History) (image : List ℕ) → StandsAs index image
+    → start_of image ≡ Ok (started_with (option_map opening_of index) (events_in index))

@@ -1,0 +1,140 @@
+//! Reading the history of an index, and testing it.
+
+ghost use Rattle.std.specs.Prelude.{◌≡◌, ◌≤◌, ◌<◌, ◌+◌, ◌^◌, Ok, IfOk, IfErr, IfSome, IsErrOf, Some, None, ℕ, List, [], length};
+ghost use Rattle.std.specs.Option.{option_map};
+ghost use Rattle.dg_disk.specs.Counts.{Rose};
+ghost use Rattle.dg_model.specs.Opening.{Segment, opening};
+ghost use Rattle.dg_model.specs.Starting.{is_right, start_of};
+ghost use Rattle.dg_session.specs.Session.{IsHeldBy};
+ghost use Rattle.dg_session.specs.Started.{FirstWrong, Refuses, index_opening, started_with};
+
+use crate::graph::{apply, completes};
+use crate::piece::read_piece;
+use dg_disk::Disk;
+use dg_file::{Batch, Index, ReopenFault};
+use dg_model::{Event, StartFault};
+use dg_set::Set;
+use std::alloc::{AllocError, Global};
+
+// The number of the first event of a history.
+const FIRST_EVENT: u64 = 1;
+
+/// The index over a disk, if there is one, and the events of its history.
+#[derive(Drop)]
+pub struct Opened {
+    /// The index.
+    pub index: Option<Index>,
+    /// The events, in their order.
+    pub events: Vec<Event>,
+}
+
+// Whether some change comes to the event in the graph, and its time is within those of its batch.
+fn is_right(graph: &Set, batch: Batch, event: &Event) -> bool
+    ensures { (s : Segment) → s.first ≡ batch.ends.first → s.last ≡ batch.ends.last → result ≡ is_right graph.now (s, event.now) }
+{
+    completes(graph, &event.body) && batch.ends.first <= event.time && event.time <= batch.ends.last
+}
+
+// The number of the first event of a batch that is not right, where they are numbered on from this
+// one. Where all are right, they lead the graph on.
+fn first_wrong(
+    graph: &mut Set,
+    batch: Batch,
+    first: u64,
+    events: &[Event],
+) -> Result<Option<u64>, AllocError>
+    requires { first + length events.now < 2 ^ 64 }
+    ensures { IfOk result (λ wrong. (s : Segment) → s.first ≡ batch.ends.first → s.last ≡ batch.ends.last
+        → FirstWrong s first graph.old events.now wrong graph.new) }
+{
+    let mut number = first;
+    for event in events {
+        if !is_right(graph, batch, event) {
+            return Ok(Some(number));
+        }
+        apply(graph, event)?;
+        number += 1;
+    }
+    Ok(None)
+}
+
+// The events of the history of an index, each of which some change comes to. A record that is in no
+// spelling is told before an event that is not right, wherever the two are.
+fn read_history<D: Disk>(
+    alloc: Global,
+    index: &mut Index,
+    disk: &mut D,
+) -> Result<Vec<Event>, StartFault>
+    requires { IfSome (D.image disk.old) (λ image. opening image ≡ Ok index.old.opening) }
+    ensures read { IfOk result (λ events. (image : List ℕ) → D.image disk.old ≡ Some image
+        → start_of image ≡ Ok (started_with (Some index.old.opening) events.items)) }
+    ensures refused { IfErr result (λ fault. (image : List ℕ) → D.image disk.old ≡ Some image
+        → Refuses fault (start_of image)) }
+    ensures same { index.new ≡ index.old }
+    ensures same_image { D.image disk.new ≡ D.image disk.old }
+    ensures cause { IsErrOf result StartFault.Disk → Rose (D.faults disk.old) (D.faults disk.new) }
+    ensures counted { D.faults disk.old ≤ D.faults disk.new }
+    ensures same_write_faults { D.write_faults disk.new ≡ D.write_faults disk.old }
+{
+    let mut events = Vec::new(alloc);
+    let mut graph = Set::new(alloc);
+    let mut wrong = None;
+    let mut piece = 0;
+    index.facts();
+    while let Some(batch) = index.batch(piece) {
+        let more = read_piece(alloc, index, disk, piece, batch.events)?;
+        if wrong.is_none() {
+            let number = FIRST_EVENT + events.len() as u64;
+            let Ok(found) = first_wrong(&mut graph, batch, number, &more) else {
+                return Err(StartFault::Memory);
+            };
+            wrong = found;
+        }
+        if events.extend_from_slice(&more).is_err() {
+            return Err(StartFault::Memory);
+        }
+        piece += 1;
+    }
+    match wrong {
+        Some(number) => Err(StartFault::BadRecent(number)),
+        None => Ok(events),
+    }
+}
+
+/// Reopens the index over the disk, if there is one, and reads its history.
+///
+/// `StartFault::Foreign` where the file is not one of an index, `StartFault::Damaged` with the place of
+/// the first segment that breaks a rule, `StartFault::BadRecord` for the first record that is in no
+/// spelling, `StartFault::BadRecent` with the number of the first event that no change comes to;
+/// `StartFault::Disk` where the disk failed, `StartFault::Memory` for want of memory.
+pub fn open<D: Disk>(alloc: Global, disk: &mut D) -> Result<Opened, StartFault>
+    ensures read { IfOk result (λ opened. (image : List ℕ) → D.image disk.old ≡ Some image
+        → start_of image ≡ Ok (started_with (index_opening opened.index) opened.events.items)) }
+    ensures no_index { IfOk result (λ opened. opened.index ≡ None → opened.events.items ≡ []) }
+    ensures held { IfOk result (λ opened. IfSome (D.image disk.new) (λ image. IsHeldBy (index_opening opened.index) image)) }
+    ensures refused { IfErr result (λ fault. (image : List ℕ) → D.image disk.old ≡ Some image
+        → Refuses fault (start_of image)) }
+    ensures same_image { D.image disk.new ≡ D.image disk.old }
+    ensures cause { IsErrOf result StartFault.Disk → Rose (D.faults disk.old) (D.faults disk.new) }
+    ensures counted { D.faults disk.old ≤ D.faults disk.new }
+    ensures write_counted { D.write_faults disk.old ≤ D.write_faults disk.new }
+{
+    let mut index = match Index::reopen(alloc, disk) {
+        Ok(index) => index,
+        Err(ReopenFault::Blank) => {
+            return Ok(Opened {
+                index: None,
+                events: Vec::new(alloc),
+            });
+        }
+        Err(ReopenFault::Foreign) => return Err(StartFault::Foreign),
+        Err(ReopenFault::Damaged(place)) => return Err(StartFault::Damaged(place)),
+        Err(ReopenFault::Disk) => return Err(StartFault::Disk),
+        Err(ReopenFault::Memory) => return Err(StartFault::Memory),
+    };
+    let events = read_history(alloc, &mut index, disk)?;
+    Ok(Opened {
+        index: Some(index),
+        events,
+    })
+}
