@@ -1,9 +1,8 @@
 -- What is known of events that some changes come to.
-use Rattle.std.proofs.Common.{◌≡◌, ℕ, zero, suc, ◌+◌, ◌<◌, ◌≤◌, ◌^◌, ◌==◌, Bool, true, false, not, ◌&&◌, ◌||◌, List, [], ◌∷◌, ◌++◌, Option, Some, None, Result, Ok, Err, if◌then◌else◌, length, map, find, filter, refl, sym, ◌∙◌, ap, subst, nat_lt, nat_le, arith}
-use Rattle.std.specs.Prelude.{All, IfSome, is_some}
+use Rattle.std.proofs.Common.{◌≡◌, ℕ, ◌+◌, ◌≤◌, Bool, true, false, not, ◌&&◌, List, [], ◌∷◌, Option, Some, None, Result, Ok, Err, if◌then◌else◌, length, map, find, refl, sym, ◌∙◌, ap, subst, nat_lt, arith}
+use Rattle.std.specs.Prelude.{is_some}
 use Rattle.std.specs.List.{list_any}
-use Rattle.std.proofs.lemmas.List.Elements.{All-nil, All-cons, All-head, All-tail, All-filter}
-use borrow.Author.Tests.{ltb-false, eqb-true, le-leb}
+use borrow.Author.Tests.{ltb-false, eqb-true}
 use Rattle.dg_model.specs.declared.element.Element.{Element}
 use Rattle.dg_model.specs.declared.element.Element.TheVariants as element
 use Rattle.dg_model.specs.declared.event.Body.{Body}
@@ -12,11 +11,10 @@ use Rattle.dg_model.specs.declared.event.Change.{Change}
 use Rattle.dg_model.specs.declared.event.Event.{Event}
 use Rattle.dg_model.specs.declared.event.What.{What}
 use Rattle.dg_model.specs.declared.event.What.TheVariants as what
-use Rattle.dg_model.specs.declared.event.TheConstants.{REASON_NODE_EXISTS, REASON_NO_NODE, REASON_NODE_IN_USE, REASON_EDGE_EXISTS, REASON_EDGE_IN_USE, REASON_NO_END, REASON_TIME}
+use Rattle.dg_model.specs.declared.event.TheConstants.{REASON_NODE_EXISTS, REASON_NO_NODE, REASON_NODE_IN_USE, REASON_EDGE_EXISTS, REASON_NO_END, REASON_TIME}
 use Rattle.dg_model.specs.Batch.{completed, event_of, go_on, on_value}
 use Rattle.dg_model.specs.Completion.{has_node, is_edge, edge_of, needs_node, needs_edge, edge_removal, complete, completes, is_found}
 use Rattle.dg_model.specs.Effect.{forwards}
-use Rattle.dg_model.specs.Elements.{same}
 use Rattle.dg_model.proofs.Sets.{same_itself}
 
 -- the element that is found is one that was looked for

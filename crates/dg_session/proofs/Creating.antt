@@ -1,6 +1,5 @@
 -- The answer to the making of an index.
-use Rattle.std.proofs.Common.{◌≡◌, ◌⊎◌, inl, inr, ℕ, Bool, true, false, List, [], Option, Some, None, IsTrue, if◌then◌else◌, length, drop, not, refl, sym, ◌∙◌, ap, subst}
-use Rattle.std.specs.Option.{option_map}
+use Rattle.std.proofs.Common.{◌≡◌, inl, inr, ℕ, Bool, true, false, List, [], Option, Some, None, IsTrue, if◌then◌else◌, not, refl, sym, ◌∙◌, ap, subst}
 use Rattle.std.specs.Prelude.{is_some}
 use Rattle.dg_file.specs.Images.{IsMadeInPart}
 use Rattle.dg_model.specs.declared.command.Command.TheVariants as command
@@ -11,7 +10,7 @@ use Rattle.dg_model.specs.declared.reply.Reply.{Reply}
 use Rattle.dg_model.specs.Answer.{Answered, answer_create, headed, refuse, no_memory, is_refusal}
 use Rattle.dg_model.specs.Cut.{IsCut, As_before, As_after, First_byte}
 use Rattle.dg_model.specs.History.{History, are_parameters, empty_history}
-use Rattle.dg_model.specs.Legal.{IsImageOf, StandsAs, is_blank}
+use Rattle.dg_model.specs.Legal.{IsImageOf, StandsAs}
 use Rattle.dg_model.specs.Machine.{MachineState, events_in}
 use Rattle.dg_model.specs.Opening.{Opening, opening_of}
 use Rattle.dg_model.specs.Run.{Step, Answers}

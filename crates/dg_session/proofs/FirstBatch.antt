@@ -1,11 +1,10 @@
 -- How the first batch is put into a file and into a session.
-use Rattle.std.proofs.Common.{◌≡◌, ◌⊎◌, inl, inr, ℕ, zero, suc, ◌+◌, ◌<◌, ◌≤◌, Bool, true, false, ◌&&◌, List, [], ◌∷◌, ◌++◌, Option, Some, None, Result, Ok, Err, if◌then◌else◌, length, map, refl, sym, ◌∙◌, ap, subst, nat_le, nat_lt, arith, zero-add}
+use Rattle.std.proofs.Common.{◌≡◌, ◌⊎◌, inl, inr, ℕ, ◌+◌, ◌<◌, ◌≤◌, Bool, true, false, ◌&&◌, List, [], ◌∷◌, ◌++◌, Option, Some, Ok, if◌then◌else◌, length, map, refl, sym, ◌∙◌, ap, subst, nat_le, nat_lt, arith, zero-add}
 use Rattle.std.specs.Prelude.{All, is_some, slice_get}
 use Rattle.std.specs.List.{flat_map}
 use Rattle.std.specs.Option.{option_map}
 use Rattle.std.proofs.lemmas.List.{append-nil}
 use Rattle.std.proofs.lemmas.List.Elements.{All-head, All-tail}
-use Rattle.std.proofs.lemmas.List.Concat.{flat_map-append}
 use borrow.Author.Tests.{le-leb, lt-ltb, le-ltb}
 use Rattle.dg_file.specs.declared.batch.Batch.{Batch as ToldBatch}
 use Rattle.dg_file.specs.Held.{batch_in}
@@ -22,8 +21,8 @@ use Rattle.dg_model.specs.declared.reply.Reply.{Reply}
 use Rattle.dg_model.specs.Answer.{Answered, loaded, headed, refuse, no_memory}
 use Rattle.dg_model.specs.File.{size, first_time_of}
 use Rattle.dg_model.specs.History.{History, Batch, events_of, with_batch, last_time_from}
-use Rattle.dg_model.specs.Legal.{FitsEvent, IsLegal, IsLegalBatch, AreLegalAfter, IsImageOf, StandsAs}
-use Rattle.dg_model.specs.Machine.{MachineState, events_in}
+use Rattle.dg_model.specs.Legal.{FitsEvent, IsLegal, AreLegalAfter, IsImageOf, StandsAs}
+use Rattle.dg_model.specs.Machine.{MachineState}
 use Rattle.dg_model.specs.Opening.{Opening, Segment, opening_of, segments_of, may_follow}
 use Rattle.dg_session.proofs.Completing.{AreRight, all_come, are_right}
 use Rattle.dg_session.proofs.Standing.{last_after}

@@ -1,5 +1,5 @@
 -- Numbers that the grammar gives are in their ranges, and so are those of the events that come of them.
-use Rattle.std.proofs.Common.{◌≡◌, ℕ, ◌<◌, ◌≤◌, ◌^◌, Bool, true, false, not, ◌&&◌, List, [], ◌∷◌, Option, Some, None, Ok, Err, if◌then◌else◌, map, find, nat_le, refl, sym, ◌∙◌, ap, subst, arith, decimal}
+use Rattle.std.proofs.Common.{◌≡◌, ℕ, ◌<◌, ◌≤◌, ◌^◌, Bool, true, false, not, ◌&&◌, List, [], ◌∷◌, Option, Some, None, Ok, Err, if◌then◌else◌, map, find, nat_le, refl, sym, subst, arith, decimal}
 use Rattle.std.specs.Prelude.{All, IfSome, is_some, codes, option_and_then}
 use Rattle.std.specs.List.{list_any}
 use Rattle.std.specs.Option.{option_map}
@@ -21,7 +21,7 @@ use Rattle.dg_model.specs.declared.event.TheConstants.{REASON_NODE_EXISTS, REASO
 use Rattle.dg_model.specs.declared.limits.TheConstants.{BATCH_LINES_MAX, TIME_MAX}
 use Rattle.dg_model.specs.Completion.{has_node, is_edge, edge_of, needs_node, needs_edge, edge_removal, complete}
 use Rattle.dg_model.specs.Effect.{forwards, removed_by, added_by}
-use Rattle.dg_model.specs.Elements.{before, same, put, take_out, with_one, without}
+use Rattle.dg_model.specs.Elements.{before, same, put, with_one, without}
 use Rattle.dg_model.specs.Grammar.{is_word, id_of, time_of, one_id, new_edge, what_of, change_of_words, change_in, direction_of, create_of, load_of, at_of, list_of, command_of_words, command_of, n32_of, function_of, columns_of, handle_of}
 use Rattle.dg_model.specs.Legal.{FitsBody, FitsEvent}
 use Rattle.dg_model.specs.Lines.{ScriptLine, Text, Long}

@@ -17,19 +17,18 @@ use Rattle.dg_model.specs.Cut.{IsCut, As_before, As_after}
 use Rattle.dg_model.specs.File.{segment}
 use Rattle.dg_model.specs.Grammar.{change_in}
 use Rattle.dg_model.specs.History.{History, Batch, events_of, span_of, earliest_next}
-use Rattle.dg_model.specs.Legal.{IsLegalBatch, AreLegalAfter, IsImageOf, StandsAs}
+use Rattle.dg_model.specs.Legal.{AreLegalAfter, IsImageOf, StandsAs}
 use Rattle.dg_model.specs.Lines.{ScriptLine}
-use Rattle.dg_model.specs.Machine.{MachineState, events_in}
-use Rattle.dg_model.specs.Opening.{Opening, Segment, opening_of, segments_of}
+use Rattle.dg_model.specs.Machine.{MachineState}
+use Rattle.dg_model.specs.Opening.{Opening, segments_of}
 use Rattle.dg_model.specs.Replay.{replay}
 use Rattle.dg_model.specs.Run.{Step, Answers, Lacks_memory}
 use Rattle.dg_model.specs.Script.{Asked}
 use Rattle.dg_session.proofs.Completing.{all_come, as_many, all_changes}
 use Rattle.dg_session.proofs.FirstBatch.{IsReady, is_ready}
 use Rattle.dg_session.proofs.Fitting.{first_events_fit}
-use Rattle.dg_session.proofs.Moving.{moves, refused, lacking, no_index, some_index}
-use Rattle.dg_session.specs.Following.{Gathers}
-use Rattle.dg_session.specs.Kept.{HasBatch, HasNoBatch, IsFirstBatch, Keeps, KeepsOrNot, WereGathered, batch_with}
+use Rattle.dg_session.proofs.Moving.{refused, lacking, no_index, some_index}
+use Rattle.dg_session.specs.Kept.{HasBatch, IsFirstBatch, Keeps, KeepsOrNot, WereGathered, batch_with}
 use Rattle.dg_session.specs.Parts.{Parts}
 use Rattle.dg_session.specs.Session.{Moves, Cuts, StandsFor}
 

@@ -14,7 +14,7 @@ use Rattle.dg_model.specs.declared.fault.StartFault.{StartFault}
 use Rattle.dg_model.specs.declared.fault.StartFault.TheVariants as fault
 use Rattle.dg_model.specs.declared.params.Params.{Params}
 use Rattle.dg_model.specs.Legal.{is_blank}
-use Rattle.dg_model.specs.Opening.{Segment, Opening, Unopened, No_index, opening, opened_with, opened_by, params_in, segments_from}
+use Rattle.dg_model.specs.Opening.{Segment, Opening, No_index, opening, opened_with, opened_by, params_in, segments_from}
 use Rattle.dg_model.specs.Starting.{Started, and_then, events_in_piece, events_in_pieces, first_wrong, right_or, started_from, start_of}
 use Rattle.dg_session.specs.Started.{FirstWrong, Refuses, or_later, started_with}
 

@@ -3,7 +3,6 @@ use Rattle.std.proofs.Common.{◌≡◌, ℕ, ◌+◌, ◌<◌, ◌≤◌, Bool,
 use borrow.Author.Tests.{le-leb, lt-leb}
 use Rattle.dg_model.specs.declared.command.Command.TheVariants as command
 use Rattle.dg_model.specs.declared.element.Columns.{Columns}
-use Rattle.dg_model.specs.declared.event.Event.{Event}
 use Rattle.dg_model.specs.declared.limits.TheConstants.{LIVE_HANDLES_MAX}
 use Rattle.dg_model.specs.declared.reply.Head.TheVariants as head
 use Rattle.dg_model.specs.declared.reply.Refusal.TheVariants as refusal

@@ -1,10 +1,9 @@
 -- What an image starts as that stands for a history.
-use Rattle.std.proofs.Common.{◌≡◌, ℕ, zero, suc, ◌+◌, ◌<◌, ◌≤◌, ◌^◌, Bool, true, ◌&&◌, List, [], ◌∷◌, ◌++◌, Option, Some, None, Result, Ok, Err, if◌then◌else◌, length, map, take, drop, refl, sym, ◌∙◌, ap, subst, nat_le, arith, append_assoc, length-append, add-zero}
+use Rattle.std.proofs.Common.{◌≡◌, ℕ, ◌+◌, ◌≤◌, true, ◌&&◌, List, [], ◌∷◌, ◌++◌, Option, Some, None, Result, Ok, Err, if◌then◌else◌, length, map, take, drop, refl, sym, ◌∙◌, ap, subst, nat_le, arith, append_assoc, length-append}
 use Rattle.std.specs.Prelude.{All}
 use Rattle.std.specs.List.{flat_map}
-use Rattle.std.specs.Option.{option_map}
 use Rattle.std.proofs.Math.Seq.{take-append_seam, drop-append_seam}
-use Rattle.std.proofs.lemmas.List.{append-nil, map-append, take-append-drop}
+use Rattle.std.proofs.lemmas.List.{map-append, take-append-drop}
 use Rattle.std.proofs.lemmas.List.Elements.{All-head, All-tail}
 use borrow.Author.Tests.{le-leb}
 use Rattle.dg_columns.specs.Laws.{EventsAreReadBack, EventsAreMergedBack}
@@ -24,13 +23,12 @@ use Rattle.dg_model.specs.Completion.{completes}
 use Rattle.dg_model.specs.Effect.{forwards}
 use Rattle.dg_model.specs.File.{first_time_of, name_bytes, directory, blobs, segment, header, file}
 use Rattle.dg_model.specs.History.{History, Batch, events_of, span_of, earliest_next, last_time_from}
-use Rattle.dg_model.specs.Legal.{FitsBody, FitsEvent, IsLegalBatch, AreLegalAfter, IsImageOf, StandsAs, is_blank}
-use Rattle.dg_model.specs.Machine.{events_in as events_of_index}
+use Rattle.dg_model.specs.Legal.{FitsBody, FitsEvent, IsLegalBatch, AreLegalAfter, IsImageOf}
 use Rattle.dg_model.specs.Merging.{never_fall, merged}
-use Rattle.dg_model.specs.Opening.{Segment, Opening, opening, opening_of, segment_of, segments_of, column_of_piece, opened_by, params_in, No_index}
+use Rattle.dg_model.specs.Opening.{Segment, opening_of, segment_of, segments_of, column_of_piece, opened_by, params_in, No_index}
 use Rattle.dg_model.specs.Reading.{events_in}
 use Rattle.dg_model.specs.Replay.{replay_from, replay}
-use Rattle.dg_model.specs.Starting.{Started, and_then, spelled_or, placed_in_piece, merged_or, events_in_piece, events_in_pieces, is_right, first_wrong, right_or, started_from, start_of}
+use Rattle.dg_model.specs.Starting.{and_then, spelled_or, placed_in_piece, merged_or, events_in_piece, events_in_pieces, is_right, first_wrong, right_or, started_from, start_of}
 use Rattle.dg_session.proofs.Completing.{AreRight, all_come, are_right}
 use Rattle.dg_session.proofs.Reading.{tagged, untagged, from_pieces, starts}
 use Rattle.dg_session.specs.Started.{StartsAsItStands, started_with}

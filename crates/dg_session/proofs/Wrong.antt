@@ -1,5 +1,5 @@
 -- The first event that is not right.
-use Rattle.std.proofs.Common.{◌≡◌, ℕ, suc, ◌+◌, ◌<◌, Bool, false, List, [], ◌∷◌, ◌++◌, Option, Some, if◌then◌else◌, length, map, drop, get_or, ◌∙◌, ap}
+use Rattle.std.proofs.Common.{◌≡◌, ℕ, suc, ◌+◌, ◌<◌, Bool, false, List, ◌++◌, Some, if◌then◌else◌, length, map, drop, get_or, ◌∙◌, ap}
 use Rattle.std.proofs.Math.Seq.{drop-cons}
 use Rattle.dg_model.specs.declared.element.Element.{Element}
 use Rattle.dg_model.specs.declared.event.Event.{Event}

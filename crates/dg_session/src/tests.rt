@@ -177,37 +177,19 @@ fn a_batch_fits_the_file_to_the_byte_or_is_refused(rt: HostRuntime) -> Result<()
         total: 1,
         last: 10,
     };
-    // A batch of one node takes 100 bytes, after the 18 of an empty index.
-    let cases: [(u64, usize, [Case; 2], Option<usize>); 3] = [
-        (
-            118,
-            MANY,
-            [
-                (b"create 2 2 union", Head::Created, &[]),
-                (b"load 1", loaded, &[]),
-            ],
-            None,
-        ),
-        (
-            117,
-            MANY,
-            [
-                (b"create 2 2 union", Head::Created, &[]),
-                (b"load 1", Head::Refused(Refusal::FileFull(118, 117)), &[]),
-            ],
-            None,
-        ),
-        (
-            118,
-            50,
-            [
-                (b"create 2 2 union", Head::Created, &[]),
-                (b"load 1", loaded, &[]),
-            ],
-            Some(1),
-        ),
+    let full = Head::Refused(Refusal::FileFull(118, 117));
+    // A batch of one node takes 100 bytes, after the 18 of an empty index. The first command that is
+    // not answered is told where the disk has no room for it.
+    let cases: [(u64, usize, Head, Option<usize>); 3] = [
+        (118, MANY, loaded, None),
+        (117, MANY, full, None),
+        (118, 50, loaded, Some(1)),
     ];
-    for (file_bytes, room, replies, other) in cases {
+    for (file_bytes, room, head, other) in cases {
+        let replies: [Case; 2] = [
+            (b"create 2 2 union", Head::Created, &[]),
+            (b"load 1", head, &[]),
+        ];
         let limits = Limits {
             script_bytes: SCRIPT_BYTES_MAX,
             file_bytes,
@@ -217,7 +199,13 @@ fn a_batch_fits_the_file_to_the_byte_or_is_refused(rt: HostRuntime) -> Result<()
         if file_bytes <= Limits::standard().file_bytes {
             match Session::start(&rt, rt.alloc(), &mut disk, limits) {
                 Ok(mut session) => {
-                    let found = first_other(&rt, &mut session, &replies, &mut source, &mut disk);
+                    let found = first_other(
+                        &rt,
+                        &mut session,
+                        replies.as_slice(),
+                        &mut source,
+                        &mut disk,
+                    );
                     assert_eq!(rt; found, other);
                 }
                 Err(_) => return Err("not started".into()),
@@ -227,12 +215,12 @@ fn a_batch_fits_the_file_to_the_byte_or_is_refused(rt: HostRuntime) -> Result<()
     Ok(())
 }
 
-// A file with the header and one segment, of one event at 10, by the kind of the event and the first
-// byte.
-fn file(kind: u8, gate: u8) -> [u8; 118] {
+// A file with the header and one segment, of one event at 10, by its first byte, the length of the
+// segment's directory and the kind of the event.
+fn file(gate: u8, directory: u8, kind: u8) -> [u8; 118] {
     [
         gate, 68, 71, 82, 65, 80, 72, 49, 0, 0, 0, 2, 0, 0, 0, 2, 1, // header
-        1, 0, 0, 0, 0, 0, 0, 0, 60, 0, 0, 0, 0, 0, 0, 0, 23, // gate and lengths
+        1, 0, 0, 0, 0, 0, 0, 0, directory, 0, 0, 0, 0, 0, 0, 0, 23, // gate and lengths
         0, 0, 0, 0, 0, 0, 0, 1, // events
         0, 0, 0, 0, 0, 0, 0, 10, 0, 0, 0, 0, 0, 0, 0, 10, // times
         0, 0, 0, 0, 0, 0, 0, 0, 0, 0, 0, 0, // names, lists and deltas
@@ -244,19 +232,21 @@ fn file(kind: u8, gate: u8) -> [u8; 118] {
 
 #[test]
 fn a_file_that_is_not_right_is_refused(rt: HostRuntime) -> Result<(), Fail> {
-    let foreign = file(1, 9);
-    let cases: [(&[u8], Option<StartFault>); 5] = [
-        (&file(1, 1), None),
-        (&foreign, Some(StartFault::Foreign)),
-        (&file(1, 1)[..100], Some(StartFault::Damaged(18))),
+    let cases: [(u8, u8, u8, Option<StartFault>); 5] = [
+        (1, 60, 1, None),
+        (9, 60, 1, Some(StartFault::Foreign)),
+        (1, 61, 1, Some(StartFault::Damaged(18))),
         (
-            &file(7, 1),
+            1,
+            60,
+            7,
             Some(StartFault::BadRecord(Key::Piece(0), Column::Structure)),
         ),
-        (&file(2, 1), Some(StartFault::BadRecent(1))),
+        (1, 60, 2, Some(StartFault::BadRecent(1))),
     ];
-    for (image, fault) in cases {
-        let mut disk = MemoryDisk::new(rt.alloc(), image, MANY, MANY, &[])?;
+    for (gate, directory, kind, fault) in cases {
+        let image = file(gate, directory, kind);
+        let mut disk = MemoryDisk::new(rt.alloc(), image.as_slice(), MANY, MANY, &[])?;
         let started = Session::start(&rt, rt.alloc(), &mut disk, Limits::standard());
         assert_eq!(rt; started.err(), fault);
     }

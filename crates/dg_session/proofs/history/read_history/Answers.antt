@@ -1,4 +1,4 @@
-use Rattle.std.proofs.Common.{rules, ◌≡◌, ◌+◌, ◌-◌, ◌<◌, ◌++◌, ℕ, List, Option, Some, None, Ok, length, refl, sym, ◌∙◌, ap, subst, arith}
+use Rattle.std.proofs.Common.{rules, ◌≡◌, ◌+◌, ◌-◌, ◌<◌, ◌++◌, ℕ, List, Option, Some, Ok, length, refl, sym, ◌∙◌, ap, subst, arith}
 use Rattle.std.specs.Prelude.{slice_get}
 use Rattle.dg_file.specs.declared.batch.Batch.{Batch}
 use Rattle.dg_file.specs.Index.{IndexState}

@@ -1,4 +1,4 @@
-use Rattle.std.proofs.Common.{◌≡◌, ◌+◌, ◌<◌, Some, None, true, false, [], ◌∷◌, ◌++◌, length, refl, sym, ◌∙◌, ap, arith, rules}
+use Rattle.std.proofs.Common.{◌≡◌, ◌+◌, ◌<◌, None, true, false, [], ◌∷◌, ◌++◌, length, refl, sym, ◌∙◌, ap, arith, rules}
 use Rattle.dg_model.specs.declared.reply.Head.TheVariants as head
 use Rattle.dg_model.specs.declared.stands.Stands.TheVariants.{Overlay}
 use Rattle.dg_model.specs.Answer.{headed}

@@ -1,11 +1,10 @@
-use Rattle.std.proofs.Common.{◌≡◌, ℕ, List, Some, None, [], refl, sym, ◌∙◌, ap, subst}
-use Rattle.std.specs.Prelude.{IfSome}
+use Rattle.std.proofs.Common.{◌≡◌, Some, None, [], refl, sym, ◌∙◌, ap}
 use Rattle.dg_file.specs.Images.{IsMadeInPart}
 use Rattle.dg_model.specs.declared.command.Command.TheVariants as command
-use Rattle.dg_model.specs.History.{are_parameters, empty_history}
+use Rattle.dg_model.specs.History.{empty_history}
 use Rattle.dg_model.specs.Legal.{IsImageOf}
 use Rattle.dg_session.specs.Parts.{Parts}
-use Rattle.dg_session.specs.Session.{Moves, Cuts}
+use Rattle.dg_session.specs.Session.{Moves}
 use Rattle.dg_session.specs.contracts.session.Session.{the_view}
 use Rattle.dg_session.proofs.Creating.{create_again, create_wrong, create_lacks, create_new, create_cut}
 use Rattle.dg_session.proofs.Moving.{is_there, is_missing, same_told, both_told, one_told}

@@ -1,4 +1,4 @@
-use Rattle.std.proofs.Common.{◌≡◌, ◌≤◌, ℕ, List, [], Option, Some, Err, refl, sym, ◌∙◌, ap, subst, arith}
+use Rattle.std.proofs.Common.{◌≡◌, ◌≤◌, List, [], Option, Some, Err, refl, sym, ◌∙◌, ap, subst, arith}
 use Rattle.dg_file.specs.Images.{BothTold as BothImages, GainsBatch, GainsBatchOrNot}
 use Rattle.dg_file.specs.Index.{IndexState, needed_for, new_segment_of, with_segment}
 use Rattle.dg_model.specs.declared.event.Event.{Event}

@@ -1,10 +1,9 @@
-use Rattle.std.proofs.Common.{◌≡◌, Some, None, length, map, refl, sym, ◌∙◌, ap, rules}
+use Rattle.std.proofs.Common.{◌≡◌, Some, None, length, map, sym, ◌∙◌, ap, rules}
 use Rattle.dg_model.specs.declared.reply.BodyLine.TheVariants as line
 use Rattle.dg_model.specs.declared.reply.Head.TheVariants as head
 use Rattle.dg_model.specs.Machine.{entry_at}
 use Rattle.dg_session.specs.Parts.{Parts}
 use Rattle.dg_session.specs.Session.{elements_among}
-use Rattle.dg_session.specs.contracts.session.Session.{the_view}
 use Rattle.dg_session.proofs.Listing.{list_unknown, list_lacks, list_known}
 use Rattle.dg_session.proofs.session.Session.list.Goals as goal
 

@@ -1,6 +1,5 @@
-use Rattle.std.proofs.Common.{◌≡◌, ℕ, true, false, List, [], Some, None, Ok, Err, refl, sym, ◌∙◌, ap, arith}
+use Rattle.std.proofs.Common.{◌≡◌, List, [], Some, None, Ok, Err, refl, sym, ◌∙◌, ap}
 use Rattle.dg_model.specs.declared.command.Command.TheVariants as command
-use Rattle.dg_model.specs.declared.reply.Reply.{Reply}
 use Rattle.dg_model.specs.Batch.{completed}
 use Rattle.dg_model.specs.Lines.{ScriptLine}
 use Rattle.dg_session.specs.Following.{Gathers}
