@@ -10,6 +10,7 @@ pub mod Reading
 pub mod Merging
 pub mod Replay
 pub mod Completion
+pub mod Graph
 pub mod Words
 pub mod Grammar
 pub mod History

@@ -17,8 +17,9 @@ mod stands;
 pub use command::Command;
 pub use element::{Column, Columns, Element};
 pub use event::{
-    Body, Change, Event, REASON_EDGE_EXISTS, REASON_EDGE_IN_USE, REASON_FORM, REASON_NO_EDGE,
-    REASON_NO_END, REASON_NO_NODE, REASON_NODE_EXISTS, REASON_NODE_IN_USE, REASON_TIME, What,
+    Body, Change, Event, REASON_EDGE_EXISTS, REASON_EDGE_IN_USE, REASON_FORM, REASON_NO_ATTRIBUTE,
+    REASON_NO_EDGE, REASON_NO_END, REASON_NO_NODE, REASON_NODE_EXISTS, REASON_NODE_IN_USE,
+    REASON_TIME, What,
 };
 pub use fault::StartFault;
 pub use limits::{

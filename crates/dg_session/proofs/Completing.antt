@@ -1,8 +1,9 @@
 -- What is known of events that some changes come to.
 use Rattle.std.proofs.Common.{◌≡◌, ℕ, ◌+◌, ◌≤◌, Bool, true, false, not, ◌&&◌, List, [], ◌∷◌, Option, Some, None, Result, Ok, Err, if◌then◌else◌, length, map, find, refl, sym, ◌∙◌, ap, subst, nat_lt, arith}
-use Rattle.std.specs.Prelude.{is_some}
+use Rattle.std.specs.Prelude.{is_some, nat_eq}
+use Rattle.std.specs.Option.{option_eq}
 use Rattle.std.specs.List.{list_any}
-use borrow.Author.Tests.{ltb-false, eqb-true}
+use borrow.Author.Tests.{ltb-false, eqb-true, eq-eqb}
 use Rattle.dg_model.specs.declared.element.Element.{Element}
 use Rattle.dg_model.specs.declared.element.Element.TheVariants as element
 use Rattle.dg_model.specs.declared.event.Body.{Body}
@@ -11,9 +12,9 @@ use Rattle.dg_model.specs.declared.event.Change.{Change}
 use Rattle.dg_model.specs.declared.event.Event.{Event}
 use Rattle.dg_model.specs.declared.event.What.{What}
 use Rattle.dg_model.specs.declared.event.What.TheVariants as what
-use Rattle.dg_model.specs.declared.event.TheConstants.{REASON_NODE_EXISTS, REASON_NO_NODE, REASON_NODE_IN_USE, REASON_EDGE_EXISTS, REASON_NO_END, REASON_TIME}
+use Rattle.dg_model.specs.declared.event.TheConstants.{REASON_NODE_EXISTS, REASON_NO_NODE, REASON_NODE_IN_USE, REASON_EDGE_EXISTS, REASON_NO_END, REASON_NO_EDGE, REASON_TIME}
 use Rattle.dg_model.specs.Batch.{completed, event_of, go_on, on_value}
-use Rattle.dg_model.specs.Completion.{has_node, is_edge, edge_of, needs_node, needs_edge, edge_removal, complete, completes, is_found}
+use Rattle.dg_model.specs.Completion.{has_node, is_edge, edge_of, needs_node, needs_edge, node_value, edge_value, edge_removal, value_removal, complete, completes, is_found, is_value_change}
 use Rattle.dg_model.specs.Effect.{forwards}
 use Rattle.dg_model.proofs.Sets.{same_itself}
 
@@ -65,12 +66,65 @@ edge_removed id set b false (Some (element.Edge n src dst directed)) is_needed i
     let free : list_any (needs_edge n) set ≡ false = ap (λ (k : ℕ). list_any (needs_edge k) set) same_id ∙ is_needed in
     subst (λ (x : Body). completes set x ≡ true) e (ap (λ x. x && not (list_any (needs_edge n) set)) there ∙ ap not free)
 
+-- a value is set, or taken away
+same_value : (o : Option ℕ) → option_eq nat_eq o o ≡ true
+same_value None = refl
+same_value (Some n) = eq-eqb n n refl
+
+value_set : (there : Option ℕ) (value : ℕ) → is_value_change there there (Some value) ≡ true
+value_set None value = refl
+value_set (Some old) value = ap (λ x. x && true) (same_value (Some old))
+
+value_taken : (there : Option ℕ) (value : ℕ) → there ≡ Some value → is_value_change there (Some value) None ≡ true
+value_taken there value is = ap (λ (x : Option ℕ). is_value_change x (Some value) None) is ∙ ap (λ x. x && true) (same_value (Some value))
+
+both : (a b : Bool) → a ≡ true → b ≡ true → (a && b) ≡ true
+both a b is_a is_b = ap (λ x. x && b) is_a ∙ is_b
+
+node_set : (id key value : ℕ) (set : List Element) (b : Body) (there : Bool) → has_node set id ≡ there
+    → (if there then Ok (body.NodeAttr id key (node_value set id key) (Some value)) else Err REASON_NO_NODE) ≡ Ok b → completes set b ≡ true
+node_set id key value set b false is h = cc
+node_set id key value set b true is h =
+    let e : body.NodeAttr id key (node_value set id key) (Some value) ≡ b = cc in
+    subst (λ (x : Body). completes set x ≡ true) e
+    (both (has_node set id) (is_value_change (node_value set id key) (node_value set id key) (Some value)) is (value_set (node_value set id key) value))
+
+node_unset : (id key : ℕ) (set : List Element) (b : Body) (there : Bool) (found : Option ℕ) → has_node set id ≡ there → node_value set id key ≡ found
+    → (if there then value_removal (λ old new. body.NodeAttr id key old new) found else Err REASON_NO_NODE) ≡ Ok b → completes set b ≡ true
+node_unset id key set b false found is is_found h = cc
+node_unset id key set b true None is is_found h = cc
+node_unset id key set b true (Some value) is is_found h =
+    let e : body.NodeAttr id key (Some value) None ≡ b = cc in
+    subst (λ (x : Body). completes set x ≡ true) e
+    (both (has_node set id) (is_value_change (node_value set id key) (Some value) None) is (value_taken (node_value set id key) value is_found))
+
+edge_set : (id key value : ℕ) (set : List Element) (b : Body) (there : Bool) → is_some (edge_of set id) ≡ there
+    → (if there then Ok (body.EdgeAttr id key (edge_value set id key) (Some value)) else Err REASON_NO_EDGE) ≡ Ok b → completes set b ≡ true
+edge_set id key value set b false is h = cc
+edge_set id key value set b true is h =
+    let e : body.EdgeAttr id key (edge_value set id key) (Some value) ≡ b = cc in
+    subst (λ (x : Body). completes set x ≡ true) e
+    (both (is_some (edge_of set id)) (is_value_change (edge_value set id key) (edge_value set id key) (Some value)) is (value_set (edge_value set id key) value))
+
+edge_unset : (id key : ℕ) (set : List Element) (b : Body) (there : Bool) (found : Option ℕ) → is_some (edge_of set id) ≡ there → edge_value set id key ≡ found
+    → (if there then value_removal (λ old new. body.EdgeAttr id key old new) found else Err REASON_NO_EDGE) ≡ Ok b → completes set b ≡ true
+edge_unset id key set b false found is is_found h = cc
+edge_unset id key set b true None is is_found h = cc
+edge_unset id key set b true (Some value) is is_found h =
+    let e : body.EdgeAttr id key (Some value) None ≡ b = cc in
+    subst (λ (x : Body). completes set x ≡ true) e
+    (both (is_some (edge_of set id)) (is_value_change (edge_value set id key) (Some value) None) is (value_taken (edge_value set id key) value is_found))
+
 pub comes_to : (w : What) (set : List Element) (b : Body) → complete w set ≡ Ok b → completes set b ≡ true
 comes_to (what.AddNode id) set b h = node_added id set b (has_node set id) refl h
 comes_to (what.RemoveNode id) set b h = node_removed id set b (has_node set id) (list_any (needs_node id) set) refl refl h
 comes_to (what.AddEdge id src dst directed) set b h =
     edge_added id src dst directed set b (is_some (edge_of set id)) (has_node set src && has_node set dst) refl refl h
 comes_to (what.RemoveEdge id) set b h = edge_removed id set b (list_any (needs_edge id) set) (edge_of set id) refl refl h
+comes_to (what.SetNode id key value) set b h = node_set id key value set b (has_node set id) refl h
+comes_to (what.UnsetNode id key) set b h = node_unset id key set b (has_node set id) (node_value set id key) refl refl h
+comes_to (what.SetEdge id key value) set b h = edge_set id key value set b (is_some (edge_of set id)) refl h
+comes_to (what.UnsetEdge id key) set b h = edge_unset id key set b (is_some (edge_of set id)) (edge_value set id key) refl refl h
 
 -- the event of a change that comes to one
 pub record Comes (earliest : ℕ) (set : List Element) (c : Change) (e : Event) : Type 0 where

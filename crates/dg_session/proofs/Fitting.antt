@@ -60,11 +60,16 @@ number_fits low high word = by_test (bytes_eq (decimal (digits_value 10 word)) w
         let t = both_true (bytes_eq (decimal (digits_value 10 word)) word) (nat_le low (digits_value 10 word)) (nat_le (digits_value 10 word) high) e in
         (leb-true low (digits_value 10 word) t.0, leb-true (digits_value 10 word) high t.1)
 
+-- the ids of a change fit; no line sets or unsets a value
 abbrev FitsWhat : What → Type 0
 FitsWhat (what.AddNode id) = id < 2 ^ 64
 FitsWhat (what.RemoveNode id) = id < 2 ^ 64
 FitsWhat (what.AddEdge id src dst directed) = (id < 2 ^ 64) × (src < 2 ^ 64) × (dst < 2 ^ 64)
 FitsWhat (what.RemoveEdge id) = id < 2 ^ 64
+FitsWhat (what.SetNode id key value) = ⊥
+FitsWhat (what.UnsetNode id key) = ⊥
+FitsWhat (what.SetEdge id key value) = ⊥
+FitsWhat (what.UnsetEdge id key) = ⊥
 
 abbrev FitsChange : Change → Type 0
 FitsChange c = (c.time ≤ TIME_MAX) × FitsWhat c.what
@@ -202,6 +207,10 @@ body_fits (what.AddEdge id src dst directed) set b f all h =
     edge_added (is_some (edge_of set id)) (has_node set src && has_node set dst) id src dst directed b h f
 body_fits (what.RemoveEdge id) set b f all h =
     edge_removed (list_any (needs_edge id) set) (edge_of set id) b h (λ x e. found_fits (is_edge id) set x all e)
+body_fits (what.SetNode id key value) set b f all h = absurd f
+body_fits (what.UnsetNode id key) set b f all h = absurd f
+body_fits (what.SetEdge id key value) set b f all h = absurd f
+body_fits (what.UnsetEdge id key) set b f all h = absurd f
 
 pub events_fit : (earliest : ℕ) (set : List Element) (changes : List (Option Change)) (events : List Event)
     → AllCome earliest set changes events → All (λ c. IfSome c FitsChange) changes → All FitsElement set → All (FitsEvent 0) events

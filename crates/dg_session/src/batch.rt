@@ -1,90 +1,59 @@
-ghost use Rattle.std.specs.Prelude.{◌≡◌, ◌≤◌, length, Ok, IfOk, IfErr};
-ghost use Rattle.dg_model.specs.Batch.{event_of, completed};
-ghost use Rattle.dg_session.specs.Prepared.{event_on, FaultOf};
-ghost use Rattle.dg_session.specs.declared.batch.PrepareFault.TheVariants.{Memory};
+//! What the lines of the first batch come to.
 
-use crate::graph::{apply, complete};
-use dg_model::{Change, Event, REASON_FORM, REASON_TIME};
-use dg_set::Set;
-use std::alloc::{AllocError, AllocFailed, Global};
+ghost use Rattle.std.specs.Prelude.{◌≡◌, ◌≤◌, [], None, length, Ok, IfOk, IfErr};
+ghost use Rattle.dg_model.specs.declared.limits.TheConstants.{BATCH_LINES_MAX};
+ghost use Rattle.dg_model.specs.Batch.{completed};
+ghost use Rattle.dg_now.specs.Now.{FaultOf, batch_in};
+ghost use Rattle.dg_session.specs.Prepared.{changes_in_front};
 
-/// Why the lines of a batch come to no events.
-#[derive(Clone, Copy, Debug, PartialEq, Eq)]
-pub enum PrepareFault {
-    /// The least line that is refused, from 1, and the first reason against it.
-    BadChange { line: u32, reason: u8 },
-    /// Want of memory.
-    Memory,
-}
+use dg_model::{Change, Event, REASON_FORM};
+use dg_now::{Now, PrepareFault};
+use std::alloc::{AllocError, Global};
 
-impl From<AllocError> for PrepareFault {
-    ghost from_gives = { λ _ fault. fault ≡ Memory };
-
-    fn from(_: AllocError) -> PrepareFault {
-        PrepareFault::Memory
-    }
-}
-
-impl From<AllocFailed<Event>> for PrepareFault {
-    ghost from_gives = { λ _ fault. fault ≡ Memory };
-
-    fn from(_: AllocFailed<Event>) -> PrepareFault {
-        PrepareFault::Memory
-    }
-}
-
-// The event of the change, in the graph and not before the earliest instant, or the first reason
-// against it.
-fn event_of(earliest: u64, graph: &Set, change: &Change) -> Result<Event, u8>
-    ensures { result ≡ event_of earliest graph.now change.now }
+// The changes on the lines before the first that is no change.
+fn changes_in_front(alloc: Global, changes: &[Option<Change>]) -> Result<Vec<Change>, AllocError>
+    ensures { IfOk result (λ front. front.items ≡ changes_in_front changes.now) }
 {
-    if change.time < earliest {
-        return Err(REASON_TIME);
+    let mut front = Vec::with_capacity(alloc, changes.len())?;
+    for change in changes {
+        let Some(change) = change else {
+            return Ok(front);
+        };
+        front.push(*change)?;
     }
-    let body = complete(graph, &change.what)?;
-    Ok(Event {
-        time: change.time,
-        body,
-    })
+    Ok(front)
 }
 
-// The event of a line, where it has a change.
-fn event_on(earliest: u64, graph: &Set, change: &Option<Change>) -> Result<Event, u8>
-    ensures { result ≡ event_on earliest graph.now change.now }
+// The events that the changes come to as a first batch. Without a change there is none.
+fn events_of(alloc: Global, changes: &[Change]) -> Result<Vec<Event>, PrepareFault>
+    requires { length changes.now ≤ BATCH_LINES_MAX }
+    ensures done { IfOk result (λ events. batch_in [] None changes.now ≡ Ok events.items) }
+    ensures refused { IfErr result (FaultOf (batch_in [] None changes.now)) }
 {
-    match change {
-        Some(change) => event_of(earliest, graph, change),
-        None => Err(REASON_FORM),
+    if changes.is_empty() {
+        return Ok(Vec::new(alloc));
     }
+    Now::new(alloc).prepare(None, changes)
 }
 
-/// The events that the lines of a batch come to, each in the graph that those before it leave, and
-/// none before the earliest instant. A line that is no change is `None`.
+/// The events that the lines of the first batch come to, each in the graph that those before it
+/// leave. A line that is no change is `None`.
 ///
 /// `PrepareFault::BadChange` for the least line that is refused; `PrepareFault::Memory` for want of
 /// memory.
-pub fn prepare(
-    alloc: Global,
-    earliest: u64,
-    mut graph: Set,
-    changes: &[Option<Change>],
-) -> Result<Vec<Event>, PrepareFault>
-    requires { length changes.now ≤ u32.MAX }
-    ensures done { IfOk result (λ events. completed 1 earliest graph changes.now ≡ Ok events.items) }
-    ensures refused { IfErr result (FaultOf (completed 1 earliest graph changes.now)) }
+pub fn prepare(alloc: Global, changes: &[Option<Change>]) -> Result<Vec<Event>, PrepareFault>
+    requires { length changes.now ≤ BATCH_LINES_MAX }
+    ensures done { IfOk result (λ events. completed 1 0 [] changes.now ≡ Ok events.items) }
+    ensures refused { IfErr result (FaultOf (completed 1 0 [] changes.now)) }
 {
-    let mut events = Vec::with_capacity(alloc, changes.len())?;
-    let mut from = earliest;
-    let mut line: u32 = 0;
-    for change in changes {
-        line += 1;
-        let event = match event_on(from, &graph, change) {
-            Ok(event) => event,
-            Err(reason) => return Err(PrepareFault::BadChange { line, reason }),
-        };
-        apply(&mut graph, &event)?;
-        events.push(event)?;
-        from = event.time;
+    let front = changes_in_front(alloc, changes)?;
+    let events = events_of(alloc, &front)?;
+    if front.len() < changes.len() {
+        // A line that is refused for its change is told first, since it comes first.
+        return Err(PrepareFault::BadChange {
+            line: front.len() as u32 + 1,
+            reason: REASON_FORM,
+        });
     }
     Ok(events)
 }

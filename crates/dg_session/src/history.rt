@@ -1,19 +1,19 @@
 //! Reading the history of an index, and testing it.
 
-ghost use Rattle.std.specs.Prelude.{◌≡◌, ◌≤◌, ◌<◌, ◌+◌, ◌^◌, Ok, IfOk, IfErr, IfSome, IsErrOf, Some, None, ℕ, List, [], length};
+ghost use Rattle.std.specs.Prelude.{◌≡◌, ◌≤◌, ◌<◌, ◌+◌, ◌^◌, Ok, IfOk, IfErr, IfSome, IsErrOf, Some, None, ℕ, List, [], length, true};
 ghost use Rattle.std.specs.Option.{option_map};
 ghost use Rattle.dg_disk.specs.Counts.{Rose};
+ghost use Rattle.dg_model.specs.Effect.{forwards};
 ghost use Rattle.dg_model.specs.Opening.{Segment, opening};
 ghost use Rattle.dg_model.specs.Starting.{is_right, start_of};
 ghost use Rattle.dg_session.specs.Session.{IsHeldBy};
 ghost use Rattle.dg_session.specs.Started.{FirstWrong, Refuses, index_opening, started_with};
 
-use crate::graph::{apply, completes};
 use crate::piece::read_piece;
 use dg_disk::Disk;
 use dg_file::{Batch, Index, ReopenFault};
 use dg_model::{Event, StartFault};
-use dg_set::Set;
+use dg_now::Now;
 use std::alloc::{AllocError, Global};
 
 // The number of the first event of a history.
@@ -28,31 +28,39 @@ pub struct Opened {
     pub events: Vec<Event>,
 }
 
-// Whether some change comes to the event in the graph, and its time is within those of its batch.
-fn is_right(graph: &Set, batch: Batch, event: &Event) -> bool
-    ensures { (s : Segment) → s.first ≡ batch.ends.first → s.last ≡ batch.ends.last → result ≡ is_right graph.now (s, event.now) }
+// Takes the graph past the event, where some change comes to it there. Answers whether one does and
+// its time is within those of its batch.
+fn follow(current: &mut Now, batch: Batch, event: &Event) -> Result<bool, AllocError>
+    requires { current.old.pending ≡ [] }
+    ensures right { IfOk result (λ right. (s : Segment) → s.first ≡ batch.ends.first → s.last ≡ batch.ends.last
+        → right ≡ is_right current.old.graph (s, event.now)) }
+    ensures on { IfOk result (λ right. right ≡ true → current.new.graph ≡ forwards current.old.graph event.now) }
+    ensures none { current.new.pending ≡ [] }
 {
-    completes(graph, &event.body) && batch.ends.first <= event.time && event.time <= batch.ends.last
+    let is_followed = current.follow(event)?;
+    Ok(is_followed && batch.ends.first <= event.time && event.time <= batch.ends.last)
 }
 
 // The number of the first event of a batch that is not right, where they are numbered on from this
 // one. Where all are right, they lead the graph on.
 fn first_wrong(
-    graph: &mut Set,
+    current: &mut Now,
     batch: Batch,
     first: u64,
     events: &[Event],
 ) -> Result<Option<u64>, AllocError>
-    requires { first + length events.now < 2 ^ 64 }
-    ensures { IfOk result (λ wrong. (s : Segment) → s.first ≡ batch.ends.first → s.last ≡ batch.ends.last
-        → FirstWrong s first graph.old events.now wrong graph.new) }
+    requires none_pending { current.old.pending ≡ [] }
+    requires numbers { first + length events.now < 2 ^ 64 }
+    ensures wrong { IfOk result (λ wrong. (s : Segment) → s.first ≡ batch.ends.first → s.last ≡ batch.ends.last
+        → FirstWrong s first current.old.graph events.now wrong current.new.graph) }
+    ensures none { current.new.pending ≡ [] }
 {
     let mut number = first;
     for event in events {
-        if !is_right(graph, batch, event) {
+        let is_right = follow(current, batch, event)?;
+        if !is_right {
             return Ok(Some(number));
         }
-        apply(graph, event)?;
         number += 1;
     }
     Ok(None)
@@ -77,7 +85,7 @@ fn read_history<D: Disk>(
     ensures same_write_faults { D.write_faults disk.new ≡ D.write_faults disk.old }
 {
     let mut events = Vec::new(alloc);
-    let mut graph = Set::new(alloc);
+    let mut current = Now::new(alloc);
     let mut wrong = None;
     let mut piece = 0;
     index.facts();
@@ -85,7 +93,7 @@ fn read_history<D: Disk>(
         let more = read_piece(alloc, index, disk, piece, batch.events)?;
         if wrong.is_none() {
             let number = FIRST_EVENT + events.len() as u64;
-            let Ok(found) = first_wrong(&mut graph, batch, number, &more) else {
+            let Ok(found) = first_wrong(&mut current, batch, number, &more) else {
                 return Err(StartFault::Memory);
             };
             wrong = found;

@@ -17,7 +17,7 @@ ghost use Rattle.dg_session.specs.Session.{BothTold, Cuts, IsHeldBy, Moves, Stan
 ghost use Rattle.dg_session.specs.Started.{Refuses, StartsAs, index_opening};
 ghost use Rattle.dg_session.specs.declared.stop.Stop.TheVariants as stop;
 
-use crate::batch::{PrepareFault, prepare};
+use crate::batch::prepare;
 use crate::following::{Gathered, gather};
 use crate::graph::{last_instant, listing, replay_at, span};
 use crate::history::open;
@@ -32,16 +32,13 @@ use dg_model::{
     ARITY_MAX, ARITY_MIN, BodyLine, BodyLines, Columns, Command, Event, FIRST_HANDLE, Head,
     LEAF_MAX, LEAF_MIN, LIVE_HANDLES_MAX, Limits, Params, Refusal, Reply, Stands, StartFault,
 };
-use dg_set::Set;
+use dg_now::PrepareFault;
 use std::alloc::{AllocError, Global};
 use std::marker::Model;
 use std::thread::Threads;
 
 // A retrieval rests on no other graph, so its plan weighs nothing.
 const PLAN_WEIGHT: u64 = 0;
-
-// The first batch may begin at any instant.
-const EARLIEST_INSTANT: u64 = 0;
 
 // A retrieval asks for one handle.
 const HANDLES_ASKED: u32 = 1;
@@ -253,12 +250,7 @@ impl Session {
         if gathered.lacking {
             return Ok(no_memory(self.alloc));
         }
-        match prepare(
-            self.alloc,
-            EARLIEST_INSTANT,
-            Set::new(self.alloc),
-            &gathered.changes,
-        ) {
+        match prepare(self.alloc, &gathered.changes) {
             Ok(events) => self.keep(disk, events),
             Err(PrepareFault::BadChange { line, reason }) => Ok(refused(
                 self.alloc,

@@ -6,7 +6,8 @@ use dg_disk::MemoryDisk;
 use dg_io::{Lines, MemorySource};
 use dg_line::read_command;
 use dg_model::{
-    BodyLine, Column, Element, Head, Key, Limits, REASON_NODE_IN_USE, Refusal, SCRIPT_BYTES_MAX,
+    BodyLine, Column, Element, Head, Key, Limits, REASON_FORM, REASON_NODE_EXISTS,
+    REASON_NODE_IN_USE, Refusal, SCRIPT_BYTES_MAX,
 };
 use std::test::Fail;
 use std::thread::Threads;
@@ -35,6 +36,7 @@ const NODES_AND_EDGE: [BodyLine; 3] = [
 
 // The lines that follow the loads of the first test, in their order.
 const FOLLOWING: &[u8] = b"1 +node 1\n1 +node 1\n1 +edge 7 1 1 undir\n2 -node 1\n\
+    1 +node 1\n+node 2\n1 +node 1\n1 +node 1\n+node 2\n\
     10 +node 2\n20 +node 1\n30 +edge 5 1 2 dir\n50 -edge 5\n\
     60 +node 3\n70 +node 4\n";
 
@@ -73,7 +75,7 @@ fn answers_commands_over_a_file_and_again_after_a_restart(rt: HostRuntime) -> Re
         total: 4,
         last: 50,
     };
-    let first: [Case; 17] = [
+    let first: [Case; 19] = [
         (b"list 1", Head::Refused(Refusal::UnknownHandle(1)), &[]),
         (b"at 0 s", Head::Refused(Refusal::NoIndex), &[]),
         (b"load 1", Head::Refused(Refusal::NoIndex), &[]),
@@ -88,6 +90,16 @@ fn answers_commands_over_a_file_and_again_after_a_restart(rt: HostRuntime) -> Re
         (
             b"load 3",
             Head::Refused(Refusal::BadChange(3, REASON_NODE_IN_USE)),
+            &[],
+        ),
+        (
+            b"load 2",
+            Head::Refused(Refusal::BadChange(2, REASON_FORM)),
+            &[],
+        ),
+        (
+            b"load 3",
+            Head::Refused(Refusal::BadChange(2, REASON_NODE_EXISTS)),
             &[],
         ),
         (b"load 4", loaded, &[]),

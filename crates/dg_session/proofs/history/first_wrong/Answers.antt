@@ -3,8 +3,8 @@ use Rattle.dg_model.specs.declared.event.Body.TheVariants.{NodeAdded}
 use Rattle.dg_session.proofs.Wrong.{wrong_here}
 use Rattle.dg_session.proofs.history.first_wrong.Goals as goal
 
-pub returns-then-not-is_right : goal.returns-then-not-is_right
-returns-then-not-is_right c s first last more =
+pub returns-then-not-is_right-clause-wrong : goal.returns-then-not-is_right-clause-wrong
+returns-then-not-is_right-clause-wrong c s first last more =
     c.loop-event.invariant.so_far s first last more
-    ∙ wrong_here s c.loop-event.number c.loop-event.event-index c.loop-event.graph c.args.events.now (record { time = 0; body = NodeAdded 0 }) more
-    c.loop-event-test.true (sym (c.is_right.ensures s first last) ∙ c.if-not-is_right.true)
+    ∙ wrong_here s c.loop-event.number c.loop-event.event-index c.loop-event.current.graph c.args.events.now (record { time = 0; body = NodeAdded 0 }) more
+    c.loop-event-test.true (sym (c.in_ok-is_right.ensures.right s first last) ∙ c.if-not-is_right.true)

@@ -1,4 +1,4 @@
-use Rattle.std.proofs.Common.{◌≡◌, ◌+◌, ◌++◌, List, map, drop}
+use Rattle.std.proofs.Common.{◌≡◌, ◌+◌, ◌++◌, List, [], map, drop}
 use Rattle.dg_model.specs.declared.event.Event.{Event}
 use Rattle.dg_model.specs.Opening.{Segment}
 use Rattle.dg_model.specs.Starting.{first_wrong}
@@ -6,8 +6,9 @@ use Rattle.dg_session.proofs.history.first_wrong.Given as goal
 
 abbrev pub invariant-loop-event : goal.invariant-loop-event
 invariant-loop-event l = record {
+  none_pending : l.current.pending ≡ [];
   number : l.number ≡ l.first + l.event-index;
   so_far : (s : Segment) → s.first ≡ l.batch.ends.first → s.last ≡ l.batch.ends.last → (more : List (Segment × Event))
-      → first_wrong l.first l.fn.graph (map (λ (e : Event). (s, e)) l.events ++ more)
-      ≡ first_wrong l.number l.graph (map (λ (e : Event). (s, e)) (drop l.event-index l.events) ++ more);
+      → first_wrong l.first l.fn.current.graph (map (λ (e : Event). (s, e)) l.events ++ more)
+      ≡ first_wrong l.number l.current.graph (map (λ (e : Event). (s, e)) (drop l.event-index l.events) ++ more);
 }

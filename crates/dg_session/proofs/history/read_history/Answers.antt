@@ -5,6 +5,7 @@ use Rattle.dg_file.specs.Index.{IndexState}
 use Rattle.dg_model.specs.declared.fault.StartFault.{StartFault}
 use Rattle.dg_model.specs.Opening.{opening}
 use Rattle.dg_model.specs.Starting.{start_of, events_in_piece}
+use Rattle.dg_now.specs.Now.{NowState}
 use Rattle.dg_session.specs.Started.{FirstWrong, Refuses}
 use Rattle.dg_session.proofs.Pushing.{pushed}
 use Rattle.dg_session.proofs.Reading.{IsPiece, ReadSoFar, read_as, tested_as, err_is, none_is, some_is, all_right, one_wrong, piece_told, none_told, of_told, piece_tested, piece_untested, piece_refused, none_read}
@@ -15,9 +16,10 @@ pub loop-batch-init : goal.loop-batch-init
 loop-batch-init g c = record {
   same = refl;
   same_image = refl;
+  none_pending = c.new-current.ensures.pending;
   counted = omega arith;
   same_write_faults = refl;
-  read = λ image h. none_read image c.args.index.now.opening.segments c.new-graph.result c.new-events.result.items c.new-graph.ensures c.new-events.ensures.items;
+  read = λ image h. none_read image c.args.index.now.opening.segments c.new-current.result.graph c.new-events.result.items c.new-current.ensures.graph c.new-events.ensures.items;
 }
 
 pub read_piece-requires-clause-few : goal.read_piece-requires-clause-few
@@ -32,7 +34,7 @@ returns-in_err-more-clause-refused g c =
     piece_told c.args.index.now c.loop-batch.index c.loop-batch.piece c.batch.result c.in-Some.batch c.loop-batch.invariant.same c.batch.ensures c.in-Some.is in
     let due : StartFault → Type 0 = λ f. (image : List ℕ) → g.D.Disk.image c.args.disk.now ≡ Some image → Refuses f (start_of image) in
     err_is c.from_residual.result c.in_err-more.field-0.0 due c.from_residual.ensures
-    (λ image h. piece_refused image c.args.index.now.opening c.loop-batch.piece p.segment c.loop-batch.graph c.loop-batch.events.items c.loop-batch.wrong c.in_err-more.field-0.0
+    (λ image h. piece_refused image c.args.index.now.opening c.loop-batch.piece p.segment c.loop-batch.current.graph c.loop-batch.events.items c.loop-batch.wrong c.in_err-more.field-0.0
     (of_told (g.D.Disk.image c.args.disk.now) (λ image. opening image ≡ Ok c.args.index.now.opening) image c.requires h)
     (c.loop-batch.invariant.read image h) p.there
     (c.in_err-more.ensures.refused image p.segment (c.loop-batch.invariant.same_image ∙ h)
@@ -56,6 +58,10 @@ pub loop-batch-preserved : goal.loop-batch-preserved
 loop-batch-preserved g c = record {
   same = c.read_piece.ensures.same ∙ c.loop-batch.invariant.same;
   same_image = c.read_piece.ensures.same_image ∙ c.loop-batch.invariant.same_image;
+  none_pending = elim c.if-is_none.branch [
+    | then-is_none+in-Ok w ↦ ap (λ (s : NowState). s.pending) w.current-is ∙ w.first_wrong.ensures.none
+    | else-is_none w ↦ ap (λ (s : NowState). s.pending) w.current-is ∙ c.loop-batch.invariant.none_pending
+  ];
   counted = omega (arith, c.read_piece.ensures.counted, c.loop-batch.invariant.counted);
   same_write_faults = c.read_piece.ensures.same_write_faults ∙ c.loop-batch.invariant.same_write_faults;
   read = λ image h.
@@ -71,34 +77,34 @@ loop-batch-preserved g c = record {
       elim c.if-is_none.branch [
         | then-is_none+in-Ok w ↦
             let len : w.len.result ≡ length c.loop-batch.events.items = search rules in
-            let tested : FirstWrong p.segment (1 + length c.loop-batch.events.items) c.loop-batch.graph c.in_ok-more.more.items w.in-Ok.found w.first_wrong.new.graph =
-            tested_as p.segment (1 + w.len.result) (1 + length c.loop-batch.events.items) c.loop-batch.graph w.first_wrong.new.graph w.deref.result.now c.in_ok-more.more.items w.in-Ok.found
+            let tested : FirstWrong p.segment (1 + length c.loop-batch.events.items) c.loop-batch.current.graph c.in_ok-more.more.items w.in-Ok.found w.first_wrong.new.current.graph =
+            tested_as p.segment (1 + w.len.result) (1 + length c.loop-batch.events.items) c.loop-batch.current.graph w.first_wrong.new.current.graph w.deref.result.now c.in_ok-more.more.items w.in-Ok.found
             (ap (λ n. 1 + n) len) w.deref.ensures.value
-            (w.in-Ok.ensures p.segment (sym (ap (λ (b : Batch). b.ends.first) p.batch_is)) (sym (ap (λ (b : Batch). b.ends.last) p.batch_is))) in
-            read_as image c.args.index.now.opening.segments (c.loop-batch.piece + 1) w.in-Ok.found c.if-is_none.wrong w.first_wrong.new.graph c.if-is_none.graph
-            (c.loop-batch.events.items ++ c.in_ok-more.more.items) c.extend_from_slice.new.self.items w.wrong-is w.graph-is all
-            (piece_tested image c.args.index.now.opening.segments c.loop-batch.piece p.segment c.loop-batch.graph w.first_wrong.new.graph c.loop-batch.events.items c.in_ok-more.more.items w.in-Ok.found
-            (subst (λ (x : Option ℕ). ReadSoFar image c.args.index.now.opening.segments c.loop-batch.piece x c.loop-batch.graph c.loop-batch.events.items)
+            (w.in-Ok.ensures.wrong p.segment (sym (ap (λ (b : Batch). b.ends.first) p.batch_is)) (sym (ap (λ (b : Batch). b.ends.last) p.batch_is))) in
+            read_as image c.args.index.now.opening.segments (c.loop-batch.piece + 1) w.in-Ok.found c.if-is_none.wrong w.first_wrong.new.current.graph c.if-is_none.current.graph
+            (c.loop-batch.events.items ++ c.in_ok-more.more.items) c.extend_from_slice.new.self.items w.wrong-is (ap (λ (s : NowState). s.graph) w.current-is) all
+            (piece_tested image c.args.index.now.opening.segments c.loop-batch.piece p.segment c.loop-batch.current.graph w.first_wrong.new.current.graph c.loop-batch.events.items c.in_ok-more.more.items w.in-Ok.found
+            (subst (λ (x : Option ℕ). ReadSoFar image c.args.index.now.opening.segments c.loop-batch.piece x c.loop-batch.current.graph c.loop-batch.events.items)
             (none_is c.loop-batch.wrong c.is_none.result c.is_none.ensures w.if-is_none.true) (c.loop-batch.invariant.read image h)) p.there read tested)
         | else-is_none w ↦
             let n = some_is c.loop-batch.wrong c.is_none.result c.is_none.ensures w.if-is_none.false in
-            read_as image c.args.index.now.opening.segments (c.loop-batch.piece + 1) (Some n.0) c.if-is_none.wrong c.loop-batch.graph c.if-is_none.graph
-            (c.loop-batch.events.items ++ c.in_ok-more.more.items) c.extend_from_slice.new.self.items (w.wrong-is ∙ n.1) w.graph-is all
-            (piece_untested image c.args.index.now.opening.segments c.loop-batch.piece p.segment c.loop-batch.graph c.loop-batch.events.items c.in_ok-more.more.items n.0
-            (subst (λ (x : Option ℕ). ReadSoFar image c.args.index.now.opening.segments c.loop-batch.piece x c.loop-batch.graph c.loop-batch.events.items) n.1 (c.loop-batch.invariant.read image h)) p.there read)
+            read_as image c.args.index.now.opening.segments (c.loop-batch.piece + 1) (Some n.0) c.if-is_none.wrong c.loop-batch.current.graph c.if-is_none.current.graph
+            (c.loop-batch.events.items ++ c.in_ok-more.more.items) c.extend_from_slice.new.self.items (w.wrong-is ∙ n.1) (ap (λ (s : NowState). s.graph) w.current-is) all
+            (piece_untested image c.args.index.now.opening.segments c.loop-batch.piece p.segment c.loop-batch.current.graph c.loop-batch.events.items c.in_ok-more.more.items n.0
+            (subst (λ (x : Option ℕ). ReadSoFar image c.args.index.now.opening.segments c.loop-batch.piece x c.loop-batch.current.graph c.loop-batch.events.items) n.1 (c.loop-batch.invariant.read image h)) p.there read)
       ];
 }
 
 pub returns-in-Some-wrong-clause-refused : goal.returns-in-Some-wrong-clause-refused
 returns-in-Some-wrong-clause-refused g c image h =
-    one_wrong image c.args.index.now.opening c.loop-batch.piece c.loop-batch.graph c.loop-batch.events.items c.in-Some-wrong.number
+    one_wrong image c.args.index.now.opening c.loop-batch.piece c.loop-batch.current.graph c.loop-batch.events.items c.in-Some-wrong.number
     (of_told (g.D.Disk.image c.args.disk.now) (λ image. opening image ≡ Ok c.args.index.now.opening) image c.requires h)
-    (subst (λ (w : Option ℕ). ReadSoFar image c.args.index.now.opening.segments c.loop-batch.piece w c.loop-batch.graph c.loop-batch.events.items) c.in-Some-wrong.is (c.loop-batch.invariant.read image h))
+    (subst (λ (w : Option ℕ). ReadSoFar image c.args.index.now.opening.segments c.loop-batch.piece w c.loop-batch.current.graph c.loop-batch.events.items) c.in-Some-wrong.is (c.loop-batch.invariant.read image h))
     (none_told c.args.index.now c.loop-batch.index c.loop-batch.piece c.batch.result c.loop-batch.invariant.same c.batch.ensures c.in_default.is)
 
 pub returns-in-None-clause-read : goal.returns-in-None-clause-read
 returns-in-None-clause-read g c image h =
-    all_right image c.args.index.now.opening c.loop-batch.piece c.loop-batch.graph c.loop-batch.events.items
+    all_right image c.args.index.now.opening c.loop-batch.piece c.loop-batch.current.graph c.loop-batch.events.items
     (of_told (g.D.Disk.image c.args.disk.now) (λ image. opening image ≡ Ok c.args.index.now.opening) image c.requires h)
-    (subst (λ (w : Option ℕ). ReadSoFar image c.args.index.now.opening.segments c.loop-batch.piece w c.loop-batch.graph c.loop-batch.events.items) c.in-None.is (c.loop-batch.invariant.read image h))
+    (subst (λ (w : Option ℕ). ReadSoFar image c.args.index.now.opening.segments c.loop-batch.piece w c.loop-batch.current.graph c.loop-batch.events.items) c.in-None.is (c.loop-batch.invariant.read image h))
     (none_told c.args.index.now c.loop-batch.index c.loop-batch.piece c.batch.result c.loop-batch.invariant.same c.batch.ensures c.in_default.is)

@@ -14,7 +14,7 @@ use Rattle.dg_session.proofs.session.Session.load.Goals as goal
 pub keep-requires-clause-legal : goal.keep-requires-clause-legal
 keep-requires-clause-legal g c =
     let done : completed 1 0 [] c.args.gathered.changes.items ≡ Ok c.in-Ok.events.items =
-    ap (completed 1 0 []) (sym c.deref.ensures.value) ∙ ap (λ set. completed 1 0 set c.deref.result.now) (sym c.new.ensures) ∙ c.in-Ok.ensures.done in
+    ap (completed 1 0 []) (sym c.deref.ensures.value) ∙ c.in-Ok.ensures.done in
     legal_batch c.args.count c.args.gathered.read c.args.gathered.lacking c.args.gathered.changes.items c.in-Ok.events.items
     c.requires.gathered c.if-gathered.false c.requires.some c.requires.few c.if-gathered-count.false done
 
@@ -48,7 +48,7 @@ pub returns-in-Ok-clause-moves : goal.returns-in-Ok-clause-moves
 returns-in-Ok-clause-moves g c =
     let o = told_false (the_view c.self.inside) c.args.self.now (index_opening c.self.inside.index) c.has_batch.result c.self.view_is refl c.has_batch.ensures (c.in-Some-false.is ∙ ap (λ b. Some b) c.in-Some-false.field-0-test) in
     let done : completed 1 0 [] c.args.gathered.changes.items ≡ Ok c.in-Ok.events.items =
-    ap (completed 1 0 []) (sym c.deref.ensures.value) ∙ ap (λ set. completed 1 0 set c.deref.result.now) (sym c.new.ensures) ∙ c.in-Ok.ensures.done in
+    ap (completed 1 0 []) (sym c.deref.ensures.value) ∙ c.in-Ok.ensures.done in
     if_ok_weaker c.keep.result
     (λ reply. BothTold (g.D.Disk.image c.args.disk.now) (g.D.Disk.image c.keep.new.disk) (λ before after. Keeps c.in-Ok.events.items c.args.self.now before c.keep.new.self after reply))
     (λ reply. (got : List ScriptLine) → Gathers got c.args.gathered.read c.args.gathered.lacking c.args.gathered.changes.items
@@ -61,7 +61,7 @@ pub returns-in-Ok-clause-store : goal.returns-in-Ok-clause-store
 returns-in-Ok-clause-store g c =
     let o = told_false (the_view c.self.inside) c.args.self.now (index_opening c.self.inside.index) c.has_batch.result c.self.view_is refl c.has_batch.ensures (c.in-Some-false.is ∙ ap (λ b. Some b) c.in-Some-false.field-0-test) in
     let done : completed 1 0 [] c.args.gathered.changes.items ≡ Ok c.in-Ok.events.items =
-    ap (completed 1 0 []) (sym c.deref.ensures.value) ∙ ap (λ set. completed 1 0 set c.deref.result.now) (sym c.new.ensures) ∙ c.in-Ok.ensures.done in
+    ap (completed 1 0 []) (sym c.deref.ensures.value) ∙ c.in-Ok.ensures.done in
     on_err_weak c.keep.result
     (BothTold (g.D.Disk.image c.args.disk.now) (g.D.Disk.image c.keep.new.disk) (KeepsOrNot c.in-Ok.events.items c.args.self.now))
     ((got : List ScriptLine) → Gathers got c.args.gathered.read c.args.gathered.lacking c.args.gathered.changes.items
@@ -75,7 +75,7 @@ returns-in-Err-BadChange-clause-moves g c got h =
     let o = told_false (the_view c.self.inside) c.args.self.now (index_opening c.self.inside.index) c.has_batch.result c.self.view_is refl c.has_batch.ensures (c.in-Some-false.is ∙ ap (λ b. Some b) c.in-Some-false.field-0-test) in
     let e = rw c.in-Err-BadChange.field-0-is at c.in-Err-BadChange.ensures in
     let bad : completed 1 0 [] c.args.gathered.changes.items ≡ Err (c.in-Err-BadChange.line, c.in-Err-BadChange.reason) =
-    ap (completed 1 0 []) (sym c.deref.ensures.value) ∙ ap (λ set. completed 1 0 set c.deref.result.now) (sym c.new.ensures) ∙ e.refused in
+    ap (completed 1 0 []) (sym c.deref.ensures.value) ∙ e.refused in
     same_told (g.D.Disk.image c.args.disk.now) (g.D.Disk.image c.args.disk.now)
     (λ before after. Moves (command.Load c.args.count) got c.args.self.now before c.args.self.now after c.refused-in-Err-BadChange.result) refl
     (λ image. load_bad c.args.self.now image c.args.count c.args.gathered.read c.in-Err-BadChange.line c.in-Err-BadChange.reason got o.0 c.args.gathered.changes.items c.refused-in-Err-BadChange.result

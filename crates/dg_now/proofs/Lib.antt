@@ -1,0 +1,9 @@
+pub mod Standing
+pub mod Counting
+pub mod Keeping
+pub mod Writing
+pub mod Happens
+pub mod Fitting
+pub mod Leading
+pub mod Stating
+pub mod Rising

@@ -1,0 +1,14 @@
+use Rattle.std.proofs.Common.{◌≡◌, List, [], sym, subst}
+use Rattle.dg_model.specs.declared.event.Event.{Event}
+use Rattle.dg_now.specs.Happening.{Led, rewound}
+use Rattle.dg_now.proofs.Happens.{led_is_graph}
+use Rattle.dg_now.proofs.Stating.{led_none}
+use Rattle.dg_now.proofs.now.Now.commit.Goals as goal
+
+pub invariant_of-self : goal.invariant_of-self
+invariant_of-self c =
+    let held = c.self.inside.held in
+    let events = c.self.inside.pending.items in
+    let none : [] ≡ c.clear.new.self.items = sym c.clear.ensures.items in
+    subst (λ (es : List Event). Led (rewound held.set es) es held) none
+    (led_none held (led_is_graph (rewound held.set events) events held c.self.invariant))

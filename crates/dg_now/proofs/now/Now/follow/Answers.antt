@@ -1,0 +1,27 @@
+use Rattle.std.proofs.Common.{◌≡◌, List, [], sym, ap, subst, ◌∙◌}
+use Rattle.dg_model.specs.declared.event.Event.{Event}
+use Rattle.dg_model.specs.Graph.{IsGraph}
+use Rattle.dg_now.specs.Happening.{CanHappen, Led, rewound}
+use Rattle.dg_now.specs.Now.{NowState}
+use Rattle.dg_now.proofs.Fitting.{followed_still}
+use Rattle.dg_now.proofs.Happens.{led_is_graph, graph_forwards}
+use Rattle.dg_now.proofs.Stating.{led_none}
+use Rattle.dg_now.proofs.now.Now.follow.Goals as goal
+
+pub apply-requires-clause-happens : goal.apply-requires-clause-happens
+apply-requires-clause-happens c =
+    followed_still c.self.inside.held.set c.reserve.new.self.set c.args.event.now.body c.completes.result
+    c.in_ok-reserve.ensures.set c.completes.ensures c.if-not-completes.false
+
+pub invariant_of-self-2 : goal.invariant_of-self-2
+invariant_of-self-2 c =
+    let held = c.self.inside.held in
+    let events = c.self.inside.pending.items in
+    let room = c.reserve.new.self in
+    let b = c.args.event.now.body in
+    let none : events ≡ [] = ap (λ (s : NowState). s.pending) c.self.view_is ∙ c.requires.none_pending in
+    let before : IsGraph room.set = subst IsGraph (sym c.in_ok-reserve.ensures.set) (led_is_graph (rewound held.set events) events held c.self.invariant) in
+    let happens : CanHappen room.set b =
+    followed_still held.set room.set b c.completes.result c.in_ok-reserve.ensures.set c.completes.ensures c.if-not-completes.false in
+    let after : IsGraph c.apply.new.graph.set = subst IsGraph (sym c.apply.ensures.set) (graph_forwards room.set b before happens) in
+    subst (λ (es : List Event). Led (rewound c.apply.new.graph.set es) es c.apply.new.graph) (sym none) (led_none c.apply.new.graph after)

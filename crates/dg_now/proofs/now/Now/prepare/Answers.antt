@@ -1,0 +1,52 @@
+use Rattle.std.proofs.Common.{◌≡◌, sym, ap, ◌∙◌}
+use Rattle.dg_now.specs.Happening.{Led, rewound}
+use Rattle.dg_now.specs.Now.{NowState}
+use Rattle.dg_now.proofs.Stating.{led_back, led_again, held_alone, same_state}
+use Rattle.dg_now.proofs.now.Now.prepare.Goals as goal
+use Rattle.dg_now.proofs.now.Now.prepare.Goals.{After-complete_all}
+
+-- what was held is the graph, since nothing was pending
+start : (c : After-complete_all) → c.reserve.new.self.set ≡ c.args.self.now.graph
+start c =
+    c.in_ok-reserve.ensures.set
+    ∙ held_alone c.self.inside.held.set c.args.self.now.graph c.self.inside.pending.items c.args.self.now.pending
+    (ap (λ (s : NowState). s.graph) c.self.view_is) (ap (λ (s : NowState). s.pending) c.self.view_is) c.requires.none_pending
+
+-- it still is, with the events undone
+graph : (c : After-complete_all) → rewound c.complete_all.new.graph.set c.complete_all.new.events.items ≡ c.args.self.now.graph
+graph c =
+    led_back c.reserve.new.self.set c.complete_all.new.events.items c.complete_all.new.graph c.complete_all.ensures.led ∙ start c
+
+led : (c : After-complete_all)
+    → Led (rewound c.complete_all.new.graph.set c.complete_all.new.events.items) c.complete_all.new.events.items c.complete_all.new.graph
+led c = led_again c.reserve.new.self.set c.complete_all.new.events.items c.complete_all.new.graph c.complete_all.ensures.led
+
+pub invariant_of-self-in-Err : goal.invariant_of-self-in-Err
+invariant_of-self-in-Err c = led (goal.at.invariant_of-self-in-Err c).After-complete_all
+
+pub invariant_of-self-in-Ok : goal.invariant_of-self-in-Ok
+invariant_of-self-in-Ok c = led (goal.at.invariant_of-self-in-Ok c).After-complete_all
+
+pub invariant_of-self-in-Err-from_slice : goal.invariant_of-self-in-Err-from_slice
+invariant_of-self-in-Err-from_slice c = led (goal.at.invariant_of-self-in-Err-from_slice c).After-complete_all
+
+pub returns-in-Ok-clause-same_graph : goal.returns-in-Ok-clause-same_graph
+returns-in-Ok-clause-same_graph c = graph (goal.at.returns-in-Ok-clause-same_graph c).After-complete_all
+
+pub returns-in-Err-clause-same_graph : goal.returns-in-Err-clause-same_graph
+returns-in-Err-clause-same_graph c = c.abandon.ensures.graph ∙ graph (goal.at.returns-in-Err-clause-same_graph c).After-complete_all
+
+pub returns-in-Err-clause-err : goal.returns-in-Err-clause-err
+returns-in-Err-clause-err c =
+    same_state c.abandon.new.self c.args.self.now
+    (c.abandon.ensures.graph ∙ graph (goal.at.returns-in-Err-clause-err c).After-complete_all) (c.abandon.ensures.none ∙ sym c.requires.none_pending)
+
+pub returns-in-Err-from_slice-clause-same_graph : goal.returns-in-Err-from_slice-clause-same_graph
+returns-in-Err-from_slice-clause-same_graph c =
+    c.abandon-in-Err-from_slice.ensures.graph ∙ graph (goal.at.returns-in-Err-from_slice-clause-same_graph c).After-complete_all
+
+pub returns-in-Err-from_slice-clause-err : goal.returns-in-Err-from_slice-clause-err
+returns-in-Err-from_slice-clause-err c =
+    same_state c.abandon-in-Err-from_slice.new.self c.args.self.now
+    (c.abandon-in-Err-from_slice.ensures.graph ∙ graph (goal.at.returns-in-Err-from_slice-clause-err c).After-complete_all)
+    (c.abandon-in-Err-from_slice.ensures.none ∙ sym c.requires.none_pending)

@@ -1,0 +1,40 @@
+ghost use Rattle.std.specs.Prelude.{◌≡◌};
+ghost use Rattle.dg_now.specs.declared.fault.FromFault.TheVariants as from;
+ghost use Rattle.dg_now.specs.declared.fault.PrepareFault.TheVariants as prepare;
+
+use std::alloc::AllocError;
+
+/// Why a set is not taken as the current graph.
+#[derive(Clone, Copy, Debug, PartialEq, Eq)]
+pub enum FromFault {
+    /// The set is no graph: an element lacks what it needs, or two elements stand at one place.
+    NotGraph,
+    /// Want of memory.
+    Memory,
+}
+
+/// Why the changes of a batch come to no events.
+#[derive(Clone, Copy, Debug, PartialEq, Eq)]
+pub enum PrepareFault {
+    /// The least line that is refused, from 1, and the first reason against it, one of the constants
+    /// `REASON_..` of `dg_model`.
+    BadChange { line: u32, reason: u8 },
+    /// Want of memory.
+    Memory,
+}
+
+impl From<AllocError> for FromFault {
+    ghost from_gives = { λ _ fault. fault ≡ from.Memory };
+
+    fn from(_: AllocError) -> FromFault {
+        FromFault::Memory
+    }
+}
+
+impl From<AllocError> for PrepareFault {
+    ghost from_gives = { λ _ fault. fault ≡ prepare.Memory };
+
+    fn from(_: AllocError) -> PrepareFault {
+        PrepareFault::Memory
+    }
+}

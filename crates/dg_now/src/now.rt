@@ -1,0 +1,271 @@
+ghost use Rattle.std.specs.Prelude.{◌≡◌, ◌<◌, ◌≤◌, ◌^◌, ◌&&◌, not, is_some, [], Ok, length, IfOk, IfErr, IfSome, OnErr, IsErrOf, if◌then◌else◌};
+ghost use Rattle.dg_model.specs.Completion.{has_node, edge_of, node_value, edge_value, completes};
+ghost use Rattle.dg_model.specs.Effect.{forwards};
+ghost use Rattle.dg_model.specs.Graph.{IsGraph, has_needs};
+ghost use Rattle.dg_model.specs.Elements.{IsSet};
+ghost use Rattle.dg_model.specs.Replay.{replay_from};
+ghost use Rattle.dg_now.specs.Places.{place_of, at};
+ghost use Rattle.dg_now.specs.Now.{NowState, earliest_after, batch_in, FaultOf, ends_in};
+
+use crate::completing::{completes, edge_of, has_node, value_in};
+use crate::fault::{FromFault, PrepareFault};
+use crate::held::Held;
+use crate::listing::{first_changes, push, stood_at};
+use crate::moving::{apply, complete_all, undo};
+use crate::place::{Place, before_in, place_in, place_of};
+use dg_model::{Change, Element, Event};
+use dg_set::Set;
+use std::alloc::{AllocError, Global};
+use std::marker::Model;
+
+/// The current graph, and the events of a batch that are pending.
+///
+/// What is held is the graph with the pending events, so `commit` only forgets them, `abandon` undoes
+/// them, and a look-up passes over them first.
+#[derive(Drop)]
+pub struct Now {
+    held: Held,
+    pending: Vec<Event>,
+}
+
+impl Model for Now {
+    ghost use Rattle.dg_now.specs.Now.{NowState};
+    ghost use Rattle.dg_now.specs.Happening.{rewound, Led};
+
+    ghost Value = { NowState };
+
+    ghost view = { λ now. record { graph = rewound now.held.set now.pending.items; pending = now.pending.items } };
+
+    ghost invariant = { λ now. Led (rewound now.held.set now.pending.items) now.pending.items now.held };
+}
+
+impl Now {
+    /// The empty graph, and nothing pending. Takes no memory yet.
+    pub fn new(alloc: Global) -> Now
+        ensures graph { result.graph ≡ [] }
+        ensures pending { result.pending ≡ [] }
+    {
+        Now {
+            held: Held::new(alloc),
+            pending: Vec::new(alloc),
+        }
+    }
+
+    /// The graph of these elements, and nothing pending. `FromFault::NotGraph` where they are no graph:
+    /// an element lacks what it needs, or two elements stand at one place; `FromFault::Memory` for want
+    /// of memory.
+    pub fn from_set(alloc: Global, set: &Set) -> Result<Now, FromFault>
+        ensures ok { IfOk result (λ now. (now.graph ≡ set.now) × (now.pending ≡ []) × IsGraph set.now) }
+        ensures not_graph { IsErrOf result FromFault.NotGraph → IsGraph set.now → ⊥ }
+    {
+        let held = hold(alloc, set.items())?;
+        Ok(Now {
+            held,
+            pending: Vec::new(alloc),
+        })
+    }
+
+    /// What holds of each current graph. Does nothing.
+    pub fn facts(&self)
+        ensures { IsGraph self.now.graph }
+    {
+        let _ = &self.held;
+    }
+
+    /// Completes the changes of a batch to events, each in the graph that those before it leave, none
+    /// before the one before it and all after the time `last` of the last event of the history. The
+    /// events are pending then.
+    ///
+    /// `PrepareFault::BadChange` for the least line that is refused; `PrepareFault::Memory` for want of
+    /// memory. After an `Err` nothing has changed.
+    pub fn prepare(
+        &mut self,
+        last: Option<u64>,
+        changes: &[Change],
+    ) -> Result<Vec<Event>, PrepareFault>
+        requires none_pending { self.old.pending ≡ [] }
+        requires some { 1 ≤ length changes.now }
+        requires few { length changes.now ≤ 1048576 }
+        requires last { IfSome last (λ t. t < 2 ^ 63) }
+        ensures ok { IfOk result (λ events. batch_in self.old.graph last changes.now ≡ Ok events.items) }
+        ensures pending { IfOk result (λ events. self.new.pending ≡ events.items) }
+        ensures bad { IfErr result (FaultOf (batch_in self.old.graph last changes.now)) }
+        ensures same_graph { self.new.graph ≡ self.old.graph }
+        ensures err { OnErr result (self.new ≡ self.old) }
+    {
+        let earliest = earliest_after(last);
+        self.held.reserve(changes.len())?;
+        self.pending.reserve(changes.len())?;
+        if let Err((line, reason)) = complete_all(
+            &mut self.held,
+            &mut self.pending,
+            earliest,
+            changes,
+        ) {
+            self.abandon();
+            return Err(PrepareFault::BadChange { line, reason });
+        }
+        match Vec::from_slice(*self.pending.allocator(), &self.pending) {
+            Ok(events) => Ok(events),
+            Err(_) => {
+                self.abandon();
+                Err(PrepareFault::Memory)
+            }
+        }
+    }
+
+    /// Takes the graph past the pending events. Takes no memory.
+    pub fn commit(&mut self)
+        ensures graph { self.new.graph ≡ replay_from self.old.graph self.old.pending }
+        ensures none { self.new.pending ≡ [] }
+    {
+        self.pending.clear();
+    }
+
+    /// Forgets the pending events. Takes no memory.
+    pub fn abandon(&mut self)
+        ensures graph { self.new.graph ≡ self.old.graph }
+        ensures none { self.new.pending ≡ [] }
+    {
+        undo(&mut self.held, &mut self.pending);
+    }
+
+    /// Takes the graph past the event, where some change comes to it there, and answers whether one does.
+    /// An `Err` says that memory ran out, and nothing has changed.
+    pub fn follow(&mut self, event: &Event) -> Result<bool, AllocError>
+        requires none_pending { self.old.pending ≡ [] }
+        ensures went { IfOk result (λ went. went ≡ completes self.old.graph event.now.body) }
+        ensures on { IfOk result (λ went. self.new.graph ≡ (if went then forwards self.old.graph event.now else self.old.graph)) }
+        ensures none { self.new.pending ≡ [] }
+        ensures err { OnErr result (self.new ≡ self.old) }
+    {
+        if !completes(&self.held, &event.body) {
+            return Ok(false);
+        }
+        self.held.reserve(1)?;
+        apply(&mut self.held, event);
+        Ok(true)
+    }
+
+    // What stands at the place in the graph: what stood there before the first pending event that
+    // changes it, or what is held there.
+    fn element_at(&self, place: Place) -> Option<Element>
+        ensures { result ≡ at self.now.graph place }
+    {
+        for event in &self.pending {
+            if place_in(&event.body) == place {
+                return before_in(&event.body);
+            }
+        }
+        self.held.element_at(place)
+    }
+
+    /// Whether the node is in the graph.
+    pub fn node(&self, id: u64) -> bool
+        ensures { result ≡ has_node self.now.graph id }
+    {
+        self.element_at(Place::Node(id)).is_some()
+    }
+
+    /// The source and the destination of the edge of this id, and whether it is directed; `None` where
+    /// no such edge is in the graph.
+    pub fn edge(&self, id: u64) -> Option<(u64, u64, bool)>
+        ensures { result ≡ ends_in (edge_of self.now.graph id) }
+    {
+        match self.element_at(Place::Edge(id)) {
+            Some(
+                Element::Edge {
+                    src,
+                    dst,
+                    directed,
+                    ..
+                },
+            ) => Some((src, dst, directed)),
+            _ => None,
+        }
+    }
+
+    /// The value of the key at the node, by their numbers in the history's list of names.
+    pub fn node_value(&self, id: u64, key: u32) -> Option<u32>
+        ensures { result ≡ node_value self.now.graph id key }
+    {
+        value_in(self.element_at(Place::NodeValue(id, key)))
+    }
+
+    /// The value of the key at the edge.
+    pub fn edge_value(&self, id: u64, key: u32) -> Option<u32>
+        ensures { result ≡ edge_value self.now.graph id key }
+    {
+        value_in(self.element_at(Place::EdgeValue(id, key)))
+    }
+
+    /// The elements of the graph. An `Err` says that memory ran out.
+    pub fn to_set(&self) -> Result<Set, AllocError>
+        ensures { IfOk result (λ set. set ≡ self.now.graph) }
+    {
+        // What stands somewhere has a cell.
+        self.held.facts();
+        let alloc = *self.pending.allocator();
+        let first = first_changes(alloc, &self.pending)?;
+        let mut elements = Vec::with_capacity(alloc, self.held.len())?;
+        for index in 0..self.held.len() {
+            let element = stood_at(&first, &self.held, self.held.place(index));
+            push(&mut elements, element)?;
+        }
+        elements.sort_unstable();
+        match Set::from_sorted(elements) {
+            Ok(set) => Ok(set),
+            Err(_) => Err(AllocError),
+        }
+    }
+}
+
+// The earliest time of a batch after the last one.
+fn earliest_after(last: Option<u64>) -> u64
+    requires { IfSome last (λ t. t < 2 ^ 63) }
+    ensures { result ≡ earliest_after last }
+{
+    match last {
+        None => 0,
+        Some(last) => last + 1,
+    }
+}
+
+// Whether what the element needs is held.
+fn is_fed(held: &Held, element: &Element) -> bool
+    ensures { result ≡ has_needs held.now.set element.now }
+{
+    match *element {
+        Element::Node { .. } => true,
+        Element::Edge { src, dst, .. } => has_node(held, src) && has_node(held, dst),
+        Element::NodeAttr { id, .. } => has_node(held, id),
+        Element::EdgeAttr { id, .. } => edge_of(held, id).is_some(),
+    }
+}
+
+// Whether nothing stands at the element's place, and what it needs is held.
+fn has_room_for(held: &Held, element: &Element) -> bool
+    ensures { result ≡ (not (is_some (at held.now.set (place_of element.now))) && has_needs held.now.set element.now) }
+{
+    held.element_at(place_of(element)).is_none() && is_fed(held, element)
+}
+
+// The graph of these elements, which rise strictly. What an element needs stands before it in their
+// order, so it is held already.
+fn hold(alloc: Global, elements: &[Element]) -> Result<Held, FromFault>
+    requires { IsSet elements.now }
+    ensures ok { IfOk result (λ held. (held.set ≡ elements.now) × IsGraph elements.now) }
+    ensures not_graph { IsErrOf result FromFault.NotGraph → IsGraph elements.now → ⊥ }
+{
+    let mut held = Held::new(alloc);
+    held.reserve(elements.len())?;
+    for element in elements {
+        if !has_room_for(&held, element) {
+            return Err(FromFault::NotGraph);
+        }
+        held.put(*element);
+    }
+    // What is held is a graph.
+    held.facts();
+    Ok(held)
+}
