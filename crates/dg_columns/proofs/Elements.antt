@@ -94,13 +94,13 @@ pub bind_ok : {A B : Type 0} (r : Result A ℕ) (f : A → Result B ℕ) (y : B)
 bind_ok (Ok x) f y e = (x, refl, e)
 bind_ok (Err d) f y e = absurd cc
 
-abbrev done : {A : Type 0} → A → Result A ℕ
+abbrev pub done : {A : Type 0} → A → Result A ℕ
 done x = Ok x
 
 pub ok_is : {A : Type 0} (x y : A) → done x ≡ done y → x ≡ y
 ok_is x y e = cc
 
-elements_are : (xs ys : List Element) (m n : ℕ) → done {A = List Element × ℕ} (xs, m) ≡ done {A = List Element × ℕ} (ys, n) → xs ≡ ys
+pub elements_are : (xs ys : List Element) (m n : ℕ) → done {A = List Element × ℕ} (xs, m) ≡ done {A = List Element × ℕ} (ys, n) → xs ≡ ys
 elements_are xs ys m n e = ap (λ (p : List Element × ℕ). p.0) (ok_is {A = List Element × ℕ} (xs, m) (ys, n) e)
 
 -- a test that did not fail
@@ -108,7 +108,7 @@ pub passed : {A : Type 0} (b : Bool) (p : ℕ) (x y : A) → cond b (Ok x) (Err 
 passed true p x y e = (refl, cc)
 passed false p x y e = absurd cc
 
-both : (a b : Bool) → (a && not b) ≡ true → (a ≡ true) × (b ≡ false)
+pub both : (a b : Bool) → (a && not b) ≡ true → (a ≡ true) × (b ≡ false)
 both true true e = absurd cc
 both true false e = (refl, refl)
 both false b e = absurd cc

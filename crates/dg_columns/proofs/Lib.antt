@@ -2,6 +2,7 @@ pub mod Steps
 pub mod Loops
 pub mod Written
 pub mod Elements
+pub mod Beside
 pub mod Fields
 pub mod OneSpelling
 pub mod ReadBack

@@ -1,6 +1,6 @@
 //! Reading a delta's column.
 
-ghost use Rattle.std.specs.Prelude.{◌≡◌, ◌+◌, ◌≤◌, ◌==◌, ◌&&◌, not, length, Ok, IfOk, IfErr, OnOk};
+ghost use Rattle.std.specs.Prelude.{◌≡◌, ◌+◌, ◌≤◌, ◌==◌, ◌&&◌, not, length, Ok, IfOk, IfErr, IfSome, OnOk};
 ghost use Rattle.dg_model.specs.Elements.{element_cmp};
 ghost use Rattle.dg_model.specs.Reading.{four_bytes, element_at, element_size, rises_from, elements_at, delta_in};
 ghost use Rattle.dg_delta.specs.Deltas.{AreApart};
@@ -197,6 +197,23 @@ fn delta_of(minus: Set, plus: Set) -> Delta
     }
 }
 
+// The delta, where nothing is wrong with the bytes: each of its two sets is read by itself, and one
+// walk shows that they share no element. `None` where something is wrong, or memory ran out.
+fn sound_delta(alloc: Global, bytes: &[u8], col: Column, names: u32) -> Option<Delta>
+    ensures { IfSome result (λ d. delta_in col names bytes.now ≡ Ok d) }
+{
+    let none = Set::new(alloc);
+    let out_count = u32_at(bytes, 0).ok()?;
+    let (minus, at) = set_at(alloc, bytes, COUNT_SIZE, out_count, col, names, &none).ok()?;
+    let in_count = in_count_at(bytes, at, out_count).ok()?;
+    let (plus, end) = set_at(alloc, bytes, at + COUNT_SIZE, in_count, col, names, &none).ok()?;
+    if end == bytes.len() {
+        Delta::from_sets(minus, plus)
+    } else {
+        None
+    }
+}
+
 /// The delta of one column, in a history with so many names. `Damaged` gives the place of the first
 /// byte of the first field that does not fit in the bytes or breaks a rule of the format
 /// (docs/FORMATS.md), `Memory` says that memory ran out.
@@ -207,6 +224,10 @@ pub fn read_delta(alloc: Global, bytes: &[u8], col: Column, names: u32) -> Resul
     if bytes.is_empty() {
         return Ok(Delta::new(alloc));
     }
+    if let Some(delta) = sound_delta(alloc, bytes, col, names) {
+        return Ok(delta);
+    }
+    // Something is wrong: the first place of it is looked for.
     let none = Set::new(alloc);
     let out_count = u32_at(bytes, 0)?;
     let (minus, at) = set_at(alloc, bytes, COUNT_SIZE, out_count, col, names, &none)?;

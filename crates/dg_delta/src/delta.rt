@@ -67,8 +67,7 @@ impl Delta {
     pub fn between(a: &Set, b: &Set) -> Result<Delta, AllocError>
         ensures { IfOk result (λ d. d ≡ between a.now b.now) }
     {
-        let minus = a.minus(b)?;
-        let plus = b.minus(a)?;
+        let (minus, plus) = a.differences(b)?;
         Ok(Delta::of(minus, plus))
     }
 
@@ -77,7 +76,7 @@ impl Delta {
     pub fn apply(&self, set: &Set) -> Result<Set, AllocError>
         ensures { IfOk result (λ s. s ≡ applied self.now set.now) }
     {
-        set.minus(&self.minus)?.union(&self.plus)
+        set.replaced(&self.minus, &self.plus)
     }
 
     /// This delta and then `later`, as one: of each element `later` decides where it names it, and
@@ -86,8 +85,8 @@ impl Delta {
         ensures composes { IfOk result (λ d. Composes d (self.now ∷ later.now ∷ [])) }
         ensures sets { IfOk result (λ d. d ≡ composed self.now later.now) }
     {
-        let minus = self.minus.minus(&later.plus)?.union(&later.minus)?;
-        let plus = self.plus.minus(&later.minus)?.union(&later.plus)?;
+        let minus = self.minus.replaced(&later.plus, &later.minus)?;
+        let plus = self.plus.replaced(&later.minus, &later.plus)?;
         Ok(Delta::of(minus, plus))
     }
 

@@ -1,7 +1,8 @@
 -- How a merge makes the union, the meeting and the difference of two sets.
 use Rattle.std.proofs.Common.{◌≡◌, ℕ, suc, zero, ◌+◌, ◌<◌, ◌≤◌, Bool, true, false, cond, List, [], ◌∷◌, ◌++◌, length, drop, get_or, refl, sym, ap, ◌∙◌, subst, IsTrue, filter, ◌⊎◌, inl, inr}
+use Rattle.std.specs.declared.cmp.Ordering.{Ordering}
 use Rattle.std.specs.declared.cmp.Ordering.TheVariants.{Less, Equal, Greater}
-use Rattle.std.specs.Ordering.{is_lt}
+use Rattle.std.specs.Ordering.{is_lt, ordering_reverse}
 use Rattle.std.proofs.lemmas.Cmp.{tied_itself}
 use Rattle.std.proofs.lemmas.List.{drop_more, drop_all, append_assoc, append-nil}
 use Rattle.dg_model.specs.declared.element.Element.{Element}
@@ -12,12 +13,12 @@ use Rattle.dg_set.proofs.Places.{put-first, put-past}
 
 -- ---- the first step of a merge
 
-IsBelowFirst-unioned : (z : Element) (a b : List Element) → IsBelowFirst z a → IsBelowFirst z b → IsSet b → IsBelowFirst z (unioned a b)
+pub IsBelowFirst-unioned : (z : Element) (a b : List Element) → IsBelowFirst z a → IsBelowFirst z b → IsSet b → IsBelowFirst z (unioned a b)
 IsBelowFirst-unioned z a [] h g s = h
 IsBelowFirst-unioned z a (x ∷ b) h g s =
     IsBelowFirst-put z x (unioned a b) g (IsBelowFirst-unioned z a b h (IsBelowFirst-trans z x b g s.0) s.1)
 
-unioned_less : (x : Element) (a b : List Element) → IsBelowFirst x b → IsSet b → unioned (x ∷ a) b ≡ x ∷ unioned a b
+pub unioned_less : (x : Element) (a b : List Element) → IsBelowFirst x b → IsSet b → unioned (x ∷ a) b ≡ x ∷ unioned a b
 unioned_less x a [] h s = refl
 unioned_less x a (y ∷ b) h s =
     ap (put y) (unioned_less x a b (IsBelowFirst-trans x y b h s.0) s.1) ∙ put-past y x (unioned a b) h
@@ -25,7 +26,7 @@ unioned_less x a (y ∷ b) h s =
 put-itself : (x : Element) (set : List Element) → put x (x ∷ set) ≡ x ∷ set
 put-itself x set = ap (λ o. put_by o x x set) (tied_itself element_total x)
 
-unioned_equal : (x : Element) (a b : List Element) → IsSet (x ∷ b) → unioned (x ∷ a) (x ∷ b) ≡ x ∷ unioned a b
+pub unioned_equal : (x : Element) (a b : List Element) → IsSet (x ∷ b) → unioned (x ∷ a) (x ∷ b) ≡ x ∷ unioned a b
 unioned_equal x a b s = ap (put x) (unioned_less x a b s.0 s.1) ∙ put-itself x (unioned a b)
 
 unioned_greater : (x y : Element) (a b : List Element) → IsTrue (before y x) → IsSet (y ∷ b) → unioned (x ∷ a) (y ∷ b) ≡ y ∷ unioned (x ∷ a) b
@@ -41,7 +42,7 @@ skipped f y b (x ∷ xs) h s =
     λ i. cond (f (e i)) (x ∷ rest i) (rest i)
 
 -- x is not in the other set, which begins with a greater one
-kept_less : (f : Bool → Bool) (x : Element) (a b : List Element) → IsBelowFirst x b → IsSet b → filter (λ z. f (has b z)) (x ∷ a) ≡ cond (f false) (x ∷ filter (λ z. f (has b z)) a) (filter (λ z. f (has b z)) a)
+pub kept_less : (f : Bool → Bool) (x : Element) (a b : List Element) → IsBelowFirst x b → IsSet b → filter (λ z. f (has b z)) (x ∷ a) ≡ cond (f false) (x ∷ filter (λ z. f (has b z)) a) (filter (λ z. f (has b z)) a)
 kept_less f x a b h s =
     ap (λ t. cond (f t) (x ∷ filter (λ z. f (has b z)) a) (filter (λ z. f (has b z)) a)) (lacks_below x b h s)
 
@@ -51,18 +52,22 @@ kept_equal f x a b s =
     let rest = skipped f x b a s.0 s.1 in
     λ i. cond (f (e i)) (x ∷ rest i) (rest i)
 
+-- how the second element stands to the first
+pub turned : (x y : Element) (o : Ordering) → element_cmp x y ≡ o → element_cmp y x ≡ ordering_reverse o
+turned x y o e = element_total.antisymm y x ∙ ap ordering_reverse e
+
 -- ---- a step of a merge at places
 
-IsSet-drop : (n : ℕ) (xs : List Element) → IsSet xs → IsSet (drop n xs)
+pub IsSet-drop : (n : ℕ) (xs : List Element) → IsSet xs → IsSet (drop n xs)
 IsSet-drop zero xs s = s
 IsSet-drop (suc n) [] s = tt
 IsSet-drop (suc n) (x ∷ xs) s = IsSet-drop n xs s.1
 
 -- x is below what is left of the other set
-below_rest : (x : Element) (xs : List Element) (i : ℕ) (d : Element) → i < length xs → IsTrue (before x (get_or xs i d)) → IsBelowFirst x (drop i xs)
+pub below_rest : (x : Element) (xs : List Element) (i : ℕ) (d : Element) → i < length xs → IsTrue (before x (get_or xs i d)) → IsBelowFirst x (drop i xs)
 below_rest x xs i d h e = subst (IsBelowFirst x) (sym (drop_more xs i d h)) e
 
-rest_is_set : (xs : List Element) (i : ℕ) (d : Element) → i < length xs → IsSet xs → IsSet (get_or xs i d ∷ drop (i + 1) xs)
+pub rest_is_set : (xs : List Element) (i : ℕ) (d : Element) → i < length xs → IsSet xs → IsSet (get_or xs i d ∷ drop (i + 1) xs)
 rest_is_set xs i d h s = subst IsSet (drop_more xs i d h) (IsSet-drop i xs s)
 
 module _ (left right : List Element) (i j : ℕ) (d : Element) (left_set : IsSet left) (right_set : IsSet right) (left_in : i < length left) (right_in : j < length right) where
@@ -126,7 +131,7 @@ pushed out new rest whole to_come x push written next =
 pub passed : (out rest whole to_come : List Element) → out ++ to_come ≡ whole → to_come ≡ rest → out ++ rest ≡ whole
 passed out rest whole to_come written next = ap (λ l. out ++ l) (sym next) ∙ written
 
-unioned_none : (b : List Element) → IsSet b → unioned [] b ≡ b
+pub unioned_none : (b : List Element) → IsSet b → unioned [] b ≡ b
 unioned_none [] s = refl
 unioned_none (x ∷ b) s = ap (put x) (unioned_none b s.1) ∙ put-first x b s.0
 

@@ -1,8 +1,10 @@
 -- What a search in a set, and a test of the order of a list, say.
-use Rattle.std.specs.Prelude.{ℕ, ◌≡◌, ◌<◌, ◌≤◌, ◌-◌, true, false, List, length, take, IsFalse, slice_index_or}
+use Rattle.std.specs.Prelude.{ℕ, ◌≡◌, ◌<◌, ◌≤◌, ◌-◌, true, false, List, [], ◌∷◌, length, take, IsFalse, slice_index_or}
 use Rattle.std.specs.List.{insert, remove}
+use Rattle.std.specs.declared.cmp.Ordering.{Ordering}
+use Rattle.std.specs.declared.cmp.Ordering.TheVariants.{Less}
 use Rattle.dg_model.specs.declared.element.Element.{Element}
-use Rattle.dg_model.specs.Elements.{IsSet, before, has, put, take_out}
+use Rattle.dg_model.specs.Elements.{element_cmp, IsSet, before, has, put, take_out}
 
 -- the element is in the set, at this place
 pub record StandsAt (x : Element) (set : List Element) (at : ℕ) : Type 0 where
@@ -26,3 +28,8 @@ pub record IsFirstFault (items : List Element) (at : ℕ) : Type 0 where
   pub within : at < length items
   pub rises : IsSet (take at items)
   pub fault : (d : Element) → IsFalse (before (slice_index_or items (at - 1) d) (slice_index_or items at d))
+
+-- how the element stands to the first of the items; it stands before the end of them
+abbrev pub first_cmp : Element → List Element → Ordering
+first_cmp x [] = Less
+first_cmp x (y ∷ ys) = element_cmp x y

@@ -4,6 +4,7 @@
 
 mod merge;
 mod place;
+mod replace;
 mod set;
 #[cfg(test)]
 mod tests;

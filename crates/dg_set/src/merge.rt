@@ -99,3 +99,40 @@ pub(crate) fn minus(
     kept.extend_from_slice(&left[i..])?;
     Ok(kept)
 }
+
+/// The items of `left` that `right` does not have, and those of `right` that `left` does not have.
+/// An `Err` says that memory ran out.
+pub(crate) fn differences(
+    alloc: Global,
+    left: &[Element],
+    right: &[Element],
+) -> Result<(Vec<Element>, Vec<Element>), AllocError>
+    requires left_set { IsSet left.now }
+    requires right_set { IsSet right.now }
+    ensures first { IfOk result (λ both. both.0.items ≡ without_all left.now right.now) }
+    ensures second { IfOk result (λ both. both.1.items ≡ without_all right.now left.now) }
+{
+    let mut first = Vec::with_capacity(alloc, left.len())?;
+    let mut second = Vec::with_capacity(alloc, right.len())?;
+    let mut i = 0;
+    let mut j = 0;
+    while i < left.len() && j < right.len() {
+        match left[i].cmp(&right[j]) {
+            Ordering::Less => {
+                first.push(left[i])?;
+                i += 1;
+            }
+            Ordering::Equal => {
+                i += 1;
+                j += 1;
+            }
+            Ordering::Greater => {
+                second.push(right[j])?;
+                j += 1;
+            }
+        }
+    }
+    first.extend_from_slice(&left[i..])?;
+    second.extend_from_slice(&right[j..])?;
+    Ok((first, second))
+}

@@ -3,8 +3,8 @@ ghost use Rattle.dg_model.specs.Elements.{IsSet, has, put, take_out};
 ghost use Rattle.dg_model.specs.Sets.{unioned, met, without_all};
 ghost use Rattle.dg_set.specs.Places.{IsFirstFault};
 
-use crate::merge;
 use crate::place::{first_fault, place};
+use crate::{merge, replace};
 use dg_model::Element;
 use std::alloc::{AllocError, Global};
 use std::marker::Model;
@@ -122,6 +122,30 @@ impl Set {
         ensures { IfOk result (λ set. set ≡ without_all self.now other.now) }
     {
         let items = merge::minus(*self.items.allocator(), &self.items, &other.items)?;
+        Ok(Set { items })
+    }
+
+    /// The elements that `other` does not have, and those of `other` that this set does not have. An
+    /// `Err` says that memory ran out.
+    pub fn differences(&self, other: &Set) -> Result<(Set, Set), AllocError>
+        ensures first { IfOk result (λ sets. sets.0 ≡ without_all self.now other.now) }
+        ensures second { IfOk result (λ sets. sets.1 ≡ without_all other.now self.now) }
+    {
+        let (first, second) = merge::differences(
+            *self.items.allocator(),
+            &self.items,
+            &other.items,
+        )?;
+        Ok((Set { items: first }, Set { items: second }))
+    }
+
+    /// This set without the elements of `out`, and with those of `into`. An `Err` says that memory
+    /// ran out.
+    pub fn replaced(&self, out: &Set, into: &Set) -> Result<Set, AllocError>
+        ensures { IfOk result (λ set. set ≡ unioned (without_all self.now out.now) into.now) }
+    {
+        let alloc = *self.items.allocator();
+        let items = replace::replaced(alloc, &self.items, &out.items, &into.items)?;
         Ok(Set { items })
     }
 

@@ -72,6 +72,95 @@ const CASES: [Case; 6] = [
     },
 ];
 
+struct Replacing {
+    set: &'static [Element],
+    out: &'static [Element],
+    into: &'static [Element],
+    replaced: &'static [Element],
+}
+
+const REPLACING: [Replacing; 6] = [
+    // D is in neither other set; B is lost; A is there already; C is new.
+    Replacing {
+        set: &[A, B, D],
+        out: &[B],
+        into: &[A, C],
+        replaced: &[A, C, D],
+    },
+    // What is in both other sets is there afterwards, whether or not it was there before.
+    Replacing {
+        set: &[A, C],
+        out: &[A, B],
+        into: &[A, B],
+        replaced: &[A, B, C],
+    },
+    // Nothing of what is to be lost is there.
+    Replacing {
+        set: &[B, D],
+        out: &[A, C],
+        into: &[],
+        replaced: &[B, D],
+    },
+    Replacing {
+        set: &[],
+        out: &[A, B],
+        into: &[C, D],
+        replaced: &[C, D],
+    },
+    Replacing {
+        set: &[A, B, C, D],
+        out: &[A, B, C, D],
+        into: &[],
+        replaced: &[],
+    },
+    Replacing {
+        set: &[C, D],
+        out: &[],
+        into: &[A, B],
+        replaced: &[A, B, C, D],
+    },
+];
+
+struct Differing {
+    left: &'static [Element],
+    right: &'static [Element],
+    first: &'static [Element],
+    second: &'static [Element],
+}
+
+const DIFFERING: [Differing; 5] = [
+    Differing {
+        left: &[A, B],
+        right: &[B, C],
+        first: &[A],
+        second: &[C],
+    },
+    Differing {
+        left: &[B, D],
+        right: &[A, C],
+        first: &[B, D],
+        second: &[A, C],
+    },
+    Differing {
+        left: &[A, C, D],
+        right: &[],
+        first: &[A, C, D],
+        second: &[],
+    },
+    Differing {
+        left: &[],
+        right: &[B],
+        first: &[],
+        second: &[B],
+    },
+    Differing {
+        left: &[A, D],
+        right: &[A, D],
+        first: &[],
+        second: &[],
+    },
+];
+
 // The set of the elements, added from the last to the first.
 fn set_of(alloc: Global, elements: &[Element]) -> Result<Set, AllocError> {
     let mut set = Set::new(alloc);
@@ -94,6 +183,30 @@ fn merges_have_the_elements_of_the_rules(rt: HostRuntime) -> Result<(), Fail> {
         assert_eq!(rt; minus.items(), case.minus, "minus, row {row}");
         let copy = left.copy()?;
         assert_eq!(rt; copy.items(), case.left, "copy, row {row}");
+    }
+    Ok(())
+}
+
+#[test]
+fn a_set_loses_one_set_and_gains_another(rt: HostRuntime) -> Result<(), Fail> {
+    for (row, case) in REPLACING.iter().enumerate() {
+        let set = set_of(rt.alloc(), case.set)?;
+        let out = set_of(rt.alloc(), case.out)?;
+        let into = set_of(rt.alloc(), case.into)?;
+        let replaced = set.replaced(&out, &into)?;
+        assert_eq!(rt; replaced.items(), case.replaced, "row {row}");
+    }
+    Ok(())
+}
+
+#[test]
+fn differences_are_those_of_both_sets(rt: HostRuntime) -> Result<(), Fail> {
+    for (row, case) in DIFFERING.iter().enumerate() {
+        let left = set_of(rt.alloc(), case.left)?;
+        let right = set_of(rt.alloc(), case.right)?;
+        let (first, second) = left.differences(&right)?;
+        assert_eq!(rt; first.items(), case.first, "first, row {row}");
+        assert_eq!(rt; second.items(), case.second, "second, row {row}");
     }
     Ok(())
 }

@@ -5,5 +5,5 @@ use Rattle.dg_delta.proofs.delta.Delta.between.Goals as goal
 
 pub of-requires : goal.of-requires
 of-requires c x e =
-    ap (λ s. has s x) c.in_ok-plus.ensures
-    ∙ apart_between c.args.a.now c.args.b.now x (sym (ap (λ s. has s x) c.in_ok-minus.ensures) ∙ e)
+    ap (λ s. has s x) c.in_ok-minus.ensures.second
+    ∙ apart_between c.args.a.now c.args.b.now x (sym (ap (λ s. has s x) c.in_ok-minus.ensures.first) ∙ e)

@@ -1,0 +1,15 @@
+use Rattle.std.proofs.Common.{◌≡◌, ◌+◌, ◌-◌, ◌≤◌, ◌++◌, length}
+use Rattle.dg_model.specs.Sets.{unioned, without_all}
+use Rattle.dg_set.proofs.Replacing.{to_replace}
+use Rattle.dg_set.proofs.replace.replaced.Given as goal
+
+abbrev pub invariant-loop-i : goal.invariant-loop-i
+invariant-loop-i l = record {
+  merged : l.out.items ++ to_replace l.set l.lost l.gained l.i l.j l.k ≡ unioned (without_all l.set l.lost) l.gained;
+  set_in : l.i ≤ length l.set;
+  gained_in : l.j ≤ length l.gained;
+  lost_in : l.k ≤ length l.lost;
+}
+
+abbrev pub decreases-loop-i : goal.decreases-loop-i
+decreases-loop-i l = (length l.set - l.i) + ((length l.gained - l.j) + (length l.lost - l.k))

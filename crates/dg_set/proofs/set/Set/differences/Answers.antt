@@ -1,0 +1,18 @@
+use Rattle.std.proofs.Common.{subst, sym}
+use Rattle.dg_model.specs.Elements.{IsSet}
+use Rattle.dg_model.proofs.Sets.{IsSet-without_all}
+use Rattle.dg_set.proofs.set.Set.differences.Goals as goal
+
+pub invariant_of-result : goal.invariant_of-result
+invariant_of-result c =
+    let left = c.deref.result.now in
+    let right = c.deref-2.result.now in
+    let left_set = subst IsSet (sym c.deref.ensures.value) c.self.invariant in
+    subst IsSet (sym c.in_ok-first.ensures.first) (IsSet-without_all left right left_set)
+
+pub invariant_of-result-2 : goal.invariant_of-result-2
+invariant_of-result-2 c =
+    let left = c.deref.result.now in
+    let right = c.deref-2.result.now in
+    let right_set = subst IsSet (sym c.deref-2.ensures.value) c.other.invariant in
+    subst IsSet (sym c.in_ok-first.ensures.second) (IsSet-without_all right left right_set)
