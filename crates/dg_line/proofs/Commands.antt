@@ -15,7 +15,7 @@ use Rattle.std.proofs.lemmas.List.Elements.{All-from_recursion}
 use Rattle.dg_model.specs.declared.element.Columns.{Columns}
 use Rattle.dg_model.specs.declared.command.Command.TheVariants as command
 use Rattle.dg_model.specs.declared.params.Function.{Function}
-use Rattle.dg_model.specs.Grammar.{command_of, command_of_words, create_of, load_of, at_of, list_of, columns_of, function_of, n32_of, time_of}
+use Rattle.dg_model.specs.Grammar.{command_of, command_of_words, create_of, load_of, append_of, at_of, list_of, columns_of, function_of, n32_of, time_of}
 use Rattle.dg_model.specs.Run.{Begins, IsColumn}
 use Rattle.dg_model.specs.Words.{words, number}
 use Rattle.dg_line.specs.declared.grammar.Slot.TheVariants as slot
@@ -193,7 +193,19 @@ load_line w b verb h =
       goes_on = mapped (λ n. command.Load n) _ number;
     }
 
-list_line : (w b : List ℕ) → w ≡ codes "list" → Is (list_of (words b)) → IsForm 3 (w ++ 32 ∷ b)
+append_line : (w b : List ℕ) → w ≡ codes "append" → Is (append_of (words b)) → IsForm 2 (w ++ 32 ∷ b)
+append_line w b verb h =
+    let e = one_word append_of (λ x y rest. refl) b h in
+    let number : Is (append_of (b ∷ [])) = subst (λ (ws : List (List ℕ)). Is (append_of ws)) e h in
+    record {
+      word = w;
+      after = b;
+      parts = refl;
+      taken = subst (Only (codes "append")) (sym verb) (only (codes "append"));
+      goes_on = mapped (λ n. command.Append n) _ number;
+    }
+
+list_line : (w b : List ℕ) → w ≡ codes "list" → Is (list_of (words b)) → IsForm 4 (w ++ 32 ∷ b)
 list_line w b verb h =
     let e = one_word list_of (λ x y rest. refl) b h in
     let number : Is (list_of (b ∷ [])) = subst (λ (ws : List (List ℕ)). Is (list_of ws)) e h in
@@ -205,7 +217,7 @@ list_line w b verb h =
       goes_on = mapped (λ n. command.List n) _ number;
     }
 
-at_line : (w b : List ℕ) → w ≡ codes "at" → Is (at_of (words b)) → IsForm 2 (w ++ 32 ∷ b)
+at_line : (w b : List ℕ) → w ≡ codes "at" → Is (at_of (words b)) → IsForm 3 (w ++ 32 ∷ b)
 at_line w b verb h = elim (cut b) [
   | Whole plain e ↦ absurd (false≢true (subst (λ (ws : List (List ℕ)). Is (at_of ws)) e h))
   | Split t c parts e ↦
@@ -252,7 +264,7 @@ create_line w b verb h = elim (cut b) [
     ]
 
 -- a line with a command is one of the table's
-pub command_is_form : (line : List ℕ) → Is (command_of line) → (i : ℕ) × (i < 4) × IsForm i line
+pub command_is_form : (line : List ℕ) → Is (command_of line) → (i : ℕ) × (i < 5) × IsForm i line
 command_is_form line h = elim (cut line) [
   | Whole plain e ↦ absurd (alone line (subst (λ (ws : List (List ℕ)). Is (command_of_words ws)) e h))
   | Split w b parts e ↦
@@ -266,26 +278,32 @@ command_is_form line h = elim (cut line) [
       | inl a ↦ false≢true a.1
       | inr g0 ↦ elim (either_of (bytes_eq w (codes "load")) _ _ g0) [
         | inl a ↦ false≢true a.1
-        | inr g1 ↦ elim (either_of (bytes_eq w (codes "at")) _ _ g1) [
+        | inr g1 ↦ elim (either_of (bytes_eq w (codes "append")) _ _ g1) [
           | inl a ↦ false≢true a.1
-          | inr g2 ↦ elim (either_of (bytes_eq w (codes "list")) _ _ g2) [
+          | inr g2 ↦ elim (either_of (bytes_eq w (codes "at")) _ _ g2) [
             | inl a ↦ false≢true a.1
-            | inr g3 ↦ false≢true g3
+            | inr g3 ↦ elim (either_of (bytes_eq w (codes "list")) _ _ g3) [
+              | inl a ↦ false≢true a.1
+              | inr g4 ↦ false≢true g4
+            ]
           ]
         ]
       ]
     ]
 
-    split : (w b : List ℕ) → Is (command_of_words (w ∷ words b)) → (i : ℕ) × (i < 4) × IsForm i (w ++ 32 ∷ b)
+    split : (w b : List ℕ) → Is (command_of_words (w ∷ words b)) → (i : ℕ) × (i < 5) × IsForm i (w ++ 32 ∷ b)
     split w b g = elim (either_of (bytes_eq w (codes "create")) _ _ g) [
       | inl a ↦ (0, omega arith, create_line w b (same_word w (codes "create") a.0) a.1)
       | inr g0 ↦ elim (either_of (bytes_eq w (codes "load")) _ _ g0) [
         | inl a ↦ (1, omega arith, load_line w b (same_word w (codes "load") a.0) a.1)
-        | inr g1 ↦ elim (either_of (bytes_eq w (codes "at")) _ _ g1) [
-          | inl a ↦ (2, omega arith, at_line w b (same_word w (codes "at") a.0) a.1)
-          | inr g2 ↦ elim (either_of (bytes_eq w (codes "list")) _ _ g2) [
-            | inl a ↦ (3, omega arith, list_line w b (same_word w (codes "list") a.0) a.1)
-            | inr g3 ↦ absurd (false≢true g3)
+        | inr g1 ↦ elim (either_of (bytes_eq w (codes "append")) _ _ g1) [
+          | inl a ↦ (2, omega arith, append_line w b (same_word w (codes "append") a.0) a.1)
+          | inr g2 ↦ elim (either_of (bytes_eq w (codes "at")) _ _ g2) [
+            | inl a ↦ (3, omega arith, at_line w b (same_word w (codes "at") a.0) a.1)
+            | inr g3 ↦ elim (either_of (bytes_eq w (codes "list")) _ _ g3) [
+              | inl a ↦ (4, omega arith, list_line w b (same_word w (codes "list") a.0) a.1)
+              | inr g4 ↦ absurd (false≢true g4)
+            ]
           ]
         ]
       ]
@@ -390,6 +408,14 @@ form_short (suc zero) line p =
       number_short 1 65536 p.after (omega arith) p.goes_on,
     )
 form_short (suc (suc zero)) line p =
+    omega (
+      arith,
+      ap length p.parts,
+      length-append p.word (32 ∷ p.after),
+      short_words 1 (codes "append" ∷ []) p.word refl refl p.taken,
+      number_short 1 65536 p.after (omega arith) p.goes_on,
+    )
+form_short (suc (suc (suc zero))) line p =
     let q = p.goes_on in
     omega (
       arith,
@@ -401,7 +427,7 @@ form_short (suc (suc zero)) line p =
       number_short 0 9223372036854775807 q.word (omega arith) q.taken,
       short_words 4 column_words q.after refl refl q.goes_on,
     )
-form_short (suc (suc (suc k))) line p =
+form_short (suc (suc (suc (suc k)))) line p =
     omega (
       arith,
       ap length p.parts,
@@ -440,6 +466,13 @@ form_is_command (suc zero) line p =
     (ap words p.parts ∙ cut ∙ ap (λ (w : List ℕ). w ∷ words p.after) (sym verb) ∙ ap (λ (ws : List (List ℕ)). codes "load" ∷ ws) one)
     (map_is (λ n. command.Load n) (number 1 65536 p.after) p.goes_on)
 form_is_command (suc (suc zero)) line p =
+    let one = words_one p.after (plain_number 1 65536 p.after (omega arith) p.goes_on) in
+    let verb = only_is (codes "append") p.word p.taken in
+    let cut = words_cut p.word p.after (plain_words 1 (codes "append" ∷ []) p.word refl refl p.taken) in
+    command_by_words line (codes "append" ∷ p.after ∷ [])
+    (ap words p.parts ∙ cut ∙ ap (λ (w : List ℕ). w ∷ words p.after) (sym verb) ∙ ap (λ (ws : List (List ℕ)). codes "append" ∷ ws) one)
+    (map_is (λ n. command.Append n) (number 1 65536 p.after) p.goes_on)
+form_is_command (suc (suc (suc zero))) line p =
     let q = p.goes_on in
     let one = words_one q.after (plain_words 4 column_words q.after refl refl q.goes_on) in
     let verb = only_is (codes "at") p.word p.taken in
@@ -449,7 +482,7 @@ form_is_command (suc (suc zero)) line p =
     (ap words p.parts ∙ cut ∙ ap (λ (w : List ℕ). w ∷ words p.after) (sym verb)
     ∙ ap (λ (ws : List (List ℕ)). codes "at" ∷ ws) (ap words q.parts ∙ next ∙ ap (λ (ws : List (List ℕ)). q.word ∷ ws) one))
     (at_whole (time_of q.word) (columns_of q.after) q.taken (columns_are q.goes_on.0 q.after q.goes_on.1 q.goes_on.2))
-form_is_command (suc (suc (suc k))) line p =
+form_is_command (suc (suc (suc (suc k)))) line p =
     let one = words_one p.after (plain_number 1 4294967295 p.after (omega arith) p.goes_on) in
     let verb = only_is (codes "list") p.word p.taken in
     let cut = words_cut p.word p.after (plain_words 1 (codes "list" ∷ []) p.word refl refl p.taken) in
@@ -485,14 +518,15 @@ begins_longer i line longest n k so_far f is = by_test (ltb longest n) refl
         let same : longest ≡ k = omega arith in
         subst (λ (m : ℕ). Begins (take m line)) same so_far
 
--- what holds of each of the four commands holds at each place of the table
-pub at_each : {X : Type 0} (P : ℕ → X → Type 0) (w x y z d : X) (i : ℕ) → i < 4 → P 0 w → P 1 x → P 2 y → P 3 z
-    → P i (get_or (w ∷ x ∷ y ∷ z ∷ []) i d)
-at_each P w x y z d zero l h0 h1 h2 h3 = h0
-at_each P w x y z d (suc zero) l h0 h1 h2 h3 = h1
-at_each P w x y z d (suc (suc zero)) l h0 h1 h2 h3 = h2
-at_each P w x y z d (suc (suc (suc zero))) l h0 h1 h2 h3 = h3
-at_each P w x y z d (suc (suc (suc (suc i)))) l h0 h1 h2 h3 = absurd (omega arith)
+-- what holds of each of the five commands holds at each place of the table
+pub at_each : {X : Type 0} (P : ℕ → X → Type 0) (v w x y z d : X) (i : ℕ) → i < 5 → P 0 v → P 1 w → P 2 x → P 3 y → P 4 z
+    → P i (get_or (v ∷ w ∷ x ∷ y ∷ z ∷ []) i d)
+at_each P v w x y z d zero l h0 h1 h2 h3 h4 = h0
+at_each P v w x y z d (suc zero) l h0 h1 h2 h3 h4 = h1
+at_each P v w x y z d (suc (suc zero)) l h0 h1 h2 h3 h4 = h2
+at_each P v w x y z d (suc (suc (suc zero))) l h0 h1 h2 h3 h4 = h3
+at_each P v w x y z d (suc (suc (suc (suc zero)))) l h0 h1 h2 h3 h4 = h4
+at_each P v w x y z d (suc (suc (suc (suc (suc i))))) l h0 h1 h2 h3 h4 = absurd (omega arith)
 
 -- the longest front of each command up to one
 pub longest_more : (line : List ℕ) (i longest n k : ℕ) → k ≡ max longest n → IsFront (IsForm i) line n
@@ -505,7 +539,7 @@ longest_more line i longest n k is f so_far j l a b e h = elim (cut_less j i l) 
 
 -- the column behind the longest front
 pub column_is : (line : List ℕ) (longest column : ℕ) → longest ≤ length line → column ≡ longest + 1 → Begins (take longest line)
-    → ((j : ℕ) → j < 4 → (a b : List ℕ) → a ++ b ≡ line → Begun (IsForm j) a → length a ≤ longest) → IsColumn line column
+    → ((j : ℕ) → j < 5 → (a b : List ℕ) → a ++ b ≡ line → Begun (IsForm j) a → length a ≤ longest) → IsColumn line column
 column_is line longest column within is begins most = record {
   from_one = omega arith;
   within = omega arith;

@@ -4,3 +4,4 @@ pub mod Passing
 pub mod Fronts
 pub mod FrontNumbers
 pub mod Commands
+pub mod NameLemmas

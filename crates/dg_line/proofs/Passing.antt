@@ -105,34 +105,34 @@ going_past start mid all held between piece words i past feed g =
     (rest_past between words i past ∙ ap (λ bytes. bytes ++ []) (sym feed)) g
 
 -- what a loop over the lines of a body knows, before a line whose words are these
-pub going_line : (start mid : Option (List ℕ)) (all held : List ℕ) (lines : List BodyLine) (i : ℕ) (d : BodyLine) (words : List (List ℕ))
-    → i < length lines → words ≡ body_words [] (get_or lines i d) → Going start all mid held (body_text [] (drop i lines))
-    → Going start all mid held (text_line words ++ body_text [] (drop (i + 1) lines))
-going_line start mid all held lines i d words below is g =
+pub going_line : (names : List (List ℕ)) (start mid : Option (List ℕ)) (all held : List ℕ) (lines : List BodyLine) (i : ℕ) (d : BodyLine) (words : List (List ℕ))
+    → i < length lines → words ≡ body_words names (get_or lines i d) → Going start all mid held (body_text names (drop i lines))
+    → Going start all mid held (text_line words ++ body_text names (drop (i + 1) lines))
+going_line names start mid all held lines i d words below is g =
     subst (λ (left : List ℕ). Going start all mid held left)
-    (at_drop_more (body_text []) lines i d below ∙ ap (λ ws. text_line ws ++ body_text [] (drop (i + 1) lines)) (sym is)) g
+    (at_drop_more (body_text names) lines i d below ∙ ap (λ ws. text_line ws ++ body_text names (drop (i + 1) lines)) (sym is)) g
 
 -- and behind the last
-pub going_lines_past : (start mid : Option (List ℕ)) (all held : List ℕ) (lines : List BodyLine) (i : ℕ) → length lines ≤ i
-    → Going start all mid held (body_text [] (drop i lines)) → Passes start all mid held
-going_lines_past start mid all held lines i past g =
-    going_ends start mid all held (subst (λ (left : List ℕ). Going start all mid held left) (at_drop_all (body_text []) lines i past) g)
+pub going_lines_past : (names : List (List ℕ)) (start mid : Option (List ℕ)) (all held : List ℕ) (lines : List BodyLine) (i : ℕ) → length lines ≤ i
+    → Going start all mid held (body_text names (drop i lines)) → Passes start all mid held
+going_lines_past names start mid all held lines i past g =
+    going_ends start mid all held (subst (λ (left : List ℕ). Going start all mid held left) (at_drop_all (body_text names) lines i past) g)
 
 -- a reply, before its head line, its body and its last line are put on an empty page
-pub going_reply : (start : Option (List ℕ)) (reply : Reply) (page : List ℕ) (head : List (List ℕ)) (body : List BodyLine) → page ≡ []
+pub going_reply : (names : List (List ℕ)) (start : Option (List ℕ)) (reply : Reply) (page : List ℕ) (head : List (List ℕ)) (body : List BodyLine) → page ≡ []
     → head ≡ head_words reply.head → body ≡ reply.body
-    → Going start (text [] reply) start page (text_line head ++ (body_text [] body ++ (text_line (codes "end" ∷ []) ++ [])))
-going_reply start reply page head body empty head_is body_is =
+    → Going start (text names reply) start page (text_line head ++ (body_text names body ++ (text_line (codes "end" ∷ []) ++ [])))
+going_reply names start reply page head body empty head_is body_is =
     let h = text_line (head_words reply.head) in
-    let b = body_text [] reply.body in
+    let b = body_text names reply.body in
     let e = text_line (codes "end" ∷ []) in
     record {
       sent = [];
       written = sym (grown_nothing start);
       split =
-          ap (λ held. held ++ (text_line head ++ (body_text [] body ++ (e ++ [])))) empty
-          ∙ ap (λ ws. text_line ws ++ (body_text [] body ++ (e ++ []))) head_is
-          ∙ ap (λ lines. h ++ (body_text [] lines ++ (e ++ []))) body_is
+          ap (λ held. held ++ (text_line head ++ (body_text names body ++ (e ++ [])))) empty
+          ∙ ap (λ ws. text_line ws ++ (body_text names body ++ (e ++ []))) head_is
+          ∙ ap (λ lines. h ++ (body_text names lines ++ (e ++ []))) body_is
           ∙ ap (λ bytes. h ++ (b ++ bytes)) (append-nil e)
           ∙ sym (append_assoc h b e);
     }

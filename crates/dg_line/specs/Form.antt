@@ -18,9 +18,10 @@ abbrev pub IsN32 : List ℕ → Type 0
 IsN32 = IsNumber 0 4294967295
 
 -- the lines of the command at a place of the table: `create N32 N32 FUNCTION`, `load COUNT`,
--- `at TIME COLS` and `list HANDLE`
+-- `append COUNT`, `at TIME COLS` and `list HANDLE`
 abbrev pub IsForm : ℕ → List ℕ → Type 0
 IsForm zero = Parted (Only (codes "create")) (Parted IsN32 (Parted IsN32 (IsOneOf 3 function_words)))
 IsForm (suc zero) = Parted (Only (codes "load")) (IsNumber 1 BATCH_LINES_MAX)
-IsForm (suc (suc zero)) = Parted (Only (codes "at")) (Parted (IsNumber 0 TIME_MAX) (IsOneOf 4 column_words))
-IsForm (suc (suc (suc k))) = Parted (Only (codes "list")) (IsNumber 1 4294967295)
+IsForm (suc (suc zero)) = Parted (Only (codes "append")) (IsNumber 1 BATCH_LINES_MAX)
+IsForm (suc (suc (suc zero))) = Parted (Only (codes "at")) (Parted (IsNumber 0 TIME_MAX) (IsOneOf 4 column_words))
+IsForm (suc (suc (suc (suc k)))) = Parted (Only (codes "list")) (IsNumber 1 4294967295)

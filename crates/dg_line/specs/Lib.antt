@@ -3,3 +3,4 @@ pub mod Page
 pub mod Front
 pub mod Row
 pub mod Form
+pub mod Asked

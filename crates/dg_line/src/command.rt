@@ -1,7 +1,8 @@
 ghost use Rattle.std.specs.Prelude.{◌≡◌, IfErr, List, ℕ};
 ghost use Rattle.std.specs.Result.{result_ok};
-ghost use Rattle.dg_model.specs.Grammar.{columns_of, function_of, n32_of, create_of, load_of, at_of, list_of, command_of};
+ghost use Rattle.dg_model.specs.Grammar.{columns_of, function_of, n32_of, create_of, load_of, append_of, at_of, list_of, command_of};
 ghost use Rattle.dg_model.specs.Run.{IsColumn};
+ghost use Rattle.dg_model.specs.Words.{number};
 
 use crate::grammar::column;
 use crate::words::{Words, number};
@@ -21,6 +22,8 @@ fn command(line: &[u8]) -> Option<Command>
         create(words)
     } else if verb == b"load".as_slice() {
         load(words)
+    } else if verb == b"append".as_slice() {
+        append(words)
     } else if verb == b"at".as_slice() {
         at(words)
     } else if verb == b"list".as_slice() {
@@ -48,11 +51,26 @@ fn create(mut words: Words) -> Option<Command>
 fn load(words: Words) -> Option<Command>
     ensures { result ≡ load_of words.entry }
 {
-    let count = words.only()?;
-    let count = number(count, 1, u64::from(BATCH_LINES_MAX))?;
     Some(Command::Load {
-        count: count as u32,
+        count: count(words.only()?)?,
     })
+}
+
+// `append COUNT`, from the words after `append`.
+fn append(words: Words) -> Option<Command>
+    ensures { result ≡ append_of words.entry }
+{
+    Some(Command::Append {
+        count: count(words.only()?)?,
+    })
+}
+
+// The number of lines of a batch.
+fn count(word: &[u8]) -> Option<u32>
+    ensures { result ≡ number 1 BATCH_LINES_MAX word.now }
+{
+    let count = number(word, 1, u64::from(BATCH_LINES_MAX))?;
+    Some(count as u32)
 }
 
 // `at TIME COLS`, from the words after `at`.

@@ -46,6 +46,7 @@ const COLUMNS: Slot = Slot::OneOf(&[b"s", b"sn", b"se", b"sne"]);
 const COMMANDS: &[&[Slot]] = &[
     &[Slot::OneOf(&[b"create"]), N32, N32, FUNCTION],
     &[Slot::OneOf(&[b"load"]), COUNT],
+    &[Slot::OneOf(&[b"append"]), COUNT],
     &[Slot::OneOf(&[b"at"]), TIME, COLUMNS],
     &[Slot::OneOf(&[b"list"]), HANDLE],
 ];

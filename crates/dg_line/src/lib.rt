@@ -2,6 +2,7 @@
 //! the text of a reply. docs/SCRIPT.md has the grammar.
 #![tactic(auto)]
 
+mod asked;
 mod change;
 mod command;
 mod grammar;

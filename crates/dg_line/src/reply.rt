@@ -1,11 +1,13 @@
 ghost use Rattle.std.specs.Prelude.{◌≡◌, ◌≤◌, ◌++◌, [], ◌∷◌, map, take, codes, decimal, if◌then◌else◌, OnOk, OnErr};
-ghost use Rattle.dg_model.specs.Text.{text, body_text, head_words, element_words, body_words, refusal_words, name_text};
+ghost use Rattle.dg_model.specs.Text.{text, body_text, head_words, element_words, body_words, refusal_words};
+ghost use Rattle.dg_model.specs.Names.{name_text};
 ghost use Rattle.dg_io.specs.Told.{grown, GrowsByPart, Rose};
 ghost use Rattle.dg_line.specs.Page.{Passes, word_bytes};
 
 use crate::page::{Page, Word};
 use dg_io::{Failed, Sink};
 use dg_model::{BodyLine, Element, Head, Refusal, Reply};
+use dg_names::Names;
 
 /// The most words that a line of a reply has.
 const WORDS_MAX: usize = 5;
@@ -24,30 +26,36 @@ struct Row<'a> {
     len: usize,
 }
 
-/// Writes the text of a reply: the head line, the lines of the body, and `end`. `Failed` where a
-/// write failed: then a part of the text is written, and never all of it.
-pub fn write_reply<K: Sink>(sink: &mut K, reply: &Reply) -> Result<(), Failed>
-    ensures ok { OnOk result (K.written sink.new ≡ grown (K.written sink.old) (text [] reply.now)) }
-    ensures err { OnErr result (GrowsByPart (K.written sink.old) (text [] reply.now) (K.written sink.new)) }
+/// Writes the text of a reply: the head line, the lines of the body, and `end`. The names are those
+/// whose numbers the reply has; a number that none of them has stands for the empty text. It takes
+/// no memory. `Failed` where a write failed: then a part of the text is written, and never all of it.
+pub fn write_reply<K: Sink>(sink: &mut K, names: &Names, reply: &Reply) -> Result<(), Failed>
+    ensures ok { OnOk result (K.written sink.new ≡ grown (K.written sink.old) (text names.now reply.now)) }
+    ensures err { OnErr result (GrowsByPart (K.written sink.old) (text names.now reply.now) (K.written sink.new)) }
     ensures cause { OnErr result (Rose (K.faults sink.old) (K.faults sink.new)) }
     ensures counted { K.faults sink.old ≤ K.faults sink.new }
 {
     let mut page = Page::new();
     let head = head_row(&reply.head);
     page.put_line(sink, &head.words[..head.len])?;
-    put_body(&mut page, sink, reply.body.as_slice())?;
+    put_body(&mut page, sink, names, reply.body.as_slice())?;
     page.put_line(sink, &[Word::Text(b"end")])?;
     page.flush(sink)
 }
 
-fn put_body<K: Sink>(page: &mut Page, sink: &mut K, lines: &[BodyLine]) -> Result<(), Failed>
-    ensures ok { OnOk result (Passes (K.written sink.old) (page.old ++ body_text [] lines.now) (K.written sink.new) page.new) }
-    ensures err { OnErr result (GrowsByPart (K.written sink.old) (page.old ++ body_text [] lines.now) (K.written sink.new)) }
+fn put_body<K: Sink>(
+    page: &mut Page,
+    sink: &mut K,
+    names: &Names,
+    lines: &[BodyLine],
+) -> Result<(), Failed>
+    ensures ok { OnOk result (Passes (K.written sink.old) (page.old ++ body_text names.now lines.now) (K.written sink.new) page.new) }
+    ensures err { OnErr result (GrowsByPart (K.written sink.old) (page.old ++ body_text names.now lines.now) (K.written sink.new)) }
     ensures cause { OnErr result (Rose (K.faults sink.old) (K.faults sink.new)) }
     ensures counted { K.faults sink.old ≤ K.faults sink.new }
 {
     for line in lines {
-        let row = body_row(line);
+        let row = body_row(names, line);
         page.put_line(sink, &row.words[..row.len])?;
     }
     Ok(())
@@ -70,6 +78,20 @@ fn head_row(head: &Head) -> Row<'static>
             words: [
                 OK,
                 Word::Text(b"load"),
+                Word::Number(events),
+                Word::Number(total),
+                Word::Number(last),
+            ],
+            len: 5,
+        },
+        Head::Appended {
+            events,
+            total,
+            last,
+        } => Row {
+            words: [
+                OK,
+                Word::Text(b"append"),
                 Word::Number(events),
                 Word::Number(total),
                 Word::Number(last),
@@ -139,6 +161,9 @@ fn refusal_row(refusal: Refusal) -> Row<'static>
             u64::from(live),
             u64::from(asked),
         ),
+        Refusal::HistoryFull(held, asked) => {
+            refused_with_both(b"12", b"history-full", held, asked)
+        }
         Refusal::FileFull(needed, limit) => refused_with_both(b"13", b"file-full", needed, limit),
         Refusal::OutOfMemory => refused(b"16", b"out-of-memory"),
         Refusal::LineLong => refused(b"18", b"line-long"),
@@ -197,17 +222,17 @@ fn refused_with_both(
 }
 
 // The words of a body line.
-fn body_row(line: &BodyLine) -> Row<'static>
-    ensures words { map word_bytes (take result.len result.words) ≡ body_words [] line.now }
+fn body_row<'a>(names: &'a Names, line: &BodyLine) -> Row<'a>
+    ensures words { map word_bytes (take result.len result.words) ≡ body_words names.now line.now }
     ensures len { result.len ≤ WORDS_MAX }
 {
     match line {
-        BodyLine::Element(element) => element_row(element),
+        BodyLine::Element(element) => element_row(names, element),
     }
 }
 
-fn element_row(element: &Element) -> Row<'static>
-    ensures words { map word_bytes (take result.len result.words) ≡ element_words [] element.now }
+fn element_row<'a>(names: &'a Names, element: &Element) -> Row<'a>
+    ensures words { map word_bytes (take result.len result.words) ≡ element_words names.now element.now }
     ensures len { result.len ≤ WORDS_MAX }
 {
     match *element {
@@ -226,52 +251,57 @@ fn element_row(element: &Element) -> Row<'static>
             src,
             dst,
             directed,
-        } => Row {
-            words: [
-                Word::Text(b"edge"),
-                Word::Number(id),
-                Word::Number(src),
-                Word::Number(dst),
-                direction(directed),
-            ],
-            len: 5,
-        },
-        Element::NodeAttr { id, key, value } => Row {
-            words: [
-                Word::Text(b"nattr"),
-                Word::Number(id),
-                name(key),
-                name(value),
-                NO_WORD,
-            ],
-            len: 4,
-        },
-        Element::EdgeAttr { id, key, value } => Row {
-            words: [
-                Word::Text(b"eattr"),
-                Word::Number(id),
-                name(key),
-                name(value),
-                NO_WORD,
-            ],
-            len: 4,
-        },
+        } => edge_row(id, src, dst, directed),
+        Element::NodeAttr { id, key, value } => {
+            attribute_row(b"nattr", id, name(names, key), name(names, value))
+        }
+        Element::EdgeAttr { id, key, value } => {
+            attribute_row(b"eattr", id, name(names, key), name(names, value))
+        }
     }
 }
 
-fn direction(directed: bool) -> Word<'static>
-    ensures { word_bytes result ≡ (if directed then codes "dir" else codes "undir") }
+// A line of an edge.
+fn edge_row(id: u64, src: u64, dst: u64, directed: bool) -> Row<'static>
+    ensures words { map word_bytes (take result.len result.words) ≡ codes "edge" ∷ decimal id ∷ decimal src ∷ decimal dst ∷ (if directed then codes "dir" else codes "undir") ∷ [] }
+    ensures len { result.len ≤ WORDS_MAX }
 {
-    Word::Text(if directed {
+    Row {
+        words: [
+            Word::Text(b"edge"),
+            Word::Number(id),
+            Word::Number(src),
+            Word::Number(dst),
+            Word::Text(direction(directed)),
+        ],
+        len: 5,
+    }
+}
+
+// A line of an attribute: its kind, an id, a key and a value.
+fn attribute_row<'a>(kind: &'static [u8], id: u64, key: Word<'a>, value: Word<'a>) -> Row<'a>
+    ensures words { map word_bytes (take result.len result.words) ≡ kind.now ∷ decimal id ∷ word_bytes key.entry ∷ word_bytes value.entry ∷ [] }
+    ensures len { result.len ≤ WORDS_MAX }
+{
+    Row {
+        words: [Word::Text(kind), Word::Number(id), key, value, NO_WORD],
+        len: 4,
+    }
+}
+
+fn direction(directed: bool) -> &'static [u8]
+    ensures { result.now ≡ (if directed then codes "dir" else codes "undir") }
+{
+    if directed {
         b"dir".as_slice()
     } else {
         b"undir".as_slice()
-    })
+    }
 }
 
-// The text of the name of this number. There is no list of names yet, and each name is empty.
-fn name(number: u32) -> Word<'static>
-    ensures { word_bytes result ≡ name_text [] number }
+// The text of the name of this number, or the empty text where there is no such name.
+fn name(names: &Names, number: u32) -> Word
+    ensures { word_bytes result ≡ name_text names.now number }
 {
-    Word::Text(b"")
+    Word::Text(names.text(number).unwrap_or(b"".as_slice()))
 }

@@ -1,7 +1,8 @@
 ghost use Rattle.std.specs.Prelude.{◌≡◌, ◌≢◌, ℕ, ◌+◌, ◌*◌, ◌-◌, ◌<◌, ◌≤◌, ◌^◌, List, [], ◌∷◌, length, decimal, Option, Some, None, IfSome, IfNone, IsTrue, ◌↔◌, MatchOption, slice_index};
 ghost use Rattle.std.specs.List.{position};
 ghost use Rattle.dg_model.specs.Words.{words, number};
-ghost use Rattle.dg_line.specs.Space.{is_space};
+ghost use Rattle.std.specs.Option.{option_map};
+ghost use Rattle.dg_line.specs.Space.{is_space, rest_of};
 
 use std::marker::Model;
 
@@ -56,6 +57,14 @@ impl<'a> Words<'a> {
                 Some(rest)
             }
         }
+    }
+
+    /// The rest of the line: the words that are left, with a space between each two. There is none at
+    /// the end of the line.
+    pub fn rest(self) -> Option<&'a [u8]>
+        ensures { option_map (λ text. text.now) result ≡ rest_of self.entry }
+    {
+        if self.ended { None } else { Some(self.rest) }
     }
 
     /// The one word that is left, or none where none or more are left.

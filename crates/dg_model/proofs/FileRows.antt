@@ -1,5 +1,5 @@
 -- A worked file, computed by the definitions.
-use Rattle.std.specs.Prelude.{◌≡◌, ℕ, ◌+◌, List, [], ◌∷◌, ◌++◌, Some, Ok, Err, true, refl, take, drop}
+use Rattle.std.specs.Prelude.{None, codes, ◌≡◌, ℕ, ◌+◌, List, [], ◌∷◌, ◌++◌, Some, Ok, Err, true, refl, take, drop}
 use Rattle.dg_model.specs.declared.element.Column.TheVariants as column
 use Rattle.dg_model.specs.declared.event.Body.TheVariants as body
 use Rattle.dg_model.specs.declared.fault.StartFault.TheVariants as fault
@@ -7,7 +7,7 @@ use Rattle.dg_model.specs.declared.node.Key.TheVariants as key
 use Rattle.dg_model.specs.declared.params.Function.TheVariants.{Intersection}
 use Rattle.dg_model.specs.File.{file, size}
 use Rattle.dg_model.specs.History.{History, events_of}
-use Rattle.dg_model.specs.Opening.{opening, opening_of, No_index, Not_ours, Damaged_at}
+use Rattle.dg_model.specs.Opening.{opening, opened_of, No_index, Not_ours, Damaged_at}
 use Rattle.dg_model.specs.Starting.{start_of}
 
 three_events : History
@@ -31,11 +31,11 @@ size_of_three_events = refl
 image : List ℕ
 image = file three_events ++ 7 ∷ 1 ∷ 2 ∷ []
 
-opened : opening image ≡ Ok (opening_of three_events)
+opened : opening image ≡ Ok (opened_of three_events)
 unfolding three_events image
 opened = refl
 
-started : start_of image ≡ Ok (Some (record { opening = opening_of three_events; events = events_of three_events }))
+started : start_of image ≡ Ok (Some (record { opened = opened_of three_events; events = events_of three_events }))
 unfolding three_events image
 started = refl
 
@@ -44,7 +44,7 @@ changed : ℕ → ℕ → List ℕ
 changed place byte = take place image ++ byte ∷ drop (place + 1) image
 
 -- a gate that is not 1 is closed
-gate_of_seven : opening (changed 17 7) ≡ Ok (record { params = three_events.params; segments = []; used = 18 })
+gate_of_seven : opening (changed 17 7) ≡ Ok (record { index = record { params = three_events.params; segments = []; used = 18 }; names = [] })
 unfolding three_events image changed
 gate_of_seven = refl
 
@@ -77,3 +77,31 @@ no_such_kind = refl
 added_twice : start_of (changed 135 1) ≡ Err (fault.BadRecent 2)
 unfolding three_events image changed
 added_twice = refl
+
+-- the history of five changes, with two names
+five_events : History
+five_events = record {
+  params = record { l = 2; k = 2; function = Intersection };
+  batches = record {
+    names = codes "name" ∷ codes "A" ∷ [];
+    events =
+        record { time = 10; body = body.NodeAdded 1 }
+        ∷ record { time = 20; body = body.NodeAdded 2 }
+        ∷ record { time = 30; body = body.EdgeAdded 5 1 2 true }
+        ∷ record { time = 40; body = body.NodeAttr 1 0 None (Some 1) }
+        ∷ record { time = 50; body = body.EdgeRemoved 5 1 2 true } ∷ [];
+  } ∷ [];
+}
+
+five_opened : opening (file five_events ++ 0 ∷ []) ≡ Ok (opened_of five_events)
+unfolding five_events
+five_opened = refl
+
+five_started : start_of (file five_events ++ 0 ∷ []) ≡ Ok (Some (record { opened = opened_of five_events; events = events_of five_events }))
+unfolding five_events
+five_started = refl
+
+-- a name that is there already
+named_twice : opening (file (record { params = five_events.params; batches = record { names = codes "A" ∷ codes "A" ∷ []; events = events_of five_events } ∷ [] }) ++ 0 ∷ []) ≡ Err (Damaged_at 18)
+unfolding five_events
+named_twice = refl

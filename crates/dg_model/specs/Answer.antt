@@ -1,11 +1,11 @@
 -- The machine's answer to a command and the lines that follow it: a reply and a new state. A
 -- refusal is the first that holds in the order of the tests here, and keeps the state.
-use Rattle.std.specs.Prelude.{ℕ, ◌+◌, Bool, true, false, ◌||◌, not, List, [], ◌∷◌, ◌++◌, Option, Some, None, Result, Ok, Err, if◌then◌else◌, length, map, nat_lt, nat_le, is_some}
+use Rattle.std.specs.Prelude.{ℕ, ◌+◌, ◌*◌, Bool, true, false, ◌||◌, not, List, [], ◌∷◌, ◌++◌, Option, Some, None, Result, Ok, Err, if◌then◌else◌, length, map, nat_lt, nat_le, is_some}
 use Rattle.dg_model.specs.declared.command.Command.{Command}
 use Rattle.dg_model.specs.declared.command.Command.TheVariants as command
 use Rattle.dg_model.specs.declared.element.Element.{Element}
 use Rattle.dg_model.specs.declared.element.Columns.{Columns}
-use Rattle.dg_model.specs.declared.limits.TheConstants.{LIVE_HANDLES_MAX}
+use Rattle.dg_model.specs.declared.limits.TheConstants.{LIVE_HANDLES_MAX, NAMES_MAX}
 use Rattle.dg_model.specs.declared.params.Function.{Function}
 use Rattle.dg_model.specs.declared.reply.BodyLine.TheVariants as line
 use Rattle.dg_model.specs.declared.reply.Head.{Head}
@@ -17,7 +17,7 @@ use Rattle.dg_model.specs.declared.stands.Stands.{Stands}
 use Rattle.dg_model.specs.declared.stands.Stands.TheVariants.{Overlay}
 use Rattle.dg_model.specs.Batch.{batch_of}
 use Rattle.dg_model.specs.File.{size}
-use Rattle.dg_model.specs.History.{History, Batch, are_parameters, empty_history, with_batch, events_of, span_of, in_range, last_time_from}
+use Rattle.dg_model.specs.History.{History, Batch, are_parameters, empty_history, with_batch, events_of, names_of, span_of, in_range, last_time_from}
 use Rattle.dg_model.specs.Lines.{ScriptLine}
 use Rattle.dg_model.specs.Machine.{MachineState, entry_at, elements}
 
@@ -37,6 +37,7 @@ refuse m r = record { reply = headed (head.Refused r); state = m }
 abbrev pub following : Command → ℕ
 following (command.Create l k function) = 0
 following (command.Load count) = count
+following (command.Append count) = count
 following (command.At t cols) = 0
 following (command.List handle) = 0
 
@@ -44,6 +45,7 @@ following (command.List handle) = 0
 abbrev pub is_followed : Command → Bool
 is_followed (command.Create l k function) = false
 is_followed (command.Load count) = true
+is_followed (command.Append count) = true
 is_followed (command.At t cols) = false
 is_followed (command.List handle) = false
 
@@ -57,25 +59,46 @@ answer_create m l k function =
       state = record m { index = Some (empty_history (record { l = l; k = k; function = function })) };
     })
 
--- the reply to a load, and the state with its batch
-abbrev pub loaded : MachineState → History → Result Batch (ℕ × ℕ) → Answered
-loaded m z (Err fault) = refuse m (refusal.BadChange fault.0 fault.1)
-loaded m z (Ok b) =
+-- so many more events, or the names that so many lines may bring, are too many
+abbrev pub is_full : MachineState → History → ℕ → Bool
+is_full m z count =
+    nat_lt m.limits.events (length (events_of z) + count) || nat_lt NAMES_MAX (length (names_of z) + 2 * count)
+
+-- the reply to a batch, with this head, and the state with the batch
+abbrev pub with_new : MachineState → History → (ℕ → ℕ → ℕ → Head) → Result Batch (ℕ × ℕ) → Answered
+with_new m z make (Err fault) = refuse m (refusal.BadChange fault.0 fault.1)
+with_new m z make (Ok b) =
     if nat_lt m.limits.file_bytes (size (with_batch z b)) then refuse m (refusal.FileFull (size (with_batch z b)) m.limits.file_bytes)
     else record {
-      reply = headed (head.Loaded (length b.events) (length (events_of z) + length b.events) (last_time_from 0 b.events));
+      reply = headed (make (length b.events) (length (events_of z) + length b.events) (last_time_from 0 b.events));
       state = record m { index = Some (with_batch z b) };
     }
 
+-- the reply to these lines as the next batch
+abbrev pub next_batch : MachineState → History → (ℕ → ℕ → ℕ → Head) → ℕ → List ScriptLine → Answered
+next_batch m z make count lines =
+    if is_full m z count then refuse m (refusal.HistoryFull (length (events_of z)) count)
+    else with_new m z make (batch_of z lines)
+
 -- the reply to a load of these lines into the history, if there is one
-abbrev pub load_into : MachineState → Option History → List ScriptLine → Answered
-load_into m None lines = refuse m refusal.NoIndex
-load_into m (Some z) lines =
-    if is_some (span_of (events_of z)) then refuse m refusal.AlreadyLoaded else loaded m z (batch_of z lines)
+abbrev pub load_into : MachineState → Option History → ℕ → List ScriptLine → Answered
+load_into m None count lines = refuse m refusal.NoIndex
+load_into m (Some z) count lines =
+    if is_some (span_of (events_of z)) then refuse m refusal.AlreadyLoaded
+    else next_batch m z (λ events total last. head.Loaded events total last) count lines
 
 abbrev pub answer_load : MachineState → ℕ → List ScriptLine → Answered
 answer_load m count lines =
-    if nat_lt (length lines) count then refuse m (refusal.ShortBatch (length lines) count) else load_into m m.index lines
+    if nat_lt (length lines) count then refuse m (refusal.ShortBatch (length lines) count) else load_into m m.index count lines
+
+-- the reply to these lines behind the history, if there is one
+abbrev pub append_to : MachineState → Option History → ℕ → List ScriptLine → Answered
+append_to m None count lines = refuse m refusal.NoIndex
+append_to m (Some z) count lines = next_batch m z (λ events total last. head.Appended events total last) count lines
+
+abbrev pub answer_append : MachineState → ℕ → List ScriptLine → Answered
+answer_append m count lines =
+    if nat_lt (length lines) count then refuse m (refusal.ShortBatch (length lines) count) else append_to m m.index count lines
 
 -- the reply to a retrieval, and the state with its handle
 abbrev pub answer_at : MachineState → Option History → ℕ → Columns → Answered
@@ -104,6 +127,7 @@ answer_list m index handle (Some stands) = list_of m index handle stands
 abbrev pub answer : MachineState → Command → List ScriptLine → Answered
 answer m (command.Create l k function) lines = answer_create m l k function
 answer m (command.Load count) lines = answer_load m count lines
+answer m (command.Append count) lines = answer_append m count lines
 answer m (command.At t cols) lines = answer_at m m.index t cols
 answer m (command.List handle) lines = answer_list m m.index handle (entry_at handle m.table)
 
@@ -115,6 +139,7 @@ abbrev pub is_refusal : Head → Bool
 is_refusal (head.Refused r) = true
 is_refusal head.Created = false
 is_refusal (head.Loaded events total last) = false
+is_refusal (head.Appended events total last) = false
 is_refusal (head.At handle weight) = false
 is_refusal (head.List handle lines) = false
 

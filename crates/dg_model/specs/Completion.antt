@@ -1,6 +1,6 @@
 -- How a change is completed to an event by the graph before it, or refused with the first reason
 -- that holds.
-use Rattle.std.specs.Prelude.{ℕ, Bool, false, ◌&&◌, ◌||◌, ◌==◌, not, List, Option, Some, None, Result, Ok, Err, if◌then◌else◌, find, is_some, nat_eq, option_and_then}
+use Rattle.std.specs.Prelude.{ℕ, Bool, false, ◌&&◌, ◌||◌, ◌==◌, not, List, Option, Some, None, Result, Ok, Err, if◌then◌else◌, find, is_some, nat_eq, option_and_then, true}
 use Rattle.std.specs.Option.{option_eq}
 use Rattle.std.specs.List.{list_any}
 use Rattle.dg_model.specs.declared.element.Element.{Element}
@@ -11,6 +11,7 @@ use Rattle.dg_model.specs.declared.event.What.{What}
 use Rattle.dg_model.specs.declared.event.What.TheVariants.{AddNode, RemoveNode, AddEdge, RemoveEdge, SetNode, UnsetNode, SetEdge, UnsetEdge}
 use Rattle.dg_model.specs.declared.event.TheConstants.{REASON_NODE_EXISTS, REASON_NO_NODE, REASON_NODE_IN_USE, REASON_EDGE_EXISTS, REASON_NO_EDGE, REASON_EDGE_IN_USE, REASON_NO_END, REASON_NO_ATTRIBUTE}
 use Rattle.dg_model.specs.Elements.{has, same}
+use Rattle.dg_model.specs.Names.{is_key, name_text}
 
 abbrev pub has_node : List Element → ℕ → Bool
 has_node set id = has set (element.Node id)
@@ -96,12 +97,25 @@ is_found (Some y) x = same y x
 abbrev pub is_value_change : Option ℕ → Option ℕ → Option ℕ → Bool
 is_value_change there old new = option_eq nat_eq old there && (is_some old || is_some new)
 
--- whether some change comes to this after the set
-abbrev pub completes : List Element → Body → Bool
-completes set (body.NodeAdded id) = not (has_node set id)
-completes set (body.NodeRemoved id) = has_node set id && not (list_any (needs_node id) set)
-completes set (body.EdgeAdded id src dst directed) = not (is_some (edge_of set id)) && (has_node set src && has_node set dst)
-completes set (body.EdgeRemoved id src dst directed) =
+-- the key of a value is a name that may be a key
+abbrev pub has_key : List (List ℕ) → Body → Bool
+has_key names (body.NodeAdded id) = true
+has_key names (body.NodeRemoved id) = true
+has_key names (body.EdgeAdded id src dst directed) = true
+has_key names (body.EdgeRemoved id src dst directed) = true
+has_key names (body.NodeAttr id key old new) = is_key (name_text names key)
+has_key names (body.EdgeAttr id key old new) = is_key (name_text names key)
+
+-- whether this is what some change comes to after the set, whatever the key's text
+abbrev pub is_change_of : List Element → Body → Bool
+is_change_of set (body.NodeAdded id) = not (has_node set id)
+is_change_of set (body.NodeRemoved id) = has_node set id && not (list_any (needs_node id) set)
+is_change_of set (body.EdgeAdded id src dst directed) = not (is_some (edge_of set id)) && (has_node set src && has_node set dst)
+is_change_of set (body.EdgeRemoved id src dst directed) =
     is_found (edge_of set id) (element.Edge id src dst directed) && not (list_any (needs_edge id) set)
-completes set (body.NodeAttr id key old new) = has_node set id && is_value_change (node_value set id key) old new
-completes set (body.EdgeAttr id key old new) = is_some (edge_of set id) && is_value_change (edge_value set id key) old new
+is_change_of set (body.NodeAttr id key old new) = has_node set id && is_value_change (node_value set id key) old new
+is_change_of set (body.EdgeAttr id key old new) = is_some (edge_of set id) && is_value_change (edge_value set id key) old new
+
+-- whether some change comes to this after the set, in a history with these names
+abbrev pub completes : List (List ℕ) → List Element → Body → Bool
+completes names set b = has_key names b && is_change_of set b

@@ -1,13 +1,15 @@
 -- Which histories are legal, and which images of the index file stand for a history or for none.
-use Rattle.std.specs.Prelude.{◌≡◌, ◌≢◌, ℕ, ◌<◌, ◌≤◌, ◌^◌, Bool, true, ◌&&◌, ◌||◌, ◌==◌, not, List, [], ◌∷◌, ◌++◌, Option, Some, None, Ok, All, IfSome, length, map, take, nat_lt, slice_get, slice_index}
+use Rattle.std.specs.Prelude.{◌≡◌, ◌≢◌, ℕ, ◌<◌, ◌≤◌, ◌^◌, Bool, true, ◌&&◌, ◌||◌, ◌==◌, not, List, [], ◌∷◌, ◌++◌, Option, Some, None, Ok, All, IfSome, length, map, take, nat_lt, slice_get, slice_index, IsTrue}
 use Rattle.dg_model.specs.declared.event.Body.{Body}
 use Rattle.dg_model.specs.declared.event.Body.TheVariants as body
 use Rattle.dg_model.specs.declared.event.Change.{Change}
 use Rattle.dg_model.specs.declared.event.Event.{Event}
-use Rattle.dg_model.specs.declared.limits.TheConstants.{BATCH_LINES_MAX, EVENTS_MAX, FILE_BYTES_MAX, TIME_MAX}
+use Rattle.dg_model.specs.declared.limits.TheConstants.{BATCH_LINES_MAX, EVENTS_MAX, FILE_BYTES_MAX, NAMES_MAX, TIME_MAX}
 use Rattle.dg_model.specs.Batch.{completed}
+use Rattle.dg_model.specs.Completion.{has_key}
 use Rattle.dg_model.specs.File.{file, size}
-use Rattle.dg_model.specs.History.{History, Batch, are_parameters, events_of, span_of, earliest_next}
+use Rattle.dg_model.specs.History.{History, Batch, are_parameters, events_of, names_of, span_of, earliest_next}
+use Rattle.dg_model.specs.Names.{are_new}
 use Rattle.dg_model.specs.Replay.{replay}
 
 -- every id is of 64 bits, and every name's number is below the number of names
@@ -25,22 +27,24 @@ abbrev pub FitsEvent : ℕ → Event → Type 0
 FitsEvent names e = (e.time ≤ TIME_MAX) × FitsBody names e.body
 
 -- The events of a batch are the completions of some changes after the events before it, in their
--- time; there are as many as a batch may have. A batch brings no name yet.
-pub record IsLegalBatch (before : List Event) (b : Batch) : Type 0 where
+-- time; there are as many as a batch may have. Their names are among those of the history.
+pub record IsLegalBatch (names : List (List ℕ)) (before : List Event) (b : Batch) : Type 0 where
   pub some : 1 ≤ length b.events
   pub few : length b.events ≤ BATCH_LINES_MAX
   pub changes : List Change
   pub comes : completed 1 (earliest_next (span_of before)) (replay before) (map (λ (c : Change). Some c) changes) ≡ Ok b.events
-  pub fits : All (FitsEvent 0) b.events
-  pub nameless : b.names ≡ []
+  pub fits : All (FitsEvent (length names)) b.events
+  pub keys : All (λ (e : Event). IsTrue (has_key names e.body)) b.events
 
-abbrev pub AreLegalAfter : List Event → List Batch → Type 0
-AreLegalAfter before [] = Unit {0}
-AreLegalAfter before (b ∷ more) = IsLegalBatch before b × AreLegalAfter (before ++ b.events) more
+abbrev pub AreLegalAfter : List (List ℕ) → List Event → List Batch → Type 0
+AreLegalAfter names before [] = Unit {0}
+AreLegalAfter names before (b ∷ more) = IsLegalBatch names before b × AreLegalAfter names (before ++ b.events) more
 
 pub record IsLegal (z : History) : Type 0 where
   pub parameters : are_parameters z.params.l z.params.k ≡ true
-  pub batches : AreLegalAfter [] z.batches
+  pub batches : AreLegalAfter (names_of z) [] z.batches
+  pub names : are_new [] (names_of z) ≡ true
+  pub few_names : length (names_of z) ≤ NAMES_MAX
   pub few : length (events_of z) ≤ EVENTS_MAX
 
 -- the image begins with the file of the history, and the gate behind it is closed

@@ -1,5 +1,6 @@
 pub mod Lines
 pub mod Elements
+pub mod Names
 pub mod Keys
 pub mod Sets
 pub mod Composition

@@ -3,7 +3,7 @@ use Rattle.std.specs.Prelude.{ℕ, ◌≤◌, ◌==◌, List, [], ◌∷◌, Opt
 use Rattle.dg_model.specs.declared.element.Element.{Element}
 use Rattle.dg_model.specs.declared.event.Event.{Event}
 use Rattle.dg_model.specs.declared.limits.Limits.{Limits}
-use Rattle.dg_model.specs.declared.limits.TheConstants.{FIRST_HANDLE, FILE_BYTES_MAX, SCRIPT_BYTES_MAX}
+use Rattle.dg_model.specs.declared.limits.TheConstants.{EVENTS_MAX, FIRST_HANDLE, FILE_BYTES_MAX, SCRIPT_BYTES_MAX}
 use Rattle.dg_model.specs.declared.stands.Stands.{Stands}
 use Rattle.dg_model.specs.declared.stands.Stands.TheVariants.{Overlay}
 use Rattle.dg_model.specs.Elements.{shown}
@@ -25,6 +25,7 @@ machine_at limits index = record { limits = limits; index = index; table = []; n
 -- no limit is above its standard value
 pub record IsWithin (limits : Limits) : Type 0 where
   pub script : limits.script_bytes ≤ SCRIPT_BYTES_MAX
+  pub events : limits.events ≤ EVENTS_MAX
   pub file : limits.file_bytes ≤ FILE_BYTES_MAX
 
 -- the events of the machine's history

@@ -7,7 +7,8 @@ use Rattle.dg_model.specs.declared.reply.Reply.{Reply}
 use Rattle.dg_model.specs.Answer.{answer, headed, no_memory, may_lack_memory}
 use Rattle.dg_model.specs.Grammar.{command_of}
 use Rattle.dg_model.specs.Lines.{ScriptLine}
-use Rattle.dg_model.specs.Machine.{MachineState}
+use Rattle.dg_model.specs.Machine.{MachineState, names_in}
+use Rattle.dg_model.specs.Text.{text}
 use Rattle.dg_model.specs.Script.{Entry, Asked, No_command, Long_line}
 
 -- the bytes begin some command
@@ -30,9 +31,11 @@ pub data Step (m : MachineState) : Entry → Reply → MachineState → Type 0 w
       → Step m (No_command line) (headed (head.Refused (refusal.Syntax column))) m
   Too_long : Step m Long_line (headed (head.Refused refusal.LineLong)) m
 
--- the machine gives the entries these replies, in order, and ends in the new state
-abbrev pub Run : MachineState → List Entry → List Reply → MachineState → Type 0
+-- The machine gives the entries replies with these texts, in order, and ends in the new state. The names
+-- in a reply are those of the history after the step.
+abbrev pub Run : MachineState → List Entry → List (List ℕ) → MachineState → Type 0
 Run m [] [] new = new ≡ m
-Run m (e ∷ entries) (r ∷ replies) new = (mid : MachineState) × Step m e r mid × Run mid entries replies new
-Run m [] (r ∷ replies) new = ⊥
+Run m (e ∷ entries) (t ∷ texts) new =
+    (mid : MachineState) × (r : Reply) × Step m e r mid × (t ≡ text (names_in mid.index) r) × Run mid entries texts new
+Run m [] (t ∷ texts) new = ⊥
 Run m (e ∷ entries) [] new = ⊥

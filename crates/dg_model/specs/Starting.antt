@@ -1,5 +1,5 @@
 -- What a session starts with over an image, or why it refuses the image.
-use Rattle.std.specs.Prelude.{ℕ, ◌+◌, Bool, ◌&&◌, List, [], ◌∷◌, ◌++◌, Option, Some, None, Result, Ok, Err, if◌then◌else◌, map, nat_le}
+use Rattle.std.specs.Prelude.{ℕ, ◌+◌, Bool, ◌&&◌, List, [], ◌∷◌, ◌++◌, Option, Some, None, Result, Ok, Err, if◌then◌else◌, length, map, nat_le}
 use Rattle.dg_model.specs.declared.element.Column.{Column}
 use Rattle.dg_model.specs.declared.element.Column.TheVariants as column
 use Rattle.dg_model.specs.declared.element.Element.{Element}
@@ -11,12 +11,12 @@ use Rattle.dg_model.specs.declared.placed.Placed.{Placed}
 use Rattle.dg_model.specs.Completion.{completes}
 use Rattle.dg_model.specs.Effect.{forwards}
 use Rattle.dg_model.specs.Merging.{merged}
-use Rattle.dg_model.specs.Opening.{Segment, Opening, Unopened, No_index, Not_ours, Damaged_at, opening, column_of_piece}
+use Rattle.dg_model.specs.Opening.{Segment, Opened, Unopened, No_index, Not_ours, Damaged_at, opening, column_of_piece}
 use Rattle.dg_model.specs.Reading.{events_in}
 
--- the index as its directories tell it, and the events of its history
+-- the index and the names as the directories tell them, and the events of the history
 pub record Started : Type 0 where
-  pub opening : Opening
+  pub opened : Opened
   pub events : List Event
 
 -- the first result, and then what follows from it
@@ -28,9 +28,9 @@ abbrev pub spelled_or : ℕ → Column → Result (List Placed) ℕ → Result (
 spelled_or piece col (Ok placed) = Ok placed
 spelled_or piece col (Err place) = Err (fault.BadRecord (key.Piece piece) col)
 
--- what a column of a piece is read as; there are no names
-abbrev pub placed_in_piece : List ℕ → ℕ → Segment → Column → Result (List Placed) StartFault
-placed_in_piece image piece s col = spelled_or piece col (events_in col 0 (column_of_piece image s col))
+-- what a column of a piece is read as, with so many names
+abbrev pub placed_in_piece : List ℕ → ℕ → ℕ → Segment → Column → Result (List Placed) StartFault
+placed_in_piece image names piece s col = spelled_or piece col (events_in col names (column_of_piece image s col))
 
 abbrev pub merged_or : ℕ → Option (List Event) → Result (List Event) StartFault
 merged_or piece (Some events) = Ok events
@@ -38,35 +38,36 @@ merged_or piece None = Err (fault.BadRecord (key.Piece piece) column.Structure)
 
 -- the events of a piece, or its first column that is in no spelling, or structure where the columns do
 -- not come together to the events of the batch
-abbrev pub events_in_piece : List ℕ → ℕ → Segment → Result (List Event) StartFault
-events_in_piece image piece s =
-    and_then (placed_in_piece image piece s column.Structure) (λ a.
-    and_then (placed_in_piece image piece s column.NodeAttr) (λ b.
-    and_then (placed_in_piece image piece s column.EdgeAttr) (λ c. merged_or piece (merged a b c s.events))))
+abbrev pub events_in_piece : List ℕ → ℕ → ℕ → Segment → Result (List Event) StartFault
+events_in_piece image names piece s =
+    and_then (placed_in_piece image names piece s column.Structure) (λ a.
+    and_then (placed_in_piece image names piece s column.NodeAttr) (λ b.
+    and_then (placed_in_piece image names piece s column.EdgeAttr) (λ c. merged_or piece (merged a b c s.events))))
 
 -- the events of the pieces from this number on, each with its segment
-abbrev pub events_in_pieces : List ℕ → ℕ → List Segment → Result (List (Segment × Event)) StartFault
-events_in_pieces image piece [] = Ok []
-events_in_pieces image piece (s ∷ segments) =
-    and_then (events_in_piece image piece s) (λ events.
-    and_then (events_in_pieces image (piece + 1) segments) (λ more. Ok (map (λ (e : Event). (s, e)) events ++ more)))
+abbrev pub events_in_pieces : List ℕ → ℕ → ℕ → List Segment → Result (List (Segment × Event)) StartFault
+events_in_pieces image names piece [] = Ok []
+events_in_pieces image names piece (s ∷ segments) =
+    and_then (events_in_piece image names piece s) (λ events.
+    and_then (events_in_pieces image names (piece + 1) segments) (λ more. Ok (map (λ (e : Event). (s, e)) events ++ more)))
 
 -- the event is what some change comes to after the set, in the times of its segment
-abbrev pub is_right : List Element → Segment × Event → Bool
-is_right set e = completes set e.1.body && (nat_le e.0.first e.1.time && nat_le e.1.time e.0.last)
+abbrev pub is_right : List (List ℕ) → List Element → Segment × Event → Bool
+is_right names set e = completes names set e.1.body && (nat_le e.0.first e.1.time && nat_le e.1.time e.0.last)
 
 -- the number of the first event that is not right, after the set, where they are numbered from n on
-abbrev pub first_wrong : ℕ → List Element → List (Segment × Event) → Option ℕ
-first_wrong n set [] = None
-first_wrong n set (e ∷ more) = if is_right set e then first_wrong (n + 1) (forwards set e.1) more else Some n
+abbrev pub first_wrong : List (List ℕ) → ℕ → List Element → List (Segment × Event) → Option ℕ
+first_wrong names n set [] = None
+first_wrong names n set (e ∷ more) = if is_right names set e then first_wrong names (n + 1) (forwards set e.1) more else Some n
 
-abbrev pub right_or : Opening → List (Segment × Event) → Option ℕ → Result (Option Started) StartFault
-right_or o events None = Ok (Some (record { opening = o; events = map (λ (e : Segment × Event). e.1) events }))
+abbrev pub right_or : Opened → List (Segment × Event) → Option ℕ → Result (Option Started) StartFault
+right_or o events None = Ok (Some (record { opened = o; events = map (λ (e : Segment × Event). e.1) events }))
 right_or o events (Some n) = Err (fault.BadRecent n)
 
-abbrev pub started_from : List ℕ → Result Opening Unopened → Result (Option Started) StartFault
+abbrev pub started_from : List ℕ → Result Opened Unopened → Result (Option Started) StartFault
 started_from image (Ok o) =
-    and_then (events_in_pieces image 0 o.segments) (λ events. right_or o events (first_wrong 1 [] events))
+    and_then (events_in_pieces image (length o.names) 0 o.index.segments)
+    (λ events. right_or o events (first_wrong o.names 1 [] events))
 started_from image (Err No_index) = Ok None
 started_from image (Err Not_ours) = Err fault.Foreign
 started_from image (Err (Damaged_at place)) = Err (fault.Damaged place)

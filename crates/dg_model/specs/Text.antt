@@ -1,5 +1,5 @@
 -- The text of a reply.
-use Rattle.std.specs.Prelude.{ℕ, List, [], ◌∷◌, ◌++◌, Some, None, if◌then◌else◌, codes, decimal, slice_index_or}
+use Rattle.std.specs.Prelude.{ℕ, List, [], ◌∷◌, ◌++◌, Some, None, if◌then◌else◌, codes, decimal}
 use Rattle.std.specs.List.{flat_map, join_with_byte}
 use Rattle.dg_model.specs.declared.element.Element.{Element}
 use Rattle.dg_model.specs.declared.element.Element.TheVariants.{Node, Edge, NodeAttr, EdgeAttr}
@@ -10,10 +10,7 @@ use Rattle.dg_model.specs.declared.reply.Refusal.TheVariants as refusal
 use Rattle.dg_model.specs.declared.reply.BodyLine.{BodyLine}
 use Rattle.dg_model.specs.declared.reply.BodyLine.TheVariants as line
 use Rattle.dg_model.specs.declared.reply.Reply.{Reply}
-
--- the text of a name by its number, in a list of names
-abbrev pub name_text : List (List ℕ) → ℕ → List ℕ
-name_text names n = slice_index_or names n []
+use Rattle.dg_model.specs.Names.{name_text}
 
 -- the words of an element's line
 abbrev pub element_words : List (List ℕ) → Element → List (List ℕ)
@@ -39,6 +36,7 @@ refusal_words (refusal.OutOfRange None) = codes "7" ∷ codes "out-of-range" ∷
 refusal_words (refusal.OutOfRange (Some ends)) = codes "7" ∷ codes "out-of-range" ∷ decimal ends.0 ∷ decimal ends.1 ∷ []
 refusal_words (refusal.UnknownHandle handle) = codes "8" ∷ codes "unknown-handle" ∷ decimal handle ∷ []
 refusal_words (refusal.PoolFull live asked) = codes "9" ∷ codes "pool-full" ∷ decimal live ∷ decimal asked ∷ []
+refusal_words (refusal.HistoryFull held asked) = codes "12" ∷ codes "history-full" ∷ decimal held ∷ decimal asked ∷ []
 refusal_words (refusal.FileFull needed limit) = codes "13" ∷ codes "file-full" ∷ decimal needed ∷ decimal limit ∷ []
 refusal_words refusal.OutOfMemory = codes "16" ∷ codes "out-of-memory" ∷ []
 refusal_words refusal.LineLong = codes "18" ∷ codes "line-long" ∷ []
@@ -48,6 +46,7 @@ refusal_words refusal.AlreadyLoaded = codes "20" ∷ codes "already-loaded" ∷ 
 abbrev pub head_words : Head → List (List ℕ)
 head_words head.Created = codes "ok" ∷ codes "create" ∷ []
 head_words (head.Loaded events total last) = codes "ok" ∷ codes "load" ∷ decimal events ∷ decimal total ∷ decimal last ∷ []
+head_words (head.Appended events total last) = codes "ok" ∷ codes "append" ∷ decimal events ∷ decimal total ∷ decimal last ∷ []
 head_words (head.At handle weight) = codes "ok" ∷ codes "at" ∷ decimal handle ∷ decimal weight ∷ []
 head_words (head.List handle lines) = codes "ok" ∷ codes "list" ∷ decimal handle ∷ decimal lines ∷ []
 head_words (head.Refused r) = codes "refused" ∷ refusal_words r
@@ -62,7 +61,3 @@ body_text names lines = flat_map (λ l. text_line (body_words names l)) lines
 -- the head line, the body's lines, and `end`
 abbrev pub text : List (List ℕ) → Reply → List ℕ
 text names r = text_line (head_words r.head) ++ body_text names r.body ++ text_line (codes "end" ∷ [])
-
--- the texts of replies, one after another
-abbrev pub texts : List (List ℕ) → List Reply → List ℕ
-texts names replies = flat_map (text names) replies

@@ -8,6 +8,8 @@ pub enum Command {
     Create { l: u32, k: u32, function: Function },
     /// Read `count` change lines, and add them to the empty history as one batch.
     Load { count: u32 },
+    /// Read `count` change lines, and add them to the history as its next batch.
+    Append { count: u32 },
     /// Retrieve the graph as of the instant `t`, in these columns, as a new handle.
     At { t: u64, cols: Columns },
     /// List the elements of a handle.

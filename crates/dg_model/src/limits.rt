@@ -5,6 +5,8 @@ ghost use Rattle.std.specs.Prelude.{◌≡◌};
 pub struct Limits {
     /// How many bytes of the script may be taken. A script has to have fewer.
     pub script_bytes: u64,
+    /// How many events a history may have.
+    pub events: u64,
     /// How many bytes of the index file may be in use.
     pub file_bytes: u64,
 }
@@ -24,6 +26,15 @@ pub const BATCH_LINES_MAX: u32 = 65_536;
 /// The most events of a history: 2^28.
 pub const EVENTS_MAX: u64 = 268_435_456;
 
+/// The most bytes of a name: of a key or of a value.
+pub const NAME_BYTES_MAX: usize = 1024;
+
+/// The most bytes of a key.
+pub const KEY_BYTES_MAX: usize = 64;
+
+/// The most names of a history: 2^30.
+pub const NAMES_MAX: u32 = 1_073_741_824;
+
 /// The last instant.
 pub const TIME_MAX: u64 = 9_223_372_036_854_775_807;
 
@@ -36,10 +47,11 @@ pub const FIRST_HANDLE: u32 = 1;
 impl Limits {
     /// The limits of the program.
     pub fn standard() -> Limits
-        ensures { result ≡ record { script_bytes = SCRIPT_BYTES_MAX; file_bytes = FILE_BYTES_MAX } }
+        ensures { result ≡ record { script_bytes = SCRIPT_BYTES_MAX; events = EVENTS_MAX; file_bytes = FILE_BYTES_MAX } }
     {
         Limits {
             script_bytes: SCRIPT_BYTES_MAX,
+            events: EVENTS_MAX,
             file_bytes: FILE_BYTES_MAX,
         }
     }

@@ -20,6 +20,8 @@ pub enum Head {
     Created,
     /// A batch was loaded: its events, the events of the history, and the last instant.
     Loaded { events: u64, total: u64, last: u64 },
+    /// A batch was appended: its events, the events of the history, and the last instant.
+    Appended { events: u64, total: u64, last: u64 },
     /// A graph was retrieved as this handle, by a plan of this weight.
     At { handle: u32, weight: u64 },
     /// The elements of a handle: as many lines follow.
@@ -49,6 +51,8 @@ pub enum Refusal {
     UnknownHandle(u32),
     /// 9: too many handles; those that live and those asked for.
     PoolFull(u32, u32),
+    /// 12: the history has no room for the batch; the events held, and the events of the batch.
+    HistoryFull(u64, u64),
     /// 13: the file has no room for the batch; the bytes that it would take, and the limit.
     FileFull(u64, u64),
     /// 16: want of memory.

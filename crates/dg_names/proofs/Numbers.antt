@@ -13,8 +13,9 @@ use Rattle.std.proofs.lemmas.Slice.Eq.{bytes_eq-Decides}
 use Rattle.std.specs.List.{IsDistinct, AllByRecursion, All, Contains, list_any, position_or_len}
 use Rattle.std.specs.Option.{unwrap_or, option_map}
 use Rattle.std.specs.Str.{bytes_eq}
-use Rattle.dg_names.specs.Names.{number_of, added, AreFew, AreShort}
-use Rattle.dg_names.specs.declared.names.TheConstants.{NAMES_MAX, TEXT_BYTES_MAX}
+use Rattle.dg_model.specs.Names.{number_of, added}
+use Rattle.dg_names.specs.Names.{AreFew, AreShort}
+use Rattle.dg_model.specs.declared.limits.TheConstants.{NAMES_MAX, NAME_BYTES_MAX}
 
 -- ---- a test of the first place
 
@@ -128,10 +129,10 @@ module _ {K : Type 0} (v : K → List ℕ) where
   key_stands keys x k n text at is same = slice_get-map v keys n ∙ ap (option_map v) at ∙ ap Some (same_text (v k) (v x) same ∙ is)
 
   -- a key's text is short, as each of the names is
-  pub short_key : (keys : List K) (k : K) (n : ℕ) → Some k ≡ slice_get keys n → AreShort (map v keys) → length (v k) ≤ TEXT_BYTES_MAX
+  pub short_key : (keys : List K) (k : K) (n : ℕ) → Some k ≡ slice_get keys n → AreShort (map v keys) → length (v k) ≤ NAME_BYTES_MAX
   short_key keys k n at short =
       let here : slice_get (map v keys) n ≡ Some (v k) = slice_get-map v keys n ∙ ap (option_map v) (sym at) in
-      subst (λ t. length t ≤ TEXT_BYTES_MAX) (get_or_from_slice_get (map v keys) n (v k) (v k) here) (short n (v k) (slice_get_within (map v keys) n (v k) here))
+      subst (λ t. length t ≤ NAME_BYTES_MAX) (get_or_from_slice_get (map v keys) n (v k) (v k) here) (short n (v k) (slice_get_within (map v keys) n (v k) here))
 
 -- the list with the text is then the list and the text
 pub added_last : (names : List (List ℕ)) (text : List ℕ) → number_of names text ≡ None → added names text ≡ names ++ text ∷ []
@@ -151,9 +152,9 @@ stays names new text e n earlier at = ap (λ l. slice_get l n) e ∙ in_front na
 pub fits_cut : (names cut : List (List ℕ)) (n : ℕ) → cut ≡ take n names → AreFew names × AreShort names → AreFew cut × AreShort cut
 fits_cut names cut n e fits =
     let fewer = length-take n names in
-    subst (λ l. AreFew l × AreShort l) (sym e) (omega (arith, fewer, fits.0), All-take (λ t. length t ≤ TEXT_BYTES_MAX) n names fits.1)
+    subst (λ l. AreFew l × AreShort l) (sym e) (omega (arith, fewer, fits.0), All-take (λ t. length t ≤ NAME_BYTES_MAX) n names fits.1)
 
-pub fits_grown : (names new : List (List ℕ)) (text : List ℕ) → new ≡ names ++ text ∷ [] → AreFew names × AreShort names → length names < NAMES_MAX → length text ≤ TEXT_BYTES_MAX → AreFew new × AreShort new
+pub fits_grown : (names new : List (List ℕ)) (text : List ℕ) → new ≡ names ++ text ∷ [] → AreFew names × AreShort names → length names < NAMES_MAX → length text ≤ NAME_BYTES_MAX → AreFew new × AreShort new
 fits_grown names new text e fits room short =
     let longer = length-append names (text ∷ []) in
-    subst (λ l. AreFew l × AreShort l) (sym e) (omega (arith, longer, room), All-push (λ t. length t ≤ TEXT_BYTES_MAX) names text fits.1 short)
+    subst (λ l. AreFew l × AreShort l) (sym e) (omega (arith, longer, room), All-push (λ t. length t ≤ NAME_BYTES_MAX) names text fits.1 short)

@@ -6,4 +6,5 @@ mod names;
 #[cfg(test)]
 mod tests;
 
-pub use names::{NAMES_MAX, Names, TEXT_BYTES_MAX};
+pub use dg_model::{NAME_BYTES_MAX, NAMES_MAX};
+pub use names::Names;

@@ -1,20 +1,16 @@
 ghost use Rattle.std.specs.Prelude.{◌≡◌, ◌≤◌, ◌<◌, ℕ, List, [], length, take, None, Some, slice_get, option_copied, IsTrue, ◌↔◌, IfOk, IfSome, IfNone, OnOk, OnErr};
 ghost use Rattle.std.specs.List.{IsDistinct, Contains};
 ghost use Rattle.std.specs.Str.{bytes_eq};
-ghost use Rattle.dg_names.specs.Names.{number_of, added, AreFew, AreShort};
+ghost use Rattle.dg_model.specs.Names.{number_of, added};
+ghost use Rattle.dg_names.specs.Names.{AreFew, AreShort};
 
+use dg_model::{NAME_BYTES_MAX, NAMES_MAX};
 use indexmap::IndexSet;
 use std::alloc::{AllocError, Global};
 use std::marker::Model;
 
-/// The most bytes that a name may have.
-pub const TEXT_BYTES_MAX: usize = 1_024;
-
-/// The most names that a list may have, so that each number fits a `u32`.
-pub const NAMES_MAX: u32 = 1_073_741_824;
-
 /// A list of names, seen as the list of their texts. They are distinct, each has at most
-/// `TEXT_BYTES_MAX` bytes, and there are at most `NAMES_MAX`. The number of a name is its place.
+/// `NAME_BYTES_MAX` bytes, and there are at most `NAMES_MAX`. The number of a name is its place.
 #[derive(Drop)]
 pub struct Names {
     texts: IndexSet<Vec<u8>>,
@@ -82,7 +78,7 @@ impl Names {
     /// The text of a number, or `None` where the list has no such number.
     pub fn text(&self, number: u32) -> Option<&[u8]>
         ensures text { option_copied result ≡ slice_get self.now number }
-        ensures short { IfSome result (λ text. length text.now ≤ TEXT_BYTES_MAX) }
+        ensures short { IfSome result (λ text. length text.now ≤ NAME_BYTES_MAX) }
     {
         let text = self.texts.get_index(number as usize)?;
         Some(text.as_slice())
@@ -91,7 +87,7 @@ impl Names {
     /// The number of the text, which is appended where it is not in the list yet. A text that is
     /// there takes no memory. An `Err` says that memory ran out, and the list is as it was.
     pub fn add(&mut self, text: &[u8]) -> Result<u32, AllocError>
-        requires short { length text.now ≤ TEXT_BYTES_MAX }
+        requires short { length text.now ≤ NAME_BYTES_MAX }
         requires room { length self.old < NAMES_MAX }
         ensures added { OnOk result (self.new ≡ added self.old text.now) }
         ensures number { IfOk result (λ n. number_of self.new text.now ≡ Some n) }

@@ -1,9 +1,9 @@
-use crate::{NAMES_MAX, Names, TEXT_BYTES_MAX};
+use crate::{NAME_BYTES_MAX, NAMES_MAX, Names};
 use std::test::Fail;
 
 // The number of the text, which fails where the list has no room or the text is too long.
 fn add(names: &mut Names, text: &[u8]) -> Result<u32, Fail> {
-    if text.len() > TEXT_BYTES_MAX || names.len() >= NAMES_MAX {
+    if text.len() > NAME_BYTES_MAX || names.len() >= NAMES_MAX {
         return Err("no room".into());
     }
     Ok(names.add(text)?)
@@ -47,7 +47,7 @@ fn a_cut_forgets_the_later_names(rt: HostRuntime) -> Result<(), Fail> {
 
 #[test]
 fn the_empty_text_and_the_longest_are_names(rt: HostRuntime) -> Result<(), Fail> {
-    let longest = [b'x'; TEXT_BYTES_MAX];
+    let longest = [b'x'; NAME_BYTES_MAX];
     let mut names = Names::new(rt.alloc());
     assert_eq!(rt; add(&mut names, b"".as_slice())?, 0);
     assert_eq!(rt; add(&mut names, longest.as_slice())?, 1);

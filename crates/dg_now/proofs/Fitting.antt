@@ -13,7 +13,7 @@ use Rattle.dg_model.specs.declared.event.What.{What}
 use Rattle.dg_model.specs.declared.event.What.TheVariants.{AddNode, RemoveNode, AddEdge, RemoveEdge, SetNode, UnsetNode, SetEdge, UnsetEdge}
 use Rattle.dg_model.specs.declared.event.TheConstants.{REASON_NODE_EXISTS, REASON_NO_NODE, REASON_NODE_IN_USE, REASON_EDGE_EXISTS, REASON_NO_EDGE, REASON_NO_END, REASON_TIME}
 use Rattle.dg_model.specs.Batch.{event_of, on_value}
-use Rattle.dg_model.specs.Completion.{complete, has_node, edge_of, needs_node, needs_edge, edge_removal, node_value, edge_value, value_in, value_removal, is_found, is_value_change, completes}
+use Rattle.dg_model.specs.Completion.{complete, has_node, edge_of, needs_node, needs_edge, edge_removal, node_value, edge_value, value_in, value_removal, is_found, is_value_change, is_change_of}
 use Rattle.dg_model.specs.Graph.{has_needs}
 use Rattle.dg_model.proofs.Sets.{element_exact}
 use Rattle.dg_now.specs.declared.place.Place.TheVariants.{Node, Edge, NodeValue, EdgeValue}
@@ -236,14 +236,14 @@ module _ (set : List Element) where
 
   -- ---- an event that is followed
 
-  added_node : (id : ℕ) → completes set (body.NodeAdded id) ≡ true → CanHappen set (body.NodeAdded id)
+  added_node : (id : ℕ) → is_change_of set (body.NodeAdded id) ≡ true → CanHappen set (body.NodeAdded id)
   added_node id e = record {
     before = none_from (at set (Node id)) (has_node_is set id ∙ not_true (has_node set id) e);
     fed = refl;
     free = λ none. cc;
   }
 
-  removed_node : (id : ℕ) → completes set (body.NodeRemoved id) ≡ true → CanHappen set (body.NodeRemoved id)
+  removed_node : (id : ℕ) → is_change_of set (body.NodeRemoved id) ≡ true → CanHappen set (body.NodeRemoved id)
   removed_node id e =
       let parts = both (has_node set id) (not (list_any (needs_node id) set)) e in
       record {
@@ -252,7 +252,7 @@ module _ (set : List Element) where
         free = λ none. not_true (list_any (needs_node id) set) parts.1;
       }
 
-  added_edge : (id s d : ℕ) (b : Bool) → completes set (body.EdgeAdded id s d b) ≡ true → CanHappen set (body.EdgeAdded id s d b)
+  added_edge : (id s d : ℕ) (b : Bool) → is_change_of set (body.EdgeAdded id s d b) ≡ true → CanHappen set (body.EdgeAdded id s d b)
   added_edge id s d b e =
       let parts = both (not (is_some (edge_of set id))) (has_node set s && has_node set d) e in
       record {
@@ -261,7 +261,7 @@ module _ (set : List Element) where
         free = λ none. cc;
       }
 
-  removed_edge : (id s d : ℕ) (b : Bool) → completes set (body.EdgeRemoved id s d b) ≡ true → CanHappen set (body.EdgeRemoved id s d b)
+  removed_edge : (id s d : ℕ) (b : Bool) → is_change_of set (body.EdgeRemoved id s d b) ≡ true → CanHappen set (body.EdgeRemoved id s d b)
   removed_edge id s d b e =
       let parts = both (is_found (edge_of set id) (element.Edge id s d b)) (not (list_any (needs_edge id) set)) e in
       record {
@@ -270,7 +270,7 @@ module _ (set : List Element) where
         free = λ none. not_true (list_any (needs_edge id) set) parts.1;
       }
 
-  moved_node_value : (id key : ℕ) (old new : Option ℕ) → completes set (body.NodeAttr id key old new) ≡ true → CanHappen set (body.NodeAttr id key old new)
+  moved_node_value : (id key : ℕ) (old new : Option ℕ) → is_change_of set (body.NodeAttr id key old new) ≡ true → CanHappen set (body.NodeAttr id key old new)
   moved_node_value id key old new e =
       let parts = both (has_node set id) (is_value_change (node_value set id key) old new) e in
       record {
@@ -279,7 +279,7 @@ module _ (set : List Element) where
         free = λ none. none_needs set;
       }
 
-  moved_edge_value : (id key : ℕ) (old new : Option ℕ) → completes set (body.EdgeAttr id key old new) ≡ true → CanHappen set (body.EdgeAttr id key old new)
+  moved_edge_value : (id key : ℕ) (old new : Option ℕ) → is_change_of set (body.EdgeAttr id key old new) ≡ true → CanHappen set (body.EdgeAttr id key old new)
   moved_edge_value id key old new e =
       let parts = both (is_some (edge_of set id)) (is_value_change (edge_value set id key) old new) e in
       record {
@@ -289,7 +289,7 @@ module _ (set : List Element) where
       }
 
   -- an event to which some change comes can happen
-  followed_happens : (b : Body) → completes set b ≡ true → CanHappen set b
+  followed_happens : (b : Body) → is_change_of set b ≡ true → CanHappen set b
   followed_happens (body.NodeAdded id) e = added_node id e
   followed_happens (body.NodeRemoved id) e = removed_node id e
   followed_happens (body.EdgeAdded id s d b) e = added_edge id s d b e
@@ -298,5 +298,5 @@ module _ (set : List Element) where
   followed_happens (body.EdgeAttr id key old new) e = moved_edge_value id key old new e
 
 -- the same by an answer that was given in a set that is this one
-pub followed_still : (old new : List Element) (b : Body) (answer : Bool) → new ≡ old → answer ≡ completes old b → answer ≡ true → CanHappen new b
-followed_still old new b answer is exact holds = followed_happens new b (ap (λ s. completes s b) is ∙ sym exact ∙ holds)
+pub followed_still : (old new : List Element) (b : Body) (answer : Bool) → new ≡ old → answer ≡ is_change_of old b → answer ≡ true → CanHappen new b
+followed_still old new b answer is exact holds = followed_happens new b (ap (λ s. is_change_of s b) is ∙ sym exact ∙ holds)

@@ -1,7 +1,7 @@
 ghost use Rattle.std.specs.Prelude.{◌≡◌, ◌&&◌, option_and_then};
 ghost use Rattle.dg_model.specs.declared.event.What.TheVariants as what;
 ghost use Rattle.dg_model.specs.Batch.{event_of};
-ghost use Rattle.dg_model.specs.Completion.{has_node, edge_of, node_value, edge_value, value_in, complete, is_found, is_value_change, completes};
+ghost use Rattle.dg_model.specs.Completion.{has_node, edge_of, node_value, edge_value, value_in, complete, is_found, is_value_change, is_change_of};
 
 use crate::held::Held;
 use crate::place::Place;
@@ -219,8 +219,8 @@ fn unset_edge(graph: &Held, id: u64, key: u32) -> Result<Body, u8>
 }
 
 /// Whether some change comes to this in the graph.
-pub(crate) fn completes(graph: &Held, body: &Body) -> bool
-    ensures { result ≡ completes graph.now.set body.now }
+pub(crate) fn is_change_of(graph: &Held, body: &Body) -> bool
+    ensures { result ≡ is_change_of graph.now.set body.now }
 {
     match *body {
         Body::NodeAdded { id } => !has_node(graph, id),

@@ -1,5 +1,5 @@
 ghost use Rattle.std.specs.Prelude.{◌≡◌, ◌<◌, ◌≤◌, ◌^◌, ◌&&◌, not, is_some, [], Ok, length, IfOk, IfErr, IfSome, OnErr, IsErrOf, if◌then◌else◌};
-ghost use Rattle.dg_model.specs.Completion.{has_node, edge_of, node_value, edge_value, completes};
+ghost use Rattle.dg_model.specs.Completion.{has_node, edge_of, node_value, edge_value, is_change_of};
 ghost use Rattle.dg_model.specs.Effect.{forwards};
 ghost use Rattle.dg_model.specs.Graph.{IsGraph, has_needs};
 ghost use Rattle.dg_model.specs.Elements.{IsSet};
@@ -7,7 +7,7 @@ ghost use Rattle.dg_model.specs.Replay.{replay_from};
 ghost use Rattle.dg_now.specs.Places.{place_of, at};
 ghost use Rattle.dg_now.specs.Now.{NowState, earliest_after, batch_in, FaultOf, ends_in};
 
-use crate::completing::{completes, edge_of, has_node, value_in};
+use crate::completing::{edge_of, has_node, is_change_of, value_in};
 use crate::fault::{FromFault, PrepareFault};
 use crate::held::Held;
 use crate::listing::{first_changes, push, stood_at};
@@ -134,12 +134,12 @@ impl Now {
     /// An `Err` says that memory ran out, and nothing has changed.
     pub fn follow(&mut self, event: &Event) -> Result<bool, AllocError>
         requires none_pending { self.old.pending ≡ [] }
-        ensures went { IfOk result (λ went. went ≡ completes self.old.graph event.now.body) }
+        ensures went { IfOk result (λ went. went ≡ is_change_of self.old.graph event.now.body) }
         ensures on { IfOk result (λ went. self.new.graph ≡ (if went then forwards self.old.graph event.now else self.old.graph)) }
         ensures none { self.new.pending ≡ [] }
         ensures err { OnErr result (self.new ≡ self.old) }
     {
-        if !completes(&self.held, &event.body) {
+        if !is_change_of(&self.held, &event.body) {
             return Ok(false);
         }
         self.held.reserve(1)?;

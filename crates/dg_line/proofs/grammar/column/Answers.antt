@@ -17,8 +17,9 @@ loop-command-init c = record {
 pub command_front-requires : goal.command_front-requires
 command_front-requires c =
     let n32 = sound_number 0 4294967295 (omega arith) (omega arith) (omega arith) in
-    at_each {X = Bor (List Slot)} (λ i places. AreSound places.now) _ _ _ _ _ c.loop-command.command-index (omega arith)
+    at_each {X = Bor (List Slot)} (λ i places. AreSound places.now) _ _ _ _ _ _ c.loop-command.command-index (omega arith)
     (sound_words _ refl (omega arith), (n32, (n32, (sound_words _ refl (omega arith), tt))))
+    (sound_words _ refl (omega arith), (sound_number 1 65536 (omega arith) (omega arith) (omega arith), tt))
     (sound_words _ refl (omega arith), (sound_number 1 65536 (omega arith) (omega arith) (omega arith), tt)) (
       sound_words _ refl (omega arith),
       (sound_number 0 9223372036854775807 (omega arith) (omega arith) (omega arith), (sound_words _ refl (omega arith), tt)),
@@ -32,8 +33,8 @@ loop-command-preserved c =
     let n = c.command_front.result in
     let is : c.max-longest.result ≡ max l.longest n = search rules in
     let here : IsFront (IsForm l.command-index) line n =
-    at_each {X = Bor (List Slot)} (λ i places. IsFront (IsLineOf places.now) line n → IsFront (IsForm i) line n) _ _ _ _ _ l.command-index (omega arith)
-    (λ f. f) (λ f. f) (λ f. f) (λ f. f) c.command_front.ensures in
+    at_each {X = Bor (List Slot)} (λ i places. IsFront (IsLineOf places.now) line n → IsFront (IsForm i) line n) _ _ _ _ _ _ l.command-index (omega arith)
+    (λ f. f) (λ f. f) (λ f. f) (λ f. f) (λ f. f) c.command_front.ensures in
     let short : n ≤ 84 = front_short l.command-index line n here in
     record {
       short = omega arith;
@@ -45,7 +46,7 @@ loop-command-preserved c =
 pub returns : goal.returns
 returns c =
     let l = c.loop-command in
-    let end : l.command-index ≡ 4 = omega arith in
+    let end : l.command-index ≡ 5 = omega arith in
     let is : c.saturating_add.result ≡ l.longest + 1 = search rules in
     column_is c.args.line.now l.longest c.saturating_add.result l.invariant.within is l.invariant.begins
     (λ j below. l.invariant.longest j (omega arith))

@@ -1,4 +1,4 @@
-use Rattle.std.proofs.Common.{◌+◌, [], map, take, drop, arith}
+use Rattle.std.proofs.Common.{◌+◌, ◌++◌, map, take, drop, arith}
 use Rattle.dg_model.specs.Text.{body_text, text_line}
 use Rattle.dg_line.specs.Page.{word_bytes}
 use Rattle.dg_line.proofs.Passing.{going_first, going_next, going_fails, going_line, going_lines_past, on_err}
@@ -6,7 +6,7 @@ use Rattle.dg_line.proofs.reply.put_body.Goals as goal
 
 pub loop-line-init : goal.loop-line-init
 loop-line-init g c = record {
-  going = going_first (g.K.Sink.written c.args.sink.now) c.args.page.now (body_text [] c.args.lines.now);
+  going = going_first (g.K.Sink.written c.args.sink.now) c.args.page.now (body_text c.args.names.now c.args.lines.now);
   counted = omega arith;
 }
 
@@ -15,21 +15,27 @@ returns-in_err-put_line-clause-err g c =
     let lines = c.args.lines.now in
     let i = c.loop-line.line-index in
     let words = map word_bytes (take c.body_row-row.result.len c.body_row-row.result.words) in
-    let here = going_line _ _ _ _ lines i _ words (omega arith) c.body_row-row.ensures.words c.loop-line.invariant.going in
+    let here =
+    going_line c.args.names.now (g.K.Sink.written c.args.sink.now) (g.K.Sink.written c.loop-line.sink)
+    (c.args.page.now ++ body_text c.args.names.now lines) c.loop-line.page lines i _ words (omega arith) c.body_row-row.ensures.words
+    c.loop-line.invariant.going in
     on_err c.from_residual.result
-    (going_fails _ _ _ _ _ (text_line words) (body_text [] (drop (i + 1) lines)) here c.in_err-put_line.ensures.err)
+    (going_fails _ _ _ _ _ (text_line words) (body_text c.args.names.now (drop (i + 1) lines)) here c.in_err-put_line.ensures.err)
 
 pub loop-line-preserved : goal.loop-line-preserved
 loop-line-preserved g c =
     let lines = c.args.lines.now in
     let i = c.loop-line.line-index in
     let words = map word_bytes (take c.body_row-row.result.len c.body_row-row.result.words) in
-    let here = going_line _ _ _ _ lines i _ words (omega arith) c.body_row-row.ensures.words c.loop-line.invariant.going in
+    let here =
+    going_line c.args.names.now (g.K.Sink.written c.args.sink.now) (g.K.Sink.written c.loop-line.sink)
+    (c.args.page.now ++ body_text c.args.names.now lines) c.loop-line.page lines i _ words (omega arith) c.body_row-row.ensures.words
+    c.loop-line.invariant.going in
     record {
-      going = going_next _ _ _ _ _ (text_line words) (body_text [] (drop (i + 1) lines)) _ here c.in_ok-put_line.ensures.ok;
+      going = going_next _ _ _ _ _ (text_line words) (body_text c.args.names.now (drop (i + 1) lines)) _ here c.in_ok-put_line.ensures.ok;
       counted = omega (arith, c.in_ok-put_line.ensures.counted);
     }
 
 pub returns-clause-ok : goal.returns-clause-ok
 returns-clause-ok g c =
-    going_lines_past _ _ _ _ c.args.lines.now c.loop-line.line-index (omega arith) c.loop-line.invariant.going
+    going_lines_past c.args.names.now _ _ _ _ c.args.lines.now c.loop-line.line-index (omega arith) c.loop-line.invariant.going

@@ -10,18 +10,18 @@ returns-in_err-put_body-clause-err g c =
     let words = map word_bytes (take c.head_row-head.result.len c.head_row-head.result.words) in
     let body = c.as_slice.result.now in
     let last = text_line (codes "end" ∷ []) ++ [] in
-    let start = going_reply _ c.args.reply.now _ words body c.new-page.ensures c.head_row-head.ensures.words c.as_slice.ensures in
-    let head = going_next _ _ _ _ _ (text_line words) (body_text [] body ++ last) _ start c.in_ok-put_line.ensures.ok in
-    on_err c.from_residual-in_err-put_body.result (going_fails _ _ _ _ _ (body_text [] body) last head c.in_err-put_body.ensures.err)
+    let start = going_reply c.args.names.now _ c.args.reply.now _ words body c.new-page.ensures c.head_row-head.ensures.words c.as_slice.ensures in
+    let head = going_next _ _ _ _ _ (text_line words) (body_text c.args.names.now body ++ last) _ start c.in_ok-put_line.ensures.ok in
+    on_err c.from_residual-in_err-put_body.result (going_fails _ _ _ _ _ (body_text c.args.names.now body) last head c.in_err-put_body.ensures.err)
 
 pub returns-in_err-put_line-2-clause-err : goal.returns-in_err-put_line-2-clause-err
 returns-in_err-put_line-2-clause-err g c =
     let words = map word_bytes (take c.head_row-head.result.len c.head_row-head.result.words) in
     let body = c.as_slice.result.now in
     let last = text_line (codes "end" ∷ []) in
-    let start = going_reply _ c.args.reply.now _ words body c.new-page.ensures c.head_row-head.ensures.words c.as_slice.ensures in
-    let head = going_next _ _ _ _ _ (text_line words) (body_text [] body ++ (last ++ [])) _ start c.in_ok-put_line.ensures.ok in
-    let lines = going_next _ _ _ _ _ (body_text [] body) (last ++ []) _ head c.in_ok-put_body.ensures.ok in
+    let start = going_reply c.args.names.now _ c.args.reply.now _ words body c.new-page.ensures c.head_row-head.ensures.words c.as_slice.ensures in
+    let head = going_next _ _ _ _ _ (text_line words) (body_text c.args.names.now body ++ (last ++ [])) _ start c.in_ok-put_line.ensures.ok in
+    let lines = going_next _ _ _ _ _ (body_text c.args.names.now body) (last ++ []) _ head c.in_ok-put_body.ensures.ok in
     on_err c.from_residual-in_err-put_line-2.result (going_fails _ _ _ _ _ last [] lines c.in_err-put_line-2.ensures.err)
 
 pub returns-clause-ok : goal.returns-clause-ok
@@ -29,9 +29,9 @@ returns-clause-ok g c =
     let words = map word_bytes (take c.head_row-head.result.len c.head_row-head.result.words) in
     let body = c.as_slice.result.now in
     let last = text_line (codes "end" ∷ []) in
-    let start = going_reply _ c.args.reply.now _ words body c.new-page.ensures c.head_row-head.ensures.words c.as_slice.ensures in
-    let head = going_next _ _ _ _ _ (text_line words) (body_text [] body ++ (last ++ [])) _ start c.in_ok-put_line.ensures.ok in
-    let lines = going_next _ _ _ _ _ (body_text [] body) (last ++ []) _ head c.in_ok-put_body.ensures.ok in
+    let start = going_reply c.args.names.now _ c.args.reply.now _ words body c.new-page.ensures c.head_row-head.ensures.words c.as_slice.ensures in
+    let head = going_next _ _ _ _ _ (text_line words) (body_text c.args.names.now body ++ (last ++ [])) _ start c.in_ok-put_line.ensures.ok in
+    let lines = going_next _ _ _ _ _ (body_text c.args.names.now body) (last ++ []) _ head c.in_ok-put_body.ensures.ok in
     let all = going_ends _ _ _ _ (going_next _ _ _ _ _ last [] _ lines c.in_ok-put_line-2.ensures.ok) in
     on_ok_weaker c.flush.result (λ written. passes_written _ _ _ _ _ all written) c.flush.ensures.ok
 
@@ -40,8 +40,8 @@ returns-clause-err g c =
     let words = map word_bytes (take c.head_row-head.result.len c.head_row-head.result.words) in
     let body = c.as_slice.result.now in
     let last = text_line (codes "end" ∷ []) in
-    let start = going_reply _ c.args.reply.now _ words body c.new-page.ensures c.head_row-head.ensures.words c.as_slice.ensures in
-    let head = going_next _ _ _ _ _ (text_line words) (body_text [] body ++ (last ++ [])) _ start c.in_ok-put_line.ensures.ok in
-    let lines = going_next _ _ _ _ _ (body_text [] body) (last ++ []) _ head c.in_ok-put_body.ensures.ok in
+    let start = going_reply c.args.names.now _ c.args.reply.now _ words body c.new-page.ensures c.head_row-head.ensures.words c.as_slice.ensures in
+    let head = going_next _ _ _ _ _ (text_line words) (body_text c.args.names.now body ++ (last ++ [])) _ start c.in_ok-put_line.ensures.ok in
+    let lines = going_next _ _ _ _ _ (body_text c.args.names.now body) (last ++ []) _ head c.in_ok-put_body.ensures.ok in
     let all = going_ends _ _ _ _ (going_next _ _ _ _ _ last [] _ lines c.in_ok-put_line-2.ensures.ok) in
     on_err_weaker c.flush.result (λ part. passes_fails _ _ _ _ _ all part) c.flush.ensures.err

@@ -10,8 +10,8 @@ use Rattle.dg_now.proofs.now.Now.follow.Goals as goal
 
 pub apply-requires-clause-happens : goal.apply-requires-clause-happens
 apply-requires-clause-happens c =
-    followed_still c.self.inside.held.set c.reserve.new.self.set c.args.event.now.body c.completes.result
-    c.in_ok-reserve.ensures.set c.completes.ensures c.if-not-completes.false
+    followed_still c.self.inside.held.set c.reserve.new.self.set c.args.event.now.body c.is_change_of.result
+    c.in_ok-reserve.ensures.set c.is_change_of.ensures c.if-not-is_change_of.false
 
 pub invariant_of-self-2 : goal.invariant_of-self-2
 invariant_of-self-2 c =
@@ -22,6 +22,6 @@ invariant_of-self-2 c =
     let none : events ≡ [] = ap (λ (s : NowState). s.pending) c.self.view_is ∙ c.requires.none_pending in
     let before : IsGraph room.set = subst IsGraph (sym c.in_ok-reserve.ensures.set) (led_is_graph (rewound held.set events) events held c.self.invariant) in
     let happens : CanHappen room.set b =
-    followed_still held.set room.set b c.completes.result c.in_ok-reserve.ensures.set c.completes.ensures c.if-not-completes.false in
+    followed_still held.set room.set b c.is_change_of.result c.in_ok-reserve.ensures.set c.is_change_of.ensures c.if-not-is_change_of.false in
     let after : IsGraph c.apply.new.graph.set = subst IsGraph (sym c.apply.ensures.set) (graph_forwards room.set b before happens) in
     subst (λ (es : List Event). Led (rewound c.apply.new.graph.set es) es c.apply.new.graph) (sym none) (led_none c.apply.new.graph after)
