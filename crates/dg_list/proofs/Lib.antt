@@ -1,0 +1,4 @@
+pub mod Nets
+pub mod Finding
+pub mod Keeping
+pub mod Exact

@@ -1,0 +1,8 @@
+use Rattle.std.proofs.lemmas.Result.{IfOk-weaker}
+use Rattle.dg_model.specs.Replay.{events_until}
+use Rattle.dg_list.proofs.Nets.{replays}
+use Rattle.dg_list.proofs.net.net_to.Goals as goal
+
+pub returns-clause-applies : goal.returns-clause-applies
+returns-clause-applies c =
+    IfOk-weaker c.net_on.result _ _ (λ d composes. replays d (events_until c.args.events.now c.args.t) composes) c.net_on.ensures

@@ -1,0 +1,62 @@
+ghost use Rattle.std.specs.Prelude.{◌≡◌, ◌++◌, List, filter, map, reverse, IfOk};
+ghost use Rattle.dg_model.specs.declared.element.Element.{Element};
+ghost use Rattle.dg_model.specs.Composition.{Composes, applied, reversed};
+ghost use Rattle.dg_model.specs.Elements.{IsSet};
+ghost use Rattle.dg_model.specs.Replay.{events_until, replay_from};
+ghost use Rattle.dg_list.specs.Lists.{effect_of, counts, AreChangesOf};
+
+use crate::run::{run_back, run_on};
+use dg_delta::Delta;
+use dg_event::Event;
+use std::alloc::{AllocError, Global};
+
+/// So many events, or fewer, are taken one after another; more are cut into halves, whose nets are
+/// composed.
+const RUN_EVENTS_MAX: usize = 64;
+
+/// The net of the events up to the instant `t`, and with it. The times may be in any order. An `Err`
+/// says that memory ran out.
+pub fn net_to(alloc: Global, events: &[Event], t: u64) -> Result<Delta, AllocError>
+    ensures composes { IfOk result (λ d. Composes d (map effect_of (events_until events.now t))) }
+    ensures applies { IfOk result (λ d. (set : List Element) → IsSet set
+        → applied d set ≡ replay_from set (events_until events.now t)) }
+{
+    net_on(alloc, events, Some(t))
+}
+
+/// The net that leads back over the events, the last one first. An `Err` says that memory ran out.
+pub fn net_back(alloc: Global, events: &[Event]) -> Result<Delta, AllocError>
+    ensures composes { IfOk result (λ d. Composes d (map (λ e. reversed (effect_of e)) (reverse events.now))) }
+    ensures leads_back { IfOk result (λ d. (set : List Element) → IsSet set → AreChangesOf set events.now
+        → applied d (replay_from set events.now) ≡ set) }
+{
+    if events.len() <= RUN_EVENTS_MAX {
+        return run_back(alloc, events);
+    }
+    let (earlier, later) = events.split_at(events.len() / 2);
+    let first = net_back(alloc, later)?;
+    let then = net_back(alloc, earlier)?;
+    first.compose(&then)
+}
+
+/// The net of the events of `left` and then those of `right`. An `Err` says that memory ran out.
+pub fn merge_lists(alloc: Global, left: &[Event], right: &[Event]) -> Result<Delta, AllocError>
+    ensures composes { IfOk result (λ d. Composes d (map effect_of (left.now ++ right.now))) }
+{
+    let first = net_on(alloc, left, None)?;
+    let then = net_on(alloc, right, None)?;
+    first.compose(&then)
+}
+
+/// The net of the events up to the instant, or of all where there is none.
+fn net_on(alloc: Global, events: &[Event], until: Option<u64>) -> Result<Delta, AllocError>
+    ensures { IfOk result (λ d. Composes d (map effect_of (filter (counts until) events.now))) }
+{
+    if events.len() <= RUN_EVENTS_MAX {
+        return run_on(alloc, events, until);
+    }
+    let (earlier, later) = events.split_at(events.len() / 2);
+    let first = net_on(alloc, earlier, until)?;
+    let then = net_on(alloc, later, until)?;
+    first.compose(&then)
+}
