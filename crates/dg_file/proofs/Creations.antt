@@ -1,7 +1,7 @@
 -- What the writes that make an index leave, each of them whole or in part.
-use Rattle.std.proofs.Common.{◌≡◌, ℕ, ◌+◌, ◌-◌, ◌<◌, ◌≤◌, ◌⊎◌, inl, inr, Bool, true, false, List, [], ◌∷◌, ◌++◌, length, get_or, take, drop, Option, Some, None, refl, sym, ap, subst, ◌∙◌, append-nil, arith, length-append, length-drop}
+use Rattle.std.proofs.Common.{◌≡◌, ℕ, ◌+◌, ◌-◌, ◌<◌, ◌≤◌, ◌⊎◌, inl, inr, Bool, true, false, List, [], ◌∷◌, ◌++◌, length, get_or, drop, Option, Some, None, refl, sym, ap, subst, ◌∙◌, append-nil, arith, length-append, length-drop}
 use Rattle.std.specs.Prelude.{◌≢◌, ◌&&◌, ◌||◌, ◌==◌, not, nat_lt, IfSome}
-use Rattle.std.proofs.lemmas.Bool.{cases_lt, lt-ltb, le-ltb, ltb-true, eqb-true, eq-eqb, ne_eqb, false≢true}
+use Rattle.std.proofs.lemmas.Bool.{cases_lt, lt-ltb, ltb-true, eqb-true, eq-eqb, ne_eqb, false≢true}
 use Rattle.std.proofs.lemmas.List.{drop_all}
 use Rattle.dg_disk.specs.Image.{HasPlace, WritesPart, put_at, with_piece}
 use Rattle.dg_model.specs.declared.params.Params.{Params}
@@ -12,7 +12,7 @@ use Rattle.dg_file.specs.Headers.{header_rest}
 use Rattle.dg_file.specs.Images.{IsMadeInPart}
 use Rattle.dg_file.proofs.Fronts.{both}
 use Rattle.dg_file.proofs.Histories.{image_made}
-use Rattle.dg_file.proofs.Moves.{moved_then, moved_put, moved_part, moved_after}
+use Rattle.dg_file.proofs.Moves.{moved_put, moved_part, moved_after}
 
 pub place_zero : (x : Option (List ℕ)) → HasPlace x 0
 place_zero None = tt

@@ -1,25 +1,24 @@
 -- Where the columns of a segment's piece stand in the image.
-use Rattle.std.proofs.Common.{◌≡◌, ℕ, zero, suc, ◌+◌, ◌-◌, ◌<◌, ◌≤◌, Bool, true, false, List, [], ◌∷◌, length, get_or, take, drop, Option, Some, None, Result, Ok, Err, refl, sym, ap, subst, ◌∙◌, arith}
+use Rattle.std.proofs.Common.{◌≡◌, ℕ, zero, suc, ◌+◌, ◌≤◌, List, [], ◌∷◌, ◌++◌, length, take, drop, Option, Some, None, Result, Ok, Err, refl, sym, ap, subst, ◌∙◌, arith}
 use Rattle.std.specs.Prelude.{IfSome, IfOk, IsSome, slice_get}
-use Rattle.std.specs.Map.{lookup}
-use Rattle.std.specs.Option.{option_map, is_some}
+use Rattle.std.specs.Option.{option_map}
 use Rattle.dg_disk.specs.Image.{HasRange}
 use Rattle.dg_model.specs.declared.element.Column.{Column}
 use Rattle.dg_model.specs.declared.element.Column.TheVariants as column
 use Rattle.dg_model.specs.declared.node.Key.{Key}
 use Rattle.dg_model.specs.declared.node.Key.TheVariants as key
-use Rattle.dg_model.specs.Keys.{same_key}
-use Rattle.dg_model.specs.Opening.{Segment, Opening, opening, columns_size, column_of_piece, gate_behind, eight_at}
+use Rattle.dg_model.specs.Opening.{Segment, Directory, Opening, columns_size, column_of_piece, gate_behind}
 use Rattle.dg_shape.specs.declared.catalogue.Entry.{Entry}
 use Rattle.dg_shape.specs.Entries.{Holdings, length_in, place_in}
 use Rattle.dg_shape.specs.Held.{entry_of, length_of, place_of}
-use Rattle.dg_file.specs.Headers.{Front}
+use Rattle.dg_file.specs.Headers.{Front, segments_told}
 use Rattle.dg_file.specs.Held.{piece_in, pieces_from}
+use Rattle.dg_file.specs.Images.{IsOpenedAs}
 use Rattle.dg_file.specs.Index.{piece_of}
 use Rattle.dg_file.proofs.Found.{some_weaker}
-use Rattle.dg_file.proofs.Fronts.{stands_from}
+use Rattle.dg_file.proofs.Fronts.{stands_from, stands_told}
 use Rattle.dg_file.proofs.Holding.{look_piece}
-use Rattle.dg_file.proofs.Opened.{opened_to, there_long}
+use Rattle.dg_file.proofs.Opened.{opened_to}
 
 -- the segment that the key names, and what the catalogue tells of it
 pub record Named (o : Opening) (c : Holdings) (k : Key) : Type 0 where
@@ -49,24 +48,28 @@ place_is o c k col n = ap (option_map (λ (e : Entry). place_in e col)) n.entry
 
 -- ---- a piece is within the image
 
-front_piece : (count earliest : ℕ) (image : List ℕ) (gate : ℕ) (segments : List Segment) (end i : ℕ) (s : Segment) → Front count earliest image gate segments end → slice_get segments i ≡ Some s → s.place + columns_size s.lengths ≤ length image
-front_piece count earliest image gate [] end i s f e = absurd cc
-front_piece count earliest image gate (t ∷ segments) end zero s f e =
-    let there = stands_from count earliest image (gate + 1) f.1 in
-    let one : t ≡ s = cc in
-    subst (λ (s : Segment). s.place + columns_size s.lengths ≤ length image) (sym f.2 ∙ one) (omega (arith, there.ends, there.directory, there.columns))
-front_piece count earliest image gate (t ∷ segments) end (suc i) s f e =
-    front_piece (count + t.events) (t.last + 1) image (gate_behind image (gate + 1)) segments end i s f.3 e
+front_piece : (count : ℕ) (names : List (List ℕ)) (earliest : ℕ) (image : List ℕ) (gate : ℕ) (directories : List Directory) (end i : ℕ) (s : Segment) → Front count names earliest image gate directories end → slice_get (segments_told directories) i ≡ Some s → s.place + columns_size s.lengths ≤ length image
+front_piece count names earliest image gate [] end i s f e = absurd cc
+front_piece count names earliest image gate (d ∷ directories) end zero s f e =
+    let there = stands_from count names earliest image (gate + 1) d f.1 in
+    let told = stands_told count names earliest image (gate + 1) d there in
+    let one : d.segment ≡ s = cc in
+    subst (λ (s : Segment). s.place + columns_size s.lengths ≤ length image) one (omega (arith, there.ends, told.says.place_is, told.says.measured))
+front_piece count names earliest image gate (d ∷ directories) end (suc i) s f e =
+    front_piece (count + d.segment.events) (names ++ d.names) (d.segment.last + 1) image (gate_behind image (gate + 1)) directories end i s f.2 e
 
 column_within : (s : Segment) (col : Column) (n : ℕ) → s.place + columns_size s.lengths ≤ n → place_in (piece_in s) col + length_in (piece_in s) col ≤ n
 column_within s column.Structure n le = omega (arith, le)
 column_within s column.NodeAttr n le = omega (arith, le)
 column_within s column.EdgeAttr n le = omega (arith, le)
 
-pub column_there : (x : Option (List ℕ)) (o : Opening) (c : Holdings) (k : Key) (col : Column) (n : Named o c k) → IfSome x (λ image. opening image ≡ Ok o) → HasRange x (place_in (piece_in n.segment) col) (length_in (piece_in n.segment) col)
+pub column_there : (x : Option (List ℕ)) (o : Opening) (c : Holdings) (k : Key) (col : Column) (n : Named o c k) → IfSome x (λ image. IsOpenedAs image o) → HasRange x (place_in (piece_in n.segment) col) (length_in (piece_in n.segment) col)
 column_there x o c k col n h =
-    some_weaker x (λ image. opening image ≡ Ok o) (λ image. place_in (piece_in n.segment) col + length_in (piece_in n.segment) col ≤ length image)
-    (λ image e. let y = opened_to image o e in column_within n.segment col (length image) (front_piece 0 0 image 17 o.segments y.end n.number n.segment y.front n.there)) h
+    some_weaker x (λ image. IsOpenedAs image o) (λ image. place_in (piece_in n.segment) col + length_in (piece_in n.segment) col ≤ length image)
+    (λ image e.
+    let y = opened_to image (record { index = o; names = e.0 }) e.1 in
+    let there = ap (λ (l : List Segment). slice_get l n.number) (sym y.segments) ∙ n.there in
+    column_within n.segment col (length image) (front_piece 0 [] 0 image 17 y.directories y.end n.number n.segment y.front there)) h
 
 -- ---- what is read
 

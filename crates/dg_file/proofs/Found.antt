@@ -1,22 +1,26 @@
 -- What the parts of an image that are read say of it.
-use Rattle.std.proofs.Common.{◌≡◌, ℕ, ◌+◌, ◌-◌, ◌<◌, ◌≤◌, ◌⊎◌, inl, inr, Bool, true, false, cond, List, [], ◌∷◌, ◌++◌, length, get_or, take, drop, slice_range, Option, Some, None, refl, sym, ap, subst, ◌∙◌, add-zero, arith}
-use Rattle.std.specs.Prelude.{◌&&◌, ◌||◌, ◌==◌, not, nat_lt, nat_le, IfSome, Ok, Err}
-use Rattle.std.proofs.lemmas.Bool.{le-ltb, lt-ltb, leb-true, eqb-true, eq-eqb, ne_eqb, false≢true}
+use Rattle.std.proofs.Common.{◌≡◌, ℕ, ◌+◌, ◌-◌, ◌<◌, ◌≤◌, ◌⊎◌, inl, inr, Bool, true, false, cond, List, ◌++◌, length, get_or, take, drop, slice_range, Option, Some, None, refl, sym, ap, subst, ◌∙◌, add-zero, arith, length-append}
+use Rattle.std.specs.Prelude.{◌&&◌, ◌||◌, ◌==◌, not, nat_lt, nat_le, IfSome, Err}
+use Rattle.std.proofs.lemmas.Bool.{le-ltb, lt-ltb, leb-true, eq-eqb, ne_eqb}
 use Rattle.std.proofs.lemmas.List.{take-take, take_at, get_or-take, get_or-drop}
 use Rattle.dg_disk.specs.Counts.{raised_by}
 use Rattle.dg_disk.specs.Image.{IsLengthOf, IsRangeOf, HasRange}
 use Rattle.dg_model.specs.declared.limits.TheConstants.{FILE_BYTES_MAX}
 use Rattle.dg_model.specs.declared.params.Params.{Params}
 use Rattle.dg_model.specs.Legal.{is_blank}
-use Rattle.dg_model.specs.Opening.{Opening, opening, params_in, is_segment, No_index, Not_ours, columns_size, may_follow}
-use Rattle.dg_file.specs.declared.head.Head.{Head}
-use Rattle.dg_file.specs.Headers.{IsFoundIn}
-use Rattle.dg_file.specs.Images.{taken_after}
-use Rattle.dg_file.specs.Heads.{head_at, gate_in, fits_in, is_plain, may_stand, segment_in}
-use Rattle.dg_file.proofs.Fronts.{both, stands_from}
-use Rattle.dg_file.proofs.Heads.{head_read, stands_is}
+use Rattle.dg_model.specs.Opening.{opening, params_in, directory_at, is_within, gate_behind, eight_at, No_index, Not_ours, columns_size}
+use Rattle.dg_file.specs.declared.batch.Noted.{Noted}
+use Rattle.dg_file.specs.declared.fault.ReopenFault.{ReopenFault}
+use Rattle.dg_file.specs.declared.fault.ReopenFault.TheVariants as fault
+use Rattle.dg_file.specs.declared.head.Lengths.{Lengths}
+use Rattle.dg_file.specs.Headers.{IsFoundIn, IsFoundAt}
+use Rattle.dg_file.specs.Held.{segment_in}
+use Rattle.dg_file.specs.Images.{Misses, taken_after}
+use Rattle.dg_file.specs.Heads.{lengths_at, gate_after, fit_in, directory_due, TakesDirectory, Takes}
+use Rattle.dg_file.proofs.Directories.{is_directory, named_few}
+use Rattle.dg_file.proofs.Fronts.{both, text_at, stands_to, stands_none, outside_none}
+use Rattle.dg_file.proofs.Heads.{lengths_read, within_is}
 use Rattle.dg_file.proofs.Opened.{opened_blank, opened_foreign, params_same}
-use Rattle.dg_file.proofs.Ranges.{Same}
 
 pub some_both : (x : Option (List ℕ)) (F G H : List ℕ → Type 0) → ((a : List ℕ) → F a → G a → H a) → IfSome x F → IfSome x G → IfSome x H
 some_both None F G H f p q = tt
@@ -84,46 +88,115 @@ found_image x len gate header params long enough test some g l h =
 
 -- ---- the head of a segment
 
-pub stands_facts : (count earliest at len : ℕ) (h : Head) → may_stand count earliest at len h ≡ true → (h.directory ≡ 60) × (at + 77 + h.blobs ≤ len) × (at + 77 + h.blobs ≤ FILE_BYTES_MAX)
-stands_facts count earliest at len h e =
-    let a = both (fits_in at len h) _ e in
-    let b = both (nat_le (at + 16) len) _ a.0 in
-    let c = both (nat_le (gate_in at h + 1) len) _ b.1 in
-    let d = both (is_plain h) _ a.1 in
-    let f = both (h.directory == 60) _ d.0 in
-    let sixty : h.directory ≡ 60 = eqb-true h.directory 60 f.0 in
-    (sixty, omega (arith, sixty, leb-true (gate_in at h + 1) len c.0), omega (arith, sixty, leb-true (gate_in at h + 1) FILE_BYTES_MAX c.1))
+none_stands : (b : Bool) → (b ≡ true → ⊥) → b ≡ false
+none_stands true f = absurd (f refl)
+none_stands false f = refl
 
-bytes_are : (bytes image : List ℕ) (at : ℕ) → length bytes ≡ 76 → RangeIs at bytes image → bytes ≡ take 76 (drop at image)
-bytes_are bytes image at long is = is ∙ range_is image at (length bytes) ∙ ap (λ n. take n (drop at image)) long
+-- the place has no room for the two lengths and the gate
+pub within_short : (x : Option (List ℕ)) (at len : ℕ) → len - at ≤ 16 → IsLengthOf x len → IfSome x (λ image. is_within image at ≡ false)
+within_short x at len le l =
+    some_weaker x (LengthIs len) (λ image. is_within image at ≡ false)
+    (λ image e. none_stands (is_within image at) (λ there. let ends = both (nat_le (gate_behind image at + 1) (length image)) _ (both (nat_le (at + 16) (length image)) _ there).1 in absurd (omega (arith, e, leb-true (gate_behind image at + 1) (length image) ends.0)))) l
 
-head_in : (bytes image : List ℕ) (at : ℕ) (h : Head) → length bytes ≡ 76 → h ≡ head_at bytes 0 → RangeIs at bytes image → h ≡ head_at image at
-head_in bytes image at h long is r = is ∙ head_read bytes image at (bytes_are bytes image at long r)
+lengths_in : (bytes image : List ℕ) (at : ℕ) (h : Lengths) → length bytes ≡ 16 → h ≡ lengths_at bytes 0 → RangeIs at bytes image → h ≡ lengths_at image at
+lengths_in bytes image at h long is r =
+    is ∙ lengths_read bytes image at (r ∙ range_is image at (length bytes) ∙ ap (λ n. take n (drop at image)) long)
 
-pub found_head : (x : Option (List ℕ)) (bytes : List ℕ) (at : ℕ) (h : Head) → length bytes ≡ 76 → h ≡ head_at bytes 0 → IsRangeOf x at bytes → IfSome x (λ image. h ≡ head_at image at)
-found_head x bytes at h long is r =
-    some_weaker x (RangeIs at bytes) (λ image. h ≡ head_at image at) (λ image k. head_in bytes image at h long is k) r
+pub found_lengths : (x : Option (List ℕ)) (bytes : List ℕ) (at : ℕ) (h : Lengths) → length bytes ≡ 16 → h ≡ lengths_at bytes 0 → IsRangeOf x at bytes → IfSome x (λ image. h ≡ lengths_at image at)
+found_lengths x bytes at h long is r =
+    some_weaker x (RangeIs at bytes) (λ image. h ≡ lengths_at image at) (λ image k. lengths_in bytes image at h long is k) r
 
--- the disk has no segment there, for want of bytes
-none_stands : (b : Bool) (P : Type 0) → (b ≡ true → ⊥) → b ≡ false
-none_stands true P f = absurd (f refl)
-none_stands false P f = refl
+pub within_wrong : (x : Option (List ℕ)) (bytes : List ℕ) (at len : ℕ) (h : Lengths) → length bytes ≡ 16 → h ≡ lengths_at bytes 0 → fit_in at len h ≡ false → IsLengthOf x len → IsRangeOf x at bytes → IfSome x (λ image. is_within image at ≡ false)
+within_wrong x bytes at len h long is wrong l r =
+    some_both x (LengthIs len) (RangeIs at bytes) (λ image. is_within image at ≡ false)
+    (λ image e k. within_is image at ∙ (λ i. fit_in at (sym e i) (sym (lengths_in bytes image at h long is k) i)) ∙ wrong) l r
 
-pub damaged_short : (x : Option (List ℕ)) (count earliest at len : ℕ) → len - at < 77 → IsLengthOf x len → IfSome x (λ image. is_segment count earliest image at ≡ false)
-damaged_short x count earliest at len lt l =
-    some_weaker x (LengthIs len) (λ image. is_segment count earliest image at ≡ false)
-    (λ image e. none_stands (is_segment count earliest image at) ℕ (λ yes_it. let s = stands_from count earliest image at yes_it in absurd (omega (arith, e, s.ends, s.directory)))) l
+pub found_byte : (x : Option (List ℕ)) (bytes : List ℕ) (place byte : ℕ) → length bytes ≡ 1 → byte ≡ get_or bytes 0 0 → IsRangeOf x place bytes → IfSome x (λ image. byte ≡ get_or image place 0)
+found_byte x bytes place byte long b r =
+    some_weaker x (RangeIs place bytes) (λ image. byte ≡ get_or image place 0)
+    (λ image k. let there : bytes ≡ take 1 (drop place image) = k ∙ range_is image place (length bytes) ∙ ap (λ n. take n (drop place image)) long in
+    b ∙ ap (λ (l : List ℕ). get_or l 0 0) there ∙ get_or-take 1 (drop place image) 0 0 (omega arith) ∙ get_or-drop place image 0 0 ∙ ap (λ n. get_or image n 0) (add-zero place)) r
 
-pub damaged_head : (x : Option (List ℕ)) (bytes : List ℕ) (count earliest at len : ℕ) (h : Head) → length bytes ≡ 76 → h ≡ head_at bytes 0 → may_stand count earliest at len h ≡ false → IsLengthOf x len → IsRangeOf x at bytes → IfSome x (λ image. is_segment count earliest image at ≡ false)
-damaged_head x bytes count earliest at len h long is wrong l r =
-    some_both x (LengthIs len) (RangeIs at bytes) (λ image. is_segment count earliest image at ≡ false)
-    (λ image e k. stands_is count earliest image at ∙ (λ i. may_stand count earliest at (sym e i) (sym (head_in bytes image at h long is k) i)) ∙ wrong) l r
+-- what the test of the two lengths says
+pub fit_facts : (at len : ℕ) (h : Lengths) → fit_in at len h ≡ true → (at + 17 + h.directory + h.columns ≤ len) × (at + 17 + h.directory + h.columns ≤ FILE_BYTES_MAX)
+fit_facts at len h e =
+    let a = both (nat_le (at + 16) len) _ e in
+    let b = both (nat_le (gate_after at h + 1) len) _ a.1 in
+    (omega (arith, leb-true (gate_after at h + 1) len b.0), omega (arith, leb-true (gate_after at h + 1) FILE_BYTES_MAX b.1))
 
-pub found_gate : (x : Option (List ℕ)) (gate : List ℕ) (at place byte : ℕ) (h : Head) → place ≡ gate_in at h → length gate ≡ 1 → byte ≡ get_or gate 0 0 → IsRangeOf x place gate → IfSome x (λ image. byte ≡ get_or image (gate_in at h) 0)
-found_gate x gate at place byte h is long b r =
-    some_weaker x (RangeIs place gate) (λ image. byte ≡ get_or image (gate_in at h) 0)
-    (λ image k. let there : gate ≡ take 1 (drop place image) = k ∙ range_is image place (length gate) ∙ ap (λ n. take n (drop place image)) long in
-    b ∙ ap (λ (l : List ℕ). get_or l 0 0) there ∙ get_or-take 1 (drop place image) 0 0 (omega arith) ∙ get_or-drop place image 0 0 ∙ ap (λ n. get_or image n 0) (add-zero place ∙ is)) r
+-- the directory at the place, by the bytes that are read
+text_in : (image bytes : List ℕ) (at : ℕ) (h : Lengths) → h ≡ lengths_at image at → bytes ≡ take h.directory (drop (at + 16) image) → bytes ≡ text_at image at
+text_in image bytes at h is e = e ∙ ap (λ (h : Lengths). take h.directory (drop (at + 16) image)) is
+
+due_in : (count : ℕ) (names : List (List ℕ)) (earliest : ℕ) (image bytes : List ℕ) (at : ℕ) (h : Lengths) → h ≡ lengths_at image at → bytes ≡ take h.directory (drop (at + 16) image)
+    → directory_due count names earliest (eight_at image (at + 8)) (text_at image at) (at + 16 + eight_at image at) ≡ directory_due count names earliest h.columns bytes (at + 16 + h.directory)
+due_in count names earliest image bytes at h is e =
+    λ i. directory_due count names earliest (sym is i).columns (sym (text_in image bytes at h is e) i) (at + 16 + (sym is i).directory)
+
+pub damaged_directory : (x : Option (List ℕ)) (count : ℕ) (names : List (List ℕ)) (earliest : ℕ) (bytes : List ℕ) (at : ℕ) (h : Lengths) → IfSome x (λ image. h ≡ lengths_at image at) → IfSome x (λ image. bytes ≡ take h.directory (drop (at + 16) image))
+    → directory_due count names earliest h.columns bytes (at + 16 + h.directory) ≡ None → IfSome x (λ image. directory_at count names earliest image at ≡ None)
+damaged_directory x count names earliest bytes at h l t none =
+    some_both x (λ image. h ≡ lengths_at image at) (λ image. bytes ≡ take h.directory (drop (at + 16) image)) (λ image. directory_at count names earliest image at ≡ None)
+    (λ image is e. stands_none count names earliest image at (due_in count names earliest image bytes at h is e ∙ none)) l t
+
+pub damaged_outside : (x : Option (List ℕ)) (count : ℕ) (names : List (List ℕ)) (earliest at : ℕ) (f : ReopenFault) → IfSome x (λ image. Misses at (is_within image at ≡ false) f) → IfSome x (λ image. Misses at (directory_at count names earliest image at ≡ None) f)
+damaged_outside x count names earliest at f h =
+    some_weaker x (λ image. Misses at (is_within image at ≡ false) f) (λ image. Misses at (directory_at count names earliest image at ≡ None) f) (by f) h
+  where
+    by : (f : ReopenFault) (image : List ℕ) → Misses at (is_within image at ≡ false) f → Misses at (directory_at count names earliest image at ≡ None) f
+    by (fault.Damaged place) image m = (m.0, outside_none count names earliest image at m.1)
+    by fault.Disk image m = tt
+    by fault.Memory image m = tt
+    by fault.Blank image m = absurd m
+    by fault.Foreign image m = absurd m
+
+-- the disk failed, or memory ran out
+pub misses_else : (x : Option (List ℕ)) (at : ℕ) (F : List ℕ → Type 0) (f : ReopenFault) → (f ≡ fault.Disk) ⊎ (f ≡ fault.Memory) → IfSome x (λ image. Misses at (F image) f)
+misses_else None at F f e = tt
+misses_else (Some image) at F f (inl e) = subst (Misses at (F image)) (sym e) tt
+misses_else (Some image) at F f (inr e) = subst (Misses at (F image)) (sym e) tt
+
+pub found_there : (x : Option (List ℕ)) (count : ℕ) (earliest : ℕ) (old new : List (List ℕ)) (bytes : List ℕ) (at len gate : ℕ) (h : Lengths) (noted : Noted) → fit_in at len h ≡ true → IsLengthOf x len → IfSome x (λ image. h ≡ lengths_at image at) → IfSome x (λ image. bytes ≡ take h.directory (drop (at + 16) image))
+    → TakesDirectory count earliest h.columns bytes (at + 16 + h.directory) old new noted → IfSome x (λ image. gate ≡ get_or image (at + 16 + h.directory + h.columns) 0)
+    → IfSome x (λ image. IsFoundAt count earliest old image at new (record { noted = noted; gate = gate }))
+found_there x count earliest old new bytes at len gate h noted fits l h_is t taken g =
+    some_both x (λ image. (len ≡ length image) × (h ≡ lengths_at image at)) (λ image. (bytes ≡ take h.directory (drop (at + 16) image)) × (gate ≡ get_or image (at + 16 + h.directory + h.columns) 0)) (λ image. IsFoundAt count earliest old image at new (record { noted = noted; gate = gate })) by
+    (some_both x (LengthIs len) (λ image. h ≡ lengths_at image at) (λ image. (len ≡ length image) × (h ≡ lengths_at image at)) (λ image a b. (a, b)) l h_is)
+    (some_both x (λ image. bytes ≡ take h.directory (drop (at + 16) image)) (λ image. gate ≡ get_or image (at + 16 + h.directory + h.columns) 0) (λ image. (bytes ≡ take h.directory (drop (at + 16) image)) × (gate ≡ get_or image (at + 16 + h.directory + h.columns) 0)) (λ image a b. (a, b)) t g)
+  where
+    by : (image : List ℕ) → (len ≡ length image) × (h ≡ lengths_at image at) → (bytes ≡ take h.directory (drop (at + 16) image)) × (gate ≡ get_or image (at + 16 + h.directory + h.columns) 0) → IsFoundAt count earliest old image at new (record { noted = noted; gate = gate })
+    by image a b =
+        let f = fit_facts at len h fits in
+        let place : gate_behind image at ≡ at + 16 + h.directory + h.columns = ap (gate_after at) (sym a.1) in
+        record {
+          names = taken.names;
+          directory = stands_to count old earliest image at (record { segment = segment_in noted; names = taken.names }) (record {
+            begins = omega (arith, a.0, f);
+            ends = omega (arith, place, a.0, f);
+            fits = omega (arith, place, f);
+            due = due_in count old earliest image bytes at h a.1 b.0 ∙ taken.due;
+          });
+          gained = taken.gained;
+          gate = b.1 ∙ ap (λ n. get_or image n 0) (sym place);
+        }
+
+-- what is known of a segment that is taken
+pub takes : (count earliest : ℕ) (old new : List (List ℕ)) (bytes : List ℕ) (at len : ℕ) (h : Lengths) (noted : Noted) → fit_in at len h ≡ true → length bytes ≡ h.directory → TakesDirectory count earliest h.columns bytes (at + 16 + h.directory) old new noted → Takes count earliest old at len new noted
+takes count earliest old new bytes at len h noted fits long taken =
+    let f = fit_facts at len h fits in
+    let d = is_directory count old earliest h.columns bytes (at + 16 + h.directory) (record { segment = segment_in noted; names = taken.names }) taken.due in
+    let number : noted.batch.names ≡ length taken.names = d.number in
+    let place : noted.place ≡ at + 16 + h.directory = d.place_is in
+    let columns : columns_size noted.lengths ≡ h.columns = d.measured in
+    let all = ap length taken.gained ∙ length-append old taken.names in
+    record {
+      follows = d.follows;
+      counted = omega (arith, all, number);
+      few = omega (arith, all, named_few old taken.names d.named);
+      behind = omega (arith, place, d.long, long);
+      within = omega (arith, place, columns, f);
+      fits = omega (arith, place, columns, f);
+    }
 
 pub range_within : (x : Option (List ℕ)) (at n len : ℕ) → at + n ≤ len → IsLengthOf x len → HasRange x at n
 range_within x at n len le l = some_weaker x (LengthIs len) (λ image. at + n ≤ length image) (λ image e. omega (arith, e)) l

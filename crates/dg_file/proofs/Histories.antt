@@ -1,10 +1,9 @@
 -- The images of histories: what they are opened as, and what a batch makes of them.
-use Rattle.std.proofs.Common.{◌≡◌, ℕ, zero, suc, ◌+◌, ◌-◌, ◌^◌, ◌<◌, ◌≤◌, Bool, true, false, cond, List, [], ◌∷◌, ◌++◌, length, get_or, take, drop, map, Option, Some, None, Result, Ok, Err, refl, sym, ap, subst, ◌∙◌, ◌⊎◌, inl, inr, append_assoc, append-nil, arith, length-append}
-use Rattle.std.specs.Prelude.{◌≢◌, All, nat_lt, nat_le, slice_get, codes, ◌==◌, ◌&&◌, ◌||◌, not}
+use Rattle.std.proofs.Common.{◌≡◌, ℕ, suc, ◌+◌, ◌<◌, ◌≤◌, Bool, true, false, cond, List, [], ◌∷◌, ◌++◌, length, get_or, take, drop, map, Some, None, Result, Ok, Err, refl, sym, ap, subst, ◌∙◌, append_assoc, append-nil, arith, length-append}
+use Rattle.std.specs.Prelude.{◌≢◌, All, nat_lt, nat_le, ◌==◌, ◌&&◌, ◌||◌, not}
 use Rattle.std.specs.List.{flat_map}
-use Rattle.std.specs.Str.{bytes_eq}
-use Rattle.std.proofs.lemmas.Bool.{ltb-false, leb-true, eq-eqb, le-ltb}
-use Rattle.std.proofs.lemmas.List.{take_at, drop_at, drop_more, take-append-drop, length-take-le, get_or_at}
+use Rattle.std.proofs.lemmas.Bool.{and_from, ltb-false, leb-true, le-leb, eq-eqb, le-ltb}
+use Rattle.std.proofs.lemmas.List.{take_at, drop_more, take-append-drop, get_or_at}
 use Rattle.std.proofs.lemmas.List.Concat.{flat_map-append}
 use Rattle.std.proofs.lemmas.Option.{slice_get_within, get_or_from_slice_get, slice_get-get_or}
 use Rattle.dg_model.specs.declared.element.Column.TheVariants as column
@@ -12,7 +11,7 @@ use Rattle.dg_model.specs.declared.element.Element.{Element}
 use Rattle.dg_model.specs.declared.event.Body.{Body}
 use Rattle.dg_model.specs.declared.event.Change.{Change}
 use Rattle.dg_model.specs.declared.event.Event.{Event}
-use Rattle.dg_model.specs.declared.limits.TheConstants.{BATCH_LINES_MAX, EVENTS_MAX, FILE_BYTES_MAX, TIME_MAX}
+use Rattle.dg_model.specs.declared.limits.TheConstants.{EVENTS_MAX, FILE_BYTES_MAX, NAMES_MAX, TIME_MAX}
 use Rattle.dg_model.specs.declared.params.Function.{Function}
 use Rattle.dg_model.specs.declared.params.Function.TheVariants as function
 use Rattle.dg_model.specs.declared.params.Params.{Params}
@@ -21,37 +20,32 @@ use Rattle.dg_model.specs.Columns.{four, eight, events_column}
 use Rattle.dg_model.specs.Completion.{complete}
 use Rattle.dg_model.specs.Effect.{forwards}
 use Rattle.dg_model.specs.File.{header, directory, blobs, segment, file, size, first_time_of, function_byte}
-use Rattle.dg_model.specs.History.{History, Batch, are_parameters, with_batch, empty_history, events_of, span_of, last_time_from, earliest_next}
+use Rattle.dg_model.specs.History.{History, Batch, are_parameters, with_batch, empty_history, names_of, span_of, last_time_from, earliest_next}
 use Rattle.dg_model.specs.Legal.{IsLegal, IsLegalBatch, AreLegalAfter, FitsEvent, IsImageOf, is_blank}
-use Rattle.dg_model.specs.Opening.{Segment, Opening, opening, opening_of, segment_of, segments_of, params_in, params_with, function_in, four_at, gate_behind, may_follow}
+use Rattle.dg_model.specs.Names.{are_new}
+use Rattle.dg_model.specs.Opening.{Segment, Directory, opening, opened_of, opening_of, may_be_named, segment_of, segments_of, params_in, params_with, function_in, four_at}
 use Rattle.dg_model.specs.declared.event.TheConstants.{REASON_TIME}
 use Rattle.dg_file.specs.Growth.{Gated, Keeps}
-use Rattle.dg_file.specs.Headers.{Front, header_rest}
-use Rattle.dg_file.specs.Index.{NewSegment, new_segment_of, blobs_size, segment_bytes, segment_put, needed_for, with_segment}
-use Rattle.dg_file.proofs.Opened.{IsOpened, opened_from, not_blank, StandsNew, stands_new, Follows, follows_to, columns_length}
+use Rattle.dg_file.specs.Headers.{Front, header_rest, segments_told, names_told}
+use Rattle.dg_file.specs.Index.{NewSegment, new_segment_of, blobs_size, names_size, names_text, back_bytes, segment_bytes, segment_put, needed_for, with_segment}
+use Rattle.dg_file.proofs.Opened.{opened_from, stands_new, Follows, follows_to, columns_length, directory_put, directory_length}
 use Rattle.dg_file.proofs.Fronts.{both}
+use Rattle.dg_file.proofs.Texts.{new_parts}
 use Rattle.dg_file.proofs.Ranges.{four_read, behind, byte_read, byte_same, same_fewer}
 
--- ---- the segment of a batch without names
+-- ---- the segment of a batch
 
-segment_is : (events : List Event) → segment (record { names = []; events = events }) ≡ segment_bytes (new_segment_of (record { names = []; events = events }))
-segment_is events =
-    ap (λ n. eight 60 ++ (eight n ++ (directory b ++ blobs b))) (columns_length (new_segment_of b))
-  where
-    b : Batch
-    b = record { names = []; events = events }
+pub segment_same : (b : Batch) → segment b ≡ segment_bytes (new_segment_of b)
+segment_same b =
+    let s = new_segment_of b in
+    λ i. eight (directory_length s i) ++ (eight (columns_length s i) ++ (directory b ++ blobs b))
 
-nameless_is : (b : Batch) → b.names ≡ [] → b ≡ record { names = []; events = b.events }
-nameless_is b e = λ i. record { names = e i; events = b.events }
+segment_length_of : (s : NewSegment) → length (segment_bytes s) ≡ 76 + names_size s + blobs_size s
+segment_length_of s =
+    omega (arith, columns_length s, length-append (names_text s) (back_bytes s), length-append (names_text s ++ back_bytes s) (s.structure ++ (s.node_attrs ++ s.edge_attrs)))
 
-pub segment_same : (b : Batch) → b.names ≡ [] → segment b ≡ segment_bytes (new_segment_of b)
-segment_same b e = ap segment (nameless_is b e) ∙ segment_is b.events
-
-segment_length_of : (s : NewSegment) → length (segment_bytes s) ≡ 76 + blobs_size s
-segment_length_of s = omega (arith, columns_length s)
-
-pub segment_length : (b : Batch) → b.names ≡ [] → length (segment b) ≡ 76 + blobs_size (new_segment_of b)
-segment_length b e = ap length (segment_same b e) ∙ segment_length_of (new_segment_of b)
+pub segment_length : (b : Batch) → length (segment b) ≡ 76 + names_size (new_segment_of b) + blobs_size (new_segment_of b)
+segment_length b = ap length (segment_same b) ∙ segment_length_of (new_segment_of b)
 
 -- ---- the file with one batch more
 
@@ -63,12 +57,11 @@ file_more z b =
     ap (λ (l : List ℕ). header z.params ++ l) (flat_map-append (λ (b : Batch). 1 ∷ segment b) z.batches (b ∷ []) ∙ ap (λ (l : List ℕ). body z.batches ++ l) (append-nil (1 ∷ segment b)))
     ∙ sym (append_assoc (header z.params) (body z.batches) (1 ∷ segment b))
 
-pub size_more : (z : History) (b : Batch) → b.names ≡ [] → size (with_batch z b) ≡ size z + 77 + blobs_size (new_segment_of b)
-size_more z b e =
-    omega (arith, ap length (file_more z b), length-append (file z) (1 ∷ segment b), segment_length b e)
+pub size_more : (z : History) (b : Batch) → size (with_batch z b) ≡ size z + 77 + names_size (new_segment_of b) + blobs_size (new_segment_of b)
+size_more z b = omega (arith, ap length (file_more z b), length-append (file z) (1 ∷ segment b), segment_length b)
 
-pub measured : (z : History) (b : Batch) → b.names ≡ [] → needed_for (opening_of z) (new_segment_of b) ≡ size (with_batch z b)
-measured z b e = omega (arith, size_more z b e)
+pub measured : (z : History) (b : Batch) → needed_for (opening_of z) (new_segment_of b) ≡ size (with_batch z b)
+measured z b = omega (arith, size_more z b)
 
 segments_more : (gate : ℕ) (batches : List Batch) (b : Batch) → segments_of gate (batches ++ b ∷ []) ≡ segments_of gate batches ++ segment_of (gate + length (body batches)) b ∷ []
 segments_more gate [] b = ap (λ g. segment_of g b ∷ []) (omega arith)
@@ -79,13 +72,32 @@ segments_more gate (c ∷ batches) b =
 pub header_length : (params : Params) → length (header params) ≡ 17
 header_length params = refl
 
-pub added : (z : History) (b : Batch) → b.names ≡ [] → with_segment (opening_of z) (new_segment_of b) ≡ opening_of (with_batch z b)
-added z b e =
+-- a segment at its place
+segment_placed : Batch → ℕ → Segment
+segment_placed b place = record {
+  events = length b.events;
+  first = first_time_of b.events;
+  last = last_time_from 0 b.events;
+  names = length b.names;
+  lengths =
+      length (events_column column.Structure b.events)
+      ∷ length (events_column column.NodeAttr b.events)
+      ∷ length (events_column column.EdgeAttr b.events) ∷ [];
+  place = place;
+}
+
+pub put_is : (gate at : ℕ) (b : Batch) → at ≡ gate + 1 → segment_put at (new_segment_of b) ≡ segment_of gate b
+unfolding segment_placed
+put_is gate at b e =
+    let place : at + 76 + names_size (new_segment_of b) ≡ gate + 17 + length (directory b) = omega (arith, e, directory_length (new_segment_of b)) in
+    ap (segment_placed b) place
+
+pub added : (z : History) (b : Batch) → with_segment (opening_of z) (new_segment_of b) ≡ opening_of (with_batch z b)
+added z b =
     let long : length (file z) ≡ 17 + length (body z.batches) = length-append (header z.params) (body z.batches) in
-    let place : size z + 76 ≡ 17 + length (body z.batches) + 77 = omega (arith, long) in
-    let one : segment_put (size z) (new_segment_of b) ≡ segment_of (17 + length (body z.batches)) b = ap (λ p. record { events = length b.events; first = first_time_of b.events; last = last_time_from 0 b.events; lengths = length (events_column column.Structure b.events) ∷ length (events_column column.NodeAttr b.events) ∷ length (events_column column.EdgeAttr b.events) ∷ []; place = p }) place in
+    let one = put_is (17 + length (body z.batches)) (size z) b (omega (arith, long)) in
     let all : segments_of 17 z.batches ++ segment_put (size z) (new_segment_of b) ∷ [] ≡ segments_of 17 (z.batches ++ b ∷ []) = ap (λ s. segments_of 17 z.batches ++ s ∷ []) one ∙ sym (segments_more 17 z.batches b) in
-    let used = measured z b e in
+    let used = measured z b in
     λ i. record { params = z.params; segments = all i; used = used i }
 
 -- ---- the times of a legal batch
@@ -128,20 +140,20 @@ completed_rises (c ∷ changes) n earliest set events is =
     let more = completed_rises changes (n + 1) e.time (forwards set e) r.2.0 r.2.1 in
     subst (Rises earliest) r.2.2 (omega (arith, late, due.1), more)
 
-last_in_time : (t : ℕ) (events : List Event) → t ≤ TIME_MAX → All (FitsEvent 0) events → last_time_from t events ≤ TIME_MAX
-last_in_time t [] le all = le
-last_in_time t (e ∷ events) le all =
-    last_in_time e.time events (all 0 e (omega arith)).0 (λ i d lt. all (suc i) d (omega (arith, lt)))
+last_in_time : (names t : ℕ) (events : List Event) → t ≤ TIME_MAX → All (FitsEvent names) events → last_time_from t events ≤ TIME_MAX
+last_in_time names t [] le all = le
+last_in_time names t (e ∷ events) le all =
+    last_in_time names e.time events (all 0 e (omega arith)).0 (λ i d lt. all (suc i) d (omega (arith, lt)))
 
 first_and_last : (t : ℕ) (events : List Event) → 1 ≤ length events → Rises t events → (t ≤ first_time_of events) × (first_time_of events ≤ last_time_from 0 events)
 first_and_last t [] some r = absurd (omega arith)
 first_and_last t (e ∷ events) some r = (r.0, rises_last e.time events r.1)
 
-batch_follows : (before : List Event) (b : Batch) → IsLegalBatch before b → length before + length b.events ≤ EVENTS_MAX → Follows (length before) (earliest_next (span_of before)) (length b.events) (first_time_of b.events) (last_time_from 0 b.events)
-batch_follows before b legal few =
+batch_follows : (names : List (List ℕ)) (before : List Event) (b : Batch) → IsLegalBatch names before b → length before + length b.events ≤ EVENTS_MAX → Follows (length before) (earliest_next (span_of before)) (length b.events) (first_time_of b.events) (last_time_from 0 b.events)
+batch_follows names before b legal few =
     let rises = completed_rises legal.changes 1 (earliest_next (span_of before)) _ b.events legal.comes in
     let ends = first_and_last (earliest_next (span_of before)) b.events legal.some rises in
-    record { some = legal.some; few = legal.few; all = few; later = ends.0; rises = ends.1; in_time = last_in_time 0 b.events (omega arith) legal.fits }
+    record { some = legal.some; few = legal.few; all = few; later = ends.0; rises = ends.1; in_time = last_in_time (length names) 0 b.events (omega arith) legal.fits }
 
 -- the earliest time after events of which the last ones are not none
 last_time_append : (t : ℕ) (xs : List Event) (e : Event) (es : List Event) → last_time_from t (xs ++ e ∷ es) ≡ last_time_from e.time es
@@ -155,39 +167,54 @@ earliest_behind (x ∷ before) (e ∷ events) some = ap (λ n. n + 1) (last_time
 
 -- ---- the segments of a history stand in its image
 
-front_cast : (image : List ℕ) (segments : List Segment) (c1 c2 e1 e2 g1 g2 n1 n2 : ℕ) → c1 ≡ c2 → e1 ≡ e2 → g1 ≡ g2 → n1 ≡ n2 → Front c1 e1 image g1 segments n1 → Front c2 e2 image g2 segments n2
-front_cast image segments c1 c2 e1 e2 g1 g2 n1 n2 c e g n f =
-    subst (λ m. Front m e2 image g2 segments n2) c (subst (λ m. Front c1 m image g2 segments n2) e (subst (λ m. Front c1 e1 image m segments n2) g (subst (Front c1 e1 image g1 segments) n f)))
+front_cast : (names : List (List ℕ)) (image : List ℕ) (directories : List Directory) (c1 c2 e1 e2 g1 g2 n1 n2 : ℕ) → c1 ≡ c2 → e1 ≡ e2 → g1 ≡ g2 → n1 ≡ n2 → Front c1 names e1 image g1 directories n1 → Front c2 names e2 image g2 directories n2
+front_cast names image directories c1 c2 e1 e2 g1 g2 n1 n2 c e g n f =
+    subst (λ m. Front m names e2 image g2 directories n2) c (subst (λ m. Front c1 names m image g2 directories n2) e (subst (λ m. Front c1 names e1 image m directories n2) g (subst (Front c1 names e1 image g1 directories) n f)))
 
-put_is : (gate : ℕ) (b : Batch) → segment_of gate b ≡ segment_put (gate + 1) (new_segment_of b)
-put_is gate b =
-    let place : gate + 77 ≡ gate + 1 + 76 = omega arith in
-    ap (λ p. record { events = length b.events; first = first_time_of b.events; last = last_time_from 0 b.events; lengths = length (events_column column.Structure b.events) ∷ length (events_column column.NodeAttr b.events) ∷ length (events_column column.EdgeAttr b.events) ∷ []; place = p }) place
+-- the directories of the batches, of which the first has its gate at the place
+abbrev pub directories_of : ℕ → List Batch → List Directory
+directories_of gate [] = []
+directories_of gate (b ∷ more) = directory_put (gate + 1) (new_segment_of b) ∷ directories_of (gate + 1 + length (segment b)) more
 
-front_of : (batches : List Batch) (before : List Event) (image : List ℕ) (gate g : ℕ) (rest : List ℕ) → AreLegalAfter before batches → length before + length (flat_map (λ (b : Batch). b.events) batches) ≤ EVENTS_MAX
-    → drop gate image ≡ body batches ++ g ∷ rest → gate + length (body batches) + 1 ≤ FILE_BYTES_MAX → Front (length before) (earliest_next (span_of before)) image gate (segments_of gate batches) (gate + length (body batches))
-front_of [] before image gate g rest legal few is fits = omega arith
-front_of (b ∷ more) before image gate g rest legal few is fits =
+segments_are : (gate : ℕ) (batches : List Batch) → segments_of gate batches ≡ segments_told (directories_of gate batches)
+segments_are gate [] = refl
+segments_are gate (b ∷ more) = λ i. sym (put_is gate (gate + 1) b refl) i ∷ segments_are (gate + 1 + length (segment b)) more i
+
+abbrev names_in : List Batch → List (List ℕ)
+names_in batches = flat_map (λ (b : Batch). b.names) batches
+
+names_are : (gate : ℕ) (batches : List Batch) → names_in batches ≡ names_told (directories_of gate batches)
+names_are gate [] = refl
+names_are gate (b ∷ more) = ap (λ (l : List (List ℕ)). b.names ++ l) (names_are (gate + 1 + length (segment b)) more)
+
+front_of : (batches : List Batch) (names all_names : List (List ℕ)) (before : List Event) (image : List ℕ) (gate g : ℕ) (rest : List ℕ) → AreLegalAfter all_names before batches → are_new names (names_in batches) ≡ true → length names + length (names_in batches) ≤ NAMES_MAX
+    → length before + length (flat_map (λ (b : Batch). b.events) batches) ≤ EVENTS_MAX → drop gate image ≡ body batches ++ g ∷ rest → gate + length (body batches) + 1 ≤ FILE_BYTES_MAX
+    → Front (length before) names (earliest_next (span_of before)) image gate (directories_of gate batches) (gate + length (body batches))
+front_of [] names all_names before image gate g rest legal new few_names few is fits = omega arith
+front_of (b ∷ more) names all_names before image gate g rest legal new few_names few is fits =
     let s = new_segment_of b in
     let one = legal.0 in
     let tail : List ℕ = body more ++ g ∷ rest in
     let events : ℕ = length b.events in
     let count : length (b.events ++ flat_map (λ (b : Batch). b.events) more) ≡ events + length (flat_map (λ (b : Batch). b.events) more) = length-append b.events (flat_map (λ (b : Batch). b.events) more) in
     let few_here : length before + events ≤ EVENTS_MAX = omega (arith, count) in
-    let long = segment_length b one.nameless in
+    let number : length (b.names ++ names_in more) ≡ length b.names + length (names_in more) = length-append b.names (names_in more) in
+    let fresh = new_parts names b.names (names_in more) new in
+    let named : may_be_named names b.names ≡ true = and_from (are_new names b.names) _ fresh.0 (le-leb (length names + length b.names) NAMES_MAX (omega (arith, number, few_names))) in
+    let long = segment_length b in
     let all : length (body (b ∷ more)) ≡ 1 + length (segment b) + length (body more) = omega (arith, length-append (segment b) (body more)) in
     let text : drop (gate + 1) image ≡ segment b ++ tail = behind image (1 ∷ []) ((segment b ++ body more) ++ g ∷ rest) gate (gate + 1) refl is ∙ append_assoc (segment b) (body more) (g ∷ rest) in
-    let bytes : drop (gate + 1) image ≡ segment_bytes s ++ tail = text ∙ ap (λ (l : List ℕ). l ++ tail) (segment_same b one.nameless) in
+    let bytes : drop (gate + 1) image ≡ segment_bytes s ++ tail = text ∙ ap (λ (l : List ℕ). l ++ tail) (segment_same b) in
     let opens = byte_read image gate 1 ((segment b ++ body more) ++ g ∷ rest) is in
-    let follows = follows_to (length before) (earliest_next (span_of before)) (segment_put (gate + 1) s) (batch_follows before b one few_here) in
-    let new = stands_new (length before) (earliest_next (span_of before)) s image (gate + 1) tail bytes (omega (arith, length-append (body more) (g ∷ rest))) (omega (arith, all, long)) follows in
-    let next : gate + 1 + 76 + blobs_size s ≡ gate + 1 + length (segment b) = omega (arith, long) in
-    let there : drop (gate + 1 + length (segment b)) image ≡ tail = ap (λ m. drop m image) (sym next) ∙ new.behind in
-    let others = front_of more (before ++ b.events) image (gate + 1 + length (segment b)) g rest legal.1 (omega (arith, count, length-append before b.events)) there (omega (arith, all)) in (
+    let follows = follows_to (length before) (earliest_next (span_of before)) (segment_put (gate + 1) s) (batch_follows all_names before b one few_here) in
+    let stands = stands_new (length before) names (earliest_next (span_of before)) s image (gate + 1) tail bytes (omega (arith, length-append (body more) (g ∷ rest))) (omega (arith, all, long)) follows named in
+    let next : gate + 1 + 76 + names_size s + blobs_size s ≡ gate + 1 + length (segment b) = omega (arith, long) in
+    let there : drop (gate + 1 + length (segment b)) image ≡ tail = ap (λ m. drop m image) (sym next) ∙ stands.behind in
+    let others =
+    front_of more (names ++ b.names) all_names (before ++ b.events) image (gate + 1 + length (segment b)) g rest legal.1 fresh.1 (omega (arith, number, few_names, length-append names b.names)) (omega (arith, count, length-append before b.events)) there (omega (arith, all)) in (
       opens.0,
-      new.stands,
-      put_is gate b ∙ sym new.segment,
-      front_cast image (segments_of (gate + 1 + length (segment b)) more) _ _ _ _ _ _ _ _ (length-append before b.events) (earliest_behind before b.events one.some) (sym (new.gate ∙ next)) (omega (arith, all)) others,
+      stands.stands,
+      front_cast (names ++ b.names) image (directories_of (gate + 1 + length (segment b)) more) _ _ _ _ _ _ _ _ (length-append before b.events) (earliest_behind before b.events one.some) (sym (stands.gate ∙ next)) (omega (arith, all)) others,
     )
 
 -- ---- the header
@@ -228,7 +255,7 @@ image_parts z image h =
     let rest : drop n image ≡ h.gate ∷ drop (n + 1) image = drop_more image n 0 lt ∙ ap (λ b. b ∷ drop (n + 1) image) (get_or_from_slice_get image n h.gate 0 h.there) in
     sym (take-append-drop n image) ∙ (λ i. h.begins i ++ rest i)
 
-pub images_are_opened : (z : History) (image : List ℕ) → IsImageOf z image → opening image ≡ Ok (opening_of z)
+pub images_are_opened : (z : History) (image : List ℕ) → IsImageOf z image → opening image ≡ Ok (opened_of z)
 images_are_opened z image h =
     let n = length (file z) in
     let rest : List ℕ = drop (n + 1) image in
@@ -238,11 +265,14 @@ images_are_opened z image h =
     let long : n ≡ 17 + length (body z.batches) = length-append (header z.params) (body z.batches) in
     let text : drop 17 image ≡ behind_header = ap (drop 17) parts in
     let fits : 17 + length (body z.batches) + 1 ≤ FILE_BYTES_MAX = omega (arith, h.fits, long) in
-    let front = front_of z.batches [] image 17 h.gate rest h.legal.batches (omega (arith, h.legal.few)) text fits in
+    let front = front_of z.batches [] (names_of z) [] image 17 h.gate rest h.legal.batches h.legal.names (omega (arith, h.legal.few_names)) (omega (arith, h.legal.few)) text fits in
     let byte : get_or image (17 + length (body z.batches)) 0 ≡ h.gate = ap (λ m. get_or image m 0) (sym long) ∙ get_or_from_slice_get image n h.gate 0 h.there in
-    opened_from image (opening_of z) (record {
+    opened_from image (opened_of z) (record {
       there = not_blank_open image (omega (arith, long)) (ap (λ (l : List ℕ). get_or l 0 0) parts);
       params = ap params_in parts ∙ params_read z.params behind_header h.legal.parameters;
+      directories = directories_of 17 z.batches;
+      segments = segments_are 17 z.batches;
+      names = names_are 17 z.batches;
       end = 17 + length (body z.batches);
       used = omega (arith, long);
       front = front;
@@ -271,21 +301,15 @@ zero_closed n is e = absurd (omega (arith, is, e))
 
 pub image_made : (params : Params) (image : List ℕ) → are_parameters params.l params.k ≡ true → image ≡ 1 ∷ header_rest params → IsImageOf (empty_history params) image
 image_made params image e is =
-    image_from (empty_history params) 0 [] image (record { parameters = e; batches = tt; few = omega arith }) (omega arith) (zero_closed 0 refl) is
-
--- the last batch has no names
-pub last_nameless : (before : List Event) (batches : List Batch) (b : Batch) → AreLegalAfter before (batches ++ b ∷ []) → b.names ≡ []
-last_nameless before [] b l = l.0.nameless
-last_nameless before (c ∷ batches) b l = last_nameless (before ++ c.events) batches b l.1
+    image_from (empty_history params) 0 [] image (record { parameters = e; batches = tt; names = refl; few_names = omega arith; few = omega arith }) (omega arith) (zero_closed 0 refl) is
 
 -- the image of the history with one batch more
 pub image_gains : (z : History) (b : Batch) (before after : List ℕ) → IsImageOf z before → IsLegal (with_batch z b) → size (with_batch z b) ≤ FILE_BYTES_MAX → Gated (length (file z)) 1 (segment_bytes (new_segment_of b)) before after → IsImageOf (with_batch z b) after
 image_gains z b before after h legal fits g =
-    let e = last_nameless [] z.batches b legal.batches in
     let text : List ℕ = segment_bytes (new_segment_of b) in
     let is : after ≡ file z ++ (1 ∷ (text ++ 0 ∷ g.rest)) = g.is ∙ ap (λ (l : List ℕ). l ++ 1 ∷ (text ++ 0 ∷ g.rest)) h.begins in
     let whole : file z ++ (1 ∷ (text ++ 0 ∷ g.rest)) ≡ file (with_batch z b) ++ 0 ∷ g.rest =
-    sym (append_assoc (file z) (1 ∷ text) (0 ∷ g.rest)) ∙ ap (λ (l : List ℕ). (file z ++ 1 ∷ l) ++ 0 ∷ g.rest) (sym (segment_same b e)) ∙ ap (λ (l : List ℕ). l ++ 0 ∷ g.rest) (sym (file_more z b)) in
+    sym (append_assoc (file z) (1 ∷ text) (0 ∷ g.rest)) ∙ ap (λ (l : List ℕ). (file z ++ 1 ∷ l) ++ 0 ∷ g.rest) (sym (segment_same b)) ∙ ap (λ (l : List ℕ). l ++ 0 ∷ g.rest) (sym (file_more z b)) in
     image_from (with_batch z b) 0 g.rest after legal fits (zero_closed 0 refl) (is ∙ whole)
 
 -- another closed gate

@@ -1,13 +1,12 @@
 -- What an index holds of its segments, and what one segment more makes of it.
-use Rattle.std.proofs.Common.{◌≡◌, ◌≢◌, ℕ, zero, suc, ◌+◌, ◌-◌, ◌<◌, ◌≤◌, Bool, true, false, cond, List, [], ◌∷◌, ◌++◌, length, map, Option, Some, None, refl, sym, ap, subst, ◌∙◌, add-zero, arith, length-append}
+use Rattle.std.proofs.Common.{◌≡◌, ℕ, zero, suc, ◌+◌, ◌≤◌, true, cond, List, [], ◌∷◌, ◌++◌, length, map, Option, Some, None, refl, sym, ap, subst, ◌∙◌, add-zero, arith}
 use Rattle.std.specs.Prelude.{slice_get}
 use Rattle.std.specs.Map.{lookup}
 use Rattle.std.specs.Option.{option_map}
 use Rattle.std.proofs.lemmas.Bool.{eq-eqb, ne_eqb}
 use Rattle.std.proofs.lemmas.List.{map-append, length-map}
 use Rattle.std.proofs.lemmas.List.Sums.{sum_by_push}
-use Rattle.std.proofs.lemmas.Option.{slice_get-map}
-use Rattle.dg_model.specs.declared.limits.TheConstants.{EVENTS_MAX, FILE_BYTES_MAX, TIME_MAX}
+use Rattle.dg_model.specs.declared.limits.TheConstants.{EVENTS_MAX, FILE_BYTES_MAX, NAMES_MAX, TIME_MAX}
 use Rattle.dg_model.specs.declared.node.Key.{Key}
 use Rattle.dg_model.specs.declared.node.Key.TheVariants as key
 use Rattle.dg_model.specs.declared.params.Params.{Params}
@@ -17,8 +16,9 @@ use Rattle.dg_shape.specs.declared.catalogue.Ends.{Ends}
 use Rattle.dg_shape.specs.declared.catalogue.Entry.{Entry}
 use Rattle.dg_shape.specs.Entries.{Holdings, total, bytes_of, spanned}
 use Rattle.dg_file.specs.declared.batch.Batch.{Batch}
-use Rattle.dg_file.specs.Held.{batch_in, piece_in, pieces_from, segment_held, segments_held, last_of, span_in, segment_noted}
-use Rattle.dg_file.specs.Index.{events_after, earliest_after, AreInTurn}
+use Rattle.dg_file.specs.declared.batch.Noted.{Noted}
+use Rattle.dg_file.specs.Held.{batch_in, piece_in, pieces_from, segment_held, segments_held, last_of, span_in, segment_in}
+use Rattle.dg_file.specs.Index.{events_after, earliest_after, AreInTurn, names_count}
 use Rattle.dg_file.specs.Invariant.{AreHeld, IsIndex, IsSound}
 use Rattle.dg_file.proofs.Opened.{follows_from}
 
@@ -102,27 +102,31 @@ pub held_length : (segments : List Segment) (catalogue : Holdings) (bs : List Ba
 held_length segments catalogue bs h =
     (ap length h.notes ∙ length-map segments batch_in, ap length h.pieces ∙ pieces_length 0 segments)
 
-pub noted : (old new : Holdings) (bs new_bs : List Batch) (used : ℕ) (b : Batch) (lengths : List ℕ) → AreHeld (segments_held bs old.entries) old bs
-    → new.entries ≡ old.entries ++ (key.Piece (length bs), record { lengths = lengths; place = used + 76; ends = None }) ∷ [] → new_bs ≡ bs ++ b ∷ []
-    → segments_held new_bs new.entries ≡ segments_held bs old.entries ++ segment_noted used b lengths ∷ []
-noted old new bs new_bs used b lengths h entries is =
+pub noted : (old new : Holdings) (bs new_bs : List Batch) (n : Noted) → AreHeld (segments_held bs old.entries) old bs
+    → new.entries ≡ old.entries ++ (key.Piece (length bs), record { lengths = n.lengths; place = n.place; ends = None }) ∷ [] → new_bs ≡ bs ++ n.batch ∷ []
+    → segments_held new_bs new.entries ≡ segments_held bs old.entries ++ segment_in n ∷ []
+noted old new bs new_bs n h entries is =
     let long = held_length (segments_held bs old.entries) old bs h in
-    (λ i. segments_held (is i) (entries i)) ∙ held_more bs old.entries b (key.Piece (length bs), record { lengths = lengths; place = used + 76; ends = None }) (long.0 ∙ sym long.1)
+    (λ i. segments_held (is i) (entries i)) ∙ held_more bs old.entries n.batch (key.Piece (length bs), record { lengths = n.lengths; place = n.place; ends = None }) (long.0 ∙ sym long.1)
 
-pub noted_sound : (params : Params) (old new : Holdings) (bs new_bs : List Batch) (events used new_events new_used : ℕ) (b : Batch) (lengths : List ℕ) → IsSound params old bs events used
-    → new.entries ≡ old.entries ++ (key.Piece (length bs), record { lengths = lengths; place = used + 76; ends = None }) ∷ [] → new.span ≡ Some (spanned old.span b.ends) → new_bs ≡ bs ++ b ∷ []
-    → new_events ≡ events + b.events → new_used ≡ used + 77 + total lengths → new_used ≤ FILE_BYTES_MAX
-    → may_follow (events_after 0 (segments_held bs old.entries)) (earliest_after 0 (segments_held bs old.entries)) (segment_noted used b lengths) ≡ true
-    → IsSound params new new_bs new_events new_used
-noted_sound params old new bs new_bs events used new_events new_used b lengths sound entries span is is_events is_used within follows =
+pub names_more : (segments : List Segment) (s : Segment) → names_count (segments ++ s ∷ []) ≡ names_count segments + s.names
+names_more segments s = sum_by_push (λ (s : Segment). s.names) segments s
+
+pub noted_sound : (params : Params) (old new : Holdings) (bs new_bs : List Batch) (events names used new_events new_names new_used : ℕ) (n : Noted) → IsSound params old bs events names used
+    → new.entries ≡ old.entries ++ (key.Piece (length bs), record { lengths = n.lengths; place = n.place; ends = None }) ∷ [] → new.span ≡ Some (spanned old.span n.batch.ends) → new_bs ≡ bs ++ n.batch ∷ []
+    → new_events ≡ events + n.batch.events → new_names ≡ names + n.batch.names → new_names ≤ NAMES_MAX → used ≤ n.place → new_used ≡ n.place + total n.lengths + 1 → new_used ≤ FILE_BYTES_MAX
+    → may_follow (events_after 0 (segments_held bs old.entries)) (earliest_after 0 (segments_held bs old.entries)) (segment_in n) ≡ true
+    → IsSound params new new_bs new_events new_names new_used
+noted_sound params old new bs new_bs events names used new_events new_names new_used n sound entries span is is_events is_names few_names behind is_used within follows =
     let segments = segments_held bs old.entries in
-    let s = segment_noted used b lengths in
-    let more : segments_held new_bs new.entries ≡ segments ++ s ∷ [] = noted old new bs new_bs used b lengths sound.held entries is in
+    let s = segment_in n in
+    let more : segments_held new_bs new.entries ≡ segments ++ s ∷ [] = noted old new bs new_bs n sound.held entries is in
     let long = held_length segments old bs sound.held in
     let pieces : new.entries ≡ pieces_from 0 (segments ++ s ∷ []) =
     entries ∙ (λ i. sound.held.pieces i ++ (key.Piece (number i), piece_in s) ∷ []) ∙ sym (pieces_more 0 segments s) in
-    let notes : new_bs ≡ map batch_in (segments ++ s ∷ []) = is ∙ ap (λ (l : List Batch). l ++ b ∷ []) sound.held.notes ∙ sym (map-append batch_in segments (s ∷ [])) in
-    let spans : new.span ≡ span_in (segments ++ s ∷ []) = span ∙ ap (λ o. Some (spanned o b.ends)) sound.held.span ∙ sym (span_more segments s) in
+    let notes : new_bs ≡ map batch_in (segments ++ s ∷ []) = is ∙ ap (λ (l : List Batch). l ++ n.batch ∷ []) sound.held.notes ∙ sym (map-append batch_in segments (s ∷ [])) in
+    let spans : new.span ≡ span_in (segments ++ s ∷ []) = span ∙ ap (λ o. Some (spanned o n.batch.ends)) sound.held.span ∙ sym (span_more segments s) in
+    let named : new_names ≡ names_count (segments ++ s ∷ []) = is_names ∙ ap (λ m. m + n.batch.names) sound.named ∙ sym (names_more segments s) in
     record {
       held = subst (λ l. AreHeld l new new_bs) (sym more) (record { pieces = pieces; notes = notes; span = spans });
       sound = subst (λ l. IsIndex params l new_used) (sym more) (record {
@@ -130,9 +134,11 @@ noted_sound params old new bs new_bs events used new_events new_used b lengths s
         in_turn = turn_more 0 0 segments s sound.sound.in_turn follows;
         begun = omega (arith, sound.sound.begun, is_used);
         within = within;
+        few_names = omega (arith, named, few_names);
       });
-      count = is_events ∙ ap (λ n. n + b.events) sound.count ∙ sym (events_more 0 segments s) ∙ ap (events_after 0) (sym more);
-      bytes = omega (arith, is_used, sound.bytes, ap bytes_of entries, sum_by_push (λ (q : Key × Entry). total q.1.lengths) old.entries (key.Piece (length bs), piece_in s));
+      count = is_events ∙ ap (λ m. m + n.batch.events) sound.count ∙ sym (events_more 0 segments s) ∙ ap (events_after 0) (sym more);
+      named = named ∙ ap names_count (sym more);
+      bytes = omega (arith, is_used, behind, sound.bytes, ap bytes_of entries, sum_by_push (λ (q : Key × Entry). total q.1.lengths) old.entries (key.Piece (length bs), piece_in s));
     }
   where
     number : length bs ≡ 0 + length (segments_held bs old.entries)

@@ -1,4 +1,6 @@
 pub mod Ranges
+pub mod Texts
+pub mod Directories
 pub mod Fronts
 pub mod Opened
 pub mod Histories

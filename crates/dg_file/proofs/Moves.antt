@@ -1,7 +1,7 @@
 -- Images before and after one write, and after several.
-use Rattle.std.proofs.Common.{◌≡◌, ℕ, ◌+◌, ◌-◌, ◌<◌, ◌≤◌, ◌⊎◌, inl, inr, List, [], ◌∷◌, ◌++◌, length, take, drop, Option, Some, None, refl, sym, ap, subst, ◌∙◌, append_assoc, arith, length-append, length-take, length-drop, add-zero}
+use Rattle.std.proofs.Common.{◌≡◌, ℕ, ◌+◌, ◌-◌, ◌≤◌, inl, inr, List, [], ◌∷◌, ◌++◌, length, take, drop, Option, Some, None, refl, sym, ap, subst, ◌∙◌, append_assoc, arith, length-append, add-zero}
 use Rattle.std.specs.Prelude.{is_some, IfSome, OnOk, OnErr, Result, Ok, Err}
-use Rattle.std.proofs.lemmas.List.{take_at, take-append-le, drop_at, take-append-drop, length-take-le, drop-drop}
+use Rattle.std.proofs.lemmas.List.{take_at, drop_at, take-append-drop, length-take-le}
 use Rattle.dg_disk.specs.Image.{HasPlace, WritesPart, put_at, with_piece}
 use Rattle.dg_file.specs.Growth.{Moved, Keeps, Grown, Gated, GatedOrNot}
 use Rattle.dg_file.specs.Images.{BothTold}

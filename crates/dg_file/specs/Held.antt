@@ -1,16 +1,17 @@
 -- How an index holds its segments: the catalogue has the lengths and the place of each piece, a batch
--- has the events and the times.
-use Rattle.std.specs.Prelude.{◌≡◌, ℕ, ◌+◌, ◌≤◌, List, [], ◌∷◌, Option, Some, None, length}
+-- has the events, the times and the number of names.
+use Rattle.std.specs.Prelude.{ℕ, ◌+◌, List, [], ◌∷◌, Option, Some, None}
 use Rattle.dg_shape.specs.declared.catalogue.Ends.{Ends}
 use Rattle.dg_shape.specs.declared.catalogue.Entry.{Entry}
 use Rattle.dg_model.specs.declared.node.Key.{Key}
 use Rattle.dg_model.specs.declared.node.Key.TheVariants as key
 use Rattle.dg_model.specs.Opening.{Segment}
 use Rattle.dg_file.specs.declared.batch.Batch.{Batch}
+use Rattle.dg_file.specs.declared.batch.Noted.{Noted}
 
--- the number of events and the times of a segment
+-- the number of events, the times and the number of names of a segment
 abbrev pub batch_in : Segment → Batch
-batch_in s = record { events = s.events; ends = record { first = s.first; last = s.last } }
+batch_in s = record { events = s.events; ends = record { first = s.first; last = s.last }; names = s.names }
 
 -- what the catalogue tells of a segment's piece
 abbrev pub piece_in : Segment → Entry
@@ -23,7 +24,7 @@ pieces_from n (s ∷ segments) = (key.Piece n, piece_in s) ∷ pieces_from (n + 
 
 -- the segment of a batch and of what the catalogue tells of its piece
 abbrev pub segment_held : Batch → Entry → Segment
-segment_held b e = record { events = b.events; first = b.ends.first; last = b.ends.last; lengths = e.lengths; place = e.place }
+segment_held b e = record { events = b.events; first = b.ends.first; last = b.ends.last; names = b.names; lengths = e.lengths; place = e.place }
 
 -- the segments of batches, and of what the catalogue tells
 abbrev pub segments_held : List Batch → List (Key × Entry) → List Segment
@@ -40,6 +41,6 @@ abbrev pub span_in : List Segment → Option Ends
 span_in [] = None
 span_in (s ∷ segments) = Some (record { first = s.first; last = last_of s.last segments })
 
--- the segment behind so many bytes in use
-abbrev pub segment_noted : ℕ → Batch → List ℕ → Segment
-segment_noted used b lengths = record { events = b.events; first = b.ends.first; last = b.ends.last; lengths = lengths; place = used + 76 }
+-- the segment of which this is noted
+abbrev pub segment_in : Noted → Segment
+segment_in n = record { events = n.batch.events; first = n.batch.ends.first; last = n.batch.ends.last; names = n.batch.names; lengths = n.lengths; place = n.place }

@@ -1,10 +1,10 @@
 -- What the calls of an index say of the disk's image before and after them.
-use Rattle.std.specs.Prelude.{◌≡◌, ◌⊎◌, ℕ, ◌+◌, Bool, true, false, List, [], ◌∷◌, ◌++◌, Option, Some, None, Result, Ok, Err, IfSome, length, take, drop, if◌then◌else◌, ◌==◌}
+use Rattle.std.specs.Prelude.{◌≡◌, ◌⊎◌, ℕ, true, List, ◌++◌, Option, Result, Ok, Err, IfSome, length, drop, if◌then◌else◌, ◌==◌}
 use Rattle.dg_disk.specs.Counts.{raised_by}
 use Rattle.dg_model.specs.declared.params.Params.{Params}
 use Rattle.dg_model.specs.History.{History, Batch, empty_history, with_batch}
 use Rattle.dg_model.specs.Legal.{IsLegal, IsImageOf, is_blank}
-use Rattle.dg_model.specs.Opening.{Opening, Unopened, No_index, Not_ours, Damaged_at}
+use Rattle.dg_model.specs.Opening.{Opening, Opened, Unopened, No_index, Not_ours, Damaged_at, opening, may_be_named}
 use Rattle.dg_file.specs.declared.fault.ReopenFault.{ReopenFault}
 use Rattle.dg_file.specs.declared.fault.ReopenFault.TheVariants as fault
 use Rattle.dg_file.specs.Index.{NewSegment, new_segment_of}
@@ -21,12 +21,27 @@ IsMadeInPart params old new =
     ⊎ ((length old ≡ 18) × (length new ≡ 18) × (drop 1 new ≡ drop 1 old))
 
 -- the fault says why the image is not opened; of a failure and of want of memory nothing is said
-abbrev pub Refuses : ReopenFault → Result Opening Unopened → Type 0
+abbrev pub Refuses : ReopenFault → Result Opened Unopened → Type 0
 Refuses fault.Blank due = due ≡ Err No_index
 Refuses fault.Foreign due = due ≡ Err Not_ours
 Refuses (fault.Damaged place) due = due ≡ Err (Damaged_at place)
 Refuses fault.Disk due = Unit {0}
 Refuses fault.Memory due = Unit {0}
+
+-- the image is opened as this index, with some names
+abbrev pub IsOpenedAs : List ℕ → Opening → Type 0
+IsOpenedAs image o = (names : List (List ℕ)) × (opening image ≡ Ok (record { index = o; names = names }))
+
+-- the image is opened as this index, with some names which those of the new segment may follow
+abbrev pub Fits : List ℕ → Opening → NewSegment → Type 0
+Fits image o s =
+    (names : List (List ℕ)) × (opening image ≡ Ok (record { index = o; names = names })) × (may_be_named names s.names ≡ true)
+
+-- Where an image was opened as the old index with some names, it is opened as the new index, with those
+-- names and then the names of the segment.
+abbrev pub GainsSegment : Opening → NewSegment → Opening → List ℕ → List ℕ → Type 0
+GainsSegment old s new before after =
+    (names : List (List ℕ)) → opening before ≡ Ok (record { index = old; names = names }) → opening after ≡ Ok (record { index = new; names = names ++ s.names })
 
 -- of each history and each batch that the segment is of: the image of that history becomes one of it
 -- with the batch
@@ -39,13 +54,14 @@ abbrev pub GainsBatchOrNot : NewSegment → List ℕ → List ℕ → Type 0
 GainsBatchOrNot s before after =
     (z : History) (b : Batch) → IsImageOf z before → IsLegal (with_batch z b) → s ≡ new_segment_of b → IsImageOf z after ⊎ IsImageOf (with_batch z b) after
 
--- the fault says that no segment stands at the place, or that the disk failed
-abbrev pub MissesSegment : ℕ → Bool → ReopenFault → Type 0
-MissesSegment place stands (fault.Damaged at) = (at ≡ place) × (stands ≡ false)
-MissesSegment place stands fault.Disk = Unit {0}
-MissesSegment place stands fault.Memory = ⊥
-MissesSegment place stands fault.Blank = ⊥
-MissesSegment place stands fault.Foreign = ⊥
+-- where the fault is a damaged place, it is this one and the fact holds; else the disk failed, or memory
+-- ran out
+abbrev pub Misses : ℕ → Type 0 → ReopenFault → Type 0
+Misses place fact (fault.Damaged at) = (at ≡ place) × fact
+Misses place fact fault.Disk = Unit {0}
+Misses place fact fault.Memory = Unit {0}
+Misses place fact fault.Blank = ⊥
+Misses place fact fault.Foreign = ⊥
 
 -- The count of bytes read, after a read of n more. Where n is 0 nothing is read.
 abbrev pub taken_after : ℕ → ℕ → ℕ

@@ -1,10 +1,12 @@
 -- What an index over a disk holds, and what a batch adds to it.
-use Rattle.std.specs.Prelude.{◌≡◌, ℕ, ◌+◌, Bool, true, List, [], ◌∷◌, ◌++◌, Option, None, length, slice_get}
+use Rattle.std.specs.Prelude.{◌≡◌, ℕ, ◌+◌, ◌≤◌, true, List, [], ◌∷◌, ◌++◌, Option, None, length, slice_get, sum_by}
+use Rattle.std.specs.List.{flat_map}
 use Rattle.dg_model.specs.declared.element.Column.TheVariants as column
 use Rattle.dg_model.specs.declared.node.Key.{Key}
 use Rattle.dg_model.specs.declared.node.Key.TheVariants as key
 use Rattle.dg_model.specs.Columns.{four, eight, events_column}
-use Rattle.dg_model.specs.File.{first_time_of}
+use Rattle.dg_model.specs.declared.limits.TheConstants.{NAMES_MAX}
+use Rattle.dg_model.specs.File.{first_time_of, name_bytes}
 use Rattle.dg_model.specs.History.{Batch, last_time_from}
 use Rattle.dg_model.specs.Opening.{Segment, Opening, may_follow}
 
@@ -13,12 +15,13 @@ pub record IndexState : Type 0 where
   pub opening : Opening
   pub room : ℕ
 
--- A batch as its segment is to be written: how many events it has, its first and its last time, and
--- the columns of its piece.
+-- A batch as its segment is to be written: how many events it has, its first and its last time, the
+-- texts of its new names, and the columns of its piece.
 pub record NewSegment : Type 0 where
   pub events : ℕ
   pub first : ℕ
   pub last : ℕ
+  pub names : List (List ℕ)
   pub structure : List ℕ
   pub node_attrs : List ℕ
   pub edge_attrs : List ℕ
@@ -46,13 +49,24 @@ AreInTurn count earliest [] = Unit {0}
 AreInTurn count earliest (s ∷ segments) =
     (may_follow count earliest s ≡ true) × AreInTurn (count + s.events) (s.last + 1) segments
 
+-- the names of these segments together
+abbrev pub names_count : List Segment → ℕ
+names_count segments = sum_by (λ (s : Segment). s.names) segments
+
+-- the new names as they stand in the directory, and their bytes
+abbrev pub names_text : NewSegment → List ℕ
+names_text s = flat_map name_bytes s.names
+
+abbrev pub names_size : NewSegment → ℕ
+names_size s = length (names_text s)
+
 -- the bytes of the three columns together
 abbrev pub blobs_size : NewSegment → ℕ
 blobs_size s = length s.structure + length s.node_attrs + length s.edge_attrs
 
 -- the bytes in use with the new segment and the closed gate behind it
 abbrev pub needed_for : Opening → NewSegment → ℕ
-needed_for o s = o.used + 77 + length s.structure + length s.node_attrs + length s.edge_attrs
+needed_for o s = o.used + 77 + names_size s + blobs_size s
 
 -- the new segment, its lengths in front of its directory, at the place
 abbrev pub segment_put : ℕ → NewSegment → Segment
@@ -60,8 +74,9 @@ segment_put at s = record {
   events = s.events;
   first = s.first;
   last = s.last;
+  names = length s.names;
   lengths = length s.structure ∷ length s.node_attrs ∷ length s.edge_attrs ∷ [];
-  place = at + 76;
+  place = at + 76 + names_size s;
 }
 
 -- what an image is opened as once it has the new segment
@@ -72,9 +87,11 @@ with_segment o s = record {
   used = needed_for o s;
 }
 
--- the new segment may follow those that are there
+-- the new segment may follow those that are there, and there is room for its names
 abbrev pub IsDue : Opening → NewSegment → Type 0
-IsDue o s = may_follow (events_after 0 o.segments) (earliest_after 0 o.segments) (segment_put o.used s) ≡ true
+IsDue o s =
+    (may_follow (events_after 0 o.segments) (earliest_after 0 o.segments) (segment_put o.used s) ≡ true)
+    × (names_count o.segments + length s.names ≤ NAMES_MAX)
 
 -- the segment of a batch
 abbrev pub new_segment_of : Batch → NewSegment
@@ -82,17 +99,25 @@ new_segment_of b = record {
   events = length b.events;
   first = first_time_of b.events;
   last = last_time_from 0 b.events;
+  names = b.names;
   structure = events_column column.Structure b.events;
   node_attrs = events_column column.NodeAttr b.events;
   edge_attrs = events_column column.EdgeAttr b.events;
 }
 
--- The lengths of the directory and of the columns, and the directory, which has no name, no list and
--- no delta.
+-- the lengths of the directory and of the columns, and the fields of the directory in front of its names
+abbrev pub front_bytes : NewSegment → List ℕ
+front_bytes s =
+    eight (60 + names_size s) ++ (eight (blobs_size s) ++ (eight s.events ++ (eight s.first ++ (eight s.last ++ four (length s.names)))))
+
+-- the fields behind the names: no list, no delta, and the lengths of the columns
+abbrev pub back_bytes : NewSegment → List ℕ
+back_bytes s =
+    four 0 ++ (four 0 ++ (eight (length s.structure) ++ (eight (length s.node_attrs) ++ eight (length s.edge_attrs))))
+
+-- the new segment in front of its columns
 abbrev pub head_bytes : NewSegment → List ℕ
-head_bytes s =
-    eight 60 ++ (eight (blobs_size s) ++ (eight s.events ++ (eight s.first ++ (eight s.last ++ (four 0 ++ (four 0 ++ (four 0
-    ++ (eight (length s.structure) ++ (eight (length s.node_attrs) ++ eight (length s.edge_attrs))))))))))
+head_bytes s = front_bytes s ++ (names_text s ++ back_bytes s)
 
 -- the new segment as its bytes, without the gates
 abbrev pub segment_bytes : NewSegment → List ℕ

@@ -3,11 +3,11 @@
 ghost use Rattle.std.specs.Prelude.{◌≡◌, ◌≤◌, ◌<◌, ◌+◌, ◌-◌, ◌^◌, ◌++◌, ◌∷◌, [], length, OnOk, OnErr, IfOk};
 ghost use Rattle.dg_disk.specs.Counts.{Rose};
 ghost use Rattle.dg_disk.specs.Image.{HasPlace};
-ghost use Rattle.dg_file.specs.Index.{blobs_size, segment_bytes};
+ghost use Rattle.dg_file.specs.Index.{blobs_size, names_size, head_bytes, segment_bytes};
 ghost use Rattle.dg_file.specs.Growth.{Moved, Keeps, Grown, Gated, GatedOrNot};
 
 use crate::disk_calls::put_down;
-use crate::head::head_of;
+use crate::head::{back_of, front_of};
 use crate::header::{CLOSED, OPEN};
 use crate::segment::Segment;
 use dg_disk::{Disk, Failed};
@@ -48,10 +48,29 @@ fn put_columns<D: Disk>(disk: &mut D, place: u64, segment: &Segment) -> Result<u
     put(disk, edges_place, segment.edge_attrs())
 }
 
+// Puts the fields and the names of the segment at the place. Answers the place behind them.
+fn put_directory<D: Disk>(disk: &mut D, place: u64, segment: &Segment) -> Result<u64, Failed>
+    requires place { HasPlace (D.image disk.old) place }
+    requires fits { place + names_size segment.now + 76 < 2 ^ 64 }
+    ensures behind { IfOk result (λ n. n ≡ place + (76 + names_size segment.now)) }
+    ensures written { OnOk result (Moved (D.image disk.old) (D.image disk.new) (Grown place (head_bytes segment.now))) }
+    ensures part { Moved (D.image disk.old) (D.image disk.new) (Keeps place) }
+    ensures cause { OnErr result (Rose (D.write_faults disk.old) (D.write_faults disk.new)) }
+    ensures counted { D.faults disk.old ≤ D.faults disk.new }
+    ensures write_counted { D.write_faults disk.old ≤ D.write_faults disk.new }
+    ensures same_taken { D.taken disk.new ≡ D.taken disk.old }
+{
+    let front = front_of(segment);
+    let back = back_of(segment);
+    let names_place = put(disk, place, &front)?;
+    let back_place = put(disk, names_place, segment.names())?;
+    put(disk, back_place, &back)
+}
+
 // Writes the segment from the place on, and a closed gate behind it, and brings them to the device.
 fn write_segment<D: Disk>(disk: &mut D, place: u64, segment: &Segment) -> Result<(), Failed>
     requires place { HasPlace (D.image disk.old) place }
-    requires fits { place + blobs_size segment.now + 77 < 2 ^ 64 }
+    requires fits { place + names_size segment.now + blobs_size segment.now + 77 < 2 ^ 64 }
     ensures written { OnOk result (Moved (D.image disk.old) (D.image disk.new) (Grown place (segment_bytes segment.now ++ 0 ∷ []))) }
     ensures part { Moved (D.image disk.old) (D.image disk.new) (Keeps place) }
     ensures cause { OnErr result (Rose (D.write_faults disk.old) (D.write_faults disk.new)) }
@@ -59,8 +78,7 @@ fn write_segment<D: Disk>(disk: &mut D, place: u64, segment: &Segment) -> Result
     ensures write_counted { D.write_faults disk.old ≤ D.write_faults disk.new }
     ensures same_taken { D.taken disk.new ≡ D.taken disk.old }
 {
-    let head = head_of(segment);
-    let columns_place = put(disk, place, &head)?;
+    let columns_place = put_directory(disk, place, segment)?;
     let gate_place = put_columns(disk, columns_place, segment)?;
     put(disk, gate_place, &[CLOSED])?;
     disk.sync()
@@ -71,7 +89,7 @@ fn write_segment<D: Disk>(disk: &mut D, place: u64, segment: &Segment) -> Result
 pub(crate) fn append<D: Disk>(disk: &mut D, used: u64, segment: &Segment) -> Result<(), Failed>
     requires place { HasPlace (D.image disk.old) used }
     requires some { 1 ≤ used }
-    requires fits { used + blobs_size segment.now + 77 < 2 ^ 64 }
+    requires fits { used + names_size segment.now + blobs_size segment.now + 77 < 2 ^ 64 }
     ensures written { OnOk result (Moved (D.image disk.old) (D.image disk.new) (Gated (used - 1) 1 (segment_bytes segment.now))) }
     ensures part { OnErr result (Moved (D.image disk.old) (D.image disk.new) (GatedOrNot used (segment_bytes segment.now))) }
     ensures cause { OnErr result (Rose (D.write_faults disk.old) (D.write_faults disk.new)) }

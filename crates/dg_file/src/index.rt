@@ -2,27 +2,28 @@ ghost use Rattle.std.specs.Prelude.{◌≡◌, ◌≢◌, ◌≤◌, ◌<◌, �
 ghost use Rattle.std.specs.Option.{option_map};
 ghost use Rattle.dg_disk.specs.Counts.{Rose};
 ghost use Rattle.dg_disk.specs.Image.{IsLengthOf};
-ghost use Rattle.dg_model.specs.declared.limits.TheConstants.{EVENTS_MAX, FILE_BYTES_MAX};
+ghost use Rattle.dg_model.specs.declared.limits.TheConstants.{EVENTS_MAX, FILE_BYTES_MAX, NAMES_MAX};
 ghost use Rattle.dg_model.specs.History.{are_parameters, empty_history, with_batch};
 ghost use Rattle.dg_model.specs.Legal.{IsImageOf, is_blank};
-ghost use Rattle.dg_model.specs.Opening.{opening, opening_of, column_of_piece, may_follow};
+ghost use Rattle.dg_model.specs.Opening.{opening, opened_of, opening_of, column_of_piece, may_follow};
 ghost use Rattle.dg_shape.specs.Entries.{total};
-ghost use Rattle.dg_file.specs.Index.{piece_of, needed_for, with_segment, IsDue, AreInTurn, events_after, earliest_after};
-ghost use Rattle.dg_file.specs.Images.{BothTold, IsMadeInPart, Refuses, GainsBatch, GainsBatchOrNot, taken_after};
-ghost use Rattle.dg_file.specs.Held.{batch_in, pieces_from, span_in, segment_noted};
+ghost use Rattle.dg_file.specs.Index.{piece_of, needed_for, with_segment, IsDue, AreInTurn, events_after, earliest_after, names_count};
+ghost use Rattle.dg_file.specs.Images.{BothTold, Fits, GainsBatch, GainsBatchOrNot, GainsSegment, IsMadeInPart, IsOpenedAs, Refuses, taken_after};
+ghost use Rattle.dg_file.specs.Held.{batch_in, pieces_from, span_in, segment_in};
 ghost use Rattle.dg_file.specs.Headers.{IsOpenedSoFar};
 
 use crate::appending::append;
-use crate::batch::Batch;
+use crate::batch::{Batch, Noted};
+use crate::directory::Before;
 use crate::fault::{CommitFault, CreateFault, FetchFault, ReopenFault};
-use crate::head::HEAD_BYTES;
 use crate::header::{HEADER_BYTES, OPEN};
 use crate::making::write_header;
 use crate::reading::{read_header, read_range, read_segment};
-use crate::segment::{BARE_BYTES, Segment};
+use crate::segment::Segment;
 use dg_disk::Disk;
 use dg_model::{Column, Key, Params};
-use dg_shape::{Catalogue, Ends};
+use dg_names::Names;
+use dg_shape::Catalogue;
 use std::alloc::{AllocError, Global};
 use std::marker::Model;
 
@@ -35,8 +36,9 @@ pub struct Index {
     // the piece of each segment
     catalogue: Catalogue,
     batches: Vec<Batch>,
-    // the events of all segments
+    // the events and the names of all segments
     events: u64,
+    names: u32,
     // the place behind the closed gate that ends the file
     used: u64,
 }
@@ -53,7 +55,7 @@ impl Model for Index {
 
     ghost view = { λ x. record { opening = record { params = x.params; segments = segments_held x.batches.items x.catalogue.entries; used = x.used }; room = min x.catalogue.spare (vec_capacity x.batches - vec_len x.batches) } };
 
-    ghost invariant = { λ x. IsSound x.params x.catalogue x.batches.items x.events x.used };
+    ghost invariant = { λ x. IsSound x.params x.catalogue x.batches.items x.events x.names x.used };
 }
 
 impl Index {
@@ -68,6 +70,7 @@ impl Index {
             catalogue: Catalogue::new(alloc),
             batches: Vec::new(alloc),
             events: 0,
+            names: 0,
             used: HEADER_BYTES as u64,
         }
     }
@@ -82,22 +85,25 @@ impl Index {
         self.batches.reserve(1)
     }
 
-    // Notes a segment behind the bytes in use, of which there are `used` then. There is room for it.
-    fn note(&mut self, batch: Batch, lengths: [u64; 3], used: u64)
+    // Notes a segment behind the bytes in use. There is room for it.
+    fn note(&mut self, noted: Noted)
         requires room { 1 ≤ self.old.room }
-        requires due { may_follow (events_after 0 self.old.opening.segments) (earliest_after 0 self.old.opening.segments) (segment_noted self.old.opening.used batch lengths) ≡ true }
-        requires used { used ≡ self.old.opening.used + 77 + total lengths }
-        requires within { used ≤ FILE_BYTES_MAX }
-        ensures { self.new.opening ≡ record self.old.opening { segments = self.old.opening.segments ++ segment_noted self.old.opening.used batch lengths ∷ []; used = used } }
+        requires due { may_follow (events_after 0 self.old.opening.segments) (earliest_after 0 self.old.opening.segments) (segment_in noted) ≡ true }
+        requires names { names_count self.old.opening.segments + noted.batch.names ≤ NAMES_MAX }
+        requires behind { self.old.opening.used ≤ noted.place }
+        requires within { noted.place + total noted.lengths < FILE_BYTES_MAX }
+        ensures { self.new.opening ≡ record self.old.opening { segments = self.old.opening.segments ++ segment_in noted ∷ []; used = noted.place + total noted.lengths + 1 } }
     {
+        let batch = noted.batch;
+        let [structure, node_attrs, edge_attrs] = noted.lengths;
         let key = Key::Piece(self.batches.len() as u32);
-        self.catalogue
-            .add(key, lengths, self.used + HEAD_BYTES as u64, None);
+        self.catalogue.add(key, noted.lengths, noted.place, None);
         self.catalogue.add_batch(batch.ends);
         // There is room, so this cannot fail.
         let _ = self.batches.push(batch);
         self.events += batch.events;
-        self.used = used;
+        self.names += batch.names;
+        self.used = noted.place + structure + node_attrs + edge_attrs + 1;
     }
 
     // The events of all segments.
@@ -129,7 +135,7 @@ impl Index {
         requires parameters { are_parameters params.l params.k ≡ true }
         requires blank { IfSome (D.image disk.old) (λ image. is_blank image ≡ true) }
         ensures made { IfOk result (λ index. index.opening ≡ opening_of (empty_history params)) }
-        ensures opened { OnOk result (IfSome (D.image disk.new) (λ image. opening image ≡ Ok (opening_of (empty_history params)))) }
+        ensures opened { OnOk result (IfSome (D.image disk.new) (λ image. opening image ≡ Ok (opened_of (empty_history params)))) }
         ensures image { OnOk result (IfSome (D.image disk.new) (λ image. IsImageOf (empty_history params) image)) }
         ensures part { IsErrOf result CreateFault.Disk → BothTold (D.image disk.old) (D.image disk.new) (λ old new. IsMadeInPart params old new) }
         ensures memory { IsErrOf result CreateFault.Memory → (D.image disk.new ≡ D.image disk.old) × (D.faults disk.new ≡ D.faults disk.old) × (D.write_faults disk.new ≡ D.write_faults disk.old) }
@@ -149,13 +155,20 @@ impl Index {
         }
     }
 
-    /// Opens the index that the disk has. It reads the header and each segment's head and gate, each
-    /// once, and no column. `ReopenFault::Blank` where there is no index, `ReopenFault::Foreign` where
-    /// the file is not one of an index, `ReopenFault::Damaged` with the place of the first segment that
-    /// breaks a rule, `ReopenFault::Disk` where the disk failed, `ReopenFault::Memory` for want of
-    /// memory.
-    pub fn reopen<D: Disk>(alloc: Global, disk: &mut D) -> Result<Index, ReopenFault>
-        ensures opened { IfOk result (λ index. IfSome (D.image disk.old) (λ image. opening image ≡ Ok index.opening)) }
+    /// Opens the index that the disk has, and fills `names` with the names of its batches. It reads the
+    /// header, and each segment's lengths, directory and gate, each once, and no column.
+    /// `ReopenFault::Blank` where there is no index, `ReopenFault::Foreign` where the file is not one of
+    /// an index, `ReopenFault::Damaged` with the place of the first segment that breaks a rule,
+    /// `ReopenFault::Disk` where the disk failed, `ReopenFault::Memory` for want of memory. After a
+    /// fault `names` may have some of the names.
+    pub fn reopen<D: Disk>(
+        alloc: Global,
+        disk: &mut D,
+        names: &mut Names,
+    ) -> Result<Index, ReopenFault>
+        requires names { names.old ≡ [] }
+        ensures opened { IfOk result (λ index. IfSome (D.image disk.old) (λ image. opening image ≡ Ok (record { index = index.opening; names = names.new }))) }
+        ensures counted_names { IfOk result (λ index. length names.new ≡ names_count index.opening.segments) }
         ensures refused { IfErr result (λ fault. IfSome (D.image disk.old) (λ image. Refuses fault (opening image))) }
         ensures cause { IsErrOf result ReopenFault.Disk → Rose (D.faults disk.old) (D.faults disk.new) }
         ensures same_image { D.image disk.new ≡ D.image disk.old }
@@ -164,7 +177,7 @@ impl Index {
     {
         let found = read_header(disk)?;
         let mut index = Index::empty(alloc, found.params);
-        index.read_segments(disk, found.len, found.gate)?;
+        index.read_segments(disk, found.len, found.gate, names)?;
         Ok(index)
     }
 
@@ -174,11 +187,14 @@ impl Index {
         disk: &mut D,
         len: u64,
         gate: u8,
+        names: &mut Names,
     ) -> Result<(), ReopenFault>
-        requires so_far { IfSome (D.image disk.old) (λ image. IsOpenedSoFar image self.old.opening gate) }
+        requires so_far { IfSome (D.image disk.old) (λ image. IsOpenedSoFar image self.old.opening names.old gate) }
         requires len { IsLengthOf (D.image disk.old) len }
         requires within { self.old.opening.used ≤ len }
-        ensures opened { OnOk result (IfSome (D.image disk.old) (λ image. opening image ≡ Ok self.new.opening)) }
+        requires counted_names { length names.old ≡ names_count self.old.opening.segments }
+        ensures opened { OnOk result (IfSome (D.image disk.old) (λ image. opening image ≡ Ok (record { index = self.new.opening; names = names.new }))) }
+        ensures counted_names { OnOk result (length names.new ≡ names_count self.new.opening.segments) }
         ensures refused { IfErr result (λ fault. IfSome (D.image disk.old) (λ image. Refuses fault (opening image))) }
         ensures cause { IsErrOf result ReopenFault.Disk → Rose (D.faults disk.old) (D.faults disk.new) }
         ensures same_image { D.image disk.new ≡ D.image disk.old }
@@ -187,20 +203,27 @@ impl Index {
     {
         let mut gate = gate;
         while gate == OPEN {
-            gate = self.read_next(disk, len)?;
+            gate = self.read_next(disk, len, names)?;
         }
         Ok(())
     }
 
     // Reads the segment behind the bytes in use, whose gate is open. Answers the byte of the gate
     // behind it.
-    fn read_next<D: Disk>(&mut self, disk: &mut D, len: u64) -> Result<u8, ReopenFault>
-        requires so_far { IfSome (D.image disk.old) (λ image. IsOpenedSoFar image self.old.opening 1) }
+    fn read_next<D: Disk>(
+        &mut self,
+        disk: &mut D,
+        len: u64,
+        names: &mut Names,
+    ) -> Result<u8, ReopenFault>
+        requires so_far { IfSome (D.image disk.old) (λ image. IsOpenedSoFar image self.old.opening names.old 1) }
         requires len { IsLengthOf (D.image disk.old) len }
         requires within { self.old.opening.used ≤ len }
-        ensures so_far { IfOk result (λ gate. IfSome (D.image disk.old) (λ image. IsOpenedSoFar image self.new.opening gate)) }
+        requires counted_names { length names.old ≡ names_count self.old.opening.segments }
+        ensures so_far { IfOk result (λ gate. IfSome (D.image disk.old) (λ image. IsOpenedSoFar image self.new.opening names.new gate)) }
         ensures within { OnOk result (self.new.opening.used ≤ len) }
         ensures progress { OnOk result (self.old.opening.used < self.new.opening.used) }
+        ensures counted_names { OnOk result (length names.new ≡ names_count self.new.opening.segments) }
         ensures refused { IfErr result (λ fault. IfSome (D.image disk.old) (λ image. Refuses fault (opening image))) }
         ensures cause { IsErrOf result ReopenFault.Disk → Rose (D.faults disk.old) (D.faults disk.new) }
         ensures same_image { D.image disk.new ≡ D.image disk.old }
@@ -210,22 +233,12 @@ impl Index {
         if self.reserve().is_err() {
             return Err(ReopenFault::Memory);
         }
-        let place = self.used();
-        let found = read_segment(disk, place, len, self.events(), self.earliest())?;
-        let head = found.head;
-        let ends = Ends {
-            first: head.first,
-            last: head.last,
+        let before = Before {
+            events: self.events(),
+            earliest: self.earliest(),
         };
-        let batch = Batch {
-            events: head.events,
-            ends,
-        };
-        self.note(
-            batch,
-            head.lengths,
-            place + HEAD_BYTES as u64 + head.blobs + 1,
-        );
+        let found = read_segment(self.alloc, disk, self.used(), len, before, names)?;
+        self.note(found.noted);
         Ok(found.gate)
     }
 
@@ -238,7 +251,7 @@ impl Index {
         col: Column,
     ) -> Result<Vec<u8>, FetchFault>
         requires held { IsSome (piece_of self.old.opening key) }
-        requires image { IfSome (D.image disk.old) (λ image. opening image ≡ Ok self.old.opening) }
+        requires image { IfSome (D.image disk.old) (λ image. IsOpenedAs image self.old.opening) }
         ensures bytes { IfOk result (λ bytes. IfSome (D.image disk.old) (λ image. IfSome (piece_of self.old.opening key) (λ s. bytes.items ≡ column_of_piece image s col))) }
         ensures same { self.new ≡ self.old }
         ensures same_image { D.image disk.new ≡ D.image disk.old }
@@ -275,9 +288,9 @@ impl Index {
         requires room { 1 ≤ self.old.room }
         requires limit { limit ≤ FILE_BYTES_MAX }
         requires due { IsDue self.old.opening segment }
-        requires image { IfSome (D.image disk.old) (λ image. opening image ≡ Ok self.old.opening) }
+        requires image { IfSome (D.image disk.old) (λ image. Fits image self.old.opening segment) }
         ensures ok { OnOk result (self.new.opening ≡ with_segment self.old.opening segment) }
-        ensures opened { OnOk result (IfSome (D.image disk.new) (λ image. opening image ≡ Ok self.new.opening)) }
+        ensures opened { OnOk result (BothTold (D.image disk.old) (D.image disk.new) (GainsSegment self.old.opening segment self.new.opening)) }
         ensures history { OnOk result (BothTold (D.image disk.old) (D.image disk.new) (GainsBatch segment)) }
         ensures part { IsErrOf result CommitFault.Disk → BothTold (D.image disk.old) (D.image disk.new) (GainsBatchOrNot segment) }
         ensures fits { OnOk result (needed_for self.old.opening segment ≤ limit) }
@@ -291,15 +304,13 @@ impl Index {
     {
         self.facts();
         let used = self.used();
-        let lengths = segment.lengths();
-        let [structure, node_attrs, edge_attrs] = lengths;
-        let needed = used + BARE_BYTES as u64 + structure + node_attrs + edge_attrs;
+        let needed = used + segment.size();
         if limit < needed {
             return Err(CommitFault::FileFull(needed));
         }
         match append(disk, used, &segment) {
             Ok(()) => {
-                self.note(segment.batch(), lengths, needed);
+                self.note(segment.noted(used));
                 Ok(())
             }
             Err(_) => Err(CommitFault::Disk),
@@ -327,6 +338,14 @@ impl Index {
         ensures { result ≡ self.now.opening.used }
     {
         self.used
+    }
+
+    /// How many names all batches bring.
+    pub fn names_len(&self) -> u32
+        ensures names { result ≡ names_count self.now.opening.segments }
+        ensures few { result ≤ NAMES_MAX }
+    {
+        self.names
     }
 
     /// The batch of the segment of this number, from 0, or `None` where there is no such segment.

@@ -8,13 +8,12 @@ pub fn law_images_are_opened()
     ensures { ImagesAreOpened }
 {}
 
-/// The bytes that a batch without names needs are those of the file that has it.
+/// The bytes that a batch needs are those of the file that has it.
 pub fn law_batches_are_measured()
     ensures { BatchesAreMeasured }
 {}
 
-/// What a history is opened as, with the segment of a batch without names, is what it is opened as with
-/// that batch.
+/// What an index keeps of a history, with the segment of a batch, is what it keeps of it with that batch.
 pub fn law_batches_are_added()
     ensures { BatchesAreAdded }
 {}

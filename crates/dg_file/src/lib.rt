@@ -3,6 +3,7 @@
 
 mod appending;
 mod batch;
+mod directory;
 mod disk_calls;
 mod fault;
 mod head;

@@ -1,7 +1,17 @@
 //! Numbers at a place of some bytes, the high byte first, and pieces put at a place.
 
 ghost use Rattle.std.specs.Prelude.{◌≡◌, ◌+◌, ◌≤◌, ◌++◌, length, take};
-ghost use Rattle.dg_model.specs.Opening.{four_at, eight_at};
+ghost use Rattle.dg_model.specs.Opening.{two_at, four_at, eight_at};
+
+/// The number of two bytes.
+pub(crate) fn u16_at(bytes: &[u8], at: usize) -> u16
+    requires { at + 2 ≤ length bytes.now }
+    ensures { result ≡ two_at bytes.now at }
+{
+    let (_, rest) = bytes.split_at(at);
+    let (front, _) = rest.split_at(2);
+    u16::from_be_bytes([front[0], front[1]])
+}
 
 /// The number of four bytes.
 pub(crate) fn u32_at(bytes: &[u8], at: usize) -> u32

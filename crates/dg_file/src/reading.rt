@@ -1,22 +1,26 @@
 //! Reading the header, the heads and the gates of the segments, and ranges of the file.
 
-ghost use Rattle.std.specs.Prelude.{◌≡◌, ◌≤◌, ◌+◌, ℕ, true, false, Some, Ok, Err, length, take, drop, slice_index, IfOk, IfErr, OnOk, OnErr, IsErrOf, IfSome};
+ghost use Rattle.std.specs.Prelude.{◌≡◌, ◌⊎◌, ◌≤◌, ◌+◌, ℕ, true, false, None, Some, Ok, Err, length, take, drop, slice_index, IfOk, IfErr, OnOk, OnErr, IsErrOf, IfSome};
 ghost use Rattle.dg_disk.specs.Counts.{Rose};
 ghost use Rattle.dg_disk.specs.Image.{HasRange, IsLengthOf};
-ghost use Rattle.dg_model.specs.declared.limits.TheConstants.{EVENTS_MAX};
+ghost use Rattle.dg_model.specs.declared.limits.TheConstants.{EVENTS_MAX, FILE_BYTES_MAX, NAMES_MAX};
 ghost use Rattle.dg_model.specs.History.{are_parameters};
-ghost use Rattle.dg_model.specs.Opening.{opening, params_in, is_segment};
+ghost use Rattle.dg_model.specs.Opening.{opening, params_in, is_within, directory_at, may_follow};
 ghost use Rattle.dg_model.specs.Legal.{is_blank};
-ghost use Rattle.dg_file.specs.Heads.{head_at, gate_in, may_stand};
-ghost use Rattle.dg_file.specs.Headers.{IsFoundIn};
-ghost use Rattle.dg_file.specs.Images.{Refuses, MissesSegment, taken_after};
+ghost use Rattle.dg_shape.specs.Entries.{total};
+ghost use Rattle.dg_file.specs.Heads.{lengths_at, fit_in, Takes};
+ghost use Rattle.dg_file.specs.Headers.{IsFoundIn, IsFoundAt};
+ghost use Rattle.dg_file.specs.Held.{segment_in};
+ghost use Rattle.dg_file.specs.Images.{Refuses, Misses, taken_after};
 
+use crate::batch::Noted;
+use crate::directory::{Before, Untaken, read_directory};
 use crate::fault::{FetchFault, ReopenFault};
-use crate::head::{HEAD_BYTES, Head};
+use crate::head::{LENGTHS_BYTES, Lengths};
 use crate::header::{HEADER_BYTES, is_closed, params_of};
-use crate::segment::BARE_BYTES;
-use dg_disk::Disk;
+use dg_disk::{Disk, Failed};
 use dg_model::Params;
+use dg_names::Names;
 use std::alloc::Global;
 
 /// What the header of an index says.
@@ -32,7 +36,7 @@ pub(crate) struct Found {
 /// A segment as it is found.
 #[derive(Clone, Copy)]
 pub(crate) struct FoundSegment {
-    pub head: Head,
+    pub noted: Noted,
     // the gate behind it
     pub gate: u8,
 }
@@ -68,43 +72,102 @@ pub(crate) fn read_header<D: Disk>(disk: &mut D) -> Result<Found, ReopenFault>
     }
 }
 
-/// Reads the head of the segment at the place and the gate behind it, in an image of `len` bytes,
-/// where so many events and this earliest time come before it. `ReopenFault::Damaged` where no such
-/// segment stands there.
-pub(crate) fn read_segment<D: Disk>(
-    disk: &mut D,
-    place: u64,
-    len: u64,
-    events: u64,
-    earliest: u64,
-) -> Result<FoundSegment, ReopenFault>
+// Reads the two lengths with which the segment at the place begins, in an image of `len` bytes.
+// `ReopenFault::Damaged` where that segment and the gate behind it would not fit.
+fn read_lengths<D: Disk>(disk: &mut D, place: u64, len: u64) -> Result<Lengths, ReopenFault>
     requires len { IsLengthOf (D.image disk.old) len }
     requires within { place ≤ len }
-    requires events { events ≤ EVENTS_MAX }
-    ensures head { IfOk result (λ found. IfSome (D.image disk.old) (λ image. found.head ≡ head_at image place)) }
-    ensures gate { IfOk result (λ found. IfSome (D.image disk.old) (λ image. found.gate ≡ slice_index image (gate_in place found.head))) }
-    ensures stands { IfOk result (λ found. may_stand events earliest place len found.head ≡ true) }
-    ensures refused { IfErr result (λ fault. IfSome (D.image disk.old) (λ image. MissesSegment place (is_segment events earliest image place) fault)) }
+    ensures lengths { IfOk result (λ lengths. IfSome (D.image disk.old) (λ image. lengths ≡ lengths_at image place)) }
+    ensures fit { IfOk result (λ lengths. fit_in place len lengths ≡ true) }
+    ensures refused { IfErr result (λ fault. IfSome (D.image disk.old) (λ image. Misses place (is_within image place ≡ false) fault)) }
     ensures cause { IsErrOf result ReopenFault.Disk → Rose (D.faults disk.old) (D.faults disk.new) }
     ensures same_image { D.image disk.new ≡ D.image disk.old }
     ensures counted { D.faults disk.old ≤ D.faults disk.new }
     ensures same_write_faults { D.write_faults disk.new ≡ D.write_faults disk.old }
 {
-    if len - place < BARE_BYTES as u64 {
+    if len - place <= LENGTHS_BYTES as u64 {
         return Err(ReopenFault::Damaged(place));
     }
-    let mut bytes = [0; HEAD_BYTES];
+    let mut bytes = [0; LENGTHS_BYTES];
     disk.read_at(place, &mut bytes)?;
-    let head = Head::read(&bytes);
-    if !head.may_stand(events, earliest, place, len) {
-        return Err(ReopenFault::Damaged(place));
+    let lengths = Lengths::read(&bytes);
+    if lengths.fit_in(place, len) {
+        Ok(lengths)
+    } else {
+        Err(ReopenFault::Damaged(place))
     }
-    let mut gate = [0];
-    disk.read_at(place + HEAD_BYTES as u64 + head.blobs, &mut gate)?;
-    Ok(FoundSegment {
-        head,
-        gate: gate[0],
-    })
+}
+
+// Reads the byte at the place.
+fn read_byte<D: Disk>(disk: &mut D, place: u64) -> Result<u8, Failed>
+    requires { HasRange (D.image disk.old) place 1 }
+    ensures byte { IfOk result (λ byte. IfSome (D.image disk.old) (λ image. byte ≡ slice_index image place)) }
+    ensures cause { OnErr result (Rose (D.faults disk.old) (D.faults disk.new)) }
+    ensures same_image { D.image disk.new ≡ D.image disk.old }
+    ensures counted { D.faults disk.old ≤ D.faults disk.new }
+    ensures same_write_faults { D.write_faults disk.new ≡ D.write_faults disk.old }
+{
+    let mut byte = [0];
+    disk.read_at(place, &mut byte)?;
+    Ok(byte[0])
+}
+
+// Reads the directory at the place, of so many bytes.
+fn read_text<D: Disk>(
+    alloc: Global,
+    disk: &mut D,
+    place: u64,
+    len: u64,
+) -> Result<Vec<u8>, ReopenFault>
+    requires { HasRange (D.image disk.old) place len }
+    ensures bytes { IfOk result (λ bytes. IfSome (D.image disk.old) (λ image. bytes.items ≡ take len (drop place image))) }
+    ensures len { IfOk result (λ bytes. length bytes.items ≡ len) }
+    ensures refused { IfErr result (λ fault. (fault ≡ ReopenFault.Disk) ⊎ (fault ≡ ReopenFault.Memory)) }
+    ensures cause { IsErrOf result ReopenFault.Disk → Rose (D.faults disk.old) (D.faults disk.new) }
+    ensures same_image { D.image disk.new ≡ D.image disk.old }
+    ensures counted { D.faults disk.old ≤ D.faults disk.new }
+    ensures same_write_faults { D.write_faults disk.new ≡ D.write_faults disk.old }
+{
+    match read_range(alloc, disk, place, len) {
+        Ok(bytes) => Ok(bytes),
+        Err(FetchFault::Disk) => Err(ReopenFault::Disk),
+        Err(FetchFault::Memory) => Err(ReopenFault::Memory),
+    }
+}
+
+/// Reads the two lengths and the directory of the segment at the place and the gate behind it, in an
+/// image of `len` bytes, and adds its names to those before it. `ReopenFault::Damaged` where no such
+/// segment stands there.
+pub(crate) fn read_segment<D: Disk>(
+    alloc: Global,
+    disk: &mut D,
+    place: u64,
+    len: u64,
+    before: Before,
+    names: &mut Names,
+) -> Result<FoundSegment, ReopenFault>
+    requires len { IsLengthOf (D.image disk.old) len }
+    requires within { place ≤ len }
+    requires events { before.events ≤ EVENTS_MAX }
+    ensures found { IfOk result (λ found. IfSome (D.image disk.old) (λ image. IsFoundAt before.events before.earliest names.old image place names.new found)) }
+    ensures takes { IfOk result (λ found. Takes before.events before.earliest names.old place len names.new found.noted) }
+    ensures refused { IfErr result (λ fault. IfSome (D.image disk.old) (λ image. Misses place (directory_at before.events names.old before.earliest image place ≡ None) fault)) }
+    ensures cause { IsErrOf result ReopenFault.Disk → Rose (D.faults disk.old) (D.faults disk.new) }
+    ensures same_image { D.image disk.new ≡ D.image disk.old }
+    ensures counted { D.faults disk.old ≤ D.faults disk.new }
+    ensures same_write_faults { D.write_faults disk.new ≡ D.write_faults disk.old }
+{
+    let lengths = read_lengths(disk, place, len)?;
+    let directory_place = place + LENGTHS_BYTES as u64;
+    let columns_place = directory_place + lengths.directory;
+    let text = read_text(alloc, disk, directory_place, lengths.directory)?;
+    let noted = match read_directory(&text, before, lengths.columns, columns_place, names) {
+        Ok(noted) => noted,
+        Err(Untaken::Broken) => return Err(ReopenFault::Damaged(place)),
+        Err(Untaken::Memory) => return Err(ReopenFault::Memory),
+    };
+    let gate = read_byte(disk, columns_place + lengths.columns)?;
+    Ok(FoundSegment { noted, gate })
 }
 
 /// The bytes of a range of the image, in memory from `alloc`. Reads nothing where the range is empty.

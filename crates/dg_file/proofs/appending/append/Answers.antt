@@ -1,8 +1,8 @@
-use Rattle.std.proofs.Common.{◌≡◌, ℕ, ◌+◌, ◌-◌, ◌≤◌, ◌++◌, ◌∷◌, List, [], length, inl, arith}
+use Rattle.std.proofs.Common.{◌-◌, ◌≤◌, length, inl, arith}
 use Rattle.std.proofs.lemmas.Result.{on_ok_weaker, on_err_weaker}
-use Rattle.dg_file.specs.Growth.{Grown, Keeps, GatedOrNot}
+use Rattle.dg_file.specs.Growth.{Keeps, GatedOrNot}
 use Rattle.dg_file.specs.Index.{segment_bytes}
-use Rattle.dg_file.proofs.Moves.{moved_after, moved_weaker, grown_keeps, on_err_any, gate_opened, gate_left}
+use Rattle.dg_file.proofs.Moves.{moved_after, moved_weaker, on_err_any, gate_opened, gate_left}
 use Rattle.dg_file.proofs.appending.append.Goals as goal
 
 pub put_down-requires : goal.put_down-requires

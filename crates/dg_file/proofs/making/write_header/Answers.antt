@@ -1,4 +1,4 @@
-use Rattle.std.proofs.Common.{◌≡◌, ℕ, length, sym, ap, arith}
+use Rattle.std.proofs.Common.{length, ap, arith}
 use Rattle.std.proofs.lemmas.Result.{on_ok_weaker, on_err_weaker}
 use Rattle.dg_file.proofs.Moves.{on_err_any}
 use Rattle.dg_file.proofs.Creations.{place_zero, place_one, made_first, made_first_part, made_second, made_second_part, made_third, made_third_part}

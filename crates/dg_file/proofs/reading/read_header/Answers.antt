@@ -1,4 +1,4 @@
-use Rattle.std.proofs.Common.{◌≡◌, ℕ, ◌≤◌, List, length, refl, sym, subst, ◌∙◌, arith}
+use Rattle.std.proofs.Common.{refl, sym, subst, ◌∙◌, arith}
 use Rattle.dg_disk.specs.Image.{IsLengthOf, IsRangeOf}
 use Rattle.dg_file.proofs.Found.{range_within, blank_short_image, blank_closed_image, foreign_image, found_image}
 use Rattle.dg_file.proofs.reading.read_header.Goals as goal

@@ -1,4 +1,4 @@
-use Rattle.std.proofs.Common.{◌≡◌, ℕ, ◌+◌, ◌-◌, ◌≤◌, ◌++◌, Bool, true, false, List, [], length, take, drop, refl, sym, ap, subst, ◌∙◌, arith}
+use Rattle.std.proofs.Common.{◌≡◌, length, take, drop, sym, ap, subst, ◌∙◌, arith}
 use Rattle.dg_disk.specs.Image.{HasRange}
 use Rattle.dg_file.proofs.Found.{some_all, range_filled, filled, taken_none, taken_some}
 use Rattle.dg_file.proofs.reading.read_range.Goals as goal

@@ -1,7 +1,7 @@
-use Rattle.std.proofs.Common.{◌≡◌, ℕ, List, Ok}
+use Rattle.std.proofs.Common.{◌≡◌, Ok}
 use Rattle.dg_model.specs.History.{empty_history}
 use Rattle.dg_model.specs.Legal.{IsImageOf}
-use Rattle.dg_model.specs.Opening.{opening, opening_of}
+use Rattle.dg_model.specs.Opening.{opening, opened_of}
 use Rattle.dg_file.specs.Images.{IsMadeInPart}
 use Rattle.dg_file.proofs.Histories.{images_are_opened}
 use Rattle.dg_file.proofs.Moves.{moved_after, moved_both, moved_told}
@@ -9,7 +9,7 @@ use Rattle.dg_file.proofs.index.Index.create.Goals as goal
 
 pub returns-in-Ok-clause-opened : goal.returns-in-Ok-clause-opened
 returns-in-Ok-clause-opened g c =
-    moved_after _ _ (λ before after. IsImageOf (empty_history c.args.params) after) (λ image. opening image ≡ Ok (opening_of (empty_history c.args.params))) (λ a b h. images_are_opened (empty_history c.args.params) b h) c.in-Ok.ensures.image
+    moved_after _ _ (λ before after. IsImageOf (empty_history c.args.params) after) (λ image. opening image ≡ Ok (opened_of (empty_history c.args.params))) (λ a b h. images_are_opened (empty_history c.args.params) b h) c.in-Ok.ensures.image
 
 pub returns-in-Ok-clause-image : goal.returns-in-Ok-clause-image
 returns-in-Ok-clause-image g c =

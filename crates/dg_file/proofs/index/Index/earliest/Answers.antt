@@ -1,4 +1,4 @@
-use Rattle.std.proofs.Common.{◌≡◌, ℕ, ◌+◌, ◌≤◌, sym, ap, ◌∙◌, arith}
+use Rattle.std.proofs.Common.{sym, ap, ◌∙◌, arith}
 use Rattle.dg_file.specs.Held.{segments_held}
 use Rattle.dg_file.specs.Index.{IndexState, earliest_after}
 use Rattle.dg_file.proofs.Holding.{earliest_some, earliest_none}

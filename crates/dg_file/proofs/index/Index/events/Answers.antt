@@ -1,4 +1,4 @@
-use Rattle.std.proofs.Common.{◌≡◌, ℕ, ◌≤◌, arith}
+use Rattle.std.proofs.Common.{arith}
 use Rattle.dg_file.specs.Held.{segments_held}
 use Rattle.dg_file.proofs.Holding.{turn_count}
 use Rattle.dg_file.proofs.index.Index.events.Goals as goal

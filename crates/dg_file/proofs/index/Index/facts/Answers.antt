@@ -1,8 +1,5 @@
-use Rattle.std.proofs.Common.{◌≡◌, ℕ, ◌+◌, ◌≤◌, ◌<◌, List, length, subst, arith}
-use Rattle.dg_model.specs.declared.limits.TheConstants.{EVENTS_MAX}
-use Rattle.dg_model.specs.Opening.{Segment}
-use Rattle.dg_file.specs.Held.{segments_held}
-use Rattle.dg_file.specs.Index.{IndexState, AreInTurn, events_after}
+use Rattle.std.proofs.Common.{subst, arith}
+use Rattle.dg_file.specs.Index.{IndexState, AreInTurn}
 use Rattle.dg_file.proofs.Holding.{turn_few, turn_count}
 use Rattle.dg_file.proofs.index.Index.facts.Goals as goal
 

@@ -3,4 +3,4 @@ use Rattle.dg_file.proofs.index.Index.read_segments.Goals as goal
 
 pub returns-clause-opened : goal.returns-clause-opened
 returns-clause-opened g c =
-    end_opened (g.D.Disk.image c.args.disk.now) c.loop-gate.self.opening c.loop-gate.gate c.loop-gate-test.false c.loop-gate.invariant.so_far
+    end_opened (g.D.Disk.image c.args.disk.now) c.loop-gate.self.opening c.loop-gate.names c.loop-gate.gate c.loop-gate-test.false c.loop-gate.invariant.so_far
