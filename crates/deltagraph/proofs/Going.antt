@@ -1,39 +1,38 @@
 -- The run so far, and how each turn lengthens it.
 use Rattle.std.proofs.Common.{◌≡◌, ℕ, ◌+◌, true, false, List, [], ◌∷◌, ◌++◌, Option, Some, None, IfSome, Result, Ok, Err, OnOk, OnErr, length, take, refl, sym, ◌∙◌, ap, subst, append_assoc, arith, length-append}
 use Rattle.std.specs.Option.{option_map}
-use Rattle.std.specs.List.{flat_map}
 use Rattle.std.specs.Result.{is_err}
 use Rattle.std.proofs.lemmas.List.{append-nil}
+use Rattle.std.proofs.lemmas.List.Concat.{flat_map-append}
 use Rattle.std.proofs.Math.Seq.{take-append-add}
 use Rattle.dg_model.specs.declared.reply.Reply.{Reply}
-use Rattle.dg_model.specs.declared.event.Event.{Event}
 use Rattle.dg_model.specs.declared.limits.Limits.{Limits}
 use Rattle.dg_model.specs.Cut.{IsCut}
-use Rattle.dg_model.specs.History.{History, Batch}
-use Rattle.dg_model.specs.Legal.{StandsAs, AreLegalAfter}
+use Rattle.dg_model.specs.History.{History}
+use Rattle.dg_model.specs.Legal.{StandsAs}
 use Rattle.dg_model.specs.Machine.{MachineState, machine_at, names_in}
 use Rattle.dg_model.specs.Run.{Run}
 use Rattle.dg_model.specs.Script.{Entry, script}
-use Rattle.dg_model.specs.Text.{text, texts}
-use Rattle.dg_model.proofs.Runs.{run_more, texts_more}
+use Rattle.dg_model.specs.Text.{text}
+use Rattle.dg_model.proofs.Runs.{run_more}
 use Rattle.dg_io.specs.Told.{grown, GrowsByPart}
 use Rattle.dg_io.specs.Reading.{Reading}
 use Rattle.dg_session.specs.Parts.{Parts}
 use Rattle.dg_session.specs.Session.{StandsFor}
 use Rattle.deltagraph.specs.declared.status.Status.{Status}
 use Rattle.deltagraph.specs.declared.status.Status.TheVariants as status
-use Rattle.deltagraph.specs.Served.{Served, Gained, Kept, Cut_off}
+use Rattle.deltagraph.specs.Served.{Served, Gained, Kept, Cut_off, flat}
 use Rattle.deltagraph.specs.Turns.{Replies, asked}
 
 -- The run from m so far, over the image now: the entries answered, and those to come.
 pub record Going (m : MachineState) (left before : Option (List ℕ)) (session : Parts) (image : List ℕ) (more : Option (List Entry)) (written : Option (List ℕ)) : Type 0 where
   pub entries : List Entry
-  pub replies : List Reply
+  pub texts : List (List ℕ)
   pub state : MachineState
-  pub run : Run m entries replies state
+  pub run : Run m entries texts state
   pub stands : StandsFor session image state
   pub front : option_map script left ≡ option_map (λ rest. entries ++ rest) more
-  pub gained : written ≡ grown before (texts [] replies)
+  pub gained : written ≡ grown before (flat texts)
 
 map-nothing : {A : Type 0} (o : Option (List A)) → o ≡ option_map (λ rest. [] ++ rest) o
 map-nothing None = refl
@@ -57,7 +56,7 @@ pub going_first : (m : MachineState) (left before : Option (List ℕ)) (session 
     → Going m left before session image (option_map script left) before
 going_first m left before session image stands = record {
   entries = [];
-  replies = [];
+  texts = [];
   state = m;
   run = refl;
   stands = stands;
@@ -65,38 +64,34 @@ going_first m left before session image stands = record {
   gained = grown-nil before;
 }
 
+flat_more : (texts : List (List ℕ)) (text : List ℕ) → flat (texts ++ text ∷ []) ≡ flat texts ++ text
+flat_more texts text =
+    flat_map-append (λ (t : List ℕ). t) texts (text ∷ []) ∙ ap (λ (bytes : List ℕ). flat texts ++ bytes) (append-nil text)
+
+-- the bytes of the texts, and then of the text of a reply by the names of the session, which are those
+-- of the machine's history
+flat_after : (texts : List (List ℕ)) (session : Parts) (image : List ℕ) (m : MachineState) (r : Reply) → StandsFor session image m
+    → flat texts ++ text session.names r ≡ flat (texts ++ text (names_in m.index) r ∷ [])
+flat_after texts session image m r stands =
+    ap (λ (names : List (List ℕ)). flat texts ++ text names r) stands.names ∙ sym (flat_more texts (text (names_in m.index) r))
+
 -- a turn with a reply that was written
 pub going_on : (m : MachineState) (left before : Option (List ℕ)) (old new : Parts) (image now : List ℕ) (more rest : Option (List Entry)) (written : Option (List ℕ)) (e : Entry) (r : Reply)
     → Going m left before old image more written → more ≡ option_map (λ es. e ∷ es) rest → Replies e old image new now r
-    → Going m left before new now rest (grown written (text [] r))
+    → Going m left before new now rest (grown written (text new.names r))
 going_on m left before old new image now more rest written e r going is replies =
     let next = replies going.state going.stands in record {
       entries = going.entries ++ e ∷ [];
-      replies = going.replies ++ r ∷ [];
+      texts = going.texts ++ text (names_in next.0.index) r ∷ [];
       state = next.0;
-      run = run_more m going.state next.0 going.entries going.replies e r going.run next.1;
+      run = run_more m going.state next.0 going.entries going.texts e r going.run next.1;
       stands = next.2;
       front = going.front ∙ ap (option_map (λ es. going.entries ++ es)) is ∙ front_more rest going.entries e;
       gained =
-          ap (λ o. grown o (text [] r)) going.gained
-          ∙ grown-append before (texts [] going.replies) (text [] r)
-          ∙ ap (grown before) (sym (texts_more [] going.replies r));
+          ap (λ o. grown o (text new.names r)) going.gained
+          ∙ grown-append before (flat going.texts) (text new.names r)
+          ∙ ap (grown before) (flat_after going.texts new now next.0 r next.2);
     }
-
--- legal batches bring no names
-nameless : (before : List Event) (batches : List Batch) → AreLegalAfter before batches → flat_map (λ (b : Batch). b.names) batches ≡ []
-nameless before [] legal = refl
-nameless before (b ∷ more) legal =
-    ap (λ (names : List (List ℕ)). names ++ flat_map (λ (c : Batch). c.names) more) legal.0.nameless
-    ∙ nameless (before ++ b.events) more legal.1
-
--- a machine over an image has no names
-names_none : (index : Option History) (image : List ℕ) → StandsAs index image → [] ≡ names_in index
-names_none None image stands = refl
-names_none (Some z) image stands = sym (nameless [] z.batches stands.legal.batches)
-
-no_names : (session : Parts) (image : List ℕ) (m : MachineState) → StandsFor session image m → [] ≡ names_in m.index
-no_names session image m stands = names_none m.index image stands.image_stands
 
 -- a run that ends between two entries
 pub served_cut : (s : Status) (m : MachineState) (left before : Option (List ℕ)) (session : Parts) (image : List ℕ) (more : Option (List Entry)) (written : Option (List ℕ))
@@ -105,14 +100,13 @@ pub served_cut : (s : Status) (m : MachineState) (left before : Option (List ℕ
     → Served m s left before written (Some image)
 served_cut s m left before session image more written going whole gained = record {
   entries = going.entries;
-  replies = going.replies;
+  texts = going.texts;
   last = going.state;
   run = going.run;
   more = more;
   front = going.front;
   whole = whole;
-  gained = gained (texts (names_in going.state.index) going.replies)
-      (going.gained ∙ ap (λ (names : List (List ℕ)). grown before (texts names going.replies)) (no_names session image going.state going.stands));
+  gained = gained (flat going.texts) going.gained;
   stands = Kept going.stands.image_stands;
 }
 
@@ -129,13 +123,13 @@ pub served_broken : (m : MachineState) (left before : Option (List ℕ)) (sessio
 served_broken m left before session image now more rest written e going is cut =
     let first = comes_first more rest e is in record {
       entries = going.entries;
-      replies = going.replies;
+      texts = going.texts;
       last = going.state;
       run = going.run;
       more = more;
       front = going.front;
       whole = λ done. cc;
-      gained = going.gained ∙ ap (λ (names : List (List ℕ)). grown before (texts names going.replies)) (no_names session image going.state going.stands);
+      gained = going.gained;
       stands = Cut_off e first.0 image refl first.1 going.stands.image_stands (cut going.state going.stands);
     }
 
@@ -145,7 +139,7 @@ pub served_nothing : (s : Status) (limits : Limits) (index : Option History) (le
     → Served (machine_at limits index) s left before before (Some image)
 served_nothing s limits index left before image stands undone gained = record {
   entries = [];
-  replies = [];
+  texts = [];
   last = machine_at limits index;
   run = refl;
   more = option_map script left;
@@ -168,12 +162,12 @@ part_later before written after due piece is part = (
 -- the reply of the last turn was written in part
 pub served_part : (m : MachineState) (left before : Option (List ℕ)) (old new : Parts) (image now : List ℕ) (more rest : Option (List Entry)) (written after : Option (List ℕ)) (e : Entry) (r : Reply)
     → Going m left before old image more written → more ≡ option_map (λ es. e ∷ es) rest → Replies e old image new now r
-    → GrowsByPart written (text [] r) after → Served m status.SinkFault left before after (Some now)
+    → GrowsByPart written (text new.names r) after → Served m status.SinkFault left before after (Some now)
 unfolding going_on
 served_part m left before old new image now more rest written after e r going is replies part =
     let next = going_on m left before old new image now more rest written e r going is replies in record {
       entries = next.entries;
-      replies = next.replies;
+      texts = next.texts;
       last = next.state;
       run = next.run;
       more = rest;
@@ -181,8 +175,8 @@ served_part m left before old new image now more rest written after e r going is
       whole = λ done. cc;
       gained =
           subst (λ (due : List ℕ). GrowsByPart before due after)
-          (sym (texts_more [] going.replies r) ∙ ap (λ (names : List (List ℕ)). texts names next.replies) (no_names new now next.state next.stands))
-          (part_later before written after (texts [] going.replies) (text [] r) going.gained part);
+          (flat_after going.texts new now next.state r next.stands)
+          (part_later before written after (flat going.texts) (text new.names r) going.gained part);
       stands = Kept next.stands.image_stands;
     }
 

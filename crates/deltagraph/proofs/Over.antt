@@ -70,7 +70,7 @@ over_skip limits first image now left before old new more rest written going sam
 -- a turn with a reply that was written
 pub over_on : (limits : Limits) (first image now left before : Option (List ℕ)) (old new : Parts) (more rest : Option (List Entry)) (written after : Option (List ℕ)) (e : Entry) (r : Reply)
     → GoingOver limits first image left before old more written → is_some image ≡ is_some first → more ≡ option_map (λ es. e ∷ es) rest
-    → BothTold image now (λ x y. Replies e old x new y r) → after ≡ grown written (text [] r)
+    → BothTold image now (λ x y. Replies e old x new y r) → after ≡ grown written (text new.names r)
     → GoingOver limits first now left before new rest after
 over_on limits first image now left before old new more rest written after e r going told is replies gained = λ x z a c index as_index.
     let mid = value_of first image x told a in
@@ -105,7 +105,7 @@ over_broken limits first image now left before session more rest written going t
 pub over_part : (limits : Limits) (first image now left before : Option (List ℕ)) (old new : Parts) (more rest : Option (List Entry)) (written after : Option (List ℕ)) (e : Entry) (r : Reply)
     → GoingOver limits first image left before old more written → is_some image ≡ is_some first → is_some now ≡ is_some image
     → more ≡ option_map (λ es. e ∷ es) rest → BothTold image now (λ x y. Replies e old x new y r)
-    → GrowsByPart written (text [] r) after → ServedOver limits first status.SinkFault left before after now
+    → GrowsByPart written (text new.names r) after → ServedOver limits first status.SinkFault left before after now
 over_part limits first image now left before old new more rest written after e r going told then_told is replies part =
     if_some first (λ x. (index : Option History) → StandsAs index x → Served (machine_at limits index) status.SinkFault left before after now) (λ x a index as_index.
     let mid = value_of first image x told a in

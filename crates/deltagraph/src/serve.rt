@@ -15,7 +15,7 @@ use crate::words::are_written;
 use dg_disk::Disk;
 use dg_io::{Lines, Sink, Source};
 use dg_line::write_reply;
-use dg_model::{FILE_BYTES_MAX, Limits, SCRIPT_BYTES_MAX};
+use dg_model::{EVENTS_MAX, FILE_BYTES_MAX, Limits, SCRIPT_BYTES_MAX};
 use dg_session::{Session, Stop};
 use std::alloc::Global;
 use std::thread::Threads;
@@ -32,7 +32,7 @@ pub fn serve<R: Threads, S: Source, K: Sink, D: Disk>(
     disk: &mut D,
 ) -> Status
     ensures served { IfSome (D.image disk.old) (λ image. (index : Option History) → StandsAs index image
-        → Served (machine_at (record { script_bytes = SCRIPT_BYTES_MAX; file_bytes = FILE_BYTES_MAX }) index) result (S.left source.old)
+        → Served (machine_at (record { script_bytes = SCRIPT_BYTES_MAX; events = EVENTS_MAX; file_bytes = FILE_BYTES_MAX }) index) result (S.left source.old)
         (K.written sink.old) (K.written sink.new) (D.image disk.new)) }
     ensures told { is_some (D.image disk.new) ≡ is_some (D.image disk.old) }
     ensures words { (result ≡ Status.Words) ↔ (is_written_form (map string_bytes words.now) ≡ false) }
@@ -67,7 +67,7 @@ pub fn serve<R: Threads, S: Source, K: Sink, D: Disk>(
         → (Rose (D.faults disk.old) (D.faults disk.new) → ⊥)
         → (Rose (D.write_faults disk.old) (D.write_faults disk.new) → ⊥)
         → IfSome (D.image disk.old) (λ image. (index : Option History) → StandsAs index image
-        → IfSome (S.left source.old) (λ script. Completes (record { script_bytes = SCRIPT_BYTES_MAX; file_bytes = FILE_BYTES_MAX }) result script)) }
+        → IfSome (S.left source.old) (λ script. Completes (record { script_bytes = SCRIPT_BYTES_MAX; events = EVENTS_MAX; file_bytes = FILE_BYTES_MAX }) result script)) }
 {
     serve_with(rt, alloc, words, Limits::standard(), source, sink, disk)
 }
@@ -180,7 +180,7 @@ fn carry_out<R: Threads, S: Source, K: Sink, D: Disk>(
         match next_turn(rt, alloc, &mut session, &mut lines, source, disk) {
             Ok(Turn::Skipped) => {}
             Ok(Turn::Replied(reply)) => {
-                if write_reply(sink, &reply).is_err() {
+                if write_reply(sink, session.names(), &reply).is_err() {
                     return Status::SinkFault;
                 }
             }

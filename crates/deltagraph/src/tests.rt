@@ -6,7 +6,7 @@ use crate::status::Status;
 use crate::words::index_word;
 use dg_disk::MemoryDisk;
 use dg_io::{MemorySink, MemorySource};
-use dg_model::{Column, Key, Limits, StartFault};
+use dg_model::{Column, EVENTS_MAX, FILE_BYTES_MAX, Key, Limits, SCRIPT_BYTES_MAX, StartFault};
 use std::alloc::Global;
 use std::test::Fail;
 use std::thread::Threads;
@@ -32,7 +32,7 @@ struct Case {
     replies: &'static str,
 }
 
-const CASES: [Case; 17] = [
+const CASES: [Case; 20] = [
     Case {
         shows: "an empty script has no replies",
         script: "",
@@ -85,7 +85,7 @@ const CASES: [Case; 17] = [
     },
     Case {
         shows: "lines of a batch that are no change, and a batch that is refused leaves nothing",
-        script: "create 2 2 intersection\nload 1\n10 nset 1 a b\nload 1\n10 +node 01\nload 1\n10 +node  1\nload 1\n\nload 1\n# 1 +node 1\nload 1\n9223372036854775808 +node 1\nload 1\n10 +node 18446744073709551616\nat 10 s\n",
+        script: "create 2 2 intersection\nload 1\n10 nset 1 a\nload 1\n10 +node 01\nload 1\n10 +node  1\nload 1\n\nload 1\n# 1 +node 1\nload 1\n9223372036854775808 +node 1\nload 1\n10 +node 18446744073709551616\nat 10 s\n",
         replies: "ok create\nend\nrefused 6 bad-change 1 10\nend\nrefused 6 bad-change 1 10\nend\nrefused 6 bad-change 1 10\nend\nrefused 6 bad-change 1 10\nend\nrefused 6 bad-change 1 10\nend\nrefused 6 bad-change 1 10\nend\nrefused 6 bad-change 1 10\nend\nrefused 7 out-of-range empty\nend\n",
     },
     Case {
@@ -117,6 +117,21 @@ const CASES: [Case; 17] = [
         shows: "bytes that are no text",
         script: "\u{1}\u{7f}\u{80}\u{7ff}\nlist\u{0}1\n",
         replies: "refused 1 syntax 1\nend\nrefused 1 syntax 5\nend\n",
+    },
+    Case {
+        shows: "a value has spaces, or no byte, and values stand in the order of their keys",
+        script: "create 2 2 union\nload 3\n1 +node 1\n2 nset 1 title a b  c\n3 nset 1 note \nat 3 n\nat 3 sn\nlist 1\n",
+        replies: "ok create\nend\nok load 3 3 3\nend\nrefused 1 syntax 6\nend\nok at 1 0\nend\nok list 1 3\nnode 1\nnattr 1 title a b  c\nnattr 1 note \nend\n",
+    },
+    Case {
+        shows: "a batch that is refused leaves no name, and keys stand in the order in which they came",
+        script: "create 2 2 union\nload 2\n1 +node 1\n1 nset 2 a b\nload 3\n1 +node 1\n2 nset 1 b x\n3 nset 1 a y\nat 3 sn\nlist 1\n",
+        replies: "ok create\nend\nrefused 6 bad-change 2 3\nend\nok load 3 3 3\nend\nok at 1 0\nend\nok list 1 3\nnode 1\nnattr 1 b x\nnattr 1 a y\nend\n",
+    },
+    Case {
+        shows: "an append without an index, and one to a history with no event",
+        script: "append 1\n5 +node 1\ncreate 2 2 union\nappend 1\n5 +node 1\nload 1\n6 +node 2\n",
+        replies: "refused 2 no-index\nend\nok create\nend\nok append 1 1 5\nend\nrefused 20 already-loaded\nend\n",
     },
 ];
 
@@ -166,7 +181,19 @@ fn within(script_bytes: u32, file_bytes: u32) -> Limits
 {
     Limits {
         script_bytes: u64::from(script_bytes),
+        events: EVENTS_MAX,
         file_bytes: u64::from(file_bytes),
+    }
+}
+
+// The standard limits, but with so many events.
+fn with_events(events: u16) -> Limits
+    ensures { IsWithin result }
+{
+    Limits {
+        script_bytes: SCRIPT_BYTES_MAX,
+        events: u64::from(events),
+        file_bytes: FILE_BYTES_MAX,
     }
 }
 
@@ -191,6 +218,95 @@ fn replies_are_those_of_the_rules(rt: HostRuntime) -> Result<(), Fail> {
             assert_eq!(rt; ran.status, Status::Done, "{}", case.shows);
         }
     }
+    Ok(())
+}
+
+// A script of a history of five events, with an attribute and an edge that is removed, and its
+// replies.
+const FIVE: &str =
+    "create 2 2 intersection\nload 5\n10 +node 1\n20 +node 2\n30 +edge 5 1 2 dir\n40 nset 1 name A\n50 -edge 5\n";
+
+const FIVE_REPLIES: &str = "ok create\nend\nok load 5 5 50\nend\n";
+
+// More events than a test has in its history.
+const MANY_EVENTS: u16 = u16::MAX;
+
+// How the script of the five events goes on, the limit on events, and what is written then.
+struct Append {
+    shows: &'static str,
+    script: &'static str,
+    events: u16,
+    replies: &'static str,
+}
+
+const APPENDS: [Append; 4] = [
+    Append {
+        shows: "a batch follows the history, and a handle keeps its instant and its values",
+        script: "at 40 sn\nappend 2\n60 -node 2\n70 +node 3\nlist 1\nat 70 sn\nlist 2\nat 40 s\n",
+        events: MANY_EVENTS,
+        replies: "ok at 1 0\nend\nok append 2 7 70\nend\nok list 1 4\nnode 1\nnode 2\nedge 5 1 2 dir\nnattr 1 name A\nend\nok at 2 0\nend\nok list 2 3\nnode 1\nnode 3\nnattr 1 name A\nend\nok at 3 0\nend\n",
+    },
+    Append {
+        shows: "a time that is not later, a node with an attribute, a value that stays, no change",
+        script: "append 2\n50 +node 7\n60 +node 8\nappend 1\n60 -node 1\nappend 1\n60 nset 1 name A\nappend 1\n70 +nod 1\n",
+        events: MANY_EVENTS,
+        replies: "refused 6 bad-change 1 1\nend\nrefused 6 bad-change 1 4\nend\nok append 1 6 60\nend\nrefused 6 bad-change 1 10\nend\n",
+    },
+    Append {
+        shows: "a script that ends within an append",
+        script: "append 2\n60 +node 9\n",
+        events: MANY_EVENTS,
+        replies: "refused 5 short-batch 1 2\nend\n",
+    },
+    Append {
+        shows: "a history has as many events as the limit, and no more",
+        script: "append 2\n60 +node 9\n61 +node 8\nappend 1\n60 +node 9\nappend 1\n61 +node 8\n",
+        events: 6,
+        replies: "refused 12 history-full 5 2\nend\nok append 1 6 60\nend\nrefused 12 history-full 6 1\nend\n",
+    },
+];
+
+#[test]
+fn batches_follow_a_history(rt: HostRuntime) -> Result<(), Fail> {
+    let alloc = rt.alloc();
+    for case in APPENDS.iter() {
+        let script = format!(in alloc; "{}{}", FIVE, case.script)?;
+        let due = format!(in alloc; "{}{}", FIVE_REPLIES, case.replies)?;
+        for chunk in [1, 7, WHOLE] {
+            let ran = run(
+                &rt,
+                alloc,
+                NO_FILE,
+                script.as_bytes(),
+                chunk,
+                with_events(case.events),
+            )?;
+            assert_eq!(rt; ran.written.as_slice(), due.as_bytes(), "{}", case.shows);
+            assert_eq!(rt; ran.status, Status::Done, "{}", case.shows);
+        }
+    }
+    Ok(())
+}
+
+#[test]
+fn a_later_run_goes_on_with_the_history_and_its_names(rt: HostRuntime) -> Result<(), Fail> {
+    let alloc = rt.alloc();
+    let limits = within(NO_LIMIT, NO_LIMIT);
+    let first = run(&rt, alloc, NO_FILE, FIVE.as_bytes(), WHOLE, limits)?;
+    assert_eq!(rt; first.written.as_slice(), FIVE_REPLIES.as_bytes());
+    let again = run(
+        &rt,
+        alloc,
+        first.image.as_slice(),
+        b"at 50 sn\nlist 1\nappend 1\n60 nset 2 name A\nat 60 n\nat 60 sn\nlist 2\n",
+        WHOLE,
+        limits,
+    )?;
+    assert_eq!(rt; again.status, Status::Done);
+    assert_eq!(rt;
+        again.written.as_slice(),
+        b"ok at 1 0\nend\nok list 1 3\nnode 1\nnode 2\nnattr 1 name A\nend\nok append 1 6 60\nend\nrefused 1 syntax 7\nend\nok at 2 0\nend\nok list 2 4\nnode 1\nnode 2\nnattr 1 name A\nnattr 2 name A\nend\n".as_slice()
+    );
     Ok(())
 }
 

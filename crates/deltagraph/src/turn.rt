@@ -53,9 +53,9 @@ pub fn next_turn<R: Threads, S: Source, D: Disk>(
     source: &mut S,
     disk: &mut D,
 ) -> Result<Turn, Stop>
-    requires { IfSome (D.image disk.old) (λ image. IsHeldBy session.old.index image) }
+    requires { IfSome (D.image disk.old) (λ image. IsHeldBy session.old.index session.old.names image) }
     ensures turn { IfOk result (λ turn. Turns turn (asked lines.old (S.left source.old)) (asked lines.new (S.left source.new)) session.old (D.image disk.old) session.new (D.image disk.new)) }
-    ensures held { OnOk result (IfSome (D.image disk.new) (λ image. IsHeldBy session.new.index image)) }
+    ensures held { OnOk result (IfSome (D.image disk.new) (λ image. IsHeldBy session.new.index session.new.names image)) }
     ensures told { is_some (D.image disk.new) ≡ is_some (D.image disk.old) }
     ensures stop { IsErrOf result Stop.Read → (session.new ≡ session.old) × (D.image disk.new ≡ D.image disk.old) }
     ensures stop_limit { IsErrOf result Stop.Limit → (session.new ≡ session.old) × (D.image disk.new ≡ D.image disk.old) }
@@ -88,10 +88,10 @@ fn turn_of<R: Threads, S: Source, D: Disk>(
     source: &mut S,
     disk: &mut D,
 ) -> Result<Turn, Stop>
-    requires { IfSome (D.image disk.old) (λ image. IsHeldBy session.old.index image) }
+    requires { IfSome (D.image disk.old) (λ image. IsHeldBy session.old.index session.old.names image) }
     ensures turn { IfOk result (λ turn. TurnsAt turn lines.old.text (told lines.old (S.left source.old)) (told lines.new (S.left source.new)) session.old (D.image disk.old) session.new (D.image disk.new)) }
     ensures goes_on { IfOk result (λ turn. GoesOn turn) }
-    ensures held { OnOk result (IfSome (D.image disk.new) (λ image. IsHeldBy session.new.index image)) }
+    ensures held { OnOk result (IfSome (D.image disk.new) (λ image. IsHeldBy session.new.index session.new.names image)) }
     ensures told { is_some (D.image disk.new) ≡ is_some (D.image disk.old) }
     ensures stop { IsErrOf result Stop.Read → (session.new ≡ session.old) × (D.image disk.new ≡ D.image disk.old) }
     ensures stop_limit { IsErrOf result Stop.Limit → (session.new ≡ session.old) × (D.image disk.new ≡ D.image disk.old) }

@@ -1,5 +1,5 @@
--- What a batch comes to whose first lines have changes.
-use Rattle.std.proofs.Common.{◌≡◌, ℕ, suc, ◌+◌, ◌<◌, ◌≤◌, Bool, true, false, List, [], ◌∷◌, Option, Some, None, Result, Ok, Err, length, map, refl, ◌∙◌, ap, sym, arith}
+-- What a batch comes to whose first lines have changes, and then a line that is no change.
+use Rattle.std.proofs.Common.{◌≡◌, ℕ, suc, ◌+◌, List, [], ◌∷◌, ◌++◌, Option, None, Result, Ok, Err, length, refl, ◌∙◌, ap, sym, subst, arith}
 use Rattle.dg_model.specs.declared.element.Element.{Element}
 use Rattle.dg_model.specs.declared.event.Change.{Change}
 use Rattle.dg_model.specs.declared.event.Event.{Event}
@@ -9,97 +9,64 @@ use Rattle.dg_model.specs.Effect.{forwards}
 use Rattle.dg_now.specs.declared.fault.PrepareFault.{PrepareFault}
 use Rattle.dg_now.specs.declared.fault.PrepareFault.TheVariants.{BadChange, Memory}
 use Rattle.dg_now.specs.Now.{FaultOf}
-use Rattle.dg_session.specs.Prepared.{changes_in_front}
+use Rattle.dg_session.specs.declared.following.Front.{Front}
+use Rattle.dg_session.specs.declared.following.Front.TheVariants.{Whole, Form, Unkept}
+use Rattle.dg_session.specs.Following.{IsFront, lines}
 
--- the changes as lines
-abbrev pub lines : List Change → List (Option Change)
-lines changes = map (λ (c : Change). Some c) changes
+-- what the changes come to, or the line after them as one that is no change
+abbrev pub then_other : ℕ → Result (List Event) (ℕ × ℕ) → Result (List Event) (ℕ × ℕ)
+then_other n (Err fault) = Err fault
+then_other n (Ok events) = Err (n, REASON_FORM)
 
--- some line is no change
-abbrev pub has_other : List (Option Change) → Bool
-has_other [] = false
-has_other (None ∷ changes) = true
-has_other (Some c ∷ changes) = has_other changes
+then_one : (n : ℕ) (e : Event) (r : Result (List Event) (ℕ × ℕ))
+    → on_value (λ (es : List Event). e ∷ es) (then_other n r) ≡ then_other n (on_value (λ (es : List Event). e ∷ es) r)
+then_one n e (Err fault) = refl
+then_one n e (Ok events) = refl
 
--- what the front comes to, or the line after it as one that is no change
-abbrev pub then_other : ℕ → Bool → Result (List Event) (ℕ × ℕ) → Result (List Event) (ℕ × ℕ)
-then_other n other (Err fault) = Err fault
-then_other n false (Ok events) = Ok events
-then_other n true (Ok events) = Err (n, REASON_FORM)
-
-then_one : (n : ℕ) (other : Bool) (e : Event) (r : Result (List Event) (ℕ × ℕ))
-    → on_value (λ (es : List Event). e ∷ es) (then_other n other r) ≡ then_other n other (on_value (λ (es : List Event). e ∷ es) r)
-then_one n other e (Err fault) = refl
-then_one n false e (Ok events) = refl
-then_one n true e (Ok events) = refl
-
-pub completed_front : (n earliest : ℕ) (set : List Element) (changes : List (Option Change))
-    → completed n earliest set changes
-    ≡ then_other (n + length (changes_in_front changes)) (has_other changes) (completed n earliest set (lines (changes_in_front changes)))
-completed_front n earliest set [] = refl
-completed_front n earliest set (None ∷ changes) =
+pub completed_other : (n earliest : ℕ) (set : List Element) (changes : List Change) (rest : List (Option Change))
+    → completed n earliest set (lines changes ++ None ∷ rest) ≡ then_other (n + length changes) (completed n earliest set (lines changes))
+completed_other n earliest set [] rest =
     let number : n ≡ n + 0 = omega arith in ap (λ (k : ℕ). let r : Result (List Event) (ℕ × ℕ) = Err (k, REASON_FORM) in r) number
-completed_front n earliest set (Some c ∷ changes) =
-    by_event (event_of earliest set c) (λ e. completed_front (n + 1) e.time (forwards set e) changes)
+completed_other n earliest set (c ∷ changes) rest =
+    by_event (event_of earliest set c) (λ e. completed_other (n + 1) e.time (forwards set e) changes rest)
   where
-    front : List Change
-    front = changes_in_front changes
-
     by_event : (r : Result Event ℕ)
-        → ((e : Event) → completed (n + 1) e.time (forwards set e) changes
-        ≡ then_other ((n + 1) + length front) (has_other changes) (completed (n + 1) e.time (forwards set e) (lines front)))
-        → go_on n (λ e. completed (n + 1) e.time (forwards set e) changes) r
-        ≡ then_other (n + suc (length front)) (has_other changes) (go_on n (λ e. completed (n + 1) e.time (forwards set e) (lines front)) r)
-    by_event (Err reason) rest = refl
-    by_event (Ok e) rest =
-        let number : (n + 1) + length front ≡ n + suc (length front) = omega arith in
-        ap (on_value (λ (es : List Event). e ∷ es)) (rest e)
-        ∙ then_one ((n + 1) + length front) (has_other changes) e (completed (n + 1) e.time (forwards set e) (lines front))
-        ∙ ap (λ (k : ℕ). then_other k (has_other changes) (on_value (λ (es : List Event). e ∷ es) (completed (n + 1) e.time (forwards set e) (lines front)))) number
+        → ((e : Event) → completed (n + 1) e.time (forwards set e) (lines changes ++ None ∷ rest)
+        ≡ then_other ((n + 1) + length changes) (completed (n + 1) e.time (forwards set e) (lines changes)))
+        → go_on n (λ e. completed (n + 1) e.time (forwards set e) (lines changes ++ None ∷ rest)) r
+        ≡ then_other (n + suc (length changes)) (go_on n (λ e. completed (n + 1) e.time (forwards set e) (lines changes)) r)
+    by_event (Err reason) more = refl
+    by_event (Ok e) more =
+        let number : (n + 1) + length changes ≡ n + suc (length changes) = omega arith in
+        ap (on_value (λ (es : List Event). e ∷ es)) (more e)
+        ∙ then_one ((n + 1) + length changes) e (completed (n + 1) e.time (forwards set e) (lines changes))
+        ∙ ap (λ (k : ℕ). then_other k (on_value (λ (es : List Event). e ∷ es) (completed (n + 1) e.time (forwards set e) (lines changes)))) number
 
-pub all_in_front : (changes : List (Option Change)) → length changes ≤ length (changes_in_front changes) → has_other changes ≡ false
-all_in_front [] h = refl
-all_in_front (None ∷ changes) h = absurd (omega (arith, h))
-all_in_front (Some c ∷ changes) h = all_in_front changes (omega (arith, h))
+-- no change comes to no event
+pub none_completed : (n earliest : ℕ) (set : List Element) (changes : List Change) → length changes ≡ 0 → completed n earliest set (lines changes) ≡ Ok []
+none_completed n earliest set [] h = refl
+none_completed n earliest set (c ∷ changes) h = absurd (omega (arith, h))
 
-pub not_all_in_front : (changes : List (Option Change)) → length (changes_in_front changes) < length changes → has_other changes ≡ true
-not_all_in_front [] h = absurd (omega (arith, h))
-not_all_in_front (None ∷ changes) h = refl
-not_all_in_front (Some c ∷ changes) h = not_all_in_front changes (omega (arith, h))
+-- the changes are refused, and so are the lines
+pub front_fault : (earliest : ℕ) (set : List Element) (changes : List Change) (rest : List (Option Change)) (fault : PrepareFault)
+    → FaultOf (completed 1 earliest set (lines changes)) fault → FaultOf (completed 1 earliest set (lines changes ++ None ∷ rest)) fault
+front_fault earliest set changes rest (BadChange line reason) bad = completed_other 1 earliest set changes rest ∙ ap (then_other (1 + length changes)) bad
+front_fault earliest set changes rest Memory bad = tt
 
-pub front_fits : (changes : List (Option Change)) → length (changes_in_front changes) ≤ length changes
-front_fits [] = omega arith
-front_fits (None ∷ changes) = omega arith
-front_fits (Some c ∷ changes) = omega (arith, front_fits changes)
-
--- the answer where every line has a change
-pub all_done : (changes : List (Option Change)) (front : List Change) (events : List Event) → front ≡ changes_in_front changes
-    → completed 1 0 [] (lines front) ≡ Ok events → length changes ≤ length front → completed 1 0 [] changes ≡ Ok events
-all_done changes front events is done all =
-    let other : has_other changes ≡ false = all_in_front changes (omega (arith, all, ap length is)) in
-    completed_front 1 0 [] changes
-    ∙ ap (then_other (1 + length (changes_in_front changes)) (has_other changes)) (ap (λ (cs : List Change). completed 1 0 [] (lines cs)) (sym is) ∙ done)
-    ∙ ap (λ (b : Bool). then_other (1 + length (changes_in_front changes)) b (Ok events)) other
-
--- the answer where the front is refused
-pub front_refused : (changes : List (Option Change)) (front : List Change) (fault : ℕ × ℕ) → front ≡ changes_in_front changes
-    → completed 1 0 [] (lines front) ≡ Err fault → completed 1 0 [] changes ≡ Err fault
-front_refused changes front fault is bad =
-    completed_front 1 0 [] changes
-    ∙ ap (then_other (1 + length (changes_in_front changes)) (has_other changes)) (ap (λ (cs : List Change). completed 1 0 [] (lines cs)) (sym is) ∙ bad)
-
-pub front_fault : (changes : List (Option Change)) (front : List Change) (fault : PrepareFault) → front ≡ changes_in_front changes
-    → FaultOf (completed 1 0 [] (lines front)) fault → FaultOf (completed 1 0 [] changes) fault
-front_fault changes front (BadChange line reason) is bad = front_refused changes front (line, reason) is bad
-front_fault changes front Memory is bad = tt
-
--- the answer where a line after the front is no change
-pub line_refused : (changes : List (Option Change)) (front : List Change) (events : List Event) (many : ℕ) → front ≡ changes_in_front changes
-    → completed 1 0 [] (lines front) ≡ Ok events → many ≡ length front → length front < length changes → completed 1 0 [] changes ≡ Err (many + 1, REASON_FORM)
-line_refused changes front events many is done counted less =
-    let other : has_other changes ≡ true = not_all_in_front changes (omega (arith, less, ap length is)) in
-    let number : 1 + length (changes_in_front changes) ≡ many + 1 = omega (arith, counted, ap length is) in
-    completed_front 1 0 [] changes
-    ∙ ap (then_other (1 + length (changes_in_front changes)) (has_other changes)) (ap (λ (cs : List Change). completed 1 0 [] (lines cs)) (sym is) ∙ done)
-    ∙ ap (λ (b : Bool). then_other (1 + length (changes_in_front changes)) b (Ok events)) other
+-- the changes come to events, and the line after them is refused
+pub other_refused : (earliest : ℕ) (set : List Element) (changes : List Change) (rest : List (Option Change)) (events : List Event) (many : ℕ)
+    → completed 1 earliest set (lines changes) ≡ Ok events → many ≡ length changes
+    → completed 1 earliest set (lines changes ++ None ∷ rest) ≡ Err (many + 1, REASON_FORM)
+other_refused earliest set changes rest events many done counted =
+    let number : 1 + length changes ≡ many + 1 = omega (arith, counted) in
+    completed_other 1 earliest set changes rest ∙ ap (then_other (1 + length changes)) done
     ∙ ap (λ (k : ℕ). let r : Result (List Event) (ℕ × ℕ) = Err (k, REASON_FORM) in r) number
+
+-- the lines begin with the changes, and then a line that is no change
+pub form_refused : (front : Front) (earliest : ℕ) (set : List Element) (changes : List Change) (fault : PrepareFault) → front ≡ Form
+    → ((rest : List (Option Change)) → FaultOf (completed 1 earliest set (lines changes ++ None ∷ rest)) fault)
+    → (all : List (Option Change)) → IsFront front changes all → FaultOf (completed 1 earliest set all) fault
+form_refused Whole earliest set changes fault is bad all h = cc
+form_refused Form earliest set changes fault is bad all h =
+    subst (λ (cs : List (Option Change)). FaultOf (completed 1 earliest set cs) fault) (sym h.1) (bad h.0)
+form_refused Unkept earliest set changes fault is bad all h = cc

@@ -11,7 +11,7 @@ use Rattle.dg_model.specs.Answer.{Answered, answer_create, headed, refuse, no_me
 use Rattle.dg_model.specs.Cut.{IsCut, As_before, As_after, First_byte}
 use Rattle.dg_model.specs.History.{History, are_parameters, empty_history}
 use Rattle.dg_model.specs.Legal.{IsImageOf, StandsAs}
-use Rattle.dg_model.specs.Machine.{MachineState, events_in}
+use Rattle.dg_model.specs.Machine.{MachineState, events_in, names_in}
 use Rattle.dg_model.specs.Opening.{Opening, opening_of}
 use Rattle.dg_model.specs.Run.{Step, Answers}
 use Rattle.dg_model.specs.Script.{Asked}
@@ -74,6 +74,7 @@ create_new old new before after p o reply none right reply_is stands o_is new_is
       record {
         image_stands = stands;
         index = ap (λ (x : Opening). Some x) o_is;
+        names = s.names ∙ ap names_in none_there;
         events = s.events ∙ ap events_in none_there;
         limits = s.limits;
         table = s.table;

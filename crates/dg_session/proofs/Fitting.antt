@@ -1,14 +1,11 @@
--- Numbers that the grammar gives are in their ranges, and so are those of the events that come of them.
-use Rattle.std.proofs.Common.{◌≡◌, ℕ, ◌<◌, ◌≤◌, ◌^◌, Bool, true, false, not, ◌&&◌, List, [], ◌∷◌, Option, Some, None, Ok, Err, if◌then◌else◌, map, find, nat_le, refl, sym, subst, arith, decimal}
-use Rattle.std.specs.Prelude.{All, IfSome, is_some, codes, option_and_then}
-use Rattle.std.specs.List.{list_any}
-use Rattle.std.specs.Option.{option_map}
-use Rattle.std.specs.Str.{bytes_eq}
-use Rattle.std.specs.Str.Parse.{digits_value}
+-- The ids and the numbers of names in events are those of changes, and so are in their ranges.
+use Rattle.std.proofs.Common.{◌≡◌, ℕ, ◌<◌, ◌≤◌, ◌^◌, Bool, true, false, not, ◌&&◌, List, [], ◌∷◌, ◌++◌, Option, Some, None, Ok, Err, if◌then◌else◌, length, find, refl, sym, ◌∙◌, ap, subst, arith}
+use Rattle.std.specs.Prelude.{IfSome, IsTrue, is_some, nat_eq, option_and_then}
+use Rattle.std.specs.List.{All, list_any}
+use Rattle.std.specs.Option.{option_map, option_eq}
+use Rattle.std.proofs.lemmas.List.{get_or_append_left}
 use Rattle.std.proofs.lemmas.List.Elements.{All-nil, All-cons, All-head, All-tail, All-filter}
-use borrow.Author.Tests.{leb-true}
-use Rattle.dg_model.specs.declared.command.Command.{Command}
-use Rattle.dg_model.specs.declared.command.Command.TheVariants as command
+use Rattle.dg_columns.specs.Names.{NamesFit}
 use Rattle.dg_model.specs.declared.element.Element.{Element}
 use Rattle.dg_model.specs.declared.element.Element.TheVariants as element
 use Rattle.dg_model.specs.declared.event.Body.{Body}
@@ -17,265 +14,395 @@ use Rattle.dg_model.specs.declared.event.Change.{Change}
 use Rattle.dg_model.specs.declared.event.Event.{Event}
 use Rattle.dg_model.specs.declared.event.What.{What}
 use Rattle.dg_model.specs.declared.event.What.TheVariants as what
-use Rattle.dg_model.specs.declared.event.TheConstants.{REASON_NODE_EXISTS, REASON_NO_NODE, REASON_NODE_IN_USE, REASON_EDGE_EXISTS, REASON_NO_END}
-use Rattle.dg_model.specs.declared.limits.TheConstants.{BATCH_LINES_MAX, TIME_MAX}
-use Rattle.dg_model.specs.Completion.{has_node, is_edge, edge_of, needs_node, needs_edge, edge_removal, complete}
-use Rattle.dg_model.specs.Effect.{forwards, removed_by, added_by}
+use Rattle.dg_model.specs.declared.event.TheConstants.{REASON_NODE_EXISTS, REASON_NO_NODE, REASON_NODE_IN_USE, REASON_EDGE_EXISTS, REASON_NO_EDGE, REASON_NO_END}
+use Rattle.dg_model.specs.declared.limits.TheConstants.{TIME_MAX}
+use Rattle.dg_model.specs.Batch.{changes_after, names_after}
+use Rattle.dg_model.specs.Completion.{has_node, is_edge, edge_of, needs_node, needs_edge, node_value, edge_value, is_node_value, is_edge_value, value_in, value_removal, edge_removal, complete, has_key}
+use Rattle.dg_model.specs.Effect.{forwards, removed_by, added_by, moved}
 use Rattle.dg_model.specs.Elements.{before, same, put, with_one, without}
-use Rattle.dg_model.specs.Grammar.{is_word, id_of, time_of, one_id, new_edge, what_of, change_of_words, change_in, direction_of, create_of, load_of, at_of, list_of, command_of_words, command_of, n32_of, function_of, columns_of, handle_of}
-use Rattle.dg_model.specs.Legal.{FitsBody, FitsEvent}
-use Rattle.dg_model.specs.Lines.{ScriptLine, Text, Long}
-use Rattle.dg_model.specs.Words.{words, number}
+use Rattle.dg_model.specs.Grammar.{Asked_for, Plain, Sets_node, Unsets_node, Sets_edge, Unsets_edge, Said, named, change_with, what_in}
+use Rattle.dg_model.specs.Legal.{FitsBody}
+use Rattle.dg_model.specs.Names.{added, is_key, is_name, name_text}
+use Rattle.dg_model.specs.Replay.{replay_from}
 use Rattle.dg_session.proofs.Completing.{AllCome}
+use Rattle.dg_session.proofs.Naming.{Grows, Has, grows_none, grows_both, added_grows, added_has, has_more, key_is_name, number_within, text_is}
+use Rattle.dg_session.proofs.Saying.{AskedFits, PlainFits, SaidFits}
+use Rattle.dg_session.specs.Adding.{WhatNamesFit}
 
-and_some : {A B : Type 0} (o : Option A) (f : A → Option B) (P : A → Type 0) (Q : B → Type 0) → IfSome o P → ((x : A) → P x → IfSome (f x) Q) → IfSome (option_and_then f o) Q
-and_some None f P Q h next = tt
-and_some (Some x) f P Q h next = next x h
+-- Ids of which the fact `I` holds, and numbers of names below n: in a change, in an element and in what
+-- changes.
+abbrev pub WhatFits : (ℕ → Type 0) → ℕ → What → Type 0
+WhatFits I n (what.AddNode id) = I id
+WhatFits I n (what.RemoveNode id) = I id
+WhatFits I n (what.AddEdge id src dst directed) = I id × I src × I dst
+WhatFits I n (what.RemoveEdge id) = I id
+WhatFits I n (what.SetNode id key value) = I id × (key < n) × (value < n)
+WhatFits I n (what.UnsetNode id key) = I id × (key < n)
+WhatFits I n (what.SetEdge id key value) = I id × (key < n) × (value < n)
+WhatFits I n (what.UnsetEdge id key) = I id × (key < n)
 
-map_some : {A B : Type 0} (o : Option A) (f : A → B) (P : A → Type 0) (Q : B → Type 0) → IfSome o P → ((x : A) → P x → Q (f x)) → IfSome (option_map f o) Q
-map_some None f P Q h next = tt
-map_some (Some x) f P Q h next = next x h
+abbrev pub ElementFits : (ℕ → Type 0) → ℕ → Element → Type 0
+ElementFits I n (element.Node id) = Unit {0}
+ElementFits I n (element.Edge id src dst directed) = I id × I src × I dst
+ElementFits I n (element.NodeAttr id key value) = value < n
+ElementFits I n (element.EdgeAttr id key value) = value < n
 
-any_some : {A : Type 0} (o : Option A) → IfSome o (λ x. Unit {0})
-any_some None = tt
-any_some (Some x) = tt
+abbrev pub BodyFits : (ℕ → Type 0) → ℕ → Body → Type 0
+BodyFits I n (body.NodeAdded id) = I id
+BodyFits I n (body.NodeRemoved id) = I id
+BodyFits I n (body.EdgeAdded id src dst directed) = I id × I src × I dst
+BodyFits I n (body.EdgeRemoved id src dst directed) = I id × I src × I dst
+BodyFits I n (body.NodeAttr id key old new) = I id × (key < n) × IfSome old (λ v. v < n) × IfSome new (λ v. v < n)
+BodyFits I n (body.EdgeAttr id key old new) = I id × (key < n) × IfSome old (λ v. v < n) × IfSome new (λ v. v < n)
 
-either : {A : Type 0} (b : Bool) (x y : Option A) (P : A → Type 0) → IfSome x P → IfSome y P → IfSome (if b then x else y) P
-either true x y P h k = h
-either false x y P h k = k
+-- ---- what a set has
 
-both_true : (a b c : Bool) → (a && (b && c)) ≡ true → (b ≡ true) × (c ≡ true)
-both_true true true true h = (refl, refl)
-both_true true true false h = cc
-both_true true false c h = cc
-both_true false b c h = cc
-
-number_fits : (low high : ℕ) (word : List ℕ) → IfSome (number low high word) (λ n. (low ≤ n) × (n ≤ high))
-number_fits low high word = by_test (bytes_eq (decimal (digits_value 10 word)) word && (nat_le low (digits_value 10 word) && nat_le (digits_value 10 word) high)) refl
+found_fits : (I : ℕ → Type 0) (n : ℕ) (p : Element → Bool) (xs : List Element) (x : Element) → All (ElementFits I n) xs → find p xs ≡ Some x → ElementFits I n x
+found_fits I n p [] x f h = cc
+found_fits I n p (y ∷ xs) x f h = go (p y) h (λ e. found_fits I n p xs x (All-tail (ElementFits I n) y xs f) e)
   where
-    by_test : (b : Bool) → (bytes_eq (decimal (digits_value 10 word)) word && (nat_le low (digits_value 10 word) && nat_le (digits_value 10 word) high)) ≡ b
-        → IfSome (if b then Some (digits_value 10 word) else None) (λ n. (low ≤ n) × (n ≤ high))
-    by_test false e = tt
-    by_test true e =
-        let t = both_true (bytes_eq (decimal (digits_value 10 word)) word) (nat_le low (digits_value 10 word)) (nat_le (digits_value 10 word) high) e in
-        (leb-true low (digits_value 10 word) t.0, leb-true (digits_value 10 word) high t.1)
-
--- the ids of a change fit; no line sets or unsets a value
-abbrev FitsWhat : What → Type 0
-FitsWhat (what.AddNode id) = id < 2 ^ 64
-FitsWhat (what.RemoveNode id) = id < 2 ^ 64
-FitsWhat (what.AddEdge id src dst directed) = (id < 2 ^ 64) × (src < 2 ^ 64) × (dst < 2 ^ 64)
-FitsWhat (what.RemoveEdge id) = id < 2 ^ 64
-FitsWhat (what.SetNode id key value) = ⊥
-FitsWhat (what.UnsetNode id key) = ⊥
-FitsWhat (what.SetEdge id key value) = ⊥
-FitsWhat (what.UnsetEdge id key) = ⊥
-
-abbrev FitsChange : Change → Type 0
-FitsChange c = (c.time ≤ TIME_MAX) × FitsWhat c.what
-
-id_fits : (word : List ℕ) → IfSome (id_of word) (λ n. n < 2 ^ 64)
-id_fits word = weaker (number 0 18446744073709551615 word) (number_fits 0 18446744073709551615 word)
-  where
-    weaker : (o : Option ℕ) → IfSome o (λ n. (0 ≤ n) × (n ≤ 18446744073709551615)) → IfSome o (λ n. n < 2 ^ 64)
-    weaker None h = tt
-    weaker (Some n) h = omega (arith, h.1)
-
-one_fits : (make : ℕ → What) (rest : List (List ℕ)) → ((n : ℕ) → n < 2 ^ 64 → FitsWhat (make n)) → IfSome (one_id make rest) FitsWhat
-one_fits make [] fits = tt
-one_fits make (id ∷ []) fits = map_some (id_of id) make (λ n. n < 2 ^ 64) FitsWhat (id_fits id) fits
-one_fits make (id ∷ x ∷ rest) fits = tt
-
-edge_fits : (rest : List (List ℕ)) → IfSome (new_edge rest) FitsWhat
-edge_fits [] = tt
-edge_fits (id ∷ []) = tt
-edge_fits (id ∷ src ∷ []) = tt
-edge_fits (id ∷ src ∷ dst ∷ []) = tt
-edge_fits (id ∷ src ∷ dst ∷ direction ∷ []) =
-    and_some (id_of id) (λ n. option_and_then (λ a. option_and_then (λ b. option_map (λ d. what.AddEdge n a b d) (direction_of direction)) (id_of dst)) (id_of src)) (λ n. n < 2 ^ 64) FitsWhat (id_fits id)
-    (λ n fits_n. and_some (id_of src) (λ a. option_and_then (λ b. option_map (λ d. what.AddEdge n a b d) (direction_of direction)) (id_of dst)) (λ n. n < 2 ^ 64) FitsWhat (id_fits src)
-    (λ a fits_a. and_some (id_of dst) (λ b. option_map (λ d. what.AddEdge n a b d) (direction_of direction)) (λ n. n < 2 ^ 64) FitsWhat (id_fits dst)
-    (λ b fits_b. map_some (direction_of direction) (λ d. what.AddEdge n a b d) (λ d. Unit {0}) FitsWhat (any_some (direction_of direction)) (λ d u. (fits_n, fits_a, fits_b)))))
-edge_fits (id ∷ src ∷ dst ∷ direction ∷ x ∷ rest) = tt
-
-what_fits : (rest : List (List ℕ)) → IfSome (what_of rest) FitsWhat
-what_fits [] = tt
-what_fits (verb ∷ rest) =
-    either (is_word verb (codes "+node")) (one_id (λ n. what.AddNode n) rest)
-    (if is_word verb (codes "-node") then one_id (λ n. what.RemoveNode n) rest
-    else (if is_word verb (codes "+edge") then new_edge rest
-    else (if is_word verb (codes "-edge") then one_id (λ n. what.RemoveEdge n) rest else None))) FitsWhat
-    (one_fits (λ n. what.AddNode n) rest (λ n h. h))
-    (either (is_word verb (codes "-node")) (one_id (λ n. what.RemoveNode n) rest)
-    (if is_word verb (codes "+edge") then new_edge rest
-    else (if is_word verb (codes "-edge") then one_id (λ n. what.RemoveEdge n) rest else None)) FitsWhat
-    (one_fits (λ n. what.RemoveNode n) rest (λ n h. h))
-    (either (is_word verb (codes "+edge")) (new_edge rest)
-    (if is_word verb (codes "-edge") then one_id (λ n. what.RemoveEdge n) rest else None) FitsWhat
-    (edge_fits rest)
-    (either (is_word verb (codes "-edge")) (one_id (λ n. what.RemoveEdge n) rest) None FitsWhat (one_fits (λ n. what.RemoveEdge n) rest (λ n h. h)) tt)))
-
-words_fit : (ws : List (List ℕ)) → IfSome (change_of_words ws) FitsChange
-words_fit [] = tt
-words_fit (time ∷ rest) =
-    and_some (time_of time) (λ t. option_map (λ w. record { time = t; what = w }) (what_of rest)) (λ t. (0 ≤ t) × (t ≤ TIME_MAX)) FitsChange (number_fits 0 TIME_MAX time)
-    (λ t fits_t. map_some (what_of rest) (λ w. let c : Change = record { time = t; what = w } in c) FitsWhat FitsChange (what_fits rest) (λ w fits_w. (fits_t.1, fits_w)))
-
-line_fits : (line : ScriptLine) → IfSome (change_in line) FitsChange
-line_fits (Text line) = words_fit (words line)
-line_fits Long = tt
-
-pub lines_fit : (got : List ScriptLine) → All (λ c. IfSome c FitsChange) (map change_in got)
-lines_fit [] = All-nil (λ c. IfSome c FitsChange)
-lines_fit (line ∷ got) = All-cons (λ c. IfSome c FitsChange) (change_in line) (map change_in got) (line_fits line) (lines_fit got)
-
--- the elements of a graph that such events make
-abbrev FitsElement : Element → Type 0
-FitsElement (element.Node id) = Unit {0}
-FitsElement (element.Edge id src dst directed) = (id < 2 ^ 64) × (src < 2 ^ 64) × (dst < 2 ^ 64)
-FitsElement (element.NodeAttr id key value) = Unit {0}
-FitsElement (element.EdgeAttr id key value) = Unit {0}
-
-found_fits : (p : Element → Bool) (xs : List Element) (x : Element) → All FitsElement xs → find p xs ≡ Some x → FitsElement x
-found_fits p [] x f h = cc
-found_fits p (y ∷ xs) x f h = go (p y) h (λ e. found_fits p xs x (All-tail FitsElement y xs f) e)
-  where
-    go : (b : Bool) → (if b then Some y else find p xs) ≡ Some x → (find p xs ≡ Some x → FitsElement x) → FitsElement x
-    go true e later = let s : y ≡ x = cc in subst FitsElement s (All-head FitsElement y xs f)
+    go : (b : Bool) → (if b then Some y else find p xs) ≡ Some x → (find p xs ≡ Some x → ElementFits I n x) → ElementFits I n x
+    go true e later = let s : y ≡ x = cc in subst (ElementFits I n) s (All-head (ElementFits I n) y xs f)
     go false e later = later e
 
-put_fits : (x : Element) (set : List Element) → FitsElement x → All FitsElement set → All FitsElement (put x set)
-put_fits x [] h f = All-cons FitsElement x [] h f
-put_fits x (y ∷ set) h f =
-    go (before x y) (same x y) (put_fits x set h (All-tail FitsElement y set f))
+put_fits : (I : ℕ → Type 0) (n : ℕ) (x : Element) (set : List Element) → ElementFits I n x → All (ElementFits I n) set → All (ElementFits I n) (put x set)
+put_fits I n x [] h f = All-cons (ElementFits I n) x [] h f
+put_fits I n x (y ∷ set) h f =
+    go (before x y) (same x y) (put_fits I n x set h (All-tail (ElementFits I n) y set f))
   where
-    go : (a b : Bool) → All FitsElement (put x set) → All FitsElement (if a then x ∷ y ∷ set else (if b then y ∷ set else y ∷ put x set))
-    go true b more = All-cons FitsElement x (y ∷ set) h f
+    go : (a b : Bool) → All (ElementFits I n) (put x set) → All (ElementFits I n) (if a then x ∷ y ∷ set else (if b then y ∷ set else y ∷ put x set))
+    go true b more = All-cons (ElementFits I n) x (y ∷ set) h f
     go false true more = f
-    go false false more = All-cons FitsElement y (put x set) (All-head FitsElement y set f) more
+    go false false more = All-cons (ElementFits I n) y (put x set) (All-head (ElementFits I n) y set f) more
 
-without_fits : (set : List Element) (o : Option Element) → All FitsElement set → All FitsElement (without set o)
-without_fits set None f = f
-without_fits set (Some x) f = All-filter (λ y. not (same x y)) FitsElement set f
+without_fits : (I : ℕ → Type 0) (n : ℕ) (set : List Element) (o : Option Element) → All (ElementFits I n) set → All (ElementFits I n) (without set o)
+without_fits I n set None f = f
+without_fits I n set (Some x) f = All-filter (λ y. not (same x y)) (ElementFits I n) set f
 
-with_fits : (set : List Element) (o : Option Element) → IfSome o FitsElement → All FitsElement set → All FitsElement (with_one set o)
-with_fits set None h f = f
-with_fits set (Some x) h f = put_fits x set h f
+with_fits : (I : ℕ → Type 0) (n : ℕ) (set : List Element) (o : Option Element) → IfSome o (ElementFits I n) → All (ElementFits I n) set → All (ElementFits I n) (with_one set o)
+with_fits I n set None h f = f
+with_fits I n set (Some x) h f = put_fits I n x set h f
 
-added_fits : (b : Body) → FitsBody 0 b → IfSome (added_by b) FitsElement
-added_fits (body.NodeAdded id) h = tt
-added_fits (body.NodeRemoved id) h = tt
-added_fits (body.EdgeAdded id src dst directed) h = h
-added_fits (body.EdgeRemoved id src dst directed) h = tt
-added_fits (body.NodeAttr id key old new) h = absurd (omega (arith, h.1))
-added_fits (body.EdgeAttr id key old new) h = absurd (omega (arith, h.1))
+moved_fits : (I : ℕ → Type 0) (n : ℕ) (make : ℕ → Element) (value other : Option ℕ) → ((v : ℕ) → v < n → ElementFits I n (make v)) → IfSome value (λ v. v < n)
+    → IfSome (moved make value other) (ElementFits I n)
+moved_fits I n make value other fits h = by (option_eq nat_eq value other) value h
+  where
+    by : (b : Bool) (o : Option ℕ) → IfSome o (λ v. v < n) → IfSome (if b then None else option_map make o) (ElementFits I n)
+    by true o k = tt
+    by false None k = tt
+    by false (Some v) k = fits v k
 
-set_fits : (set : List Element) (e : Event) → FitsBody 0 e.body → All FitsElement set → All FitsElement (forwards set e)
-set_fits set e h f = with_fits (without set (removed_by e.body)) (added_by e.body) (added_fits e.body h) (without_fits set (removed_by e.body) f)
+added_fits : (I : ℕ → Type 0) (n : ℕ) (b : Body) → BodyFits I n b → IfSome (added_by b) (ElementFits I n)
+added_fits I n (body.NodeAdded id) h = tt
+added_fits I n (body.NodeRemoved id) h = tt
+added_fits I n (body.EdgeAdded id src dst directed) h = h
+added_fits I n (body.EdgeRemoved id src dst directed) h = tt
+added_fits I n (body.NodeAttr id key old new) h = moved_fits I n (element.NodeAttr id key) new old (λ v k. k) h.3
+added_fits I n (body.EdgeAttr id key old new) h = moved_fits I n (element.EdgeAttr id key) new old (λ v k. k) h.3
 
--- the body of a change that comes to one
-node_added : (there : Bool) (id : ℕ) (b : Body) → (if there then Err REASON_NODE_EXISTS else Ok (body.NodeAdded id)) ≡ Ok b → id < 2 ^ 64 → FitsBody 0 b
-node_added true id b h f = cc
-node_added false id b h f = let e : body.NodeAdded id ≡ b = cc in subst (FitsBody 0) e f
+pub set_fits : (I : ℕ → Type 0) (n : ℕ) (set : List Element) (e : Event) → BodyFits I n e.body → All (ElementFits I n) set → All (ElementFits I n) (forwards set e)
+set_fits I n set e h f = with_fits I n (without set (removed_by e.body)) (added_by e.body) (added_fits I n e.body h) (without_fits I n set (removed_by e.body) f)
 
-node_removed : (there used : Bool) (id : ℕ) (b : Body)
-    → (if not there then Err REASON_NO_NODE else (if used then Err REASON_NODE_IN_USE else Ok (body.NodeRemoved id))) ≡ Ok b → id < 2 ^ 64 → FitsBody 0 b
-node_removed false used id b h f = cc
-node_removed true true id b h f = cc
-node_removed true false id b h f = let e : body.NodeRemoved id ≡ b = cc in subst (FitsBody 0) e f
+pub replay_fits : (I : ℕ → Type 0) (n : ℕ) (set : List Element) (events : List Event) → All (λ (e : Event). BodyFits I n e.body) events → All (ElementFits I n) set
+    → All (ElementFits I n) (replay_from set events)
+replay_fits I n set [] h f = f
+replay_fits I n set (e ∷ events) h f =
+    replay_fits I n (forwards set e) events (All-tail (λ (e : Event). BodyFits I n e.body) e events h)
+    (set_fits I n set e (All-head (λ (e : Event). BodyFits I n e.body) e events h) f)
 
-edge_added : (there ends : Bool) (id src dst : ℕ) (directed : Bool) (b : Body)
+-- ---- what a change comes to
+
+value_fits : (I : ℕ → Type 0) (n : ℕ) (o : Option Element) → ((x : Element) → o ≡ Some x → ElementFits I n x) → IfSome (option_and_then value_in o) (λ v. v < n)
+value_fits I n None h = tt
+value_fits I n (Some (element.Node id)) h = tt
+value_fits I n (Some (element.Edge id src dst directed)) h = tt
+value_fits I n (Some (element.NodeAttr id key value)) h = h (element.NodeAttr id key value) refl
+value_fits I n (Some (element.EdgeAttr id key value)) h = h (element.EdgeAttr id key value) refl
+
+-- A fact of what a change comes to, by its tests.
+by_test : (P : Body → Type 0) (there : Bool) (reason : ℕ) (x b : Body) → (if there then Ok x else Err reason) ≡ Ok b → P x → P b
+by_test P true reason x b h f = let e : x ≡ b = cc in subst P e f
+by_test P false reason x b h f = cc
+
+node_added : (P : Body → Type 0) (there : Bool) (id : ℕ) (b : Body) → (if there then Err REASON_NODE_EXISTS else Ok (body.NodeAdded id)) ≡ Ok b → P (body.NodeAdded id) → P b
+node_added P true id b h f = cc
+node_added P false id b h f = let e : body.NodeAdded id ≡ b = cc in subst P e f
+
+node_removed : (P : Body → Type 0) (there used : Bool) (id : ℕ) (b : Body)
+    → (if not there then Err REASON_NO_NODE else (if used then Err REASON_NODE_IN_USE else Ok (body.NodeRemoved id))) ≡ Ok b → P (body.NodeRemoved id) → P b
+node_removed P false used id b h f = cc
+node_removed P true true id b h f = cc
+node_removed P true false id b h f = let e : body.NodeRemoved id ≡ b = cc in subst P e f
+
+edge_added : (P : Body → Type 0) (there ends : Bool) (id src dst : ℕ) (directed : Bool) (b : Body)
     → (if there then Err REASON_EDGE_EXISTS else (if ends then Ok (body.EdgeAdded id src dst directed) else Err REASON_NO_END)) ≡ Ok b
-    → (id < 2 ^ 64) × (src < 2 ^ 64) × (dst < 2 ^ 64) → FitsBody 0 b
-edge_added true ends id src dst directed b h f = cc
-edge_added false false id src dst directed b h f = cc
-edge_added false true id src dst directed b h f = let e : body.EdgeAdded id src dst directed ≡ b = cc in subst (FitsBody 0) e f
+    → P (body.EdgeAdded id src dst directed) → P b
+edge_added P true ends id src dst directed b h f = cc
+edge_added P false false id src dst directed b h f = cc
+edge_added P false true id src dst directed b h f = let e : body.EdgeAdded id src dst directed ≡ b = cc in subst P e f
 
-edge_removed : (needed : Bool) (found : Option Element) (b : Body) → edge_removal needed found ≡ Ok b → ((x : Element) → found ≡ Some x → FitsElement x) → FitsBody 0 b
-edge_removed needed None b h f = cc
-edge_removed needed (Some (element.Node n)) b h f = cc
-edge_removed needed (Some (element.NodeAttr n key value)) b h f = cc
-edge_removed needed (Some (element.EdgeAttr n key value)) b h f = cc
-edge_removed true (Some (element.Edge n src dst directed)) b h f = cc
-edge_removed false (Some (element.Edge n src dst directed)) b h f =
-    let e : body.EdgeRemoved n src dst directed ≡ b = cc in subst (FitsBody 0) e (f (element.Edge n src dst directed) refl)
+edge_removed : (P : Body → Type 0) (needed : Bool) (found : Option Element) (b : Body) → edge_removal needed found ≡ Ok b
+    → ((id src dst : ℕ) (directed : Bool) → found ≡ Some (element.Edge id src dst directed) → P (body.EdgeRemoved id src dst directed)) → P b
+edge_removed P needed None b h f = cc
+edge_removed P needed (Some (element.Node id)) b h f = cc
+edge_removed P needed (Some (element.NodeAttr id key value)) b h f = cc
+edge_removed P needed (Some (element.EdgeAttr id key value)) b h f = cc
+edge_removed P true (Some (element.Edge id src dst directed)) b h f = cc
+edge_removed P false (Some (element.Edge id src dst directed)) b h f =
+    let e : body.EdgeRemoved id src dst directed ≡ b = cc in subst P e (f id src dst directed refl)
 
-body_fits : (w : What) (set : List Element) (b : Body) → FitsWhat w → All FitsElement set → complete w set ≡ Ok b → FitsBody 0 b
-body_fits (what.AddNode id) set b f all h = node_added (has_node set id) id b h f
-body_fits (what.RemoveNode id) set b f all h = node_removed (has_node set id) (list_any (needs_node id) set) id b h f
-body_fits (what.AddEdge id src dst directed) set b f all h =
-    edge_added (is_some (edge_of set id)) (has_node set src && has_node set dst) id src dst directed b h f
-body_fits (what.RemoveEdge id) set b f all h =
-    edge_removed (list_any (needs_edge id) set) (edge_of set id) b h (λ x e. found_fits (is_edge id) set x all e)
-body_fits (what.SetNode id key value) set b f all h = absurd f
-body_fits (what.UnsetNode id key) set b f all h = absurd f
-body_fits (what.SetEdge id key value) set b f all h = absurd f
-body_fits (what.UnsetEdge id key) set b f all h = absurd f
+value_unset : (P : Body → Type 0) (there : Bool) (reason : ℕ) (make : Option ℕ → Option ℕ → Body) (found : Option ℕ) (b : Body)
+    → (if there then value_removal make found else Err reason) ≡ Ok b
+    → ((v : ℕ) → found ≡ Some v → P (make (Some v) None)) → P b
+value_unset P false reason make found b h f = cc
+value_unset P true reason make None b h f = cc
+value_unset P true reason make (Some v) b h f = let e : make (Some v) None ≡ b = cc in subst P e (f v refl)
 
-pub events_fit : (earliest : ℕ) (set : List Element) (changes : List (Option Change)) (events : List Event)
-    → AllCome earliest set changes events → All (λ c. IfSome c FitsChange) changes → All FitsElement set → All (FitsEvent 0) events
-events_fit earliest set [] [] h f all = All-nil (FitsEvent 0)
-events_fit earliest set [] (e ∷ events) h f all = absurd h
-events_fit earliest set (None ∷ changes) events h f all = absurd h
-events_fit earliest set (Some c ∷ changes) [] h f all = absurd h
-events_fit earliest set (Some c ∷ changes) (e ∷ events) h f all =
-    let here : FitsChange c = All-head (λ c. IfSome c FitsChange) (Some c) changes f in
-    let body : FitsBody 0 e.body = body_fits c.what set e.body here.1 all h.0.body in
-    All-cons (FitsEvent 0) e events (omega (arith, here.0, h.0.time), body)
-    (events_fit e.time (forwards set e) changes events h.1 (All-tail (λ c. IfSome c FitsChange) (Some c) changes f) (set_fits set e body all))
+some_value : (n : ℕ) (found : Option ℕ) (v : ℕ) → IfSome found (λ v. v < n) → found ≡ Some v → v < n
+some_value n found v h e = subst (λ (o : Option ℕ). IfSome o (λ v. v < n)) e h
 
-pub first_events_fit : (got : List ScriptLine) (changes : List (Option Change)) (events : List Event) → changes ≡ map change_in got → AllCome 0 [] changes events → All (FitsEvent 0) events
-first_events_fit got changes events is come =
-    events_fit 0 [] changes events come (subst (λ (cs : List (Option Change)). All (λ c. IfSome c FitsChange) cs) (sym is) (lines_fit got)) (All-nil FitsElement)
+pub body_fits : (I : ℕ → Type 0) (n : ℕ) (w : What) (set : List Element) (b : Body) → WhatFits I n w → All (ElementFits I n) set → complete w set ≡ Ok b → BodyFits I n b
+body_fits I n (what.AddNode id) set b f all h = node_added (BodyFits I n) (has_node set id) id b h f
+body_fits I n (what.RemoveNode id) set b f all h = node_removed (BodyFits I n) (has_node set id) (list_any (needs_node id) set) id b h f
+body_fits I n (what.AddEdge id src dst directed) set b f all h =
+    edge_added (BodyFits I n) (is_some (edge_of set id)) (has_node set src && has_node set dst) id src dst directed b h f
+body_fits I n (what.RemoveEdge id) set b f all h =
+    edge_removed (BodyFits I n) (list_any (needs_edge id) set) (edge_of set id) b h
+    (λ id' src dst directed e. found_fits I n (is_edge id) set (element.Edge id' src dst directed) all e)
+body_fits I n (what.SetNode id key value) set b f all h =
+    by_test (BodyFits I n) (has_node set id) REASON_NO_NODE (body.NodeAttr id key (node_value set id key) (Some value)) b h
+    (f.0, f.1, value_fits I n (find (is_node_value id key) set) (λ x e. found_fits I n (is_node_value id key) set x all e), f.2)
+body_fits I n (what.UnsetNode id key) set b f all h =
+    value_unset (BodyFits I n) (has_node set id) REASON_NO_NODE (λ old new. body.NodeAttr id key old new) (node_value set id key) b h
+    (λ v e. (f.0, f.1, some_value n (node_value set id key) v (value_fits I n (find (is_node_value id key) set) (λ x k. found_fits I n (is_node_value id key) set x all k)) e, tt))
+body_fits I n (what.SetEdge id key value) set b f all h =
+    by_test (BodyFits I n) (is_some (edge_of set id)) REASON_NO_EDGE (body.EdgeAttr id key (edge_value set id key) (Some value)) b h
+    (f.0, f.1, value_fits I n (find (is_edge_value id key) set) (λ x e. found_fits I n (is_edge_value id key) set x all e), f.2)
+body_fits I n (what.UnsetEdge id key) set b f all h =
+    value_unset (BodyFits I n) (is_some (edge_of set id)) REASON_NO_EDGE (λ old new. body.EdgeAttr id key old new) (edge_value set id key) b h
+    (λ v e. (f.0, f.1, some_value n (edge_value set id key) v (value_fits I n (find (is_edge_value id key) set) (λ x k. found_fits I n (is_edge_value id key) set x all k)) e, tt))
 
--- a load asks for a number of lines in its range
-abbrev InRange : Command → Type 0
-InRange (command.Create l k function) = Unit {0}
-InRange (command.Load count) = (1 ≤ count) × (count ≤ BATCH_LINES_MAX)
-InRange (command.At t cols) = Unit {0}
-InRange (command.List handle) = Unit {0}
+pub events_fit : (I : ℕ → Type 0) (n earliest : ℕ) (set : List Element) (changes : List (Option Change)) (events : List Event)
+    → AllCome earliest set changes events → All (λ c. IfSome c (λ (c : Change). WhatFits I n c.what)) changes → All (ElementFits I n) set → All (λ (e : Event). BodyFits I n e.body) events
+events_fit I n earliest set [] [] h f all = All-nil (λ (e : Event). BodyFits I n e.body)
+events_fit I n earliest set [] (e ∷ events) h f all = absurd h
+events_fit I n earliest set (None ∷ changes) events h f all = absurd h
+events_fit I n earliest set (Some c ∷ changes) [] h f all = absurd h
+events_fit I n earliest set (Some c ∷ changes) (e ∷ events) h f all =
+    let here : BodyFits I n e.body = body_fits I n c.what set e.body (All-head (λ c. IfSome c (λ (c : Change). WhatFits I n c.what)) (Some c) changes f) all h.0.body in
+    All-cons (λ (e : Event). BodyFits I n e.body) e events here
+    (events_fit I n e.time (forwards set e) changes events h.1 (All-tail (λ c. IfSome c (λ (c : Change). WhatFits I n c.what)) (Some c) changes f) (set_fits I n set e here all))
 
-load_fits : (rest : List (List ℕ)) → IfSome (load_of rest) InRange
-load_fits [] = tt
-load_fits (count ∷ []) = map_some (number 1 BATCH_LINES_MAX count) (λ n. command.Load n) (λ n. (1 ≤ n) × (n ≤ BATCH_LINES_MAX)) InRange (number_fits 1 BATCH_LINES_MAX count) (λ n h. h)
-load_fits (count ∷ x ∷ rest) = tt
+pub times_fit : (earliest : ℕ) (set : List Element) (changes : List (Option Change)) (events : List Event)
+    → AllCome earliest set changes events → All (λ c. IfSome c (λ (c : Change). c.time ≤ TIME_MAX)) changes → All (λ (e : Event). e.time ≤ TIME_MAX) events
+times_fit earliest set [] [] h f = All-nil (λ (e : Event). e.time ≤ TIME_MAX)
+times_fit earliest set [] (e ∷ events) h f = absurd h
+times_fit earliest set (None ∷ changes) events h f = absurd h
+times_fit earliest set (Some c ∷ changes) [] h f = absurd h
+times_fit earliest set (Some c ∷ changes) (e ∷ events) h f =
+    let here : c.time ≤ TIME_MAX = All-head (λ c. IfSome c (λ (c : Change). c.time ≤ TIME_MAX)) (Some c) changes f in
+    All-cons (λ (e : Event). e.time ≤ TIME_MAX) e events (omega (arith, here, h.0.time))
+    (times_fit e.time (forwards set e) changes events h.1 (All-tail (λ c. IfSome c (λ (c : Change). c.time ≤ TIME_MAX)) (Some c) changes f))
 
-create_fits : (rest : List (List ℕ)) → IfSome (create_of rest) InRange
-create_fits [] = tt
-create_fits (l ∷ []) = tt
-create_fits (l ∷ k ∷ []) = tt
-create_fits (l ∷ k ∷ function ∷ []) =
-    and_some (n32_of l) (λ m. option_and_then (λ n. option_map (λ f. command.Create m n f) (function_of function)) (n32_of k)) (λ m. Unit {0}) InRange (any_some (n32_of l))
-    (λ m u. and_some (n32_of k) (λ n. option_map (λ f. command.Create m n f) (function_of function)) (λ m. Unit {0}) InRange (any_some (n32_of k))
-    (λ n v. map_some (function_of function) (λ f. command.Create m n f) (λ f. Unit {0}) InRange (any_some (function_of function)) (λ f w. tt)))
-create_fits (l ∷ k ∷ function ∷ x ∷ rest) = tt
+-- ---- the key of a change and of its event
 
-at_fits : (rest : List (List ℕ)) → IfSome (at_of rest) InRange
-at_fits [] = tt
-at_fits (time ∷ []) = tt
-at_fits (time ∷ cols ∷ []) =
-    and_some (time_of time) (λ t. option_map (λ c. command.At t c) (columns_of cols)) (λ t. Unit {0}) InRange (any_some (time_of time))
-    (λ t u. map_some (columns_of cols) (λ c. command.At t c) (λ c. Unit {0}) InRange (any_some (columns_of cols)) (λ c v. tt))
-at_fits (time ∷ cols ∷ x ∷ rest) = tt
+-- the key of a change may be a key, in this list of names
+abbrev pub HasKey : List (List ℕ) → What → Type 0
+HasKey names (what.AddNode id) = Unit {0}
+HasKey names (what.RemoveNode id) = Unit {0}
+HasKey names (what.AddEdge id src dst directed) = Unit {0}
+HasKey names (what.RemoveEdge id) = Unit {0}
+HasKey names (what.SetNode id key value) = is_key (name_text names key) ≡ true
+HasKey names (what.UnsetNode id key) = is_key (name_text names key) ≡ true
+HasKey names (what.SetEdge id key value) = is_key (name_text names key) ≡ true
+HasKey names (what.UnsetEdge id key) = is_key (name_text names key) ≡ true
 
-list_fits : (rest : List (List ℕ)) → IfSome (list_of rest) InRange
-list_fits [] = tt
-list_fits (handle ∷ []) = map_some (handle_of handle) (λ h. command.List h) (λ h. Unit {0}) InRange (any_some (handle_of handle)) (λ h u. tt)
-list_fits (handle ∷ x ∷ rest) = tt
+body_key : (names : List (List ℕ)) (w : What) (set : List Element) (b : Body) → HasKey names w → complete w set ≡ Ok b → IsTrue (has_key names b)
+body_key names (what.AddNode id) set b f h = node_added (λ x. IsTrue (has_key names x)) (has_node set id) id b h refl
+body_key names (what.RemoveNode id) set b f h = node_removed (λ x. IsTrue (has_key names x)) (has_node set id) (list_any (needs_node id) set) id b h refl
+body_key names (what.AddEdge id src dst directed) set b f h =
+    edge_added (λ x. IsTrue (has_key names x)) (is_some (edge_of set id)) (has_node set src && has_node set dst) id src dst directed b h refl
+body_key names (what.RemoveEdge id) set b f h =
+    edge_removed (λ x. IsTrue (has_key names x)) (list_any (needs_edge id) set) (edge_of set id) b h (λ id' src dst directed e. refl)
+body_key names (what.SetNode id key value) set b f h =
+    by_test (λ x. IsTrue (has_key names x)) (has_node set id) REASON_NO_NODE (body.NodeAttr id key (node_value set id key) (Some value)) b h f
+body_key names (what.UnsetNode id key) set b f h =
+    value_unset (λ x. IsTrue (has_key names x)) (has_node set id) REASON_NO_NODE (λ old new. body.NodeAttr id key old new) (node_value set id key) b h (λ v e. f)
+body_key names (what.SetEdge id key value) set b f h =
+    by_test (λ x. IsTrue (has_key names x)) (is_some (edge_of set id)) REASON_NO_EDGE (body.EdgeAttr id key (edge_value set id key) (Some value)) b h f
+body_key names (what.UnsetEdge id key) set b f h =
+    value_unset (λ x. IsTrue (has_key names x)) (is_some (edge_of set id)) REASON_NO_EDGE (λ old new. body.EdgeAttr id key old new) (edge_value set id key) b h (λ v e. f)
 
-command_fits : (ws : List (List ℕ)) → IfSome (command_of_words ws) InRange
-command_fits [] = tt
-command_fits (verb ∷ rest) =
-    either (is_word verb (codes "create")) (create_of rest)
-    (if is_word verb (codes "load") then load_of rest else (if is_word verb (codes "at") then at_of rest else (if is_word verb (codes "list") then list_of rest else None))) InRange
-    (create_fits rest)
-    (either (is_word verb (codes "load")) (load_of rest)
-    (if is_word verb (codes "at") then at_of rest else (if is_word verb (codes "list") then list_of rest else None)) InRange
-    (load_fits rest)
-    (either (is_word verb (codes "at")) (at_of rest) (if is_word verb (codes "list") then list_of rest else None) InRange
-    (at_fits rest)
-    (either (is_word verb (codes "list")) (list_of rest) None InRange (list_fits rest) tt)))
+pub events_keys : (names : List (List ℕ)) (earliest : ℕ) (set : List Element) (changes : List (Option Change)) (events : List Event)
+    → AllCome earliest set changes events → All (λ c. IfSome c (λ (c : Change). HasKey names c.what)) changes → All (λ (e : Event). IsTrue (has_key names e.body)) events
+events_keys names earliest set [] [] h f = All-nil (λ (e : Event). IsTrue (has_key names e.body))
+events_keys names earliest set [] (e ∷ events) h f = absurd h
+events_keys names earliest set (None ∷ changes) events h f = absurd h
+events_keys names earliest set (Some c ∷ changes) [] h f = absurd h
+events_keys names earliest set (Some c ∷ changes) (e ∷ events) h f =
+    All-cons (λ (e : Event). IsTrue (has_key names e.body)) e events
+    (body_key names c.what set e.body (All-head (λ c. IfSome c (λ (c : Change). HasKey names c.what)) (Some c) changes f) h.0.body)
+    (events_keys names e.time (forwards set e) changes events h.1 (All-tail (λ c. IfSome c (λ (c : Change). HasKey names c.what)) (Some c) changes f))
 
-pub count_in_range : (line : List ℕ) (c : Command) (count : ℕ) → command_of line ≡ Some c → c ≡ command.Load count → (1 ≤ count) × (count ≤ BATCH_LINES_MAX)
-count_in_range line c count is load =
-    subst InRange load (subst (λ (o : Option Command). IfSome o InRange) is (command_fits (words line)))
+-- ---- what the lines of a batch ask for, by the numbers of its names
+
+asked_grows : (names : List (List ℕ)) (asked : Asked_for) → AskedFits asked → Grows names (named names asked)
+asked_grows names (Plain w) f = grows_none names
+asked_grows names (Sets_node id key value) f =
+    grows_both names (added names key) (added (added names key) value) (added_grows names key (key_is_name key f.1)) (added_grows (added names key) value f.2)
+asked_grows names (Unsets_node id key) f = added_grows names key (key_is_name key f.1)
+asked_grows names (Sets_edge id key value) f =
+    grows_both names (added names key) (added (added names key) value) (added_grows names key (key_is_name key f.1)) (added_grows (added names key) value f.2)
+asked_grows names (Unsets_edge id key) f = added_grows names key (key_is_name key f.1)
+
+pub lines_grow : (names : List (List ℕ)) (lines : List (Option Said)) → All (λ s. IfSome s SaidFits) lines → Grows names (names_after names lines)
+lines_grow names [] f = grows_none names
+lines_grow names (None ∷ lines) f = lines_grow names lines (All-tail (λ s. IfSome s SaidFits) None lines f)
+lines_grow names (Some s ∷ lines) f =
+    grows_both names (named names s.asked) (names_after (named names s.asked) lines)
+    (asked_grows names s.asked (All-head (λ s. IfSome s SaidFits) (Some s) lines f).1)
+    (lines_grow (named names s.asked) lines (All-tail (λ s. IfSome s SaidFits) (Some s) lines f))
+
+-- the ids, the numbers of names and the key of a change are in their ranges, in this list of names
+pub record ChangeFits (names : List (List ℕ)) (c : Change) : Type 0 where
+  pub time : c.time ≤ TIME_MAX
+  pub numbers : WhatFits (λ n. n < 2 ^ 64) (length names) c.what
+  pub key : HasKey names c.what
+
+plain_fits : (n : ℕ) (w : What) → PlainFits w → WhatFits (λ n. n < 2 ^ 64) n w
+plain_fits n (what.AddNode id) f = f
+plain_fits n (what.RemoveNode id) f = f
+plain_fits n (what.AddEdge id src dst directed) f = f
+plain_fits n (what.RemoveEdge id) f = f
+plain_fits n (what.SetNode id key value) f = absurd f
+plain_fits n (what.UnsetNode id key) f = absurd f
+plain_fits n (what.SetEdge id key value) f = absurd f
+plain_fits n (what.UnsetEdge id key) f = absurd f
+
+plain_key : (names : List (List ℕ)) (w : What) → PlainFits w → HasKey names w
+plain_key names (what.AddNode id) f = tt
+plain_key names (what.RemoveNode id) f = tt
+plain_key names (what.AddEdge id src dst directed) f = tt
+plain_key names (what.RemoveEdge id) f = tt
+plain_key names (what.SetNode id key value) f = absurd f
+plain_key names (what.UnsetNode id key) f = absurd f
+plain_key names (what.SetEdge id key value) f = absurd f
+plain_key names (what.UnsetEdge id key) f = absurd f
+
+-- the key and the value that were added
+key_there : (names : List (List ℕ)) (key value : List ℕ) → is_name value ≡ true → Has (added (added names key) value) key
+key_there names key value f = has_more (added names key) (added (added names key) value) key (added_grows (added names key) value f) (added_has names key)
+
+asked_numbers : (names new : List (List ℕ)) (asked : Asked_for) → AskedFits asked → Grows (named names asked) new
+    → WhatFits (λ n. n < 2 ^ 64) (length new) (what_in (named names asked) asked)
+asked_numbers names new (Plain w) f g = plain_fits (length new) w f
+asked_numbers names new (Sets_node id key value) f g =
+    let all = added (added names key) value in
+    (f.0, number_within all new key g (key_there names key value f.2), number_within all new value g (added_has (added names key) value))
+asked_numbers names new (Unsets_node id key) f g = (f.0, number_within (added names key) new key g (added_has names key))
+asked_numbers names new (Sets_edge id key value) f g =
+    let all = added (added names key) value in
+    (f.0, number_within all new key g (key_there names key value f.2), number_within all new value g (added_has (added names key) value))
+asked_numbers names new (Unsets_edge id key) f g = (f.0, number_within (added names key) new key g (added_has names key))
+
+asked_key : (names new : List (List ℕ)) (asked : Asked_for) → AskedFits asked → Grows (named names asked) new → HasKey new (what_in (named names asked) asked)
+asked_key names new (Plain w) f g = plain_key new w f
+asked_key names new (Sets_node id key value) f g =
+    ap is_key (text_is (added (added names key) value) new key g (key_there names key value f.2)) ∙ f.1
+asked_key names new (Unsets_node id key) f g = ap is_key (text_is (added names key) new key g (added_has names key)) ∙ f.1
+asked_key names new (Sets_edge id key value) f g =
+    ap is_key (text_is (added (added names key) value) new key g (key_there names key value f.2)) ∙ f.1
+asked_key names new (Unsets_edge id key) f g = ap is_key (text_is (added names key) new key g (added_has names key)) ∙ f.1
+
+pub changes_fit : (names new : List (List ℕ)) (lines : List (Option Said)) → All (λ s. IfSome s SaidFits) lines → Grows (names_after names lines) new
+    → All (λ c. IfSome c (ChangeFits new)) (changes_after names lines)
+changes_fit names new [] f g = All-nil (λ c. IfSome c (ChangeFits new))
+changes_fit names new (None ∷ lines) f g =
+    All-cons (λ c. IfSome c (ChangeFits new)) None (changes_after names lines) tt (changes_fit names new lines (All-tail (λ s. IfSome s SaidFits) None lines f) g)
+changes_fit names new (Some s ∷ lines) f g =
+    let said : SaidFits s = All-head (λ s. IfSome s SaidFits) (Some s) lines f in
+    let more = All-tail (λ s. IfSome s SaidFits) (Some s) lines f in
+    let grown : Grows (named names s.asked) new =
+    grows_both (named names s.asked) (names_after (named names s.asked) lines) new (lines_grow (named names s.asked) lines more) g in
+    All-cons (λ c. IfSome c (ChangeFits new)) (Some (change_with names s)) (changes_after (named names s.asked) lines)
+    (record { time = said.0; numbers = asked_numbers names new s.asked said.1 grown; key = asked_key names new s.asked said.1 grown })
+    (changes_fit (named names s.asked) new lines more g)
+
+-- ---- the ranges that are asked for elsewhere
+
+pub legal_body : (n : ℕ) (b : Body) → BodyFits (λ n. n < 2 ^ 64) n b → FitsBody n b
+legal_body n (body.NodeAdded id) h = h
+legal_body n (body.NodeRemoved id) h = h
+legal_body n (body.EdgeAdded id src dst directed) h = h
+legal_body n (body.EdgeRemoved id src dst directed) h = h
+legal_body n (body.NodeAttr id key old new) h = h
+legal_body n (body.EdgeAttr id key old new) h = h
+
+pub from_legal : (n : ℕ) (b : Body) → FitsBody n b → BodyFits (λ n. n < 2 ^ 64) n b
+from_legal n (body.NodeAdded id) h = h
+from_legal n (body.NodeRemoved id) h = h
+from_legal n (body.EdgeAdded id src dst directed) h = h
+from_legal n (body.EdgeRemoved id src dst directed) h = h
+from_legal n (body.NodeAttr id key old new) h = h
+from_legal n (body.EdgeAttr id key old new) h = h
+
+pub spelled_body : (b : Body) → BodyFits (λ n. Unit {0}) (2 ^ 30) b → NamesFit b
+spelled_body (body.NodeAdded id) h = tt
+spelled_body (body.NodeRemoved id) h = tt
+spelled_body (body.EdgeAdded id src dst directed) h = tt
+spelled_body (body.EdgeRemoved id src dst directed) h = tt
+spelled_body (body.NodeAttr id key old new) h = (h.1, h.2, h.3)
+spelled_body (body.EdgeAttr id key old new) h = (h.1, h.2, h.3)
+
+pub from_spelled : (b : Body) → NamesFit b → BodyFits (λ n. Unit {0}) (2 ^ 30) b
+from_spelled (body.NodeAdded id) h = tt
+from_spelled (body.NodeRemoved id) h = tt
+from_spelled (body.EdgeAdded id src dst directed) h = (tt, tt, tt)
+from_spelled (body.EdgeRemoved id src dst directed) h = (tt, tt, tt)
+from_spelled (body.NodeAttr id key old new) h = (tt, h.0, h.1, h.2)
+from_spelled (body.EdgeAttr id key old new) h = (tt, h.0, h.1, h.2)
+
+pub spelled_what : (w : What) → WhatNamesFit w → WhatFits (λ n. Unit {0}) (2 ^ 30) w
+spelled_what (what.AddNode id) h = tt
+spelled_what (what.RemoveNode id) h = tt
+spelled_what (what.AddEdge id src dst directed) h = (tt, tt, tt)
+spelled_what (what.RemoveEdge id) h = tt
+spelled_what (what.SetNode id key value) h = (tt, h.0, h.1)
+spelled_what (what.UnsetNode id key) h = (tt, h)
+spelled_what (what.SetEdge id key value) h = (tt, h.0, h.1)
+spelled_what (what.UnsetEdge id key) h = (tt, h)
+
+pub what_spelled : (n : ℕ) (w : What) → n ≤ 2 ^ 30 → WhatFits (λ n. n < 2 ^ 64) n w → WhatNamesFit w
+what_spelled n (what.AddNode id) le h = tt
+what_spelled n (what.RemoveNode id) le h = tt
+what_spelled n (what.AddEdge id src dst directed) le h = tt
+what_spelled n (what.RemoveEdge id) le h = tt
+what_spelled n (what.SetNode id key value) le h = (omega (arith, le, h.1), omega (arith, le, h.2))
+what_spelled n (what.UnsetNode id key) le h = omega (arith, le, h.1)
+what_spelled n (what.SetEdge id key value) le h = (omega (arith, le, h.1), omega (arith, le, h.2))
+what_spelled n (what.UnsetEdge id key) le h = omega (arith, le, h.1)
+
+-- with more names they fit too
+some_more : (n m : ℕ) (o : Option ℕ) → n ≤ m → IfSome o (λ v. v < n) → IfSome o (λ v. v < m)
+some_more n m None le h = tt
+some_more n m (Some v) le h = omega (arith, le, h)
+
+pub body_more : (n m : ℕ) (b : Body) → n ≤ m → FitsBody n b → FitsBody m b
+body_more n m (body.NodeAdded id) le h = h
+body_more n m (body.NodeRemoved id) le h = h
+body_more n m (body.EdgeAdded id src dst directed) le h = h
+body_more n m (body.EdgeRemoved id src dst directed) le h = h
+body_more n m (body.NodeAttr id key old new) le h = (h.0, omega (arith, le, h.1), some_more n m old le h.2, some_more n m new le h.3)
+body_more n m (body.EdgeAttr id key old new) le h = (h.0, omega (arith, le, h.1), some_more n m old le h.2, some_more n m new le h.3)
+
+-- and the keys of old names stay
+key_more : (names more : List (List ℕ)) (key : ℕ) → key < length names → IsTrue (is_key (name_text names key)) → IsTrue (is_key (name_text (names ++ more) key))
+key_more names more key lt h = subst (λ (t : List ℕ). IsTrue (is_key t)) (sym (get_or_append_left names more [] key lt)) h
+
+pub has_key_more : (names more : List (List ℕ)) (b : Body) → FitsBody (length names) b → IsTrue (has_key names b) → IsTrue (has_key (names ++ more) b)
+has_key_more names more (body.NodeAdded id) f h = h
+has_key_more names more (body.NodeRemoved id) f h = h
+has_key_more names more (body.EdgeAdded id src dst directed) f h = h
+has_key_more names more (body.EdgeRemoved id src dst directed) f h = h
+has_key_more names more (body.NodeAttr id key old new) f h = key_more names more key f.1 h
+has_key_more names more (body.EdgeAttr id key old new) f h = key_more names more key f.1 h

@@ -1,14 +1,21 @@
 -- How lines are gathered, one at a time.
-use Rattle.std.proofs.Common.{◌≡◌, ℕ, ◌+◌, ◌<◌, ◌≤◌, Bool, false, List, [], ◌∷◌, ◌++◌, Option, Some, None, map, refl, sym, ◌∙◌, ap, arith, append_assoc, length-append}
+use Rattle.std.proofs.Common.{◌≡◌, ℕ, ◌+◌, List, [], ◌∷◌, ◌++◌, Option, Some, None, length, map, take, drop, refl, sym, ◌∙◌, ap, subst, arith, append_assoc, length-append}
 use Rattle.std.specs.Option.{option_map}
-use Rattle.std.proofs.lemmas.List.{map-append}
-use Rattle.dg_io.specs.Reading.{Reading, NoneLeft}
+use Rattle.std.proofs.Math.Seq.{take-append_seam}
+use Rattle.std.proofs.lemmas.List.{map-append, take-append-drop}
+use Rattle.dg_io.specs.declared.lines.Line.{Line}
+use Rattle.dg_io.specs.declared.lines.Line.TheVariants as line
+use Rattle.dg_io.specs.declared.lines.Line.TheVariants.{End}
+use Rattle.dg_io.specs.Reading.{Reading, Comes, LineComes}
 use Rattle.dg_model.specs.declared.event.Change.{Change}
-use Rattle.dg_model.specs.Grammar.{change_in}
+use Rattle.dg_model.specs.Batch.{changes_after, names_after}
+use Rattle.dg_model.specs.Grammar.{Said, said_in, named, change_with}
 use Rattle.dg_model.specs.Lines.{ScriptLine}
 use Rattle.dg_model.specs.Script.{Follows}
-use Rattle.dg_session.specs.declared.following.Following.TheVariants.{Line}
-use Rattle.dg_session.specs.Following.{FollowingComes, Advances, Gathers}
+use Rattle.dg_session.proofs.Naming.{names_both, changes_both}
+use Rattle.dg_session.specs.declared.following.Front.{Front}
+use Rattle.dg_session.specs.declared.following.Front.TheVariants.{Whole, Form, Unkept}
+use Rattle.dg_session.specs.Following.{Advances, AreNamed, IsFront, KeepsChange, lines, script_line}
 
 -- nothing in front changes nothing
 pub none_first : {A : Type 0} (told : Option (List A)) → told ≡ option_map (λ rest. [] ++ rest) told
@@ -20,16 +27,6 @@ pub both_first : {A : Type 0} (old mid new : Option (List A)) (xs ys : List A)
 both_first old mid None xs ys a b = a ∙ ap (option_map (λ rest. xs ++ rest)) b
 both_first old mid (Some rest) xs ys a b =
     a ∙ ap (option_map (λ rest. xs ++ rest)) b ∙ ap (λ zs. Some zs) (sym (append_assoc xs ys rest))
-
-pub advances_none : (r : Reading) (left : Option (List ℕ)) (faults : ℕ) → Advances r left faults r left faults
-advances_none r left faults = record {
-  kept = omega arith;
-  taken = ([], none_first left, omega arith);
-  at_end = λ h. h;
-  within = λ h. h;
-  same_limit = refl;
-  counted = omega arith;
-}
 
 pub advances_more : (r1 r2 r3 : Reading) (l1 l2 l3 : Option (List ℕ)) (f1 f2 f3 : ℕ)
     → Advances r1 l1 f1 r2 l2 f2 → Advances r2 l2 f2 r3 l3 f3 → Advances r1 l1 f1 r3 l3 f3
@@ -46,42 +43,117 @@ advances_more r1 r2 r3 l1 l2 l3 f1 f2 f3 a b = record {
   counted = omega (arith, a.counted, b.counted);
 }
 
--- the lines so far: from the lines to come at the start to those to come now
-pub record Gathering (start now : Option (List ScriptLine)) (read : ℕ) (lacking : Bool) (changes : List (Option Change)) : Type 0 where
-  pub got : List ScriptLine
-  pub front : start ≡ option_map (λ rest. got ++ rest) now
-  pub gathers : Gathers got read lacking changes
+-- the changes of these lines so far, and the names with their texts
+abbrev pub AreKept : Front → List (List ℕ) → List (List ℕ) → List ScriptLine → List Change → Type 0
+AreKept front names new got changes = IsFront front changes (changes_after names (map said_in got)) × AreNamed front names new got
 
-pub gathering_first : (start : Option (List ScriptLine)) (lacking : Bool) (changes : List (Option Change)) → changes ≡ [] → Gathering start start 0 lacking changes
-gathering_first start lacking changes none = record {
-  got = [];
-  front = none_first start;
-  gathers = record { read_is = refl; changes_are = λ h. none };
+-- the lines so far: from the lines to come at the start to those to come now
+pub record Gathering (start now : Option (List ScriptLine)) (read : ℕ) (front : Front) (names new : List (List ℕ)) (changes : List Change) : Type 0 where
+  pub got : List ScriptLine
+  pub lines_are : start ≡ option_map (λ rest. got ++ rest) now
+  pub read_is : length got ≡ read
+  pub kept : AreKept front names new got changes
+
+-- the changes and the names with one line more
+more_changes : (names : List (List ℕ)) (got : List ScriptLine) (line : ScriptLine)
+    → changes_after names (map said_in (got ++ line ∷ [])) ≡ changes_after names (map said_in got) ++ changes_after (names_after names (map said_in got)) (said_in line ∷ [])
+more_changes names got line =
+    ap (changes_after names) (map-append said_in got (line ∷ [])) ∙ changes_both names (map said_in got) (said_in line ∷ [])
+
+more_names : (names : List (List ℕ)) (got : List ScriptLine) (line : ScriptLine)
+    → names_after names (map said_in (got ++ line ∷ [])) ≡ names_after (names_after names (map said_in got)) (said_in line ∷ [])
+more_names names got line =
+    ap (names_after names) (map-append said_in got (line ∷ [])) ∙ names_both names (map said_in got) (said_in line ∷ [])
+
+-- a line after those of which each was kept
+pub kept_more : (front : Front) (names now new : List (List ℕ)) (got : List ScriptLine) (line : ScriptLine) (changes then_changes : List Change)
+    → AreKept Whole names now got changes → KeepsChange front (said_in line) now new changes then_changes → AreKept front names new (got ++ line ∷ []) then_changes
+kept_more Whole names now new got line changes then_changes k h =
+    let said : Said = h.0 in
+    let one : changes_after now (said_in line ∷ []) ≡ Some (change_with now said) ∷ [] = ap (λ (s : Option Said). changes_after now (s ∷ [])) h.1 in
+    let name : names_after now (said_in line ∷ []) ≡ named now said.asked = ap (λ (s : Option Said). names_after now (s ∷ [])) h.1 in (
+      more_changes names got line
+          ∙ ap (λ (cs : List (Option Change)). cs ++ changes_after (names_after names (map said_in got)) (said_in line ∷ [])) k.0
+          ∙ ap (λ (ns : List (List ℕ)). lines changes ++ changes_after ns (said_in line ∷ [])) (sym k.1)
+          ∙ ap (λ (cs : List (Option Change)). lines changes ++ cs) one
+          ∙ sym (ap lines h.2 ∙ map-append (λ (c : Change). Some c) changes (change_with now said ∷ [])),
+      h.3 ∙ sym (more_names names got line ∙ ap (λ (ns : List (List ℕ)). names_after ns (said_in line ∷ [])) (sym k.1) ∙ name),
+    )
+kept_more Form names now new got line changes then_changes k h =
+    let one : changes_after now (said_in line ∷ []) ≡ None ∷ [] = ap (λ (s : Option Said). changes_after now (s ∷ [])) h.0 in (
+      (
+        [],
+        more_changes names got line
+            ∙ ap (λ (cs : List (Option Change)). cs ++ changes_after (names_after names (map said_in got)) (said_in line ∷ [])) k.0
+            ∙ ap (λ (ns : List (List ℕ)). lines changes ++ changes_after ns (said_in line ∷ [])) (sym k.1)
+            ∙ ap (λ (cs : List (Option Change)). lines changes ++ cs) one
+            ∙ ap (λ (cs : List Change). lines cs ++ None ∷ []) (sym h.1),
+      ),
+      tt,
+    )
+kept_more Unkept names now new got line changes then_changes k h = (tt, tt)
+
+-- a line after one that was not kept
+pub kept_on : (front : Front) (names now : List (List ℕ)) (got : List ScriptLine) (line : ScriptLine) (changes : List Change)
+    → (front ≡ Whole → ⊥) → AreKept front names now got changes → AreKept front names now (got ++ line ∷ []) changes
+kept_on Whole names now got line changes other k = absurd (other refl)
+kept_on Form names now got line changes other k = (
+  (
+    k.0.0 ++ changes_after (names_after names (map said_in got)) (said_in line ∷ []),
+    more_changes names got line
+        ∙ ap (λ (cs : List (Option Change)). cs ++ changes_after (names_after names (map said_in got)) (said_in line ∷ [])) k.0.1
+        ∙ append_assoc (lines changes) (None ∷ k.0.0) (changes_after (names_after names (map said_in got)) (said_in line ∷ [])),
+  ),
+  tt,
+)
+kept_on Unkept names now got line changes other k = (tt, tt)
+
+pub gathering_more : (start now next : Option (List ScriptLine)) (read : ℕ) (front then_front : Front) (names new then_new : List (List ℕ)) (changes then_changes : List Change) (line : ScriptLine)
+    → (g : Gathering start now read front names new changes) → Comes line now next
+    → AreKept then_front names then_new (g.got ++ line ∷ []) then_changes
+    → Gathering start next (read + 1) then_front names then_new then_changes
+gathering_more start now next read front then_front names new then_new changes then_changes line g comes kept = record {
+  got = g.got ++ line ∷ [];
+  lines_are = both_first start now next g.got (line ∷ []) g.lines_are comes;
+  read_is = omega (arith, length-append g.got (line ∷ []), g.read_is);
+  kept = kept;
 }
 
-pub gathering_more : (start now next : Option (List ScriptLine)) (read : ℕ) (lacking then_lacking : Bool) (changes then_changes : List (Option Change)) (change : Option Change)
-    → Gathering start now read lacking changes → FollowingComes (Line change) now next
-    → (then_lacking ≡ false → (lacking ≡ false) × (then_changes ≡ changes ++ change ∷ []))
-    → Gathering start next (read + 1) then_lacking then_changes
-gathering_more start now next read lacking then_lacking changes then_changes change g comes pushed =
-    let line : ScriptLine = comes.0 in
-    record {
-      got = g.got ++ comes.0 ∷ [];
-      front = both_first start now next g.got (comes.0 ∷ []) g.front comes.1;
-      gathers = record {
-        read_is = omega (arith, length-append g.got (comes.0 ∷ []), g.gathers.read_is);
-        changes_are = λ h. (pushed h).1 ∙ ap (λ (cs : List (Option Change)). cs ++ change ∷ []) (g.gathers.changes_are (pushed h).0)
-            ∙ ap (λ (c : Option Change). map change_in g.got ++ c ∷ []) comes.2 ∙ sym (map-append change_in g.got (comes.0 ∷ []));
-      };
-    }
-
--- as many as were asked for, or the end of the lines
-pub gathering_done : (start now : Option (List ScriptLine)) (count read : ℕ) (lacking : Bool) (changes : List (Option Change))
-    → Gathering start now read lacking changes → read ≤ count → (read < count → NoneLeft now)
-    → (got : List ScriptLine) × Follows count start got now × Gathers got read lacking changes
-gathering_done start now count read lacking changes g most ended =
-    (g.got, record { lines = g.front; most = omega (arith, g.gathers.read_is); fewer = λ h. ended (omega (arith, g.gathers.read_is)) }, g.gathers)
+-- the line that came
+pub line_comes : (line : Line) (old new : Option (List ScriptLine)) (text : List ℕ) → (line ≡ End → ⊥) → LineComes line old new text → Comes (script_line line text) old new
+line_comes (line.Text n) old new text other h = h.0
+line_comes line.TooLong old new text other h = h
+line_comes line.End old new text other h = absurd (other refl)
 
 -- no line follows
 pub follows_none : (told : Option (List ScriptLine)) → Follows 0 told [] told
 follows_none told = record { lines = none_first told; most = omega arith; fewer = λ h. absurd (omega arith) }
+
+-- names behind those that were there
+kept_front : (a b : List (List ℕ)) → take (length a) b ≡ a → b ≡ a ++ drop (length a) b
+kept_front a b h = sym (take-append-drop (length a) b) ∙ ap (λ (xs : List (List ℕ)). xs ++ drop (length a) b) h
+
+pub kept_twice : (a b c : List (List ℕ)) → take (length a) b ≡ a → take (length b) c ≡ b → take (length a) c ≡ a
+kept_twice a b c h k =
+    ap (take (length a))
+    (kept_front b c k ∙ ap (λ (xs : List (List ℕ)). xs ++ drop (length b) c) (kept_front a b h) ∙ append_assoc a (drop (length a) b) (drop (length b) c))
+    ∙ take-append_seam a (drop (length a) b ++ drop (length b) c)
+
+-- a line more, whose change is to be kept
+pub gathering_kept : (start now next : Option (List ScriptLine)) (read : ℕ) (front then_front : Front) (names new then_new : List (List ℕ)) (changes then_changes : List Change) (line : Line) (text held : List ℕ)
+    → Gathering start now read front names new changes → front ≡ Whole → (line ≡ End → ⊥) → LineComes line now next held → text ≡ held
+    → KeepsChange then_front (said_in (script_line line text)) new then_new changes then_changes
+    → Gathering start next (read + 1) then_front names then_new then_changes
+gathering_kept start now next read front then_front names new then_new changes then_changes line text held g whole other comes same keeps =
+    let w : Gathering start now read Whole names new changes = subst (λ (f : Front). Gathering start now read f names new changes) whole g in
+    gathering_more start now next read Whole then_front names new then_new changes then_changes (script_line line text) w
+    (subst (λ (t : List ℕ). Comes (script_line line t) now next) (sym same) (line_comes line now next held other comes))
+    (kept_more then_front names new then_new w.got (script_line line text) changes then_changes w.kept keeps)
+
+-- a line more, whose change is not kept
+pub gathering_passed : (start now next : Option (List ScriptLine)) (read : ℕ) (front : Front) (names new : List (List ℕ)) (changes : List Change) (line : Line) (text : List ℕ)
+    → Gathering start now read front names new changes → (front ≡ Whole → ⊥) → (line ≡ End → ⊥) → LineComes line now next text
+    → Gathering start next (read + 1) front names new changes
+gathering_passed start now next read front names new changes line text g unkept other comes =
+    gathering_more start now next read front front names new new changes changes (script_line line text) g
+    (line_comes line now next text other comes) (kept_on front names new g.got (script_line line text) changes unkept g.kept)

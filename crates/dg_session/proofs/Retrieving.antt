@@ -95,6 +95,7 @@ at_new p new image o t cols reply there reply_is within few after =
       record {
         image_stands = s.image_stands;
         index = s.index;
+        names = s.names;
         events = s.events;
         limits = s.limits;
         table = ap (λ (xs : List (ℕ × Stands)). xs ++ (p.next, Overlay t cols None) ∷ []) s.table

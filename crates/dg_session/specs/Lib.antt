@@ -1,6 +1,6 @@
 pub mod Parts
-pub mod Prepared
 pub mod Following
 pub mod Started
+pub mod Soundness
 pub mod Session
-pub mod Kept
+pub mod Adding

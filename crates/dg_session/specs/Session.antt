@@ -13,7 +13,7 @@ use Rattle.dg_model.specs.Cut.{IsCut}
 use Rattle.dg_model.specs.Elements.{shown}
 use Rattle.dg_model.specs.Legal.{StandsAs, is_blank}
 use Rattle.dg_model.specs.Lines.{ScriptLine}
-use Rattle.dg_model.specs.Machine.{MachineState, events_in}
+use Rattle.dg_model.specs.Machine.{MachineState, events_in, names_in}
 use Rattle.dg_model.specs.Opening.{Opening, opening, opening_of}
 use Rattle.dg_model.specs.Replay.{replay_at}
 use Rattle.dg_model.specs.Run.{Step}
@@ -28,6 +28,7 @@ elements_among events (Overlay t cols on) = shown (replay_at events t) cols
 abbrev pub is_writing : Command → Bool
 is_writing (command.Create l k function) = true
 is_writing (command.Load count) = true
+is_writing (command.Append count) = true
 is_writing (command.At t cols) = false
 is_writing (command.List handle) = false
 
@@ -35,6 +36,7 @@ is_writing (command.List handle) = false
 pub record StandsFor (session : Parts) (image : List ℕ) (m : MachineState) : Type 0 where
   pub image_stands : StandsAs m.index image
   pub index : session.index ≡ option_map opening_of m.index
+  pub names : session.names ≡ names_in m.index
   pub events : session.events ≡ events_in m.index
   pub limits : session.limits ≡ m.limits
   pub table : session.table ≡ m.table
@@ -45,10 +47,10 @@ pub record StandsFor (session : Parts) (image : List ℕ) (m : MachineState) : T
 abbrev pub BothTold : Option (List ℕ) → Option (List ℕ) → (List ℕ → List ℕ → Type 0) → Type 0
 BothTold a b P = (x y : List ℕ) → a ≡ Some x → b ≡ Some y → P x y
 
--- the image is as the session's last call left it
-abbrev pub IsHeldBy : Option Opening → List ℕ → Type 0
-IsHeldBy None image = is_blank image ≡ true
-IsHeldBy (Some o) image = opening image ≡ Ok o
+-- the image is as the session's last call left it: no index, or one with these names
+abbrev pub IsHeldBy : Option Opening → List (List ℕ) → List ℕ → Type 0
+IsHeldBy None names image = is_blank image ≡ true
+IsHeldBy (Some o) names image = opening image ≡ Ok (record { index = o; names = names })
 
 -- from every state that the session stands for, the machine may give the reply and go on to one that
 -- it then stands for

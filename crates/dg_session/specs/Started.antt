@@ -9,7 +9,7 @@ use Rattle.dg_model.specs.declared.limits.Limits.{Limits}
 use Rattle.dg_model.specs.declared.limits.TheConstants.{FIRST_HANDLE}
 use Rattle.dg_model.specs.History.{History}
 use Rattle.dg_model.specs.Legal.{StandsAs}
-use Rattle.dg_model.specs.Machine.{events_in}
+use Rattle.dg_model.specs.Machine.{events_in, names_in}
 use Rattle.dg_model.specs.Opening.{Opening, Segment, opening_of}
 use Rattle.dg_model.specs.Starting.{Started, first_wrong, start_of}
 use Rattle.std.specs.Option.{option_map}
@@ -19,10 +19,10 @@ use Rattle.dg_session.specs.Parts.{Parts}
 abbrev pub index_opening : Option IndexState → Option Opening
 index_opening index = option_map (λ (i : IndexState). i.opening) index
 
--- what a start comes to, as the index and the events that it gives
-abbrev pub started_with : Option Opening → List Event → Option Started
-started_with None events = None
-started_with (Some o) events = Some (record { opening = o; events = events })
+-- what a start comes to, as the index, the names and the events that it gives
+abbrev pub started_with : Option Opening → List (List ℕ) → List Event → Option Started
+started_with None names events = None
+started_with (Some o) names events = Some (record { opened = record { index = o; names = names }; events = events })
 
 -- The fault is the reason of what is due. Of a failure of the disk and of want of memory nothing is
 -- said.
@@ -34,10 +34,10 @@ Refuses (fault.BadRecord key col) due = due ≡ Err (fault.BadRecord key col)
 Refuses (fault.BadRecent number) due = due ≡ Err (fault.BadRecent number)
 Refuses fault.Memory due = Unit {0}
 
--- the session has no handle yet, and the index and the events that are due
+-- the session has no handle yet, and the index, the names and the events that are due
 pub record StartsAs (limits : Limits) (session : Parts) (due : Result (Option Started) StartFault) : Type 0 where
-  pub started : due ≡ Ok (started_with session.index session.events)
-  pub no_index : session.index ≡ None → session.events ≡ []
+  pub started : due ≡ Ok (started_with session.index session.names session.events)
+  pub no_index : session.index ≡ None → (session.names ≡ []) × (session.events ≡ [])
   pub limits_are : session.limits ≡ limits
   pub table : session.table ≡ []
   pub next : session.next ≡ FIRST_HANDLE
@@ -53,13 +53,13 @@ or_later (Some n) later = Some n
 
 -- The first of the segment's events that is not right has this number; where all are right, they lead
 -- from one set to the other.
-abbrev pub FirstWrong : Segment → ℕ → List Element → List Event → Option ℕ → List Element → Type 0
-FirstWrong s number set events wrong after =
-    (more : List (Segment × Event)) → first_wrong number set (map (λ (e : Event). (s, e)) events ++ more)
-    ≡ or_later wrong (first_wrong (number + length events) after more)
+abbrev pub FirstWrong : List (List ℕ) → Segment → ℕ → List Element → List Event → Option ℕ → List Element → Type 0
+FirstWrong names s number set events wrong after =
+    (more : List (Segment × Event)) → first_wrong names number set (map (λ (e : Event). (s, e)) events ++ more)
+    ≡ or_later wrong (first_wrong names (number + length events) after more)
 
 -- what an image that stands for a history, or for none, starts as
 abbrev pub StartsAsItStands : Type 0
 StartsAsItStands =
     (index : Option History) (image : List ℕ) → StandsAs index image
-    → start_of image ≡ Ok (started_with (option_map opening_of index) (events_in index))
+    → start_of image ≡ Ok (started_with (option_map opening_of index) (names_in index) (events_in index))

@@ -1,70 +1,122 @@
-ghost use Rattle.std.specs.Prelude.{◌≡◌, ◌≤◌, List, IfOk, IsErrOf, vec_len};
+ghost use Rattle.std.specs.Prelude.{◌≡◌, ◌≢◌, ◌+◌, ◌*◌, ◌≤◌, List, true, false, take, length, IfOk, IsErrOf, vec_len};
 ghost use Rattle.dg_io.specs.Told.{Rose};
-ghost use Rattle.dg_io.specs.Reading.{told, NeedsByte};
+ghost use Rattle.dg_io.specs.Reading.{told, LineComes, NeedsByte, to_come};
+ghost use Rattle.dg_model.specs.declared.limits.TheConstants.{NAMES_MAX};
+ghost use Rattle.dg_model.specs.Grammar.{said_in};
 ghost use Rattle.dg_model.specs.Lines.{ScriptLine};
 ghost use Rattle.dg_model.specs.Script.{Follows};
-ghost use Rattle.dg_session.specs.Following.{FollowingComes, Advances, Gathers};
+ghost use Rattle.dg_session.specs.Following.{Advances, Gathers, KeepsChange, script_line};
 
 use crate::stop::Stop;
 use dg_io::{Line, Lines, Source};
-use dg_line::read_change;
+use dg_line::{ChangeFault, read_change};
 use dg_model::Change;
+use dg_names::Names;
 use std::alloc::Global;
 
-/// What the lines that follow a load came to.
+/// How far the changes of the lines that follow a command are kept.
+#[derive(Clone, Copy, Debug, PartialEq, Eq)]
+pub enum Front {
+    /// Each line is a change, and all are kept.
+    Whole,
+    /// Those before the first line that is no change are kept.
+    Form,
+    /// Not all of these are kept: they are not wanted, or memory lacked.
+    Unkept,
+}
+
+impl Front {
+    // Whether every change is kept.
+    fn is_whole(self) -> bool
+        ensures whole { result ≡ true → self ≡ Front.Whole }
+        ensures other { result ≡ false → self ≡ Front.Whole → ⊥ }
+    {
+        matches!(self, Front::Whole)
+    }
+}
+
+/// What the lines that follow a command came to.
 #[derive(Drop)]
 pub struct Gathered {
     /// How many lines were read.
     pub read: u32,
-    /// Whether memory lacked for some change. Then `changes` does not have them all.
-    pub lacking: bool,
-    /// The change on each line, or `None` where the line is no change.
-    pub changes: Vec<Option<Change>>,
+    /// How far their changes are kept.
+    pub front: Front,
+    /// The changes that are kept.
+    pub changes: Vec<Change>,
     ghost within: { vec_len changes ≤ read },
 }
 
-/// What comes where a line may follow a command.
-#[derive(Clone, Copy, Debug, PartialEq, Eq)]
-pub enum Following {
-    /// A line, with its change if it is one.
-    Line(Option<Change>),
-    /// No line: the input has ended.
-    End,
-}
-
-// The next line that follows a command.
-fn next_following<S: Source>(lines: &mut Lines, source: &mut S) -> Result<Following, Stop>
-    ensures comes { IfOk result (λ next. FollowingComes next
-        (told lines.old (S.left source.old)) (told lines.new (S.left source.new))) }
+// The next line that follows a command. Its text is in `lines`.
+fn next_line<S: Source>(lines: &mut Lines, source: &mut S) -> Result<Line, Stop>
+    ensures comes { IfOk result (λ line. LineComes line
+        (told lines.old (S.left source.old)) (told lines.new (S.left source.new)) lines.new.text) }
     ensures advances { Advances lines.old (S.left source.old) (S.faults source.old)
         lines.new (S.left source.new) (S.faults source.new) }
     ensures read { IsErrOf result Stop.Read → Rose (S.faults source.old) (S.faults source.new) }
     ensures limit { IsErrOf result Stop.Limit → (lines.new.taken ≡ lines.new.limit) × NeedsByte lines.new }
     ensures no_store { IsErrOf result Stop.Store → ⊥ }
 {
-    let next = match lines.next(source)? {
-        Line::Text(_) => Following::Line(read_change(lines.text()).ok()),
-        Line::TooLong => Following::Line(None),
-        Line::End => Following::End,
-    };
-    Ok(next)
+    let line = lines.next(source)?;
+    Ok(line)
 }
 
-/// Reads the `count` lines that follow a load, or those up to the end of input, also where memory
-/// lacks for their changes.
+// Whether no line came.
+fn is_end(line: Line) -> bool
+    ensures end { result ≡ true → line ≡ Line.End }
+    ensures more { result ≡ false → line ≡ Line.End → ⊥ }
+{
+    matches!(line, Line::End)
+}
+
+// Keeps the change of a line behind those of the lines before it, all of which are kept, and answers
+// how far they are kept then.
+fn keep_change(line: Line, text: &[u8], names: &mut Names, changes: &mut Vec<Change>) -> Front
+    requires { length names.old + 2 ≤ NAMES_MAX }
+    ensures keeps { KeepsChange result (said_in (script_line line text.now)) names.old names.new changes.old.items changes.new.items }
+    ensures kept { take (length names.old) names.new ≡ names.old }
+    ensures few { length names.new ≤ length names.old + 2 }
+    ensures one { vec_len changes.new ≤ vec_len changes.old + 1 }
+{
+    let change = match line {
+        Line::Text(_) => read_change(text, names),
+        Line::TooLong | Line::End => return Front::Form,
+    };
+    match change {
+        Ok(change) => {
+            if changes.push(change).is_ok() {
+                Front::Whole
+            } else {
+                Front::Unkept
+            }
+        }
+        Err(ChangeFault::Form) => Front::Form,
+        Err(ChangeFault::Memory) => Front::Unkept,
+    }
+}
+
+/// Reads the `count` lines that follow a command, or those up to the end of input, and keeps their
+/// changes up to the first line that is no change, where they are wanted. The names get the texts that
+/// they lack.
 ///
 /// `Stop::Read` where a read failed, `Stop::Limit` where another byte is needed and as many as the
 /// limit allows were taken.
 pub fn gather<S: Source>(
     alloc: Global,
     count: u32,
+    is_wanted: bool,
+    names: &mut Names,
     lines: &mut Lines,
     source: &mut S,
 ) -> Result<Gathered, Stop>
+    requires room { is_wanted ≡ true → length names.old + 2 * count ≤ NAMES_MAX }
     ensures gathered { IfOk result (λ gathered. (got : List ScriptLine)
         × Follows count
         (told lines.old (S.left source.old)) got (told lines.new (S.left source.new))
-        × Gathers got gathered.read gathered.lacking gathered.changes.items) }
+        × Gathers got gathered.read gathered.front names.old names.new gathered.changes.items) }
+    ensures most { IfOk result (λ gathered. gathered.read ≤ count) }
+    ensures kept { take (length names.old) names.new ≡ names.old }
+    ensures few { IfOk result (λ gathered. gathered.front ≡ Front.Whole → length names.new ≤ NAMES_MAX) }
     ensures advances { Advances lines.old (S.left source.old) (S.faults source.old)
         lines.new (S.left source.new) (S.faults source.new) }
     ensures read { IsErrOf result Stop.Read → Rose (S.faults source.old) (S.faults source.new) }
@@ -72,18 +124,25 @@ pub fn gather<S: Source>(
     ensures no_store { IsErrOf result Stop.Store → ⊥ }
 {
     let mut changes = Vec::new(alloc);
-    let mut lacking = changes.reserve(count as usize).is_err();
+    let mut front = if is_wanted && changes.reserve(count as usize).is_ok() {
+        Front::Whole
+    } else {
+        Front::Unkept
+    };
     let mut read: u32 = 0;
     while read < count {
-        let Following::Line(change) = next_following(lines, source)? else {
+        let line = next_line(lines, source)?;
+        if is_end(line) {
             break;
-        };
+        }
         read += 1;
-        lacking = lacking || changes.push(change).is_err();
+        if front.is_whole() {
+            front = keep_change(line, lines.text(), names, &mut changes);
+        }
     }
     Ok(Gathered {
         read,
-        lacking,
+        front,
         changes,
     })
 }

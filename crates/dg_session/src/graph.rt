@@ -1,43 +1,23 @@
 //! The graph as of an instant, its listing, and the instants of a history.
 
-ghost use Rattle.std.specs.Prelude.{◌≡◌, map, IfOk, OnOk};
+ghost use Rattle.std.specs.Prelude.{◌≡◌, map, IfOk};
 ghost use Rattle.dg_model.specs.declared.reply.BodyLine.TheVariants as line;
-ghost use Rattle.dg_model.specs.Effect.{forwards};
 ghost use Rattle.dg_model.specs.Elements.{shown};
 ghost use Rattle.dg_model.specs.File.{first_time_of};
 ghost use Rattle.dg_model.specs.History.{last_time_from, span_of};
 ghost use Rattle.dg_model.specs.Replay.{replay_at};
 
-use dg_event::{asks, column_of, effect};
+use dg_event::{asks, column_of};
+use dg_list::net_to;
 use dg_model::{BodyLine, Columns, Event};
 use dg_set::Set;
 use std::alloc::{AllocError, Global};
 
-// Takes the graph past the event. On want of memory the graph may lack what the event removes.
-fn apply(graph: &mut Set, event: &Event) -> Result<(), AllocError>
-    ensures { OnOk result (graph.new ≡ forwards graph.old event.now) }
-{
-    let (removed, added) = effect(event);
-    if let Some(element) = removed {
-        graph.remove(&element);
-    }
-    if let Some(element) = added {
-        graph.insert(element)?;
-    }
-    Ok(())
-}
-
-/// The graph as of the instant `t`.
+/// The graph as of the instant `t`: the net of the events up to it, over the empty graph.
 pub fn replay_at(alloc: Global, events: &[Event], t: u64) -> Result<Set, AllocError>
     ensures { IfOk result (λ graph. graph ≡ replay_at events.now t) }
 {
-    let mut graph = Set::new(alloc);
-    for event in events {
-        if event.time <= t {
-            apply(&mut graph, event)?;
-        }
-    }
-    Ok(graph)
+    net_to(alloc, events, t)?.apply(&Set::new(alloc))
 }
 
 /// A line for each element of the graph in these columns, in element order.

@@ -1,24 +1,31 @@
-//! Putting the first batch into an index file.
+//! Putting a batch into an index file.
 
-ghost use Rattle.std.specs.Prelude.{◌≡◌, ◌≤◌, ◌<◌, Ok, Err, IfOk, IfSome, IsErrOf, OnOk, OnErr, [], is_some, ℕ};
+ghost use Rattle.std.specs.Prelude.{◌≡◌, ◌≤◌, ◌<◌, ◌++◌, Err, IfOk, IfSome, IsErrOf, OnOk, ℕ, List, is_some, length, drop};
+ghost use Rattle.std.specs.List.{All};
+ghost use Rattle.dg_columns.specs.Names.{NamesFit};
 ghost use Rattle.dg_disk.specs.Counts.{Rose};
-ghost use Rattle.dg_file.specs.Images.{BothTold, GainsBatch, GainsBatchOrNot};
-ghost use Rattle.dg_file.specs.Index.{needed_for, new_segment_of, with_segment};
-ghost use Rattle.dg_model.specs.declared.limits.TheConstants.{FILE_BYTES_MAX};
-ghost use Rattle.dg_model.specs.Opening.{opening};
-ghost use Rattle.dg_session.specs.Kept.{IsFirstBatch, batch_with};
-ghost use Rattle.dg_session.specs.declared.keeping.KeepFault.TheVariants.{Memory};
+ghost use Rattle.dg_file.specs.Images.{BothTold, Fits, GainsBatch, GainsBatchOrNot, GainsSegment};
+ghost use Rattle.dg_file.specs.Index.{IsDue, needed_for, new_segment_of, with_segment};
+ghost use Rattle.dg_model.specs.declared.limits.TheConstants.{BATCH_LINES_MAX, FILE_BYTES_MAX};
+ghost use Rattle.dg_now.specs.declared.fault.PrepareFault.{PrepareFault};
+ghost use Rattle.dg_now.specs.declared.fault.PrepareFault.TheVariants as prepare_fault;
+ghost use Rattle.dg_session.specs.declared.keeping.KeepFault.TheVariants as keep_fault;
+ghost use Rattle.dg_session.specs.Adding.{batch_with, fault_of};
 
 use crate::graph::{first_instant, last_instant};
 use dg_columns::write_events;
 use dg_disk::Disk;
 use dg_file::{CommitFault, Index, Segment};
 use dg_model::{Column, Event};
+use dg_names::Names;
+use dg_now::PrepareFault;
 use std::alloc::{AllocError, Global};
 
 /// Why a batch was not put into the file.
 #[derive(Clone, Copy, Debug, PartialEq, Eq)]
 pub enum KeepFault {
+    /// The least line that is refused, from 1, and the first reason against it.
+    BadChange(u32, u8),
     /// The file would have so many bytes in use, more than it may have.
     FileFull(u64),
     /// Want of memory.
@@ -28,17 +35,47 @@ pub enum KeepFault {
 }
 
 impl From<AllocError> for KeepFault {
-    ghost from_gives = { λ _ fault. fault ≡ Memory };
+    ghost from_gives = { λ _ fault. fault ≡ keep_fault.Memory };
 
     fn from(_: AllocError) -> KeepFault {
         KeepFault::Memory
     }
 }
 
-// The segment of a first batch of these events.
-fn segment_of(alloc: Global, events: &[Event]) -> Result<Segment, AllocError>
-    requires { IsFirstBatch events.now }
-    ensures { IfOk result (λ segment. segment ≡ new_segment_of (batch_with events.now)) }
+impl From<PrepareFault> for KeepFault {
+    ghost from_gives = { λ from fault. fault ≡ fault_of from };
+
+    fn from(fault: PrepareFault) -> KeepFault {
+        match fault {
+            PrepareFault::BadChange { line, reason } => KeepFault::BadChange(line, reason),
+            PrepareFault::Memory => KeepFault::Memory,
+        }
+    }
+}
+
+// Gives the segment the names from this number on.
+fn add_names(segment: &mut Segment, names: &Names, known: u32) -> Result<(), AllocError>
+    ensures { OnOk result (segment.new ≡ record segment.old { names = segment.old.names ++ drop known names.now }) }
+{
+    let mut number = known;
+    names.facts();
+    while let Some(text) = names.text(number) {
+        segment.add_name(text)?;
+        number += 1;
+    }
+    Ok(())
+}
+
+/// The segment of a batch of these events, which brings the names from number `known` on.
+pub fn segment_of(
+    alloc: Global,
+    names: &Names,
+    known: u32,
+    events: &[Event],
+) -> Result<Segment, AllocError>
+    requires few { length events.now ≤ BATCH_LINES_MAX }
+    requires fit { All (λ e. NamesFit e.body) events.now }
+    ensures { IfOk result (λ segment. segment ≡ new_segment_of (batch_with known names.now events.now)) }
 {
     let mut segment = Segment::new(
         alloc,
@@ -46,6 +83,7 @@ fn segment_of(alloc: Global, events: &[Event]) -> Result<Segment, AllocError>
         first_instant(events),
         last_instant(events),
     );
+    add_names(&mut segment, names, known)?;
     let structure = write_events(alloc, events, Column::Structure)?;
     let node_attrs = write_events(alloc, events, Column::NodeAttr)?;
     let edge_attrs = write_events(alloc, events, Column::EdgeAttr)?;
@@ -53,41 +91,38 @@ fn segment_of(alloc: Global, events: &[Event]) -> Result<Segment, AllocError>
     Ok(segment)
 }
 
-/// Puts a first batch of these events into the file, which may have `limit` bytes in use. All memory
+/// Puts the segment of the next batch into the file, which may have `limit` bytes in use. All memory
 /// is taken before the first write.
 ///
 /// `KeepFault::FileFull` with the bytes that would be in use, where they are more than `limit`;
 /// `KeepFault::Memory` for want of memory; then nothing has changed. `KeepFault::Store` where the disk
 /// failed.
-pub fn keep_batch<D: Disk>(
-    alloc: Global,
+pub fn keep_segment<D: Disk>(
     index: &mut Index,
     disk: &mut D,
-    events: &[Event],
+    segment: Segment,
     limit: u64,
 ) -> Result<(), KeepFault>
-    requires legal { IsFirstBatch events.now }
-    requires first { index.old.opening.segments ≡ [] }
+    requires due { IsDue index.old.opening segment }
     requires limit { limit ≤ FILE_BYTES_MAX }
-    requires image { IfSome (D.image disk.old) (λ image. opening image ≡ Ok index.old.opening) }
-    ensures kept { OnOk result (index.new.opening ≡ with_segment index.old.opening (new_segment_of (batch_with events.now))) }
-    ensures held { OnOk result (IfSome (D.image disk.new) (λ image. opening image ≡ Ok index.new.opening)) }
-    ensures gained { OnOk result (BothTold (D.image disk.old) (D.image disk.new) (GainsBatch (new_segment_of (batch_with events.now)))) }
-    ensures fits { OnOk result (needed_for index.old.opening (new_segment_of (batch_with events.now)) ≤ limit) }
+    requires image { IfSome (D.image disk.old) (λ image. Fits image index.old.opening segment) }
+    ensures kept { OnOk result (index.new.opening ≡ with_segment index.old.opening segment) }
+    ensures opened { OnOk result (BothTold (D.image disk.old) (D.image disk.new) (GainsSegment index.old.opening segment index.new.opening)) }
+    ensures gained { OnOk result (BothTold (D.image disk.old) (D.image disk.new) (GainsBatch segment)) }
+    ensures fits { OnOk result (needed_for index.old.opening segment ≤ limit) }
+    ensures no_change { (line reason : ℕ) → result ≡ Err (KeepFault.BadChange line reason) → ⊥ }
     ensures full { (n : ℕ) → result ≡ Err (KeepFault.FileFull n)
-        → (n ≡ needed_for index.old.opening (new_segment_of (batch_with events.now))) × (limit < n) }
-    ensures full_same { (n : ℕ) → result ≡ Err (KeepFault.FileFull n)
-        → (index.new.opening ≡ index.old.opening) × (D.image disk.new ≡ D.image disk.old) }
+        → (n ≡ needed_for index.old.opening segment) × (limit < n)
+        × (index.new.opening ≡ index.old.opening) × (D.image disk.new ≡ D.image disk.old) }
     ensures memory { IsErrOf result KeepFault.Memory
         → (index.new.opening ≡ index.old.opening) × (D.image disk.new ≡ D.image disk.old) }
-    ensures part { IsErrOf result KeepFault.Store → BothTold (D.image disk.old) (D.image disk.new) (GainsBatchOrNot (new_segment_of (batch_with events.now))) }
-    ensures part_fits { IsErrOf result KeepFault.Store → needed_for index.old.opening (new_segment_of (batch_with events.now)) ≤ limit }
+    ensures part { IsErrOf result KeepFault.Store → BothTold (D.image disk.old) (D.image disk.new) (GainsBatchOrNot segment) }
+    ensures part_fits { IsErrOf result KeepFault.Store → needed_for index.old.opening segment ≤ limit }
     ensures cause { IsErrOf result KeepFault.Store → Rose (D.write_faults disk.old) (D.write_faults disk.new) }
     ensures told { is_some (D.image disk.new) ≡ is_some (D.image disk.old) }
     ensures counted { D.faults disk.old ≤ D.faults disk.new }
     ensures write_counted { D.write_faults disk.old ≤ D.write_faults disk.new }
 {
-    let segment = segment_of(alloc, events)?;
     index.make_room(&segment)?;
     match index.commit(disk, segment, limit) {
         Ok(()) => Ok(()),

@@ -1,8 +1,14 @@
 //! Reading the events of a piece of an index.
 
-ghost use Rattle.std.specs.Prelude.{◌≡◌, ◌≤◌, ◌<◌, ◌^◌, Ok, IfOk, IfErr, IfSome, IsErrOf, IsSome, Some, ℕ, List, slice_get};
+ghost use Rattle.std.specs.Prelude.{◌≡◌, ◌≤◌, ◌<◌, ◌^◌, Ok, IfOk, IfErr, IfSome, IsErrOf, IsSome, Some, ℕ, List, length, slice_get};
+ghost use Rattle.std.specs.List.{All};
+ghost use Rattle.dg_columns.specs.Names.{NamesFit};
 ghost use Rattle.dg_disk.specs.Counts.{Rose};
-ghost use Rattle.dg_model.specs.Opening.{Segment, opening};
+ghost use Rattle.dg_file.specs.Images.{IsOpenedAs};
+ghost use Rattle.dg_model.specs.declared.event.Event.{Event};
+ghost use Rattle.dg_model.specs.declared.limits.TheConstants.{NAMES_MAX};
+ghost use Rattle.dg_model.specs.declared.placed.Placed.{Placed};
+ghost use Rattle.dg_model.specs.Opening.{Segment};
 ghost use Rattle.dg_model.specs.Starting.{events_in_piece, placed_in_piece};
 ghost use Rattle.dg_session.specs.Started.{InPiece, Refuses};
 
@@ -12,23 +18,23 @@ use dg_file::{FetchFault, Index};
 use dg_model::{Column, Event, Key, StartFault};
 use std::alloc::Global;
 
-// No batch brings a name yet.
-const NAMES: u32 = 0;
-
-// What a column of a piece is read as.
+// What a column of a piece is read as, with so many names.
 fn read_column<D: Disk>(
     alloc: Global,
     index: &mut Index,
     disk: &mut D,
+    names: u32,
     piece: u32,
     col: Column,
 ) -> Result<Vec<Placed>, StartFault>
     requires held { IsSome (slice_get index.old.opening.segments piece) }
-    requires image { IfSome (D.image disk.old) (λ image. opening image ≡ Ok index.old.opening) }
+    requires names { names ≤ NAMES_MAX }
+    requires image { IfSome (D.image disk.old) (λ image. IsOpenedAs image index.old.opening) }
     ensures read { IfOk result (λ placed. InPiece (D.image disk.old) index.old.opening piece
-        (λ image s. placed_in_piece image piece s col ≡ Ok placed.items)) }
+        (λ image s. placed_in_piece image names piece s col ≡ Ok placed.items)) }
+    ensures fit { IfOk result (λ placed. All (λ (p : Placed). NamesFit p.event.body) placed.items) }
     ensures refused { IfErr result (λ fault. InPiece (D.image disk.old) index.old.opening piece
-        (λ image s. Refuses fault (placed_in_piece image piece s col))) }
+        (λ image s. Refuses fault (placed_in_piece image names piece s col))) }
     ensures same { index.new ≡ index.old }
     ensures same_image { D.image disk.new ≡ D.image disk.old }
     ensures cause { IsErrOf result StartFault.Disk → Rose (D.faults disk.old) (D.faults disk.new) }
@@ -40,14 +46,14 @@ fn read_column<D: Disk>(
         Err(FetchFault::Disk) => return Err(StartFault::Disk),
         Err(FetchFault::Memory) => return Err(StartFault::Memory),
     };
-    match read_events(alloc, &bytes, col, NAMES) {
+    match read_events(alloc, &bytes, col, names) {
         Ok(placed) => Ok(placed),
         Err(ReadFault::Damaged(_)) => Err(StartFault::BadRecord(Key::Piece(piece), col)),
         Err(ReadFault::Memory) => Err(StartFault::Memory),
     }
 }
 
-/// The `count` events of a piece.
+/// The `count` events of a piece of an index that has so many names.
 ///
 /// `StartFault::BadRecord` for the first column that no events are spelled as, or for structure where
 /// the columns do not come together to that many events; `StartFault::Disk` where the disk failed,
@@ -56,25 +62,29 @@ pub fn read_piece<D: Disk>(
     alloc: Global,
     index: &mut Index,
     disk: &mut D,
+    names: u32,
     piece: u32,
     count: u64,
 ) -> Result<Vec<Event>, StartFault>
     requires held { (s : Segment) × (slice_get index.old.opening.segments piece ≡ Some s) × (s.events ≡ count) }
     requires few { count < 2 ^ 32 }
-    requires image { IfSome (D.image disk.old) (λ image. opening image ≡ Ok index.old.opening) }
+    requires names { names ≤ NAMES_MAX }
+    requires image { IfSome (D.image disk.old) (λ image. IsOpenedAs image index.old.opening) }
     ensures read { IfOk result (λ events. InPiece (D.image disk.old) index.old.opening piece
-        (λ image s. events_in_piece image piece s ≡ Ok events.items)) }
+        (λ image s. events_in_piece image names piece s ≡ Ok events.items)) }
+    ensures fit { IfOk result (λ events. All (λ (e : Event). NamesFit e.body) events.items) }
+    ensures many { IfOk result (λ events. length events.items ≡ count) }
     ensures refused { IfErr result (λ fault. InPiece (D.image disk.old) index.old.opening piece
-        (λ image s. Refuses fault (events_in_piece image piece s))) }
+        (λ image s. Refuses fault (events_in_piece image names piece s))) }
     ensures same { index.new ≡ index.old }
     ensures same_image { D.image disk.new ≡ D.image disk.old }
     ensures cause { IsErrOf result StartFault.Disk → Rose (D.faults disk.old) (D.faults disk.new) }
     ensures counted { D.faults disk.old ≤ D.faults disk.new }
     ensures same_write_faults { D.write_faults disk.new ≡ D.write_faults disk.old }
 {
-    let structure = read_column(alloc, index, disk, piece, Column::Structure)?;
-    let node_attrs = read_column(alloc, index, disk, piece, Column::NodeAttr)?;
-    let edge_attrs = read_column(alloc, index, disk, piece, Column::EdgeAttr)?;
+    let structure = read_column(alloc, index, disk, names, piece, Column::Structure)?;
+    let node_attrs = read_column(alloc, index, disk, names, piece, Column::NodeAttr)?;
+    let edge_attrs = read_column(alloc, index, disk, names, piece, Column::EdgeAttr)?;
     match merge(alloc, &structure, &node_attrs, &edge_attrs, count as u32) {
         Ok(events) => Ok(events),
         Err(MergeFault::Places) => Err(StartFault::BadRecord(Key::Piece(piece), Column::Structure)),

@@ -1,4 +1,4 @@
-ghost use Rattle.std.specs.Prelude.{◌≡◌, ◌⊎◌, ℕ, ◌+◌, ◌<◌, ◌≤◌, IsTrue, IfErr, IfSome, IsErrOf, OnErr, OnOk, List, [], Option, Some, is_some, true, length, map, IfOk};
+ghost use Rattle.std.specs.Prelude.{◌≡◌, ◌⊎◌, ℕ, ◌+◌, ◌<◌, ◌≤◌, IsTrue, IfErr, IfSome, IsErrOf, OnErr, OnOk, List, [], Option, Some, is_some, true, length, map, IfOk, if◌then◌else◌, nat_lt};
 ghost use Rattle.dg_disk.specs.Counts.{Rose as DiskRose};
 ghost use Rattle.dg_io.specs.Told.{Gives, Rose};
 ghost use Rattle.dg_io.specs.Reading.{told, to_come, EndsWith, NeedsByte};
@@ -6,22 +6,22 @@ ghost use Rattle.dg_model.specs.declared.limits.TheConstants.{BATCH_LINES_MAX};
 ghost use Rattle.dg_model.specs.declared.reply.BodyLine.TheVariants as line;
 ghost use Rattle.dg_model.specs.Answer.{headed, no_memory};
 ghost use Rattle.dg_model.specs.Grammar.{command_of};
-ghost use Rattle.dg_model.specs.History.{History, are_parameters, in_range, last_time_from};
+ghost use Rattle.dg_model.specs.History.{History, are_parameters, in_range};
 ghost use Rattle.dg_model.specs.Legal.{StandsAs};
-ghost use Rattle.dg_model.specs.Lines.{ScriptLine};
 ghost use Rattle.dg_model.specs.Machine.{IsWithin, machine_at};
 ghost use Rattle.dg_model.specs.Starting.{start_of};
-ghost use Rattle.dg_session.specs.Following.{Gathers};
-ghost use Rattle.dg_session.specs.Kept.{HasBatch, HasNoBatch, IsFirstBatch, Keeps, KeepsOrNot, WereGathered};
+ghost use Rattle.dg_session.specs.Adding.{Replies, barred, command_with, is_full};
+ghost use Rattle.dg_session.specs.Following.{Advances};
 ghost use Rattle.dg_session.specs.Session.{BothTold, Cuts, IsHeldBy, Moves, StandsFor, Steps, Stops, elements_among, is_writing};
-ghost use Rattle.dg_session.specs.Started.{Refuses, StartsAs, index_opening};
+ghost use Rattle.dg_session.specs.Started.{Refuses, StartsAs};
 ghost use Rattle.dg_session.specs.declared.stop.Stop.TheVariants as stop;
 
-use crate::batch::prepare;
-use crate::following::{Gathered, gather};
-use crate::graph::{last_instant, listing, replay_at, span};
+use crate::adding::{Added, Adding, add_batch};
+use crate::chronicle::Chronicle;
+use crate::following::gather;
+use crate::graph::{listing, replay_at, span};
 use crate::history::open;
-use crate::keeping::{KeepFault, keep_batch};
+use crate::keeping::KeepFault;
 use crate::laws::law_images_start_as_they_stand;
 use crate::stop::Stop;
 use crate::table::{Entry, entry_at};
@@ -30,9 +30,10 @@ use dg_file::{CreateFault, Index, law_batches_are_added, law_batches_are_measure
 use dg_io::{Lines, Source};
 use dg_model::{
     ARITY_MAX, ARITY_MIN, BodyLine, BodyLines, Columns, Command, Event, FIRST_HANDLE, Head,
-    LEAF_MAX, LEAF_MIN, LIVE_HANDLES_MAX, Limits, Params, Refusal, Reply, Stands, StartFault,
+    LEAF_MAX, LEAF_MIN, LIVE_HANDLES_MAX, Limits, NAMES_MAX, Params, Refusal, Reply, Stands,
+    StartFault,
 };
-use dg_now::PrepareFault;
+use dg_names::Names;
 use std::alloc::{AllocError, Global};
 use std::marker::Model;
 use std::thread::Threads;
@@ -43,8 +44,8 @@ const PLAN_WEIGHT: u64 = 0;
 // A retrieval asks for one handle.
 const HANDLES_ASKED: u32 = 1;
 
-// The number of the first piece of an index.
-const FIRST_PIECE: u32 = 0;
+// A line may bring the text of a key and that of a value.
+const NAMES_OF_A_LINE: u32 = 2;
 
 // A write to the disk failed.
 #[derive(Drop)]
@@ -58,12 +59,11 @@ impl From<StoreFailed> for Stop {
     }
 }
 
-/// The index of a history and its events, and the live handles over them.
+/// An index with its history, if there is one, and the live handles over it.
 #[derive(Drop)]
 pub struct Session {
     limits: Limits,
-    index: Option<Index>,
-    events: Vec<Event>,
+    chronicle: Chronicle,
     table: Vec<Entry>,
     next: u32,
     alloc: Global,
@@ -71,23 +71,26 @@ pub struct Session {
 
 impl Model for Session {
     ghost use Rattle.std.specs.Prelude.{◌≡◌, ◌+◌, ◌≤◌, vec_len};
-    ghost use Rattle.dg_model.specs.declared.limits.TheConstants.{FILE_BYTES_MAX, FIRST_HANDLE, LIVE_HANDLES_MAX, SCRIPT_BYTES_MAX};
+    ghost use Rattle.dg_model.specs.declared.limits.TheConstants.{EVENTS_MAX, FILE_BYTES_MAX, FIRST_HANDLE, LIVE_HANDLES_MAX, SCRIPT_BYTES_MAX};
     ghost use Rattle.dg_session.specs.Parts.{Parts};
+    ghost use Rattle.dg_session.specs.Soundness.{IsSound};
     ghost use Rattle.dg_session.specs.Started.{index_opening};
 
     ghost Value = { Parts };
 
     ghost view = { λ s. record {
       limits = s.limits;
-      index = index_opening s.index;
-      events = s.events.items;
+      index = index_opening s.chronicle.index;
+      names = s.chronicle.names;
+      events = s.chronicle.events.items;
       table = s.table.items;
       next = s.next;
     } };
 
     ghost invariant = { λ s.
         (vec_len s.table ≤ LIVE_HANDLES_MAX) × (s.next ≡ FIRST_HANDLE + vec_len s.table)
-        × (s.limits.script_bytes ≤ SCRIPT_BYTES_MAX) × (s.limits.file_bytes ≤ FILE_BYTES_MAX) };
+        × (s.limits.script_bytes ≤ SCRIPT_BYTES_MAX) × (s.limits.events ≤ EVENTS_MAX) × (s.limits.file_bytes ≤ FILE_BYTES_MAX)
+        × IsSound (index_opening s.chronicle.index) s.chronicle.names s.chronicle.now s.chronicle.events.items };
 }
 
 impl Session {
@@ -107,7 +110,7 @@ impl Session {
         ensures started { IfOk result (λ session. IfSome (D.image disk.old) (λ image. StartsAs limits session (start_of image))) }
         ensures stands { IfOk result (λ session. IfSome (D.image disk.old) (λ image. (index : Option History)
             → StandsAs index image → StandsFor session image (machine_at limits index))) }
-        ensures held { IfOk result (λ session. IfSome (D.image disk.new) (λ image. IsHeldBy session.index image)) }
+        ensures held { IfOk result (λ session. IfSome (D.image disk.new) (λ image. IsHeldBy session.index session.names image)) }
         ensures refused { IfErr result (λ fault. IfSome (D.image disk.old) (λ image. Refuses fault (start_of image))) }
         ensures never { IfErr result (λ fault. IfSome (D.image disk.old) (λ image. (index : Option History)
             → StandsAs index image → (fault ≡ StartFault.Disk) ⊎ (fault ≡ StartFault.Memory))) }
@@ -120,25 +123,31 @@ impl Session {
         let Ok(table) = Vec::with_capacity(alloc, LIVE_HANDLES_MAX) else {
             return Err(StartFault::Memory);
         };
-        let opened = open(alloc, disk)?;
+        let chronicle = open(alloc, disk)?;
         Ok(Session {
             limits,
-            index: opened.index,
-            events: opened.events,
+            chronicle,
             table,
             next: FIRST_HANDLE,
             alloc,
         })
     }
 
-    /// Carries out the command, and answers it. A load reads the lines that follow it, whatever its
-    /// answer is. A reply of `Refusal::OutOfMemory` or of another refusal leaves the session and the
+    /// The names of the history, by their numbers. Without an index there are none.
+    pub fn names(&self) -> &Names
+        ensures { result.now ≡ self.now.names }
+    {
+        &self.chronicle.names
+    }
+
+    /// Carries out the command, and answers it. A load and an append read the lines that follow them,
+    /// whatever the answer is. A reply of `Refusal::OutOfMemory` or of another refusal leaves the session and the
     /// disk's image as they were.
     ///
     /// `Stop::Read` where a read of the source failed, `Stop::Limit` where another byte is needed and
     /// as many as the limit allows were taken: the session is then as it was. `Stop::Store` where the
-    /// disk failed while an index was made or a batch was loaded: the image is then as before the
-    /// command or as after it.
+    /// disk failed while an index was made or a batch was added: the image is then as before the command
+    /// or as after it, and the session may have no index.
     pub fn step<R: Threads, S: Source, D: Disk>(
         &mut self,
         _rt: &R,
@@ -148,11 +157,11 @@ impl Session {
         disk: &mut D,
     ) -> Result<Reply, Stop>
         requires command { (line : List ℕ) × (command_of line ≡ Some command.now) }
-        requires image { IfSome (D.image disk.old) (λ image. IsHeldBy self.old.index image) }
+        requires image { IfSome (D.image disk.old) (λ image. IsHeldBy self.old.index self.old.names image) }
         ensures step { IfOk result (λ reply. Steps command.now
             (told lines.old (S.left source.old)) (told lines.new (S.left source.new))
             self.old (D.image disk.old) self.new (D.image disk.new) reply) }
-        ensures held { OnOk result (IfSome (D.image disk.new) (λ image. IsHeldBy self.new.index image)) }
+        ensures held { OnOk result (IfSome (D.image disk.new) (λ image. IsHeldBy self.new.index self.new.names image)) }
         ensures told { is_some (D.image disk.new) ≡ is_some (D.image disk.old) }
         ensures stop { IsErrOf result Stop.Read → (self.new ≡ self.old) × (D.image disk.new ≡ D.image disk.old) }
         ensures stop_limit { IsErrOf result Stop.Limit → (self.new ≡ self.old) × (D.image disk.new ≡ D.image disk.old) }
@@ -176,10 +185,8 @@ impl Session {
     {
         match *command {
             Command::Create { l, k, function } => Ok(self.create(disk, Params { l, k, function })?),
-            Command::Load { count } => {
-                let gathered = gather(self.alloc, count, lines, source)?;
-                Ok(self.load(disk, count, gathered)?)
-            }
+            Command::Load { count } => self.add(Adding::Load, count, lines, source, disk),
+            Command::Append { count } => self.add(Adding::Append, count, lines, source, disk),
             Command::At { t, cols } => Ok(self.at(t, cols)),
             Command::List { handle } => Ok(self.list(handle)),
         }
@@ -187,10 +194,10 @@ impl Session {
 
     // An empty index with these parameters.
     fn create<D: Disk>(&mut self, disk: &mut D, params: Params) -> Result<Reply, StoreFailed>
-        requires image { IfSome (D.image disk.old) (λ image. IsHeldBy self.old.index image) }
+        requires image { IfSome (D.image disk.old) (λ image. IsHeldBy self.old.index self.old.names image) }
         ensures moves { IfOk result (λ reply. BothTold (D.image disk.old) (D.image disk.new) (λ before after.
             Moves (Command.Create params.l params.k params.function) [] self.old before self.new after reply)) }
-        ensures held { OnOk result (IfSome (D.image disk.new) (λ image. IsHeldBy self.new.index image)) }
+        ensures held { OnOk result (IfSome (D.image disk.new) (λ image. IsHeldBy self.new.index self.new.names image)) }
         ensures store { OnErr result (BothTold (D.image disk.old) (D.image disk.new) (λ before after.
             Cuts (Command.Create params.l params.k params.function) [] self.old before after)) }
         ensures cause { OnErr result (DiskRose (D.write_faults disk.old) (D.write_faults disk.new)) }
@@ -198,7 +205,7 @@ impl Session {
         ensures counted { D.faults disk.old ≤ D.faults disk.new }
         ensures write_counted { D.write_faults disk.old ≤ D.write_faults disk.new }
     {
-        if self.index.is_some() {
+        if self.chronicle.index.is_some() {
             return Ok(refused(self.alloc, Refusal::IndexExists));
         }
         if !are_parameters(params) {
@@ -206,7 +213,7 @@ impl Session {
         }
         match Index::create(self.alloc, disk, params) {
             Ok(index) => {
-                self.index = Some(index);
+                self.chronicle.index = Some(index);
                 Ok(headed(self.alloc, Head::Created))
             }
             Err(CreateFault::Memory) => Ok(no_memory(self.alloc)),
@@ -214,111 +221,109 @@ impl Session {
         }
     }
 
-    // The batch of these lines, as the history's first.
-    fn load<D: Disk>(
-        &mut self,
-        disk: &mut D,
-        count: u32,
-        gathered: Gathered,
-    ) -> Result<Reply, StoreFailed>
-        requires some { 1 ≤ count }
-        requires few { count ≤ BATCH_LINES_MAX }
-        requires gathered { WereGathered count gathered.read gathered.lacking gathered.changes.items }
-        requires image { IfSome (D.image disk.old) (λ image. IsHeldBy self.old.index image) }
-        ensures moves { IfOk result (λ reply. (got : List ScriptLine)
-            → Gathers got gathered.read gathered.lacking gathered.changes.items
-            → BothTold (D.image disk.old) (D.image disk.new) (λ before after.
-            Moves (Command.Load count) got self.old before self.new after reply)) }
-        ensures held { OnOk result (IfSome (D.image disk.new) (λ image. IsHeldBy self.new.index image)) }
-        ensures store { OnErr result ((got : List ScriptLine)
-            → Gathers got gathered.read gathered.lacking gathered.changes.items
-            → BothTold (D.image disk.old) (D.image disk.new) (λ before after.
-            Cuts (Command.Load count) got self.old before after)) }
-        ensures cause { OnErr result (DiskRose (D.write_faults disk.old) (D.write_faults disk.new)) }
-        ensures told { is_some (D.image disk.new) ≡ is_some (D.image disk.old) }
-        ensures counted { D.faults disk.old ≤ D.faults disk.new }
-        ensures write_counted { D.write_faults disk.old ≤ D.write_faults disk.new }
+    // Why no batch of so many lines is added, whatever its lines are.
+    fn barred(&self, adding: Adding, count: u32) -> Option<Refusal>
+        requires { count ≤ BATCH_LINES_MAX }
+        ensures { result ≡ barred adding self.now count }
     {
-        if gathered.read < count {
-            return Ok(refused(self.alloc, Refusal::ShortBatch(gathered.read, count)));
+        if self.chronicle.index.is_none() {
+            return Some(Refusal::NoIndex);
         }
-        match has_batch(&self.index) {
-            None => return Ok(refused(self.alloc, Refusal::NoIndex)),
-            Some(true) => return Ok(refused(self.alloc, Refusal::AlreadyLoaded)),
-            Some(false) => {}
+        let held = self.chronicle.events.len() as u64;
+        if matches!(adding, Adding::Load) && held > 0 {
+            return Some(Refusal::AlreadyLoaded);
         }
-        if gathered.lacking {
-            return Ok(no_memory(self.alloc));
+        if self.is_full(count) {
+            return Some(Refusal::HistoryFull(held, u64::from(count)));
         }
-        match prepare(self.alloc, &gathered.changes) {
-            Ok(events) => self.keep(disk, events),
-            Err(PrepareFault::BadChange { line, reason }) => Ok(refused(
-                self.alloc,
-                Refusal::BadChange(line, reason),
-            )),
-            Err(PrepareFault::Memory) => Ok(no_memory(self.alloc)),
-        }
+        None
     }
 
-    // The events of the first batch, in the file and as the history.
-    fn keep<D: Disk>(&mut self, disk: &mut D, events: Vec<Event>) -> Result<Reply, StoreFailed>
-        requires index { HasNoBatch self.old.index }
-        requires legal { IsFirstBatch events.items }
-        requires image { IfSome (D.image disk.old) (λ image. IsHeldBy self.old.index image) }
-        ensures keeps { IfOk result (λ reply. BothTold (D.image disk.old) (D.image disk.new) (λ before after.
-            Keeps events.items self.old before self.new after reply)) }
-        ensures held { OnOk result (IfSome (D.image disk.new) (λ image. IsHeldBy self.new.index image)) }
-        ensures store { OnErr result (BothTold (D.image disk.old) (D.image disk.new) (KeepsOrNot events.items self.old)) }
-        ensures cause { OnErr result (DiskRose (D.write_faults disk.old) (D.write_faults disk.new)) }
+    // Whether so many more events, or the names that so many lines may bring, are too many.
+    fn is_full(&self, count: u32) -> bool
+        requires { count ≤ BATCH_LINES_MAX }
+        ensures { result ≡ is_full self.now count }
+    {
+        let events = self.chronicle.events.len() as u64 + u64::from(count);
+        let names = self.chronicle.names.len() + NAMES_OF_A_LINE * count;
+        self.limits.events < events || NAMES_MAX < names
+    }
+
+    // The batch of the lines that follow, as the history's first or next one.
+    fn add<S: Source, D: Disk>(
+        &mut self,
+        adding: Adding,
+        count: u32,
+        lines: &mut Lines,
+        source: &mut S,
+        disk: &mut D,
+    ) -> Result<Reply, Stop>
+        requires some { 1 ≤ count }
+        requires few { count ≤ BATCH_LINES_MAX }
+        requires image { IfSome (D.image disk.old) (λ image. IsHeldBy self.old.index self.old.names image) }
+        ensures step { IfOk result (λ reply. Steps (command_with adding count)
+            (told lines.old (S.left source.old)) (told lines.new (S.left source.new))
+            self.old (D.image disk.old) self.new (D.image disk.new) reply) }
+        ensures held { OnOk result (IfSome (D.image disk.new) (λ image. IsHeldBy self.new.index self.new.names image)) }
         ensures told { is_some (D.image disk.new) ≡ is_some (D.image disk.old) }
-        ensures counted { D.faults disk.old ≤ D.faults disk.new }
-        ensures write_counted { D.write_faults disk.old ≤ D.write_faults disk.new }
+        ensures stop { IsErrOf result Stop.Read → (self.new ≡ self.old) × (D.image disk.new ≡ D.image disk.old) }
+        ensures stop_limit { IsErrOf result Stop.Limit → (self.new ≡ self.old) × (D.image disk.new ≡ D.image disk.old) }
+        ensures store { IsErrOf result Stop.Store → Stops (command_with adding count)
+            (told lines.old (S.left source.old)) (told lines.new (S.left source.new))
+            self.old (D.image disk.old) (D.image disk.new) }
+        ensures store_cause { IsErrOf result Stop.Store → DiskRose (D.write_faults disk.old) (D.write_faults disk.new) }
+        ensures disk_counted { D.faults disk.old ≤ D.faults disk.new }
+        ensures disk_write_counted { D.write_faults disk.old ≤ D.write_faults disk.new }
+        ensures advances { Advances lines.old (S.left source.old) (S.faults source.old)
+            lines.new (S.left source.new) (S.faults source.new) }
+        ensures read { IsErrOf result Stop.Read → Rose (S.faults source.old) (S.faults source.new) }
+        ensures limit { IsErrOf result Stop.Limit → (lines.new.taken ≡ lines.new.limit) × NeedsByte lines.new }
     {
         law_batches_are_added();
         law_batches_are_measured();
-        let limit = self.limits.file_bytes;
-        let Some(index) = &mut self.index else {
-            return Ok(refused(self.alloc, Refusal::NoIndex));
-        };
-        match keep_batch(self.alloc, index, disk, &events, limit) {
-            Ok(()) => Ok(self.hold(events)),
-            Err(KeepFault::FileFull(needed)) => Ok(refused(
-                self.alloc,
-                Refusal::FileFull(needed, limit),
-            )),
-            Err(KeepFault::Memory) => Ok(no_memory(self.alloc)),
-            Err(KeepFault::Store) => Err(StoreFailed),
-        }
-    }
-
-    // The events of the first batch, as the history.
-    fn hold(&mut self, events: Vec<Event>) -> Reply
-        ensures kept { self.new ≡ record self.old { events = events.items } }
-        ensures reply { let count = length events.items in
-            result ≡ headed (Head.Loaded count count (last_time_from 0 events.items)) }
-    {
-        let count = events.len() as u64;
-        let last = last_instant(&events);
-        self.events = events;
-        headed(
+        let barred = self.barred(adding, count);
+        let known = self.chronicle.names.len();
+        let is_wanted = barred.is_none();
+        let gathered = match gather(
             self.alloc,
-            Head::Loaded {
-                events: count,
-                total: count,
-                last,
-            },
-        )
+            count,
+            is_wanted,
+            &mut self.chronicle.names,
+            lines,
+            source,
+        ) {
+            Ok(gathered) => gathered,
+            Err(stop) => {
+                self.chronicle.names.cut(known);
+                return Err(stop);
+            }
+        };
+        if let Some(refusal) = refusal_of(gathered.read, count, barred) {
+            self.chronicle.names.cut(known);
+            return Ok(refused(self.alloc, refusal));
+        }
+        let limit = self.limits.file_bytes;
+        let added = add_batch(
+            self.alloc,
+            limit,
+            known,
+            &gathered,
+            &mut self.chronicle,
+            disk,
+        );
+        Ok(reply_of(self.alloc, adding, limit, added)?)
     }
 
     // A new handle for the graph as of `t` in these columns.
     fn at(&mut self, t: u64, cols: Columns) -> Reply
         ensures moves { (image : List ℕ) → Moves (Command.At t cols) [] self.old image self.new image result }
         ensures index { self.new.index ≡ self.old.index }
+        ensures names { self.new.names ≡ self.old.names }
     {
-        if self.index.is_none() {
+        if self.chronicle.index.is_none() {
             return refused(self.alloc, Refusal::NoIndex);
         }
-        let ends = span(&self.events);
+        let ends = span(&self.chronicle.events);
         if !in_range(ends, t) {
             return refused(self.alloc, Refusal::OutOfRange(ends));
         }
@@ -348,7 +353,7 @@ impl Session {
         let Some(stands) = entry_at(&self.table, handle) else {
             return refused(self.alloc, Refusal::UnknownHandle(handle));
         };
-        match elements(self.alloc, &self.events, stands) {
+        match elements(self.alloc, &self.chronicle.events, stands) {
             Ok(lines) => Reply {
                 head: Head::List {
                     handle,
@@ -368,12 +373,37 @@ fn are_parameters(params: Params) -> bool
     LEAF_MIN <= params.l && params.l <= LEAF_MAX && ARITY_MIN <= params.k && params.k <= ARITY_MAX
 }
 
-// Whether the index has a batch, where there is an index.
-fn has_batch(index: &Option<Index>) -> Option<bool>
-    ensures { HasBatch result (index_opening index.now) }
+// Why a batch of so many lines is refused of which so many were read, if it is barred or too short.
+fn refusal_of(read: u32, count: u32, barred: Option<Refusal>) -> Option<Refusal>
+    ensures { result ≡ (if nat_lt read count then Some (Refusal.ShortBatch read count) else barred) }
 {
-    let index = index.as_ref()?;
-    Some(index.batch(FIRST_PIECE).is_some())
+    if read < count {
+        Some(Refusal::ShortBatch(read, count))
+    } else {
+        barred
+    }
+}
+
+// The reply where a batch was added, or was not. The file may have `limit` bytes in use.
+fn reply_of(
+    alloc: Global,
+    adding: Adding,
+    limit: u64,
+    added: Result<Added, KeepFault>,
+) -> Result<Reply, StoreFailed>
+    ensures replies { IfOk result (λ reply. Replies adding limit added reply) }
+    ensures failed { OnErr result (added ≡ Err KeepFault.Store) }
+{
+    match added {
+        Ok(added) => Ok(headed(alloc, adding.head(added))),
+        Err(KeepFault::BadChange(line, reason)) => Ok(refused(
+            alloc,
+            Refusal::BadChange(line, reason),
+        )),
+        Err(KeepFault::FileFull(needed)) => Ok(refused(alloc, Refusal::FileFull(needed, limit))),
+        Err(KeepFault::Memory) => Ok(no_memory(alloc)),
+        Err(KeepFault::Store) => Err(StoreFailed),
+    }
 }
 
 // Whether the instant lies between the ends.

@@ -6,8 +6,8 @@ use dg_disk::MemoryDisk;
 use dg_io::{Lines, MemorySource};
 use dg_line::read_command;
 use dg_model::{
-    BodyLine, Column, Element, Head, Key, Limits, REASON_FORM, REASON_NODE_EXISTS,
-    REASON_NODE_IN_USE, Refusal, SCRIPT_BYTES_MAX,
+    BodyLine, Column, Element, Head, Key, Limits, REASON_FORM, REASON_NO_ATTRIBUTE, REASON_NO_NODE,
+    REASON_NODE_EXISTS, REASON_NODE_IN_USE, REASON_TIME, Refusal, SCRIPT_BYTES_MAX,
 };
 use std::test::Fail;
 use std::thread::Threads;
@@ -51,7 +51,7 @@ fn first_other<R: Threads>(
     source: &mut MemorySource,
     disk: &mut MemoryDisk,
 ) -> Option<usize>
-    requires { IsHeldBy session.old.index (image_of disk.old) }
+    requires { IsHeldBy session.old.index session.old.names (image_of disk.old) }
 {
     let mut lines = Lines::new(NO_LIMIT);
     for (number, case) in cases.iter().enumerate() {
@@ -182,6 +182,227 @@ fn answers_commands_over_a_file_and_again_after_a_restart(rt: HostRuntime) -> Re
     Ok(())
 }
 
+// What the lines of `ATTRIBUTES` leave at 30 and at 50, in all columns. The texts are numbered as they
+// come: 0 name, 1 Ann Lee, 2 since, 3 1998, 4 colour, 5 blue.
+const AT_30: [BodyLine; 6] = [
+    BodyLine::Element(Element::Node { id: 1 }),
+    BodyLine::Element(Element::Node { id: 2 }),
+    BodyLine::Element(Element::Edge {
+        id: 7,
+        src: 1,
+        dst: 2,
+        directed: false,
+    }),
+    BodyLine::Element(Element::NodeAttr {
+        id: 1,
+        key: 0,
+        value: 1,
+    }),
+    BodyLine::Element(Element::NodeAttr {
+        id: 2,
+        key: 0,
+        value: 0,
+    }),
+    BodyLine::Element(Element::EdgeAttr {
+        id: 7,
+        key: 2,
+        value: 3,
+    }),
+];
+
+const AT_50: [BodyLine; 5] = [
+    BodyLine::Element(Element::Node { id: 1 }),
+    BodyLine::Element(Element::Node { id: 2 }),
+    BodyLine::Element(Element::Edge {
+        id: 7,
+        src: 1,
+        dst: 2,
+        directed: false,
+    }),
+    BodyLine::Element(Element::NodeAttr {
+        id: 1,
+        key: 0,
+        value: 1,
+    }),
+    BodyLine::Element(Element::NodeAttr {
+        id: 1,
+        key: 4,
+        value: 5,
+    }),
+];
+
+const STRUCTURE_AT_50: [BodyLine; 3] = [
+    BodyLine::Element(Element::Node { id: 1 }),
+    BodyLine::Element(Element::Node { id: 2 }),
+    BodyLine::Element(Element::Edge {
+        id: 7,
+        src: 1,
+        dst: 2,
+        directed: false,
+    }),
+];
+
+// A load of six lines; appends of two lines, of one and of three; and two appends of one.
+const ATTRIBUTES: &[u8] = b"10 +node 1\n10 nset 1 name Ann Lee\n20 +node 2\n20 nset 2 name name\n\
+    30 +edge 7 1 2 undir\n30 eset 7 since 1998\n\
+    31 nset 1 colour red\n31 nset 9 colour blue\n\
+    30 nset 1 age 5\n\
+    40 nset 1 colour blue\n40 ndel 2 name\n50 edel 7 since\n\
+    60 ndel 2 name\n\
+    60 -node 1\n";
+
+#[test]
+fn a_load_and_an_append_with_attributes_are_listed(rt: HostRuntime) -> Result<(), Fail> {
+    let loaded = Head::Loaded {
+        events: 6,
+        total: 6,
+        last: 30,
+    };
+    let appended = Head::Appended {
+        events: 3,
+        total: 9,
+        last: 50,
+    };
+    let first: [Case; 7] = [
+        (b"create 2 2 balanced", Head::Created, &[]),
+        (b"load 6", loaded, &[]),
+        (
+            b"append 2",
+            Head::Refused(Refusal::BadChange(2, REASON_NO_NODE)),
+            &[],
+        ),
+        (
+            b"append 1",
+            Head::Refused(Refusal::BadChange(1, REASON_TIME)),
+            &[],
+        ),
+        (b"append 3", appended, &[]),
+        (
+            b"append 1",
+            Head::Refused(Refusal::BadChange(1, REASON_NO_ATTRIBUTE)),
+            &[],
+        ),
+        (
+            b"append 1",
+            Head::Refused(Refusal::BadChange(1, REASON_NODE_IN_USE)),
+            &[],
+        ),
+    ];
+    let second: [Case; 6] = [
+        (
+            b"at 30 sne",
+            Head::At {
+                handle: 1,
+                weight: 0,
+            },
+            &[],
+        ),
+        (
+            b"at 50 sne",
+            Head::At {
+                handle: 2,
+                weight: 0,
+            },
+            &[],
+        ),
+        (
+            b"at 50 s",
+            Head::At {
+                handle: 3,
+                weight: 0,
+            },
+            &[],
+        ),
+        (
+            b"list 1",
+            Head::List {
+                handle: 1,
+                lines: 6,
+            },
+            &AT_30,
+        ),
+        (
+            b"list 2",
+            Head::List {
+                handle: 2,
+                lines: 5,
+            },
+            &AT_50,
+        ),
+        (
+            b"list 3",
+            Head::List {
+                handle: 3,
+                lines: 3,
+            },
+            &STRUCTURE_AT_50,
+        ),
+    ];
+    let texts: [(u32, Option<&[u8]>); 7] = [
+        (0, Some(b"name".as_slice())),
+        (1, Some(b"Ann Lee".as_slice())),
+        (2, Some(b"since".as_slice())),
+        (3, Some(b"1998".as_slice())),
+        (4, Some(b"colour".as_slice())),
+        (5, Some(b"blue".as_slice())),
+        (6, None),
+    ];
+    let mut source = MemorySource::new(rt.alloc(), ATTRIBUTES, 7, &[])?;
+    let mut disk = MemoryDisk::new(rt.alloc(), b"", MANY, MANY, &[])?;
+    for cases in [first.as_slice(), second.as_slice()] {
+        match Session::start(&rt, rt.alloc(), &mut disk, Limits::standard()) {
+            Ok(mut session) => {
+                let other = first_other(&rt, &mut session, cases, &mut source, &mut disk);
+                assert_eq!(rt; other, None);
+                for (number, text) in texts {
+                    assert_eq!(rt; session.names().text(number), text);
+                }
+            }
+            Err(_) => return Err("not started".into()),
+        }
+    }
+    Ok(())
+}
+
+#[test]
+fn a_history_holds_the_events_that_the_limit_allows(rt: HostRuntime) -> Result<(), Fail> {
+    let loaded = Head::Loaded {
+        events: 2,
+        total: 2,
+        last: 20,
+    };
+    let appended = Head::Appended {
+        events: 1,
+        total: 3,
+        last: 40,
+    };
+    let cases: [Case; 6] = [
+        (b"append 1", Head::Refused(Refusal::NoIndex), &[]),
+        (b"create 2 2 union", Head::Created, &[]),
+        (b"load 2", loaded, &[]),
+        (b"append 2", Head::Refused(Refusal::HistoryFull(2, 2)), &[]),
+        (b"append 1", appended, &[]),
+        (b"append 1", Head::Refused(Refusal::HistoryFull(3, 1)), &[]),
+    ];
+    let following = b"10 +node 1\n10 +node 1\n20 +node 2\n\
+        30 +node 3\n30 +node 4\n40 nset 1 key value\n50 -node 2\n";
+    let limits = Limits {
+        script_bytes: SCRIPT_BYTES_MAX,
+        events: 3,
+        file_bytes: 1000,
+    };
+    let mut source = MemorySource::new(rt.alloc(), following, 7, &[])?;
+    let mut disk = MemoryDisk::new(rt.alloc(), b"", MANY, MANY, &[])?;
+    match Session::start(&rt, rt.alloc(), &mut disk, limits) {
+        Ok(mut session) => {
+            let other = first_other(&rt, &mut session, cases.as_slice(), &mut source, &mut disk);
+            assert_eq!(rt; other, None);
+        }
+        Err(_) => return Err("not started".into()),
+    }
+    Ok(())
+}
+
 #[test]
 fn a_batch_fits_the_file_to_the_byte_or_is_refused(rt: HostRuntime) -> Result<(), Fail> {
     let loaded = Head::Loaded {
@@ -204,6 +425,7 @@ fn a_batch_fits_the_file_to_the_byte_or_is_refused(rt: HostRuntime) -> Result<()
         ];
         let limits = Limits {
             script_bytes: SCRIPT_BYTES_MAX,
+            events: 1,
             file_bytes,
         };
         let mut source = MemorySource::new(rt.alloc(), b"10 +node 1\n", 7, &[])?;

@@ -1,10 +1,10 @@
-use Rattle.std.proofs.Common.{◌≡◌, inr, [], is_some, refl, sym, ◌∙◌, ap, Err, arith}
+use Rattle.std.proofs.Common.{◌≡◌, ℕ, ◌<◌, List, false, inr, is_some, refl, sym, ◌∙◌, ap, subst, Err, IfSome, length, arith}
 use Rattle.dg_model.specs.Text.{text}
 use Rattle.dg_io.specs.Told.{grown, GrowsByPart}
 use Rattle.dg_io.specs.Reading.{Reading}
 use Rattle.deltagraph.specs.declared.status.Status.TheVariants as status
 use Rattle.deltagraph.specs.Turns.{asked}
-use Rattle.deltagraph.proofs.Counts.{takes_none, takes_then, limit_taken}
+use Rattle.deltagraph.proofs.Counts.{takes_none, takes_then, done_within, limit_taken}
 use Rattle.deltagraph.proofs.Going.{asked_first, at_err, at_ok}
 use Rattle.deltagraph.proofs.Over.{over_first, over_skip, over_on, over_cut, over_broken, over_part, over_unbegun}
 use Rattle.deltagraph.proofs.Starts.{where_some, unbegun, disk_failed, lies, refused_so, ends_so, never_so, begins_ok}
@@ -91,15 +91,17 @@ returns-then-is_err-clause-served g c =
     over_part c.args.limits _ _ _ _ _ l.session c.next_turn.new.session
     (asked l.lines (g.S.Source.left l.source)) (asked c.next_turn.new.lines (g.S.Source.left c.next_turn.new.source)) _ _ turn.0 c.in-Ok-Replied.reply
     l.invariant.going l.invariant.told c.next_turn.ensures.told turn.1 turn.2
-    (at_err c.write_reply.result (GrowsByPart (g.K.Sink.written l.sink) (text [] c.in-Ok-Replied.reply) (g.K.Sink.written c.write_reply.new.sink))
-    (sym c.is_err.ensures.value ∙ c.if-is_err.true) c.write_reply.ensures.err)
+    (subst (λ (names : List (List ℕ)). GrowsByPart (g.K.Sink.written l.sink) (text names c.in-Ok-Replied.reply) (g.K.Sink.written c.write_reply.new.sink)) c.names.ensures
+    (at_err c.write_reply.result (GrowsByPart (g.K.Sink.written l.sink) (text c.names.result.now c.in-Ok-Replied.reply) (g.K.Sink.written c.write_reply.new.sink))
+    (sym c.is_err.ensures.value ∙ c.if-is_err.true) c.write_reply.ensures.err))
 
 pub loop-reply-preserved : goal.loop-reply-preserved
 loop-reply-preserved g c =
     let l = c.loop-reply in
     let turn = rw c.in-Ok-Replied.field-0-is at c.in-Ok-Replied.ensures.turn in
-    let written = at_ok c.write_reply.result (g.K.Sink.written c.write_reply.new.sink ≡ grown (g.K.Sink.written l.sink) (text [] c.in-Ok-Replied.reply))
-    (sym c.is_err.ensures.value ∙ c.if-is_err.false) c.write_reply.ensures.ok in record {
+    let written = at_ok c.write_reply.result (g.K.Sink.written c.write_reply.new.sink ≡ grown (g.K.Sink.written l.sink) (text c.names.result.now c.in-Ok-Replied.reply))
+    (sym c.is_err.ensures.value ∙ c.if-is_err.false) c.write_reply.ensures.ok
+    ∙ ap (λ (names : List (List ℕ)). grown (g.K.Sink.written l.sink) (text names c.in-Ok-Replied.reply)) c.names.ensures in record {
       going = over_on c.args.limits _ _ _ _ _ l.session c.next_turn.new.session
           (asked l.lines (g.S.Source.left l.source)) (asked c.next_turn.new.lines (g.S.Source.left c.next_turn.new.source)) _ _ turn.0 c.in-Ok-Replied.reply
           l.invariant.going l.invariant.told turn.1 turn.2 written;
@@ -117,6 +119,16 @@ returns-in-Ok-End-clause-served g c =
     let turn = rw c.in-Ok-End.field-0-is at c.in-Ok-End.ensures.turn in
     over_cut status.Done c.args.limits _ _ _ _ l.session _ _
     (over_skip c.args.limits _ _ _ _ _ l.session l.session (asked l.lines (g.S.Source.left l.source)) _ _ l.invariant.going refl refl turn.3) (c.next_turn.ensures.told ∙ l.invariant.told) (λ done. turn.0) (λ due is. is)
+
+pub returns-in-Ok-End-clause-done : goal.returns-in-Ok-End-clause-done
+returns-in-Ok-End-clause-done g c =
+    let takes = takes_then c.new-lines.result c.loop-reply.lines c.next_turn.new.lines _ _ _ c.loop-reply.invariant.takes c.next_turn.ensures.takes in
+    let none : c.new-lines.result.taken ≡ 0 = ap (λ (r : Reading). r.taken) c.new-lines.ensures in
+    let unended : c.new-lines.result.ended ≡ false = ap (λ (r : Reading). r.ended) c.new-lines.ensures in
+    let same : c.new-lines.result.limit ≡ c.args.limits.script_bytes = ap (λ (r : Reading). r.limit) c.new-lines.ensures in
+    let ended = rw c.in-Ok-End.field-0-is at c.in-Ok-End.ensures.end in
+    λ is. subst (λ (limit : ℕ). IfSome (g.S.Source.left c.args.source.now) (λ script. length script < limit)) same
+    (done_within c.new-lines.result c.next_turn.new.lines _ _ takes none unended ended)
 
 pub returns-in-Err-Read-clause-served : goal.returns-in-Err-Read-clause-served
 returns-in-Err-Read-clause-served g c =

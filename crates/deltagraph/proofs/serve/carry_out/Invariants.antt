@@ -12,7 +12,7 @@ invariant-loop-reply g l = record {
   going : GoingOver l.fn.limits (g.D.Disk.image l.fn.disk) (g.D.Disk.image l.disk) (g.S.Source.left l.fn.source) (g.K.Sink.written l.fn.sink)
       l.session (asked l.lines (g.S.Source.left l.source)) (g.K.Sink.written l.sink);
   told : is_some (g.D.Disk.image l.disk) ≡ is_some (g.D.Disk.image l.fn.disk);
-  held : IfSome (g.D.Disk.image l.disk) (λ image. IsHeldBy l.session.index image);
+  held : IfSome (g.D.Disk.image l.disk) (λ image. IsHeldBy l.session.index l.session.names image);
   takes : Takes l.initial.lines (g.S.Source.left l.fn.source) l.lines (g.S.Source.left l.source);
   source_counted : g.S.Source.faults l.fn.source ≤ g.S.Source.faults l.source;
   sink_counted : g.K.Sink.faults l.fn.sink ≤ g.K.Sink.faults l.sink;

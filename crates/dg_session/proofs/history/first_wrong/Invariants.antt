@@ -1,6 +1,7 @@
 use Rattle.std.proofs.Common.{◌≡◌, ◌+◌, ◌++◌, List, [], map, drop}
 use Rattle.dg_model.specs.declared.event.Event.{Event}
 use Rattle.dg_model.specs.Opening.{Segment}
+use Rattle.dg_model.specs.Replay.{replay_from}
 use Rattle.dg_model.specs.Starting.{first_wrong}
 use Rattle.dg_session.proofs.history.first_wrong.Given as goal
 
@@ -8,7 +9,8 @@ abbrev pub invariant-loop-event : goal.invariant-loop-event
 invariant-loop-event l = record {
   none_pending : l.current.pending ≡ [];
   number : l.number ≡ l.first + l.event-index;
+  led : replay_from l.current.graph (drop l.event-index l.events) ≡ replay_from l.fn.current.graph l.events;
   so_far : (s : Segment) → s.first ≡ l.batch.ends.first → s.last ≡ l.batch.ends.last → (more : List (Segment × Event))
-      → first_wrong l.first l.fn.current.graph (map (λ (e : Event). (s, e)) l.events ++ more)
-      ≡ first_wrong l.number l.current.graph (map (λ (e : Event). (s, e)) (drop l.event-index l.events) ++ more);
+      → first_wrong l.names l.first l.fn.current.graph (map (λ (e : Event). (s, e)) l.events ++ more)
+      ≡ first_wrong l.names l.number l.current.graph (map (λ (e : Event). (s, e)) (drop l.event-index l.events) ++ more);
 }

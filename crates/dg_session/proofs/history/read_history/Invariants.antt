@@ -1,4 +1,9 @@
-use Rattle.std.proofs.Common.{◌≡◌, ◌-◌, ◌≤◌, ℕ, List, [], Some, length}
+use Rattle.std.proofs.Common.{◌≡◌, ◌-◌, ◌≤◌, ℕ, List, [], Some, None, length, drop}
+use Rattle.std.specs.List.{All}
+use Rattle.dg_columns.specs.Names.{NamesFit}
+use Rattle.dg_file.specs.Index.{events_after}
+use Rattle.dg_model.specs.declared.event.Event.{Event}
+use Rattle.dg_model.specs.Replay.{replay}
 use Rattle.dg_session.proofs.Reading.{ReadSoFar}
 use Rattle.dg_session.proofs.history.read_history.Given as goal
 
@@ -10,7 +15,10 @@ invariant-loop-batch g l = record {
   counted : g.D.Disk.faults l.fn.disk ≤ g.D.Disk.faults l.disk;
   same_write_faults : g.D.Disk.write_faults l.disk ≡ g.D.Disk.write_faults l.fn.disk;
   read : (image : List ℕ) → g.D.Disk.image l.fn.disk ≡ Some image
-      → ReadSoFar image l.fn.index.opening.segments l.piece l.wrong l.current.graph l.events.items;
+      → ReadSoFar image l.fn.names l.fn.index.opening.segments l.piece l.wrong l.current.graph l.events.items;
+  led : l.wrong ≡ None → l.current.graph ≡ replay l.events.items;
+  many : events_after (length l.events.items) (drop l.piece l.fn.index.opening.segments) ≡ events_after 0 l.fn.index.opening.segments;
+  fit : All (λ (e : Event). NamesFit e.body) l.events.items;
 }
 
 abbrev pub decreases-loop-batch : goal.decreases-loop-batch

@@ -12,19 +12,19 @@ use Rattle.dg_session.proofs.session.Session.at.Goals as goal
 
 pub returns-then-is_none-clause-moves : goal.returns-then-is_none-clause-moves
 returns-then-is_none-clause-moves c image =
-    let gone : c.args.self.now.index ≡ None = field_missing (the_view c.self.inside) c.args.self.now c.self.inside.index c.is_none.result c.self.view_is refl c.is_none.ensures c.if-is_none.true in
+    let gone : c.args.self.now.index ≡ None = field_missing (the_view c.self.inside) c.args.self.now c.self.inside.chronicle.index c.is_none.result c.self.view_is refl c.is_none.ensures c.if-is_none.true in
     at_none c.args.self.now image c.args.t c.args.cols c.refused.result gone c.refused.ensures
 
 pub returns-then-not-in_range-clause-moves : goal.returns-then-not-in_range-clause-moves
 returns-then-not-in_range-clause-moves c image =
-    let o = field_there (the_view c.self.inside) c.args.self.now c.self.inside.index c.is_none.result c.self.view_is refl c.is_none.ensures c.if-is_none.false in
+    let o = field_there (the_view c.self.inside) c.args.self.now c.self.inside.chronicle.index c.is_none.result c.self.view_is refl c.is_none.ensures c.if-is_none.false in
     let ends : c.span-ends.result ≡ span_of c.args.self.now.events = c.span-ends.ensures ∙ ap span_of c.deref.ensures.value ∙ ap (λ (x : Parts). span_of x.events) c.self.view_is in
     let out : in_range (span_of c.args.self.now.events) c.args.t ≡ false = ap (λ e. in_range e c.args.t) (sym ends) ∙ sym c.in_range.ensures ∙ c.if-not-in_range.true in
     at_out c.args.self.now image o.0 c.args.t c.args.cols c.refused-then-not-in_range.result o.1 (cc) out
 
 pub returns-then-live-ge-LIVE_HANDLES_MAX-clause-moves : goal.returns-then-live-ge-LIVE_HANDLES_MAX-clause-moves
 returns-then-live-ge-LIVE_HANDLES_MAX-clause-moves c image =
-    let o = field_there (the_view c.self.inside) c.args.self.now c.self.inside.index c.is_none.result c.self.view_is refl c.is_none.ensures c.if-is_none.false in
+    let o = field_there (the_view c.self.inside) c.args.self.now c.self.inside.chronicle.index c.is_none.result c.self.view_is refl c.is_none.ensures c.if-is_none.false in
     let ends : c.span-ends.result ≡ span_of c.args.self.now.events = c.span-ends.ensures ∙ ap span_of c.deref.ensures.value ∙ ap (λ (x : Parts). span_of x.events) c.self.view_is in
     let within : in_range (span_of c.args.self.now.events) c.args.t ≡ true = ap (λ e. in_range e c.args.t) (sym ends) ∙ sym c.in_range.ensures ∙ c.if-not-in_range.false in
     let held : c.len-live.result ≡ length c.self.inside.table.items = search rules in
@@ -33,7 +33,7 @@ returns-then-live-ge-LIVE_HANDLES_MAX-clause-moves c image =
 
 pub returns-then-is_err-clause-moves : goal.returns-then-is_err-clause-moves
 returns-then-is_err-clause-moves c image =
-    let o = field_there (the_view c.self.inside) c.args.self.now c.self.inside.index c.is_none.result c.self.view_is refl c.is_none.ensures c.if-is_none.false in
+    let o = field_there (the_view c.self.inside) c.args.self.now c.self.inside.chronicle.index c.is_none.result c.self.view_is refl c.is_none.ensures c.if-is_none.false in
     let ends : c.span-ends.result ≡ span_of c.args.self.now.events = c.span-ends.ensures ∙ ap span_of c.deref.ensures.value ∙ ap (λ (x : Parts). span_of x.events) c.self.view_is in
     let within : in_range (span_of c.args.self.now.events) c.args.t ≡ true = ap (λ e. in_range e c.args.t) (sym ends) ∙ sym c.in_range.ensures ∙ c.if-not-in_range.false in
     let held : length c.self.inside.table.items < 127 = search rules in
@@ -47,7 +47,7 @@ returns-then-is_err-clause-moves c image =
 
 pub returns-clause-moves : goal.returns-clause-moves
 returns-clause-moves c image =
-    let o = field_there (the_view c.self.inside) c.args.self.now c.self.inside.index c.is_none.result c.self.view_is refl c.is_none.ensures c.if-is_none.false in
+    let o = field_there (the_view c.self.inside) c.args.self.now c.self.inside.chronicle.index c.is_none.result c.self.view_is refl c.is_none.ensures c.if-is_none.false in
     let ends : c.span-ends.result ≡ span_of c.args.self.now.events = c.span-ends.ensures ∙ ap span_of c.deref.ensures.value ∙ ap (λ (x : Parts). span_of x.events) c.self.view_is in
     let within : in_range (span_of c.args.self.now.events) c.args.t ≡ true = ap (λ e. in_range e c.args.t) (sym ends) ∙ sym c.in_range.ensures ∙ c.if-not-in_range.false in
     let held : length c.self.inside.table.items < 127 = search rules in

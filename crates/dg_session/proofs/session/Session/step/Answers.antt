@@ -1,11 +1,8 @@
-use Rattle.std.proofs.Common.{Err, [], refl, sym, subst, ap}
+use Rattle.std.proofs.Common.{[], refl, sym, subst}
 use Rattle.dg_io.specs.Reading.{told}
 use Rattle.dg_model.specs.declared.command.Command.{Command}
 use Rattle.dg_model.specs.declared.command.Command.TheVariants as command
 use Rattle.dg_session.specs.Session.{Moves, Steps, Stops}
-use Rattle.dg_session.specs.declared.stop.Stop.{Stop}
-use Rattle.dg_session.specs.declared.stop.Stop.TheVariants as stop
-use Rattle.dg_session.proofs.Loading.{passed_on}
 use Rattle.dg_session.proofs.Gathering.{follows_none}
 use Rattle.dg_session.proofs.Moving.{same_told}
 use Rattle.dg_session.proofs.session.Session.step.Goals as goal
@@ -16,33 +13,21 @@ returns-in_err-create-in-Create-clause-store g c e =
     subst (λ (x : Command). Stops x before before c.args.self.now (g.D.Disk.image c.args.disk.now) (g.D.Disk.image c.create.new.disk))
     (sym c.in-Create.is) ([], follows_none before, c.in_err-create-in-Create.ensures.store)
 
-pub returns-in_err-gathered-in-Load-clause-store : goal.returns-in_err-gathered-in-Load-clause-store
-returns-in_err-gathered-in-Load-clause-store g c e =
-    absurd (c.in_err-gathered-in-Load.ensures.no_store (ap (λ (x : Stop). Err x)
-    (passed_on c.from_residual-in_err-gathered-in-Load.result c.in_err-gathered-in-Load.field-0.0 stop.Store c.from_residual-in_err-gathered-in-Load.ensures e)))
-
-pub returns-in_err-gathered-in-Load-clause-store_cause : goal.returns-in_err-gathered-in-Load-clause-store_cause
-returns-in_err-gathered-in-Load-clause-store_cause g c e =
-    absurd (c.in_err-gathered-in-Load.ensures.no_store (ap (λ (x : Stop). Err x)
-    (passed_on c.from_residual-in_err-gathered-in-Load.result c.in_err-gathered-in-Load.field-0.0 stop.Store c.from_residual-in_err-gathered-in-Load.ensures e)))
-
-pub returns-in_err-load-in-Load-clause-store : goal.returns-in_err-load-in-Load-clause-store
-returns-in_err-load-in-Load-clause-store g c e =
-    let read = c.in_ok-gathered-in-Load.ensures.gathered in
-    subst (λ (x : Command). Stops x (told c.args.lines.now (g.S.Source.left c.args.source.now)) (told c.gather.new.lines (g.S.Source.left c.gather.new.source)) c.args.self.now (g.D.Disk.image c.args.disk.now) (g.D.Disk.image c.load.new.disk))
-    (sym c.in-Load.is) (read.0, read.1, c.in_err-load-in-Load.ensures.store read.0 read.2)
-
 pub returns-in_ok-create-in-Create-clause-step : goal.returns-in_ok-create-in-Create-clause-step
 returns-in_ok-create-in-Create-clause-step g c =
     let before = told c.args.lines.now (g.S.Source.left c.args.source.now) in
     subst (λ (x : Command). Steps x before before c.args.self.now (g.D.Disk.image c.args.disk.now) c.create.new.self (g.D.Disk.image c.create.new.disk) c.in_ok-create-in-Create.field-0)
     (sym c.in-Create.is) ([], follows_none before, c.in_ok-create-in-Create.ensures.moves)
 
-pub returns-in_ok-load-in-Load-clause-step : goal.returns-in_ok-load-in-Load-clause-step
-returns-in_ok-load-in-Load-clause-step g c =
-    let read = c.in_ok-gathered-in-Load.ensures.gathered in
-    subst (λ (x : Command). Steps x (told c.args.lines.now (g.S.Source.left c.args.source.now)) (told c.gather.new.lines (g.S.Source.left c.gather.new.source)) c.args.self.now (g.D.Disk.image c.args.disk.now) c.load.new.self (g.D.Disk.image c.load.new.disk) c.in_ok-load-in-Load.field-0)
-    (sym c.in-Load.is) (read.0, read.1, c.in_ok-load-in-Load.ensures.moves read.0 read.2)
+pub returns-in-Load-clause-store : goal.returns-in-Load-clause-store
+returns-in-Load-clause-store g c h =
+    subst (λ (x : Command). Stops x (told c.args.lines.now (g.S.Source.left c.args.source.now)) (told c.add.new.lines (g.S.Source.left c.add.new.source)) c.args.self.now (g.D.Disk.image c.args.disk.now) (g.D.Disk.image c.add.new.disk))
+    (sym c.in-Load.is) (c.add.ensures.store h)
+
+pub returns-in-Append-clause-store : goal.returns-in-Append-clause-store
+returns-in-Append-clause-store g c h =
+    subst (λ (x : Command). Stops x (told c.args.lines.now (g.S.Source.left c.args.source.now)) (told c.add-in-Append.new.lines (g.S.Source.left c.add-in-Append.new.source)) c.args.self.now (g.D.Disk.image c.args.disk.now) (g.D.Disk.image c.add-in-Append.new.disk))
+    (sym c.in-Append.is) (c.add-in-Append.ensures.store h)
 
 pub returns-in-At-clause-step : goal.returns-in-At-clause-step
 returns-in-At-clause-step g c =

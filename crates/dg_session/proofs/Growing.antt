@@ -1,0 +1,193 @@
+-- A legal history with the next batch is legal.
+use Rattle.std.proofs.Common.{◌≡◌, ℕ, ◌+◌, ◌<◌, ◌≤◌, ◌^◌, List, [], ◌∷◌, ◌++◌, Option, Some, None, Ok, length, map, drop, get_or, refl, sym, ◌∙◌, ap, subst, arith, append_assoc, length-append}
+use Rattle.std.specs.Prelude.{IfSome}
+use Rattle.std.specs.List.{All, flat_map}
+use Rattle.std.proofs.lemmas.Grind.{flat_map-append}
+use Rattle.std.proofs.lemmas.List.{append-nil, length-map}
+use Rattle.std.proofs.lemmas.List.Elements.{All-nil, All-append}
+use Rattle.dg_file.specs.Index.{earliest_after}
+use Rattle.dg_model.specs.declared.element.Element.{Element}
+use Rattle.dg_model.specs.declared.event.Change.{Change}
+use Rattle.dg_model.specs.declared.event.Event.{Event}
+use Rattle.dg_model.specs.declared.limits.TheConstants.{BATCH_LINES_MAX, EVENTS_MAX, NAMES_MAX, TIME_MAX}
+use Rattle.dg_model.specs.Batch.{completed, changes_after, names_after}
+use Rattle.dg_model.specs.File.{segment}
+use Rattle.dg_model.specs.Grammar.{said_in}
+use Rattle.dg_model.specs.History.{History, Batch, events_of, names_of, with_batch, span_of, earliest_next, last_time_from}
+use Rattle.dg_model.specs.Legal.{FitsEvent, IsLegal, IsLegalBatch, AreLegalAfter}
+use Rattle.dg_model.specs.Lines.{ScriptLine}
+use Rattle.dg_model.specs.Names.{are_new}
+use Rattle.dg_model.specs.Opening.{segments_of}
+use Rattle.dg_model.specs.Replay.{replay}
+use Rattle.dg_session.proofs.Completing.{AllCome, all_come, as_many}
+use Rattle.dg_session.proofs.Fitting.{BodyFits, ChangeFits, ElementFits, HasKey, WhatFits, body_more, changes_fit, events_fit, events_keys, from_legal, has_key_more, legal_body, lines_grow, replay_fits, times_fit}
+use Rattle.dg_session.proofs.Naming.{Grows, changes_length, grown_drop, grown_long, grows_none, new_joined}
+use Rattle.dg_session.proofs.Saying.{lines_fit}
+use Rattle.dg_session.specs.Following.{lines}
+
+-- ---- the earliest time of the next batch
+
+-- one more than the time of the last event, or this time where there is none
+abbrev pub next_after : ℕ → List Event → ℕ
+next_after earliest [] = earliest
+next_after earliest (e ∷ events) = last_time_from e.time events + 1
+
+pub next_is : (events : List Event) → earliest_next (span_of events) ≡ next_after 0 events
+next_is [] = refl
+next_is (e ∷ events) = refl
+
+last_both : (t : ℕ) (a b : List Event) → last_time_from t (a ++ b) ≡ last_time_from (last_time_from t a) b
+last_both t [] b = refl
+last_both t (e ∷ a) b = last_both e.time a b
+
+next_both : (earliest : ℕ) (a b : List Event) → next_after earliest (a ++ b) ≡ next_after (next_after earliest a) b
+next_both earliest [] b = refl
+next_both earliest (e ∷ a) [] = ap (λ n. n + 1) (last_both e.time a [])
+next_both earliest (e ∷ a) (x ∷ b) = ap (λ n. n + 1) (last_both e.time a (x ∷ b))
+
+next_some : (earliest : ℕ) (events : List Event) → 1 ≤ length events → next_after earliest events ≡ last_time_from 0 events + 1
+next_some earliest [] some = absurd (omega (arith, some))
+next_some earliest (e ∷ events) some = refl
+
+segments_next : (names : List (List ℕ)) (before : List Event) (gate earliest : ℕ) (batches : List Batch) → AreLegalAfter names before batches
+    → earliest_after earliest (segments_of gate batches) ≡ next_after earliest (flat_map (λ (b : Batch). b.events) batches)
+segments_next names before gate earliest [] l = refl
+segments_next names before gate earliest (b ∷ batches) l =
+    let more : List Event = flat_map (λ (b : Batch). b.events) batches in
+    segments_next names (before ++ b.events) (gate + 1 + length (segment b)) (last_time_from 0 b.events + 1) batches l.1
+    ∙ ap (λ n. next_after n more) (sym (next_some earliest b.events l.0.some)) ∙ sym (next_both earliest b.events more)
+
+-- the earliest time by the segments is that by the events
+pub earliest_is : (z : History) → IsLegal z → earliest_after 0 (segments_of 17 z.batches) ≡ earliest_next (span_of (events_of z))
+earliest_is z legal = segments_next (names_of z) [] 17 0 z.batches legal.batches ∙ sym (next_is (events_of z))
+
+-- ---- batches, with more names
+
+batch_more : (names more : List (List ℕ)) (before : List Event) (b : Batch) → IsLegalBatch names before b → IsLegalBatch (names ++ more) before b
+batch_more names more before b l =
+    let longer : length names ≤ length (names ++ more) = omega (arith, length-append names more) in
+    record {
+      some = l.some;
+      few = l.few;
+      changes = l.changes;
+      comes = l.comes;
+      fits = λ k d lt. ((l.fits k d lt).0, body_more (length names) (length (names ++ more)) (get_or b.events k d).body longer (l.fits k d lt).1);
+      keys = λ k d lt. has_key_more names more (get_or b.events k d).body (l.fits k d lt).1 (l.keys k d lt);
+    }
+
+batches_more : (names more : List (List ℕ)) (before : List Event) (batches : List Batch) (b : Batch) → AreLegalAfter names before batches
+    → IsLegalBatch (names ++ more) (before ++ flat_map (λ (b : Batch). b.events) batches) b → AreLegalAfter (names ++ more) before (batches ++ b ∷ [])
+batches_more names more before [] b l h = (subst (λ (es : List Event). IsLegalBatch (names ++ more) es b) (append-nil before) h, tt)
+batches_more names more before (x ∷ batches) b l h = (
+  batch_more names more before x l.0,
+  batches_more names more (before ++ x.events) batches b l.1
+      (subst (λ (es : List Event). IsLegalBatch (names ++ more) es b) (sym (append_assoc before x.events (flat_map (λ (b : Batch). b.events) batches))) h),
+)
+
+events_all : (names : List (List ℕ)) (before : List Event) (batches : List Batch) → AreLegalAfter names before batches
+    → All (FitsEvent (length names)) (flat_map (λ (b : Batch). b.events) batches)
+events_all names before [] l = All-nil (FitsEvent (length names))
+events_all names before (b ∷ batches) l =
+    All-append (FitsEvent (length names)) b.events (flat_map (λ (b : Batch). b.events) batches) l.0.fits (events_all names (before ++ b.events) batches l.1)
+
+-- ---- the history with the next batch
+
+-- these lines come to these events as the next batch, and the names with theirs are these
+pub record IsNext (z : History) (got : List ScriptLine) (changes : List Change) (grown : List (List ℕ)) (events : List Event) : Type 0 where
+  pub changes_are : changes_after (names_of z) (map said_in got) ≡ lines changes
+  pub names_are : grown ≡ names_after (names_of z) (map said_in got)
+  pub comes : completed 1 (earliest_next (span_of (events_of z))) (replay (events_of z)) (lines changes) ≡ Ok events
+  pub some : 1 ≤ length got
+  pub few : length got ≤ BATCH_LINES_MAX
+  pub room : length (events_of z) + length got ≤ EVENTS_MAX
+  pub few_names : length grown ≤ NAMES_MAX
+
+abbrev pub batch_next : History → List (List ℕ) → List Event → Batch
+batch_next z grown events = record { names = drop (length (names_of z)) grown; events = events }
+
+pub grown_next : (names grown : List (List ℕ)) (got : List ScriptLine) → grown ≡ names_after names (map said_in got) → Grows names grown
+grown_next names grown got is = subst (λ (ns : List (List ℕ)). Grows names ns) (sym is) (lines_grow names (map said_in got) (lines_fit got))
+
+pub fitting_next : (names grown : List (List ℕ)) (got : List ScriptLine) (changes : List Change)
+    → changes_after names (map said_in got) ≡ lines changes → grown ≡ names_after names (map said_in got)
+    → All (λ c. IfSome c (ChangeFits grown)) (lines changes)
+fitting_next names grown got changes are is =
+    subst (λ (cs : List (Option Change)). All (λ c. IfSome c (ChangeFits grown)) cs) are
+    (changes_fit names grown (map said_in got) (lines_fit got)
+    (subst (λ (ns : List (List ℕ)). Grows (names_after names (map said_in got)) ns) (sym is) (grows_none (names_after names (map said_in got)))))
+
+numbers_of : (names : List (List ℕ)) (c : Option Change) → IfSome c (ChangeFits names) → IfSome c (λ (x : Change). WhatFits (λ n. n < 2 ^ 64) (length names) x.what)
+numbers_of names None h = tt
+numbers_of names (Some c) h = h.numbers
+
+times_of : (names : List (List ℕ)) (c : Option Change) → IfSome c (ChangeFits names) → IfSome c (λ (x : Change). x.time ≤ TIME_MAX)
+times_of names None h = tt
+times_of names (Some c) h = h.time
+
+keys_of : (names : List (List ℕ)) (c : Option Change) → IfSome c (ChangeFits names) → IfSome c (λ (x : Change). HasKey names x.what)
+keys_of names None h = tt
+keys_of names (Some c) h = h.key
+
+pub many_next : (z : History) (got : List ScriptLine) (changes : List Change) (grown : List (List ℕ)) (events : List Event) → IsNext z got changes grown events
+    → length events ≡ length got
+many_next z got changes grown events n =
+    as_many (earliest_next (span_of (events_of z))) (replay (events_of z)) (lines changes) events
+    (all_come 1 (earliest_next (span_of (events_of z))) (replay (events_of z)) (lines changes) events n.comes)
+    ∙ ap length (sym n.changes_are) ∙ changes_length (names_of z) (map said_in got) ∙ length-map got said_in
+
+next_legal : (z : History) (got : List ScriptLine) (changes : List Change) (grown : List (List ℕ)) (events : List Event) → IsLegal z → IsNext z got changes grown events
+    → IsLegalBatch grown (events_of z) (batch_next z grown events)
+next_legal z got changes grown events legal n =
+    let earliest : ℕ = earliest_next (span_of (events_of z)) in
+    let set : List Element = replay (events_of z) in
+    let come : AllCome earliest set (lines changes) events = all_come 1 earliest set (lines changes) events n.comes in
+    let fit : All (λ c. IfSome c (ChangeFits grown)) (lines changes) = fitting_next (names_of z) grown got changes n.changes_are n.names_are in
+    let long : length (names_of z) ≤ length grown = grown_long (names_of z) grown (grown_next (names_of z) grown got n.names_are) in
+    let old : All (FitsEvent (length (names_of z))) (events_of z) = events_all (names_of z) [] z.batches legal.batches in
+    let set_fit : All (ElementFits (λ n. n < 2 ^ 64) (length grown)) set =
+    replay_fits (λ n. n < 2 ^ 64) (length grown) [] (events_of z)
+    (λ k d lt. from_legal (length grown) (get_or (events_of z) k d).body (body_more (length (names_of z)) (length grown) (get_or (events_of z) k d).body long (old k d lt).1))
+    (All-nil (ElementFits (λ n. n < 2 ^ 64) (length grown))) in
+    let bodies : All (λ (e : Event). BodyFits (λ n. n < 2 ^ 64) (length grown) e.body) events =
+    events_fit (λ n. n < 2 ^ 64) (length grown) earliest set (lines changes) events come (λ k d lt. numbers_of grown (get_or (lines changes) k d) (fit k d lt)) set_fit in
+    let times : All (λ (e : Event). e.time ≤ TIME_MAX) events =
+    times_fit earliest set (lines changes) events come (λ k d lt. times_of grown (get_or (lines changes) k d) (fit k d lt)) in
+    let many : length events ≡ length got = many_next z got changes grown events n in
+    record {
+      some = omega (arith, many, n.some);
+      few = omega (arith, many, n.few);
+      changes = changes;
+      comes = n.comes;
+      fits = λ k d lt. (times k d lt, legal_body (length grown) (get_or events k d).body (bodies k d lt));
+      keys = events_keys grown earliest set (lines changes) events come (λ k d lt. keys_of grown (get_or (lines changes) k d) (fit k d lt));
+    }
+
+-- the names and the events with the next batch
+pub names_with : (z : History) (b : Batch) → names_of (with_batch z b) ≡ names_of z ++ b.names
+names_with z b =
+    flat_map-append (λ (x : Batch). x.names) z.batches (b ∷ []) ∙ ap (λ (ns : List (List ℕ)). names_of z ++ ns) (append-nil b.names)
+
+pub events_with : (z : History) (b : Batch) → events_of (with_batch z b) ≡ events_of z ++ b.events
+events_with z b =
+    flat_map-append (λ (x : Batch). x.events) z.batches (b ∷ []) ∙ ap (λ (es : List Event). events_of z ++ es) (append-nil b.events)
+
+pub names_grown : (z : History) (grown : List (List ℕ)) (events : List Event) → Grows (names_of z) grown → names_of (with_batch z (batch_next z grown events)) ≡ grown
+names_grown z grown events g =
+    names_with z (batch_next z grown events) ∙ ap (λ (ns : List (List ℕ)). names_of z ++ ns) (grown_drop (names_of z) grown g) ∙ sym g.is
+
+pub legal_next : (z : History) (got : List ScriptLine) (changes : List Change) (grown : List (List ℕ)) (events : List Event) → IsLegal z → IsNext z got changes grown events
+    → IsLegal (with_batch z (batch_next z grown events))
+legal_next z got changes grown events legal n =
+    let b : Batch = batch_next z grown events in
+    let g : Grows (names_of z) grown = grown_next (names_of z) grown got n.names_are in
+    let all : names_of (with_batch z b) ≡ grown = names_grown z grown events g in
+    let is : grown ≡ names_of z ++ g.more = g.is in
+    let batch : IsLegalBatch (names_of z ++ g.more) (events_of z) b =
+    subst (λ (ns : List (List ℕ)). IsLegalBatch ns (events_of z) b) is (next_legal z got changes grown events legal n) in
+    record {
+      parameters = legal.parameters;
+      batches = subst (λ (ns : List (List ℕ)). AreLegalAfter ns [] (z.batches ++ b ∷ [])) (sym (all ∙ is)) (batches_more (names_of z) g.more [] z.batches b legal.batches batch);
+      names = ap (are_new []) (all ∙ is) ∙ new_joined [] (names_of z) g.more legal.names g.right;
+      few_names = omega (arith, ap length all, n.few_names);
+      few = omega (arith, ap length (events_with z b), length-append (events_of z) events, many_next z got changes grown events n, n.room);
+    }

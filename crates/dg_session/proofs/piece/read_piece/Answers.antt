@@ -1,0 +1,21 @@
+use Rattle.std.proofs.Common.{List, subst, sym}
+use Rattle.std.specs.List.{All}
+use Rattle.dg_model.specs.declared.placed.Placed.{Placed}
+use Rattle.dg_session.proofs.Ranges.{PlacedFits, merged_fit}
+use Rattle.dg_session.proofs.piece.read_piece.Goals as goal
+
+pub returns-in-Ok-clause-fit : goal.returns-in-Ok-clause-fit
+returns-in-Ok-clause-fit g c =
+    (merged_fit c.deref.result.now c.deref-2.result.now c.deref-3.result.now c.args.count c.in-Ok.events.items
+    (subst (λ (ps : List Placed). All PlacedFits ps) (sym c.deref.ensures.value) c.in_ok-structure.ensures.fit)
+    (subst (λ (ps : List Placed). All PlacedFits ps) (sym c.deref-2.ensures.value) c.in_ok-node_attrs.ensures.fit)
+    (subst (λ (ps : List Placed). All PlacedFits ps) (sym c.deref-3.ensures.value) c.in_ok-edge_attrs.ensures.fit)
+    c.in-Ok.ensures.ok).1
+
+pub returns-in-Ok-clause-many : goal.returns-in-Ok-clause-many
+returns-in-Ok-clause-many g c =
+    (merged_fit c.deref.result.now c.deref-2.result.now c.deref-3.result.now c.args.count c.in-Ok.events.items
+    (subst (λ (ps : List Placed). All PlacedFits ps) (sym c.deref.ensures.value) c.in_ok-structure.ensures.fit)
+    (subst (λ (ps : List Placed). All PlacedFits ps) (sym c.deref-2.ensures.value) c.in_ok-node_attrs.ensures.fit)
+    (subst (λ (ps : List Placed). All PlacedFits ps) (sym c.deref-3.ensures.value) c.in_ok-edge_attrs.ensures.fit)
+    c.in-Ok.ensures.ok).0

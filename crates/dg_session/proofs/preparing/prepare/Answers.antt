@@ -1,0 +1,13 @@
+use Rattle.std.proofs.Common.{List, subst, None, Option, ◌++◌, ◌∷◌}
+use Rattle.dg_model.specs.declared.event.Change.{Change}
+use Rattle.dg_model.specs.Batch.{completed}
+use Rattle.dg_now.specs.Now.{FaultOf, earliest_after}
+use Rattle.dg_session.specs.Following.{lines}
+use Rattle.dg_session.proofs.Batches.{form_refused}
+use Rattle.dg_session.proofs.preparing.prepare.Goals as goal
+
+pub returns-in-Form-clause-refused : goal.returns-in-Form-clause-refused
+returns-in-Form-clause-refused c =
+    form_refused c.args.gathered.now.front (earliest_after c.args.last) c.args.now.now.graph c.args.gathered.now.changes.items c.fault_of_form.result c.in-Form.is
+    (subst (λ (cs : List Change). (rest : List (Option Change)) → FaultOf (completed 1 (earliest_after c.args.last) c.args.now.now.graph (lines cs ++ None ∷ rest)) c.fault_of_form.result)
+    c.deref-in-Form.ensures.value c.fault_of_form.ensures.fault)
