@@ -20,10 +20,10 @@ bytes_from_all bytes h i =
       | inr le ↦ rw (get_or_past bytes i 0 le) (omega arith)
     ]
 
-IsBytes-drop : (n : ℕ) (bytes : List ℕ) → IsBytes bytes → IsBytes (drop n bytes)
+pub IsBytes-drop : (n : ℕ) (bytes : List ℕ) → IsBytes bytes → IsBytes (drop n bytes)
 IsBytes-drop n bytes h i = rw get_or-drop (h (n + i))
 
-IsBytes-take : (n : ℕ) (bytes : List ℕ) → IsBytes bytes → IsBytes (take n bytes)
+pub IsBytes-take : (n : ℕ) (bytes : List ℕ) → IsBytes bytes → IsBytes (take n bytes)
 IsBytes-take n bytes h i =
     elim (cases_lt i n) [
       | inl lt ↦ rw (get_or-take n bytes i 0 lt) (h i)
@@ -84,7 +84,7 @@ spelling64 = record {
   again = λ n lt. from_be_bytes-to_be_bytes_8 n lt;
 }
 
-field_ok : (b c : Bool) (p v n : ℕ) → cond b (Err p) (cond c (Ok v) (Err p)) ≡ Ok n → (b ≡ false) × (c ≡ true) × (v ≡ n)
+pub field_ok : (b c : Bool) (p v n : ℕ) → cond b (Err p) (cond c (Ok v) (Err p)) ≡ Ok n → (b ≡ false) × (c ≡ true) × (v ≡ n)
 field_ok true c p v n e = absurd cc
 field_ok false true p v n e = (refl, refl, cc)
 field_ok false false p v n e = absurd cc

@@ -4,3 +4,5 @@ pub mod Names
 pub mod Laws
 pub mod Ranges
 pub mod Rows
+pub mod Weaving
+pub mod Fitting

@@ -6,12 +6,14 @@ ghost use Rattle.dg_model.specs.Reading.{four_bytes, element_at, element_size, r
 ghost use Rattle.dg_delta.specs.Deltas.{AreApart};
 ghost use Rattle.dg_columns.specs.Gives.{Gives, Fails};
 ghost use Rattle.dg_columns.specs.Fields.{attr_at, next_element_at};
+ghost use Rattle.dg_columns.specs.Fitting.{DeltaFits};
 
 use crate::delta_writing::element_size;
 use crate::edge::edge_at;
 use crate::fault::ReadFault;
 use crate::layout::{COUNT_SIZE, EDGE, NODE, SMALLEST_ELEMENT};
 use crate::numbers::{byte_at, name_at, u32_at, u64_at};
+use crate::quick::set_here;
 use dg_delta::{Delta, Element, Set};
 use dg_model::Column;
 use std::alloc::Global;
@@ -92,7 +94,7 @@ fn compare(left: &Element, right: &Element) -> Ordering
 }
 
 // Whether the element comes after the one before it, if there is one.
-fn rises_from(last: Option<Element>, element: &Element) -> bool
+pub(crate) fn rises_from(last: Option<Element>, element: &Element) -> bool
     ensures { result ≡ rises_from last element.now }
 {
     match last {
@@ -202,11 +204,10 @@ fn delta_of(minus: Set, plus: Set) -> Delta
 fn sound_delta(alloc: Global, bytes: &[u8], col: Column, names: u32) -> Option<Delta>
     ensures { IfSome result (λ d. delta_in col names bytes.now ≡ Ok d) }
 {
-    let none = Set::new(alloc);
     let out_count = u32_at(bytes, 0).ok()?;
-    let (minus, at) = set_at(alloc, bytes, COUNT_SIZE, out_count, col, names, &none).ok()?;
+    let (minus, at) = set_here(alloc, bytes, COUNT_SIZE, out_count, col, names)?;
     let in_count = in_count_at(bytes, at, out_count).ok()?;
-    let (plus, end) = set_at(alloc, bytes, at + COUNT_SIZE, in_count, col, names, &none).ok()?;
+    let (plus, end) = set_here(alloc, bytes, at + COUNT_SIZE, in_count, col, names)?;
     if end == bytes.len() {
         Delta::from_sets(minus, plus)
     } else {
@@ -214,10 +215,8 @@ fn sound_delta(alloc: Global, bytes: &[u8], col: Column, names: u32) -> Option<D
     }
 }
 
-/// The delta of one column, in a history with so many names. `Damaged` gives the place of the first
-/// byte of the first field that does not fit in the bytes or breaks a rule of the format
-/// (docs/FORMATS.md), `Memory` says that memory ran out.
-pub fn read_delta(alloc: Global, bytes: &[u8], col: Column, names: u32) -> Result<Delta, ReadFault>
+// The delta, or what is wrong.
+fn any_delta(alloc: Global, bytes: &[u8], col: Column, names: u32) -> Result<Delta, ReadFault>
     ensures ok { IfOk result (λ d. delta_in col names bytes.now ≡ Ok d) }
     ensures err { IfErr result (λ fault. Fails fault (delta_in col names bytes.now)) }
 {
@@ -237,4 +236,16 @@ pub fn read_delta(alloc: Global, bytes: &[u8], col: Column, names: u32) -> Resul
         return Err(ReadFault::Damaged(end as u64));
     }
     Ok(delta_of(minus, plus))
+}
+
+/// The delta of one column, in a history with so many names. `Damaged` gives the place of the first
+/// byte of the first field that does not fit in the bytes or breaks a rule of the format
+/// (docs/FORMATS.md), `Memory` says that memory ran out. A delta that is read rises, shares no element,
+/// stands in the column, and names what there is.
+pub fn read_delta(alloc: Global, bytes: &[u8], col: Column, names: u32) -> Result<Delta, ReadFault>
+    ensures ok { IfOk result (λ d. delta_in col names bytes.now ≡ Ok d) }
+    ensures fits { IfOk result (λ d. DeltaFits col names d) }
+    ensures err { IfErr result (λ fault. Fails fault (delta_in col names bytes.now)) }
+{
+    any_delta(alloc, bytes, col, names)
 }

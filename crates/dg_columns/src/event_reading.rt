@@ -4,6 +4,7 @@ ghost use Rattle.std.specs.Prelude.{◌≡◌, ◌+◌, ◌≤◌, length, Ok, I
 ghost use Rattle.dg_model.specs.Reading.{body_size, events_at, events_in};
 ghost use Rattle.dg_columns.specs.Gives.{Gives, Fails};
 ghost use Rattle.dg_columns.specs.Fields.{placed_at};
+ghost use Rattle.dg_columns.specs.Fitting.{PlacedFit};
 
 use crate::event_fields::{body_at, body_size};
 use crate::fault::ReadFault;
@@ -64,10 +65,8 @@ fn placed_from(
     Ok(placed)
 }
 
-/// The events of a column with their positions, in a history with so many names. `Damaged` gives the
-/// place of the first byte of the first field that does not fit in the bytes or breaks a rule of the
-/// format (docs/FORMATS.md), `Memory` says that memory ran out.
-pub fn read_events(
+// The events, or what is wrong.
+fn any_events(
     alloc: Global,
     bytes: &[u8],
     col: Column,
@@ -81,4 +80,21 @@ pub fn read_events(
     }
     let count = count_at(bytes, 0, 1)?;
     placed_from(alloc, bytes, col, names, count)
+}
+
+/// The events of a column with their positions, in a history with so many names. `Damaged` gives the
+/// place of the first byte of the first field that does not fit in the bytes or breaks a rule of the
+/// format (docs/FORMATS.md), `Memory` says that memory ran out. Events that are read rise in their
+/// positions, do not fall in time, stand in the column, and name what there is.
+pub fn read_events(
+    alloc: Global,
+    bytes: &[u8],
+    col: Column,
+    names: u32,
+) -> Result<Vec<Placed>, ReadFault>
+    ensures ok { IfOk result (λ placed. events_in col names bytes.now ≡ Ok placed.items) }
+    ensures fits { IfOk result (λ placed. PlacedFit col names 0 0 placed.items) }
+    ensures err { IfErr result (λ fault. Fails fault (events_in col names bytes.now)) }
+{
+    any_events(alloc, bytes, col, names)
 }

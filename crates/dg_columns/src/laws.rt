@@ -1,5 +1,6 @@
 //! The laws of columns. Each function does nothing: its clause is the law, proved of the definitions.
 
+ghost use Rattle.dg_columns.specs.Fitting.{DeltasThatAreReadFit, EventsThatAreReadFit, PartsAreJoinedBack};
 ghost use Rattle.dg_columns.specs.Laws.{
   EventsHaveOneSpelling,
   DeltasHaveOneSpelling,
@@ -33,4 +34,21 @@ pub fn law_events_are_merged_back()
 /// elements.
 pub fn law_deltas_are_read_back()
     ensures { DeltasAreReadBack }
+{}
+
+/// Bytes that are read as a delta are read as one whose two sets rise, share no element, stand in the
+/// column, and have ids and names in their ranges.
+pub fn law_deltas_that_are_read_fit()
+    ensures { DeltasThatAreReadFit }
+{}
+
+/// The parts of a delta that stand in the three columns are joined to the delta.
+pub fn law_parts_are_joined_back()
+    ensures { PartsAreJoinedBack }
+{}
+
+/// Bytes that are read as events are read as events of the column whose positions rise, whose times do
+/// not fall, and whose ids and names are in their ranges.
+pub fn law_events_that_are_read_fit()
+    ensures { EventsThatAreReadFit }
 {}

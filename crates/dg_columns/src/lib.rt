@@ -10,10 +10,12 @@ mod event_fields;
 mod event_reading;
 mod event_writing;
 mod fault;
+mod joining;
 mod laws;
 mod layout;
 mod merging;
 mod numbers;
+mod quick;
 #[cfg(test)]
 mod tests;
 
@@ -24,8 +26,9 @@ pub use dg_model::{Column, Event, Placed};
 pub use event_reading::read_events;
 pub use event_writing::write_events;
 pub use fault::ReadFault;
+pub use joining::join;
 pub use laws::{
-    law_deltas_are_read_back, law_deltas_have_one_spelling, law_events_are_merged_back,
-    law_events_are_read_back, law_events_have_one_spelling,
+    law_deltas_are_read_back, law_deltas_have_one_spelling, law_deltas_that_are_read_fit,
+    law_events_are_merged_back, law_events_are_read_back, law_events_have_one_spelling,
 };
 pub use merging::{MergeFault, merge};

@@ -1,9 +1,10 @@
 //! Merging the events of the three columns to the list that they come from.
 
-ghost use Rattle.std.specs.Prelude.{◌≡◌, Some, None, IfOk, IsErrOf};
+ghost use Rattle.std.specs.Prelude.{◌≡◌, Some, None, drop, IfOk, IfSome, IsErrOf};
 ghost use Rattle.std.specs.Option.{option_and_then};
 ghost use Rattle.dg_model.specs.Merging.{if_never_fall, merged};
 ghost use Rattle.dg_columns.specs.Rows.{filled, events_of};
+ghost use Rattle.dg_columns.specs.Weaving.{stands_first, step_at, woven};
 ghost use Rattle.dg_columns.specs.declared.merging.MergeFault.TheVariants.{Memory};
 
 use dg_model::{Event, Placed};
@@ -33,6 +34,88 @@ impl<T: Drop> From<AllocFailed<T>> for MergeFault {
     fn from(_error: AllocFailed<T>) -> MergeFault {
         MergeFault::Memory
     }
+}
+
+// The next events of the three columns.
+#[derive(Clone, Copy)]
+struct Cursors {
+    structure: usize,
+    node_attrs: usize,
+    edge_attrs: usize,
+}
+
+// Whether the next event of the column stands at the position.
+fn stands_next(column: &[Placed], next: usize, position: usize) -> bool
+    ensures { result ≡ stands_first position (drop next column.now) }
+{
+    next < column.len() && usize::from(column[next].at) == position
+}
+
+// The event at the position, where it is the next of its column, and what is next behind it.
+fn step_at(
+    structure: &[Placed],
+    node_attrs: &[Placed],
+    edge_attrs: &[Placed],
+    next: Cursors,
+    position: usize,
+) -> Option<(Placed, Cursors)>
+    ensures { IfSome result (λ p. step_at position (drop next.structure structure.now) (drop next.node_attrs node_attrs.now) (drop next.edge_attrs edge_attrs.now)
+        ≡ Some (record { here = p.0; structure = drop p.1.structure structure.now; node_attrs = drop p.1.node_attrs node_attrs.now; edge_attrs = drop p.1.edge_attrs edge_attrs.now })) }
+{
+    if stands_next(structure, next.structure, position) {
+        let after = Cursors {
+            structure: next.structure + 1,
+            ..next
+        };
+        return Some((structure[next.structure], after));
+    }
+    if stands_next(node_attrs, next.node_attrs, position) {
+        let after = Cursors {
+            node_attrs: next.node_attrs + 1,
+            ..next
+        };
+        return Some((node_attrs[next.node_attrs], after));
+    }
+    if stands_next(edge_attrs, next.edge_attrs, position) {
+        let after = Cursors {
+            edge_attrs: next.edge_attrs + 1,
+            ..next
+        };
+        return Some((edge_attrs[next.edge_attrs], after));
+    }
+    None
+}
+
+// The events of columns whose positions rise, in one walk. `None` where a position is missed or a
+// time falls.
+fn woven(
+    alloc: Global,
+    structure: &[Placed],
+    node_attrs: &[Placed],
+    edge_attrs: &[Placed],
+    len: usize,
+) -> Result<Option<Vec<Event>>, AllocError>
+    ensures { IfOk result (λ found. IfSome found (λ events. woven len 0 0 structure.now node_attrs.now edge_attrs.now ≡ Some events.items)) }
+{
+    let mut events = Vec::with_capacity(alloc, len)?;
+    let mut next = Cursors {
+        structure: 0,
+        node_attrs: 0,
+        edge_attrs: 0,
+    };
+    let mut earliest = 0;
+    for position in 0..len {
+        let Some((here, after)) = step_at(structure, node_attrs, edge_attrs, next, position) else {
+            return Ok(None);
+        };
+        if here.event.time < earliest {
+            return Ok(None);
+        }
+        next = after;
+        earliest = here.event.time;
+        events.push(here.event)?;
+    }
+    Ok(Some(events))
 }
 
 // Puts the events into the empty places of the row. An event whose position is past the row, or is
@@ -84,6 +167,9 @@ pub fn merge(
     let len = len as usize;
     if structure.len() + node_attrs.len() + edge_attrs.len() != len {
         return Err(MergeFault::Places);
+    }
+    if let Some(events) = woven(alloc, structure, node_attrs, edge_attrs, len)? {
+        return Ok(events);
     }
     // There are as many events as places, so where no place stays empty, no event was left out.
     let mut row = vec![in alloc; None; len]?;

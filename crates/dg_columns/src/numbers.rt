@@ -1,6 +1,7 @@
 //! Numbers at a place of the bytes, the high byte first.
 
-ghost use Rattle.std.specs.Prelude.{◌+◌, ◌≤◌, ◌&&◌, ◌==◌, not, nat_lt, nat_le, length, OnOk};
+ghost use Rattle.std.specs.Prelude.{◌≡◌, ◌+◌, ◌≤◌, ◌&&◌, ◌==◌, not, nat_lt, nat_le, length, take, drop, OnOk};
+ghost use Rattle.std.specs.Int.{from_be_bytes, w8, w32, w64};
 ghost use Rattle.dg_model.specs.Reading.{any_number, one_byte, two_bytes, four_bytes, eight_bytes};
 ghost use Rattle.dg_columns.specs.Gives.{Gives};
 
@@ -152,4 +153,36 @@ pub(crate) fn new_at(bytes: &[u8], at: usize, names: u32, old: u32) -> Result<u3
     } else {
         Err(ReadFault::Damaged(at as u64))
     }
+}
+
+/// The number of one byte, which is there.
+pub(crate) fn byte_here(bytes: &[u8], at: usize) -> u8
+    requires { at + 1 ≤ length bytes.now }
+    ensures { result ≡ from_be_bytes w8 (take 1 (drop at bytes.now)) }
+{
+    let (_, rest) = bytes.split_at(at);
+    let (front, _) = rest.split_at(1);
+    u8::from_be_bytes([front[0]])
+}
+
+/// The number of four bytes, which are there.
+pub(crate) fn u32_here(bytes: &[u8], at: usize) -> u32
+    requires { at + 4 ≤ length bytes.now }
+    ensures { result ≡ from_be_bytes w32 (take 4 (drop at bytes.now)) }
+{
+    let (_, rest) = bytes.split_at(at);
+    let (front, _) = rest.split_at(4);
+    u32::from_be_bytes([front[0], front[1], front[2], front[3]])
+}
+
+/// The number of eight bytes, which are there.
+pub(crate) fn u64_here(bytes: &[u8], at: usize) -> u64
+    requires { at + 8 ≤ length bytes.now }
+    ensures { result ≡ from_be_bytes w64 (take 8 (drop at bytes.now)) }
+{
+    let (_, rest) = bytes.split_at(at);
+    let (front, _) = rest.split_at(8);
+    u64::from_be_bytes([
+        front[0], front[1], front[2], front[3], front[4], front[5], front[6], front[7],
+    ])
 }

@@ -1,5 +1,5 @@
 -- What the contracts of deltas say of their sets.
-use Rattle.std.specs.Prelude.{◌≡◌, Bool, true, false, List, [], ◌∷◌}
+use Rattle.std.specs.Prelude.{◌≡◌, Bool, true, false, List, [], ◌∷◌, ◌++◌}
 use Rattle.dg_model.specs.declared.element.Element.{Element}
 use Rattle.dg_model.specs.Elements.{has}
 use Rattle.dg_model.specs.Sets.{unioned, without_all}
@@ -16,6 +16,10 @@ composed a b = record {
   minus = unioned (without_all a.minus b.plus) b.minus;
   plus = unioned (without_all a.plus b.minus) b.plus;
 }
+
+-- a delta, and then one whose elements come after its own
+abbrev pub joined : Delta → Delta → Delta
+joined a b = record { minus = a.minus ++ b.minus; plus = a.plus ++ b.plus }
 
 -- the set after each delta of the list in turn
 abbrev pub applied_in_turn : List Delta → List Element → List Element

@@ -1,7 +1,7 @@
 ghost use Rattle.std.specs.Prelude.{◌≡◌, ◌↔◌, [], ◌∷◌, IfOk, IfSome, IsSome};
 ghost use Rattle.dg_model.specs.Elements.{IsSet};
 ghost use Rattle.dg_model.specs.Composition.{IsDelta, between, applied, reversed, Composes};
-ghost use Rattle.dg_delta.specs.Deltas.{AreApart, composed};
+ghost use Rattle.dg_delta.specs.Deltas.{AreApart, composed, joined};
 
 use crate::apart::are_apart;
 use dg_set::Set;
@@ -62,6 +62,26 @@ impl Delta {
         &self.plus
     }
 
+    /// The elements that are taken out, and those that are put in. Takes no memory.
+    pub fn into_sets(self) -> (Set, Set)
+        ensures minus { result.0 ≡ self.minus }
+        ensures plus { result.1 ≡ self.plus }
+        ensures delta { IsDelta self }
+    {
+        (self.minus, self.plus)
+    }
+
+    /// This delta and `later`, whose elements all come after those of this one. No element is compared.
+    /// An `Err` says that memory ran out.
+    pub fn join(self, later: &Delta) -> Result<Delta, AllocError>
+        requires { IsDelta (joined self later.now) }
+        ensures { IfOk result (λ d. d ≡ joined self later.now) }
+    {
+        let minus = self.minus.join(&later.minus)?;
+        let plus = self.plus.join(&later.plus)?;
+        Ok(Delta::of(minus, plus))
+    }
+
     /// The exact delta from `a` to `b`: it names no element that is in both or in neither. An `Err`
     /// says that memory ran out.
     pub fn between(a: &Set, b: &Set) -> Result<Delta, AllocError>
@@ -97,8 +117,8 @@ impl Delta {
         Delta::of(self.plus, self.minus)
     }
 
-    // The delta of two sets that share no element.
-    fn of(minus: Set, plus: Set) -> Delta
+    /// The delta of two sets that are known to share no element. Nothing is compared.
+    pub fn of(minus: Set, plus: Set) -> Delta
         requires { AreApart minus plus }
         ensures { result ≡ record { minus = minus; plus = plus } }
     {

@@ -1,5 +1,5 @@
 -- The elements of a combined set, element by element.
-use Rattle.std.proofs.Common.{◌≡◌, ℕ, zero, suc, ◌+◌, ◌-◌, ◌<◌, Bool, true, false, cond, not, ◌||◌, ◌&&◌, List, [], ◌∷◌, length, take, drop, get_or, refl, sym, ap, ◌∙◌, arith}
+use Rattle.std.proofs.Common.{◌≡◌, ℕ, zero, suc, ◌+◌, ◌-◌, ◌<◌, Bool, true, false, cond, not, ◌||◌, ◌&&◌, List, [], ◌∷◌, ◌++◌, filter, length, take, drop, get_or, refl, sym, ap, ◌∙◌, arith}
 use Rattle.std.specs.List.{list_all, list_any}
 use Rattle.std.proofs.lemmas.List.{take_rest, get_or-drop}
 use Rattle.std.proofs.lemmas.List.Folds.{list_all_more, list_any_more}
@@ -9,7 +9,7 @@ use Rattle.dg_model.specs.declared.params.Function.TheVariants.{Intersection, Un
 use Rattle.dg_model.specs.Combine.{part, in_first, in_last, in_combined}
 use Rattle.dg_model.specs.Elements.{same, has, put}
 use Rattle.dg_model.specs.Sets.{unioned, met, without_all}
-use Rattle.dg_model.proofs.Sets.{element_exact, has-put, has-unioned, has-met, has-without_all}
+use Rattle.dg_model.proofs.Sets.{element_exact, has-put, has-filter, has-unioned, has-met, has-without_all}
 
 -- ---- one set
 
@@ -46,16 +46,6 @@ met_more sets i j set all new h next at is before x =
     ∙ (λ t. before x t && has (at t) x)
     ∙ sym (ap (λ n. list_all (λ s. has s x) (take n sets)) next ∙ list_all_more (λ s. has s x) sets i set h)
 
-pub unioned_more : (sets : List (List Element)) (i j : ℕ) (set all new : List Element) → i < length sets → j ≡ i + 1
-    → set ≡ get_or sets i set → new ≡ unioned all set
-    → ((x : Element) → has all x ≡ list_any (λ s. has s x) (take i sets))
-    → (x : Element) → has new x ≡ list_any (λ s. has s x) (take j sets)
-unioned_more sets i j set all new h next at is before x =
-    ap (λ s. has s x) is
-    ∙ has-unioned all set x
-    ∙ (λ t. before x t || has (at t) x)
-    ∙ sym (ap (λ n. list_any (λ s. has s x) (take n sets)) next ∙ list_any_more (λ s. has s x) sets i set h)
-
 -- the element at i of what is left past two
 pub past_two : (sets : List (List Element)) (i : ℕ) (set : List Element)
     → set ≡ get_or (take (length sets - 2) (drop 2 sets)) i set → set ≡ get_or sets (i + 2) set
@@ -69,11 +59,6 @@ pub met_first : (sets : List (List Element)) (set : List Element) → 0 < length
     → (x : Element) → has set x ≡ list_all (λ s. has s x) (take 1 sets)
 met_first [] set h at x = absurd (omega arith)
 met_first (first ∷ sets) set h at x = ap (λ s. has s x) at ∙ and_true (has first x)
-
-pub unioned_first : (sets : List (List Element)) (set : List Element) → 0 < length sets → set ≡ get_or sets 0 set
-    → (x : Element) → has set x ≡ list_any (λ s. has s x) (take 1 sets)
-unioned_first [] set h at x = absurd (omega arith)
-unioned_first (first ∷ sets) set h at x = ap (λ s. has s x) at ∙ or_false (has first x)
 
 -- ---- half from the first, and half from the last
 
@@ -126,56 +111,48 @@ balanced_ends sets f first last x h is at_first at_last =
     (λ t. cond (part x 128) (in_last_is sets last x h at_last t) (in_first_is sets first x h at_first t))
     ∙ sym (ap (λ g. in_combined g sets x) is)
 
--- ---- the elements of a part
+and_swap : (a b : Bool) → (a && b) ≡ (b && a)
+and_swap true true = refl
+and_swap true false = refl
+and_swap false true = refl
+and_swap false false = refl
 
-not_both : (a : Bool) → (a && not a) ≡ false
-not_both true = refl
-not_both false = refl
+pub in_half : (set whole half : List Element) → half ≡ filter (λ x. part x 128) set → set ≡ whole → (x : Element) → has half x ≡ (has whole x && part x 128)
+in_half set whole half is at x =
+    ap (λ s. has s x) is ∙ has-filter (λ x. part x 128) set x ∙ and_swap (part x 128) (has set x) ∙ ap (λ s. has s x && part x 128) at
 
-pub none_left : (set left : List Element) → left ≡ without_all set set → (x : Element) → has left x ≡ false
-none_left set left is x = ap (λ s. has s x) is ∙ has-without_all set set x ∙ not_both (has set x)
+-- ---- the union of several sets
 
-put_in : (s f p : Bool) → (s ≡ true → p ≡ true) → (s || (f && p)) ≡ ((f || s) && p)
-put_in true true p e = sym (e refl)
-put_in true false p e = sym (e refl)
-put_in false true p e = refl
-put_in false false p e = refl
+pub union_two : (sets : List (List Element)) (first second all : List Element) → length sets ≡ 2 → first ≡ get_or sets 0 first → second ≡ get_or sets 1 second → all ≡ unioned first second
+    → (x : Element) → has all x ≡ list_any (λ s. has s x) sets
+union_two [] first second all n a b is x = absurd (omega arith)
+union_two (s ∷ []) first second all n a b is x = absurd (omega arith)
+union_two (s ∷ t ∷ []) first second all n a b is x =
+    ap (λ l. has l x) is ∙ has-unioned first second x ∙ (λ i. has (a i) x || or_false (has (b i) x) i)
+union_two (s ∷ t ∷ u ∷ sets) first second all n a b is x = absurd (omega arith)
 
-left_out : (s f p : Bool) → (s ≡ true → p ≡ false) → (f && p) ≡ ((f || s) && p)
-left_out true true p e = refl
-left_out true false p e = sym (e refl)
-left_out false true p e = refl
-left_out false false p e = refl
+or_associates : (a b c : Bool) → ((a || b) || c) ≡ (a || (b || c))
+or_associates true b c = refl
+or_associates false b c = refl
 
--- what the test says of y, it says of each element that is the same
-says : (x y : Element) (b : Bool) → part y 128 ≡ b → same x y ≡ true → part x 128 ≡ b
-says x y b e t = ap (λ z. part z 128) (element_exact x y t) ∙ e
+pub union_three : (sets : List (List Element)) (first second third two all : List Element) → length sets ≡ 3 → first ≡ get_or sets 0 first → second ≡ get_or sets 1 second → third ≡ get_or sets 2 third → two ≡ unioned first second → all ≡ unioned two third
+    → (x : Element) → has all x ≡ list_any (λ s. has s x) sets
+union_three [] first second third two all n a b c is_two is x = absurd (omega arith)
+union_three (s ∷ []) first second third two all n a b c is_two is x = absurd (omega arith)
+union_three (s ∷ t ∷ []) first second third two all n a b c is_two is x = absurd (omega arith)
+union_three (s ∷ t ∷ u ∷ []) first second third two all n a b c is_two is x =
+    ap (λ l. has l x) is ∙ has-unioned two third x ∙ ap (λ l. has l x || has third x) is_two ∙ ap (λ b. b || has third x) (has-unioned first second x)
+    ∙ or_associates (has first x) (has second x) (has third x)
+    ∙ (λ i. has (a i) x || (has (b i) x || or_false (has (c i) x) i))
+union_three (s ∷ t ∷ u ∷ v ∷ sets) first second third two all n a b c is_two is x = absurd (omega arith)
 
-front_more : (set : List Element) (i : ℕ) (y x : Element) → i < length set → y ≡ get_or set i y
-    → ((has (take i set) x || same x y) && part x 128) ≡ (has (take (i + 1) set) x && part x 128)
-front_more set i y x h at =
-    ap (λ z. (has (take i set) x || same x z) && part x 128) at
-    ∙ ap (λ b. b && part x 128) (sym (list_any_more (same x) set i y h))
+any_cut : (x : Element) (left right : List (List Element)) → (list_any (λ s. has s x) left || list_any (λ s. has s x) right) ≡ list_any (λ s. has s x) (left ++ right)
+any_cut x [] right = refl
+any_cut x (s ∷ left) right =
+    or_associates (has s x) (list_any (λ s. has s x) left) (list_any (λ s. has s x) right) ∙ ap (λ b. has s x || b) (any_cut x left right)
 
--- the part of the first i elements, and of the next, which is in the part
-pub part_put : (set : List Element) (i : ℕ) (y : Element) (half new : List Element) → i < length set → y ≡ get_or set i y
-    → part y 128 ≡ true → new ≡ put y half
-    → ((x : Element) → has half x ≡ (has (take i set) x && part x 128))
-    → (x : Element) → has new x ≡ (has (take (i + 1) set) x && part x 128)
-part_put set i y half new h at test is before x =
-    ap (λ s. has s x) is
-    ∙ has-put y half x
-    ∙ ap (λ b. same x y || b) (before x)
-    ∙ put_in (same x y) (has (take i set) x) (part x 128) (says x y true test)
-    ∙ front_more set i y x h at
-
--- .. or which is not
-pub part_left_out : (set : List Element) (i : ℕ) (y : Element) (half new : List Element) → i < length set → y ≡ get_or set i y
-    → part y 128 ≡ false → new ≡ half
-    → ((x : Element) → has half x ≡ (has (take i set) x && part x 128))
-    → (x : Element) → has new x ≡ (has (take (i + 1) set) x && part x 128)
-part_left_out set i y half new h at test is before x =
-    ap (λ s. has s x) is
-    ∙ before x
-    ∙ left_out (same x y) (has (take i set) x) (part x 128) (says x y false test)
-    ∙ front_more set i y x h at
+pub union_halves : (sets left right : List (List Element)) (first second all : List Element) → sets ≡ left ++ right → all ≡ unioned first second
+    → ((x : Element) → has first x ≡ list_any (λ s. has s x) left) → ((x : Element) → has second x ≡ list_any (λ s. has s x) right)
+    → (x : Element) → has all x ≡ list_any (λ s. has s x) sets
+union_halves sets left right first second all cut is a b x =
+    ap (λ l. has l x) is ∙ has-unioned first second x ∙ (λ i. a x i || b x i) ∙ any_cut x left right ∙ ap (list_any (λ s. has s x)) (sym cut)

@@ -1,4 +1,4 @@
-ghost use Rattle.std.specs.Prelude.{◌≡◌, ◌&&◌, ◌<◌, length, IfOk, if◌then◌else◌};
+ghost use Rattle.std.specs.Prelude.{◌≡◌, ◌&&◌, ◌<◌, length, filter, IfOk, if◌then◌else◌};
 ghost use Rattle.std.specs.List.{list_all, list_any};
 ghost use Rattle.dg_model.specs.declared.element.Element.{Element};
 ghost use Rattle.dg_model.specs.Elements.{has};
@@ -40,16 +40,20 @@ fn meet_all(sets: &[Set]) -> Result<Set, AllocError>
     Ok(all)
 }
 
-/// The elements of at least one set.
+/// The elements of at least one set, by halves, so that no element is copied more often than the sets
+/// can be halved.
 fn union_all(sets: &[Set]) -> Result<Set, AllocError>
     requires { 1 < length sets.now }
     ensures { IfOk result (λ all. (x : Element) → has all x ≡ list_any (λ set. has set x) sets.now) }
 {
-    let mut all = sets[0].union(&sets[1])?;
-    for set in &sets[2..] {
-        all = all.union(set)?;
+    if sets.len() == 2 {
+        return sets[0].union(&sets[1]);
     }
-    Ok(all)
+    if sets.len() == 3 {
+        return sets[0].union(&sets[1])?.union(&sets[2]);
+    }
+    let (left, right) = sets.split_at(sets.len() / 2);
+    union_all(left)?.union(&union_all(right)?)
 }
 
 /// The elements of `last` in its half, and those of `first` in the other. Only elements that one of
@@ -57,21 +61,15 @@ fn union_all(sets: &[Set]) -> Result<Set, AllocError>
 fn balance(first: &Set, last: &Set) -> Result<Set, AllocError>
     ensures { IfOk result (λ set. (x : Element) → has set x ≡ (if part x 128 then has last.now x else has first.now x)) }
 {
-    let gone = last_half(&first.minus(last)?)?;
-    let come = last_half(&last.minus(first)?)?;
-    first.minus(&gone)?.union(&come)
+    let (gone, come) = first.differences(last)?;
+    first.replaced(&last_half(gone), &last_half(come))
 }
 
-/// The elements of the set that are in the last child's half.
-fn last_half(set: &Set) -> Result<Set, AllocError>
-    ensures { IfOk result (λ half. (x : Element) → has half x ≡ (has set.now x && part x 128)) }
+/// The elements of the set that are in the last child's half. Takes no memory.
+fn last_half(set: Set) -> Set
+    ensures { result ≡ filter (λ x. part x 128) set }
 {
-    // Nothing is left, with room for all.
-    let mut half = set.minus(set)?;
-    for element in set.items() {
-        if part(element, LAST_HALF) {
-            half.insert(*element)?;
-        }
-    }
-    Ok(half)
+    let mut items = set.into_items();
+    items.retain(|element| part(element, LAST_HALF));
+    Set::from_rising(items)
 }

@@ -3,8 +3,8 @@
 #![tactic(auto)]
 
 mod laws;
+mod marks;
 mod net;
-mod run;
 #[cfg(test)]
 mod tests;
 

@@ -5,14 +5,10 @@ ghost use Rattle.dg_model.specs.Elements.{IsSet};
 ghost use Rattle.dg_model.specs.Replay.{events_until, replay_from};
 ghost use Rattle.dg_list.specs.Lists.{effect_of, counts, AreChangesOf};
 
-use crate::run::{run_back, run_on};
+use crate::marks::{marks_back, marks_on, net_of};
 use dg_delta::Delta;
 use dg_event::Event;
 use std::alloc::{AllocError, Global};
-
-/// So many events, or fewer, are taken one after another; more are cut into halves, whose nets are
-/// composed.
-const RUN_EVENTS_MAX: usize = 64;
 
 /// The net of the events up to the instant `t`, and with it. The times may be in any order. An `Err`
 /// says that memory ran out.
@@ -30,13 +26,8 @@ pub fn net_back(alloc: Global, events: &[Event]) -> Result<Delta, AllocError>
     ensures leads_back { IfOk result (λ d. (set : List Element) → IsSet set → AreChangesOf set events.now
         → applied d (replay_from set events.now) ≡ set) }
 {
-    if events.len() <= RUN_EVENTS_MAX {
-        return run_back(alloc, events);
-    }
-    let (earlier, later) = events.split_at(events.len() / 2);
-    let first = net_back(alloc, later)?;
-    let then = net_back(alloc, earlier)?;
-    first.compose(&then)
+    let marks = marks_back(alloc, events)?;
+    net_of(alloc, marks)
 }
 
 /// The net of the events of `left` and then those of `right`. An `Err` says that memory ran out.
@@ -52,11 +43,6 @@ pub fn merge_lists(alloc: Global, left: &[Event], right: &[Event]) -> Result<Del
 fn net_on(alloc: Global, events: &[Event], until: Option<u64>) -> Result<Delta, AllocError>
     ensures { IfOk result (λ d. Composes d (map effect_of (filter (counts until) events.now))) }
 {
-    if events.len() <= RUN_EVENTS_MAX {
-        return run_on(alloc, events, until);
-    }
-    let (earlier, later) = events.split_at(events.len() / 2);
-    let first = net_on(alloc, earlier, until)?;
-    let then = net_on(alloc, later, until)?;
-    first.compose(&then)
+    let marks = marks_on(alloc, events, until)?;
+    net_of(alloc, marks)
 }

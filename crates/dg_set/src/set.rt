@@ -1,4 +1,4 @@
-ghost use Rattle.std.specs.Prelude.{◌≡◌, ◌↔◌, List, [], length, not, is_ok, IfOk, IfErr, IsOk, if◌then◌else◌};
+ghost use Rattle.std.specs.Prelude.{◌≡◌, ◌↔◌, List, [], ◌++◌, length, not, is_ok, IfOk, IfErr, IsOk, if◌then◌else◌};
 ghost use Rattle.dg_model.specs.Elements.{IsSet, has, put, take_out};
 ghost use Rattle.dg_model.specs.Sets.{unioned, met, without_all};
 ghost use Rattle.dg_set.specs.Places.{IsFirstFault};
@@ -50,6 +50,14 @@ impl Set {
         }
     }
 
+    /// The set of the items of a list that is known to rise strictly. Nothing is compared.
+    pub fn from_rising(items: Vec<Element>) -> Set
+        requires { IsSet items.items }
+        ensures { result ≡ items.items }
+    {
+        Set { items }
+    }
+
     /// Whether the element is in the set.
     pub fn has(&self, element: &Element) -> bool
         ensures { result ≡ has self.now element.now }
@@ -70,6 +78,25 @@ impl Set {
         ensures set { IsSet self.now }
     {
         self.items.as_slice()
+    }
+
+    /// The elements in their order, as a list that rises. Takes no memory.
+    pub fn into_items(self) -> Vec<Element>
+        ensures value { result.items ≡ self }
+        ensures set { IsSet self }
+    {
+        self.items
+    }
+
+    /// The elements of this set, and then those of `later`, which all come after them. No element is
+    /// compared. An `Err` says that memory ran out.
+    pub fn join(self, later: &Set) -> Result<Set, AllocError>
+        requires { IsSet (self ++ later.now) }
+        ensures { IfOk result (λ set. set ≡ self ++ later.now) }
+    {
+        let mut items = self.items;
+        items.extend_from_slice(&later.items)?;
+        Ok(Set { items })
     }
 
     /// Adds the element, and answers whether it is new. An `Err` says that memory ran out, and the

@@ -31,8 +31,6 @@ returns-then-end-bytes c =
     let n = c.in_ok-plus.end in
     let more = c.in_ok-in_count.in_count in
     let e = given (λ (n : ℕ). n) c.u32_at.result _ count c.in_ok-out_count.ensures.value c.u32_at.ensures.number in
-    let f = ap (λ (o : List Element). elements_at count c.args.col c.args.names bytes o 4 None) (sym c.new-none.ensures) ∙ given (λ (p : List Element × ℕ). (p.0, p.1)) c.set_at.result _ (minus, m) c.in_ok-minus.ensures.value c.set_at.ensures.elements in
     let g = given (λ (n : ℕ). n) c.in_count_at.result _ more c.in_ok-in_count.ensures.value c.in_count_at.ensures.number in
-    let h = ap (λ (o : List Element). elements_at more c.args.col c.args.names bytes o (m + 4) None) (sym c.new-none.ensures) ∙ given (λ (p : List Element × ℕ). (p.0, p.1)) c.set_at-2.result _ (plus, n) c.in_ok-plus.ensures.value c.set_at-2.ensures.elements in
     delta_is c.from_sets.result minus plus _ c.from_sets.ensures.exact.0 c.from_sets.ensures.sets
-    (λ apart. delta_from c.args.col c.args.names bytes count more m n minus plus e f g h apart c.if-end-bytes.true)
+    (λ apart. delta_from c.args.col c.args.names bytes count more m n minus plus e c.in_ok-minus.ensures.elements g c.in_ok-plus.ensures.elements apart c.if-end-bytes.true)

@@ -1,10 +1,12 @@
 use Rattle.dg_model.specs.declared.event.Event.{Event}
-use Rattle.std.proofs.Common.{List, ◌≡◌, ◌∙◌, sym, subst, Option, Some, None, replicate, rules, arith}
-use Rattle.std.specs.Prelude.{IfOk}
+use Rattle.std.proofs.Common.{List, Vec, Global, ◌≡◌, ◌∙◌, sym, subst, Option, Some, None, replicate, rules, arith}
+use Rattle.std.specs.Prelude.{IfOk, IfSome}
+use Rattle.dg_columns.specs.Weaving.{woven}
 use Rattle.std.specs.Option.{option_and_then}
 use Rattle.dg_model.specs.Merging.{if_never_fall, merged}
 use Rattle.dg_columns.specs.Rows.{events_of}
 use Rattle.dg_columns.proofs.Rows.{row_merged, written_over}
+use Rattle.dg_columns.proofs.Weaving.{woven_merged}
 use Rattle.dg_columns.proofs.merging.merge.Goals as goal
 
 row_is_merged : (c : goal.After-drop-row) → merged c.args.structure.now c.args.node_attrs.now c.args.edge_attrs.now c.args.len ≡ option_and_then if_never_fall (events_of c.deref.result.now)
@@ -27,3 +29,8 @@ returns-clause-ok c =
 
 pub returns-clause-places : goal.returns-clause-places
 returns-clause-places c = λ places. row_is_merged c ∙ c.in_order.ensures.places places
+
+pub returns-in-Some-clause-ok : goal.returns-in-Some-clause-ok
+returns-in-Some-clause-ok c =
+    woven_merged c.args.structure.now c.args.node_attrs.now c.args.edge_attrs.now c.args.len c.in-Some.events.items (omega (arith, c.if-structure-node_attrs.false))
+    (subst (λ o. IfSome o (λ (events : Vec Event Global). woven c.args.len 0 0 c.args.structure.now c.args.node_attrs.now c.args.edge_attrs.now ≡ Some events.items)) c.in-Some.is c.in_ok-events.ensures)

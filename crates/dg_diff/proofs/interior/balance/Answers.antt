@@ -1,18 +1,21 @@
-use Rattle.std.proofs.Common.{◌&&◌, ap, ◌∙◌}
+use Rattle.std.proofs.Common.{ap, refl, ◌∙◌}
 use Rattle.std.proofs.lemmas.Result.{IfOk-weaker}
 use Rattle.dg_model.specs.Combine.{part}
 use Rattle.dg_model.specs.Elements.{has}
-use Rattle.dg_diff.proofs.Combined.{balanced}
+use Rattle.dg_model.specs.Sets.{without_all}
+use Rattle.dg_diff.proofs.Combined.{balanced, in_half}
 use Rattle.dg_diff.proofs.interior.balance.Goals as goal
 
 pub returns : goal.returns
 returns c =
-    let gone = c.in_ok-gone in
-    let come = c.in_ok-come in
-    IfOk-weaker c.union-2.result _ _
+    let first = c.args.first.now in
+    let last = c.args.last.now in
+    let gone = c.last_half.result in
+    let come = c.last_half-2.result in
+    IfOk-weaker c.replaced-3.result _ _
     (λ set is x.
     ap (λ s. has s x) is
-    ∙ balanced c.args.first.now c.args.last.now c.in_ok-minus-3.field-0 gone.gone come.come (part x 128) x c.in_ok-minus-3.ensures
-    (gone.ensures x ∙ ap (λ s. has s x && part x 128) c.in_ok-minus.ensures)
-    (come.ensures x ∙ ap (λ s. has s x && part x 128) c.in_ok-minus-2.ensures))
-    c.union-2.ensures
+    ∙ balanced first last (without_all first gone) gone come (part x 128) x refl
+    (in_half c.in_ok-gone.gone (without_all first last) gone c.last_half.ensures c.in_ok-gone.ensures.first x)
+    (in_half c.in_ok-gone.come (without_all last first) come c.last_half-2.ensures c.in_ok-gone.ensures.second x))
+    c.replaced-3.ensures

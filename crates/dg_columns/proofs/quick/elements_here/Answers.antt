@@ -1,0 +1,15 @@
+use Rattle.std.proofs.Common.{◌≡◌, ◌+◌, [], None, arith}
+use Rattle.dg_model.specs.Reading.{element_size, elements_at}
+use Rattle.dg_columns.proofs.Elements.{goes_on}
+use Rattle.dg_columns.proofs.quick.elements_here.Goals as goal
+
+pub loop-preserved : goal.loop-preserved
+loop-preserved c =
+    let x = c.in_ok-element.element in
+    let bytes = c.args.bytes.now in
+    let total = elements_at c.args.count c.args.col c.args.names bytes [] c.args.start None in
+    let next : c.loop.at + c.element_size-at.result ≡ c.loop.at + element_size x = omega (arith, c.element_size-at.ensures) in
+    record {
+      so_far = rw c.in-Ok.ensures.items (goes_on c.args.col c.args.names bytes [] c.loop.items.items c.args.count c.loop.counter c.loop.at c.loop.last total c.loop-test.true x _ next c.in_ok-element.ensures.element c.loop.invariant.so_far);
+      within = omega (arith, c.in_ok-element.ensures.fits, c.element_size-at.ensures);
+    }

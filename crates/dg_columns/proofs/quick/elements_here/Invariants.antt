@@ -1,0 +1,10 @@
+use Rattle.std.proofs.Common.{◌≡◌, ◌-◌, ◌≤◌, [], length, None}
+use Rattle.dg_model.specs.Reading.{elements_at}
+use Rattle.dg_columns.proofs.Elements.{after_front}
+use Rattle.dg_columns.proofs.quick.elements_here.Given as goal
+
+abbrev pub invariant-loop : goal.invariant-loop
+invariant-loop l = record {
+  so_far : after_front l.items.items (elements_at (l.count - l.counter) l.col l.names l.bytes [] l.at l.last) ≡ elements_at l.count l.col l.names l.bytes [] l.start None;
+  within : l.at ≤ length l.bytes;
+}

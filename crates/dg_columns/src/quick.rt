@@ -1,0 +1,181 @@
+//! The elements of a column that has no damage, read with one test of the room for each element. What
+//! is wrong, and where, is not looked for here.
+
+ghost use Rattle.std.specs.Prelude.{◌≡◌, ◌+◌, ◌≤◌, [], length, Ok, None, IfSome};
+ghost use Rattle.dg_model.specs.Elements.{IsSet};
+ghost use Rattle.dg_model.specs.Reading.{element_at, element_size, elements_at};
+ghost use Rattle.dg_columns.specs.Fields.{attr_at, edge_at, next_element_at};
+
+use crate::delta_reading::{AttrFields, rises_from};
+use crate::delta_writing::element_size;
+use crate::edge::EdgeFields;
+use crate::layout::{EDGE, EDGE_SIZE, NODE, NODE_SIZE, SMALLEST_ELEMENT, VALUE_SIZE};
+use crate::numbers::{byte_here, u32_here, u64_here};
+use dg_delta::{Element, Set};
+use dg_model::Column;
+use std::alloc::Global;
+
+// The fields of a value.
+fn attr_here(bytes: &[u8], at: usize, names: u32) -> Option<AttrFields>
+    requires { at ≤ length bytes.now }
+    ensures fields { IfSome result (λ v. attr_at names bytes.now at ≡ Ok v) }
+    ensures fits { IfSome result (λ v. at + 16 ≤ length bytes.now) }
+{
+    if bytes.len() - at < VALUE_SIZE {
+        return None;
+    }
+    let id = u64_here(bytes, at);
+    let key = u32_here(bytes, at + 8);
+    let value = u32_here(bytes, at + 12);
+    if key < names && value < names {
+        Some(AttrFields { id, key, value })
+    } else {
+        None
+    }
+}
+
+// The fields of an edge, after its kind.
+fn edge_here(bytes: &[u8], at: usize) -> Option<EdgeFields>
+    requires { at ≤ length bytes.now }
+    ensures fields { IfSome result (λ e. edge_at bytes.now at ≡ Ok e) }
+    ensures fits { IfSome result (λ e. at + 25 ≤ length bytes.now) }
+{
+    if bytes.len() - at < EDGE_SIZE - 1 {
+        return None;
+    }
+    let id = u64_here(bytes, at);
+    let src = u64_here(bytes, at + 8);
+    let dst = u64_here(bytes, at + 16);
+    let directed = byte_here(bytes, at + 24);
+    if directed <= 1 {
+        Some(EdgeFields {
+            id,
+            src,
+            dst,
+            directed: directed == 1,
+        })
+    } else {
+        None
+    }
+}
+
+// A node or an edge.
+fn structure_here(bytes: &[u8], at: usize, names: u32) -> Option<Element>
+    requires { at ≤ length bytes.now }
+    ensures element { IfSome result (λ x. element_at Column.Structure names bytes.now at ≡ Ok x) }
+    ensures fits { IfSome result (λ x. at + element_size x ≤ length bytes.now) }
+{
+    if bytes.len() - at < NODE_SIZE {
+        return None;
+    }
+    match byte_here(bytes, at) {
+        NODE => {
+            let id = u64_here(bytes, at + 1);
+            Some(Element::Node { id })
+        }
+        EDGE => {
+            let edge = edge_here(bytes, at + 1)?;
+            Some(Element::Edge {
+                id: edge.id,
+                src: edge.src,
+                dst: edge.dst,
+                directed: edge.directed,
+            })
+        }
+        _ => None,
+    }
+}
+
+// The element of the column at the place.
+fn element_here(bytes: &[u8], at: usize, col: Column, names: u32) -> Option<Element>
+    requires { at ≤ length bytes.now }
+    ensures element { IfSome result (λ x. element_at col names bytes.now at ≡ Ok x) }
+    ensures fits { IfSome result (λ x. at + element_size x ≤ length bytes.now) }
+{
+    match col {
+        Column::Structure => structure_here(bytes, at, names),
+        Column::NodeAttr => {
+            let attr = attr_here(bytes, at, names)?;
+            Some(Element::NodeAttr {
+                id: attr.id,
+                key: attr.key,
+                value: attr.value,
+            })
+        }
+        Column::EdgeAttr => {
+            let attr = attr_here(bytes, at, names)?;
+            Some(Element::EdgeAttr {
+                id: attr.id,
+                key: attr.key,
+                value: attr.value,
+            })
+        }
+    }
+}
+
+// The element at the place, which comes after the last one.
+#[tactic(auto, using(crate::proofs::Rising::next_is))]
+fn next_here(
+    bytes: &[u8],
+    at: usize,
+    col: Column,
+    names: u32,
+    last: Option<Element>,
+) -> Option<Element>
+    requires { at ≤ length bytes.now }
+    ensures element { IfSome result (λ x. next_element_at col names bytes.now [] at last ≡ Ok x) }
+    ensures fits { IfSome result (λ x. at + element_size x ≤ length bytes.now) }
+{
+    let element = element_here(bytes, at, col, names)?;
+    if rises_from(last, &element) {
+        Some(element)
+    } else {
+        None
+    }
+}
+
+// So many elements from the place on, each after the one before it, and the place behind them.
+fn elements_here(
+    alloc: Global,
+    bytes: &[u8],
+    start: usize,
+    count: u32,
+    col: Column,
+    names: u32,
+) -> Option<(Vec<Element>, usize)>
+    requires { start ≤ length bytes.now }
+    ensures elements { IfSome result (λ p. elements_at count col names bytes.now [] start None ≡ Ok (p.0.items, p.1)) }
+    ensures fits { IfSome result (λ p. p.1 ≤ length bytes.now) }
+{
+    // The bytes bound what is reserved: the count is not trusted.
+    let room = (count as usize).min(bytes.len() / SMALLEST_ELEMENT);
+    let mut items = Vec::with_capacity(alloc, room).ok()?;
+    let mut at = start;
+    let mut last = None;
+    for _ in 0..count {
+        let element = next_here(bytes, at, col, names, last)?;
+        at += element_size(&element);
+        last = Some(element);
+        let Ok(()) = items.push(element) else {
+            return None;
+        };
+    }
+    Some((items, at))
+}
+
+/// So many elements as a set, and the place behind them.
+pub(crate) fn set_here(
+    alloc: Global,
+    bytes: &[u8],
+    start: usize,
+    count: u32,
+    col: Column,
+    names: u32,
+) -> Option<(Set, usize)>
+    requires { start ≤ length bytes.now }
+    ensures elements { IfSome result (λ p. elements_at count col names bytes.now [] start None ≡ Ok (p.0, p.1)) }
+    ensures fits { IfSome result (λ p. p.1 ≤ length bytes.now) }
+{
+    let (items, end) = elements_here(alloc, bytes, start, count, col, names)?;
+    Some((Set::from_rising(items), end))
+}

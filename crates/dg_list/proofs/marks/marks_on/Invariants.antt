@@ -1,0 +1,12 @@
+use Rattle.std.proofs.Common.{◌≡◌, ◌++◌, drop, filter}
+use Rattle.std.specs.List.{flat_map}
+use Rattle.dg_model.specs.declared.event.Event.{Event}
+use Rattle.dg_model.specs.Effect.{removed_by, added_by}
+use Rattle.dg_list.specs.Lists.{counts}
+use Rattle.dg_list.specs.Marks.{marks_of}
+use Rattle.dg_list.proofs.marks.marks_on.Given as goal
+
+abbrev pub invariant-loop-event : goal.invariant-loop-event
+invariant-loop-event l =
+    l.marks.items ++ flat_map (λ (e : Event). marks_of (removed_by e.body) (added_by e.body)) (filter (counts l.until) (drop l.event-index l.events))
+    ≡ flat_map (λ (e : Event). marks_of (removed_by e.body) (added_by e.body)) (filter (counts l.until) l.events)
