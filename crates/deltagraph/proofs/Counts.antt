@@ -1,8 +1,8 @@
 -- How the bytes taken add up over a run, and what they say of its end.
 use Rattle.std.proofs.Common.{◌≡◌, ℕ, ◌<◌, ◌≤◌, inl, inr, false, IsTrue, List, [], ◌++◌, Option, Some, None, IfSome, length, refl, sym, ◌∙◌, ap, subst, append_assoc, arith, length-append}
 use Rattle.std.specs.Option.{option_map}
-use Rattle.dg_model.specs.declared.fault.StartFault.{StartFault}
-use Rattle.dg_model.specs.declared.limits.Limits.{Limits}
+use Rattle.dg_history.specs.declared.start_fault.StartFault.{StartFault}
+use Rattle.dg_machine.specs.declared.limits.Limits.{Limits}
 use Rattle.dg_io.specs.Told.{Gives, IsAtEnd}
 use Rattle.dg_io.specs.Reading.{Reading}
 use Rattle.deltagraph.specs.declared.status.Status.{Status}

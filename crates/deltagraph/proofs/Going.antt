@@ -5,16 +5,16 @@ use Rattle.std.specs.Result.{is_err}
 use Rattle.std.proofs.lemmas.List.{append-nil}
 use Rattle.std.proofs.lemmas.List.Concat.{flat_map-append}
 use Rattle.std.proofs.Math.Seq.{take-append-add}
-use Rattle.dg_model.specs.declared.reply.Reply.{Reply}
-use Rattle.dg_model.specs.declared.limits.Limits.{Limits}
-use Rattle.dg_model.specs.Cut.{IsCut}
-use Rattle.dg_model.specs.History.{History}
-use Rattle.dg_model.specs.Legal.{StandsAs}
-use Rattle.dg_model.specs.Machine.{MachineState, machine_at, names_in}
-use Rattle.dg_model.specs.Run.{Run}
-use Rattle.dg_model.specs.Script.{Entry, script}
-use Rattle.dg_model.specs.Text.{text}
-use Rattle.dg_model.proofs.Runs.{run_more}
+use Rattle.dg_machine.specs.declared.reply.Reply.{Reply}
+use Rattle.dg_machine.specs.declared.limits.Limits.{Limits}
+use Rattle.dg_machine.specs.CutImage.{IsCut}
+use Rattle.dg_history.specs.History.{History}
+use Rattle.dg_history.specs.LegalHistory.{StandsAs}
+use Rattle.dg_machine.specs.MachineState.{MachineState, machine_at, names_in}
+use Rattle.dg_machine.specs.Run.{Run}
+use Rattle.dg_machine.specs.Script.{Entry, script}
+use Rattle.dg_machine.specs.ReplyText.{text}
+use Rattle.dg_machine.proofs.Runs.{run_more}
 use Rattle.dg_io.specs.Told.{grown, GrowsByPart}
 use Rattle.dg_io.specs.Reading.{Reading}
 use Rattle.dg_session.specs.Parts.{Parts}

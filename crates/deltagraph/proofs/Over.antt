@@ -1,16 +1,16 @@
 -- The run over a disk that may tell its image, from every machine that its first image stands for.
 use Rattle.std.proofs.Common.{◌≡◌, ℕ, true, false, List, [], ◌∷◌, Option, Some, None, IfSome, is_some, refl, sym, ◌∙◌, ap, subst}
 use Rattle.std.specs.Option.{option_map}
-use Rattle.dg_model.specs.declared.fault.StartFault.{StartFault}
-use Rattle.dg_model.specs.declared.fault.StartFault.TheVariants as fault
-use Rattle.dg_model.specs.declared.limits.Limits.{Limits}
-use Rattle.dg_model.specs.declared.reply.Reply.{Reply}
-use Rattle.dg_model.specs.Cut.{IsCut}
-use Rattle.dg_model.specs.History.{History}
-use Rattle.dg_model.specs.Legal.{StandsAs}
-use Rattle.dg_model.specs.Machine.{MachineState, machine_at}
-use Rattle.dg_model.specs.Script.{Entry, script}
-use Rattle.dg_model.specs.Text.{text}
+use Rattle.dg_history.specs.declared.start_fault.StartFault.{StartFault}
+use Rattle.dg_history.specs.declared.start_fault.StartFault.TheVariants as fault
+use Rattle.dg_machine.specs.declared.limits.Limits.{Limits}
+use Rattle.dg_machine.specs.declared.reply.Reply.{Reply}
+use Rattle.dg_machine.specs.CutImage.{IsCut}
+use Rattle.dg_history.specs.History.{History}
+use Rattle.dg_history.specs.LegalHistory.{StandsAs}
+use Rattle.dg_machine.specs.MachineState.{MachineState, machine_at}
+use Rattle.dg_machine.specs.Script.{Entry, script}
+use Rattle.dg_machine.specs.ReplyText.{text}
 use Rattle.dg_io.specs.Told.{grown, GrowsByPart}
 use Rattle.dg_session.specs.Session.{BothTold}
 use Rattle.dg_session.specs.Parts.{Parts}

@@ -1,9 +1,9 @@
 -- What follows from how a session begins, or does not.
 use Rattle.std.proofs.Common.{◌≡◌, ◌≢◌, ℕ, ◌⊎◌, inl, inr, List, Option, Some, None, IfSome, Result, Err, refl, sym, ◌∙◌, ap, subst}
-use Rattle.dg_model.specs.declared.fault.StartFault.{StartFault}
-use Rattle.dg_model.specs.declared.fault.StartFault.TheVariants as fault
-use Rattle.dg_model.specs.declared.limits.Limits.{Limits}
-use Rattle.dg_model.specs.Starting.{Started}
+use Rattle.dg_history.specs.declared.start_fault.StartFault.{StartFault}
+use Rattle.dg_history.specs.declared.start_fault.StartFault.TheVariants as fault
+use Rattle.dg_machine.specs.declared.limits.Limits.{Limits}
+use Rattle.dg_history.specs.SessionStart.{Started}
 use Rattle.dg_session.specs.Parts.{Parts}
 use Rattle.dg_session.specs.Started.{Refuses, StartsAs}
 use Rattle.deltagraph.specs.declared.status.Status.{Status}

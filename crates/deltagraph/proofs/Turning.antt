@@ -1,16 +1,16 @@
 -- How a turn follows from its line.
 use Rattle.std.proofs.Common.{◌≡◌, ℕ, ◌+◌, Bool, true, false, cond, List, ◌∷◌, Option, Some, None, length, refl, sym, ◌∙◌, ap, subst}
 use Rattle.std.specs.Option.{option_map}
-use Rattle.dg_model.specs.declared.command.Command.{Command}
-use Rattle.dg_model.specs.declared.reply.Head.TheVariants as head
-use Rattle.dg_model.specs.declared.reply.Refusal.TheVariants as refusal
-use Rattle.dg_model.specs.declared.reply.Reply.{Reply}
-use Rattle.dg_model.specs.Answer.{headed}
-use Rattle.dg_model.specs.Grammar.{command_of}
-use Rattle.dg_model.specs.Lines.{ScriptLine, Text, Long}
-use Rattle.dg_model.specs.Run.{Step, Leaves_grammar, Too_long}
-use Rattle.dg_model.specs.Script as script
-use Rattle.dg_model.proofs.Entries.{told_other, told_asked}
+use Rattle.dg_machine.specs.declared.command.Command.{Command}
+use Rattle.dg_machine.specs.declared.reply.Head.TheVariants as head
+use Rattle.dg_machine.specs.declared.reply.Refusal.TheVariants as refusal
+use Rattle.dg_machine.specs.declared.reply.Reply.{Reply}
+use Rattle.dg_machine.specs.Answer.{headed}
+use Rattle.dg_machine.specs.CommandGrammar.{command_of}
+use Rattle.dg_graph.specs.Lines.{ScriptLine, Text, Long}
+use Rattle.dg_machine.specs.Run.{Step, Leaves_grammar, Too_long}
+use Rattle.dg_machine.specs.Script as script
+use Rattle.dg_machine.proofs.Entries.{told_other, told_asked}
 use Rattle.dg_io.specs.Told.{Gives}
 use Rattle.dg_io.specs.Reading.{Reading, Comes, EndsWith}
 use Rattle.dg_line.specs.declared.command.Syntax.{Syntax}

@@ -1,7 +1,7 @@
 -- The exit status of each end of a run, and how a run ends whose session does not begin.
 use Rattle.std.specs.Prelude.{ℕ, Bool, true, false}
-use Rattle.dg_model.specs.declared.fault.StartFault.{StartFault}
-use Rattle.dg_model.specs.declared.fault.StartFault.TheVariants as fault
+use Rattle.dg_history.specs.declared.start_fault.StartFault.{StartFault}
+use Rattle.dg_history.specs.declared.start_fault.StartFault.TheVariants as fault
 use Rattle.deltagraph.specs.declared.status.Status.{Status}
 use Rattle.deltagraph.specs.declared.status.Status.TheVariants as status
 

@@ -3,12 +3,12 @@
 use Rattle.std.specs.Prelude.{◌≡◌, ℕ, ◌<◌, ◌≤◌, Bool, false, ◌==◌, ◌⊎◌, not, List, [], ◌∷◌, ◌++◌, length, IfSome, Option, slice_index}
 use Rattle.std.specs.List.{flat_map}
 use Rattle.std.specs.Option.{option_map}
-use Rattle.dg_model.specs.declared.limits.Limits.{Limits}
-use Rattle.dg_model.specs.Cut.{IsCut}
-use Rattle.dg_model.specs.Legal.{StandsAs}
-use Rattle.dg_model.specs.Machine.{MachineState}
-use Rattle.dg_model.specs.Run.{Run}
-use Rattle.dg_model.specs.Script.{Entry, script}
+use Rattle.dg_machine.specs.declared.limits.Limits.{Limits}
+use Rattle.dg_machine.specs.CutImage.{IsCut}
+use Rattle.dg_history.specs.LegalHistory.{StandsAs}
+use Rattle.dg_machine.specs.MachineState.{MachineState}
+use Rattle.dg_machine.specs.Run.{Run}
+use Rattle.dg_machine.specs.Script.{Entry, script}
 use Rattle.dg_io.specs.Told.{grown, GrowsByPart}
 use Rattle.deltagraph.specs.declared.status.Status.{Status}
 use Rattle.deltagraph.specs.declared.status.Status.TheVariants as status

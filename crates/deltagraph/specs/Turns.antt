@@ -2,12 +2,12 @@
 -- reply.
 use Rattle.std.specs.Prelude.{◌≡◌, ℕ, ◌<◌, List, [], ◌∷◌, IsTrue, IfSome, Option}
 use Rattle.std.specs.Option.{option_map}
-use Rattle.dg_model.specs.declared.reply.Reply.{Reply}
-use Rattle.dg_model.specs.Cut.{IsCut}
-use Rattle.dg_model.specs.Lines.{ScriptLine, Text}
-use Rattle.dg_model.specs.Machine.{MachineState}
-use Rattle.dg_model.specs.Run.{Step, IsColumn}
-use Rattle.dg_model.specs.Script as script
+use Rattle.dg_machine.specs.declared.reply.Reply.{Reply}
+use Rattle.dg_machine.specs.CutImage.{IsCut}
+use Rattle.dg_graph.specs.Lines.{ScriptLine, Text}
+use Rattle.dg_machine.specs.MachineState.{MachineState}
+use Rattle.dg_machine.specs.Run.{Step, IsColumn}
+use Rattle.dg_machine.specs.Script as script
 use Rattle.dg_io.specs.Reading.{Reading, told, Comes}
 use Rattle.dg_session.specs.Session.{BothTold}
 use Rattle.dg_session.specs.Session.{StandsFor}

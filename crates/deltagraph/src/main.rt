@@ -2,6 +2,7 @@
 //! of that name, and writes the reply to each of them.
 #![tactic(auto)]
 
+mod descriptors;
 mod serve;
 mod status;
 #[cfg(test)]
@@ -9,37 +10,46 @@ mod tests;
 mod turn;
 mod words;
 
+use descriptors::hold_standard;
 use dg_disk::FileDisk;
 use dg_io::{StdSink, StdSource};
 use serve::serve;
 use status::Status;
-use std::io;
 use std::process::ExitCode;
 use words::{index_word, words_after_name};
 
-fn main(rt: HostRuntime) -> io::Result<ExitCode> {
-    let status = match words_and_index(&rt) {
-        Ok((words, index)) => {
-            // Where the words name no index, the disk is never called.
-            let path = index.unwrap_or(String::new(rt.alloc()));
-            let mut disk = FileDisk::new(&rt, path);
-            let mut source = StdSource::new(rt.stdin());
-            let mut sink = StdSink::new(rt.stdout());
-            serve(
-                &rt,
-                rt.alloc(),
-                words.as_slice(),
-                &mut source,
-                &mut sink,
-                &mut disk,
-            )
-        }
-        Err(status) => status,
+fn main(rt: HostRuntime) -> ExitCode {
+    // Held to the end, so that no file opened below gets the number of a standard descriptor.
+    let status = match hold_standard(&rt) {
+        Ok(_held) => run(&rt),
+        Err(_) => Status::DiskFault,
     };
     if let Some(message) = status.message() {
-        eprintln!(rt; "deltagraph: {message}")?;
+        // The status is the answer, also where standard error takes no line.
+        let _ = eprintln!(rt; "deltagraph: {message}");
     }
-    Ok(ExitCode::from(status.code()))
+    ExitCode::from(status.code())
+}
+
+// Carries out the script on standard input over the index that the words name.
+fn run(rt: &HostRuntime) -> Status {
+    let (words, index) = match words_and_index(rt) {
+        Ok(read) => read,
+        Err(status) => return status,
+    };
+    // Where the words name no index, the disk is never called.
+    let path = index.unwrap_or(String::new(rt.alloc()));
+    let mut disk = FileDisk::new(rt, path);
+    let mut source = StdSource::new(rt.stdin());
+    let mut sink = StdSink::new(rt.stdout());
+    serve(
+        rt,
+        rt.alloc(),
+        words.as_slice(),
+        &mut source,
+        &mut sink,
+        &mut disk,
+    )
 }
 
 // The words after the program's own name, and the index that they name, if they are of the written

@@ -1,11 +1,11 @@
 ghost use Rattle.std.specs.Prelude.{◌≡◌, ◌≢◌, ◌<◌, ◌≤◌, ◌↔◌, ◌⊎◌, ℕ, false, true, map, List, length, string_bytes, IfSome, Option, is_some};
 ghost use Rattle.dg_io.specs.Told.{Gives, Rose};
-ghost use Rattle.dg_model.specs.declared.fault.StartFault.{StartFault};
-ghost use Rattle.dg_model.specs.declared.fault.StartFault.TheVariants as start_fault;
-ghost use Rattle.dg_model.specs.History.{History};
-ghost use Rattle.dg_model.specs.Legal.{StandsAs};
-ghost use Rattle.dg_model.specs.Machine.{IsWithin, machine_at};
-ghost use Rattle.dg_model.specs.Starting.{start_of};
+ghost use Rattle.dg_history.specs.declared.start_fault.StartFault.{StartFault};
+ghost use Rattle.dg_history.specs.declared.start_fault.StartFault.TheVariants as start_fault;
+ghost use Rattle.dg_history.specs.History.{History};
+ghost use Rattle.dg_history.specs.LegalHistory.{StandsAs};
+ghost use Rattle.dg_machine.specs.MachineState.{IsWithin, machine_at};
+ghost use Rattle.dg_history.specs.SessionStart.{start_of};
 ghost use Rattle.deltagraph.specs.Ends.{is_unbegun};
 ghost use Rattle.deltagraph.specs.Served.{Completes, Served, is_written_form};
 
@@ -15,7 +15,8 @@ use crate::words::are_written;
 use dg_disk::Disk;
 use dg_io::{Lines, Sink, Source};
 use dg_line::write_reply;
-use dg_model::{EVENTS_MAX, FILE_BYTES_MAX, Limits, SCRIPT_BYTES_MAX};
+use dg_history::{EVENTS_MAX, FILE_BYTES_MAX};
+use dg_machine::{Limits, SCRIPT_BYTES_MAX};
 use dg_session::{Session, Stop};
 use std::alloc::Global;
 use std::thread::Threads;

@@ -1,7 +1,7 @@
 ghost use Rattle.std.specs.Prelude.{◌≡◌};
 ghost use Rattle.deltagraph.specs.Ends.{code_of, end_of};
 
-use dg_model::StartFault;
+use dg_history::StartFault;
 
 /// How a run ended.
 #[derive(Clone, Copy, Debug, PartialEq, Eq)]

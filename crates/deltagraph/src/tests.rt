@@ -1,12 +1,14 @@
 ghost use Rattle.std.specs.Prelude.{◌<◌};
-ghost use Rattle.dg_model.specs.Machine.{IsWithin};
+ghost use Rattle.dg_machine.specs.MachineState.{IsWithin};
 
 use crate::serve::{serve, serve_with};
 use crate::status::Status;
 use crate::words::index_word;
 use dg_disk::MemoryDisk;
 use dg_io::{MemorySink, MemorySource};
-use dg_model::{Column, EVENTS_MAX, FILE_BYTES_MAX, Key, Limits, SCRIPT_BYTES_MAX, StartFault};
+use dg_graph::Column;
+use dg_history::{EVENTS_MAX, FILE_BYTES_MAX, Key, StartFault};
+use dg_machine::{Limits, SCRIPT_BYTES_MAX};
 use std::alloc::Global;
 use std::test::Fail;
 use std::thread::Threads;

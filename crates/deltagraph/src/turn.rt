@@ -1,7 +1,7 @@
 ghost use Rattle.std.specs.Prelude.{◌≡◌, ◌<◌, ◌≤◌, ℕ, IsTrue, List, IfOk, IfSome, OnOk, IsErrOf, is_some};
 ghost use Rattle.dg_io.specs.Told.{Rose};
 ghost use Rattle.dg_io.specs.Reading.{told, to_come, NeedsByte};
-ghost use Rattle.dg_model.specs.Answer.{headed};
+ghost use Rattle.dg_machine.specs.Answer.{headed};
 ghost use Rattle.dg_session.specs.Session.{IsHeldBy};
 ghost use Rattle.deltagraph.specs.Turns.{Breaks, BreaksAt, EndsAt, Falls, GoesOn, Means, Turns, TurnsAt, asked};
 ghost use Rattle.deltagraph.specs.Takes.{Takes};
@@ -9,7 +9,7 @@ ghost use Rattle.deltagraph.specs.Takes.{Takes};
 use dg_disk::Disk;
 use dg_io::{Line, LineFault, Lines, Source};
 use dg_line::{Syntax, read_command};
-use dg_model::{BodyLines, Command, Head, Refusal, Reply};
+use dg_machine::{BodyLines, Command, Head, Refusal, Reply};
 use dg_session::{Session, Stop};
 use std::alloc::Global;
 use std::thread::Threads;

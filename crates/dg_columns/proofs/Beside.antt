@@ -2,12 +2,12 @@
 use Rattle.std.proofs.Common.{◌≡◌, ℕ, zero, suc, ◌+◌, Bool, true, false, cond, List, [], ◌∷◌, length, Option, Some, None, Result, Ok, Err, refl, sym, ap, ◌∙◌}
 use Rattle.std.specs.Prelude.{not, ◌&&◌, ◌==◌}
 use Rattle.std.proofs.lemmas.Bool.{true≢false, eq-eqb, or_right}
-use Rattle.dg_model.specs.declared.element.Column.{Column}
-use Rattle.dg_model.specs.declared.element.Element.{Element}
-use Rattle.dg_model.specs.Composition.{Delta}
-use Rattle.dg_model.specs.Elements.{has, same}
-use Rattle.dg_model.specs.Reading.{and_read, any_number, four_bytes, element_at, element_size, rises_from, elements_at, end_at, delta_in}
-use Rattle.dg_model.proofs.Sets.{has_first}
+use Rattle.dg_graph.specs.declared.element.Column.{Column}
+use Rattle.dg_graph.specs.declared.element.Element.{Element}
+use Rattle.dg_graph.specs.Composition.{Delta}
+use Rattle.dg_graph.specs.Elements.{has, same}
+use Rattle.dg_graph.specs.ColumnGrammar.{and_read, any_number, four_bytes, element_at, element_size, rises_from, elements_at, end_at, delta_in}
+use Rattle.dg_graph.proofs.Sets.{has_first}
 use Rattle.dg_delta.specs.Deltas.{AreApart}
 use Rattle.dg_columns.specs.Fields.{next_element_at}
 use Rattle.dg_columns.proofs.Elements.{elements_step, elements_are, bind_ok, passed, both, done}

@@ -4,14 +4,14 @@ use Rattle.std.specs.Prelude.{◌&&◌, ◌||◌, ◌==◌, not, nat_lt, nat_le,
 use Rattle.std.specs.List.{flat_map}
 use Rattle.std.proofs.lemmas.Bool.{and_from, lt-ltb, eq-eqb, ne_eqb, true≢false}
 use Rattle.std.proofs.lemmas.List.{length-drop, append-nil}
-use Rattle.dg_model.specs.declared.element.Column.{Column}
-use Rattle.dg_model.specs.declared.element.Element.{Element}
-use Rattle.dg_model.specs.declared.element.Element.TheVariants as element
-use Rattle.dg_model.specs.Columns.{four, eight, element_bytes, same_column, in_column, part_bytes, parts_bytes}
-use Rattle.dg_model.specs.Composition.{Delta, IsDelta}
-use Rattle.dg_model.specs.Elements.{bit, column_of, before, has, same, IsSet, IsBelowFirst}
-use Rattle.dg_model.specs.Reading.{and_read, any_number, one_byte, four_bytes, eight_bytes, value_element, element_at, element_size, rises_from, elements_at, end_at, delta_in}
-use Rattle.dg_model.proofs.Sets.{IsBelowFirst-trans, has-filter, has_first}
+use Rattle.dg_graph.specs.declared.element.Column.{Column}
+use Rattle.dg_graph.specs.declared.element.Element.{Element}
+use Rattle.dg_graph.specs.declared.element.Element.TheVariants as element
+use Rattle.dg_graph.specs.Columns.{four, eight, element_bytes, same_column, in_column, part_bytes, parts_bytes}
+use Rattle.dg_graph.specs.Composition.{Delta, IsDelta}
+use Rattle.dg_graph.specs.Elements.{bit, column_of, before, has, same, IsSet, IsBelowFirst}
+use Rattle.dg_graph.specs.ColumnGrammar.{and_read, any_number, one_byte, four_bytes, eight_bytes, value_element, element_at, element_size, rises_from, elements_at, end_at, delta_in}
+use Rattle.dg_graph.proofs.Sets.{IsBelowFirst-trans, has-filter, has_first}
 use Rattle.dg_columns.specs.Fields.{next_element_at}
 use Rattle.dg_columns.specs.Laws.{DeltasAreReadBack}
 use Rattle.dg_columns.specs.Ranges.{ElementFits, ElementsFit}

@@ -3,11 +3,11 @@ use Rattle.std.proofs.Common.{◌≡◌, ℕ, zero, suc, ◌-◌, ◌+◌, ◌�
 use Rattle.std.specs.Prelude.{not, ◌&&◌, ◌||◌, IfSome}
 use Rattle.std.proofs.lemmas.List.{append-nil}
 use Rattle.std.proofs.lemmas.Bool.{true≢false}
-use Rattle.dg_model.specs.declared.element.Column.{Column}
-use Rattle.dg_model.specs.declared.element.Element.{Element}
-use Rattle.dg_model.specs.Elements.{IsSet, IsBelowFirst, before, has, same}
-use Rattle.dg_model.specs.Reading.{and_read, any_number, four_bytes, eight_bytes, value_element, element_at, element_size, elements_at, rises_from}
-use Rattle.dg_model.proofs.Sets.{element_exact}
+use Rattle.dg_graph.specs.declared.element.Column.{Column}
+use Rattle.dg_graph.specs.declared.element.Element.{Element}
+use Rattle.dg_graph.specs.Elements.{IsSet, IsBelowFirst, before, has, same}
+use Rattle.dg_graph.specs.ColumnGrammar.{and_read, any_number, four_bytes, eight_bytes, value_element, element_at, element_size, elements_at, rises_from}
+use Rattle.dg_graph.proofs.Sets.{element_exact}
 use Rattle.dg_delta.specs.Deltas.{AreApart}
 use Rattle.dg_columns.specs.declared.delta_reading.AttrFields.{AttrFields}
 use Rattle.dg_columns.specs.declared.fault.ReadFault.{ReadFault}

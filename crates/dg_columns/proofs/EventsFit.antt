@@ -3,15 +3,15 @@ use Rattle.std.proofs.Common.{◌≡◌, ℕ, zero, suc, ◌+◌, ◌-◌, ◌<�
 use Rattle.std.specs.Prelude.{not, ◌&&◌, ◌||◌, ◌==◌, nat_lt, nat_le, IfSome, is_some}
 use Rattle.std.specs.Int.{Width, w8, w16, w32, w64, from_be_bytes}
 use Rattle.std.proofs.lemmas.Bool.{ltb-true, leb-true, eqb-false}
-use Rattle.dg_model.specs.declared.element.Column.{Column}
-use Rattle.dg_model.specs.declared.element.Column.TheVariants as column
-use Rattle.dg_model.specs.declared.event.Body.{Body}
-use Rattle.dg_model.specs.declared.event.Body.TheVariants as body
-use Rattle.dg_model.specs.declared.event.Event.{Event}
-use Rattle.dg_model.specs.declared.limits.TheConstants.{TIME_MAX}
-use Rattle.dg_model.specs.declared.placed.Placed.{Placed}
-use Rattle.dg_model.specs.Columns.{same_column, column_of_body}
-use Rattle.dg_model.specs.Reading.{and_read, any_number, field, one_byte, two_bytes, four_bytes, eight_bytes, edge_fields, value_of, value_fields, structure_body, body_at, body_size, end_at, events_at, events_in}
+use Rattle.dg_graph.specs.declared.element.Column.{Column}
+use Rattle.dg_graph.specs.declared.element.Column.TheVariants as column
+use Rattle.dg_graph.specs.declared.event.Body.{Body}
+use Rattle.dg_graph.specs.declared.event.Body.TheVariants as body
+use Rattle.dg_graph.specs.declared.event.Event.{Event}
+use Rattle.dg_graph.specs.declared.limits.TheConstants.{TIME_MAX}
+use Rattle.dg_graph.specs.declared.placed.Placed.{Placed}
+use Rattle.dg_graph.specs.Columns.{same_column, column_of_body}
+use Rattle.dg_graph.specs.ColumnGrammar.{and_read, any_number, field, one_byte, two_bytes, four_bytes, eight_bytes, edge_fields, value_of, value_fields, structure_body, body_at, body_size, end_at, events_at, events_in}
 use Rattle.dg_columns.specs.Fields.{placed_at}
 use Rattle.dg_columns.specs.Fitting.{PositionsRise, PlacedFit, EventsThatAreReadFit}
 use Rattle.dg_columns.specs.Ranges.{EdgeFits, ChangeFits, BodyFits, EventFits, EventsFit}

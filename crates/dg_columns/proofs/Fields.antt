@@ -4,8 +4,8 @@ use Rattle.std.specs.Int.{Width, w8, w16, w32, w64, from_be_bytes}
 use Rattle.std.proofs.lemmas.Bool.{cases_lt, ltb-false, le-ltb}
 use Rattle.std.proofs.lemmas.List.{take_at, drop_at, take-append-drop, drop-drop, length-append, length-take, length-drop, get_or-drop, get_or-take, get_or_past}
 use Rattle.std.proofs.lemmas.Nat.{be_bytes_2, be_bytes_4, be_bytes_8, from_be_bytes-to_be_bytes_2, from_be_bytes-to_be_bytes_4, from_be_bytes-to_be_bytes_8}
-use Rattle.dg_model.specs.Columns.{two, four, eight}
-use Rattle.dg_model.specs.Reading.{field}
+use Rattle.dg_graph.specs.Columns.{two, four, eight}
+use Rattle.dg_graph.specs.ColumnGrammar.{field}
 use Rattle.dg_columns.specs.Laws.{AreBytes}
 
 -- ---- bytes

@@ -5,14 +5,14 @@ use Rattle.std.specs.Int.{Width, w8, w32, w64, from_be_bytes}
 use Rattle.std.proofs.lemmas.Bool.{ltb-true}
 use Rattle.std.proofs.lemmas.List.{get_or_default}
 use Rattle.dg_columns.specs.Laws.{AreBytes}
-use Rattle.dg_model.specs.declared.element.Column.{Column}
-use Rattle.dg_model.specs.declared.element.Column.TheVariants as column
-use Rattle.dg_model.specs.declared.element.Element.{Element}
-use Rattle.dg_model.specs.declared.element.Element.TheVariants as element
-use Rattle.dg_model.specs.Columns.{same_column, in_column}
-use Rattle.dg_model.specs.Composition.{Delta, IsDelta}
-use Rattle.dg_model.specs.Elements.{column_of, has}
-use Rattle.dg_model.specs.Reading.{and_read, any_number, field, one_byte, four_bytes, eight_bytes, edge_fields, value_element, element_at, element_size, rises_from, elements_at, end_at, delta_in}
+use Rattle.dg_graph.specs.declared.element.Column.{Column}
+use Rattle.dg_graph.specs.declared.element.Column.TheVariants as column
+use Rattle.dg_graph.specs.declared.element.Element.{Element}
+use Rattle.dg_graph.specs.declared.element.Element.TheVariants as element
+use Rattle.dg_graph.specs.Columns.{same_column, in_column}
+use Rattle.dg_graph.specs.Composition.{Delta, IsDelta}
+use Rattle.dg_graph.specs.Elements.{column_of, has}
+use Rattle.dg_graph.specs.ColumnGrammar.{and_read, any_number, field, one_byte, four_bytes, eight_bytes, edge_fields, value_element, element_at, element_size, rises_from, elements_at, end_at, delta_in}
 use Rattle.dg_delta.specs.Deltas.{AreApart}
 use Rattle.dg_columns.specs.Fields.{next_element_at}
 use Rattle.dg_columns.specs.Fitting.{DeltaFits, DeltasThatAreReadFit}

@@ -2,14 +2,14 @@
 use Rattle.std.proofs.Common.{◌≡◌, ℕ, suc, ◌+◌, ◌<◌, ◌≤◌, Bool, true, false, cond, not, ◌||◌, ◌&&◌, List, [], ◌∷◌, ◌++◌, length, filter, refl, sym, ap, subst, ◌∙◌, IsTrue, arith}
 use Rattle.std.proofs.lemmas.Bool.{true≢false, false≢true, or_right}
 use Rattle.std.proofs.lemmas.List.Folds.{list_any-append}
-use Rattle.dg_model.specs.declared.element.Column.{Column}
-use Rattle.dg_model.specs.declared.element.Column.TheVariants as column
-use Rattle.dg_model.specs.declared.element.Element.{Element}
-use Rattle.dg_model.specs.declared.element.Element.TheVariants.{Node, Edge, NodeAttr, EdgeAttr}
-use Rattle.dg_model.specs.Columns.{same_column, in_column}
-use Rattle.dg_model.specs.Composition.{Delta, IsDelta}
-use Rattle.dg_model.specs.Elements.{IsSet, IsBelowFirst, before, column_of, has, same}
-use Rattle.dg_model.proofs.Sets.{element_exact, same_members, has_first, has-filter, IsSet-filter}
+use Rattle.dg_graph.specs.declared.element.Column.{Column}
+use Rattle.dg_graph.specs.declared.element.Column.TheVariants as column
+use Rattle.dg_graph.specs.declared.element.Element.{Element}
+use Rattle.dg_graph.specs.declared.element.Element.TheVariants.{Node, Edge, NodeAttr, EdgeAttr}
+use Rattle.dg_graph.specs.Columns.{same_column, in_column}
+use Rattle.dg_graph.specs.Composition.{Delta, IsDelta}
+use Rattle.dg_graph.specs.Elements.{IsSet, IsBelowFirst, before, column_of, has, same}
+use Rattle.dg_graph.proofs.Sets.{element_exact, same_members, has_first, has-filter, IsSet-filter}
 use Rattle.dg_delta.specs.Deltas.{AreApart, joined}
 use Rattle.dg_columns.specs.Fitting.{IsIn, joined_columns, part_in, PartsAreJoinedBack}
 

@@ -1,8 +1,8 @@
 -- Reading events one after another, as a loop does.
 use Rattle.std.proofs.Common.{◌≡◌, ℕ, suc, ◌-◌, ◌+◌, ◌≤◌, ◌<◌, List, [], ◌∷◌, ◌++◌, Result, Ok, Err, refl, sym, ap, ◌∙◌, append_assoc, arith}
-use Rattle.dg_model.specs.declared.element.Column.{Column}
-use Rattle.dg_model.specs.declared.placed.Placed.{Placed}
-use Rattle.dg_model.specs.Reading.{and_read, body_size, end_at, events_at}
+use Rattle.dg_graph.specs.declared.element.Column.{Column}
+use Rattle.dg_graph.specs.declared.placed.Placed.{Placed}
+use Rattle.dg_graph.specs.ColumnGrammar.{and_read, body_size, end_at, events_at}
 use Rattle.dg_columns.specs.declared.fault.ReadFault.{ReadFault}
 use Rattle.dg_columns.specs.declared.fault.ReadFault.TheVariants as fault
 use Rattle.dg_columns.specs.Gives.{Fails}

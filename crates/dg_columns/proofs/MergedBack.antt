@@ -4,12 +4,12 @@ use Rattle.std.specs.Prelude.{◌==◌, find}
 use Rattle.std.specs.Option.{option_map, option_or, option_and_then}
 use Rattle.std.proofs.lemmas.Bool.{eq-eqb, ne_eqb, eqb-true}
 use Rattle.std.proofs.lemmas.List.Folds.{find-append}
-use Rattle.dg_model.specs.declared.element.Column.{Column}
-use Rattle.dg_model.specs.declared.element.Column.TheVariants as column
-use Rattle.dg_model.specs.declared.event.Event.{Event}
-use Rattle.dg_model.specs.declared.placed.Placed.{Placed}
-use Rattle.dg_model.specs.Columns.{same_column, column_of_body, placed_from, placed_in}
-use Rattle.dg_model.specs.Merging.{at_positions, if_never_fall}
+use Rattle.dg_graph.specs.declared.element.Column.{Column}
+use Rattle.dg_graph.specs.declared.element.Column.TheVariants as column
+use Rattle.dg_graph.specs.declared.event.Event.{Event}
+use Rattle.dg_graph.specs.declared.placed.Placed.{Placed}
+use Rattle.dg_graph.specs.Columns.{same_column, column_of_body, placed_from, placed_in}
+use Rattle.dg_graph.specs.ColumnMerge.{at_positions, if_never_fall}
 use Rattle.dg_columns.specs.Laws.{EventsAreMergedBack}
 
 abbrev stands_at : ℕ → Placed → Bool

@@ -5,18 +5,18 @@ use Rattle.std.specs.Int.{w8, w16, w32, w64}
 use Rattle.std.specs.List.{flat_map}
 use Rattle.std.proofs.lemmas.Bool.{eqb-true, eqb-false, ltb-true, leb-true}
 use Rattle.std.proofs.lemmas.List.{append-nil, drop_all}
-use Rattle.dg_model.specs.declared.element.Column.{Column}
-use Rattle.dg_model.specs.declared.element.Column.TheVariants as column
-use Rattle.dg_model.specs.declared.element.Element.{Element}
-use Rattle.dg_model.specs.declared.element.Element.TheVariants as element
-use Rattle.dg_model.specs.declared.event.Body.{Body}
-use Rattle.dg_model.specs.declared.event.Body.TheVariants as body
-use Rattle.dg_model.specs.declared.limits.TheConstants.{TIME_MAX}
-use Rattle.dg_model.specs.declared.placed.Placed.{Placed}
-use Rattle.dg_model.specs.Columns.{two, four, eight, value_bytes, body_bytes, placed_bytes, counted, element_bytes, part_bytes, parts_bytes}
-use Rattle.dg_model.specs.Composition.{Delta}
-use Rattle.dg_model.specs.Elements.{bit, has}
-use Rattle.dg_model.specs.Reading.{and_read, any_number, one_byte, two_bytes, four_bytes, eight_bytes, edge_fields, value_of, value_fields, structure_body, body_at, body_size, end_at, events_at, events_in, value_element, element_at, element_size, rises_from, elements_at, delta_in}
+use Rattle.dg_graph.specs.declared.element.Column.{Column}
+use Rattle.dg_graph.specs.declared.element.Column.TheVariants as column
+use Rattle.dg_graph.specs.declared.element.Element.{Element}
+use Rattle.dg_graph.specs.declared.element.Element.TheVariants as element
+use Rattle.dg_graph.specs.declared.event.Body.{Body}
+use Rattle.dg_graph.specs.declared.event.Body.TheVariants as body
+use Rattle.dg_graph.specs.declared.limits.TheConstants.{TIME_MAX}
+use Rattle.dg_graph.specs.declared.placed.Placed.{Placed}
+use Rattle.dg_graph.specs.Columns.{two, four, eight, value_bytes, body_bytes, placed_bytes, counted, element_bytes, part_bytes, parts_bytes}
+use Rattle.dg_graph.specs.Composition.{Delta}
+use Rattle.dg_graph.specs.Elements.{bit, has}
+use Rattle.dg_graph.specs.ColumnGrammar.{and_read, any_number, one_byte, two_bytes, four_bytes, eight_bytes, edge_fields, value_of, value_fields, structure_body, body_at, body_size, end_at, events_at, events_in, value_element, element_at, element_size, rises_from, elements_at, delta_in}
 use Rattle.dg_columns.specs.Fields.{placed_at, next_element_at}
 use Rattle.dg_columns.specs.Laws.{EventsHaveOneSpelling, DeltasHaveOneSpelling}
 use Rattle.dg_columns.proofs.Steps.{events_after, events_step}

@@ -5,16 +5,16 @@ use Rattle.std.specs.Int.{w8, w16, w32, w64}
 use Rattle.std.specs.List.{flat_map}
 use Rattle.std.proofs.lemmas.Bool.{and_from, lt-ltb, le-leb, eq-eqb, ne_eqb}
 use Rattle.std.proofs.lemmas.List.{length-drop}
-use Rattle.dg_model.specs.declared.element.Column.{Column}
-use Rattle.dg_model.specs.declared.element.Column.TheVariants as column
-use Rattle.dg_model.specs.declared.event.Body.{Body}
-use Rattle.dg_model.specs.declared.event.Body.TheVariants as body
-use Rattle.dg_model.specs.declared.event.Event.{Event}
-use Rattle.dg_model.specs.declared.limits.TheConstants.{TIME_MAX}
-use Rattle.dg_model.specs.declared.placed.Placed.{Placed}
-use Rattle.dg_model.specs.Columns.{two, four, eight, value_bytes, body_bytes, placed_bytes, placed_from, placed_in, counted, column_of_body, same_column}
-use Rattle.dg_model.specs.Elements.{bit}
-use Rattle.dg_model.specs.Reading.{and_read, any_number, one_byte, two_bytes, four_bytes, eight_bytes, edge_fields, value_of, value_fields, body_at, body_size, events_at, events_in}
+use Rattle.dg_graph.specs.declared.element.Column.{Column}
+use Rattle.dg_graph.specs.declared.element.Column.TheVariants as column
+use Rattle.dg_graph.specs.declared.event.Body.{Body}
+use Rattle.dg_graph.specs.declared.event.Body.TheVariants as body
+use Rattle.dg_graph.specs.declared.event.Event.{Event}
+use Rattle.dg_graph.specs.declared.limits.TheConstants.{TIME_MAX}
+use Rattle.dg_graph.specs.declared.placed.Placed.{Placed}
+use Rattle.dg_graph.specs.Columns.{two, four, eight, value_bytes, body_bytes, placed_bytes, placed_from, placed_in, counted, column_of_body, same_column}
+use Rattle.dg_graph.specs.Elements.{bit}
+use Rattle.dg_graph.specs.ColumnGrammar.{and_read, any_number, one_byte, two_bytes, four_bytes, eight_bytes, edge_fields, value_of, value_fields, body_at, body_size, events_at, events_in}
 use Rattle.dg_columns.specs.Fields.{placed_at}
 use Rattle.dg_columns.specs.Laws.{EventsAreReadBack}
 use Rattle.dg_columns.specs.Ranges.{EdgeFits, ChangeFits, BodyFits, EventFits, EventsFit}

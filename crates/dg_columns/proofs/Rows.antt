@@ -5,9 +5,9 @@ use Rattle.std.specs.Option.{option_map, option_or, option_and_then}
 use Rattle.std.proofs.lemmas.Bool.{eq-eqb, ne_eqb, true≢false, false≢true}
 use Rattle.std.proofs.lemmas.List.{drop_more, set-get_or, take-append-le, take_all, length-append}
 use Rattle.std.proofs.lemmas.List.Folds.{find-append}
-use Rattle.dg_model.specs.declared.event.Event.{Event}
-use Rattle.dg_model.specs.declared.placed.Placed.{Placed}
-use Rattle.dg_model.specs.Merging.{never_fall, at_positions, if_never_fall, merged}
+use Rattle.dg_graph.specs.declared.event.Event.{Event}
+use Rattle.dg_graph.specs.declared.placed.Placed.{Placed}
+use Rattle.dg_graph.specs.ColumnMerge.{never_fall, at_positions, if_never_fall, merged}
 use Rattle.dg_columns.specs.Rows.{event_at, filled, events_of}
 
 -- ---- filling

@@ -1,11 +1,11 @@
 -- How the fields that are read one after another are read in groups.
 use Rattle.std.proofs.Common.{◌≡◌, ℕ, suc, ◌+◌, List, ◌∷◌, Option, Result, Ok, Err, refl}
-use Rattle.dg_model.specs.declared.element.Column.{Column}
-use Rattle.dg_model.specs.declared.event.Body.{Body}
-use Rattle.dg_model.specs.declared.limits.TheConstants.{TIME_MAX}
-use Rattle.dg_model.specs.declared.placed.Placed.{Placed}
+use Rattle.dg_graph.specs.declared.element.Column.{Column}
+use Rattle.dg_graph.specs.declared.event.Body.{Body}
+use Rattle.dg_graph.specs.declared.limits.TheConstants.{TIME_MAX}
+use Rattle.dg_graph.specs.declared.placed.Placed.{Placed}
 use Rattle.std.specs.Prelude.{◌==◌, ◌&&◌, not, nat_le, nat_lt}
-use Rattle.dg_model.specs.Reading.{and_read, any_number, two_bytes, four_bytes, eight_bytes, value_of, value_fields, body_at, body_size, events_at}
+use Rattle.dg_graph.specs.ColumnGrammar.{and_read, any_number, two_bytes, four_bytes, eight_bytes, value_of, value_fields, body_at, body_size, events_at}
 use Rattle.dg_columns.specs.declared.event_fields.ValueFields.{ValueFields}
 use Rattle.dg_columns.specs.Fields.{value_at, placed_at}
 

@@ -1,12 +1,12 @@
 -- The fields of events and elements, as groups that are read and written together.
 use Rattle.std.specs.Prelude.{ℕ, ◌+◌, ◌&&◌, ◌==◌, not, List, [], ◌∷◌, ◌++◌, Option, Result, Ok, Err, if◌then◌else◌, nat_lt, nat_le}
-use Rattle.dg_model.specs.declared.element.Column.{Column}
-use Rattle.dg_model.specs.declared.element.Element.{Element}
-use Rattle.dg_model.specs.declared.limits.TheConstants.{TIME_MAX}
-use Rattle.dg_model.specs.declared.placed.Placed.{Placed}
-use Rattle.dg_model.specs.Columns.{four, eight, value_bytes}
-use Rattle.dg_model.specs.Elements.{bit, has}
-use Rattle.dg_model.specs.Reading.{and_read, any_number, one_byte, two_bytes, four_bytes, eight_bytes, value_of, body_at, element_at, rises_from}
+use Rattle.dg_graph.specs.declared.element.Column.{Column}
+use Rattle.dg_graph.specs.declared.element.Element.{Element}
+use Rattle.dg_graph.specs.declared.limits.TheConstants.{TIME_MAX}
+use Rattle.dg_graph.specs.declared.placed.Placed.{Placed}
+use Rattle.dg_graph.specs.Columns.{four, eight, value_bytes}
+use Rattle.dg_graph.specs.Elements.{bit, has}
+use Rattle.dg_graph.specs.ColumnGrammar.{and_read, any_number, one_byte, two_bytes, four_bytes, eight_bytes, value_of, body_at, element_at, rises_from}
 use Rattle.dg_columns.specs.declared.delta_reading.AttrFields.{AttrFields}
 use Rattle.dg_columns.specs.declared.edge.EdgeFields.{EdgeFields}
 use Rattle.dg_columns.specs.declared.event_fields.ValueFields.{ValueFields}

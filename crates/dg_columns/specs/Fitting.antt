@@ -1,12 +1,12 @@
 -- What is read fits: it rises, stands in its column, and names what is there.
 use Rattle.std.specs.Prelude.{ℕ, ◌+◌, ◌≡◌, ◌<◌, ◌≤◌, ◌^◌, List, [], ◌∷◌, Ok, map, filter}
-use Rattle.dg_model.specs.declared.element.Column.{Column}
-use Rattle.dg_model.specs.declared.element.Column.TheVariants as column
+use Rattle.dg_graph.specs.declared.element.Column.{Column}
+use Rattle.dg_graph.specs.declared.element.Column.TheVariants as column
 use Rattle.dg_delta.specs.Deltas.{joined}
-use Rattle.dg_model.specs.Columns.{in_column, same_column, column_of_body}
-use Rattle.dg_model.specs.Composition.{Delta, IsDelta}
-use Rattle.dg_model.specs.Reading.{delta_in, events_in}
-use Rattle.dg_model.specs.declared.placed.Placed.{Placed}
+use Rattle.dg_graph.specs.Columns.{in_column, same_column, column_of_body}
+use Rattle.dg_graph.specs.Composition.{Delta, IsDelta}
+use Rattle.dg_graph.specs.ColumnGrammar.{delta_in, events_in}
+use Rattle.dg_graph.specs.declared.placed.Placed.{Placed}
 use Rattle.dg_columns.specs.Laws.{AreBytes}
 use Rattle.dg_columns.specs.Ranges.{ElementsFit, EventsFit}
 

@@ -1,13 +1,13 @@
 -- The laws of columns, as they are proved.
 use Rattle.std.specs.Prelude.{ℕ, ◌≡◌, ◌<◌, ◌≤◌, ◌^◌, true, List, length, All, Some, Ok}
-use Rattle.dg_model.specs.declared.element.Column.{Column}
-use Rattle.dg_model.specs.declared.element.Column.TheVariants as column
-use Rattle.dg_model.specs.declared.event.Event.{Event}
-use Rattle.dg_model.specs.declared.placed.Placed.{Placed}
-use Rattle.dg_model.specs.Columns.{counted, parts_bytes, in_column, placed_in, events_column, delta_column}
-use Rattle.dg_model.specs.Composition.{Delta, IsDelta}
-use Rattle.dg_model.specs.Merging.{never_fall, merged}
-use Rattle.dg_model.specs.Reading.{events_in, delta_in}
+use Rattle.dg_graph.specs.declared.element.Column.{Column}
+use Rattle.dg_graph.specs.declared.element.Column.TheVariants as column
+use Rattle.dg_graph.specs.declared.event.Event.{Event}
+use Rattle.dg_graph.specs.declared.placed.Placed.{Placed}
+use Rattle.dg_graph.specs.Columns.{counted, parts_bytes, in_column, placed_in, events_column, delta_column}
+use Rattle.dg_graph.specs.Composition.{Delta, IsDelta}
+use Rattle.dg_graph.specs.ColumnMerge.{never_fall, merged}
+use Rattle.dg_graph.specs.ColumnGrammar.{events_in, delta_in}
 use Rattle.dg_columns.specs.Ranges.{EventsFit, ElementsFit}
 
 abbrev pub AreBytes : List ℕ → Type 0

@@ -1,7 +1,7 @@
 -- The numbers of names that a column can spell.
 use Rattle.std.specs.Prelude.{ℕ, ◌^◌, ◌<◌, Option, IfSome}
-use Rattle.dg_model.specs.declared.event.Body.{Body}
-use Rattle.dg_model.specs.declared.event.Body.TheVariants as body
+use Rattle.dg_graph.specs.declared.event.Body.{Body}
+use Rattle.dg_graph.specs.declared.event.Body.TheVariants as body
 
 -- the names of a key and of two values
 abbrev pub ValueNamesFit : ℕ → Option ℕ → Option ℕ → Type 0

@@ -1,8 +1,8 @@
 -- The row of the places of a list of events, as the columns fill it.
 use Rattle.std.specs.Prelude.{ℕ, ◌+◌, ◌==◌, List, [], ◌∷◌, Option, Some, find}
 use Rattle.std.specs.Option.{option_map, option_or, option_and_then}
-use Rattle.dg_model.specs.declared.event.Event.{Event}
-use Rattle.dg_model.specs.declared.placed.Placed.{Placed}
+use Rattle.dg_graph.specs.declared.event.Event.{Event}
+use Rattle.dg_graph.specs.declared.placed.Placed.{Placed}
 
 -- the first event at the position
 abbrev pub event_at : ℕ → List Placed → Option Event

@@ -1,8 +1,8 @@
 -- Three columns whose positions rise, taken together event by event.
 use Rattle.std.specs.Prelude.{ℕ, zero, suc, ◌+◌, ◌==◌, Bool, false, List, [], ◌∷◌, Option, Some, None, if◌then◌else◌, nat_le, option_and_then}
 use Rattle.std.specs.Option.{option_map, option_or}
-use Rattle.dg_model.specs.declared.event.Event.{Event}
-use Rattle.dg_model.specs.declared.placed.Placed.{Placed}
+use Rattle.dg_graph.specs.declared.event.Event.{Event}
+use Rattle.dg_graph.specs.declared.placed.Placed.{Placed}
 
 -- the event at a position, and what is left of the columns behind it
 pub record Step : Type 0 where

@@ -1,8 +1,8 @@
 //! Reading a delta's column.
 
 ghost use Rattle.std.specs.Prelude.{◌≡◌, ◌+◌, ◌≤◌, ◌==◌, ◌&&◌, not, length, Ok, IfOk, IfErr, IfSome, OnOk};
-ghost use Rattle.dg_model.specs.Elements.{element_cmp};
-ghost use Rattle.dg_model.specs.Reading.{four_bytes, element_at, element_size, rises_from, elements_at, delta_in};
+ghost use Rattle.dg_graph.specs.Elements.{element_cmp};
+ghost use Rattle.dg_graph.specs.ColumnGrammar.{four_bytes, element_at, element_size, rises_from, elements_at, delta_in};
 ghost use Rattle.dg_delta.specs.Deltas.{AreApart};
 ghost use Rattle.dg_columns.specs.Gives.{Gives, Fails};
 ghost use Rattle.dg_columns.specs.Fields.{attr_at, next_element_at};
@@ -15,7 +15,7 @@ use crate::layout::{COUNT_SIZE, EDGE, NODE, SMALLEST_ELEMENT};
 use crate::numbers::{byte_at, name_at, u32_at, u64_at};
 use crate::quick::set_here;
 use dg_delta::{Delta, Element, Set};
-use dg_model::Column;
+use dg_graph::Column;
 use std::alloc::Global;
 use std::cmp::Ordering;
 

@@ -2,14 +2,14 @@
 
 ghost use Rattle.std.specs.Prelude.{◌≡◌, ◌*◌, ◌^◌, ◌≤◌, ◌<◌, ◌++◌, length, IfOk, OnOk};
 ghost use Rattle.std.specs.List.{flat_map};
-ghost use Rattle.dg_model.specs.Elements.{column_of};
-ghost use Rattle.dg_model.specs.Columns.{four, eight, same_column, element_bytes, in_column, part_bytes, delta_column};
-ghost use Rattle.dg_model.specs.Reading.{element_size};
+ghost use Rattle.dg_graph.specs.Elements.{column_of};
+ghost use Rattle.dg_graph.specs.Columns.{four, eight, same_column, element_bytes, in_column, part_bytes, delta_column};
+ghost use Rattle.dg_graph.specs.ColumnGrammar.{element_size};
 
 use crate::edge::{EdgeFields, write_edge, write_node};
 use crate::layout::{COUNT_SIZE, EDGE, EDGE_SIZE, NODE, NODE_SIZE, VALUE_SIZE};
 use dg_delta::{Delta, Element};
-use dg_model::Column;
+use dg_graph::Column;
 use std::alloc::{AllocError, Global};
 
 // How much of a set is to be written.

@@ -1,7 +1,7 @@
 //! The fields of an event after its position and instant.
 
 ghost use Rattle.std.specs.Prelude.{◌≡◌, ◌+◌, ◌≤◌, length, OnOk, IfOk};
-ghost use Rattle.dg_model.specs.Reading.{body_at, body_size, value_of};
+ghost use Rattle.dg_graph.specs.ColumnGrammar.{body_at, body_size, value_of};
 ghost use Rattle.dg_columns.specs.Gives.{Gives};
 ghost use Rattle.dg_columns.specs.Fields.{value_at};
 
@@ -11,7 +11,7 @@ use crate::layout::{
     CHANGE_SIZE, EDGE_ADDED, EDGE_REMOVED, EDGE_SIZE, NODE_ADDED, NODE_REMOVED, NODE_SIZE,
 };
 use crate::numbers::{byte_at, name_at, new_at, old_at, u64_at};
-use dg_model::{Body, Column};
+use dg_graph::{Body, Column};
 
 /// A value's change without its kind.
 #[derive(Clone, Copy, Debug, PartialEq, Eq)]

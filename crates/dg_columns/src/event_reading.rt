@@ -1,7 +1,7 @@
 //! Reading an event column.
 
 ghost use Rattle.std.specs.Prelude.{◌≡◌, ◌+◌, ◌≤◌, length, Ok, IfOk, IfErr};
-ghost use Rattle.dg_model.specs.Reading.{body_size, events_at, events_in};
+ghost use Rattle.dg_graph.specs.ColumnGrammar.{body_size, events_at, events_in};
 ghost use Rattle.dg_columns.specs.Gives.{Gives, Fails};
 ghost use Rattle.dg_columns.specs.Fields.{placed_at};
 ghost use Rattle.dg_columns.specs.Fitting.{PlacedFit};
@@ -10,7 +10,7 @@ use crate::event_fields::{body_at, body_size};
 use crate::fault::ReadFault;
 use crate::layout::{COUNT_SIZE, SMALLEST_EVENT, STAMP_SIZE};
 use crate::numbers::{count_at, position_at, time_at};
-use dg_model::{Column, Event, Placed, TIME_MAX};
+use dg_graph::{Column, Event, Placed, TIME_MAX};
 use std::alloc::Global;
 
 // The event at the place, with its position.

@@ -2,14 +2,14 @@
 
 ghost use Rattle.std.specs.Prelude.{◌≡◌, ◌*◌, ◌^◌, ◌≤◌, ◌<◌, ◌++◌, length, All, IfOk, OnOk, IfSome};
 ghost use Rattle.std.specs.List.{flat_map};
-ghost use Rattle.dg_model.specs.Columns.{four, same_column, column_of_body, value_bytes, body_bytes, placed_bytes, placed_in, events_column};
+ghost use Rattle.dg_graph.specs.Columns.{four, same_column, column_of_body, value_bytes, body_bytes, placed_bytes, placed_in, events_column};
 ghost use Rattle.dg_columns.specs.Fields.{value_field_bytes};
 ghost use Rattle.dg_columns.specs.Names.{NamesFit};
 
 use crate::edge::{EdgeFields, write_edge, write_node};
 use crate::event_fields::{ValueFields, body_size};
 use crate::layout::{COUNT_SIZE, EDGE_ADDED, EDGE_REMOVED, NODE_ADDED, NODE_REMOVED, STAMP_SIZE};
-use dg_model::{Body, Column, Event};
+use dg_graph::{Body, Column, Event};
 use std::alloc::{AllocError, Global};
 
 // How much is to be written.

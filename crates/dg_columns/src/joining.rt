@@ -1,11 +1,11 @@
 //! Joining the three columns of a delta's record to the delta.
 
 ghost use Rattle.std.specs.Prelude.{◌≡◌, IfOk};
-ghost use Rattle.dg_model.specs.Composition.{IsDelta};
+ghost use Rattle.dg_graph.specs.Composition.{IsDelta};
 ghost use Rattle.dg_columns.specs.Fitting.{IsIn, joined_columns};
 
 use dg_delta::Delta;
-use dg_model::Column;
+use dg_graph::Column;
 use std::alloc::AllocError;
 
 /// The delta of three columns, whose elements follow one another in the order of elements. No element

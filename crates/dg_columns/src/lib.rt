@@ -22,7 +22,7 @@ mod tests;
 pub use delta_reading::read_delta;
 pub use delta_writing::write_delta;
 pub use dg_delta::Delta;
-pub use dg_model::{Column, Event, Placed};
+pub use dg_graph::{Column, Event, Placed};
 pub use event_reading::read_events;
 pub use event_writing::write_events;
 pub use fault::ReadFault;

@@ -2,12 +2,12 @@
 
 ghost use Rattle.std.specs.Prelude.{◌≡◌, Some, None, drop, IfOk, IfSome, IsErrOf};
 ghost use Rattle.std.specs.Option.{option_and_then};
-ghost use Rattle.dg_model.specs.Merging.{if_never_fall, merged};
+ghost use Rattle.dg_graph.specs.ColumnMerge.{if_never_fall, merged};
 ghost use Rattle.dg_columns.specs.Rows.{filled, events_of};
 ghost use Rattle.dg_columns.specs.Weaving.{stands_first, step_at, woven};
 ghost use Rattle.dg_columns.specs.declared.merging.MergeFault.TheVariants.{Memory};
 
-use dg_model::{Event, Placed};
+use dg_graph::{Event, Placed};
 use std::alloc::{AllocError, AllocFailed, Global};
 
 /// What keeps three columns from being one list of events.

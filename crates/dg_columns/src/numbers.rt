@@ -2,7 +2,7 @@
 
 ghost use Rattle.std.specs.Prelude.{◌≡◌, ◌+◌, ◌≤◌, ◌&&◌, ◌==◌, not, nat_lt, nat_le, length, take, drop, OnOk};
 ghost use Rattle.std.specs.Int.{from_be_bytes, w8, w32, w64};
-ghost use Rattle.dg_model.specs.Reading.{any_number, one_byte, two_bytes, four_bytes, eight_bytes};
+ghost use Rattle.dg_graph.specs.ColumnGrammar.{any_number, one_byte, two_bytes, four_bytes, eight_bytes};
 ghost use Rattle.dg_columns.specs.Gives.{Gives};
 
 use crate::fault::ReadFault;

@@ -2,8 +2,8 @@
 //! is wrong, and where, is not looked for here.
 
 ghost use Rattle.std.specs.Prelude.{◌≡◌, ◌+◌, ◌≤◌, [], length, Ok, None, IfSome};
-ghost use Rattle.dg_model.specs.Elements.{IsSet};
-ghost use Rattle.dg_model.specs.Reading.{element_at, element_size, elements_at};
+ghost use Rattle.dg_graph.specs.Elements.{IsSet};
+ghost use Rattle.dg_graph.specs.ColumnGrammar.{element_at, element_size, elements_at};
 ghost use Rattle.dg_columns.specs.Fields.{attr_at, edge_at, next_element_at};
 
 use crate::delta_reading::{AttrFields, rises_from};
@@ -12,7 +12,7 @@ use crate::edge::EdgeFields;
 use crate::layout::{EDGE, EDGE_SIZE, NODE, NODE_SIZE, SMALLEST_ELEMENT, VALUE_SIZE};
 use crate::numbers::{byte_here, u32_here, u64_here};
 use dg_delta::{Element, Set};
-use dg_model::Column;
+use dg_graph::Column;
 use std::alloc::Global;
 
 // The fields of a value.

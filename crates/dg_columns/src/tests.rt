@@ -5,7 +5,7 @@ use crate::{
     write_delta, write_events,
 };
 use dg_delta::{Element, Set};
-use dg_model::Body;
+use dg_graph::Body;
 use std::alloc::Global;
 use std::test::Fail;
 

@@ -1,10 +1,10 @@
 -- What deltas say of each element, and the laws that follow.
 use Rattle.std.proofs.Common.{◌≡◌, Bool, true, false, cond, not, ◌||◌, ◌&&◌, List, [], ◌∷◌, refl, sym, ap, ◌∙◌}
-use Rattle.dg_model.specs.declared.element.Element.{Element}
-use Rattle.dg_model.specs.Elements.{IsSet, has}
-use Rattle.dg_model.specs.Sets.{unioned, without_all}
-use Rattle.dg_model.specs.Composition.{Delta, IsDelta, between, applied, Says, In, Out, As_it_was, says, and_then, composition, Composes}
-use Rattle.dg_model.proofs.Sets.{same_members, has-unioned, has-without_all, IsSet-unioned, IsSet-without_all}
+use Rattle.dg_graph.specs.declared.element.Element.{Element}
+use Rattle.dg_graph.specs.Elements.{IsSet, has}
+use Rattle.dg_graph.specs.Sets.{unioned, without_all}
+use Rattle.dg_graph.specs.Composition.{Delta, IsDelta, between, applied, Says, In, Out, As_it_was, says, and_then, composition, Composes}
+use Rattle.dg_graph.proofs.Sets.{same_members, has-unioned, has-without_all, IsSet-unioned, IsSet-without_all}
 use Rattle.dg_delta.specs.Deltas.{AreApart, composed, applied_in_turn, is_in_after}
 use Rattle.dg_delta.specs.Laws.{BetweenLeadsOn, ReversedLeadsBack, DecidesEachElement, AppliesOneAfterTheOther, AppliesEachInTurn, SayTheSameAreEqual, IsAssociative, CanBeCut}
 

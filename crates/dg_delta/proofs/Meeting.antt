@@ -1,10 +1,10 @@
 -- How a walk over two sets finds whether they share an element.
 use Rattle.std.proofs.Common.{◌≡◌, Bool, true, false, ◌&&◌, List, [], ◌∷◌, sym, ap, ◌∙◌}
 use Rattle.std.proofs.lemmas.Bool.{true≢false}
-use Rattle.dg_model.specs.declared.element.Element.{Element}
-use Rattle.dg_model.specs.Elements.{has}
-use Rattle.dg_model.specs.Sets.{met}
-use Rattle.dg_model.proofs.Sets.{has-met, has_first}
+use Rattle.dg_graph.specs.declared.element.Element.{Element}
+use Rattle.dg_graph.specs.Elements.{has}
+use Rattle.dg_graph.specs.Sets.{met}
+use Rattle.dg_graph.proofs.Sets.{has-met, has_first}
 use Rattle.dg_delta.specs.Deltas.{AreApart}
 
 not_both : (a b : Bool) → (a && b) ≡ false → a ≡ true → b ≡ false

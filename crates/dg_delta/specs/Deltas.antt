@@ -1,9 +1,9 @@
 -- What the contracts of deltas say of their sets.
 use Rattle.std.specs.Prelude.{◌≡◌, Bool, true, false, List, [], ◌∷◌, ◌++◌}
-use Rattle.dg_model.specs.declared.element.Element.{Element}
-use Rattle.dg_model.specs.Elements.{has}
-use Rattle.dg_model.specs.Sets.{unioned, without_all}
-use Rattle.dg_model.specs.Composition.{Delta, Says, In, Out, As_it_was, applied}
+use Rattle.dg_graph.specs.declared.element.Element.{Element}
+use Rattle.dg_graph.specs.Elements.{has}
+use Rattle.dg_graph.specs.Sets.{unioned, without_all}
+use Rattle.dg_graph.specs.Composition.{Delta, Says, In, Out, As_it_was, applied}
 
 -- no element is in both
 abbrev pub AreApart : List Element → List Element → Type 0

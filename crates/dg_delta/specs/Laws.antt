@@ -1,8 +1,8 @@
 -- The laws of deltas, as they are proved.
 use Rattle.std.specs.Prelude.{◌≡◌, List, [], ◌∷◌, ◌++◌}
-use Rattle.dg_model.specs.declared.element.Element.{Element}
-use Rattle.dg_model.specs.Elements.{IsSet, has}
-use Rattle.dg_model.specs.Composition.{Delta, IsDelta, between, applied, reversed, says, and_then, composition, Composes}
+use Rattle.dg_graph.specs.declared.element.Element.{Element}
+use Rattle.dg_graph.specs.Elements.{IsSet, has}
+use Rattle.dg_graph.specs.Composition.{Delta, IsDelta, between, applied, reversed, says, and_then, composition, Composes}
 use Rattle.dg_delta.specs.Deltas.{composed, applied_in_turn, is_in_after}
 
 -- the exact delta from a to b leads from a to b

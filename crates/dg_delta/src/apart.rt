@@ -1,5 +1,5 @@
 ghost use Rattle.std.specs.Prelude.{◌↔◌, IsTrue};
-ghost use Rattle.dg_model.specs.Elements.{IsSet};
+ghost use Rattle.dg_graph.specs.Elements.{IsSet};
 ghost use Rattle.dg_delta.specs.Deltas.{AreApart};
 
 use dg_set::Element;

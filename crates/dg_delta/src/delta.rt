@@ -1,6 +1,6 @@
 ghost use Rattle.std.specs.Prelude.{◌≡◌, ◌↔◌, [], ◌∷◌, IfOk, IfSome, IsSome};
-ghost use Rattle.dg_model.specs.Elements.{IsSet};
-ghost use Rattle.dg_model.specs.Composition.{IsDelta, between, applied, reversed, Composes};
+ghost use Rattle.dg_graph.specs.Elements.{IsSet};
+ghost use Rattle.dg_graph.specs.Composition.{IsDelta, between, applied, reversed, Composes};
 ghost use Rattle.dg_delta.specs.Deltas.{AreApart, composed, joined};
 
 use crate::apart::are_apart;
@@ -17,7 +17,7 @@ pub struct Delta {
 }
 
 impl Model for Delta {
-    ghost use Rattle.dg_model.specs.Composition.{Delta, IsDelta};
+    ghost use Rattle.dg_graph.specs.Composition.{Delta, IsDelta};
 
     ghost Value = { Delta };
 

@@ -3,13 +3,13 @@ use Rattle.std.proofs.Common.{◌≡◌, ℕ, zero, suc, ◌+◌, ◌-◌, ◌<�
 use Rattle.std.specs.List.{list_all, list_any}
 use Rattle.std.proofs.lemmas.List.{take_rest, get_or-drop}
 use Rattle.std.proofs.lemmas.List.Folds.{list_all_more, list_any_more}
-use Rattle.dg_model.specs.declared.element.Element.{Element}
-use Rattle.dg_model.specs.declared.params.Function.{Function}
-use Rattle.dg_model.specs.declared.params.Function.TheVariants.{Intersection, Union, Balanced}
-use Rattle.dg_model.specs.Combine.{part, in_first, in_last, in_combined}
-use Rattle.dg_model.specs.Elements.{same, has, put}
-use Rattle.dg_model.specs.Sets.{unioned, met, without_all}
-use Rattle.dg_model.proofs.Sets.{element_exact, has-put, has-filter, has-unioned, has-met, has-without_all}
+use Rattle.dg_graph.specs.declared.element.Element.{Element}
+use Rattle.dg_graph.specs.declared.function.Function.{Function}
+use Rattle.dg_graph.specs.declared.function.Function.TheVariants.{Intersection, Union, Balanced}
+use Rattle.dg_graph.specs.DifferentialFunction.{part, in_first, in_last, in_combined}
+use Rattle.dg_graph.specs.Elements.{same, has, put}
+use Rattle.dg_graph.specs.Sets.{unioned, met, without_all}
+use Rattle.dg_graph.proofs.Sets.{element_exact, has-put, has-filter, has-unioned, has-met, has-without_all}
 
 -- ---- one set
 

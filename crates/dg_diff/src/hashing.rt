@@ -1,9 +1,9 @@
 ghost use Rattle.std.specs.Prelude.{◌≡◌, ◌∷◌, ◌++◌, []};
-ghost use Rattle.dg_model.specs.declared.element.Element.TheVariants.{Edge};
-ghost use Rattle.dg_model.specs.Combine.{canonical, fnv, fnv_from, part};
-ghost use Rattle.dg_model.specs.Columns.{four, eight};
+ghost use Rattle.dg_graph.specs.declared.element.Element.TheVariants.{Edge};
+ghost use Rattle.dg_graph.specs.DifferentialFunction.{canonical, fnv, fnv_from, part};
+ghost use Rattle.dg_graph.specs.Columns.{four, eight};
 
-use dg_model::Element;
+use dg_graph::Element;
 
 /// The FNV-1a hash of 64 bits of no bytes.
 const HASH_START: u64 = 14_695_981_039_346_656_037;

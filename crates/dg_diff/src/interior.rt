@@ -1,11 +1,11 @@
 ghost use Rattle.std.specs.Prelude.{◌≡◌, ◌&&◌, ◌<◌, length, filter, IfOk, if◌then◌else◌};
 ghost use Rattle.std.specs.List.{list_all, list_any};
-ghost use Rattle.dg_model.specs.declared.element.Element.{Element};
-ghost use Rattle.dg_model.specs.Elements.{has};
-ghost use Rattle.dg_model.specs.Combine.{part, in_combined};
+ghost use Rattle.dg_graph.specs.declared.element.Element.{Element};
+ghost use Rattle.dg_graph.specs.Elements.{has};
+ghost use Rattle.dg_graph.specs.DifferentialFunction.{part, in_combined};
 
 use crate::hashing::part;
-use dg_model::Function;
+use dg_graph::Function;
 use dg_set::Set;
 use std::alloc::AllocError;
 

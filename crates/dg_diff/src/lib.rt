@@ -7,6 +7,6 @@ mod interior;
 #[cfg(test)]
 mod tests;
 
-pub use dg_model::Function;
+pub use dg_graph::Function;
 pub use hashing::part;
 pub use interior::combine;

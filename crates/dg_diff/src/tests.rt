@@ -1,5 +1,5 @@
 use crate::{Function, combine, part};
-use dg_model::Element;
+use dg_graph::Element;
 use dg_set::Set;
 use std::alloc::{AllocError, Global};
 use std::test::Fail;

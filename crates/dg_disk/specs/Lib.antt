@@ -1,3 +1,4 @@
+pub mod Frame
 pub mod Counts
 pub mod Image
 pub mod Crash

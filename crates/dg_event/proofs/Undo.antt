@@ -1,8 +1,8 @@
 -- Adding an element undoes its removal, and removing it undoes its addition.
 use Rattle.std.proofs.Common.{◌≡◌, Bool, true, false, not, ◌&&◌, List, Option, Some, None, IfSome, refl, ap, ◌∙◌}
-use Rattle.dg_model.specs.declared.element.Element.{Element}
-use Rattle.dg_model.specs.Elements.{IsSet, has, same, put, take_out, with_one, without}
-use Rattle.dg_model.proofs.Sets.{has-take_out, IsSet-take_out, put-take_out, take_out-put}
+use Rattle.dg_graph.specs.declared.element.Element.{Element}
+use Rattle.dg_graph.specs.Elements.{IsSet, has, same, put, take_out, with_one, without}
+use Rattle.dg_graph.proofs.Sets.{has-take_out, IsSet-take_out, put-take_out, take_out-put}
 
 and_false : (a : Bool) → (a && false) ≡ false
 and_false true = refl

@@ -1,9 +1,9 @@
 -- The law of events: they can be applied forwards and then backwards.
 use Rattle.std.specs.Prelude.{◌≡◌, true, false, List, IfSome}
-use Rattle.dg_model.specs.declared.element.Element.{Element}
-use Rattle.dg_model.specs.declared.event.Event.{Event}
-use Rattle.dg_model.specs.Elements.{IsSet, has}
-use Rattle.dg_model.specs.Effect.{removed_by, added_by, forwards, backwards}
+use Rattle.dg_graph.specs.declared.element.Element.{Element}
+use Rattle.dg_graph.specs.declared.event.Event.{Event}
+use Rattle.dg_graph.specs.Elements.{IsSet, has}
+use Rattle.dg_graph.specs.Effect.{removed_by, added_by, forwards, backwards}
 
 -- the event can happen in the set: it has what the event removes, and lacks what the event adds
 pub record Applies (set : List Element) (e : Event) : Type 0 where

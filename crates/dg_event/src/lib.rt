@@ -3,12 +3,12 @@
 #![tactic(auto)]
 
 ghost use Rattle.std.specs.Prelude.{◌≡◌, List};
-ghost use Rattle.dg_model.specs.declared.element.Element.{Element};
-ghost use Rattle.dg_model.specs.Effect.{removed_by, added_by, forwards, backwards};
-ghost use Rattle.dg_model.specs.Elements.{element_cmp, column_of, asks};
+ghost use Rattle.dg_graph.specs.declared.element.Element.{Element};
+ghost use Rattle.dg_graph.specs.Effect.{removed_by, added_by, forwards, backwards};
+ghost use Rattle.dg_graph.specs.Elements.{element_cmp, column_of, asks};
 ghost use Rattle.dg_event.specs.Laws.{LeadsBack};
 
-pub use dg_model::{Body, Change, Column, Columns, Element, Event, Function, What};
+pub use dg_graph::{Body, Change, Column, Columns, Element, Event, Function, What};
 use std::cmp::Ordering;
 
 /// The element that the event removes, and the element that it adds. An attribute whose value goes

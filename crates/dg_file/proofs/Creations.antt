@@ -4,9 +4,9 @@ use Rattle.std.specs.Prelude.{◌≢◌, ◌&&◌, ◌||◌, ◌==◌, not, nat_
 use Rattle.std.proofs.lemmas.Bool.{cases_lt, lt-ltb, ltb-true, eqb-true, eq-eqb, ne_eqb, false≢true}
 use Rattle.std.proofs.lemmas.List.{drop_all}
 use Rattle.dg_disk.specs.Image.{HasPlace, WritesPart, put_at, with_piece}
-use Rattle.dg_model.specs.declared.params.Params.{Params}
-use Rattle.dg_model.specs.History.{are_parameters, empty_history}
-use Rattle.dg_model.specs.Legal.{IsImageOf, is_blank}
+use Rattle.dg_history.specs.declared.params.Params.{Params}
+use Rattle.dg_history.specs.History.{are_parameters, empty_history}
+use Rattle.dg_history.specs.LegalHistory.{IsImageOf, is_blank}
 use Rattle.dg_file.specs.Growth.{Moved}
 use Rattle.dg_file.specs.Headers.{header_rest}
 use Rattle.dg_file.specs.Images.{IsMadeInPart}

@@ -2,9 +2,9 @@
 use Rattle.std.proofs.Common.{◌≡◌, ℕ, zero, suc, ◌+◌, ◌<◌, ◌≤◌, Bool, true, false, cond, List, [], ◌∷◌, length, Option, Some, None, refl, sym, ap, subst, ◌∙◌, arith}
 use Rattle.std.specs.Prelude.{◌&&◌, ◌==◌, nat_le, nat_lt, option_and_then}
 use Rattle.std.proofs.lemmas.Bool.{and_from, le-leb, leb-true, lt-leb, lt-ltb, le-ltb, eqb-true}
-use Rattle.dg_model.specs.declared.limits.TheConstants.{NAMES_MAX}
-use Rattle.dg_model.specs.Names.{are_new}
-use Rattle.dg_model.specs.Opening.{Segment, Directory, four_at, eight_at, names_at, directory_with, directory_in, columns_size, may_follow, may_be_named, may_stand, if_it_may}
+use Rattle.dg_graph.specs.declared.limits.TheConstants.{NAMES_MAX}
+use Rattle.dg_graph.specs.Names.{are_new}
+use Rattle.dg_history.specs.OpenedIndex.{Segment, Directory, four_at, eight_at, names_at, directory_with, directory_in, columns_size, may_follow, may_be_named, may_stand, if_it_may}
 use Rattle.dg_file.specs.declared.batch.Noted.{Noted}
 use Rattle.dg_file.specs.Heads.{directory_due, TakesNames, TakesDirectory}
 use Rattle.dg_file.specs.Held.{segment_in}

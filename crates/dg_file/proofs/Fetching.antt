@@ -3,11 +3,11 @@ use Rattle.std.proofs.Common.{◌≡◌, ℕ, zero, suc, ◌+◌, ◌≤◌, Lis
 use Rattle.std.specs.Prelude.{IfSome, IfOk, IsSome, slice_get}
 use Rattle.std.specs.Option.{option_map}
 use Rattle.dg_disk.specs.Image.{HasRange}
-use Rattle.dg_model.specs.declared.element.Column.{Column}
-use Rattle.dg_model.specs.declared.element.Column.TheVariants as column
-use Rattle.dg_model.specs.declared.node.Key.{Key}
-use Rattle.dg_model.specs.declared.node.Key.TheVariants as key
-use Rattle.dg_model.specs.Opening.{Segment, Directory, Opening, columns_size, column_of_piece, gate_behind}
+use Rattle.dg_graph.specs.declared.element.Column.{Column}
+use Rattle.dg_graph.specs.declared.element.Column.TheVariants as column
+use Rattle.dg_history.specs.declared.node.Key.{Key}
+use Rattle.dg_history.specs.declared.node.Key.TheVariants as key
+use Rattle.dg_history.specs.OpenedIndex.{Segment, Directory, Opening, columns_size, column_of_piece, gate_behind}
 use Rattle.dg_shape.specs.declared.catalogue.Entry.{Entry}
 use Rattle.dg_shape.specs.Entries.{Holdings, length_in, place_in}
 use Rattle.dg_shape.specs.Held.{entry_of, length_of, place_of}

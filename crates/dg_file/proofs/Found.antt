@@ -5,10 +5,10 @@ use Rattle.std.proofs.lemmas.Bool.{le-ltb, lt-ltb, leb-true, eq-eqb, ne_eqb}
 use Rattle.std.proofs.lemmas.List.{take-take, take_at, get_or-take, get_or-drop}
 use Rattle.dg_disk.specs.Counts.{raised_by}
 use Rattle.dg_disk.specs.Image.{IsLengthOf, IsRangeOf, HasRange}
-use Rattle.dg_model.specs.declared.limits.TheConstants.{FILE_BYTES_MAX}
-use Rattle.dg_model.specs.declared.params.Params.{Params}
-use Rattle.dg_model.specs.Legal.{is_blank}
-use Rattle.dg_model.specs.Opening.{opening, params_in, directory_at, is_within, gate_behind, eight_at, No_index, Not_ours, columns_size}
+use Rattle.dg_history.specs.declared.limits.TheConstants.{FILE_BYTES_MAX}
+use Rattle.dg_history.specs.declared.params.Params.{Params}
+use Rattle.dg_history.specs.LegalHistory.{is_blank}
+use Rattle.dg_history.specs.OpenedIndex.{opening, params_in, directory_at, is_within, gate_behind, eight_at, No_index, Not_ours, columns_size}
 use Rattle.dg_file.specs.declared.batch.Noted.{Noted}
 use Rattle.dg_file.specs.declared.fault.ReopenFault.{ReopenFault}
 use Rattle.dg_file.specs.declared.fault.ReopenFault.TheVariants as fault

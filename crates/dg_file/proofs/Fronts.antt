@@ -3,9 +3,9 @@ use Rattle.std.proofs.Common.{◌≡◌, ℕ, zero, suc, ◌+◌, ◌<◌, ◌�
 use Rattle.std.specs.Prelude.{◌≢◌, ◌&&◌, ◌==◌, not, nat_le}
 use Rattle.std.proofs.lemmas.Bool.{and_from, le-leb, leb-true, eqb-true, eq-eqb, ne_eqb, false≢true}
 use Rattle.std.proofs.lemmas.List.{get_or_past}
-use Rattle.dg_model.specs.declared.limits.TheConstants.{FILE_BYTES_MAX}
-use Rattle.dg_model.specs.Opening.{Directory, Tail, eight_at, gate_behind, is_within, directory_at, directory_or, in_front, segments_from}
-use Rattle.dg_model.specs.Reading.{and_read}
+use Rattle.dg_history.specs.declared.limits.TheConstants.{FILE_BYTES_MAX}
+use Rattle.dg_history.specs.OpenedIndex.{Directory, Tail, eight_at, gate_behind, is_within, directory_at, directory_or, in_front, segments_from}
+use Rattle.dg_graph.specs.ColumnGrammar.{and_read}
 use Rattle.dg_file.specs.Headers.{Front, segments_told, names_told}
 use Rattle.dg_file.specs.Heads.{directory_due}
 use Rattle.dg_file.specs.Index.{events_after, earliest_after}

@@ -1,6 +1,6 @@
 -- A head: written piece by piece, and its lengths read at their place in an image.
 use Rattle.std.proofs.Common.{◌≡◌, ℕ, ◌+◌, List, ◌++◌, length, take, drop, refl, sym, ap, ◌∙◌, arith, add-zero}
-use Rattle.dg_model.specs.Opening.{gate_behind, is_within, eight_at}
+use Rattle.dg_history.specs.OpenedIndex.{gate_behind, is_within, eight_at}
 use Rattle.dg_file.specs.Heads.{lengths_at, gate_after, fit_in}
 use Rattle.dg_file.proofs.Ranges.{piece_eight}
 

@@ -6,25 +6,26 @@ use Rattle.std.proofs.lemmas.Bool.{and_from, ltb-false, leb-true, le-leb, eq-eqb
 use Rattle.std.proofs.lemmas.List.{take_at, drop_more, take-append-drop, get_or_at}
 use Rattle.std.proofs.lemmas.List.Concat.{flat_map-append}
 use Rattle.std.proofs.lemmas.Option.{slice_get_within, get_or_from_slice_get, slice_get-get_or}
-use Rattle.dg_model.specs.declared.element.Column.TheVariants as column
-use Rattle.dg_model.specs.declared.element.Element.{Element}
-use Rattle.dg_model.specs.declared.event.Body.{Body}
-use Rattle.dg_model.specs.declared.event.Change.{Change}
-use Rattle.dg_model.specs.declared.event.Event.{Event}
-use Rattle.dg_model.specs.declared.limits.TheConstants.{EVENTS_MAX, FILE_BYTES_MAX, NAMES_MAX, TIME_MAX}
-use Rattle.dg_model.specs.declared.params.Function.{Function}
-use Rattle.dg_model.specs.declared.params.Function.TheVariants as function
-use Rattle.dg_model.specs.declared.params.Params.{Params}
-use Rattle.dg_model.specs.Batch.{completed, event_of, go_on, on_value}
-use Rattle.dg_model.specs.Columns.{four, eight, events_column}
-use Rattle.dg_model.specs.Completion.{complete}
-use Rattle.dg_model.specs.Effect.{forwards}
-use Rattle.dg_model.specs.File.{header, directory, blobs, segment, file, size, first_time_of, function_byte}
-use Rattle.dg_model.specs.History.{History, Batch, are_parameters, with_batch, empty_history, names_of, span_of, last_time_from, earliest_next}
-use Rattle.dg_model.specs.Legal.{IsLegal, IsLegalBatch, AreLegalAfter, FitsEvent, IsImageOf, is_blank}
-use Rattle.dg_model.specs.Names.{are_new}
-use Rattle.dg_model.specs.Opening.{Segment, Directory, opening, opened_of, opening_of, may_be_named, segment_of, segments_of, params_in, params_with, function_in, four_at}
-use Rattle.dg_model.specs.declared.event.TheConstants.{REASON_TIME}
+use Rattle.dg_graph.specs.declared.element.Column.TheVariants as column
+use Rattle.dg_graph.specs.declared.element.Element.{Element}
+use Rattle.dg_graph.specs.declared.event.Body.{Body}
+use Rattle.dg_graph.specs.declared.event.Change.{Change}
+use Rattle.dg_graph.specs.declared.event.Event.{Event}
+use Rattle.dg_history.specs.declared.limits.TheConstants.{EVENTS_MAX, FILE_BYTES_MAX}
+use Rattle.dg_graph.specs.declared.limits.TheConstants.{NAMES_MAX, TIME_MAX}
+use Rattle.dg_graph.specs.declared.function.Function.{Function}
+use Rattle.dg_graph.specs.declared.function.Function.TheVariants as function
+use Rattle.dg_history.specs.declared.params.Params.{Params}
+use Rattle.dg_graph.specs.CompletedChanges.{completed, event_of, go_on, on_value}
+use Rattle.dg_graph.specs.Columns.{four, eight, events_column}
+use Rattle.dg_graph.specs.Completion.{complete}
+use Rattle.dg_graph.specs.Effect.{forwards}
+use Rattle.dg_history.specs.FileOfHistory.{header, directory, blobs, segment, file, size, first_time_of, function_byte}
+use Rattle.dg_history.specs.History.{History, Batch, are_parameters, with_batch, empty_history, names_of, span_of, last_time_from, earliest_next}
+use Rattle.dg_history.specs.LegalHistory.{IsLegal, IsLegalBatch, AreLegalAfter, FitsEvent, IsImageOf, is_blank}
+use Rattle.dg_graph.specs.Names.{are_new}
+use Rattle.dg_history.specs.OpenedIndex.{Segment, Directory, opening, opened_of, opening_of, may_be_named, segment_of, segments_of, params_in, params_with, function_in, four_at}
+use Rattle.dg_graph.specs.declared.event.TheConstants.{REASON_TIME}
 use Rattle.dg_file.specs.Growth.{Gated, Keeps}
 use Rattle.dg_file.specs.Headers.{Front, header_rest, segments_told, names_told}
 use Rattle.dg_file.specs.Index.{NewSegment, new_segment_of, blobs_size, names_size, names_text, back_bytes, segment_bytes, segment_put, needed_for, with_segment}

@@ -6,12 +6,13 @@ use Rattle.std.specs.Option.{option_map}
 use Rattle.std.proofs.lemmas.Bool.{eq-eqb, ne_eqb}
 use Rattle.std.proofs.lemmas.List.{map-append, length-map}
 use Rattle.std.proofs.lemmas.List.Sums.{sum_by_push}
-use Rattle.dg_model.specs.declared.limits.TheConstants.{EVENTS_MAX, FILE_BYTES_MAX, NAMES_MAX, TIME_MAX}
-use Rattle.dg_model.specs.declared.node.Key.{Key}
-use Rattle.dg_model.specs.declared.node.Key.TheVariants as key
-use Rattle.dg_model.specs.declared.params.Params.{Params}
-use Rattle.dg_model.specs.Keys.{same_key}
-use Rattle.dg_model.specs.Opening.{Segment, may_follow}
+use Rattle.dg_history.specs.declared.limits.TheConstants.{EVENTS_MAX, FILE_BYTES_MAX}
+use Rattle.dg_graph.specs.declared.limits.TheConstants.{NAMES_MAX, TIME_MAX}
+use Rattle.dg_history.specs.declared.node.Key.{Key}
+use Rattle.dg_history.specs.declared.node.Key.TheVariants as key
+use Rattle.dg_history.specs.declared.params.Params.{Params}
+use Rattle.dg_history.specs.Keys.{same_key}
+use Rattle.dg_history.specs.OpenedIndex.{Segment, may_follow}
 use Rattle.dg_shape.specs.declared.catalogue.Ends.{Ends}
 use Rattle.dg_shape.specs.declared.catalogue.Entry.{Entry}
 use Rattle.dg_shape.specs.Entries.{Holdings, total, bytes_of, spanned}

@@ -5,12 +5,13 @@ use Rattle.std.specs.Str.{bytes_eq}
 use Rattle.std.proofs.lemmas.Bool.{and_from, le-leb, leb-true, eq-eqb, ne_eqb, le-ltb, ltb-false, false≢true}
 use Rattle.std.proofs.lemmas.List.{map-append, take_at, drop_at, length-append, length-drop, append-nil, length-take-le}
 use Rattle.std.proofs.lemmas.List.Concat.{flat_map-append}
-use Rattle.dg_model.specs.declared.limits.TheConstants.{BATCH_LINES_MAX, EVENTS_MAX, FILE_BYTES_MAX, NAMES_MAX, TIME_MAX}
-use Rattle.dg_model.specs.declared.params.Params.{Params}
-use Rattle.dg_model.specs.Columns.{four, eight}
-use Rattle.dg_model.specs.Legal.{is_blank}
-use Rattle.dg_model.specs.Names.{are_new}
-use Rattle.dg_model.specs.Opening.{Segment, Directory, Opening, Opened, Tail, Unopened, No_index, Not_ours, Damaged_at, four_at, eight_at, names_at, function_in, params_with, params_in, gate_behind, columns_size, may_follow, may_be_named, may_stand, directory_at, segments_from, opened_with, opened_by, opening}
+use Rattle.dg_graph.specs.declared.limits.TheConstants.{BATCH_LINES_MAX, NAMES_MAX, TIME_MAX}
+use Rattle.dg_history.specs.declared.limits.TheConstants.{EVENTS_MAX, FILE_BYTES_MAX}
+use Rattle.dg_history.specs.declared.params.Params.{Params}
+use Rattle.dg_graph.specs.Columns.{four, eight}
+use Rattle.dg_history.specs.LegalHistory.{is_blank}
+use Rattle.dg_graph.specs.Names.{are_new}
+use Rattle.dg_history.specs.OpenedIndex.{Segment, Directory, Opening, Opened, Tail, Unopened, No_index, Not_ours, Damaged_at, four_at, eight_at, names_at, function_in, params_with, params_in, gate_behind, columns_size, may_follow, may_be_named, may_stand, directory_at, segments_from, opened_with, opened_by, opening}
 use Rattle.dg_file.specs.Growth.{Gated}
 use Rattle.dg_file.specs.Heads.{directory_due}
 use Rattle.dg_file.specs.Headers.{Front, IsOpenedSoFar, segments_told, names_told}

@@ -3,11 +3,11 @@ use Rattle.std.proofs.Common.{◌≡◌, ℕ, ◌+◌, ◌-◌, ◌≤◌, ◌�
 use Rattle.std.specs.Prelude.{◌≢◌, ◌==◌, IfSome}
 use Rattle.std.proofs.lemmas.Bool.{eqb-true, eq-eqb, false≢true}
 use Rattle.dg_disk.specs.Image.{HasPlace, IsLengthOf}
-use Rattle.dg_model.specs.declared.limits.TheConstants.{FILE_BYTES_MAX}
-use Rattle.dg_model.specs.File.{file, size}
-use Rattle.dg_model.specs.History.{History, with_batch, empty_history}
-use Rattle.dg_model.specs.Legal.{IsImageOf}
-use Rattle.dg_model.specs.Opening.{Directory, Opening, Opened, Unopened, Damaged_at, opening, opening_of, directory_at, eight_at, columns_size, may_be_named}
+use Rattle.dg_history.specs.declared.limits.TheConstants.{FILE_BYTES_MAX}
+use Rattle.dg_history.specs.FileOfHistory.{file, size}
+use Rattle.dg_history.specs.History.{History, with_batch, empty_history}
+use Rattle.dg_history.specs.LegalHistory.{IsImageOf}
+use Rattle.dg_history.specs.OpenedIndex.{Directory, Opening, Opened, Unopened, Damaged_at, opening, opening_of, directory_at, eight_at, columns_size, may_be_named}
 use Rattle.dg_file.specs.declared.fault.ReopenFault.{ReopenFault}
 use Rattle.dg_file.specs.declared.fault.ReopenFault.TheVariants as fault
 use Rattle.dg_file.specs.declared.reading.Found.{Found}

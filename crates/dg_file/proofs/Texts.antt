@@ -8,11 +8,11 @@ use Rattle.std.proofs.lemmas.Bool.{and_from, leb-true, le-ltb, lt-ltb, false≢t
 use Rattle.std.proofs.lemmas.List.{take_at}
 use Rattle.std.proofs.lemmas.List.Concat.{flat_map-append}
 use Rattle.std.proofs.lemmas.Nat.{from_be_bytes-to_be_bytes_2}
-use Rattle.dg_model.specs.declared.limits.TheConstants.{NAME_BYTES_MAX}
-use Rattle.dg_model.specs.Columns.{two}
-use Rattle.dg_model.specs.File.{name_bytes}
-use Rattle.dg_model.specs.Names.{number_of, added, is_name, are_new}
-use Rattle.dg_model.specs.Opening.{two_at, name_at, names_at}
+use Rattle.dg_graph.specs.declared.limits.TheConstants.{NAME_BYTES_MAX}
+use Rattle.dg_graph.specs.Columns.{two}
+use Rattle.dg_history.specs.FileOfHistory.{name_bytes}
+use Rattle.dg_graph.specs.Names.{number_of, added, is_name, are_new}
+use Rattle.dg_history.specs.OpenedIndex.{two_at, name_at, names_at}
 use Rattle.dg_file.specs.Heads.{is_fresh, TakesName, TakesNames}
 use Rattle.dg_file.specs.Invariant.{AreNamed, texts_in, named_in}
 use Rattle.dg_file.proofs.Ranges.{behind}

@@ -1,11 +1,11 @@
 -- The header of an index file, and what is known of an image once it and some segments are read.
 use Rattle.std.specs.Prelude.{◌≡◌, ℕ, ◌+◌, ◌-◌, ◌≤◌, false, List, [], ◌∷◌, ◌++◌, Some, codes, length, map, slice_index}
 use Rattle.std.specs.List.{flat_map}
-use Rattle.dg_model.specs.declared.params.Params.{Params}
-use Rattle.dg_model.specs.Columns.{four}
-use Rattle.dg_model.specs.File.{function_byte}
-use Rattle.dg_model.specs.Legal.{is_blank}
-use Rattle.dg_model.specs.Opening.{Segment, Directory, Opening, params_in, directory_at, gate_behind}
+use Rattle.dg_history.specs.declared.params.Params.{Params}
+use Rattle.dg_graph.specs.Columns.{four}
+use Rattle.dg_history.specs.FileOfHistory.{function_byte}
+use Rattle.dg_history.specs.LegalHistory.{is_blank}
+use Rattle.dg_history.specs.OpenedIndex.{Segment, Directory, Opening, params_in, directory_at, gate_behind}
 use Rattle.dg_file.specs.declared.reading.Found.{Found}
 use Rattle.dg_file.specs.declared.reading.FoundSegment.{FoundSegment}
 use Rattle.dg_file.specs.Held.{segment_in}

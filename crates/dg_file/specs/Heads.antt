@@ -1,8 +1,9 @@
 -- The head of a segment: the two lengths with which it begins, and its directory.
 use Rattle.std.specs.Prelude.{◌≡◌, ℕ, ◌+◌, ◌≤◌, Bool, true, ◌&&◌, not, List, [], ◌∷◌, ◌++◌, Option, Some, is_some, nat_le, length, option_and_then}
-use Rattle.dg_model.specs.declared.limits.TheConstants.{FILE_BYTES_MAX, NAMES_MAX}
-use Rattle.dg_model.specs.Names.{number_of, is_name, are_new}
-use Rattle.dg_model.specs.Opening.{Directory, eight_at, name_at, names_at, directory_in, columns_size, may_follow, may_stand, if_it_may}
+use Rattle.dg_history.specs.declared.limits.TheConstants.{FILE_BYTES_MAX}
+use Rattle.dg_graph.specs.declared.limits.TheConstants.{NAMES_MAX}
+use Rattle.dg_graph.specs.Names.{number_of, is_name, are_new}
+use Rattle.dg_history.specs.OpenedIndex.{Directory, eight_at, name_at, names_at, directory_in, columns_size, may_follow, may_stand, if_it_may}
 use Rattle.dg_file.specs.declared.batch.Noted.{Noted}
 use Rattle.dg_file.specs.declared.head.Lengths.{Lengths}
 use Rattle.dg_file.specs.Held.{segment_in}

@@ -3,9 +3,9 @@
 use Rattle.std.specs.Prelude.{ℕ, ◌+◌, List, [], ◌∷◌, Option, Some, None}
 use Rattle.dg_shape.specs.declared.catalogue.Ends.{Ends}
 use Rattle.dg_shape.specs.declared.catalogue.Entry.{Entry}
-use Rattle.dg_model.specs.declared.node.Key.{Key}
-use Rattle.dg_model.specs.declared.node.Key.TheVariants as key
-use Rattle.dg_model.specs.Opening.{Segment}
+use Rattle.dg_history.specs.declared.node.Key.{Key}
+use Rattle.dg_history.specs.declared.node.Key.TheVariants as key
+use Rattle.dg_history.specs.OpenedIndex.{Segment}
 use Rattle.dg_file.specs.declared.batch.Batch.{Batch}
 use Rattle.dg_file.specs.declared.batch.Noted.{Noted}
 

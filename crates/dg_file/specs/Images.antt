@@ -1,10 +1,10 @@
 -- What the calls of an index say of the disk's image before and after them.
 use Rattle.std.specs.Prelude.{◌≡◌, ◌⊎◌, ℕ, true, List, ◌++◌, Option, Result, Ok, Err, IfSome, length, drop, if◌then◌else◌, ◌==◌}
 use Rattle.dg_disk.specs.Counts.{raised_by}
-use Rattle.dg_model.specs.declared.params.Params.{Params}
-use Rattle.dg_model.specs.History.{History, Batch, empty_history, with_batch}
-use Rattle.dg_model.specs.Legal.{IsLegal, IsImageOf, is_blank}
-use Rattle.dg_model.specs.Opening.{Opening, Opened, Unopened, No_index, Not_ours, Damaged_at, opening, may_be_named}
+use Rattle.dg_history.specs.declared.params.Params.{Params}
+use Rattle.dg_history.specs.History.{History, Batch, empty_history, with_batch}
+use Rattle.dg_history.specs.LegalHistory.{IsLegal, IsImageOf, is_blank}
+use Rattle.dg_history.specs.OpenedIndex.{Opening, Opened, Unopened, No_index, Not_ours, Damaged_at, opening, may_be_named}
 use Rattle.dg_file.specs.declared.fault.ReopenFault.{ReopenFault}
 use Rattle.dg_file.specs.declared.fault.ReopenFault.TheVariants as fault
 use Rattle.dg_file.specs.Index.{NewSegment, new_segment_of}

@@ -1,14 +1,14 @@
 -- What an index over a disk holds, and what a batch adds to it.
 use Rattle.std.specs.Prelude.{◌≡◌, ℕ, ◌+◌, ◌≤◌, true, List, [], ◌∷◌, ◌++◌, Option, None, length, slice_get, sum_by}
 use Rattle.std.specs.List.{flat_map}
-use Rattle.dg_model.specs.declared.element.Column.TheVariants as column
-use Rattle.dg_model.specs.declared.node.Key.{Key}
-use Rattle.dg_model.specs.declared.node.Key.TheVariants as key
-use Rattle.dg_model.specs.Columns.{four, eight, events_column}
-use Rattle.dg_model.specs.declared.limits.TheConstants.{NAMES_MAX}
-use Rattle.dg_model.specs.File.{first_time_of, name_bytes}
-use Rattle.dg_model.specs.History.{Batch, last_time_from}
-use Rattle.dg_model.specs.Opening.{Segment, Opening, may_follow}
+use Rattle.dg_graph.specs.declared.element.Column.TheVariants as column
+use Rattle.dg_history.specs.declared.node.Key.{Key}
+use Rattle.dg_history.specs.declared.node.Key.TheVariants as key
+use Rattle.dg_graph.specs.Columns.{four, eight, events_column}
+use Rattle.dg_graph.specs.declared.limits.TheConstants.{NAMES_MAX}
+use Rattle.dg_history.specs.FileOfHistory.{first_time_of, name_bytes}
+use Rattle.dg_history.specs.History.{Batch, last_time_from}
+use Rattle.dg_history.specs.OpenedIndex.{Segment, Opening, may_follow}
 
 -- what its image is opened as, and how many segments it may get without taking memory
 pub record IndexState : Type 0 where

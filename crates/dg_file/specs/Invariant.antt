@@ -1,11 +1,12 @@
 -- What holds of what an index keeps.
 use Rattle.std.specs.Prelude.{◌≡◌, ℕ, ◌≤◌, true, List, [], Option, Some, None, length, map}
 use Rattle.std.specs.List.{flat_map, All}
-use Rattle.dg_model.specs.declared.limits.TheConstants.{FILE_BYTES_MAX, NAME_BYTES_MAX, NAMES_MAX}
-use Rattle.dg_model.specs.declared.params.Params.{Params}
-use Rattle.dg_model.specs.History.{are_parameters}
-use Rattle.dg_model.specs.File.{name_bytes}
-use Rattle.dg_model.specs.Opening.{Segment, names_at}
+use Rattle.dg_history.specs.declared.limits.TheConstants.{FILE_BYTES_MAX}
+use Rattle.dg_graph.specs.declared.limits.TheConstants.{NAME_BYTES_MAX, NAMES_MAX}
+use Rattle.dg_history.specs.declared.params.Params.{Params}
+use Rattle.dg_history.specs.History.{are_parameters}
+use Rattle.dg_history.specs.FileOfHistory.{name_bytes}
+use Rattle.dg_history.specs.OpenedIndex.{Segment, names_at}
 use Rattle.dg_shape.specs.Entries.{Holdings, bytes_of}
 use Rattle.dg_file.specs.declared.batch.Batch.{Batch}
 use Rattle.dg_file.specs.Held.{batch_in, pieces_from, segments_held, span_in}

@@ -1,9 +1,9 @@
 -- The laws of images and of segments, as they are proved.
 use Rattle.std.specs.Prelude.{◌≡◌, ℕ, List, Ok}
-use Rattle.dg_model.specs.File.{size}
-use Rattle.dg_model.specs.History.{History, Batch, with_batch}
-use Rattle.dg_model.specs.Legal.{IsImageOf}
-use Rattle.dg_model.specs.Opening.{opening, opened_of, opening_of}
+use Rattle.dg_history.specs.FileOfHistory.{size}
+use Rattle.dg_history.specs.History.{History, Batch, with_batch}
+use Rattle.dg_history.specs.LegalHistory.{IsImageOf}
+use Rattle.dg_history.specs.OpenedIndex.{opening, opened_of, opening_of}
 use Rattle.dg_file.specs.Index.{needed_for, with_segment, new_segment_of}
 
 -- an image of a history is opened as what that history is opened as

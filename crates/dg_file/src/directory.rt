@@ -3,16 +3,18 @@
 ghost use Rattle.std.specs.Prelude.{◌≡◌, ℕ, ◌+◌, ◌<◌, ◌≤◌, ◌==◌, ◌&&◌, ◌||◌, List, ◌∷◌, [], Some, None, false, length, IfOk, IfSome, IsErrOf};
 ghost use Rattle.std.specs.List.{list_any};
 ghost use Rattle.std.specs.Option.{option_map};
-ghost use Rattle.dg_model.specs.declared.limits.TheConstants.{EVENTS_MAX, FILE_BYTES_MAX, NAMES_MAX};
-ghost use Rattle.dg_model.specs.Names.{is_name, are_new};
-ghost use Rattle.dg_model.specs.Opening.{four_at, eight_at, name_at, names_at, columns_size, may_follow};
+ghost use Rattle.dg_history.specs.declared.limits.TheConstants.{EVENTS_MAX, FILE_BYTES_MAX};
+ghost use Rattle.dg_graph.specs.declared.limits.TheConstants.{NAMES_MAX};
+ghost use Rattle.dg_graph.specs.Names.{is_name, are_new};
+ghost use Rattle.dg_history.specs.OpenedIndex.{four_at, eight_at, name_at, names_at, columns_size, may_follow};
 ghost use Rattle.dg_file.specs.Heads.{directory_due, is_fresh, TakesName, TakesNames, TakesDirectory};
 ghost use Rattle.dg_file.specs.Held.{segment_in};
 
 use crate::batch::{Batch, Noted};
 use crate::head::BACK_BYTES;
 use crate::numbers::{u16_at, u32_at, u64_at};
-use dg_model::{BATCH_LINES_MAX, EVENTS_MAX, FILE_BYTES_MAX, NAME_BYTES_MAX, NAMES_MAX, TIME_MAX};
+use dg_graph::{BATCH_LINES_MAX, NAME_BYTES_MAX, NAMES_MAX, TIME_MAX};
+use dg_history::{EVENTS_MAX, FILE_BYTES_MAX};
 use dg_names::Names;
 use dg_shape::Ends;
 

@@ -6,7 +6,7 @@ ghost use Rattle.dg_file.specs.Index.{front_bytes, back_bytes};
 
 use crate::numbers::{put_at, u64_at};
 use crate::segment::Segment;
-use dg_model::FILE_BYTES_MAX;
+use dg_history::FILE_BYTES_MAX;
 
 /// The bytes of the two lengths in front of a directory.
 pub(crate) const LENGTHS_BYTES: usize = 16;

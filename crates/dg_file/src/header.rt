@@ -2,14 +2,15 @@
 //! segment.
 
 ghost use Rattle.std.specs.Prelude.{◌≡◌, ◌≤◌, List, [], ◌∷◌, ◌++◌, length, IfSome, Option, slice_index, codes, true, ◌&&◌, ◌==◌, not};
-ghost use Rattle.dg_model.specs.File.{function_byte};
-ghost use Rattle.dg_model.specs.Columns.{four};
-ghost use Rattle.dg_model.specs.History.{are_parameters};
-ghost use Rattle.dg_model.specs.Opening.{function_in, params_in};
+ghost use Rattle.dg_history.specs.FileOfHistory.{function_byte};
+ghost use Rattle.dg_graph.specs.Columns.{four};
+ghost use Rattle.dg_history.specs.History.{are_parameters};
+ghost use Rattle.dg_history.specs.OpenedIndex.{function_in, params_in};
 ghost use Rattle.dg_file.specs.Headers.{header_rest};
 
 use crate::numbers::{put_at, u32_at};
-use dg_model::{ARITY_MAX, ARITY_MIN, Function, LEAF_MAX, LEAF_MIN, Params};
+use dg_history::{ARITY_MAX, ARITY_MIN, LEAF_MAX, LEAF_MIN, Params};
+use dg_graph::Function;
 
 /// The bytes of a header with the gate behind it.
 pub(crate) const HEADER_BYTES: usize = 18;

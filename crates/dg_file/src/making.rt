@@ -2,15 +2,15 @@
 
 ghost use Rattle.std.specs.Prelude.{◌≡◌, ◌≤◌, true, OnOk, OnErr, IfSome};
 ghost use Rattle.dg_disk.specs.Counts.{Rose};
-ghost use Rattle.dg_model.specs.History.{are_parameters, empty_history};
-ghost use Rattle.dg_model.specs.Legal.{IsImageOf, is_blank};
+ghost use Rattle.dg_history.specs.History.{are_parameters, empty_history};
+ghost use Rattle.dg_history.specs.LegalHistory.{IsImageOf, is_blank};
 ghost use Rattle.dg_file.specs.Growth.{Moved};
 ghost use Rattle.dg_file.specs.Images.{IsMadeInPart};
 
 use crate::disk_calls::put_down;
 use crate::header::{CLOSED, OPEN, header_behind_gate};
 use dg_disk::{Disk, Failed};
-use dg_model::Params;
+use dg_history::Params;
 
 /// Writes the header of an index without a batch, its own gate closed as long as the rest is not on the
 /// device. `Failed` where the disk failed.

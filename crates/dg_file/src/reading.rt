@@ -3,10 +3,11 @@
 ghost use Rattle.std.specs.Prelude.{◌≡◌, ◌⊎◌, ◌≤◌, ◌+◌, ℕ, true, false, None, Some, Ok, Err, length, take, drop, slice_index, IfOk, IfErr, OnOk, OnErr, IsErrOf, IfSome};
 ghost use Rattle.dg_disk.specs.Counts.{Rose};
 ghost use Rattle.dg_disk.specs.Image.{HasRange, IsLengthOf};
-ghost use Rattle.dg_model.specs.declared.limits.TheConstants.{EVENTS_MAX, FILE_BYTES_MAX, NAMES_MAX};
-ghost use Rattle.dg_model.specs.History.{are_parameters};
-ghost use Rattle.dg_model.specs.Opening.{opening, params_in, is_within, directory_at, may_follow};
-ghost use Rattle.dg_model.specs.Legal.{is_blank};
+ghost use Rattle.dg_history.specs.declared.limits.TheConstants.{EVENTS_MAX, FILE_BYTES_MAX};
+ghost use Rattle.dg_graph.specs.declared.limits.TheConstants.{NAMES_MAX};
+ghost use Rattle.dg_history.specs.History.{are_parameters};
+ghost use Rattle.dg_history.specs.OpenedIndex.{opening, params_in, is_within, directory_at, may_follow};
+ghost use Rattle.dg_history.specs.LegalHistory.{is_blank};
 ghost use Rattle.dg_shape.specs.Entries.{total};
 ghost use Rattle.dg_file.specs.Heads.{lengths_at, fit_in, Takes};
 ghost use Rattle.dg_file.specs.Headers.{IsFoundIn, IsFoundAt};
@@ -19,7 +20,7 @@ use crate::fault::{FetchFault, ReopenFault};
 use crate::head::{LENGTHS_BYTES, Lengths};
 use crate::header::{HEADER_BYTES, is_closed, params_of};
 use dg_disk::{Disk, Failed};
-use dg_model::Params;
+use dg_history::Params;
 use dg_names::Names;
 use std::alloc::Global;
 

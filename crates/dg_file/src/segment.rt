@@ -1,11 +1,11 @@
 ghost use Rattle.std.specs.Prelude.{◌≡◌, ◌+◌, ◌<◌, ◌≤◌, ◌^◌, ◌∷◌, ◌++◌, [], length, OnOk, OnErr, vec_len};
-ghost use Rattle.dg_model.specs.declared.limits.TheConstants.{NAME_BYTES_MAX};
-ghost use Rattle.dg_model.specs.File.{name_bytes};
+ghost use Rattle.dg_graph.specs.declared.limits.TheConstants.{NAME_BYTES_MAX};
+ghost use Rattle.dg_history.specs.FileOfHistory.{name_bytes};
 ghost use Rattle.dg_file.specs.Held.{segment_in};
 ghost use Rattle.dg_file.specs.Index.{blobs_size, names_size, names_text, segment_put};
 
 use crate::batch::{Batch, Noted};
-use dg_model::NAME_BYTES_MAX;
+use dg_graph::NAME_BYTES_MAX;
 use dg_shape::Ends;
 use std::alloc::{AllocError, Global};
 use std::marker::Model;

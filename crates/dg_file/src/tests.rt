@@ -1,16 +1,17 @@
 ghost use Rattle.std.specs.Prelude.{◌≡◌, ◌≤◌, ◌∷◌, [], length, true, Ok, IfOk, OnOk, IsSome, slice_get};
-ghost use Rattle.dg_model.specs.declared.limits.TheConstants.{NAME_BYTES_MAX};
+ghost use Rattle.dg_graph.specs.declared.limits.TheConstants.{NAME_BYTES_MAX};
 ghost use Rattle.dg_disk.specs.Memory.{image_of};
-ghost use Rattle.dg_model.specs.History.{empty_history};
-ghost use Rattle.dg_model.specs.Legal.{is_blank};
-ghost use Rattle.dg_model.specs.Names.{are_new};
-ghost use Rattle.dg_model.specs.Opening.{opening, opening_of};
+ghost use Rattle.dg_history.specs.History.{empty_history};
+ghost use Rattle.dg_history.specs.LegalHistory.{is_blank};
+ghost use Rattle.dg_graph.specs.Names.{are_new};
+ghost use Rattle.dg_history.specs.OpenedIndex.{opening, opening_of};
 ghost use Rattle.dg_file.specs.Images.{IsOpenedAs};
 ghost use Rattle.dg_file.specs.Index.{NewSegment, IsDue};
 
 use crate::{Batch, CommitFault, CreateFault, Index, ReopenFault, Segment};
 use dg_disk::MemoryDisk;
-use dg_model::{Column, FILE_BYTES_MAX, Function, Key, Params};
+use dg_graph::{Column, Function};
+use dg_history::{FILE_BYTES_MAX, Key, Params};
 use dg_names::Names;
 use dg_shape::Ends;
 use std::alloc::{AllocError, Global};

@@ -1,5 +1,6 @@
 pub mod Told
 pub mod Reading
+pub mod Frame
 pub mod Memory
 pub mod Feed
 pub mod Buffer

@@ -5,7 +5,7 @@ ghost use Rattle.dg_io.specs.Feed.{has_feed, IsFirstFeed, FindsFeed};
 ghost use Rattle.dg_io.specs.Reading.{Reading, told, ahead, to_come, LineComes, NeedsByte, EndsWith, Cuts};
 
 use crate::source::{Failed, Source};
-use dg_model::LINE_BYTES_MAX;
+use dg_graph::LINE_BYTES_MAX;
 use memchr::memchr;
 use std::marker::Model;
 

@@ -12,12 +12,13 @@ use Rattle.std.specs.Char.{digit_value}
 use Rattle.std.specs.Str.Parse.{AllDigits}
 use Rattle.std.specs.List.{AllByRecursion}
 use Rattle.std.proofs.lemmas.List.Elements.{All-from_recursion}
-use Rattle.dg_model.specs.declared.element.Columns.{Columns}
-use Rattle.dg_model.specs.declared.command.Command.TheVariants as command
-use Rattle.dg_model.specs.declared.params.Function.{Function}
-use Rattle.dg_model.specs.Grammar.{command_of, command_of_words, create_of, load_of, append_of, at_of, list_of, columns_of, function_of, n32_of, time_of}
-use Rattle.dg_model.specs.Run.{Begins, IsColumn}
-use Rattle.dg_model.specs.Words.{words, number}
+use Rattle.dg_graph.specs.declared.element.Columns.{Columns}
+use Rattle.dg_machine.specs.declared.command.Command.TheVariants as command
+use Rattle.dg_graph.specs.declared.function.Function.{Function}
+use Rattle.dg_machine.specs.CommandGrammar.{command_of, command_of_words, create_of, load_of, append_of, at_of, list_of, columns_of, function_of, n32_of}
+use Rattle.dg_history.specs.ChangeGrammar.{time_of}
+use Rattle.dg_machine.specs.Run.{Begins, IsColumn}
+use Rattle.dg_graph.specs.Words.{words, number}
 use Rattle.dg_line.specs.declared.grammar.Slot.TheVariants as slot
 use Rattle.dg_line.specs.Space.{is_space}
 use Rattle.dg_line.specs.Front.{Begun, IsFront, IsOneOf, IsNumber, texts}

@@ -2,7 +2,7 @@
 use Rattle.std.proofs.Common.{◌≡◌, ℕ, Option, Some, None, Bor, List, [], slice_get, refl, ap, ◌∙◌}
 use Rattle.std.specs.Option.{option_copied, unwrap_or}
 use Rattle.std.proofs.lemmas.Option.{unwrap_or-slice_get}
-use Rattle.dg_model.specs.Names.{name_text}
+use Rattle.dg_graph.specs.Names.{name_text}
 
 behind : (o : Option (Bor (List ℕ))) (d : Bor (List ℕ)) → d.now ≡ [] → (unwrap_or o d).now ≡ unwrap_or (option_copied o) []
 behind (Some x) d e = refl

@@ -3,9 +3,9 @@ use Rattle.std.proofs.Common.{◌≡◌, ℕ, ◌+◌, ◌<◌, ◌≤◌, Optio
 use Rattle.std.specs.List.{join_with_byte}
 use Rattle.dg_io.specs.Told.{grown, GrowsByPart}
 use Rattle.dg_io.proofs.Growing.{grown_nothing, both_pieces, part_first, part_second}
-use Rattle.dg_model.specs.declared.reply.BodyLine.{BodyLine}
-use Rattle.dg_model.specs.declared.reply.Reply.{Reply}
-use Rattle.dg_model.specs.Text.{text_line, body_text, body_words, head_words, text}
+use Rattle.dg_machine.specs.declared.reply.BodyLine.{BodyLine}
+use Rattle.dg_machine.specs.declared.reply.Reply.{Reply}
+use Rattle.dg_machine.specs.ReplyText.{text_line, body_text, body_words, head_words, text}
 use Rattle.dg_line.specs.declared.page.Word.{Word}
 use Rattle.dg_line.specs.Page.{Passes, word_bytes}
 use Rattle.std.proofs.lemmas.List.{at_drop_more, at_drop_all}

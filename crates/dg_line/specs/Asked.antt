@@ -1,5 +1,5 @@
 -- What the lines of a batch ask for, by their texts.
-use Rattle.dg_model.specs.Grammar.{Asked_for, Plain, Sets_node, Unsets_node, Sets_edge, Unsets_edge, Said}
+use Rattle.dg_history.specs.ChangeGrammar.{Asked_for, Plain, Sets_node, Unsets_node, Sets_edge, Unsets_edge, Said}
 use Rattle.dg_line.specs.declared.asked.Asked.{Asked}
 use Rattle.dg_line.specs.declared.asked.Asked.TheVariants as asked
 use Rattle.dg_line.specs.declared.asked.Line.{Line}

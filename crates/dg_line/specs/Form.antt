@@ -1,6 +1,6 @@
 -- The lines of the commands, by their words.
 use Rattle.std.specs.Prelude.{ℕ, zero, suc, List, [], ◌∷◌, codes}
-use Rattle.dg_model.specs.declared.limits.TheConstants.{BATCH_LINES_MAX, TIME_MAX}
+use Rattle.dg_graph.specs.declared.limits.TheConstants.{BATCH_LINES_MAX, TIME_MAX}
 use Rattle.dg_line.specs.Front.{IsOneOf, IsNumber}
 use Rattle.dg_line.specs.Row.{Parted}
 

@@ -1,7 +1,7 @@
 -- How far bytes go along with the words and the lines of a grammar.
 use Rattle.std.specs.Prelude.{◌≡◌, ℕ, ◌<◌, ◌≤◌, List, [], ◌++◌, length, take, map, is_some, IsTrue, slice_index_or}
 use Rattle.std.specs.Borrow.{Bor}
-use Rattle.dg_model.specs.Words.{number}
+use Rattle.dg_graph.specs.Words.{number}
 
 -- the bytes begin one of these
 abbrev pub Begun : (List ℕ → Type 0) → List ℕ → Type 0

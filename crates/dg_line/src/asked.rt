@@ -1,9 +1,9 @@
 //! What the lines of a batch ask for, with the texts of keys and values as they stand there.
 
 ghost use Rattle.std.specs.Prelude.{◌≤◌, length};
-ghost use Rattle.dg_model.specs.declared.limits.TheConstants.{NAME_BYTES_MAX};
+ghost use Rattle.dg_graph.specs.declared.limits.TheConstants.{NAME_BYTES_MAX};
 
-use dg_model::What;
+use dg_graph::What;
 
 /// A line of a batch, with the texts of keys and values as they stand there.
 #[derive(Clone, Copy)]

@@ -1,13 +1,13 @@
 ghost use Rattle.std.specs.Prelude.{◌≡◌, ◌+◌, ◌<◌, ◌≤◌, List, ℕ, None, Some, IfOk, IsErrOf, OnOk, OnErr, length, take, nat_lt, ◌==◌, ◌||◌};
 ghost use Rattle.std.specs.List.{list_all, list_any};
 ghost use Rattle.std.specs.Option.{option_map};
-ghost use Rattle.dg_model.specs.Grammar.{Asked_for, Plain, Said, asked_of, change_with, direction_of, id_of, named, new_edge, one_id, said_of, set_of, unset_of, what_in};
-ghost use Rattle.dg_model.specs.Names.{added, is_key, is_name, number_in};
+ghost use Rattle.dg_history.specs.ChangeGrammar.{Asked_for, Plain, Said, asked_of, change_with, direction_of, id_of, named, new_edge, one_id, said_of, set_of, unset_of, what_in};
+ghost use Rattle.dg_graph.specs.Names.{added, is_key, is_name, number_in};
 ghost use Rattle.dg_line.specs.Asked.{asked_for, said_by};
 
 use crate::asked::{Asked, Line, Setting, Unsetting};
 use crate::words::{SPACE, Words, number};
-use dg_model::{Change, KEY_BYTES_MAX, TIME_MAX, What};
+use dg_graph::{Change, KEY_BYTES_MAX, TIME_MAX, What};
 use dg_names::{NAME_BYTES_MAX, NAMES_MAX, Names};
 use std::alloc::AllocError;
 

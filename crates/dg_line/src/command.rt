@@ -1,12 +1,13 @@
 ghost use Rattle.std.specs.Prelude.{◌≡◌, IfErr, List, ℕ};
 ghost use Rattle.std.specs.Result.{result_ok};
-ghost use Rattle.dg_model.specs.Grammar.{columns_of, function_of, n32_of, create_of, load_of, append_of, at_of, list_of, command_of};
-ghost use Rattle.dg_model.specs.Run.{IsColumn};
-ghost use Rattle.dg_model.specs.Words.{number};
+ghost use Rattle.dg_machine.specs.CommandGrammar.{columns_of, function_of, n32_of, create_of, load_of, append_of, at_of, list_of, command_of};
+ghost use Rattle.dg_machine.specs.Run.{IsColumn};
+ghost use Rattle.dg_graph.specs.Words.{number};
 
 use crate::grammar::column;
 use crate::words::{Words, number};
-use dg_model::{BATCH_LINES_MAX, Columns, Command, FIRST_HANDLE, Function, TIME_MAX};
+use dg_graph::{BATCH_LINES_MAX, Columns, Function, TIME_MAX};
+use dg_machine::{Command, FIRST_HANDLE};
 
 /// The line is in no command; the column, from 1, at which it leaves the grammar.
 #[derive(Clone, Copy, Debug, PartialEq, Eq)]

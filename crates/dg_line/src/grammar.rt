@@ -1,12 +1,13 @@
 //! The grammar of commands as data, and how far a line goes along with it.
 
 ghost use Rattle.std.specs.Prelude.{◌≡◌, ◌<◌, ◌≤◌, ◌↔◌, ◌⊎◌, IsTrue, length, max, slice_index, take};
-ghost use Rattle.dg_model.specs.Run.{IsColumn};
+ghost use Rattle.dg_machine.specs.Run.{IsColumn};
 ghost use Rattle.dg_line.specs.Front.{IsFront, IsWord, IsOneOf, IsNumber, texts};
 ghost use Rattle.dg_line.specs.Row.{IsWordOf, least_of, IsLineOf, AreSound};
 
 use crate::words::{SPACE, with_digit};
-use dg_model::{BATCH_LINES_MAX, FIRST_HANDLE, TIME_MAX};
+use dg_graph::{BATCH_LINES_MAX, TIME_MAX};
+use dg_machine::FIRST_HANDLE;
 
 /// What may stand at one place of a command. One space parts two places.
 #[derive(Clone, Copy)]

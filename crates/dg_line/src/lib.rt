@@ -14,7 +14,6 @@ mod words;
 
 pub use change::{ChangeFault, read_change};
 pub use command::{Syntax, read_command};
-pub use dg_model::{
-    BodyLine, BodyLines, Change, Columns, Command, Element, Function, Head, Refusal, Reply, What,
-};
+pub use dg_machine::{BodyLine, BodyLines, Command, Head, Refusal, Reply};
+pub use dg_graph::{Change, Columns, Element, Function, What};
 pub use reply::write_reply;

@@ -1,5 +1,5 @@
 ghost use Rattle.std.specs.Prelude.{◌≡◌, ◌+◌, ◌≤◌, ℕ, List, [], ◌++◌, length, map, OnOk, OnErr};
-ghost use Rattle.dg_model.specs.Text.{text_line};
+ghost use Rattle.dg_machine.specs.ReplyText.{text_line};
 ghost use Rattle.dg_io.specs.Told.{grown, GrowsByPart, Rose};
 ghost use Rattle.dg_line.specs.Page.{Passes, word_bytes};
 

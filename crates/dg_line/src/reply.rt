@@ -1,12 +1,13 @@
 ghost use Rattle.std.specs.Prelude.{◌≡◌, ◌≤◌, ◌++◌, [], ◌∷◌, map, take, codes, decimal, if◌then◌else◌, OnOk, OnErr};
-ghost use Rattle.dg_model.specs.Text.{text, body_text, head_words, element_words, body_words, refusal_words};
-ghost use Rattle.dg_model.specs.Names.{name_text};
+ghost use Rattle.dg_machine.specs.ReplyText.{text, body_text, head_words, element_words, body_words, refusal_words};
+ghost use Rattle.dg_graph.specs.Names.{name_text};
 ghost use Rattle.dg_io.specs.Told.{grown, GrowsByPart, Rose};
 ghost use Rattle.dg_line.specs.Page.{Passes, word_bytes};
 
 use crate::page::{Page, Word};
 use dg_io::{Failed, Sink};
-use dg_model::{BodyLine, Element, Head, Refusal, Reply};
+use dg_machine::{BodyLine, Head, Refusal, Reply};
+use dg_graph::Element;
 use dg_names::Names;
 
 /// The most words that a line of a reply has.

@@ -1,6 +1,6 @@
 ghost use Rattle.std.specs.Prelude.{◌≡◌, ◌≢◌, ℕ, ◌+◌, ◌*◌, ◌-◌, ◌<◌, ◌≤◌, ◌^◌, List, [], ◌∷◌, length, decimal, Option, Some, None, IfSome, IfNone, IsTrue, ◌↔◌, MatchOption, slice_index};
 ghost use Rattle.std.specs.List.{position};
-ghost use Rattle.dg_model.specs.Words.{words, number};
+ghost use Rattle.dg_graph.specs.Words.{words, number};
 ghost use Rattle.std.specs.Option.{option_map};
 ghost use Rattle.dg_line.specs.Space.{is_space, rest_of};
 
@@ -21,7 +21,7 @@ pub struct Words<'a> {
 
 impl<'a> Model for Words<'a> {
     ghost use Rattle.std.specs.Prelude.{ℕ, List, [], if◌then◌else◌};
-    ghost use Rattle.dg_model.specs.Words.{words};
+    ghost use Rattle.dg_graph.specs.Words.{words};
 
     ghost Value = { List (List ℕ) };
 

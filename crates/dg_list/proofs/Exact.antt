@@ -3,15 +3,15 @@ use Rattle.std.proofs.Common.{◌≡◌, ℕ, Bool, true, false, cond, not, ◌&
 use Rattle.std.specs.Option.{option_map, option_and_then, option_eq}
 use Rattle.std.specs.List.{list_any}
 use Rattle.std.proofs.lemmas.Bool.{true≢false, false≢true, eq-eqb}
-use Rattle.dg_model.specs.declared.element.Element.{Element}
-use Rattle.dg_model.specs.declared.element.Element.TheVariants as element
-use Rattle.dg_model.specs.declared.event.Body.{Body}
-use Rattle.dg_model.specs.declared.event.Body.TheVariants as body
-use Rattle.dg_model.specs.Completion.{has_node, edge_of, is_edge, needs_node, needs_edge, is_node_value, is_edge_value, value_in, node_value, edge_value, is_found, is_value_change, is_change_of}
-use Rattle.dg_model.specs.Effect.{moved, removed_by, added_by, forwards}
-use Rattle.dg_model.specs.Elements.{has}
-use Rattle.dg_model.specs.Graph.{IsGraph}
-use Rattle.dg_model.proofs.Sets.{element_exact}
+use Rattle.dg_graph.specs.declared.element.Element.{Element}
+use Rattle.dg_graph.specs.declared.element.Element.TheVariants as element
+use Rattle.dg_graph.specs.declared.event.Body.{Body}
+use Rattle.dg_graph.specs.declared.event.Body.TheVariants as body
+use Rattle.dg_graph.specs.Completion.{has_node, edge_of, is_edge, needs_node, needs_edge, is_node_value, is_edge_value, value_in, node_value, edge_value, is_found, is_value_change, is_change_of}
+use Rattle.dg_graph.specs.Effect.{moved, removed_by, added_by, forwards}
+use Rattle.dg_graph.specs.Elements.{has}
+use Rattle.dg_graph.specs.Graph.{IsGraph}
+use Rattle.dg_graph.proofs.Sets.{element_exact}
 use Rattle.dg_list.specs.Laws.{ChangesAreExact, ChangesKeepGraphs}
 use Rattle.dg_list.proofs.Finding.{both, not_true, two_itself, other_value, found_in, found_none, absent, none_from, node_attr_found, edge_attr_found, node_valued, edge_valued, old_is}
 use Rattle.dg_list.proofs.Keeping.{graph_forwards}

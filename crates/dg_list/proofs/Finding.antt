@@ -3,11 +3,11 @@ use Rattle.std.proofs.Common.{◌≡◌, ℕ, Bool, true, false, cond, not, ◌|
 use Rattle.std.specs.Option.{option_eq}
 use Rattle.std.specs.List.{list_any}
 use Rattle.std.proofs.lemmas.Bool.{true≢false, false≢true, eqb-true, eq-eqb, or_left, or_right}
-use Rattle.dg_model.specs.declared.element.Element.{Element}
-use Rattle.dg_model.specs.declared.element.Element.TheVariants as element
-use Rattle.dg_model.specs.Completion.{is_node_value, is_edge_value, value_in, is_value_change}
-use Rattle.dg_model.specs.Elements.{has, same}
-use Rattle.dg_model.proofs.Sets.{element_exact, same_itself}
+use Rattle.dg_graph.specs.declared.element.Element.{Element}
+use Rattle.dg_graph.specs.declared.element.Element.TheVariants as element
+use Rattle.dg_graph.specs.Completion.{is_node_value, is_edge_value, value_in, is_value_change}
+use Rattle.dg_graph.specs.Elements.{has, same}
+use Rattle.dg_graph.proofs.Sets.{element_exact, same_itself}
 
 -- ---- tests
 

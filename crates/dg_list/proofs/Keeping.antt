@@ -3,15 +3,15 @@ use Rattle.std.proofs.Common.{◌≡◌, ℕ, Bool, true, false, cond, not, ◌&
 use Rattle.std.specs.Option.{option_and_then}
 use Rattle.std.specs.List.{list_any}
 use Rattle.std.proofs.lemmas.Bool.{true≢false, false≢true, eqb-true, eq-eqb, or_left, or_right}
-use Rattle.dg_model.specs.declared.element.Element.{Element}
-use Rattle.dg_model.specs.declared.element.Element.TheVariants as element
-use Rattle.dg_model.specs.declared.event.Body.{Body}
-use Rattle.dg_model.specs.declared.event.Body.TheVariants as body
-use Rattle.dg_model.specs.Completion.{has_node, edge_of, is_edge, needs_node, needs_edge, is_node_value, is_edge_value, value_in, node_value, edge_value, is_found, is_value_change, is_change_of}
-use Rattle.dg_model.specs.Effect.{moved, removed_by, added_by}
-use Rattle.dg_model.specs.Elements.{has, same, put, take_out, with_one, without}
-use Rattle.dg_model.specs.Graph.{IsGraph, has_needs}
-use Rattle.dg_model.proofs.Sets.{element_exact, same_itself, has-put, has-take_out, IsSet-put, IsSet-take_out}
+use Rattle.dg_graph.specs.declared.element.Element.{Element}
+use Rattle.dg_graph.specs.declared.element.Element.TheVariants as element
+use Rattle.dg_graph.specs.declared.event.Body.{Body}
+use Rattle.dg_graph.specs.declared.event.Body.TheVariants as body
+use Rattle.dg_graph.specs.Completion.{has_node, edge_of, is_edge, needs_node, needs_edge, is_node_value, is_edge_value, value_in, node_value, edge_value, is_found, is_value_change, is_change_of}
+use Rattle.dg_graph.specs.Effect.{moved, removed_by, added_by}
+use Rattle.dg_graph.specs.Elements.{has, same, put, take_out, with_one, without}
+use Rattle.dg_graph.specs.Graph.{IsGraph, has_needs}
+use Rattle.dg_graph.proofs.Sets.{element_exact, same_itself, has-put, has-take_out, IsSet-put, IsSet-take_out}
 use Rattle.dg_list.proofs.Finding.{both, either, not_true, two_itself, found_in, found_none, find_some, none_passes, differs_from, none_from, node_attr_found, edge_attr_found, node_valued, edge_valued, old_is}
 
 -- ---- an element more, an element less

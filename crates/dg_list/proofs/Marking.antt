@@ -10,11 +10,11 @@ use Rattle.std.specs.Cmp.{IsStrictWeakOrder}
 use Rattle.std.proofs.lemmas.Bool.{true≢false, false≢true}
 use Rattle.std.proofs.lemmas.List.{map-append, drop_more}
 use Rattle.std.proofs.lemmas.List.Sorted.{ranks_by}
-use Rattle.dg_model.specs.declared.element.Element.{Element}
-use Rattle.dg_model.specs.declared.event.Event.{Event}
-use Rattle.dg_model.specs.Composition.{Delta, Says, In, Out, As_it_was, says, and_then, composition, Composes}
-use Rattle.dg_model.specs.Elements.{IsSet, IsBelowFirst, element_cmp, before, has, same}
-use Rattle.dg_model.proofs.Sets.{element_total, element_exact, tied_exact, before_from_Greater, before_trans, lacks_below}
+use Rattle.dg_graph.specs.declared.element.Element.{Element}
+use Rattle.dg_graph.specs.declared.event.Event.{Event}
+use Rattle.dg_graph.specs.Composition.{Delta, Says, In, Out, As_it_was, says, and_then, composition, Composes}
+use Rattle.dg_graph.specs.Elements.{IsSet, IsBelowFirst, element_cmp, before, has, same}
+use Rattle.dg_graph.proofs.Sets.{element_total, element_exact, tied_exact, before_from_Greater, before_trans, lacks_below}
 use Rattle.dg_delta.specs.Deltas.{AreApart}
 use Rattle.dg_delta.proofs.Deltas.{word, and_then_associates, can_be_cut}
 use Rattle.dg_list.specs.Marks.{word_of, taken_out, put_in, marks_of, earlier, names_first, goes, lasts}

@@ -6,13 +6,13 @@ use Rattle.std.proofs.Common.{◌≡◌, ℕ, ◌+◌, ◌<◌, Bool, true, fals
 use Rattle.std.specs.Option.{option_to_list}
 use Rattle.std.proofs.lemmas.List.{drop_more, map-append, reverse-append}
 use Rattle.std.proofs.lemmas.List.Elements.{filter-append}
-use Rattle.dg_model.specs.declared.element.Element.{Element}
-use Rattle.dg_model.specs.declared.event.Event.{Event}
-use Rattle.dg_model.specs.Elements.{IsSet, has, same, with_one, without}
-use Rattle.dg_model.specs.Effect.{removed_by, added_by, forwards}
-use Rattle.dg_model.specs.Composition.{Delta, says, and_then, composition, Composes, applied, reversed}
-use Rattle.dg_model.specs.Replay.{replay_from}
-use Rattle.dg_model.proofs.Sets.{has-put, has-take_out, same_members, IsSet-put, IsSet-take_out}
+use Rattle.dg_graph.specs.declared.element.Element.{Element}
+use Rattle.dg_graph.specs.declared.event.Event.{Event}
+use Rattle.dg_graph.specs.Elements.{IsSet, has, same, with_one, without}
+use Rattle.dg_graph.specs.Effect.{removed_by, added_by, forwards}
+use Rattle.dg_graph.specs.Composition.{Delta, says, and_then, composition, Composes, applied, reversed}
+use Rattle.dg_graph.specs.Replay.{replay_from}
+use Rattle.dg_graph.proofs.Sets.{has-put, has-take_out, same_members, IsSet-put, IsSet-take_out}
 use Rattle.dg_delta.specs.Deltas.{AreApart, applied_in_turn}
 use Rattle.dg_delta.proofs.Deltas.{word, edited, has-edited, IsSet-edited, and_then_associates, can_be_cut, applies_each_in_turn}
 use Rattle.dg_event.proofs.Undo.{undone}

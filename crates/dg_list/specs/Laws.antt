@@ -1,11 +1,11 @@
 -- The laws of lists of events, as they are proved.
 use Rattle.std.specs.Prelude.{◌≡◌, true, List, [], ◌∷◌}
-use Rattle.dg_model.specs.declared.element.Element.{Element}
-use Rattle.dg_model.specs.declared.event.Event.{Event}
-use Rattle.dg_model.specs.Completion.{is_change_of}
-use Rattle.dg_model.specs.Effect.{forwards}
-use Rattle.dg_model.specs.Graph.{IsGraph}
-use Rattle.dg_model.specs.Replay.{replay_from}
+use Rattle.dg_graph.specs.declared.element.Element.{Element}
+use Rattle.dg_graph.specs.declared.event.Event.{Event}
+use Rattle.dg_graph.specs.Completion.{is_change_of}
+use Rattle.dg_graph.specs.Effect.{forwards}
+use Rattle.dg_graph.specs.Graph.{IsGraph}
+use Rattle.dg_graph.specs.Replay.{replay_from}
 use Rattle.dg_list.specs.Lists.{AreChangesOf}
 
 -- each event in turn is what some change comes to after those before it

@@ -1,11 +1,11 @@
 -- Events as deltas, and the lists of events that lead back.
 use Rattle.std.specs.Prelude.{◌≡◌, ℕ, Bool, true, false, List, [], ◌∷◌, Option, Some, None, nat_le, IfSome}
 use Rattle.std.specs.Option.{option_to_list}
-use Rattle.dg_model.specs.declared.element.Element.{Element}
-use Rattle.dg_model.specs.declared.event.Event.{Event}
-use Rattle.dg_model.specs.Composition.{Delta}
-use Rattle.dg_model.specs.Effect.{removed_by, added_by, forwards}
-use Rattle.dg_model.specs.Elements.{has}
+use Rattle.dg_graph.specs.declared.element.Element.{Element}
+use Rattle.dg_graph.specs.declared.event.Event.{Event}
+use Rattle.dg_graph.specs.Composition.{Delta}
+use Rattle.dg_graph.specs.Effect.{removed_by, added_by, forwards}
+use Rattle.dg_graph.specs.Elements.{has}
 
 -- the event as a delta: it takes out what the event removes, and puts in what the event adds
 abbrev pub effect_of : Event → Delta

@@ -2,9 +2,9 @@
 use Rattle.std.specs.Prelude.{◌≡◌, ◌&&◌, Bool, true, false, not, List, [], ◌∷◌, ◌++◌, Option, Some, None, if◌then◌else◌, map}
 use Rattle.std.specs.Option.{option_to_list}
 use Rattle.std.specs.Ordering.{is_lt}
-use Rattle.dg_model.specs.declared.element.Element.{Element}
-use Rattle.dg_model.specs.Composition.{Delta}
-use Rattle.dg_model.specs.Elements.{same, before}
+use Rattle.dg_graph.specs.declared.element.Element.{Element}
+use Rattle.dg_graph.specs.Composition.{Delta}
+use Rattle.dg_graph.specs.Elements.{same, before}
 use Rattle.dg_list.specs.declared.marks.Mark.{Mark}
 
 -- a mark as a delta: it puts the element in, or takes it out

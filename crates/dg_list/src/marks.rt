@@ -3,9 +3,9 @@
 ghost use Rattle.std.specs.Prelude.{◌≡◌, ◌++◌, ◌∷◌, ◌<◌, false, true, length, drop, filter, map, reverse, IfOk, OnOk};
 ghost use Rattle.std.specs.List.{flat_map};
 ghost use Rattle.std.specs.List.Sorted.{IsSortedBy, IsStableBy};
-ghost use Rattle.dg_model.specs.Composition.{Composes};
-ghost use Rattle.dg_model.specs.Elements.{element_cmp};
-ghost use Rattle.dg_model.specs.Effect.{removed_by, added_by};
+ghost use Rattle.dg_graph.specs.Composition.{Composes};
+ghost use Rattle.dg_graph.specs.Elements.{element_cmp};
+ghost use Rattle.dg_graph.specs.Effect.{removed_by, added_by};
 ghost use Rattle.dg_list.specs.Lists.{counts};
 ghost use Rattle.dg_list.specs.Marks.{word_of, marks_of, earlier, names_first, lasts};
 

@@ -1,8 +1,8 @@
 ghost use Rattle.std.specs.Prelude.{◌≡◌, ◌++◌, List, filter, map, reverse, IfOk};
-ghost use Rattle.dg_model.specs.declared.element.Element.{Element};
-ghost use Rattle.dg_model.specs.Composition.{Composes, applied, reversed};
-ghost use Rattle.dg_model.specs.Elements.{IsSet};
-ghost use Rattle.dg_model.specs.Replay.{events_until, replay_from};
+ghost use Rattle.dg_graph.specs.declared.element.Element.{Element};
+ghost use Rattle.dg_graph.specs.Composition.{Composes, applied, reversed};
+ghost use Rattle.dg_graph.specs.Elements.{IsSet};
+ghost use Rattle.dg_graph.specs.Replay.{events_until, replay_from};
 ghost use Rattle.dg_list.specs.Lists.{effect_of, counts, AreChangesOf};
 
 use crate::marks::{marks_back, marks_on, net_of};

@@ -1,6 +1,6 @@
 use crate::{Delta, Event, merge_lists, net_back, net_to};
 use dg_delta::{Element, Set};
-use dg_model::Body;
+use dg_graph::Body;
 use std::alloc::Global;
 use std::test::Fail;
 

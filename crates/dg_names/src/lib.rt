@@ -6,5 +6,5 @@ mod names;
 #[cfg(test)]
 mod tests;
 
-pub use dg_model::{NAME_BYTES_MAX, NAMES_MAX};
+pub use dg_graph::{NAME_BYTES_MAX, NAMES_MAX};
 pub use names::Names;

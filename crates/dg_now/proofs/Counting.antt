@@ -6,9 +6,9 @@ use Rattle.std.specs.List.{list_any, count_by}
 use Rattle.std.specs.Ordering.{is_eq}
 use Rattle.std.specs.declared.cmp.Ordering.{Ordering}
 use Rattle.std.specs.declared.cmp.Ordering.TheVariants.{Less, Equal, Greater}
-use Rattle.dg_model.specs.declared.element.Element.{Element}
-use Rattle.dg_model.specs.Elements.{bit, element_cmp, IsSet, has, put, take_out, with_one}
-use Rattle.dg_model.proofs.Sets.{put_by, same_itself, has-take_out, put-take_out}
+use Rattle.dg_graph.specs.declared.element.Element.{Element}
+use Rattle.dg_graph.specs.Elements.{bit, element_cmp, IsSet, has, put, take_out, with_one}
+use Rattle.dg_graph.proofs.Sets.{put_by, same_itself, has-take_out, put-take_out}
 use Rattle.dg_now.specs.declared.place.Place.{Place}
 use Rattle.dg_now.specs.Cells.{collected}
 

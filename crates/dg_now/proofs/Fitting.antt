@@ -3,19 +3,19 @@ use Rattle.std.proofs.Common.{◌≡◌, ℕ, Bool, true, false, cond, not, ◌&
 use Rattle.std.proofs.lemmas.Bool.{false≢true, eqb-true}
 use Rattle.std.specs.List.{list_any}
 use Rattle.std.specs.Option.{option_map, option_and_then, option_eq}
-use Rattle.dg_model.specs.declared.element.Element.{Element}
-use Rattle.dg_model.specs.declared.element.Element.TheVariants as element
-use Rattle.dg_model.specs.declared.event.Body.{Body}
-use Rattle.dg_model.specs.declared.event.Body.TheVariants as body
-use Rattle.dg_model.specs.declared.event.Change.{Change}
-use Rattle.dg_model.specs.declared.event.Event.{Event}
-use Rattle.dg_model.specs.declared.event.What.{What}
-use Rattle.dg_model.specs.declared.event.What.TheVariants.{AddNode, RemoveNode, AddEdge, RemoveEdge, SetNode, UnsetNode, SetEdge, UnsetEdge}
-use Rattle.dg_model.specs.declared.event.TheConstants.{REASON_NODE_EXISTS, REASON_NO_NODE, REASON_NODE_IN_USE, REASON_EDGE_EXISTS, REASON_NO_EDGE, REASON_NO_END, REASON_TIME}
-use Rattle.dg_model.specs.Batch.{event_of, on_value}
-use Rattle.dg_model.specs.Completion.{complete, has_node, edge_of, needs_node, needs_edge, edge_removal, node_value, edge_value, value_in, value_removal, is_found, is_value_change, is_change_of}
-use Rattle.dg_model.specs.Graph.{has_needs}
-use Rattle.dg_model.proofs.Sets.{element_exact}
+use Rattle.dg_graph.specs.declared.element.Element.{Element}
+use Rattle.dg_graph.specs.declared.element.Element.TheVariants as element
+use Rattle.dg_graph.specs.declared.event.Body.{Body}
+use Rattle.dg_graph.specs.declared.event.Body.TheVariants as body
+use Rattle.dg_graph.specs.declared.event.Change.{Change}
+use Rattle.dg_graph.specs.declared.event.Event.{Event}
+use Rattle.dg_graph.specs.declared.event.What.{What}
+use Rattle.dg_graph.specs.declared.event.What.TheVariants.{AddNode, RemoveNode, AddEdge, RemoveEdge, SetNode, UnsetNode, SetEdge, UnsetEdge}
+use Rattle.dg_graph.specs.declared.event.TheConstants.{REASON_NODE_EXISTS, REASON_NO_NODE, REASON_NODE_IN_USE, REASON_EDGE_EXISTS, REASON_NO_EDGE, REASON_NO_END, REASON_TIME}
+use Rattle.dg_graph.specs.CompletedChanges.{event_of, on_value}
+use Rattle.dg_graph.specs.Completion.{complete, has_node, edge_of, needs_node, needs_edge, edge_removal, node_value, edge_value, value_in, value_removal, is_found, is_value_change, is_change_of}
+use Rattle.dg_graph.specs.Graph.{has_needs}
+use Rattle.dg_graph.proofs.Sets.{element_exact}
 use Rattle.dg_now.specs.declared.place.Place.TheVariants.{Node, Edge, NodeValue, EdgeValue}
 use Rattle.dg_now.specs.Happening.{CanHappen}
 use Rattle.dg_now.specs.Places.{place_of, at, needs}

@@ -2,16 +2,16 @@
 use Rattle.std.proofs.Common.{◌≡◌, ℕ, Bool, true, false, cond, List, [], ◌∷◌, Option, Some, None, IfSome, refl, sym, ap, subst, ◌∙◌, eqb, ◌⊎◌, inl, inr}
 use Rattle.std.proofs.lemmas.Bool.{true≢false, false≢true, eqb-true, eq-eqb}
 use Rattle.std.specs.List.{list_any}
-use Rattle.dg_model.specs.declared.element.Element.{Element}
-use Rattle.dg_model.specs.declared.element.Element.TheVariants as element
-use Rattle.dg_model.specs.declared.event.Body.{Body}
-use Rattle.dg_model.specs.declared.event.Body.TheVariants as body
-use Rattle.dg_model.specs.declared.event.Event.{Event}
-use Rattle.dg_model.specs.Effect.{removed_by, added_by, forwards, backwards}
-use Rattle.dg_model.specs.Elements.{has, same, put, take_out, without, with_one}
-use Rattle.dg_model.specs.Graph.{IsGraph, has_needs}
-use Rattle.dg_model.specs.Replay.{replay_from}
-use Rattle.dg_model.proofs.Sets.{same_itself, element_exact, take_out-put, put-take_out}
+use Rattle.dg_graph.specs.declared.element.Element.{Element}
+use Rattle.dg_graph.specs.declared.element.Element.TheVariants as element
+use Rattle.dg_graph.specs.declared.event.Body.{Body}
+use Rattle.dg_graph.specs.declared.event.Body.TheVariants as body
+use Rattle.dg_graph.specs.declared.event.Event.{Event}
+use Rattle.dg_graph.specs.Effect.{removed_by, added_by, forwards, backwards}
+use Rattle.dg_graph.specs.Elements.{has, same, put, take_out, without, with_one}
+use Rattle.dg_graph.specs.Graph.{IsGraph, has_needs}
+use Rattle.dg_graph.specs.Replay.{replay_from}
+use Rattle.dg_graph.proofs.Sets.{same_itself, element_exact, take_out-put, put-take_out}
 use Rattle.dg_now.specs.declared.place.Place.{Place}
 use Rattle.dg_now.specs.Cells.{Holdings, Keeps}
 use Rattle.dg_now.specs.Happening.{place_in, before_in, after_in, CanHappen, CameBy, AllHappen, AllKnown, rewound, Led}

@@ -5,10 +5,10 @@ use Rattle.std.proofs.lemmas.Map.Made.{is_some-lookup}
 use Rattle.std.specs.List.{list_any, count_by}
 use Rattle.std.specs.Map.{keys_of, lookup}
 use Rattle.std.specs.Option.{option_and_then}
-use Rattle.dg_model.specs.declared.element.Element.{Element}
-use Rattle.dg_model.specs.Elements.{bit, IsSet, has, same, put, take_out, with_one}
-use Rattle.dg_model.specs.Graph.{IsGraph, has_needs}
-use Rattle.dg_model.proofs.Sets.{same_members, same_itself, element_exact, IsSet-put, IsSet-take_out}
+use Rattle.dg_graph.specs.declared.element.Element.{Element}
+use Rattle.dg_graph.specs.Elements.{bit, IsSet, has, same, put, take_out, with_one}
+use Rattle.dg_graph.specs.Graph.{IsGraph, has_needs}
+use Rattle.dg_graph.proofs.Sets.{same_members, same_itself, element_exact, IsSet-put, IsSet-take_out}
 use Rattle.dg_now.specs.declared.cells.Cell.{Cell}
 use Rattle.dg_now.specs.declared.place.Place.{Place}
 use Rattle.dg_now.specs.declared.place.Place.TheVariants.{Node, Edge, NodeValue, EdgeValue}

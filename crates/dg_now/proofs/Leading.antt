@@ -4,15 +4,15 @@ use Rattle.std.proofs.lemmas.List.{append-nil, drop_all, take_more}
 use Rattle.std.proofs.lemmas.Bool.{true≢false}
 use Rattle.std.specs.Map.{lookup}
 use Rattle.std.specs.Option.{unwrap_or}
-use Rattle.dg_model.specs.declared.element.Element.{Element}
-use Rattle.dg_model.specs.declared.event.Change.{Change}
-use Rattle.dg_model.specs.declared.event.Event.{Event}
-use Rattle.dg_model.specs.Batch.{completed, event_of, go_on, on_value}
-use Rattle.dg_model.specs.Effect.{removed_by, added_by, forwards, backwards}
-use Rattle.dg_model.specs.Elements.{has, same, without, with_one}
-use Rattle.dg_model.specs.Graph.{IsGraph}
-use Rattle.dg_model.specs.Replay.{replay_from}
-use Rattle.dg_model.proofs.Sets.{element_exact}
+use Rattle.dg_graph.specs.declared.element.Element.{Element}
+use Rattle.dg_graph.specs.declared.event.Change.{Change}
+use Rattle.dg_graph.specs.declared.event.Event.{Event}
+use Rattle.dg_graph.specs.CompletedChanges.{completed, event_of, go_on, on_value}
+use Rattle.dg_graph.specs.Effect.{removed_by, added_by, forwards, backwards}
+use Rattle.dg_graph.specs.Elements.{has, same, without, with_one}
+use Rattle.dg_graph.specs.Graph.{IsGraph}
+use Rattle.dg_graph.specs.Replay.{replay_from}
+use Rattle.dg_graph.proofs.Sets.{element_exact}
 use Rattle.dg_now.specs.declared.place.Place.{Place}
 use Rattle.dg_now.specs.Cells.{Holdings, knows, Keeps}
 use Rattle.dg_now.specs.Happening.{place_in, before_in, CanHappen, CameBy, AllHappen, AllKnown, Led, first_at}

@@ -8,11 +8,11 @@ use Rattle.std.proofs.lemmas.Option.{get_or_from_slice_get}
 use Rattle.std.specs.List.{list_any, filter_map, cons_option}
 use Rattle.std.specs.List.Sorted.{IsPermutation}
 use Rattle.std.specs.Ordering.{is_lt}
-use Rattle.dg_model.specs.declared.element.Element.{Element}
-use Rattle.dg_model.specs.declared.element.Element.TheVariants as element
-use Rattle.dg_model.specs.Elements.{IsSet, IsBelowFirst, has, same, before, put}
-use Rattle.dg_model.specs.Graph.{IsGraph, has_needs}
-use Rattle.dg_model.proofs.Sets.{same_members, same_itself, element_exact, differs, differs_back, Greater_from_before, lacks_below, IsBelowFirst-trans}
+use Rattle.dg_graph.specs.declared.element.Element.{Element}
+use Rattle.dg_graph.specs.declared.element.Element.TheVariants as element
+use Rattle.dg_graph.specs.Elements.{IsSet, IsBelowFirst, has, same, before, put}
+use Rattle.dg_graph.specs.Graph.{IsGraph, has_needs}
+use Rattle.dg_graph.proofs.Sets.{same_members, same_itself, element_exact, differs, differs_back, Greater_from_before, lacks_below, IsBelowFirst-trans}
 use Rattle.dg_now.specs.declared.place.Place.{Place}
 use Rattle.dg_now.specs.declared.place.Place.TheVariants.{Node, Edge, NodeValue, EdgeValue}
 use Rattle.dg_now.specs.Places.{place_of, at, needs, same_place}

@@ -2,12 +2,12 @@
 use Rattle.std.proofs.Common.{◌≡◌, ℕ, Bool, true, false, cond, not, ◌||◌, ◌&&◌, List, [], ◌∷◌, Option, Some, None, find, is_some, refl, sym, ap, subst, ◌∙◌, eqb, ◌⊎◌, inl, inr}
 use Rattle.std.proofs.lemmas.Bool.{true≢false, false≢true, eqb-true, eq-eqb, or_left, or_right}
 use Rattle.std.specs.List.{list_any}
-use Rattle.dg_model.specs.declared.element.Element.{Element}
-use Rattle.dg_model.specs.declared.element.Element.TheVariants as element
-use Rattle.dg_model.specs.Completion.{has_node}
-use Rattle.dg_model.specs.Elements.{IsSet, has, same, put, take_out}
-use Rattle.dg_model.specs.Graph.{IsGraph, has_needs}
-use Rattle.dg_model.proofs.Sets.{element_exact, same_itself, has-put, has-take_out, IsSet-put, IsSet-take_out}
+use Rattle.dg_graph.specs.declared.element.Element.{Element}
+use Rattle.dg_graph.specs.declared.element.Element.TheVariants as element
+use Rattle.dg_graph.specs.Completion.{has_node}
+use Rattle.dg_graph.specs.Elements.{IsSet, has, same, put, take_out}
+use Rattle.dg_graph.specs.Graph.{IsGraph, has_needs}
+use Rattle.dg_graph.proofs.Sets.{element_exact, same_itself, has-put, has-take_out, IsSet-put, IsSet-take_out}
 use Rattle.dg_now.specs.declared.place.Place.{Place}
 use Rattle.dg_now.specs.declared.place.Place.TheVariants.{Node, Edge, NodeValue, EdgeValue}
 use Rattle.dg_now.specs.Places.{place_of, stands, at, needs}

@@ -1,8 +1,8 @@
 -- What the state of the current graph says of what is held.
 use Rattle.std.proofs.Common.{◌≡◌, Bool, true, false, cond, List, [], ◌∷◌, Option, is_some, refl, sym, ap, subst, ◌∙◌}
-use Rattle.dg_model.specs.declared.element.Element.{Element}
-use Rattle.dg_model.specs.declared.event.Event.{Event}
-use Rattle.dg_model.specs.Graph.{IsGraph}
+use Rattle.dg_graph.specs.declared.element.Element.{Element}
+use Rattle.dg_graph.specs.declared.event.Event.{Event}
+use Rattle.dg_graph.specs.Graph.{IsGraph}
 use Rattle.dg_now.specs.declared.place.Place.{Place}
 use Rattle.dg_now.specs.Cells.{Holdings, knows}
 use Rattle.dg_now.specs.Happening.{place_in, before_in, AllKnown, Led, rewound, first_at}

@@ -5,9 +5,9 @@ use Rattle.std.proofs.lemmas.List.{length-map}
 use Rattle.std.specs.Map.{keys_of, lookup}
 use Rattle.std.specs.Option.{option_and_then, option_map_or}
 use Rattle.std.specs.Result.{OnOk}
-use Rattle.dg_model.specs.declared.element.Element.{Element}
-use Rattle.dg_model.specs.Elements.{bit, has}
-use Rattle.dg_model.specs.Graph.{has_needs}
+use Rattle.dg_graph.specs.declared.element.Element.{Element}
+use Rattle.dg_graph.specs.Elements.{bit, has}
+use Rattle.dg_graph.specs.Graph.{has_needs}
 use Rattle.dg_now.specs.declared.cells.Cell.{Cell}
 use Rattle.dg_now.specs.declared.place.Place.{Place}
 use Rattle.dg_now.specs.contracts.place.PlacePartialEq.TheImpl as of_places

@@ -4,9 +4,9 @@ use Rattle.std.specs.Prelude.{◌≡◌, ℕ, Bool, true, ◌||◌, List, [], �
 use Rattle.std.specs.List.{list_any, count_by}
 use Rattle.std.specs.Map.{keys_of, lookup}
 use Rattle.std.specs.Option.{option_map_or}
-use Rattle.dg_model.specs.declared.element.Element.{Element}
-use Rattle.dg_model.specs.Elements.{with_one}
-use Rattle.dg_model.specs.Graph.{IsGraph}
+use Rattle.dg_graph.specs.declared.element.Element.{Element}
+use Rattle.dg_graph.specs.Elements.{with_one}
+use Rattle.dg_graph.specs.Graph.{IsGraph}
 use Rattle.dg_now.specs.declared.cells.Cell.{Cell}
 use Rattle.dg_now.specs.declared.place.Place.{Place}
 use Rattle.dg_now.specs.Places.{place_of, needs, same_place}

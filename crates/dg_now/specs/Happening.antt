@@ -2,14 +2,14 @@
 use Rattle.std.specs.Prelude.{◌≡◌, true, false, List, [], ◌∷◌, Option, Some, None, cond, is_some, IfSome}
 use Rattle.std.specs.List.{list_any}
 use Rattle.std.specs.Option.{option_map, IsNone}
-use Rattle.dg_model.specs.declared.element.Element.{Element}
-use Rattle.dg_model.specs.declared.element.Element.TheVariants as element
-use Rattle.dg_model.specs.declared.event.Body.{Body}
-use Rattle.dg_model.specs.declared.event.Body.TheVariants as body
-use Rattle.dg_model.specs.declared.event.Event.{Event}
-use Rattle.dg_model.specs.Effect.{forwards, backwards}
-use Rattle.dg_model.specs.Graph.{IsGraph, has_needs}
-use Rattle.dg_model.specs.Replay.{replay_from}
+use Rattle.dg_graph.specs.declared.element.Element.{Element}
+use Rattle.dg_graph.specs.declared.element.Element.TheVariants as element
+use Rattle.dg_graph.specs.declared.event.Body.{Body}
+use Rattle.dg_graph.specs.declared.event.Body.TheVariants as body
+use Rattle.dg_graph.specs.declared.event.Event.{Event}
+use Rattle.dg_graph.specs.Effect.{forwards, backwards}
+use Rattle.dg_graph.specs.Graph.{IsGraph, has_needs}
+use Rattle.dg_graph.specs.Replay.{replay_from}
 use Rattle.dg_now.specs.declared.place.Place.{Place}
 use Rattle.dg_now.specs.declared.place.Place.TheVariants as place
 use Rattle.dg_now.specs.Places.{at, needs, same_place}

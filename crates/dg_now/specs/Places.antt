@@ -1,9 +1,9 @@
 -- The places of a graph. A graph has one node and one edge of each id, and one value of each key at a
 -- node or an edge, so at each place stands one element at the most.
 use Rattle.std.specs.Prelude.{ℕ, Bool, false, ◌&&◌, ◌==◌, List, Option, find}
-use Rattle.dg_model.specs.declared.element.Element.{Element}
-use Rattle.dg_model.specs.declared.element.Element.TheVariants as element
-use Rattle.dg_model.specs.Completion.{is_edge, is_node_value, is_edge_value, needs_node, needs_edge}
+use Rattle.dg_graph.specs.declared.element.Element.{Element}
+use Rattle.dg_graph.specs.declared.element.Element.TheVariants as element
+use Rattle.dg_graph.specs.Completion.{is_edge, is_node_value, is_edge_value, needs_node, needs_edge}
 use Rattle.dg_now.specs.declared.place.Place.{Place}
 use Rattle.dg_now.specs.declared.place.Place.TheVariants.{Node, Edge, NodeValue, EdgeValue}
 

@@ -1,12 +1,12 @@
 //! Writes of single cells. None takes memory where the place has a cell.
 ghost use Rattle.std.specs.Prelude.{◌≡◌, ◌+◌, ◌-◌, ◌≤◌, ◌<◌, ◌^◌, true, ◌||◌, nat_lt};
-ghost use Rattle.dg_model.specs.Elements.{bit};
+ghost use Rattle.dg_graph.specs.Elements.{bit};
 ghost use Rattle.indexmap.specs.IndexMap.{spare};
 ghost use Rattle.dg_now.specs.Places.{needs, same_place};
 ghost use Rattle.dg_now.specs.Cells.{element_at, uses_at, has_cell, Writes};
 
 use crate::place::Place;
-use dg_model::Element;
+use dg_graph::Element;
 use indexmap::IndexMap;
 
 /// What is kept of a place.

@@ -1,15 +1,11 @@
 ghost use Rattle.std.specs.Prelude.{◌≡◌, ◌&&◌, option_and_then};
-ghost use Rattle.dg_model.specs.declared.event.What.TheVariants as what;
-ghost use Rattle.dg_model.specs.Batch.{event_of};
-ghost use Rattle.dg_model.specs.Completion.{has_node, edge_of, node_value, edge_value, value_in, complete, is_found, is_value_change, is_change_of};
+ghost use Rattle.dg_graph.specs.declared.event.What.TheVariants as what;
+ghost use Rattle.dg_graph.specs.CompletedChanges.{event_of};
+ghost use Rattle.dg_graph.specs.Completion.{has_node, edge_of, node_value, edge_value, value_in, complete, is_found, is_value_change, is_change_of};
 
 use crate::held::Held;
 use crate::place::Place;
-use dg_model::{
-    Body, Change, Element, Event, REASON_EDGE_EXISTS, REASON_EDGE_IN_USE, REASON_NO_ATTRIBUTE,
-    REASON_NO_EDGE, REASON_NO_END, REASON_NO_NODE, REASON_NODE_EXISTS, REASON_NODE_IN_USE,
-    REASON_TIME, What,
-};
+use dg_graph::{Body, Change, Element, Event, REASON_EDGE_EXISTS, REASON_EDGE_IN_USE, REASON_NO_ATTRIBUTE, REASON_NO_EDGE, REASON_NO_END, REASON_NO_NODE, REASON_NODE_EXISTS, REASON_NODE_IN_USE, REASON_TIME, What};
 
 /// The value in an element.
 pub(crate) fn value_in(found: Option<Element>) -> Option<u32>

@@ -17,7 +17,7 @@ pub enum FromFault {
 #[derive(Clone, Copy, Debug, PartialEq, Eq)]
 pub enum PrepareFault {
     /// The least line that is refused, from 1, and the first reason against it, one of the constants
-    /// `REASON_..` of `dg_model`.
+    /// `REASON_..` of `dg_graph`.
     BadChange { line: u32, reason: u8 },
     /// Want of memory.
     Memory,

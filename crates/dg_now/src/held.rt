@@ -1,14 +1,14 @@
 ghost use Rattle.std.specs.Prelude.{◌≡◌, ◌+◌, ◌≤◌, ◌<◌, ◌-◌, true, false, List, [], None, length, is_some, slice_get, Some, IfOk, OnOk, IsTrue};
 ghost use Rattle.std.specs.List.{list_any};
-ghost use Rattle.dg_model.specs.Elements.{has, put, take_out};
-ghost use Rattle.dg_model.specs.Completion.{has_node, edge_of, needs_node, needs_edge, node_value, edge_value};
-ghost use Rattle.dg_model.specs.Graph.{IsGraph, has_needs};
+ghost use Rattle.dg_graph.specs.Elements.{has, put, take_out};
+ghost use Rattle.dg_graph.specs.Completion.{has_node, edge_of, needs_node, needs_edge, node_value, edge_value};
+ghost use Rattle.dg_graph.specs.Graph.{IsGraph, has_needs};
 ghost use Rattle.dg_now.specs.Places.{place_of, at, needs};
 ghost use Rattle.dg_now.specs.Cells.{Holdings, knows, has_room, Keeps};
 
 use crate::cells::{Cell, count_in, count_out, set_element};
 use crate::place::{Place, place_of};
-use dg_model::Element;
+use dg_graph::Element;
 use indexmap::IndexMap;
 use std::alloc::{AllocError, Global};
 use std::marker::Model;

@@ -3,14 +3,14 @@ ghost use Rattle.std.specs.Prelude.{◌≡◌, ◌++◌, Option, List, [], cond,
 ghost use Rattle.std.specs.List.{cons_option};
 ghost use Rattle.std.specs.Map.{lookup};
 ghost use Rattle.std.specs.Option.{unwrap_or};
-ghost use Rattle.dg_model.specs.declared.element.Element.{Element};
+ghost use Rattle.dg_graph.specs.declared.element.Element.{Element};
 ghost use Rattle.dg_now.specs.declared.place.Place.{Place};
 ghost use Rattle.dg_now.specs.Happening.{place_in, before_in, first_at};
 ghost use Rattle.dg_now.specs.Places.{at, same_place};
 
 use crate::held::Held;
 use crate::place::{Place, before_in, place_in};
-use dg_model::{Element, Event};
+use dg_graph::{Element, Event};
 use indexmap::IndexMap;
 use std::alloc::{AllocError, AllocFailed, Global};
 

@@ -1,10 +1,10 @@
 ghost use Rattle.std.specs.Prelude.{◌≡◌, ◌+◌, ◌≤◌, true, false, IfOk, IfErr, IfSome, is_some, length, vec_capacity, [], map, None, Ok, Err};
 ghost use Rattle.std.specs.List.{list_any};
-ghost use Rattle.dg_model.specs.declared.event.Change.{Change};
-ghost use Rattle.dg_model.specs.Batch.{completed};
-ghost use Rattle.dg_model.specs.Effect.{forwards, backwards};
-ghost use Rattle.dg_model.specs.Elements.{has, without, with_one};
-ghost use Rattle.dg_model.specs.Graph.{IsGraph, has_needs};
+ghost use Rattle.dg_graph.specs.declared.event.Change.{Change};
+ghost use Rattle.dg_graph.specs.CompletedChanges.{completed};
+ghost use Rattle.dg_graph.specs.Effect.{forwards, backwards};
+ghost use Rattle.dg_graph.specs.Elements.{has, without, with_one};
+ghost use Rattle.dg_graph.specs.Graph.{IsGraph, has_needs};
 ghost use Rattle.dg_now.specs.Happening.{CanHappen, CameBy, Led, rewound};
 ghost use Rattle.dg_now.specs.Cells.{knows, has_room, Keeps};
 ghost use Rattle.dg_now.specs.Places.{place_of, at, needs};
@@ -13,7 +13,7 @@ ghost use Rattle.dg_now.specs.Happening.{place_in, before_in};
 use crate::completing::event_of;
 use crate::held::Held;
 use dg_event::effect;
-use dg_model::{Change, Element, Event};
+use dg_graph::{Change, Element, Event};
 
 // Takes the element out, if there is one.
 fn take_out(graph: &mut Held, out: Option<Element>)

@@ -1,9 +1,9 @@
 ghost use Rattle.std.specs.Prelude.{◌≡◌, ◌<◌, ◌≤◌, ◌^◌, ◌&&◌, not, is_some, [], Ok, length, IfOk, IfErr, IfSome, OnErr, IsErrOf, if◌then◌else◌};
-ghost use Rattle.dg_model.specs.Completion.{has_node, edge_of, node_value, edge_value, is_change_of};
-ghost use Rattle.dg_model.specs.Effect.{forwards};
-ghost use Rattle.dg_model.specs.Graph.{IsGraph, has_needs};
-ghost use Rattle.dg_model.specs.Elements.{IsSet};
-ghost use Rattle.dg_model.specs.Replay.{replay_from};
+ghost use Rattle.dg_graph.specs.Completion.{has_node, edge_of, node_value, edge_value, is_change_of};
+ghost use Rattle.dg_graph.specs.Effect.{forwards};
+ghost use Rattle.dg_graph.specs.Graph.{IsGraph, has_needs};
+ghost use Rattle.dg_graph.specs.Elements.{IsSet};
+ghost use Rattle.dg_graph.specs.Replay.{replay_from};
 ghost use Rattle.dg_now.specs.Places.{place_of, at};
 ghost use Rattle.dg_now.specs.Now.{NowState, earliest_after, batch_in, FaultOf, ends_in};
 
@@ -13,7 +13,7 @@ use crate::held::Held;
 use crate::listing::{first_changes, push, stood_at};
 use crate::moving::{apply, complete_all, undo};
 use crate::place::{Place, before_in, place_in, place_of};
-use dg_model::{Change, Element, Event};
+use dg_graph::{Change, Element, Event};
 use dg_set::Set;
 use std::alloc::{AllocError, Global};
 use std::marker::Model;

@@ -2,7 +2,7 @@ ghost use Rattle.std.specs.Prelude.{◌≡◌};
 ghost use Rattle.dg_now.specs.Places.{place_of};
 ghost use Rattle.dg_now.specs.Happening.{place_in, before_in};
 
-use dg_model::{Body, Element};
+use dg_graph::{Body, Element};
 
 /// A place of a graph, at which one element stands at the most.
 #[derive(Clone, Copy, Debug, PartialEq, Eq, Hash)]

@@ -1,7 +1,7 @@
 ghost use Rattle.std.specs.Prelude.{◌≡◌, [], IfOk};
 
 use crate::{FromFault, Now, PrepareFault};
-use dg_model::{Body, Change, Element, Event, What};
+use dg_graph::{Body, Change, Element, Event, What};
 use dg_set::Set;
 use std::alloc::Global;
 use std::test::Fail;

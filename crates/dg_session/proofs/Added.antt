@@ -5,19 +5,20 @@ use Rattle.std.proofs.lemmas.List.{length-map, take-append-drop}
 use Rattle.dg_file.specs.Images.{GainsBatch, GainsBatchOrNot}
 use Rattle.dg_file.specs.Index.{new_segment_of, with_segment}
 use Rattle.dg_file.specs.Laws.{BatchesAreAdded, BatchesAreMeasured}
-use Rattle.dg_model.specs.declared.event.Change.{Change}
-use Rattle.dg_model.specs.declared.event.Event.{Event}
-use Rattle.dg_model.specs.declared.limits.TheConstants.{BATCH_LINES_MAX, EVENTS_MAX, NAMES_MAX}
-use Rattle.dg_model.specs.declared.reply.Head.TheVariants as head
-use Rattle.dg_model.specs.declared.reply.Refusal.{Refusal}
-use Rattle.dg_model.specs.declared.reply.Reply.{Reply}
-use Rattle.dg_model.specs.Answer.{following, headed}
-use Rattle.dg_model.specs.Batch.{changes_after, names_after}
-use Rattle.dg_model.specs.Grammar.{said_in}
-use Rattle.dg_model.specs.History.{last_time_from}
-use Rattle.dg_model.specs.Lines.{ScriptLine}
-use Rattle.dg_model.specs.Opening.{Opening}
-use Rattle.dg_model.specs.Script.{Follows}
+use Rattle.dg_graph.specs.declared.event.Change.{Change}
+use Rattle.dg_graph.specs.declared.event.Event.{Event}
+use Rattle.dg_graph.specs.declared.limits.TheConstants.{BATCH_LINES_MAX, NAMES_MAX}
+use Rattle.dg_history.specs.declared.limits.TheConstants.{EVENTS_MAX}
+use Rattle.dg_machine.specs.declared.reply.Head.TheVariants as head
+use Rattle.dg_machine.specs.declared.reply.Refusal.{Refusal}
+use Rattle.dg_machine.specs.declared.reply.Reply.{Reply}
+use Rattle.dg_machine.specs.Answer.{following, headed}
+use Rattle.dg_history.specs.Batch.{changes_after, names_after}
+use Rattle.dg_history.specs.ChangeGrammar.{said_in}
+use Rattle.dg_history.specs.History.{last_time_from}
+use Rattle.dg_graph.specs.Lines.{ScriptLine}
+use Rattle.dg_history.specs.OpenedIndex.{Opening}
+use Rattle.dg_machine.specs.Script.{Follows}
 use Rattle.dg_session.proofs.Answering.{IsFree, none_bars, none_refuses, refusal_by}
 use Rattle.dg_session.proofs.Appending.{WasGathered, add_bad, add_cut, add_full, add_lacks, add_new, add_refused, may_name, may_spell, may_time}
 use Rattle.dg_session.proofs.Batching.{here, of_here}

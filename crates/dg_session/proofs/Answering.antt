@@ -3,17 +3,17 @@ use Rattle.std.proofs.Common.{◌≡◌, ℕ, ◌+◌, ◌≤◌, Bool, true, fa
 use Rattle.std.specs.Prelude.{is_some, ◌*◌}
 use Rattle.std.specs.Option.{option_map}
 use borrow.Author.Tests.{ltb-false}
-use Rattle.dg_model.specs.declared.limits.Limits.{Limits}
-use Rattle.dg_model.specs.declared.limits.TheConstants.{NAMES_MAX}
-use Rattle.dg_model.specs.declared.event.Event.{Event}
-use Rattle.dg_model.specs.declared.reply.Refusal.{Refusal}
-use Rattle.dg_model.specs.declared.reply.Refusal.TheVariants as refusal
-use Rattle.dg_model.specs.Answer.{Answered, answer, append_to, load_into, next_batch, refuse, with_new}
-use Rattle.dg_model.specs.Batch.{batch_of}
-use Rattle.dg_model.specs.History.{History, events_of, names_of, span_of}
-use Rattle.dg_model.specs.Lines.{ScriptLine}
-use Rattle.dg_model.specs.Machine.{MachineState, events_in, names_in}
-use Rattle.dg_model.specs.Opening.{Opening, opening_of}
+use Rattle.dg_machine.specs.declared.limits.Limits.{Limits}
+use Rattle.dg_graph.specs.declared.limits.TheConstants.{NAMES_MAX}
+use Rattle.dg_graph.specs.declared.event.Event.{Event}
+use Rattle.dg_machine.specs.declared.reply.Refusal.{Refusal}
+use Rattle.dg_machine.specs.declared.reply.Refusal.TheVariants as refusal
+use Rattle.dg_machine.specs.Answer.{Answered, answer, append_to, load_into, next_batch, refuse, with_new}
+use Rattle.dg_history.specs.Batch.{batch_of}
+use Rattle.dg_history.specs.History.{History, events_of, names_of, span_of}
+use Rattle.dg_graph.specs.Lines.{ScriptLine}
+use Rattle.dg_machine.specs.MachineState.{MachineState, events_in, names_in}
+use Rattle.dg_history.specs.OpenedIndex.{Opening, opening_of}
 use Rattle.dg_session.specs.Adding.{barred, command_with, head_of, is_first, is_full}
 use Rattle.dg_session.specs.declared.adding.Adding.{Adding}
 use Rattle.dg_session.specs.declared.adding.Adding.TheVariants.{Load, Append}

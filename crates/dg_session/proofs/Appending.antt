@@ -8,27 +8,29 @@ use borrow.Author.Tests.{le-leb, lt-ltb, le-ltb}
 use Rattle.dg_file.specs.Images.{GainsBatch, GainsBatchOrNot}
 use Rattle.dg_file.specs.Index.{earliest_after, needed_for, new_segment_of, with_segment}
 use Rattle.dg_file.specs.Laws.{BatchesAreAdded, BatchesAreMeasured}
-use Rattle.dg_model.specs.declared.event.Change.{Change}
-use Rattle.dg_model.specs.declared.event.Event.{Event}
-use Rattle.dg_model.specs.declared.limits.Limits.{Limits}
-use Rattle.dg_model.specs.declared.limits.TheConstants.{BATCH_LINES_MAX, EVENTS_MAX, NAMES_MAX, TIME_MAX}
-use Rattle.dg_model.specs.declared.reply.Head.TheVariants as head
-use Rattle.dg_model.specs.declared.reply.Refusal.{Refusal}
-use Rattle.dg_model.specs.declared.reply.Refusal.TheVariants as refusal
-use Rattle.dg_model.specs.declared.reply.Reply.{Reply}
-use Rattle.dg_model.specs.Answer.{Answered, answer, headed, may_lack_memory, no_memory, refuse, with_new}
-use Rattle.dg_model.specs.Batch.{changes_after, completed, names_after, on_value}
-use Rattle.dg_model.specs.Cut.{IsCut, As_before, As_after}
-use Rattle.dg_model.specs.File.{size}
-use Rattle.dg_model.specs.Grammar.{said_in}
-use Rattle.dg_model.specs.History.{History, Batch, earliest_next, events_of, last_time_from, names_of, span_of, with_batch}
-use Rattle.dg_model.specs.Legal.{IsImageOf, IsLegal, StandsAs}
-use Rattle.dg_model.specs.Lines.{ScriptLine}
-use Rattle.dg_model.specs.Machine.{MachineState, events_in, names_in}
-use Rattle.dg_model.specs.Opening.{Opening, may_be_named, opening_of}
-use Rattle.dg_model.specs.Replay.{replay}
-use Rattle.dg_model.specs.Run.{Step, Answers}
-use Rattle.dg_model.specs.Script.{Asked}
+use Rattle.dg_graph.specs.declared.event.Change.{Change}
+use Rattle.dg_graph.specs.declared.event.Event.{Event}
+use Rattle.dg_machine.specs.declared.limits.Limits.{Limits}
+use Rattle.dg_graph.specs.declared.limits.TheConstants.{BATCH_LINES_MAX, NAMES_MAX, TIME_MAX}
+use Rattle.dg_history.specs.declared.limits.TheConstants.{EVENTS_MAX}
+use Rattle.dg_machine.specs.declared.reply.Head.TheVariants as head
+use Rattle.dg_machine.specs.declared.reply.Refusal.{Refusal}
+use Rattle.dg_machine.specs.declared.reply.Refusal.TheVariants as refusal
+use Rattle.dg_machine.specs.declared.reply.Reply.{Reply}
+use Rattle.dg_machine.specs.Answer.{Answered, answer, headed, may_lack_memory, no_memory, refuse, with_new}
+use Rattle.dg_history.specs.Batch.{changes_after, names_after}
+use Rattle.dg_graph.specs.CompletedChanges.{completed, on_value}
+use Rattle.dg_machine.specs.CutImage.{IsCut, As_before, As_after}
+use Rattle.dg_history.specs.FileOfHistory.{size}
+use Rattle.dg_history.specs.ChangeGrammar.{said_in}
+use Rattle.dg_history.specs.History.{History, Batch, earliest_next, events_of, last_time_from, names_of, span_of, with_batch}
+use Rattle.dg_history.specs.LegalHistory.{IsImageOf, IsLegal, StandsAs}
+use Rattle.dg_graph.specs.Lines.{ScriptLine}
+use Rattle.dg_machine.specs.MachineState.{MachineState, events_in, names_in}
+use Rattle.dg_history.specs.OpenedIndex.{Opening, may_be_named, opening_of}
+use Rattle.dg_graph.specs.Replay.{replay}
+use Rattle.dg_machine.specs.Run.{Step, Answers}
+use Rattle.dg_machine.specs.Script.{Asked}
 use Rattle.dg_session.proofs.Answering.{answer_is, answered_by, refusal_by}
 use Rattle.dg_session.proofs.Fitting.{ChangeFits, what_spelled}
 use Rattle.dg_session.proofs.Growing.{IsNext, batch_next, earliest_is, events_with, fitting_next, grown_next, legal_next, names_grown}

@@ -1,11 +1,11 @@
 -- What a batch comes to whose first lines have changes, and then a line that is no change.
 use Rattle.std.proofs.Common.{◌≡◌, ℕ, suc, ◌+◌, List, [], ◌∷◌, ◌++◌, Option, None, Result, Ok, Err, length, refl, ◌∙◌, ap, sym, subst, arith}
-use Rattle.dg_model.specs.declared.element.Element.{Element}
-use Rattle.dg_model.specs.declared.event.Change.{Change}
-use Rattle.dg_model.specs.declared.event.Event.{Event}
-use Rattle.dg_model.specs.declared.event.TheConstants.{REASON_FORM}
-use Rattle.dg_model.specs.Batch.{completed, event_of, go_on, on_value}
-use Rattle.dg_model.specs.Effect.{forwards}
+use Rattle.dg_graph.specs.declared.element.Element.{Element}
+use Rattle.dg_graph.specs.declared.event.Change.{Change}
+use Rattle.dg_graph.specs.declared.event.Event.{Event}
+use Rattle.dg_graph.specs.declared.event.TheConstants.{REASON_FORM}
+use Rattle.dg_graph.specs.CompletedChanges.{completed, event_of, go_on, on_value}
+use Rattle.dg_graph.specs.Effect.{forwards}
 use Rattle.dg_now.specs.declared.fault.PrepareFault.{PrepareFault}
 use Rattle.dg_now.specs.declared.fault.PrepareFault.TheVariants.{BadChange, Memory}
 use Rattle.dg_now.specs.Now.{FaultOf}

@@ -11,16 +11,17 @@ use Rattle.dg_columns.specs.Names.{NamesFit}
 use Rattle.dg_file.specs.Held.{last_of, span_in}
 use Rattle.dg_file.specs.Images.{BothTold, GainsBatch, GainsBatchOrNot, GainsSegment}
 use Rattle.dg_file.specs.Index.{AreInTurn, IsDue, earliest_after as earliest_of, events_after, names_count, needed_for, new_segment_of, NewSegment, segment_put, with_segment}
-use Rattle.dg_model.specs.declared.element.Element.{Element}
-use Rattle.dg_model.specs.declared.event.Change.{Change}
-use Rattle.dg_model.specs.declared.event.Event.{Event}
-use Rattle.dg_model.specs.declared.limits.TheConstants.{BATCH_LINES_MAX, EVENTS_MAX, NAMES_MAX, TIME_MAX}
-use Rattle.dg_model.specs.Batch.{completed}
-use Rattle.dg_model.specs.File.{first_time_of}
-use Rattle.dg_model.specs.History.{last_time_from}
-use Rattle.dg_model.specs.Names.{are_new}
-use Rattle.dg_model.specs.Opening.{Opening, Segment, may_be_named, may_follow}
-use Rattle.dg_model.specs.Replay.{replay, replay_from}
+use Rattle.dg_graph.specs.declared.element.Element.{Element}
+use Rattle.dg_graph.specs.declared.event.Change.{Change}
+use Rattle.dg_graph.specs.declared.event.Event.{Event}
+use Rattle.dg_graph.specs.declared.limits.TheConstants.{BATCH_LINES_MAX, NAMES_MAX, TIME_MAX}
+use Rattle.dg_history.specs.declared.limits.TheConstants.{EVENTS_MAX}
+use Rattle.dg_graph.specs.CompletedChanges.{completed}
+use Rattle.dg_history.specs.FileOfHistory.{first_time_of}
+use Rattle.dg_history.specs.History.{last_time_from}
+use Rattle.dg_graph.specs.Names.{are_new}
+use Rattle.dg_history.specs.OpenedIndex.{Opening, Segment, may_be_named, may_follow}
+use Rattle.dg_graph.specs.Replay.{replay, replay_from}
 use Rattle.dg_now.specs.Now.{earliest_after as earliest_now}
 use Rattle.dg_session.proofs.Completing.{AllCome, AreRight, all_come, are_right, as_many}
 use Rattle.dg_session.proofs.Fitting.{BodyFits, ElementFits, WhatFits, events_fit, from_spelled, replay_fits, spelled_body, spelled_what, times_fit}

@@ -4,19 +4,19 @@ use Rattle.std.specs.Prelude.{is_some, nat_eq}
 use Rattle.std.specs.Option.{option_eq}
 use Rattle.std.specs.List.{list_any}
 use borrow.Author.Tests.{ltb-false, eqb-true, eq-eqb}
-use Rattle.dg_model.specs.declared.element.Element.{Element}
-use Rattle.dg_model.specs.declared.element.Element.TheVariants as element
-use Rattle.dg_model.specs.declared.event.Body.{Body}
-use Rattle.dg_model.specs.declared.event.Body.TheVariants as body
-use Rattle.dg_model.specs.declared.event.Change.{Change}
-use Rattle.dg_model.specs.declared.event.Event.{Event}
-use Rattle.dg_model.specs.declared.event.What.{What}
-use Rattle.dg_model.specs.declared.event.What.TheVariants as what
-use Rattle.dg_model.specs.declared.event.TheConstants.{REASON_NODE_EXISTS, REASON_NO_NODE, REASON_NODE_IN_USE, REASON_EDGE_EXISTS, REASON_NO_END, REASON_NO_EDGE, REASON_TIME}
-use Rattle.dg_model.specs.Batch.{completed, event_of, go_on, on_value}
-use Rattle.dg_model.specs.Completion.{has_node, is_edge, edge_of, needs_node, needs_edge, node_value, edge_value, edge_removal, value_removal, complete, is_change_of, is_found, is_value_change}
-use Rattle.dg_model.specs.Effect.{forwards}
-use Rattle.dg_model.proofs.Sets.{same_itself}
+use Rattle.dg_graph.specs.declared.element.Element.{Element}
+use Rattle.dg_graph.specs.declared.element.Element.TheVariants as element
+use Rattle.dg_graph.specs.declared.event.Body.{Body}
+use Rattle.dg_graph.specs.declared.event.Body.TheVariants as body
+use Rattle.dg_graph.specs.declared.event.Change.{Change}
+use Rattle.dg_graph.specs.declared.event.Event.{Event}
+use Rattle.dg_graph.specs.declared.event.What.{What}
+use Rattle.dg_graph.specs.declared.event.What.TheVariants as what
+use Rattle.dg_graph.specs.declared.event.TheConstants.{REASON_NODE_EXISTS, REASON_NO_NODE, REASON_NODE_IN_USE, REASON_EDGE_EXISTS, REASON_NO_END, REASON_NO_EDGE, REASON_TIME}
+use Rattle.dg_graph.specs.CompletedChanges.{completed, event_of, go_on, on_value}
+use Rattle.dg_graph.specs.Completion.{has_node, is_edge, edge_of, needs_node, needs_edge, node_value, edge_value, edge_removal, value_removal, complete, is_change_of, is_found, is_value_change}
+use Rattle.dg_graph.specs.Effect.{forwards}
+use Rattle.dg_graph.proofs.Sets.{same_itself}
 
 -- the element that is found is one that was looked for
 pub find_is : {A : Type 0} (p : A → Bool) (xs : List A) (x : A) → find p xs ≡ Some x → p x ≡ true

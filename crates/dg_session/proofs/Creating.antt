@@ -2,19 +2,19 @@
 use Rattle.std.proofs.Common.{◌≡◌, inl, inr, ℕ, Bool, true, false, List, [], Option, Some, None, IsTrue, if◌then◌else◌, not, refl, sym, ◌∙◌, ap, subst}
 use Rattle.std.specs.Prelude.{is_some}
 use Rattle.dg_file.specs.Images.{IsMadeInPart}
-use Rattle.dg_model.specs.declared.command.Command.TheVariants as command
-use Rattle.dg_model.specs.declared.params.Params.{Params}
-use Rattle.dg_model.specs.declared.reply.Head.TheVariants as head
-use Rattle.dg_model.specs.declared.reply.Refusal.TheVariants as refusal
-use Rattle.dg_model.specs.declared.reply.Reply.{Reply}
-use Rattle.dg_model.specs.Answer.{Answered, answer_create, headed, refuse, no_memory, is_refusal}
-use Rattle.dg_model.specs.Cut.{IsCut, As_before, As_after, First_byte}
-use Rattle.dg_model.specs.History.{History, are_parameters, empty_history}
-use Rattle.dg_model.specs.Legal.{IsImageOf, StandsAs}
-use Rattle.dg_model.specs.Machine.{MachineState, events_in, names_in}
-use Rattle.dg_model.specs.Opening.{Opening, opening_of}
-use Rattle.dg_model.specs.Run.{Step, Answers}
-use Rattle.dg_model.specs.Script.{Asked}
+use Rattle.dg_machine.specs.declared.command.Command.TheVariants as command
+use Rattle.dg_history.specs.declared.params.Params.{Params}
+use Rattle.dg_machine.specs.declared.reply.Head.TheVariants as head
+use Rattle.dg_machine.specs.declared.reply.Refusal.TheVariants as refusal
+use Rattle.dg_machine.specs.declared.reply.Reply.{Reply}
+use Rattle.dg_machine.specs.Answer.{Answered, answer_create, headed, refuse, no_memory, is_refusal}
+use Rattle.dg_machine.specs.CutImage.{IsCut, As_before, As_after, First_byte}
+use Rattle.dg_history.specs.History.{History, are_parameters, empty_history}
+use Rattle.dg_history.specs.LegalHistory.{IsImageOf, StandsAs}
+use Rattle.dg_machine.specs.MachineState.{MachineState, events_in, names_in}
+use Rattle.dg_history.specs.OpenedIndex.{Opening, opening_of}
+use Rattle.dg_machine.specs.Run.{Step, Answers}
+use Rattle.dg_machine.specs.Script.{Asked}
 use Rattle.dg_session.proofs.Moving.{moves, refused, lacking, no_index, some_index}
 use Rattle.dg_session.specs.Parts.{Parts}
 use Rattle.dg_session.specs.Session.{StandsFor, Moves, Cuts}

@@ -6,24 +6,24 @@ use Rattle.std.specs.Option.{option_map, option_eq}
 use Rattle.std.proofs.lemmas.List.{get_or_append_left}
 use Rattle.std.proofs.lemmas.List.Elements.{All-nil, All-cons, All-head, All-tail, All-filter}
 use Rattle.dg_columns.specs.Names.{NamesFit}
-use Rattle.dg_model.specs.declared.element.Element.{Element}
-use Rattle.dg_model.specs.declared.element.Element.TheVariants as element
-use Rattle.dg_model.specs.declared.event.Body.{Body}
-use Rattle.dg_model.specs.declared.event.Body.TheVariants as body
-use Rattle.dg_model.specs.declared.event.Change.{Change}
-use Rattle.dg_model.specs.declared.event.Event.{Event}
-use Rattle.dg_model.specs.declared.event.What.{What}
-use Rattle.dg_model.specs.declared.event.What.TheVariants as what
-use Rattle.dg_model.specs.declared.event.TheConstants.{REASON_NODE_EXISTS, REASON_NO_NODE, REASON_NODE_IN_USE, REASON_EDGE_EXISTS, REASON_NO_EDGE, REASON_NO_END}
-use Rattle.dg_model.specs.declared.limits.TheConstants.{TIME_MAX}
-use Rattle.dg_model.specs.Batch.{changes_after, names_after}
-use Rattle.dg_model.specs.Completion.{has_node, is_edge, edge_of, needs_node, needs_edge, node_value, edge_value, is_node_value, is_edge_value, value_in, value_removal, edge_removal, complete, has_key}
-use Rattle.dg_model.specs.Effect.{forwards, removed_by, added_by, moved}
-use Rattle.dg_model.specs.Elements.{before, same, put, with_one, without}
-use Rattle.dg_model.specs.Grammar.{Asked_for, Plain, Sets_node, Unsets_node, Sets_edge, Unsets_edge, Said, named, change_with, what_in}
-use Rattle.dg_model.specs.Legal.{FitsBody}
-use Rattle.dg_model.specs.Names.{added, is_key, is_name, name_text}
-use Rattle.dg_model.specs.Replay.{replay_from}
+use Rattle.dg_graph.specs.declared.element.Element.{Element}
+use Rattle.dg_graph.specs.declared.element.Element.TheVariants as element
+use Rattle.dg_graph.specs.declared.event.Body.{Body}
+use Rattle.dg_graph.specs.declared.event.Body.TheVariants as body
+use Rattle.dg_graph.specs.declared.event.Change.{Change}
+use Rattle.dg_graph.specs.declared.event.Event.{Event}
+use Rattle.dg_graph.specs.declared.event.What.{What}
+use Rattle.dg_graph.specs.declared.event.What.TheVariants as what
+use Rattle.dg_graph.specs.declared.event.TheConstants.{REASON_NODE_EXISTS, REASON_NO_NODE, REASON_NODE_IN_USE, REASON_EDGE_EXISTS, REASON_NO_EDGE, REASON_NO_END}
+use Rattle.dg_graph.specs.declared.limits.TheConstants.{TIME_MAX}
+use Rattle.dg_history.specs.Batch.{changes_after, names_after}
+use Rattle.dg_graph.specs.Completion.{has_node, is_edge, edge_of, needs_node, needs_edge, node_value, edge_value, is_node_value, is_edge_value, value_in, value_removal, edge_removal, complete, has_key}
+use Rattle.dg_graph.specs.Effect.{forwards, removed_by, added_by, moved}
+use Rattle.dg_graph.specs.Elements.{before, same, put, with_one, without}
+use Rattle.dg_history.specs.ChangeGrammar.{Asked_for, Plain, Sets_node, Unsets_node, Sets_edge, Unsets_edge, Said, named, change_with, what_in}
+use Rattle.dg_history.specs.LegalHistory.{FitsBody}
+use Rattle.dg_graph.specs.Names.{added, is_key, is_name, name_text}
+use Rattle.dg_graph.specs.Replay.{replay_from}
 use Rattle.dg_session.proofs.Completing.{AllCome}
 use Rattle.dg_session.proofs.Naming.{Grows, Has, grows_none, grows_both, added_grows, added_has, has_more, key_is_name, number_within, text_is}
 use Rattle.dg_session.proofs.Saying.{AskedFits, PlainFits, SaidFits}

@@ -7,11 +7,11 @@ use Rattle.dg_io.specs.declared.lines.Line.{Line}
 use Rattle.dg_io.specs.declared.lines.Line.TheVariants as line
 use Rattle.dg_io.specs.declared.lines.Line.TheVariants.{End}
 use Rattle.dg_io.specs.Reading.{Reading, Comes, LineComes}
-use Rattle.dg_model.specs.declared.event.Change.{Change}
-use Rattle.dg_model.specs.Batch.{changes_after, names_after}
-use Rattle.dg_model.specs.Grammar.{Said, said_in, named, change_with}
-use Rattle.dg_model.specs.Lines.{ScriptLine}
-use Rattle.dg_model.specs.Script.{Follows}
+use Rattle.dg_graph.specs.declared.event.Change.{Change}
+use Rattle.dg_history.specs.Batch.{changes_after, names_after}
+use Rattle.dg_history.specs.ChangeGrammar.{Said, said_in, named, change_with}
+use Rattle.dg_graph.specs.Lines.{ScriptLine}
+use Rattle.dg_machine.specs.Script.{Follows}
 use Rattle.dg_session.proofs.Naming.{names_both, changes_both}
 use Rattle.dg_session.specs.declared.following.Front.{Front}
 use Rattle.dg_session.specs.declared.following.Front.TheVariants.{Whole, Form, Unkept}

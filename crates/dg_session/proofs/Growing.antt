@@ -6,19 +6,21 @@ use Rattle.std.proofs.lemmas.Grind.{flat_map-append}
 use Rattle.std.proofs.lemmas.List.{append-nil, length-map}
 use Rattle.std.proofs.lemmas.List.Elements.{All-nil, All-append}
 use Rattle.dg_file.specs.Index.{earliest_after}
-use Rattle.dg_model.specs.declared.element.Element.{Element}
-use Rattle.dg_model.specs.declared.event.Change.{Change}
-use Rattle.dg_model.specs.declared.event.Event.{Event}
-use Rattle.dg_model.specs.declared.limits.TheConstants.{BATCH_LINES_MAX, EVENTS_MAX, NAMES_MAX, TIME_MAX}
-use Rattle.dg_model.specs.Batch.{completed, changes_after, names_after}
-use Rattle.dg_model.specs.File.{segment}
-use Rattle.dg_model.specs.Grammar.{said_in}
-use Rattle.dg_model.specs.History.{History, Batch, events_of, names_of, with_batch, span_of, earliest_next, last_time_from}
-use Rattle.dg_model.specs.Legal.{FitsEvent, IsLegal, IsLegalBatch, AreLegalAfter}
-use Rattle.dg_model.specs.Lines.{ScriptLine}
-use Rattle.dg_model.specs.Names.{are_new}
-use Rattle.dg_model.specs.Opening.{segments_of}
-use Rattle.dg_model.specs.Replay.{replay}
+use Rattle.dg_graph.specs.declared.element.Element.{Element}
+use Rattle.dg_graph.specs.declared.event.Change.{Change}
+use Rattle.dg_graph.specs.declared.event.Event.{Event}
+use Rattle.dg_graph.specs.declared.limits.TheConstants.{BATCH_LINES_MAX, NAMES_MAX, TIME_MAX}
+use Rattle.dg_history.specs.declared.limits.TheConstants.{EVENTS_MAX}
+use Rattle.dg_graph.specs.CompletedChanges.{completed}
+use Rattle.dg_history.specs.Batch.{changes_after, names_after}
+use Rattle.dg_history.specs.FileOfHistory.{segment}
+use Rattle.dg_history.specs.ChangeGrammar.{said_in}
+use Rattle.dg_history.specs.History.{History, Batch, events_of, names_of, with_batch, span_of, earliest_next, last_time_from}
+use Rattle.dg_history.specs.LegalHistory.{FitsEvent, IsLegal, IsLegalBatch, AreLegalAfter}
+use Rattle.dg_graph.specs.Lines.{ScriptLine}
+use Rattle.dg_graph.specs.Names.{are_new}
+use Rattle.dg_history.specs.OpenedIndex.{segments_of}
+use Rattle.dg_graph.specs.Replay.{replay}
 use Rattle.dg_session.proofs.Completing.{AllCome, all_come, as_many}
 use Rattle.dg_session.proofs.Fitting.{BodyFits, ChangeFits, ElementFits, HasKey, WhatFits, body_more, changes_fit, events_fit, events_keys, from_legal, has_key_more, legal_body, lines_grow, replay_fits, times_fit}
 use Rattle.dg_session.proofs.Naming.{Grows, changes_length, grown_drop, grown_long, grows_none, new_joined}

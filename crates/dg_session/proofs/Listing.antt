@@ -1,18 +1,18 @@
 -- The answer to a listing.
 use Rattle.std.proofs.Common.{◌≡◌, ℕ, List, [], Option, Some, None, IsTrue, length, map, refl, sym, ◌∙◌, ap, subst, not}
 use Rattle.std.proofs.lemmas.List.{length-map}
-use Rattle.dg_model.specs.declared.command.Command.TheVariants as command
-use Rattle.dg_model.specs.declared.element.Element.{Element}
-use Rattle.dg_model.specs.declared.reply.BodyLine.{BodyLine}
-use Rattle.dg_model.specs.declared.reply.BodyLine.TheVariants as line
-use Rattle.dg_model.specs.declared.reply.Head.TheVariants as head
-use Rattle.dg_model.specs.declared.reply.Refusal.TheVariants as refusal
-use Rattle.dg_model.specs.declared.reply.Reply.{Reply}
-use Rattle.dg_model.specs.declared.stands.Stands.{Stands}
-use Rattle.dg_model.specs.declared.stands.Stands.TheVariants.{Overlay}
-use Rattle.dg_model.specs.Answer.{Answered, answer_list, list_of, listing, headed, no_memory, is_refusal}
-use Rattle.dg_model.specs.History.{History, events_of}
-use Rattle.dg_model.specs.Machine.{MachineState, entry_at, elements, events_in}
+use Rattle.dg_machine.specs.declared.command.Command.TheVariants as command
+use Rattle.dg_graph.specs.declared.element.Element.{Element}
+use Rattle.dg_machine.specs.declared.reply.BodyLine.{BodyLine}
+use Rattle.dg_machine.specs.declared.reply.BodyLine.TheVariants as line
+use Rattle.dg_machine.specs.declared.reply.Head.TheVariants as head
+use Rattle.dg_machine.specs.declared.reply.Refusal.TheVariants as refusal
+use Rattle.dg_machine.specs.declared.reply.Reply.{Reply}
+use Rattle.dg_machine.specs.declared.stands.Stands.{Stands}
+use Rattle.dg_machine.specs.declared.stands.Stands.TheVariants.{Overlay}
+use Rattle.dg_machine.specs.Answer.{Answered, answer_list, list_of, listing, headed, no_memory, is_refusal}
+use Rattle.dg_history.specs.History.{History, events_of}
+use Rattle.dg_machine.specs.MachineState.{MachineState, entry_at, elements, events_in}
 use Rattle.dg_session.proofs.Moving.{moves, refused, lacking}
 use Rattle.dg_session.specs.Parts.{Parts}
 use Rattle.dg_session.specs.Session.{Moves, StandsFor, elements_among}

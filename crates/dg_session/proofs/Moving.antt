@@ -5,17 +5,17 @@ use Rattle.std.specs.Prelude.{IfSome, is_some}
 use Rattle.dg_file.specs.Index.{IndexState}
 use Rattle.dg_session.specs.Started.{index_opening}
 use Rattle.dg_file.specs.Images.{BothTold as BothImages}
-use Rattle.dg_model.specs.declared.command.Command.{Command}
-use Rattle.dg_model.specs.declared.reply.Head.TheVariants as head
-use Rattle.dg_model.specs.declared.reply.Refusal.{Refusal}
-use Rattle.dg_model.specs.declared.reply.Reply.{Reply}
-use Rattle.dg_model.specs.Answer.{Answered, answer, headed, refuse, no_memory, may_lack_memory}
-use Rattle.dg_model.specs.History.{History}
-use Rattle.dg_model.specs.Lines.{ScriptLine}
-use Rattle.dg_model.specs.Machine.{MachineState}
-use Rattle.dg_model.specs.Opening.{Opening, opening_of}
-use Rattle.dg_model.specs.Run.{Step, Answers, Lacks_memory}
-use Rattle.dg_model.specs.Script.{Asked}
+use Rattle.dg_machine.specs.declared.command.Command.{Command}
+use Rattle.dg_machine.specs.declared.reply.Head.TheVariants as head
+use Rattle.dg_machine.specs.declared.reply.Refusal.{Refusal}
+use Rattle.dg_machine.specs.declared.reply.Reply.{Reply}
+use Rattle.dg_machine.specs.Answer.{Answered, answer, headed, refuse, no_memory, may_lack_memory}
+use Rattle.dg_history.specs.History.{History}
+use Rattle.dg_graph.specs.Lines.{ScriptLine}
+use Rattle.dg_machine.specs.MachineState.{MachineState}
+use Rattle.dg_history.specs.OpenedIndex.{Opening, opening_of}
+use Rattle.dg_machine.specs.Run.{Step, Answers, Lacks_memory}
+use Rattle.dg_machine.specs.Script.{Asked}
 use Rattle.dg_session.specs.Parts.{Parts}
 use Rattle.dg_session.specs.Session.{BothTold, StandsFor, Moves}
 

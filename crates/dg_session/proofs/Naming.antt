@@ -7,11 +7,11 @@ use Rattle.std.proofs.lemmas.List.{append-nil}
 use Rattle.std.proofs.lemmas.List.Elements.{Contains-get_or}
 use Rattle.std.proofs.lemmas.Option.{slice_get_within, get_or_from_slice_get}
 use borrow.Author.Tests.{le-leb, leb-true, eqb-true}
-use Rattle.dg_model.specs.declared.event.Change.{Change}
-use Rattle.dg_model.specs.declared.limits.TheConstants.{KEY_BYTES_MAX, NAME_BYTES_MAX}
-use Rattle.dg_model.specs.Batch.{changes_after, names_after}
-use Rattle.dg_model.specs.Grammar.{Said, named, change_with}
-use Rattle.dg_model.specs.Names.{number_of, added, number_in, number_or, name_text, is_name, is_key, are_new}
+use Rattle.dg_graph.specs.declared.event.Change.{Change}
+use Rattle.dg_graph.specs.declared.limits.TheConstants.{KEY_BYTES_MAX, NAME_BYTES_MAX}
+use Rattle.dg_history.specs.Batch.{changes_after, names_after}
+use Rattle.dg_history.specs.ChangeGrammar.{Said, named, change_with}
+use Rattle.dg_graph.specs.Names.{number_of, added, number_in, number_or, name_text, is_name, is_key, are_new}
 use Rattle.dg_names.proofs.Numbers.{number_stands, no_number}
 
 -- ---- lines one after another

@@ -8,15 +8,15 @@ use Rattle.std.proofs.lemmas.List.Elements.{All-nil, All-cons, All-head, All-tai
 use borrow.Author.Tests.{leb-true, ltb-true}
 use mir.Syntax.{Width}
 use Rattle.dg_columns.specs.Names.{NamesFit, ValueNamesFit}
-use Rattle.dg_model.specs.declared.element.Column.{Column}
-use Rattle.dg_model.specs.declared.element.Column.TheVariants as column
-use Rattle.dg_model.specs.declared.event.Body.{Body}
-use Rattle.dg_model.specs.declared.event.Body.TheVariants as body
-use Rattle.dg_model.specs.declared.event.Event.{Event}
-use Rattle.dg_model.specs.declared.placed.Placed.{Placed}
-use Rattle.dg_model.specs.declared.limits.TheConstants.{TIME_MAX}
-use Rattle.dg_model.specs.Merging.{at_positions, if_never_fall, merged, never_fall}
-use Rattle.dg_model.specs.Reading.{and_read, any_number, body_at, body_size, edge_fields, eight_bytes, end_at, events_at, events_in, field, four_bytes, one_byte, structure_body, two_bytes, value_fields, value_of}
+use Rattle.dg_graph.specs.declared.element.Column.{Column}
+use Rattle.dg_graph.specs.declared.element.Column.TheVariants as column
+use Rattle.dg_graph.specs.declared.event.Body.{Body}
+use Rattle.dg_graph.specs.declared.event.Body.TheVariants as body
+use Rattle.dg_graph.specs.declared.event.Event.{Event}
+use Rattle.dg_graph.specs.declared.placed.Placed.{Placed}
+use Rattle.dg_graph.specs.declared.limits.TheConstants.{TIME_MAX}
+use Rattle.dg_graph.specs.ColumnMerge.{at_positions, if_never_fall, merged, never_fall}
+use Rattle.dg_graph.specs.ColumnGrammar.{and_read, any_number, body_at, body_size, edge_fields, eight_bytes, end_at, events_at, events_in, field, four_bytes, one_byte, structure_body, two_bytes, value_fields, value_of}
 use Rattle.dg_session.proofs.Naming.{both_parts}
 
 -- ---- fields

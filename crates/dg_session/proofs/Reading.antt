@@ -8,16 +8,16 @@ use Rattle.std.proofs.lemmas.Option.{slice_get_within, get_or_from_slice_get, sl
 use Rattle.dg_file.specs.declared.batch.Batch.{Batch}
 use Rattle.dg_file.specs.Held.{batch_in}
 use Rattle.dg_file.specs.Index.{IndexState, events_after}
-use Rattle.dg_model.specs.declared.element.Element.{Element}
-use Rattle.dg_model.specs.declared.event.Event.{Event}
-use Rattle.dg_model.specs.declared.fault.StartFault.{StartFault}
-use Rattle.dg_model.specs.declared.fault.StartFault.TheVariants as fault
-use Rattle.dg_model.specs.declared.params.Params.{Params}
-use Rattle.dg_model.specs.Effect.{forwards}
-use Rattle.dg_model.specs.Legal.{is_blank}
-use Rattle.dg_model.specs.Opening.{Segment, Opening, Opened, Tail, No_index, opening, opened_with, opened_by, params_in, segments_from}
-use Rattle.dg_model.specs.Replay.{replay, replay_from}
-use Rattle.dg_model.specs.Starting.{Started, and_then, events_in_piece, events_in_pieces, first_wrong, right_or, started_from, start_of}
+use Rattle.dg_graph.specs.declared.element.Element.{Element}
+use Rattle.dg_graph.specs.declared.event.Event.{Event}
+use Rattle.dg_history.specs.declared.start_fault.StartFault.{StartFault}
+use Rattle.dg_history.specs.declared.start_fault.StartFault.TheVariants as fault
+use Rattle.dg_history.specs.declared.params.Params.{Params}
+use Rattle.dg_graph.specs.Effect.{forwards}
+use Rattle.dg_history.specs.LegalHistory.{is_blank}
+use Rattle.dg_history.specs.OpenedIndex.{Segment, Opening, Opened, Tail, No_index, opening, opened_with, opened_by, params_in, segments_from}
+use Rattle.dg_graph.specs.Replay.{replay, replay_from}
+use Rattle.dg_history.specs.SessionStart.{Started, and_then, events_in_piece, events_in_pieces, first_wrong, right_or, started_from, start_of}
 use Rattle.dg_session.specs.Started.{FirstWrong, Refuses, or_later, started_with}
 
 -- the pairs in front of those that come

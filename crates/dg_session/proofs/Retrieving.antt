@@ -1,18 +1,18 @@
 -- The answer to a retrieval.
 use Rattle.std.proofs.Common.{◌≡◌, ℕ, ◌+◌, ◌<◌, ◌≤◌, Bool, true, false, not, List, [], ◌∷◌, ◌++◌, Option, Some, None, if◌then◌else◌, IsTrue, length, refl, sym, ◌∙◌, ap, subst, nat_le}
 use borrow.Author.Tests.{le-leb, lt-leb}
-use Rattle.dg_model.specs.declared.command.Command.TheVariants as command
-use Rattle.dg_model.specs.declared.element.Columns.{Columns}
-use Rattle.dg_model.specs.declared.limits.TheConstants.{LIVE_HANDLES_MAX}
-use Rattle.dg_model.specs.declared.reply.Head.TheVariants as head
-use Rattle.dg_model.specs.declared.reply.Refusal.TheVariants as refusal
-use Rattle.dg_model.specs.declared.reply.Reply.{Reply}
-use Rattle.dg_model.specs.declared.stands.Stands.{Stands}
-use Rattle.dg_model.specs.declared.stands.Stands.TheVariants.{Overlay}
-use Rattle.dg_model.specs.Answer.{Answered, answer_at, headed, refuse, no_memory, is_refusal}
-use Rattle.dg_model.specs.History.{History, events_of, span_of, in_range}
-use Rattle.dg_model.specs.Machine.{MachineState, events_in}
-use Rattle.dg_model.specs.Opening.{Opening}
+use Rattle.dg_machine.specs.declared.command.Command.TheVariants as command
+use Rattle.dg_graph.specs.declared.element.Columns.{Columns}
+use Rattle.dg_machine.specs.declared.limits.TheConstants.{LIVE_HANDLES_MAX}
+use Rattle.dg_machine.specs.declared.reply.Head.TheVariants as head
+use Rattle.dg_machine.specs.declared.reply.Refusal.TheVariants as refusal
+use Rattle.dg_machine.specs.declared.reply.Reply.{Reply}
+use Rattle.dg_machine.specs.declared.stands.Stands.{Stands}
+use Rattle.dg_machine.specs.declared.stands.Stands.TheVariants.{Overlay}
+use Rattle.dg_machine.specs.Answer.{Answered, answer_at, headed, refuse, no_memory, is_refusal}
+use Rattle.dg_history.specs.History.{History, events_of, span_of, in_range}
+use Rattle.dg_machine.specs.MachineState.{MachineState, events_in}
+use Rattle.dg_history.specs.OpenedIndex.{Opening}
 use Rattle.dg_session.proofs.Moving.{moves, refused, lacking, no_index, some_index}
 use Rattle.dg_session.specs.Parts.{Parts}
 use Rattle.dg_session.specs.Session.{Moves, StandsFor}

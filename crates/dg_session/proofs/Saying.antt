@@ -7,15 +7,16 @@ use Rattle.std.specs.Str.{bytes_eq}
 use Rattle.std.specs.Str.Parse.{digits_value}
 use Rattle.std.proofs.lemmas.List.Elements.{All-nil, All-cons}
 use borrow.Author.Tests.{leb-true}
-use Rattle.dg_model.specs.declared.command.Command.{Command}
-use Rattle.dg_model.specs.declared.command.Command.TheVariants as command
-use Rattle.dg_model.specs.declared.event.What.{What}
-use Rattle.dg_model.specs.declared.event.What.TheVariants as what
-use Rattle.dg_model.specs.declared.limits.TheConstants.{BATCH_LINES_MAX, TIME_MAX}
-use Rattle.dg_model.specs.Grammar.{Asked_for, Plain, Sets_node, Unsets_node, Sets_edge, Unsets_edge, Said, is_word, id_of, time_of, one_id, new_edge, key_of, value_of, set_of, unset_of, asked_of, said_of_words, said_in, direction_of, create_of, load_of, append_of, at_of, list_of, command_of_words, command_of, n32_of, function_of, columns_of, handle_of}
-use Rattle.dg_model.specs.Lines.{ScriptLine, Text, Long}
-use Rattle.dg_model.specs.Names.{is_key, is_name}
-use Rattle.dg_model.specs.Words.{words, number}
+use Rattle.dg_machine.specs.declared.command.Command.{Command}
+use Rattle.dg_machine.specs.declared.command.Command.TheVariants as command
+use Rattle.dg_graph.specs.declared.event.What.{What}
+use Rattle.dg_graph.specs.declared.event.What.TheVariants as what
+use Rattle.dg_graph.specs.declared.limits.TheConstants.{BATCH_LINES_MAX, TIME_MAX}
+use Rattle.dg_history.specs.ChangeGrammar.{Asked_for, Plain, Sets_node, Unsets_node, Sets_edge, Unsets_edge, Said, is_word, id_of, time_of, one_id, new_edge, key_of, value_of, set_of, unset_of, asked_of, said_of_words, said_in, direction_of}
+use Rattle.dg_machine.specs.CommandGrammar.{create_of, load_of, append_of, at_of, list_of, command_of_words, command_of, n32_of, function_of, columns_of, handle_of}
+use Rattle.dg_graph.specs.Lines.{ScriptLine, Text, Long}
+use Rattle.dg_graph.specs.Names.{is_key, is_name}
+use Rattle.dg_graph.specs.Words.{words, number}
 
 pub and_some : {A B : Type 0} (o : Option A) (f : A → Option B) (P : A → Type 0) (Q : B → Type 0) → IfSome o P → ((x : A) → P x → IfSome (f x) Q) → IfSome (option_and_then f o) Q
 and_some None f P Q h next = tt

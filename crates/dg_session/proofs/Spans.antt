@@ -1,8 +1,8 @@
 -- The first and the last event of a list, and its span.
 use Rattle.std.proofs.Common.{◌≡◌, ◌-◌, List, [], ◌∷◌, Some, length, ◌∙◌, ap, sym, arith}
 use Rattle.std.specs.Prelude.{slice_get}
-use Rattle.dg_model.specs.declared.event.Event.{Event}
-use Rattle.dg_model.specs.History.{last_time_from, span_of}
+use Rattle.dg_graph.specs.declared.event.Event.{Event}
+use Rattle.dg_history.specs.History.{last_time_from, span_of}
 
 last_is : (e : Event) (es : List Event) (last : Event) → slice_get (e ∷ es) (length es) ≡ Some last → last_time_from e.time es ≡ last.time
 last_is e [] last is = cc

@@ -10,27 +10,27 @@ use borrow.Author.Tests.{le-leb}
 use Rattle.dg_columns.specs.Laws.{EventsAreReadBack, EventsAreMergedBack}
 use Rattle.dg_columns.specs.Ranges.{EventsFit, BodyFits}
 use Rattle.dg_file.specs.Laws.{ImagesAreOpened}
-use Rattle.dg_model.specs.declared.element.Column.{Column}
-use Rattle.dg_model.specs.declared.element.Column.TheVariants as column
-use Rattle.dg_model.specs.declared.element.Element.{Element}
-use Rattle.dg_model.specs.declared.event.Body.{Body}
-use Rattle.dg_model.specs.declared.event.Body.TheVariants as body
-use Rattle.dg_model.specs.declared.event.Change.{Change}
-use Rattle.dg_model.specs.declared.event.Event.{Event}
-use Rattle.dg_model.specs.declared.fault.StartFault.{StartFault}
-use Rattle.dg_model.specs.declared.placed.Placed.{Placed}
-use Rattle.dg_model.specs.Columns.{eight, events_column, placed_in}
-use Rattle.dg_model.specs.Completion.{has_key, is_change_of, has_node, edge_of, node_value, edge_value, is_value_change}
-use Rattle.dg_model.specs.Effect.{forwards}
-use Rattle.dg_model.specs.declared.limits.TheConstants.{NAMES_MAX}
-use Rattle.dg_model.specs.File.{first_time_of, directory, blobs, segment, header, file}
-use Rattle.dg_model.specs.History.{History, Batch, events_of, names_of, span_of, earliest_next, last_time_from}
-use Rattle.dg_model.specs.Legal.{FitsBody, FitsEvent, IsLegalBatch, AreLegalAfter, IsImageOf}
-use Rattle.dg_model.specs.Merging.{never_fall, merged}
-use Rattle.dg_model.specs.Opening.{Segment, opening_of, opened_of, segment_of, segments_of, column_of_piece, opened_by, params_in, No_index}
-use Rattle.dg_model.specs.Reading.{events_in}
-use Rattle.dg_model.specs.Replay.{replay_from, replay}
-use Rattle.dg_model.specs.Starting.{and_then, spelled_or, placed_in_piece, merged_or, events_in_piece, events_in_pieces, is_right, first_wrong, right_or, started_from, start_of}
+use Rattle.dg_graph.specs.declared.element.Column.{Column}
+use Rattle.dg_graph.specs.declared.element.Column.TheVariants as column
+use Rattle.dg_graph.specs.declared.element.Element.{Element}
+use Rattle.dg_graph.specs.declared.event.Body.{Body}
+use Rattle.dg_graph.specs.declared.event.Body.TheVariants as body
+use Rattle.dg_graph.specs.declared.event.Change.{Change}
+use Rattle.dg_graph.specs.declared.event.Event.{Event}
+use Rattle.dg_history.specs.declared.start_fault.StartFault.{StartFault}
+use Rattle.dg_graph.specs.declared.placed.Placed.{Placed}
+use Rattle.dg_graph.specs.Columns.{eight, events_column, placed_in}
+use Rattle.dg_graph.specs.Completion.{has_key, is_change_of, has_node, edge_of, node_value, edge_value, is_value_change}
+use Rattle.dg_graph.specs.Effect.{forwards}
+use Rattle.dg_graph.specs.declared.limits.TheConstants.{NAMES_MAX}
+use Rattle.dg_history.specs.FileOfHistory.{first_time_of, directory, blobs, segment, header, file}
+use Rattle.dg_history.specs.History.{History, Batch, events_of, names_of, span_of, earliest_next, last_time_from}
+use Rattle.dg_history.specs.LegalHistory.{FitsBody, FitsEvent, IsLegalBatch, AreLegalAfter, IsImageOf}
+use Rattle.dg_graph.specs.ColumnMerge.{never_fall, merged}
+use Rattle.dg_history.specs.OpenedIndex.{Segment, opening_of, opened_of, segment_of, segments_of, column_of_piece, opened_by, params_in, No_index}
+use Rattle.dg_graph.specs.ColumnGrammar.{events_in}
+use Rattle.dg_graph.specs.Replay.{replay_from, replay}
+use Rattle.dg_history.specs.SessionStart.{and_then, spelled_or, placed_in_piece, merged_or, events_in_piece, events_in_pieces, is_right, first_wrong, right_or, started_from, start_of}
 use Rattle.dg_session.proofs.Completing.{AreRight, all_come, are_right}
 use Rattle.dg_session.proofs.Naming.{both_parts}
 use Rattle.dg_session.proofs.Reading.{tagged, untagged, from_pieces, replay_more, starts}

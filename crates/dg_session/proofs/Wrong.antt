@@ -1,11 +1,11 @@
 -- The first event that is not right.
 use Rattle.std.proofs.Common.{◌≡◌, ℕ, suc, ◌+◌, ◌<◌, Bool, false, List, ◌++◌, Some, if◌then◌else◌, length, map, drop, get_or, ◌∙◌, ap}
 use Rattle.std.proofs.Math.Seq.{drop-cons}
-use Rattle.dg_model.specs.declared.element.Element.{Element}
-use Rattle.dg_model.specs.declared.event.Event.{Event}
-use Rattle.dg_model.specs.Effect.{forwards}
-use Rattle.dg_model.specs.Opening.{Segment}
-use Rattle.dg_model.specs.Starting.{is_right, first_wrong}
+use Rattle.dg_graph.specs.declared.element.Element.{Element}
+use Rattle.dg_graph.specs.declared.event.Event.{Event}
+use Rattle.dg_graph.specs.Effect.{forwards}
+use Rattle.dg_history.specs.OpenedIndex.{Segment}
+use Rattle.dg_history.specs.SessionStart.{is_right, first_wrong}
 
 pub wrong_here : (names : List (List ℕ)) (s : Segment) (n i : ℕ) (set : List Element) (events : List Event) (d : Event) (more : List (Segment × Event))
     → i < length events → is_right names set (s, get_or events i d) ≡ false

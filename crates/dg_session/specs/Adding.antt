@@ -3,23 +3,24 @@ use Rattle.std.specs.Prelude.{◌≡◌, ◌+◌, ◌<◌, ◌≤◌, ◌^◌, �
 use Rattle.std.specs.List.{All}
 use Rattle.dg_file.specs.Images.{BothTold, GainsBatch, GainsBatchOrNot}
 use Rattle.dg_file.specs.Index.{earliest_after, needed_for, new_segment_of, with_segment}
-use Rattle.dg_model.specs.declared.command.Command.{Command}
-use Rattle.dg_model.specs.declared.command.Command.TheVariants as command
-use Rattle.dg_model.specs.declared.event.Change.{Change}
-use Rattle.dg_model.specs.declared.event.Event.{Event}
-use Rattle.dg_model.specs.declared.event.What.{What}
-use Rattle.dg_model.specs.declared.event.What.TheVariants as what
-use Rattle.dg_model.specs.declared.limits.TheConstants.{BATCH_LINES_MAX, EVENTS_MAX, NAMES_MAX, TIME_MAX}
-use Rattle.dg_model.specs.declared.reply.Head.{Head}
-use Rattle.dg_model.specs.declared.reply.Head.TheVariants as head
-use Rattle.dg_model.specs.declared.reply.Refusal.{Refusal}
-use Rattle.dg_model.specs.declared.reply.Refusal.TheVariants as refusal
-use Rattle.dg_model.specs.declared.reply.Reply.{Reply}
-use Rattle.dg_model.specs.Answer.{headed, no_memory}
-use Rattle.dg_model.specs.Batch.{completed}
-use Rattle.dg_model.specs.History.{Batch, last_time_from, span_of}
-use Rattle.dg_model.specs.Opening.{Opening, may_be_named}
-use Rattle.dg_model.specs.Replay.{replay}
+use Rattle.dg_machine.specs.declared.command.Command.{Command}
+use Rattle.dg_machine.specs.declared.command.Command.TheVariants as command
+use Rattle.dg_graph.specs.declared.event.Change.{Change}
+use Rattle.dg_graph.specs.declared.event.Event.{Event}
+use Rattle.dg_graph.specs.declared.event.What.{What}
+use Rattle.dg_graph.specs.declared.event.What.TheVariants as what
+use Rattle.dg_graph.specs.declared.limits.TheConstants.{BATCH_LINES_MAX, NAMES_MAX, TIME_MAX}
+use Rattle.dg_history.specs.declared.limits.TheConstants.{EVENTS_MAX}
+use Rattle.dg_machine.specs.declared.reply.Head.{Head}
+use Rattle.dg_machine.specs.declared.reply.Head.TheVariants as head
+use Rattle.dg_machine.specs.declared.reply.Refusal.{Refusal}
+use Rattle.dg_machine.specs.declared.reply.Refusal.TheVariants as refusal
+use Rattle.dg_machine.specs.declared.reply.Reply.{Reply}
+use Rattle.dg_machine.specs.Answer.{headed, no_memory}
+use Rattle.dg_graph.specs.CompletedChanges.{completed}
+use Rattle.dg_history.specs.History.{Batch, last_time_from, span_of}
+use Rattle.dg_history.specs.OpenedIndex.{Opening, may_be_named}
+use Rattle.dg_graph.specs.Replay.{replay}
 use Rattle.dg_now.specs.declared.fault.PrepareFault.{PrepareFault}
 use Rattle.dg_now.specs.declared.fault.PrepareFault.TheVariants as prepare_fault
 use Rattle.dg_session.specs.declared.adding.Added.{Added}

@@ -6,10 +6,10 @@ use Rattle.dg_io.specs.declared.lines.LineFault.{LineFault}
 use Rattle.dg_io.specs.declared.lines.LineFault.TheVariants as fault
 use Rattle.dg_io.specs.Told.{Gives}
 use Rattle.dg_io.specs.Reading.{Reading, EndsWith, to_come}
-use Rattle.dg_model.specs.declared.event.Change.{Change}
-use Rattle.dg_model.specs.Batch.{changes_after, names_after}
-use Rattle.dg_model.specs.Grammar.{Said, said_in, named, change_with}
-use Rattle.dg_model.specs.Lines.{ScriptLine, Text, Long}
+use Rattle.dg_graph.specs.declared.event.Change.{Change}
+use Rattle.dg_history.specs.Batch.{changes_after, names_after}
+use Rattle.dg_history.specs.ChangeGrammar.{Said, said_in, named, change_with}
+use Rattle.dg_graph.specs.Lines.{ScriptLine, Text, Long}
 use Rattle.dg_session.specs.declared.following.Front.{Front}
 use Rattle.dg_session.specs.declared.following.Front.TheVariants.{Whole, Form, Unkept}
 use Rattle.dg_session.specs.declared.stop.Stop.{Stop}

@@ -1,23 +1,23 @@
 -- How the steps of a session are steps of the machine.
 use Rattle.std.specs.Prelude.{◌≡◌, ℕ, Bool, true, false, List, [], Option, Some, None, Ok}
 use Rattle.std.specs.Option.{option_map}
-use Rattle.dg_model.specs.declared.command.Command.{Command}
-use Rattle.dg_model.specs.declared.command.Command.TheVariants as command
-use Rattle.dg_model.specs.declared.element.Element.{Element}
-use Rattle.dg_model.specs.declared.event.Event.{Event}
-use Rattle.dg_model.specs.declared.reply.Reply.{Reply}
-use Rattle.dg_model.specs.declared.stands.Stands.{Stands}
-use Rattle.dg_model.specs.declared.stands.Stands.TheVariants.{Overlay}
-use Rattle.dg_model.specs.Answer.{following}
-use Rattle.dg_model.specs.Cut.{IsCut}
-use Rattle.dg_model.specs.Elements.{shown}
-use Rattle.dg_model.specs.Legal.{StandsAs, is_blank}
-use Rattle.dg_model.specs.Lines.{ScriptLine}
-use Rattle.dg_model.specs.Machine.{MachineState, events_in, names_in}
-use Rattle.dg_model.specs.Opening.{Opening, opening, opening_of}
-use Rattle.dg_model.specs.Replay.{replay_at}
-use Rattle.dg_model.specs.Run.{Step}
-use Rattle.dg_model.specs.Script.{Asked, Follows}
+use Rattle.dg_machine.specs.declared.command.Command.{Command}
+use Rattle.dg_machine.specs.declared.command.Command.TheVariants as command
+use Rattle.dg_graph.specs.declared.element.Element.{Element}
+use Rattle.dg_graph.specs.declared.event.Event.{Event}
+use Rattle.dg_machine.specs.declared.reply.Reply.{Reply}
+use Rattle.dg_machine.specs.declared.stands.Stands.{Stands}
+use Rattle.dg_machine.specs.declared.stands.Stands.TheVariants.{Overlay}
+use Rattle.dg_machine.specs.Answer.{following}
+use Rattle.dg_machine.specs.CutImage.{IsCut}
+use Rattle.dg_graph.specs.Elements.{shown}
+use Rattle.dg_history.specs.LegalHistory.{StandsAs, is_blank}
+use Rattle.dg_graph.specs.Lines.{ScriptLine}
+use Rattle.dg_machine.specs.MachineState.{MachineState, events_in, names_in}
+use Rattle.dg_history.specs.OpenedIndex.{Opening, opening, opening_of}
+use Rattle.dg_graph.specs.Replay.{replay_at}
+use Rattle.dg_machine.specs.Run.{Step}
+use Rattle.dg_machine.specs.Script.{Asked, Follows}
 use Rattle.dg_session.specs.Parts.{Parts}
 
 -- the elements of what a handle stands for, over these events

@@ -3,9 +3,9 @@ use Rattle.std.specs.Prelude.{◌≡◌, ℕ, List, [], Option, Some, None, leng
 use Rattle.std.specs.List.{All}
 use Rattle.dg_columns.specs.Names.{NamesFit}
 use Rattle.dg_file.specs.Index.{events_after, names_count}
-use Rattle.dg_model.specs.declared.event.Event.{Event}
-use Rattle.dg_model.specs.Opening.{Opening}
-use Rattle.dg_model.specs.Replay.{replay}
+use Rattle.dg_graph.specs.declared.event.Event.{Event}
+use Rattle.dg_history.specs.OpenedIndex.{Opening}
+use Rattle.dg_graph.specs.Replay.{replay}
 use Rattle.dg_now.specs.Now.{NowState}
 
 -- there are as many names and events as the segments have together, and without an index there are none

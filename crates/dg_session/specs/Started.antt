@@ -1,17 +1,17 @@
 -- How a session starts over an image.
 use Rattle.std.specs.Prelude.{◌≡◌, ℕ, ◌+◌, List, [], ◌++◌, Option, Some, None, Result, Ok, Err, length, map, slice_get}
 use Rattle.dg_file.specs.Index.{IndexState}
-use Rattle.dg_model.specs.declared.element.Element.{Element}
-use Rattle.dg_model.specs.declared.event.Event.{Event}
-use Rattle.dg_model.specs.declared.fault.StartFault.{StartFault}
-use Rattle.dg_model.specs.declared.fault.StartFault.TheVariants as fault
-use Rattle.dg_model.specs.declared.limits.Limits.{Limits}
-use Rattle.dg_model.specs.declared.limits.TheConstants.{FIRST_HANDLE}
-use Rattle.dg_model.specs.History.{History}
-use Rattle.dg_model.specs.Legal.{StandsAs}
-use Rattle.dg_model.specs.Machine.{events_in, names_in}
-use Rattle.dg_model.specs.Opening.{Opening, Segment, opening_of}
-use Rattle.dg_model.specs.Starting.{Started, first_wrong, start_of}
+use Rattle.dg_graph.specs.declared.element.Element.{Element}
+use Rattle.dg_graph.specs.declared.event.Event.{Event}
+use Rattle.dg_history.specs.declared.start_fault.StartFault.{StartFault}
+use Rattle.dg_history.specs.declared.start_fault.StartFault.TheVariants as fault
+use Rattle.dg_machine.specs.declared.limits.Limits.{Limits}
+use Rattle.dg_machine.specs.declared.limits.TheConstants.{FIRST_HANDLE}
+use Rattle.dg_history.specs.History.{History}
+use Rattle.dg_history.specs.LegalHistory.{StandsAs}
+use Rattle.dg_machine.specs.MachineState.{events_in, names_in}
+use Rattle.dg_history.specs.OpenedIndex.{Opening, Segment, opening_of}
+use Rattle.dg_history.specs.SessionStart.{Started, first_wrong, start_of}
 use Rattle.std.specs.Option.{option_map}
 use Rattle.dg_session.specs.Parts.{Parts}
 

@@ -3,7 +3,7 @@
 ghost use Rattle.std.specs.Prelude.{◌≡◌, ◌≤◌, ◌^◌, ◌<◌, true, IfOk, IfErr, IfSome, is_some, take};
 ghost use Rattle.dg_disk.specs.Counts.{Rose};
 ghost use Rattle.dg_file.specs.Index.{earliest_after as earliest_of};
-ghost use Rattle.dg_model.specs.declared.limits.TheConstants.{FILE_BYTES_MAX};
+ghost use Rattle.dg_history.specs.declared.limits.TheConstants.{FILE_BYTES_MAX};
 ghost use Rattle.dg_now.specs.Now.{earliest_after};
 ghost use Rattle.dg_session.specs.Adding.{Adds, Fails, IsBack, IsReady, Leaves, head_of};
 ghost use Rattle.dg_session.specs.Session.{IsHeldBy};
@@ -17,7 +17,7 @@ use crate::keeping::{KeepFault, keep_segment, segment_of};
 use crate::preparing::prepare;
 use dg_disk::Disk;
 use dg_file::Index;
-use dg_model::Head;
+use dg_machine::Head;
 use std::alloc::Global;
 
 /// The command that adds a batch.

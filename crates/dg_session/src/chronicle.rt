@@ -1,7 +1,7 @@
 ghost use Rattle.std.specs.Prelude.{◌≡◌, [], None};
 
 use dg_file::Index;
-use dg_model::Event;
+use dg_graph::Event;
 use dg_names::Names;
 use dg_now::Now;
 use std::alloc::Global;

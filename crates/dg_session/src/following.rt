@@ -1,16 +1,16 @@
 ghost use Rattle.std.specs.Prelude.{◌≡◌, ◌≢◌, ◌+◌, ◌*◌, ◌≤◌, List, true, false, take, length, IfOk, IsErrOf, vec_len};
 ghost use Rattle.dg_io.specs.Told.{Rose};
 ghost use Rattle.dg_io.specs.Reading.{told, LineComes, NeedsByte, to_come};
-ghost use Rattle.dg_model.specs.declared.limits.TheConstants.{NAMES_MAX};
-ghost use Rattle.dg_model.specs.Grammar.{said_in};
-ghost use Rattle.dg_model.specs.Lines.{ScriptLine};
-ghost use Rattle.dg_model.specs.Script.{Follows};
+ghost use Rattle.dg_graph.specs.declared.limits.TheConstants.{NAMES_MAX};
+ghost use Rattle.dg_history.specs.ChangeGrammar.{said_in};
+ghost use Rattle.dg_graph.specs.Lines.{ScriptLine};
+ghost use Rattle.dg_machine.specs.Script.{Follows};
 ghost use Rattle.dg_session.specs.Following.{Advances, Gathers, KeepsChange, script_line};
 
 use crate::stop::Stop;
 use dg_io::{Line, Lines, Source};
 use dg_line::{ChangeFault, read_change};
-use dg_model::Change;
+use dg_graph::Change;
 use dg_names::Names;
 use std::alloc::Global;
 

@@ -1,15 +1,16 @@
 //! The graph as of an instant, its listing, and the instants of a history.
 
 ghost use Rattle.std.specs.Prelude.{◌≡◌, map, IfOk};
-ghost use Rattle.dg_model.specs.declared.reply.BodyLine.TheVariants as line;
-ghost use Rattle.dg_model.specs.Elements.{shown};
-ghost use Rattle.dg_model.specs.File.{first_time_of};
-ghost use Rattle.dg_model.specs.History.{last_time_from, span_of};
-ghost use Rattle.dg_model.specs.Replay.{replay_at};
+ghost use Rattle.dg_machine.specs.declared.reply.BodyLine.TheVariants as line;
+ghost use Rattle.dg_graph.specs.Elements.{shown};
+ghost use Rattle.dg_history.specs.FileOfHistory.{first_time_of};
+ghost use Rattle.dg_history.specs.History.{last_time_from, span_of};
+ghost use Rattle.dg_graph.specs.Replay.{replay_at};
 
 use dg_event::{asks, column_of};
 use dg_list::net_to;
-use dg_model::{BodyLine, Columns, Event};
+use dg_machine::BodyLine;
+use dg_graph::{Columns, Event};
 use dg_set::Set;
 use std::alloc::{AllocError, Global};
 

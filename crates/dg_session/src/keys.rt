@@ -2,10 +2,10 @@
 
 ghost use Rattle.std.specs.Prelude.{◌≡◌, nat_lt};
 ghost use Rattle.std.specs.List.{list_all};
-ghost use Rattle.dg_model.specs.Completion.{has_key};
-ghost use Rattle.dg_model.specs.Names.{is_key, name_text};
+ghost use Rattle.dg_graph.specs.Completion.{has_key};
+ghost use Rattle.dg_graph.specs.Names.{is_key, name_text};
 
-use dg_model::{Body, KEY_BYTES_MAX};
+use dg_graph::{Body, KEY_BYTES_MAX};
 use dg_names::Names;
 
 const SPACE: u8 = 32;

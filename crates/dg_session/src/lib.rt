@@ -19,6 +19,6 @@ mod table;
 #[cfg(test)]
 mod tests;
 
-pub use dg_model::StartFault;
+pub use dg_history::StartFault;
 pub use session::Session;
 pub use stop::Stop;

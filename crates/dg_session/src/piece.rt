@@ -5,17 +5,18 @@ ghost use Rattle.std.specs.List.{All};
 ghost use Rattle.dg_columns.specs.Names.{NamesFit};
 ghost use Rattle.dg_disk.specs.Counts.{Rose};
 ghost use Rattle.dg_file.specs.Images.{IsOpenedAs};
-ghost use Rattle.dg_model.specs.declared.event.Event.{Event};
-ghost use Rattle.dg_model.specs.declared.limits.TheConstants.{NAMES_MAX};
-ghost use Rattle.dg_model.specs.declared.placed.Placed.{Placed};
-ghost use Rattle.dg_model.specs.Opening.{Segment};
-ghost use Rattle.dg_model.specs.Starting.{events_in_piece, placed_in_piece};
+ghost use Rattle.dg_graph.specs.declared.event.Event.{Event};
+ghost use Rattle.dg_graph.specs.declared.limits.TheConstants.{NAMES_MAX};
+ghost use Rattle.dg_graph.specs.declared.placed.Placed.{Placed};
+ghost use Rattle.dg_history.specs.OpenedIndex.{Segment};
+ghost use Rattle.dg_history.specs.SessionStart.{events_in_piece, placed_in_piece};
 ghost use Rattle.dg_session.specs.Started.{InPiece, Refuses};
 
 use dg_columns::{MergeFault, Placed, ReadFault, merge, read_events};
 use dg_disk::Disk;
 use dg_file::{FetchFault, Index};
-use dg_model::{Column, Event, Key, StartFault};
+use dg_graph::{Column, Event};
+use dg_history::{Key, StartFault};
 use std::alloc::Global;
 
 // What a column of a piece is read as, with so many names.

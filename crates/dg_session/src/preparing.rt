@@ -1,15 +1,15 @@
 //! What the changes of a batch come to.
 
 ghost use Rattle.std.specs.Prelude.{◌≡◌, ◌≤◌, ◌<◌, ◌^◌, ◌++◌, ◌∷◌, List, [], Option, None, Ok, length, IfOk, IfErr, IfSome, IfNone, OnErr};
-ghost use Rattle.dg_model.specs.declared.event.Change.{Change};
-ghost use Rattle.dg_model.specs.declared.event.Event.{Event};
-ghost use Rattle.dg_model.specs.declared.limits.TheConstants.{BATCH_LINES_MAX};
-ghost use Rattle.dg_model.specs.Batch.{completed};
+ghost use Rattle.dg_graph.specs.declared.event.Change.{Change};
+ghost use Rattle.dg_graph.specs.declared.event.Event.{Event};
+ghost use Rattle.dg_graph.specs.declared.limits.TheConstants.{BATCH_LINES_MAX};
+ghost use Rattle.dg_graph.specs.CompletedChanges.{completed};
 ghost use Rattle.dg_now.specs.Now.{FaultOf, earliest_after};
 ghost use Rattle.dg_session.specs.Following.{IsFront, lines};
 
 use crate::following::{Front, Gathered};
-use dg_model::{Change, Event, REASON_FORM};
+use dg_graph::{Change, Event, REASON_FORM};
 use dg_now::{Now, PrepareFault};
 
 // Why the changes are refused, if they are, before a line that is no change. The graph has nothing

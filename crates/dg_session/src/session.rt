@@ -2,14 +2,14 @@ ghost use Rattle.std.specs.Prelude.{◌≡◌, ◌⊎◌, ℕ, ◌+◌, ◌<◌,
 ghost use Rattle.dg_disk.specs.Counts.{Rose as DiskRose};
 ghost use Rattle.dg_io.specs.Told.{Gives, Rose};
 ghost use Rattle.dg_io.specs.Reading.{told, to_come, EndsWith, NeedsByte};
-ghost use Rattle.dg_model.specs.declared.limits.TheConstants.{BATCH_LINES_MAX};
-ghost use Rattle.dg_model.specs.declared.reply.BodyLine.TheVariants as line;
-ghost use Rattle.dg_model.specs.Answer.{headed, no_memory};
-ghost use Rattle.dg_model.specs.Grammar.{command_of};
-ghost use Rattle.dg_model.specs.History.{History, are_parameters, in_range};
-ghost use Rattle.dg_model.specs.Legal.{StandsAs};
-ghost use Rattle.dg_model.specs.Machine.{IsWithin, machine_at};
-ghost use Rattle.dg_model.specs.Starting.{start_of};
+ghost use Rattle.dg_graph.specs.declared.limits.TheConstants.{BATCH_LINES_MAX};
+ghost use Rattle.dg_machine.specs.declared.reply.BodyLine.TheVariants as line;
+ghost use Rattle.dg_machine.specs.Answer.{headed, no_memory};
+ghost use Rattle.dg_machine.specs.CommandGrammar.{command_of};
+ghost use Rattle.dg_history.specs.History.{History, are_parameters, in_range};
+ghost use Rattle.dg_history.specs.LegalHistory.{StandsAs};
+ghost use Rattle.dg_machine.specs.MachineState.{IsWithin, machine_at};
+ghost use Rattle.dg_history.specs.SessionStart.{start_of};
 ghost use Rattle.dg_session.specs.Adding.{Replies, barred, command_with, is_full};
 ghost use Rattle.dg_session.specs.Following.{Advances};
 ghost use Rattle.dg_session.specs.Session.{BothTold, Cuts, IsHeldBy, Moves, StandsFor, Steps, Stops, elements_among, is_writing};
@@ -28,11 +28,9 @@ use crate::table::{Entry, entry_at};
 use dg_disk::Disk;
 use dg_file::{CreateFault, Index, law_batches_are_added, law_batches_are_measured};
 use dg_io::{Lines, Source};
-use dg_model::{
-    ARITY_MAX, ARITY_MIN, BodyLine, BodyLines, Columns, Command, Event, FIRST_HANDLE, Head,
-    LEAF_MAX, LEAF_MIN, LIVE_HANDLES_MAX, Limits, NAMES_MAX, Params, Refusal, Reply, Stands,
-    StartFault,
-};
+use dg_history::{ARITY_MAX, ARITY_MIN, LEAF_MAX, LEAF_MIN, Params, StartFault};
+use dg_machine::{BodyLine, BodyLines, Command, FIRST_HANDLE, Head, LIVE_HANDLES_MAX, Limits, Refusal, Reply, Stands};
+use dg_graph::{Columns, Event, NAMES_MAX};
 use dg_names::Names;
 use std::alloc::{AllocError, Global};
 use std::marker::Model;
@@ -71,7 +69,8 @@ pub struct Session {
 
 impl Model for Session {
     ghost use Rattle.std.specs.Prelude.{◌≡◌, ◌+◌, ◌≤◌, vec_len};
-    ghost use Rattle.dg_model.specs.declared.limits.TheConstants.{EVENTS_MAX, FILE_BYTES_MAX, FIRST_HANDLE, LIVE_HANDLES_MAX, SCRIPT_BYTES_MAX};
+    ghost use Rattle.dg_history.specs.declared.limits.TheConstants.{EVENTS_MAX, FILE_BYTES_MAX};
+    ghost use Rattle.dg_machine.specs.declared.limits.TheConstants.{FIRST_HANDLE, LIVE_HANDLES_MAX, SCRIPT_BYTES_MAX};
     ghost use Rattle.dg_session.specs.Parts.{Parts};
     ghost use Rattle.dg_session.specs.Soundness.{IsSound};
     ghost use Rattle.dg_session.specs.Started.{index_opening};

@@ -1,7 +1,7 @@
 ghost use Rattle.std.specs.Prelude.{◌≡◌, Option};
-ghost use Rattle.dg_model.specs.Machine.{entry_at};
+ghost use Rattle.dg_machine.specs.MachineState.{entry_at};
 
-use dg_model::Stands;
+use dg_machine::Stands;
 use std::marker::Model;
 
 /// A live handle, with what it stands for.
@@ -13,7 +13,7 @@ pub struct Entry {
 
 impl Model for Entry {
     ghost use Rattle.std.specs.Prelude.{ℕ};
-    ghost use Rattle.dg_model.specs.declared.stands.Stands.{Stands};
+    ghost use Rattle.dg_machine.specs.declared.stands.Stands.{Stands};
 
     ghost Value = { ℕ × Stands };
 

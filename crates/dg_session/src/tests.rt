@@ -5,10 +5,9 @@ use crate::{Session, StartFault};
 use dg_disk::MemoryDisk;
 use dg_io::{Lines, MemorySource};
 use dg_line::read_command;
-use dg_model::{
-    BodyLine, Column, Element, Head, Key, Limits, REASON_FORM, REASON_NO_ATTRIBUTE, REASON_NO_NODE,
-    REASON_NODE_EXISTS, REASON_NODE_IN_USE, REASON_TIME, Refusal, SCRIPT_BYTES_MAX,
-};
+use dg_machine::{BodyLine, Head, Limits, Refusal, SCRIPT_BYTES_MAX};
+use dg_graph::{Column, Element, REASON_FORM, REASON_NO_ATTRIBUTE, REASON_NO_NODE, REASON_NODE_EXISTS, REASON_NODE_IN_USE, REASON_TIME};
+use dg_history::Key;
 use std::test::Fail;
 use std::thread::Threads;
 

@@ -5,10 +5,10 @@ use Rattle.std.specs.declared.cmp.Ordering.TheVariants.{Less, Equal, Greater}
 use Rattle.std.specs.Ordering.{is_lt, ordering_reverse}
 use Rattle.std.proofs.lemmas.Cmp.{tied_itself}
 use Rattle.std.proofs.lemmas.List.{drop_more, drop_all, append_assoc, append-nil}
-use Rattle.dg_model.specs.declared.element.Element.{Element}
-use Rattle.dg_model.specs.Elements.{element_cmp, before, IsBelowFirst, IsSet, has, put}
-use Rattle.dg_model.specs.Sets.{unioned, met, without_all}
-use Rattle.dg_model.proofs.Sets.{element_total, before_from_Greater, differs_back, IsBelowFirst-trans, lacks_below, has_first, has_past, IsBelowFirst-put, put_by, tied_exact}
+use Rattle.dg_graph.specs.declared.element.Element.{Element}
+use Rattle.dg_graph.specs.Elements.{element_cmp, before, IsBelowFirst, IsSet, has, put}
+use Rattle.dg_graph.specs.Sets.{unioned, met, without_all}
+use Rattle.dg_graph.proofs.Sets.{element_total, before_from_Greater, differs_back, IsBelowFirst-trans, lacks_below, has_first, has_past, IsBelowFirst-put, put_by, tied_exact}
 use Rattle.dg_set.proofs.Places.{put-first, put-past}
 
 -- ---- the first step of a merge

@@ -8,12 +8,12 @@ use Rattle.std.proofs.lemmas.Bool.{true≢false, or_from}
 use Rattle.std.proofs.lemmas.List.{get_or_default}
 use Rattle.std.proofs.lemmas.List.Folds.{list_any_at}
 use Rattle.std.proofs.lemmas.List.Sorted.{searchable_from_sorted}
-use Rattle.dg_model.specs.declared.element.Element.{Element}
-use Rattle.dg_model.specs.declared.element.Element.TheVariants.{Node, Edge, NodeAttr, EdgeAttr}
-use Rattle.dg_model.specs.contracts.element.ElementOrd.TheImpl as derived
-use Rattle.dg_model.specs.Elements.{element_cmp, same, before, IsBelowFirst, IsSet, has, put, take_out}
+use Rattle.dg_graph.specs.declared.element.Element.{Element}
+use Rattle.dg_graph.specs.declared.element.Element.TheVariants.{Node, Edge, NodeAttr, EdgeAttr}
+use Rattle.dg_graph.specs.contracts.element.ElementOrd.TheImpl as derived
+use Rattle.dg_graph.specs.Elements.{element_cmp, same, before, IsBelowFirst, IsSet, has, put, take_out}
 use Rattle.dg_set.specs.Places.{StandsAt, BelongsAt, IsFirstFault}
-use Rattle.dg_model.proofs.Sets.{element_total, same_itself, before_from_Greater, Greater_from_before, Less_from_test, differs_back, IsBelowFirst-trans, lacks_below, put_by, put-there, take_out-absent, IsSet-put, IsSet-take_out, tied_exact}
+use Rattle.dg_graph.proofs.Sets.{element_total, same_itself, before_from_Greater, Greater_from_before, Less_from_test, differs_back, IsBelowFirst-trans, lacks_below, put_by, put-there, take_out-absent, IsSet-put, IsSet-take_out, tied_exact}
 
 then_Equal : (o : Ordering) → o ≡ ordering_then o Equal
 then_Equal Less = refl

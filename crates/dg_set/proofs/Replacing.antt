@@ -4,10 +4,10 @@ use Rattle.std.specs.declared.cmp.Ordering.{Ordering}
 use Rattle.std.specs.declared.cmp.Ordering.TheVariants.{Less, Equal, Greater}
 use Rattle.std.specs.Ordering.{is_lt}
 use Rattle.std.proofs.lemmas.List.{drop_more, drop_all}
-use Rattle.dg_model.specs.declared.element.Element.{Element}
-use Rattle.dg_model.specs.Elements.{element_cmp, IsBelowFirst, IsSet, has}
-use Rattle.dg_model.specs.Sets.{unioned, without_all}
-use Rattle.dg_model.proofs.Sets.{before_from_Greater, tied_exact, IsBelowFirst-filter}
+use Rattle.dg_graph.specs.declared.element.Element.{Element}
+use Rattle.dg_graph.specs.Elements.{element_cmp, IsBelowFirst, IsSet, has}
+use Rattle.dg_graph.specs.Sets.{unioned, without_all}
+use Rattle.dg_graph.proofs.Sets.{before_from_Greater, tied_exact, IsBelowFirst-filter}
 use Rattle.dg_set.specs.Places.{first_cmp}
 use Rattle.dg_set.proofs.Places.{put-first}
 use Rattle.dg_set.proofs.Merges.{IsBelowFirst-unioned, unioned_less, unioned_equal, kept_less, IsSet-drop, below_rest, rest_is_set, unioned_none, kept_Equal, kept_Greater}

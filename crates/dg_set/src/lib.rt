@@ -9,5 +9,5 @@ mod set;
 #[cfg(test)]
 mod tests;
 
-pub use dg_model::Element;
+pub use dg_graph::Element;
 pub use set::Set;

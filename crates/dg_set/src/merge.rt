@@ -1,8 +1,8 @@
 ghost use Rattle.std.specs.Prelude.{◌≡◌, IfOk};
-ghost use Rattle.dg_model.specs.Elements.{IsSet};
-ghost use Rattle.dg_model.specs.Sets.{unioned, met, without_all};
+ghost use Rattle.dg_graph.specs.Elements.{IsSet};
+ghost use Rattle.dg_graph.specs.Sets.{unioned, met, without_all};
 
-use dg_model::Element;
+use dg_graph::Element;
 use std::alloc::{AllocError, Global};
 use std::cmp::Ordering;
 

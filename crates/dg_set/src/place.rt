@@ -1,8 +1,8 @@
 ghost use Rattle.std.specs.Prelude.{◌≡◌, IfOk, IfErr, IfSome, IfNone};
-ghost use Rattle.dg_model.specs.Elements.{IsSet};
+ghost use Rattle.dg_graph.specs.Elements.{IsSet};
 ghost use Rattle.dg_set.specs.Places.{StandsAt, BelongsAt, IsFirstFault};
 
-use dg_model::Element;
+use dg_graph::Element;
 
 /// The place of the element among the items of a set; an `Err` gives the place where it belongs.
 pub(crate) fn place(items: &[Element], element: &Element) -> Result<usize, usize>

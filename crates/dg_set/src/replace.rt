@@ -1,10 +1,10 @@
 ghost use Rattle.std.specs.Prelude.{◌≡◌, ◌≢◌, ◌<◌, length, drop, IfOk};
 ghost use Rattle.std.specs.declared.cmp.Ordering.{Ordering};
-ghost use Rattle.dg_model.specs.Elements.{IsSet};
-ghost use Rattle.dg_model.specs.Sets.{unioned, without_all};
+ghost use Rattle.dg_graph.specs.Elements.{IsSet};
+ghost use Rattle.dg_graph.specs.Sets.{unioned, without_all};
 ghost use Rattle.dg_set.specs.Places.{first_cmp};
 
-use dg_model::Element;
+use dg_graph::Element;
 use std::alloc::{AllocError, Global};
 use std::cmp::Ordering;
 

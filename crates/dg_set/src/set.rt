@@ -1,11 +1,11 @@
 ghost use Rattle.std.specs.Prelude.{◌≡◌, ◌↔◌, List, [], ◌++◌, length, not, is_ok, IfOk, IfErr, IsOk, if◌then◌else◌};
-ghost use Rattle.dg_model.specs.Elements.{IsSet, has, put, take_out};
-ghost use Rattle.dg_model.specs.Sets.{unioned, met, without_all};
+ghost use Rattle.dg_graph.specs.Elements.{IsSet, has, put, take_out};
+ghost use Rattle.dg_graph.specs.Sets.{unioned, met, without_all};
 ghost use Rattle.dg_set.specs.Places.{IsFirstFault};
 
 use crate::place::{first_fault, place};
 use crate::{merge, replace};
-use dg_model::Element;
+use dg_graph::Element;
 use std::alloc::{AllocError, Global};
 use std::marker::Model;
 
@@ -17,8 +17,8 @@ pub struct Set {
 
 impl Model for Set {
     ghost use Rattle.std.specs.Prelude.{List};
-    ghost use Rattle.dg_model.specs.declared.element.Element.{Element};
-    ghost use Rattle.dg_model.specs.Elements.{IsSet};
+    ghost use Rattle.dg_graph.specs.declared.element.Element.{Element};
+    ghost use Rattle.dg_graph.specs.Elements.{IsSet};
 
     ghost Value = { List Element };
 

@@ -12,10 +12,10 @@ use Rattle.std.specs.Option.{IsNone, IfSome}
 use Rattle.std.specs.Result.{OnOk}
 use Rattle.dg_shape.specs.declared.catalogue.Entry.{Entry}
 use Rattle.dg_shape.specs.declared.catalogue.TheConstants.{BYTES_MAX}
-use Rattle.dg_model.specs.declared.node.Key.{Key}
-use Rattle.dg_model.specs.declared.node.Key.TheVariants as a_key
-use Rattle.dg_model.specs.contracts.node.KeyPartialEq.TheImpl as of_keys
-use Rattle.dg_model.specs.Keys.{same_key, is_list}
+use Rattle.dg_history.specs.declared.node.Key.{Key}
+use Rattle.dg_history.specs.declared.node.Key.TheVariants as a_key
+use Rattle.dg_history.specs.contracts.node.KeyPartialEq.TheImpl as of_keys
+use Rattle.dg_history.specs.Keys.{same_key, is_list}
 use Rattle.dg_shape.specs.Keys.{IsNumbered}
 use Rattle.dg_shape.specs.Entries.{Holdings, total, bytes_of, IsPlaced, EndsIfList, IsSound}
 use Rattle.dg_shape.specs.Held.{entry_of}

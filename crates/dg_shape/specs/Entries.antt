@@ -2,13 +2,13 @@
 use Rattle.std.specs.Prelude.{◌≡◌, ℕ, ◌+◌, ◌≤◌, List, Option, Some, None, is_some, slice_index, sum_by}
 use Rattle.std.specs.List.{All}
 use Rattle.std.specs.Map.{keys_of, values_of}
-use Rattle.dg_model.specs.declared.element.Column.{Column}
-use Rattle.dg_model.specs.declared.element.Column.TheVariants.{Structure, NodeAttr, EdgeAttr}
+use Rattle.dg_graph.specs.declared.element.Column.{Column}
+use Rattle.dg_graph.specs.declared.element.Column.TheVariants.{Structure, NodeAttr, EdgeAttr}
 use Rattle.dg_shape.specs.declared.catalogue.Ends.{Ends}
 use Rattle.dg_shape.specs.declared.catalogue.Entry.{Entry}
 use Rattle.dg_shape.specs.declared.catalogue.TheConstants.{BYTES_MAX}
-use Rattle.dg_model.specs.declared.node.Key.{Key}
-use Rattle.dg_model.specs.Keys.{is_list}
+use Rattle.dg_history.specs.declared.node.Key.{Key}
+use Rattle.dg_history.specs.Keys.{is_list}
 use Rattle.dg_shape.specs.Keys.{IsNumbered}
 
 -- What a catalogue holds: its records in the order in which they were added, no key twice, the first

@@ -2,12 +2,12 @@
 use Rattle.std.specs.Prelude.{ℕ, Option, option_and_then}
 use Rattle.std.specs.Option.{option_map}
 use Rattle.std.specs.Map.{lookup}
-use Rattle.dg_model.specs.declared.element.Column.{Column}
+use Rattle.dg_graph.specs.declared.element.Column.{Column}
 use Rattle.dg_shape.specs.declared.catalogue.Ends.{Ends}
 use Rattle.dg_shape.specs.declared.catalogue.Entry.{Entry}
-use Rattle.dg_model.specs.declared.node.Key.{Key}
-use Rattle.dg_model.specs.declared.node.Key.TheVariants as a_key
-use Rattle.dg_model.specs.Keys.{same_key}
+use Rattle.dg_history.specs.declared.node.Key.{Key}
+use Rattle.dg_history.specs.declared.node.Key.TheVariants as a_key
+use Rattle.dg_history.specs.Keys.{same_key}
 use Rattle.dg_shape.specs.Entries.{Holdings, length_in, place_in}
 
 -- what is held of a record

@@ -1,7 +1,7 @@
 -- The numbers of the keys that a catalogue may hold.
 use Rattle.std.specs.Prelude.{◌<◌}
-use Rattle.dg_model.specs.declared.node.Key.{Key}
-use Rattle.dg_model.specs.declared.node.Key.TheVariants.{List, Piece, Top, Down}
+use Rattle.dg_history.specs.declared.node.Key.{Key}
+use Rattle.dg_history.specs.declared.node.Key.TheVariants.{List, Piece, Top, Down}
 use Rattle.dg_shape.specs.declared.catalogue.TheConstants.{LISTS_MAX}
 
 -- the number of a list is small enough; other keys have any numbers

@@ -2,14 +2,15 @@ ghost use Rattle.std.specs.Prelude.{◌≡◌, ◌≢◌, ◌≤◌, ◌<◌, �
 ghost use Rattle.std.specs.List.{All, IsDistinct};
 ghost use Rattle.std.specs.Map.{keys_of, values_of};
 ghost use Rattle.dg_shape.specs.declared.catalogue.Entry.{Entry};
-ghost use Rattle.dg_model.specs.declared.node.Key.{Key};
-ghost use Rattle.dg_model.specs.declared.node.Key.TheVariants as a_key;
-ghost use Rattle.dg_model.specs.Keys.{same_key, is_list};
+ghost use Rattle.dg_history.specs.declared.node.Key.{Key};
+ghost use Rattle.dg_history.specs.declared.node.Key.TheVariants as a_key;
+ghost use Rattle.dg_history.specs.Keys.{same_key, is_list};
 ghost use Rattle.dg_shape.specs.Keys.{IsNumbered};
 ghost use Rattle.dg_shape.specs.Entries.{total, bytes_of, length_in, place_in, spanned, IsPlaced, EndsIfList};
 ghost use Rattle.dg_shape.specs.Held.{entry_of, length_of, place_of, ends_of};
 
-use dg_model::{Column, Key};
+use dg_graph::Column;
+use dg_history::Key;
 use indexmap::IndexMap;
 use std::alloc::{AllocError, Global};
 use std::marker::Model;

@@ -7,4 +7,4 @@ mod catalogue;
 mod tests;
 
 pub use catalogue::{BYTES_MAX, Catalogue, Ends, Entry, LISTS_MAX};
-pub use dg_model::{Key, NodeId};
+pub use dg_history::{Key, NodeId};

@@ -1,5 +1,5 @@
 use crate::{Catalogue, Ends, Key};
-use dg_model::Column;
+use dg_graph::Column;
 use std::cmp::Ordering;
 use std::test::Fail;
 

@@ -1,4 +1,4 @@
-use Rattle.dg_model.specs.Effect.{removed_by, added_by}
+use Rattle.dg_graph.specs.Effect.{removed_by, added_by}
 use Rattle.dg_event.proofs.Undo.{undone}
 use Rattle.dg_event.proofs.leads_back.Goals as goal
 

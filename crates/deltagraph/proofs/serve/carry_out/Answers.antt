@@ -1,5 +1,5 @@
 use Rattle.std.proofs.Common.{◌≡◌, ℕ, ◌<◌, List, false, inr, is_some, refl, sym, ◌∙◌, ap, subst, Err, IfSome, length, arith}
-use Rattle.dg_model.specs.Text.{text}
+use Rattle.dg_machine.specs.ReplyText.{text}
 use Rattle.dg_io.specs.Told.{grown, GrowsByPart}
 use Rattle.dg_io.specs.Reading.{Reading}
 use Rattle.deltagraph.specs.declared.status.Status.TheVariants as status

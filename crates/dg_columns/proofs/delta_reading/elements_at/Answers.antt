@@ -1,6 +1,6 @@
 use Rattle.std.proofs.Common.{◌≡◌, ◌+◌, None, arith}
 use Rattle.std.proofs.lemmas.Result.{err_from_is_err_and}
-use Rattle.dg_model.specs.Reading.{element_size, elements_at}
+use Rattle.dg_graph.specs.ColumnGrammar.{element_size, elements_at}
 use Rattle.dg_columns.proofs.Elements.{goes_on, stops}
 use Rattle.dg_columns.proofs.delta_reading.elements_at.Goals as goal
 

@@ -1,9 +1,9 @@
 use Rattle.std.proofs.Common.{◌≡◌, ◌+◌, ℕ, List, Option, Some, None, Result, Ok, Err, refl, sym, ap, ◌∙◌}
 use Rattle.std.specs.Prelude.{IfSome, IsSome}
 use Rattle.std.specs.Result.{result_ok}
-use Rattle.dg_model.specs.declared.element.Element.{Element}
-use Rattle.dg_model.specs.Composition.{Delta}
-use Rattle.dg_model.specs.Reading.{elements_at}
+use Rattle.dg_graph.specs.declared.element.Element.{Element}
+use Rattle.dg_graph.specs.Composition.{Delta}
+use Rattle.dg_graph.specs.ColumnGrammar.{elements_at}
 use Rattle.dg_delta.specs.Deltas.{AreApart}
 use Rattle.dg_columns.specs.declared.fault.ReadFault.{ReadFault}
 use Rattle.dg_columns.specs.Gives.{Gives}

@@ -1,5 +1,5 @@
 use Rattle.std.proofs.Common.{◌≡◌, ◌+◌, ◌*◌, ◌≤◌, length, drop}
-use Rattle.dg_model.specs.Columns.{in_column}
+use Rattle.dg_graph.specs.Columns.{in_column}
 use Rattle.dg_columns.proofs.delta_writing.part_of.Given as goal
 
 abbrev pub invariant-loop-element : goal.invariant-loop-element

@@ -1,6 +1,6 @@
 use Rattle.std.proofs.Common.{◌≡◌, ◌++◌, drop}
 use Rattle.std.specs.List.{flat_map}
-use Rattle.dg_model.specs.Columns.{element_bytes, in_column}
+use Rattle.dg_graph.specs.Columns.{element_bytes, in_column}
 use Rattle.dg_columns.proofs.delta_writing.write_elements.Given as goal
 
 abbrev pub invariant-loop-element : goal.invariant-loop-element

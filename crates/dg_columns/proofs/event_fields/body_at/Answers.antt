@@ -1,6 +1,6 @@
 use Rattle.std.proofs.Common.{◌∙◌, ap, Ok}
-use Rattle.dg_model.specs.declared.event.Body.TheVariants as body
-use Rattle.dg_model.specs.Reading.{and_read}
+use Rattle.dg_graph.specs.declared.event.Body.TheVariants as body
+use Rattle.dg_graph.specs.ColumnGrammar.{and_read}
 use Rattle.dg_columns.proofs.Steps.{value_made}
 use Rattle.dg_columns.proofs.event_fields.body_at.Goals as goal
 

@@ -1,6 +1,6 @@
 use Rattle.std.proofs.Common.{◌≡◌, ◌+◌, arith}
 use Rattle.std.proofs.lemmas.Result.{err_from_is_err_and}
-use Rattle.dg_model.specs.Reading.{body_size, events_at}
+use Rattle.dg_graph.specs.ColumnGrammar.{body_size, events_at}
 use Rattle.dg_columns.proofs.Loops.{goes_on, stops}
 use Rattle.dg_columns.proofs.event_reading.placed_from.Goals as goal
 

@@ -1,5 +1,5 @@
 use Rattle.std.proofs.Common.{◌≡◌, ◌-◌, ◌≤◌, length}
-use Rattle.dg_model.specs.Reading.{events_at}
+use Rattle.dg_graph.specs.ColumnGrammar.{events_at}
 use Rattle.dg_columns.proofs.Loops.{with_front}
 use Rattle.dg_columns.proofs.event_reading.placed_from.Given as goal
 

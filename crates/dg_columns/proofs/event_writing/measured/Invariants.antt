@@ -1,5 +1,5 @@
 use Rattle.std.proofs.Common.{◌≡◌, ◌+◌, ◌*◌, ◌≤◌, length}
-use Rattle.dg_model.specs.Columns.{placed_in}
+use Rattle.dg_graph.specs.Columns.{placed_in}
 use Rattle.dg_columns.proofs.Written.{placed_after}
 use Rattle.dg_columns.proofs.event_writing.measured.Given as goal
 

@@ -1,6 +1,6 @@
 use Rattle.std.proofs.Common.{◌≡◌, ◌++◌}
 use Rattle.std.specs.List.{flat_map}
-use Rattle.dg_model.specs.Columns.{placed_bytes, placed_in}
+use Rattle.dg_graph.specs.Columns.{placed_bytes, placed_in}
 use Rattle.dg_columns.proofs.Written.{placed_after}
 use Rattle.dg_columns.proofs.event_writing.write_each.Given as goal
 

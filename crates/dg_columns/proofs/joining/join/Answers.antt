@@ -1,5 +1,5 @@
 use Rattle.std.proofs.Common.{subst, sym}
-use Rattle.dg_model.specs.Composition.{IsDelta}
+use Rattle.dg_graph.specs.Composition.{IsDelta}
 use Rattle.dg_delta.specs.Deltas.{joined}
 use Rattle.dg_columns.proofs.InColumns.{two_joined, three_joined}
 use Rattle.dg_columns.proofs.joining.join.Goals as goal

@@ -1,8 +1,8 @@
 use Rattle.std.proofs.Common.{◌+◌, ◌∙◌, ap, sym, get_or, drop, None, arith}
 use Rattle.std.specs.Prelude.{not}
 use Rattle.std.proofs.lemmas.List.{drop_all}
-use Rattle.dg_model.specs.declared.event.Body.TheVariants as body
-use Rattle.dg_model.specs.declared.placed.Placed.{Placed}
+use Rattle.dg_graph.specs.declared.event.Body.TheVariants as body
+use Rattle.dg_graph.specs.declared.placed.Placed.{Placed}
 use Rattle.dg_columns.specs.Rows.{filled}
 use Rattle.dg_columns.proofs.Rows.{filled_none, filled_past, filled_from, filled_empty_place, filled_taken_place}
 use Rattle.dg_columns.proofs.merging.fill.Goals.{then-at-row+then-is_none, else-at-row, else-at-row-via-then-at-row+else-is_none, else-at-row-via-else-at-row}

@@ -1,6 +1,6 @@
 use Rattle.std.proofs.Common.{◌≡◌, drop}
 use Rattle.std.specs.Option.{option_and_then}
-use Rattle.dg_model.specs.Merging.{if_never_fall}
+use Rattle.dg_graph.specs.ColumnMerge.{if_never_fall}
 use Rattle.dg_columns.specs.Rows.{events_of}
 use Rattle.dg_columns.proofs.Rows.{onward}
 use Rattle.dg_columns.proofs.merging.in_order.Given as goal

@@ -1,9 +1,9 @@
-use Rattle.dg_model.specs.declared.event.Event.{Event}
+use Rattle.dg_graph.specs.declared.event.Event.{Event}
 use Rattle.std.proofs.Common.{List, Vec, Global, ◌≡◌, ◌∙◌, sym, subst, Option, Some, None, replicate, rules, arith}
 use Rattle.std.specs.Prelude.{IfOk, IfSome}
 use Rattle.dg_columns.specs.Weaving.{woven}
 use Rattle.std.specs.Option.{option_and_then}
-use Rattle.dg_model.specs.Merging.{if_never_fall, merged}
+use Rattle.dg_graph.specs.ColumnMerge.{if_never_fall, merged}
 use Rattle.dg_columns.specs.Rows.{events_of}
 use Rattle.dg_columns.proofs.Rows.{row_merged, written_over}
 use Rattle.dg_columns.proofs.Weaving.{woven_merged}

@@ -1,5 +1,5 @@
 use Rattle.std.proofs.Common.{◌≡◌, ◌+◌, [], None, arith}
-use Rattle.dg_model.specs.Reading.{element_size, elements_at}
+use Rattle.dg_graph.specs.ColumnGrammar.{element_size, elements_at}
 use Rattle.dg_columns.proofs.Elements.{goes_on}
 use Rattle.dg_columns.proofs.quick.elements_here.Goals as goal
 

@@ -1,5 +1,5 @@
 use Rattle.std.proofs.Common.{◌≡◌, ◌-◌, ◌≤◌, [], length, None}
-use Rattle.dg_model.specs.Reading.{elements_at}
+use Rattle.dg_graph.specs.ColumnGrammar.{elements_at}
 use Rattle.dg_columns.proofs.Elements.{after_front}
 use Rattle.dg_columns.proofs.quick.elements_here.Given as goal
 

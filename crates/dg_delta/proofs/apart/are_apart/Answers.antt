@@ -1,8 +1,8 @@
 use Rattle.std.proofs.Common.{[], inl, inr, get_or, refl, sym, ◌∙◌, arith}
 use Rattle.std.specs.declared.cmp.Ordering.TheVariants.{Less, Equal, Greater}
 use Rattle.std.proofs.lemmas.Bool.{false≢true}
-use Rattle.dg_model.specs.declared.element.Element.TheVariants.{Node}
-use Rattle.dg_model.specs.Sets.{met}
+use Rattle.dg_graph.specs.declared.element.Element.TheVariants.{Node}
+use Rattle.dg_graph.specs.Sets.{met}
 use Rattle.dg_set.proofs.Places.{compared}
 use Rattle.dg_set.proofs.Merges.{kept_Less, kept_Equal, kept_Greater, met_done}
 use Rattle.dg_delta.proofs.Meeting.{apart_from_met, not_apart}

@@ -1,5 +1,5 @@
 use Rattle.std.proofs.Common.{◌≡◌, ◌+◌, ◌-◌, ◌≤◌, length, drop}
-use Rattle.dg_model.specs.Sets.{met}
+use Rattle.dg_graph.specs.Sets.{met}
 use Rattle.dg_delta.proofs.apart.are_apart.Given as goal
 
 abbrev pub invariant-loop-i : goal.invariant-loop-i

@@ -1,5 +1,5 @@
 use Rattle.std.proofs.Common.{ap, sym, ◌∙◌}
-use Rattle.dg_model.specs.Combine.{canonical, fnv}
+use Rattle.dg_graph.specs.DifferentialFunction.{canonical, fnv}
 use Rattle.dg_diff.proofs.hashing.hash.Goals as goal
 
 pub returns-in-Edge : goal.returns-in-Edge

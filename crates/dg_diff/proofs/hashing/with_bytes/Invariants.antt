@@ -1,5 +1,5 @@
 use Rattle.std.proofs.Common.{◌≡◌, drop}
-use Rattle.dg_model.specs.Combine.{fnv_from}
+use Rattle.dg_graph.specs.DifferentialFunction.{fnv_from}
 use Rattle.dg_diff.proofs.hashing.with_bytes.Given as goal
 
 abbrev pub invariant-loop-byte : goal.invariant-loop-byte

@@ -1,8 +1,8 @@
 use Rattle.std.proofs.Common.{ap, refl, ◌∙◌}
 use Rattle.std.proofs.lemmas.Result.{IfOk-weaker}
-use Rattle.dg_model.specs.Combine.{part}
-use Rattle.dg_model.specs.Elements.{has}
-use Rattle.dg_model.specs.Sets.{without_all}
+use Rattle.dg_graph.specs.DifferentialFunction.{part}
+use Rattle.dg_graph.specs.Elements.{has}
+use Rattle.dg_graph.specs.Sets.{without_all}
 use Rattle.dg_diff.proofs.Combined.{balanced, in_half}
 use Rattle.dg_diff.proofs.interior.balance.Goals as goal
 

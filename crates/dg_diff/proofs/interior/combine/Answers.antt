@@ -1,6 +1,6 @@
 use Rattle.std.proofs.Common.{ap, ◌∙◌}
 use Rattle.std.proofs.lemmas.Result.{IfOk-weaker}
-use Rattle.dg_model.specs.Elements.{has}
+use Rattle.dg_graph.specs.Elements.{has}
 use Rattle.dg_diff.proofs.Combined.{combined_one, balanced_ends}
 use Rattle.dg_diff.proofs.interior.combine.Goals as goal
 

@@ -1,9 +1,9 @@
 use Rattle.std.proofs.Common.{◌≡◌, ◌∙◌, ap, rules, subst, sym, filter, List}
 use Rattle.std.proofs.lemmas.Fn.{filter_same}
-use Rattle.dg_model.specs.declared.element.Element.{Element}
-use Rattle.dg_model.specs.Combine.{part}
-use Rattle.dg_model.specs.Elements.{IsSet}
-use Rattle.dg_model.proofs.Sets.{IsSet-filter}
+use Rattle.dg_graph.specs.declared.element.Element.{Element}
+use Rattle.dg_graph.specs.DifferentialFunction.{part}
+use Rattle.dg_graph.specs.Elements.{IsSet}
+use Rattle.dg_graph.proofs.Sets.{IsSet-filter}
 use Rattle.dg_diff.proofs.interior.last_half.Goals as goal
 
 kept : (c : goal.After-retain) → c.retain.new.self.items ≡ filter (λ x. part x 128) c.args.set

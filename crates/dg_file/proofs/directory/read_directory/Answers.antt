@@ -1,7 +1,7 @@
 use Rattle.std.proofs.Common.{◌≡◌, Some, Err, sym, subst, ◌∙◌, arith}
 use Rattle.std.specs.Prelude.{◌==◌}
 use Rattle.std.proofs.lemmas.Result.{err_from_is_err_and}
-use Rattle.dg_model.specs.Opening.{names_at, columns_size}
+use Rattle.dg_history.specs.OpenedIndex.{names_at, columns_size}
 use Rattle.dg_file.specs.declared.directory.Untaken.TheVariants.{Broken}
 use Rattle.dg_file.specs.Held.{segment_in}
 use Rattle.dg_file.proofs.Directories.{due_many, due_stale, due_taken}

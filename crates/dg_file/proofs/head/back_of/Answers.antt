@@ -1,6 +1,6 @@
 use Rattle.std.proofs.Common.{◌≡◌, ℕ, List, ◌++◌, length, get_or, replicate, refl, sym, ap, ◌∙◌, arith}
 use Rattle.std.proofs.lemmas.List.{take_all}
-use Rattle.dg_model.specs.Columns.{four, eight}
+use Rattle.dg_graph.specs.Columns.{four, eight}
 use Rattle.dg_file.specs.Index.{NewSegment}
 use Rattle.dg_file.proofs.Heads.{put_step}
 use Rattle.dg_file.proofs.head.back_of.Goals as goal

@@ -1,5 +1,5 @@
 use Rattle.std.proofs.Common.{◌≡◌, false, refl, sym, ◌∙◌, arith}
-use Rattle.dg_model.specs.Opening.{is_within}
+use Rattle.dg_history.specs.OpenedIndex.{is_within}
 use Rattle.dg_file.proofs.Found.{some_weaker, range_within, within_short, within_wrong, found_lengths}
 use Rattle.dg_file.proofs.reading.read_lengths.Goals as goal
 

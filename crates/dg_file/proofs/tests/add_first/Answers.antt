@@ -2,9 +2,9 @@ use Rattle.std.proofs.Common.{◌+◌, List, [], ◌∷◌, ◌++◌, length, sy
 use Rattle.std.specs.Prelude.{IsSome, slice_get}
 use Rattle.std.proofs.lemmas.Bool.{and_from, le-leb}
 use Rattle.std.proofs.lemmas.Result.{on_ok_weaker}
-use Rattle.dg_model.specs.declared.limits.TheConstants.{NAMES_MAX}
-use Rattle.dg_model.specs.Names.{are_new}
-use Rattle.dg_model.specs.Opening.{Segment, Opening}
+use Rattle.dg_graph.specs.declared.limits.TheConstants.{NAMES_MAX}
+use Rattle.dg_graph.specs.Names.{are_new}
+use Rattle.dg_history.specs.OpenedIndex.{Segment, Opening}
 use Rattle.dg_file.proofs.tests.add_first.Goals as goal
 
 pub commit-requires-clause-image : goal.commit-requires-clause-image

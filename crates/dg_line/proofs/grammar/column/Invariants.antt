@@ -1,5 +1,5 @@
 use Rattle.std.proofs.Common.{◌≡◌, ℕ, ◌<◌, ◌≤◌, List, ◌++◌, length, take}
-use Rattle.dg_model.specs.Run.{Begins}
+use Rattle.dg_machine.specs.Run.{Begins}
 use Rattle.dg_line.specs.Front.{Begun}
 use Rattle.dg_line.specs.Form.{IsForm}
 use Rattle.dg_line.proofs.grammar.column.Given as goal

@@ -1,5 +1,5 @@
 use Rattle.std.proofs.Common.{◌+◌, ◌++◌, map, take, drop, arith}
-use Rattle.dg_model.specs.Text.{body_text, text_line}
+use Rattle.dg_machine.specs.ReplyText.{body_text, text_line}
 use Rattle.dg_line.specs.Page.{word_bytes}
 use Rattle.dg_line.proofs.Passing.{going_first, going_next, going_fails, going_line, going_lines_past, on_err}
 use Rattle.dg_line.proofs.reply.put_body.Goals as goal

@@ -1,5 +1,5 @@
 use Rattle.std.proofs.Common.{◌≤◌, ◌++◌, drop}
-use Rattle.dg_model.specs.Text.{body_text}
+use Rattle.dg_machine.specs.ReplyText.{body_text}
 use Rattle.dg_line.proofs.Passing.{Going}
 use Rattle.dg_line.proofs.reply.put_body.Given as goal
 

@@ -1,6 +1,6 @@
 use Rattle.std.proofs.Common.{[], ◌∷◌, ◌++◌, map, take, codes}
 use Rattle.std.proofs.lemmas.Result.{on_ok_weaker, on_err_weaker}
-use Rattle.dg_model.specs.Text.{body_text, text_line}
+use Rattle.dg_machine.specs.ReplyText.{body_text, text_line}
 use Rattle.dg_line.specs.Page.{word_bytes}
 use Rattle.dg_line.proofs.Passing.{going_reply, going_next, going_fails, going_ends, passes_written, passes_fails, on_err}
 use Rattle.dg_line.proofs.reply.write_reply.Goals as goal

@@ -1,5 +1,5 @@
 use Rattle.std.proofs.Common.{◌∙◌, sym, subst, true, false}
-use Rattle.dg_model.specs.Elements.{IsSet}
+use Rattle.dg_graph.specs.Elements.{IsSet}
 use Rattle.dg_delta.specs.Deltas.{AreApart}
 use Rattle.dg_list.proofs.Marking.{rises_sorted, lasts_keep}
 use Rattle.dg_list.proofs.marks.net_of_sorted.Goals as goal

@@ -1,5 +1,5 @@
 use Rattle.std.proofs.lemmas.Result.{IfOk-weaker}
-use Rattle.dg_model.specs.Replay.{events_until}
+use Rattle.dg_graph.specs.Replay.{events_until}
 use Rattle.dg_list.proofs.Nets.{replays}
 use Rattle.dg_list.proofs.net.net_to.Goals as goal
 

@@ -1,5 +1,5 @@
 use Rattle.std.proofs.Common.{sym, ap, ◌∙◌}
-use Rattle.dg_model.specs.Completion.{complete}
+use Rattle.dg_graph.specs.Completion.{complete}
 use Rattle.dg_now.proofs.completing.complete.Goals as goal
 
 pub returns-in-SetNode : goal.returns-in-SetNode

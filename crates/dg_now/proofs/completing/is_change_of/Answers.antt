@@ -1,5 +1,5 @@
 use Rattle.std.proofs.Common.{◌≡◌, true, false, not, ◌&&◌, is_some, sym, ap, ◌∙◌}
-use Rattle.dg_model.specs.Completion.{has_node, edge_of, node_value, edge_value, is_value_change, is_change_of}
+use Rattle.dg_graph.specs.Completion.{has_node, edge_of, node_value, edge_value, is_value_change, is_change_of}
 use Rattle.dg_now.proofs.completing.is_change_of.Goals as goal
 
 pub returns-then-is_none : goal.returns-then-is_none

@@ -1,6 +1,6 @@
 use Rattle.std.proofs.Common.{cond, slice_index_or, sym, ◌∙◌}
-use Rattle.dg_model.specs.declared.event.Event.{Event}
-use Rattle.dg_model.specs.declared.event.Body.TheVariants as body
+use Rattle.dg_graph.specs.declared.event.Event.{Event}
+use Rattle.dg_graph.specs.declared.event.Body.TheVariants as body
 use Rattle.dg_now.specs.Happening.{place_in, before_in}
 use Rattle.dg_now.specs.Places.{same_place}
 use Rattle.dg_now.proofs.Leading.{first_more}

@@ -1,7 +1,7 @@
 use Rattle.std.proofs.Common.{◌≡◌, Option, take}
 use Rattle.std.specs.Map.{lookup}
 use Rattle.std.specs.Option.{unwrap_or}
-use Rattle.dg_model.specs.declared.element.Element.{Element}
+use Rattle.dg_graph.specs.declared.element.Element.{Element}
 use Rattle.dg_now.specs.declared.place.Place.{Place}
 use Rattle.dg_now.specs.Happening.{first_at}
 use Rattle.dg_now.specs.Places.{same_place}

@@ -1,7 +1,7 @@
 use Rattle.std.proofs.Common.{◌≡◌, Option, is_some, sym, ap, subst, ◌∙◌}
-use Rattle.dg_model.specs.declared.element.Element.{Element}
-use Rattle.dg_model.specs.Effect.{removed_by}
-use Rattle.dg_model.specs.Elements.{without}
+use Rattle.dg_graph.specs.declared.element.Element.{Element}
+use Rattle.dg_graph.specs.Effect.{removed_by}
+use Rattle.dg_graph.specs.Elements.{without}
 use Rattle.dg_now.specs.Happening.{place_in}
 use Rattle.dg_now.proofs.Happens.{if_some, IsLoose, IsWelcome, loose_forwards, welcome_forwards}
 use Rattle.dg_now.proofs.moving.apply.Goals as goal

@@ -1,8 +1,8 @@
 use Rattle.std.proofs.Common.{◌≡◌, ◌+◌, List, [], ◌∷◌, ◌++◌, length, drop, slice_index_or, is_ok, if◌then◌else◌, rules, sym, ap, subst, ◌∙◌, arith, length-append}
-use Rattle.dg_model.specs.declared.event.Change.{Change}
-use Rattle.dg_model.specs.declared.event.Event.{Event}
-use Rattle.dg_model.specs.declared.event.What.TheVariants as what
-use Rattle.dg_model.specs.Batch.{completed}
+use Rattle.dg_graph.specs.declared.event.Change.{Change}
+use Rattle.dg_graph.specs.declared.event.Event.{Event}
+use Rattle.dg_graph.specs.declared.event.What.TheVariants as what
+use Rattle.dg_graph.specs.CompletedChanges.{completed}
 use Rattle.dg_now.specs.Happening.{Led}
 use Rattle.dg_now.proofs.Fitting.{event_happens}
 use Rattle.dg_now.proofs.Happens.{led_is_graph}

@@ -1,6 +1,6 @@
 use Rattle.std.proofs.Common.{◌≡◌, ◌+◌, ◌≤◌, length, drop}
 use Rattle.std.specs.Vec.{vec_capacity}
-use Rattle.dg_model.specs.Batch.{completed}
+use Rattle.dg_graph.specs.CompletedChanges.{completed}
 use Rattle.dg_now.specs.Happening.{Led}
 use Rattle.dg_now.proofs.Leading.{onto, all_changes}
 use Rattle.dg_now.proofs.moving.complete_all.Given as goal

@@ -1,5 +1,5 @@
 use Rattle.std.proofs.Common.{List, [], ◌∷◌, ◌++◌, subst}
-use Rattle.dg_model.specs.declared.event.Event.{Event}
+use Rattle.dg_graph.specs.declared.event.Event.{Event}
 use Rattle.dg_now.specs.Happening.{Led, rewound}
 use Rattle.dg_now.proofs.Leading.{last_came, last_known, led_less}
 use Rattle.dg_now.proofs.moving.undo.Goals as goal

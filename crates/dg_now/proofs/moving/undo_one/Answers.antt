@@ -1,7 +1,7 @@
 use Rattle.std.proofs.Common.{◌≡◌, Option, sym, subst, ◌∙◌}
-use Rattle.dg_model.specs.declared.element.Element.{Element}
-use Rattle.dg_model.specs.Effect.{added_by, forwards, backwards}
-use Rattle.dg_model.specs.Elements.{without}
+use Rattle.dg_graph.specs.declared.element.Element.{Element}
+use Rattle.dg_graph.specs.Effect.{added_by, forwards, backwards}
+use Rattle.dg_graph.specs.Elements.{without}
 use Rattle.dg_now.proofs.Happens.{if_some, IsLoose, IsWelcome, loose_backwards, welcome_backwards}
 use Rattle.dg_now.proofs.moving.undo_one.Goals as goal
 

@@ -1,10 +1,10 @@
 use Rattle.std.proofs.Common.{◌≡◌, ◌&&◌, not, is_some, slice_index_or, sym, ap, subst, ◌∙◌, arith}
 use Rattle.std.proofs.lemmas.Bool.{true≢false}
 use Rattle.std.proofs.lemmas.List.{take_all}
-use Rattle.dg_model.specs.declared.element.Element.{Element}
-use Rattle.dg_model.specs.declared.element.Element.TheVariants as element
-use Rattle.dg_model.specs.Elements.{put}
-use Rattle.dg_model.specs.Graph.{IsGraph, has_needs}
+use Rattle.dg_graph.specs.declared.element.Element.{Element}
+use Rattle.dg_graph.specs.declared.element.Element.TheVariants as element
+use Rattle.dg_graph.specs.Elements.{put}
+use Rattle.dg_graph.specs.Graph.{IsGraph, has_needs}
 use Rattle.dg_now.specs.Places.{place_of, at}
 use Rattle.dg_now.proofs.Rising.{put_next, graph_takes}
 use Rattle.dg_now.proofs.now.hold.Goals as goal

@@ -1,5 +1,5 @@
 use Rattle.std.proofs.Common.{is_some, sym, ap, ◌∙◌}
-use Rattle.dg_model.specs.Graph.{has_needs}
+use Rattle.dg_graph.specs.Graph.{has_needs}
 use Rattle.dg_now.proofs.now.is_fed.Goals as goal
 
 pub returns-in-EdgeAttr : goal.returns-in-EdgeAttr

@@ -3,10 +3,10 @@ use Rattle.std.specs.List.{All}
 use Rattle.dg_columns.specs.Names.{NamesFit}
 use Rattle.dg_file.specs.Images.{BothTold, GainsSegment}
 use Rattle.dg_file.specs.Index.{IsDue, NewSegment, new_segment_of, with_segment}
-use Rattle.dg_model.specs.declared.event.Event.{Event}
-use Rattle.dg_model.specs.History.{last_time_from}
-use Rattle.dg_model.specs.Opening.{Opening}
-use Rattle.dg_model.specs.Replay.{replay_from}
+use Rattle.dg_graph.specs.declared.event.Event.{Event}
+use Rattle.dg_history.specs.History.{last_time_from}
+use Rattle.dg_history.specs.OpenedIndex.{Opening}
+use Rattle.dg_graph.specs.Replay.{replay_from}
 use Rattle.dg_session.specs.Adding.{batch_with}
 use Rattle.dg_session.specs.Started.{index_opening}
 use Rattle.dg_session.proofs.Batching.{IsPrepared, added_is, here, keep_adds, keep_fails, prepared_here}

@@ -1,6 +1,6 @@
 use Rattle.std.proofs.Common.{◌≡◌, ◌-◌, ◌+◌, ◌*◌, ◌≤◌, vec_len, length, take}
 use Rattle.dg_io.specs.Reading.{told}
-use Rattle.dg_model.specs.declared.limits.TheConstants.{NAMES_MAX}
+use Rattle.dg_graph.specs.declared.limits.TheConstants.{NAMES_MAX}
 use Rattle.dg_session.specs.declared.following.Front.TheVariants.{Whole}
 use Rattle.dg_session.specs.Following.{Advances}
 use Rattle.dg_session.proofs.Gathering.{Gathering}

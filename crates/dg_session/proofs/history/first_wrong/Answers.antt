@@ -1,5 +1,5 @@
 use Rattle.std.proofs.Common.{sym, ◌∙◌}
-use Rattle.dg_model.specs.declared.event.Body.TheVariants.{NodeAdded}
+use Rattle.dg_graph.specs.declared.event.Body.TheVariants.{NodeAdded}
 use Rattle.dg_session.proofs.Wrong.{wrong_here}
 use Rattle.dg_session.proofs.history.first_wrong.Goals as goal
 

@@ -1,8 +1,8 @@
 use Rattle.std.proofs.Common.{◌≡◌, ◌+◌, ◌++◌, List, [], map, drop}
-use Rattle.dg_model.specs.declared.event.Event.{Event}
-use Rattle.dg_model.specs.Opening.{Segment}
-use Rattle.dg_model.specs.Replay.{replay_from}
-use Rattle.dg_model.specs.Starting.{first_wrong}
+use Rattle.dg_graph.specs.declared.event.Event.{Event}
+use Rattle.dg_history.specs.OpenedIndex.{Segment}
+use Rattle.dg_graph.specs.Replay.{replay_from}
+use Rattle.dg_history.specs.SessionStart.{first_wrong}
 use Rattle.dg_session.proofs.history.first_wrong.Given as goal
 
 abbrev pub invariant-loop-event : goal.invariant-loop-event

@@ -5,11 +5,11 @@ use Rattle.std.proofs.lemmas.List.Elements.{All-append, All-nil}
 use Rattle.dg_columns.specs.Names.{NamesFit}
 use Rattle.dg_file.specs.declared.batch.Batch.{Batch}
 use Rattle.dg_file.specs.Index.{IndexState, events_after}
-use Rattle.dg_model.specs.declared.event.Event.{Event}
-use Rattle.dg_model.specs.declared.fault.StartFault.{StartFault}
-use Rattle.dg_model.specs.Opening.{opening}
-use Rattle.dg_model.specs.Replay.{replay, replay_from}
-use Rattle.dg_model.specs.Starting.{start_of, events_in_piece}
+use Rattle.dg_graph.specs.declared.event.Event.{Event}
+use Rattle.dg_history.specs.declared.start_fault.StartFault.{StartFault}
+use Rattle.dg_history.specs.OpenedIndex.{opening}
+use Rattle.dg_graph.specs.Replay.{replay, replay_from}
+use Rattle.dg_history.specs.SessionStart.{start_of, events_in_piece}
 use Rattle.dg_now.specs.Now.{NowState}
 use Rattle.dg_session.specs.Started.{FirstWrong, Refuses}
 use Rattle.dg_session.proofs.Pushing.{pushed}

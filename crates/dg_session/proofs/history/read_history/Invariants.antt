@@ -2,8 +2,8 @@ use Rattle.std.proofs.Common.{◌≡◌, ◌-◌, ◌≤◌, ℕ, List, [], Some
 use Rattle.std.specs.List.{All}
 use Rattle.dg_columns.specs.Names.{NamesFit}
 use Rattle.dg_file.specs.Index.{events_after}
-use Rattle.dg_model.specs.declared.event.Event.{Event}
-use Rattle.dg_model.specs.Replay.{replay}
+use Rattle.dg_graph.specs.declared.event.Event.{Event}
+use Rattle.dg_graph.specs.Replay.{replay}
 use Rattle.dg_session.proofs.Reading.{ReadSoFar}
 use Rattle.dg_session.proofs.history.read_history.Given as goal
 

@@ -1,6 +1,6 @@
 use Rattle.std.proofs.Common.{List, subst, None, Option, ◌++◌, ◌∷◌}
-use Rattle.dg_model.specs.declared.event.Change.{Change}
-use Rattle.dg_model.specs.Batch.{completed}
+use Rattle.dg_graph.specs.declared.event.Change.{Change}
+use Rattle.dg_graph.specs.CompletedChanges.{completed}
 use Rattle.dg_now.specs.Now.{FaultOf, earliest_after}
 use Rattle.dg_session.specs.Following.{lines}
 use Rattle.dg_session.proofs.Batches.{form_refused}

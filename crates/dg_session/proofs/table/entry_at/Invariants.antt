@@ -1,5 +1,5 @@
 use Rattle.std.proofs.Common.{◌≡◌, drop}
-use Rattle.dg_model.specs.Machine.{entry_at}
+use Rattle.dg_machine.specs.MachineState.{entry_at}
 use Rattle.dg_session.proofs.table.entry_at.Given as goal
 
 abbrev pub invariant-loop-entry : goal.invariant-loop-entry

@@ -1,5 +1,5 @@
 use Rattle.std.proofs.Common.{◌≡◌, ◌+◌, ◌-◌, ◌≤◌, ◌++◌, length, drop}
-use Rattle.dg_model.specs.Sets.{without_all}
+use Rattle.dg_graph.specs.Sets.{without_all}
 use Rattle.dg_set.proofs.merge.differences.Given as goal
 
 abbrev pub invariant-loop-i : goal.invariant-loop-i

@@ -1,7 +1,7 @@
 use Rattle.std.proofs.Common.{◌≤◌, ◌⊎◌, inl, inr, length, get_or, arith}
 use Rattle.std.specs.declared.cmp.Ordering.TheVariants.{Less, Equal, Greater}
-use Rattle.dg_model.specs.declared.element.Element.TheVariants.{Node}
-use Rattle.dg_model.specs.Sets.{met}
+use Rattle.dg_graph.specs.declared.element.Element.TheVariants.{Node}
+use Rattle.dg_graph.specs.Sets.{met}
 use Rattle.dg_set.proofs.Places.{compared}
 use Rattle.dg_set.proofs.Merges.{pushed, passed, kept_Less, kept_Equal, kept_Greater, met_done}
 use Rattle.dg_set.proofs.merge.meet.Goals as goal

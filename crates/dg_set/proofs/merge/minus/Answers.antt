@@ -1,8 +1,8 @@
 use Rattle.std.proofs.Common.{◌≤◌, ◌⊎◌, inl, inr, length, get_or, arith, ◌++◌, ap, ◌∙◌, not}
 use Rattle.std.specs.declared.cmp.Ordering.TheVariants.{Less, Equal, Greater}
 use Rattle.std.proofs.lemmas.List.{take_rest}
-use Rattle.dg_model.specs.declared.element.Element.TheVariants.{Node}
-use Rattle.dg_model.specs.Sets.{without_all}
+use Rattle.dg_graph.specs.declared.element.Element.TheVariants.{Node}
+use Rattle.dg_graph.specs.Sets.{without_all}
 use Rattle.dg_set.proofs.Places.{compared}
 use Rattle.dg_set.proofs.Merges.{pushed, passed, kept_Less, kept_Equal, kept_Greater, without_done}
 use Rattle.dg_set.proofs.merge.minus.Goals as goal

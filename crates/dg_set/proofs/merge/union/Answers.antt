@@ -1,8 +1,8 @@
 use Rattle.std.proofs.Common.{◌≡◌, ◌≤◌, ◌⊎◌, inl, inr, length, get_or, arith, ◌++◌, ap, ◌∙◌, drop}
 use Rattle.std.specs.declared.cmp.Ordering.TheVariants.{Less, Equal, Greater}
 use Rattle.std.proofs.lemmas.List.{take_rest}
-use Rattle.dg_model.specs.declared.element.Element.TheVariants.{Node}
-use Rattle.dg_model.specs.Sets.{unioned}
+use Rattle.dg_graph.specs.declared.element.Element.TheVariants.{Node}
+use Rattle.dg_graph.specs.Sets.{unioned}
 use Rattle.dg_set.proofs.Places.{compared}
 use Rattle.dg_set.proofs.Merges.{pushed, unioned_Less, unioned_Equal, unioned_Greater, unioned_done}
 use Rattle.dg_set.proofs.merge.union.Goals as goal

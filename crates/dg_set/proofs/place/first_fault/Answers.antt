@@ -1,6 +1,6 @@
 use Rattle.std.proofs.Common.{ap, ◌∙◌, sym, get_or, ◌-◌}
 use Rattle.std.specs.Ordering.{is_ge}
-use Rattle.dg_model.specs.declared.element.Element.TheVariants.{Node}
+use Rattle.dg_graph.specs.declared.element.Element.TheVariants.{Node}
 use Rattle.dg_set.proofs.Places.{derived_is, rises_past, fault_at}
 use Rattle.dg_set.proofs.place.first_fault.Goals as goal
 

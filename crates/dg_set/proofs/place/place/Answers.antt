@@ -1,7 +1,7 @@
 use Rattle.std.proofs.Common.{subst}
 use Rattle.std.specs.declared.cmp.Ordering.{Ordering}
 use Rattle.std.specs.List.Sorted.{IsBinarySearchResult}
-use Rattle.dg_model.specs.declared.element.Element.{Element}
+use Rattle.dg_graph.specs.declared.element.Element.{Element}
 use Rattle.dg_set.proofs.Places.{derived_is, searched_found, searched_lacks}
 use Rattle.dg_set.proofs.place.place.Goals as goal
 

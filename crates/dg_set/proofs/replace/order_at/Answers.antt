@@ -1,6 +1,6 @@
 use Rattle.std.proofs.Common.{get_or, sym, ap, ◌∙◌}
 use Rattle.std.proofs.lemmas.List.{drop_more}
-use Rattle.dg_model.specs.declared.element.Element.TheVariants.{Node}
+use Rattle.dg_graph.specs.declared.element.Element.TheVariants.{Node}
 use Rattle.dg_set.specs.Places.{first_cmp}
 use Rattle.dg_set.proofs.Places.{derived_is}
 use Rattle.dg_set.proofs.replace.order_at.Goals as goal

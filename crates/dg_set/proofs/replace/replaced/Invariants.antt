@@ -1,5 +1,5 @@
 use Rattle.std.proofs.Common.{◌≡◌, ◌+◌, ◌-◌, ◌≤◌, ◌++◌, length}
-use Rattle.dg_model.specs.Sets.{unioned, without_all}
+use Rattle.dg_graph.specs.Sets.{unioned, without_all}
 use Rattle.dg_set.proofs.Replacing.{to_replace}
 use Rattle.dg_set.proofs.replace.replaced.Given as goal
 

@@ -1,5 +1,5 @@
 use Rattle.std.proofs.Common.{sym, ap, ◌∙◌}
-use Rattle.dg_model.specs.Elements.{has}
+use Rattle.dg_graph.specs.Elements.{has}
 use Rattle.dg_delta.proofs.Deltas.{apart_between}
 use Rattle.dg_delta.proofs.delta.Delta.between.Goals as goal
 

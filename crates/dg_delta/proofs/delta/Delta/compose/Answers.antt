@@ -1,6 +1,6 @@
 use Rattle.std.proofs.Common.{◌≡◌, sym, ap, ◌∙◌}
-use Rattle.dg_model.specs.Elements.{has}
-use Rattle.dg_model.specs.Composition.{Delta}
+use Rattle.dg_graph.specs.Elements.{has}
+use Rattle.dg_graph.specs.Composition.{Delta}
 use Rattle.dg_delta.specs.Deltas.{composed}
 use Rattle.dg_delta.proofs.Deltas.{apart_composed, composes_by}
 use Rattle.dg_delta.proofs.delta.Delta.compose.Goals as goal

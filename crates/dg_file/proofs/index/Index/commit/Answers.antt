@@ -1,7 +1,7 @@
 use Rattle.std.proofs.Common.{◌≡◌, ℕ, ◌+◌, ◌-◌, ◌≤◌, [], ◌∷◌, ◌++◌, Result, Ok, Err, refl, sym, ap, subst, ◌∙◌, arith}
 use Rattle.dg_disk.specs.Image.{HasPlace}
-use Rattle.dg_model.specs.declared.limits.TheConstants.{FILE_BYTES_MAX}
-use Rattle.dg_model.specs.Opening.{Segment, Opening, columns_size, may_follow}
+use Rattle.dg_history.specs.declared.limits.TheConstants.{FILE_BYTES_MAX}
+use Rattle.dg_history.specs.OpenedIndex.{Segment, Opening, columns_size, may_follow}
 use Rattle.dg_file.specs.declared.fault.CommitFault.{CommitFault}
 use Rattle.dg_file.specs.declared.fault.CommitFault.TheVariants.{FileFull, Disk}
 use Rattle.dg_file.specs.Growth.{Moved, Gated, GatedOrNot}

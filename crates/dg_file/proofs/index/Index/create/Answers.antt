@@ -1,7 +1,7 @@
 use Rattle.std.proofs.Common.{◌≡◌, Ok}
-use Rattle.dg_model.specs.History.{empty_history}
-use Rattle.dg_model.specs.Legal.{IsImageOf}
-use Rattle.dg_model.specs.Opening.{opening, opened_of}
+use Rattle.dg_history.specs.History.{empty_history}
+use Rattle.dg_history.specs.LegalHistory.{IsImageOf}
+use Rattle.dg_history.specs.OpenedIndex.{opening, opened_of}
 use Rattle.dg_file.specs.Images.{IsMadeInPart}
 use Rattle.dg_file.proofs.Histories.{images_are_opened}
 use Rattle.dg_file.proofs.Moves.{moved_after, moved_both, moved_told}

@@ -3,7 +3,7 @@ use Rattle.std.specs.Prelude.{IfSome}
 use Rattle.std.specs.Option.{is_some}
 use Rattle.std.proofs.lemmas.Result.{IfOk-weaker}
 use Rattle.dg_disk.specs.Image.{HasRange}
-use Rattle.dg_model.specs.Opening.{Opening, column_of_piece}
+use Rattle.dg_history.specs.OpenedIndex.{Opening, column_of_piece}
 use Rattle.dg_shape.specs.Entries.{length_in, place_in}
 use Rattle.dg_file.specs.Held.{piece_in, pieces_from}
 use Rattle.dg_file.specs.Images.{taken_after}

@@ -1,8 +1,8 @@
 use Rattle.std.proofs.Common.{◌≡◌, ◌+◌, ◌≤◌, ◌<◌, ◌++◌, ◌∷◌, true, cond, List, [], length, get_or, None, Some, refl, sym, ap, subst, ◌∙◌, vec_len, arith}
 use Rattle.std.specs.Vec.{vec_capacity}
-use Rattle.dg_model.specs.declared.limits.TheConstants.{NAMES_MAX}
-use Rattle.dg_model.specs.declared.node.Key.TheVariants as key
-use Rattle.dg_model.specs.Opening.{Segment, may_follow}
+use Rattle.dg_graph.specs.declared.limits.TheConstants.{NAMES_MAX}
+use Rattle.dg_history.specs.declared.node.Key.TheVariants as key
+use Rattle.dg_history.specs.OpenedIndex.{Segment, may_follow}
 use Rattle.dg_shape.specs.Entries.{total, spanned}
 use Rattle.dg_file.specs.Held.{segments_held, segment_in}
 use Rattle.dg_file.specs.Index.{IndexState, events_after, earliest_after, names_count}

@@ -1,7 +1,7 @@
 use Rattle.std.proofs.Common.{◌≡◌, ℕ, None, List, sym, ap, subst, ◌∙◌, arith}
 use Rattle.std.specs.Prelude.{IfSome}
 use Rattle.std.proofs.lemmas.Result.{err_from_is_err_and}
-use Rattle.dg_model.specs.Opening.{Opening, directory_at, may_follow, opening}
+use Rattle.dg_history.specs.OpenedIndex.{Opening, directory_at, may_follow, opening}
 use Rattle.dg_file.specs.Headers.{IsOpenedSoFar, IsFoundAt}
 use Rattle.dg_file.specs.Held.{segment_in}
 use Rattle.dg_file.specs.Images.{Misses, Refuses}

@@ -1,6 +1,6 @@
 use Rattle.std.proofs.Common.{length, sym, ap, subst, ◌∙◌, arith}
 use Rattle.std.specs.Prelude.{IfSome}
-use Rattle.dg_model.specs.Opening.{Opening}
+use Rattle.dg_history.specs.OpenedIndex.{Opening}
 use Rattle.dg_file.specs.Headers.{IsFoundIn}
 use Rattle.dg_file.specs.Index.{names_count}
 use Rattle.dg_file.proofs.Steps.{begun, found_length}

@@ -1,5 +1,5 @@
 use Rattle.std.proofs.Common.{ℕ, ◌∷◌, [], ◌++◌, List, length, ap, ◌∙◌, arith, length-append}
-use Rattle.dg_model.specs.File.{name_bytes}
+use Rattle.dg_history.specs.FileOfHistory.{name_bytes}
 use Rattle.dg_file.specs.Index.{NewSegment}
 use Rattle.dg_file.proofs.Texts.{named_more, are_named_more}
 use Rattle.dg_file.proofs.segment.Segment.add_name.Goals as goal

@@ -1,6 +1,6 @@
 use Rattle.std.proofs.Common.{ℕ, ◌+◌, List, [], ◌∷◌, ◌++◌, map, drop, get_or, sym, subst, arith}
 use Rattle.std.proofs.lemmas.Result.{on_ok_weaker, on_err_weaker}
-use Rattle.dg_model.specs.Text.{text_line}
+use Rattle.dg_machine.specs.ReplyText.{text_line}
 use Rattle.dg_line.specs.declared.page.Word.{Word}
 use Rattle.dg_line.specs.declared.page.Word.TheVariants as word
 use Rattle.dg_line.specs.Page.{word_bytes}

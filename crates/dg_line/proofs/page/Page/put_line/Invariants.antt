@@ -1,5 +1,5 @@
 use Rattle.std.proofs.Common.{◌≤◌, ◌++◌, map, drop}
-use Rattle.dg_model.specs.Text.{text_line}
+use Rattle.dg_machine.specs.ReplyText.{text_line}
 use Rattle.dg_line.specs.Page.{word_bytes}
 use Rattle.dg_line.proofs.Passing.{Going, rest_of_line}
 use Rattle.dg_line.proofs.page.Page.put_line.Given as goal

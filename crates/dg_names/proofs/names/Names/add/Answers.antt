@@ -1,5 +1,5 @@
 use Rattle.std.proofs.Common.{◌≡◌, List, [], ◌∷◌, ◌++◌, ℕ, Some, None, map, slice_get, subst, sym, ◌∙◌}
-use Rattle.dg_model.specs.Names.{number_of}
+use Rattle.dg_graph.specs.Names.{number_of}
 use Rattle.dg_names.specs.Names.{AreFew, AreShort}
 use Rattle.dg_names.proofs.Numbers.{grown, grown_place, fits_grown, added_last, key_stands, stays, distinct-map, number_here}
 use Rattle.dg_names.proofs.names.Names.add.Goals as goal

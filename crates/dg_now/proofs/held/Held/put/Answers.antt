@@ -1,7 +1,7 @@
 use Rattle.std.proofs.Common.{◌≡◌, true, Some, None, refl, sym, ap, subst, ◌∙◌, arith}
 use Rattle.std.proofs.lemmas.Bool.{or_right}
-use Rattle.dg_model.specs.Elements.{put}
-use Rattle.dg_model.specs.Graph.{has_needs}
+use Rattle.dg_graph.specs.Elements.{put}
+use Rattle.dg_graph.specs.Graph.{has_needs}
 use Rattle.dg_now.specs.declared.place.Place.{Place}
 use Rattle.dg_now.specs.Cells.{Holdings, uses_at, has_cell, elements_of, Writes}
 use Rattle.dg_now.specs.Places.{place_of, at, same_place}

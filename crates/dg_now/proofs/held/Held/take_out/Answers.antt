@@ -2,8 +2,8 @@ use Rattle.std.proofs.Common.{◌≡◌, true, false, nat_lt, List, None, sym, a
 use Rattle.std.proofs.lemmas.Bool.{or_left}
 use Rattle.std.specs.List.{list_any}
 use Rattle.indexmap.specs.IndexMap.{spare}
-use Rattle.dg_model.specs.declared.element.Element.{Element}
-use Rattle.dg_model.specs.Elements.{has, take_out}
+use Rattle.dg_graph.specs.declared.element.Element.{Element}
+use Rattle.dg_graph.specs.Elements.{has, take_out}
 use Rattle.dg_now.specs.declared.place.Place.{Place}
 use Rattle.dg_now.specs.Cells.{Holdings, uses_at, has_cell, elements_of, Writes}
 use Rattle.dg_now.specs.Places.{place_of, needs}

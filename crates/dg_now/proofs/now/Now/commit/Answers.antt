@@ -1,5 +1,5 @@
 use Rattle.std.proofs.Common.{◌≡◌, List, [], sym, subst}
-use Rattle.dg_model.specs.declared.event.Event.{Event}
+use Rattle.dg_graph.specs.declared.event.Event.{Event}
 use Rattle.dg_now.specs.Happening.{Led, rewound}
 use Rattle.dg_now.proofs.Happens.{led_is_graph}
 use Rattle.dg_now.proofs.Stating.{led_none}

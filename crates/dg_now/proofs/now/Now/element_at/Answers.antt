@@ -1,6 +1,6 @@
 use Rattle.std.proofs.Common.{◌≡◌, ◌<◌, ◌≤◌, true, List, length, slice_index_or, sym, ap, subst, ◌∙◌}
-use Rattle.dg_model.specs.declared.event.Event.{Event}
-use Rattle.dg_model.specs.declared.event.Body.TheVariants as body
+use Rattle.dg_graph.specs.declared.event.Event.{Event}
+use Rattle.dg_graph.specs.declared.event.Body.TheVariants as body
 use Rattle.dg_now.specs.Happening.{place_in, before_in, rewound}
 use Rattle.dg_now.specs.Now.{NowState}
 use Rattle.dg_now.specs.Places.{at, same_place}

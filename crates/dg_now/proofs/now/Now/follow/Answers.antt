@@ -1,6 +1,6 @@
 use Rattle.std.proofs.Common.{◌≡◌, List, [], sym, ap, subst, ◌∙◌}
-use Rattle.dg_model.specs.declared.event.Event.{Event}
-use Rattle.dg_model.specs.Graph.{IsGraph}
+use Rattle.dg_graph.specs.declared.event.Event.{Event}
+use Rattle.dg_graph.specs.Graph.{IsGraph}
 use Rattle.dg_now.specs.Happening.{CanHappen, Led, rewound}
 use Rattle.dg_now.specs.Now.{NowState}
 use Rattle.dg_now.proofs.Fitting.{followed_still}

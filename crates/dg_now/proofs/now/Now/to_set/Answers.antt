@@ -2,9 +2,9 @@ use Rattle.std.proofs.Common.{◌≡◌, true, ◌++◌, List, [], is_some, take
 use Rattle.std.proofs.lemmas.List.{take_all}
 use Rattle.std.specs.List.{filter_map, cons_option}
 use Rattle.std.specs.List.Sorted.{IsPermutation}
-use Rattle.dg_model.specs.declared.event.Event.{Event}
-use Rattle.dg_model.specs.Elements.{IsSet}
-use Rattle.dg_model.specs.Graph.{IsGraph}
+use Rattle.dg_graph.specs.declared.event.Event.{Event}
+use Rattle.dg_graph.specs.Elements.{IsSet}
+use Rattle.dg_graph.specs.Graph.{IsGraph}
 use Rattle.dg_now.specs.declared.place.Place.{Place}
 use Rattle.dg_now.specs.Cells.{knows}
 use Rattle.dg_now.specs.Happening.{rewound, first_at}

@@ -1,8 +1,8 @@
 use Rattle.std.proofs.Common.{◌≡◌, ◌+◌, ◌<◌, None, true, false, [], ◌∷◌, ◌++◌, length, refl, sym, ◌∙◌, ap, arith, rules}
-use Rattle.dg_model.specs.declared.reply.Head.TheVariants as head
-use Rattle.dg_model.specs.declared.stands.Stands.TheVariants.{Overlay}
-use Rattle.dg_model.specs.Answer.{headed}
-use Rattle.dg_model.specs.History.{span_of, in_range}
+use Rattle.dg_machine.specs.declared.reply.Head.TheVariants as head
+use Rattle.dg_machine.specs.declared.stands.Stands.TheVariants.{Overlay}
+use Rattle.dg_machine.specs.Answer.{headed}
+use Rattle.dg_history.specs.History.{span_of, in_range}
 use Rattle.dg_session.specs.Parts.{Parts}
 use Rattle.dg_session.specs.contracts.session.Session.{the_view}
 use Rattle.dg_session.proofs.Moving.{field_there, field_missing}

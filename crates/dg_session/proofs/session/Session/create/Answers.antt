@@ -1,8 +1,8 @@
 use Rattle.std.proofs.Common.{◌≡◌, Some, None, [], refl, sym, ◌∙◌, ap}
 use Rattle.dg_file.specs.Images.{IsMadeInPart}
-use Rattle.dg_model.specs.declared.command.Command.TheVariants as command
-use Rattle.dg_model.specs.History.{empty_history}
-use Rattle.dg_model.specs.Legal.{IsImageOf}
+use Rattle.dg_machine.specs.declared.command.Command.TheVariants as command
+use Rattle.dg_history.specs.History.{empty_history}
+use Rattle.dg_history.specs.LegalHistory.{IsImageOf}
 use Rattle.dg_session.specs.Parts.{Parts}
 use Rattle.dg_session.specs.Session.{Moves}
 use Rattle.dg_session.specs.contracts.session.Session.{the_view}

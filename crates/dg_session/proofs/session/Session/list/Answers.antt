@@ -1,7 +1,7 @@
 use Rattle.std.proofs.Common.{◌≡◌, Some, None, length, map, sym, ◌∙◌, ap, rules}
-use Rattle.dg_model.specs.declared.reply.BodyLine.TheVariants as line
-use Rattle.dg_model.specs.declared.reply.Head.TheVariants as head
-use Rattle.dg_model.specs.Machine.{entry_at}
+use Rattle.dg_machine.specs.declared.reply.BodyLine.TheVariants as line
+use Rattle.dg_machine.specs.declared.reply.Head.TheVariants as head
+use Rattle.dg_machine.specs.MachineState.{entry_at}
 use Rattle.dg_session.specs.Parts.{Parts}
 use Rattle.dg_session.specs.Session.{elements_among}
 use Rattle.dg_session.proofs.Listing.{list_unknown, list_lacks, list_known}

@@ -1,7 +1,7 @@
 use Rattle.std.proofs.Common.{[], refl, sym, subst}
 use Rattle.dg_io.specs.Reading.{told}
-use Rattle.dg_model.specs.declared.command.Command.{Command}
-use Rattle.dg_model.specs.declared.command.Command.TheVariants as command
+use Rattle.dg_machine.specs.declared.command.Command.{Command}
+use Rattle.dg_machine.specs.declared.command.Command.TheVariants as command
 use Rattle.dg_session.specs.Session.{Moves, Steps, Stops}
 use Rattle.dg_session.proofs.Gathering.{follows_none}
 use Rattle.dg_session.proofs.Moving.{same_told}

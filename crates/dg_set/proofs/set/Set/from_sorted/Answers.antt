@@ -1,6 +1,6 @@
 use Rattle.std.proofs.Common.{List, subst}
 use Rattle.std.proofs.lemmas.Bool.{false≢true}
-use Rattle.dg_model.specs.declared.element.Element.{Element}
+use Rattle.dg_graph.specs.declared.element.Element.{Element}
 use Rattle.dg_set.specs.Places.{IsFirstFault}
 use Rattle.dg_set.proofs.Places.{no_set_at}
 use Rattle.dg_set.proofs.set.Set.from_sorted.Goals as goal

@@ -1,6 +1,6 @@
 use Rattle.std.proofs.Common.{subst, sym}
-use Rattle.dg_model.specs.Elements.{IsSet}
-use Rattle.dg_model.proofs.Sets.{IsSet-met}
+use Rattle.dg_graph.specs.Elements.{IsSet}
+use Rattle.dg_graph.proofs.Sets.{IsSet-met}
 use Rattle.dg_set.proofs.set.Set.meet.Goals as goal
 
 pub invariant_of-result : goal.invariant_of-result

@@ -1,7 +1,7 @@
 use Rattle.std.proofs.Common.{subst, sym}
-use Rattle.dg_model.specs.Elements.{IsSet}
-use Rattle.dg_model.specs.Sets.{without_all}
-use Rattle.dg_model.proofs.Sets.{IsSet-unioned, IsSet-without_all}
+use Rattle.dg_graph.specs.Elements.{IsSet}
+use Rattle.dg_graph.specs.Sets.{without_all}
+use Rattle.dg_graph.proofs.Sets.{IsSet-unioned, IsSet-without_all}
 use Rattle.dg_set.proofs.set.Set.replaced.Goals as goal
 
 pub invariant_of-result : goal.invariant_of-result

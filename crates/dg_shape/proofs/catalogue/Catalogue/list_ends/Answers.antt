@@ -1,6 +1,6 @@
 use Rattle.std.proofs.Common.{◌≡◌, Some, sym, ap, subst, ◌∙◌}
 use Rattle.std.specs.List.{All}
-use Rattle.dg_model.specs.declared.node.Key.TheVariants as a_key
+use Rattle.dg_history.specs.declared.node.Key.TheVariants as a_key
 use Rattle.dg_shape.specs.Entries.{Holdings, EndsIfList}
 use Rattle.dg_shape.specs.Held.{entry_of}
 use Rattle.dg_shape.proofs.Records.{found, lacks_list, look_up_is}

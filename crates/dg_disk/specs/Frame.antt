@@ -1,0 +1,28 @@
+-- What a call leaves of a disk as it was: one word for each kind of call, over the ghost members of the
+-- disk. Counts of failures never fall.
+use Rattle.std.specs.Prelude.{◌≡◌, ℕ, ◌≤◌, List, Option, is_some}
+
+-- The call reads and asks: the image is as it was, and no write or sync has failed.
+pub record OnlyReads {D : Type 0} (image : D → Option (List ℕ)) (faults write_faults : D → ℕ) (old new : D) : Type 0 where
+  pub same_image : image new ≡ image old
+  pub counted : faults old ≤ faults new
+  pub no_write_failed : write_faults new ≡ write_faults old
+
+-- The call reads, asks and syncs: the image is as it was.
+pub record ReadsAndSyncs {D : Type 0} (image : D → Option (List ℕ)) (faults write_faults : D → ℕ) (old new : D) : Type 0 where
+  pub same_image : image new ≡ image old
+  pub counted : faults old ≤ faults new
+  pub writes_counted : write_faults old ≤ write_faults new
+
+-- The call writes and syncs, and reads nothing. Whether the disk tells its image stays the same.
+pub record OnlyWrites {D : Type 0} (image : D → Option (List ℕ)) (faults write_faults taken : D → ℕ) (old new : D) : Type 0 where
+  pub told : is_some (image new) ≡ is_some (image old)
+  pub counted : faults old ≤ faults new
+  pub writes_counted : write_faults old ≤ write_faults new
+  pub nothing_read : taken new ≡ taken old
+
+-- The call may do anything that a disk does. Whether the disk tells its image stays the same.
+pub record GoesOn {D : Type 0} (image : D → Option (List ℕ)) (faults write_faults : D → ℕ) (old new : D) : Type 0 where
+  pub told : is_some (image new) ≡ is_some (image old)
+  pub counted : faults old ≤ faults new
+  pub writes_counted : write_faults old ≤ write_faults new

@@ -1,0 +1,15 @@
+pub mod Lines
+pub mod Words
+pub mod Names
+pub mod Elements
+pub mod Sets
+pub mod Composition
+pub mod Effect
+pub mod Replay
+pub mod Completion
+pub mod CompletedChanges
+pub mod Graph
+pub mod Columns
+pub mod ColumnGrammar
+pub mod ColumnMerge
+pub mod DifferentialFunction

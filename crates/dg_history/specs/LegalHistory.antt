@@ -1,0 +1,67 @@
+-- Which histories are legal, and which images of the index file stand for a history or for none.
+use Rattle.std.specs.Prelude.{◌≡◌, ◌≢◌, ℕ, ◌<◌, ◌≤◌, ◌^◌, Bool, true, ◌&&◌, ◌||◌, ◌==◌, not, List, [], ◌∷◌, ◌++◌, Option, Some, None, Ok, All, IfSome, length, map, take, nat_lt, slice_get, slice_index, IsTrue}
+use Rattle.dg_graph.specs.declared.event.Body.{Body}
+use Rattle.dg_graph.specs.declared.event.Body.TheVariants as body
+use Rattle.dg_graph.specs.declared.event.Change.{Change}
+use Rattle.dg_graph.specs.declared.event.Event.{Event}
+use Rattle.dg_graph.specs.declared.limits.TheConstants.{BATCH_LINES_MAX, NAMES_MAX, TIME_MAX}
+use Rattle.dg_history.specs.declared.limits.TheConstants.{EVENTS_MAX, FILE_BYTES_MAX}
+use Rattle.dg_graph.specs.CompletedChanges.{completed}
+use Rattle.dg_graph.specs.Completion.{has_key}
+use Rattle.dg_history.specs.FileOfHistory.{file, size}
+use Rattle.dg_history.specs.History.{History, Batch, are_parameters, events_of, names_of, span_of, earliest_next}
+use Rattle.dg_graph.specs.Names.{are_new}
+use Rattle.dg_graph.specs.Replay.{replay}
+
+-- every id is of 64 bits, and every name's number is below the number of names
+abbrev pub FitsBody : ℕ → Body → Type 0
+FitsBody names (body.NodeAdded id) = id < 2 ^ 64
+FitsBody names (body.NodeRemoved id) = id < 2 ^ 64
+FitsBody names (body.EdgeAdded id src dst directed) = (id < 2 ^ 64) × (src < 2 ^ 64) × (dst < 2 ^ 64)
+FitsBody names (body.EdgeRemoved id src dst directed) = (id < 2 ^ 64) × (src < 2 ^ 64) × (dst < 2 ^ 64)
+FitsBody names (body.NodeAttr id key old new) =
+    (id < 2 ^ 64) × (key < names) × IfSome old (λ n. n < names) × IfSome new (λ n. n < names)
+FitsBody names (body.EdgeAttr id key old new) =
+    (id < 2 ^ 64) × (key < names) × IfSome old (λ n. n < names) × IfSome new (λ n. n < names)
+
+abbrev pub FitsEvent : ℕ → Event → Type 0
+FitsEvent names e = (e.time ≤ TIME_MAX) × FitsBody names e.body
+
+-- The events of a batch are the completions of some changes after the events before it, in their
+-- time; there are as many as a batch may have. Their names are among those of the history.
+pub record IsLegalBatch (names : List (List ℕ)) (before : List Event) (b : Batch) : Type 0 where
+  pub some : 1 ≤ length b.events
+  pub few : length b.events ≤ BATCH_LINES_MAX
+  pub changes : List Change
+  pub comes : completed 1 (earliest_next (span_of before)) (replay before) (map (λ (c : Change). Some c) changes) ≡ Ok b.events
+  pub fits : All (FitsEvent (length names)) b.events
+  pub keys : All (λ (e : Event). IsTrue (has_key names e.body)) b.events
+
+abbrev pub AreLegalAfter : List (List ℕ) → List Event → List Batch → Type 0
+AreLegalAfter names before [] = Unit {0}
+AreLegalAfter names before (b ∷ more) = IsLegalBatch names before b × AreLegalAfter names (before ++ b.events) more
+
+pub record IsLegal (z : History) : Type 0 where
+  pub parameters : are_parameters z.params.l z.params.k ≡ true
+  pub batches : AreLegalAfter (names_of z) [] z.batches
+  pub names : are_new [] (names_of z) ≡ true
+  pub few_names : length (names_of z) ≤ NAMES_MAX
+  pub few : length (events_of z) ≤ EVENTS_MAX
+
+-- the image begins with the file of the history, and the gate behind it is closed
+pub record IsImageOf (z : History) (image : List ℕ) : Type 0 where
+  pub legal : IsLegal z
+  pub fits : size z ≤ FILE_BYTES_MAX
+  pub begins : take (length (file z)) image ≡ file z
+  pub gate : ℕ
+  pub there : slice_get image (length (file z)) ≡ Some gate
+  pub closed : gate ≢ 1
+
+-- the image is no index: it has fewer bytes than a header, or as many and its gate is closed
+abbrev pub is_blank : List ℕ → Bool
+is_blank image = nat_lt (length image) 18 || (length image == 18 && not (slice_index image 0 == 1))
+
+-- the image stands for an index with this history, or for none
+abbrev pub StandsAs : Option History → List ℕ → Type 0
+StandsAs None image = is_blank image ≡ true
+StandsAs (Some z) image = IsImageOf z image

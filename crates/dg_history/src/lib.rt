@@ -1,0 +1,13 @@
+//! What the history of a graph, its file and its index are: the plain types, and, in `specs/`, the
+//! definitions. docs/MODEL.md is their prose.
+#![tactic(auto)]
+
+mod limits;
+mod node;
+mod params;
+mod start_fault;
+
+pub use limits::{EVENTS_MAX, FILE_BYTES_MAX};
+pub use node::{Key, NodeId};
+pub use params::{ARITY_MAX, ARITY_MIN, LEAF_MAX, LEAF_MIN, Params};
+pub use start_fault::StartFault;

@@ -1,0 +1,24 @@
+use dg_graph::Function;
+
+/// The least leaf list size.
+pub const LEAF_MIN: u32 = 2;
+
+/// The greatest leaf list size.
+pub const LEAF_MAX: u32 = 65_536;
+
+/// The least arity.
+pub const ARITY_MIN: u32 = 2;
+
+/// The greatest arity.
+pub const ARITY_MAX: u32 = 64;
+
+/// The parameters with which an index is made. They never change.
+#[derive(Clone, Copy, Debug, PartialEq, Eq, Hash)]
+pub struct Params {
+    /// The leaf list size: events from one leaf to the next.
+    pub l: u32,
+    /// The arity: children of an interior node.
+    pub k: u32,
+    /// How an interior node's set is made from those of its children.
+    pub function: Function,
+}

@@ -1,0 +1,7 @@
+pub mod CommandGrammar
+pub mod ReplyText
+pub mod MachineState
+pub mod Answer
+pub mod Script
+pub mod Run
+pub mod CutImage

@@ -1,0 +1,49 @@
+-- The machine that keeps only the events and a table of handles.
+use Rattle.std.specs.Prelude.{ℕ, ◌≤◌, ◌==◌, List, [], ◌∷◌, Option, Some, None, if◌then◌else◌}
+use Rattle.dg_graph.specs.declared.element.Element.{Element}
+use Rattle.dg_graph.specs.declared.event.Event.{Event}
+use Rattle.dg_machine.specs.declared.limits.Limits.{Limits}
+use Rattle.dg_history.specs.declared.limits.TheConstants.{EVENTS_MAX, FILE_BYTES_MAX}
+use Rattle.dg_machine.specs.declared.limits.TheConstants.{FIRST_HANDLE, SCRIPT_BYTES_MAX}
+use Rattle.dg_machine.specs.declared.stands.Stands.{Stands}
+use Rattle.dg_machine.specs.declared.stands.Stands.TheVariants.{Overlay}
+use Rattle.dg_graph.specs.Elements.{shown}
+use Rattle.dg_history.specs.History.{History, events_of, names_of}
+use Rattle.dg_graph.specs.Replay.{replay_at}
+
+-- The limits; an index or none, and its history; the live handles with what they stand for, in the
+-- order in which they were given; and the number of the next handle.
+pub record MachineState : Type 0 where
+  pub limits : Limits
+  pub index : Option History
+  pub table : List (ℕ × Stands)
+  pub next : ℕ
+
+-- the machine before its first command
+abbrev pub machine_at : Limits → Option History → MachineState
+machine_at limits index = record { limits = limits; index = index; table = []; next = FIRST_HANDLE }
+
+-- no limit is above its standard value
+pub record IsWithin (limits : Limits) : Type 0 where
+  pub script : limits.script_bytes ≤ SCRIPT_BYTES_MAX
+  pub events : limits.events ≤ EVENTS_MAX
+  pub file : limits.file_bytes ≤ FILE_BYTES_MAX
+
+-- the events of the machine's history
+abbrev pub events_in : Option History → List Event
+events_in None = []
+events_in (Some z) = events_of z
+
+-- the names of the machine's history
+abbrev pub names_in : Option History → List (List ℕ)
+names_in None = []
+names_in (Some z) = names_of z
+
+-- what a handle stands for, where it is live
+abbrev pub entry_at : ℕ → List (ℕ × Stands) → Option Stands
+entry_at handle [] = None
+entry_at handle (entry ∷ table) = if entry.0 == handle then Some entry.1 else entry_at handle table
+
+-- the elements of what a handle stands for
+abbrev pub elements : History → Stands → List Element
+elements z (Overlay t cols on) = shown (replay_at (events_of z) t) cols

@@ -1,0 +1,63 @@
+-- The text of a reply.
+use Rattle.std.specs.Prelude.{ℕ, List, [], ◌∷◌, ◌++◌, Some, None, if◌then◌else◌, codes, decimal}
+use Rattle.std.specs.List.{flat_map, join_with_byte}
+use Rattle.dg_graph.specs.declared.element.Element.{Element}
+use Rattle.dg_graph.specs.declared.element.Element.TheVariants.{Node, Edge, NodeAttr, EdgeAttr}
+use Rattle.dg_machine.specs.declared.reply.Head.{Head}
+use Rattle.dg_machine.specs.declared.reply.Head.TheVariants as head
+use Rattle.dg_machine.specs.declared.reply.Refusal.{Refusal}
+use Rattle.dg_machine.specs.declared.reply.Refusal.TheVariants as refusal
+use Rattle.dg_machine.specs.declared.reply.BodyLine.{BodyLine}
+use Rattle.dg_machine.specs.declared.reply.BodyLine.TheVariants as line
+use Rattle.dg_machine.specs.declared.reply.Reply.{Reply}
+use Rattle.dg_graph.specs.Names.{name_text}
+
+-- the words of an element's line
+abbrev pub element_words : List (List ℕ) → Element → List (List ℕ)
+element_words names (Node id) = codes "node" ∷ decimal id ∷ []
+element_words names (Edge id src dst directed) =
+    codes "edge" ∷ decimal id ∷ decimal src ∷ decimal dst ∷ (if directed then codes "dir" else codes "undir") ∷ []
+element_words names (NodeAttr id key value) = codes "nattr" ∷ decimal id ∷ name_text names key ∷ name_text names value ∷ []
+element_words names (EdgeAttr id key value) = codes "eattr" ∷ decimal id ∷ name_text names key ∷ name_text names value ∷ []
+
+-- the words of a body line
+abbrev pub body_words : List (List ℕ) → BodyLine → List (List ℕ)
+body_words names (line.Element x) = element_words names x
+
+-- the number and the name of a refusal, and what it keeps
+abbrev pub refusal_words : Refusal → List (List ℕ)
+refusal_words (refusal.Syntax column) = codes "1" ∷ codes "syntax" ∷ decimal column ∷ []
+refusal_words refusal.NoIndex = codes "2" ∷ codes "no-index" ∷ []
+refusal_words refusal.IndexExists = codes "3" ∷ codes "index-exists" ∷ []
+refusal_words refusal.Parameters = codes "4" ∷ codes "parameters" ∷ []
+refusal_words (refusal.ShortBatch read asked) = codes "5" ∷ codes "short-batch" ∷ decimal read ∷ decimal asked ∷ []
+refusal_words (refusal.BadChange number reason) = codes "6" ∷ codes "bad-change" ∷ decimal number ∷ decimal reason ∷ []
+refusal_words (refusal.OutOfRange None) = codes "7" ∷ codes "out-of-range" ∷ codes "empty" ∷ []
+refusal_words (refusal.OutOfRange (Some ends)) = codes "7" ∷ codes "out-of-range" ∷ decimal ends.0 ∷ decimal ends.1 ∷ []
+refusal_words (refusal.UnknownHandle handle) = codes "8" ∷ codes "unknown-handle" ∷ decimal handle ∷ []
+refusal_words (refusal.PoolFull live asked) = codes "9" ∷ codes "pool-full" ∷ decimal live ∷ decimal asked ∷ []
+refusal_words (refusal.HistoryFull held asked) = codes "12" ∷ codes "history-full" ∷ decimal held ∷ decimal asked ∷ []
+refusal_words (refusal.FileFull needed limit) = codes "13" ∷ codes "file-full" ∷ decimal needed ∷ decimal limit ∷ []
+refusal_words refusal.OutOfMemory = codes "16" ∷ codes "out-of-memory" ∷ []
+refusal_words refusal.LineLong = codes "18" ∷ codes "line-long" ∷ []
+refusal_words refusal.AlreadyLoaded = codes "20" ∷ codes "already-loaded" ∷ []
+
+-- the words of a head line
+abbrev pub head_words : Head → List (List ℕ)
+head_words head.Created = codes "ok" ∷ codes "create" ∷ []
+head_words (head.Loaded events total last) = codes "ok" ∷ codes "load" ∷ decimal events ∷ decimal total ∷ decimal last ∷ []
+head_words (head.Appended events total last) = codes "ok" ∷ codes "append" ∷ decimal events ∷ decimal total ∷ decimal last ∷ []
+head_words (head.At handle weight) = codes "ok" ∷ codes "at" ∷ decimal handle ∷ decimal weight ∷ []
+head_words (head.List handle lines) = codes "ok" ∷ codes "list" ∷ decimal handle ∷ decimal lines ∷ []
+head_words (head.Refused r) = codes "refused" ∷ refusal_words r
+
+-- words with a space between each two, and a line feed
+abbrev pub text_line : List (List ℕ) → List ℕ
+text_line ws = join_with_byte 32 ws ++ 10 ∷ []
+
+abbrev pub body_text : List (List ℕ) → List BodyLine → List ℕ
+body_text names lines = flat_map (λ l. text_line (body_words names l)) lines
+
+-- the head line, the body's lines, and `end`
+abbrev pub text : List (List ℕ) → Reply → List ℕ
+text names r = text_line (head_words r.head) ++ body_text names r.body ++ text_line (codes "end" ∷ [])

@@ -1,0 +1,16 @@
+use dg_graph::{Columns, Function};
+
+/// A command of the script. docs/SCRIPT.md has its grammar.
+#[derive(Clone, Copy, Debug, PartialEq, Eq, Hash)]
+pub enum Command {
+    /// Make an empty index with this leaf list size, arity and differential function.
+    Create { l: u32, k: u32, function: Function },
+    /// Read `count` change lines, and add them to the empty history as one batch.
+    Load { count: u32 },
+    /// Read `count` change lines, and add them to the history as its next batch.
+    Append { count: u32 },
+    /// Retrieve the graph as of the instant `t`, in these columns, as a new handle.
+    At { t: u64, cols: Columns },
+    /// List the elements of a handle.
+    List { handle: u32 },
+}

@@ -1,0 +1,13 @@
+//! What the program answers: commands and replies, and, in `specs/`, the machine that keeps only the
+//! events and a table of handles. docs/MODEL.md is their prose.
+#![tactic(auto)]
+
+mod command;
+mod limits;
+mod reply;
+mod stands;
+
+pub use command::Command;
+pub use limits::{FIRST_HANDLE, LIVE_HANDLES_MAX, Limits, SCRIPT_BYTES_MAX};
+pub use reply::{BodyLine, BodyLines, Head, Refusal, Reply};
+pub use stands::Stands;

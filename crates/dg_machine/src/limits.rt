@@ -1,0 +1,37 @@
+ghost use Rattle.std.specs.Prelude.{◌≡◌};
+ghost use Rattle.dg_history.specs.declared.limits.TheConstants.{EVENTS_MAX, FILE_BYTES_MAX};
+
+use dg_history::{EVENTS_MAX, FILE_BYTES_MAX};
+
+/// The bounds within which a session works. A test may set them lower than the standard.
+#[derive(Clone, Copy, Debug, PartialEq, Eq, Hash)]
+pub struct Limits {
+    /// How many bytes of the script may be taken. A script has to have fewer.
+    pub script_bytes: u64,
+    /// How many events a history may have.
+    pub events: u64,
+    /// How many bytes of the index file may be in use.
+    pub file_bytes: u64,
+}
+
+/// The bytes of a script, at the standard limits: a script has fewer.
+pub const SCRIPT_BYTES_MAX: u64 = 1_099_511_627_776;
+
+/// The most handles that live at one time.
+pub const LIVE_HANDLES_MAX: usize = 127;
+
+/// The number of the first handle.
+pub const FIRST_HANDLE: u32 = 1;
+
+impl Limits {
+    /// The limits of the program.
+    pub fn standard() -> Limits
+        ensures { result ≡ record { script_bytes = SCRIPT_BYTES_MAX; events = EVENTS_MAX; file_bytes = FILE_BYTES_MAX } }
+    {
+        Limits {
+            script_bytes: SCRIPT_BYTES_MAX,
+            events: EVENTS_MAX,
+            file_bytes: FILE_BYTES_MAX,
+        }
+    }
+}

@@ -1,0 +1,111 @@
+ghost use Rattle.std.specs.Prelude.{◌≡◌, List, [], ◌∷◌, ◌++◌, length, OnOk, OnErr};
+
+use dg_graph::Element;
+use std::alloc::{AllocError, Global};
+use std::marker::Model;
+
+/// The answer to one command: a head line and the lines of its body. The line `end` follows them.
+#[derive(Drop)]
+pub struct Reply {
+    /// The first line.
+    pub head: Head,
+    /// The lines between the head and `end`.
+    pub body: BodyLines,
+}
+
+/// The first line of a reply.
+#[derive(Clone, Copy, Debug, PartialEq, Eq, Hash)]
+pub enum Head {
+    /// An index was made.
+    Created,
+    /// A batch was loaded: its events, the events of the history, and the last instant.
+    Loaded { events: u64, total: u64, last: u64 },
+    /// A batch was appended: its events, the events of the history, and the last instant.
+    Appended { events: u64, total: u64, last: u64 },
+    /// A graph was retrieved as this handle, by a plan of this weight.
+    At { handle: u32, weight: u64 },
+    /// The elements of a handle: as many lines follow.
+    List { handle: u32, lines: u64 },
+    /// The command was refused, and nothing has changed.
+    Refused(Refusal),
+}
+
+/// Why a command was refused. docs/SCRIPT.md has the order in which these are tested.
+#[derive(Clone, Copy, Debug, PartialEq, Eq, Hash)]
+pub enum Refusal {
+    /// 1: the line is no command; the column at which it leaves the grammar, from 1.
+    Syntax(u32),
+    /// 2: there is no index.
+    NoIndex,
+    /// 3: there is an index.
+    IndexExists,
+    /// 4: the leaf list size or the arity is outside its range.
+    Parameters,
+    /// 5: the input ended within the batch; the lines read and the lines asked for.
+    ShortBatch(u32, u32),
+    /// 6: a line of the batch is refused; the line, from 1, and the reason.
+    BadChange(u32, u8),
+    /// 7: the instant is not in the history; its first and last time, or none.
+    OutOfRange(Option<(u64, u64)>),
+    /// 8: the handle is not live.
+    UnknownHandle(u32),
+    /// 9: too many handles; those that live and those asked for.
+    PoolFull(u32, u32),
+    /// 12: the history has no room for the batch; the events held, and the events of the batch.
+    HistoryFull(u64, u64),
+    /// 13: the file has no room for the batch; the bytes that it would take, and the limit.
+    FileFull(u64, u64),
+    /// 16: want of memory.
+    OutOfMemory,
+    /// 18: the line has more than `LINE_BYTES_MAX` bytes.
+    LineLong,
+    /// 20: the history has an event already.
+    AlreadyLoaded,
+}
+
+/// A line of a reply's body.
+#[derive(Clone, Copy, Debug, PartialEq, Eq, Hash)]
+pub enum BodyLine {
+    /// An element of a listing.
+    Element(Element),
+}
+
+/// The lines of a body, seen as their list.
+#[derive(Drop)]
+pub struct BodyLines {
+    lines: Vec<BodyLine>,
+}
+
+impl Model for BodyLines {
+    ghost use Rattle.std.specs.Prelude.{List};
+    ghost use Rattle.dg_machine.specs.declared.reply.BodyLine.{BodyLine};
+
+    ghost Value = { List BodyLine };
+
+    ghost view = { λ b. b.lines.items };
+}
+
+impl BodyLines {
+    /// No line. It takes no memory.
+    pub fn new(alloc: Global) -> BodyLines
+        ensures { result ≡ [] }
+    {
+        BodyLines {
+            lines: Vec::new(alloc),
+        }
+    }
+
+    /// These lines. It takes no memory.
+    pub fn from_vec(lines: Vec<BodyLine>) -> BodyLines
+        ensures { result ≡ lines.items }
+    {
+        BodyLines { lines }
+    }
+
+    /// The lines, in order.
+    pub fn as_slice(&self) -> &[BodyLine]
+        ensures { result.now ≡ self.now }
+    {
+        self.lines.as_slice()
+    }
+}

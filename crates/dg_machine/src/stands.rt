@@ -1,0 +1,12 @@
+use dg_graph::Columns;
+
+/// What a live handle stands for.
+#[derive(Clone, Copy, Debug, PartialEq, Eq, Hash)]
+pub enum Stands {
+    /// The graph as of the instant `t`, in these columns. It rests on the handle `on`, if on any.
+    Overlay {
+        t: u64,
+        cols: Columns,
+        on: Option<u32>,
+    },
+}
