@@ -1,5 +1,6 @@
 pub mod Lines
 pub mod Words
+pub mod Verbs
 pub mod Names
 pub mod Elements
 pub mod Sets

@@ -12,10 +12,11 @@ pub use element::{Column, Columns, Element};
 pub use event::{
     Body, Change, Event, REASON_EDGE_EXISTS, REASON_EDGE_IN_USE, REASON_FORM, REASON_NO_ATTRIBUTE,
     REASON_NO_EDGE, REASON_NO_END, REASON_NO_NODE, REASON_NODE_EXISTS, REASON_NODE_IN_USE,
-    REASON_TIME, What,
+    REASON_TIME, What, reasons,
 };
 pub use function::Function;
 pub use limits::{
     BATCH_LINES_MAX, KEY_BYTES_MAX, LINE_BYTES_MAX, NAME_BYTES_MAX, NAMES_MAX, TIME_MAX,
+    graph_limits,
 };
 pub use placed::Placed;

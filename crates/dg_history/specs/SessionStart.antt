@@ -20,9 +20,9 @@ pub record Started : Type 0 where
   pub events : List Event
 
 -- the first result, and then what follows from it
-abbrev pub and_then : {A B : Type 0} → Result A StartFault → (A → Result B StartFault) → Result B StartFault
-and_then (Ok x) next = next x
-and_then (Err f) next = Err f
+abbrev pub and_start : {A B : Type 0} → Result A StartFault → (A → Result B StartFault) → Result B StartFault
+and_start (Ok x) next = next x
+and_start (Err f) next = Err f
 
 abbrev pub spelled_or : ℕ → Column → Result (List Placed) ℕ → Result (List Placed) StartFault
 spelled_or piece col (Ok placed) = Ok placed
@@ -40,16 +40,16 @@ merged_or piece None = Err (fault.BadRecord (key.Piece piece) column.Structure)
 -- not come together to the events of the batch
 abbrev pub events_in_piece : List ℕ → ℕ → ℕ → Segment → Result (List Event) StartFault
 events_in_piece image names piece s =
-    and_then (placed_in_piece image names piece s column.Structure) (λ a.
-    and_then (placed_in_piece image names piece s column.NodeAttr) (λ b.
-    and_then (placed_in_piece image names piece s column.EdgeAttr) (λ c. merged_or piece (merged a b c s.events))))
+    and_start (placed_in_piece image names piece s column.Structure) (λ a.
+    and_start (placed_in_piece image names piece s column.NodeAttr) (λ b.
+    and_start (placed_in_piece image names piece s column.EdgeAttr) (λ c. merged_or piece (merged a b c s.events))))
 
 -- the events of the pieces from this number on, each with its segment
 abbrev pub events_in_pieces : List ℕ → ℕ → ℕ → List Segment → Result (List (Segment × Event)) StartFault
 events_in_pieces image names piece [] = Ok []
 events_in_pieces image names piece (s ∷ segments) =
-    and_then (events_in_piece image names piece s) (λ events.
-    and_then (events_in_pieces image names (piece + 1) segments) (λ more. Ok (map (λ (e : Event). (s, e)) events ++ more)))
+    and_start (events_in_piece image names piece s) (λ events.
+    and_start (events_in_pieces image names (piece + 1) segments) (λ more. Ok (map (λ (e : Event). (s, e)) events ++ more)))
 
 -- the event is what some change comes to after the set, in the times of its segment
 abbrev pub is_right : List (List ℕ) → List Element → Segment × Event → Bool
@@ -66,7 +66,7 @@ right_or o events (Some n) = Err (fault.BadRecent n)
 
 abbrev pub started_from : List ℕ → Result Opened Unopened → Result (Option Started) StartFault
 started_from image (Ok o) =
-    and_then (events_in_pieces image (length o.names) 0 o.index.segments)
+    and_start (events_in_pieces image (length o.names) 0 o.index.segments)
     (λ events. right_or o events (first_wrong o.names 1 [] events))
 started_from image (Err No_index) = Ok None
 started_from image (Err Not_ours) = Err fault.Foreign

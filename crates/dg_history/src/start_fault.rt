@@ -1,5 +1,5 @@
-use dg_graph::Column;
 use crate::node::Key;
+use dg_graph::Column;
 
 /// Why an index file is not started from. docs/FORMATS.md says of each where it comes, in the order in
 /// which they are tested.

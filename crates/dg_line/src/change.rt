@@ -1,7 +1,7 @@
 ghost use Rattle.std.specs.Prelude.{◌≡◌, ◌+◌, ◌<◌, ◌≤◌, List, ℕ, None, Some, IfOk, IsErrOf, OnOk, OnErr, length, take, nat_lt, ◌==◌, ◌||◌};
 ghost use Rattle.std.specs.List.{list_all, list_any};
 ghost use Rattle.std.specs.Option.{option_map};
-ghost use Rattle.dg_history.specs.ChangeGrammar.{Asked_for, Plain, Said, asked_of, change_with, direction_of, id_of, named, new_edge, one_id, said_of, set_of, unset_of, what_in};
+ghost use Rattle.dg_history.specs.ChangeGrammar.{WhatByText, Plain, ChangeByText, what_by_text_of, change_with, direction_of, id_of, named, new_edge, one_id, change_by_text_of, set_of, unset_of, what_in};
 ghost use Rattle.dg_graph.specs.Names.{added, is_key, is_name, number_in};
 ghost use Rattle.dg_line.specs.Asked.{asked_for, said_by};
 
@@ -27,10 +27,10 @@ pub enum ChangeFault {
 /// needs none.
 pub fn read_change(line: &[u8], names: &mut Names) -> Result<Change, ChangeFault>
     requires room { length names.old + 2 ≤ NAMES_MAX }
-    ensures change { IfOk result (λ change. (said : Said) × (said_of line.now ≡ Some said) × (change ≡ change_with names.old said) × (names.new ≡ named names.old said.asked)) }
-    ensures form { IsErrOf result ChangeFault.Form → (said_of line.now ≡ None) × (names.new ≡ names.old) }
-    ensures memory { IsErrOf result ChangeFault.Memory → (said : Said) × (said_of line.now ≡ Some said) }
-    ensures new_name { IsErrOf result ChangeFault.Memory → (said : Said) → said_of line.now ≡ Some said → length names.old < length (named names.old said.asked) }
+    ensures change { IfOk result (λ change. (said : ChangeByText) × (change_by_text_of line.now ≡ Some said) × (change ≡ change_with names.old said) × (names.new ≡ named names.old said.asked)) }
+    ensures form { IsErrOf result ChangeFault.Form → (change_by_text_of line.now ≡ None) × (names.new ≡ names.old) }
+    ensures memory { IsErrOf result ChangeFault.Memory → (said : ChangeByText) × (change_by_text_of line.now ≡ Some said) }
+    ensures new_name { IsErrOf result ChangeFault.Memory → (said : ChangeByText) → change_by_text_of line.now ≡ Some said → length names.old < length (named names.old said.asked) }
     ensures kept { take (length names.old) names.new ≡ names.old }
     ensures few { length names.new ≤ length names.old + 2 }
 {
@@ -113,7 +113,7 @@ fn key_number(unsetting: Unsetting, names: &mut Names) -> Result<u32, AllocError
 
 // The line as a change with its texts, where it is in the grammar of changes.
 fn parse_line(line: &[u8]) -> Option<Line>
-    ensures { option_map said_by result ≡ said_of line.now }
+    ensures { option_map said_by result ≡ change_by_text_of line.now }
 {
     let mut words = Words::of(line);
     let time = number(words.next()?, 0, TIME_MAX)?;
@@ -123,7 +123,7 @@ fn parse_line(line: &[u8]) -> Option<Line>
 
 // What the words after the time ask for.
 fn parse_asked(mut words: Words) -> Option<Asked>
-    ensures { option_map asked_for result ≡ asked_of words.entry }
+    ensures { option_map asked_for result ≡ what_by_text_of words.entry }
 {
     let verb = words.next()?;
     if verb == b"+node".as_slice() {
@@ -178,7 +178,7 @@ fn new_edge(mut words: Words) -> Option<What>
 
 // `ID KEY VALUE`, where the value is the rest of the line.
 fn parse_setting(mut words: Words) -> Option<Setting>
-    ensures { (make : ℕ → List ℕ → List ℕ → Asked_for) → option_map (λ s. make s.id s.key.now s.value.now) result ≡ set_of make words.entry }
+    ensures { (make : ℕ → List ℕ → List ℕ → WhatByText) → option_map (λ s. make s.id s.key.now s.value.now) result ≡ set_of make words.entry }
 {
     let place = words.next()?;
     let key = words.next()?;
@@ -193,7 +193,7 @@ fn parse_setting(mut words: Words) -> Option<Setting>
 
 // `ID KEY`.
 fn parse_unsetting(mut words: Words) -> Option<Unsetting>
-    ensures { (make : ℕ → List ℕ → Asked_for) → option_map (λ u. make u.id u.key.now) result ≡ unset_of make words.entry }
+    ensures { (make : ℕ → List ℕ → WhatByText) → option_map (λ u. make u.id u.key.now) result ≡ unset_of make words.entry }
 {
     let place = words.next()?;
     let key = words.only()?;

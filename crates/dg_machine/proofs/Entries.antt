@@ -2,7 +2,7 @@
 use Rattle.std.proofs.Common.{◌≡◌, ℕ, zero, suc, ◌<◌, ◌≤◌, List, [], ◌∷◌, ◌++◌, Option, Some, None, length, take, drop, refl, sym, ◌∙◌, ap, arith, length-drop}
 use Rattle.std.specs.Option.{option_map}
 use Rattle.dg_machine.specs.declared.command.Command.{Command}
-use Rattle.dg_machine.specs.Answer.{following}
+use Rattle.dg_machine.specs.Needs.{following}
 use Rattle.dg_graph.specs.Lines.{ScriptLine}
 use Rattle.dg_machine.specs.Script.{Entry, Asked, Meaning, Skipped, Command_is, Other, meaning, first_entry, entries_within, entries_of, Follows}
 

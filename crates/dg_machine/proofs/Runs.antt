@@ -1,15 +1,17 @@
 -- A run, one step more at the end.
-use Rattle.std.proofs.Common.{ℕ, List, [], ◌∷◌, ◌++◌, refl, subst}
-use Rattle.dg_machine.specs.declared.reply.Reply.{Reply}
-use Rattle.dg_machine.specs.MachineState.{MachineState, names_in}
+use Rattle.std.proofs.Common.{◌≡◌, List, [], ◌∷◌, ◌++◌, refl}
+use Rattle.dg_machine.specs.Answer.{Answered}
+use Rattle.dg_machine.specs.MachineState.{MachineState}
 use Rattle.dg_machine.specs.Script.{Entry}
-use Rattle.dg_machine.specs.Run.{Run, Step}
-use Rattle.dg_machine.specs.ReplyText.{text}
+use Rattle.dg_machine.specs.Run.{Run, Step, last_of}
 
-pub run_more : (m mid new : MachineState) (entries : List Entry) (texts : List (List ℕ)) (e : Entry) (r : Reply)
-    → Run m entries texts mid → Step mid e r new → Run m (entries ++ e ∷ []) (texts ++ text (names_in new.index) r ∷ []) new
-run_more m mid new [] [] e r run step = (new, r, subst (λ (s : MachineState). Step s e r new) run step, refl, refl)
-run_more m mid new [] (x ∷ texts) e r run step = absurd run
-run_more m mid new (y ∷ entries) [] e r run step = absurd run
-run_more m mid new (y ∷ entries) (x ∷ texts) e r run step =
-    (run.0, run.1, run.2, run.3, run_more run.0 mid new entries texts e r run.4 step)
+pub run_more : (m : MachineState) (entries : List Entry) (answers : List Answered) (e : Entry) (a : Answered)
+    → Run m entries answers → Step (last_of m answers) e a.reply a.state → Run m (entries ++ e ∷ []) (answers ++ a ∷ [])
+run_more m [] [] e a run step = (step, tt)
+run_more m [] (b ∷ answers) e a run step = absurd run
+run_more m (y ∷ entries) [] e a run step = absurd run
+run_more m (y ∷ entries) (b ∷ answers) e a run step = (run.0, run_more b.state entries answers e a run.1 step)
+
+pub last_more : (m : MachineState) (answers : List Answered) (a : Answered) → last_of m (answers ++ a ∷ []) ≡ a.state
+last_more m [] a = refl
+last_more m (b ∷ answers) a = last_more b.state answers a

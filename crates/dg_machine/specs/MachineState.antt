@@ -2,13 +2,14 @@
 use Rattle.std.specs.Prelude.{ℕ, ◌≤◌, ◌==◌, List, [], ◌∷◌, Option, Some, None, if◌then◌else◌}
 use Rattle.dg_graph.specs.declared.element.Element.{Element}
 use Rattle.dg_graph.specs.declared.event.Event.{Event}
+use Rattle.dg_graph.specs.declared.function.Function.TheVariants.{Intersection}
 use Rattle.dg_machine.specs.declared.limits.Limits.{Limits}
 use Rattle.dg_history.specs.declared.limits.TheConstants.{EVENTS_MAX, FILE_BYTES_MAX}
 use Rattle.dg_machine.specs.declared.limits.TheConstants.{FIRST_HANDLE, SCRIPT_BYTES_MAX}
 use Rattle.dg_machine.specs.declared.stands.Stands.{Stands}
 use Rattle.dg_machine.specs.declared.stands.Stands.TheVariants.{Overlay}
 use Rattle.dg_graph.specs.Elements.{shown}
-use Rattle.dg_history.specs.History.{History, events_of, names_of}
+use Rattle.dg_history.specs.History.{History, empty_history, events_of, names_of}
 use Rattle.dg_graph.specs.Replay.{replay_at}
 
 -- The limits; an index or none, and its history; the live handles with what they stand for, in the
@@ -29,10 +30,15 @@ pub record IsWithin (limits : Limits) : Type 0 where
   pub events : limits.events ≤ EVENTS_MAX
   pub file : limits.file_bytes ≤ FILE_BYTES_MAX
 
+-- The history of the index. Without an index it has no event, and its parameters mean nothing.
+abbrev pub history_in : Option History → History
+history_in None = empty_history (record { l = 0; k = 0; function = Intersection })
+history_in (Some z) = z
+
 -- the events of the machine's history
-abbrev pub events_in : Option History → List Event
-events_in None = []
-events_in (Some z) = events_of z
+abbrev pub events_in_index : Option History → List Event
+events_in_index None = []
+events_in_index (Some z) = events_of z
 
 -- the names of the machine's history
 abbrev pub names_in : Option History → List (List ℕ)

@@ -2,7 +2,7 @@
 use Rattle.std.specs.Prelude.{◌≡◌, ℕ, zero, suc, ◌<◌, ◌≤◌, Bool, ◌==◌, ◌||◌, List, [], ◌∷◌, ◌++◌, Option, Some, None, IfSome, if◌then◌else◌, length, take, drop, slice_index}
 use Rattle.std.specs.Option.{option_map}
 use Rattle.dg_machine.specs.declared.command.Command.{Command}
-use Rattle.dg_machine.specs.Answer.{following}
+use Rattle.dg_machine.specs.Needs.{following}
 use Rattle.dg_machine.specs.CommandGrammar.{command_of}
 use Rattle.dg_graph.specs.Lines.{ScriptLine, Text, Long, lines_of}
 

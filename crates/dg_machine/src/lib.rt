@@ -8,6 +8,6 @@ mod reply;
 mod stands;
 
 pub use command::Command;
-pub use limits::{FIRST_HANDLE, LIVE_HANDLES_MAX, Limits, SCRIPT_BYTES_MAX};
+pub use limits::{FIRST_HANDLE, LIVE_HANDLES_MAX, Limits, SCRIPT_BYTES_MAX, machine_limits};
 pub use reply::{BodyLine, BodyLines, Head, Refusal, Reply};
 pub use stands::Stands;

@@ -1,4 +1,4 @@
-ghost use Rattle.std.specs.Prelude.{◌≡◌};
+ghost use Rattle.std.specs.Prelude.{◌≡◌, ◌^◌};
 ghost use Rattle.dg_history.specs.declared.limits.TheConstants.{EVENTS_MAX, FILE_BYTES_MAX};
 
 use dg_history::{EVENTS_MAX, FILE_BYTES_MAX};
@@ -35,3 +35,10 @@ impl Limits {
         }
     }
 }
+
+/// The limits as numbers: bytes of a script, handles that live, and the first of them. Does nothing.
+pub fn machine_limits()
+    ensures script { SCRIPT_BYTES_MAX ≡ 2 ^ 40 }
+    ensures live { LIVE_HANDLES_MAX ≡ 127 }
+    ensures first { FIRST_HANDLE ≡ 1 }
+{}

@@ -14,7 +14,7 @@ use Rattle.dg_machine.specs.declared.reply.Refusal.{Refusal}
 use Rattle.dg_machine.specs.declared.reply.Reply.{Reply}
 use Rattle.dg_machine.specs.Answer.{following, headed}
 use Rattle.dg_history.specs.Batch.{changes_after, names_after}
-use Rattle.dg_history.specs.ChangeGrammar.{said_in}
+use Rattle.dg_history.specs.ChangeGrammar.{change_by_text_in}
 use Rattle.dg_history.specs.History.{last_time_from}
 use Rattle.dg_graph.specs.Lines.{ScriptLine}
 use Rattle.dg_history.specs.OpenedIndex.{Opening}
@@ -93,9 +93,9 @@ was_gathered adding p count read known limit c front changes before after a =
     )
 
 -- as many changes as lines
-many_changes : (names : List (List ℕ)) (got : List ScriptLine) (changes : List Change) → changes_after names (map said_in got) ≡ lines changes → length changes ≡ length got
+many_changes : (names : List (List ℕ)) (got : List ScriptLine) (changes : List Change) → changes_after names (map change_by_text_in got) ≡ lines changes → length changes ≡ length got
 many_changes names got changes are =
-    sym (length-map changes (λ (c : Change). Some c)) ∙ ap length (sym are) ∙ changes_length names (map said_in got) ∙ length-map got said_in
+    sym (length-map changes (λ (c : Change). Some c)) ∙ ap length (sym are) ∙ changes_length names (map change_by_text_in got) ∙ length-map got change_by_text_in
 
 pub is_ready : (adding : Adding) (p : Parts) (count read known limit : ℕ) (c : Chronicle) (front : Front) (changes : List Change) (before after : Option (List ScriptLine))
     → IsAsked adding p count read known limit c front changes before after → IsSound p.index p.names c.now c.events.items
@@ -106,9 +106,9 @@ is_ready adding p count read known limit c front changes before after a sound =
     let kept : take (length p.names) c.names ≡ p.names = ap (λ (k : ℕ). take k c.names) (sym a.known_is) ∙ a.kept in
     let long : length p.names + length (drop known c.names) ≡ length c.names =
     ap (λ (ns : List (List ℕ)). length ns + length (drop known c.names)) (sym a.kept) ∙ sym (length-append (take known c.names) (drop known c.names)) ∙ ap length (take-append-drop known c.names) in
-    let are : front ≡ Whole → changes_after p.names (map said_in a.got) ≡ lines changes =
-    λ (whole : front ≡ Whole). subst (λ (x : Front). IsFront x changes (changes_after p.names (map said_in a.got))) whole a.gathers.changes_are in
-    let named : front ≡ Whole → c.names ≡ names_after p.names (map said_in a.got) =
+    let are : front ≡ Whole → changes_after p.names (map change_by_text_in a.got) ≡ lines changes =
+    λ (whole : front ≡ Whole). subst (λ (x : Front). IsFront x changes (changes_after p.names (map change_by_text_in a.got))) whole a.gathers.changes_are in
+    let named : front ≡ Whole → c.names ≡ names_after p.names (map change_by_text_in a.got) =
     λ (whole : front ≡ Whole). subst (λ (x : Front). AreNamed x p.names c.names a.got) whole a.gathers.names_are in
     here (index_opening c.index) f.index (λ o. IsReady o known c front changes) (sym a.index ∙ f.there)
     (record {

@@ -22,7 +22,7 @@ use Rattle.dg_history.specs.Batch.{changes_after, names_after}
 use Rattle.dg_graph.specs.CompletedChanges.{completed, on_value}
 use Rattle.dg_machine.specs.CutImage.{IsCut, As_before, As_after}
 use Rattle.dg_history.specs.FileOfHistory.{size}
-use Rattle.dg_history.specs.ChangeGrammar.{said_in}
+use Rattle.dg_history.specs.ChangeGrammar.{change_by_text_in}
 use Rattle.dg_history.specs.History.{History, Batch, earliest_next, events_of, last_time_from, names_of, span_of, with_batch}
 use Rattle.dg_history.specs.LegalHistory.{IsImageOf, IsLegal, StandsAs}
 use Rattle.dg_graph.specs.Lines.{ScriptLine}
@@ -98,19 +98,19 @@ is_of p o image m there s =
 
 -- what the lines come to, by the index, the names and the events of the session
 completed_is : (p : Parts) (o : Opening) (image : List ℕ) (m : MachineState) (z : History) (front : Front) (changes : List Change) (got : List ScriptLine) (due : Result (List Event) (ℕ × ℕ))
-    → IsOf p o image m z → IsFront front changes (changes_after p.names (map said_in got)) → ComeTo o p.events front changes due
-    → completed 1 (earliest_next (span_of (events_of z))) (replay (events_of z)) (changes_after (names_of z) (map said_in got)) ≡ due
+    → IsOf p o image m z → IsFront front changes (changes_after p.names (map change_by_text_in got)) → ComeTo o p.events front changes due
+    → completed 1 (earliest_next (span_of (events_of z))) (replay (events_of z)) (changes_after (names_of z) (map change_by_text_in got)) ≡ due
 completed_is p o image m z front changes got due h f come =
     let time : earliest_after 0 o.segments ≡ earliest_next (span_of (events_of z)) =
     ap (λ (x : Opening). earliest_after 0 x.segments) h.opened ∙ earliest_is z h.stands.legal in
-    ap (λ (t : ℕ). completed 1 t (replay (events_of z)) (changes_after (names_of z) (map said_in got))) (sym time)
-    ∙ ap (λ (es : List Event). completed 1 (earliest_after 0 o.segments) (replay es) (changes_after (names_of z) (map said_in got))) (sym h.events)
-    ∙ ap (λ (ns : List (List ℕ)). completed 1 (earliest_after 0 o.segments) (replay p.events) (changes_after ns (map said_in got))) (sym h.names)
-    ∙ come (changes_after p.names (map said_in got)) f
+    ap (λ (t : ℕ). completed 1 t (replay (events_of z)) (changes_after (names_of z) (map change_by_text_in got))) (sym time)
+    ∙ ap (λ (es : List Event). completed 1 (earliest_after 0 o.segments) (replay es) (changes_after (names_of z) (map change_by_text_in got))) (sym h.events)
+    ∙ ap (λ (ns : List (List ℕ)). completed 1 (earliest_after 0 o.segments) (replay p.events) (changes_after ns (map change_by_text_in got))) (sym h.names)
+    ∙ come (changes_after p.names (map change_by_text_in got)) f
 
 -- the batch of the lines, in the names with their texts
 abbrev batch_in : History → List ScriptLine → List Event → Batch
-batch_in z got events = record { names = drop (length (names_of z)) (names_after (names_of z) (map said_in got)); events = events }
+batch_in z got events = record { names = drop (length (names_of z)) (names_after (names_of z) (map change_by_text_in got)); events = events }
 
 answer_with : (adding : Adding) (p : Parts) (o : Opening) (image : List ℕ) (m : MachineState) (z : History) (count read : ℕ) (front : Front) (grown : List (List ℕ)) (changes : List Change) (got : List ScriptLine) (due : Result (List Event) (ℕ × ℕ))
     → WasGathered adding p o count read got front grown changes → StandsFor p image m → IsOf p o image m z → ComeTo o p.events front changes due
@@ -135,11 +135,11 @@ is_next : (adding : Adding) (p : Parts) (o : Opening) (image : List ℕ) (m : Ma
     → WasGathered adding p o count read got Whole grown changes → IsOf p o image m z → ComeTo o p.events Whole changes (Ok events)
     → IsNext z got changes grown events
 is_next adding p o image m z count read grown changes got events g h come =
-    let are : changes_after (names_of z) (map said_in got) ≡ lines changes =
-    ap (λ (ns : List (List ℕ)). changes_after ns (map said_in got)) (sym h.names) ∙ g.gathers.changes_are in
+    let are : changes_after (names_of z) (map change_by_text_in got) ≡ lines changes =
+    ap (λ (ns : List (List ℕ)). changes_after ns (map change_by_text_in got)) (sym h.names) ∙ g.gathers.changes_are in
     record {
       changes_are = are;
-      names_are = g.gathers.names_are ∙ ap (λ (ns : List (List ℕ)). names_after ns (map said_in got)) h.names;
+      names_are = g.gathers.names_are ∙ ap (λ (ns : List (List ℕ)). names_after ns (map change_by_text_in got)) h.names;
       comes = ap (completed 1 (earliest_next (span_of (events_of z))) (replay (events_of z))) (sym are)
           ∙ completed_is p o image m z Whole changes got (Ok events) h g.gathers.changes_are come;
       some = omega (arith, g.some, g.gathers.read_is);
@@ -276,7 +276,7 @@ add_cut measured adding p o before after count read known grown changes got even
 
 -- ---- what was gathered may be added
 
-pub may_name : (names grown : List (List ℕ)) (got : List ScriptLine) → grown ≡ names_after names (map said_in got) → length grown ≤ NAMES_MAX → take (length names) grown ≡ names → (known : ℕ) → known ≡ length names
+pub may_name : (names grown : List (List ℕ)) (got : List ScriptLine) → grown ≡ names_after names (map change_by_text_in got) → length grown ≤ NAMES_MAX → take (length names) grown ≡ names → (known : ℕ) → known ≡ length names
     → may_be_named (take known grown) (drop known grown) ≡ true
 may_name names grown got is few kept known known_is =
     let g : Grows names grown = grown_next names grown got is in
@@ -288,7 +288,7 @@ may_name names grown got is few kept known known_is =
     ∙ ap (λ (b : Bool). b && nat_le (length names + length new) NAMES_MAX) (grown_new names grown g)
     ∙ le-leb (length names + length new) NAMES_MAX (omega (arith, many, few))
 
-pub may_spell : (names grown : List (List ℕ)) (got : List ScriptLine) (changes : List Change) → changes_after names (map said_in got) ≡ lines changes → grown ≡ names_after names (map said_in got) → length grown ≤ NAMES_MAX
+pub may_spell : (names grown : List (List ℕ)) (got : List ScriptLine) (changes : List Change) → changes_after names (map change_by_text_in got) ≡ lines changes → grown ≡ names_after names (map change_by_text_in got) → length grown ≤ NAMES_MAX
     → All (λ (c : Change). WhatNamesFit c.what) changes
 may_spell names grown got changes are is few k d lt =
     let fit : All (λ c. IfSome c (ChangeFits grown)) (lines changes) = fitting_next names grown got changes are is in
@@ -298,7 +298,7 @@ may_spell names grown got changes are is few k d lt =
     at_place : IfSome (get_or (lines changes) k (Some d)) (ChangeFits grown) → ChangeFits grown (get_or changes k d)
     at_place h = subst (λ (o : Option Change). IfSome o (ChangeFits grown)) (get_or-map (λ (c : Change). Some c) changes k d) h
 
-pub may_time : (names grown : List (List ℕ)) (got : List ScriptLine) (changes : List Change) → changes_after names (map said_in got) ≡ lines changes → grown ≡ names_after names (map said_in got)
+pub may_time : (names grown : List (List ℕ)) (got : List ScriptLine) (changes : List Change) → changes_after names (map change_by_text_in got) ≡ lines changes → grown ≡ names_after names (map change_by_text_in got)
     → All (λ (c : Change). c.time ≤ TIME_MAX) changes
 may_time names grown got changes are is k d lt =
     let fit : All (λ c. IfSome c (ChangeFits grown)) (lines changes) = fitting_next names grown got changes are is in

@@ -20,7 +20,7 @@ use Rattle.dg_history.specs.Batch.{changes_after, names_after}
 use Rattle.dg_graph.specs.Completion.{has_node, is_edge, edge_of, needs_node, needs_edge, node_value, edge_value, is_node_value, is_edge_value, value_in, value_removal, edge_removal, complete, has_key}
 use Rattle.dg_graph.specs.Effect.{forwards, removed_by, added_by, moved}
 use Rattle.dg_graph.specs.Elements.{before, same, put, with_one, without}
-use Rattle.dg_history.specs.ChangeGrammar.{Asked_for, Plain, Sets_node, Unsets_node, Sets_edge, Unsets_edge, Said, named, change_with, what_in}
+use Rattle.dg_history.specs.ChangeGrammar.{WhatByText, Plain, Sets_node, Unsets_node, Sets_edge, Unsets_edge, ChangeByText, named, change_with, what_in}
 use Rattle.dg_history.specs.LegalHistory.{FitsBody}
 use Rattle.dg_graph.specs.Names.{added, is_key, is_name, name_text}
 use Rattle.dg_graph.specs.Replay.{replay_from}
@@ -246,7 +246,7 @@ events_keys names earliest set (Some c ∷ changes) (e ∷ events) h f =
 
 -- ---- what the lines of a batch ask for, by the numbers of its names
 
-asked_grows : (names : List (List ℕ)) (asked : Asked_for) → AskedFits asked → Grows names (named names asked)
+asked_grows : (names : List (List ℕ)) (asked : WhatByText) → AskedFits asked → Grows names (named names asked)
 asked_grows names (Plain w) f = grows_none names
 asked_grows names (Sets_node id key value) f =
     grows_both names (added names key) (added (added names key) value) (added_grows names key (key_is_name key f.1)) (added_grows (added names key) value f.2)
@@ -255,7 +255,7 @@ asked_grows names (Sets_edge id key value) f =
     grows_both names (added names key) (added (added names key) value) (added_grows names key (key_is_name key f.1)) (added_grows (added names key) value f.2)
 asked_grows names (Unsets_edge id key) f = added_grows names key (key_is_name key f.1)
 
-pub lines_grow : (names : List (List ℕ)) (lines : List (Option Said)) → All (λ s. IfSome s SaidFits) lines → Grows names (names_after names lines)
+pub lines_grow : (names : List (List ℕ)) (lines : List (Option ChangeByText)) → All (λ s. IfSome s SaidFits) lines → Grows names (names_after names lines)
 lines_grow names [] f = grows_none names
 lines_grow names (None ∷ lines) f = lines_grow names lines (All-tail (λ s. IfSome s SaidFits) None lines f)
 lines_grow names (Some s ∷ lines) f =
@@ -293,7 +293,7 @@ plain_key names (what.UnsetEdge id key) f = absurd f
 key_there : (names : List (List ℕ)) (key value : List ℕ) → is_name value ≡ true → Has (added (added names key) value) key
 key_there names key value f = has_more (added names key) (added (added names key) value) key (added_grows (added names key) value f) (added_has names key)
 
-asked_numbers : (names new : List (List ℕ)) (asked : Asked_for) → AskedFits asked → Grows (named names asked) new
+asked_numbers : (names new : List (List ℕ)) (asked : WhatByText) → AskedFits asked → Grows (named names asked) new
     → WhatFits (λ n. n < 2 ^ 64) (length new) (what_in (named names asked) asked)
 asked_numbers names new (Plain w) f g = plain_fits (length new) w f
 asked_numbers names new (Sets_node id key value) f g =
@@ -305,7 +305,7 @@ asked_numbers names new (Sets_edge id key value) f g =
     (f.0, number_within all new key g (key_there names key value f.2), number_within all new value g (added_has (added names key) value))
 asked_numbers names new (Unsets_edge id key) f g = (f.0, number_within (added names key) new key g (added_has names key))
 
-asked_key : (names new : List (List ℕ)) (asked : Asked_for) → AskedFits asked → Grows (named names asked) new → HasKey new (what_in (named names asked) asked)
+asked_key : (names new : List (List ℕ)) (asked : WhatByText) → AskedFits asked → Grows (named names asked) new → HasKey new (what_in (named names asked) asked)
 asked_key names new (Plain w) f g = plain_key new w f
 asked_key names new (Sets_node id key value) f g =
     ap is_key (text_is (added (added names key) value) new key g (key_there names key value f.2)) ∙ f.1
@@ -314,7 +314,7 @@ asked_key names new (Sets_edge id key value) f g =
     ap is_key (text_is (added (added names key) value) new key g (key_there names key value f.2)) ∙ f.1
 asked_key names new (Unsets_edge id key) f g = ap is_key (text_is (added names key) new key g (added_has names key)) ∙ f.1
 
-pub changes_fit : (names new : List (List ℕ)) (lines : List (Option Said)) → All (λ s. IfSome s SaidFits) lines → Grows (names_after names lines) new
+pub changes_fit : (names new : List (List ℕ)) (lines : List (Option ChangeByText)) → All (λ s. IfSome s SaidFits) lines → Grows (names_after names lines) new
     → All (λ c. IfSome c (ChangeFits new)) (changes_after names lines)
 changes_fit names new [] f g = All-nil (λ c. IfSome c (ChangeFits new))
 changes_fit names new (None ∷ lines) f g =

@@ -9,7 +9,7 @@ use Rattle.dg_io.specs.declared.lines.Line.TheVariants.{End}
 use Rattle.dg_io.specs.Reading.{Reading, Comes, LineComes}
 use Rattle.dg_graph.specs.declared.event.Change.{Change}
 use Rattle.dg_history.specs.Batch.{changes_after, names_after}
-use Rattle.dg_history.specs.ChangeGrammar.{Said, said_in, named, change_with}
+use Rattle.dg_history.specs.ChangeGrammar.{ChangeByText, change_by_text_in, named, change_with}
 use Rattle.dg_graph.specs.Lines.{ScriptLine}
 use Rattle.dg_machine.specs.Script.{Follows}
 use Rattle.dg_session.proofs.Naming.{names_both, changes_both}
@@ -45,7 +45,7 @@ advances_more r1 r2 r3 l1 l2 l3 f1 f2 f3 a b = record {
 
 -- the changes of these lines so far, and the names with their texts
 abbrev pub AreKept : Front → List (List ℕ) → List (List ℕ) → List ScriptLine → List Change → Type 0
-AreKept front names new got changes = IsFront front changes (changes_after names (map said_in got)) × AreNamed front names new got
+AreKept front names new got changes = IsFront front changes (changes_after names (map change_by_text_in got)) × AreNamed front names new got
 
 -- the lines so far: from the lines to come at the start to those to come now
 pub record Gathering (start now : Option (List ScriptLine)) (read : ℕ) (front : Front) (names new : List (List ℕ)) (changes : List Change) : Type 0 where
@@ -56,36 +56,36 @@ pub record Gathering (start now : Option (List ScriptLine)) (read : ℕ) (front 
 
 -- the changes and the names with one line more
 more_changes : (names : List (List ℕ)) (got : List ScriptLine) (line : ScriptLine)
-    → changes_after names (map said_in (got ++ line ∷ [])) ≡ changes_after names (map said_in got) ++ changes_after (names_after names (map said_in got)) (said_in line ∷ [])
+    → changes_after names (map change_by_text_in (got ++ line ∷ [])) ≡ changes_after names (map change_by_text_in got) ++ changes_after (names_after names (map change_by_text_in got)) (change_by_text_in line ∷ [])
 more_changes names got line =
-    ap (changes_after names) (map-append said_in got (line ∷ [])) ∙ changes_both names (map said_in got) (said_in line ∷ [])
+    ap (changes_after names) (map-append change_by_text_in got (line ∷ [])) ∙ changes_both names (map change_by_text_in got) (change_by_text_in line ∷ [])
 
 more_names : (names : List (List ℕ)) (got : List ScriptLine) (line : ScriptLine)
-    → names_after names (map said_in (got ++ line ∷ [])) ≡ names_after (names_after names (map said_in got)) (said_in line ∷ [])
+    → names_after names (map change_by_text_in (got ++ line ∷ [])) ≡ names_after (names_after names (map change_by_text_in got)) (change_by_text_in line ∷ [])
 more_names names got line =
-    ap (names_after names) (map-append said_in got (line ∷ [])) ∙ names_both names (map said_in got) (said_in line ∷ [])
+    ap (names_after names) (map-append change_by_text_in got (line ∷ [])) ∙ names_both names (map change_by_text_in got) (change_by_text_in line ∷ [])
 
 -- a line after those of which each was kept
 pub kept_more : (front : Front) (names now new : List (List ℕ)) (got : List ScriptLine) (line : ScriptLine) (changes then_changes : List Change)
-    → AreKept Whole names now got changes → KeepsChange front (said_in line) now new changes then_changes → AreKept front names new (got ++ line ∷ []) then_changes
+    → AreKept Whole names now got changes → KeepsChange front (change_by_text_in line) now new changes then_changes → AreKept front names new (got ++ line ∷ []) then_changes
 kept_more Whole names now new got line changes then_changes k h =
-    let said : Said = h.0 in
-    let one : changes_after now (said_in line ∷ []) ≡ Some (change_with now said) ∷ [] = ap (λ (s : Option Said). changes_after now (s ∷ [])) h.1 in
-    let name : names_after now (said_in line ∷ []) ≡ named now said.asked = ap (λ (s : Option Said). names_after now (s ∷ [])) h.1 in (
+    let said : ChangeByText = h.0 in
+    let one : changes_after now (change_by_text_in line ∷ []) ≡ Some (change_with now said) ∷ [] = ap (λ (s : Option ChangeByText). changes_after now (s ∷ [])) h.1 in
+    let name : names_after now (change_by_text_in line ∷ []) ≡ named now said.asked = ap (λ (s : Option ChangeByText). names_after now (s ∷ [])) h.1 in (
       more_changes names got line
-          ∙ ap (λ (cs : List (Option Change)). cs ++ changes_after (names_after names (map said_in got)) (said_in line ∷ [])) k.0
-          ∙ ap (λ (ns : List (List ℕ)). lines changes ++ changes_after ns (said_in line ∷ [])) (sym k.1)
+          ∙ ap (λ (cs : List (Option Change)). cs ++ changes_after (names_after names (map change_by_text_in got)) (change_by_text_in line ∷ [])) k.0
+          ∙ ap (λ (ns : List (List ℕ)). lines changes ++ changes_after ns (change_by_text_in line ∷ [])) (sym k.1)
           ∙ ap (λ (cs : List (Option Change)). lines changes ++ cs) one
           ∙ sym (ap lines h.2 ∙ map-append (λ (c : Change). Some c) changes (change_with now said ∷ [])),
-      h.3 ∙ sym (more_names names got line ∙ ap (λ (ns : List (List ℕ)). names_after ns (said_in line ∷ [])) (sym k.1) ∙ name),
+      h.3 ∙ sym (more_names names got line ∙ ap (λ (ns : List (List ℕ)). names_after ns (change_by_text_in line ∷ [])) (sym k.1) ∙ name),
     )
 kept_more Form names now new got line changes then_changes k h =
-    let one : changes_after now (said_in line ∷ []) ≡ None ∷ [] = ap (λ (s : Option Said). changes_after now (s ∷ [])) h.0 in (
+    let one : changes_after now (change_by_text_in line ∷ []) ≡ None ∷ [] = ap (λ (s : Option ChangeByText). changes_after now (s ∷ [])) h.0 in (
       (
         [],
         more_changes names got line
-            ∙ ap (λ (cs : List (Option Change)). cs ++ changes_after (names_after names (map said_in got)) (said_in line ∷ [])) k.0
-            ∙ ap (λ (ns : List (List ℕ)). lines changes ++ changes_after ns (said_in line ∷ [])) (sym k.1)
+            ∙ ap (λ (cs : List (Option Change)). cs ++ changes_after (names_after names (map change_by_text_in got)) (change_by_text_in line ∷ [])) k.0
+            ∙ ap (λ (ns : List (List ℕ)). lines changes ++ changes_after ns (change_by_text_in line ∷ [])) (sym k.1)
             ∙ ap (λ (cs : List (Option Change)). lines changes ++ cs) one
             ∙ ap (λ (cs : List Change). lines cs ++ None ∷ []) (sym h.1),
       ),
@@ -99,10 +99,10 @@ pub kept_on : (front : Front) (names now : List (List ℕ)) (got : List ScriptLi
 kept_on Whole names now got line changes other k = absurd (other refl)
 kept_on Form names now got line changes other k = (
   (
-    k.0.0 ++ changes_after (names_after names (map said_in got)) (said_in line ∷ []),
+    k.0.0 ++ changes_after (names_after names (map change_by_text_in got)) (change_by_text_in line ∷ []),
     more_changes names got line
-        ∙ ap (λ (cs : List (Option Change)). cs ++ changes_after (names_after names (map said_in got)) (said_in line ∷ [])) k.0.1
-        ∙ append_assoc (lines changes) (None ∷ k.0.0) (changes_after (names_after names (map said_in got)) (said_in line ∷ [])),
+        ∙ ap (λ (cs : List (Option Change)). cs ++ changes_after (names_after names (map change_by_text_in got)) (change_by_text_in line ∷ [])) k.0.1
+        ∙ append_assoc (lines changes) (None ∷ k.0.0) (changes_after (names_after names (map change_by_text_in got)) (change_by_text_in line ∷ [])),
   ),
   tt,
 )
@@ -142,7 +142,7 @@ kept_twice a b c h k =
 -- a line more, whose change is to be kept
 pub gathering_kept : (start now next : Option (List ScriptLine)) (read : ℕ) (front then_front : Front) (names new then_new : List (List ℕ)) (changes then_changes : List Change) (line : Line) (text held : List ℕ)
     → Gathering start now read front names new changes → front ≡ Whole → (line ≡ End → ⊥) → LineComes line now next held → text ≡ held
-    → KeepsChange then_front (said_in (script_line line text)) new then_new changes then_changes
+    → KeepsChange then_front (change_by_text_in (script_line line text)) new then_new changes then_changes
     → Gathering start next (read + 1) then_front names then_new then_changes
 gathering_kept start now next read front then_front names new then_new changes then_changes line text held g whole other comes same keeps =
     let w : Gathering start now read Whole names new changes = subst (λ (f : Front). Gathering start now read f names new changes) whole g in

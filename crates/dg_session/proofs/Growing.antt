@@ -14,7 +14,7 @@ use Rattle.dg_history.specs.declared.limits.TheConstants.{EVENTS_MAX}
 use Rattle.dg_graph.specs.CompletedChanges.{completed}
 use Rattle.dg_history.specs.Batch.{changes_after, names_after}
 use Rattle.dg_history.specs.FileOfHistory.{segment}
-use Rattle.dg_history.specs.ChangeGrammar.{said_in}
+use Rattle.dg_history.specs.ChangeGrammar.{change_by_text_in}
 use Rattle.dg_history.specs.History.{History, Batch, events_of, names_of, with_batch, span_of, earliest_next, last_time_from}
 use Rattle.dg_history.specs.LegalHistory.{FitsEvent, IsLegal, IsLegalBatch, AreLegalAfter}
 use Rattle.dg_graph.specs.Lines.{ScriptLine}
@@ -96,8 +96,8 @@ events_all names before (b ∷ batches) l =
 
 -- these lines come to these events as the next batch, and the names with theirs are these
 pub record IsNext (z : History) (got : List ScriptLine) (changes : List Change) (grown : List (List ℕ)) (events : List Event) : Type 0 where
-  pub changes_are : changes_after (names_of z) (map said_in got) ≡ lines changes
-  pub names_are : grown ≡ names_after (names_of z) (map said_in got)
+  pub changes_are : changes_after (names_of z) (map change_by_text_in got) ≡ lines changes
+  pub names_are : grown ≡ names_after (names_of z) (map change_by_text_in got)
   pub comes : completed 1 (earliest_next (span_of (events_of z))) (replay (events_of z)) (lines changes) ≡ Ok events
   pub some : 1 ≤ length got
   pub few : length got ≤ BATCH_LINES_MAX
@@ -107,16 +107,16 @@ pub record IsNext (z : History) (got : List ScriptLine) (changes : List Change) 
 abbrev pub batch_next : History → List (List ℕ) → List Event → Batch
 batch_next z grown events = record { names = drop (length (names_of z)) grown; events = events }
 
-pub grown_next : (names grown : List (List ℕ)) (got : List ScriptLine) → grown ≡ names_after names (map said_in got) → Grows names grown
-grown_next names grown got is = subst (λ (ns : List (List ℕ)). Grows names ns) (sym is) (lines_grow names (map said_in got) (lines_fit got))
+pub grown_next : (names grown : List (List ℕ)) (got : List ScriptLine) → grown ≡ names_after names (map change_by_text_in got) → Grows names grown
+grown_next names grown got is = subst (λ (ns : List (List ℕ)). Grows names ns) (sym is) (lines_grow names (map change_by_text_in got) (lines_fit got))
 
 pub fitting_next : (names grown : List (List ℕ)) (got : List ScriptLine) (changes : List Change)
-    → changes_after names (map said_in got) ≡ lines changes → grown ≡ names_after names (map said_in got)
+    → changes_after names (map change_by_text_in got) ≡ lines changes → grown ≡ names_after names (map change_by_text_in got)
     → All (λ c. IfSome c (ChangeFits grown)) (lines changes)
 fitting_next names grown got changes are is =
     subst (λ (cs : List (Option Change)). All (λ c. IfSome c (ChangeFits grown)) cs) are
-    (changes_fit names grown (map said_in got) (lines_fit got)
-    (subst (λ (ns : List (List ℕ)). Grows (names_after names (map said_in got)) ns) (sym is) (grows_none (names_after names (map said_in got)))))
+    (changes_fit names grown (map change_by_text_in got) (lines_fit got)
+    (subst (λ (ns : List (List ℕ)). Grows (names_after names (map change_by_text_in got)) ns) (sym is) (grows_none (names_after names (map change_by_text_in got)))))
 
 numbers_of : (names : List (List ℕ)) (c : Option Change) → IfSome c (ChangeFits names) → IfSome c (λ (x : Change). WhatFits (λ n. n < 2 ^ 64) (length names) x.what)
 numbers_of names None h = tt
@@ -135,7 +135,7 @@ pub many_next : (z : History) (got : List ScriptLine) (changes : List Change) (g
 many_next z got changes grown events n =
     as_many (earliest_next (span_of (events_of z))) (replay (events_of z)) (lines changes) events
     (all_come 1 (earliest_next (span_of (events_of z))) (replay (events_of z)) (lines changes) events n.comes)
-    ∙ ap length (sym n.changes_are) ∙ changes_length (names_of z) (map said_in got) ∙ length-map got said_in
+    ∙ ap length (sym n.changes_are) ∙ changes_length (names_of z) (map change_by_text_in got) ∙ length-map got change_by_text_in
 
 next_legal : (z : History) (got : List ScriptLine) (changes : List Change) (grown : List (List ℕ)) (events : List Event) → IsLegal z → IsNext z got changes grown events
     → IsLegalBatch grown (events_of z) (batch_next z grown events)

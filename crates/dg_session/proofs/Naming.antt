@@ -10,23 +10,23 @@ use borrow.Author.Tests.{le-leb, leb-true, eqb-true}
 use Rattle.dg_graph.specs.declared.event.Change.{Change}
 use Rattle.dg_graph.specs.declared.limits.TheConstants.{KEY_BYTES_MAX, NAME_BYTES_MAX}
 use Rattle.dg_history.specs.Batch.{changes_after, names_after}
-use Rattle.dg_history.specs.ChangeGrammar.{Said, named, change_with}
+use Rattle.dg_history.specs.ChangeGrammar.{ChangeByText, named, change_with}
 use Rattle.dg_graph.specs.Names.{number_of, added, number_in, number_or, name_text, is_name, is_key, are_new}
 use Rattle.dg_names.proofs.Numbers.{number_stands, no_number}
 
 -- ---- lines one after another
 
-pub names_both : (names : List (List ℕ)) (a b : List (Option Said)) → names_after names (a ++ b) ≡ names_after (names_after names a) b
+pub names_both : (names : List (List ℕ)) (a b : List (Option ChangeByText)) → names_after names (a ++ b) ≡ names_after (names_after names a) b
 names_both names [] b = refl
 names_both names (None ∷ a) b = names_both names a b
 names_both names (Some s ∷ a) b = names_both (named names s.asked) a b
 
-pub changes_both : (names : List (List ℕ)) (a b : List (Option Said)) → changes_after names (a ++ b) ≡ changes_after names a ++ changes_after (names_after names a) b
+pub changes_both : (names : List (List ℕ)) (a b : List (Option ChangeByText)) → changes_after names (a ++ b) ≡ changes_after names a ++ changes_after (names_after names a) b
 changes_both names [] b = refl
 changes_both names (None ∷ a) b = ap (λ (cs : List (Option Change)). None ∷ cs) (changes_both names a b)
 changes_both names (Some s ∷ a) b = ap (λ (cs : List (Option Change)). Some (change_with names s) ∷ cs) (changes_both (named names s.asked) a b)
 
-pub changes_length : (names : List (List ℕ)) (a : List (Option Said)) → length (changes_after names a) ≡ length a
+pub changes_length : (names : List (List ℕ)) (a : List (Option ChangeByText)) → length (changes_after names a) ≡ length a
 changes_length names [] = refl
 changes_length names (None ∷ a) = ap (λ n. suc n) (changes_length names a)
 changes_length names (Some s ∷ a) = ap (λ n. suc n) (changes_length (named names s.asked) a)

@@ -17,12 +17,12 @@ use Rattle.dg_graph.specs.Effect.{forwards}
 use Rattle.dg_history.specs.LegalHistory.{is_blank}
 use Rattle.dg_history.specs.OpenedIndex.{Segment, Opening, Opened, Tail, No_index, opening, opened_with, opened_by, params_in, segments_from}
 use Rattle.dg_graph.specs.Replay.{replay, replay_from}
-use Rattle.dg_history.specs.SessionStart.{Started, and_then, events_in_piece, events_in_pieces, first_wrong, right_or, started_from, start_of}
+use Rattle.dg_history.specs.SessionStart.{Started, and_start, events_in_piece, events_in_pieces, first_wrong, right_or, started_from, start_of}
 use Rattle.dg_session.specs.Started.{FirstWrong, Refuses, or_later, started_with}
 
 -- the pairs in front of those that come
 abbrev pub onto : List (Segment × Event) → Result (List (Segment × Event)) StartFault → Result (List (Segment × Event)) StartFault
-onto pairs r = and_then r (λ (more : List (Segment × Event)). Ok (pairs ++ more))
+onto pairs r = and_start r (λ (more : List (Segment × Event)). Ok (pairs ++ more))
 
 onto-none : (r : Result (List (Segment × Event)) StartFault) → r ≡ onto [] r
 onto-none (Ok more) = refl
@@ -64,7 +64,7 @@ untagged s (e ∷ events) = ap (λ es. e ∷ es) (untagged s events)
 -- the pieces from this one on
 abbrev and_more : List ℕ → List (List ℕ) → ℕ → List Segment → Segment → Result (List Event) StartFault → Result (List (Segment × Event)) StartFault
 and_more image names piece rest s r =
-    and_then r (λ events. and_then (events_in_pieces image (length names) (piece + 1) rest) (λ more. Ok (map (λ (e : Event). (s, e)) events ++ more)))
+    and_start r (λ events. and_start (events_in_pieces image (length names) (piece + 1) rest) (λ more. Ok (map (λ (e : Event). (s, e)) events ++ more)))
 
 pieces_here : (image : List ℕ) (names : List (List ℕ)) (segments : List Segment) (piece : ℕ) (s : Segment) → slice_get segments piece ≡ Some s
     → events_in_pieces image (length names) piece (drop piece segments) ≡ and_more image names piece (drop (piece + 1) segments) s (events_in_piece image (length names) piece s)
@@ -112,16 +112,16 @@ piece_untested image names segments piece s graph events more n so_far there rea
 }
 
 -- what is refused first is refused
-pub refused_first : {A B : Type 0} (f : StartFault) (r : Result A StartFault) (next : A → Result B StartFault) → Refuses f r → Refuses f (and_then r next)
+pub refused_first : {A B : Type 0} (f : StartFault) (r : Result A StartFault) (next : A → Result B StartFault) → Refuses f r → Refuses f (and_start r next)
 refused_first fault.Disk r next h = tt
-refused_first fault.Foreign r next h = ap (λ x. and_then x next) h
-refused_first (fault.Damaged place) r next h = ap (λ x. and_then x next) h
-refused_first (fault.BadRecord key col) r next h = ap (λ x. and_then x next) h
-refused_first (fault.BadRecent number) r next h = ap (λ x. and_then x next) h
+refused_first fault.Foreign r next h = ap (λ x. and_start x next) h
+refused_first (fault.Damaged place) r next h = ap (λ x. and_start x next) h
+refused_first (fault.BadRecord key col) r next h = ap (λ x. and_start x next) h
+refused_first (fault.BadRecent number) r next h = ap (λ x. and_start x next) h
 refused_first fault.Memory r next h = tt
 
 abbrev pub from_pieces : Opened → Result (List (Segment × Event)) StartFault → Result (Option Started) StartFault
-from_pieces o r = and_then r (λ events. right_or o events (first_wrong o.names 1 [] events))
+from_pieces o r = and_start r (λ events. right_or o events (first_wrong o.names 1 [] events))
 
 pub starts : (image : List ℕ) (names : List (List ℕ)) (o : Opening) → opening image ≡ Ok (record { index = o; names = names })
     → start_of image ≡ from_pieces (record { index = o; names = names }) (events_in_pieces image (length names) 0 o.segments)
@@ -135,7 +135,7 @@ piece_refused image names o piece s graph events wrong f opened so_far there bad
     let rest : List Segment = drop (piece + 1) o.segments in
     let here : Refuses f (and_more image names piece rest s (events_in_piece image (length names) piece s)) =
     refused_first f (events_in_piece image (length names) piece s)
-    (λ events. and_then (events_in_pieces image (length names) (piece + 1) rest) (λ more. Ok (map (λ (e : Event). (s, e)) events ++ more))) bad in
+    (λ events. and_start (events_in_pieces image (length names) (piece + 1) rest) (λ more. Ok (map (λ (e : Event). (s, e)) events ++ more))) bad in
     let all : Refuses f (onto so_far.pairs (and_more image names piece rest s (events_in_piece image (length names) piece s))) =
     refused_first f (and_more image names piece rest s (events_in_piece image (length names) piece s)) (λ (more : List (Segment × Event)). Ok (so_far.pairs ++ more)) here in
     let is : events_in_pieces image (length names) 0 o.segments ≡ onto so_far.pairs (and_more image names piece rest s (events_in_piece image (length names) piece s)) =

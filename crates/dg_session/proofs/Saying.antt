@@ -12,7 +12,7 @@ use Rattle.dg_machine.specs.declared.command.Command.TheVariants as command
 use Rattle.dg_graph.specs.declared.event.What.{What}
 use Rattle.dg_graph.specs.declared.event.What.TheVariants as what
 use Rattle.dg_graph.specs.declared.limits.TheConstants.{BATCH_LINES_MAX, TIME_MAX}
-use Rattle.dg_history.specs.ChangeGrammar.{Asked_for, Plain, Sets_node, Unsets_node, Sets_edge, Unsets_edge, Said, is_word, id_of, time_of, one_id, new_edge, key_of, value_of, set_of, unset_of, asked_of, said_of_words, said_in, direction_of}
+use Rattle.dg_history.specs.ChangeGrammar.{WhatByText, Plain, Sets_node, Unsets_node, Sets_edge, Unsets_edge, ChangeByText, is_word, id_of, time_of, one_id, new_edge, key_text_of, value_text_of, set_of, unset_of, what_by_text_of, change_by_text_of_words, change_by_text_in, direction_of}
 use Rattle.dg_machine.specs.CommandGrammar.{create_of, load_of, append_of, at_of, list_of, command_of_words, command_of, n32_of, function_of, columns_of, handle_of}
 use Rattle.dg_graph.specs.Lines.{ScriptLine, Text, Long}
 use Rattle.dg_graph.specs.Names.{is_key, is_name}
@@ -62,14 +62,14 @@ PlainFits (what.SetEdge id key value) = ⊥
 PlainFits (what.UnsetEdge id key) = ⊥
 
 -- so does what a line asks for; its key may be a key, and its value a name
-abbrev pub AskedFits : Asked_for → Type 0
+abbrev pub AskedFits : WhatByText → Type 0
 AskedFits (Plain w) = PlainFits w
 AskedFits (Sets_node id key value) = (id < 2 ^ 64) × (is_key key ≡ true) × (is_name value ≡ true)
 AskedFits (Unsets_node id key) = (id < 2 ^ 64) × (is_key key ≡ true)
 AskedFits (Sets_edge id key value) = (id < 2 ^ 64) × (is_key key ≡ true) × (is_name value ≡ true)
 AskedFits (Unsets_edge id key) = (id < 2 ^ 64) × (is_key key ≡ true)
 
-abbrev pub SaidFits : Said → Type 0
+abbrev pub SaidFits : ChangeByText → Type 0
 SaidFits said = (said.time ≤ TIME_MAX) × AskedFits said.asked
 
 id_fits : (word : List ℕ) → IfSome (id_of word) (λ n. n < 2 ^ 64)
@@ -79,14 +79,14 @@ id_fits word = weaker (id_of word) (number_fits 0 18446744073709551615 word)
     weaker None h = tt
     weaker (Some n) h = omega (arith, h.1)
 
-key_fits : (word : List ℕ) → IfSome (key_of word) (λ k. is_key k ≡ true)
+key_fits : (word : List ℕ) → IfSome (key_text_of word) (λ k. is_key k ≡ true)
 key_fits word = by (is_key word) refl
   where
     by : (b : Bool) → is_key word ≡ b → IfSome (if b then Some word else None) (λ k. is_key k ≡ true)
     by true e = e
     by false e = tt
 
-value_fits : (text : List ℕ) → IfSome (value_of text) (λ v. is_name v ≡ true)
+value_fits : (text : List ℕ) → IfSome (value_text_of text) (λ v. is_name v ≡ true)
 value_fits text = by (is_name text) refl
   where
     by : (b : Bool) → is_name text ≡ b → IfSome (if b then Some text else None) (λ v. is_name v ≡ true)
@@ -110,27 +110,27 @@ edge_fits (id ∷ src ∷ dst ∷ direction ∷ []) =
     (λ b fits_b. map_some (direction_of direction) (λ d. Plain (what.AddEdge n a b d)) (λ d. Unit {0}) AskedFits (any_some (direction_of direction)) (λ d u. (fits_n, fits_a, fits_b)))))
 edge_fits (id ∷ src ∷ dst ∷ direction ∷ x ∷ rest) = tt
 
-set_fits : (make : ℕ → List ℕ → List ℕ → Asked_for) (rest : List (List ℕ))
+set_fits : (make : ℕ → List ℕ → List ℕ → WhatByText) (rest : List (List ℕ))
     → ((n : ℕ) (k v : List ℕ) → n < 2 ^ 64 → is_key k ≡ true → is_name v ≡ true → AskedFits (make n k v)) → IfSome (set_of make rest) AskedFits
 set_fits make [] fits = tt
 set_fits make (id ∷ []) fits = tt
 set_fits make (id ∷ key ∷ []) fits = tt
 set_fits make (id ∷ key ∷ word ∷ more) fits =
-    and_some (id_of id) (λ n. option_and_then (λ k. option_map (λ v. make n k v) (value_of (join_with_byte 32 (word ∷ more)))) (key_of key)) (λ n. n < 2 ^ 64) AskedFits (id_fits id)
-    (λ n fits_n. and_some (key_of key) (λ k. option_map (λ v. make n k v) (value_of (join_with_byte 32 (word ∷ more)))) (λ k. is_key k ≡ true) AskedFits (key_fits key)
-    (λ k fits_k. map_some (value_of (join_with_byte 32 (word ∷ more))) (λ v. make n k v) (λ v. is_name v ≡ true) AskedFits (value_fits (join_with_byte 32 (word ∷ more)))
+    and_some (id_of id) (λ n. option_and_then (λ k. option_map (λ v. make n k v) (value_text_of (join_with_byte 32 (word ∷ more)))) (key_text_of key)) (λ n. n < 2 ^ 64) AskedFits (id_fits id)
+    (λ n fits_n. and_some (key_text_of key) (λ k. option_map (λ v. make n k v) (value_text_of (join_with_byte 32 (word ∷ more)))) (λ k. is_key k ≡ true) AskedFits (key_fits key)
+    (λ k fits_k. map_some (value_text_of (join_with_byte 32 (word ∷ more))) (λ v. make n k v) (λ v. is_name v ≡ true) AskedFits (value_fits (join_with_byte 32 (word ∷ more)))
     (λ v fits_v. fits n k v fits_n fits_k fits_v)))
 
-unset_fits : (make : ℕ → List ℕ → Asked_for) (rest : List (List ℕ))
+unset_fits : (make : ℕ → List ℕ → WhatByText) (rest : List (List ℕ))
     → ((n : ℕ) (k : List ℕ) → n < 2 ^ 64 → is_key k ≡ true → AskedFits (make n k)) → IfSome (unset_of make rest) AskedFits
 unset_fits make [] fits = tt
 unset_fits make (id ∷ []) fits = tt
 unset_fits make (id ∷ key ∷ []) fits =
-    and_some (id_of id) (λ n. option_map (λ k. make n k) (key_of key)) (λ n. n < 2 ^ 64) AskedFits (id_fits id)
-    (λ n fits_n. map_some (key_of key) (λ k. make n k) (λ k. is_key k ≡ true) AskedFits (key_fits key) (λ k fits_k. fits n k fits_n fits_k))
+    and_some (id_of id) (λ n. option_map (λ k. make n k) (key_text_of key)) (λ n. n < 2 ^ 64) AskedFits (id_fits id)
+    (λ n fits_n. map_some (key_text_of key) (λ k. make n k) (λ k. is_key k ≡ true) AskedFits (key_fits key) (λ k fits_k. fits n k fits_n fits_k))
 unset_fits make (id ∷ key ∷ x ∷ rest) fits = tt
 
-asked_fits : (rest : List (List ℕ)) → IfSome (asked_of rest) AskedFits
+asked_fits : (rest : List (List ℕ)) → IfSome (what_by_text_of rest) AskedFits
 asked_fits [] = tt
 asked_fits (verb ∷ rest) =
     either (is_word verb (codes "+node")) (one_id (λ n. what.AddNode n) rest) (if is_word verb (codes "-node") then one_id (λ n. what.RemoveNode n) rest else (if is_word verb (codes "+edge") then new_edge rest else (if is_word verb (codes "-edge") then one_id (λ n. what.RemoveEdge n) rest else (if is_word verb (codes "nset") then set_of (λ n k v. Sets_node n k v) rest else (if is_word verb (codes "ndel") then unset_of (λ n k. Unsets_node n k) rest else (if is_word verb (codes "eset") then set_of (λ n k v. Sets_edge n k v) rest else (if is_word verb (codes "edel") then unset_of (λ n k. Unsets_edge n k) rest else None))))))) AskedFits (one_fits (λ n. what.AddNode n) rest (λ n h. h))
@@ -142,19 +142,19 @@ asked_fits (verb ∷ rest) =
     (either (is_word verb (codes "eset")) (set_of (λ n k v. Sets_edge n k v) rest) (if is_word verb (codes "edel") then unset_of (λ n k. Unsets_edge n k) rest else None) AskedFits (set_fits (λ n k v. Sets_edge n k v) rest (λ n k v a b c. (a, b, c)))
     (either (is_word verb (codes "edel")) (unset_of (λ n k. Unsets_edge n k) rest) None AskedFits (unset_fits (λ n k. Unsets_edge n k) rest (λ n k a b. (a, b))) tt)))))))
 
-words_fit : (ws : List (List ℕ)) → IfSome (said_of_words ws) SaidFits
+words_fit : (ws : List (List ℕ)) → IfSome (change_by_text_of_words ws) SaidFits
 words_fit [] = tt
 words_fit (time ∷ rest) =
-    and_some (time_of time) (λ t. option_map (λ a. record { time = t; asked = a }) (asked_of rest)) (λ t. (0 ≤ t) × (t ≤ TIME_MAX)) SaidFits (number_fits 0 TIME_MAX time)
-    (λ t fits_t. map_some (asked_of rest) (λ a. let s : Said = record { time = t; asked = a } in s) AskedFits SaidFits (asked_fits rest) (λ a fits_a. (fits_t.1, fits_a)))
+    and_some (time_of time) (λ t. option_map (λ a. record { time = t; asked = a }) (what_by_text_of rest)) (λ t. (0 ≤ t) × (t ≤ TIME_MAX)) SaidFits (number_fits 0 TIME_MAX time)
+    (λ t fits_t. map_some (what_by_text_of rest) (λ a. let s : ChangeByText = record { time = t; asked = a } in s) AskedFits SaidFits (asked_fits rest) (λ a fits_a. (fits_t.1, fits_a)))
 
-line_fits : (line : ScriptLine) → IfSome (said_in line) SaidFits
+line_fits : (line : ScriptLine) → IfSome (change_by_text_in line) SaidFits
 line_fits (Text line) = words_fit (words line)
 line_fits Long = tt
 
-pub lines_fit : (got : List ScriptLine) → All (λ s. IfSome s SaidFits) (map said_in got)
+pub lines_fit : (got : List ScriptLine) → All (λ s. IfSome s SaidFits) (map change_by_text_in got)
 lines_fit [] = All-nil (λ s. IfSome s SaidFits)
-lines_fit (line ∷ got) = All-cons (λ s. IfSome s SaidFits) (said_in line) (map said_in got) (line_fits line) (lines_fit got)
+lines_fit (line ∷ got) = All-cons (λ s. IfSome s SaidFits) (change_by_text_in line) (map change_by_text_in got) (line_fits line) (lines_fit got)
 
 -- a load and an append ask for a number of lines in its range
 abbrev pub InRange : Command → Type 0

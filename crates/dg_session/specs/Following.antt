@@ -8,7 +8,7 @@ use Rattle.dg_io.specs.Told.{Gives}
 use Rattle.dg_io.specs.Reading.{Reading, EndsWith, to_come}
 use Rattle.dg_graph.specs.declared.event.Change.{Change}
 use Rattle.dg_history.specs.Batch.{changes_after, names_after}
-use Rattle.dg_history.specs.ChangeGrammar.{Said, said_in, named, change_with}
+use Rattle.dg_history.specs.ChangeGrammar.{ChangeByText, change_by_text_in, named, change_with}
 use Rattle.dg_graph.specs.Lines.{ScriptLine, Text, Long}
 use Rattle.dg_session.specs.declared.following.Front.{Front}
 use Rattle.dg_session.specs.declared.following.Front.TheVariants.{Whole, Form, Unkept}
@@ -42,9 +42,9 @@ lines changes = map (λ (c : Change). Some c) changes
 
 -- What a line says was kept behind the changes, and the names have its texts; or the line is no
 -- change. Where it is not kept, nothing is said.
-abbrev pub KeepsChange : Front → Option Said → List (List ℕ) → List (List ℕ) → List Change → List Change → Type 0
+abbrev pub KeepsChange : Front → Option ChangeByText → List (List ℕ) → List (List ℕ) → List Change → List Change → Type 0
 KeepsChange Whole due names new changes then_changes =
-    (said : Said) × (due ≡ Some said) × (then_changes ≡ changes ++ change_with names said ∷ []) × (new ≡ named names said.asked)
+    (said : ChangeByText) × (due ≡ Some said) × (then_changes ≡ changes ++ change_with names said ∷ []) × (new ≡ named names said.asked)
 KeepsChange Form due names new changes then_changes = (due ≡ None) × (then_changes ≡ changes)
 KeepsChange Unkept due names new changes then_changes = Unit {0}
 
@@ -56,12 +56,12 @@ IsFront Unkept changes all = Unit {0}
 
 -- where every line is a change, the names have all their texts
 abbrev pub AreNamed : Front → List (List ℕ) → List (List ℕ) → List ScriptLine → Type 0
-AreNamed Whole names new got = new ≡ names_after names (map said_in got)
+AreNamed Whole names new got = new ≡ names_after names (map change_by_text_in got)
 AreNamed Form names new got = Unit {0}
 AreNamed Unkept names new got = Unit {0}
 
 -- these lines were read: so many, their changes are kept so far, and the names have grown by them
 pub record Gathers (got : List ScriptLine) (read : ℕ) (front : Front) (names new : List (List ℕ)) (changes : List Change) : Type 0 where
   pub read_is : length got ≡ read
-  pub changes_are : IsFront front changes (changes_after names (map said_in got))
+  pub changes_are : IsFront front changes (changes_after names (map change_by_text_in got))
   pub names_are : AreNamed front names new got

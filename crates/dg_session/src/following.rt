@@ -2,7 +2,7 @@ ghost use Rattle.std.specs.Prelude.{◌≡◌, ◌≢◌, ◌+◌, ◌*◌, ◌�
 ghost use Rattle.dg_io.specs.Told.{Rose};
 ghost use Rattle.dg_io.specs.Reading.{told, LineComes, NeedsByte, to_come};
 ghost use Rattle.dg_graph.specs.declared.limits.TheConstants.{NAMES_MAX};
-ghost use Rattle.dg_history.specs.ChangeGrammar.{said_in};
+ghost use Rattle.dg_history.specs.ChangeGrammar.{change_by_text_in};
 ghost use Rattle.dg_graph.specs.Lines.{ScriptLine};
 ghost use Rattle.dg_machine.specs.Script.{Follows};
 ghost use Rattle.dg_session.specs.Following.{Advances, Gathers, KeepsChange, script_line};
@@ -73,7 +73,7 @@ fn is_end(line: Line) -> bool
 // how far they are kept then.
 fn keep_change(line: Line, text: &[u8], names: &mut Names, changes: &mut Vec<Change>) -> Front
     requires { length names.old + 2 ≤ NAMES_MAX }
-    ensures keeps { KeepsChange result (said_in (script_line line text.now)) names.old names.new changes.old.items changes.new.items }
+    ensures keeps { KeepsChange result (change_by_text_in (script_line line text.now)) names.old names.new changes.old.items changes.new.items }
     ensures kept { take (length names.old) names.new ≡ names.old }
     ensures few { length names.new ≤ length names.old + 2 }
     ensures one { vec_len changes.new ≤ vec_len changes.old + 1 }

@@ -1,0 +1,102 @@
+-- What each command needs, and the refusals that follow from it.
+use Rattle.std.specs.Prelude.{ℕ, ◌+◌, ◌*◌, Bool, true, false, ◌&&◌, ◌||◌, not, List, [], ◌∷◌, ◌++◌, Option, Some, None, length, nat_lt, is_some}
+use Rattle.std.specs.List.{list_any}
+use Rattle.dg_graph.specs.declared.limits.TheConstants.{NAMES_MAX}
+use Rattle.dg_graph.specs.Lines.{ScriptLine}
+use Rattle.dg_history.specs.History.{are_parameters, span_of, in_range}
+use Rattle.dg_machine.specs.declared.command.Command.{Command}
+use Rattle.dg_machine.specs.declared.command.Command.TheVariants as command
+use Rattle.dg_machine.specs.declared.limits.TheConstants.{LIVE_HANDLES_MAX}
+use Rattle.dg_machine.specs.declared.reply.Refusal.{Refusal}
+use Rattle.dg_machine.specs.declared.reply.Refusal.TheVariants as refusal
+use Rattle.dg_machine.specs.MachineState.{MachineState, events_in_index, names_in, entry_at}
+
+pub record Needs : Type 0 where
+  pub lines : Option ℕ  -- so many lines that follow it, where any may
+  pub index : Bool  -- an index
+  pub parameters : Option (ℕ × ℕ)  -- no index yet, and a leaf list size and an arity in their ranges
+  pub unloaded : Bool  -- no event yet
+  pub changes : ℕ  -- room for so many changes
+  pub instants : List ℕ  -- that these are in the history
+  pub handle : Option ℕ  -- that this one is live
+  pub handles : ℕ  -- so many new handles
+  pub memory : Bool  -- memory
+  pub writes : Bool  -- to write to the file
+
+abbrev pub nothing_more : Needs
+nothing_more = record {
+  lines = None;
+  index = false;
+  parameters = None;
+  unloaded = false;
+  changes = 0;
+  instants = [];
+  handle = None;
+  handles = 0;
+  memory = true;
+  writes = false;
+}
+
+-- a batch of so many lines
+abbrev pub batch_needs : ℕ → Needs
+batch_needs count = record nothing_more { lines = Some count; index = true; changes = count; writes = true }
+
+abbrev pub needs : Command → Needs
+needs (command.Create l k function) = record nothing_more { parameters = Some (l, k); writes = true }
+needs (command.Load count) = record (batch_needs count) { unloaded = true }
+needs (command.Append count) = batch_needs count
+needs (command.At t cols) = record nothing_more { index = true; instants = t ∷ []; handles = 1 }
+needs (command.List handle) = record nothing_more { handle = Some handle }
+
+abbrev pub or_none : Option ℕ → ℕ
+or_none None = 0
+or_none (Some n) = n
+
+-- the lines that follow a command
+abbrev pub following : Command → ℕ
+following c = or_none (needs c).lines
+
+-- lines follow commands of this kind
+abbrev pub is_followed : Command → Bool
+is_followed c = is_some (needs c).lines
+
+-- commands of this kind write to the file
+abbrev pub is_writing : Command → Bool
+is_writing c = (needs c).writes
+
+-- the refusal, where the test holds
+abbrev pub when : Bool → Refusal → List Refusal
+when true r = r ∷ []
+when false r = []
+
+-- what is refused of the value, where there is one
+abbrev pub of : {A : Type 0} → Option A → (A → List Refusal) → List Refusal
+of None f = []
+of (Some x) f = f x
+
+abbrev pub earliest : List Refusal → Option Refusal
+earliest [] = None
+earliest (r ∷ rest) = Some r
+
+-- so many more events, or the names that so many lines may bring, are too many
+abbrev pub is_full : MachineState → ℕ → Bool
+is_full m count =
+    nat_lt m.limits.events (length (events_in_index m.index) + count) || nat_lt NAMES_MAX (length (names_in m.index) + 2 * count)
+
+-- The refusals of a command that needs this and is followed by these lines, in the order in which they are
+-- tested. Refused lines of a batch, and a file that is full, come later.
+abbrev pub refusals : MachineState → List ScriptLine → Needs → List Refusal
+refusals m lines n =
+    of n.lines (λ count. when (nat_lt (length lines) count) (refusal.ShortBatch (length lines) count))
+    ++ (when (n.index && not (is_some m.index)) refusal.NoIndex
+    ++ (of n.parameters (λ p. when (is_some m.index) refusal.IndexExists)
+    ++ (of n.parameters (λ p. when (not (are_parameters p.0 p.1)) refusal.Parameters)
+    ++ (when (n.unloaded && is_some (span_of (events_in_index m.index))) refusal.AlreadyLoaded
+    ++ (when (nat_lt 0 n.changes && is_full m n.changes) (refusal.HistoryFull (length (events_in_index m.index)) n.changes)
+    ++ (when (list_any (λ t. not (in_range (span_of (events_in_index m.index)) t)) n.instants) (refusal.OutOfRange (span_of (events_in_index m.index)))
+    ++ (of n.handle (λ h. when (not (is_some (entry_at h m.table))) (refusal.UnknownHandle h))
+    ++ when (nat_lt 0 n.handles && nat_lt LIVE_HANDLES_MAX (length m.table + n.handles)) (refusal.PoolFull (length m.table) n.handles))))))))
+
+-- the first refusal that holds
+abbrev pub refused : MachineState → Command → List ScriptLine → Option Refusal
+refused m c lines = earliest (refusals m lines (needs c))
