@@ -5,8 +5,9 @@ use Rattle.dg_graph.specs.Elements.{IsSet, has}
 use Rattle.dg_graph.specs.Sets.{unioned, without_all}
 use Rattle.dg_graph.specs.Composition.{Delta, IsDelta, between, applied, Says, In, Out, As_it_was, says, and_then, composition, Composes}
 use Rattle.dg_graph.proofs.Sets.{same_members, has-unioned, has-without_all, IsSet-unioned, IsSet-without_all}
-use Rattle.dg_delta.specs.Deltas.{AreApart, composed, applied_in_turn, is_in_after}
-use Rattle.dg_delta.specs.Laws.{BetweenLeadsOn, ReversedLeadsBack, DecidesEachElement, AppliesOneAfterTheOther, AppliesEachInTurn, SayTheSameAreEqual, IsAssociative, CanBeCut}
+use Rattle.dg_set.specs.Apart.{AreApart}
+use Rattle.dg_delta.specs.Deltas.{composed, applied_in_turn, is_in_after}
+use Rattle.dg_delta.specs.DeltaLaws.{BetweenLeadsOn, ReversedLeadsBack, DecidesEachElement, AppliesOneAfterTheOther, AppliesEachInTurn, SayTheSameAreEqual, IsAssociative, CanBeCut}
 
 -- the word of a delta by whether plus and minus have the element
 abbrev pub word : Bool → Bool → Says
@@ -44,7 +45,7 @@ pub apart_between : (a b : List Element) → AreApart (without_all a b) (without
 apart_between a b x e =
     has-without_all b a x ∙ apart_without (has a x) (has b x) (sym (has-without_all a b x) ∙ e)
 
-apart_edited : (m p m2 p2 : Bool) → (m ≡ true → p ≡ false) → (m2 ≡ true → p2 ≡ false) → edited m p2 m2 ≡ true → edited p m2 p2 ≡ false
+pub apart_edited : (m p m2 p2 : Bool) → (m ≡ true → p ≡ false) → (m2 ≡ true → p2 ≡ false) → edited m p2 m2 ≡ true → edited p m2 p2 ≡ false
 apart_edited m p true true f g e = cc (g refl)
 apart_edited m true true false f g e = refl
 apart_edited m false true false f g e = refl

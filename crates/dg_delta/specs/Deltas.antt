@@ -1,13 +1,8 @@
 -- What the contracts of deltas say of their sets.
-use Rattle.std.specs.Prelude.{◌≡◌, Bool, true, false, List, [], ◌∷◌, ◌++◌}
+use Rattle.std.specs.Prelude.{Bool, true, false, List, [], ◌∷◌, ◌++◌}
 use Rattle.dg_graph.specs.declared.element.Element.{Element}
-use Rattle.dg_graph.specs.Elements.{has}
 use Rattle.dg_graph.specs.Sets.{unioned, without_all}
 use Rattle.dg_graph.specs.Composition.{Delta, Says, In, Out, As_it_was, applied}
-
--- no element is in both
-abbrev pub AreApart : List Element → List Element → Type 0
-AreApart a b = (x : Element) → has a x ≡ true → has b x ≡ false
 
 -- a delta and then a later one, as one: each set is the first delta's, without what the later delta
 -- names for the other set, and with what it names for this one

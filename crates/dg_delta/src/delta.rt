@@ -1,9 +1,9 @@
 ghost use Rattle.std.specs.Prelude.{◌≡◌, ◌↔◌, [], ◌∷◌, IfOk, IfSome, IsSome};
 ghost use Rattle.dg_graph.specs.Elements.{IsSet};
 ghost use Rattle.dg_graph.specs.Composition.{IsDelta, between, applied, reversed, Composes};
-ghost use Rattle.dg_delta.specs.Deltas.{AreApart, composed, joined};
+ghost use Rattle.dg_set.specs.Apart.{AreApart};
+ghost use Rattle.dg_delta.specs.Deltas.{composed, joined};
 
-use crate::apart::are_apart;
 use dg_set::Set;
 use std::alloc::{AllocError, Global};
 use std::marker::Model;
@@ -39,7 +39,7 @@ impl Delta {
         ensures exact { IsSome result ↔ AreApart minus plus }
         ensures sets { IfSome result (λ d. d ≡ record { minus = minus; plus = plus }) }
     {
-        if are_apart(minus.items(), plus.items()) {
+        if minus.is_disjoint(&plus) {
             Some(Delta::of(minus, plus))
         } else {
             None
@@ -82,8 +82,8 @@ impl Delta {
         Ok(Delta::of(minus, plus))
     }
 
-    /// The exact delta from `a` to `b`: it names no element that is in both or in neither. An `Err`
-    /// says that memory ran out.
+    /// The exact delta from `a` to `b`: it names no element that is in both or in neither. Its memory
+    /// comes from the allocator of `a`. An `Err` says that memory ran out.
     pub fn between(a: &Set, b: &Set) -> Result<Delta, AllocError>
         ensures { IfOk result (λ d. d ≡ between a.now b.now) }
     {

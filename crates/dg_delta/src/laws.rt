@@ -1,6 +1,6 @@
 //! The laws of deltas. Each function does nothing: its clause is the law, proved of the definitions.
 
-ghost use Rattle.dg_delta.specs.Laws.{
+ghost use Rattle.dg_delta.specs.DeltaLaws.{
   BetweenLeadsOn,
   ReversedLeadsBack,
   DecidesEachElement,

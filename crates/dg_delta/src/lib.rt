@@ -3,7 +3,6 @@
 //! linear merges. docs/MODEL.md has the definitions.
 #![tactic(auto)]
 
-mod apart;
 mod delta;
 mod laws;
 #[cfg(test)]

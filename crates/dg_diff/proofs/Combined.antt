@@ -2,14 +2,14 @@
 use Rattle.std.proofs.Common.{◌≡◌, ℕ, zero, suc, ◌+◌, ◌-◌, ◌<◌, Bool, true, false, cond, not, ◌||◌, ◌&&◌, List, [], ◌∷◌, ◌++◌, filter, length, take, drop, get_or, refl, sym, ap, ◌∙◌, arith}
 use Rattle.std.specs.List.{list_all, list_any}
 use Rattle.std.proofs.lemmas.List.{take_rest, get_or-drop}
-use Rattle.std.proofs.lemmas.List.Folds.{list_all_more, list_any_more}
+use Rattle.std.proofs.lemmas.List.Folds.{list_all_more}
 use Rattle.dg_graph.specs.declared.element.Element.{Element}
 use Rattle.dg_graph.specs.declared.function.Function.{Function}
 use Rattle.dg_graph.specs.declared.function.Function.TheVariants.{Intersection, Union, Balanced}
 use Rattle.dg_graph.specs.DifferentialFunction.{part, in_first, in_last, in_combined}
-use Rattle.dg_graph.specs.Elements.{same, has, put}
-use Rattle.dg_graph.specs.Sets.{unioned, met, without_all}
-use Rattle.dg_graph.proofs.Sets.{element_exact, has-put, has-filter, has-unioned, has-met, has-without_all}
+use Rattle.dg_graph.specs.Elements.{has}
+use Rattle.dg_graph.specs.Sets.{without_all}
+use Rattle.dg_graph.proofs.Sets.{has-filter, has-without_all}
 
 -- ---- one set
 
@@ -37,12 +37,11 @@ combined_one Balanced (first ∷ []) set x h at = ap (λ s. has s x) at ∙ eith
 
 -- the elements of the first i sets, and then of the set at i too
 pub met_more : (sets : List (List Element)) (i j : ℕ) (set all new : List Element) → i < length sets → j ≡ i + 1
-    → set ≡ get_or sets i set → new ≡ met all set
+    → set ≡ get_or sets i set → ((x : Element) → has new x ≡ (has all x && has set x))
     → ((x : Element) → has all x ≡ list_all (λ s. has s x) (take i sets))
     → (x : Element) → has new x ≡ list_all (λ s. has s x) (take j sets)
 met_more sets i j set all new h next at is before x =
-    ap (λ s. has s x) is
-    ∙ has-met all set x
+    is x
     ∙ (λ t. before x t && has (at t) x)
     ∙ sym (ap (λ n. list_all (λ s. has s x) (take n sets)) next ∙ list_all_more (λ s. has s x) sets i set h)
 
@@ -73,17 +72,16 @@ pick false true false = refl
 pick false false true = refl
 pick false false false = refl
 
-pub balanced : (first last stays gone come : List Element) (p : Bool) (x : Element)
-    → stays ≡ without_all first gone
+pub balanced : (first last gone come set : List Element) (p : Bool) (x : Element)
+    → has set x ≡ ((has first x && not (has gone x)) || has come x)
     → has gone x ≡ (has (without_all first last) x && p)
     → has come x ≡ (has (without_all last first) x && p)
-    → has (unioned stays come) x ≡ cond p (has last x) (has first x)
-balanced first last stays gone come p x s g e =
+    → has set x ≡ cond p (has last x) (has first x)
+balanced first last gone come set p x is g e =
     let goes = g ∙ ap (λ b. b && p) (has-without_all first last x) in
     let comes = e ∙ ap (λ b. b && p) (has-without_all last first x) in
-    let kept = ap (λ set. has set x) s ∙ has-without_all first gone x ∙ ap (λ b. has first x && not b) goes in
-    has-unioned stays come x
-    ∙ (λ t. kept t || comes t)
+    is
+    ∙ (λ t. (has first x && not (goes t)) || comes t)
     ∙ pick p (has first x) (has last x)
 
 in_first_is : (sets : List (List Element)) (set : List Element) (x : Element) → 0 < length sets
@@ -123,25 +121,26 @@ in_half set whole half is at x =
 
 -- ---- the union of several sets
 
-pub union_two : (sets : List (List Element)) (first second all : List Element) → length sets ≡ 2 → first ≡ get_or sets 0 first → second ≡ get_or sets 1 second → all ≡ unioned first second
+pub union_two : (sets : List (List Element)) (first second all : List Element) → length sets ≡ 2 → first ≡ get_or sets 0 first → second ≡ get_or sets 1 second → ((x : Element) → has all x ≡ (has first x || has second x))
     → (x : Element) → has all x ≡ list_any (λ s. has s x) sets
 union_two [] first second all n a b is x = absurd (omega arith)
 union_two (s ∷ []) first second all n a b is x = absurd (omega arith)
 union_two (s ∷ t ∷ []) first second all n a b is x =
-    ap (λ l. has l x) is ∙ has-unioned first second x ∙ (λ i. has (a i) x || or_false (has (b i) x) i)
+    is x ∙ (λ i. has (a i) x || or_false (has (b i) x) i)
 union_two (s ∷ t ∷ u ∷ sets) first second all n a b is x = absurd (omega arith)
 
 or_associates : (a b c : Bool) → ((a || b) || c) ≡ (a || (b || c))
 or_associates true b c = refl
 or_associates false b c = refl
 
-pub union_three : (sets : List (List Element)) (first second third two all : List Element) → length sets ≡ 3 → first ≡ get_or sets 0 first → second ≡ get_or sets 1 second → third ≡ get_or sets 2 third → two ≡ unioned first second → all ≡ unioned two third
+pub union_three : (sets : List (List Element)) (first second third two all : List Element) → length sets ≡ 3 → first ≡ get_or sets 0 first → second ≡ get_or sets 1 second → third ≡ get_or sets 2 third
+    → ((x : Element) → has two x ≡ (has first x || has second x)) → ((x : Element) → has all x ≡ (has two x || has third x))
     → (x : Element) → has all x ≡ list_any (λ s. has s x) sets
 union_three [] first second third two all n a b c is_two is x = absurd (omega arith)
 union_three (s ∷ []) first second third two all n a b c is_two is x = absurd (omega arith)
 union_three (s ∷ t ∷ []) first second third two all n a b c is_two is x = absurd (omega arith)
 union_three (s ∷ t ∷ u ∷ []) first second third two all n a b c is_two is x =
-    ap (λ l. has l x) is ∙ has-unioned two third x ∙ ap (λ l. has l x || has third x) is_two ∙ ap (λ b. b || has third x) (has-unioned first second x)
+    is x ∙ ap (λ b. b || has third x) (is_two x)
     ∙ or_associates (has first x) (has second x) (has third x)
     ∙ (λ i. has (a i) x || (has (b i) x || or_false (has (c i) x) i))
 union_three (s ∷ t ∷ u ∷ v ∷ sets) first second third two all n a b c is_two is x = absurd (omega arith)
@@ -151,8 +150,8 @@ any_cut x [] right = refl
 any_cut x (s ∷ left) right =
     or_associates (has s x) (list_any (λ s. has s x) left) (list_any (λ s. has s x) right) ∙ ap (λ b. has s x || b) (any_cut x left right)
 
-pub union_halves : (sets left right : List (List Element)) (first second all : List Element) → sets ≡ left ++ right → all ≡ unioned first second
+pub union_halves : (sets left right : List (List Element)) (first second all : List Element) → sets ≡ left ++ right → ((x : Element) → has all x ≡ (has first x || has second x))
     → ((x : Element) → has first x ≡ list_any (λ s. has s x) left) → ((x : Element) → has second x ≡ list_any (λ s. has s x) right)
     → (x : Element) → has all x ≡ list_any (λ s. has s x) sets
 union_halves sets left right first second all cut is a b x =
-    ap (λ l. has l x) is ∙ has-unioned first second x ∙ (λ i. a x i || b x i) ∙ any_cut x left right ∙ ap (list_any (λ s. has s x)) (sym cut)
+    is x ∙ (λ i. a x i || b x i) ∙ any_cut x left right ∙ ap (list_any (λ s. has s x)) (sym cut)

@@ -2,11 +2,11 @@
 //! its children. docs/MODEL.md has the definitions.
 #![tactic(auto)]
 
-mod hashing;
-mod interior;
+mod differential;
+mod hash;
 #[cfg(test)]
 mod tests;
 
 pub use dg_graph::Function;
-pub use hashing::part;
-pub use interior::combine;
+pub use differential::combine;
+pub use hash::part;

@@ -1,4 +1,4 @@
-pub mod Tearing
-pub mod Passing
-pub mod Watching
-pub mod Telling
+pub mod CrashTorn
+pub mod CrashLeavesOnly
+pub mod DeedsLemmas
+pub mod ImageTold

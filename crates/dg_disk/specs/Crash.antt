@@ -2,17 +2,17 @@
 -- a crash at that moment may leave.
 use Rattle.std.specs.Prelude.{◌≡◌, ◌⊎◌, ◌↔◌, ℕ, ◌+◌, ◌≤◌, List, length, take, drop, IfSome, Option}
 
--- The bytes after a write of len bytes at the place that a crash cut short: bytes before the range and
+-- The bytes after a write of len bytes at the offset that a crash cut short: bytes before the range and
 -- behind it are as they were, those in it may be any, and nothing is cut. So the bytes end anywhere from
 -- their old end to the later of this and the end of the range.
-pub record Torn (place len : ℕ) (old new : List ℕ) : Type 0 where
-  pub before : take place new ≡ take place old
-  pub behind : drop (place + len) new ≡ drop (place + len) old
+pub record Torn (offset len : ℕ) (old new : List ℕ) : Type 0 where
+  pub before : take offset new ≡ take offset old
+  pub behind : drop (offset + len) new ≡ drop (offset + len) old
   pub kept : length old ≤ length new
 
 -- what a crash may leave now is what it might have left before, with that write torn
 abbrev pub LeavesTorn : ℕ → ℕ → (List ℕ → Type 0) → (List ℕ → Type 0) → Type 0
-LeavesTorn place len old new = (c : List ℕ) → new c → (d : List ℕ) × old d × Torn place len d c
+LeavesTorn offset len old new = (c : List ℕ) → new c → (d : List ℕ) × old d × Torn offset len d c
 
 -- a crash may leave the same as before
 abbrev pub LeavesSame : (List ℕ → Type 0) → (List ℕ → Type 0) → Type 0

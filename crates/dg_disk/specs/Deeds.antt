@@ -4,21 +4,21 @@ use Rattle.dg_disk.specs.Crash.{Torn}
 use Rattle.dg_disk.specs.Image.{put_at}
 
 pub data Deed : Type 0 where
-  Wrote : (place : ℕ) → (piece : List ℕ) → Deed
+  Wrote : (offset : ℕ) → (piece : List ℕ) → Deed
   Synced : Deed
 
 -- a disk at one moment
 pub record Moment : Type 0 where
   pub image : List ℕ  -- the bytes as they read
   pub synced : List ℕ  -- the bytes at the last sync
-  pub ranges : List (ℕ × ℕ)  -- the place and length of each write since, the first of them first
+  pub ranges : List (ℕ × ℕ)  -- the offset and length of each write since, the first of them first
 
 -- all of these bytes are on the device
 abbrev pub settled : List ℕ → Moment
 settled bytes = record { image = bytes; synced = bytes; ranges = [] }
 
 abbrev pub after : Deed → Moment → Moment
-after (Wrote place piece) m = record { image = put_at place piece m.image; synced = m.synced; ranges = m.ranges ++ (place, length piece) ∷ [] }
+after (Wrote offset piece) m = record { image = put_at offset piece m.image; synced = m.synced; ranges = m.ranges ++ (offset, length piece) ∷ [] }
 after Synced m = settled m.image
 
 -- the moment after these deeds, the first of them first

@@ -5,7 +5,7 @@ use Rattle.dg_disk.specs.declared.memory.Entry.TheVariants as entry
 use Rattle.dg_disk.specs.Deeds.{Deed, Wrote, Synced}
 
 abbrev pub deed_of : Entry → Deed
-deed_of (entry.Write place piece) = Wrote place piece.items
+deed_of (entry.Write offset piece) = Wrote offset piece.items
 deed_of entry.Sync = Synced
 
 -- the deeds in the record, the first of them first

@@ -7,26 +7,26 @@ use Rattle.std.specs.Option.{option_map}
 abbrev pub IsLengthOf : Option (List ℕ) → ℕ → Type 0
 IsLengthOf image n = IfSome image (λ bytes. n ≡ length bytes)
 
--- the place is within the image or at its end, where the image is told
-abbrev pub HasPlace : Option (List ℕ) → ℕ → Type 0
-HasPlace image place = IfSome image (λ bytes. place ≤ length bytes)
+-- the offset is within the image or at its end, where the image is told
+abbrev pub HasOffset : Option (List ℕ) → ℕ → Type 0
+HasOffset image offset = IfSome image (λ bytes. offset ≤ length bytes)
 
--- so many bytes from the place on are within the image, where it is told
+-- so many bytes from the offset on are within the image, where it is told
 abbrev pub HasRange : Option (List ℕ) → ℕ → ℕ → Type 0
-HasRange image place len = IfSome image (λ bytes. place + len ≤ length bytes)
+HasRange image offset len = IfSome image (λ bytes. offset + len ≤ length bytes)
 
--- these are the bytes of the image from the place on, where it is told
+-- these are the bytes of the image from the offset on, where it is told
 abbrev pub IsRangeOf : Option (List ℕ) → ℕ → List ℕ → Type 0
-IsRangeOf image place range = IfSome image (λ bytes. range ≡ slice_range bytes place (place + length range))
+IsRangeOf image offset range = IfSome image (λ bytes. range ≡ slice_range bytes offset (offset + length range))
 
--- the bytes with the piece at the place: those before it and those behind it are as they were
+-- the bytes with the piece at the offset: those before it and those behind it are as they were
 abbrev pub put_at : ℕ → List ℕ → List ℕ → List ℕ
-put_at place piece bytes = take place bytes ++ piece ++ drop (place + length piece) bytes
+put_at offset piece bytes = take offset bytes ++ piece ++ drop (offset + length piece) bytes
 
--- the image with the piece at the place, where it is told
+-- the image with the piece at the offset, where it is told
 abbrev pub with_piece : ℕ → List ℕ → Option (List ℕ) → Option (List ℕ)
-with_piece place piece image = option_map (put_at place piece) image
+with_piece offset piece image = option_map (put_at offset piece) image
 
--- The image after a failed write of len bytes at the place: some bytes stand there, that many or fewer.
+-- The image after a failed write of len bytes at the offset: some bytes stand there, that many or fewer.
 abbrev pub WritesPart : ℕ → ℕ → Option (List ℕ) → Option (List ℕ) → Type 0
-WritesPart place len old new = (bytes : List ℕ) × (length bytes ≤ len) × (new ≡ with_piece place bytes old)
+WritesPart offset len old new = (bytes : List ℕ) × (length bytes ≤ len) × (new ≡ with_piece offset bytes old)

@@ -1,5 +1,5 @@
 -- What a disk in memory holds, which of its calls fail, and what a call leaves.
-use Rattle.std.specs.Prelude.{ℕ, ◌+◌, ◌≤◌, Bool, ◌||◌, ◌==◌, nat_lt, nat_le, List, [], ◌∷◌, ◌++◌, length, take}
+use Rattle.std.specs.Prelude.{ℕ, ◌+◌, ◌≤◌, Bool, ◌||◌, ◌==◌, if◌then◌else◌, nat_lt, nat_le, List, [], ◌∷◌, ◌++◌, length, take}
 use Rattle.std.specs.List.{list_any}
 use Rattle.std.proofs.Common.{inl, refl, subst, sym}
 use Rattle.std.proofs.Math.Nat.{le_refl}
@@ -16,6 +16,7 @@ pub record DiskState : Type 0 where
   pub made : ℕ  -- the calls so far
   pub faults : ℕ  -- the calls that failed
   pub write_faults : ℕ  -- the writes and syncs that failed
+  pub unrecorded : ℕ  -- those of them that failed since there was no memory to record them
   pub taken : ℕ  -- the bytes read
 
 -- the disk after so many of its deeds
@@ -50,9 +51,9 @@ is_due calls fails call = nat_le calls call || list_any (λ n. n == call) fails
 abbrev pub next_is_due : DiskState → Bool
 next_is_due s = is_due s.calls s.fails s.made
 
--- whether a write of so many bytes at the place fails: by its number, or since it reaches past the room
+-- whether a write of so many bytes at the offset fails: by its number, or since it reaches past the room
 abbrev pub write_fails : DiskState → ℕ → ℕ → Bool
-write_fails s place len = next_is_due s || nat_lt s.room (place + len)
+write_fails s offset len = next_is_due s || nat_lt s.room (offset + len)
 
 -- one call more
 abbrev pub called : DiskState → DiskState
@@ -65,6 +66,14 @@ call_failed s = record s { made = raised_by 1 s.made; faults = raised_by 1 s.fau
 -- one call more, a write or a sync, which failed
 abbrev pub write_failed : DiskState → DiskState
 write_failed s = record s { made = raised_by 1 s.made; faults = raised_by 1 s.faults; write_faults = raised_by 1 s.write_faults }
+
+-- one call more, a write or a sync, which failed for want of memory to record it
+abbrev pub not_recorded : DiskState → DiskState
+not_recorded s = record s { made = raised_by 1 s.made; faults = raised_by 1 s.faults; write_faults = raised_by 1 s.write_faults; unrecorded = raised_by 1 s.unrecorded }
+
+-- one call more, a write or a sync, which failed: as it was due, or else for want of memory to record it
+abbrev pub failed_where : Bool → DiskState → DiskState
+failed_where due s = if due then write_failed s else not_recorded s
 
 -- one call more, which read so many bytes
 abbrev pub read_done : ℕ → DiskState → DiskState

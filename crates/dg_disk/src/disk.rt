@@ -1,14 +1,18 @@
 ghost use Rattle.std.specs.Prelude.{◌≡◌, ◌≤◌, ℕ, List, length, IfOk, OnOk, OnErr, IfSome, Option};
 ghost use Rattle.dg_disk.specs.Counts.{Rose, raised_by};
 ghost use Rattle.dg_disk.specs.Crash.{IsSettled, LeavesNoMore, LeavesSame, LeavesTorn, Passes};
-ghost use Rattle.dg_disk.specs.Image.{HasPlace, HasRange, IsLengthOf, IsRangeOf, WritesPart, with_piece};
+ghost use Rattle.dg_disk.specs.Frame.{OnlyReads, OnlyWrites, ReadsAndSyncs};
+ghost use Rattle.dg_disk.specs.Image.{HasOffset, HasRange, IsLengthOf, IsRangeOf, WritesPart, with_piece};
+
+use thiserror::Error;
 
 /// The failure of one call of a disk. The disk's count of failures rose in that call.
-#[derive(Clone, Copy, Debug, PartialEq, Eq)]
+#[derive(Clone, Copy, Debug, PartialEq, Eq, Error)]
+#[error("a call of the disk failed")]
 pub struct Failed;
 
-/// A run of bytes that is read and written at any place, and that outlives the program once it is
-/// synced. It grows by writes, and no call cuts it. Places and lengths are in bytes.
+/// A run of bytes that is read and written at any offset, and that outlives the program once it is
+/// synced. It grows by writes, and no call cuts it. Offsets and lengths are in bytes.
 pub trait Disk {
     // The bytes as they read, where the disk tells them.
     ghost image: { Self → Option (List ℕ) };
@@ -34,52 +38,68 @@ pub trait Disk {
     /// The length of the image. `Failed` where the disk failed.
     fn len(&mut self) -> Result<u64, Failed>
         ensures len { IfOk result (λ n. IsLengthOf (image self.old) n) }
-        ensures same_image { image self.new ≡ image self.old }
-        ensures same_taken { taken self.new ≡ taken self.old }
+
+        // errors
         ensures cause { OnErr result (Rose (faults self.old) (faults self.new)) }
-        ensures counted { faults self.old ≤ faults self.new }
-        ensures same_write_faults { write_faults self.new ≡ write_faults self.old }
+
+        // frame
+        ensures frame { OnlyReads image faults write_faults self.old self.new }
+        ensures same_taken { taken self.new ≡ taken self.old }
+
+        // crashes
         ensures same_crash { LeavesSame (may_leave self.old) (may_leave self.new) }
         ensures time { Passes (moment self.old) (moment self.new) (left_since self.old) (left_since self.new) (may_leave self.new) };
 
-    /// Fills `into` with the image's bytes from the place on. `Failed` where the disk failed or has
-    /// too few bytes: then `into` may hold any bytes.
-    fn read_at(&mut self, place: u64, into: &mut [u8]) -> Result<(), Failed>
-        requires { HasRange (image self.old) place (length into.old) }
-        ensures read { OnOk result (IsRangeOf (image self.old) place into.new) }
-        ensures same_image { image self.new ≡ image self.old }
+    /// Fills `into` with the bytes of the image from the offset on. `Failed` where the disk failed or
+    /// has too few bytes: then `into` may hold any bytes.
+    fn read_at(&mut self, offset: u64, into: &mut [u8]) -> Result<(), Failed>
+        requires { HasRange (image self.old) offset (length into.old) }
+        ensures read { OnOk result (IsRangeOf (image self.old) offset into.new) }
         ensures taken { OnOk result (taken self.new ≡ raised_by (length into.new) (taken self.old)) }
-        ensures none_taken { OnErr result (taken self.new ≡ taken self.old) }
+
+        // errors
         ensures cause { OnErr result (Rose (faults self.old) (faults self.new)) }
-        ensures counted { faults self.old ≤ faults self.new }
-        ensures same_write_faults { write_faults self.new ≡ write_faults self.old }
+        ensures none_taken { OnErr result (taken self.new ≡ taken self.old) }
+
+        // frame
+        ensures frame { OnlyReads image faults write_faults self.old self.new }
+
+        // crashes
         ensures same_crash { LeavesSame (may_leave self.old) (may_leave self.new) }
         ensures time { Passes (moment self.old) (moment self.new) (left_since self.old) (left_since self.new) (may_leave self.new) };
 
-    /// Puts the piece at the place, over what is there and past the end. `Failed` where the disk
+    /// Puts the piece at the offset, over what is there and past the end. `Failed` where the disk
     /// failed: then the range may hold any bytes, and the image may have grown up to its end.
-    fn write_at(&mut self, place: u64, piece: &[u8]) -> Result<(), Failed>
-        requires { HasPlace (image self.old) place }
-        ensures written { OnOk result (image self.new ≡ with_piece place piece.now (image self.old)) }
-        ensures part { OnErr result (WritesPart place (length piece.now) (image self.old) (image self.new)) }
-        ensures same_taken { taken self.new ≡ taken self.old }
+    fn write_at(&mut self, offset: u64, piece: &[u8]) -> Result<(), Failed>
+        requires { HasOffset (image self.old) offset }
+        ensures written { OnOk result (image self.new ≡ with_piece offset piece.now (image self.old)) }
+
+        // errors
+        ensures part { OnErr result (WritesPart offset (length piece.now) (image self.old) (image self.new)) }
         ensures cause { OnErr result (Rose (faults self.old) (faults self.new)) }
-        ensures counted { faults self.old ≤ faults self.new }
         ensures write_cause { OnErr result (Rose (write_faults self.old) (write_faults self.new)) }
-        ensures write_counted { write_faults self.old ≤ write_faults self.new }
-        ensures crash { LeavesTorn place (length piece.now) (may_leave self.old) (may_leave self.new) }
+
+        // frame
+        ensures frame { OnlyWrites image faults write_faults taken self.old self.new }
+
+        // crashes
+        ensures crash { LeavesTorn offset (length piece.now) (may_leave self.old) (may_leave self.new) }
         ensures time { Passes (moment self.old) (moment self.new) (left_since self.old) (left_since self.new) (may_leave self.new) };
 
     /// Brings what was written to the device, so that it outlives a crash. `Failed` where the disk
     /// failed: then what was written since the last sync may be lost in a crash.
     fn sync(&mut self) -> Result<(), Failed>
-        ensures same_image { image self.new ≡ image self.old }
-        ensures same_taken { taken self.new ≡ taken self.old }
-        ensures cause { OnErr result (Rose (faults self.old) (faults self.new)) }
-        ensures counted { faults self.old ≤ faults self.new }
-        ensures write_cause { OnErr result (Rose (write_faults self.old) (write_faults self.new)) }
-        ensures write_counted { write_faults self.old ≤ write_faults self.new }
         ensures settled { OnOk result (IsSettled (image self.new) (may_leave self.new)) }
+
+        // errors
+        ensures cause { OnErr result (Rose (faults self.old) (faults self.new)) }
+        ensures write_cause { OnErr result (Rose (write_faults self.old) (write_faults self.new)) }
+
+        // frame
+        ensures frame { ReadsAndSyncs image faults write_faults self.old self.new }
+        ensures same_taken { taken self.new ≡ taken self.old }
+
+        // crashes
         ensures crash { LeavesNoMore (may_leave self.old) (may_leave self.new) }
         ensures time { Passes (moment self.old) (moment self.new) (left_since self.old) (left_since self.new) (may_leave self.new) };
 

@@ -88,8 +88,8 @@ impl<R: Files<File = File>> Disk for FileDisk<R> {
         }
     }
 
-    fn read_at(&mut self, place: u64, into: &mut [u8]) -> Result<(), Failed> {
-        match self.stored.read(place, into) {
+    fn read_at(&mut self, offset: u64, into: &mut [u8]) -> Result<(), Failed> {
+        match self.stored.read(offset, into) {
             Ok(()) => {
                 self.taken = self.taken.saturating_add(into.len() as u64);
                 Ok(())
@@ -98,8 +98,8 @@ impl<R: Files<File = File>> Disk for FileDisk<R> {
         }
     }
 
-    fn write_at(&mut self, place: u64, piece: &[u8]) -> Result<(), Failed> {
-        match self.stored.write(place, piece) {
+    fn write_at(&mut self, offset: u64, piece: &[u8]) -> Result<(), Failed> {
+        match self.stored.write(offset, piece) {
             Ok(()) => Ok(()),
             Err(_) => Err(self.fail_write()),
         }
@@ -151,13 +151,13 @@ impl<R: Files<File = File>> Stored<R> {
     }
 
     // Fills the slice. A file that ends before is an error.
-    fn read(&mut self, place: u64, into: &mut [u8]) -> io::Result<()> {
-        self.opened()?.read_exact_at(into, place)
+    fn read(&mut self, offset: u64, into: &mut [u8]) -> io::Result<()> {
+        self.opened()?.read_exact_at(into, offset)
     }
 
     // Writes the whole piece. A write that takes nothing of what is left is an error.
-    fn write(&mut self, place: u64, piece: &[u8]) -> io::Result<()> {
-        self.opened()?.write_all_at(piece, place)
+    fn write(&mut self, offset: u64, piece: &[u8]) -> io::Result<()> {
+        self.opened()?.write_all_at(piece, offset)
     }
 
     // Brings the file's bytes and length to the device. As long as it may be new it brings also all else

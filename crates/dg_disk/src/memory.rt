@@ -3,10 +3,11 @@ ghost use Rattle.std.specs.Result.{is_err};
 ghost use Rattle.std.specs.Vec.{vec_capacity};
 ghost use Rattle.dg_disk.specs.Counts.{Rose, raised_by};
 ghost use Rattle.dg_disk.specs.Crash.{IsSettled, LeavesNoMore, LeavesSame, LeavesTorn, Passes};
+ghost use Rattle.dg_disk.specs.Frame.{OnlyReads, OnlyWrites, ReadsAndSyncs};
 ghost use Rattle.dg_disk.specs.Deeds.{Synced, Wrote};
 ghost use Rattle.dg_disk.specs.Entries.{deed_of, deeds_of};
 ghost use Rattle.dg_disk.specs.Image.{IsRangeOf, WritesPart, put_at, with_piece};
-ghost use Rattle.dg_disk.specs.Memory.{LeftSince, MayLeave, call_failed, called, done, image_is_left, image_of, is_due, moment_of, next_is_due, present_alone, present_counts, read_done, write_failed, write_fails};
+ghost use Rattle.dg_disk.specs.Memory.{LeftSince, MayLeave, call_failed, called, done, image_is_left, failed_where, image_of, is_due, moment_of, next_is_due, present_alone, present_counts, read_done, write_fails};
 
 use crate::disk::{Disk, Failed};
 use std::alloc::{AllocError, Global};
@@ -20,17 +21,14 @@ struct Calls {
     made: u64,
     faults: u64,
     write_faults: u64,
+    unrecorded: u64,
 }
 
 impl Calls {
     // Counts one call more, and says whether it is one that fails.
     fn next_fails(&mut self) -> bool
         ensures value { result ≡ is_due self.old.most self.old.fails.items self.old.made }
-        ensures most { self.new.most ≡ self.old.most }
-        ensures fails { self.new.fails.items ≡ self.old.fails.items }
-        ensures made { self.new.made ≡ raised_by 1 self.old.made }
-        ensures faults { self.new.faults ≡ self.old.faults }
-        ensures write_faults { self.new.write_faults ≡ self.old.write_faults }
+        ensures made { self.new ≡ record self.old { made = raised_by 1 self.old.made } }
     {
         let fails = self.most as u64 <= self.made || self.fails.contains(&self.made);
         self.made = self.made.saturating_add(1);
@@ -39,11 +37,7 @@ impl Calls {
 
     // Counts a failure of a call that writes nothing.
     fn fail(&mut self) -> Failed
-        ensures most { self.new.most ≡ self.old.most }
-        ensures fails { self.new.fails.items ≡ self.old.fails.items }
-        ensures made { self.new.made ≡ self.old.made }
-        ensures faults { self.new.faults ≡ raised_by 1 self.old.faults }
-        ensures write_faults { self.new.write_faults ≡ self.old.write_faults }
+        ensures raised { self.new ≡ record self.old { faults = raised_by 1 self.old.faults } }
     {
         self.faults = self.faults.saturating_add(1);
         Failed
@@ -51,22 +45,25 @@ impl Calls {
 
     // Counts a failure of a write or a sync.
     fn fail_write(&mut self) -> Failed
-        ensures most { self.new.most ≡ self.old.most }
-        ensures fails { self.new.fails.items ≡ self.old.fails.items }
-        ensures made { self.new.made ≡ self.old.made }
-        ensures faults { self.new.faults ≡ raised_by 1 self.old.faults }
-        ensures write_faults { self.new.write_faults ≡ raised_by 1 self.old.write_faults }
+        ensures raised { self.new ≡ record self.old { faults = raised_by 1 self.old.faults; write_faults = raised_by 1 self.old.write_faults } }
     {
-        self.faults = self.faults.saturating_add(1);
         self.write_faults = self.write_faults.saturating_add(1);
-        Failed
+        self.fail()
+    }
+
+    // Counts a failure of a write or a sync for want of memory to record it.
+    fn fail_to_record(&mut self) -> Failed
+        ensures raised { self.new ≡ record self.old { faults = raised_by 1 self.old.faults; write_faults = raised_by 1 self.old.write_faults; unrecorded = raised_by 1 self.old.unrecorded } }
+    {
+        self.unrecorded = self.unrecorded.saturating_add(1);
+        self.fail_write()
     }
 }
 
 // One entry of the record of what was done to a disk in memory.
 #[derive(Drop)]
 enum Entry {
-    Write { place: u64, piece: Vec<u8> },
+    Write { offset: u64, piece: Vec<u8> },
     Sync,
 }
 
@@ -93,7 +90,7 @@ impl Model for MemoryDisk {
     ghost use Rattle.dg_disk.specs.Deeds.{after_all, settled};
     ghost use Rattle.dg_disk.specs.Entries.{deeds_of};
 
-    ghost view = { λ d. record { first = d.first.items; deeds = deeds_of d.log.items; room = d.room; calls = d.calls.most; fails = d.calls.fails.items; made = d.calls.made; faults = d.calls.faults; write_faults = d.calls.write_faults; taken = d.taken } };
+    ghost view = { λ d. record { first = d.first.items; deeds = deeds_of d.log.items; room = d.room; calls = d.calls.most; fails = d.calls.fails.items; made = d.calls.made; faults = d.calls.faults; write_faults = d.calls.write_faults; unrecorded = d.calls.unrecorded; taken = d.taken } };
 
     ghost invariant = { λ d. (d.bytes.items ≡ (after_all (deeds_of d.log.items) (settled d.first.items)).image) × (d.room ≤ vec_capacity d.bytes) };
 }
@@ -110,7 +107,7 @@ impl MemoryDisk {
         calls: usize,
         fails: &[u64],
     ) -> Result<MemoryDisk, AllocError>
-        ensures { IfOk result (λ d. d ≡ record { first = image.now; deeds = []; room = room; calls = calls; fails = fails.now; made = 0; faults = 0; write_faults = 0; taken = 0 }) }
+        ensures { IfOk result (λ d. d ≡ record { first = image.now; deeds = []; room = room; calls = calls; fails = fails.now; made = 0; faults = 0; write_faults = 0; unrecorded = 0; taken = 0 }) }
     {
         let mut bytes = Vec::with_capacity(alloc, room.max(image.len()))?;
         bytes.extend_from_slice(image)?;
@@ -126,6 +123,7 @@ impl MemoryDisk {
                 made: 0,
                 faults: 0,
                 write_faults: 0,
+                unrecorded: 0,
             },
             taken: 0,
         })
@@ -143,6 +141,14 @@ impl MemoryDisk {
         ensures { result ≡ self.now.taken }
     {
         self.taken
+    }
+
+    /// How many writes and syncs failed for want of memory to record them, and for nothing else. The
+    /// count stays at the last value of a u64.
+    pub fn unrecorded(&self) -> u64
+        ensures { result ≡ self.now.unrecorded }
+    {
+        self.calls.unrecorded
     }
 }
 
@@ -163,16 +169,20 @@ impl Disk for MemoryDisk {
 
     fn len(&mut self) -> Result<u64, Failed>
         ensures len { IfOk result (λ n. n ≡ length (image_of self.old)) }
-        ensures same_image { Some (image_of self.new) ≡ Some (image_of self.old) }
-        ensures same_taken { self.new.taken ≡ self.old.taken }
+        ensures done { OnOk result (self.new ≡ called self.old) }
+
+        // errors
+        ensures fails { is_err result ≡ next_is_due self.old }
+        ensures failed { OnErr result (self.new ≡ call_failed self.old) }
         ensures cause { OnErr result (Rose self.old.faults self.new.faults) }
-        ensures counted { self.old.faults ≤ self.new.faults }
-        ensures same_write_faults { self.new.write_faults ≡ self.old.write_faults }
+
+        // frame
+        ensures frame { OnlyReads (λ d. Some (image_of d)) (λ d. d.faults) (λ d. d.write_faults) self.old self.new }
+        ensures same_taken { self.new.taken ≡ self.old.taken }
+
+        // crashes
         ensures same_crash { LeavesSame (MayLeave self.old) (MayLeave self.new) }
         ensures time { Passes (moment_of self.old) (moment_of self.new) (LeftSince self.old) (LeftSince self.new) (MayLeave self.new) }
-        ensures fails { is_err result ≡ next_is_due self.old }
-        ensures done { OnOk result (self.new ≡ called self.old) }
-        ensures failed { OnErr result (self.new ≡ call_failed self.old) }
     {
         if self.calls.next_fails() {
             return Err(self.calls.fail());
@@ -180,81 +190,93 @@ impl Disk for MemoryDisk {
         Ok(self.bytes.len() as u64)
     }
 
-    fn read_at(&mut self, place: u64, into: &mut [u8]) -> Result<(), Failed>
-        requires { place + length into.old ≤ length (image_of self.old) }
-        ensures read { OnOk result (IsRangeOf (Some (image_of self.old)) place into.new) }
-        ensures same_image { Some (image_of self.new) ≡ Some (image_of self.old) }
+    fn read_at(&mut self, offset: u64, into: &mut [u8]) -> Result<(), Failed>
+        requires { offset + length into.old ≤ length (image_of self.old) }
+        ensures read { OnOk result (IsRangeOf (Some (image_of self.old)) offset into.new) }
         ensures taken { OnOk result (self.new.taken ≡ raised_by (length into.new) self.old.taken) }
-        ensures none_taken { OnErr result (self.new.taken ≡ self.old.taken) }
+        ensures done { OnOk result (self.new ≡ read_done (length into.new) self.old) }
+
+        // errors
+        ensures fails { is_err result ≡ next_is_due self.old }
+        ensures failed { OnErr result (self.new ≡ call_failed self.old) }
         ensures cause { OnErr result (Rose self.old.faults self.new.faults) }
-        ensures counted { self.old.faults ≤ self.new.faults }
-        ensures same_write_faults { self.new.write_faults ≡ self.old.write_faults }
+        ensures none_taken { OnErr result (self.new.taken ≡ self.old.taken) }
+
+        // frame
+        ensures frame { OnlyReads (λ d. Some (image_of d)) (λ d. d.faults) (λ d. d.write_faults) self.old self.new }
+
+        // crashes
         ensures same_crash { LeavesSame (MayLeave self.old) (MayLeave self.new) }
         ensures time { Passes (moment_of self.old) (moment_of self.new) (LeftSince self.old) (LeftSince self.new) (MayLeave self.new) }
-        ensures fails { is_err result ≡ next_is_due self.old }
-        ensures done { OnOk result (self.new ≡ read_done (length into.new) self.old) }
-        ensures failed { OnErr result (self.new ≡ call_failed self.old) }
     {
         if self.calls.next_fails() {
             return Err(self.calls.fail());
         }
-        let start = place as usize;
+        let start = offset as usize;
         into.copy_from_slice(&self.bytes[start..start + into.len()]);
         self.taken = self.taken.saturating_add(into.len() as u64);
         Ok(())
     }
 
-    fn write_at(&mut self, place: u64, piece: &[u8]) -> Result<(), Failed>
-        requires { place ≤ length (image_of self.old) }
-        ensures written { OnOk result (Some (image_of self.new) ≡ with_piece place piece.now (Some (image_of self.old))) }
-        ensures part { OnErr result (WritesPart place (length piece.now) (Some (image_of self.old)) (Some (image_of self.new))) }
-        ensures same_taken { self.new.taken ≡ self.old.taken }
+    fn write_at(&mut self, offset: u64, piece: &[u8]) -> Result<(), Failed>
+        requires { offset ≤ length (image_of self.old) }
+        ensures written { OnOk result (Some (image_of self.new) ≡ with_piece offset piece.now (Some (image_of self.old))) }
+        ensures done { OnOk result (self.new ≡ done (Wrote offset piece.now) self.old) }
+
+        // errors
+        ensures fails { IsTrue (write_fails self.old offset (length piece.now)) → IsErr result }
+        ensures failed { OnErr result (self.new ≡ failed_where (write_fails self.old offset (length piece.now)) self.old) }
+        ensures part { OnErr result (WritesPart offset (length piece.now) (Some (image_of self.old)) (Some (image_of self.new))) }
         ensures cause { OnErr result (Rose self.old.faults self.new.faults) }
-        ensures counted { self.old.faults ≤ self.new.faults }
         ensures write_cause { OnErr result (Rose self.old.write_faults self.new.write_faults) }
-        ensures write_counted { self.old.write_faults ≤ self.new.write_faults }
-        ensures crash { LeavesTorn place (length piece.now) (MayLeave self.old) (MayLeave self.new) }
+
+        // frame
+        ensures frame { OnlyWrites (λ d. Some (image_of d)) (λ d. d.faults) (λ d. d.write_faults) (λ d. d.taken) self.old self.new }
+
+        // crashes
+        ensures crash { LeavesTorn offset (length piece.now) (MayLeave self.old) (MayLeave self.new) }
         ensures time { Passes (moment_of self.old) (moment_of self.new) (LeftSince self.old) (LeftSince self.new) (MayLeave self.new) }
-        ensures fails { IsTrue (write_fails self.old place (length piece.now)) → IsErr result }
-        ensures done { OnOk result (self.new ≡ done (Wrote place piece.now) self.old) }
-        ensures failed { OnErr result (self.new ≡ write_failed self.old) }
     {
         if self.calls.next_fails() {
             return Err(self.calls.fail_write());
         }
-        let start = place as usize;
+        let start = offset as usize;
         if start + piece.len() > self.room {
             return Err(self.calls.fail_write());
         }
-        match note_write(self.alloc, &mut self.log, place, piece) {
+        match note_write(self.alloc, &mut self.log, offset, piece) {
             Ok(()) => {
                 put_piece(&mut self.bytes, start, piece);
                 Ok(())
             }
-            Err(_) => Err(self.calls.fail_write()),
+            Err(_) => Err(self.calls.fail_to_record()),
         }
     }
 
     fn sync(&mut self) -> Result<(), Failed>
-        ensures same_image { Some (image_of self.new) ≡ Some (image_of self.old) }
-        ensures same_taken { self.new.taken ≡ self.old.taken }
-        ensures cause { OnErr result (Rose self.old.faults self.new.faults) }
-        ensures counted { self.old.faults ≤ self.new.faults }
-        ensures write_cause { OnErr result (Rose self.old.write_faults self.new.write_faults) }
-        ensures write_counted { self.old.write_faults ≤ self.new.write_faults }
         ensures settled { OnOk result (IsSettled (Some (image_of self.new)) (MayLeave self.new)) }
+        ensures done { OnOk result (self.new ≡ done Synced self.old) }
+
+        // errors
+        ensures fails { IsTrue (next_is_due self.old) → IsErr result }
+        ensures failed { OnErr result (self.new ≡ failed_where (next_is_due self.old) self.old) }
+        ensures cause { OnErr result (Rose self.old.faults self.new.faults) }
+        ensures write_cause { OnErr result (Rose self.old.write_faults self.new.write_faults) }
+
+        // frame
+        ensures frame { ReadsAndSyncs (λ d. Some (image_of d)) (λ d. d.faults) (λ d. d.write_faults) self.old self.new }
+        ensures same_taken { self.new.taken ≡ self.old.taken }
+
+        // crashes
         ensures crash { LeavesNoMore (MayLeave self.old) (MayLeave self.new) }
         ensures time { Passes (moment_of self.old) (moment_of self.new) (LeftSince self.old) (LeftSince self.new) (MayLeave self.new) }
-        ensures fails { IsTrue (next_is_due self.old) → IsErr result }
-        ensures done { OnOk result (self.new ≡ done Synced self.old) }
-        ensures failed { OnErr result (self.new ≡ write_failed self.old) }
     {
         if self.calls.next_fails() {
             return Err(self.calls.fail_write());
         }
         match note(&mut self.log, Entry::Sync) {
             Ok(()) => Ok(()),
-            Err(_) => Err(self.calls.fail_write()),
+            Err(_) => Err(self.calls.fail_to_record()),
         }
     }
 
@@ -278,25 +300,25 @@ fn note(log: &mut Vec<Entry>, entry: Entry) -> Result<(), AllocError>
 fn note_write(
     alloc: Global,
     log: &mut Vec<Entry>,
-    place: u64,
+    offset: u64,
     piece: &[u8],
 ) -> Result<(), AllocError>
-    ensures ok { OnOk result (deeds_of log.new.items ≡ deeds_of log.old.items ++ Wrote place piece.now ∷ []) }
+    ensures ok { OnOk result (deeds_of log.new.items ≡ deeds_of log.old.items ++ Wrote offset piece.now ∷ []) }
     ensures err { OnErr result (log.new.items ≡ log.old.items) }
 {
     let piece = Vec::from_slice(alloc, piece)?;
-    note(log, Entry::Write { place, piece })
+    note(log, Entry::Write { offset, piece })
 }
 
-// Puts the piece at the place, over what is there and past the end.
-fn put_piece(bytes: &mut Vec<u8>, place: usize, piece: &[u8])
-    requires place { place ≤ vec_len bytes.old }
-    requires room { place + length piece.now ≤ vec_capacity bytes.old }
-    ensures bytes { bytes.new.items ≡ put_at place piece.now bytes.old.items }
+// Puts the piece at the offset, over what is there and past the end.
+fn put_piece(bytes: &mut Vec<u8>, offset: usize, piece: &[u8])
+    requires offset { offset ≤ vec_len bytes.old }
+    requires room { offset + length piece.now ≤ vec_capacity bytes.old }
+    ensures bytes { bytes.new.items ≡ put_at offset piece.now bytes.old.items }
     ensures capacity { vec_capacity bytes.old ≤ vec_capacity bytes.new }
 {
-    let inside = piece.len().min(bytes.len() - place);
+    let inside = piece.len().min(bytes.len() - offset);
     // There is room, so this cannot fail.
     let _ = bytes.extend_from_slice(&piece[inside..]);
-    bytes[place..place + inside].copy_from_slice(&piece[..inside]);
+    bytes[offset..offset + inside].copy_from_slice(&piece[..inside]);
 }

@@ -15,14 +15,14 @@ fn writes_over_and_past_the_end(rt: HostRuntime) -> Result<(), Fail> {
         (0, b"ABCDEFGH", b"ABCDEFGH"),
         (3, b"", b"abcdef"),
     ];
-    for (place, piece, wanted) in cases {
+    for (offset, piece, wanted) in cases {
         let mut disk = MemoryDisk::new(rt.alloc(), b"abcdef", 8, CALLS_MAX, &[])?;
-        // a write wants a place that is within the image or at its end
-        if place <= disk.image().len() as u64 {
-            assert_eq!(rt; disk.write_at(place, piece), Ok(()), "at {place}");
+        // a write wants an offset that is within the image or at its end
+        if offset <= disk.image().len() as u64 {
+            assert_eq!(rt; disk.write_at(offset, piece), Ok(()), "at {offset}");
         }
-        assert_eq!(rt; disk.image(), wanted, "at {place}");
-        assert_eq!(rt; disk.len(), Ok(wanted.len() as u64), "at {place}");
+        assert_eq!(rt; disk.image(), wanted, "at {offset}");
+        assert_eq!(rt; disk.len(), Ok(wanted.len() as u64), "at {offset}");
     }
     Ok(())
 }
@@ -63,6 +63,7 @@ fn fails_at_the_given_calls_and_after_the_last(rt: HostRuntime) -> Result<(), Fa
     assert_eq!(rt; disk.len(), Err(Failed));
     assert_eq!(rt; disk.sync(), Err(Failed));
     assert_eq!(rt; disk.image(), b"Yb".as_slice());
+    assert_eq!(rt; disk.unrecorded(), 0);
     Ok(())
 }
 
@@ -89,13 +90,21 @@ fn keeps_a_file(rt: HostRuntime) -> Result<(), Fail> {
     Ok(())
 }
 
+// Each call on a path whose file cannot be made, and on devices that have no bytes to keep.
 #[test]
-fn fails_over_a_file_that_cannot_be_made(rt: HostRuntime) -> Result<(), Fail> {
-    let path = "/no/such/folder/file".to_string(rt.alloc())?;
-    let mut disk = FileDisk::new(&rt, path);
-    assert_eq!(rt; disk.len(), Err(Failed));
-    assert_eq!(rt; disk.read_at(0, &mut [0; 1]), Err(Failed));
-    assert_eq!(rt; disk.write_at(0, b"a"), Err(Failed));
-    assert_eq!(rt; disk.sync(), Err(Failed));
+fn fails_where_the_system_refuses(rt: HostRuntime) -> Result<(), Fail> {
+    // the path, and whether `len`, `read_at`, `write_at` and `sync` succeed
+    let cases: [(&str, bool, bool, bool, bool); 3] = [
+        ("/no/such/folder/file", false, false, false, false),
+        ("/dev/full", true, true, false, false),
+        ("/dev/null", true, false, true, false),
+    ];
+    for (path, has_len, gives, takes, syncs) in cases {
+        let mut disk = FileDisk::new(&rt, path.to_string(rt.alloc())?);
+        assert_eq!(rt; disk.len().is_ok(), has_len, "{path}");
+        assert_eq!(rt; disk.read_at(0, &mut [0; 1]).is_ok(), gives, "{path}");
+        assert_eq!(rt; disk.write_at(0, b"a").is_ok(), takes, "{path}");
+        assert_eq!(rt; disk.sync().is_ok(), syncs, "{path}");
+    }
     Ok(())
 }

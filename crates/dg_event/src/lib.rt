@@ -6,7 +6,7 @@ ghost use Rattle.std.specs.Prelude.{◌≡◌, List};
 ghost use Rattle.dg_graph.specs.declared.element.Element.{Element};
 ghost use Rattle.dg_graph.specs.Effect.{removed_by, added_by, forwards, backwards};
 ghost use Rattle.dg_graph.specs.Elements.{element_cmp, column_of, asks};
-ghost use Rattle.dg_event.specs.Laws.{LeadsBack};
+ghost use Rattle.dg_event.specs.EffectLaws.{LeadsBack};
 
 pub use dg_graph::{Body, Change, Column, Columns, Element, Event, Function, What};
 use std::cmp::Ordering;

@@ -1,4 +1,4 @@
--- Worked columns, read by the definitions, and the places where they are damaged.
+-- Worked columns, read by the definitions, and the offsets at which they are damaged.
 use Rattle.std.specs.Prelude.{◌≡◌, List, [], ◌∷◌, ◌++◌, Some, None, Ok, Err, true, refl}
 use Rattle.dg_graph.specs.declared.element.Column.TheVariants as column
 use Rattle.dg_graph.specs.declared.element.Element.TheVariants as element
@@ -23,7 +23,7 @@ values_back : events_in column.NodeAttr 2 (events_column column.NodeAttr history
 unfolding history
 values_back = refl
 
--- with one name alone, the value's field, at place 30, is wrong
+-- with one name alone, the value's field, at offset 30, is wrong
 no_such_name : events_in column.NodeAttr 1 (events_column column.NodeAttr history) ≡ Err 30
 unfolding history
 no_such_name = refl

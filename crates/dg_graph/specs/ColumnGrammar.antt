@@ -1,4 +1,4 @@
--- What the bytes of a column are read as, or the place of the first field that does not fit in the
+-- What the bytes of a column are read as, or the offset of the first field that does not fit in the
 -- bytes or breaks a rule together with the fields before it.
 use Rattle.std.specs.Prelude.{ℕ, zero, suc, ◌+◌, ◌-◌, ◌==◌, ◌&&◌, Bool, true, not, List, [], ◌∷◌, Option, Some, None, Result, Ok, Err, if◌then◌else◌, length, take, drop, nat_lt, nat_le}
 use Rattle.std.specs.Int.{from_be_bytes, w8, w16, w32, w64}
@@ -17,9 +17,9 @@ use Rattle.dg_graph.specs.Elements.{before, has}
 -- the first result, and then what follows from it
 abbrev pub and_read : {A B : Type 0} → Result A ℕ → (A → Result B ℕ) → Result B ℕ
 and_read (Ok x) next = next x
-and_read (Err place) next = Err place
+and_read (Err offset) next = Err offset
 
--- the number of w bytes at the place, where it fits in the bytes and is right
+-- the number of w bytes at the offset, where it fits in the bytes and is right
 abbrev pub field : Width → ℕ → (ℕ → Bool) → List ℕ → ℕ → Result ℕ ℕ
 field width w right bytes at =
     if nat_lt (length bytes) (at + w) then Err at
@@ -40,7 +40,7 @@ four_bytes right bytes at = field w32 4 right bytes at
 abbrev pub eight_bytes : (ℕ → Bool) → List ℕ → ℕ → Result ℕ ℕ
 eight_bytes right bytes at = field w64 8 right bytes at
 
--- an id, a source, a destination, and whether the edge is directed, from the place on
+-- an id, a source, a destination, and whether the edge is directed, from the offset on
 abbrev pub edge_fields : {B : Type 0} → (ℕ → ℕ → ℕ → Bool → B) → List ℕ → ℕ → Result B ℕ
 edge_fields make bytes at =
     and_read (eight_bytes any_number bytes at) (λ id.
@@ -52,7 +52,7 @@ edge_fields make bytes at =
 abbrev pub value_of : ℕ → Option ℕ
 value_of n = if n == 0 then None else Some (n - 1)
 
--- what an event changes, of a value, from the place on
+-- what an event changes, of a value, from the offset on
 abbrev pub value_fields : (ℕ → ℕ → Option ℕ → Option ℕ → Body) → ℕ → List ℕ → ℕ → Result Body ℕ
 value_fields make names bytes at =
     and_read (eight_bytes any_number bytes at) (λ id.
@@ -88,7 +88,7 @@ body_size (body.EdgeAttr id key old new) = 20
 abbrev pub end_at : {A : Type 0} → A → List ℕ → ℕ → Result A ℕ
 end_at x bytes at = if length bytes == at then Ok x else Err at
 
--- So many events from the place on. Positions rise strictly, and are not below `low`; times do not
+-- So many events from the offset on. Positions rise strictly, and are not below `low`; times do not
 -- fall, and are not before `earliest`.
 abbrev pub events_at : ℕ → Column → ℕ → List ℕ → ℕ → ℕ → ℕ → Result (List Placed) ℕ
 events_at zero col names bytes at low earliest = end_at [] bytes at
@@ -99,13 +99,13 @@ events_at (suc k) col names bytes at low earliest =
     and_read (events_at k col names bytes (at + 10 + body_size what) (position + 1) time) (λ events.
     Ok (record { at = position; event = record { time = time; body = what } } ∷ events)))))
 
--- what the bytes of an event column are read as, with so many names; or the place of the damage
+-- what the bytes of an event column are read as, with so many names; or the offset of the damage
 abbrev pub events_in : Column → ℕ → List ℕ → Result (List Placed) ℕ
 events_in col names [] = Ok []
 events_in col names (b ∷ bytes) =
     and_read (four_bytes (λ n. nat_le 1 n) (b ∷ bytes) 0) (λ count. events_at count col names (b ∷ bytes) 4 0 0)
 
--- a value's element, from the place on
+-- a value's element, from the offset on
 abbrev pub value_element : (ℕ → ℕ → ℕ → Element) → ℕ → List ℕ → ℕ → Result Element ℕ
 value_element make names bytes at =
     and_read (eight_bytes any_number bytes at) (λ id.
@@ -132,8 +132,8 @@ abbrev pub rises_from : Option Element → Element → Bool
 rises_from None x = true
 rises_from (Some last) x = before last x
 
--- So many elements from the place on, each after the one before it and in none of `others`; and the
--- place behind them. An element that is wrong only in this breaks the rule at its first byte.
+-- So many elements from the offset on, each after the one before it and in none of `others`; and the
+-- offset behind them. An element that is wrong only in this breaks the rule at its first byte.
 abbrev pub elements_at : ℕ → Column → ℕ → List ℕ → List Element → ℕ → Option Element → Result (List Element × ℕ) ℕ
 elements_at zero col names bytes others at last = Ok ([], at)
 elements_at (suc k) col names bytes others at last =
@@ -142,7 +142,7 @@ elements_at (suc k) col names bytes others at last =
     then and_read (elements_at k col names bytes others (at + element_size x) (Some x)) (λ more. Ok (x ∷ more.0, more.1))
     else Err at)
 
--- what the bytes of a delta's column are read as, with so many names; or the place of the damage
+-- what the bytes of a delta's column are read as, with so many names; or the offset of the damage
 abbrev pub delta_in : Column → ℕ → List ℕ → Result Delta ℕ
 delta_in col names [] = Ok (record { minus = []; plus = [] })
 delta_in col names (b ∷ bytes) =

@@ -4,7 +4,7 @@ use Rattle.std.specs.List.{list_any, list_all}
 use Rattle.std.specs.Str.{bytes_eq}
 use Rattle.dg_graph.specs.declared.limits.TheConstants.{KEY_BYTES_MAX, NAME_BYTES_MAX}
 
--- the number of a text: the first place in the list that has it
+-- the number of a text: the first index in the list that has it
 abbrev pub number_of : List (List ℕ) → List ℕ → Option ℕ
 number_of names text = position (bytes_eq text) names
 

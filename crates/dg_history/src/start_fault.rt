@@ -9,7 +9,7 @@ pub enum StartFault {
     Disk,
     /// The file is no index.
     Foreign,
-    /// A segment breaks the format; the place of its first byte.
+    /// A segment breaks the format; the offset of its first byte.
     Damaged(u64),
     /// A record has a column that no events are spelled as, or its columns do not come together.
     BadRecord(Key, Column),

@@ -1,5 +1,5 @@
-pub mod Feeds
-pub mod Ranges
-pub mod Cutting
-pub mod Growing
-pub mod Going
+pub mod FeedLemmas
+pub mod BufferLemmas
+pub mod LinesStateLemmas
+pub mod ToldLemmas
+pub mod FrameLemmas

@@ -12,12 +12,12 @@ has_feed bytes = list_any is_feed bytes
 abbrev pub past_feed : List ℕ → List ℕ
 past_feed bytes = after_first is_feed bytes
 
--- the first line feed of the bytes stands at the place
-pub record IsFirstFeed (bytes : List ℕ) (place : ℕ) : Type 0 where
-  pub within : place < length bytes
-  pub here : slice_index bytes place ≡ 10
-  pub before : has_feed (take place bytes) ≡ false
+-- the first line feed of the bytes stands at the index
+pub record IsFirstFeed (bytes : List ℕ) (index : ℕ) : Type 0 where
+  pub within : index < length bytes
+  pub here : slice_index bytes index ≡ 10
+  pub before : has_feed (take index bytes) ≡ false
 
--- the place of the first line feed, or none where there is none
+-- the index of the first line feed, or none where there is none
 abbrev pub FindsFeed : List ℕ → Option ℕ → Type 0
-FindsFeed bytes found = MatchOption found (has_feed bytes ≡ false) (λ place. IsFirstFeed bytes place)
+FindsFeed bytes found = MatchOption found (has_feed bytes ≡ false) (λ index. IsFirstFeed bytes index)

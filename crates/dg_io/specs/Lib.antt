@@ -1,7 +1,7 @@
 pub mod Told
-pub mod Reading
+pub mod LinesState
 pub mod Frame
-pub mod Memory
+pub mod MemoryForms
 pub mod Feed
 pub mod Buffer
 pub mod Standard

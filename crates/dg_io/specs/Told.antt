@@ -20,5 +20,5 @@ abbrev pub IsAtEnd : Option (List ℕ) → Type 0
 IsAtEnd left = IfSome left (λ bytes. bytes ≡ [])
 
 -- the count rose, or stands at the last value of a u64
-abbrev pub Rose : ℕ → ℕ → Type 0
-Rose old new = min (old + 1) 18446744073709551615 ≤ new
+abbrev pub CountRose : ℕ → ℕ → Type 0
+CountRose old new = min (old + 1) 18446744073709551615 ≤ new

@@ -1,13 +1,16 @@
-ghost use Rattle.std.specs.Prelude.{◌≡◌, ◌≢◌, ◌+◌, ◌-◌, ◌<◌, ◌≤◌, ◌||◌, nat_eq, nat_lt, ℕ, true, false, IsTrue, List, [], length, take, slice_range, None, Some, Ok, Err, IfOk, IfSome, IfNone, OnOk, OnErr, IsErrOf, if◌then◌else◌};
+ghost use Rattle.std.specs.Prelude.{◌≡◌, ◌≢◌, ◌+◌, ◌-◌, ◌<◌, ◌≤◌, ◌||◌, nat_eq, nat_lt, true, false, IsTrue, List, ℕ, [], length, take, slice_range, None, Some, Ok, Err, IfOk, IfSome, IfNone, OnOk, OnErr, IsErrOf, if◌then◌else◌};
 ghost use Rattle.std.specs.Str.Lines.{strip_carriage_return};
-ghost use Rattle.dg_io.specs.Told.{Gives, IsAtEnd, Rose};
+ghost use Rattle.dg_io.specs.Told.{Gives, IsAtEnd, CountRose};
+ghost use Rattle.dg_io.specs.Frame.{Advances};
 ghost use Rattle.dg_io.specs.Feed.{has_feed, IsFirstFeed, FindsFeed};
-ghost use Rattle.dg_io.specs.Reading.{Reading, told, ahead, to_come, LineComes, NeedsByte, EndsWith, Cuts};
+ghost use Rattle.dg_io.specs.declared.lines.LineFault.TheVariants.{Read};
+ghost use Rattle.dg_io.specs.LinesState.{LinesState, told, ahead, to_come, LineComes, NeedsByte, EndsWith, Cuts};
 
 use crate::source::{Failed, Source};
 use dg_graph::LINE_BYTES_MAX;
 use memchr::memchr;
 use std::marker::Model;
+use thiserror::Error;
 
 /// The bytes of the buffer. At most `WAITING_BYTES_MAX` of them are held at a read.
 const BUFFER_BYTES: usize = 65_536;
@@ -32,12 +35,22 @@ pub enum Line {
 }
 
 /// Why a call of `Lines::next` gives no line. Nothing is lost: a later call goes on with the line.
-#[derive(Clone, Copy, Debug, PartialEq, Eq)]
+#[derive(Clone, Copy, Debug, PartialEq, Eq, Error)]
 pub enum LineFault {
     /// A read of the source failed.
+    #[error("a read of the source failed")]
     Read,
     /// Another byte is needed, and as many as the limit allows were taken.
+    #[error("another byte is needed, and as many as the limit allows were taken")]
     Limit,
+}
+
+impl From<Failed> for LineFault {
+    ghost from_gives = { λ _ fault. fault ≡ Read };
+
+    fn from(_failure: Failed) -> LineFault {
+        LineFault::Read
+    }
 }
 
 /// Cuts the bytes of a source into lines. A line ends before a line feed or at the end of input. One
@@ -59,9 +72,9 @@ pub struct Lines {
 
 impl Model for Lines {
     ghost use Rattle.std.specs.Prelude.{slice_range};
-    ghost use Rattle.dg_io.specs.Reading.{Reading};
+    ghost use Rattle.dg_io.specs.LinesState.{LinesState};
 
-    ghost Value = { Reading };
+    ghost Value = { LinesState };
 
     ghost use Rattle.dg_io.specs.Buffer.{IsWhole};
 
@@ -111,22 +124,22 @@ impl Lines {
     pub fn next<S: Source>(&mut self, source: &mut S) -> Result<Line, LineFault>
         ensures line { IfOk result (λ line. LineComes line
             (told self.old (S.left source.old)) (told self.new (S.left source.new)) self.new.text) }
-        ensures err { OnErr result (told self.old (S.left source.old) ≡ told self.new (S.left source.new)) }
         ensures progress { IfOk result (λ line. line ≢ Line.End → to_come self.new < to_come self.old) }
-        ensures kept { to_come self.new ≤ to_come self.old }
-        ensures read { IsErrOf result LineFault.Read → Rose (S.faults source.old) (S.faults source.new) }
+        ensures end { result ≡ Ok Line.End → IsTrue self.new.ended }
+
+        // errors
+        ensures err { OnErr result (told self.old (S.left source.old) ≡ told self.new (S.left source.new)) }
+        ensures read { IsErrOf result LineFault.Read → CountRose (S.faults source.old) (S.faults source.new) }
         ensures limit { IsErrOf result LineFault.Limit
             → (self.new.taken ≡ self.new.limit) × NeedsByte self.new }
         ensures due { self.old.taken ≡ self.old.limit → NeedsByte self.old
             → result ≡ Err LineFault.Limit }
-        ensures taken { (bytes : List ℕ) × Gives (S.left source.old) bytes (S.left source.new)
-            × (self.new.taken ≡ self.old.taken + length bytes) }
-        ensures end { result ≡ Ok Line.End → IsTrue self.new.ended }
-        ensures at_end { EndsWith self.old (S.left source.old) → EndsWith self.new (S.left source.new) }
+
+        // frame
+        ensures advances { Advances self.old (S.left source.old) (S.faults source.old)
+            self.new (S.left source.new) (S.faults source.new) }
         ensures within { (self.new.taken ≤ self.new.limit)
             × (IsTrue self.new.ended → self.new.taken < self.new.limit) }
-        ensures same_limit { self.new.limit ≡ self.old.limit }
-        ensures counted { S.faults source.old ≤ S.faults source.new }
         ensures quiet { (NeedsByte self.old → ⊥)
             → (S.left source.new ≡ S.left source.old) × (S.faults source.new ≡ S.faults source.old) }
     {
@@ -148,18 +161,18 @@ impl Lines {
     {
         let held = &self.buffer[self.start..self.end];
         match find_feed(held, self.scanned - self.start) {
-            Some(place) => Some(self.cut_at(place)),
+            Some(index) => Some(self.cut_at(index)),
             None if self.ended => Some(self.cut_last()),
             None => None,
         }
     }
 
-    // The line before the line feed at this place of the bytes held.
-    fn cut_at(&mut self, place: usize) -> Line
-        requires { IsFirstFeed self.old.held place }
+    // The line before the line feed at this index of the bytes held.
+    fn cut_at(&mut self, index: usize) -> Line
+        requires { IsFirstFeed self.old.held index }
         ensures { Cuts result self.old self.new }
     {
-        let feed = self.start + place;
+        let feed = self.start + index;
         let count = text_len(&self.buffer[self.start..feed]);
         let long = self.long;
         self.text_start = self.start;
@@ -192,18 +205,19 @@ impl Lines {
         ensures told { told self.old (S.left source.old) ≡ told self.new (S.left source.new) }
         ensures falls { OnOk result ((self.new.limit - self.new.taken) + (if self.new.ended then 0 else 1)
             < self.old.limit - self.old.taken + 1) }
-        ensures kept { to_come self.new ≤ to_come self.old }
-        ensures read { IsErrOf result LineFault.Read → Rose (S.faults source.old) (S.faults source.new) }
+
+        // errors
+        ensures read { IsErrOf result LineFault.Read → CountRose (S.faults source.old) (S.faults source.new) }
         ensures limit { IsErrOf result LineFault.Limit
             → (self.new.taken ≡ self.new.limit) × NeedsByte self.new }
         ensures due { self.old.taken ≡ self.old.limit → result ≡ Err LineFault.Limit }
-        ensures taken { (bytes : List ℕ) × Gives (S.left source.old) bytes (S.left source.new)
-            × (self.new.taken ≡ self.old.taken + length bytes) }
+
+        // frame
+        ensures advances { Advances self.old (S.left source.old) (S.faults source.old)
+            self.new (S.left source.new) (S.faults source.new) }
         ensures at_end { EndsWith self.new (S.left source.new) }
         ensures within { (self.new.taken ≤ self.new.limit)
             × (IsTrue self.new.ended → self.new.taken < self.new.limit) }
-        ensures same_limit { self.new.limit ≡ self.old.limit }
-        ensures counted { S.faults source.old ≤ S.faults source.new }
     {
         let allowed = self.limit - self.taken;
         if allowed == 0 {
@@ -217,15 +231,11 @@ impl Lines {
         self.scanned = held;
         self.text_start = 0;
         self.text_end = 0;
-        match read_behind(source, &mut self.buffer, held, allowed) {
-            Ok(count) => {
-                self.ended = count == 0;
-                self.end += count;
-                self.taken += count as u64;
-                Ok(())
-            }
-            Err(Failed) => Err(LineFault::Read),
-        }
+        let count = read_behind(source, &mut self.buffer, held, allowed)?;
+        self.ended = count == 0;
+        self.end += count;
+        self.taken += count as u64;
+        Ok(())
     }
 
     // Drops the bytes held where they belong to a line that is too long, however it goes on.
@@ -270,14 +280,14 @@ fn last_line(long: bool, count: usize) -> Line
     }
 }
 
-// The place of the first line feed. The bytes below `scanned` are none.
+// The index of the first line feed. The bytes below `scanned` are none.
 fn find_feed(held: &[u8], scanned: usize) -> Option<usize>
     requires within { scanned ≤ length held.now }
     requires no_feed { has_feed (take scanned held.now) ≡ false }
     ensures { FindsFeed held.now result }
 {
     match memchr(LINE_FEED, &held[scanned..]) {
-        Some(place) => Some(scanned + place),
+        Some(index) => Some(scanned + index),
         None => None,
     }
 }
@@ -319,7 +329,7 @@ fn read_behind<S: Source>(
         Gives (S.left source.old) (slice_range buffer.new held (held + c)) (S.left source.new)) }
     ensures end { IfOk result (λ c. c ≡ 0 → IsAtEnd (S.left source.old)) }
     ensures err { OnErr result (S.left source.new ≡ S.left source.old) }
-    ensures cause { OnErr result (Rose (S.faults source.old) (S.faults source.new)) }
+    ensures cause { OnErr result (CountRose (S.faults source.old) (S.faults source.new)) }
     ensures counted { S.faults source.old ≤ S.faults source.new }
 {
     let free = buffer.len() - held;

@@ -1,7 +1,7 @@
 ghost use Rattle.std.specs.Prelude.{◌≡◌, ◌+◌, ◌-◌, ◌<◌, ◌≤◌, [], length, take, min, Some, IfOk, OnErr, if◌then◌else◌};
 ghost use Rattle.std.specs.Result.{is_err};
-ghost use Rattle.dg_io.specs.Told.{Gives, grown, IsAtEnd, Rose};
-ghost use Rattle.dg_io.specs.Memory.{is_due, raised, write_fails};
+ghost use Rattle.dg_io.specs.Told.{Gives, grown, IsAtEnd, CountRose};
+ghost use Rattle.dg_io.specs.MemoryForms.{is_failing_call, raised, sink_write_fails};
 
 use crate::sink::Sink;
 use crate::source::{Failed, Source};
@@ -34,10 +34,8 @@ impl Calls {
 
     // Counts one call more, and says whether it is one that fails.
     fn next_fails(&mut self) -> bool
-        ensures value { result ≡ is_due self.old.fails.items self.old.made }
-        ensures fails { self.new.fails.items ≡ self.old.fails.items }
-        ensures made { self.new.made ≡ raised self.old.made }
-        ensures faults { self.new.faults ≡ self.old.faults }
+        ensures value { result ≡ is_failing_call self.old.fails.items self.old.made }
+        ensures made { self.new ≡ record self.old { made = raised self.old.made } }
     {
         let fails = self.fails.contains(&self.made);
         self.made = self.made.saturating_add(1);
@@ -45,9 +43,7 @@ impl Calls {
     }
 
     fn fail(&mut self) -> Failed
-        ensures fails { self.new.fails.items ≡ self.old.fails.items }
-        ensures made { self.new.made ≡ self.old.made }
-        ensures faults { self.new.faults ≡ raised self.old.faults }
+        ensures { self.new ≡ record self.old { faults = raised self.old.faults } }
     {
         self.faults = self.faults.saturating_add(1);
         Failed
@@ -65,7 +61,7 @@ pub struct MemorySource {
 
 impl Model for MemorySource {
     ghost use Rattle.std.specs.Prelude.{◌≤◌, ◌<◌, drop, vec_len};
-    ghost use Rattle.dg_io.specs.Memory.{SourceState};
+    ghost use Rattle.dg_io.specs.MemoryForms.{SourceState};
 
     ghost Value = { SourceState };
 
@@ -125,12 +121,16 @@ impl Source for MemorySource {
         ensures bound { IfOk result (λ c. c ≤ length into.new) }
         ensures given { IfOk result (λ c. Gives (Some self.old.left) (take c into.new) (Some self.new.left)) }
         ensures end { IfOk result (λ c. c ≡ 0 → 0 < length into.new → IsAtEnd (Some self.old.left)) }
-        ensures err { OnErr result (Some self.new.left ≡ Some self.old.left) }
-        ensures cause { OnErr result (Rose self.old.faults self.new.faults) }
-        ensures counted { self.old.faults ≤ self.new.faults }
-        ensures fails { is_err result ≡ is_due self.old.fails self.old.calls }
         ensures count { IfOk result (λ c.
             c ≡ min (min self.old.chunk (length into.old)) (length self.old.left)) }
+
+        // errors
+        ensures fails { is_err result ≡ is_failing_call self.old.fails self.old.calls }
+        ensures err { OnErr result (Some self.new.left ≡ Some self.old.left) }
+        ensures cause { OnErr result (CountRose self.old.faults self.new.faults) }
+
+        // frame
+        ensures counted { self.old.faults ≤ self.new.faults }
         ensures faults { self.new.faults ≡ (if is_err result then raised self.old.faults else self.old.faults) }
         ensures calls { self.new.calls ≡ raised self.old.calls }
         ensures same_fails { self.new.fails ≡ self.old.fails }
@@ -162,7 +162,7 @@ pub struct MemorySink {
 impl Model for MemorySink {
     ghost use Rattle.std.specs.Prelude.{◌≤◌, vec_len};
     ghost use Rattle.std.specs.Vec.{vec_capacity};
-    ghost use Rattle.dg_io.specs.Memory.{SinkState};
+    ghost use Rattle.dg_io.specs.MemoryForms.{SinkState};
 
     ghost Value = { SinkState };
 
@@ -212,12 +212,16 @@ impl Sink for MemorySink {
         ensures bound { IfOk result (λ c. c ≤ length piece.now) }
         ensures some { IfOk result (λ c. 0 < length piece.now → 0 < c) }
         ensures gained { IfOk result (λ c. Some self.new.written ≡ grown (Some self.old.written) (take c piece.now)) }
-        ensures err { OnErr result (Some self.new.written ≡ Some self.old.written) }
-        ensures cause { OnErr result (Rose self.old.faults self.new.faults) }
-        ensures counted { self.old.faults ≤ self.new.faults }
-        ensures fails { is_err result ≡ write_fails self.old (length piece.now) }
         ensures count { IfOk result (λ c.
             c ≡ min (length piece.now) (self.old.room - length self.old.written)) }
+
+        // errors
+        ensures fails { is_err result ≡ sink_write_fails self.old (length piece.now) }
+        ensures err { OnErr result (Some self.new.written ≡ Some self.old.written) }
+        ensures cause { OnErr result (CountRose self.old.faults self.new.faults) }
+
+        // frame
+        ensures counted { self.old.faults ≤ self.new.faults }
         ensures faults { self.new.faults ≡ (if is_err result then raised self.old.faults else self.old.faults) }
         ensures calls { self.new.calls ≡ raised self.old.calls }
         ensures same_fails { self.new.fails ≡ self.old.fails }

@@ -1,5 +1,5 @@
 ghost use Rattle.std.specs.Prelude.{◌≡◌, ◌<◌, ◌≤◌, ℕ, List, length, take, IfOk, OnOk, OnErr, Option};
-ghost use Rattle.dg_io.specs.Told.{grown, GrowsByPart, Rose};
+ghost use Rattle.dg_io.specs.Told.{grown, GrowsByPart, CountRose};
 
 use crate::source::Failed;
 
@@ -17,8 +17,12 @@ pub trait Sink {
         ensures bound { IfOk result (λ c. c ≤ length piece.now) }
         ensures some { IfOk result (λ c. 0 < length piece.now → 0 < c) }
         ensures gained { IfOk result (λ c. written self.new ≡ grown (written self.old) (take c piece.now)) }
+
+        // errors
         ensures err { OnErr result (written self.new ≡ written self.old) }
-        ensures cause { OnErr result (Rose (faults self.old) (faults self.new)) }
+        ensures cause { OnErr result (CountRose (faults self.old) (faults self.new)) }
+
+        // frame
         ensures counted { faults self.old ≤ faults self.new };
 }
 
@@ -27,7 +31,7 @@ pub trait Sink {
 pub fn write_whole<K: Sink>(sink: &mut K, piece: &[u8]) -> Result<(), Failed>
     ensures ok { OnOk result (K.written sink.new ≡ grown (K.written sink.old) piece.now) }
     ensures err { OnErr result (GrowsByPart (K.written sink.old) piece.now (K.written sink.new)) }
-    ensures cause { OnErr result (Rose (K.faults sink.old) (K.faults sink.new)) }
+    ensures cause { OnErr result (CountRose (K.faults sink.old) (K.faults sink.new)) }
     ensures counted { K.faults sink.old ≤ K.faults sink.new }
 {
     let mut done = 0;

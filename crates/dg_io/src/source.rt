@@ -1,8 +1,11 @@
 ghost use Rattle.std.specs.Prelude.{◌≡◌, ◌<◌, ◌≤◌, ℕ, List, length, take, IfOk, OnErr, Option};
-ghost use Rattle.dg_io.specs.Told.{Gives, IsAtEnd, Rose};
+ghost use Rattle.dg_io.specs.Told.{Gives, IsAtEnd, CountRose};
+
+use thiserror::Error;
 
 /// The failure of one call of a source or a sink. The object's count of failures rose in that call.
-#[derive(Clone, Copy, Debug, PartialEq, Eq)]
+#[derive(Clone, Copy, Debug, PartialEq, Eq, Error)]
+#[error("a call of the source or the sink failed")]
 pub struct Failed;
 
 /// Something that bytes are read from.
@@ -19,7 +22,11 @@ pub trait Source {
         ensures bound { IfOk result (λ c. c ≤ length into.new) }
         ensures given { IfOk result (λ c. Gives (left self.old) (take c into.new) (left self.new)) }
         ensures end { IfOk result (λ c. c ≡ 0 → 0 < length into.new → IsAtEnd (left self.old)) }
+
+        // errors
         ensures err { OnErr result (left self.new ≡ left self.old) }
-        ensures cause { OnErr result (Rose (faults self.old) (faults self.new)) }
+        ensures cause { OnErr result (CountRose (faults self.old) (faults self.new)) }
+
+        // frame
         ensures counted { faults self.old ≤ faults self.new };
 }

@@ -1,6 +1,6 @@
 ghost use Rattle.std.specs.Prelude.{◌≡◌, ◌<◌, ◌≤◌, None, length, take, IfOk, OnOk, IfSome, OnErr};
 ghost use Rattle.std.specs.Io.KnownBytes.{Consumes, Appends, IsAtEnd};
-ghost use Rattle.dg_io.specs.Told.{Gives, grown, Rose};
+ghost use Rattle.dg_io.specs.Told.{Gives, grown, CountRose};
 ghost use Rattle.dg_io.specs.Standard.{reader_of, read_faults, writer_of, write_faults};
 
 use crate::sink::Sink;
@@ -34,7 +34,7 @@ impl<R: Read> Source for StdSource<R> {
 
     fn read(&mut self, into: &mut [u8]) -> Result<usize, Failed>
         ensures bound { IfOk result (λ c. c ≤ length into.new) }
-        ensures cause { OnErr result (Rose (read_faults self.old) (read_faults self.new)) }
+        ensures cause { OnErr result (CountRose (read_faults self.old) (read_faults self.new)) }
         ensures counted { read_faults self.old ≤ read_faults self.new }
         ensures bytes { IfOk result (λ c.
             Consumes (R.remaining (reader_of self.old)) (R.remaining (reader_of self.new)) (take c into.new)) }
@@ -77,7 +77,7 @@ impl<W: Write> Sink for StdSink<W> {
     fn write(&mut self, piece: &[u8]) -> Result<usize, Failed>
         ensures bound { IfOk result (λ c. c ≤ length piece.now) }
         ensures some { IfOk result (λ c. 0 < length piece.now → 0 < c) }
-        ensures cause { OnErr result (Rose (write_faults self.old) (write_faults self.new)) }
+        ensures cause { OnErr result (CountRose (write_faults self.old) (write_faults self.new)) }
         ensures counted { write_faults self.old ≤ write_faults self.new }
         ensures bytes { IfOk result (λ c.
             Appends (W.contents (writer_of self.old)) (W.contents (writer_of self.new)) (take c piece.now)) }

@@ -4,7 +4,7 @@ use crate::{
 };
 use std::alloc::{AllocError, Global};
 use std::io;
-use std::io::{ErrorKind, Read};
+use std::io::{ErrorKind, Read, Write};
 use std::test::Fail;
 
 // More calls than any text of these tests needs.
@@ -196,5 +196,62 @@ fn writes_through_std(rt: HostRuntime) -> Result<(), Fail> {
     assert_eq!(rt; write_whole(&mut sink, b"ok "), Ok(()));
     assert_eq!(rt; write_whole(&mut sink, b"load"), Err(Failed));
     assert_eq!(rt; room.as_slice(), b"ok lo".as_slice());
+    Ok(())
+}
+
+// Takes two bytes a write. Every second call is interrupted, and the flush of the given number,
+// from 1, fails.
+#[derive(Drop)]
+struct Slow {
+    calls: u32,
+    taken: usize,
+    flushed: usize,
+    flushes: u32,
+    fails: u32,
+}
+
+impl Write for Slow {
+    fn write(&mut self, piece: &[u8]) -> io::Result<usize> {
+        self.calls = self.calls.saturating_add(1);
+        if self.calls % 2 == 1 {
+            return Err(ErrorKind::Interrupted.into());
+        }
+        let count = piece.len().min(2);
+        self.taken = self.taken.saturating_add(count);
+        Ok(count)
+    }
+
+    fn flush(&mut self) -> io::Result<()> {
+        self.flushes = self.flushes.saturating_add(1);
+        if self.flushes == self.fails {
+            return Err(ErrorKind::Other.into());
+        }
+        self.flushed = self.taken;
+        Ok(())
+    }
+}
+
+#[test]
+fn flushes_after_each_write(rt: HostRuntime) -> Result<(), Fail> {
+    // the flush that fails, and then the answer, the bytes flushed and the flushes
+    let cases: [(u32, Result<(), Failed>, usize, u32); 4] = [
+        (0, Ok(()), 5, 3),
+        (1, Err(Failed), 0, 1),
+        (2, Err(Failed), 2, 2),
+        (3, Err(Failed), 4, 3),
+    ];
+    for (fails, wanted, flushed, flushes) in cases {
+        let mut slow = Slow {
+            calls: 0,
+            taken: 0,
+            flushed: 0,
+            flushes: 0,
+            fails,
+        };
+        let mut sink = StdSink::new(&mut slow);
+        assert_eq!(rt; write_whole(&mut sink, b"reply"), wanted, "flush {fails}");
+        assert_eq!(rt; slow.flushed, flushed, "flush {fails}");
+        assert_eq!(rt; slow.flushes, flushes, "flush {fails}");
+    }
     Ok(())
 }

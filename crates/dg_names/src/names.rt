@@ -2,7 +2,7 @@ ghost use Rattle.std.specs.Prelude.{◌≡◌, ◌≤◌, ◌<◌, ℕ, List, []
 ghost use Rattle.std.specs.List.{IsDistinct, Contains};
 ghost use Rattle.std.specs.Str.{bytes_eq};
 ghost use Rattle.dg_graph.specs.Names.{number_of, added};
-ghost use Rattle.dg_names.specs.Names.{AreFew, AreShort};
+ghost use Rattle.dg_names.specs.NameLimits.{AreFew, AreShort};
 
 use dg_graph::{NAME_BYTES_MAX, NAMES_MAX};
 use indexmap::IndexSet;
@@ -10,7 +10,7 @@ use std::alloc::{AllocError, Global};
 use std::marker::Model;
 
 /// A list of names, seen as the list of their texts. They are distinct, each has at most
-/// `NAME_BYTES_MAX` bytes, and there are at most `NAMES_MAX`. The number of a name is its place.
+/// `NAME_BYTES_MAX` bytes, and there are at most `NAMES_MAX`. The number of a name is its index in the list.
 #[derive(Drop)]
 pub struct Names {
     texts: IndexSet<Vec<u8>>,
@@ -18,7 +18,7 @@ pub struct Names {
 
 impl Model for Names {
     ghost use Rattle.std.specs.Prelude.{ℕ, List, map};
-    ghost use Rattle.dg_names.specs.Names.{AreFew, AreShort};
+    ghost use Rattle.dg_names.specs.NameLimits.{AreFew, AreShort};
 
     ghost Value = { List (List ℕ) };
 
@@ -89,15 +89,20 @@ impl Names {
     pub fn add(&mut self, text: &[u8]) -> Result<u32, AllocError>
         requires short { length text.now ≤ NAME_BYTES_MAX }
         requires room { length self.old < NAMES_MAX }
+        // The list has the text, and the result is its number.
         ensures added { OnOk result (self.new ≡ added self.old text.now) }
         ensures number { IfOk result (λ n. number_of self.new text.now ≡ Some n) }
         ensures found { IfOk result (λ n. slice_get self.new n ≡ Some text.now) }
         ensures known { (n : ℕ) → number_of self.old text.now ≡ Some n → IfOk result (λ m. m ≡ n) }
         ensures fresh { number_of self.old text.now ≡ None → IfOk result (λ n. n ≡ length self.old) }
         ensures within { IfOk result (λ n. n < length self.new) }
-        ensures kept { (n : ℕ) (earlier : List ℕ) → slice_get self.old n ≡ Some earlier → slice_get self.new n ≡ Some earlier }
+
+        // Only a new text can fail.
         ensures err { OnErr result (self.new ≡ self.old) }
         ensures absent { OnErr result (number_of self.old text.now ≡ None) }
+
+        // Every name keeps its number.
+        ensures kept { (n : ℕ) (earlier : List ℕ) → slice_get self.old n ≡ Some earlier → slice_get self.new n ≡ Some earlier }
     {
         if let Some(number) = self.number(text) {
             return Ok(number);

@@ -1,4 +1,4 @@
-use crate::{NAME_BYTES_MAX, NAMES_MAX, Names};
+use crate::{NAME_BYTES_MAX, NAMES_MAX, Names, is_key, is_name};
 use std::test::Fail;
 
 // The number of the text, which fails where the list has no room or the text is too long.
@@ -55,5 +55,44 @@ fn the_empty_text_and_the_longest_are_names(rt: HostRuntime) -> Result<(), Fail>
     assert_eq!(rt; names.text(0), Some(b"".as_slice()));
     assert_eq!(rt; names.text(1), Some(longest.as_slice()));
     assert_eq!(rt; names.number(&longest[1..]), None);
+    Ok(())
+}
+
+// Each text, whether it may be a key, and whether it may be a name.
+const TEXTS: [(&[u8], bool, bool); 11] = [
+    (b"", false, true),
+    (b"a", true, true),
+    (b"\x21\x7f\x80\xff", true, true),
+    (b"two words", false, true),
+    (b" ", false, true),
+    (b"\x00", false, true),
+    (b"a\t", false, true),
+    (b"a\x1f", false, true),
+    (b"a\nb", false, false),
+    (b"\n", false, false),
+    (b"a\r", false, false),
+];
+
+// How many letters a text has, whether it may be a key, and whether it may be a name.
+const LENGTHS: [(usize, bool, bool); 4] = [
+    (64, true, true),
+    (65, false, true),
+    (1024, false, true),
+    (1025, false, false),
+];
+
+#[test]
+fn a_key_is_short_and_without_spaces_and_a_name_is_of_one_line(
+    rt: HostRuntime,
+) -> Result<(), Fail> {
+    for (row, (text, key, name)) in TEXTS.iter().enumerate() {
+        assert_eq!(rt; is_key(text), *key, "text {row}");
+        assert_eq!(rt; is_name(text), *name, "text {row}");
+    }
+    for (length, key, name) in LENGTHS {
+        let text = vec![in rt.alloc(); b'x'; length]?;
+        assert_eq!(rt; is_key(&text), key, "length {length}");
+        assert_eq!(rt; is_name(&text), name, "length {length}");
+    }
     Ok(())
 }

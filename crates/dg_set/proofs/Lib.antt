@@ -1,3 +1,4 @@
-pub mod Places
+pub mod Indices
 pub mod Merges
-pub mod Replacing
+pub mod Replaced
+pub mod Apart

@@ -9,7 +9,7 @@ use Rattle.dg_graph.specs.declared.element.Element.{Element}
 use Rattle.dg_graph.specs.Elements.{element_cmp, before, IsBelowFirst, IsSet, has, put}
 use Rattle.dg_graph.specs.Sets.{unioned, met, without_all}
 use Rattle.dg_graph.proofs.Sets.{element_total, before_from_Greater, differs_back, IsBelowFirst-trans, lacks_below, has_first, has_past, IsBelowFirst-put, put_by, tied_exact}
-use Rattle.dg_set.proofs.Places.{put-first, put-past}
+use Rattle.dg_set.proofs.Indices.{put-first, put-past}
 
 -- ---- the first step of a merge
 

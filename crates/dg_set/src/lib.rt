@@ -3,8 +3,8 @@
 #![tactic(auto)]
 
 mod merge;
-mod place;
 mod replace;
+mod search;
 mod set;
 #[cfg(test)]
 mod tests;

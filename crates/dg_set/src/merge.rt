@@ -1,6 +1,7 @@
-ghost use Rattle.std.specs.Prelude.{◌≡◌, IfOk};
+ghost use Rattle.std.specs.Prelude.{◌≡◌, ◌↔◌, IfOk, IsTrue};
 ghost use Rattle.dg_graph.specs.Elements.{IsSet};
 ghost use Rattle.dg_graph.specs.Sets.{unioned, met, without_all};
+ghost use Rattle.dg_set.specs.Apart.{AreApart};
 
 use dg_graph::Element;
 use std::alloc::{AllocError, Global};
@@ -135,4 +136,22 @@ pub(crate) fn differences(
     first.extend_from_slice(&left[i..])?;
     second.extend_from_slice(&right[j..])?;
     Ok((first, second))
+}
+
+/// Whether two sets share no element.
+pub(crate) fn are_apart(left: &[Element], right: &[Element]) -> bool
+    requires left_set { IsSet left.now }
+    requires right_set { IsSet right.now }
+    ensures { IsTrue result ↔ AreApart left.now right.now }
+{
+    let mut i = 0;
+    let mut j = 0;
+    while i < left.len() && j < right.len() {
+        match left[i].cmp(&right[j]) {
+            Ordering::Less => i += 1,
+            Ordering::Equal => return false,
+            Ordering::Greater => j += 1,
+        }
+    }
+    true
 }

@@ -2,19 +2,19 @@ ghost use Rattle.std.specs.Prelude.{◌≡◌, ◌≢◌, ◌<◌, length, drop,
 ghost use Rattle.std.specs.declared.cmp.Ordering.{Ordering};
 ghost use Rattle.dg_graph.specs.Elements.{IsSet};
 ghost use Rattle.dg_graph.specs.Sets.{unioned, without_all};
-ghost use Rattle.dg_set.specs.Places.{first_cmp};
+ghost use Rattle.dg_set.specs.Indices.{first_cmp};
 
 use dg_graph::Element;
 use std::alloc::{AllocError, Global};
 use std::cmp::Ordering;
 
-/// How the element stands to the item at the place. It stands before the end of the items.
-fn order_at(element: &Element, items: &[Element], at: usize) -> Ordering
-    ensures order { result ≡ first_cmp element.now (drop at items.now) }
-    ensures within { result ≢ Ordering.Less → at < length items.now }
+/// How the element stands to the item at the index. It stands before the end of the items.
+fn order_at(element: &Element, items: &[Element], index: usize) -> Ordering
+    ensures order { result ≡ first_cmp element.now (drop index items.now) }
+    ensures within { result ≢ Ordering.Less → index < length items.now }
 {
-    if at < items.len() {
-        element.cmp(&items[at])
+    if index < items.len() {
+        element.cmp(&items[index])
     } else {
         Ordering::Less
     }

@@ -1,9 +1,11 @@
-ghost use Rattle.std.specs.Prelude.{◌≡◌, ◌↔◌, List, [], ◌++◌, length, not, is_ok, IfOk, IfErr, IsOk, if◌then◌else◌};
+ghost use Rattle.std.specs.Prelude.{◌≡◌, ◌↔◌, ◌&&◌, ◌||◌, List, [], ◌++◌, length, not, is_ok, IfOk, IfErr, IsOk, IsTrue, if◌then◌else◌};
+ghost use Rattle.dg_graph.specs.declared.element.Element.{Element};
 ghost use Rattle.dg_graph.specs.Elements.{IsSet, has, put, take_out};
 ghost use Rattle.dg_graph.specs.Sets.{unioned, met, without_all};
-ghost use Rattle.dg_set.specs.Places.{IsFirstFault};
+ghost use Rattle.dg_set.specs.Apart.{AreApart};
+ghost use Rattle.dg_set.specs.Indices.{IsFirstFault};
 
-use crate::place::{first_fault, place};
+use crate::search::{first_fault, index_of};
 use crate::{merge, replace};
 use dg_graph::Element;
 use std::alloc::{AllocError, Global};
@@ -38,15 +40,15 @@ impl Set {
     }
 
     /// The set of the items of a list that rises strictly. Takes no memory. An `Err` gives the
-    /// first place whose item is not greater than the one before it.
+    /// first index whose item is not greater than the one before it.
     pub fn from_sorted(items: Vec<Element>) -> Result<Set, usize>
         ensures ok { IfOk result (λ set. set ≡ items.items) }
         ensures exact { IsOk result ↔ IsSet items.items }
-        ensures first { IfErr result (λ at. IsFirstFault items.items at) }
+        ensures first { IfErr result (λ index. IsFirstFault items.items index) }
     {
         match first_fault(&items) {
             None => Ok(Set { items }),
-            Some(at) => Err(at),
+            Some(index) => Err(index),
         }
     }
 
@@ -62,7 +64,14 @@ impl Set {
     pub fn has(&self, element: &Element) -> bool
         ensures { result ≡ has self.now element.now }
     {
-        place(&self.items, element).is_ok()
+        index_of(&self.items, element).is_ok()
+    }
+
+    /// Whether the two sets share no element.
+    pub fn is_disjoint(&self, other: &Set) -> bool
+        ensures { IsTrue result ↔ AreApart self.now other.now }
+    {
+        merge::are_apart(&self.items, &other.items)
     }
 
     /// How many elements the set has.
@@ -105,10 +114,10 @@ impl Set {
         ensures after { self.new ≡ (if is_ok result then put element self.old else self.old) }
         ensures new { IfOk result (λ was_new. was_new ≡ not (has self.old element)) }
     {
-        match place(&self.items, &element) {
+        match index_of(&self.items, &element) {
             Ok(_) => Ok(false),
-            Err(at) => {
-                self.items.insert(at, element)?;
+            Err(index) => {
+                self.items.insert(index, element)?;
                 Ok(true)
             }
         }
@@ -119,9 +128,9 @@ impl Set {
         ensures after { self.new ≡ take_out element.now self.old }
         ensures was { result ≡ has self.old element.now }
     {
-        match place(&self.items, element) {
-            Ok(at) => {
-                self.items.remove(at);
+        match index_of(&self.items, element) {
+            Ok(index) => {
+                self.items.remove(index);
                 true
             }
             Err(_) => false,
@@ -130,7 +139,8 @@ impl Set {
 
     /// The elements of either set. An `Err` says that memory ran out.
     pub fn union(&self, other: &Set) -> Result<Set, AllocError>
-        ensures { IfOk result (λ set. set ≡ unioned self.now other.now) }
+        ensures value { IfOk result (λ set. set ≡ unioned self.now other.now) }
+        ensures members { IfOk result (λ set. (x : Element) → has set x ≡ (has self.now x || has other.now x)) }
     {
         let items = merge::union(*self.items.allocator(), &self.items, &other.items)?;
         Ok(Set { items })
@@ -138,7 +148,8 @@ impl Set {
 
     /// The elements of both sets. An `Err` says that memory ran out.
     pub fn meet(&self, other: &Set) -> Result<Set, AllocError>
-        ensures { IfOk result (λ set. set ≡ met self.now other.now) }
+        ensures value { IfOk result (λ set. set ≡ met self.now other.now) }
+        ensures members { IfOk result (λ set. (x : Element) → has set x ≡ (has self.now x && has other.now x)) }
     {
         let items = merge::meet(*self.items.allocator(), &self.items, &other.items)?;
         Ok(Set { items })
@@ -146,7 +157,8 @@ impl Set {
 
     /// The elements that `other` does not have. An `Err` says that memory ran out.
     pub fn minus(&self, other: &Set) -> Result<Set, AllocError>
-        ensures { IfOk result (λ set. set ≡ without_all self.now other.now) }
+        ensures value { IfOk result (λ set. set ≡ without_all self.now other.now) }
+        ensures members { IfOk result (λ set. (x : Element) → has set x ≡ (has self.now x && not (has other.now x))) }
     {
         let items = merge::minus(*self.items.allocator(), &self.items, &other.items)?;
         Ok(Set { items })
@@ -169,7 +181,8 @@ impl Set {
     /// This set without the elements of `out`, and with those of `into`. An `Err` says that memory
     /// ran out.
     pub fn replaced(&self, out: &Set, into: &Set) -> Result<Set, AllocError>
-        ensures { IfOk result (λ set. set ≡ unioned (without_all self.now out.now) into.now) }
+        ensures value { IfOk result (λ set. set ≡ unioned (without_all self.now out.now) into.now) }
+        ensures members { IfOk result (λ set. (x : Element) → has set x ≡ ((has self.now x && not (has out.now x)) || has into.now x)) }
     {
         let alloc = *self.items.allocator();
         let items = replace::replaced(alloc, &self.items, &out.items, &into.items)?;

@@ -1,5 +1,5 @@
 -- The records of a catalogue: what holds of each, and what a record added leaves true.
-use Rattle.std.proofs.Common.{◌≡◌, ◌≢◌, ℕ, ◌+◌, ◌≤◌, Bool, true, false, cond, ◌&&◌, List, [], ◌∷◌, ◌++◌, Option, None, Some, is_some, Result, Ok, refl, sym, ap, subst, ◌∙◌, arith}
+use Rattle.std.proofs.Common.{◌≡◌, ◌≢◌, ◌+◌, ◌≤◌, Bool, true, false, cond, ◌&&◌, List, [], ◌∷◌, ◌++◌, Option, None, Some, is_some, Result, Ok, refl, sym, ap, subst, ◌∙◌, arith}
 use Rattle.std.proofs.lemmas.Bool.{eqb-true, eq-eqb, false≢true}
 use Rattle.std.proofs.lemmas.List.{map-append}
 use Rattle.std.proofs.lemmas.List.Elements.{All-push, All-contains}
@@ -8,7 +8,7 @@ use Rattle.std.proofs.lemmas.Map.Views.{Contains-from_lookup, IfSome-lookup_from
 use Rattle.std.proofs.lemmas.Option.{none-some}
 use Rattle.std.specs.List.{All}
 use Rattle.std.specs.Map.{keys_of, values_of, lookup}
-use Rattle.std.specs.Option.{IsNone, IfSome}
+use Rattle.std.specs.Option.{IfSome}
 use Rattle.std.specs.Result.{OnOk}
 use Rattle.dg_shape.specs.declared.catalogue.Entry.{Entry}
 use Rattle.dg_shape.specs.declared.catalogue.TheConstants.{BYTES_MAX}
@@ -17,7 +17,7 @@ use Rattle.dg_history.specs.declared.node.Key.TheVariants as a_key
 use Rattle.dg_history.specs.contracts.node.KeyPartialEq.TheImpl as of_keys
 use Rattle.dg_history.specs.Keys.{same_key, is_list}
 use Rattle.dg_shape.specs.Keys.{IsNumbered}
-use Rattle.dg_shape.specs.Entries.{Holdings, total, bytes_of, IsPlaced, EndsIfList, IsSound}
+use Rattle.dg_shape.specs.Entries.{Holdings, total, bytes_of, IsInRange, EndsIfList, RecordsAreSound}
 use Rattle.dg_shape.specs.Held.{entry_of}
 
 -- what a clause says of a call that did not fail
@@ -76,27 +76,24 @@ derived_is (a_key.Down m c) (a_key.Top n) = refl
 pub look_up_is : (es : List (Key × Entry)) (held : Holdings) (key : Key) → es ≡ held.entries → lookup ((of_keys.ghosts).eq key) es ≡ entry_of held key
 look_up_is es held key is i = lookup (λ q. derived_is key q i) (is i)
 
--- a look-up that finds something
-pub found : {X : Type 0} (o : Option X) (x : X) → Some x ≡ o → o ≡ None → ⊥
-found o x is none = absurd (false≢true (sym (ap is_some (is ∙ none))))
-
 -- what holds of each record holds of the one at a key
 pub at_key : (P : Key × Entry → Type 0) (es : List (Key × Entry)) (key : Key) (e : Entry) → All P es → lookup (same_key key) es ≡ Some e → P (key, e)
 at_key P es key e all is = All-contains P es (key, e) all (Contains-from_lookup same_key_exact key e es is)
 
--- the instants of a list are given where the list is held
-pub lacks_list : (es : List (Key × Entry)) (n : ℕ) (e : Entry) → All EndsIfList es → lookup (same_key (a_key.List n)) es ≡ Some e → IsNone e.ends → ⊥
-lacks_list es n e ends is none = false≢true (sym none ∙ at_key EndsIfList es (a_key.List n) e ends is)
+-- the record at a key, if there is one, has instants exactly for a list
+pub ends_held : (o : Option Entry) (c : Holdings) (key : Key) → All EndsIfList c.entries → o ≡ entry_of c key → IfSome o (λ e. is_some e.ends ≡ is_list key)
+ends_held None c key ends is = tt
+ends_held (Some e) c key ends is = at_key EndsIfList c.entries key e ends (sym is)
 
 -- what holds of the record at a key
-pub held_sound : (c : Holdings) → IsSound c.entries → (key : Key) (e : Entry) → entry_of c key ≡ Some e → IsPlaced e × IsNumbered key × EndsIfList (key, e)
+pub held_sound : (c : Holdings) → RecordsAreSound c.entries → (key : Key) (e : Entry) → entry_of c key ≡ Some e → IsInRange e × IsNumbered key × EndsIfList (key, e)
 held_sound c sound key e is = (
-  by_some (subst (λ o. IfSome o IsPlaced) is (IfSome-lookup_from_All IsPlaced (same_key key) c.entries sound.placed)),
+  by_some (subst (λ o. IfSome o IsInRange) is (IfSome-lookup_from_All IsInRange (same_key key) c.entries sound.in_range)),
   All-contains IsNumbered (keys_of c.entries) key sound.numbered (Contains-keys_from_lookup same_key_exact key c.entries (ap is_some is)),
   at_key EndsIfList c.entries key e sound.ends is,
 )
   where
-    by_some : IfSome (Some e) IsPlaced → IsPlaced e
+    by_some : IfSome (Some e) IsInRange → IsInRange e
     by_some h = h
 
 -- ---- a record added
@@ -139,15 +136,15 @@ added_others es new key e is other apart = ap (lookup (same_key other)) is ∙ f
 pub added_bytes : (es new : List (Key × Entry)) (key : Key) (e : Entry) → new ≡ es ++ (key, e) ∷ [] → bytes_of new ≡ bytes_of es + total e.lengths
 added_bytes es new key e is = ap bytes_of is ∙ sum_by_push (λ q. total q.1.lengths) es (key, e)
 
-pub still_sound : (es new : List (Key × Entry)) (key : Key) (e : Entry) → new ≡ es ++ (key, e) ∷ [] → IsSound es
-    → bytes_of es + total e.lengths ≤ BYTES_MAX → IsPlaced e → IsNumbered key → is_some e.ends ≡ is_list key → IsSound new
-still_sound es new key e is sound bytes placed numbered ends =
+pub still_sound : (es new : List (Key × Entry)) (key : Key) (e : Entry) → new ≡ es ++ (key, e) ∷ [] → RecordsAreSound es
+    → bytes_of es + total e.lengths ≤ BYTES_MAX → IsInRange e → IsNumbered key → is_some e.ends ≡ is_list key → RecordsAreSound new
+still_sound es new key e is sound bytes in_range numbered ends =
     let fits : bytes_of (es ++ (key, e) ∷ []) ≤ BYTES_MAX = omega (arith, bytes, sum_by_push (λ q. total q.1.lengths) es (key, e)) in
     let values : values_of (es ++ (key, e) ∷ []) ≡ values_of es ++ e ∷ [] = map-append (λ q. q.1) es ((key, e) ∷ []) in
     let keys : keys_of (es ++ (key, e) ∷ []) ≡ keys_of es ++ key ∷ [] = map-append (λ q. q.0) es ((key, e) ∷ []) in
-    subst IsSound (sym is) (record {
+    subst RecordsAreSound (sym is) (record {
       bytes = fits;
-      placed = subst (All IsPlaced) (sym values) (All-push IsPlaced (values_of es) e sound.placed placed);
+      in_range = subst (All IsInRange) (sym values) (All-push IsInRange (values_of es) e sound.in_range in_range);
       numbered = subst (All IsNumbered) (sym keys) (All-push IsNumbered (keys_of es) key sound.numbered numbered);
       ends = All-push EndsIfList es (key, e) sound.ends ends;
     })

@@ -33,27 +33,27 @@ length_in e NodeAttr = slice_index e.lengths 1
 length_in e EdgeAttr = slice_index e.lengths 2
 
 -- the byte at which a column begins: the columns stand one after another
-abbrev pub place_in : Entry → Column → ℕ
-place_in e Structure = e.place
-place_in e NodeAttr = e.place + slice_index e.lengths 0
-place_in e EdgeAttr = e.place + slice_index e.lengths 0 + slice_index e.lengths 1
+abbrev pub offset_in : Entry → Column → ℕ
+offset_in e Structure = e.offset
+offset_in e NodeAttr = e.offset + slice_index e.lengths 0
+offset_in e EdgeAttr = e.offset + slice_index e.lengths 0 + slice_index e.lengths 1
 
 -- the instants of the history, once a batch with these is added
 abbrev pub spanned : Option Ends → Ends → Ends
 spanned None ends = ends
 spanned (Some span) ends = record span { last = ends.last }
 
--- the record ends in time
-abbrev pub IsPlaced : Entry → Type 0
-IsPlaced e = e.place + total e.lengths ≤ BYTES_MAX
+-- the record ends at BYTES_MAX at the latest
+abbrev pub IsInRange : Entry → Type 0
+IsInRange e = e.offset + total e.lengths ≤ BYTES_MAX
 
 -- there are instants exactly for a list
 abbrev pub EndsIfList : Key × Entry → Type 0
 EndsIfList e = is_some e.1.ends ≡ is_list e.0
 
 -- what holds of the records of each catalogue, beside that no key is there twice
-pub record IsSound (entries : List (Key × Entry)) : Type 0 where
+pub record RecordsAreSound (entries : List (Key × Entry)) : Type 0 where
   pub bytes : bytes_of entries ≤ BYTES_MAX
-  pub placed : All IsPlaced (values_of entries)
+  pub in_range : All IsInRange (values_of entries)
   pub numbered : All IsNumbered (keys_of entries)
   pub ends : All EndsIfList entries

@@ -8,7 +8,7 @@ use Rattle.dg_shape.specs.declared.catalogue.Entry.{Entry}
 use Rattle.dg_history.specs.declared.node.Key.{Key}
 use Rattle.dg_history.specs.declared.node.Key.TheVariants as a_key
 use Rattle.dg_history.specs.Keys.{same_key}
-use Rattle.dg_shape.specs.Entries.{Holdings, length_in, place_in}
+use Rattle.dg_shape.specs.Entries.{Holdings, length_in, offset_in}
 
 -- what is held of a record
 abbrev pub entry_of : Holdings → Key → Option Entry
@@ -19,8 +19,8 @@ abbrev pub length_of : Holdings → Key → Column → Option ℕ
 length_of c key col = option_map (λ e. length_in e col) (entry_of c key)
 
 -- the byte at which a column of a record begins
-abbrev pub place_of : Holdings → Key → Column → Option ℕ
-place_of c key col = option_map (λ e. place_in e col) (entry_of c key)
+abbrev pub offset_of : Holdings → Key → Column → Option ℕ
+offset_of c key col = option_map (λ e. offset_in e col) (entry_of c key)
 
 -- the first and last instant of a list
 abbrev pub ends_of : Holdings → ℕ → Option Ends

@@ -1,4 +1,4 @@
-ghost use Rattle.std.specs.Prelude.{◌≡◌, ◌≢◌, ◌≤◌, ◌<◌, ◌+◌, List, [], ◌∷◌, ◌++◌, None, Some, is_some, IfSome, IsNone, IsTrue, IsOk, OnOk, ◌↔◌};
+ghost use Rattle.std.specs.Prelude.{◌≡◌, ◌≢◌, ◌≤◌, ◌<◌, ◌+◌, ◌^◌, List, [], ◌∷◌, ◌++◌, None, Some, is_some, IfSome, IsNone, IsTrue, IsOk, OnOk, OnErr, ◌↔◌};
 ghost use Rattle.std.specs.List.{All, IsDistinct};
 ghost use Rattle.std.specs.Map.{keys_of, values_of};
 ghost use Rattle.dg_shape.specs.declared.catalogue.Entry.{Entry};
@@ -6,8 +6,8 @@ ghost use Rattle.dg_history.specs.declared.node.Key.{Key};
 ghost use Rattle.dg_history.specs.declared.node.Key.TheVariants as a_key;
 ghost use Rattle.dg_history.specs.Keys.{same_key, is_list};
 ghost use Rattle.dg_shape.specs.Keys.{IsNumbered};
-ghost use Rattle.dg_shape.specs.Entries.{total, bytes_of, length_in, place_in, spanned, IsPlaced, EndsIfList};
-ghost use Rattle.dg_shape.specs.Held.{entry_of, length_of, place_of, ends_of};
+ghost use Rattle.dg_shape.specs.Entries.{total, bytes_of, length_in, offset_in, spanned, IsInRange, EndsIfList};
+ghost use Rattle.dg_shape.specs.Held.{entry_of, length_of, offset_of, ends_of};
 
 use dg_graph::Column;
 use dg_history::Key;
@@ -15,11 +15,19 @@ use indexmap::IndexMap;
 use std::alloc::{AllocError, Global};
 use std::marker::Model;
 
-/// The most bytes that all records may have together, and the end of the last place: 2^48.
+/// The most bytes that all records may have together, and the greatest offset at which one may end:
+/// 2^48.
 pub const BYTES_MAX: u64 = 281_474_976_710_656;
 
 /// The most lists of events: the number of each is less. 2^28.
 pub const LISTS_MAX: u32 = 268_435_456;
+
+/// The limits of a catalogue as numbers, since code and definitions alike name the constants. Does
+/// nothing.
+pub fn catalogue_limits()
+    ensures bytes { BYTES_MAX ≡ 2 ^ 48 }
+    ensures lists { LISTS_MAX ≡ 2 ^ 28 }
+{}
 
 /// The first and the last instant of a list of events, of a batch or of the history.
 #[derive(Clone, Copy, Debug, PartialEq, Eq, Hash)]
@@ -36,15 +44,15 @@ pub struct Ends {
 pub struct Entry {
     /// The bytes of each column, in their order.
     pub lengths: [u64; 3],
-    /// The byte at which the first column begins.
-    pub place: u64,
+    /// The byte of the file at which the first column begins.
+    pub offset: u64,
     /// The instants of a list of events, and `None` for every other record.
     pub ends: Option<Ends>,
 }
 
 impl Entry {
     /// The bytes of a column.
-    fn length(&self, col: Column) -> u64
+    pub fn column_length(&self, col: Column) -> u64
         ensures { result ≡ length_in self.now col }
     {
         let [structure, nodes_attr, edges_attr] = self.lengths;
@@ -55,37 +63,40 @@ impl Entry {
         }
     }
 
-    /// The byte at which a column begins.
-    fn place_of(&self, col: Column) -> u64
-        requires { IsPlaced self.now }
-        ensures { result ≡ place_in self.now col }
+    /// The byte of the file at which a column begins. The entry is one that a catalogue may hold.
+    pub fn column_offset(&self, col: Column) -> u64
+        requires { IsInRange self.now }
+        ensures { result ≡ offset_in self.now col }
     {
         let [structure, nodes_attr, _] = self.lengths;
         match col {
-            Column::Structure => self.place,
-            Column::NodeAttr => self.place + structure,
-            Column::EdgeAttr => self.place + structure + nodes_attr,
+            Column::Structure => self.offset,
+            Column::NodeAttr => self.offset + structure,
+            Column::EdgeAttr => self.offset + structure + nodes_attr,
         }
     }
 }
 
-/// What an index holds: for each key the lengths of its three columns, in bytes, and its place; the
-/// first and last instant of each list, and those of the history.
+/// What an index holds: for each key the lengths of its three columns, in bytes, and the offset of
+/// the first; the first and last instant of each list, and those of the history.
 #[derive(Drop)]
 pub struct Catalogue {
     records: IndexMap<Key, Entry>,
     span: Option<Ends>,
+    // For how many more records room was made. The map has room for at least so many.
+    room: u64,
 }
 
 impl Model for Catalogue {
+    ghost use Rattle.std.specs.Prelude.{◌≤◌};
     ghost use Rattle.indexmap.specs.IndexMap.{spare};
-    ghost use Rattle.dg_shape.specs.Entries.{Holdings, IsSound};
+    ghost use Rattle.dg_shape.specs.Entries.{Holdings, RecordsAreSound};
 
     ghost Value = { Holdings };
 
-    ghost view = { λ c. record { entries = c.records.entries; span = c.span; spare = spare c.records } };
+    ghost view = { λ c. record { entries = c.records.entries; span = c.span; spare = c.room } };
 
-    ghost invariant = { λ c. IsSound c.records.entries };
+    ghost invariant = { λ c. RecordsAreSound c.records.entries × (c.room ≤ spare c.records) };
 }
 
 impl Catalogue {
@@ -97,6 +108,7 @@ impl Catalogue {
         Catalogue {
             records: IndexMap::new(alloc),
             span: None,
+            room: 0,
         }
     }
 
@@ -104,10 +116,10 @@ impl Catalogue {
     pub fn facts(&self)
         ensures distinct { IsDistinct same_key (keys_of self.now.entries) }
         ensures bytes { bytes_of self.now.entries ≤ BYTES_MAX }
-        ensures placed { All IsPlaced (values_of self.now.entries) }
+        ensures in_range { All IsInRange (values_of self.now.entries) }
         ensures numbered { All IsNumbered (keys_of self.now.entries) }
         ensures ends { All EndsIfList self.now.entries }
-        ensures held { (key : Key) (e : Entry) → entry_of self.now key ≡ Some e → IsPlaced e × IsNumbered key × EndsIfList (key, e) }
+        ensures held { (key : Key) (e : Entry) → entry_of self.now key ≡ Some e → IsInRange e × IsNumbered key × EndsIfList (key, e) }
         ensures one { (key other : Key) → IsTrue (same_key key other) → key ≡ other }
     {
         // Its clauses tell that the keys are distinct.
@@ -118,45 +130,57 @@ impl Catalogue {
     /// answers, all that is held is as before.
     pub fn reserve(&mut self, records: u64) -> Result<(), AllocError>
         ensures room { OnOk result (records ≤ self.new.spare) }
+        ensures succeeds { records ≤ self.old.spare → IsOk result }
+
+        // What is held stays, and so does the room.
         ensures entries { self.new.entries ≡ self.old.entries }
         ensures span { self.new.span ≡ self.old.span }
         ensures kept { self.old.spare ≤ self.new.spare }
-        ensures succeeds { records ≤ self.old.spare → IsOk result }
+        ensures err { OnErr result (self.new ≡ self.old) }
     {
-        self.records.reserve(records as usize)
+        self.records.reserve(records as usize)?;
+        self.room = self.room.max(records);
+        Ok(())
     }
 
     /// Adds a record, whose three columns have these lengths in bytes and stand one after another from
-    /// `place` on. There is room for it, its key is not held yet, and `ends` is given exactly for a
-    /// list, whose number is below `LISTS_MAX`. It ends at `BYTES_MAX` at the latest, and so many bytes
-    /// have all records at the most. Takes no memory.
-    pub fn add(&mut self, key: Key, lengths: [u64; 3], place: u64, ends: Option<Ends>)
+    /// the byte `offset` on. There is room for it, its key is not held yet, and `ends` is given exactly
+    /// for a list, whose number is below `LISTS_MAX`. It ends at `BYTES_MAX` at the latest, and so many
+    /// bytes have all records at the most. Takes no memory.
+    pub fn add(&mut self, key: Key, lengths: [u64; 3], offset: u64, ends: Option<Ends>)
         requires room { 1 ≤ self.old.spare }
         requires lacks { entry_of self.old key ≡ None }
-        requires placed { place + total lengths ≤ BYTES_MAX }
+        requires in_range { offset + total lengths ≤ BYTES_MAX }
         requires bytes { bytes_of self.old.entries + total lengths ≤ BYTES_MAX }
         requires numbered { IsNumbered key }
         requires ends { is_some ends ≡ is_list key }
-        ensures entries { self.new.entries ≡ self.old.entries ++ (key, record { lengths = lengths; place = place; ends = ends }) ∷ [] }
-        ensures span { self.new.span ≡ self.old.span }
-        ensures spare { self.old.spare ≤ self.new.spare + 1 }
-        ensures held { entry_of self.new key ≡ Some (record { lengths = lengths; place = place; ends = ends }) }
-        ensures others { (other : Key) → other ≢ key → entry_of self.new other ≡ entry_of self.old other }
+
+        // The record stands last, and uses room for one.
+        ensures entries { self.new.entries ≡ self.old.entries ++ (key, record { lengths = lengths; offset = offset; ends = ends }) ∷ [] }
+        ensures held { entry_of self.new key ≡ Some (record { lengths = lengths; offset = offset; ends = ends }) }
         ensures bytes { bytes_of self.new.entries ≡ bytes_of self.old.entries + total lengths }
+        ensures spare { self.new.spare + 1 ≡ self.old.spare }
+
+        // All else stays.
+        ensures others { (other : Key) → other ≢ key → entry_of self.new other ≡ entry_of self.old other }
+        ensures span { self.new.span ≡ self.old.span }
     {
         let entry = Entry {
             lengths,
-            place,
+            offset,
             ends,
         };
         // There is room, so this cannot fail.
         self.records.insert(key, entry).unwrap();
+        self.room -= 1;
     }
 
     /// Notes a batch with these instants: the history's last instant becomes that of the batch, and
     /// its first becomes that of the batch where there was none. Takes no memory.
     pub fn add_batch(&mut self, ends: Ends)
         ensures span { self.new.span ≡ Some (spanned self.old.span ends) }
+
+        // All else stays.
         ensures entries { self.new.entries ≡ self.old.entries }
         ensures spare { self.new.spare ≡ self.old.spare }
     {
@@ -170,24 +194,33 @@ impl Catalogue {
         });
     }
 
+    /// What is told of a record, or `None` where the key is not held. One look-up by hash: for more
+    /// than one column ask for this.
+    pub fn entry(&self, key: Key) -> Option<Entry>
+        ensures entry { result ≡ entry_of self.now key }
+        ensures in_range { IfSome result IsInRange }
+        ensures ends { IfSome result (λ e. is_some e.ends ≡ is_list key) }
+    {
+        self.records.get(&key).copied()
+    }
+
     /// The bytes of a column of a record, or `None` where the key is not held.
     pub fn length(&self, key: Key, col: Column) -> Option<u64>
         ensures length { result ≡ length_of self.now key col }
         ensures within { IfSome result (λ n. n ≤ BYTES_MAX) }
         ensures lacks { IsNone result ↔ (entry_of self.now key ≡ None) }
     {
-        let entry = self.records.get(&key)?;
-        Some(entry.length(col))
+        Some(self.entry(key)?.column_length(col))
     }
 
-    /// The byte at which a column of a record begins, or `None` where the key is not held.
+    /// The byte of the file at which a column of a record begins, or `None` where the key is not
+    /// held.
     pub fn place(&self, key: Key, col: Column) -> Option<u64>
-        ensures place { result ≡ place_of self.now key col }
+        ensures place { result ≡ offset_of self.now key col }
         ensures within { IfSome result (λ n. n ≤ BYTES_MAX) }
         ensures lacks { IsNone result ↔ (entry_of self.now key ≡ None) }
     {
-        let entry = self.records.get(&key)?;
-        Some(entry.place_of(col))
+        Some(self.entry(key)?.column_offset(col))
     }
 
     /// The first and last instant of a list, or `None` where no such list is held.
@@ -195,7 +228,7 @@ impl Catalogue {
         ensures ends { result ≡ ends_of self.now list }
         ensures lacks { IsNone result ↔ (entry_of self.now (a_key.List list) ≡ None) }
     {
-        self.records.get(&Key::List(list))?.ends
+        self.entry(Key::List(list))?.ends
     }
 
     /// The first and last instant of the history, or `None` where no batch was added.

@@ -1,5 +1,5 @@
 use Rattle.dg_graph.specs.Effect.{removed_by, added_by}
-use Rattle.dg_event.proofs.Undo.{undone}
+use Rattle.dg_event.proofs.EffectLaws.{undone}
 use Rattle.dg_event.proofs.leads_back.Goals as goal
 
 pub returns : goal.returns

@@ -1,6 +1,6 @@
 use Rattle.std.proofs.Common.{◌-◌, length, take, drop, ap, ◌∙◌, arith, length-take}
 use Rattle.dg_io.specs.Told.{grown}
-use Rattle.dg_io.proofs.Growing.{both_pieces, take_next}
+use Rattle.dg_io.proofs.ToldLemmas.{both_pieces, take_next}
 use Rattle.dg_io.proofs.sink.write_whole.Goals as goal
 
 pub loop-done-preserved : goal.loop-done-preserved

@@ -1,9 +1,9 @@
 use Rattle.std.proofs.Common.{length}
-use Rattle.dg_disk.proofs.Tearing.{torn_none}
+use Rattle.dg_disk.proofs.CrashTorn.{torn_none}
 use Rattle.dg_disk.proofs.file.FileDiskDisk.write_at.Goals as goal
 
 pub returns-in-Ok-clause-crash : goal.returns-in-Ok-clause-crash
-returns-in-Ok-clause-crash g c = λ left _. (left, tt, torn_none c.args.place (length c.args.piece.now) left)
+returns-in-Ok-clause-crash g c = λ left _. (left, tt, torn_none c.args.offset (length c.args.piece.now) left)
 
 pub returns-in-Err-clause-crash : goal.returns-in-Err-clause-crash
-returns-in-Err-clause-crash g c = λ left _. (left, tt, torn_none c.args.place (length c.args.piece.now) left)
+returns-in-Err-clause-crash g c = λ left _. (left, tt, torn_none c.args.offset (length c.args.piece.now) left)

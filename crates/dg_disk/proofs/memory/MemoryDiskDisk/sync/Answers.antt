@@ -1,9 +1,9 @@
-use Rattle.std.proofs.Common.{length, Some, sym, subst, ap, ◌∙◌}
+use Rattle.std.proofs.Common.{length, rules, Some, sym, subst, ap, ◌∙◌}
 use Rattle.dg_disk.specs.Crash.{LeavesNoMore, Passes}
 use Rattle.dg_disk.specs.Deeds.{Synced, Leaves, after_all, settled}
 use Rattle.dg_disk.specs.Entries.{deeds_of}
 use Rattle.dg_disk.specs.Memory.{DiskState, LeftSince, MayLeave, image_of, moment_of}
-use Rattle.dg_disk.proofs.Passing.{Since, no_more_to, settled_to, passes_to, image_to}
+use Rattle.dg_disk.proofs.DeedsLemmas.{Since, no_more_to, settled_to, passes_to, image_to}
 use Rattle.dg_disk.proofs.memory.MemoryDiskDisk.sync.Goals as goal
 
 pub invariant_of-self-in-Ok : goal.invariant_of-self-in-Ok
@@ -12,9 +12,12 @@ invariant_of-self-in-Ok c = (
   c.self.invariant.1,
 )
 
-pub returns-in-Ok-clause-same_image : goal.returns-in-Ok-clause-same_image
-returns-in-Ok-clause-same_image c =
-    ap Some (image_to c.self.inside.first.items (deeds_of c.self.inside.log.items) (deeds_of c.note.new.log.items) Synced c.in-Ok.ensures.ok ∙ ap image_of c.self.view_is)
+pub returns-in-Ok-clause-frame : goal.returns-in-Ok-clause-frame
+returns-in-Ok-clause-frame c = record {
+  same_image = ap Some (image_to c.self.inside.first.items (deeds_of c.self.inside.log.items) (deeds_of c.note.new.log.items) Synced c.in-Ok.ensures.ok ∙ ap image_of c.self.view_is);
+  counted = search rules;
+  writes_counted = search rules;
+}
 
 pub returns-in-Ok-clause-settled : goal.returns-in-Ok-clause-settled
 returns-in-Ok-clause-settled c =

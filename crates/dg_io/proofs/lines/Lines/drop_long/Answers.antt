@@ -2,14 +2,14 @@ use Rattle.std.proofs.Common.{◌≡◌, ℕ, ◌+◌, ◌-◌, ◌<◌, ◌≤�
 use Rattle.std.proofs.lemmas.List.{length-take-le, length-drop}
 use Rattle.dg_graph.specs.declared.limits.TheConstants.{LINE_BYTES_MAX}
 use Rattle.dg_graph.specs.Lines.{Long, lines_of}
-use Rattle.dg_io.specs.Reading.{Reading, ahead, lines_on, NeedsByte}
+use Rattle.dg_io.specs.LinesState.{LinesState, ahead, lines_on, NeedsByte}
 use Rattle.dg_io.specs.Feed.{past_feed}
-use Rattle.dg_io.proofs.Cutting.{drops_long}
-use Rattle.dg_io.proofs.Ranges.{range_none}
+use Rattle.dg_io.proofs.LinesStateLemmas.{drops_long}
+use Rattle.dg_io.proofs.BufferLemmas.{range_none}
 use Rattle.dg_io.proofs.lines.Lines.drop_long.Goals as goal
 use Rattle.dg_io.proofs.lines.Lines.drop_long.Goals.{then-self-via-then-self, then-self-via-else-self+then-self-gt-WAITING_BYTES_MAX}
 
-dropped : (buffer : List ℕ) (end : ℕ) (ended : Bool) (old : Reading) (left : List ℕ) → NeedsByte old → ended ≡ old.ended → (old.long ≡ true) ⊎ (LINE_BYTES_MAX + 1 < length old.held)
+dropped : (buffer : List ℕ) (end : ℕ) (ended : Bool) (old : LinesState) (left : List ℕ) → NeedsByte old → ended ≡ old.ended → (old.long ≡ true) ⊎ (LINE_BYTES_MAX + 1 < length old.held)
     → ahead old left ≡ Long ∷ lines_of (past_feed (if ended then slice_range buffer end end else slice_range buffer end end ++ left))
 dropped buffer end ended old left needs same since =
     let going = same ∙ needs.0 in
@@ -22,11 +22,11 @@ pub returns-then-self-clause-ahead : goal.returns-then-self-clause-ahead
 returns-then-self-clause-ahead c left =
     let s = c.self.inside in
     let old = c.args.self.now in
-    let held : length (slice_range s.buffer s.start s.end) ≡ length old.held = ap (λ (r : Reading). length r.held) c.self.view_is in
+    let held : length (slice_range s.buffer s.start s.end) ≡ length old.held = ap (λ (r : LinesState). length r.held) c.self.view_is in
     let all : s.end - s.start ≤ length (drop s.start s.buffer) = omega (arith, c.self.invariant.within, length-drop s.start s.buffer) in
     let count = length-take-le (s.end - s.start) (drop s.start s.buffer) all in
     let since : (old.long ≡ true) ⊎ (LINE_BYTES_MAX + 1 < length old.held) = elim c.then-self.branch [
-      | then-self-via-then-self w ↦ inl (sym (ap (λ (r : Reading). r.long) c.self.view_is) ∙ w.if-self.true)
+      | then-self-via-then-self w ↦ inl (sym (ap (λ (r : LinesState). r.long) c.self.view_is) ∙ w.if-self.true)
       | then-self-via-else-self+then-self-gt-WAITING_BYTES_MAX w ↦ inr (omega (arith, w.if-self-gt-WAITING_BYTES_MAX.true))
     ] in
-    dropped s.buffer s.end s.ended old left c.requires (ap (λ (r : Reading). r.ended) c.self.view_is) since
+    dropped s.buffer s.end s.ended old left c.requires (ap (λ (r : LinesState). r.ended) c.self.view_is) since

@@ -1,6 +1,7 @@
-use Rattle.std.proofs.Common.{◌≡◌, sym, ap, ◌∙◌, subst}
-use Rattle.dg_io.specs.Reading.{Reading, NeedsByte}
-use Rattle.dg_io.proofs.Going.{Going, going_more, taken_more}
+use Rattle.std.proofs.Common.{sym, subst}
+use Rattle.dg_io.specs.LinesState.{LinesState, NeedsByte}
+use Rattle.dg_io.specs.Frame.{Advances}
+use Rattle.dg_io.proofs.FrameLemmas.{Going, going_more, advances_both}
 use Rattle.dg_io.proofs.lines.Lines.next.Goals as goal
 
 pub loop-line-preserved : goal.loop-line-preserved
@@ -11,12 +12,13 @@ loop-line-preserved g c =
     let first = c.args.self.now in
     let left = g.S.Source.left in
     let faults = g.S.Source.faults in
-    let going = subst (λ (r : Reading). Going first r (left c.args.source.now) (left c.loop-line.source) (faults c.args.source.now) (faults c.loop-line.source)) (sym none.1) c.loop-line.invariant in
+    let going = subst (λ (r : LinesState). Going first r (left c.args.source.now) (left c.loop-line.source) (faults c.args.source.now) (faults c.loop-line.source)) (sym none.1) c.loop-line.invariant in
     going_more first cut c.fill.new.self _ _ _ _ _ _ going (subst NeedsByte (sym none.1) none.0) (λ full. let e = fill.due full in cc)
-    fill.told fill.kept fill.taken fill.same_limit fill.counted fill.at_end
+    fill.told fill.advances
 
-pub returns-in_err-fill-clause-taken : goal.returns-in_err-fill-clause-taken
-returns-in_err-fill-clause-taken g c =
-    let same : c.cut.new.self.taken ≡ c.loop-line.self.taken = ap (λ (r : Reading). r.taken) c.in_default.ensures.none.1 in
-    let before = c.loop-line.invariant.taken in
-    taken_more _ _ _ c.args.self.now.taken c.cut.new.self.taken c.fill.new.self.taken (before.0, before.1, same ∙ before.2) c.in_err-fill.ensures.taken
+pub returns-in_err-fill-clause-advances : goal.returns-in_err-fill-clause-advances
+returns-in_err-fill-clause-advances g c =
+    let left = g.S.Source.left c.loop-line.source in
+    let faults = g.S.Source.faults c.loop-line.source in
+    let fill = subst (λ (r : LinesState). Advances r left faults c.fill.new.self (g.S.Source.left c.fill.new.source) (g.S.Source.faults c.fill.new.source)) c.in_default.ensures.none.1 c.fill.ensures.advances in
+    advances_both _ c.loop-line.self _ _ left _ _ faults _ c.loop-line.invariant.advances fill

@@ -1,5 +1,5 @@
 use Rattle.std.proofs.Common.{◌-◌, ◌+◌, if◌then◌else◌}
-use Rattle.dg_io.proofs.Going.{Going}
+use Rattle.dg_io.proofs.FrameLemmas.{Going}
 use Rattle.dg_io.proofs.lines.Lines.next.Given as goal
 
 abbrev pub invariant-loop-line : goal.invariant-loop-line

@@ -1,6 +1,6 @@
 use Rattle.std.proofs.Common.{◌≡◌, ℕ, ◌+◌, ◌-◌, ◌≤◌, List, length, take, drop, ◌++◌, sym, ap, ◌∙◌, arith, Some, length-take, take-append-drop}
 use Rattle.std.proofs.lemmas.List.{take_at, drop-drop}
-use Rattle.dg_io.specs.Memory.{SourceState}
+use Rattle.dg_io.specs.MemoryForms.{SourceState}
 use Rattle.dg_io.proofs.memory.MemorySourceSource.read.Goals as goal
 
 -- what is left, where the next n bytes of it were copied

@@ -1,7 +1,7 @@
 use Rattle.std.proofs.Common.{◌≡◌, List, [], ◌∷◌, ◌++◌, ℕ, Some, None, map, slice_get, subst, sym, ◌∙◌}
 use Rattle.dg_graph.specs.Names.{number_of}
-use Rattle.dg_names.specs.Names.{AreFew, AreShort}
-use Rattle.dg_names.proofs.Numbers.{grown, grown_place, fits_grown, added_last, key_stands, stays, distinct-map, number_here}
+use Rattle.dg_names.specs.NameLimits.{AreFew, AreShort}
+use Rattle.dg_names.proofs.NumberOf.{grown, grown_index, fits_grown, added_last, key_stands, stays, distinct-map, number_here}
 use Rattle.dg_names.proofs.names.Names.add.Goals as goal
 
 none : (c : goal.In_ok-number) → number_of c.args.self.now c.args.text.now ≡ None
@@ -30,7 +30,7 @@ pub returns-clause-number : goal.returns-clause-number
 returns-clause-number c = number_here _ (distinct-map (λ k. k.items) _ c.in_ok-number.ensures.unique) c.in_ok-number.number c.args.text.now (found c)
 
 pub returns-clause-fresh : goal.returns-clause-fresh
-returns-clause-fresh c = λ _. c.in_ok-number.ensures.index ∙ grown_place (λ k. k.items) c.self.inside.texts.keys c.in_ok-copy.copy c.args.text.now c.args.self.now c.self.view_is c.in_ok-copy.ensures.items (none c)
+returns-clause-fresh c = λ _. c.in_ok-number.ensures.index ∙ grown_index (λ k. k.items) c.self.inside.texts.keys c.in_ok-copy.copy c.args.text.now c.args.self.now c.self.view_is c.in_ok-copy.ensures.items (none c)
 
 pub returns-clause-kept : goal.returns-clause-kept
 returns-clause-kept c = stays c.args.self.now _ c.args.text.now (after c)

@@ -1,6 +1,7 @@
-use Rattle.std.proofs.Common.{subst, sym}
-use Rattle.dg_graph.specs.Elements.{IsSet}
-use Rattle.dg_graph.proofs.Sets.{IsSet-without_all}
+use Rattle.std.proofs.Common.{subst, sym, ap, ◌∙◌}
+use Rattle.dg_graph.specs.Elements.{IsSet, has}
+use Rattle.dg_graph.specs.Sets.{without_all}
+use Rattle.dg_graph.proofs.Sets.{has-without_all, IsSet-without_all}
 use Rattle.dg_set.proofs.set.Set.minus.Goals as goal
 
 pub invariant_of-result : goal.invariant_of-result
@@ -9,3 +10,10 @@ invariant_of-result c =
     let right = c.deref-2.result.now in
     let left_set = subst IsSet (sym c.deref.ensures.value) c.self.invariant in
     subst IsSet (sym c.in_ok-items.ensures) (IsSet-without_all left right left_set)
+
+pub returns-clause-members : goal.returns-clause-members
+returns-clause-members c x =
+    let left = c.deref.ensures.value ∙ c.self.view_is in
+    let right = c.deref-2.ensures.value ∙ c.other.view_is in
+    ap (λ l. has l x) (c.in_ok-items.ensures ∙ (λ i. without_all (left i) (right i)))
+    ∙ has-without_all c.args.self.now c.args.other.now x

@@ -1,4 +1,4 @@
-use Rattle.std.proofs.Common.{◌≡◌, ◌+◌, ◌≤◌, [], ◌∷◌, ◌++◌, ap, subst, sym, ◌∙◌}
+use Rattle.std.proofs.Common.{◌≡◌, ◌+◌, ◌≤◌, [], ◌∷◌, ◌++◌, ap, subst, sym, ◌∙◌, arith}
 use Rattle.indexmap.proofs.CallerLemmas.{insert_entry-new}
 use Rattle.dg_shape.specs.declared.catalogue.Entry.{Entry}
 use Rattle.dg_shape.specs.declared.catalogue.TheConstants.{BYTES_MAX}
@@ -7,11 +7,11 @@ use Rattle.dg_shape.proofs.Records.{from_ok, look_up_is, still_sound, added_held
 use Rattle.dg_shape.proofs.catalogue.Catalogue.add.Goals as goal
 
 -- the record that is added
-abbrev added : (c : goal.After-unwrap) → Entry
-added c = record { lengths = c.args.lengths; place = c.args.place; ends = c.args.ends }
+abbrev added : (c : goal.After-self-1) → Entry
+added c = record { lengths = c.args.lengths; offset = c.args.offset; ends = c.args.ends }
 
 -- it stands last
-last : (c : goal.After-unwrap) → c.insert.new.self.entries ≡ c.self.inside.records.entries ++ (c.args.key, added c) ∷ []
+last : (c : goal.After-self-1) → c.insert.new.self.entries ≡ c.self.inside.records.entries ++ (c.args.key, added c) ∷ []
 last c =
     from_ok c.insert.result c.unwrap.result _ c.unwrap.ensures c.insert.ensures.entries
     ∙ insert_entry-new _ c.self.inside.records c.args.key (added c)
@@ -20,9 +20,10 @@ last c =
 pub invariant_of-self : goal.invariant_of-self
 invariant_of-self c =
     let bytes = subst (λ (h : Holdings). bytes_of h.entries + total c.args.lengths ≤ BYTES_MAX) (sym c.self.view_is) c.requires.bytes in
-    still_sound _ _ c.args.key (added c) (last c) c.self.invariant bytes c.requires.placed c.requires.numbered c.requires.ends
+    let sound = still_sound _ _ c.args.key (added c) (last c) c.self.invariant.0 bytes c.requires.in_range c.requires.numbered c.requires.ends in
+    (sound, omega (arith, c.insert.ensures.spare, c.self.invariant.1))
 
-put_last : (c : goal.After-unwrap) → c.insert.new.self.entries ≡ c.args.self.now.entries ++ (c.args.key, added c) ∷ []
+put_last : (c : goal.After-self-1) → c.insert.new.self.entries ≡ c.args.self.now.entries ++ (c.args.key, added c) ∷ []
 put_last c = last c ∙ ap (λ (h : Holdings). h.entries ++ (c.args.key, added c) ∷ []) c.self.view_is
 
 pub returns-clause-entries : goal.returns-clause-entries
