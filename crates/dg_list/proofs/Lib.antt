@@ -1,5 +1,5 @@
 pub mod Nets
-pub mod Finding
-pub mod Keeping
-pub mod Exact
-pub mod Marking
+pub mod Completion
+pub mod Graph
+pub mod NetLaws
+pub mod EventMarks

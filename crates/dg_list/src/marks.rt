@@ -7,7 +7,7 @@ ghost use Rattle.dg_graph.specs.Composition.{Composes};
 ghost use Rattle.dg_graph.specs.Elements.{element_cmp};
 ghost use Rattle.dg_graph.specs.Effect.{removed_by, added_by};
 ghost use Rattle.dg_list.specs.Lists.{counts};
-ghost use Rattle.dg_list.specs.Marks.{word_of, marks_of, earlier, names_first, lasts};
+ghost use Rattle.dg_list.specs.EventMarks.{word_of, marks_of, earlier, names_first, lasts};
 
 use dg_delta::{Delta, Element, Set};
 use dg_event::{Event, effect};
@@ -98,12 +98,12 @@ fn sort(marks: &mut Vec<Mark>) -> Result<(), AllocError>
     marks.sort_by(|left, right| compare(&left.element, &right.element))
 }
 
-/// Whether the mark at the place is of the element. None is at the end of the marks.
-fn is_of(element: &Element, marks: &[Mark], at: usize) -> bool
-    ensures { result ≡ names_first element.now (drop at marks.now) }
+/// Whether the mark at the index is of the element. None is at the end of the marks.
+fn is_of(element: &Element, marks: &[Mark], index: usize) -> bool
+    ensures { result ≡ names_first element.now (drop index marks.now) }
 {
-    if at < marks.len() {
-        compare(element, &marks[at].element).is_eq()
+    if index < marks.len() {
+        compare(element, &marks[index].element).is_eq()
     } else {
         false
     }
@@ -117,9 +117,9 @@ fn lasts(alloc: Global, marks: &[Mark]) -> Result<(Vec<Element>, Vec<Element>), 
 {
     let mut minus = Vec::new(alloc);
     let mut plus = Vec::new(alloc);
-    for at in 0..marks.len() {
-        let mark = marks[at];
-        if !is_of(&mark.element, marks, at + 1) {
+    for index in 0..marks.len() {
+        let mark = marks[index];
+        if !is_of(&mark.element, marks, index + 1) {
             if mark.puts_in {
                 plus.push(mark.element)?;
             } else {

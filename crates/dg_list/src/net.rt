@@ -9,6 +9,7 @@ use crate::marks::{marks_back, marks_on, net_of};
 use dg_delta::Delta;
 use dg_event::Event;
 use std::alloc::{AllocError, Global};
+use std::thread::Threads;
 
 /// The net of the events up to the instant `t`, and with it. The times may be in any order. An `Err`
 /// says that memory ran out.
@@ -30,9 +31,18 @@ pub fn net_back(alloc: Global, events: &[Event]) -> Result<Delta, AllocError>
     net_of(alloc, marks)
 }
 
-/// The net of the events of `left` and then those of `right`. An `Err` says that memory ran out.
-pub fn merge_lists(alloc: Global, left: &[Event], right: &[Event]) -> Result<Delta, AllocError>
+/// The net of the events of `left` and then those of `right`. The two nets rest on nothing of each
+/// other: the runtime is taken so that they can be made in two threads, and today they are made one
+/// after the other. An `Err` says that memory ran out.
+pub fn merge_lists<R: Threads>(
+    _rt: &R,
+    alloc: Global,
+    left: &[Event],
+    right: &[Event],
+) -> Result<Delta, AllocError>
     ensures composes { IfOk result (λ d. Composes d (map effect_of (left.now ++ right.now))) }
+    ensures applies { IfOk result (λ d. (set : List Element) → IsSet set
+        → applied d set ≡ replay_from set (left.now ++ right.now)) }
 {
     let first = net_on(alloc, left, None)?;
     let then = net_on(alloc, right, None)?;

@@ -248,7 +248,7 @@ fn two_lists_have_the_net_of_one_after_the_other(rt: HostRuntime) -> Result<(), 
             (u64::MAX, JOIN),
         ],
     )?;
-    let merged = merge_lists(alloc, &left, &right)?;
+    let merged = merge_lists(&rt, alloc, &left, &right)?;
     let minus = [VALUE_SEVEN].as_slice();
     let plus = [NODE, EDGE, VALUE_EIGHT].as_slice();
     assert!(rt; has_sets(&merged, minus, plus));

@@ -1,4 +1,4 @@
-pub mod Places
-pub mod Cells
-pub mod Happening
+pub mod ElementIds
+pub mod HeldGraph
+pub mod EventEffect
 pub mod Now

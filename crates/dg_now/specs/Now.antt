@@ -14,13 +14,13 @@ pub record NowState : Type 0 where
   pub pending : List Event
 
 -- the earliest time of a batch after this last one
-abbrev pub earliest_after : Option ℕ → ℕ
-earliest_after None = 0
-earliest_after (Some last) = last + 1
+abbrev pub earliest_time_after : Option ℕ → ℕ
+earliest_time_after None = 0
+earliest_time_after (Some last) = last + 1
 
 -- what the changes come to as a batch in the graph after the last time
-abbrev pub batch_in : List Element → Option ℕ → List Change → Result (List Event) (ℕ × ℕ)
-batch_in graph last changes = completed 1 (earliest_after last) graph (map (λ (c : Change). Some c) changes)
+abbrev pub completed_batch : List Element → Option ℕ → List Change → Result (List Event) (ℕ × ℕ)
+completed_batch graph last changes = completed 1 (earliest_time_after last) graph (map (λ (c : Change). Some c) changes)
 
 -- the fault is that of the changes, or want of memory
 abbrev pub FaultOf : Result (List Event) (ℕ × ℕ) → PrepareFault → Type 0

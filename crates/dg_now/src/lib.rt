@@ -1,15 +1,15 @@
-//! The current graph of a history, kept by id, and the events of a batch that are not in it yet.
+//! The current graph of a history, kept by element id, and the events of a batch that are not in it yet.
 //! docs/MODEL.md has the definitions.
 #![tactic(auto)]
 
-mod cells;
-mod completing;
+mod completion;
+mod element_entry;
+mod element_id;
+mod element_list;
+mod event_effect;
 mod fault;
-mod held;
-mod listing;
-mod moving;
+mod held_graph;
 mod now;
-mod place;
 #[cfg(test)]
 mod tests;
 

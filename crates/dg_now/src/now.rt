@@ -4,15 +4,15 @@ ghost use Rattle.dg_graph.specs.Effect.{forwards};
 ghost use Rattle.dg_graph.specs.Graph.{IsGraph, has_needs};
 ghost use Rattle.dg_graph.specs.Elements.{IsSet};
 ghost use Rattle.dg_graph.specs.Replay.{replay_from};
-ghost use Rattle.dg_now.specs.Places.{place_of, at};
-ghost use Rattle.dg_now.specs.Now.{NowState, earliest_after, batch_in, FaultOf, ends_in};
+ghost use Rattle.dg_now.specs.ElementIds.{element_id_of, at};
+ghost use Rattle.dg_now.specs.Now.{NowState, earliest_time_after, completed_batch, FaultOf, ends_in};
 
-use crate::completing::{edge_of, has_node, is_change_of, value_in};
+use crate::completion::{edge_of, has_node, is_change_of, value_in};
+use crate::element_id::{ElementId, element_before};
+use crate::element_list::{before_pending, first_changes, push};
+use crate::event_effect::{apply, complete_all, undo};
 use crate::fault::{FromFault, PrepareFault};
-use crate::held::Held;
-use crate::listing::{first_changes, push, stood_at};
-use crate::moving::{apply, complete_all, undo};
-use crate::place::{Place, before_in, place_in, place_of};
+use crate::held_graph::HeldGraph;
 use dg_graph::{Change, Element, Event};
 use dg_set::Set;
 use std::alloc::{AllocError, Global};
@@ -20,17 +20,18 @@ use std::marker::Model;
 
 /// The current graph, and the events of a batch that are pending.
 ///
-/// What is held is the graph with the pending events, so `commit` only forgets them, `abandon` undoes
-/// them, and a look-up passes over them first.
+/// What is held is the graph with the pending events, so `commit` only forgets them, and `abandon`
+/// undoes them. A look-up passes over the pending events first, one after another, and then takes one
+/// hash: it is meant for when nothing is pending.
 #[derive(Drop)]
 pub struct Now {
-    held: Held,
+    held: HeldGraph,
     pending: Vec<Event>,
 }
 
 impl Model for Now {
     ghost use Rattle.dg_now.specs.Now.{NowState};
-    ghost use Rattle.dg_now.specs.Happening.{rewound, Led};
+    ghost use Rattle.dg_now.specs.EventEffect.{rewound, Led};
 
     ghost Value = { NowState };
 
@@ -46,14 +47,14 @@ impl Now {
         ensures pending { result.pending ≡ [] }
     {
         Now {
-            held: Held::new(alloc),
+            held: HeldGraph::new(alloc),
             pending: Vec::new(alloc),
         }
     }
 
     /// The graph of these elements, and nothing pending. `FromFault::NotGraph` where they are no graph:
-    /// an element lacks what it needs, or two elements stand at one place; `FromFault::Memory` for want
-    /// of memory.
+    /// an element lacks what it needs, or two elements have one id; `FromFault::Memory` for want of
+    /// memory.
     pub fn from_set(alloc: Global, set: &Set) -> Result<Now, FromFault>
         ensures ok { IfOk result (λ now. (now.graph ≡ set.now) × (now.pending ≡ []) × IsGraph set.now) }
         ensures not_graph { IsErrOf result FromFault.NotGraph → IsGraph set.now → ⊥ }
@@ -85,15 +86,21 @@ impl Now {
     ) -> Result<Vec<Event>, PrepareFault>
         requires none_pending { self.old.pending ≡ [] }
         requires some { 1 ≤ length changes.now }
-        requires few { length changes.now ≤ 1048576 }
+        requires few { length changes.now ≤ 2 ^ 20 }
         requires last { IfSome last (λ t. t < 2 ^ 63) }
-        ensures ok { IfOk result (λ events. batch_in self.old.graph last changes.now ≡ Ok events.items) }
+
+        // The events are those of the changes, and are pending.
+        ensures ok { IfOk result (λ events. completed_batch self.old.graph last changes.now ≡ Ok events.items) }
         ensures pending { IfOk result (λ events. self.new.pending ≡ events.items) }
-        ensures bad { IfErr result (FaultOf (batch_in self.old.graph last changes.now)) }
-        ensures same_graph { self.new.graph ≡ self.old.graph }
+
+        // A refusal is that of the changes.
+        ensures bad { IfErr result (FaultOf (completed_batch self.old.graph last changes.now)) }
         ensures err { OnErr result (self.new ≡ self.old) }
+
+        // The graph stays.
+        ensures same_graph { self.new.graph ≡ self.old.graph }
     {
-        let earliest = earliest_after(last);
+        let earliest = earliest_time_after(last);
         self.held.reserve(changes.len())?;
         self.pending.reserve(changes.len())?;
         if let Err((line, reason)) = complete_all(
@@ -134,8 +141,12 @@ impl Now {
     /// An `Err` says that memory ran out, and nothing has changed.
     pub fn follow(&mut self, event: &Event) -> Result<bool, AllocError>
         requires none_pending { self.old.pending ≡ [] }
+
+        // The graph is past the event, or as before.
         ensures went { IfOk result (λ went. went ≡ is_change_of self.old.graph event.now.body) }
         ensures on { IfOk result (λ went. self.new.graph ≡ (if went then forwards self.old.graph event.now else self.old.graph)) }
+
+        // Nothing is pending, and want of memory changes nothing.
         ensures none { self.new.pending ≡ [] }
         ensures err { OnErr result (self.new ≡ self.old) }
     {
@@ -147,24 +158,24 @@ impl Now {
         Ok(true)
     }
 
-    // What stands at the place in the graph: what stood there before the first pending event that
-    // changes it, or what is held there.
-    fn element_at(&self, place: Place) -> Option<Element>
-        ensures { result ≡ at self.now.graph place }
+    // The element with the id in the graph: that before the first pending event that changes it, or
+    // the one that is held.
+    fn element_at(&self, id: ElementId) -> Option<Element>
+        ensures { result ≡ at self.now.graph id }
     {
         for event in &self.pending {
-            if place_in(&event.body) == place {
-                return before_in(&event.body);
+            if ElementId::changed_by(&event.body) == id {
+                return element_before(&event.body);
             }
         }
-        self.held.element_at(place)
+        self.held.element_at(id)
     }
 
     /// Whether the node is in the graph.
     pub fn node(&self, id: u64) -> bool
         ensures { result ≡ has_node self.now.graph id }
     {
-        self.element_at(Place::Node(id)).is_some()
+        self.element_at(ElementId::Node(id)).is_some()
     }
 
     /// The source and the destination of the edge of this id, and whether it is directed; `None` where
@@ -172,7 +183,7 @@ impl Now {
     pub fn edge(&self, id: u64) -> Option<(u64, u64, bool)>
         ensures { result ≡ ends_in (edge_of self.now.graph id) }
     {
-        match self.element_at(Place::Edge(id)) {
+        match self.element_at(ElementId::Edge(id)) {
             Some(
                 Element::Edge {
                     src,
@@ -189,27 +200,27 @@ impl Now {
     pub fn node_value(&self, id: u64, key: u32) -> Option<u32>
         ensures { result ≡ node_value self.now.graph id key }
     {
-        value_in(self.element_at(Place::NodeValue(id, key)))
+        value_in(self.element_at(ElementId::NodeValue(id, key)))
     }
 
     /// The value of the key at the edge.
     pub fn edge_value(&self, id: u64, key: u32) -> Option<u32>
         ensures { result ≡ edge_value self.now.graph id key }
     {
-        value_in(self.element_at(Place::EdgeValue(id, key)))
+        value_in(self.element_at(ElementId::EdgeValue(id, key)))
     }
 
     /// The elements of the graph. An `Err` says that memory ran out.
     pub fn to_set(&self) -> Result<Set, AllocError>
         ensures { IfOk result (λ set. set ≡ self.now.graph) }
     {
-        // What stands somewhere has a cell.
+        // The id of each element has an entry.
         self.held.facts();
         let alloc = *self.pending.allocator();
         let first = first_changes(alloc, &self.pending)?;
         let mut elements = Vec::with_capacity(alloc, self.held.len())?;
         for index in 0..self.held.len() {
-            let element = stood_at(&first, &self.held, self.held.place(index));
+            let element = before_pending(&first, &self.held, self.held.id(index));
             push(&mut elements, element)?;
         }
         elements.sort_unstable();
@@ -221,9 +232,9 @@ impl Now {
 }
 
 // The earliest time of a batch after the last one.
-fn earliest_after(last: Option<u64>) -> u64
+fn earliest_time_after(last: Option<u64>) -> u64
     requires { IfSome last (λ t. t < 2 ^ 63) }
-    ensures { result ≡ earliest_after last }
+    ensures { result ≡ earliest_time_after last }
 {
     match last {
         None => 0,
@@ -232,7 +243,7 @@ fn earliest_after(last: Option<u64>) -> u64
 }
 
 // Whether what the element needs is held.
-fn is_fed(held: &Held, element: &Element) -> bool
+fn is_fed(held: &HeldGraph, element: &Element) -> bool
     ensures { result ≡ has_needs held.now.set element.now }
 {
     match *element {
@@ -243,21 +254,21 @@ fn is_fed(held: &Held, element: &Element) -> bool
     }
 }
 
-// Whether nothing stands at the element's place, and what it needs is held.
-fn has_room_for(held: &Held, element: &Element) -> bool
-    ensures { result ≡ (not (is_some (at held.now.set (place_of element.now))) && has_needs held.now.set element.now) }
+// Whether no element has the id of this one, and what it needs is held.
+fn has_room_for(held: &HeldGraph, element: &Element) -> bool
+    ensures { result ≡ (not (is_some (at held.now.set (element_id_of element.now))) && has_needs held.now.set element.now) }
 {
-    held.element_at(place_of(element)).is_none() && is_fed(held, element)
+    held.element_at(ElementId::of(element)).is_none() && is_fed(held, element)
 }
 
 // The graph of these elements, which rise strictly. What an element needs stands before it in their
 // order, so it is held already.
-fn hold(alloc: Global, elements: &[Element]) -> Result<Held, FromFault>
+fn hold(alloc: Global, elements: &[Element]) -> Result<HeldGraph, FromFault>
     requires { IsSet elements.now }
     ensures ok { IfOk result (λ held. (held.set ≡ elements.now) × IsGraph elements.now) }
     ensures not_graph { IsErrOf result FromFault.NotGraph → IsGraph elements.now → ⊥ }
 {
-    let mut held = Held::new(alloc);
+    let mut held = HeldGraph::new(alloc);
     held.reserve(elements.len())?;
     for element in elements {
         if !has_room_for(&held, element) {

@@ -1,4 +1,4 @@
-use Rattle.dg_list.proofs.Exact.{changes_are_exact}
+use Rattle.dg_list.proofs.NetLaws.{changes_are_exact}
 use Rattle.dg_list.proofs.laws.law_changes_of_a_graph_are_exact.Goals as goal
 
 pub returns : goal.returns

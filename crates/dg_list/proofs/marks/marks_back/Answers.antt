@@ -1,12 +1,9 @@
-use Rattle.std.proofs.Common.{◌≡◌, ◌++◌, ◌∷◌, [], map, reverse, length, drop, sym, ap, subst, ◌∙◌, append_assoc}
-use Rattle.std.specs.List.{flat_map}
+use Rattle.std.proofs.Common.{reverse, length}
 use Rattle.std.proofs.lemmas.List.{length_push}
 use Rattle.std.proofs.lemmas.Iterator.Adapters.{YieldsList-from_rev_slice}
 use Rattle.std.proofs.lemmas.Iterator.Consumers.{YieldsList-turn}
-use Rattle.dg_graph.specs.declared.event.Event.{Event}
 use Rattle.dg_graph.specs.Effect.{removed_by, added_by}
-use Rattle.dg_list.specs.Marks.{marks_of}
-use Rattle.dg_list.proofs.Marking.{marks_turn}
+use Rattle.dg_list.proofs.EventMarks.{marks_turn}
 use Rattle.dg_list.proofs.marks.marks_back.Goals as goal
 
 pub loop-event-preserved : goal.loop-event-preserved

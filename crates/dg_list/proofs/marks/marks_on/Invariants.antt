@@ -3,7 +3,7 @@ use Rattle.std.specs.List.{flat_map}
 use Rattle.dg_graph.specs.declared.event.Event.{Event}
 use Rattle.dg_graph.specs.Effect.{removed_by, added_by}
 use Rattle.dg_list.specs.Lists.{counts}
-use Rattle.dg_list.specs.Marks.{marks_of}
+use Rattle.dg_list.specs.EventMarks.{marks_of}
 use Rattle.dg_list.proofs.marks.marks_on.Given as goal
 
 abbrev pub invariant-loop-event : goal.invariant-loop-event

@@ -1,8 +1,8 @@
-use Rattle.std.proofs.Common.{sym, subst, ◌∙◌}
+use Rattle.std.proofs.Common.{sym, subst}
 use Rattle.std.proofs.lemmas.Result.{IfOk-weaker}
 use Rattle.std.specs.List.Sorted.{IsSortedBy, IsStableBy}
-use Rattle.dg_list.specs.Marks.{earlier}
-use Rattle.dg_list.proofs.Marking.{net_is}
+use Rattle.dg_list.specs.EventMarks.{earlier}
+use Rattle.dg_list.proofs.EventMarks.{net_is}
 use Rattle.dg_list.proofs.marks.net_of.Goals as goal
 
 pub returns : goal.returns

@@ -1,7 +1,7 @@
-use Rattle.std.proofs.Common.{◌∙◌, sym, subst, true, false}
+use Rattle.std.proofs.Common.{◌∙◌, sym, subst}
 use Rattle.dg_graph.specs.Elements.{IsSet}
-use Rattle.dg_delta.specs.Deltas.{AreApart}
-use Rattle.dg_list.proofs.Marking.{rises_sorted, lasts_keep}
+use Rattle.dg_set.specs.Apart.{AreApart}
+use Rattle.dg_list.proofs.EventMarks.{rises_sorted, lasts_keep}
 use Rattle.dg_list.proofs.marks.net_of_sorted.Goals as goal
 
 pub from_rising-requires : goal.from_rising-requires

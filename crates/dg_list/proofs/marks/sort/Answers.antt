@@ -1,8 +1,8 @@
 use Rattle.std.proofs.Common.{rules}
 use Rattle.std.proofs.lemmas.Result.{on_ok_weaker}
 use Rattle.std.proofs.lemmas.List.Sorted.{answers_always}
-use Rattle.dg_list.specs.Marks.{earlier}
-use Rattle.dg_list.proofs.Marking.{earlier_ranks}
+use Rattle.dg_list.specs.EventMarks.{earlier}
+use Rattle.dg_list.proofs.EventMarks.{earlier_ranks}
 use Rattle.dg_list.proofs.marks.sort.Goals as goal
 
 pub returns-clause-sorted : goal.returns-clause-sorted

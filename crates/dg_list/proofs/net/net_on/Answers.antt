@@ -3,7 +3,7 @@ use Rattle.std.proofs.lemmas.Result.{IfOk-weaker}
 use Rattle.dg_graph.specs.declared.event.Event.{Event}
 use Rattle.dg_graph.specs.Effect.{removed_by, added_by}
 use Rattle.dg_list.specs.Lists.{counts}
-use Rattle.dg_list.proofs.Marking.{events_net}
+use Rattle.dg_list.proofs.EventMarks.{events_net}
 use Rattle.dg_list.proofs.net.net_on.Goals as goal
 
 pub returns : goal.returns

@@ -5,11 +5,11 @@ use Rattle.dg_graph.specs.declared.element.Element.{Element}
 use Rattle.dg_graph.specs.declared.element.Element.TheVariants as element
 use Rattle.dg_graph.specs.Elements.{put}
 use Rattle.dg_graph.specs.Graph.{IsGraph, has_needs}
-use Rattle.dg_now.specs.Places.{place_of, at}
-use Rattle.dg_now.proofs.Rising.{put_next, graph_takes}
+use Rattle.dg_now.specs.ElementIds.{element_id_of, at}
+use Rattle.dg_now.proofs.ToSet.{put_next, graph_takes}
 use Rattle.dg_now.proofs.now.hold.Goals as goal
 
--- what a place past the list reads as
+-- what an index past the list reads as
 abbrev past : Element
 past = element.Node 0
 
@@ -20,7 +20,7 @@ returns-then-not-has_room_for-clause-not_graph c = λ e g.
     let x = slice_index_or elements i past in
     true≢false
     (sym (graph_takes elements g i past c.loop-element-test.true)
-    ∙ ap (λ s. not (is_some (at s (place_of x))) && has_needs s x) (sym c.loop-element.invariant.set)
+    ∙ ap (λ s. not (is_some (at s (element_id_of x))) && has_needs s x) (sym c.loop-element.invariant.set)
     ∙ sym c.has_room_for.ensures ∙ c.if-not-has_room_for.true)
 
 pub loop-element-preserved : goal.loop-element-preserved

@@ -1,8 +1,8 @@
 use Rattle.std.proofs.Common.{◌≡◌, List, [], sym, subst}
 use Rattle.dg_graph.specs.declared.event.Event.{Event}
-use Rattle.dg_now.specs.Happening.{Led, rewound}
-use Rattle.dg_now.proofs.Happens.{led_is_graph}
-use Rattle.dg_now.proofs.Stating.{led_none}
+use Rattle.dg_now.specs.EventEffect.{Led, rewound}
+use Rattle.dg_now.proofs.EventEffect.{led_is_graph}
+use Rattle.dg_now.proofs.NowState.{led_none}
 use Rattle.dg_now.proofs.now.Now.commit.Goals as goal
 
 pub invariant_of-self : goal.invariant_of-self

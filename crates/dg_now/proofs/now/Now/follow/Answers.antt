@@ -1,11 +1,11 @@
 use Rattle.std.proofs.Common.{◌≡◌, List, [], sym, ap, subst, ◌∙◌}
 use Rattle.dg_graph.specs.declared.event.Event.{Event}
 use Rattle.dg_graph.specs.Graph.{IsGraph}
-use Rattle.dg_now.specs.Happening.{CanHappen, Led, rewound}
+use Rattle.dg_now.specs.EventEffect.{CanHappen, Led, rewound}
 use Rattle.dg_now.specs.Now.{NowState}
-use Rattle.dg_now.proofs.Fitting.{followed_still}
-use Rattle.dg_now.proofs.Happens.{led_is_graph, graph_forwards}
-use Rattle.dg_now.proofs.Stating.{led_none}
+use Rattle.dg_now.proofs.EventOf.{followed_still}
+use Rattle.dg_now.proofs.EventEffect.{led_is_graph, graph_forwards}
+use Rattle.dg_now.proofs.NowState.{led_none}
 use Rattle.dg_now.proofs.now.Now.follow.Goals as goal
 
 pub apply-requires-clause-happens : goal.apply-requires-clause-happens

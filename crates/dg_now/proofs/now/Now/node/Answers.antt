@@ -1,5 +1,5 @@
 use Rattle.std.proofs.Common.{is_some, ap, ◌∙◌}
-use Rattle.dg_now.proofs.Standing.{has_node_is}
+use Rattle.dg_now.proofs.ElementIds.{has_node_is}
 use Rattle.dg_now.proofs.now.Now.node.Goals as goal
 
 pub returns : goal.returns

@@ -1,7 +1,7 @@
 use Rattle.std.proofs.Common.{◌≡◌, sym, ap, ◌∙◌}
-use Rattle.dg_now.specs.Happening.{Led, rewound}
+use Rattle.dg_now.specs.EventEffect.{Led, rewound}
 use Rattle.dg_now.specs.Now.{NowState}
-use Rattle.dg_now.proofs.Stating.{led_back, led_again, held_alone, same_state}
+use Rattle.dg_now.proofs.NowState.{led_back, led_again, held_alone, same_state}
 use Rattle.dg_now.proofs.now.Now.prepare.Goals as goal
 use Rattle.dg_now.proofs.now.Now.prepare.Goals.{After-complete_all}
 
