@@ -6,7 +6,7 @@ use Rattle.std.proofs.lemmas.List.{take_at, drop_at, take-append-drop, drop-drop
 use Rattle.std.proofs.lemmas.Nat.{be_bytes_2, be_bytes_4, be_bytes_8, from_be_bytes-to_be_bytes_2, from_be_bytes-to_be_bytes_4, from_be_bytes-to_be_bytes_8}
 use Rattle.dg_graph.specs.Columns.{two, four, eight}
 use Rattle.dg_graph.specs.ColumnGrammar.{field}
-use Rattle.dg_columns.specs.Laws.{AreBytes}
+use Rattle.dg_columns.specs.ColumnLaws.{AreBytes}
 
 -- ---- bytes
 
@@ -32,7 +32,7 @@ IsBytes-take n bytes h i =
 
 -- ---- where a text stands
 
--- the text stands at the place, and `next` is the place behind it
+-- the text stands at the offset, and `next` is the offset behind it
 abbrev pub Stands : List ℕ → ℕ → List ℕ → ℕ → Type 0
 Stands bytes at text next = drop at bytes ≡ text ++ drop next bytes
 

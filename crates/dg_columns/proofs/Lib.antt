@@ -1,16 +1,16 @@
-pub mod Steps
-pub mod Loops
-pub mod Written
-pub mod Elements
-pub mod Beside
+pub mod FieldGroups
+pub mod PlacedFrom
+pub mod WriteEach
+pub mod ElementsAt
+pub mod SoundDelta
 pub mod Fields
-mod Rising
-pub mod OneSpelling
-pub mod ReadBack
-pub mod DeltasBack
+mod NextHere
+pub mod HaveOneSpelling
+pub mod EventsAreReadBack
+pub mod DeltasAreReadBack
 pub mod Rows
-pub mod Weaving
-pub mod Fitting
-pub mod InColumns
-pub mod EventsFit
-pub mod MergedBack
+pub mod MergeWalk
+pub mod DeltaReadFits
+pub mod PartsAreJoinedBack
+pub mod EventsReadFit
+pub mod EventsAreMergedBack

@@ -1,4 +1,4 @@
--- Filling the places of a row one event after another, as a loop does, and reading them in order.
+-- Filling the slots of a row one event after another, as a loop does, and reading them in order.
 use Rattle.std.proofs.Common.{◌≡◌, ℕ, zero, suc, ◌+◌, ◌<◌, ◌≤◌, Bool, true, false, cond, List, [], ◌∷◌, ◌++◌, length, take, drop, set, get_or, replicate, Option, Some, None, refl, sym, ap, ◌∙◌, arith}
 use Rattle.std.specs.Prelude.{◌==◌, find, is_some}
 use Rattle.std.specs.Option.{option_map, option_or, option_and_then}
@@ -8,11 +8,11 @@ use Rattle.std.proofs.lemmas.List.Folds.{find-append}
 use Rattle.dg_graph.specs.declared.event.Event.{Event}
 use Rattle.dg_graph.specs.declared.placed.Placed.{Placed}
 use Rattle.dg_graph.specs.ColumnMerge.{never_fall, at_positions, if_never_fall, merged}
-use Rattle.dg_columns.specs.Rows.{event_at, filled, events_of}
+use Rattle.dg_columns.specs.Rows.{event_at, filled, events_in_row}
 
 -- ---- filling
 
-or_none : (place : Option Event) → option_or place None ≡ place
+or_none : (slot : Option Event) → option_or slot None ≡ slot
 or_none None = refl
 or_none (Some e) = refl
 
@@ -23,35 +23,35 @@ or_or (Some e) b c = refl
 -- a row that no event is left for
 pub filled_none : (n : ℕ) (row : List (Option Event)) → filled n row [] ≡ row
 filled_none n [] = refl
-filled_none n (place ∷ row) =
-    ap (λ p. p ∷ filled (n + 1) row []) (or_none place) ∙ ap (λ r. place ∷ r) (filled_none (n + 1) row)
+filled_none n (slot ∷ row) =
+    ap (λ p. p ∷ filled (n + 1) row []) (or_none slot) ∙ ap (λ r. slot ∷ r) (filled_none (n + 1) row)
 
--- an event whose position is none of these places
+-- an event whose position is none of these slots
 filled_other : (n : ℕ) (row : List (Option Event)) (p : Placed) (rest : List Placed) → ((k : ℕ) → n ≤ k → k < n + length row → p.at ≡ k → ⊥) → filled n row (p ∷ rest) ≡ filled n row rest
 filled_other n [] p rest other = refl
-filled_other n (place ∷ row) p rest other =
-    ap (λ b. option_or place (option_map (λ (p : Placed). p.event) (cond b (Some p) (find (λ (p : Placed). p.at == n) rest))) ∷ filled (n + 1) row (p ∷ rest)) (ne_eqb p.at n (other n (omega arith) (omega arith)))
-    ∙ ap (λ r. option_or place (event_at n rest) ∷ r) (filled_other (n + 1) row p rest (λ k le lt. other k (omega arith) (omega arith)))
+filled_other n (slot ∷ row) p rest other =
+    ap (λ b. option_or slot (option_map (λ (p : Placed). p.event) (cond b (Some p) (find (λ (p : Placed). p.at == n) rest))) ∷ filled (n + 1) row (p ∷ rest)) (ne_eqb p.at n (other n (omega arith) (omega arith)))
+    ∙ ap (λ r. option_or slot (event_at n rest) ∷ r) (filled_other (n + 1) row p rest (λ k le lt. other k (omega arith) (omega arith)))
 
 -- an event whose position is past the row
 pub filled_past : (row : List (Option Event)) (p : Placed) (rest : List Placed) → length row ≤ p.at → filled 0 row (p ∷ rest) ≡ filled 0 row rest
 filled_past row p rest past = filled_other 0 row p rest (λ k le lt e. omega arith)
 
--- the place of the event, as far as it was empty
-filled_here : (n : ℕ) (place : Option Event) (p : Placed) (rest : List Placed) → p.at ≡ n → option_or place (event_at n (p ∷ rest)) ≡ option_or (option_or place (Some p.event)) (event_at n rest)
-filled_here n place p rest here =
-    ap (λ b. option_or place (option_map (λ (p : Placed). p.event) (cond b (Some p) (find (λ (p : Placed). p.at == n) rest)))) (eq-eqb p.at n here)
-    ∙ sym (or_or place (Some p.event) (event_at n rest))
+-- the slot of the event, as far as it was empty
+filled_here : (n : ℕ) (slot : Option Event) (p : Placed) (rest : List Placed) → p.at ≡ n → option_or slot (event_at n (p ∷ rest)) ≡ option_or (option_or slot (Some p.event)) (event_at n rest)
+filled_here n slot p rest here =
+    ap (λ b. option_or slot (option_map (λ (p : Placed). p.event) (cond b (Some p) (find (λ (p : Placed). p.at == n) rest)))) (eq-eqb p.at n here)
+    ∙ sym (or_or slot (Some p.event) (event_at n rest))
 
--- an event whose place is in the row
+-- an event whose slot is in the row
 filled_in : (n : ℕ) (row : List (Option Event)) (i : ℕ) (p : Placed) (rest : List Placed) (d : Option Event) → p.at ≡ n + i → i < length row → filled n row (p ∷ rest) ≡ filled n (set row i (option_or (get_or row i d) (Some p.event))) rest
 filled_in n [] i p rest d here lt = absurd (omega arith)
-filled_in n (place ∷ row) zero p rest d here lt =
-    ap (λ q. q ∷ filled (n + 1) row (p ∷ rest)) (filled_here n place p rest (omega arith))
-    ∙ ap (λ r. option_or (option_or place (Some p.event)) (event_at n rest) ∷ r) (filled_other (n + 1) row p rest (λ k le lt e. omega arith))
-filled_in n (place ∷ row) (suc i) p rest d here lt =
-    ap (λ b. option_or place (option_map (λ (p : Placed). p.event) (cond b (Some p) (find (λ (p : Placed). p.at == n) rest))) ∷ filled (n + 1) row (p ∷ rest)) (ne_eqb p.at n (λ e. omega arith))
-    ∙ ap (λ r. option_or place (event_at n rest) ∷ r) (filled_in (n + 1) row i p rest d (omega arith) (omega arith))
+filled_in n (slot ∷ row) zero p rest d here lt =
+    ap (λ q. q ∷ filled (n + 1) row (p ∷ rest)) (filled_here n slot p rest (omega arith))
+    ∙ ap (λ r. option_or (option_or slot (Some p.event)) (event_at n rest) ∷ r) (filled_other (n + 1) row p rest (λ k le lt e. omega arith))
+filled_in n (slot ∷ row) (suc i) p rest d here lt =
+    ap (λ b. option_or slot (option_map (λ (p : Placed). p.event) (cond b (Some p) (find (λ (p : Placed). p.at == n) rest))) ∷ filled (n + 1) row (p ∷ rest)) (ne_eqb p.at n (λ e. omega arith))
+    ∙ ap (λ r. option_or slot (event_at n rest) ∷ r) (filled_in (n + 1) row i p rest d (omega arith) (omega arith))
 
 map_or : (a b : Option Placed) → option_map (λ (p : Placed). p.event) (option_or a b) ≡ option_or (option_map (λ (p : Placed). p.event) a) (option_map (λ (p : Placed). p.event) b)
 map_or None b = refl
@@ -65,27 +65,27 @@ event_in_parts n a b =
 -- events in two parts
 pub filled_twice : (n : ℕ) (row : List (Option Event)) (a b : List Placed) → filled n (filled n row a) b ≡ filled n row (a ++ b)
 filled_twice n [] a b = refl
-filled_twice n (place ∷ row) a b =
-    ap (λ p. p ∷ filled (n + 1) (filled (n + 1) row a) b) (or_or place (event_at n a) (event_at n b) ∙ ap (λ e. option_or place e) (sym (event_in_parts n a b)))
-    ∙ ap (λ r. option_or place (event_at n (a ++ b)) ∷ r) (filled_twice (n + 1) row a b)
+filled_twice n (slot ∷ row) a b =
+    ap (λ p. p ∷ filled (n + 1) (filled (n + 1) row a) b) (or_or slot (event_at n a) (event_at n b) ∙ ap (λ e. option_or slot e) (sym (event_in_parts n a b)))
+    ∙ ap (λ r. option_or slot (event_at n (a ++ b)) ∷ r) (filled_twice (n + 1) row a b)
 
 then_events : (o : Option Placed) (r : Option (List Event)) → option_and_then (λ (p : Placed). option_map (λ (events : List Event). p.event ∷ events) r) o ≡ option_and_then (λ (e : Event). option_map (λ (events : List Event). e ∷ events) r) (option_map (λ (p : Placed). p.event) o)
 then_events None r = refl
 then_events (Some p) r = refl
 
 -- a row that was empty
-pub filled_empty : (k n : ℕ) (placed : List Placed) → at_positions k n placed ≡ events_of (filled n (replicate k None) placed)
+pub filled_empty : (k n : ℕ) (placed : List Placed) → at_positions k n placed ≡ events_in_row (filled n (replicate k None) placed)
 filled_empty zero n placed = refl
 filled_empty (suc k) n placed =
     ap (λ r. option_and_then (λ (p : Placed). option_map (λ (events : List Event). p.event ∷ events) r) (find (λ (p : Placed). p.at == n) placed)) (filled_empty k (n + 1) placed)
-    ∙ then_events (find (λ (p : Placed). p.at == n) placed) (events_of (filled (n + 1) (replicate k None) placed))
+    ∙ then_events (find (λ (p : Placed). p.at == n) placed) (events_in_row (filled (n + 1) (replicate k None) placed))
 
 -- ---- reading in order
 
 -- the events in front, and those of the row, where their times do not fall from the earliest on
 abbrev pub onward : List Event → ℕ → List (Option Event) → Option (List Event)
 onward front earliest row =
-    option_and_then (λ (events : List Event). cond (never_fall earliest events) (Some (front ++ events)) None) (events_of row)
+    option_and_then (λ (events : List Event). cond (never_fall earliest events) (Some (front ++ events)) None) (events_in_row row)
 
 -- ---- the loop over the events of a column
 
@@ -93,19 +93,19 @@ onward front earliest row =
 pub filled_from : (row : List (Option Event)) (placed : List Placed) (i : ℕ) (d : Placed) → i < length placed → filled 0 row (drop i placed) ≡ filled 0 row (get_or placed i d ∷ drop (i + 1) placed)
 filled_from row placed i d lt = ap (filled 0 row) (drop_more placed i d lt)
 
-pub filled_empty_place : (row : List (Option Event)) (i : ℕ) (p : Placed) (rest : List Placed) (d : Option Event) → p.at ≡ i → i < length row → is_some (get_or row i d) ≡ false → filled 0 row (p ∷ rest) ≡ filled 0 (set row i (Some p.event)) rest
-filled_empty_place row i p rest d here lt empty =
+pub filled_empty_slot : (row : List (Option Event)) (i : ℕ) (p : Placed) (rest : List Placed) (d : Option Event) → p.at ≡ i → i < length row → is_some (get_or row i d) ≡ false → filled 0 row (p ∷ rest) ≡ filled 0 (set row i (Some p.event)) rest
+filled_empty_slot row i p rest d here lt empty =
     filled_in 0 row i p rest d (omega arith) lt
-    ∙ ap (λ place. filled 0 (set row i place) rest) (over (get_or row i d) empty)
+    ∙ ap (λ slot. filled 0 (set row i slot) rest) (over (get_or row i d) empty)
   where
     over : (o : Option Event) → is_some o ≡ false → option_or o (Some p.event) ≡ Some p.event
     over None e = refl
     over (Some x) e = absurd (true≢false e)
 
-pub filled_taken_place : (row : List (Option Event)) (i : ℕ) (p : Placed) (rest : List Placed) (d : Option Event) → p.at ≡ i → i < length row → is_some (get_or row i d) ≡ true → filled 0 row (p ∷ rest) ≡ filled 0 row rest
-filled_taken_place row i p rest d here lt taken =
+pub filled_taken_slot : (row : List (Option Event)) (i : ℕ) (p : Placed) (rest : List Placed) (d : Option Event) → p.at ≡ i → i < length row → is_some (get_or row i d) ≡ true → filled 0 row (p ∷ rest) ≡ filled 0 row rest
+filled_taken_slot row i p rest d here lt taken =
     filled_in 0 row i p rest d (omega arith) lt
-    ∙ ap (λ place. filled 0 (set row i place) rest) (over (get_or row i d) taken)
+    ∙ ap (λ slot. filled 0 (set row i slot) rest) (over (get_or row i d) taken)
     ∙ ap (λ r. filled 0 r rest) (set-get_or row i d)
   where
     over : (o : Option Event) → is_some o ≡ true → option_or o (Some p.event) ≡ o
@@ -114,22 +114,22 @@ filled_taken_place row i p rest d here lt taken =
 
 -- ---- the row of three columns
 
--- a row of empty places that three columns fill has the events at the positions
-pub filled_thrice : (k : ℕ) (a b c : List Placed) → at_positions k 0 (a ++ b ++ c) ≡ events_of (filled 0 (filled 0 (filled 0 (replicate k None) a) b) c)
+-- a row of empty slots that three columns fill has the events at the positions
+pub filled_thrice : (k : ℕ) (a b c : List Placed) → at_positions k 0 (a ++ b ++ c) ≡ events_in_row (filled 0 (filled 0 (filled 0 (replicate k None) a) b) c)
 filled_thrice k a b c =
     filled_empty k 0 (a ++ b ++ c)
-    ∙ ap events_of (sym (ap (λ row. filled 0 row c) (filled_twice 0 (replicate k None) a b) ∙ filled_twice 0 (replicate k None) (a ++ b) c))
+    ∙ ap events_in_row (sym (ap (λ row. filled 0 row c) (filled_twice 0 (replicate k None) a b) ∙ filled_twice 0 (replicate k None) (a ++ b) c))
 
--- what three columns that fill a row of empty places in turn are merged to
+-- what three columns that fill a row of empty slots in turn are merged to
 pub row_merged : (len : ℕ) (a b c : List Placed) (r0 f1 r1 f2 r2 f3 r3 : List (Option Event)) → length a + length b + length c ≡ len → r0 ≡ replicate len None → f1 ≡ filled 0 r0 a → r1 ≡ f1 → f2 ≡ filled 0 r1 b → r2 ≡ f2 → f3 ≡ filled 0 r2 c → r3 ≡ f3
-    → merged a b c len ≡ option_and_then if_never_fall (events_of r3)
+    → merged a b c len ≡ option_and_then if_never_fall (events_in_row r3)
 row_merged len a b c r0 f1 r1 f2 r2 f3 r3 counted empty first is_first second is_second third is_third =
     let count : length (a ++ b ++ c) ≡ len = omega (arith, length-append (a ++ b) c, length-append a b) in
     let one = first ∙ ap (λ row. filled 0 row a) empty in
     let two = second ∙ ap (λ row. filled 0 row b) (is_first ∙ one) in
     let three = third ∙ ap (λ row. filled 0 row c) (is_second ∙ two) in
     ap (λ t. cond t (option_and_then if_never_fall (at_positions len 0 (a ++ b ++ c))) None) (eq-eqb (length (a ++ b ++ c)) len count)
-    ∙ ap (option_and_then if_never_fall) (filled_thrice len a b c ∙ ap events_of (sym (is_third ∙ three)))
+    ∙ ap (option_and_then if_never_fall) (filled_thrice len a b c ∙ ap events_in_row (sym (is_third ∙ three)))
 
 -- a whole part of a row that was written
 pub written_over : (n : ℕ) (written rest : List (Option Event)) → length written ≡ n → take n (written ++ rest) ≡ written

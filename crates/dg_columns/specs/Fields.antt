@@ -7,11 +7,11 @@ use Rattle.dg_graph.specs.declared.placed.Placed.{Placed}
 use Rattle.dg_graph.specs.Columns.{four, eight, value_bytes}
 use Rattle.dg_graph.specs.Elements.{bit, has}
 use Rattle.dg_graph.specs.ColumnGrammar.{and_read, any_number, one_byte, two_bytes, four_bytes, eight_bytes, value_of, body_at, element_at, rises_from}
-use Rattle.dg_columns.specs.declared.delta_reading.AttrFields.{AttrFields}
+use Rattle.dg_columns.specs.declared.delta_reader.AttrFields.{AttrFields}
 use Rattle.dg_columns.specs.declared.edge.EdgeFields.{EdgeFields}
 use Rattle.dg_columns.specs.declared.event_fields.ValueFields.{ValueFields}
 
--- an edge, from the place on
+-- an edge, from the offset on
 abbrev pub edge_at : List ℕ → ℕ → Result EdgeFields ℕ
 edge_at bytes at =
     and_read (eight_bytes any_number bytes at) (λ id.
@@ -20,7 +20,7 @@ edge_at bytes at =
     and_read (one_byte (λ n. nat_le 0 n && nat_le n 1) bytes (at + 24)) (λ directed.
     Ok (record { id = id; src = src; dst = dst; directed = directed == 1 })))))
 
--- a value's change, from the place on
+-- a value's change, from the offset on
 abbrev pub value_at : ℕ → List ℕ → ℕ → Result ValueFields ℕ
 value_at names bytes at =
     and_read (eight_bytes any_number bytes at) (λ id.
@@ -29,7 +29,7 @@ value_at names bytes at =
     and_read (four_bytes (λ n. nat_le n names && not (old == 0 && n == 0)) bytes (at + 16)) (λ new.
     Ok (record { id = id; key = key; old = value_of old; new = value_of new })))))
 
--- an event and its position, from the place on, neither below what is given
+-- an event and its position, from the offset on, neither below what is given
 abbrev pub placed_at : Column → ℕ → List ℕ → ℕ → ℕ → ℕ → Result Placed ℕ
 placed_at col names bytes at low earliest =
     and_read (two_bytes (λ n. nat_le low n) bytes at) (λ position.
@@ -37,7 +37,7 @@ placed_at col names bytes at low earliest =
     and_read (body_at col names bytes (at + 10)) (λ what.
     Ok (record { at = position; event = record { time = time; body = what } }))))
 
--- a value, from the place on
+-- a value, from the offset on
 abbrev pub attr_at : ℕ → List ℕ → ℕ → Result AttrFields ℕ
 attr_at names bytes at =
     and_read (eight_bytes any_number bytes at) (λ id.
@@ -45,7 +45,7 @@ attr_at names bytes at =
     and_read (four_bytes (λ n. nat_lt n names) bytes (at + 12)) (λ value.
     Ok (record { id = id; key = key; value = value }))))
 
--- an element from the place on that comes after the last one, and is in none of the others
+-- an element from the offset on that comes after the last one, and is in none of the others
 abbrev pub next_element_at : Column → ℕ → List ℕ → List Element → ℕ → Option Element → Result Element ℕ
 next_element_at col names bytes others at last =
     and_read (element_at col names bytes at) (λ x. if rises_from last x && not (has others x) then Ok x else Err at)

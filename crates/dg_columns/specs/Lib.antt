@@ -1,8 +1,8 @@
-pub mod Gives
+pub mod ReadOutcome
 pub mod Fields
-pub mod Names
-pub mod Laws
+pub mod NamesInRange
+pub mod ColumnLaws
 pub mod Ranges
 pub mod Rows
-pub mod Weaving
-pub mod Fitting
+pub mod MergeWalk
+pub mod ReadFits

@@ -1,7 +1,7 @@
 //! Nodes and edges, which events and elements spell alike.
 
 ghost use Rattle.std.specs.Prelude.{◌≡◌, ◌+◌, ◌++◌, ◌≤◌, length, OnOk};
-ghost use Rattle.dg_columns.specs.Gives.{Gives};
+ghost use Rattle.dg_columns.specs.ReadOutcome.{IsReadAs};
 ghost use Rattle.dg_columns.specs.Fields.{edge_at, node_bytes, edge_bytes};
 
 use crate::fault::ReadFault;
@@ -18,15 +18,15 @@ pub(crate) struct EdgeFields {
 }
 
 /// The fields of an edge, after its kind.
-pub(crate) fn edge_at(bytes: &[u8], at: usize) -> Result<EdgeFields, ReadFault>
-    requires { at ≤ length bytes.now }
-    ensures fields { Gives (λ edge. edge) result (edge_at bytes.now at) }
-    ensures fits { OnOk result (at + 25 ≤ length bytes.now) }
+pub(crate) fn edge_at(bytes: &[u8], offset: usize) -> Result<EdgeFields, ReadFault>
+    requires { offset ≤ length bytes.now }
+    ensures fields { IsReadAs (λ edge. edge) result (edge_at bytes.now offset) }
+    ensures fits { OnOk result (offset + 25 ≤ length bytes.now) }
 {
-    let id = u64_at(bytes, at)?;
-    let src = u64_at(bytes, at + 8)?;
-    let dst = u64_at(bytes, at + 16)?;
-    let directed = byte_at(bytes, at + 24, 0, 1)?;
+    let id = u64_at(bytes, offset)?;
+    let src = u64_at(bytes, offset + 8)?;
+    let dst = u64_at(bytes, offset + 16)?;
+    let directed = byte_at(bytes, offset + 24, 0, 1)?;
     Ok(EdgeFields {
         id,
         src,

@@ -2,7 +2,7 @@
 
 ghost use Rattle.std.specs.Prelude.{◌≡◌, ◌+◌, ◌≤◌, length, OnOk, IfOk};
 ghost use Rattle.dg_graph.specs.ColumnGrammar.{body_at, body_size, value_of};
-ghost use Rattle.dg_columns.specs.Gives.{Gives};
+ghost use Rattle.dg_columns.specs.ReadOutcome.{IsReadAs};
 ghost use Rattle.dg_columns.specs.Fields.{value_at};
 
 use crate::edge::edge_at;
@@ -41,15 +41,15 @@ fn value_of(number: u32) -> Option<u32>
 }
 
 /// The fields of a value's change.
-pub(crate) fn value_at(bytes: &[u8], at: usize, names: u32) -> Result<ValueFields, ReadFault>
-    requires { at ≤ length bytes.now }
-    ensures fields { Gives (λ value. value) result (value_at names bytes.now at) }
-    ensures fits { OnOk result (at + 20 ≤ length bytes.now) }
+pub(crate) fn value_at(bytes: &[u8], offset: usize, names: u32) -> Result<ValueFields, ReadFault>
+    requires { offset ≤ length bytes.now }
+    ensures fields { IsReadAs (λ value. value) result (value_at names bytes.now offset) }
+    ensures fits { OnOk result (offset + 20 ≤ length bytes.now) }
 {
-    let id = u64_at(bytes, at)?;
-    let key = name_at(bytes, at + 8, names)?;
-    let old = old_at(bytes, at + 12, names)?;
-    let new = new_at(bytes, at + 16, names, old)?;
+    let id = u64_at(bytes, offset)?;
+    let key = name_at(bytes, offset + 8, names)?;
+    let old = old_at(bytes, offset + 12, names)?;
+    let new = new_at(bytes, offset + 16, names, old)?;
     Ok(ValueFields {
         id,
         key,
@@ -59,24 +59,24 @@ pub(crate) fn value_at(bytes: &[u8], at: usize, names: u32) -> Result<ValueField
 }
 
 // What a structure event changes.
-fn structure_at(bytes: &[u8], at: usize, names: u32) -> Result<Body, ReadFault>
-    requires { at ≤ length bytes.now }
-    ensures body { Gives (λ body. body) result (body_at Column.Structure names bytes.now at) }
-    ensures fits { IfOk result (λ body. at + body_size body ≤ length bytes.now) }
+fn structure_at(bytes: &[u8], offset: usize, names: u32) -> Result<Body, ReadFault>
+    requires { offset ≤ length bytes.now }
+    ensures body { IsReadAs (λ body. body) result (body_at Column.Structure names bytes.now offset) }
+    ensures fits { IfOk result (λ body. offset + body_size body ≤ length bytes.now) }
 {
-    let kind = byte_at(bytes, at, NODE_ADDED, EDGE_REMOVED)?;
-    let at = at + 1;
+    let kind = byte_at(bytes, offset, NODE_ADDED, EDGE_REMOVED)?;
+    let offset = offset + 1;
     match kind {
         NODE_ADDED => {
-            let id = u64_at(bytes, at)?;
+            let id = u64_at(bytes, offset)?;
             Ok(Body::NodeAdded { id })
         }
         NODE_REMOVED => {
-            let id = u64_at(bytes, at)?;
+            let id = u64_at(bytes, offset)?;
             Ok(Body::NodeRemoved { id })
         }
         EDGE_ADDED => {
-            let edge = edge_at(bytes, at)?;
+            let edge = edge_at(bytes, offset)?;
             Ok(Body::EdgeAdded {
                 id: edge.id,
                 src: edge.src,
@@ -85,7 +85,7 @@ fn structure_at(bytes: &[u8], at: usize, names: u32) -> Result<Body, ReadFault>
             })
         }
         _ => {
-            let edge = edge_at(bytes, at)?;
+            let edge = edge_at(bytes, offset)?;
             Ok(Body::EdgeRemoved {
                 id: edge.id,
                 src: edge.src,
@@ -97,15 +97,20 @@ fn structure_at(bytes: &[u8], at: usize, names: u32) -> Result<Body, ReadFault>
 }
 
 /// What an event of the column changes.
-pub(crate) fn body_at(bytes: &[u8], at: usize, col: Column, names: u32) -> Result<Body, ReadFault>
-    requires { at ≤ length bytes.now }
-    ensures body { Gives (λ body. body) result (body_at col names bytes.now at) }
-    ensures fits { IfOk result (λ body. at + body_size body ≤ length bytes.now) }
+pub(crate) fn body_at(
+    bytes: &[u8],
+    offset: usize,
+    col: Column,
+    names: u32,
+) -> Result<Body, ReadFault>
+    requires { offset ≤ length bytes.now }
+    ensures body { IsReadAs (λ body. body) result (body_at col names bytes.now offset) }
+    ensures fits { IfOk result (λ body. offset + body_size body ≤ length bytes.now) }
 {
     match col {
-        Column::Structure => structure_at(bytes, at, names),
+        Column::Structure => structure_at(bytes, offset, names),
         Column::NodeAttr => {
-            let value = value_at(bytes, at, names)?;
+            let value = value_at(bytes, offset, names)?;
             Ok(Body::NodeAttr {
                 id: value.id,
                 key: value.key,
@@ -114,7 +119,7 @@ pub(crate) fn body_at(bytes: &[u8], at: usize, col: Column, names: u32) -> Resul
             })
         }
         Column::EdgeAttr => {
-            let value = value_at(bytes, at, names)?;
+            let value = value_at(bytes, offset, names)?;
             Ok(Body::EdgeAttr {
                 id: value.id,
                 key: value.key,

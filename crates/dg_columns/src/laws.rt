@@ -1,7 +1,7 @@
 //! The laws of columns. Each function does nothing: its clause is the law, proved of the definitions.
 
-ghost use Rattle.dg_columns.specs.Fitting.{DeltasThatAreReadFit, EventsThatAreReadFit, PartsAreJoinedBack};
-ghost use Rattle.dg_columns.specs.Laws.{
+ghost use Rattle.dg_columns.specs.ReadFits.{DeltasThatAreReadFit, EventsThatAreReadFit, PartsAreJoinedBack};
+ghost use Rattle.dg_columns.specs.ColumnLaws.{
   EventsHaveOneSpelling,
   DeltasHaveOneSpelling,
   EventsAreReadBack,

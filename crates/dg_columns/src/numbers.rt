@@ -1,68 +1,68 @@
-//! Numbers at a place of the bytes, the high byte first.
+//! Numbers at an offset of the bytes, the high byte first.
 
 ghost use Rattle.std.specs.Prelude.{◌≡◌, ◌+◌, ◌≤◌, ◌&&◌, ◌==◌, not, nat_lt, nat_le, length, take, drop, OnOk};
 ghost use Rattle.std.specs.Int.{from_be_bytes, w8, w32, w64};
 ghost use Rattle.dg_graph.specs.ColumnGrammar.{any_number, one_byte, two_bytes, four_bytes, eight_bytes};
-ghost use Rattle.dg_columns.specs.Gives.{Gives};
+ghost use Rattle.dg_columns.specs.ReadOutcome.{IsReadAs};
 
 use crate::fault::ReadFault;
 
 /// The number of one byte, from `low` to `high`.
-pub(crate) fn byte_at(bytes: &[u8], at: usize, low: u8, high: u8) -> Result<u8, ReadFault>
-    requires { at ≤ length bytes.now }
-    ensures number { Gives (λ n. n) result (one_byte (λ n. nat_le low n && nat_le n high) bytes.now at) }
-    ensures fits { OnOk result (at + 1 ≤ length bytes.now) }
+pub(crate) fn byte_at(bytes: &[u8], offset: usize, low: u8, high: u8) -> Result<u8, ReadFault>
+    requires { offset ≤ length bytes.now }
+    ensures number { IsReadAs (λ n. n) result (one_byte (λ n. nat_le low n && nat_le n high) bytes.now offset) }
+    ensures fits { OnOk result (offset + 1 ≤ length bytes.now) }
 {
-    let (_, rest) = bytes.split_at(at);
+    let (_, rest) = bytes.split_at(offset);
     if rest.is_empty() {
-        return Err(ReadFault::Damaged(at as u64));
+        return Err(ReadFault::Damaged(offset as u64));
     }
     let (front, _) = rest.split_at(1);
     let number = u8::from_be_bytes([front[0]]);
     if low <= number && number <= high {
         Ok(number)
     } else {
-        Err(ReadFault::Damaged(at as u64))
+        Err(ReadFault::Damaged(offset as u64))
     }
 }
 
 /// The number of two bytes.
-pub(crate) fn u16_at(bytes: &[u8], at: usize) -> Result<u16, ReadFault>
-    requires { at ≤ length bytes.now }
-    ensures number { Gives (λ n. n) result (two_bytes any_number bytes.now at) }
-    ensures fits { OnOk result (at + 2 ≤ length bytes.now) }
+pub(crate) fn u16_at(bytes: &[u8], offset: usize) -> Result<u16, ReadFault>
+    requires { offset ≤ length bytes.now }
+    ensures number { IsReadAs (λ n. n) result (two_bytes any_number bytes.now offset) }
+    ensures fits { OnOk result (offset + 2 ≤ length bytes.now) }
 {
-    let (_, rest) = bytes.split_at(at);
+    let (_, rest) = bytes.split_at(offset);
     if rest.len() < 2 {
-        return Err(ReadFault::Damaged(at as u64));
+        return Err(ReadFault::Damaged(offset as u64));
     }
     let (front, _) = rest.split_at(2);
     Ok(u16::from_be_bytes([front[0], front[1]]))
 }
 
 /// The number of four bytes.
-pub(crate) fn u32_at(bytes: &[u8], at: usize) -> Result<u32, ReadFault>
-    requires { at ≤ length bytes.now }
-    ensures number { Gives (λ n. n) result (four_bytes any_number bytes.now at) }
-    ensures fits { OnOk result (at + 4 ≤ length bytes.now) }
+pub(crate) fn u32_at(bytes: &[u8], offset: usize) -> Result<u32, ReadFault>
+    requires { offset ≤ length bytes.now }
+    ensures number { IsReadAs (λ n. n) result (four_bytes any_number bytes.now offset) }
+    ensures fits { OnOk result (offset + 4 ≤ length bytes.now) }
 {
-    let (_, rest) = bytes.split_at(at);
+    let (_, rest) = bytes.split_at(offset);
     if rest.len() < 4 {
-        return Err(ReadFault::Damaged(at as u64));
+        return Err(ReadFault::Damaged(offset as u64));
     }
     let (front, _) = rest.split_at(4);
     Ok(u32::from_be_bytes([front[0], front[1], front[2], front[3]]))
 }
 
 /// The number of eight bytes.
-pub(crate) fn u64_at(bytes: &[u8], at: usize) -> Result<u64, ReadFault>
-    requires { at ≤ length bytes.now }
-    ensures number { Gives (λ n. n) result (eight_bytes any_number bytes.now at) }
-    ensures fits { OnOk result (at + 8 ≤ length bytes.now) }
+pub(crate) fn u64_at(bytes: &[u8], offset: usize) -> Result<u64, ReadFault>
+    requires { offset ≤ length bytes.now }
+    ensures number { IsReadAs (λ n. n) result (eight_bytes any_number bytes.now offset) }
+    ensures fits { OnOk result (offset + 8 ≤ length bytes.now) }
 {
-    let (_, rest) = bytes.split_at(at);
+    let (_, rest) = bytes.split_at(offset);
     if rest.len() < 8 {
-        return Err(ReadFault::Damaged(at as u64));
+        return Err(ReadFault::Damaged(offset as u64));
     }
     let (front, _) = rest.split_at(8);
     Ok(u64::from_be_bytes([
@@ -71,116 +71,116 @@ pub(crate) fn u64_at(bytes: &[u8], at: usize) -> Result<u64, ReadFault>
 }
 
 /// The number of two bytes, not below `low`.
-pub(crate) fn position_at(bytes: &[u8], at: usize, low: u32) -> Result<u16, ReadFault>
-    requires { at ≤ length bytes.now }
-    ensures number { Gives (λ n. n) result (two_bytes (λ n. nat_le low n) bytes.now at) }
-    ensures fits { OnOk result (at + 2 ≤ length bytes.now) }
+pub(crate) fn position_at(bytes: &[u8], offset: usize, low: u32) -> Result<u16, ReadFault>
+    requires { offset ≤ length bytes.now }
+    ensures number { IsReadAs (λ n. n) result (two_bytes (λ n. nat_le low n) bytes.now offset) }
+    ensures fits { OnOk result (offset + 2 ≤ length bytes.now) }
 {
-    let number = u16_at(bytes, at)?;
+    let number = u16_at(bytes, offset)?;
     if low <= u32::from(number) {
         Ok(number)
     } else {
-        Err(ReadFault::Damaged(at as u64))
+        Err(ReadFault::Damaged(offset as u64))
     }
 }
 
 /// The number of eight bytes, from `low` to `high`.
-pub(crate) fn time_at(bytes: &[u8], at: usize, low: u64, high: u64) -> Result<u64, ReadFault>
-    requires { at ≤ length bytes.now }
-    ensures number { Gives (λ n. n) result (eight_bytes (λ n. nat_le low n && nat_le n high) bytes.now at) }
-    ensures fits { OnOk result (at + 8 ≤ length bytes.now) }
+pub(crate) fn time_at(bytes: &[u8], offset: usize, low: u64, high: u64) -> Result<u64, ReadFault>
+    requires { offset ≤ length bytes.now }
+    ensures number { IsReadAs (λ n. n) result (eight_bytes (λ n. nat_le low n && nat_le n high) bytes.now offset) }
+    ensures fits { OnOk result (offset + 8 ≤ length bytes.now) }
 {
-    let number = u64_at(bytes, at)?;
+    let number = u64_at(bytes, offset)?;
     if low <= number && number <= high {
         Ok(number)
     } else {
-        Err(ReadFault::Damaged(at as u64))
+        Err(ReadFault::Damaged(offset as u64))
     }
 }
 
 /// The number of four bytes, not below `low`.
-pub(crate) fn count_at(bytes: &[u8], at: usize, low: u32) -> Result<u32, ReadFault>
-    requires { at ≤ length bytes.now }
-    ensures number { Gives (λ n. n) result (four_bytes (λ n. nat_le low n) bytes.now at) }
-    ensures fits { OnOk result (at + 4 ≤ length bytes.now) }
+pub(crate) fn count_at(bytes: &[u8], offset: usize, low: u32) -> Result<u32, ReadFault>
+    requires { offset ≤ length bytes.now }
+    ensures number { IsReadAs (λ n. n) result (four_bytes (λ n. nat_le low n) bytes.now offset) }
+    ensures fits { OnOk result (offset + 4 ≤ length bytes.now) }
 {
-    let number = u32_at(bytes, at)?;
+    let number = u32_at(bytes, offset)?;
     if low <= number {
         Ok(number)
     } else {
-        Err(ReadFault::Damaged(at as u64))
+        Err(ReadFault::Damaged(offset as u64))
     }
 }
 
 /// The number of a name, of which there are `names`.
-pub(crate) fn name_at(bytes: &[u8], at: usize, names: u32) -> Result<u32, ReadFault>
-    requires { at ≤ length bytes.now }
-    ensures number { Gives (λ n. n) result (four_bytes (λ n. nat_lt n names) bytes.now at) }
-    ensures fits { OnOk result (at + 4 ≤ length bytes.now) }
+pub(crate) fn name_at(bytes: &[u8], offset: usize, names: u32) -> Result<u32, ReadFault>
+    requires { offset ≤ length bytes.now }
+    ensures number { IsReadAs (λ n. n) result (four_bytes (λ n. nat_lt n names) bytes.now offset) }
+    ensures fits { OnOk result (offset + 4 ≤ length bytes.now) }
 {
-    let number = u32_at(bytes, at)?;
+    let number = u32_at(bytes, offset)?;
     if number < names {
         Ok(number)
     } else {
-        Err(ReadFault::Damaged(at as u64))
+        Err(ReadFault::Damaged(offset as u64))
     }
 }
 
 /// The number of an old value: 0, or one more than that of one of so many names.
-pub(crate) fn old_at(bytes: &[u8], at: usize, names: u32) -> Result<u32, ReadFault>
-    requires { at ≤ length bytes.now }
-    ensures number { Gives (λ n. n) result (four_bytes (λ n. nat_le n names) bytes.now at) }
-    ensures fits { OnOk result (at + 4 ≤ length bytes.now) }
+pub(crate) fn old_at(bytes: &[u8], offset: usize, names: u32) -> Result<u32, ReadFault>
+    requires { offset ≤ length bytes.now }
+    ensures number { IsReadAs (λ n. n) result (four_bytes (λ n. nat_le n names) bytes.now offset) }
+    ensures fits { OnOk result (offset + 4 ≤ length bytes.now) }
 {
-    let number = u32_at(bytes, at)?;
+    let number = u32_at(bytes, offset)?;
     if number <= names {
         Ok(number)
     } else {
-        Err(ReadFault::Damaged(at as u64))
+        Err(ReadFault::Damaged(offset as u64))
     }
 }
 
 /// The number of a new value, which is not 0 where the old one is.
-pub(crate) fn new_at(bytes: &[u8], at: usize, names: u32, old: u32) -> Result<u32, ReadFault>
-    requires { at ≤ length bytes.now }
-    ensures number { Gives (λ n. n) result (four_bytes (λ n. nat_le n names && not (old == 0 && n == 0)) bytes.now at) }
-    ensures fits { OnOk result (at + 4 ≤ length bytes.now) }
+pub(crate) fn new_at(bytes: &[u8], offset: usize, names: u32, old: u32) -> Result<u32, ReadFault>
+    requires { offset ≤ length bytes.now }
+    ensures number { IsReadAs (λ n. n) result (four_bytes (λ n. nat_le n names && not (old == 0 && n == 0)) bytes.now offset) }
+    ensures fits { OnOk result (offset + 4 ≤ length bytes.now) }
 {
-    let number = u32_at(bytes, at)?;
+    let number = u32_at(bytes, offset)?;
     let both_none = old == 0 && number == 0;
     if number <= names && !both_none {
         Ok(number)
     } else {
-        Err(ReadFault::Damaged(at as u64))
+        Err(ReadFault::Damaged(offset as u64))
     }
 }
 
 /// The number of one byte, which is there.
-pub(crate) fn byte_here(bytes: &[u8], at: usize) -> u8
-    requires { at + 1 ≤ length bytes.now }
-    ensures { result ≡ from_be_bytes w8 (take 1 (drop at bytes.now)) }
+pub(crate) fn byte_here(bytes: &[u8], offset: usize) -> u8
+    requires { offset + 1 ≤ length bytes.now }
+    ensures { result ≡ from_be_bytes w8 (take 1 (drop offset bytes.now)) }
 {
-    let (_, rest) = bytes.split_at(at);
+    let (_, rest) = bytes.split_at(offset);
     let (front, _) = rest.split_at(1);
     u8::from_be_bytes([front[0]])
 }
 
 /// The number of four bytes, which are there.
-pub(crate) fn u32_here(bytes: &[u8], at: usize) -> u32
-    requires { at + 4 ≤ length bytes.now }
-    ensures { result ≡ from_be_bytes w32 (take 4 (drop at bytes.now)) }
+pub(crate) fn u32_here(bytes: &[u8], offset: usize) -> u32
+    requires { offset + 4 ≤ length bytes.now }
+    ensures { result ≡ from_be_bytes w32 (take 4 (drop offset bytes.now)) }
 {
-    let (_, rest) = bytes.split_at(at);
+    let (_, rest) = bytes.split_at(offset);
     let (front, _) = rest.split_at(4);
     u32::from_be_bytes([front[0], front[1], front[2], front[3]])
 }
 
 /// The number of eight bytes, which are there.
-pub(crate) fn u64_here(bytes: &[u8], at: usize) -> u64
-    requires { at + 8 ≤ length bytes.now }
-    ensures { result ≡ from_be_bytes w64 (take 8 (drop at bytes.now)) }
+pub(crate) fn u64_here(bytes: &[u8], offset: usize) -> u64
+    requires { offset + 8 ≤ length bytes.now }
+    ensures { result ≡ from_be_bytes w64 (take 8 (drop offset bytes.now)) }
 {
-    let (_, rest) = bytes.split_at(at);
+    let (_, rest) = bytes.split_at(offset);
     let (front, _) = rest.split_at(8);
     u64::from_be_bytes([
         front[0], front[1], front[2], front[3], front[4], front[5], front[6], front[7],

@@ -1,7 +1,7 @@
 ghost use Rattle.std.specs.Prelude.{◌≡◌, IfOk};
 
 use crate::{
-    Column, Delta, Event, MergeFault, Placed, ReadFault, merge, read_delta, read_events,
+    Column, Delta, Event, MergeFault, Placed, ReadFault, join, merge, read_delta, read_events,
     write_delta, write_events,
 };
 use dg_delta::{Element, Set};
@@ -9,7 +9,29 @@ use dg_graph::Body;
 use std::alloc::Global;
 use std::test::Fail;
 
-// The events `10 +node 1` and `20 +node 2`, as docs/FORMATS.md spells them.
+// The names of the rows are `name` (0) and `A` (1).
+const NAMES: u32 = 2;
+
+// What a column spells: those events of a list that stand at these positions, or a delta.
+enum Spelled {
+    Events {
+        list: &'static [Event],
+        positions: &'static [u16],
+    },
+    Delta {
+        minus: &'static [Element],
+        plus: &'static [Element],
+    },
+}
+
+// A column and its one spelling, counted by hand from docs/FORMATS.md.
+struct Spelling {
+    column: Column,
+    spelled: Spelled,
+    bytes: &'static [u8],
+}
+
+// Two nodes, at 10 and 20.
 const TWO_NODES: [Event; 2] = [
     Event {
         time: 10,
@@ -21,12 +43,7 @@ const TWO_NODES: [Event; 2] = [
     },
 ];
 
-const TWO_NODES_COLUMN: [u8; 42] = [
-    0, 0, 0, 2, 0, 0, 0, 0, 0, 0, 0, 0, 0, 10, 1, 0, 0, 0, 0, 0, 0, 0, 1, 0, 1, 0, 0, 0, 0, 0, 0,
-    0, 20, 1, 0, 0, 0, 0, 0, 0, 0, 2,
-];
-
-// An edge at 30, and the value 1 of the key 0 at a node at 40.
+// An edge at 30, and the first value of a node's key at 40.
 const EDGE_AND_VALUE: [Event; 2] = [
     Event {
         time: 30,
@@ -48,88 +65,372 @@ const EDGE_AND_VALUE: [Event; 2] = [
     },
 ];
 
-const EDGE_COLUMN: [u8; 40] = [
-    0, 0, 0, 1, 0, 0, 0, 0, 0, 0, 0, 0, 0, 30, 3, 0, 0, 0, 0, 0, 0, 0, 5, 0, 0, 0, 0, 0, 0, 0, 1,
-    0, 0, 0, 0, 0, 0, 0, 2, 1,
-];
-
 const VALUE_COLUMN: [u8; 34] = [
     0, 0, 0, 1, 0, 1, 0, 0, 0, 0, 0, 0, 0, 40, 0, 0, 0, 0, 0, 0, 0, 1, 0, 0, 0, 0, 0, 0, 0, 0, 0,
     0, 0, 2,
 ];
 
-struct EventCase {
-    events: &'static [Event],
-    column: Column,
-    bytes: &'static [u8],
-    positions: &'static [u16],
-}
+// The edge is taken out at 50.
+const EDGE_OUT: [Event; 1] = [Event {
+    time: 50,
+    body: Body::EdgeRemoved {
+        id: 5,
+        src: 1,
+        dst: 2,
+        directed: true,
+    },
+}];
 
-const EVENT_CASES: [EventCase; 4] = [
-    EventCase {
-        events: &TWO_NODES,
-        column: Column::Structure,
-        bytes: &TWO_NODES_COLUMN,
-        positions: &[0, 1],
+// An edge's value changes at 70, and a node is taken out at 80.
+const VALUE_AND_NODE_OUT: [Event; 2] = [
+    Event {
+        time: 70,
+        body: Body::EdgeAttr {
+            id: 5,
+            key: 0,
+            old: Some(0),
+            new: Some(1),
+        },
     },
-    EventCase {
-        events: &EDGE_AND_VALUE,
-        column: Column::Structure,
-        bytes: &EDGE_COLUMN,
-        positions: &[0],
-    },
-    EventCase {
-        events: &EDGE_AND_VALUE,
-        column: Column::NodeAttr,
-        bytes: &VALUE_COLUMN,
-        positions: &[1],
-    },
-    EventCase {
-        events: &EDGE_AND_VALUE,
-        column: Column::EdgeAttr,
-        bytes: &[],
-        positions: &[],
+    Event {
+        time: 80,
+        body: Body::NodeRemoved { id: 7 },
     },
 ];
 
-// The bytes of an event column that are no column, and the place of the damage.
-struct Damage {
-    column: Column,
-    bytes: &'static [u8],
-    names: u32,
-    place: u64,
+const NODE_1: Element = Element::Node { id: 1 };
+
+const NODE_2: Element = Element::Node { id: 2 };
+
+const EDGE: Element = Element::Edge {
+    id: 5,
+    src: 1,
+    dst: 2,
+    directed: true,
+};
+
+const NODE_A: Element = Element::NodeAttr {
+    id: 1,
+    key: 0,
+    value: 1,
+};
+
+const EDGE_NAME: Element = Element::EdgeAttr {
+    id: 5,
+    key: 1,
+    value: 0,
+};
+
+const SPELLINGS: [Spelling; 14] = [
+    Spelling {
+        column: Column::Structure,
+        spelled: Spelled::Events {
+            list: &TWO_NODES,
+            positions: &[0, 1],
+        },
+        bytes: &[
+            0, 0, 0, 2, 0, 0, 0, 0, 0, 0, 0, 0, 0, 10, 1, 0, 0, 0, 0, 0, 0, 0, 1, 0, 1, 0, 0, 0, 0,
+            0, 0, 0, 20, 1, 0, 0, 0, 0, 0, 0, 0, 2,
+        ],
+    },
+    Spelling {
+        column: Column::Structure,
+        spelled: Spelled::Events {
+            list: &EDGE_AND_VALUE,
+            positions: &[0],
+        },
+        bytes: &[
+            0, 0, 0, 1, 0, 0, 0, 0, 0, 0, 0, 0, 0, 30, 3, 0, 0, 0, 0, 0, 0, 0, 5, 0, 0, 0, 0, 0, 0,
+            0, 1, 0, 0, 0, 0, 0, 0, 0, 2, 1,
+        ],
+    },
+    Spelling {
+        column: Column::NodeAttr,
+        spelled: Spelled::Events {
+            list: &EDGE_AND_VALUE,
+            positions: &[1],
+        },
+        bytes: &VALUE_COLUMN,
+    },
+    Spelling {
+        column: Column::EdgeAttr,
+        spelled: Spelled::Events {
+            list: &EDGE_AND_VALUE,
+            positions: &[],
+        },
+        bytes: &[],
+    },
+    Spelling {
+        column: Column::Structure,
+        spelled: Spelled::Events {
+            list: &EDGE_OUT,
+            positions: &[0],
+        },
+        bytes: &[
+            0, 0, 0, 1, 0, 0, 0, 0, 0, 0, 0, 0, 0, 50, 4, 0, 0, 0, 0, 0, 0, 0, 5, 0, 0, 0, 0, 0, 0,
+            0, 1, 0, 0, 0, 0, 0, 0, 0, 2, 1,
+        ],
+    },
+    Spelling {
+        column: Column::Structure,
+        spelled: Spelled::Events {
+            list: &VALUE_AND_NODE_OUT,
+            positions: &[1],
+        },
+        bytes: &[
+            0, 0, 0, 1, 0, 1, 0, 0, 0, 0, 0, 0, 0, 80, 2, 0, 0, 0, 0, 0, 0, 0, 7,
+        ],
+    },
+    Spelling {
+        column: Column::EdgeAttr,
+        spelled: Spelled::Events {
+            list: &VALUE_AND_NODE_OUT,
+            positions: &[0],
+        },
+        bytes: &[
+            0, 0, 0, 1, 0, 0, 0, 0, 0, 0, 0, 0, 0, 70, 0, 0, 0, 0, 0, 0, 0, 5, 0, 0, 0, 0, 0, 0, 0,
+            1, 0, 0, 0, 2,
+        ],
+    },
+    Spelling {
+        column: Column::NodeAttr,
+        spelled: Spelled::Events {
+            list: &[],
+            positions: &[],
+        },
+        bytes: &[],
+    },
+    Spelling {
+        column: Column::Structure,
+        spelled: Spelled::Delta {
+            minus: &[],
+            plus: &[NODE_1, NODE_2],
+        },
+        bytes: &[
+            0, 0, 0, 0, 0, 0, 0, 2, 1, 0, 0, 0, 0, 0, 0, 0, 1, 1, 0, 0, 0, 0, 0, 0, 0, 2,
+        ],
+    },
+    Spelling {
+        column: Column::Structure,
+        spelled: Spelled::Delta {
+            minus: &[NODE_1],
+            plus: &[NODE_2],
+        },
+        bytes: &[
+            0, 0, 0, 1, 1, 0, 0, 0, 0, 0, 0, 0, 1, 0, 0, 0, 1, 1, 0, 0, 0, 0, 0, 0, 0, 2,
+        ],
+    },
+    Spelling {
+        column: Column::Structure,
+        spelled: Spelled::Delta {
+            minus: &[],
+            plus: &[EDGE],
+        },
+        bytes: &[
+            0, 0, 0, 0, 0, 0, 0, 1, 2, 0, 0, 0, 0, 0, 0, 0, 5, 0, 0, 0, 0, 0, 0, 0, 1, 0, 0, 0, 0,
+            0, 0, 0, 2, 1,
+        ],
+    },
+    Spelling {
+        column: Column::NodeAttr,
+        spelled: Spelled::Delta {
+            minus: &[],
+            plus: &[NODE_A],
+        },
+        bytes: &[
+            0, 0, 0, 0, 0, 0, 0, 1, 0, 0, 0, 0, 0, 0, 0, 1, 0, 0, 0, 0, 0, 0, 0, 1,
+        ],
+    },
+    Spelling {
+        column: Column::EdgeAttr,
+        spelled: Spelled::Delta {
+            minus: &[EDGE_NAME],
+            plus: &[],
+        },
+        bytes: &[
+            0, 0, 0, 1, 0, 0, 0, 0, 0, 0, 0, 5, 0, 0, 0, 1, 0, 0, 0, 0, 0, 0, 0, 0,
+        ],
+    },
+    Spelling {
+        column: Column::EdgeAttr,
+        spelled: Spelled::Delta {
+            minus: &[],
+            plus: &[],
+        },
+        bytes: &[],
+    },
+];
+
+// Which of the two readers is asked.
+#[derive(Clone, Copy)]
+enum Reader {
+    Events,
+    Delta,
 }
 
-const DAMAGES: [Damage; 5] = [
+// Bytes that are no column, and the offset of the damage.
+struct Damage {
+    reader: Reader,
+    column: Column,
+    bytes: &'static [u8],
+    offset: u64,
+}
+
+const DAMAGES: [Damage; 19] = [
+    // a count of no events
     Damage {
+        reader: Reader::Events,
         column: Column::Structure,
         bytes: &[0, 0, 0, 0],
-        names: 2,
-        place: 0,
+        offset: 0,
     },
+    // a time that does not fit
     Damage {
+        reader: Reader::Events,
         column: Column::Structure,
         bytes: &[0, 0, 0, 1, 0, 0, 0],
-        names: 2,
-        place: 6,
+        offset: 6,
     },
+    // a kind past the last
     Damage {
+        reader: Reader::Events,
         column: Column::Structure,
         bytes: &[0, 0, 0, 1, 0, 0, 0, 0, 0, 0, 0, 0, 0, 9, 5],
-        names: 2,
-        place: 14,
+        offset: 14,
+    },
+    // a great count, which asks for no memory
+    Damage {
+        reader: Reader::Events,
+        column: Column::Structure,
+        bytes: &[255, 255, 255, 255, 0],
+        offset: 4,
     },
     Damage {
-        column: Column::NodeAttr,
-        bytes: &VALUE_COLUMN,
-        names: 1,
-        place: 30,
-    },
-    Damage {
+        reader: Reader::Events,
         column: Column::EdgeAttr,
-        bytes: &EDGE_COLUMN,
-        names: 2,
-        place: 22,
+        bytes: &[255, 255, 255, 255, 0],
+        offset: 4,
+    },
+    // a byte behind the last field
+    Damage {
+        reader: Reader::Events,
+        column: Column::Structure,
+        bytes: &[
+            0, 0, 0, 1, 0, 1, 0, 0, 0, 0, 0, 0, 0, 80, 2, 0, 0, 0, 0, 0, 0, 0, 7, 0,
+        ],
+        offset: 23,
+    },
+    // a key, an old value and a new value that are no names
+    Damage {
+        reader: Reader::Events,
+        column: Column::NodeAttr,
+        bytes: &[
+            0, 0, 0, 1, 0, 1, 0, 0, 0, 0, 0, 0, 0, 40, 0, 0, 0, 0, 0, 0, 0, 1, 0, 0, 0, 2, 0, 0, 0,
+            0, 0, 0, 0, 2,
+        ],
+        offset: 22,
+    },
+    Damage {
+        reader: Reader::Events,
+        column: Column::NodeAttr,
+        bytes: &[
+            0, 0, 0, 1, 0, 1, 0, 0, 0, 0, 0, 0, 0, 40, 0, 0, 0, 0, 0, 0, 0, 1, 0, 0, 0, 0, 0, 0, 0,
+            3, 0, 0, 0, 2,
+        ],
+        offset: 26,
+    },
+    Damage {
+        reader: Reader::Events,
+        column: Column::EdgeAttr,
+        bytes: &[
+            0, 0, 0, 1, 0, 1, 0, 0, 0, 0, 0, 0, 0, 40, 0, 0, 0, 0, 0, 0, 0, 1, 0, 0, 0, 0, 0, 0, 0,
+            0, 0, 0, 0, 3,
+        ],
+        offset: 30,
+    },
+    // no value before, and none after
+    Damage {
+        reader: Reader::Events,
+        column: Column::NodeAttr,
+        bytes: &[
+            0, 0, 0, 1, 0, 1, 0, 0, 0, 0, 0, 0, 0, 40, 0, 0, 0, 0, 0, 0, 0, 1, 0, 0, 0, 0, 0, 0, 0,
+            0, 0, 0, 0, 0,
+        ],
+        offset: 30,
+    },
+    // eight bytes of zero
+    Damage {
+        reader: Reader::Delta,
+        column: Column::Structure,
+        bytes: &[0, 0, 0, 0, 0, 0, 0, 0],
+        offset: 4,
+    },
+    // a great count, which asks for no memory
+    Damage {
+        reader: Reader::Delta,
+        column: Column::Structure,
+        bytes: &[255, 255, 255, 255, 0],
+        offset: 4,
+    },
+    Damage {
+        reader: Reader::Delta,
+        column: Column::NodeAttr,
+        bytes: &[255, 255, 255, 255, 0],
+        offset: 4,
+    },
+    // a byte behind the last field
+    Damage {
+        reader: Reader::Delta,
+        column: Column::Structure,
+        bytes: &[
+            0, 0, 0, 1, 1, 0, 0, 0, 0, 0, 0, 0, 1, 0, 0, 0, 1, 1, 0, 0, 0, 0, 0, 0, 0, 2, 0,
+        ],
+        offset: 26,
+    },
+    // a key and a value that are no names
+    Damage {
+        reader: Reader::Delta,
+        column: Column::NodeAttr,
+        bytes: &[
+            0, 0, 0, 0, 0, 0, 0, 1, 0, 0, 0, 0, 0, 0, 0, 1, 0, 0, 0, 2, 0, 0, 0, 1,
+        ],
+        offset: 16,
+    },
+    Damage {
+        reader: Reader::Delta,
+        column: Column::EdgeAttr,
+        bytes: &[
+            0, 0, 0, 0, 0, 0, 0, 1, 0, 0, 0, 0, 0, 0, 0, 1, 0, 0, 0, 0, 0, 0, 0, 2,
+        ],
+        offset: 20,
+    },
+    // an edge that is neither directed nor not
+    Damage {
+        reader: Reader::Delta,
+        column: Column::Structure,
+        bytes: &[
+            0, 0, 0, 0, 0, 0, 0, 1, 2, 0, 0, 0, 0, 0, 0, 0, 5, 0, 0, 0, 0, 0, 0, 0, 1, 0, 0, 0, 0,
+            0, 0, 0, 2, 2,
+        ],
+        offset: 33,
+    },
+    // the second node is the first once more
+    Damage {
+        reader: Reader::Delta,
+        column: Column::Structure,
+        bytes: &[
+            0, 0, 0, 0, 0, 0, 0, 2, 1, 0, 0, 0, 0, 0, 0, 0, 1, 1, 0, 0, 0, 0, 0, 0, 0, 1,
+        ],
+        offset: 17,
+    },
+    // the node that goes in is the one that goes out
+    Damage {
+        reader: Reader::Delta,
+        column: Column::Structure,
+        bytes: &[
+            0, 0, 0, 1, 1, 0, 0, 0, 0, 0, 0, 0, 1, 0, 0, 0, 1, 1, 0, 0, 0, 0, 0, 0, 0, 1,
+        ],
+        offset: 17,
     },
 ];
 
@@ -296,53 +597,6 @@ const MERGE_CASES: [MergeCase; 7] = [
     },
 ];
 
-const NODE_1: Element = Element::Node { id: 1 };
-
-const NODE_2: Element = Element::Node { id: 2 };
-
-const VALUE: Element = Element::NodeAttr {
-    id: 1,
-    key: 0,
-    value: 1,
-};
-
-// The delta that takes the node 1 out, and puts the node 2 and a value in.
-const NODES_COLUMN: [u8; 26] = [
-    0, 0, 0, 1, 1, 0, 0, 0, 0, 0, 0, 0, 1, 0, 0, 0, 1, 1, 0, 0, 0, 0, 0, 0, 0, 2,
-];
-
-const NODE_VALUES_COLUMN: [u8; 24] = [
-    0, 0, 0, 0, 0, 0, 0, 1, 0, 0, 0, 0, 0, 0, 0, 1, 0, 0, 0, 0, 0, 0, 0, 1,
-];
-
-struct DeltaCase {
-    column: Column,
-    bytes: &'static [u8],
-    minus: &'static [Element],
-    plus: &'static [Element],
-}
-
-const DELTA_CASES: [DeltaCase; 3] = [
-    DeltaCase {
-        column: Column::Structure,
-        bytes: &NODES_COLUMN,
-        minus: &[NODE_1],
-        plus: &[NODE_2],
-    },
-    DeltaCase {
-        column: Column::NodeAttr,
-        bytes: &NODE_VALUES_COLUMN,
-        minus: &[],
-        plus: &[VALUE],
-    },
-    DeltaCase {
-        column: Column::EdgeAttr,
-        bytes: &[],
-        minus: &[],
-        plus: &[],
-    },
-];
-
 fn set_of(alloc: Global, elements: &[Element]) -> Result<Set, Fail>
     ensures { IfOk result (λ set. set ≡ elements.now) }
 {
@@ -362,26 +616,65 @@ fn delta_of(alloc: Global, minus: &[Element], plus: &[Element]) -> Result<Delta,
     Ok(Delta::from_sets(minus, plus).ok_or("the sets share an element")?)
 }
 
-fn has_positions(placed: &[Placed], positions: &[u16]) -> bool {
-    placed.len() == positions.len() && placed.iter().zip(positions).all(|(p, at)| p.at == *at)
+// Whether these are the events of the list that stand at the positions.
+fn stand_at(placed: &[Placed], list: &[Event], positions: &[u16]) -> bool {
+    placed.len() == positions.len()
+        && placed.iter().zip(positions).all(|(p, position)| p.at == *position
+            && list.get(usize::from(p.at)) == Some(&p.event))
 }
 
 #[test]
-fn event_columns_have_the_bytes_of_the_format(rt: HostRuntime) -> Result<(), Fail> {
-    for (row, case) in EVENT_CASES.iter().enumerate() {
-        let bytes = write_events(rt.alloc(), case.events, case.column)?;
-        assert_eq!(rt; bytes.as_slice(), case.bytes, "row {row}");
+fn columns_are_written_and_read_as_the_format_says(rt: HostRuntime) -> Result<(), Fail> {
+    let alloc = rt.alloc();
+    for (row, case) in SPELLINGS.iter().enumerate() {
+        match case.spelled {
+            Spelled::Events { list, positions } => {
+                let bytes = write_events(alloc, list, case.column)?;
+                assert_eq!(rt; bytes.as_slice(), case.bytes, "row {row}");
+                let placed = read_events(alloc, case.bytes, case.column, NAMES)?;
+                assert!(rt; stand_at(&placed, list, positions), "row {row}");
+            }
+            Spelled::Delta { minus, plus } => {
+                let delta = delta_of(alloc, minus, plus)?;
+                let bytes = write_delta(alloc, &delta, case.column)?;
+                assert_eq!(rt; bytes.as_slice(), case.bytes, "row {row}");
+                let read = read_delta(alloc, case.bytes, case.column, NAMES)?;
+                assert_eq!(rt; read.minus().items(), minus, "minus, row {row}");
+                assert_eq!(rt; read.plus().items(), plus, "plus, row {row}");
+            }
+        }
     }
     Ok(())
 }
 
 #[test]
-fn event_columns_are_read_with_their_positions(rt: HostRuntime) -> Result<(), Fail> {
-    for (row, case) in EVENT_CASES.iter().enumerate() {
-        let placed = read_events(rt.alloc(), case.bytes, case.column, 2);
-        let placed = placed.ok().ok_or("refused")?;
-        assert!(rt; has_positions(&placed, case.positions), "row {row}");
+fn damage_is_found_at_its_first_field(rt: HostRuntime) -> Result<(), Fail> {
+    let alloc = rt.alloc();
+    for (row, case) in DAMAGES.iter().enumerate() {
+        let fault = match case.reader {
+            Reader::Events => read_events(alloc, case.bytes, case.column, NAMES).err(),
+            Reader::Delta => read_delta(alloc, case.bytes, case.column, NAMES).err(),
+        };
+        assert_eq!(rt; fault, Some(ReadFault::Damaged(case.offset)), "row {row}");
     }
+    Ok(())
+}
+
+#[test]
+fn the_three_columns_of_a_delta_are_joined_to_it(rt: HostRuntime) -> Result<(), Fail> {
+    let alloc = rt.alloc();
+    let minus = [NODE_1, EDGE_NAME];
+    let plus = [EDGE, NODE_A];
+    let delta = delta_of(alloc, &minus, &plus)?;
+    let bytes = write_delta(alloc, &delta, Column::Structure)?;
+    let structure = read_delta(alloc, &bytes, Column::Structure, NAMES)?;
+    let bytes = write_delta(alloc, &delta, Column::NodeAttr)?;
+    let node_attrs = read_delta(alloc, &bytes, Column::NodeAttr, NAMES)?;
+    let bytes = write_delta(alloc, &delta, Column::EdgeAttr)?;
+    let edge_attrs = read_delta(alloc, &bytes, Column::EdgeAttr, NAMES)?;
+    let joined = join(structure, &node_attrs, &edge_attrs)?;
+    assert_eq!(rt; joined.minus().items(), minus.as_slice());
+    assert_eq!(rt; joined.plus().items(), plus.as_slice());
     Ok(())
 }
 
@@ -397,45 +690,11 @@ fn columns_are_merged_to_their_list(rt: HostRuntime) -> Result<(), Fail> {
         );
         match case.events {
             Some(events) => {
-                let merged = merged.ok().ok_or("refused")?;
+                let merged = merged?;
                 assert_eq!(rt; merged.as_slice(), events, "row {row}");
             }
             None => assert_eq!(rt; merged.err(), Some(MergeFault::Places), "row {row}"),
         }
     }
-    Ok(())
-}
-
-#[test]
-fn damage_is_found_at_its_first_field(rt: HostRuntime) -> Result<(), Fail> {
-    for (row, case) in DAMAGES.iter().enumerate() {
-        let fault = read_events(rt.alloc(), case.bytes, case.column, case.names).err();
-        assert_eq!(rt; fault, Some(ReadFault::Damaged(case.place)), "row {row}");
-    }
-    Ok(())
-}
-
-#[test]
-fn delta_columns_are_written_and_read_column_by_column(rt: HostRuntime) -> Result<(), Fail> {
-    let alloc = rt.alloc();
-    let delta = delta_of(alloc, &[NODE_1], &[NODE_2, VALUE])?;
-    for (row, case) in DELTA_CASES.iter().enumerate() {
-        let bytes = write_delta(alloc, &delta, case.column)?;
-        assert_eq!(rt; bytes.as_slice(), case.bytes, "row {row}");
-        let read = read_delta(alloc, case.bytes, case.column, 2);
-        let read = read.ok().ok_or("refused")?;
-        assert_eq!(rt; read.minus().items(), case.minus, "minus, row {row}");
-        assert_eq!(rt; read.plus().items(), case.plus, "plus, row {row}");
-    }
-    Ok(())
-}
-
-#[test]
-fn elements_that_do_not_rise_are_damage(rt: HostRuntime) -> Result<(), Fail> {
-    let twice = [
-        0, 0, 0, 0, 0, 0, 0, 2, 1, 0, 0, 0, 0, 0, 0, 0, 1, 1, 0, 0, 0, 0, 0, 0, 0, 1,
-    ];
-    let fault = read_delta(rt.alloc(), &twice, Column::Structure, 0).err();
-    assert!(rt; fault == Some(ReadFault::Damaged(17)));
     Ok(())
 }

@@ -3,7 +3,7 @@ use Rattle.std.proofs.Common.{◌≡◌, ℕ, ◌+◌, ◌-◌, ◌<◌, ◌≤�
 use Rattle.std.specs.Prelude.{◌≢◌, ◌&&◌, ◌||◌, ◌==◌, not, nat_lt, IfSome}
 use Rattle.std.proofs.lemmas.Bool.{cases_lt, lt-ltb, ltb-true, eqb-true, eq-eqb, ne_eqb, false≢true}
 use Rattle.std.proofs.lemmas.List.{drop_all}
-use Rattle.dg_disk.specs.Image.{HasPlace, WritesPart, put_at, with_piece}
+use Rattle.dg_disk.specs.Image.{HasOffset, WritesPart, put_at, with_piece}
 use Rattle.dg_history.specs.declared.params.Params.{Params}
 use Rattle.dg_history.specs.History.{are_parameters, empty_history}
 use Rattle.dg_history.specs.LegalHistory.{IsImageOf, is_blank}
@@ -14,7 +14,7 @@ use Rattle.dg_file.proofs.Fronts.{both}
 use Rattle.dg_file.proofs.Histories.{image_made}
 use Rattle.dg_file.proofs.Moves.{moved_put, moved_part, moved_after}
 
-pub place_zero : (x : Option (List ℕ)) → HasPlace x 0
+pub place_zero : (x : Option (List ℕ)) → HasOffset x 0
 place_zero None = tt
 place_zero (Some a) = omega arith
 
@@ -101,7 +101,7 @@ module _ (params : Params) where
   made_first_part x y blank w =
       moved_part x y 0 1 Blank (IsMadeInPart params) (λ a bytes b few. first_part a bytes b few) blank w
 
-  pub place_one : (x y : Option (List ℕ)) → Moved x y Closed → HasPlace y 1
+  pub place_one : (x y : Option (List ℕ)) → Moved x y Closed → HasOffset y 1
   place_one x y m = moved_after x y Closed (λ b. 1 ≤ length b) (λ a b c. omega (arith, ap length c.is)) m
 
   pub made_second : (x y z : Option (List ℕ)) (rest : List ℕ) → rest ≡ header_rest params → Moved x y Closed → z ≡ with_piece 1 rest y → Moved x z (Written params)

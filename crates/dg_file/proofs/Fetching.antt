@@ -11,7 +11,7 @@ use Rattle.dg_history.specs.OpenedIndex.{Segment, Directory, Opening, columns_si
 use Rattle.dg_shape.specs.declared.catalogue.Entry.{Entry}
 use Rattle.dg_shape.specs.Entries.{Holdings, length_in, place_in}
 use Rattle.dg_shape.specs.Held.{entry_of, length_of, place_of}
-use Rattle.dg_file.specs.Headers.{Front, segments_told}
+use Rattle.dg_file.specs.Headers.{DirectoriesFrom, segments_told}
 use Rattle.dg_file.specs.Held.{piece_in, pieces_from}
 use Rattle.dg_file.specs.Images.{IsOpenedAs}
 use Rattle.dg_file.specs.Index.{piece_of}
@@ -48,7 +48,7 @@ place_is o c k col n = ap (option_map (λ (e : Entry). place_in e col)) n.entry
 
 -- ---- a piece is within the image
 
-front_piece : (count : ℕ) (names : List (List ℕ)) (earliest : ℕ) (image : List ℕ) (gate : ℕ) (directories : List Directory) (end i : ℕ) (s : Segment) → Front count names earliest image gate directories end → slice_get (segments_told directories) i ≡ Some s → s.place + columns_size s.lengths ≤ length image
+front_piece : (count : ℕ) (names : List (List ℕ)) (earliest : ℕ) (image : List ℕ) (gate : ℕ) (directories : List Directory) (end i : ℕ) (s : Segment) → DirectoriesFrom count names earliest image gate directories end → slice_get (segments_told directories) i ≡ Some s → s.place + columns_size s.lengths ≤ length image
 front_piece count names earliest image gate [] end i s f e = absurd cc
 front_piece count names earliest image gate (d ∷ directories) end zero s f e =
     let there = stands_from count names earliest image (gate + 1) d f.1 in

@@ -1,7 +1,7 @@
 -- What the parts of an image that are read say of it.
 use Rattle.std.proofs.Common.{◌≡◌, ℕ, ◌+◌, ◌-◌, ◌<◌, ◌≤◌, ◌⊎◌, inl, inr, Bool, true, false, cond, List, ◌++◌, length, get_or, take, drop, slice_range, Option, Some, None, refl, sym, ap, subst, ◌∙◌, add-zero, arith, length-append}
 use Rattle.std.specs.Prelude.{◌&&◌, ◌||◌, ◌==◌, not, nat_lt, nat_le, IfSome, Err}
-use Rattle.std.proofs.lemmas.Bool.{le-ltb, lt-ltb, leb-true, eq-eqb, ne_eqb}
+use Rattle.std.proofs.lemmas.Bool.{le-ltb, lt-ltb, leb-true, eq-eqb, ne_eqb, cond_both}
 use Rattle.std.proofs.lemmas.List.{take-take, take_at, get_or-take, get_or-drop}
 use Rattle.dg_disk.specs.Counts.{raised_by}
 use Rattle.dg_disk.specs.Image.{IsLengthOf, IsRangeOf, HasRange}
@@ -16,7 +16,7 @@ use Rattle.dg_file.specs.declared.head.Lengths.{Lengths}
 use Rattle.dg_file.specs.Headers.{IsFoundIn, IsFoundAt}
 use Rattle.dg_file.specs.Held.{segment_in}
 use Rattle.dg_file.specs.Images.{Misses, taken_after}
-use Rattle.dg_file.specs.Heads.{lengths_at, gate_after, fit_in, directory_due, TakesDirectory, Takes}
+use Rattle.dg_file.specs.Heads.{lengths_at, gate_after, fit_in, directory_due, TakesDirectory, TakesSegment}
 use Rattle.dg_file.proofs.Directories.{is_directory, named_few}
 use Rattle.dg_file.proofs.Fronts.{both, text_at, stands_to, stands_none, outside_none}
 use Rattle.dg_file.proofs.Heads.{lengths_read, within_is}
@@ -181,7 +181,7 @@ found_there x count earliest old new bytes at len gate h noted fits l h_is t tak
         }
 
 -- what is known of a segment that is taken
-pub takes : (count earliest : ℕ) (old new : List (List ℕ)) (bytes : List ℕ) (at len : ℕ) (h : Lengths) (noted : Noted) → fit_in at len h ≡ true → length bytes ≡ h.directory → TakesDirectory count earliest h.columns bytes (at + 16 + h.directory) old new noted → Takes count earliest old at len new noted
+pub takes : (count earliest : ℕ) (old new : List (List ℕ)) (bytes : List ℕ) (at len : ℕ) (h : Lengths) (noted : Noted) → fit_in at len h ≡ true → length bytes ≡ h.directory → TakesDirectory count earliest h.columns bytes (at + 16 + h.directory) old new noted → TakesSegment count earliest old at len new noted
 takes count earliest old new bytes at len h noted fits long taken =
     let f = fit_facts at len h fits in
     let d = is_directory count old earliest h.columns bytes (at + 16 + h.directory) (record { segment = segment_in noted; names = taken.names }) taken.due in
@@ -223,3 +223,14 @@ taken_some n m count new some is e =
 pub range_filled : (x : Option (List ℕ)) (bytes old : List ℕ) (at len n : ℕ) → length bytes ≡ len → n ≡ len → IsRangeOf x at bytes → IfSome x (λ image. take n (bytes ++ drop (length bytes) old) ≡ take len (drop at image))
 range_filled x bytes old at len n long is r =
     some_weaker x (λ image. bytes ≡ take len (drop at image)) (λ image. take n (bytes ++ drop (length bytes) old) ≡ take len (drop at image)) (λ image e. filled n bytes old (long ∙ sym is) ∙ e) (range_read x bytes at len long r)
+
+-- ---- what is read
+
+-- the lengths of a segment, its directory and the gate behind it
+pub taken_segment : (directory place at start one two three : ℕ) → 28 ≤ directory → place ≡ at + 16 + directory → one ≡ raised_by 16 start → two ≡ taken_after directory one → three ≡ raised_by 1 two → three ≡ raised_by (place + 1 - at) start
+taken_segment directory place at start one two three long is o w h =
+    let two_is : two ≡ raised_by directory one = w ∙ ap (λ b. cond b one (raised_by directory one)) (ne_eqb directory 0 (λ e. absurd (omega (arith, e, long)))) in
+    omega (arith, is, o, two_is, h)
+
+pub taken_bound : (n count : ℕ) → taken_after n count ≤ count + n
+taken_bound n count = cond_both (n == 0) count (raised_by n count) (λ m. m ≤ count + n) (λ _. omega arith) (λ _. omega arith)

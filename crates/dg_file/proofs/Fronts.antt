@@ -6,7 +6,7 @@ use Rattle.std.proofs.lemmas.List.{get_or_past}
 use Rattle.dg_history.specs.declared.limits.TheConstants.{FILE_BYTES_MAX}
 use Rattle.dg_history.specs.OpenedIndex.{Directory, Tail, eight_at, gate_behind, is_within, directory_at, directory_or, in_front, segments_from}
 use Rattle.dg_graph.specs.ColumnGrammar.{and_read}
-use Rattle.dg_file.specs.Headers.{Front, segments_told, names_told}
+use Rattle.dg_file.specs.Headers.{DirectoriesFrom, segments_told, names_told}
 use Rattle.dg_file.specs.Heads.{directory_due}
 use Rattle.dg_file.specs.Index.{events_after, earliest_after}
 use Rattle.dg_file.proofs.Directories.{IsDirectory, is_directory}
@@ -140,20 +140,20 @@ read_more k count names earliest image gate d due is_open right e =
     ∙ ap (in_front d) e
 
 -- the gate behind the segments is further on by a byte for each, and within the image
-pub front_far : (count : ℕ) (names : List (List ℕ)) (earliest : ℕ) (image : List ℕ) (gate : ℕ) (directories : List Directory) (end : ℕ) → Front count names earliest image gate directories end → gate + length directories ≤ end
+pub front_far : (count : ℕ) (names : List (List ℕ)) (earliest : ℕ) (image : List ℕ) (gate : ℕ) (directories : List Directory) (end : ℕ) → DirectoriesFrom count names earliest image gate directories end → gate + length directories ≤ end
 front_far count names earliest image gate [] end f = omega arith
 front_far count names earliest image gate (d ∷ directories) end f =
     let more = front_far (count + d.segment.events) (names ++ d.names) (d.segment.last + 1) image (gate_behind image (gate + 1)) directories end f.2 in
     omega arith
 
-pub front_within : (count : ℕ) (names : List (List ℕ)) (earliest : ℕ) (image : List ℕ) (gate : ℕ) (directories : List Directory) (end : ℕ) → gate < length image → Front count names earliest image gate directories end → end < length image
+pub front_within : (count : ℕ) (names : List (List ℕ)) (earliest : ℕ) (image : List ℕ) (gate : ℕ) (directories : List Directory) (end : ℕ) → gate < length image → DirectoriesFrom count names earliest image gate directories end → end < length image
 front_within count names earliest image gate [] end lt f = omega arith
 front_within count names earliest image gate (d ∷ directories) end lt f =
     let stands = stands_from count names earliest image (gate + 1) d f.1 in
     front_within (count + d.segment.events) (names ++ d.names) (d.segment.last + 1) image (gate_behind image (gate + 1)) directories end (omega (arith, stands.ends)) f.2
 
 -- read from the first gate on, the segments come first, and then what is read from the gate behind them
-pub front_read : (k count : ℕ) (names : List (List ℕ)) (earliest : ℕ) (image : List ℕ) (gate : ℕ) (directories : List Directory) (end : ℕ) → Front count names earliest image gate directories end → get_or image end 0 ≢ 1 → length directories ≤ k
+pub front_read : (k count : ℕ) (names : List (List ℕ)) (earliest : ℕ) (image : List ℕ) (gate : ℕ) (directories : List Directory) (end : ℕ) → DirectoriesFrom count names earliest image gate directories end → get_or image end 0 ≢ 1 → length directories ≤ k
     → segments_from k count names earliest image gate ≡ Ok (tail_of directories (end + 1))
 front_read k count names earliest image gate [] end f closed le =
     subst (λ m. get_or image m 0 ≢ 1 → segments_from k count names earliest image gate ≡ Ok (tail_of [] (m + 1))) (sym f) (read_closed k count names earliest image gate) closed
@@ -162,7 +162,7 @@ front_read (suc k) count names earliest image gate (d ∷ directories) end f clo
     read_more k count names earliest image gate d (Ok (tail_of directories (end + 1))) f.0 f.1
     (front_read k (count + d.segment.events) (names ++ d.names) (d.segment.last + 1) image (gate_behind image (gate + 1)) directories end f.2 closed (omega arith))
 
-pub front_damaged : (k count : ℕ) (names : List (List ℕ)) (earliest : ℕ) (image : List ℕ) (gate : ℕ) (directories : List Directory) (end : ℕ) → Front count names earliest image gate directories end → get_or image end 0 ≡ 1
+pub front_damaged : (k count : ℕ) (names : List (List ℕ)) (earliest : ℕ) (image : List ℕ) (gate : ℕ) (directories : List Directory) (end : ℕ) → DirectoriesFrom count names earliest image gate directories end → get_or image end 0 ≡ 1
     → directory_at (events_after count (segments_told directories)) (names_after names directories) (earliest_after earliest (segments_told directories)) image (end + 1) ≡ None
     → length directories < k → segments_from k count names earliest image gate ≡ Err (end + 1)
 front_damaged zero count names earliest image gate directories end f is_open wrong lt = absurd (omega arith)
@@ -173,22 +173,22 @@ front_damaged (suc k) count names earliest image gate (d ∷ directories) end f 
     (front_damaged k (count + d.segment.events) (names ++ d.names) (d.segment.last + 1) image (gate_behind image (gate + 1)) directories end f.2 is_open wrong (omega arith))
 
 -- one segment more
-pub front_more : (count : ℕ) (names : List (List ℕ)) (earliest : ℕ) (image : List ℕ) (gate : ℕ) (directories : List Directory) (end : ℕ) (d : Directory) → Front count names earliest image gate directories end → get_or image end 0 ≡ 1
-    → directory_at (events_after count (segments_told directories)) (names_after names directories) (earliest_after earliest (segments_told directories)) image (end + 1) ≡ Some d → Front count names earliest image gate (directories ++ d ∷ []) (gate_behind image (end + 1))
+pub front_more : (count : ℕ) (names : List (List ℕ)) (earliest : ℕ) (image : List ℕ) (gate : ℕ) (directories : List Directory) (end : ℕ) (d : Directory) → DirectoriesFrom count names earliest image gate directories end → get_or image end 0 ≡ 1
+    → directory_at (events_after count (segments_told directories)) (names_after names directories) (earliest_after earliest (segments_told directories)) image (end + 1) ≡ Some d → DirectoriesFrom count names earliest image gate (directories ++ d ∷ []) (gate_behind image (end + 1))
 front_more count names earliest image gate [] end d f is_open right =
-    subst (λ m. get_or image m 0 ≡ 1 → directory_at count names earliest image (m + 1) ≡ Some d → Front count names earliest image gate (d ∷ []) (gate_behind image (m + 1))) (sym f) (λ o r. (o, r, refl)) is_open right
+    subst (λ m. get_or image m 0 ≡ 1 → directory_at count names earliest image (m + 1) ≡ Some d → DirectoriesFrom count names earliest image gate (d ∷ []) (gate_behind image (m + 1))) (sym f) (λ o r. (o, r, refl)) is_open right
 front_more count names earliest image gate (t ∷ directories) end d f is_open right =
     (f.0, f.1, front_more (count + t.segment.events) (names ++ t.names) (t.segment.last + 1) image (gate_behind image (gate + 1)) directories end d f.2 is_open right)
 
 -- the same segments stand in another image with the same bytes up to the gate behind them
-pub front_same : (count : ℕ) (names : List (List ℕ)) (earliest : ℕ) (image other : List ℕ) (gate : ℕ) (directories : List Directory) (end : ℕ) → Same end other image → end < length other → Front count names earliest image gate directories end → Front count names earliest other gate directories end
+pub front_same : (count : ℕ) (names : List (List ℕ)) (earliest : ℕ) (image other : List ℕ) (gate : ℕ) (directories : List Directory) (end : ℕ) → Same end other image → end < length other → DirectoriesFrom count names earliest image gate directories end → DirectoriesFrom count names earliest other gate directories end
 front_same count names earliest image other gate [] end same lt f = f
 front_same count names earliest image other gate (d ∷ directories) end same lt f =
     let far = front_far (count + d.segment.events) (names ++ d.names) (d.segment.last + 1) image (gate_behind image (gate + 1)) directories end f.2 in
     let again = stands_same count names earliest image other (gate + 1) end d same f.1 (omega arith) lt in (
       byte_same end gate other image (omega arith) same ∙ f.0,
       again.stands,
-      subst (λ g. Front (count + d.segment.events) (names ++ d.names) (d.segment.last + 1) other g directories end) (sym again.gate)
+      subst (λ g. DirectoriesFrom (count + d.segment.events) (names ++ d.names) (d.segment.last + 1) other g directories end) (sym again.gate)
           (front_same (count + d.segment.events) (names ++ d.names) (d.segment.last + 1) image other (gate_behind image (gate + 1)) directories end same lt f.2),
     )
 
@@ -219,7 +219,7 @@ pub record Fronted (count : ℕ) (names : List (List ℕ)) (earliest : ℕ) (ima
   pub directories : List Directory
   pub end : ℕ
   pub is : tail_of directories (end + 1) ≡ tail
-  pub front : Front count names earliest image gate directories end
+  pub front : DirectoriesFrom count names earliest image gate directories end
   pub closed : get_or image end 0 ≢ 1
 
 tail_more : (d : Directory) (directories : List Directory) (end : ℕ) (more tail : Tail) → tail_of directories (end + 1) ≡ more → put_front d more ≡ tail → tail_of (d ∷ directories) (end + 1) ≡ tail

@@ -27,7 +27,7 @@ use Rattle.dg_graph.specs.Names.{are_new}
 use Rattle.dg_history.specs.OpenedIndex.{Segment, Directory, opening, opened_of, opening_of, may_be_named, segment_of, segments_of, params_in, params_with, function_in, four_at}
 use Rattle.dg_graph.specs.declared.event.TheConstants.{REASON_TIME}
 use Rattle.dg_file.specs.Growth.{Gated, Keeps}
-use Rattle.dg_file.specs.Headers.{Front, header_rest, segments_told, names_told}
+use Rattle.dg_file.specs.Headers.{DirectoriesFrom, header_rest, segments_told, names_told}
 use Rattle.dg_file.specs.Index.{NewSegment, new_segment_of, blobs_size, names_size, names_text, back_bytes, segment_bytes, segment_put, needed_for, with_segment}
 use Rattle.dg_file.proofs.Opened.{opened_from, stands_new, Follows, follows_to, columns_length, directory_put, directory_length}
 use Rattle.dg_file.proofs.Fronts.{both}
@@ -168,9 +168,9 @@ earliest_behind (x ∷ before) (e ∷ events) some = ap (λ n. n + 1) (last_time
 
 -- ---- the segments of a history stand in its image
 
-front_cast : (names : List (List ℕ)) (image : List ℕ) (directories : List Directory) (c1 c2 e1 e2 g1 g2 n1 n2 : ℕ) → c1 ≡ c2 → e1 ≡ e2 → g1 ≡ g2 → n1 ≡ n2 → Front c1 names e1 image g1 directories n1 → Front c2 names e2 image g2 directories n2
+front_cast : (names : List (List ℕ)) (image : List ℕ) (directories : List Directory) (c1 c2 e1 e2 g1 g2 n1 n2 : ℕ) → c1 ≡ c2 → e1 ≡ e2 → g1 ≡ g2 → n1 ≡ n2 → DirectoriesFrom c1 names e1 image g1 directories n1 → DirectoriesFrom c2 names e2 image g2 directories n2
 front_cast names image directories c1 c2 e1 e2 g1 g2 n1 n2 c e g n f =
-    subst (λ m. Front m names e2 image g2 directories n2) c (subst (λ m. Front c1 names m image g2 directories n2) e (subst (λ m. Front c1 names e1 image m directories n2) g (subst (Front c1 names e1 image g1 directories) n f)))
+    subst (λ m. DirectoriesFrom m names e2 image g2 directories n2) c (subst (λ m. DirectoriesFrom c1 names m image g2 directories n2) e (subst (λ m. DirectoriesFrom c1 names e1 image m directories n2) g (subst (DirectoriesFrom c1 names e1 image g1 directories) n f)))
 
 -- the directories of the batches, of which the first has its gate at the place
 abbrev pub directories_of : ℕ → List Batch → List Directory
@@ -190,7 +190,7 @@ names_are gate (b ∷ more) = ap (λ (l : List (List ℕ)). b.names ++ l) (names
 
 front_of : (batches : List Batch) (names all_names : List (List ℕ)) (before : List Event) (image : List ℕ) (gate g : ℕ) (rest : List ℕ) → AreLegalAfter all_names before batches → are_new names (names_in batches) ≡ true → length names + length (names_in batches) ≤ NAMES_MAX
     → length before + length (flat_map (λ (b : Batch). b.events) batches) ≤ EVENTS_MAX → drop gate image ≡ body batches ++ g ∷ rest → gate + length (body batches) + 1 ≤ FILE_BYTES_MAX
-    → Front (length before) names (earliest_next (span_of before)) image gate (directories_of gate batches) (gate + length (body batches))
+    → DirectoriesFrom (length before) names (earliest_next (span_of before)) image gate (directories_of gate batches) (gate + length (body batches))
 front_of [] names all_names before image gate g rest legal new few_names few is fits = omega arith
 front_of (b ∷ more) names all_names before image gate g rest legal new few_names few is fits =
     let s = new_segment_of b in

@@ -1,26 +1,26 @@
 -- What an index holds of its segments, and what one segment more makes of it.
-use Rattle.std.proofs.Common.{◌≡◌, ℕ, zero, suc, ◌+◌, ◌≤◌, true, cond, List, [], ◌∷◌, ◌++◌, length, map, Option, Some, None, refl, sym, ap, subst, ◌∙◌, add-zero, arith}
+use Rattle.std.proofs.Common.{◌≡◌, ℕ, zero, suc, ◌+◌, ◌-◌, ◌≤◌, true, cond, List, [], ◌∷◌, ◌++◌, length, map, Option, Some, None, refl, sym, ap, subst, ◌∙◌, add-zero, arith}
 use Rattle.std.specs.Prelude.{slice_get}
 use Rattle.std.specs.Map.{lookup}
 use Rattle.std.specs.Option.{option_map}
 use Rattle.std.proofs.lemmas.Bool.{eq-eqb, ne_eqb}
 use Rattle.std.proofs.lemmas.List.{map-append, length-map}
-use Rattle.std.proofs.lemmas.List.Sums.{sum_by_push}
+use Rattle.std.proofs.lemmas.List.Sums.{sum_by-cons, sum_by_push}
 use Rattle.dg_history.specs.declared.limits.TheConstants.{EVENTS_MAX, FILE_BYTES_MAX}
 use Rattle.dg_graph.specs.declared.limits.TheConstants.{NAMES_MAX, TIME_MAX}
 use Rattle.dg_history.specs.declared.node.Key.{Key}
 use Rattle.dg_history.specs.declared.node.Key.TheVariants as key
 use Rattle.dg_history.specs.declared.params.Params.{Params}
 use Rattle.dg_history.specs.Keys.{same_key}
-use Rattle.dg_history.specs.OpenedIndex.{Segment, may_follow}
+use Rattle.dg_history.specs.OpenedIndex.{Segment, Opening, columns_size, may_follow}
 use Rattle.dg_shape.specs.declared.catalogue.Ends.{Ends}
 use Rattle.dg_shape.specs.declared.catalogue.Entry.{Entry}
 use Rattle.dg_shape.specs.Entries.{Holdings, total, bytes_of, spanned}
 use Rattle.dg_file.specs.declared.batch.Batch.{Batch}
 use Rattle.dg_file.specs.declared.batch.Noted.{Noted}
 use Rattle.dg_file.specs.Held.{batch_in, piece_in, pieces_from, segment_held, segments_held, last_of, span_in, segment_in}
-use Rattle.dg_file.specs.Index.{events_after, earliest_after, AreInTurn, names_count}
-use Rattle.dg_file.specs.Invariant.{AreHeld, IsIndex, IsSound}
+use Rattle.dg_file.specs.Index.{events_after, earliest_after, AreInTurn, names_count, columns_bytes, opening_bytes}
+use Rattle.dg_file.specs.Invariant.{AreHeld, IsIndex, IndexIsSound}
 use Rattle.dg_file.proofs.Opened.{follows_from}
 
 -- ---- one segment more
@@ -113,11 +113,33 @@ noted old new bs new_bs n h entries is =
 pub names_more : (segments : List Segment) (s : Segment) → names_count (segments ++ s ∷ []) ≡ names_count segments + s.names
 names_more segments s = sum_by_push (λ (s : Segment). s.names) segments s
 
-pub noted_sound : (params : Params) (old new : Holdings) (bs new_bs : List Batch) (events names used new_events new_names new_used : ℕ) (n : Noted) → IsSound params old bs events names used
+-- ---- the columns
+
+pub columns_more : (segments : List Segment) (s : Segment) → columns_bytes (segments ++ s ∷ []) ≡ columns_bytes segments + columns_size s.lengths
+columns_more segments s = sum_by_push (λ (s : Segment). columns_size s.lengths) segments s
+
+-- the bytes of the pieces are those of the columns
+pub pieces_bytes : (n : ℕ) (segments : List Segment) → bytes_of (pieces_from n segments) ≡ columns_bytes segments
+pieces_bytes n [] = refl
+pieces_bytes n (s ∷ segments) =
+    sum_by-cons (λ (e : Key × Entry). total e.1.lengths) (key.Piece n, piece_in s) (pieces_from (n + 1) segments)
+    ∙ ap (λ m. columns_size s.lengths + m) (pieces_bytes (n + 1) segments)
+    ∙ sym (sum_by-cons (λ (s : Segment). columns_size s.lengths) s segments)
+
+-- what an opening reads of one segment more
+pub opening_more : (o new : Opening) (n : Noted) → new ≡ record o { segments = o.segments ++ segment_in n ∷ []; used = n.place + total n.lengths + 1 } → columns_bytes o.segments ≤ o.used → o.used ≤ n.place
+    → opening_bytes new ≡ opening_bytes o + (n.place + 1 - o.used)
+opening_more o new n is within behind =
+    let more = columns_more o.segments (segment_in n) in
+    ap opening_bytes is ∙ omega (arith, more, within, behind)
+
+-- ---- one segment more is sound
+
+pub noted_sound : (params : Params) (old new : Holdings) (bs new_bs : List Batch) (events names used new_events new_names new_used : ℕ) (n : Noted) → IndexIsSound params old bs events names used
     → new.entries ≡ old.entries ++ (key.Piece (length bs), record { lengths = n.lengths; place = n.place; ends = None }) ∷ [] → new.span ≡ Some (spanned old.span n.batch.ends) → new_bs ≡ bs ++ n.batch ∷ []
     → new_events ≡ events + n.batch.events → new_names ≡ names + n.batch.names → new_names ≤ NAMES_MAX → used ≤ n.place → new_used ≡ n.place + total n.lengths + 1 → new_used ≤ FILE_BYTES_MAX
     → may_follow (events_after 0 (segments_held bs old.entries)) (earliest_after 0 (segments_held bs old.entries)) (segment_in n) ≡ true
-    → IsSound params new new_bs new_events new_names new_used
+    → IndexIsSound params new new_bs new_events new_names new_used
 noted_sound params old new bs new_bs events names used new_events new_names new_used n sound entries span is is_events is_names few_names behind is_used within follows =
     let segments = segments_held bs old.entries in
     let s = segment_in n in

@@ -2,7 +2,7 @@
 use Rattle.std.proofs.Common.{◌≡◌, ℕ, ◌+◌, ◌-◌, ◌≤◌, inl, inr, List, [], ◌∷◌, ◌++◌, length, take, drop, Option, Some, None, refl, sym, ap, subst, ◌∙◌, append_assoc, arith, length-append, add-zero}
 use Rattle.std.specs.Prelude.{is_some, IfSome, OnOk, OnErr, Result, Ok, Err}
 use Rattle.std.proofs.lemmas.List.{take_at, drop_at, take-append-drop, length-take-le}
-use Rattle.dg_disk.specs.Image.{HasPlace, WritesPart, put_at, with_piece}
+use Rattle.dg_disk.specs.Image.{HasOffset, WritesPart, put_at, with_piece}
 use Rattle.dg_file.specs.Growth.{Moved, Keeps, Grown, Gated, GatedOrNot}
 use Rattle.dg_file.specs.Images.{BothTold}
 use Rattle.dg_file.proofs.Ranges.{same_fewer}
@@ -146,7 +146,7 @@ gate_part used text a b (x ∷ y ∷ bytes) some few g = absurd (omega arith)
 
 -- ---- the same of images that may be told
 
-pub place_behind : (x y : Option (List ℕ)) (p q : ℕ) (piece : List ℕ) → q ≡ p + length piece → Moved x y (Grown p piece) → HasPlace y q
+pub place_behind : (x y : Option (List ℕ)) (p q : ℕ) (piece : List ℕ) → q ≡ p + length piece → Moved x y (Grown p piece) → HasOffset y q
 place_behind x y p q piece e m =
     moved_after x y (Grown p piece) (λ b. q ≤ length b) (λ a b g. omega (arith, e, grown_long p piece a b g)) m
 

@@ -14,7 +14,7 @@ use Rattle.dg_graph.specs.Names.{are_new}
 use Rattle.dg_history.specs.OpenedIndex.{Segment, Directory, Opening, Opened, Tail, Unopened, No_index, Not_ours, Damaged_at, four_at, eight_at, names_at, function_in, params_with, params_in, gate_behind, columns_size, may_follow, may_be_named, may_stand, directory_at, segments_from, opened_with, opened_by, opening}
 use Rattle.dg_file.specs.Growth.{Gated}
 use Rattle.dg_file.specs.Heads.{directory_due}
-use Rattle.dg_file.specs.Headers.{Front, IsOpenedSoFar, segments_told, names_told}
+use Rattle.dg_file.specs.Headers.{DirectoriesFrom, IsOpenedSoFar, segments_told, names_told}
 use Rattle.dg_file.specs.Index.{NewSegment, blobs_size, names_size, names_text, events_after, earliest_after, back_bytes, head_bytes, segment_bytes, segment_put, with_segment, needed_for, IsDue}
 use Rattle.dg_file.proofs.Directories.{told, has_back, due_some, named_few}
 use Rattle.dg_file.proofs.Fronts.{both, text_at, stands_to, stands_from, tail_of, names_after, names_after_is, front_far, front_within, front_read, front_damaged, front_more, front_same, front_from}
@@ -30,7 +30,7 @@ pub record IsOpened (image : List ℕ) (x : Opened) : Type 0 where
   pub names : x.names ≡ names_told directories
   pub end : ℕ
   pub used : x.index.used ≡ end + 1
-  pub front : Front 0 [] 0 image 17 directories end
+  pub front : DirectoriesFrom 0 [] 0 image 17 directories end
   pub closed : get_or image end 0 ≢ 1
 
 neither : (a b : Bool) → (a || b) ≡ false → (a ≡ false) × (b ≡ false)
@@ -159,7 +159,7 @@ so_far_more image o names d used gate x right is_used is_gate =
       there = x.there;
       params = x.params;
       directories = x.directories ++ d ∷ [];
-      front = subst (Front 0 [] 0 image 17 (x.directories ++ d ∷ [])) behind_it more;
+      front = subst (DirectoriesFrom 0 [] 0 image 17 (x.directories ++ d ∷ [])) behind_it more;
       segments = ap (λ (l : List Segment). l ++ d.segment ∷ []) x.segments ∙ sym (segments_more x.directories d);
       names_are = ap (λ (l : List (List ℕ)). l ++ d.names) x.names_are ∙ sym (names_more x.directories d);
       begun = omega (arith, x.begun, is_used);
@@ -332,6 +332,6 @@ opened_more before after o names s e due named fits g =
       names = ap (λ (l : List (List ℕ)). l ++ d.names) x.names ∙ sym (names_more x.directories d);
       end = o.used + 76 + names_size s + blobs_size s;
       used = omega arith;
-      front = subst (Front 0 [] 0 after 17 (x.directories ++ d ∷ [])) place more;
+      front = subst (DirectoriesFrom 0 [] 0 after 17 (x.directories ++ d ∷ [])) place more;
       closed = λ one. absurd (omega (arith, one, next.0));
     })

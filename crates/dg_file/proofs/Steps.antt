@@ -2,7 +2,7 @@
 use Rattle.std.proofs.Common.{◌≡◌, ℕ, ◌+◌, ◌-◌, ◌≤◌, ◌⊎◌, inl, inr, Bool, true, false, List, [], ◌∷◌, ◌++◌, length, Option, None, Result, Ok, Err, refl, sym, ap, subst, ◌∙◌, arith}
 use Rattle.std.specs.Prelude.{◌≢◌, ◌==◌, IfSome}
 use Rattle.std.proofs.lemmas.Bool.{eqb-true, eq-eqb, false≢true}
-use Rattle.dg_disk.specs.Image.{HasPlace, IsLengthOf}
+use Rattle.dg_disk.specs.Image.{HasOffset, IsLengthOf}
 use Rattle.dg_history.specs.declared.limits.TheConstants.{FILE_BYTES_MAX}
 use Rattle.dg_history.specs.FileOfHistory.{file, size}
 use Rattle.dg_history.specs.History.{History, with_batch, empty_history}
@@ -73,7 +73,7 @@ abbrev OpenedWith : Opening → List (List ℕ) → List ℕ → Type 0
 OpenedWith o names image = opening image ≡ Ok (record { index = o; names = names })
 
 -- the bytes in use are there
-pub used_there : (x : Option (List ℕ)) (o : Opening) (s : NewSegment) → IfSome x (λ image. Fits image o s) → HasPlace x o.used
+pub used_there : (x : Option (List ℕ)) (o : Opening) (s : NewSegment) → IfSome x (λ image. Fits image o s) → HasOffset x o.used
 used_there x o s h =
     some_weaker x (λ image. Fits image o s) (λ image. o.used ≤ length image)
     (λ image f. let z : Opened = record { index = o; names = f.0 } in let y = opened_to image z f.1 in omega (arith, y.used, opened_within image z y)) h

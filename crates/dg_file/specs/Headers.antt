@@ -17,11 +17,11 @@ header_rest params = codes "DGRAPH1" ++ (four params.l ++ (four params.k ++ func
 -- The directories of segments that stand in the image one behind another, from the gate on, with so many
 -- events and these names before them; the gate before each is open, and the last number is the place of
 -- the gate behind them.
-abbrev pub Front : ℕ → List (List ℕ) → ℕ → List ℕ → ℕ → List Directory → ℕ → Type 0
-Front count names earliest image gate [] end = end ≡ gate
-Front count names earliest image gate (d ∷ more) end =
+abbrev pub DirectoriesFrom : ℕ → List (List ℕ) → ℕ → List ℕ → ℕ → List Directory → ℕ → Type 0
+DirectoriesFrom count names earliest image gate [] end = end ≡ gate
+DirectoriesFrom count names earliest image gate (d ∷ more) end =
     (slice_index image gate ≡ 1) × (directory_at count names earliest image (gate + 1) ≡ Some d)
-    × Front (count + d.segment.events) (names ++ d.names) (d.segment.last + 1) image (gate_behind image (gate + 1)) more end
+    × DirectoriesFrom (count + d.segment.events) (names ++ d.names) (d.segment.last + 1) image (gate_behind image (gate + 1)) more end
 
 -- the segments of directories, and their names
 abbrev pub segments_told : List Directory → List Segment
@@ -35,7 +35,7 @@ pub record IsOpenedSoFar (image : List ℕ) (o : Opening) (names : List (List �
   pub there : is_blank image ≡ false
   pub params : params_in image ≡ Some o.params
   pub directories : List Directory
-  pub front : Front 0 [] 0 image 17 directories (o.used - 1)
+  pub front : DirectoriesFrom 0 [] 0 image 17 directories (o.used - 1)
   pub segments : o.segments ≡ segments_told directories
   pub names_are : names ≡ names_told directories
   pub begun : 18 ≤ o.used

@@ -55,7 +55,7 @@ pub record TakesDirectory (count earliest columns : ℕ) (bytes : List ℕ) (pla
 -- What is known of a segment at the place that is taken, in an image of so many bytes: its batch may
 -- follow, its names are counted, and its columns and the gate behind them are behind the place and within
 -- the image and the bytes of a file.
-pub record Takes (count earliest : ℕ) (old : List (List ℕ)) (at len : ℕ) (new : List (List ℕ)) (noted : Noted) : Type 0 where
+pub record TakesSegment (count earliest : ℕ) (old : List (List ℕ)) (at len : ℕ) (new : List (List ℕ)) (noted : Noted) : Type 0 where
   pub follows : may_follow count earliest (segment_in noted) ≡ true
   pub counted : length new ≡ length old + noted.batch.names
   pub few : length new ≤ NAMES_MAX

@@ -1,5 +1,5 @@
 -- What an index over a disk holds, and what a batch adds to it.
-use Rattle.std.specs.Prelude.{◌≡◌, ℕ, ◌+◌, ◌≤◌, true, List, [], ◌∷◌, ◌++◌, Option, None, length, slice_get, sum_by}
+use Rattle.std.specs.Prelude.{◌≡◌, ℕ, ◌+◌, ◌-◌, ◌≤◌, true, List, [], ◌∷◌, ◌++◌, Option, None, length, slice_get, sum_by}
 use Rattle.std.specs.List.{flat_map}
 use Rattle.dg_graph.specs.declared.element.Column.TheVariants as column
 use Rattle.dg_history.specs.declared.node.Key.{Key}
@@ -8,7 +8,7 @@ use Rattle.dg_graph.specs.Columns.{four, eight, events_column}
 use Rattle.dg_graph.specs.declared.limits.TheConstants.{NAMES_MAX}
 use Rattle.dg_history.specs.FileOfHistory.{first_time_of, name_bytes}
 use Rattle.dg_history.specs.History.{Batch, last_time_from}
-use Rattle.dg_history.specs.OpenedIndex.{Segment, Opening, may_follow}
+use Rattle.dg_history.specs.OpenedIndex.{Segment, Opening, columns_size, may_follow}
 
 -- what its image is opened as, and how many segments it may get without taking memory
 pub record IndexState : Type 0 where
@@ -52,6 +52,16 @@ AreInTurn count earliest (s ∷ segments) =
 -- the names of these segments together
 abbrev pub names_count : List Segment → ℕ
 names_count segments = sum_by (λ (s : Segment). s.names) segments
+
+-- the bytes of the columns of these segments together
+abbrev pub columns_bytes : List Segment → ℕ
+columns_bytes segments = sum_by (λ (s : Segment). columns_size s.lengths) segments
+
+-- The bytes that an opening reads: all that are in use but the columns. These are the 18 bytes of the
+-- header with the gate of the first segment, and of each segment its two lengths, its directory and the
+-- gate behind it, 17 bytes and those of the directory: none of them is read twice.
+abbrev pub opening_bytes : Opening → ℕ
+opening_bytes o = o.used - columns_bytes o.segments
 
 -- the new names as they stand in the directory, and their bytes
 abbrev pub names_text : NewSegment → List ℕ

@@ -27,7 +27,7 @@ pub record IsIndex (params : Params) (segments : List Segment) (used : ℕ) : Ty
   pub few_names : names_count segments ≤ NAMES_MAX
 
 -- what holds of the fields of an index
-pub record IsSound (params : Params) (catalogue : Holdings) (batches : List Batch) (events names used : ℕ) : Type 0 where
+pub record IndexIsSound (params : Params) (catalogue : Holdings) (batches : List Batch) (events names used : ℕ) : Type 0 where
   pub held : AreHeld (segments_held batches catalogue.entries) catalogue batches
   pub sound : IsIndex params (segments_held batches catalogue.entries) used
   pub count : events ≡ events_after 0 (segments_held batches catalogue.entries)

@@ -2,7 +2,8 @@ pub mod Index
 pub mod Images
 pub mod Heads
 pub mod Held
-pub mod Laws
+pub mod IndexLaws
 pub mod Growth
 pub mod Headers
 pub mod Invariant
+pub mod Faults

@@ -1,8 +1,9 @@
 //! Writing a segment behind the closed gate that ends the file, and opening that gate.
 
 ghost use Rattle.std.specs.Prelude.{◌≡◌, ◌≤◌, ◌<◌, ◌+◌, ◌-◌, ◌^◌, ◌++◌, ◌∷◌, [], length, OnOk, OnErr, IfOk};
+ghost use Rattle.dg_disk.specs.Frame.{OnlyWrites};
 ghost use Rattle.dg_disk.specs.Counts.{Rose};
-ghost use Rattle.dg_disk.specs.Image.{HasPlace};
+ghost use Rattle.dg_disk.specs.Image.{HasOffset};
 ghost use Rattle.dg_file.specs.Index.{blobs_size, names_size, head_bytes, segment_bytes};
 ghost use Rattle.dg_file.specs.Growth.{Moved, Keeps, Grown, Gated, GatedOrNot};
 
@@ -14,15 +15,13 @@ use dg_disk::{Disk, Failed};
 
 // Puts a piece, which may be empty, at the place. Answers the place behind it.
 fn put<D: Disk>(disk: &mut D, place: u64, piece: &[u8]) -> Result<u64, Failed>
-    requires place { HasPlace (D.image disk.old) place }
+    requires place { HasOffset (D.image disk.old) place }
     requires fits { place + length piece.now < 2 ^ 64 }
     ensures behind { IfOk result (λ n. n ≡ place + length piece.now) }
     ensures written { OnOk result (Moved (D.image disk.old) (D.image disk.new) (Grown place piece.now)) }
     ensures part { Moved (D.image disk.old) (D.image disk.new) (Keeps place) }
     ensures cause { OnErr result (Rose (D.write_faults disk.old) (D.write_faults disk.new)) }
-    ensures counted { D.faults disk.old ≤ D.faults disk.new }
-    ensures write_counted { D.write_faults disk.old ≤ D.write_faults disk.new }
-    ensures same_taken { D.taken disk.new ≡ D.taken disk.old }
+    ensures frame { OnlyWrites D.image D.faults D.write_faults D.taken disk.old disk.new }
 {
     if piece.is_empty() {
         return Ok(place);
@@ -33,15 +32,13 @@ fn put<D: Disk>(disk: &mut D, place: u64, piece: &[u8]) -> Result<u64, Failed>
 
 // Puts the columns of the segment at the place. Answers the place behind them.
 fn put_columns<D: Disk>(disk: &mut D, place: u64, segment: &Segment) -> Result<u64, Failed>
-    requires place { HasPlace (D.image disk.old) place }
+    requires place { HasOffset (D.image disk.old) place }
     requires fits { place + blobs_size segment.now < 2 ^ 64 }
     ensures behind { IfOk result (λ n. n ≡ place + blobs_size segment.now) }
     ensures written { OnOk result (Moved (D.image disk.old) (D.image disk.new) (Grown place (segment.now.structure ++ (segment.now.node_attrs ++ segment.now.edge_attrs)))) }
     ensures part { Moved (D.image disk.old) (D.image disk.new) (Keeps place) }
     ensures cause { OnErr result (Rose (D.write_faults disk.old) (D.write_faults disk.new)) }
-    ensures counted { D.faults disk.old ≤ D.faults disk.new }
-    ensures write_counted { D.write_faults disk.old ≤ D.write_faults disk.new }
-    ensures same_taken { D.taken disk.new ≡ D.taken disk.old }
+    ensures frame { OnlyWrites D.image D.faults D.write_faults D.taken disk.old disk.new }
 {
     let nodes_place = put(disk, place, segment.structure())?;
     let edges_place = put(disk, nodes_place, segment.node_attrs())?;
@@ -50,15 +47,13 @@ fn put_columns<D: Disk>(disk: &mut D, place: u64, segment: &Segment) -> Result<u
 
 // Puts the fields and the names of the segment at the place. Answers the place behind them.
 fn put_directory<D: Disk>(disk: &mut D, place: u64, segment: &Segment) -> Result<u64, Failed>
-    requires place { HasPlace (D.image disk.old) place }
+    requires place { HasOffset (D.image disk.old) place }
     requires fits { place + names_size segment.now + 76 < 2 ^ 64 }
     ensures behind { IfOk result (λ n. n ≡ place + (76 + names_size segment.now)) }
     ensures written { OnOk result (Moved (D.image disk.old) (D.image disk.new) (Grown place (head_bytes segment.now))) }
     ensures part { Moved (D.image disk.old) (D.image disk.new) (Keeps place) }
     ensures cause { OnErr result (Rose (D.write_faults disk.old) (D.write_faults disk.new)) }
-    ensures counted { D.faults disk.old ≤ D.faults disk.new }
-    ensures write_counted { D.write_faults disk.old ≤ D.write_faults disk.new }
-    ensures same_taken { D.taken disk.new ≡ D.taken disk.old }
+    ensures frame { OnlyWrites D.image D.faults D.write_faults D.taken disk.old disk.new }
 {
     let front = front_of(segment);
     let back = back_of(segment);
@@ -69,14 +64,12 @@ fn put_directory<D: Disk>(disk: &mut D, place: u64, segment: &Segment) -> Result
 
 // Writes the segment from the place on, and a closed gate behind it, and brings them to the device.
 fn write_segment<D: Disk>(disk: &mut D, place: u64, segment: &Segment) -> Result<(), Failed>
-    requires place { HasPlace (D.image disk.old) place }
+    requires place { HasOffset (D.image disk.old) place }
     requires fits { place + names_size segment.now + blobs_size segment.now + 77 < 2 ^ 64 }
     ensures written { OnOk result (Moved (D.image disk.old) (D.image disk.new) (Grown place (segment_bytes segment.now ++ 0 ∷ []))) }
     ensures part { Moved (D.image disk.old) (D.image disk.new) (Keeps place) }
     ensures cause { OnErr result (Rose (D.write_faults disk.old) (D.write_faults disk.new)) }
-    ensures counted { D.faults disk.old ≤ D.faults disk.new }
-    ensures write_counted { D.write_faults disk.old ≤ D.write_faults disk.new }
-    ensures same_taken { D.taken disk.new ≡ D.taken disk.old }
+    ensures frame { OnlyWrites D.image D.faults D.write_faults D.taken disk.old disk.new }
 {
     let columns_place = put_directory(disk, place, segment)?;
     let gate_place = put_columns(disk, columns_place, segment)?;
@@ -87,15 +80,13 @@ fn write_segment<D: Disk>(disk: &mut D, place: u64, segment: &Segment) -> Result
 /// Writes the segment and a closed gate behind the first `used` bytes, the last of which is a closed
 /// gate, and opens that gate once they are on the device. `Failed` where the disk failed.
 pub(crate) fn append<D: Disk>(disk: &mut D, used: u64, segment: &Segment) -> Result<(), Failed>
-    requires place { HasPlace (D.image disk.old) used }
+    requires place { HasOffset (D.image disk.old) used }
     requires some { 1 ≤ used }
     requires fits { used + names_size segment.now + blobs_size segment.now + 77 < 2 ^ 64 }
     ensures written { OnOk result (Moved (D.image disk.old) (D.image disk.new) (Gated (used - 1) 1 (segment_bytes segment.now))) }
     ensures part { OnErr result (Moved (D.image disk.old) (D.image disk.new) (GatedOrNot used (segment_bytes segment.now))) }
     ensures cause { OnErr result (Rose (D.write_faults disk.old) (D.write_faults disk.new)) }
-    ensures counted { D.faults disk.old ≤ D.faults disk.new }
-    ensures write_counted { D.write_faults disk.old ≤ D.write_faults disk.new }
-    ensures same_taken { D.taken disk.new ≡ D.taken disk.old }
+    ensures frame { OnlyWrites D.image D.faults D.write_faults D.taken disk.old disk.new }
 {
     write_segment(disk, used, segment)?;
     put_down(disk, used - 1, &[OPEN])

@@ -1,12 +1,13 @@
 //! Reading a directory: its fields, and its names, which are added to those before it.
 
-ghost use Rattle.std.specs.Prelude.{◌≡◌, ℕ, ◌+◌, ◌<◌, ◌≤◌, ◌==◌, ◌&&◌, ◌||◌, List, ◌∷◌, [], Some, None, false, length, IfOk, IfSome, IsErrOf};
+ghost use Rattle.std.specs.Prelude.{◌≡◌, ℕ, ◌+◌, ◌<◌, ◌≤◌, ◌==◌, ◌&&◌, ◌||◌, List, ◌∷◌, [], Some, None, false, length, IfOk, IfSome, OnOk, IsErrOf};
 ghost use Rattle.std.specs.List.{list_any};
 ghost use Rattle.std.specs.Option.{option_map};
 ghost use Rattle.dg_history.specs.declared.limits.TheConstants.{EVENTS_MAX, FILE_BYTES_MAX};
 ghost use Rattle.dg_graph.specs.declared.limits.TheConstants.{NAMES_MAX};
 ghost use Rattle.dg_graph.specs.Names.{is_name, are_new};
 ghost use Rattle.dg_history.specs.OpenedIndex.{four_at, eight_at, name_at, names_at, columns_size, may_follow};
+ghost use Rattle.dg_file.specs.declared.directory.Untaken.TheVariants.{Memory};
 ghost use Rattle.dg_file.specs.Heads.{directory_due, is_fresh, TakesName, TakesNames, TakesDirectory};
 ghost use Rattle.dg_file.specs.Held.{segment_in};
 
@@ -17,6 +18,7 @@ use dg_graph::{BATCH_LINES_MAX, NAME_BYTES_MAX, NAMES_MAX, TIME_MAX};
 use dg_history::{EVENTS_MAX, FILE_BYTES_MAX};
 use dg_names::Names;
 use dg_shape::Ends;
+use std::alloc::AllocError;
 
 /// The place of the number of names in a directory.
 const COUNT_PLACE: usize = 24;
@@ -40,6 +42,14 @@ pub(crate) enum Untaken {
     Broken,
     // memory ran out
     Memory,
+}
+
+impl From<AllocError> for Untaken {
+    ghost from_gives = { λ _ untaken. untaken ≡ Memory };
+
+    fn from(_failure: AllocError) -> Untaken {
+        Untaken::Memory
+    }
 }
 
 fn has_line_end(text: &[u8]) -> bool
@@ -94,10 +104,8 @@ fn read_name(bytes: &[u8], at: usize, names: &mut Names) -> Result<usize, Untake
     if !is_fresh(text, names) {
         return Err(Untaken::Broken);
     }
-    match names.add(text) {
-        Ok(_) => Ok(end),
-        Err(_) => Err(Untaken::Memory),
-    }
+    names.add(text)?;
+    Ok(end)
 }
 
 // Adds so many names, which stand in the directory one behind another, to those that are there. Answers
@@ -199,6 +207,8 @@ pub(crate) fn read_directory(
     requires events { before.events ≤ EVENTS_MAX }
     requires columns { columns ≤ FILE_BYTES_MAX }
     ensures taken { IfOk result (λ noted. TakesDirectory before.events before.earliest columns bytes.now place names.old names.new noted) }
+    ensures place { IfOk result (λ noted. noted.place ≡ place) }
+    ensures long { OnOk result (28 ≤ length bytes.now) }
     ensures broken { IsErrOf result Untaken.Broken → directory_due before.events names.old before.earliest columns bytes.now place ≡ None }
 {
     if bytes.len() < NAMES_PLACE {

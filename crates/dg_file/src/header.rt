@@ -9,8 +9,8 @@ ghost use Rattle.dg_history.specs.OpenedIndex.{function_in, params_in};
 ghost use Rattle.dg_file.specs.Headers.{header_rest};
 
 use crate::numbers::{put_at, u32_at};
-use dg_history::{ARITY_MAX, ARITY_MIN, LEAF_MAX, LEAF_MIN, Params};
 use dg_graph::Function;
+use dg_history::{ARITY_MAX, ARITY_MIN, LEAF_MAX, LEAF_MIN, Params};
 
 /// The bytes of a header with the gate behind it.
 pub(crate) const HEADER_BYTES: usize = 18;

@@ -1,6 +1,7 @@
 ghost use Rattle.std.specs.Prelude.{◌≡◌, ◌≢◌, ◌≤◌, ◌<◌, ◌+◌, ◌-◌, ◌^◌, ℕ, List, [], ◌∷◌, ◌++◌, true, false, length, map, min, Some, None, Ok, Err, is_some, slice_get, IsSome, IfSome, IfOk, IfErr, OnOk, OnErr, IsErrOf};
 ghost use Rattle.std.specs.Option.{option_map};
-ghost use Rattle.dg_disk.specs.Counts.{Rose};
+ghost use Rattle.dg_disk.specs.Counts.{Rose, raised_by};
+ghost use Rattle.dg_disk.specs.Frame.{OnlyReads, OnlyWrites, ReadsAndSyncs};
 ghost use Rattle.dg_disk.specs.Image.{IsLengthOf};
 ghost use Rattle.dg_history.specs.declared.limits.TheConstants.{EVENTS_MAX, FILE_BYTES_MAX};
 ghost use Rattle.dg_graph.specs.declared.limits.TheConstants.{NAMES_MAX};
@@ -8,7 +9,7 @@ ghost use Rattle.dg_history.specs.History.{are_parameters, empty_history, with_b
 ghost use Rattle.dg_history.specs.LegalHistory.{IsImageOf, is_blank};
 ghost use Rattle.dg_history.specs.OpenedIndex.{opening, opened_of, opening_of, column_of_piece, may_follow};
 ghost use Rattle.dg_shape.specs.Entries.{total};
-ghost use Rattle.dg_file.specs.Index.{piece_of, needed_for, with_segment, IsDue, AreInTurn, events_after, earliest_after, names_count};
+ghost use Rattle.dg_file.specs.Index.{piece_of, needed_for, with_segment, IsDue, AreInTurn, events_after, columns_bytes, earliest_after, names_count, opening_bytes};
 ghost use Rattle.dg_file.specs.Images.{BothTold, Fits, GainsBatch, GainsBatchOrNot, GainsSegment, IsMadeInPart, IsOpenedAs, Refuses, taken_after};
 ghost use Rattle.dg_file.specs.Held.{batch_in, pieces_from, span_in, segment_in};
 ghost use Rattle.dg_file.specs.Headers.{IsOpenedSoFar};
@@ -53,11 +54,11 @@ impl Model for Index {
     ghost Value = { IndexState };
 
     ghost use Rattle.dg_file.specs.Held.{segments_held};
-    ghost use Rattle.dg_file.specs.Invariant.{IsSound};
+    ghost use Rattle.dg_file.specs.Invariant.{IndexIsSound};
 
     ghost view = { λ x. record { opening = record { params = x.params; segments = segments_held x.batches.items x.catalogue.entries; used = x.used }; room = min x.catalogue.spare (vec_capacity x.batches - vec_len x.batches) } };
 
-    ghost invariant = { λ x. IsSound x.params x.catalogue x.batches.items x.events x.names x.used };
+    ghost invariant = { λ x. IndexIsSound x.params x.catalogue x.batches.items x.events x.names x.used };
 }
 
 impl Index {
@@ -139,22 +140,19 @@ impl Index {
         ensures made { IfOk result (λ index. index.opening ≡ opening_of (empty_history params)) }
         ensures opened { OnOk result (IfSome (D.image disk.new) (λ image. opening image ≡ Ok (opened_of (empty_history params)))) }
         ensures image { OnOk result (IfSome (D.image disk.new) (λ image. IsImageOf (empty_history params) image)) }
+
+        // errors
         ensures part { IsErrOf result CreateFault.Disk → BothTold (D.image disk.old) (D.image disk.new) (λ old new. IsMadeInPart params old new) }
-        ensures memory { IsErrOf result CreateFault.Memory → (D.image disk.new ≡ D.image disk.old) × (D.faults disk.new ≡ D.faults disk.old) × (D.write_faults disk.new ≡ D.write_faults disk.old) }
-        ensures told { is_some (D.image disk.new) ≡ is_some (D.image disk.old) }
         ensures cause { IsErrOf result CreateFault.Disk → Rose (D.write_faults disk.old) (D.write_faults disk.new) }
-        ensures counted { D.faults disk.old ≤ D.faults disk.new }
-        ensures write_counted { D.write_faults disk.old ≤ D.write_faults disk.new }
-        ensures same_taken { D.taken disk.new ≡ D.taken disk.old }
+        ensures memory { IsErrOf result CreateFault.Memory → (D.image disk.new ≡ D.image disk.old) × (D.faults disk.new ≡ D.faults disk.old) × (D.write_faults disk.new ≡ D.write_faults disk.old) }
+
+        // frame
+        ensures frame { OnlyWrites D.image D.faults D.write_faults D.taken disk.old disk.new }
     {
         let mut index = Index::empty(alloc, params);
-        if index.reserve().is_err() {
-            return Err(CreateFault::Memory);
-        }
-        match write_header(disk, params) {
-            Ok(()) => Ok(index),
-            Err(_) => Err(CreateFault::Disk),
-        }
+        index.reserve()?;
+        write_header(disk, params)?;
+        Ok(index)
     }
 
     /// Opens the index that the disk has, and fills `names` with the names of its batches. It reads the
@@ -162,7 +160,7 @@ impl Index {
     /// `ReopenFault::Blank` where there is no index, `ReopenFault::Foreign` where the file is not one of
     /// an index, `ReopenFault::Damaged` with the place of the first segment that breaks a rule,
     /// `ReopenFault::Disk` where the disk failed, `ReopenFault::Memory` for want of memory. After a
-    /// fault `names` may have some of the names.
+    /// fault `names` may have some of the names, and no more bytes were read than the file has.
     pub fn reopen<D: Disk>(
         alloc: Global,
         disk: &mut D,
@@ -171,11 +169,15 @@ impl Index {
         requires names { names.old ≡ [] }
         ensures opened { IfOk result (λ index. IfSome (D.image disk.old) (λ image. opening image ≡ Ok (record { index = index.opening; names = names.new }))) }
         ensures counted_names { IfOk result (λ index. length names.new ≡ names_count index.opening.segments) }
+        ensures taken { IfOk result (λ index. D.taken disk.new ≡ raised_by (opening_bytes index.opening) (D.taken disk.old)) }
+
+        // errors
         ensures refused { IfErr result (λ fault. IfSome (D.image disk.old) (λ image. Refuses fault (opening image))) }
         ensures cause { IsErrOf result ReopenFault.Disk → Rose (D.faults disk.old) (D.faults disk.new) }
-        ensures same_image { D.image disk.new ≡ D.image disk.old }
-        ensures counted { D.faults disk.old ≤ D.faults disk.new }
-        ensures write_counted { D.write_faults disk.old ≤ D.write_faults disk.new }
+        ensures bounded { OnErr result (IfSome (D.image disk.old) (λ image. D.taken disk.new ≤ D.taken disk.old + length image)) }
+
+        // frame
+        ensures frame { ReadsAndSyncs D.image D.faults D.write_faults disk.old disk.new }
     {
         let found = read_header(disk)?;
         let mut index = Index::empty(alloc, found.params);
@@ -197,11 +199,15 @@ impl Index {
         requires counted_names { length names.old ≡ names_count self.old.opening.segments }
         ensures opened { OnOk result (IfSome (D.image disk.old) (λ image. opening image ≡ Ok (record { index = self.new.opening; names = names.new }))) }
         ensures counted_names { OnOk result (length names.new ≡ names_count self.new.opening.segments) }
+        ensures taken { OnOk result ((t : ℕ) → D.taken disk.old ≡ raised_by (opening_bytes self.old.opening) t → D.taken disk.new ≡ raised_by (opening_bytes self.new.opening) t) }
+
+        // errors
         ensures refused { IfErr result (λ fault. IfSome (D.image disk.old) (λ image. Refuses fault (opening image))) }
         ensures cause { IsErrOf result ReopenFault.Disk → Rose (D.faults disk.old) (D.faults disk.new) }
-        ensures same_image { D.image disk.new ≡ D.image disk.old }
-        ensures counted { D.faults disk.old ≤ D.faults disk.new }
-        ensures same_write_faults { D.write_faults disk.new ≡ D.write_faults disk.old }
+        ensures bounded { OnErr result ((t : ℕ) → D.taken disk.old ≡ raised_by (opening_bytes self.old.opening) t → D.taken disk.new ≤ t + len) }
+
+        // frame
+        ensures frame { OnlyReads D.image D.faults D.write_faults disk.old disk.new }
     {
         let mut gate = gate;
         while gate == OPEN {
@@ -226,15 +232,18 @@ impl Index {
         ensures within { OnOk result (self.new.opening.used ≤ len) }
         ensures progress { OnOk result (self.old.opening.used < self.new.opening.used) }
         ensures counted_names { OnOk result (length names.new ≡ names_count self.new.opening.segments) }
+        ensures taken { OnOk result ((t : ℕ) → D.taken disk.old ≡ raised_by (opening_bytes self.old.opening) t → D.taken disk.new ≡ raised_by (opening_bytes self.new.opening) t) }
+
+        // errors
         ensures refused { IfErr result (λ fault. IfSome (D.image disk.old) (λ image. Refuses fault (opening image))) }
         ensures cause { IsErrOf result ReopenFault.Disk → Rose (D.faults disk.old) (D.faults disk.new) }
-        ensures same_image { D.image disk.new ≡ D.image disk.old }
-        ensures counted { D.faults disk.old ≤ D.faults disk.new }
-        ensures same_write_faults { D.write_faults disk.new ≡ D.write_faults disk.old }
+        ensures bounded { OnErr result ((t : ℕ) → D.taken disk.old ≡ raised_by (opening_bytes self.old.opening) t → D.taken disk.new ≤ t + len) }
+
+        // frame
+        ensures frame { OnlyReads D.image D.faults D.write_faults disk.old disk.new }
     {
-        if self.reserve().is_err() {
-            return Err(ReopenFault::Memory);
-        }
+        self.reserve()?;
+        self.facts();
         let before = Before {
             events: self.events(),
             earliest: self.earliest(),
@@ -255,13 +264,15 @@ impl Index {
         requires held { IsSome (piece_of self.old.opening key) }
         requires image { IfSome (D.image disk.old) (λ image. IsOpenedAs image self.old.opening) }
         ensures bytes { IfOk result (λ bytes. IfSome (D.image disk.old) (λ image. IfSome (piece_of self.old.opening key) (λ s. bytes.items ≡ column_of_piece image s col))) }
-        ensures same { self.new ≡ self.old }
-        ensures same_image { D.image disk.new ≡ D.image disk.old }
-        ensures cause { IsErrOf result FetchFault.Disk → Rose (D.faults disk.old) (D.faults disk.new) }
-        ensures counted { D.faults disk.old ≤ D.faults disk.new }
-        ensures same_write_faults { D.write_faults disk.new ≡ D.write_faults disk.old }
         ensures taken { IfOk result (λ bytes. D.taken disk.new ≡ taken_after (length bytes.items) (D.taken disk.old)) }
+
+        // errors
+        ensures cause { IsErrOf result FetchFault.Disk → Rose (D.faults disk.old) (D.faults disk.new) }
         ensures none_taken { OnErr result (D.taken disk.new ≡ D.taken disk.old) }
+
+        // frame
+        ensures same { self.new ≡ self.old }
+        ensures frame { OnlyReads D.image D.faults D.write_faults disk.old disk.new }
     {
         let len = self.catalogue.length(key, col).unwrap();
         let place = self.catalogue.place(key, col).unwrap();
@@ -294,15 +305,16 @@ impl Index {
         ensures ok { OnOk result (self.new.opening ≡ with_segment self.old.opening segment) }
         ensures opened { OnOk result (BothTold (D.image disk.old) (D.image disk.new) (GainsSegment self.old.opening segment self.new.opening)) }
         ensures history { OnOk result (BothTold (D.image disk.old) (D.image disk.new) (GainsBatch segment)) }
-        ensures part { IsErrOf result CommitFault.Disk → BothTold (D.image disk.old) (D.image disk.new) (GainsBatchOrNot segment) }
         ensures fits { OnOk result (needed_for self.old.opening segment ≤ limit) }
-        ensures disk_fits { IsErrOf result CommitFault.Disk → needed_for self.old.opening segment ≤ limit }
+
+        // errors
         ensures full { (n : ℕ) → result ≡ Err (CommitFault.FileFull n) → (n ≡ needed_for self.old.opening segment) × (limit < n) × (self.new ≡ self.old) × (D.image disk.new ≡ D.image disk.old) × (D.faults disk.new ≡ D.faults disk.old) × (D.write_faults disk.new ≡ D.write_faults disk.old) }
-        ensures told { is_some (D.image disk.new) ≡ is_some (D.image disk.old) }
+        ensures part { IsErrOf result CommitFault.Disk → BothTold (D.image disk.old) (D.image disk.new) (GainsBatchOrNot segment) }
+        ensures disk_fits { IsErrOf result CommitFault.Disk → needed_for self.old.opening segment ≤ limit }
         ensures cause { IsErrOf result CommitFault.Disk → Rose (D.write_faults disk.old) (D.write_faults disk.new) }
-        ensures counted { D.faults disk.old ≤ D.faults disk.new }
-        ensures write_counted { D.write_faults disk.old ≤ D.write_faults disk.new }
-        ensures same_taken { D.taken disk.new ≡ D.taken disk.old }
+
+        // frame
+        ensures frame { OnlyWrites D.image D.faults D.write_faults D.taken disk.old disk.new }
     {
         self.facts();
         let used = self.used();
@@ -310,13 +322,9 @@ impl Index {
         if limit < needed {
             return Err(CommitFault::FileFull(needed));
         }
-        match append(disk, used, &segment) {
-            Ok(()) => {
-                self.note(segment.noted(used));
-                Ok(())
-            }
-            Err(_) => Err(CommitFault::Disk),
-        }
+        append(disk, used, &segment)?;
+        self.note(segment.noted(used));
+        Ok(())
     }
 
     /// What is known of the pieces of the segments, each by its number from 0, and of the times of
@@ -366,6 +374,7 @@ impl Index {
         ensures events { events_after 0 self.now.opening.segments ≤ EVENTS_MAX }
         ensures few { length self.now.opening.segments ≤ events_after 0 self.now.opening.segments }
         ensures number { length self.now.opening.segments < 2 ^ 32 }
+        ensures columns { columns_bytes self.now.opening.segments ≤ self.now.opening.used }
     {
         let _ = &self.used;
     }

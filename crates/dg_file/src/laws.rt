@@ -1,7 +1,7 @@
 //! The laws of images and of segments. Each function does nothing: its clause is the law, proved of the
 //! definitions.
 
-ghost use Rattle.dg_file.specs.Laws.{ImagesAreOpened, BatchesAreMeasured, BatchesAreAdded};
+ghost use Rattle.dg_file.specs.IndexLaws.{ImagesAreOpened, BatchesAreMeasured, BatchesAreAdded};
 
 /// An image of a history is opened as what that history is opened as.
 pub fn law_images_are_opened()

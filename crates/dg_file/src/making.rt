@@ -1,6 +1,7 @@
 //! Writing the header of a new index.
 
 ghost use Rattle.std.specs.Prelude.{◌≡◌, ◌≤◌, true, OnOk, OnErr, IfSome};
+ghost use Rattle.dg_disk.specs.Frame.{OnlyWrites};
 ghost use Rattle.dg_disk.specs.Counts.{Rose};
 ghost use Rattle.dg_history.specs.History.{are_parameters, empty_history};
 ghost use Rattle.dg_history.specs.LegalHistory.{IsImageOf, is_blank};
@@ -20,9 +21,7 @@ pub(crate) fn write_header<D: Disk>(disk: &mut D, params: Params) -> Result<(), 
     ensures image { OnOk result (Moved (D.image disk.old) (D.image disk.new) (λ before after. IsImageOf (empty_history params) after)) }
     ensures part { OnErr result (Moved (D.image disk.old) (D.image disk.new) (IsMadeInPart params)) }
     ensures cause { OnErr result (Rose (D.write_faults disk.old) (D.write_faults disk.new)) }
-    ensures counted { D.faults disk.old ≤ D.faults disk.new }
-    ensures write_counted { D.write_faults disk.old ≤ D.write_faults disk.new }
-    ensures same_taken { D.taken disk.new ≡ D.taken disk.old }
+    ensures frame { OnlyWrites D.image D.faults D.write_faults D.taken disk.old disk.new }
 {
     put_down(disk, 0, &[CLOSED])?;
     put_down(disk, 1, &header_behind_gate(params))?;

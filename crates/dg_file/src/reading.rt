@@ -1,7 +1,8 @@
 //! Reading the header, the heads and the gates of the segments, and ranges of the file.
 
-ghost use Rattle.std.specs.Prelude.{◌≡◌, ◌⊎◌, ◌≤◌, ◌+◌, ℕ, true, false, None, Some, Ok, Err, length, take, drop, slice_index, IfOk, IfErr, OnOk, OnErr, IsErrOf, IfSome};
-ghost use Rattle.dg_disk.specs.Counts.{Rose};
+ghost use Rattle.std.specs.Prelude.{◌≡◌, ◌≤◌, ◌+◌, ◌-◌, ℕ, true, false, None, Some, Ok, Err, length, take, drop, slice_index, IfOk, IfErr, OnOk, OnErr, IsErrOf, IfSome};
+ghost use Rattle.dg_disk.specs.Counts.{Rose, raised_by};
+ghost use Rattle.dg_disk.specs.Frame.{OnlyReads, ReadsAndSyncs};
 ghost use Rattle.dg_disk.specs.Image.{HasRange, IsLengthOf};
 ghost use Rattle.dg_history.specs.declared.limits.TheConstants.{EVENTS_MAX, FILE_BYTES_MAX};
 ghost use Rattle.dg_graph.specs.declared.limits.TheConstants.{NAMES_MAX};
@@ -9,7 +10,7 @@ ghost use Rattle.dg_history.specs.History.{are_parameters};
 ghost use Rattle.dg_history.specs.OpenedIndex.{opening, params_in, is_within, directory_at, may_follow};
 ghost use Rattle.dg_history.specs.LegalHistory.{is_blank};
 ghost use Rattle.dg_shape.specs.Entries.{total};
-ghost use Rattle.dg_file.specs.Heads.{lengths_at, fit_in, Takes};
+ghost use Rattle.dg_file.specs.Heads.{lengths_at, fit_in, TakesSegment};
 ghost use Rattle.dg_file.specs.Headers.{IsFoundIn, IsFoundAt};
 ghost use Rattle.dg_file.specs.Held.{segment_in};
 ghost use Rattle.dg_file.specs.Images.{Refuses, Misses, taken_after};
@@ -47,11 +48,15 @@ pub(crate) fn read_header<D: Disk>(disk: &mut D) -> Result<Found, ReopenFault>
     ensures found { IfOk result (λ found. IfSome (D.image disk.old) (λ image. IsFoundIn image found)) }
     ensures parameters { IfOk result (λ found. are_parameters found.params.l found.params.k ≡ true) }
     ensures long { IfOk result (λ found. 18 ≤ found.len) }
+    ensures taken { OnOk result (D.taken disk.new ≡ raised_by 18 (D.taken disk.old)) }
+
+    // errors
     ensures refused { IfErr result (λ fault. IfSome (D.image disk.old) (λ image. Refuses fault (opening image))) }
     ensures cause { IsErrOf result ReopenFault.Disk → Rose (D.faults disk.old) (D.faults disk.new) }
-    ensures same_image { D.image disk.new ≡ D.image disk.old }
-    ensures counted { D.faults disk.old ≤ D.faults disk.new }
-    ensures write_counted { D.write_faults disk.old ≤ D.write_faults disk.new }
+    ensures bounded { OnErr result (IfSome (D.image disk.old) (λ image. D.taken disk.new ≤ D.taken disk.old + length image)) }
+
+    // frame
+    ensures frame { ReadsAndSyncs D.image D.faults D.write_faults disk.old disk.new }
 {
     disk.sync()?;
     let len = disk.len()?;
@@ -80,11 +85,15 @@ fn read_lengths<D: Disk>(disk: &mut D, place: u64, len: u64) -> Result<Lengths, 
     requires within { place ≤ len }
     ensures lengths { IfOk result (λ lengths. IfSome (D.image disk.old) (λ image. lengths ≡ lengths_at image place)) }
     ensures fit { IfOk result (λ lengths. fit_in place len lengths ≡ true) }
+    ensures taken { OnOk result (D.taken disk.new ≡ raised_by 16 (D.taken disk.old)) }
+
+    // errors
     ensures refused { IfErr result (λ fault. IfSome (D.image disk.old) (λ image. Misses place (is_within image place ≡ false) fault)) }
+    ensures bounded { OnErr result (D.taken disk.new ≤ D.taken disk.old + (len - place)) }
     ensures cause { IsErrOf result ReopenFault.Disk → Rose (D.faults disk.old) (D.faults disk.new) }
-    ensures same_image { D.image disk.new ≡ D.image disk.old }
-    ensures counted { D.faults disk.old ≤ D.faults disk.new }
-    ensures same_write_faults { D.write_faults disk.new ≡ D.write_faults disk.old }
+
+    // frame
+    ensures frame { OnlyReads D.image D.faults D.write_faults disk.old disk.new }
 {
     if len - place <= LENGTHS_BYTES as u64 {
         return Err(ReopenFault::Damaged(place));
@@ -100,40 +109,22 @@ fn read_lengths<D: Disk>(disk: &mut D, place: u64, len: u64) -> Result<Lengths, 
 }
 
 // Reads the byte at the place.
+#[tactic(auto, using(crate::proofs::Found::found_byte))]
 fn read_byte<D: Disk>(disk: &mut D, place: u64) -> Result<u8, Failed>
     requires { HasRange (D.image disk.old) place 1 }
     ensures byte { IfOk result (λ byte. IfSome (D.image disk.old) (λ image. byte ≡ slice_index image place)) }
+    ensures taken { OnOk result (D.taken disk.new ≡ raised_by 1 (D.taken disk.old)) }
+
+    // errors
+    ensures none_taken { OnErr result (D.taken disk.new ≡ D.taken disk.old) }
     ensures cause { OnErr result (Rose (D.faults disk.old) (D.faults disk.new)) }
-    ensures same_image { D.image disk.new ≡ D.image disk.old }
-    ensures counted { D.faults disk.old ≤ D.faults disk.new }
-    ensures same_write_faults { D.write_faults disk.new ≡ D.write_faults disk.old }
+
+    // frame
+    ensures frame { OnlyReads D.image D.faults D.write_faults disk.old disk.new }
 {
     let mut byte = [0];
     disk.read_at(place, &mut byte)?;
     Ok(byte[0])
-}
-
-// Reads the directory at the place, of so many bytes.
-fn read_text<D: Disk>(
-    alloc: Global,
-    disk: &mut D,
-    place: u64,
-    len: u64,
-) -> Result<Vec<u8>, ReopenFault>
-    requires { HasRange (D.image disk.old) place len }
-    ensures bytes { IfOk result (λ bytes. IfSome (D.image disk.old) (λ image. bytes.items ≡ take len (drop place image))) }
-    ensures len { IfOk result (λ bytes. length bytes.items ≡ len) }
-    ensures refused { IfErr result (λ fault. (fault ≡ ReopenFault.Disk) ⊎ (fault ≡ ReopenFault.Memory)) }
-    ensures cause { IsErrOf result ReopenFault.Disk → Rose (D.faults disk.old) (D.faults disk.new) }
-    ensures same_image { D.image disk.new ≡ D.image disk.old }
-    ensures counted { D.faults disk.old ≤ D.faults disk.new }
-    ensures same_write_faults { D.write_faults disk.new ≡ D.write_faults disk.old }
-{
-    match read_range(alloc, disk, place, len) {
-        Ok(bytes) => Ok(bytes),
-        Err(FetchFault::Disk) => Err(ReopenFault::Disk),
-        Err(FetchFault::Memory) => Err(ReopenFault::Memory),
-    }
 }
 
 /// Reads the two lengths and the directory of the segment at the place and the gate behind it, in an
@@ -151,17 +142,21 @@ pub(crate) fn read_segment<D: Disk>(
     requires within { place ≤ len }
     requires events { before.events ≤ EVENTS_MAX }
     ensures found { IfOk result (λ found. IfSome (D.image disk.old) (λ image. IsFoundAt before.events before.earliest names.old image place names.new found)) }
-    ensures takes { IfOk result (λ found. Takes before.events before.earliest names.old place len names.new found.noted) }
+    ensures takes { IfOk result (λ found. TakesSegment before.events before.earliest names.old place len names.new found.noted) }
+    ensures taken { IfOk result (λ found. D.taken disk.new ≡ raised_by (found.noted.place + 1 - place) (D.taken disk.old)) }
+
+    // errors
+    ensures bounded { OnErr result (D.taken disk.new ≤ D.taken disk.old + (len - place)) }
     ensures refused { IfErr result (λ fault. IfSome (D.image disk.old) (λ image. Misses place (directory_at before.events names.old before.earliest image place ≡ None) fault)) }
     ensures cause { IsErrOf result ReopenFault.Disk → Rose (D.faults disk.old) (D.faults disk.new) }
-    ensures same_image { D.image disk.new ≡ D.image disk.old }
-    ensures counted { D.faults disk.old ≤ D.faults disk.new }
-    ensures same_write_faults { D.write_faults disk.new ≡ D.write_faults disk.old }
+
+    // frame
+    ensures frame { OnlyReads D.image D.faults D.write_faults disk.old disk.new }
 {
     let lengths = read_lengths(disk, place, len)?;
     let directory_place = place + LENGTHS_BYTES as u64;
     let columns_place = directory_place + lengths.directory;
-    let text = read_text(alloc, disk, directory_place, lengths.directory)?;
+    let text = read_range(alloc, disk, directory_place, lengths.directory)?;
     let noted = match read_directory(&text, before, lengths.columns, columns_place, names) {
         Ok(noted) => noted,
         Err(Untaken::Broken) => return Err(ReopenFault::Damaged(place)),
@@ -181,21 +176,19 @@ pub(crate) fn read_range<D: Disk>(
     requires { HasRange (D.image disk.old) place len }
     ensures bytes { IfOk result (λ bytes. IfSome (D.image disk.old) (λ image. bytes.items ≡ take len (drop place image))) }
     ensures len { IfOk result (λ bytes. length bytes.items ≡ len) }
-    ensures same_image { D.image disk.new ≡ D.image disk.old }
-    ensures cause { IsErrOf result FetchFault.Disk → Rose (D.faults disk.old) (D.faults disk.new) }
-    ensures counted { D.faults disk.old ≤ D.faults disk.new }
-    ensures same_write_faults { D.write_faults disk.new ≡ D.write_faults disk.old }
     ensures taken { OnOk result (D.taken disk.new ≡ taken_after len (D.taken disk.old)) }
+
+    // errors
+    ensures cause { IsErrOf result FetchFault.Disk → Rose (D.faults disk.old) (D.faults disk.new) }
     ensures none_taken { OnErr result (D.taken disk.new ≡ D.taken disk.old) }
+
+    // frame
+    ensures frame { OnlyReads D.image D.faults D.write_faults disk.old disk.new }
 {
     if len == 0 {
         return Ok(Vec::new(alloc));
     }
-    let Ok(mut bytes) = vec![in alloc; 0; len as usize] else {
-        return Err(FetchFault::Memory);
-    };
-    match disk.read_at(place, &mut bytes) {
-        Ok(()) => Ok(bytes),
-        Err(_) => Err(FetchFault::Disk),
-    }
+    let mut bytes = vec![in alloc; 0; len as usize]?;
+    disk.read_at(place, &mut bytes)?;
+    Ok(bytes)
 }

@@ -195,6 +195,8 @@ fn a_batch_is_added_and_reopened(rt: HostRuntime) -> Result<(), Fail> {
         Ok(again) => tells_three(&rt, &again),
         Err(fault) => assert_eq!(rt; Some(fault), None),
     }
+    // the header with the first gate, the head of the segment, and the gate behind it
+    assert_eq!(rt; disk.taken(), 18 + 76 + 1);
     Ok(())
 }
 
@@ -369,6 +371,8 @@ fn reopened_with(
         Ok(index) => {
             assert_eq!(rt; index.names_len(), 3);
             tells_names(rt, &names, last);
+            // all of the file but the two bytes of the column
+            assert_eq!(rt; disk.taken(), image.len() as u64 - 2);
             Ok(None)
         }
         Err(fault) => Ok(Some(fault)),

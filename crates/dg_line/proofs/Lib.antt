@@ -1,7 +1,10 @@
-pub mod WordLemmas
-pub mod NumberLemmas
-pub mod Passing
-pub mod Fronts
-pub mod FrontNumbers
-pub mod Commands
-pub mod NameLemmas
+pub mod Any
+pub mod Numbers
+pub mod Space
+pub mod Names
+pub mod Buffered
+pub mod Prefixes
+pub mod NumberPrefixes
+pub mod Symbols
+pub mod Verbs
+pub mod CommandGrammar

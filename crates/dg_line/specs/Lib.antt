@@ -1,6 +1,5 @@
 pub mod Space
-pub mod Page
-pub mod Front
-pub mod Row
-pub mod Form
-pub mod Asked
+pub mod Buffered
+pub mod Prefixes
+pub mod Symbols
+pub mod TextChange

@@ -1,23 +1,34 @@
-ghost use Rattle.std.specs.Prelude.{◌≡◌, ◌+◌, ◌<◌, ◌≤◌, List, ℕ, None, Some, IfOk, IsErrOf, OnOk, OnErr, length, take, nat_lt, ◌==◌, ◌||◌};
-ghost use Rattle.std.specs.List.{list_all, list_any};
+ghost use Rattle.std.specs.Prelude.{◌≡◌, ◌+◌, ◌<◌, ◌≤◌, ◌⊎◌, List, ℕ, Some, None, IfOk, IsErrOf, OnOk, OnErr, length, take};
 ghost use Rattle.std.specs.Option.{option_map};
 ghost use Rattle.dg_history.specs.ChangeGrammar.{WhatByText, Plain, ChangeByText, what_by_text_of, change_with, direction_of, id_of, named, new_edge, one_id, change_by_text_of, set_of, unset_of, what_in};
-ghost use Rattle.dg_graph.specs.Names.{added, is_key, is_name, number_in};
-ghost use Rattle.dg_line.specs.Asked.{asked_for, said_by};
+ghost use Rattle.dg_graph.specs.Names.{added, number_in};
+ghost use Rattle.dg_line.specs.TextChange.{change_by_text, what_by_text, with_key};
+ghost use Rattle.dg_line.specs.declared.change.ChangeFault.TheVariants.{Memory};
 
-use crate::asked::{Asked, Line, Setting, Unsetting};
-use crate::words::{SPACE, Words, number};
-use dg_graph::{Change, KEY_BYTES_MAX, TIME_MAX, What};
-use dg_names::{NAME_BYTES_MAX, NAMES_MAX, Names};
+use crate::text_change::{TextAttribute, TextChange, TextKey, TextWhat};
+use crate::words::{Words, number};
+use dg_graph::{Change, TIME_MAX, What};
+use dg_names::{NAMES_MAX, Names, is_key, is_name};
 use std::alloc::AllocError;
+use thiserror::Error;
 
 /// Why a line has no change.
-#[derive(Clone, Copy, Debug, PartialEq, Eq)]
+#[derive(Clone, Copy, Debug, PartialEq, Eq, Error)]
 pub enum ChangeFault {
     /// The line is not in the grammar of changes.
+    #[error("the line is no change")]
     Form,
     /// There is no memory for a new name.
+    #[error("out of memory for a new name")]
     Memory,
+}
+
+impl From<AllocError> for ChangeFault {
+    ghost from_gives = { λ _ fault. fault ≡ Memory };
+
+    fn from(_error: AllocError) -> ChangeFault {
+        ChangeFault::Memory
+    }
 }
 
 /// The change that the line of a batch asks for, by the numbers of its texts. The names get its texts
@@ -27,208 +38,192 @@ pub enum ChangeFault {
 /// needs none.
 pub fn read_change(line: &[u8], names: &mut Names) -> Result<Change, ChangeFault>
     requires room { length names.old + 2 ≤ NAMES_MAX }
+    // The change, and the names with its texts.
     ensures change { IfOk result (λ change. (said : ChangeByText) × (change_by_text_of line.now ≡ Some said) × (change ≡ change_with names.old said) × (names.new ≡ named names.old said.asked)) }
+
+    // No change, or no memory for a name that is new.
     ensures form { IsErrOf result ChangeFault.Form → (change_by_text_of line.now ≡ None) × (names.new ≡ names.old) }
     ensures memory { IsErrOf result ChangeFault.Memory → (said : ChangeByText) × (change_by_text_of line.now ≡ Some said) }
     ensures new_name { IsErrOf result ChangeFault.Memory → (said : ChangeByText) → change_by_text_of line.now ≡ Some said → length names.old < length (named names.old said.asked) }
+    ensures key_alone { IsErrOf result ChangeFault.Memory → (said : ChangeByText) → change_by_text_of line.now ≡ Some said → (names.new ≡ names.old) ⊎ (names.new ≡ with_key names.old said.asked) }
+
+    // Every name keeps its number, and at most two are new.
     ensures kept { take (length names.old) names.new ≡ names.old }
     ensures few { length names.new ≤ length names.old + 2 }
 {
-    let Some(line) = parse_line(line) else {
+    let Some(change) = parse_change(line) else {
         return Err(ChangeFault::Form);
     };
-    match numbered(line.asked, names) {
-        Ok(what) => Ok(Change {
-            time: line.time,
-            what,
-        }),
-        Err(_) => Err(ChangeFault::Memory),
-    }
+    let what = numbered(change.what, names)?;
+    Ok(Change {
+        time: change.time,
+        what,
+    })
 }
 
 // What is asked for, by the numbers of its texts in the names, which get those that they lack.
-fn numbered(asked: Asked, names: &mut Names) -> Result<What, AllocError>
+fn numbered(what: TextWhat, names: &mut Names) -> Result<What, AllocError>
     requires room { length names.old + 2 ≤ NAMES_MAX }
-    ensures what { IfOk result (λ what. what ≡ what_in names.new (asked_for asked.entry)) }
-    ensures named { OnOk result (names.new ≡ named names.old (asked_for asked.entry)) }
-    ensures new_name { OnErr result (length names.old < length (named names.old (asked_for asked.entry))) }
+    ensures what { IfOk result (λ numbered. numbered ≡ what_in names.new (what_by_text what.entry)) }
+    ensures named { OnOk result (names.new ≡ named names.old (what_by_text what.entry)) }
+    ensures new_name { OnErr result (length names.old < length (named names.old (what_by_text what.entry))) }
+    ensures key_alone { OnErr result ((names.new ≡ names.old) ⊎ (names.new ≡ with_key names.old (what_by_text what.entry))) }
     ensures kept { take (length names.old) names.new ≡ names.old }
     ensures few { length names.new ≤ length names.old + 2 }
 {
-    match asked {
-        Asked::Plain(what) => Ok(what),
-        Asked::SetNode(setting) => {
-            let (key, value) = both_numbers(setting, names)?;
+    match what {
+        TextWhat::Plain(what) => Ok(what),
+        TextWhat::SetNode(attribute) => {
+            let (key, value) = both_numbers(attribute, names)?;
             Ok(What::SetNode {
-                id: setting.id,
+                id: attribute.id,
                 key,
                 value,
             })
         }
-        Asked::UnsetNode(unsetting) => Ok(What::UnsetNode {
-            id: unsetting.id,
-            key: key_number(unsetting, names)?,
+        TextWhat::UnsetNode(key) => Ok(What::UnsetNode {
+            id: key.id,
+            key: key_number(key, names)?,
         }),
-        Asked::SetEdge(setting) => {
-            let (key, value) = both_numbers(setting, names)?;
+        TextWhat::SetEdge(attribute) => {
+            let (key, value) = both_numbers(attribute, names)?;
             Ok(What::SetEdge {
-                id: setting.id,
+                id: attribute.id,
                 key,
                 value,
             })
         }
-        Asked::UnsetEdge(unsetting) => Ok(What::UnsetEdge {
-            id: unsetting.id,
-            key: key_number(unsetting, names)?,
+        TextWhat::UnsetEdge(key) => Ok(What::UnsetEdge {
+            id: key.id,
+            key: key_number(key, names)?,
         }),
     }
 }
 
 // The numbers of the key and of the value.
-fn both_numbers(setting: Setting, names: &mut Names) -> Result<(u32, u32), AllocError>
+fn both_numbers(attribute: TextAttribute, names: &mut Names) -> Result<(u32, u32), AllocError>
     requires room { length names.old + 2 ≤ NAMES_MAX }
-    ensures named { OnOk result (names.new ≡ added (added names.old setting.entry.key.now) setting.entry.value.now) }
-    ensures new_name { OnErr result (length names.old < length (added (added names.old setting.entry.key.now) setting.entry.value.now)) }
-    ensures key { IfOk result (λ numbers. numbers.0 ≡ number_in names.new setting.entry.key.now) }
-    ensures value { IfOk result (λ numbers. numbers.1 ≡ number_in names.new setting.entry.value.now) }
+    ensures named { OnOk result (names.new ≡ added (added names.old attribute.entry.key.now) attribute.entry.value.now) }
+    ensures new_name { OnErr result (length names.old < length (added (added names.old attribute.entry.key.now) attribute.entry.value.now)) }
+    ensures key_alone { OnErr result ((names.new ≡ names.old) ⊎ (names.new ≡ added names.old attribute.entry.key.now)) }
+    ensures key { IfOk result (λ numbers. numbers.0 ≡ number_in names.new attribute.entry.key.now) }
+    ensures value { IfOk result (λ numbers. numbers.1 ≡ number_in names.new attribute.entry.value.now) }
     ensures kept { take (length names.old) names.new ≡ names.old }
     ensures few { length names.new ≤ length names.old + 2 }
 {
-    let key = names.add(setting.key)?;
-    let value = names.add(setting.value)?;
+    let key = names.add(attribute.key)?;
+    let value = names.add(attribute.value)?;
     Ok((key, value))
 }
 
 // The number of the key.
-fn key_number(unsetting: Unsetting, names: &mut Names) -> Result<u32, AllocError>
+fn key_number(key: TextKey, names: &mut Names) -> Result<u32, AllocError>
     requires room { length names.old < NAMES_MAX }
-    ensures named { OnOk result (names.new ≡ added names.old unsetting.entry.key.now) }
-    ensures new_name { OnErr result (length names.old < length (added names.old unsetting.entry.key.now)) }
-    ensures key { IfOk result (λ number. number ≡ number_in names.new unsetting.entry.key.now) }
+    ensures named { OnOk result (names.new ≡ added names.old key.entry.key.now) }
+    ensures new_name { OnErr result (length names.old < length (added names.old key.entry.key.now)) }
+    ensures unchanged { OnErr result (names.new ≡ names.old) }
+    ensures key { IfOk result (λ number. number ≡ number_in names.new key.entry.key.now) }
     ensures kept { take (length names.old) names.new ≡ names.old }
     ensures few { length names.new ≤ length names.old + 1 }
 {
-    names.add(unsetting.key)
+    names.add(key.key)
 }
 
-// The line as a change with its texts, where it is in the grammar of changes.
-fn parse_line(line: &[u8]) -> Option<Line>
-    ensures { option_map said_by result ≡ change_by_text_of line.now }
+// The change of the line by its texts, where it is in the grammar of changes.
+fn parse_change(line: &[u8]) -> Option<TextChange>
+    ensures { option_map change_by_text result ≡ change_by_text_of line.now }
 {
     let mut words = Words::of(line);
     let time = number(words.next()?, 0, TIME_MAX)?;
-    let asked = parse_asked(words)?;
-    Some(Line { time, asked })
+    let what = parse_what(words)?;
+    Some(TextChange { time, what })
 }
 
 // What the words after the time ask for.
-fn parse_asked(mut words: Words) -> Option<Asked>
-    ensures { option_map asked_for result ≡ what_by_text_of words.entry }
+fn parse_what(mut words: Words) -> Option<TextWhat>
+    ensures { option_map what_by_text result ≡ what_by_text_of words.entry }
 {
     let verb = words.next()?;
     if verb == b"+node".as_slice() {
-        Some(Asked::Plain(What::AddNode {
+        Some(TextWhat::Plain(What::AddNode {
             id: only_id(words)?,
         }))
     } else if verb == b"-node".as_slice() {
-        Some(Asked::Plain(What::RemoveNode {
+        Some(TextWhat::Plain(What::RemoveNode {
             id: only_id(words)?,
         }))
     } else if verb == b"+edge".as_slice() {
-        Some(Asked::Plain(new_edge(words)?))
+        Some(TextWhat::Plain(new_edge(words)?))
     } else if verb == b"-edge".as_slice() {
-        Some(Asked::Plain(What::RemoveEdge {
+        Some(TextWhat::Plain(What::RemoveEdge {
             id: only_id(words)?,
         }))
     } else if verb == b"nset".as_slice() {
-        Some(Asked::SetNode(parse_setting(words)?))
+        Some(TextWhat::SetNode(parse_attribute(words)?))
     } else if verb == b"ndel".as_slice() {
-        Some(Asked::UnsetNode(parse_unsetting(words)?))
+        Some(TextWhat::UnsetNode(parse_key(words)?))
     } else if verb == b"eset".as_slice() {
-        Some(Asked::SetEdge(parse_setting(words)?))
+        Some(TextWhat::SetEdge(parse_attribute(words)?))
     } else if verb == b"edel".as_slice() {
-        Some(Asked::UnsetEdge(parse_unsetting(words)?))
+        Some(TextWhat::UnsetEdge(parse_key(words)?))
     } else {
         None
     }
 }
 
 // The id that is the only word.
-fn only_id(words: Words) -> Option<u64>
+fn only_id(mut words: Words) -> Option<u64>
     ensures { (make : ℕ → What) → option_map (λ n. Plain (make n)) result ≡ one_id make words.entry }
 {
-    id(words.only()?)
+    let id = id(words.next()?)?;
+    words.end()?;
+    Some(id)
 }
 
 // `ID SRC DST dir` or `ID SRC DST undir`, from the words after `+edge`.
 fn new_edge(mut words: Words) -> Option<What>
     ensures { option_map (λ what. Plain what) result ≡ new_edge words.entry }
 {
-    let edge = words.next()?;
-    let from = words.next()?;
-    let to = words.next()?;
-    let direction = words.only()?;
+    let id_number = id(words.next()?)?;
+    let src = id(words.next()?)?;
+    let dst = id(words.next()?)?;
+    let directed = is_directed(words.next()?)?;
+    words.end()?;
     Some(What::AddEdge {
-        id: id(edge)?,
-        src: id(from)?,
-        dst: id(to)?,
-        directed: is_directed(direction)?,
+        id: id_number,
+        src,
+        dst,
+        directed,
     })
 }
 
 // `ID KEY VALUE`, where the value is the rest of the line.
-fn parse_setting(mut words: Words) -> Option<Setting>
-    ensures { (make : ℕ → List ℕ → List ℕ → WhatByText) → option_map (λ s. make s.id s.key.now s.value.now) result ≡ set_of make words.entry }
+fn parse_attribute(mut words: Words) -> Option<TextAttribute>
+    ensures { (make : ℕ → List ℕ → List ℕ → WhatByText) → option_map (λ a. make a.id a.key.now a.value.now) result ≡ set_of make words.entry }
 {
-    let place = words.next()?;
+    let owner = words.next()?;
     let key = words.next()?;
     let value = words.rest()?;
-    let id = id(place)?;
+    let id = id(owner)?;
     if is_key(key) && is_name(value) {
-        Some(Setting { id, key, value })
+        Some(TextAttribute { id, key, value })
     } else {
         None
     }
 }
 
 // `ID KEY`.
-fn parse_unsetting(mut words: Words) -> Option<Unsetting>
-    ensures { (make : ℕ → List ℕ → WhatByText) → option_map (λ u. make u.id u.key.now) result ≡ unset_of make words.entry }
+fn parse_key(mut words: Words) -> Option<TextKey>
+    ensures { (make : ℕ → List ℕ → WhatByText) → option_map (λ k. make k.id k.key.now) result ≡ unset_of make words.entry }
 {
-    let place = words.next()?;
-    let key = words.only()?;
-    let id = id(place)?;
+    let id = id(words.next()?)?;
+    let key = words.next()?;
+    words.end()?;
     if is_key(key) {
-        Some(Unsetting { id, key })
+        Some(TextKey { id, key })
     } else {
         None
     }
-}
-
-// Whether the word may be a key.
-fn is_key(word: &[u8]) -> bool
-    ensures { result ≡ is_key word.now }
-{
-    !word.is_empty() && word.len() <= KEY_BYTES_MAX && is_above_space(word)
-}
-
-fn is_above_space(word: &[u8]) -> bool
-    ensures { result ≡ list_all (λ b. nat_lt 32 b) word.now }
-{
-    word.iter().all(|byte| *byte > SPACE)
-}
-
-// Whether the text may be a value.
-fn is_name(text: &[u8]) -> bool
-    ensures { result ≡ is_name text.now }
-{
-    text.len() <= NAME_BYTES_MAX && !has_line_end(text)
-}
-
-fn has_line_end(text: &[u8]) -> bool
-    ensures { result ≡ list_any (λ b. b == 10 || b == 13) text.now }
-{
-    text.iter().any(|byte| *byte == b'\n' || *byte == b'\r')
 }
 
 // The id of a node or an edge.

@@ -1,17 +1,32 @@
 ghost use Rattle.std.specs.Prelude.{◌≡◌, IfErr, List, ℕ};
 ghost use Rattle.std.specs.Result.{result_ok};
-ghost use Rattle.dg_machine.specs.CommandGrammar.{columns_of, function_of, n32_of, create_of, load_of, append_of, at_of, list_of, command_of};
-ghost use Rattle.dg_machine.specs.Run.{IsColumn};
-ghost use Rattle.dg_graph.specs.Words.{number};
+ghost use Rattle.dg_graph.specs.Verbs.{one, two, three};
+ghost use Rattle.dg_history.specs.ChangeGrammar.{time_of};
+ghost use Rattle.dg_machine.specs.CommandGrammar.{IsColumn, columns_of, command_of, count_of, function_of, handle_of, n32_of};
 
 use crate::grammar::column;
 use crate::words::{Words, number};
 use dg_graph::{BATCH_LINES_MAX, Columns, Function, TIME_MAX};
 use dg_machine::{Command, FIRST_HANDLE};
+use thiserror::Error;
 
 /// The line is in no command; the column, from 1, at which it leaves the grammar.
-#[derive(Clone, Copy, Debug, PartialEq, Eq)]
+#[derive(Clone, Copy, Debug, PartialEq, Eq, Error)]
+#[error("the line leaves the grammar of commands at column {0}")]
 pub struct Syntax(pub u32);
+
+/// The command that the line is, or the column at which it leaves the grammar of commands: it is 1
+/// more than the length of the longest prefix of the line that is a prefix of some command. It takes
+/// no memory.
+pub fn read_command(line: &[u8]) -> Result<Command, Syntax>
+    ensures command { result_ok result ≡ command_of line.now }
+    ensures column { IfErr result (λ syntax. IsColumn line.now syntax.0) }
+{
+    match command(line) {
+        Some(command) => Ok(command),
+        None => Err(Syntax(column(line))),
+    }
+}
 
 // The command that the line is.
 fn command(line: &[u8]) -> Option<Command>
@@ -36,66 +51,66 @@ fn command(line: &[u8]) -> Option<Command>
 
 // `create N32 N32 FUNCTION`, from the words after `create`.
 fn create(mut words: Words) -> Option<Command>
-    ensures { result ≡ create_of words.entry }
+    ensures { result ≡ three n32_of n32_of function_of (λ l k function. Command.Create l k function) words.entry }
 {
-    let l = words.next()?;
-    let k = words.next()?;
-    let name = words.only()?;
-    Some(Command::Create {
-        l: n32(l)?,
-        k: n32(k)?,
-        function: function(name)?,
-    })
+    let l = n32(words.next()?)?;
+    let k = n32(words.next()?)?;
+    let function = function(words.next()?)?;
+    words.end()?;
+    Some(Command::Create { l, k, function })
 }
 
 // `load COUNT`, from the words after `load`.
-fn load(words: Words) -> Option<Command>
-    ensures { result ≡ load_of words.entry }
+fn load(mut words: Words) -> Option<Command>
+    ensures { result ≡ one count_of (λ count. Command.Load count) words.entry }
 {
-    Some(Command::Load {
-        count: count(words.only()?)?,
-    })
+    let count = count(words.next()?)?;
+    words.end()?;
+    Some(Command::Load { count })
 }
 
 // `append COUNT`, from the words after `append`.
-fn append(words: Words) -> Option<Command>
-    ensures { result ≡ append_of words.entry }
+fn append(mut words: Words) -> Option<Command>
+    ensures { result ≡ one count_of (λ count. Command.Append count) words.entry }
 {
-    Some(Command::Append {
-        count: count(words.only()?)?,
-    })
+    let count = count(words.next()?)?;
+    words.end()?;
+    Some(Command::Append { count })
+}
+
+// `at TIME COLS`, from the words after `at`.
+fn at(mut words: Words) -> Option<Command>
+    ensures { result ≡ two time_of columns_of (λ t cols. Command.At t cols) words.entry }
+{
+    let t = number(words.next()?, 0, TIME_MAX)?;
+    let cols = columns(words.next()?)?;
+    words.end()?;
+    Some(Command::At { t, cols })
+}
+
+// `list HANDLE`, from the words after `list`.
+fn list(mut words: Words) -> Option<Command>
+    ensures { result ≡ one handle_of (λ handle. Command.List handle) words.entry }
+{
+    let handle = handle(words.next()?)?;
+    words.end()?;
+    Some(Command::List { handle })
 }
 
 // The number of lines of a batch.
 fn count(word: &[u8]) -> Option<u32>
-    ensures { result ≡ number 1 BATCH_LINES_MAX word.now }
+    ensures { result ≡ count_of word.now }
 {
     let count = number(word, 1, u64::from(BATCH_LINES_MAX))?;
     Some(count as u32)
 }
 
-// `at TIME COLS`, from the words after `at`.
-fn at(mut words: Words) -> Option<Command>
-    ensures { result ≡ at_of words.entry }
+// The number of a handle.
+fn handle(word: &[u8]) -> Option<u32>
+    ensures { result ≡ handle_of word.now }
 {
-    let time = words.next()?;
-    let cols = words.only()?;
-    let t = number(time, 0, TIME_MAX)?;
-    Some(Command::At {
-        t,
-        cols: columns(cols)?,
-    })
-}
-
-// `list HANDLE`, from the words after `list`.
-fn list(words: Words) -> Option<Command>
-    ensures { result ≡ list_of words.entry }
-{
-    let handle = words.only()?;
-    let handle = number(handle, u64::from(FIRST_HANDLE), u64::from(u32::MAX))?;
-    Some(Command::List {
-        handle: handle as u32,
-    })
+    let handle = number(word, u64::from(FIRST_HANDLE), u64::from(u32::MAX))?;
+    Some(handle as u32)
 }
 
 // A number of 32 bits.
@@ -125,39 +140,19 @@ fn function(name: &[u8]) -> Option<Function>
 fn columns(word: &[u8]) -> Option<Columns>
     ensures { result ≡ columns_of word.now }
 {
-    if word == b"s".as_slice() {
-        Some(Columns {
-            nodes_attr: false,
-            edges_attr: false,
-        })
+    let (nodes_attr, edges_attr) = if word == b"s".as_slice() {
+        (false, false)
     } else if word == b"sn".as_slice() {
-        Some(Columns {
-            nodes_attr: true,
-            edges_attr: false,
-        })
+        (true, false)
     } else if word == b"se".as_slice() {
-        Some(Columns {
-            nodes_attr: false,
-            edges_attr: true,
-        })
+        (false, true)
     } else if word == b"sne".as_slice() {
-        Some(Columns {
-            nodes_attr: true,
-            edges_attr: true,
-        })
+        (true, true)
     } else {
-        None
-    }
-}
-
-/// The command that the line is, or the column at which it leaves the grammar of commands: it is 1
-/// more than the length of the longest prefix of the line that is a prefix of some command.
-pub fn read_command(line: &[u8]) -> Result<Command, Syntax>
-    ensures command { result_ok result ≡ command_of line.now }
-    ensures column { IfErr result (λ syntax. IsColumn line.now syntax.0) }
-{
-    match command(line) {
-        Some(command) => Ok(command),
-        None => Err(Syntax(column(line))),
-    }
+        return None;
+    };
+    Some(Columns {
+        nodes_attr,
+        edges_attr,
+    })
 }

@@ -1,17 +1,18 @@
 //! The grammar of commands as data, and how far a line goes along with it.
 
-ghost use Rattle.std.specs.Prelude.{◌≡◌, ◌<◌, ◌≤◌, ◌↔◌, ◌⊎◌, IsTrue, length, max, slice_index, take};
-ghost use Rattle.dg_machine.specs.Run.{IsColumn};
-ghost use Rattle.dg_line.specs.Front.{IsFront, IsWord, IsOneOf, IsNumber, texts};
-ghost use Rattle.dg_line.specs.Row.{IsWordOf, least_of, IsLineOf, AreSound};
+ghost use Rattle.std.specs.Prelude.{◌≡◌, ◌<◌, ◌≤◌, ◌↔◌, ◌⊎◌, IsTrue, Contains, length, max, slice_index, take};
+ghost use Rattle.std.specs.List.{list_all};
+ghost use Rattle.dg_machine.specs.CommandGrammar.{IsColumn};
+ghost use Rattle.dg_line.specs.Prefixes.{IsLongestPrefix};
+ghost use Rattle.dg_line.specs.Symbols.{Number, IsWordOf, IsLineOf, IsLineOfOne, is_well_formed, row_of, rows_of, terminal_of, word_texts};
 
 use crate::words::{SPACE, with_digit};
 use dg_graph::{BATCH_LINES_MAX, TIME_MAX};
 use dg_machine::FIRST_HANDLE;
 
-/// What may stand at one place of a command. One space parts two places.
+/// What stands for a word of a command.
 #[derive(Clone, Copy)]
-enum Slot {
+enum Symbol {
     /// One of these words.
     OneOf(&'static [&'static [u8]]),
     /// A number, without a sign or a leading zero. The least is 0 or 1, so each prefix of a number's
@@ -19,58 +20,58 @@ enum Slot {
     Number { least: u64, greatest: u64 },
 }
 
-const N32: Slot = Slot::Number {
+const N32: Symbol = Symbol::Number {
     least: 0,
     greatest: u32::MAX as u64,
 };
 
-const FUNCTION: Slot = Slot::OneOf(&[b"intersection", b"union", b"balanced"]);
+const FUNCTION: Symbol = Symbol::OneOf(&[b"intersection", b"union", b"balanced"]);
 
-const COUNT: Slot = Slot::Number {
+const COUNT: Symbol = Symbol::Number {
     least: 1,
     greatest: BATCH_LINES_MAX as u64,
 };
 
-const TIME: Slot = Slot::Number {
+const TIME: Symbol = Symbol::Number {
     least: 0,
     greatest: TIME_MAX,
 };
 
-const HANDLE: Slot = Slot::Number {
+const HANDLE: Symbol = Symbol::Number {
     least: FIRST_HANDLE as u64,
     greatest: u32::MAX as u64,
 };
 
-const COLUMNS: Slot = Slot::OneOf(&[b"s", b"sn", b"se", b"sne"]);
+const COLUMNS: Symbol = Symbol::OneOf(&[b"s", b"sn", b"se", b"sne"]);
 
-/// The commands, each as its places.
-const COMMANDS: &[&[Slot]] = &[
-    &[Slot::OneOf(&[b"create"]), N32, N32, FUNCTION],
-    &[Slot::OneOf(&[b"load"]), COUNT],
-    &[Slot::OneOf(&[b"append"]), COUNT],
-    &[Slot::OneOf(&[b"at"]), TIME, COLUMNS],
-    &[Slot::OneOf(&[b"list"]), HANDLE],
+/// The commands, each as a row of symbols. One space parts two words.
+const COMMANDS: &[&[Symbol]] = &[
+    &[Symbol::OneOf(&[b"create"]), N32, N32, FUNCTION],
+    &[Symbol::OneOf(&[b"load"]), COUNT],
+    &[Symbol::OneOf(&[b"append"]), COUNT],
+    &[Symbol::OneOf(&[b"at"]), TIME, COLUMNS],
+    &[Symbol::OneOf(&[b"list"]), HANDLE],
 ];
 
-/// How many bytes go along with the grammar, and whether what should stand there is whole with them.
+/// How many bytes are a prefix of a word that a symbol stands for, and whether they are all of it.
 #[derive(Clone, Copy)]
-struct Front {
+struct Prefix {
     bytes: usize,
     whole: bool,
 }
 
-const NOTHING: Front = Front {
+const NOTHING: Prefix = Prefix {
     bytes: 0,
     whole: false,
 };
 
-impl Front {
-    // The longer of two fronts of the same bytes; of two as long, a whole one.
-    fn or(self, other: Front) -> Front
+impl Prefix {
+    // The longer of two prefixes of the same bytes; of two as long, a whole one.
+    fn longer(self, other: Prefix) -> Prefix
         ensures bytes { result.bytes ≡ max self.bytes other.bytes }
         ensures whole { IsTrue result.whole ↔ (IsTrue self.whole × (other.bytes ≤ self.bytes)) ⊎ (IsTrue other.whole × (self.bytes ≤ other.bytes)) }
     {
-        Front {
+        Prefix {
             bytes: self.bytes.max(other.bytes),
             whole: self.whole && self.bytes >= other.bytes
                 || other.whole && other.bytes >= self.bytes,
@@ -83,94 +84,103 @@ impl Front {
 pub fn column(line: &[u8]) -> u32
     ensures { IsColumn line.now result }
 {
-    let mut longest = 0;
-    for command in COMMANDS {
-        longest = longest.max(command_front(command, line));
-    }
+    let longest = longest_prefix(COMMANDS, line);
     u32::try_from(longest).unwrap_or(u32::MAX).saturating_add(1)
 }
 
-// The length of the longest prefix of the bytes that is a prefix of a line of these places.
-fn command_front(places: &[Slot], rest: &[u8]) -> usize
-    requires { AreSound places.now }
-    ensures { IsFront (IsLineOf places.now) rest.now result }
+// The length of the longest prefix of the line that is a prefix of a line of some row.
+fn longest_prefix(rows: &[&[Symbol]], line: &[u8]) -> usize
+    requires { IsTrue (list_all (list_all is_well_formed) (rows_of rows.now)) }
+    ensures { IsLongestPrefix (IsLineOfOne (rows_of rows.now)) line.now result }
 {
-    let Some((slot, more)) = places.split_first() else {
-        return 0;
-    };
-    let front = slot.front(rest);
-    if more.is_empty() || !front.whole || !has_space_at(rest, front.bytes) {
-        return front.bytes;
-    }
-    let at = front.bytes + 1;
-    at + command_front(more, &rest[at..])
-}
-
-fn has_space_at(bytes: &[u8], at: usize) -> bool
-    ensures { IsTrue result ↔ (at < length bytes.now) × (slice_index bytes.now at ≡ 32) }
-{
-    at < bytes.len() && bytes[at] == SPACE
-}
-
-impl Slot {
-    // The longest prefix of the bytes that is a prefix of what may stand here.
-    fn front(self, rest: &[u8]) -> Front
-        requires { least_of self ≤ 1 }
-        ensures longest { IsFront (IsWordOf self) rest.now result.bytes }
-        ensures whole { IsTrue result.whole ↔ IsWordOf self (take result.bytes rest.now) }
-    {
-        match self {
-            Slot::OneOf(words) => words_front(words, rest),
-            Slot::Number { least, greatest } => number_front(least, greatest, rest),
-        }
-    }
-}
-
-fn words_front(words: &[&[u8]], rest: &[u8]) -> Front
-    ensures longest { IsFront (IsOneOf (length words.now) (texts words.now)) rest.now result.bytes }
-    ensures whole { IsTrue result.whole ↔ IsOneOf (length words.now) (texts words.now) (take result.bytes rest.now) }
-{
-    let mut longest = NOTHING;
-    for word in words {
-        longest = longest.or(word_front(word, rest));
+    let mut longest = 0;
+    for row in rows {
+        longest = longest.max(row_prefix(row, line));
     }
     longest
 }
 
-fn word_front(word: &[u8], rest: &[u8]) -> Front
-    ensures longest { IsFront (IsWord word.now) rest.now result.bytes }
-    ensures whole { IsTrue result.whole ↔ IsWord word.now (take result.bytes rest.now) }
+// The length of the longest prefix of the bytes that is a prefix of a line of this row.
+fn row_prefix(row: &[Symbol], rest: &[u8]) -> usize
+    requires { IsTrue (list_all is_well_formed (row_of row.now)) }
+    ensures { IsLongestPrefix (IsLineOf (row_of row.now)) rest.now result }
+{
+    let Some((symbol, more)) = row.split_first() else {
+        return 0;
+    };
+    let prefix = symbol.prefix(rest);
+    if more.is_empty() || !prefix.whole || !has_space_at(rest, prefix.bytes) {
+        return prefix.bytes;
+    }
+    let next = prefix.bytes + 1;
+    next + row_prefix(more, &rest[next..])
+}
+
+fn has_space_at(bytes: &[u8], index: usize) -> bool
+    ensures { IsTrue result ↔ (index < length bytes.now) × (slice_index bytes.now index ≡ 32) }
+{
+    index < bytes.len() && bytes[index] == SPACE
+}
+
+impl Symbol {
+    // The longest prefix of the bytes that is a prefix of a word of this symbol.
+    fn prefix(self, rest: &[u8]) -> Prefix
+        requires { IsTrue (is_well_formed (terminal_of self)) }
+        ensures longest { IsLongestPrefix (IsWordOf (terminal_of self)) rest.now result.bytes }
+        ensures whole { IsTrue result.whole ↔ IsWordOf (terminal_of self) (take result.bytes rest.now) }
+    {
+        match self {
+            Symbol::OneOf(words) => words_prefix(words, rest),
+            Symbol::Number { least, greatest } => number_prefix(least, greatest, rest),
+        }
+    }
+}
+
+fn words_prefix(words: &[&[u8]], rest: &[u8]) -> Prefix
+    ensures longest { IsLongestPrefix (Contains (word_texts words.now)) rest.now result.bytes }
+    ensures whole { IsTrue result.whole ↔ Contains (word_texts words.now) (take result.bytes rest.now) }
+{
+    let mut longest = NOTHING;
+    for word in words {
+        longest = longest.longer(word_prefix(word, rest));
+    }
+    longest
+}
+
+fn word_prefix(word: &[u8], rest: &[u8]) -> Prefix
+    ensures longest { IsLongestPrefix (λ text. word.now ≡ text) rest.now result.bytes }
+    ensures whole { IsTrue result.whole ↔ (word.now ≡ take result.bytes rest.now) }
 {
     let mut bytes = 0;
     while bytes < word.len() && bytes < rest.len() && word[bytes] == rest[bytes] {
         bytes += 1;
     }
-    Front {
+    Prefix {
         bytes,
         whole: bytes == word.len(),
     }
 }
 
-fn number_front(least: u64, greatest: u64, rest: &[u8]) -> Front
+fn number_prefix(least: u64, greatest: u64, rest: &[u8]) -> Prefix
     requires { least ≤ 1 }
-    ensures longest { IsFront (IsNumber least greatest) rest.now result.bytes }
-    ensures whole { IsTrue result.whole ↔ IsNumber least greatest (take result.bytes rest.now) }
+    ensures longest { IsLongestPrefix (IsWordOf (Number least greatest)) rest.now result.bytes }
+    ensures whole { IsTrue result.whole ↔ IsWordOf (Number least greatest) (take result.bytes rest.now) }
 {
-    let mut front = NOTHING;
+    let mut prefix = NOTHING;
     let mut value = 0;
     for byte in rest {
         // No digit comes after a leading zero.
-        if front.whole && value == 0 {
-            return front;
+        if prefix.whole && value == 0 {
+            return prefix;
         }
         match with_digit(value, *byte) {
             Some(next) if least <= next && next <= greatest => value = next,
-            _ => return front,
+            _ => return prefix,
         }
-        front = Front {
-            bytes: front.bytes + 1,
+        prefix = Prefix {
+            bytes: prefix.bytes + 1,
             whole: true,
         };
     }
-    front
+    prefix
 }

@@ -2,18 +2,18 @@
 //! the text of a reply. docs/SCRIPT.md has the grammar.
 #![tactic(auto)]
 
-mod asked;
 mod change;
 mod command;
 mod grammar;
-mod page;
 mod reply;
+mod reply_buffer;
 #[cfg(test)]
 mod tests;
+mod text_change;
 mod words;
 
 pub use change::{ChangeFault, read_change};
 pub use command::{Syntax, read_command};
-pub use dg_machine::{BodyLine, BodyLines, Command, Head, Refusal, Reply};
 pub use dg_graph::{Change, Columns, Element, Function, What};
+pub use dg_machine::{BodyLine, BodyLines, Command, Head, Refusal, Reply};
 pub use reply::write_reply;

@@ -1,19 +1,19 @@
-ghost use Rattle.std.specs.Prelude.{◌≡◌, ◌≤◌, ◌++◌, [], ◌∷◌, map, take, codes, decimal, if◌then◌else◌, OnOk, OnErr};
+ghost use Rattle.std.specs.Prelude.{length, ◌≡◌, ◌≤◌, ◌++◌, [], ◌∷◌, map, take, codes, decimal, if◌then◌else◌, OnOk, OnErr};
 ghost use Rattle.dg_machine.specs.ReplyText.{text, body_text, head_words, element_words, body_words, refusal_words};
 ghost use Rattle.dg_graph.specs.Names.{name_text};
-ghost use Rattle.dg_io.specs.Told.{grown, GrowsByPart, Rose};
-ghost use Rattle.dg_line.specs.Page.{Passes, word_bytes};
+ghost use Rattle.dg_io.specs.Told.{grown, GrowsByPart, CountRose};
+ghost use Rattle.dg_line.specs.Buffered.{IsBuffered, word_bytes};
 
-use crate::page::{Page, Word};
+use crate::reply_buffer::{ReplyBuffer, Word};
+use dg_graph::Element;
 use dg_io::{Failed, Sink};
 use dg_machine::{BodyLine, Head, Refusal, Reply};
-use dg_graph::Element;
 use dg_names::Names;
 
 /// The most words that a line of a reply has.
 const WORDS_MAX: usize = 5;
 
-/// What stands behind the last word of a row.
+/// What stands behind the last word of a line.
 const NO_WORD: Word<'static> = Word::Text(b"");
 
 const OK: Word<'static> = Word::Text(b"ok");
@@ -22,9 +22,25 @@ const REFUSED: Word<'static> = Word::Text(b"refused");
 
 /// The words of a line.
 #[derive(Clone, Copy)]
-struct Row<'a> {
+struct ReplyLine<'a> {
     words: [Word<'a>; WORDS_MAX],
     len: usize,
+}
+
+impl<'a> ReplyLine<'a> {
+    // The line of these words.
+    fn of(words: &[Word<'a>]) -> ReplyLine<'a>
+        requires { length words.now ≤ WORDS_MAX }
+        ensures words { take result.len result.words ≡ words.now }
+        ensures len { result.len ≤ WORDS_MAX }
+    {
+        let mut all = [NO_WORD; WORDS_MAX];
+        all[..words.len()].copy_from_slice(words);
+        ReplyLine {
+            words: all,
+            len: words.len(),
+        }
+    }
 }
 
 /// Writes the text of a reply: the head line, the lines of the body, and `end`. The names are those
@@ -33,97 +49,85 @@ struct Row<'a> {
 pub fn write_reply<K: Sink>(sink: &mut K, names: &Names, reply: &Reply) -> Result<(), Failed>
     ensures ok { OnOk result (K.written sink.new ≡ grown (K.written sink.old) (text names.now reply.now)) }
     ensures err { OnErr result (GrowsByPart (K.written sink.old) (text names.now reply.now) (K.written sink.new)) }
-    ensures cause { OnErr result (Rose (K.faults sink.old) (K.faults sink.new)) }
+    ensures cause { OnErr result (CountRose (K.faults sink.old) (K.faults sink.new)) }
     ensures counted { K.faults sink.old ≤ K.faults sink.new }
 {
-    let mut page = Page::new();
-    let head = head_row(&reply.head);
-    page.put_line(sink, &head.words[..head.len])?;
-    put_body(&mut page, sink, names, reply.body.as_slice())?;
-    page.put_line(sink, &[Word::Text(b"end")])?;
-    page.flush(sink)
+    let mut buffer = ReplyBuffer::new();
+    let head = head_line(&reply.head);
+    buffer.put_line(sink, &head.words[..head.len])?;
+    put_body(&mut buffer, sink, names, reply.body.as_slice())?;
+    buffer.put_line(sink, &[Word::Text(b"end")])?;
+    buffer.flush(sink)
 }
 
 fn put_body<K: Sink>(
-    page: &mut Page,
+    buffer: &mut ReplyBuffer,
     sink: &mut K,
     names: &Names,
     lines: &[BodyLine],
 ) -> Result<(), Failed>
-    ensures ok { OnOk result (Passes (K.written sink.old) (page.old ++ body_text names.now lines.now) (K.written sink.new) page.new) }
-    ensures err { OnErr result (GrowsByPart (K.written sink.old) (page.old ++ body_text names.now lines.now) (K.written sink.new)) }
-    ensures cause { OnErr result (Rose (K.faults sink.old) (K.faults sink.new)) }
+    ensures ok { OnOk result (IsBuffered (K.written sink.old) (buffer.old ++ body_text names.now lines.now) (K.written sink.new) buffer.new) }
+    ensures err { OnErr result (GrowsByPart (K.written sink.old) (buffer.old ++ body_text names.now lines.now) (K.written sink.new)) }
+    ensures cause { OnErr result (CountRose (K.faults sink.old) (K.faults sink.new)) }
     ensures counted { K.faults sink.old ≤ K.faults sink.new }
 {
     for line in lines {
-        let row = body_row(names, line);
-        page.put_line(sink, &row.words[..row.len])?;
+        let words = body_line(names, line);
+        buffer.put_line(sink, &words.words[..words.len])?;
     }
     Ok(())
 }
 
-fn head_row(head: &Head) -> Row<'static>
+fn head_line(head: &Head) -> ReplyLine<'static>
     ensures words { map word_bytes (take result.len result.words) ≡ head_words head.now }
     ensures len { result.len ≤ WORDS_MAX }
 {
     match *head {
-        Head::Created => Row {
-            words: [OK, Word::Text(b"create"), NO_WORD, NO_WORD, NO_WORD],
-            len: 2,
-        },
+        Head::Created => ReplyLine::of(&[OK, Word::Text(b"create")]),
         Head::Loaded {
             events,
             total,
             last,
-        } => Row {
-            words: [
-                OK,
-                Word::Text(b"load"),
-                Word::Number(events),
-                Word::Number(total),
-                Word::Number(last),
-            ],
-            len: 5,
-        },
+        } => batch_line(b"load", events, total, last),
         Head::Appended {
             events,
             total,
             last,
-        } => Row {
-            words: [
-                OK,
-                Word::Text(b"append"),
-                Word::Number(events),
-                Word::Number(total),
-                Word::Number(last),
-            ],
-            len: 5,
-        },
-        Head::At { handle, weight } => Row {
-            words: [
-                OK,
-                Word::Text(b"at"),
-                Word::Number(u64::from(handle)),
-                Word::Number(weight),
-                NO_WORD,
-            ],
-            len: 4,
-        },
-        Head::List { handle, lines } => Row {
-            words: [
-                OK,
-                Word::Text(b"list"),
-                Word::Number(u64::from(handle)),
-                Word::Number(lines),
-                NO_WORD,
-            ],
-            len: 4,
-        },
-        Head::Refused(refusal) => refusal_row(refusal),
+        } => batch_line(b"append", events, total, last),
+        Head::At { handle, weight } => handle_line(b"at", handle, weight),
+        Head::List { handle, lines } => handle_line(b"list", handle, lines),
+        Head::Refused(refusal) => refusal_line(refusal),
     }
 }
 
-fn refusal_row(refusal: Refusal) -> Row<'static>
+// The head line of a batch: its events, those of the history, and the last instant.
+fn batch_line(verb: &'static [u8], events: u64, total: u64, last: u64) -> ReplyLine<'static>
+    ensures words { map word_bytes (take result.len result.words) ≡ codes "ok" ∷ verb.now ∷ decimal events ∷ decimal total ∷ decimal last ∷ [] }
+    ensures len { result.len ≤ WORDS_MAX }
+{
+    ReplyLine::of(&[
+        OK,
+        Word::Text(verb),
+        Word::Number(events),
+        Word::Number(total),
+        Word::Number(last),
+    ])
+}
+
+// The head line of a command with a handle, and a number.
+fn handle_line(verb: &'static [u8], handle: u32, number: u64) -> ReplyLine<'static>
+    ensures words { map word_bytes (take result.len result.words) ≡ codes "ok" ∷ verb.now ∷ decimal handle ∷ decimal number ∷ [] }
+    ensures len { result.len ≤ WORDS_MAX }
+{
+    ReplyLine::of(&[
+        OK,
+        Word::Text(verb),
+        Word::Number(u64::from(handle)),
+        Word::Number(number),
+    ])
+}
+
+fn refusal_line(refusal: Refusal) -> ReplyLine<'static>
     ensures words { map word_bytes (take result.len result.words) ≡ codes "refused" ∷ refusal_words refusal }
     ensures len { result.len ≤ WORDS_MAX }
 {
@@ -173,31 +177,23 @@ fn refusal_row(refusal: Refusal) -> Row<'static>
 }
 
 // A refusal that keeps nothing: its number and its name.
-fn refused(number: &'static [u8], name: &'static [u8]) -> Row<'static>
+fn refused(number: &'static [u8], name: &'static [u8]) -> ReplyLine<'static>
     ensures words { map word_bytes (take result.len result.words) ≡ codes "refused" ∷ number.now ∷ name.now ∷ [] }
     ensures len { result.len ≤ WORDS_MAX }
 {
-    Row {
-        words: [
-            REFUSED,
-            Word::Text(number),
-            Word::Text(name),
-            NO_WORD,
-            NO_WORD,
-        ],
-        len: 3,
-    }
+    ReplyLine::of(&[REFUSED, Word::Text(number), Word::Text(name)])
 }
 
 // A refusal that keeps one word.
-fn refused_with(number: &'static [u8], name: &'static [u8], kept: Word<'static>) -> Row<'static>
+fn refused_with(
+    number: &'static [u8],
+    name: &'static [u8],
+    kept: Word<'static>,
+) -> ReplyLine<'static>
     ensures words { map word_bytes (take result.len result.words) ≡ codes "refused" ∷ number.now ∷ name.now ∷ word_bytes kept.entry ∷ [] }
     ensures len { result.len ≤ WORDS_MAX }
 {
-    Row {
-        words: [REFUSED, Word::Text(number), Word::Text(name), kept, NO_WORD],
-        len: 4,
-    }
+    ReplyLine::of(&[REFUSED, Word::Text(number), Word::Text(name), kept])
 }
 
 // A refusal that keeps two numbers.
@@ -206,88 +202,70 @@ fn refused_with_both(
     name: &'static [u8],
     first: u64,
     second: u64,
-) -> Row<'static>
+) -> ReplyLine<'static>
     ensures words { map word_bytes (take result.len result.words) ≡ codes "refused" ∷ number.now ∷ name.now ∷ decimal first ∷ decimal second ∷ [] }
     ensures len { result.len ≤ WORDS_MAX }
 {
-    Row {
-        words: [
-            REFUSED,
-            Word::Text(number),
-            Word::Text(name),
-            Word::Number(first),
-            Word::Number(second),
-        ],
-        len: 5,
-    }
+    ReplyLine::of(&[
+        REFUSED,
+        Word::Text(number),
+        Word::Text(name),
+        Word::Number(first),
+        Word::Number(second),
+    ])
 }
 
 // The words of a body line.
-fn body_row<'a>(names: &'a Names, line: &BodyLine) -> Row<'a>
+fn body_line<'a>(names: &'a Names, line: &BodyLine) -> ReplyLine<'a>
     ensures words { map word_bytes (take result.len result.words) ≡ body_words names.now line.now }
     ensures len { result.len ≤ WORDS_MAX }
 {
     match line {
-        BodyLine::Element(element) => element_row(names, element),
+        BodyLine::Element(element) => element_line(names, element),
     }
 }
 
-fn element_row<'a>(names: &'a Names, element: &Element) -> Row<'a>
+fn element_line<'a>(names: &'a Names, element: &Element) -> ReplyLine<'a>
     ensures words { map word_bytes (take result.len result.words) ≡ element_words names.now element.now }
     ensures len { result.len ≤ WORDS_MAX }
 {
     match *element {
-        Element::Node { id } => Row {
-            words: [
-                Word::Text(b"node"),
-                Word::Number(id),
-                NO_WORD,
-                NO_WORD,
-                NO_WORD,
-            ],
-            len: 2,
-        },
+        Element::Node { id } => ReplyLine::of(&[Word::Text(b"node"), Word::Number(id)]),
         Element::Edge {
             id,
             src,
             dst,
             directed,
-        } => edge_row(id, src, dst, directed),
+        } => edge_line(id, src, dst, directed),
         Element::NodeAttr { id, key, value } => {
-            attribute_row(b"nattr", id, name(names, key), name(names, value))
+            attribute_line(b"nattr", id, name(names, key), name(names, value))
         }
         Element::EdgeAttr { id, key, value } => {
-            attribute_row(b"eattr", id, name(names, key), name(names, value))
+            attribute_line(b"eattr", id, name(names, key), name(names, value))
         }
     }
 }
 
 // A line of an edge.
-fn edge_row(id: u64, src: u64, dst: u64, directed: bool) -> Row<'static>
+fn edge_line(id: u64, src: u64, dst: u64, directed: bool) -> ReplyLine<'static>
     ensures words { map word_bytes (take result.len result.words) ≡ codes "edge" ∷ decimal id ∷ decimal src ∷ decimal dst ∷ (if directed then codes "dir" else codes "undir") ∷ [] }
     ensures len { result.len ≤ WORDS_MAX }
 {
-    Row {
-        words: [
-            Word::Text(b"edge"),
-            Word::Number(id),
-            Word::Number(src),
-            Word::Number(dst),
-            Word::Text(direction(directed)),
-        ],
-        len: 5,
-    }
+    ReplyLine::of(&[
+        Word::Text(b"edge"),
+        Word::Number(id),
+        Word::Number(src),
+        Word::Number(dst),
+        Word::Text(direction(directed)),
+    ])
 }
 
 // A line of an attribute: its kind, an id, a key and a value.
-fn attribute_row<'a>(kind: &'static [u8], id: u64, key: Word<'a>, value: Word<'a>) -> Row<'a>
+fn attribute_line<'a>(kind: &'static [u8], id: u64, key: Word<'a>, value: Word<'a>) -> ReplyLine<'a>
     ensures words { map word_bytes (take result.len result.words) ≡ kind.now ∷ decimal id ∷ word_bytes key.entry ∷ word_bytes value.entry ∷ [] }
     ensures len { result.len ≤ WORDS_MAX }
 {
-    Row {
-        words: [Word::Text(kind), Word::Number(id), key, value, NO_WORD],
-        len: 4,
-    }
+    ReplyLine::of(&[Word::Text(kind), Word::Number(id), key, value])
 }
 
 fn direction(directed: bool) -> &'static [u8]

@@ -48,9 +48,9 @@ impl<'a> Words<'a> {
         }
         let rest = self.rest;
         match find_space(rest) {
-            Some(at) => {
-                self.rest = &rest[at + 1..];
-                Some(&rest[..at])
+            Some(index) => {
+                self.rest = &rest[index + 1..];
+                Some(&rest[..index])
             }
             None => {
                 self.ended = true;
@@ -67,19 +67,15 @@ impl<'a> Words<'a> {
         if self.ended { None } else { Some(self.rest) }
     }
 
-    /// The one word that is left, or none where none or more are left.
-    pub fn only(mut self) -> Option<&'a [u8]>
-        ensures { MatchOption result (length self.entry ≢ 1) (λ w. self.entry ≡ w.now ∷ []) }
+    /// Whether no word is left: `None` where one is.
+    pub fn end(self) -> Option<()>
+        ensures { MatchOption result (self.entry ≢ []) (λ nothing. self.entry ≡ []) }
     {
-        let word = self.next()?;
-        match self.next() {
-            Some(_) => None,
-            None => Some(word),
-        }
+        if self.ended { Some(()) } else { None }
     }
 }
 
-// The place of the first space.
+// The index of the first space.
 fn find_space(line: &[u8]) -> Option<usize>
     ensures { result ≡ position is_space line.now }
 {

@@ -5,18 +5,21 @@ use Rattle.std.proofs.lemmas.List.{take_more}
 use Rattle.std.proofs.lemmas.List.Elements.{filter_map-append}
 use Rattle.std.proofs.lemmas.List.Sorted.{list_any-IsPermutation}
 use Rattle.std.proofs.lemmas.Option.{get_or_from_slice_get}
-use Rattle.std.specs.List.{list_any, filter_map, cons_option}
-use Rattle.std.specs.List.Sorted.{IsPermutation}
-use Rattle.std.specs.Ordering.{is_lt}
+use Rattle.std.specs.List.{list_any, filter_map, cons_option, AllByRecursion, IsDistinct}
+use Rattle.std.specs.List.Sorted.{IsPermutation, IsSorted}
+use Rattle.std.specs.Ordering.{is_lt, is_eq, ordering_reverse, ordering_then, nat_cmp}
+use Rattle.std.specs.declared.cmp.Ordering.{Ordering}
+use Rattle.std.specs.declared.cmp.Ordering.TheVariants.{Less, Equal, Greater}
 use Rattle.dg_graph.specs.declared.element.Element.{Element}
 use Rattle.dg_graph.specs.declared.element.Element.TheVariants as element
-use Rattle.dg_graph.specs.Elements.{IsSet, IsBelowFirst, has, same, before, put}
+use Rattle.dg_graph.specs.contracts.element.ElementOrd.TheImpl as of_elements
+use Rattle.dg_graph.specs.Elements.{IsSet, IsBelowFirst, element_cmp, has, same, before, put}
 use Rattle.dg_graph.specs.Graph.{IsGraph, has_needs}
-use Rattle.dg_graph.proofs.Sets.{same_members, same_itself, element_exact, differs, differs_back, Greater_from_before, lacks_below, IsBelowFirst-trans}
+use Rattle.dg_graph.proofs.Sets.{element_total, same_members, same_itself, element_exact, differs, differs_back, Greater_from_before, lacks_below, IsBelowFirst-trans}
 use Rattle.dg_now.specs.declared.element_id.ElementId.{ElementId}
 use Rattle.dg_now.specs.declared.element_id.ElementId.TheVariants.{Node, Edge, NodeValue, EdgeValue}
 use Rattle.dg_now.specs.ElementIds.{element_id_of, at, needs_id, same_id}
-use Rattle.dg_now.proofs.HeldGraph.{same_id_exact}
+use Rattle.dg_now.proofs.HeldGraph.{same_id_exact, same_id_itself}
 use Rattle.dg_now.proofs.ElementIds.{either, at_has, at_from, one_of_each_id, needs_live, live_needs, Lives}
 
 some_is : {X : Type 0} (x y : X) → Some x ≡ Some y → x ≡ y
@@ -76,6 +79,79 @@ listed_is graph ids sorted g known moves rises =
             let here = at_from graph (one_of_each_id graph g) q f in
             sym e ∙ listed_to (at graph) ids (element_id_of q) q here (known (element_id_of q) (ap is_some here))
         by false e false f = refl
+
+-- ---- a sorted list of distinct elements
+
+-- elements with distinct ids are distinct
+pub listed_apart : (graph : List Element) (ids : List ElementId) → IsDistinct same_id ids → IsDistinct same (filter_map (at graph) ids)
+unfolding IsDistinct
+listed_apart graph [] d = tt
+listed_apart graph (p ∷ ids) d = by (at graph p) refl (listed_apart graph ids d.1)
+  where
+    apart : (x y : Element) (q : ElementId) → at graph p ≡ Some x → at graph q ≡ Some y → same_id p q ≡ false → (b : Bool) → same x y ≡ b → same x y ≡ false
+    apart x y q is e other false s = s
+    apart x y q is e other true s =
+        let one : p ≡ q = sym (at_has graph p x is).1 ∙ ap element_id_of (element_exact x y s) ∙ (at_has graph q y e).1 in
+        absurd (true≢false (sym (same_id_itself p) ∙ ap (same_id p) one ∙ other))
+
+    others : (x : Element) → at graph p ≡ Some x → (qs : List ElementId) → AllByRecursion (λ q. same_id p q ≡ false) qs → AllByRecursion (λ y. same x y ≡ false) (filter_map (at graph) qs)
+    others x is [] h = tt
+    others x is (q ∷ qs) h = next (at graph q) refl (others x is qs h.1)
+      where
+        next : (o : Option Element) → at graph q ≡ o → AllByRecursion (λ y. same x y ≡ false) (filter_map (at graph) qs)
+            → AllByRecursion (λ y. same x y ≡ false) (cons_option o (filter_map (at graph) qs))
+        next None e rest = rest
+        next (Some y) e rest = (apart x y q is e h.0 (same x y) refl, rest)
+
+    by : (o : Option Element) → at graph p ≡ o → IsDistinct same (filter_map (at graph) ids) → IsDistinct same (cons_option o (filter_map (at graph) ids))
+    by None e rest = rest
+    by (Some x) e rest = (others x e ids d.0, rest)
+
+then_Equal : (o : Ordering) → o ≡ ordering_then o Equal
+then_Equal Less = refl
+then_Equal Equal = refl
+then_Equal Greater = refl
+
+-- the order by which the code sorts is that of the definitions
+sorts_by : (x y : Element) → of_elements.ghosts.cmp x y ≡ element_cmp x y
+sorts_by (element.Node id) (element.Node id2) = then_Equal (nat_cmp id id2)
+sorts_by (element.Node id) (element.Edge id2 src dst directed) = refl
+sorts_by (element.Node id) (element.NodeAttr id2 key value) = refl
+sorts_by (element.Node id) (element.EdgeAttr id2 key value) = refl
+sorts_by (element.Edge id src dst directed) (element.Node id2) = refl
+sorts_by (element.Edge id src dst true) (element.Edge id2 src2 dst2 true) = refl
+sorts_by (element.Edge id src dst true) (element.Edge id2 src2 dst2 false) = refl
+sorts_by (element.Edge id src dst false) (element.Edge id2 src2 dst2 true) = refl
+sorts_by (element.Edge id src dst false) (element.Edge id2 src2 dst2 false) = refl
+sorts_by (element.Edge id src dst directed) (element.NodeAttr id2 key value) = refl
+sorts_by (element.Edge id src dst directed) (element.EdgeAttr id2 key value) = refl
+sorts_by (element.NodeAttr id key value) (element.Node id2) = refl
+sorts_by (element.NodeAttr id key value) (element.Edge id2 src dst directed) = refl
+sorts_by (element.NodeAttr id key value) (element.NodeAttr id2 key2 value2) =
+    ap (λ o. ordering_then (nat_cmp id id2) (ordering_then (nat_cmp key key2) o)) (then_Equal (nat_cmp value value2))
+sorts_by (element.NodeAttr id key value) (element.EdgeAttr id2 key2 value2) = refl
+sorts_by (element.EdgeAttr id key value) (element.Node id2) = refl
+sorts_by (element.EdgeAttr id key value) (element.Edge id2 src dst directed) = refl
+sorts_by (element.EdgeAttr id key value) (element.NodeAttr id2 key2 value2) = refl
+sorts_by (element.EdgeAttr id key value) (element.EdgeAttr id2 key2 value2) =
+    ap (λ o. ordering_then (nat_cmp id id2) (ordering_then (nat_cmp key key2) o)) (then_Equal (nat_cmp value value2))
+
+strictly : (o : Ordering) → is_lt (ordering_reverse o) ≡ false → is_eq o ≡ false → is_lt o ≡ true
+strictly Less e f = refl
+strictly Equal e f = absurd (true≢false f)
+strictly Greater e f = absurd (true≢false e)
+
+-- a sorted list of distinct elements rises strictly
+pub sorted_rises : (xs : List Element) → IsSorted of_elements.ghosts.cmp xs → IsDistinct same xs → IsSet xs
+unfolding IsDistinct
+sorted_rises [] h d = tt
+sorted_rises (x ∷ []) h d = (tt, tt)
+sorted_rises (x ∷ y ∷ xs) h d = (
+  strictly (element_cmp x y) (ap is_lt (sym (sorts_by y x ∙ element_total.antisymm y x)) ∙ h 0 x (omega arith) (omega arith)) d.0.0,
+  sorted_rises (y ∷ xs) (λ k e le lt.
+      let next : suc (k + 1) ≡ suc k + 1 = omega arith in
+      ap (λ j. is_lt (of_elements.ghosts.cmp (get_or (x ∷ y ∷ xs) j e) (get_or (y ∷ xs) k e))) next ∙ h (suc k) e (omega arith) (omega arith)) d.1,
+)
 
 -- ---- a rising list, element by element
 

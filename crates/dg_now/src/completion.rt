@@ -28,8 +28,8 @@ pub(crate) fn has_node(graph: &HeldGraph, id: u64) -> bool
     graph.element_at(ElementId::Node(id)).is_some()
 }
 
-// Whether both nodes are in the graph.
-fn has_nodes(graph: &HeldGraph, src: u64, dst: u64) -> bool
+/// Whether both nodes are in the graph.
+pub(crate) fn has_nodes(graph: &HeldGraph, src: u64, dst: u64) -> bool
     ensures { result ≡ (has_node graph.now.set src && has_node graph.now.set dst) }
 {
     has_node(graph, src) && has_node(graph, dst)

@@ -1,9 +1,9 @@
 ghost use Rattle.std.specs.Prelude.{◌≡◌, ◌+◌, ◌≤◌, ◌<◌, ◌-◌, true, false, List, [], None, length, is_some, slice_get, Some, IfOk, OnOk, IsTrue};
-ghost use Rattle.std.specs.List.{list_any};
+ghost use Rattle.std.specs.List.{list_any, IsDistinct};
 ghost use Rattle.dg_graph.specs.Elements.{has, put, take_out};
 ghost use Rattle.dg_graph.specs.Completion.{has_node, edge_of, needs_node, needs_edge, node_value, edge_value};
 ghost use Rattle.dg_graph.specs.Graph.{IsGraph, has_needs};
-ghost use Rattle.dg_now.specs.ElementIds.{element_id_of, at, needs_id};
+ghost use Rattle.dg_now.specs.ElementIds.{element_id_of, at, needs_id, same_id};
 ghost use Rattle.dg_now.specs.HeldGraph.{HeldGraphState, knows, has_room, KeepsIds};
 
 use crate::element_entry::{ElementEntry, count_in, count_out, set_element};
@@ -58,8 +58,10 @@ impl HeldGraph {
     pub(crate) fn facts(&self)
         ensures graph { IsGraph self.now.set }
         ensures known { (p : ElementId) → is_some (at self.now.set p) ≡ true → knows self.now p ≡ true }
+        ensures distinct { IsDistinct same_id self.now.ids }
     {
-        let _ = &self.elements;
+        // Its clauses tell that the ids are distinct.
+        self.elements.len();
     }
 
     /// How many ids have an entry.

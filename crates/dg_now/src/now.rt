@@ -7,7 +7,7 @@ ghost use Rattle.dg_graph.specs.Replay.{replay_from};
 ghost use Rattle.dg_now.specs.ElementIds.{element_id_of, at};
 ghost use Rattle.dg_now.specs.Now.{NowState, earliest_time_after, completed_batch, FaultOf, ends_in};
 
-use crate::completion::{edge_of, has_node, is_change_of, value_in};
+use crate::completion::{edge_of, has_node, has_nodes, is_change_of, value_in};
 use crate::element_id::{ElementId, element_before};
 use crate::element_list::{before_pending, first_changes, push};
 use crate::event_effect::{apply, complete_all, undo};
@@ -214,7 +214,7 @@ impl Now {
     pub fn to_set(&self) -> Result<Set, AllocError>
         ensures { IfOk result (λ set. set ≡ self.now.graph) }
     {
-        // The id of each element has an entry.
+        // The ids are distinct, and that of each element has an entry.
         self.held.facts();
         let alloc = *self.pending.allocator();
         let first = first_changes(alloc, &self.pending)?;
@@ -224,10 +224,7 @@ impl Now {
             push(&mut elements, element)?;
         }
         elements.sort_unstable();
-        match Set::from_sorted(elements) {
-            Ok(set) => Ok(set),
-            Err(_) => Err(AllocError),
-        }
+        Ok(Set::from_rising(elements))
     }
 }
 
@@ -248,7 +245,7 @@ fn is_fed(held: &HeldGraph, element: &Element) -> bool
 {
     match *element {
         Element::Node { .. } => true,
-        Element::Edge { src, dst, .. } => has_node(held, src) && has_node(held, dst),
+        Element::Edge { src, dst, .. } => has_nodes(held, src, dst),
         Element::NodeAttr { id, .. } => has_node(held, id),
         Element::EdgeAttr { id, .. } => edge_of(held, id).is_some(),
     }

@@ -33,7 +33,7 @@ returns-clause-part g c =
     let all : Moved (g.D.Disk.image c.args.disk.now) (g.D.Disk.image c.put.new.disk) (Keeps c.args.place) =
     keep_then _ _ _ c.args.place c.in_ok-columns_place.columns_place (omega (arith, c.in_ok-columns_place.ensures.behind)) c.put_directory.ensures.part
     (keep_then _ _ _ c.in_ok-columns_place.columns_place c.in_ok-gate_place.gate_place (omega (arith, c.in_ok-gate_place.ensures.behind)) c.put_columns.ensures.part c.put.ensures.part) in
-    subst (λ z. Moved (g.D.Disk.image c.args.disk.now) z (Keeps c.args.place)) (sym c.sync.ensures.same_image) all
+    subst (λ z. Moved (g.D.Disk.image c.args.disk.now) z (Keeps c.args.place)) (sym c.sync.ensures.frame.same_image) all
 
 pub returns-clause-written : goal.returns-clause-written
 returns-clause-written g c =
@@ -44,4 +44,4 @@ returns-clause-written g c =
     (grow_then _ _ _ c.in_ok-columns_place.columns_place c.in_ok-gate_place.gate_place _ _ (c.in_ok-gate_place.ensures.behind ∙ ap (λ n. c.in_ok-columns_place.columns_place + n) (sym (columns_length c.args.segment.now))) c.in_ok-gate_place.ensures.written c.in_ok-put.ensures.written) in
     let spelled : Moved (g.D.Disk.image c.args.disk.now) (g.D.Disk.image c.put.new.disk) (Grown c.args.place (segment_bytes c.args.segment.now ++ 0 ∷ [])) =
     subst (λ (l : List ℕ). Moved (g.D.Disk.image c.args.disk.now) (g.D.Disk.image c.put.new.disk) (Grown c.args.place l)) text all in
-    on_ok_any c.sync.result (subst (λ z. Moved (g.D.Disk.image c.args.disk.now) z (Grown c.args.place (segment_bytes c.args.segment.now ++ 0 ∷ []))) (sym c.sync.ensures.same_image) spelled)
+    on_ok_any c.sync.result (subst (λ z. Moved (g.D.Disk.image c.args.disk.now) z (Grown c.args.place (segment_bytes c.args.segment.now ++ 0 ∷ []))) (sym c.sync.ensures.frame.same_image) spelled)

@@ -11,5 +11,5 @@ returns-in_default-clause-broken c = λ _. name_lacks c.args.bytes.now c.args.at
 pub returns-then-not-is_fresh-clause-broken : goal.returns-then-not-is_fresh-clause-broken
 returns-then-not-is_fresh-clause-broken c = λ _. name_stale c.args.bytes.now c.args.at c.args.names.now c.in-Some.end c.in-Some.ensures.end (sym c.is_fresh.ensures ∙ c.if-not-is_fresh.true)
 
-pub returns-in-Ok-clause-taken : goal.returns-in-Ok-clause-taken
-returns-in-Ok-clause-taken c = name_taken c.args.bytes.now c.args.at c.args.names.now c.in-Some.end _ c.in-Some.ensures.end (sym c.is_fresh.ensures ∙ c.if-not-is_fresh.false) c.in-Ok.ensures.added
+pub returns-clause-taken : goal.returns-clause-taken
+returns-clause-taken c = name_taken c.args.bytes.now c.args.at c.args.names.now c.in-Some.end _ c.in-Some.ensures.end (sym c.is_fresh.ensures ∙ c.if-not-is_fresh.false) c.in_ok-add.ensures.added

@@ -1,4 +1,4 @@
-use Rattle.dg_line.proofs.NameLemmas.{text_or_none}
+use Rattle.dg_line.proofs.Names.{text_or_none}
 use Rattle.dg_line.proofs.reply.name.Goals as goal
 
 pub returns : goal.returns

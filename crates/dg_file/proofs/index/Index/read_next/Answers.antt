@@ -5,8 +5,8 @@ use Rattle.dg_history.specs.OpenedIndex.{Opening, directory_at, may_follow, open
 use Rattle.dg_file.specs.Headers.{IsOpenedSoFar, IsFoundAt}
 use Rattle.dg_file.specs.Held.{segment_in}
 use Rattle.dg_file.specs.Images.{Misses, Refuses}
-use Rattle.dg_file.specs.Index.{events_after, earliest_after, names_count}
-use Rattle.dg_file.proofs.Holding.{names_more}
+use Rattle.dg_file.specs.Index.{events_after, earliest_after, names_count, opening_bytes}
+use Rattle.dg_file.proofs.Holding.{names_more, opening_more}
 use Rattle.dg_file.proofs.Steps.{next_refused, next_so_far}
 use Rattle.dg_file.proofs.index.Index.read_next.Goals as goal
 
@@ -36,7 +36,7 @@ returns-in_err-found-clause-refused g c =
     (subst (λ n. IfSome x (λ image. Misses c.used.result (directory_at (events_after 0 o.segments) names n image c.used.result ≡ None) c.in_err-found.field-0.0)) c.earliest.ensures
     (subst (λ n. IfSome x (λ image. Misses c.used.result (directory_at n names c.earliest.result image c.used.result ≡ None) c.in_err-found.field-0.0)) c.events.ensures.events c.in_err-found.ensures.refused)) in
     let rest : IfSome x (λ image. Refuses c.in_err-found.field-0.0 (opening image)) = next_refused x o names c.in_err-found.field-0.0 so_far misses in
-    let p = err_from_is_err_and c.from_residual.result c.from_residual.ensures.1 in
+    let p = err_from_is_err_and c.from_residual-in_err-found.result c.from_residual-in_err-found.ensures.1 in
     rw (p.1, p.2) rest
 
 pub returns-clause-so_far : goal.returns-clause-so_far
@@ -61,3 +61,9 @@ returns-clause-progress g c =
 pub returns-clause-counted_names : goal.returns-clause-counted_names
 returns-clause-counted_names g c =
     omega (arith, ap (λ (o : Opening). names_count o.segments) c.note.ensures, names_more c.reserve.new.self.opening.segments (segment_in c.in_ok-found.found.noted), ap (λ (o : Opening). names_count o.segments) c.reserve.ensures.same, c.in_ok-found.ensures.takes.counted, c.requires.counted_names)
+
+pub returns-clause-taken : goal.returns-clause-taken
+returns-clause-taken g c = λ t start.
+    let o : Opening = c.reserve.new.self.opening in
+    let more = opening_more o c.note.new.self.opening c.in_ok-found.found.noted c.note.ensures c.facts.ensures.columns (omega (arith, c.used.ensures, c.in_ok-found.ensures.takes.behind)) in
+    omega (arith, start, more, ap opening_bytes c.reserve.ensures.same, c.used.ensures, c.in_ok-found.ensures.taken)

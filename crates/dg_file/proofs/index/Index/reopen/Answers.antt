@@ -1,19 +1,21 @@
-use Rattle.std.proofs.Common.{length, sym, ap, subst, ◌∙◌, arith}
+use Rattle.std.proofs.Common.{◌+◌, ◌≤◌, length, sym, ap, subst, ◌∙◌, arith}
 use Rattle.std.specs.Prelude.{IfSome}
 use Rattle.dg_history.specs.OpenedIndex.{Opening}
 use Rattle.dg_file.specs.Headers.{IsFoundIn}
-use Rattle.dg_file.specs.Index.{names_count}
+use Rattle.dg_file.specs.Index.{names_count, opening_bytes}
+use Rattle.dg_file.proofs.Found.{some_weaker}
+use Rattle.dg_file.proofs.Moves.{on_err_any}
 use Rattle.dg_file.proofs.Steps.{begun, found_length}
 use Rattle.dg_file.proofs.index.Index.reopen.Goals as goal
 
 pub read_segments-requires-clause-so_far : goal.read_segments-requires-clause-so_far
 read_segments-requires-clause-so_far g c =
-    let h = subst (λ x. IfSome x (λ image. IsFoundIn image c.in_ok-found.found)) (sym c.read_header.ensures.same_image) c.in_ok-found.ensures.found in
+    let h = subst (λ x. IfSome x (λ image. IsFoundIn image c.in_ok-found.found)) (sym c.read_header.ensures.frame.same_image) c.in_ok-found.ensures.found in
     begun _ c.in_ok-found.found c.empty-index.result.opening c.args.names.now c.in_ok-found.ensures.long c.empty-index.ensures c.requires.names h
 
 pub read_segments-requires-clause-len : goal.read_segments-requires-clause-len
 read_segments-requires-clause-len g c =
-    let h = subst (λ x. IfSome x (λ image. IsFoundIn image c.in_ok-found.found)) (sym c.read_header.ensures.same_image) c.in_ok-found.ensures.found in
+    let h = subst (λ x. IfSome x (λ image. IsFoundIn image c.in_ok-found.found)) (sym c.read_header.ensures.frame.same_image) c.in_ok-found.ensures.found in
     found_length _ c.in_ok-found.found h
 
 pub read_segments-requires-clause-within : goal.read_segments-requires-clause-within
@@ -22,3 +24,10 @@ read_segments-requires-clause-within g c = omega (arith, c.in_ok-found.ensures.l
 pub read_segments-requires-clause-counted_names : goal.read_segments-requires-clause-counted_names
 read_segments-requires-clause-counted_names g c =
     ap length c.requires.names ∙ sym (ap (λ (o : Opening). names_count o.segments) c.empty-index.ensures)
+
+pub returns-in_err-read_segments-clause-bounded : goal.returns-in_err-read_segments-clause-bounded
+returns-in_err-read_segments-clause-bounded g c =
+    let was = g.D.Disk.taken c.args.disk.now in
+    let most = c.in_err-read_segments.ensures.bounded was (omega (arith, c.in_ok-found.ensures.taken, ap opening_bytes c.empty-index.ensures)) in
+    on_err_any c.from_residual-in_err-read_segments.result
+    (some_weaker (g.D.Disk.image c.args.disk.now) (λ image. IsFoundIn image c.in_ok-found.found) (λ image. g.D.Disk.taken c.read_segments.new.disk ≤ was + length image) (λ image f. omega (arith, f.len, most)) c.in_ok-found.ensures.found)

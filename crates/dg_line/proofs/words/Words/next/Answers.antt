@@ -1,13 +1,13 @@
 use Rattle.std.proofs.Common.{◌≡◌, ℕ, ◌+◌, Bool, cond, List, [], ◌∷◌, ◌-◌, length, take, drop, sym, ◌∙◌, ap}
 use Rattle.std.proofs.lemmas.List.{take_rest}
 use Rattle.dg_graph.specs.Words.{words}
-use Rattle.dg_line.proofs.WordLemmas.{first_word, last_word}
+use Rattle.dg_line.proofs.Space.{first_word, last_word}
 use Rattle.dg_line.proofs.words.Words.next.Goals as goal
 
 pub returns-in-Some : goal.returns-in-Some
 returns-in-Some c =
     let line = c.self.inside.rest.now in
-    let at = c.in-Some.at in
+    let at = c.in-Some.index in
     let left : Bool → List ℕ → List (List ℕ) = λ b rest. cond b [] (words rest) in
     let here : c.args.self.now ≡ take at line ∷ words (drop (at + 1) line) =
     sym c.self.view_is ∙ ap (λ b. left b line) c.if-self.false ∙ first_word line at cc in

@@ -1,0 +1,36 @@
+use Rattle.std.proofs.Common.{◌≡◌, ◌+◌, ℕ, List, Option, Some, None, Result, Ok, Err, refl, sym, ap, ◌∙◌}
+use Rattle.std.specs.Prelude.{IfSome, IsSome}
+use Rattle.std.specs.Result.{result_ok}
+use Rattle.dg_graph.specs.declared.element.Element.{Element}
+use Rattle.dg_graph.specs.Composition.{Delta}
+use Rattle.dg_graph.specs.ColumnGrammar.{elements_at}
+use Rattle.dg_set.specs.Apart.{AreApart}
+use Rattle.dg_columns.specs.declared.fault.ReadFault.{ReadFault}
+use Rattle.dg_columns.specs.ReadOutcome.{IsReadAs}
+use Rattle.dg_columns.proofs.SoundDelta.{delta_from}
+use Rattle.dg_columns.proofs.delta_reader.sound_delta.Goals as goal
+
+-- what a call gave that did not fail
+given : {X Y : Type 0} (view : X → Y) (r : Result X ReadFault) (read : Result Y ℕ) (x : X) → Some x ≡ result_ok r → IsReadAs view r read → read ≡ Ok (view x)
+given {X} {Y} view (Ok y) read x e g =
+    let is : x ≡ y = cc in
+    g ∙ ap (λ (z : X). Ok (view z)) (sym is)
+given view (Err f) read x e g = absurd cc
+
+delta_is : (r : Option Delta) (minus plus : List Element) (read : Result Delta ℕ) → (IsSome r → AreApart minus plus) → IfSome r (λ d. d ≡ record { minus = minus; plus = plus }) → (AreApart minus plus → read ≡ Ok (record { minus = minus; plus = plus })) → IfSome r (λ d. read ≡ Ok d)
+delta_is None minus plus read apart is found = tt
+delta_is (Some d) minus plus read apart is found = found (apart refl) ∙ ap (λ (z : Delta). Ok z) (sym is)
+
+pub returns-then-end-bytes : goal.returns-then-end-bytes
+returns-then-end-bytes c =
+    let bytes = c.args.bytes.now in
+    let count = c.in_ok-out_count.out_count in
+    let minus : List Element = c.in_ok-minus.minus in
+    let plus : List Element = c.in_ok-plus.plus in
+    let m = c.in_ok-minus.offset in
+    let n = c.in_ok-plus.end in
+    let more = c.in_ok-in_count.in_count in
+    let e = given (λ (n : ℕ). n) c.u32_at.result _ count c.in_ok-out_count.ensures.value c.u32_at.ensures.number in
+    let g = given (λ (n : ℕ). n) c.in_count_at.result _ more c.in_ok-in_count.ensures.value c.in_count_at.ensures.number in
+    delta_is c.from_sets.result minus plus _ c.from_sets.ensures.exact.0 c.from_sets.ensures.sets
+    (λ apart. delta_from c.args.col c.args.names bytes count more m n minus plus e c.in_ok-minus.ensures.elements g c.in_ok-plus.ensures.elements apart c.if-end-bytes.true)

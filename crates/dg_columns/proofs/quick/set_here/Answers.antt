@@ -1,7 +1,0 @@
-use Rattle.std.proofs.Common.{[], None}
-use Rattle.dg_columns.proofs.Elements.{elements_keep}
-use Rattle.dg_columns.proofs.quick.set_here.Goals as goal
-
-pub from_rising-requires : goal.from_rising-requires
-from_rising-requires c =
-    (elements_keep c.args.count c.args.col c.args.names c.args.bytes.now [] c.args.start None c.in_ok-items.items.items c.in_ok-items.end c.in_ok-items.ensures.elements).set

@@ -1,0 +1,100 @@
+//! Reading an event column.
+
+ghost use Rattle.std.specs.Prelude.{◌≡◌, ◌+◌, ◌≤◌, length, Ok, IfOk, IfErr};
+ghost use Rattle.dg_graph.specs.ColumnGrammar.{body_size, events_at, events_in};
+ghost use Rattle.dg_columns.specs.ReadOutcome.{IsReadAs, IsFaultOf};
+ghost use Rattle.dg_columns.specs.Fields.{placed_at};
+ghost use Rattle.dg_columns.specs.ReadFits.{PlacedFit};
+
+use crate::event_fields::{body_at, body_size};
+use crate::fault::ReadFault;
+use crate::layout::{COUNT_SIZE, SMALLEST_EVENT, STAMP_SIZE};
+use crate::numbers::{count_at, position_at, time_at};
+use dg_graph::{Column, Event, Placed, TIME_MAX};
+use std::alloc::Global;
+
+// The event at the offset, with its position.
+fn placed_at(
+    bytes: &[u8],
+    offset: usize,
+    col: Column,
+    names: u32,
+    low: u32,
+    earliest: u64,
+) -> Result<Placed, ReadFault>
+    requires { offset ≤ length bytes.now }
+    ensures placed { IsReadAs (λ p. p) result (placed_at col names bytes.now offset low earliest) }
+    ensures fits { IfOk result (λ p. offset + 10 + body_size p.event.body ≤ length bytes.now) }
+{
+    let position = position_at(bytes, offset, low)?;
+    let time = time_at(bytes, offset + 2, earliest, TIME_MAX)?;
+    let body = body_at(bytes, offset + STAMP_SIZE, col, names)?;
+    Ok(Placed {
+        at: position,
+        event: Event { time, body },
+    })
+}
+
+// The events of a column, which follow its count.
+fn placed_from(
+    alloc: Global,
+    bytes: &[u8],
+    col: Column,
+    names: u32,
+    count: u32,
+) -> Result<Vec<Placed>, ReadFault>
+    requires { 4 ≤ length bytes.now }
+    ensures { IsReadAs (λ v. v.items) result (events_at count col names bytes.now 4 0 0) }
+{
+    // The bytes bound what is reserved: the count is not trusted.
+    let room = (count as usize).min(bytes.len() / SMALLEST_EVENT);
+    let mut placed = Vec::with_capacity(alloc, room)?;
+    let mut offset = COUNT_SIZE;
+    let mut low = 0;
+    let mut earliest = 0;
+    for _ in 0..count {
+        let event = placed_at(bytes, offset, col, names, low, earliest)?;
+        offset += STAMP_SIZE + body_size(&event.event.body);
+        low = u32::from(event.at) + 1;
+        earliest = event.event.time;
+        placed.push(event)?;
+    }
+    if offset != bytes.len() {
+        return Err(ReadFault::Damaged(offset as u64));
+    }
+    Ok(placed)
+}
+
+// The events, or what is wrong.
+fn any_events(
+    alloc: Global,
+    bytes: &[u8],
+    col: Column,
+    names: u32,
+) -> Result<Vec<Placed>, ReadFault>
+    ensures ok { IfOk result (λ placed. events_in col names bytes.now ≡ Ok placed.items) }
+    ensures err { IfErr result (λ fault. IsFaultOf fault (events_in col names bytes.now)) }
+{
+    if bytes.is_empty() {
+        return Ok(Vec::new(alloc));
+    }
+    let count = count_at(bytes, 0, 1)?;
+    placed_from(alloc, bytes, col, names, count)
+}
+
+/// The events of a column with their positions, in a history with so many names. `Damaged` gives the
+/// offset of the first byte of the first field that does not fit in the bytes or breaks a rule of the
+/// format (docs/FORMATS.md), `Memory` says that memory ran out. Events that are read rise in their
+/// positions, do not fall in time, stand in the column, and name what there is.
+pub fn read_events(
+    alloc: Global,
+    bytes: &[u8],
+    col: Column,
+    names: u32,
+) -> Result<Vec<Placed>, ReadFault>
+    ensures ok { IfOk result (λ placed. events_in col names bytes.now ≡ Ok placed.items) }
+    ensures fits { IfOk result (λ placed. PlacedFit col names 0 0 placed.items) }
+    ensures err { IfErr result (λ fault. IsFaultOf fault (events_in col names bytes.now)) }
+{
+    any_events(alloc, bytes, col, names)
+}

@@ -1,0 +1,181 @@
+//! The elements of a column that has no damage, read with one test of the room for each element. What
+//! is wrong, and where, is not looked for here.
+
+ghost use Rattle.std.specs.Prelude.{◌≡◌, ◌+◌, ◌≤◌, [], length, Ok, None, IfSome};
+ghost use Rattle.dg_graph.specs.Elements.{IsSet};
+ghost use Rattle.dg_graph.specs.ColumnGrammar.{element_at, element_size, elements_at};
+ghost use Rattle.dg_columns.specs.Fields.{attr_at, edge_at, next_element_at};
+
+use crate::delta_reader::{AttrFields, rises_from};
+use crate::delta_writer::element_size;
+use crate::edge::EdgeFields;
+use crate::layout::{EDGE, EDGE_SIZE, NODE, NODE_SIZE, SMALLEST_ELEMENT, VALUE_SIZE};
+use crate::numbers::{byte_here, u32_here, u64_here};
+use dg_delta::{Element, Set};
+use dg_graph::Column;
+use std::alloc::Global;
+
+// The fields of a value.
+fn attr_here(bytes: &[u8], offset: usize, names: u32) -> Option<AttrFields>
+    requires { offset ≤ length bytes.now }
+    ensures fields { IfSome result (λ v. attr_at names bytes.now offset ≡ Ok v) }
+    ensures fits { IfSome result (λ v. offset + 16 ≤ length bytes.now) }
+{
+    if bytes.len() - offset < VALUE_SIZE {
+        return None;
+    }
+    let id = u64_here(bytes, offset);
+    let key = u32_here(bytes, offset + 8);
+    let value = u32_here(bytes, offset + 12);
+    if key < names && value < names {
+        Some(AttrFields { id, key, value })
+    } else {
+        None
+    }
+}
+
+// The fields of an edge, after its kind.
+fn edge_here(bytes: &[u8], offset: usize) -> Option<EdgeFields>
+    requires { offset ≤ length bytes.now }
+    ensures fields { IfSome result (λ e. edge_at bytes.now offset ≡ Ok e) }
+    ensures fits { IfSome result (λ e. offset + 25 ≤ length bytes.now) }
+{
+    if bytes.len() - offset < EDGE_SIZE - 1 {
+        return None;
+    }
+    let id = u64_here(bytes, offset);
+    let src = u64_here(bytes, offset + 8);
+    let dst = u64_here(bytes, offset + 16);
+    let directed = byte_here(bytes, offset + 24);
+    if directed <= 1 {
+        Some(EdgeFields {
+            id,
+            src,
+            dst,
+            directed: directed == 1,
+        })
+    } else {
+        None
+    }
+}
+
+// A node or an edge.
+fn structure_here(bytes: &[u8], offset: usize, names: u32) -> Option<Element>
+    requires { offset ≤ length bytes.now }
+    ensures element { IfSome result (λ x. element_at Column.Structure names bytes.now offset ≡ Ok x) }
+    ensures fits { IfSome result (λ x. offset + element_size x ≤ length bytes.now) }
+{
+    if bytes.len() - offset < NODE_SIZE {
+        return None;
+    }
+    match byte_here(bytes, offset) {
+        NODE => {
+            let id = u64_here(bytes, offset + 1);
+            Some(Element::Node { id })
+        }
+        EDGE => {
+            let edge = edge_here(bytes, offset + 1)?;
+            Some(Element::Edge {
+                id: edge.id,
+                src: edge.src,
+                dst: edge.dst,
+                directed: edge.directed,
+            })
+        }
+        _ => None,
+    }
+}
+
+// The element of the column at the offset.
+fn element_here(bytes: &[u8], offset: usize, col: Column, names: u32) -> Option<Element>
+    requires { offset ≤ length bytes.now }
+    ensures element { IfSome result (λ x. element_at col names bytes.now offset ≡ Ok x) }
+    ensures fits { IfSome result (λ x. offset + element_size x ≤ length bytes.now) }
+{
+    match col {
+        Column::Structure => structure_here(bytes, offset, names),
+        Column::NodeAttr => {
+            let attr = attr_here(bytes, offset, names)?;
+            Some(Element::NodeAttr {
+                id: attr.id,
+                key: attr.key,
+                value: attr.value,
+            })
+        }
+        Column::EdgeAttr => {
+            let attr = attr_here(bytes, offset, names)?;
+            Some(Element::EdgeAttr {
+                id: attr.id,
+                key: attr.key,
+                value: attr.value,
+            })
+        }
+    }
+}
+
+// The element at the offset, which comes after the last one.
+#[tactic(auto, using(crate::proofs::NextHere::next_is))]
+fn next_here(
+    bytes: &[u8],
+    offset: usize,
+    col: Column,
+    names: u32,
+    last: Option<Element>,
+) -> Option<Element>
+    requires { offset ≤ length bytes.now }
+    ensures element { IfSome result (λ x. next_element_at col names bytes.now [] offset last ≡ Ok x) }
+    ensures fits { IfSome result (λ x. offset + element_size x ≤ length bytes.now) }
+{
+    let element = element_here(bytes, offset, col, names)?;
+    if rises_from(last, &element) {
+        Some(element)
+    } else {
+        None
+    }
+}
+
+// So many elements from the offset on, each after the one before it, and the offset behind them.
+fn elements_here(
+    alloc: Global,
+    bytes: &[u8],
+    start: usize,
+    count: u32,
+    col: Column,
+    names: u32,
+) -> Option<(Vec<Element>, usize)>
+    requires { start ≤ length bytes.now }
+    ensures elements { IfSome result (λ p. elements_at count col names bytes.now [] start None ≡ Ok (p.0.items, p.1)) }
+    ensures fits { IfSome result (λ p. p.1 ≤ length bytes.now) }
+{
+    // The bytes bound what is reserved: the count is not trusted.
+    let room = (count as usize).min(bytes.len() / SMALLEST_ELEMENT);
+    let mut items = Vec::with_capacity(alloc, room).ok()?;
+    let mut offset = start;
+    let mut last = None;
+    for _ in 0..count {
+        let element = next_here(bytes, offset, col, names, last)?;
+        offset += element_size(&element);
+        last = Some(element);
+        let Ok(()) = items.push(element) else {
+            return None;
+        };
+    }
+    Some((items, offset))
+}
+
+/// So many elements as a set, and the offset behind them.
+pub(crate) fn set_here(
+    alloc: Global,
+    bytes: &[u8],
+    start: usize,
+    count: u32,
+    col: Column,
+    names: u32,
+) -> Option<(Set, usize)>
+    requires { start ≤ length bytes.now }
+    ensures elements { IfSome result (λ p. elements_at count col names bytes.now [] start None ≡ Ok (p.0, p.1)) }
+    ensures fits { IfSome result (λ p. p.1 ≤ length bytes.now) }
+{
+    let (items, end) = elements_here(alloc, bytes, start, count, col, names)?;
+    Some((Set::from_rising(items), end))
+}

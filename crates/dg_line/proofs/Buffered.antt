@@ -1,0 +1,144 @@
+-- Bytes on their way to a sink through a buffer, piece by piece.
+use Rattle.std.proofs.Common.{◌≡◌, ℕ, ◌+◌, ◌<◌, ◌≤◌, Option, Result, Ok, Err, OnErr, map, drop, length, get_or, codes, List, [], ◌∷◌, ◌++◌, refl, sym, ap, ◌∙◌, subst, append_assoc, append-nil}
+use Rattle.std.specs.List.{join_with_byte}
+use Rattle.dg_io.specs.Told.{grown, GrowsByPart}
+use Rattle.dg_io.proofs.ToldLemmas.{grown_nothing, both_pieces, part_first, part_second}
+use Rattle.dg_machine.specs.declared.reply.BodyLine.{BodyLine}
+use Rattle.dg_machine.specs.declared.reply.Reply.{Reply}
+use Rattle.dg_machine.specs.ReplyText.{text_line, body_text, body_words, head_words, text}
+use Rattle.dg_line.specs.declared.reply_buffer.Word.{Word}
+use Rattle.dg_line.specs.Buffered.{IsBuffered, word_bytes}
+use Rattle.std.proofs.lemmas.List.{at_drop_more, at_drop_all}
+
+-- of all bytes, some are sent, then come those held, and `left` is still to be put
+pub record IsPartlyPut (start : Option (List ℕ)) (all : List ℕ) (now : Option (List ℕ)) (held left : List ℕ) : Type 0 where
+  pub sent : List ℕ
+  pub written : now ≡ grown start sent
+  pub split : sent ++ (held ++ left) ≡ all
+
+pub put_first : (start : Option (List ℕ)) (held left : List ℕ) → IsPartlyPut start (held ++ left) start held left
+put_first start held left = record { sent = []; written = sym (grown_nothing start); split = refl }
+
+-- the next piece is put
+pub put_next : (start mid now : Option (List ℕ)) (all held piece left new_held : List ℕ) → IsPartlyPut start all mid held (piece ++ left)
+    → IsBuffered mid (held ++ piece) now new_held → IsPartlyPut start all now new_held left
+put_next start mid now all held piece left new_held g p = record {
+  sent = g.sent ++ p.sent;
+  written = both_pieces start mid now g.sent p.sent g.written p.written;
+  split =
+      append_assoc g.sent p.sent (new_held ++ left) ∙ ap (λ bytes. g.sent ++ bytes)
+      (sym (append_assoc p.sent new_held left) ∙ ap (λ bytes. bytes ++ left) p.rest ∙ append_assoc held piece left) ∙ g.split;
+}
+
+-- a write fails at the next piece
+pub put_fails : (start mid new : Option (List ℕ)) (all held piece left : List ℕ) → IsPartlyPut start all mid held (piece ++ left)
+    → GrowsByPart mid (held ++ piece) new → GrowsByPart start all new
+put_fails start mid new all held piece left g p =
+    let P : List ℕ → Type 0 = λ bytes. GrowsByPart start bytes new in
+    subst P (ap (λ bytes. g.sent ++ bytes) (append_assoc held piece left) ∙ g.split)
+    (part_second start mid new g.sent ((held ++ piece) ++ left) g.written (part_first mid new (held ++ piece) left p))
+
+-- all is put
+pub put_ends : (start now : Option (List ℕ)) (all held : List ℕ) → IsPartlyPut start all now held [] → IsBuffered start all now held
+put_ends start now all held g = record {
+  sent = g.sent;
+  written = g.written;
+  rest = ap (λ bytes. g.sent ++ bytes) (sym (append-nil held)) ∙ g.split;
+}
+
+-- what was held is sent, and then a piece as well
+pub buffered_both : (start mid now : Option (List ℕ)) (held piece new_held : List ℕ) → mid ≡ grown start held → now ≡ grown mid piece
+    → new_held ≡ [] → IsBuffered start (held ++ piece) now new_held
+buffered_both start mid now held piece new_held p q empty = record {
+  sent = held ++ piece;
+  written = both_pieces start mid now held piece p q;
+  rest = ap (λ bytes. (held ++ piece) ++ bytes) empty ∙ append-nil (held ++ piece);
+}
+
+-- what is held, written in the end, is all of the bytes
+pub buffered_written : (start mid now : Option (List ℕ)) (all held : List ℕ) → IsBuffered start all mid held → now ≡ grown mid held
+    → now ≡ grown start all
+buffered_written start mid now all held p q = both_pieces start mid now p.sent held p.written q ∙ ap (grown start) p.rest
+
+-- the rest of a line: `between` comes before the next word, and a space before each later one
+abbrev pub rest_of_line : List ℕ → List (List ℕ) → List ℕ
+rest_of_line between [] = 10 ∷ []
+rest_of_line between (w ∷ ws) = between ++ (w ++ rest_of_line (32 ∷ []) ws)
+
+after_word : (w : List ℕ) (ws : List (List ℕ)) → join_with_byte 32 (w ∷ ws) ++ 10 ∷ [] ≡ w ++ rest_of_line (32 ∷ []) ws
+after_word w [] = refl
+after_word w (v ∷ ws) =
+    append_assoc w (32 ∷ join_with_byte 32 (v ∷ ws)) (10 ∷ []) ∙ ap (λ bytes. w ++ (32 ∷ bytes)) (after_word v ws)
+
+pub line_is_rest : (ws : List (List ℕ)) → text_line ws ≡ rest_of_line [] ws
+line_is_rest [] = refl
+line_is_rest (w ∷ ws) = after_word w ws
+
+-- a fact for the case of an error, where it holds in every case
+pub on_err : {T E : Type 0} (r : Result T E) {P : Type 0} → P → OnErr r P
+on_err (Ok x) h = tt
+on_err (Err e) h = h
+
+-- what is left before a word of a line
+pub rest_at : (between : List ℕ) (words : List Word) (i : ℕ) (d : Word) → i < length words
+    → rest_of_line between (map word_bytes (drop i words))
+    ≡ between ++ (word_bytes (get_or words i d) ++ rest_of_line (32 ∷ []) (map word_bytes (drop (i + 1) words)))
+rest_at between words i d below = at_drop_more (λ ws. rest_of_line between (map word_bytes ws)) words i d below
+
+-- and behind the last
+pub rest_past : (between : List ℕ) (words : List Word) (i : ℕ) → length words ≤ i
+    → rest_of_line between (map word_bytes (drop i words)) ≡ 10 ∷ []
+rest_past between words i past = at_drop_all (λ ws. rest_of_line between (map word_bytes ws)) words i past
+
+-- what a loop over the words of a line knows, before a word
+pub put_at : (start mid : Option (List ℕ)) (all held between : List ℕ) (words : List Word) (i : ℕ) (d : Word) → i < length words
+    → IsPartlyPut start all mid held (rest_of_line between (map word_bytes (drop i words)))
+    → IsPartlyPut start all mid held (between ++ (word_bytes (get_or words i d) ++ rest_of_line (32 ∷ []) (map word_bytes (drop (i + 1) words))))
+put_at start mid all held between words i d below g =
+    subst (λ (left : List ℕ). IsPartlyPut start all mid held left) (rest_at between words i d below) g
+
+-- and behind the last, where the piece is a line feed
+pub put_past : (start mid : Option (List ℕ)) (all held between piece : List ℕ) (words : List Word) (i : ℕ) → length words ≤ i
+    → piece ≡ 10 ∷ [] → IsPartlyPut start all mid held (rest_of_line between (map word_bytes (drop i words))) → IsPartlyPut start all mid held (piece ++ [])
+put_past start mid all held between piece words i past feed g =
+    subst (λ (left : List ℕ). IsPartlyPut start all mid held left)
+    (rest_past between words i past ∙ ap (λ bytes. bytes ++ []) (sym feed)) g
+
+-- what a loop over the lines of a body knows, before a line whose words are these
+pub put_line : (names : List (List ℕ)) (start mid : Option (List ℕ)) (all held : List ℕ) (lines : List BodyLine) (i : ℕ) (d : BodyLine) (words : List (List ℕ))
+    → i < length lines → words ≡ body_words names (get_or lines i d) → IsPartlyPut start all mid held (body_text names (drop i lines))
+    → IsPartlyPut start all mid held (text_line words ++ body_text names (drop (i + 1) lines))
+put_line names start mid all held lines i d words below is g =
+    subst (λ (left : List ℕ). IsPartlyPut start all mid held left)
+    (at_drop_more (body_text names) lines i d below ∙ ap (λ ws. text_line ws ++ body_text names (drop (i + 1) lines)) (sym is)) g
+
+-- and behind the last
+pub put_lines_past : (names : List (List ℕ)) (start mid : Option (List ℕ)) (all held : List ℕ) (lines : List BodyLine) (i : ℕ) → length lines ≤ i
+    → IsPartlyPut start all mid held (body_text names (drop i lines)) → IsBuffered start all mid held
+put_lines_past names start mid all held lines i past g =
+    put_ends start mid all held (subst (λ (left : List ℕ). IsPartlyPut start all mid held left) (at_drop_all (body_text names) lines i past) g)
+
+-- a reply, before its head line, its body and its last line are put on an empty buffer
+pub put_reply : (names : List (List ℕ)) (start : Option (List ℕ)) (reply : Reply) (buffer : List ℕ) (head : List (List ℕ)) (body : List BodyLine) → buffer ≡ []
+    → head ≡ head_words reply.head → body ≡ reply.body
+    → IsPartlyPut start (text names reply) start buffer (text_line head ++ (body_text names body ++ (text_line (codes "end" ∷ []) ++ [])))
+put_reply names start reply buffer head body empty head_is body_is =
+    let h = text_line (head_words reply.head) in
+    let b = body_text names reply.body in
+    let e = text_line (codes "end" ∷ []) in
+    record {
+      sent = [];
+      written = sym (grown_nothing start);
+      split =
+          ap (λ held. held ++ (text_line head ++ (body_text names body ++ (e ++ [])))) empty
+          ∙ ap (λ ws. text_line ws ++ (body_text names body ++ (e ++ []))) head_is
+          ∙ ap (λ lines. h ++ (body_text names lines ++ (e ++ []))) body_is
+          ∙ ap (λ bytes. h ++ (b ++ bytes)) (append-nil e)
+          ∙ sym (append_assoc h b e);
+    }
+
+-- what is held fails to be written
+pub buffered_fails : (start mid new : Option (List ℕ)) (all held : List ℕ) → IsBuffered start all mid held → GrowsByPart mid held new
+    → GrowsByPart start all new
+buffered_fails start mid new all held p q =
+    subst (λ (bytes : List ℕ). GrowsByPart start bytes new) p.rest (part_second start mid new p.sent held p.written q)

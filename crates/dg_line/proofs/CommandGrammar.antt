@@ -1,0 +1,85 @@
+-- The rows of the grammar of commands are those that the table of commands reads.
+use Rattle.std.proofs.Common.{◌≡◌, ℕ, ◌+◌, ◌-◌, ◌*◌, ◌<◌, List, [], ◌∷◌, ◌++◌, length, take, drop, codes, option_and_then, is_some, Option, Some, refl, sym, ap, subst, arith, zero, suc, length-append}
+use Rattle.std.specs.List.{AllByRecursion}
+use Rattle.std.proofs.lemmas.Fmt.{decimal_digit}
+use Rattle.std.proofs.lemmas.List.{length-take-le, take-append-drop}
+use Rattle.dg_graph.specs.declared.limits.TheConstants.{BATCH_LINES_MAX, TIME_MAX}
+use Rattle.dg_graph.specs.Verbs.{Verb, read_by}
+use Rattle.dg_graph.specs.Words.{words}
+use Rattle.dg_history.specs.ChangeGrammar.{time_of}
+use Rattle.dg_machine.specs.declared.command.Command.{Command}
+use Rattle.dg_machine.specs.declared.command.Command.TheVariants as command
+use Rattle.dg_machine.specs.CommandGrammar.{Begins, IsColumn, columns_of, command_verbs, count_of, function_of, handle_of, n32_of}
+use Rattle.dg_line.specs.Prefixes.{IsLongestPrefix}
+use Rattle.dg_line.specs.Symbols.{Terminal, One_of, Number, IsLineOfOne}
+use Rattle.dg_line.proofs.Numbers.{number_within}
+use Rattle.dg_line.proofs.Symbols.{lines_short}
+use Rattle.dg_line.proofs.Verbs.{ReadsWord, Rows, number_word, more_texts, no_text, one_row, two_row, three_row, row, table, ◌▸◌}
+
+pub n32 : ReadsWord n32_of (Number 0 4294967295)
+n32 = number_word 0 4294967295
+
+pub count : ReadsWord count_of (Number 1 BATCH_LINES_MAX)
+count = number_word 1 BATCH_LINES_MAX
+
+pub time : ReadsWord time_of (Number 0 TIME_MAX)
+time = number_word 0 TIME_MAX
+
+pub handle : ReadsWord handle_of (Number 1 4294967295)
+handle = number_word 1 4294967295
+
+pub function : ReadsWord function_of (One_of (codes "intersection" ∷ codes "union" ∷ codes "balanced" ∷ []))
+function = more_texts _ _ _ _ (more_texts _ _ _ _ (more_texts _ _ _ _ no_text))
+
+pub columns : ReadsWord columns_of (One_of (codes "s" ∷ codes "sn" ∷ codes "se" ∷ codes "sne" ∷ []))
+columns = more_texts _ _ _ _ (more_texts _ _ _ _ (more_texts _ _ _ _ (more_texts _ _ _ _ no_text)))
+
+-- what each command takes, in the order of the table
+abbrev pub each_command : AllByRecursion (λ (v : Verb Command). Rows v.read) command_verbs
+each_command =
+    row (three_row n32 n32 function _)
+    ▸ row (one_row count _)
+    ▸ row (one_row count _)
+    ▸ row (two_row time columns _)
+    ▸ row (one_row handle _)
+    ▸ tt
+
+abbrev pub commands : Rows (read_by command_verbs)
+commands = table command_verbs each_command refl
+
+abbrev pub command_rows : List (List Terminal)
+command_rows = commands.rows
+
+-- `load 1` is a command
+some_command : Begins []
+some_command = (
+  codes "load 1",
+  ap (λ (o : Option ℕ). is_some (option_and_then (λ (n : ℕ). Some (command.Load n)) o))
+      (number_within 1 BATCH_LINES_MAX 1 (codes "1") (omega arith) (sym (decimal_digit 1 (omega arith))) (omega arith) (omega arith)),
+)
+
+-- the column behind the longest prefix of a line of one of the rows
+pub column_is : (line : List ℕ) (longest column : ℕ) → IsLongestPrefix (IsLineOfOne command_rows) line longest → column ≡ longest + 1
+    → IsColumn line column
+column_is line longest column f is = record {
+  from_one = omega arith;
+  within = omega (arith, f.within);
+  begins = subst (λ (n : ℕ). Begins (take n line)) (let e : longest ≡ column - 1 = omega arith in e) (begins longest f);
+  longest = λ n above in_line b.
+      let most = f.longest (take n line) (drop n line) (take-append-drop n line) (b.0, commands.takes (words (take n line ++ b.0)) b.1) in
+      omega (arith, length-take-le n line in_line);
+}
+  where
+    begins : (n : ℕ) → IsLongestPrefix (IsLineOfOne command_rows) line n → Begins (take n line)
+    begins zero g = some_command
+    begins (suc n) g =
+        let b = g.begins (omega arith) in
+        (b.0, commands.gives (words (take (suc n) line ++ b.0)) b.1)
+
+-- the longest prefix is short
+pub prefix_short : (line : List ℕ) (longest : ℕ) → IsLongestPrefix (IsLineOfOne command_rows) line longest → longest < 2100
+prefix_short line zero f = omega arith
+prefix_short line (suc n) f =
+    let b = f.begins (omega arith) in
+    let short : length (take (suc n) line ++ b.0) < 21 * 100 = lines_short command_rows (take (suc n) line ++ b.0) 100 refl refl b.1 in
+    omega (arith, length-append (take (suc n) line) b.0, length-take-le (suc n) line f.within)

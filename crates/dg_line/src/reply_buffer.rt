@@ -1,0 +1,130 @@
+ghost use Rattle.std.specs.Prelude.{◌≡◌, ◌+◌, ◌≤◌, ℕ, List, [], ◌++◌, length, map, OnOk, OnErr};
+ghost use Rattle.dg_machine.specs.ReplyText.{text_line};
+ghost use Rattle.dg_io.specs.Told.{grown, GrowsByPart, CountRose};
+ghost use Rattle.dg_line.specs.Buffered.{IsBuffered, word_bytes};
+
+use dg_io::{Failed, Sink, write_whole};
+use itoa::Buffer;
+use std::marker::Model;
+
+/// The most bytes that a buffer holds. A reply of no more bytes is one write.
+const BUFFER_BYTES: usize = 8192;
+
+/// A word of a line of text.
+#[derive(Clone, Copy)]
+pub enum Word<'a> {
+    /// These bytes.
+    Text(&'a [u8]),
+    /// The decimal text of a number.
+    Number(u64),
+}
+
+/// Bytes on their way to a sink. They are held until there is no room for more.
+#[derive(Drop)]
+pub struct ReplyBuffer {
+    bytes: [u8; BUFFER_BYTES],
+    held: usize,
+}
+
+impl Model for ReplyBuffer {
+    ghost use Rattle.std.specs.Prelude.{◌≤◌, ℕ, List, take};
+    ghost use Rattle.dg_line.specs.declared.reply_buffer.TheConstants.{BUFFER_BYTES};
+
+    ghost Value = { List ℕ };
+
+    ghost view = { λ buffer. take buffer.held buffer.bytes };
+
+    ghost invariant = { λ buffer. buffer.held ≤ BUFFER_BYTES };
+}
+
+impl ReplyBuffer {
+    /// A buffer that holds nothing.
+    pub fn new() -> ReplyBuffer
+        ensures { result ≡ [] }
+    {
+        ReplyBuffer {
+            bytes: [0; BUFFER_BYTES],
+            held: 0,
+        }
+    }
+
+    /// Puts the words behind those held, with a space between each two and a line feed after the last.
+    /// `Failed` where a write failed: then a part of what was held and of the line is written.
+    pub fn put_line<K: Sink>(&mut self, sink: &mut K, words: &[Word]) -> Result<(), Failed>
+        ensures ok { OnOk result (IsBuffered (K.written sink.old) (self.old ++ text_line (map word_bytes words.now)) (K.written sink.new) self.new) }
+        ensures err { OnErr result (GrowsByPart (K.written sink.old) (self.old ++ text_line (map word_bytes words.now)) (K.written sink.new)) }
+        ensures cause { OnErr result (CountRose (K.faults sink.old) (K.faults sink.new)) }
+        ensures counted { K.faults sink.old ≤ K.faults sink.new }
+    {
+        let mut between = b"".as_slice();
+        for word in words {
+            self.put(sink, between)?;
+            self.put_word(sink, word)?;
+            between = b" ".as_slice();
+        }
+        self.put(sink, b"\n".as_slice())
+    }
+
+    /// Writes what is held. `Failed` where a write failed: then a part of it is written.
+    pub fn flush<K: Sink>(&mut self, sink: &mut K) -> Result<(), Failed>
+        ensures ok { OnOk result (K.written sink.new ≡ grown (K.written sink.old) self.old) }
+        ensures empty { OnOk result (self.new ≡ []) }
+        ensures err { OnErr result (GrowsByPart (K.written sink.old) self.old (K.written sink.new)) }
+        ensures cause { OnErr result (CountRose (K.faults sink.old) (K.faults sink.new)) }
+        ensures counted { K.faults sink.old ≤ K.faults sink.new }
+    {
+        write_whole(sink, &self.bytes[..self.held])?;
+        self.held = 0;
+        Ok(())
+    }
+
+    fn put_word<K: Sink>(&mut self, sink: &mut K, word: &Word) -> Result<(), Failed>
+        ensures ok { OnOk result (IsBuffered (K.written sink.old) (self.old ++ word_bytes word.now) (K.written sink.new) self.new) }
+        ensures err { OnErr result (GrowsByPart (K.written sink.old) (self.old ++ word_bytes word.now) (K.written sink.new)) }
+        ensures cause { OnErr result (CountRose (K.faults sink.old) (K.faults sink.new)) }
+        ensures counted { K.faults sink.old ≤ K.faults sink.new }
+    {
+        match word {
+            Word::Text(text) => self.put(sink, text),
+            Word::Number(n) => {
+                let mut digits = Buffer::new();
+                self.put(sink, digits.format(*n).as_bytes())
+            }
+        }
+    }
+
+    // Puts bytes behind those held. Where there is no room, what is held is written first.
+    fn put<K: Sink>(&mut self, sink: &mut K, piece: &[u8]) -> Result<(), Failed>
+        ensures ok { OnOk result (IsBuffered (K.written sink.old) (self.old ++ piece.now) (K.written sink.new) self.new) }
+        ensures err { OnErr result (GrowsByPart (K.written sink.old) (self.old ++ piece.now) (K.written sink.new)) }
+        ensures cause { OnErr result (CountRose (K.faults sink.old) (K.faults sink.new)) }
+        ensures counted { K.faults sink.old ≤ K.faults sink.new }
+    {
+        if piece.len() <= self.room() {
+            self.hold(piece);
+            return Ok(());
+        }
+        self.flush(sink)?;
+        if piece.len() <= self.room() {
+            self.hold(piece);
+            return Ok(());
+        }
+        write_whole(sink, piece)
+    }
+
+    // The bytes for which there is room.
+    fn room(&self) -> usize
+        ensures { result + length self.now ≡ BUFFER_BYTES }
+    {
+        BUFFER_BYTES - self.held
+    }
+
+    fn hold(&mut self, piece: &[u8])
+        requires { length self.old + length piece.now ≤ BUFFER_BYTES }
+        ensures { self.new ≡ self.old ++ piece.now }
+    {
+        let end = self.held + piece.len();
+        self.bytes[self.held..end].copy_from_slice(piece);
+        self.held = end;
+    }
+}
