@@ -9,8 +9,8 @@ use Rattle.dg_history.specs.declared.node.Key.{Key}
 use Rattle.dg_history.specs.declared.node.Key.TheVariants as key
 use Rattle.dg_history.specs.OpenedIndex.{Segment, Directory, Opening, columns_size, column_of_piece, gate_behind}
 use Rattle.dg_shape.specs.declared.catalogue.Entry.{Entry}
-use Rattle.dg_shape.specs.Entries.{Holdings, length_in, place_in}
-use Rattle.dg_shape.specs.Held.{entry_of, length_of, place_of}
+use Rattle.dg_shape.specs.Entries.{Holdings, length_in, offset_in}
+use Rattle.dg_shape.specs.Held.{entry_of, length_of, offset_of}
 use Rattle.dg_file.specs.Headers.{DirectoriesFrom, segments_told}
 use Rattle.dg_file.specs.Held.{piece_in, pieces_from}
 use Rattle.dg_file.specs.Images.{IsOpenedAs}
@@ -43,8 +43,8 @@ named_by o c (key.Down n m) is h = absurd cc
 pub length_is : (o : Opening) (c : Holdings) (k : Key) (col : Column) (n : Named o c k) → length_of c k col ≡ Some (length_in (piece_in n.segment) col)
 length_is o c k col n = ap (option_map (λ (e : Entry). length_in e col)) n.entry
 
-pub place_is : (o : Opening) (c : Holdings) (k : Key) (col : Column) (n : Named o c k) → place_of c k col ≡ Some (place_in (piece_in n.segment) col)
-place_is o c k col n = ap (option_map (λ (e : Entry). place_in e col)) n.entry
+pub place_is : (o : Opening) (c : Holdings) (k : Key) (col : Column) (n : Named o c k) → offset_of c k col ≡ Some (offset_in (piece_in n.segment) col)
+place_is o c k col n = ap (option_map (λ (e : Entry). offset_in e col)) n.entry
 
 -- ---- a piece is within the image
 
@@ -58,14 +58,14 @@ front_piece count names earliest image gate (d ∷ directories) end zero s f e =
 front_piece count names earliest image gate (d ∷ directories) end (suc i) s f e =
     front_piece (count + d.segment.events) (names ++ d.names) (d.segment.last + 1) image (gate_behind image (gate + 1)) directories end i s f.2 e
 
-column_within : (s : Segment) (col : Column) (n : ℕ) → s.place + columns_size s.lengths ≤ n → place_in (piece_in s) col + length_in (piece_in s) col ≤ n
+column_within : (s : Segment) (col : Column) (n : ℕ) → s.place + columns_size s.lengths ≤ n → offset_in (piece_in s) col + length_in (piece_in s) col ≤ n
 column_within s column.Structure n le = omega (arith, le)
 column_within s column.NodeAttr n le = omega (arith, le)
 column_within s column.EdgeAttr n le = omega (arith, le)
 
-pub column_there : (x : Option (List ℕ)) (o : Opening) (c : Holdings) (k : Key) (col : Column) (n : Named o c k) → IfSome x (λ image. IsOpenedAs image o) → HasRange x (place_in (piece_in n.segment) col) (length_in (piece_in n.segment) col)
+pub column_there : (x : Option (List ℕ)) (o : Opening) (c : Holdings) (k : Key) (col : Column) (n : Named o c k) → IfSome x (λ image. IsOpenedAs image o) → HasRange x (offset_in (piece_in n.segment) col) (length_in (piece_in n.segment) col)
 column_there x o c k col n h =
-    some_weaker x (λ image. IsOpenedAs image o) (λ image. place_in (piece_in n.segment) col + length_in (piece_in n.segment) col ≤ length image)
+    some_weaker x (λ image. IsOpenedAs image o) (λ image. offset_in (piece_in n.segment) col + length_in (piece_in n.segment) col ≤ length image)
     (λ image e.
     let y = opened_to image (record { index = o; names = e.0 }) e.1 in
     let there = ap (λ (l : List Segment). slice_get l n.number) (sym y.segments) ∙ n.there in
@@ -73,12 +73,12 @@ column_there x o c k col n h =
 
 -- ---- what is read
 
-column_is : (image : List ℕ) (s : Segment) (col : Column) → take (length_in (piece_in s) col) (drop (place_in (piece_in s) col) image) ≡ column_of_piece image s col
+column_is : (image : List ℕ) (s : Segment) (col : Column) → take (length_in (piece_in s) col) (drop (offset_in (piece_in s) col) image) ≡ column_of_piece image s col
 column_is image s column.Structure = refl
 column_is image s column.NodeAttr = refl
 column_is image s column.EdgeAttr = refl
 
-pub column_read : (x : Option (List ℕ)) (o : Opening) (c : Holdings) (k : Key) (col : Column) (n : Named o c k) (place len : ℕ) (bytes : List ℕ) → place ≡ place_in (piece_in n.segment) col → len ≡ length_in (piece_in n.segment) col
+pub column_read : (x : Option (List ℕ)) (o : Opening) (c : Holdings) (k : Key) (col : Column) (n : Named o c k) (place len : ℕ) (bytes : List ℕ) → place ≡ offset_in (piece_in n.segment) col → len ≡ length_in (piece_in n.segment) col
     → IfSome x (λ image. bytes ≡ take len (drop place image)) → IfSome x (λ image. IfSome (piece_of o k) (λ s. bytes ≡ column_of_piece image s col))
 column_read x o c k col n place len bytes p l h =
     some_weaker x (λ image. bytes ≡ take len (drop place image)) (λ image. IfSome (piece_of o k) (λ s. bytes ≡ column_of_piece image s col))

@@ -104,11 +104,11 @@ held_length segments catalogue bs h =
     (ap length h.notes ∙ length-map segments batch_in, ap length h.pieces ∙ pieces_length 0 segments)
 
 pub noted : (old new : Holdings) (bs new_bs : List Batch) (n : Noted) → AreHeld (segments_held bs old.entries) old bs
-    → new.entries ≡ old.entries ++ (key.Piece (length bs), record { lengths = n.lengths; place = n.place; ends = None }) ∷ [] → new_bs ≡ bs ++ n.batch ∷ []
+    → new.entries ≡ old.entries ++ (key.Piece (length bs), record { lengths = n.lengths; offset = n.place; ends = None }) ∷ [] → new_bs ≡ bs ++ n.batch ∷ []
     → segments_held new_bs new.entries ≡ segments_held bs old.entries ++ segment_in n ∷ []
 noted old new bs new_bs n h entries is =
     let long = held_length (segments_held bs old.entries) old bs h in
-    (λ i. segments_held (is i) (entries i)) ∙ held_more bs old.entries n.batch (key.Piece (length bs), record { lengths = n.lengths; place = n.place; ends = None }) (long.0 ∙ sym long.1)
+    (λ i. segments_held (is i) (entries i)) ∙ held_more bs old.entries n.batch (key.Piece (length bs), record { lengths = n.lengths; offset = n.place; ends = None }) (long.0 ∙ sym long.1)
 
 pub names_more : (segments : List Segment) (s : Segment) → names_count (segments ++ s ∷ []) ≡ names_count segments + s.names
 names_more segments s = sum_by_push (λ (s : Segment). s.names) segments s
@@ -136,7 +136,7 @@ opening_more o new n is within behind =
 -- ---- one segment more is sound
 
 pub noted_sound : (params : Params) (old new : Holdings) (bs new_bs : List Batch) (events names used new_events new_names new_used : ℕ) (n : Noted) → IndexIsSound params old bs events names used
-    → new.entries ≡ old.entries ++ (key.Piece (length bs), record { lengths = n.lengths; place = n.place; ends = None }) ∷ [] → new.span ≡ Some (spanned old.span n.batch.ends) → new_bs ≡ bs ++ n.batch ∷ []
+    → new.entries ≡ old.entries ++ (key.Piece (length bs), record { lengths = n.lengths; offset = n.place; ends = None }) ∷ [] → new.span ≡ Some (spanned old.span n.batch.ends) → new_bs ≡ bs ++ n.batch ∷ []
     → new_events ≡ events + n.batch.events → new_names ≡ names + n.batch.names → new_names ≤ NAMES_MAX → used ≤ n.place → new_used ≡ n.place + total n.lengths + 1 → new_used ≤ FILE_BYTES_MAX
     → may_follow (events_after 0 (segments_held bs old.entries)) (earliest_after 0 (segments_held bs old.entries)) (segment_in n) ≡ true
     → IndexIsSound params new new_bs new_events new_names new_used

@@ -15,7 +15,7 @@ batch_in s = record { events = s.events; ends = record { first = s.first; last =
 
 -- what the catalogue tells of a segment's piece
 abbrev pub piece_in : Segment → Entry
-piece_in s = record { lengths = s.lengths; place = s.place; ends = None }
+piece_in s = record { lengths = s.lengths; offset = s.place; ends = None }
 
 -- the pieces of the segments, numbered from n on
 abbrev pub pieces_from : ℕ → List Segment → List (Key × Entry)
@@ -24,7 +24,7 @@ pieces_from n (s ∷ segments) = (key.Piece n, piece_in s) ∷ pieces_from (n + 
 
 -- the segment of a batch and of what the catalogue tells of its piece
 abbrev pub segment_held : Batch → Entry → Segment
-segment_held b e = record { events = b.events; first = b.ends.first; last = b.ends.last; names = b.names; lengths = e.lengths; place = e.place }
+segment_held b e = record { events = b.events; first = b.ends.first; last = b.ends.last; names = b.names; lengths = e.lengths; place = e.offset }
 
 -- the segments of batches, and of what the catalogue tells
 abbrev pub segments_held : List Batch → List (Key × Entry) → List Segment

@@ -1,11 +1,10 @@
 //! Reading a directory: its fields, and its names, which are added to those before it.
 
 ghost use Rattle.std.specs.Prelude.{◌≡◌, ℕ, ◌+◌, ◌<◌, ◌≤◌, ◌==◌, ◌&&◌, ◌||◌, List, ◌∷◌, [], Some, None, false, length, IfOk, IfSome, OnOk, IsErrOf};
-ghost use Rattle.std.specs.List.{list_any};
 ghost use Rattle.std.specs.Option.{option_map};
 ghost use Rattle.dg_history.specs.declared.limits.TheConstants.{EVENTS_MAX, FILE_BYTES_MAX};
 ghost use Rattle.dg_graph.specs.declared.limits.TheConstants.{NAMES_MAX};
-ghost use Rattle.dg_graph.specs.Names.{is_name, are_new};
+ghost use Rattle.dg_graph.specs.Names.{are_new};
 ghost use Rattle.dg_history.specs.OpenedIndex.{four_at, eight_at, name_at, names_at, columns_size, may_follow};
 ghost use Rattle.dg_file.specs.declared.directory.Untaken.TheVariants.{Memory};
 ghost use Rattle.dg_file.specs.Heads.{directory_due, is_fresh, TakesName, TakesNames, TakesDirectory};
@@ -14,9 +13,9 @@ ghost use Rattle.dg_file.specs.Held.{segment_in};
 use crate::batch::{Batch, Noted};
 use crate::head::BACK_BYTES;
 use crate::numbers::{u16_at, u32_at, u64_at};
-use dg_graph::{BATCH_LINES_MAX, NAME_BYTES_MAX, NAMES_MAX, TIME_MAX};
+use dg_graph::{BATCH_LINES_MAX, NAMES_MAX, TIME_MAX};
 use dg_history::{EVENTS_MAX, FILE_BYTES_MAX};
-use dg_names::Names;
+use dg_names::{Names, is_name};
 use dg_shape::Ends;
 use std::alloc::AllocError;
 
@@ -50,19 +49,6 @@ impl From<AllocError> for Untaken {
     fn from(_failure: AllocError) -> Untaken {
         Untaken::Memory
     }
-}
-
-fn has_line_end(text: &[u8]) -> bool
-    ensures { result ≡ list_any (λ b. b == 10 || b == 13) text.now }
-{
-    text.iter().any(|byte| *byte == b'\n' || *byte == b'\r')
-}
-
-// Whether the text may be a name.
-fn is_name(text: &[u8]) -> bool
-    ensures { result ≡ is_name text.now }
-{
-    text.len() <= NAME_BYTES_MAX && !has_line_end(text)
 }
 
 // Whether the text may be a name and is not in the list.

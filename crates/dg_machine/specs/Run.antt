@@ -28,9 +28,9 @@ Run m [] (a ∷ answers) = ⊥
 Run m (e ∷ entries) [] = ⊥
 
 -- the state after a run
-abbrev pub last_of : MachineState → List Answered → MachineState
-last_of m [] = m
-last_of m (a ∷ answers) = last_of a.state answers
+abbrev pub last_state : MachineState → List Answered → MachineState
+last_state m [] = m
+last_state m (a ∷ answers) = last_state a.state answers
 
 -- the text of a reply, by the names of the history after it
 abbrev pub text_of : Answered → List ℕ

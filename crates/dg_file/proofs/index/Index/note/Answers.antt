@@ -35,10 +35,10 @@ pub add-requires-clause-bytes : goal.add-requires-clause-bytes
 add-requires-clause-bytes c = omega (arith, c.self.invariant.bytes, c.requires.behind, c.requires.within, ap (λ (v : IndexState). v.opening.used) c.self.view_is)
 
 -- the records and the batches afterwards
-entries : (c : goal.After-self-3-1) → c.add_batch.new.self.entries ≡ c.self.inside.catalogue.entries ++ (key.Piece (length c.self.inside.batches.items), record { lengths = c.args.noted.lengths; place = c.args.noted.place; ends = None }) ∷ []
+entries : (c : goal.After-self-3-1) → c.add_batch.new.self.entries ≡ c.self.inside.catalogue.entries ++ (key.Piece (length c.self.inside.batches.items), record { lengths = c.args.noted.lengths; offset = c.args.noted.place; ends = None }) ∷ []
 entries c =
     let number : c.len.result ≡ length c.self.inside.batches.items = omega (arith, c.len.ensures, c.self.inside.batches.ok) in
-    c.add_batch.ensures.entries ∙ c.add.ensures.entries ∙ ap (λ n. c.self.inside.catalogue.entries ++ (key.Piece n, record { lengths = c.args.noted.lengths; place = c.args.noted.place; ends = None }) ∷ []) number
+    c.add_batch.ensures.entries ∙ c.add.ensures.entries ∙ ap (λ n. c.self.inside.catalogue.entries ++ (key.Piece n, record { lengths = c.args.noted.lengths; offset = c.args.noted.place; ends = None }) ∷ []) number
 
 batches : (c : goal.After-self-3-1) → c.push.new.self.items ≡ c.self.inside.batches.items ++ c.args.noted.batch ∷ []
 batches c =
