@@ -1,5 +1,7 @@
-pub mod Counts
+pub mod EndOfRun
+pub mod Completes
 pub mod Turning
-pub mod Going
-pub mod Over
+pub mod Unmade
+pub mod RunSoFar
 pub mod Starts
+pub mod Promises

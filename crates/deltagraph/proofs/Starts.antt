@@ -1,14 +1,16 @@
 -- What follows from how a session begins, or does not.
-use Rattle.std.proofs.Common.{◌≡◌, ◌≢◌, ℕ, ◌⊎◌, inl, inr, List, Option, Some, None, IfSome, Result, Err, refl, sym, ◌∙◌, ap, subst}
+use Rattle.std.proofs.Common.{◌≡◌, ◌≢◌, ℕ, ◌⊎◌, inl, inr, List, [], Option, Some, None, IfSome, Result, Err, refl, sym, ◌∙◌, ap, subst}
 use Rattle.dg_history.specs.declared.start_fault.StartFault.{StartFault}
 use Rattle.dg_history.specs.declared.start_fault.StartFault.TheVariants as fault
 use Rattle.dg_machine.specs.declared.limits.Limits.{Limits}
 use Rattle.dg_history.specs.SessionStart.{Started}
 use Rattle.dg_session.specs.Parts.{Parts}
-use Rattle.dg_session.specs.Started.{Refuses, StartsAs}
+use Rattle.dg_session.specs.SessionStart.{RefusesStart, StartsAs}
 use Rattle.deltagraph.specs.declared.status.Status.{Status}
 use Rattle.deltagraph.specs.declared.status.Status.TheVariants as status
-use Rattle.deltagraph.specs.Ends.{end_of}
+use Rattle.dg_io.specs.Told.{grown}
+use Rattle.deltagraph.specs.Served.{Gained}
+use Rattle.deltagraph.specs.Statuses.{end_of}
 
 pub where_some : (o : Option (List ℕ)) (P Q : List ℕ → Type 0) → ((x : List ℕ) → P x → Q x) → IfSome o P → IfSome o Q
 where_some None P Q each all = tt
@@ -63,7 +65,7 @@ pub lies : (s : Status) (f g : StartFault) → s ≡ end_of f → s ≡ status.R
 lies s f g is e = end_refused f g (sym is ∙ e)
 
 -- the image is refused for the fault, where it lies there
-refused_for : (f : StartFault) (r : Result (Option Started) StartFault) → f ≢ fault.Disk → f ≢ fault.Memory → Refuses f r → r ≡ Err f
+refused_for : (f : StartFault) (r : Result (Option Started) StartFault) → f ≢ fault.Disk → f ≢ fault.Memory → RefusesStart f r → r ≡ Err f
 refused_for fault.Disk r disk memory h = absurd (disk refl)
 refused_for fault.Foreign r disk memory h = h
 refused_for (fault.Damaged place) r disk memory h = h
@@ -71,13 +73,13 @@ refused_for (fault.BadRecord key col) r disk memory h = h
 refused_for (fault.BadRecent number) r disk memory h = h
 refused_for fault.Memory r disk memory h = absurd (memory refl)
 
-pub refused_so : (s : Status) (f g : StartFault) (r : Result (Option Started) StartFault) → s ≡ end_of f → s ≡ status.Refused g → Refuses f r → r ≡ Err g
+pub refused_so : (s : Status) (f g : StartFault) (r : Result (Option Started) StartFault) → s ≡ end_of f → s ≡ status.Refused g → RefusesStart f r → r ≡ Err g
 refused_so s f g r is e h =
     let l = lies s f g is e in
-    refused_for g r l.disk l.memory (subst (λ (x : StartFault). Refuses x r) l.same h)
+    refused_for g r l.disk l.memory (subst (λ (x : StartFault). RefusesStart x r) l.same h)
 
 -- an image that is refused ends the run so
-pub ends_so : (s : Status) (f g : StartFault) (r : Result (Option Started) StartFault) → s ≡ end_of f → (f ≡ fault.Disk → ⊥) → Refuses f r → r ≡ Err g
+pub ends_so : (s : Status) (f g : StartFault) (r : Result (Option Started) StartFault) → s ≡ end_of f → (f ≡ fault.Disk → ⊥) → RefusesStart f r → r ≡ Err g
     → (s ≡ status.Refused g) ⊎ (s ≡ status.NoMemory)
 ends_so s fault.Disk g r is disk h e = absurd (disk refl)
 ends_so s fault.Foreign g r is disk h e = inl (is ∙ ap (λ x. status.Refused x) (let one : fault.Foreign ≡ g = cc in one))
@@ -94,3 +96,15 @@ never_so s f g is (inr e) refused = let l = lies s f g is refused in l.memory (s
 -- a session that began is over an image that is not refused
 pub begins_ok : (limits : Limits) (session : Parts) (r : Result (Option Started) StartFault) (g : StartFault) → StartsAs limits session r → r ≡ Err g → ⊥
 begins_ok limits session r g starts e = let started = starts.started in cc
+
+end_gains : (f : StartFault) (before now : Option (List ℕ)) → now ≡ grown before [] → Gained (end_of f) before [] now
+end_gains fault.Disk before now same = same
+end_gains fault.Foreign before now same = same
+end_gains (fault.Damaged offset) before now same = same
+end_gains (fault.BadRecord key col) before now same = same
+end_gains (fault.BadRecent number) before now same = same
+end_gains fault.Memory before now same = same
+
+-- what a sink gains whose run did not begin
+pub unbegun_gains : (s : Status) (f : StartFault) (before now : Option (List ℕ)) → s ≡ end_of f → now ≡ grown before [] → Gained s before [] now
+unbegun_gains s f before now is same = subst (λ (t : Status). Gained t before [] now) (sym is) (end_gains f before now same)

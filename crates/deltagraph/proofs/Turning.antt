@@ -1,5 +1,5 @@
 -- How a turn follows from its line.
-use Rattle.std.proofs.Common.{◌≡◌, ℕ, ◌+◌, Bool, true, false, cond, List, ◌∷◌, Option, Some, None, length, refl, sym, ◌∙◌, ap, subst}
+use Rattle.std.proofs.Common.{◌≡◌, ℕ, ◌+◌, ◌<◌, ◌≤◌, IsTrue, Bool, true, false, cond, List, ◌∷◌, Option, Some, None, length, refl, sym, ◌∙◌, ap, subst}
 use Rattle.std.specs.Option.{option_map}
 use Rattle.dg_machine.specs.declared.command.Command.{Command}
 use Rattle.dg_machine.specs.declared.reply.Head.TheVariants as head
@@ -12,20 +12,20 @@ use Rattle.dg_machine.specs.Run.{Step, Leaves_grammar, Too_long}
 use Rattle.dg_machine.specs.Script as script
 use Rattle.dg_machine.proofs.Entries.{told_other, told_asked}
 use Rattle.dg_io.specs.Told.{Gives}
-use Rattle.dg_io.specs.Reading.{Reading, Comes, EndsWith}
+use Rattle.dg_io.specs.Frame.{Advances}
+use Rattle.dg_io.specs.LinesState.{LinesState, Comes, EndsWith, to_come}
 use Rattle.dg_line.specs.declared.command.Syntax.{Syntax}
-use Rattle.dg_session.specs.Session.{BothTold}
+use Rattle.dg_session.specs.Session.{WhereBothTold}
 use Rattle.dg_session.specs.Parts.{Parts}
 use Rattle.dg_session.specs.Session.{Steps, Stops}
 use Rattle.deltagraph.specs.declared.turn.Meaning.TheVariants as meaning
-use Rattle.deltagraph.specs.Takes.{Takes, EndsWithin}
 use Rattle.deltagraph.specs.Turns.{Breaks, Means, Replies}
 
 some_injective : (x y : List ℕ) → Some x ≡ Some y → x ≡ y
 some_injective x y same = cc
 
 -- what holds of each image holds of one that stays
-pub same_told : (image : Option (List ℕ)) (P : List ℕ → List ℕ → Type 0) → ((x : List ℕ) → P x x) → BothTold image image P
+pub same_told : (image : Option (List ℕ)) (P : List ℕ → List ℕ → Type 0) → ((x : List ℕ) → P x x) → WhereBothTold image image P
 same_told image P each x y is then_is =
     let both : Some x ≡ Some y = sym is ∙ then_is in
     subst (λ (z : List ℕ). P x z) (some_injective x y both) (each x)
@@ -35,7 +35,7 @@ abbrev pub IsReplied : Option (List ScriptLine) → Option (List ScriptLine) →
 IsReplied start after old image new now reply =
     (e : script.Entry)
     × (option_map script.entries_of start ≡ option_map (λ more. e ∷ more) (option_map script.entries_of after))
-    × BothTold image now (λ x y. Replies e old x new y reply)
+    × WhereBothTold image now (λ x y. Replies e old x new y reply)
 
 -- the turn at a line that is in no command
 pub leaves_turn : (start after : Option (List ScriptLine)) (line text : List ℕ) (syntax : Syntax) (column : ℕ) (session : Parts) (image : Option (List ℕ)) (reply : Reply)
@@ -94,16 +94,3 @@ by_test false line None c e = absurd (cc)
 
 pub is_command : (line : List ℕ) (c : Command) → Means (meaning.Command c) line → (text : List ℕ) × (command_of text ≡ Some c)
 is_command line c means = (line, by_test (script.is_skipped line) line (command_of line) c means)
-
--- what one line takes
-pub takes_of : (old new : Reading) (before after : Option (List ℕ))
-    → ((bytes : List ℕ) × Gives before bytes after × (new.taken ≡ old.taken + length bytes))
-    → new.limit ≡ old.limit → (EndsWith old before → EndsWith new after) → EndsWithin new → Takes old before new after
-takes_of old new before after taken limit at_end within = record {
-  bytes = taken.0;
-  gives = taken.1;
-  taken = taken.2;
-  limit = limit;
-  at_end = at_end;
-  within = λ old_within. within;
-}

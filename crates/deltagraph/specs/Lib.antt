@@ -1,4 +1,5 @@
-pub mod Takes
-pub mod Turns
-pub mod Ends
+pub mod Outside
+pub mod Statuses
 pub mod Served
+pub mod Turns
+pub mod Promised

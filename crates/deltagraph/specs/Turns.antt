@@ -1,17 +1,24 @@
 -- What one turn over the script does: to the entries to come, to the session and its image, and in
 -- reply.
-use Rattle.std.specs.Prelude.{◌≡◌, ℕ, ◌<◌, List, [], ◌∷◌, IsTrue, IfSome, Option}
+use Rattle.std.specs.Prelude.{◌≡◌, ℕ, ◌<◌, List, [], ◌∷◌, IsTrue, IfSome, Option, Some, is_some, length}
 use Rattle.std.specs.Option.{option_map}
 use Rattle.dg_machine.specs.declared.reply.Reply.{Reply}
 use Rattle.dg_machine.specs.CutImage.{IsCut}
 use Rattle.dg_graph.specs.Lines.{ScriptLine, Text}
 use Rattle.dg_machine.specs.MachineState.{MachineState}
-use Rattle.dg_machine.specs.Run.{Step, IsColumn}
+use Rattle.dg_machine.specs.CommandGrammar.{IsColumn}
+use Rattle.dg_machine.specs.Run.{Step}
 use Rattle.dg_machine.specs.Script as script
-use Rattle.dg_io.specs.Reading.{Reading, told, Comes}
-use Rattle.dg_session.specs.Session.{BothTold}
-use Rattle.dg_session.specs.Session.{StandsFor}
+use Rattle.dg_io.specs.LinesState.{LinesState, told, Comes}
+use Rattle.dg_session.specs.Session.{WhereBothTold, StandsFor}
 use Rattle.dg_session.specs.Parts.{Parts}
+use Rattle.dg_disk.specs.Counts.{Rose as DiskRose}
+use Rattle.dg_io.specs.Told.{Gives, CountRose}
+use Rattle.deltagraph.specs.declared.status.Status.{Status}
+use Rattle.deltagraph.specs.declared.status.Status.TheVariants as status
+use Rattle.deltagraph.specs.Outside.{Outside}
+use Rattle.deltagraph.specs.Served.{Served}
+use Rattle.deltagraph.specs.Statuses.{IsBegun}
 use Rattle.deltagraph.specs.declared.turn.Meaning.{Meaning}
 use Rattle.deltagraph.specs.declared.turn.Meaning.TheVariants as meaning
 use Rattle.deltagraph.specs.declared.turn.Turn.{Turn}
@@ -24,7 +31,7 @@ Means (meaning.Command c) line = script.meaning (Text line) ≡ script.Command_i
 Means (meaning.Other syntax) line = (script.meaning (Text line) ≡ script.Other (script.No_command line)) × IsColumn line syntax.0
 
 -- the entries to come, where the source tells what is left
-abbrev pub asked : Reading → Option (List ℕ) → Option (List script.Entry)
+abbrev pub asked : LinesState → Option (List ℕ) → Option (List script.Entry)
 asked r left = option_map script.entries_of (told r left)
 
 -- from every state that the session stands for over its image, the machine may give the entry this
@@ -39,13 +46,13 @@ Turns turn.End before after old image new now = IfSome before (λ rest. rest ≡
 Turns turn.Skipped before after old image new now = (before ≡ after) × (new ≡ old) × (now ≡ image)
 Turns (turn.Replied reply) before after old image new now =
     (e : script.Entry) × (before ≡ option_map (λ more. e ∷ more) after)
-    × BothTold image now (λ x y. Replies e old x new y reply)
+    × WhereBothTold image now (λ x y. Replies e old x new y reply)
 
 -- the disk failed within the first of the entries to come, and the image is that of a cut
 abbrev pub Breaks : Option (List script.Entry) → Option (List script.Entry) → Parts → Option (List ℕ) → Option (List ℕ) → Type 0
 Breaks before after old image now =
     (e : script.Entry) × (before ≡ option_map (λ more. e ∷ more) after)
-    × BothTold image now (λ x y. (m : MachineState) → StandsFor old x m → IsCut m e x y)
+    × WhereBothTold image now (λ x y. (m : MachineState) → StandsFor old x m → IsCut m e x y)
 
 -- each turn but the last takes something
 abbrev pub Falls : Turn → ℕ → ℕ → Type 0
@@ -54,7 +61,7 @@ Falls turn.Skipped old new = new < old
 Falls (turn.Replied reply) old new = new < old
 
 -- the last turn comes where a read has given the end of input
-abbrev pub EndsAt : Turn → Reading → Type 0
+abbrev pub EndsAt : Turn → LinesState → Type 0
 EndsAt turn.End r = IsTrue r.ended
 EndsAt turn.Skipped r = Unit {0}
 EndsAt (turn.Replied reply) r = Unit {0}
@@ -72,7 +79,18 @@ BreaksAt line before after old image now =
     → Breaks (option_map script.entries_of start) (option_map script.entries_of after) old image now
 
 -- the turn is not the last
-abbrev pub GoesOn : Turn → Type 0
-GoesOn turn.End = ⊥
-GoesOn turn.Skipped = Unit {0}
-GoesOn (turn.Replied reply) = Unit {0}
+abbrev pub GoesOnward : Turn → Type 0
+GoesOnward turn.End = ⊥
+GoesOnward turn.Skipped = Unit {0}
+GoesOnward (turn.Replied reply) = Unit {0}
+
+-- What the run from a started session comes to: how it ended, and what it leaves of source, sink and disk.
+pub record ScriptAnswered (limit : ℕ) (session : Parts) (s : Status) (start now : Outside) : Type 0 where
+  pub served : (image : List ℕ) (m : MachineState) → start.image ≡ Some image → StandsFor session image m → Served m s start now
+  pub told : is_some now.image ≡ is_some start.image
+  pub begun : IsBegun s
+  pub done : s ≡ status.Done → IfSome start.left (λ script. length script < limit)
+  pub source_fault : s ≡ status.SourceFault → CountRose start.source_faults now.source_faults
+  pub sink_fault : s ≡ status.SinkFault → CountRose start.sink_faults now.sink_faults
+  pub disk_fault : s ≡ status.DiskFault → DiskRose start.write_faults now.write_faults
+  pub script_limit : s ≡ status.ScriptLimit → (taken : List ℕ) × Gives start.left taken now.left × (length taken ≡ limit)

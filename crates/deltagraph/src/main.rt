@@ -10,19 +10,37 @@ mod tests;
 mod turn;
 mod words;
 
-use descriptors::hold_standard;
+use descriptors::{Held, hold_standard};
 use dg_disk::FileDisk;
 use dg_io::{StdSink, StdSource};
 use serve::serve;
 use status::Status;
+use std::fs::File;
 use std::process::ExitCode;
 use words::{index_word, words_after_name};
 
 fn main(rt: HostRuntime) -> ExitCode {
-    // Held to the end, so that no file opened below gets the number of a standard descriptor.
-    let status = match hold_standard(&rt) {
-        Ok(_held) => run(&rt),
-        Err(_) => Status::DiskFault,
+    let status = match begin(&rt) {
+        Ok(Begun {
+            _held,
+            words,
+            index,
+        }) => {
+            // Where the words name no index, the disk is never called.
+            let path = index.unwrap_or(String::new(rt.alloc()));
+            let mut disk = FileDisk::new(&rt, path);
+            let mut source = StdSource::new(rt.stdin());
+            let mut sink = StdSink::new(rt.stdout());
+            serve(
+                &rt,
+                rt.alloc(),
+                words.as_slice(),
+                &mut source,
+                &mut sink,
+                &mut disk,
+            )
+        }
+        Err(status) => status,
     };
     if let Some(message) = status.message() {
         // The status is the answer, also where standard error takes no line.
@@ -31,33 +49,26 @@ fn main(rt: HostRuntime) -> ExitCode {
     ExitCode::from(status.code())
 }
 
-// Carries out the script on standard input over the index that the words name.
-fn run(rt: &HostRuntime) -> Status {
-    let (words, index) = match words_and_index(rt) {
-        Ok(read) => read,
-        Err(status) => return status,
-    };
-    // Where the words name no index, the disk is never called.
-    let path = index.unwrap_or(String::new(rt.alloc()));
-    let mut disk = FileDisk::new(rt, path);
-    let mut source = StdSource::new(rt.stdin());
-    let mut sink = StdSink::new(rt.stdout());
-    serve(
-        rt,
-        rt.alloc(),
-        words.as_slice(),
-        &mut source,
-        &mut sink,
-        &mut disk,
-    )
+// What a run has before its first call of source, sink or disk.
+#[derive(Drop)]
+struct Begun {
+    // Held to the end, so that no file that is opened gets the number of a standard descriptor.
+    _held: Held<File>,
+    // The words after the program's own name.
+    words: Vec<String>,
+    // The index that they name, if they are of the written form.
+    index: Option<String>,
 }
 
-// The words after the program's own name, and the index that they name, if they are of the written
-// form. `Status::NoMemory` for want of memory, and `Status::Words` where a word is no text in UTF-8.
-fn words_and_index(rt: &HostRuntime) -> Result<(Vec<String>, Option<String>), Status> {
+// Holds the standard descriptors and reads the words. `Status::DiskFault` where a descriptor cannot be
+// held, `Status::NoMemory` for want of memory, and `Status::Words` where a word is no text in UTF-8.
+fn begin(rt: &HostRuntime) -> Result<Begun, Status> {
+    let _held = hold_standard(rt).map_err(|_| Status::DiskFault)?;
     let words = words_after_name(rt)?;
-    match index_word(rt.alloc(), words.as_slice()) {
-        Ok(index) => Ok((words, index)),
-        Err(_) => Err(Status::NoMemory),
-    }
+    let index = index_word(rt.alloc(), words.as_slice()).map_err(|_| Status::NoMemory)?;
+    Ok(Begun {
+        _held,
+        words,
+        index,
+    })
 }

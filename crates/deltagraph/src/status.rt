@@ -1,5 +1,5 @@
 ghost use Rattle.std.specs.Prelude.{◌≡◌};
-ghost use Rattle.deltagraph.specs.Ends.{code_of, end_of};
+ghost use Rattle.deltagraph.specs.Statuses.{code_of, end_of};
 
 use dg_history::StartFault;
 

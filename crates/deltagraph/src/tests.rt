@@ -28,115 +28,6 @@ const CALLS_MAX: usize = 1000;
 // There is no index file.
 const NO_FILE: &[u8] = b"";
 
-struct Case {
-    shows: &'static str,
-    script: &'static str,
-    replies: &'static str,
-}
-
-const CASES: [Case; 20] = [
-    Case {
-        shows: "an empty script has no replies",
-        script: "",
-        replies: "",
-    },
-    Case {
-        shows: "a load, a retrieval and a listing",
-        script: "create 2 2 intersection\nload 2\n10 +node 1\n20 +node 2\nat 10 s\nlist 1\nat 9 s\nload 1\n30 +node 9\n",
-        replies: "ok create\nend\nok load 2 2 20\nend\nok at 1 0\nend\nok list 1 1\nnode 1\nend\nrefused 7 out-of-range 10 20\nend\nrefused 20 already-loaded\nend\n",
-    },
-    Case {
-        shows: "edges are added and removed, and a handle keeps its instant",
-        script: "create 2 2 intersection\nload 4\n10 +node 1\n20 +node 2\n30 +edge 5 1 2 dir\n50 -edge 5\nat 9 s\nat 51 s\nat 30 sne\nat 50 s\nlist 1\nlist 2\n",
-        replies: "ok create\nend\nok load 4 4 50\nend\nrefused 7 out-of-range 10 50\nend\nrefused 7 out-of-range 10 50\nend\nok at 1 0\nend\nok at 2 0\nend\nok list 1 3\nnode 1\nnode 2\nedge 5 1 2 dir\nend\nok list 2 2\nnode 1\nnode 2\nend\n",
-    },
-    Case {
-        shows: "a listing is in element order, whatever the order of the changes",
-        script: "create 2 2 intersection\nload 6\n1 +node 9\n1 +node 10\n1 +node 2\n2 +edge 7 10 9 undir\n2 +edge 3 2 2 dir\n3 +edge 4 9 2 dir\nat 3 sn\nlist 1\n",
-        replies: "ok create\nend\nok load 6 6 3\nend\nok at 1 0\nend\nok list 1 6\nnode 2\nnode 9\nnode 10\nedge 3 2 2 dir\nedge 4 9 2 dir\nedge 7 10 9 undir\nend\n",
-    },
-    Case {
-        shows: "parameters outside their ranges, and an index that there is already",
-        script: "create 1 2 union\ncreate 65537 2 union\ncreate 2 1 union\ncreate 2 65 union\ncreate 2 2 union\ncreate 1 1 union\n",
-        replies: "refused 4 parameters\nend\nrefused 4 parameters\nend\nrefused 4 parameters\nend\nrefused 4 parameters\nend\nok create\nend\nrefused 3 index-exists\nend\n",
-    },
-    Case {
-        shows: "without an index no handle is live, and nothing is loaded or retrieved",
-        script: "list 1\nat 5 s\nload 1\n5 +node 1\nload 1\n",
-        replies: "refused 8 unknown-handle 1\nend\nrefused 2 no-index\nend\nrefused 2 no-index\nend\nrefused 5 short-batch 0 1\nend\n",
-    },
-    Case {
-        shows: "a second load is refused",
-        script: "create 2 2 intersection\nload 3\n10 +node 1\n20 +node 2\n30 +edge 5 1 2 dir\nload 1\n60 +node 9\n",
-        replies: "ok create\nend\nok load 3 3 30\nend\nrefused 20 already-loaded\nend\n",
-    },
-    Case {
-        shows: "the column at which a line leaves the grammar",
-        script: "frob\nat x s\nat 5\nlisten 1\nat 9223372036854775808 s\n",
-        replies: "refused 1 syntax 1\nend\nrefused 1 syntax 4\nend\nrefused 1 syntax 5\nend\nrefused 1 syntax 5\nend\nrefused 1 syntax 22\nend\n",
-    },
-    Case {
-        shows: "a time that falls, a node that is there, one that is not, one in use",
-        script: "create 2 2 intersection\nload 2\n5 +node 1\n4 +node 2\nload 2\n5 +node 1\n6 +node 1\nload 1\n5 -node 1\nload 3\n5 +node 1\n5 +edge 1 1 1 undir\n5 -node 1\n",
-        replies: "ok create\nend\nrefused 6 bad-change 2 1\nend\nrefused 6 bad-change 2 2\nend\nrefused 6 bad-change 1 3\nend\nrefused 6 bad-change 3 4\nend\n",
-    },
-    Case {
-        shows: "an edge that is there, one that is not, one without an end; the first reason counts",
-        script: "create 2 2 intersection\nload 3\n5 +node 1\n5 +edge 1 1 1 undir\n5 +edge 1 2 2 dir\nload 1\n5 -edge 1\nload 2\n5 +node 1\n5 +edge 1 1 2 dir\nload 3\n5 +node 1\n4 +node 1\nx\n",
-        replies: "ok create\nend\nrefused 6 bad-change 3 5\nend\nrefused 6 bad-change 1 6\nend\nrefused 6 bad-change 2 8\nend\nrefused 6 bad-change 2 1\nend\n",
-    },
-    Case {
-        shows: "lines of a batch that are no change, and a batch that is refused leaves nothing",
-        script: "create 2 2 intersection\nload 1\n10 nset 1 a\nload 1\n10 +node 01\nload 1\n10 +node  1\nload 1\n\nload 1\n# 1 +node 1\nload 1\n9223372036854775808 +node 1\nload 1\n10 +node 18446744073709551616\nat 10 s\n",
-        replies: "ok create\nend\nrefused 6 bad-change 1 10\nend\nrefused 6 bad-change 1 10\nend\nrefused 6 bad-change 1 10\nend\nrefused 6 bad-change 1 10\nend\nrefused 6 bad-change 1 10\nend\nrefused 6 bad-change 1 10\nend\nrefused 6 bad-change 1 10\nend\nrefused 7 out-of-range empty\nend\n",
-    },
-    Case {
-        shows: "a script that ends within a batch, with an index or without",
-        script: "load 2\n10 +node 1\n",
-        replies: "refused 5 short-batch 1 2\nend\n",
-    },
-    Case {
-        shows: "a batch that is short is named so before its lines are",
-        script: "load 3\n10 +node 1\nnonsense",
-        replies: "refused 5 short-batch 2 3\nend\n",
-    },
-    Case {
-        shows: "empty lines and comments are skipped, and one carriage return before a line feed",
-        script: "\n# a comment\r\n\r\ncreate 2 2 balanced\r\nload 1\r\n7 +node 3\r\nat 7 s\r\nlist 1",
-        replies: "ok create\nend\nok load 1 1 7\nend\nok at 1 0\nend\nok list 1 1\nnode 3\nend\n",
-    },
-    Case {
-        shows: "a carriage return elsewhere belongs to the line",
-        script: "list 1\r\r\nli\rst 1\nlist 1\r",
-        replies: "refused 1 syntax 7\nend\nrefused 1 syntax 3\nend\nrefused 1 syntax 7\nend\n",
-    },
-    Case {
-        shows: "the greatest numbers of each kind",
-        script: "create 2 2 intersection\nload 1\n9223372036854775807 +node 18446744073709551615\nat 9223372036854775807 se\nlist 1\nlist 4294967295\nload 65537\nlist 4294967296\n",
-        replies: "ok create\nend\nok load 1 1 9223372036854775807\nend\nok at 1 0\nend\nok list 1 1\nnode 18446744073709551615\nend\nrefused 8 unknown-handle 4294967295\nend\nrefused 1 syntax 10\nend\nrefused 1 syntax 15\nend\n",
-    },
-    Case {
-        shows: "bytes that are no text",
-        script: "\u{1}\u{7f}\u{80}\u{7ff}\nlist\u{0}1\n",
-        replies: "refused 1 syntax 1\nend\nrefused 1 syntax 5\nend\n",
-    },
-    Case {
-        shows: "a value has spaces, or no byte, and values stand in the order of their keys",
-        script: "create 2 2 union\nload 3\n1 +node 1\n2 nset 1 title a b  c\n3 nset 1 note \nat 3 n\nat 3 sn\nlist 1\n",
-        replies: "ok create\nend\nok load 3 3 3\nend\nrefused 1 syntax 6\nend\nok at 1 0\nend\nok list 1 3\nnode 1\nnattr 1 title a b  c\nnattr 1 note \nend\n",
-    },
-    Case {
-        shows: "a batch that is refused leaves no name, and keys stand in the order in which they came",
-        script: "create 2 2 union\nload 2\n1 +node 1\n1 nset 2 a b\nload 3\n1 +node 1\n2 nset 1 b x\n3 nset 1 a y\nat 3 sn\nlist 1\n",
-        replies: "ok create\nend\nrefused 6 bad-change 2 3\nend\nok load 3 3 3\nend\nok at 1 0\nend\nok list 1 3\nnode 1\nnattr 1 b x\nnattr 1 a y\nend\n",
-    },
-    Case {
-        shows: "an append without an index, and one to a history with no event",
-        script: "append 1\n5 +node 1\ncreate 2 2 union\nappend 1\n5 +node 1\nload 1\n6 +node 2\n",
-        replies: "refused 2 no-index\nend\nok create\nend\nok append 1 1 5\nend\nrefused 20 already-loaded\nend\n",
-    },
-];
-
 // How a run ended, what it wrote, and the index file after it.
 #[derive(Drop)]
 struct Ran {
@@ -199,116 +90,30 @@ fn with_events(events: u16) -> Limits
     }
 }
 
+// A history of five events, with an attribute and an edge that is removed; then a batch too many for a
+// history of six, one that fits, and another.
+const FIVE_AND_MORE: &str =
+    "create 2 2 intersection\nload 5\n10 +node 1\n20 +node 2\n30 +edge 5 1 2 dir\n40 nset 1 name A\n50 -edge 5\nappend 2\n60 +node 9\n61 +node 8\nappend 1\n60 +node 9\nappend 1\n61 +node 8\n";
+
+const FIVE_AND_MORE_REPLIES: &str =
+    "ok create\nend\nok load 5 5 50\nend\nrefused 12 history-full 5 2\nend\nok append 1 6 60\nend\nrefused 12 history-full 6 1\nend\n";
+
 #[test]
-fn replies_are_those_of_the_rules(rt: HostRuntime) -> Result<(), Fail> {
-    for case in CASES.iter() {
-        for chunk in [1, 7, WHOLE] {
-            let ran = run(
-                &rt,
-                rt.alloc(),
-                NO_FILE,
-                case.script.as_bytes(),
-                chunk,
-                within(NO_LIMIT, NO_LIMIT),
-            )?;
-            assert_eq!(rt;
-                ran.written.as_slice(),
-                case.replies.as_bytes(),
-                "{}",
-                case.shows
-            );
-            assert_eq!(rt; ran.status, Status::Done, "{}", case.shows);
-        }
+fn a_history_has_as_many_events_as_the_limit_however_the_script_is_cut(
+    rt: HostRuntime,
+) -> Result<(), Fail> {
+    for chunk in [1, 7, WHOLE] {
+        let ran = run(
+            &rt,
+            rt.alloc(),
+            NO_FILE,
+            FIVE_AND_MORE.as_bytes(),
+            chunk,
+            with_events(6),
+        )?;
+        assert_eq!(rt; ran.written.as_slice(), FIVE_AND_MORE_REPLIES.as_bytes());
+        assert_eq!(rt; ran.status, Status::Done);
     }
-    Ok(())
-}
-
-// A script of a history of five events, with an attribute and an edge that is removed, and its
-// replies.
-const FIVE: &str =
-    "create 2 2 intersection\nload 5\n10 +node 1\n20 +node 2\n30 +edge 5 1 2 dir\n40 nset 1 name A\n50 -edge 5\n";
-
-const FIVE_REPLIES: &str = "ok create\nend\nok load 5 5 50\nend\n";
-
-// More events than a test has in its history.
-const MANY_EVENTS: u16 = u16::MAX;
-
-// How the script of the five events goes on, the limit on events, and what is written then.
-struct Append {
-    shows: &'static str,
-    script: &'static str,
-    events: u16,
-    replies: &'static str,
-}
-
-const APPENDS: [Append; 4] = [
-    Append {
-        shows: "a batch follows the history, and a handle keeps its instant and its values",
-        script: "at 40 sn\nappend 2\n60 -node 2\n70 +node 3\nlist 1\nat 70 sn\nlist 2\nat 40 s\n",
-        events: MANY_EVENTS,
-        replies: "ok at 1 0\nend\nok append 2 7 70\nend\nok list 1 4\nnode 1\nnode 2\nedge 5 1 2 dir\nnattr 1 name A\nend\nok at 2 0\nend\nok list 2 3\nnode 1\nnode 3\nnattr 1 name A\nend\nok at 3 0\nend\n",
-    },
-    Append {
-        shows: "a time that is not later, a node with an attribute, a value that stays, no change",
-        script: "append 2\n50 +node 7\n60 +node 8\nappend 1\n60 -node 1\nappend 1\n60 nset 1 name A\nappend 1\n70 +nod 1\n",
-        events: MANY_EVENTS,
-        replies: "refused 6 bad-change 1 1\nend\nrefused 6 bad-change 1 4\nend\nok append 1 6 60\nend\nrefused 6 bad-change 1 10\nend\n",
-    },
-    Append {
-        shows: "a script that ends within an append",
-        script: "append 2\n60 +node 9\n",
-        events: MANY_EVENTS,
-        replies: "refused 5 short-batch 1 2\nend\n",
-    },
-    Append {
-        shows: "a history has as many events as the limit, and no more",
-        script: "append 2\n60 +node 9\n61 +node 8\nappend 1\n60 +node 9\nappend 1\n61 +node 8\n",
-        events: 6,
-        replies: "refused 12 history-full 5 2\nend\nok append 1 6 60\nend\nrefused 12 history-full 6 1\nend\n",
-    },
-];
-
-#[test]
-fn batches_follow_a_history(rt: HostRuntime) -> Result<(), Fail> {
-    let alloc = rt.alloc();
-    for case in APPENDS.iter() {
-        let script = format!(in alloc; "{}{}", FIVE, case.script)?;
-        let due = format!(in alloc; "{}{}", FIVE_REPLIES, case.replies)?;
-        for chunk in [1, 7, WHOLE] {
-            let ran = run(
-                &rt,
-                alloc,
-                NO_FILE,
-                script.as_bytes(),
-                chunk,
-                with_events(case.events),
-            )?;
-            assert_eq!(rt; ran.written.as_slice(), due.as_bytes(), "{}", case.shows);
-            assert_eq!(rt; ran.status, Status::Done, "{}", case.shows);
-        }
-    }
-    Ok(())
-}
-
-#[test]
-fn a_later_run_goes_on_with_the_history_and_its_names(rt: HostRuntime) -> Result<(), Fail> {
-    let alloc = rt.alloc();
-    let limits = within(NO_LIMIT, NO_LIMIT);
-    let first = run(&rt, alloc, NO_FILE, FIVE.as_bytes(), WHOLE, limits)?;
-    assert_eq!(rt; first.written.as_slice(), FIVE_REPLIES.as_bytes());
-    let again = run(
-        &rt,
-        alloc,
-        first.image.as_slice(),
-        b"at 50 sn\nlist 1\nappend 1\n60 nset 2 name A\nat 60 n\nat 60 sn\nlist 2\n",
-        WHOLE,
-        limits,
-    )?;
-    assert_eq!(rt; again.status, Status::Done);
-    assert_eq!(rt;
-        again.written.as_slice(),
-        b"ok at 1 0\nend\nok list 1 3\nnode 1\nnode 2\nnattr 1 name A\nend\nok append 1 6 60\nend\nrefused 1 syntax 7\nend\nok at 2 0\nend\nok list 2 4\nnode 1\nnode 2\nnattr 1 name A\nnattr 2 name A\nend\n".as_slice()
-    );
     Ok(())
 }
 
@@ -376,63 +181,6 @@ fn the_limit_ends_a_run_where_another_byte_is_needed(rt: HostRuntime) -> Result<
     Ok(())
 }
 
-#[test]
-fn a_line_may_have_4096_bytes_and_no_more(rt: HostRuntime) -> Result<(), Fail> {
-    let alloc = rt.alloc();
-    let limits = within(NO_LIMIT, NO_LIMIT);
-    let mut script = vec![in alloc; b'a'; 4096]?;
-    script.extend_from_slice(b"\r\n")?;
-    let ran = run(&rt, alloc, NO_FILE, script.as_slice(), WHOLE, limits)?;
-    assert_eq!(rt;
-        ran.written.as_slice(),
-        b"refused 1 syntax 2\nend\n".as_slice()
-    );
-
-    let mut script = vec![in alloc; b'#'; 4097]?;
-    script.extend_from_slice(b"\ncreate 2 2 union\nload 1\n5 +node 1")?;
-    let ran = run(&rt, alloc, NO_FILE, script.as_slice(), WHOLE, limits)?;
-    assert_eq!(rt;
-        ran.written.as_slice(),
-        b"refused 18 line-long\nend\nok create\nend\nok load 1 1 5\nend\n".as_slice()
-    );
-
-    let mut script = Vec::from_slice(alloc, b"create 2 2 union\nload 1\n5 +node ")?;
-    script.extend_from_slice(vec![in alloc; b'1'; 4097]?.as_slice())?;
-    let ran = run(&rt, alloc, NO_FILE, script.as_slice(), 100, limits)?;
-    assert_eq!(rt;
-        ran.written.as_slice(),
-        b"ok create\nend\nrefused 6 bad-change 1 10\nend\n".as_slice()
-    );
-    assert_eq!(rt; ran.status, Status::Done);
-    Ok(())
-}
-
-#[test]
-fn no_more_than_127_handles_live(rt: HostRuntime) -> Result<(), Fail> {
-    let alloc = rt.alloc();
-    let mut script = Vec::from_slice(alloc, b"create 2 2 union\nload 1\n5 +node 1\n")?;
-    let mut due = String::from_str(alloc, "ok create\nend\nok load 1 1 5\nend\n")?;
-    for handle in 1..=127u32 {
-        script.extend_from_slice(b"at 5 s\n")?;
-        due.push_str(format!(in alloc; "ok at {handle} 0\nend\n")?.as_str())?;
-    }
-    script.extend_from_slice(b"at 5 s\nat 6 s\nlist 127\n")?;
-    due.push_str(
-        "refused 9 pool-full 127 1\nend\nrefused 7 out-of-range 5 5\nend\nok list 127 1\nnode 1\nend\n",
-    )?;
-    let ran = run(
-        &rt,
-        alloc,
-        NO_FILE,
-        script.as_slice(),
-        WHOLE,
-        within(NO_LIMIT, NO_LIMIT),
-    )?;
-    assert_eq!(rt; ran.written.as_slice(), due.as_bytes());
-    assert_eq!(rt; ran.status, Status::Done);
-    Ok(())
-}
-
 // A script that makes an index file of 173 bytes, and its replies.
 const FIRST: &[u8] =
     b"create 2 2 intersection\nload 3\n10 +node 1\n20 +node 2\n30 +edge 5 1 2 dir\n";
@@ -475,22 +223,6 @@ fn an_index_file_is_found_again(rt: HostRuntime) -> Result<(), Fail> {
         full.written.as_slice(),
         b"ok create\nend\nrefused 13 file-full 173 172\nend\n".as_slice()
     );
-    Ok(())
-}
-
-#[test]
-fn an_empty_script_over_no_file_does_nothing(rt: HostRuntime) -> Result<(), Fail> {
-    let ran = run(
-        &rt,
-        rt.alloc(),
-        NO_FILE,
-        b"",
-        WHOLE,
-        within(NO_LIMIT, NO_LIMIT),
-    )?;
-    assert_eq!(rt; ran.status, Status::Done);
-    assert_eq!(rt; ran.written.len(), 0);
-    assert_eq!(rt; ran.image.len(), 0);
     Ok(())
 }
 
@@ -572,28 +304,44 @@ fn other_index_files_are_refused_or_stand_for_less(rt: HostRuntime) -> Result<()
     Ok(())
 }
 
-#[test]
-fn each_failed_call_of_the_disk_ends_a_run_by_the_disk(rt: HostRuntime) -> Result<(), Fail> {
-    let alloc = rt.alloc();
+// How a run of the first script ends over a disk that fails at this call, and what it writes.
+fn first_over<R: Threads>(
+    rt: &R,
+    alloc: Global,
+    call: u64,
+) -> Result<(Status, Vec<u8>), Fail> {
     let words = ["history".to_string(alloc)?].to_vec(alloc)?;
+    let mut source = MemorySource::new(alloc, FIRST, WHOLE, &[])?;
+    let mut sink = MemorySink::new(alloc, WHOLE, &[])?;
+    let mut disk = MemoryDisk::new(alloc, NO_FILE, ROOM, CALLS_MAX, &[call])?;
     let limits = Limits::standard();
-    for call in 0..40u64 {
-        let mut source = MemorySource::new(alloc, FIRST, WHOLE, &[])?;
-        let mut sink = MemorySink::new(alloc, WHOLE, &[])?;
-        let mut disk = MemoryDisk::new(alloc, NO_FILE, ROOM, CALLS_MAX, &[call])?;
-        let status = serve_with(
-            &rt,
-            alloc,
-            words.as_slice(),
-            limits,
-            &mut source,
-            &mut sink,
-            &mut disk,
-        );
-        assert!(rt; FIRST_REPLIES.starts_with(sink.written()), "at call {call}");
-        if status != Status::DiskFault {
+    let status = serve_with(
+        rt,
+        alloc,
+        words.as_slice(),
+        limits,
+        &mut source,
+        &mut sink,
+        &mut disk,
+    );
+    Ok((status, Vec::from_slice(alloc, sink.written())?))
+}
+
+// The first script makes two calls to open the file, three writes with a sync each to make the index, and
+// for its batch the writes of two parts of the directory, of the one column and of a closed gate, a sync,
+// the write of the open gate and a sync.
+const CALLS_OF_FIRST: u32 = 15;
+
+#[test]
+fn exactly_a_failed_call_of_the_disk_ends_a_run_by_the_disk(rt: HostRuntime) -> Result<(), Fail> {
+    for call in 0..40u32 {
+        let (status, written) = first_over(&rt, rt.alloc(), u64::from(call))?;
+        assert!(rt; FIRST_REPLIES.starts_with(written.as_slice()), "at call {call}");
+        if call < CALLS_OF_FIRST {
+            assert_eq!(rt; status, Status::DiskFault, "at call {call}");
+        } else {
             assert_eq!(rt; status, Status::Done, "at call {call}");
-            assert_eq!(rt; sink.written(), FIRST_REPLIES, "at call {call}");
+            assert_eq!(rt; written.as_slice(), FIRST_REPLIES, "at call {call}");
         }
     }
     Ok(())

@@ -1,10 +1,12 @@
-ghost use Rattle.std.specs.Prelude.{◌≡◌, ◌<◌, ◌≤◌, ℕ, IsTrue, List, IfOk, IfSome, OnOk, IsErrOf, is_some};
-ghost use Rattle.dg_io.specs.Told.{Rose};
-ghost use Rattle.dg_io.specs.Reading.{told, to_come, NeedsByte};
+ghost use Rattle.std.specs.Prelude.{◌≡◌, None, IfOk, IfSome, OnOk, IsErrOf};
+ghost use Rattle.dg_disk.specs.Counts.{Rose as DiskRose};
+ghost use Rattle.dg_disk.specs.Frame.{GoesOn};
+ghost use Rattle.dg_io.specs.Frame.{Advances};
+ghost use Rattle.dg_io.specs.Told.{CountRose};
+ghost use Rattle.dg_io.specs.LinesState.{told, to_come, NeedsByte};
 ghost use Rattle.dg_machine.specs.Answer.{headed};
 ghost use Rattle.dg_session.specs.Session.{IsHeldBy};
-ghost use Rattle.deltagraph.specs.Turns.{Breaks, BreaksAt, EndsAt, Falls, GoesOn, Means, Turns, TurnsAt, asked};
-ghost use Rattle.deltagraph.specs.Takes.{Takes};
+ghost use Rattle.deltagraph.specs.Turns.{Breaks, BreaksAt, EndsAt, Falls, GoesOnward, Means, Turns, TurnsAt, asked};
 
 use dg_disk::Disk;
 use dg_io::{Line, LineFault, Lines, Source};
@@ -56,19 +58,21 @@ pub fn next_turn<R: Threads, S: Source, D: Disk>(
     requires { IfSome (D.image disk.old) (λ image. IsHeldBy session.old.index session.old.names image) }
     ensures turn { IfOk result (λ turn. Turns turn (asked lines.old (S.left source.old)) (asked lines.new (S.left source.new)) session.old (D.image disk.old) session.new (D.image disk.new)) }
     ensures held { OnOk result (IfSome (D.image disk.new) (λ image. IsHeldBy session.new.index session.new.names image)) }
-    ensures told { is_some (D.image disk.new) ≡ is_some (D.image disk.old) }
+    ensures no_index { OnOk result (session.new.index ≡ None → D.image disk.new ≡ D.image disk.old) }
+    ensures falls { IfOk result (λ turn. Falls turn (to_come lines.old) (to_come lines.new)) }
+    ensures end { IfOk result (λ turn. EndsAt turn lines.new) }
+
+    // why it stops
     ensures stop { IsErrOf result Stop.Read → (session.new ≡ session.old) × (D.image disk.new ≡ D.image disk.old) }
     ensures stop_limit { IsErrOf result Stop.Limit → (session.new ≡ session.old) × (D.image disk.new ≡ D.image disk.old) }
     ensures store { IsErrOf result Stop.Store → Breaks (asked lines.old (S.left source.old)) (asked lines.new (S.left source.new)) session.old (D.image disk.old) (D.image disk.new) }
-    ensures store_cause { IsErrOf result Stop.Store → Rose (D.write_faults disk.old) (D.write_faults disk.new) }
-    ensures falls { IfOk result (λ turn. Falls turn (to_come lines.old) (to_come lines.new)) }
-    ensures read { IsErrOf result Stop.Read → Rose (S.faults source.old) (S.faults source.new) }
+    ensures read { IsErrOf result Stop.Read → CountRose (S.faults source.old) (S.faults source.new) }
     ensures limit { IsErrOf result Stop.Limit → (lines.new.taken ≡ lines.new.limit) × NeedsByte lines.new }
-    ensures takes { Takes lines.old (S.left source.old) lines.new (S.left source.new) }
-    ensures end { IfOk result (λ turn. EndsAt turn lines.new) }
-    ensures counted { S.faults source.old ≤ S.faults source.new }
-    ensures disk_counted { D.faults disk.old ≤ D.faults disk.new }
-    ensures disk_write_counted { D.write_faults disk.old ≤ D.write_faults disk.new }
+    ensures store_cause { IsErrOf result Stop.Store → DiskRose (D.write_faults disk.old) (D.write_faults disk.new) }
+
+    // what it takes and leaves
+    ensures lines { Advances lines.old (S.left source.old) (S.faults source.old) lines.new (S.left source.new) (S.faults source.new) }
+    ensures disk { GoesOn D.image D.faults D.write_faults disk.old disk.new }
 {
     match lines.next(source) {
         Ok(Line::End) => Ok(Turn::End),
@@ -90,20 +94,21 @@ fn turn_of<R: Threads, S: Source, D: Disk>(
 ) -> Result<Turn, Stop>
     requires { IfSome (D.image disk.old) (λ image. IsHeldBy session.old.index session.old.names image) }
     ensures turn { IfOk result (λ turn. TurnsAt turn lines.old.text (told lines.old (S.left source.old)) (told lines.new (S.left source.new)) session.old (D.image disk.old) session.new (D.image disk.new)) }
-    ensures goes_on { IfOk result (λ turn. GoesOn turn) }
+    ensures goes_on { IfOk result (λ turn. GoesOnward turn) }
     ensures held { OnOk result (IfSome (D.image disk.new) (λ image. IsHeldBy session.new.index session.new.names image)) }
-    ensures told { is_some (D.image disk.new) ≡ is_some (D.image disk.old) }
+    ensures no_index { OnOk result (session.new.index ≡ None → D.image disk.new ≡ D.image disk.old) }
+
+    // why it stops
     ensures stop { IsErrOf result Stop.Read → (session.new ≡ session.old) × (D.image disk.new ≡ D.image disk.old) }
     ensures stop_limit { IsErrOf result Stop.Limit → (session.new ≡ session.old) × (D.image disk.new ≡ D.image disk.old) }
     ensures store { IsErrOf result Stop.Store → BreaksAt lines.old.text (told lines.old (S.left source.old)) (told lines.new (S.left source.new)) session.old (D.image disk.old) (D.image disk.new) }
-    ensures store_cause { IsErrOf result Stop.Store → Rose (D.write_faults disk.old) (D.write_faults disk.new) }
-    ensures kept { to_come lines.new ≤ to_come lines.old }
-    ensures read { IsErrOf result Stop.Read → Rose (S.faults source.old) (S.faults source.new) }
+    ensures read { IsErrOf result Stop.Read → CountRose (S.faults source.old) (S.faults source.new) }
     ensures limit { IsErrOf result Stop.Limit → (lines.new.taken ≡ lines.new.limit) × NeedsByte lines.new }
-    ensures takes { Takes lines.old (S.left source.old) lines.new (S.left source.new) }
-    ensures counted { S.faults source.old ≤ S.faults source.new }
-    ensures disk_counted { D.faults disk.old ≤ D.faults disk.new }
-    ensures disk_write_counted { D.write_faults disk.old ≤ D.write_faults disk.new }
+    ensures store_cause { IsErrOf result Stop.Store → DiskRose (D.write_faults disk.old) (D.write_faults disk.new) }
+
+    // what it takes and leaves
+    ensures lines { Advances lines.old (S.left source.old) (S.faults source.old) lines.new (S.left source.new) (S.faults source.new) }
+    ensures disk { GoesOn D.image D.faults D.write_faults disk.old disk.new }
 {
     match meaning_of(lines.text()) {
         Meaning::Skipped => Ok(Turn::Skipped),

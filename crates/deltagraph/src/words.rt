@@ -1,5 +1,5 @@
 ghost use Rattle.std.specs.Prelude.{◌≡◌, false, true, [], ◌∷◌, map, string_bytes, IfOk, MatchOption};
-ghost use Rattle.deltagraph.specs.Served.{is_written_form};
+ghost use Rattle.deltagraph.specs.Promised.{is_written_form};
 
 use crate::status::Status;
 use std::alloc::{AllocError, Global};

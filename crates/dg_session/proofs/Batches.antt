@@ -9,9 +9,9 @@ use Rattle.dg_graph.specs.Effect.{forwards}
 use Rattle.dg_now.specs.declared.fault.PrepareFault.{PrepareFault}
 use Rattle.dg_now.specs.declared.fault.PrepareFault.TheVariants.{BadChange, Memory}
 use Rattle.dg_now.specs.Now.{FaultOf}
-use Rattle.dg_session.specs.declared.following.Front.{Front}
-use Rattle.dg_session.specs.declared.following.Front.TheVariants.{Whole, Form, Unkept}
-use Rattle.dg_session.specs.Following.{IsFront, lines}
+use Rattle.dg_session.specs.declared.batch_lines.Front.{Front}
+use Rattle.dg_session.specs.declared.batch_lines.Front.TheVariants.{Whole, Form, Unkept}
+use Rattle.dg_session.specs.BatchLines.{IsFront, lines}
 
 -- what the changes come to, or the line after them as one that is no change
 abbrev pub then_other : ℕ → Result (List Event) (ℕ × ℕ) → Result (List Event) (ℕ × ℕ)

@@ -7,7 +7,7 @@ use Rattle.std.proofs.lemmas.List.{length-map, take-append-drop}
 use Rattle.std.proofs.lemmas.List.Elements.{All-nil, All-cons, All-head, All-tail, All-append}
 use Rattle.std.proofs.lemmas.List.Sums.{sum_by_push}
 use borrow.Author.Tests.{le-leb, leb-true}
-use Rattle.dg_columns.specs.Names.{NamesFit}
+use Rattle.dg_columns.specs.NamesInRange.{NamesFit}
 use Rattle.dg_file.specs.Held.{last_of, span_in}
 use Rattle.dg_file.specs.Images.{BothTold, GainsBatch, GainsBatchOrNot, GainsSegment}
 use Rattle.dg_file.specs.Index.{AreInTurn, IsDue, earliest_after as earliest_of, events_after, names_count, needed_for, new_segment_of, NewSegment, segment_put, with_segment}
@@ -22,23 +22,23 @@ use Rattle.dg_history.specs.History.{last_time_from}
 use Rattle.dg_graph.specs.Names.{are_new}
 use Rattle.dg_history.specs.OpenedIndex.{Opening, Segment, may_be_named, may_follow}
 use Rattle.dg_graph.specs.Replay.{replay, replay_from}
-use Rattle.dg_now.specs.Now.{earliest_after as earliest_now}
+use Rattle.dg_now.specs.Now.{earliest_time_after as earliest_now}
 use Rattle.dg_session.proofs.Completing.{AllCome, AreRight, all_come, are_right, as_many}
 use Rattle.dg_session.proofs.Fitting.{BodyFits, ElementFits, WhatFits, events_fit, from_spelled, replay_fits, spelled_body, spelled_what, times_fit}
 use Rattle.dg_session.proofs.Naming.{both_parts}
 use Rattle.dg_session.proofs.Reading.{led_more}
 use Rattle.dg_session.proofs.Standing.{last_after}
-use Rattle.dg_session.specs.Adding.{Adds, ComeTo, Fails, IsReady, batch_with}
-use Rattle.dg_session.specs.declared.adding.Added.{Added}
-use Rattle.dg_session.specs.declared.chronicle.Chronicle.{Chronicle}
-use Rattle.dg_session.specs.declared.following.Front.{Front}
-use Rattle.dg_session.specs.declared.following.Front.TheVariants.{Whole}
-use Rattle.dg_session.specs.declared.keeping.KeepFault.{KeepFault}
-use Rattle.dg_session.specs.declared.keeping.KeepFault.TheVariants as fault
-use Rattle.dg_session.specs.Following.{IsFront, lines}
+use Rattle.dg_session.specs.BatchCommand.{AddsBatch, ComeTo, FailsBatch, IsReady, batch_with}
+use Rattle.dg_session.specs.declared.batch_command.AddedBatch.{AddedBatch}
+use Rattle.dg_session.specs.declared.stored_history.StoredHistory.{StoredHistory}
+use Rattle.dg_session.specs.declared.batch_lines.Front.{Front}
+use Rattle.dg_session.specs.declared.batch_lines.Front.TheVariants.{Whole}
+use Rattle.dg_session.specs.declared.batch_segment.BatchFault.{BatchFault}
+use Rattle.dg_session.specs.declared.batch_segment.BatchFault.TheVariants as fault
+use Rattle.dg_session.specs.BatchLines.{IsFront, lines}
 use Rattle.dg_session.specs.Session.{IsHeldBy}
-use Rattle.dg_session.specs.Soundness.{AreCounted, IsSound}
-use Rattle.dg_session.specs.Started.{index_opening}
+use Rattle.dg_session.specs.SoundHistory.{AreCounted, IsSoundHistory}
+use Rattle.dg_session.specs.SessionStart.{index_opening}
 
 -- ---- the last time of the segments
 
@@ -105,7 +105,7 @@ on_lines P [] f = All-nil (λ c. IfSome c P)
 on_lines P (c ∷ changes) f = All-cons (λ c. IfSome c P) (Some c) (lines changes) (All-head P c changes f) (on_lines P changes (All-tail P c changes f))
 
 -- The events are those of the changes as a batch behind the segments, and their segment may be put there.
-pub record IsPrepared (o : Opening) (known : ℕ) (c : Chronicle) (changes : List Change) (events : List Event) : Type 0 where
+pub record IsPrepared (o : Opening) (known : ℕ) (c : StoredHistory) (changes : List Change) (events : List Event) : Type 0 where
   pub comes : completed 1 (earliest_of 0 o.segments) (replay c.events.items) (lines changes) ≡ Ok events
   pub few : length events ≤ BATCH_LINES_MAX
   pub fit : All (λ (e : Event). NamesFit e.body) events
@@ -115,7 +115,7 @@ may_name_parts : (names new : List (List ℕ)) → may_be_named names new ≡ tr
 may_name_parts names new h =
     leb-true (length names + length new) NAMES_MAX (both_parts (are_new names new) (nat_le (length names + length new) NAMES_MAX) h).1
 
-pub is_prepared : (o : Opening) (known : ℕ) (c : Chronicle) (changes : List Change) (events : List Event)
+pub is_prepared : (o : Opening) (known : ℕ) (c : StoredHistory) (changes : List Change) (events : List Event)
     → IsReady o known c Whole changes → completed 1 (earliest_of 0 o.segments) (replay c.events.items) (lines changes) ≡ Ok events
     → IsPrepared o known c changes events
 is_prepared o known c changes events r comes =
@@ -161,12 +161,12 @@ here told o P is p = subst (λ (i : Option Opening). IfSome i P) (sym is) p
 pub of_here : (told : Option Opening) (o : Opening) (P : Opening → Type 0) → told ≡ Some o → IfSome told P → P o
 of_here told o P is p = subst (λ (i : Option Opening). IfSome i P) is p
 
-pub ready_here : (o : Opening) (known : ℕ) (c : Chronicle) (front : Front) (changes : List Change) (told : Option Opening)
+pub ready_here : (o : Opening) (known : ℕ) (c : StoredHistory) (front : Front) (changes : List Change) (told : Option Opening)
     → told ≡ Some o → IfSome told (λ o. IsReady o known c front changes) → front ≡ Whole → IsReady o known c Whole changes
 ready_here o known c front changes told is h whole =
     subst (λ (f : Front). IsReady o known c f changes) whole (of_here told o (λ o. IsReady o known c front changes) is h)
 
-pub prepared_here : (o : Opening) (known : ℕ) (c : Chronicle) (front : Front) (changes : List Change) (events : List Event) (told : Option Opening) (last : Option ℕ)
+pub prepared_here : (o : Opening) (known : ℕ) (c : StoredHistory) (front : Front) (changes : List Change) (events : List Event) (told : Option Opening) (last : Option ℕ)
     → told ≡ Some o → IfSome told (λ o. IsReady o known c front changes) → front ≡ Whole → earliest_now last ≡ earliest_of 0 o.segments
     → completed 1 (earliest_now last) c.now.graph (lines changes) ≡ Ok events → IsPrepared o known c changes events
 prepared_here o known c front changes events told last is h whole early comes =
@@ -175,30 +175,31 @@ prepared_here o known c front changes events told last is h whole early comes =
     (ap (λ (t : ℕ). completed 1 t (replay c.events.items) (lines changes)) (sym early)
     ∙ ap (λ (set : List Element). completed 1 (earliest_now last) set (lines changes)) (sym r.sound.graph) ∙ comes)
 
-come_whole : (o : Opening) (known : ℕ) (c : Chronicle) (front : Front) (changes : List Change) (events : List Event) → front ≡ Whole → IsPrepared o known c changes events
+come_whole : (o : Opening) (known : ℕ) (c : StoredHistory) (front : Front) (changes : List Change) (events : List Event) → front ≡ Whole → IsPrepared o known c changes events
     → ComeTo o c.events.items front changes (Ok events)
 come_whole o known c front changes events whole p all f =
     let is : all ≡ lines changes = subst (λ (x : Front). IsFront x changes all) whole f in
     ap (completed 1 (earliest_of 0 o.segments) (replay c.events.items)) is ∙ p.comes
 
-pub keep_fails : {A : Type 0} (o : Opening) (limit known : ℕ) (c : Chronicle) (before after : Option (List ℕ)) (changes : List Change) (front : Front) (events : List Event) (segment : NewSegment) (r : Result A KeepFault) (f : KeepFault)
+pub keep_fails : {A : Type 0} (o : Opening) (limit known : ℕ) (c : StoredHistory) (before after : Option (List ℕ)) (changes : List Change) (front : Front) (events : List Event) (segment : NewSegment) (r : Result A BatchFault) (f : BatchFault)
     → r ≡ Err f → front ≡ Whole → IsPrepared o known c changes events → segment ≡ new_segment_of (batch_with known c.names events)
     → ((line reason : ℕ) → r ≡ Err (fault.BadChange line reason) → ⊥)
-    → ((n : ℕ) → r ≡ Err (fault.FileFull n) → (n ≡ needed_for o segment) × (limit < n) × (after ≡ before))
+    → ((n most : ℕ) → r ≡ Err (fault.FileFull n most) → (n ≡ needed_for o segment) × (most ≡ limit) × (limit < n) × (after ≡ before))
     → (r ≡ Err fault.Memory → after ≡ before)
     → (r ≡ Err fault.Store → BothTold before after (GainsBatchOrNot segment))
     → (r ≡ Err fault.Store → needed_for o segment ≤ limit)
-    → Fails o limit known c before after changes front f
+    → FailsBatch o limit known c before after changes front f
 keep_fails o limit known c before after changes front events segment r (fault.BadChange line reason) is whole p s none full memory part fits = absurd (none line reason is)
-keep_fails o limit known c before after changes front events segment r (fault.FileFull n) is whole p s none full memory part fits =
-    let f = full n is in (
-      f.2,
+keep_fails o limit known c before after changes front events segment r (fault.FileFull n most) is whole p s none full memory part fits =
+    let f = full n most is in (
+      f.3,
+      f.1,
       record {
         events = events;
         whole = whole;
         come = come_whole o known c front changes events whole p;
         needed_is = f.0 ∙ ap (needed_for o) s;
-        over = f.1;
+        over = f.2;
       },
     )
 keep_fails o limit known c before after changes front events segment r fault.Memory is whole p s none full memory part fits = memory is
@@ -215,10 +216,10 @@ events_push n [] s = refl
 events_push n (x ∷ segments) s = events_push (n + x.events) segments s
 
 -- the history with the batch is sound
-sound_after : (o : Opening) (known : ℕ) (old new : Chronicle) (changes : List Change) (events : List Event) → IsReady o known old Whole changes → IsPrepared o known old changes events
+sound_after : (o : Opening) (known : ℕ) (old new : StoredHistory) (changes : List Change) (events : List Event) → IsReady o known old Whole changes → IsPrepared o known old changes events
     → index_opening new.index ≡ Some (with_segment o (new_segment_of (batch_with known old.names events))) → new.names ≡ old.names → new.events.items ≡ old.events.items ++ events
     → new.now.graph ≡ replay_from old.now.graph events → new.now.pending ≡ []
-    → IsSound (index_opening new.index) new.names new.now new.events.items
+    → IsSoundHistory (index_opening new.index) new.names new.now new.events.items
 sound_after o known old new changes events r p index names all graph pending =
     let s : NewSegment = new_segment_of (batch_with known old.names events) in
     let put : Segment = segment_put o.used s in
@@ -244,14 +245,14 @@ gains_held None (Some y) o new s names same h g = cc
 gains_held (Some x) None o new s names same h g = tt
 gains_held (Some x) (Some y) o new s names same h g = g names h
 
-pub keep_adds : (o : Opening) (limit known : ℕ) (old new : Chronicle) (before after : Option (List ℕ)) (changes : List Change) (front : Front) (events : List Event) (segment : NewSegment) (added : Added) (told : Option Opening)
+pub keep_adds : (o : Opening) (limit known : ℕ) (old new : StoredHistory) (before after : Option (List ℕ)) (changes : List Change) (front : Front) (events : List Event) (segment : NewSegment) (added : AddedBatch) (told : Option Opening)
     → told ≡ Some o → IfSome told (λ o. IsReady o known old front changes) → IfSome before (λ image. IsHeldBy told (take known old.names) image)
     → front ≡ Whole → IsPrepared o known old changes events → segment ≡ new_segment_of (batch_with known old.names events)
     → index_opening new.index ≡ Some (with_segment o segment) → new.names ≡ old.names → new.events.items ≡ old.events.items ++ events
     → new.now.graph ≡ replay_from old.now.graph events → new.now.pending ≡ []
     → BothTold before after (GainsSegment o segment (with_segment o segment)) → BothTold before after (GainsBatch segment) → is_some after ≡ is_some before
     → needed_for o segment ≤ limit → added ≡ record { events = length events; total = length new.events.items; last = last_time_from 0 events }
-    → Adds o limit known old new before after changes front added
+    → AddsBatch o limit known old new before after changes front added
 keep_adds o limit known old new before after changes front events segment added told is ready image whole p s index names all graph pending opened gained same fits told_is =
     let b : NewSegment = new_segment_of (batch_with known old.names events) in
     let r : IsReady o known old Whole changes = ready_here o known old front changes told is ready whole in
@@ -276,5 +277,5 @@ keep_adds o limit known old new before after changes front events segment added 
       told = told_is;
     }
 
-pub added_is : (a x b y l z : ℕ) → a ≡ x → b ≡ y → l ≡ z → (let r : Added = record { events = a; total = b; last = l } in r) ≡ record { events = x; total = y; last = z }
+pub added_is : (a x b y l z : ℕ) → a ≡ x → b ≡ y → l ≡ z → (let r : AddedBatch = record { events = a; total = b; last = l } in r) ≡ record { events = x; total = y; last = z }
 added_is a x b y l z e f g = cc

@@ -5,7 +5,7 @@ use Rattle.std.specs.List.{All, list_any}
 use Rattle.std.specs.Option.{option_map, option_eq}
 use Rattle.std.proofs.lemmas.List.{get_or_append_left}
 use Rattle.std.proofs.lemmas.List.Elements.{All-nil, All-cons, All-head, All-tail, All-filter}
-use Rattle.dg_columns.specs.Names.{NamesFit}
+use Rattle.dg_columns.specs.NamesInRange.{NamesFit}
 use Rattle.dg_graph.specs.declared.element.Element.{Element}
 use Rattle.dg_graph.specs.declared.element.Element.TheVariants as element
 use Rattle.dg_graph.specs.declared.event.Body.{Body}
@@ -26,8 +26,8 @@ use Rattle.dg_graph.specs.Names.{added, is_key, is_name, name_text}
 use Rattle.dg_graph.specs.Replay.{replay_from}
 use Rattle.dg_session.proofs.Completing.{AllCome}
 use Rattle.dg_session.proofs.Naming.{Grows, Has, grows_none, grows_both, added_grows, added_has, has_more, key_is_name, number_within, text_is}
-use Rattle.dg_session.proofs.Saying.{AskedFits, PlainFits, SaidFits}
-use Rattle.dg_session.specs.Adding.{WhatNamesFit}
+use Rattle.dg_session.proofs.Grammars.{AskedFits, PlainFits, SaidFits}
+use Rattle.dg_session.specs.BatchCommand.{WhatNamesFit}
 
 -- Ids of which the fact `I` holds, and numbers of names below n: in a change, in an element and in what
 -- changes.

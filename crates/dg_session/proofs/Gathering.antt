@@ -6,16 +6,17 @@ use Rattle.std.proofs.lemmas.List.{map-append, take-append-drop}
 use Rattle.dg_io.specs.declared.lines.Line.{Line}
 use Rattle.dg_io.specs.declared.lines.Line.TheVariants as line
 use Rattle.dg_io.specs.declared.lines.Line.TheVariants.{End}
-use Rattle.dg_io.specs.Reading.{Reading, Comes, LineComes}
+use Rattle.dg_io.specs.Frame.{Advances}
+use Rattle.dg_io.specs.LinesState.{LinesState, Comes, LineComes}
 use Rattle.dg_graph.specs.declared.event.Change.{Change}
 use Rattle.dg_history.specs.Batch.{changes_after, names_after}
 use Rattle.dg_history.specs.ChangeGrammar.{ChangeByText, change_by_text_in, named, change_with}
 use Rattle.dg_graph.specs.Lines.{ScriptLine}
 use Rattle.dg_machine.specs.Script.{Follows}
 use Rattle.dg_session.proofs.Naming.{names_both, changes_both}
-use Rattle.dg_session.specs.declared.following.Front.{Front}
-use Rattle.dg_session.specs.declared.following.Front.TheVariants.{Whole, Form, Unkept}
-use Rattle.dg_session.specs.Following.{Advances, AreNamed, IsFront, KeepsChange, lines, script_line}
+use Rattle.dg_session.specs.declared.batch_lines.Front.{Front}
+use Rattle.dg_session.specs.declared.batch_lines.Front.TheVariants.{Whole, Form, Unkept}
+use Rattle.dg_session.specs.BatchLines.{NamesGrow, IsFront, KeepsChange, lines, line_read}
 
 -- nothing in front changes nothing
 pub none_first : {A : Type 0} (told : Option (List A)) → told ≡ option_map (λ rest. [] ++ rest) told
@@ -28,7 +29,7 @@ both_first old mid None xs ys a b = a ∙ ap (option_map (λ rest. xs ++ rest)) 
 both_first old mid (Some rest) xs ys a b =
     a ∙ ap (option_map (λ rest. xs ++ rest)) b ∙ ap (λ zs. Some zs) (sym (append_assoc xs ys rest))
 
-pub advances_more : (r1 r2 r3 : Reading) (l1 l2 l3 : Option (List ℕ)) (f1 f2 f3 : ℕ)
+pub advances_more : (r1 r2 r3 : LinesState) (l1 l2 l3 : Option (List ℕ)) (f1 f2 f3 : ℕ)
     → Advances r1 l1 f1 r2 l2 f2 → Advances r2 l2 f2 r3 l3 f3 → Advances r1 l1 f1 r3 l3 f3
 advances_more r1 r2 r3 l1 l2 l3 f1 f2 f3 a b = record {
   kept = omega (arith, a.kept, b.kept);
@@ -45,7 +46,7 @@ advances_more r1 r2 r3 l1 l2 l3 f1 f2 f3 a b = record {
 
 -- the changes of these lines so far, and the names with their texts
 abbrev pub AreKept : Front → List (List ℕ) → List (List ℕ) → List ScriptLine → List Change → Type 0
-AreKept front names new got changes = IsFront front changes (changes_after names (map change_by_text_in got)) × AreNamed front names new got
+AreKept front names new got changes = IsFront front changes (changes_after names (map change_by_text_in got)) × NamesGrow front names new got
 
 -- the lines so far: from the lines to come at the start to those to come now
 pub record Gathering (start now : Option (List ScriptLine)) (read : ℕ) (front : Front) (names new : List (List ℕ)) (changes : List Change) : Type 0 where
@@ -120,7 +121,7 @@ gathering_more start now next read front then_front names new then_new changes t
 }
 
 -- the line that came
-pub line_comes : (line : Line) (old new : Option (List ScriptLine)) (text : List ℕ) → (line ≡ End → ⊥) → LineComes line old new text → Comes (script_line line text) old new
+pub line_comes : (line : Line) (old new : Option (List ScriptLine)) (text : List ℕ) → (line ≡ End → ⊥) → LineComes line old new text → Comes (line_read line text) old new
 line_comes (line.Text n) old new text other h = h.0
 line_comes line.TooLong old new text other h = h
 line_comes line.End old new text other h = absurd (other refl)
@@ -142,18 +143,18 @@ kept_twice a b c h k =
 -- a line more, whose change is to be kept
 pub gathering_kept : (start now next : Option (List ScriptLine)) (read : ℕ) (front then_front : Front) (names new then_new : List (List ℕ)) (changes then_changes : List Change) (line : Line) (text held : List ℕ)
     → Gathering start now read front names new changes → front ≡ Whole → (line ≡ End → ⊥) → LineComes line now next held → text ≡ held
-    → KeepsChange then_front (change_by_text_in (script_line line text)) new then_new changes then_changes
+    → KeepsChange then_front (change_by_text_in (line_read line text)) new then_new changes then_changes
     → Gathering start next (read + 1) then_front names then_new then_changes
 gathering_kept start now next read front then_front names new then_new changes then_changes line text held g whole other comes same keeps =
     let w : Gathering start now read Whole names new changes = subst (λ (f : Front). Gathering start now read f names new changes) whole g in
-    gathering_more start now next read Whole then_front names new then_new changes then_changes (script_line line text) w
-    (subst (λ (t : List ℕ). Comes (script_line line t) now next) (sym same) (line_comes line now next held other comes))
-    (kept_more then_front names new then_new w.got (script_line line text) changes then_changes w.kept keeps)
+    gathering_more start now next read Whole then_front names new then_new changes then_changes (line_read line text) w
+    (subst (λ (t : List ℕ). Comes (line_read line t) now next) (sym same) (line_comes line now next held other comes))
+    (kept_more then_front names new then_new w.got (line_read line text) changes then_changes w.kept keeps)
 
 -- a line more, whose change is not kept
 pub gathering_passed : (start now next : Option (List ScriptLine)) (read : ℕ) (front : Front) (names new : List (List ℕ)) (changes : List Change) (line : Line) (text : List ℕ)
     → Gathering start now read front names new changes → (front ≡ Whole → ⊥) → (line ≡ End → ⊥) → LineComes line now next text
     → Gathering start next (read + 1) front names new changes
 gathering_passed start now next read front names new changes line text g unkept other comes =
-    gathering_more start now next read front front names new new changes changes (script_line line text) g
-    (line_comes line now next text other comes) (kept_on front names new g.got (script_line line text) changes unkept g.kept)
+    gathering_more start now next read front front names new new changes changes (line_read line text) g
+    (line_comes line now next text other comes) (kept_on front names new g.got (line_read line text) changes unkept g.kept)

@@ -7,7 +7,7 @@ use Rattle.std.specs.Option.{option_map}
 use Rattle.std.proofs.lemmas.List.Elements.{All-nil, All-cons, All-head, All-tail, All-append}
 use borrow.Author.Tests.{leb-true, ltb-true}
 use mir.Syntax.{Width}
-use Rattle.dg_columns.specs.Names.{NamesFit, ValueNamesFit}
+use Rattle.dg_columns.specs.NamesInRange.{NamesFit, ValueNamesFit}
 use Rattle.dg_graph.specs.declared.element.Column.{Column}
 use Rattle.dg_graph.specs.declared.element.Column.TheVariants as column
 use Rattle.dg_graph.specs.declared.event.Body.{Body}

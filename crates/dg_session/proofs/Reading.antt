@@ -18,7 +18,7 @@ use Rattle.dg_history.specs.LegalHistory.{is_blank}
 use Rattle.dg_history.specs.OpenedIndex.{Segment, Opening, Opened, Tail, No_index, opening, opened_with, opened_by, params_in, segments_from}
 use Rattle.dg_graph.specs.Replay.{replay, replay_from}
 use Rattle.dg_history.specs.SessionStart.{Started, and_start, events_in_piece, events_in_pieces, first_wrong, right_or, started_from, start_of}
-use Rattle.dg_session.specs.Started.{FirstWrong, Refuses, or_later, started_with}
+use Rattle.dg_session.specs.SessionStart.{FirstWrong, RefusesStart, or_later, started_with}
 
 -- the pairs in front of those that come
 abbrev pub onto : List (Segment × Event) → Result (List (Segment × Event)) StartFault → Result (List (Segment × Event)) StartFault
@@ -112,7 +112,7 @@ piece_untested image names segments piece s graph events more n so_far there rea
 }
 
 -- what is refused first is refused
-pub refused_first : {A B : Type 0} (f : StartFault) (r : Result A StartFault) (next : A → Result B StartFault) → Refuses f r → Refuses f (and_start r next)
+pub refused_first : {A B : Type 0} (f : StartFault) (r : Result A StartFault) (next : A → Result B StartFault) → RefusesStart f r → RefusesStart f (and_start r next)
 refused_first fault.Disk r next h = tt
 refused_first fault.Foreign r next h = ap (λ x. and_start x next) h
 refused_first (fault.Damaged place) r next h = ap (λ x. and_start x next) h
@@ -130,17 +130,17 @@ starts image names o opened = ap (started_from image) opened
 -- a piece that is refused
 pub piece_refused : (image : List ℕ) (names : List (List ℕ)) (o : Opening) (piece : ℕ) (s : Segment) (graph : List Element) (events : List Event) (wrong : Option ℕ) (f : StartFault)
     → opening image ≡ Ok (record { index = o; names = names }) → ReadSoFar image names o.segments piece wrong graph events → slice_get o.segments piece ≡ Some s
-    → Refuses f (events_in_piece image (length names) piece s) → Refuses f (start_of image)
+    → RefusesStart f (events_in_piece image (length names) piece s) → RefusesStart f (start_of image)
 piece_refused image names o piece s graph events wrong f opened so_far there bad =
     let rest : List Segment = drop (piece + 1) o.segments in
-    let here : Refuses f (and_more image names piece rest s (events_in_piece image (length names) piece s)) =
+    let here : RefusesStart f (and_more image names piece rest s (events_in_piece image (length names) piece s)) =
     refused_first f (events_in_piece image (length names) piece s)
     (λ events. and_start (events_in_pieces image (length names) (piece + 1) rest) (λ more. Ok (map (λ (e : Event). (s, e)) events ++ more))) bad in
-    let all : Refuses f (onto so_far.pairs (and_more image names piece rest s (events_in_piece image (length names) piece s))) =
+    let all : RefusesStart f (onto so_far.pairs (and_more image names piece rest s (events_in_piece image (length names) piece s))) =
     refused_first f (and_more image names piece rest s (events_in_piece image (length names) piece s)) (λ (more : List (Segment × Event)). Ok (so_far.pairs ++ more)) here in
     let is : events_in_pieces image (length names) 0 o.segments ≡ onto so_far.pairs (and_more image names piece rest s (events_in_piece image (length names) piece s)) =
     so_far.pieces ∙ ap (onto so_far.pairs) (pieces_here image names o.segments piece s there) in
-    subst (λ (r : Result (Option Started) StartFault). Refuses f r) (sym (starts image names o opened ∙ ap (from_pieces (record { index = o; names = names })) is))
+    subst (λ (r : Result (Option Started) StartFault). RefusesStart f r) (sym (starts image names o opened ∙ ap (from_pieces (record { index = o; names = names })) is))
     (refused_first f (onto so_far.pairs (and_more image names piece rest s (events_in_piece image (length names) piece s))) (λ events. right_or (record { index = o; names = names }) events (first_wrong names 1 [] events)) all)
 
 -- every piece was read

@@ -7,9 +7,9 @@ use Rattle.std.proofs.Math.Seq.{take-append_seam, drop-append_seam}
 use Rattle.std.proofs.lemmas.List.{map-append, take-append-drop}
 use Rattle.std.proofs.lemmas.List.Elements.{All-head, All-tail}
 use borrow.Author.Tests.{le-leb}
-use Rattle.dg_columns.specs.Laws.{EventsAreReadBack, EventsAreMergedBack}
+use Rattle.dg_columns.specs.ColumnLaws.{EventsAreReadBack, EventsAreMergedBack}
 use Rattle.dg_columns.specs.Ranges.{EventsFit, BodyFits}
-use Rattle.dg_file.specs.Laws.{ImagesAreOpened}
+use Rattle.dg_file.specs.IndexLaws.{ImagesAreOpened}
 use Rattle.dg_graph.specs.declared.element.Column.{Column}
 use Rattle.dg_graph.specs.declared.element.Column.TheVariants as column
 use Rattle.dg_graph.specs.declared.element.Element.{Element}
@@ -30,11 +30,11 @@ use Rattle.dg_graph.specs.ColumnMerge.{never_fall, merged}
 use Rattle.dg_history.specs.OpenedIndex.{Segment, opening_of, opened_of, segment_of, segments_of, column_of_piece, opened_by, params_in, No_index}
 use Rattle.dg_graph.specs.ColumnGrammar.{events_in}
 use Rattle.dg_graph.specs.Replay.{replay_from, replay}
-use Rattle.dg_history.specs.SessionStart.{and_then, spelled_or, placed_in_piece, merged_or, events_in_piece, events_in_pieces, is_right, first_wrong, right_or, started_from, start_of}
+use Rattle.dg_history.specs.SessionStart.{and_start, spelled_or, placed_in_piece, merged_or, events_in_piece, events_in_pieces, is_right, first_wrong, right_or, started_from, start_of}
 use Rattle.dg_session.proofs.Completing.{AreRight, all_come, are_right}
 use Rattle.dg_session.proofs.Naming.{both_parts}
 use Rattle.dg_session.proofs.Reading.{tagged, untagged, from_pieces, replay_more, starts}
-use Rattle.dg_session.specs.Started.{StartsAsItStands, started_with}
+use Rattle.dg_session.specs.SessionStart.{StartsAsItStands, started_with}
 
 -- times do not fall
 pub no_fall : (earliest : ℕ) (set : List Element) (events : List Event) → AreRight earliest set events → never_fall earliest events ≡ true
@@ -178,7 +178,7 @@ columns_there b before rest column.EdgeAttr gate at =
     (omega (arith, at, length-append before (head b), length-append (before ++ head b) (events_column column.Structure b.events), length-append ((before ++ head b) ++ events_column column.Structure b.events) (events_column column.NodeAttr b.events), head_length b)) refl
 
 abbrev by_columns : ℕ → ℕ → Result (List Placed) StartFault → Result (List Placed) StartFault → Result (List Placed) StartFault → Result (List Event) StartFault
-by_columns piece count a b c = and_then a (λ a. and_then b (λ b. and_then c (λ c. merged_or piece (merged a b c count))))
+by_columns piece count a b c = and_start a (λ a. and_start b (λ b. and_start c (λ c. merged_or piece (merged a b c count))))
 
 piece_read : EventsAreReadBack → EventsAreMergedBack → (names : List (List ℕ)) → length names ≤ NAMES_MAX → (image : List ℕ) (piece gate : ℕ) (before : List Event) (b : Batch) → IsLegalBatch names before b
     → ((col : Column) → column_of_piece image (segment_of gate b) col ≡ events_column col b.events)
@@ -216,9 +216,9 @@ pieces_read back merge names few image before rest piece gate events (b ∷ batc
     let more : events_in_pieces image n (piece + 1) (segments_of behind batches) ≡ Ok (pairs_of behind batches) =
     pieces_read back merge names few image (before ++ (1 ∷ segment b)) rest (piece + 1) behind (events ++ b.events) batches l.1 next
     (omega (arith, at, length-append before (1 ∷ segment b))) in
-    ap (λ r. and_then r (λ es. and_then (events_in_pieces image n (piece + 1) (segments_of behind batches)) (λ more. Ok (map (λ (e : Event). (segment_of gate b, e)) es ++ more))))
+    ap (λ r. and_start r (λ es. and_start (events_in_pieces image n (piece + 1) (segments_of behind batches)) (λ more. Ok (map (λ (e : Event). (segment_of gate b, e)) es ++ more))))
     (piece_read back merge names few image piece gate events b l.0 there)
-    ∙ ap (λ r. and_then r (λ more. Ok (tagged (segment_of gate b) b.events ++ more))) more
+    ∙ ap (λ r. and_start r (λ more. Ok (tagged (segment_of gate b) b.events ++ more))) more
 
 history_starts : ImagesAreOpened → EventsAreReadBack → EventsAreMergedBack → (z : History) (image : List ℕ) → IsImageOf z image
     → start_of image ≡ Ok (started_with (Some (opening_of z)) (names_of z) (events_of z))

@@ -1,6 +1,7 @@
 pub mod Parts
-pub mod Following
-pub mod Started
-pub mod Soundness
+pub mod BatchLines
+pub mod SessionStart
+pub mod SoundHistory
+pub mod Halt
 pub mod Session
-pub mod Adding
+pub mod BatchCommand

@@ -1,51 +1,53 @@
 -- How the steps of a session are steps of the machine.
-use Rattle.std.specs.Prelude.{◌≡◌, ℕ, Bool, true, false, List, [], Option, Some, None, Ok}
+use Rattle.std.specs.Prelude.{◌≡◌, ℕ, ◌+◌, ◌*◌, Bool, true, false, ◌&&◌, ◌||◌, not, List, [], ◌++◌, Option, Some, None, Result, Ok, Err, IfSome, is_some, length, nat_lt}
+use Rattle.std.specs.List.{list_any}
 use Rattle.std.specs.Option.{option_map}
-use Rattle.dg_machine.specs.declared.command.Command.{Command}
-use Rattle.dg_machine.specs.declared.command.Command.TheVariants as command
 use Rattle.dg_graph.specs.declared.element.Element.{Element}
 use Rattle.dg_graph.specs.declared.event.Event.{Event}
+use Rattle.dg_graph.specs.declared.limits.TheConstants.{NAMES_MAX}
+use Rattle.dg_graph.specs.Elements.{shown}
+use Rattle.dg_graph.specs.Lines.{ScriptLine}
+use Rattle.dg_graph.specs.Replay.{replay_at}
+use Rattle.dg_history.specs.History.{are_parameters, span_of, in_range}
+use Rattle.dg_history.specs.LegalHistory.{StandsAs, is_blank}
+use Rattle.dg_history.specs.OpenedIndex.{Opening, opening, opening_of}
+use Rattle.dg_machine.specs.declared.command.Command.{Command}
+use Rattle.dg_machine.specs.declared.limits.TheConstants.{LIVE_HANDLES_MAX}
+use Rattle.dg_machine.specs.declared.reply.Head.TheVariants as head
+use Rattle.dg_machine.specs.declared.reply.Refusal.{Refusal}
+use Rattle.dg_machine.specs.declared.reply.Refusal.TheVariants as refusal
 use Rattle.dg_machine.specs.declared.reply.Reply.{Reply}
 use Rattle.dg_machine.specs.declared.stands.Stands.{Stands}
 use Rattle.dg_machine.specs.declared.stands.Stands.TheVariants.{Overlay}
-use Rattle.dg_machine.specs.Answer.{following}
+use Rattle.dg_machine.specs.Answer.{headed, is_refusal}
 use Rattle.dg_machine.specs.CutImage.{IsCut}
-use Rattle.dg_graph.specs.Elements.{shown}
-use Rattle.dg_history.specs.LegalHistory.{StandsAs, is_blank}
-use Rattle.dg_graph.specs.Lines.{ScriptLine}
-use Rattle.dg_machine.specs.MachineState.{MachineState, events_in, names_in}
-use Rattle.dg_history.specs.OpenedIndex.{Opening, opening, opening_of}
-use Rattle.dg_graph.specs.Replay.{replay_at}
+use Rattle.dg_machine.specs.MachineState.{MachineState, entry_at, events_in_index, names_in}
+use Rattle.dg_machine.specs.Needs.{Needs, nothing_more, following, is_writing, when, of, earliest}
 use Rattle.dg_machine.specs.Run.{Step}
 use Rattle.dg_machine.specs.Script.{Asked, Follows}
+use Rattle.dg_session.specs.declared.halt.Halt.{Halt}
+use Rattle.dg_session.specs.declared.halt.Halt.TheVariants as halt
+use Rattle.dg_session.specs.declared.stop.Stop.TheVariants as stop
 use Rattle.dg_session.specs.Parts.{Parts}
 
 -- the elements of what a handle stands for, over these events
 abbrev pub elements_among : List Event → Stands → List Element
 elements_among events (Overlay t cols on) = shown (replay_at events t) cols
 
--- commands of this kind write to the disk
-abbrev pub is_writing : Command → Bool
-is_writing (command.Create l k function) = true
-is_writing (command.Load count) = true
-is_writing (command.Append count) = true
-is_writing (command.At t cols) = false
-is_writing (command.List handle) = false
-
 -- the session stands for this state of the machine, over the image
 pub record StandsFor (session : Parts) (image : List ℕ) (m : MachineState) : Type 0 where
   pub image_stands : StandsAs m.index image
   pub index : session.index ≡ option_map opening_of m.index
   pub names : session.names ≡ names_in m.index
-  pub events : session.events ≡ events_in m.index
+  pub events : session.events ≡ events_in_index m.index
   pub limits : session.limits ≡ m.limits
   pub table : session.table ≡ m.table
   pub next : session.next ≡ m.next
   pub no_handles : m.index ≡ None → m.table ≡ []
 
 -- the fact holds of the two images, where the disk tells them
-abbrev pub BothTold : Option (List ℕ) → Option (List ℕ) → (List ℕ → List ℕ → Type 0) → Type 0
-BothTold a b P = (x y : List ℕ) → a ≡ Some x → b ≡ Some y → P x y
+abbrev pub WhereBothTold : Option (List ℕ) → Option (List ℕ) → (List ℕ → List ℕ → Type 0) → Type 0
+WhereBothTold a b P = (x y : List ℕ) → a ≡ Some x → b ≡ Some y → P x y
 
 -- the image is as the session's last call left it: no index, or one with these names
 abbrev pub IsHeldBy : Option Opening → List (List ℕ) → List ℕ → Type 0
@@ -60,17 +62,77 @@ Moves command got old before new after reply =
 
 -- the image is what the command may leave where the disk failed, from every state that the session
 -- stands for
-abbrev pub Cuts : Command → List ScriptLine → Parts → List ℕ → List ℕ → Type 0
-Cuts command got old before after = (m : MachineState) → StandsFor old before m → IsCut m (Asked command got) before after
+abbrev pub CutsOff : Command → List ScriptLine → Parts → List ℕ → List ℕ → Type 0
+CutsOff command got old before after = (m : MachineState) → StandsFor old before m → IsCut m (Asked command got) before after
 
 -- the command and the lines that follow it make such a step, where the disk tells its image
 abbrev pub Steps : Command → Option (List ScriptLine) → Option (List ScriptLine) → Parts → Option (List ℕ) → Parts → Option (List ℕ) → Reply → Type 0
 Steps command lines_before lines_after old before new after reply =
     (got : List ScriptLine) × Follows (following command) lines_before got lines_after
-    × BothTold before after (λ image then_image. Moves command got old image new then_image reply)
+    × WhereBothTold before after (λ image then_image. Moves command got old image new then_image reply)
 
 -- the command and the lines that follow it were cut off so, where the disk tells its image
 abbrev pub Stops : Command → Option (List ScriptLine) → Option (List ScriptLine) → Parts → Option (List ℕ) → Option (List ℕ) → Type 0
 Stops command lines_before lines_after old before after =
     (got : List ScriptLine) × Follows (following command) lines_before got lines_after
-    × BothTold before after (λ image then_image. Cuts command got old image then_image)
+    × WhereBothTold before after (λ image then_image. CutsOff command got old image then_image)
+
+-- so many more events, or the names that so many lines may bring, are too many
+abbrev pub is_too_full : Parts → ℕ → Bool
+is_too_full p count = nat_lt p.limits.events (length p.events + count) || nat_lt NAMES_MAX (length p.names + 2 * count)
+
+-- The refusals of a command that needs this and is followed by so many lines, by what a session keeps.
+abbrev pub refusals_by : Bool → Parts → ℕ → Needs → List Refusal
+refusals_by there p read n =
+    of n.lines (λ count. when (nat_lt read count) (refusal.ShortBatch read count))
+    ++ (when (n.index && not there) refusal.NoIndex
+    ++ (of n.parameters (λ p. when there refusal.IndexExists)
+    ++ (of n.parameters (λ p. when (not (are_parameters p.0 p.1)) refusal.Parameters)
+    ++ (when (n.unloaded && is_some (span_of p.events)) refusal.AlreadyLoaded
+    ++ (when (nat_lt 0 n.changes && is_too_full p n.changes) (refusal.HistoryFull (length p.events) n.changes)
+    ++ (when (list_any (λ t. not (in_range (span_of p.events) t)) n.instants) (refusal.OutOfRange (span_of p.events))
+    ++ (of n.handle (λ h. when (not (is_some (entry_at h p.table))) (refusal.UnknownHandle h))
+    ++ when (nat_lt 0 n.handles && nat_lt LIVE_HANDLES_MAX (length p.table + n.handles)) (refusal.PoolFull (length p.table) n.handles))))))))
+
+-- the first of them that holds
+abbrev pub refused_by : Parts → ℕ → Needs → Option Refusal
+refused_by p read n = earliest (refusals_by (is_some p.index) p read n)
+
+-- what a retrieval of these instants needs, as so many handles
+abbrev pub retrieval_needs : List ℕ → ℕ → Needs
+retrieval_needs instants handles = record nothing_more { index = true; instants = instants; handles = handles }
+
+-- The command and these lines are answered so, by no refusal.
+pub record Answers (command : Command) (got : List ScriptLine) (old : Parts) (before : Option (List ℕ)) (new : Parts) (after : Option (List ℕ)) (reply : Reply) : Type 0 where
+  pub moves : WhereBothTold before after (λ image then_image. Moves command got old image new then_image reply)
+  pub accepted : is_refusal reply.head ≡ false
+  pub held : IfSome before (λ image. IsHeldBy old.index old.names image) → IfSome after (λ image. IsHeldBy new.index new.names image)
+  pub no_index : new.index ≡ None → after ≡ before
+  pub quiet : is_writing command ≡ false → after ≡ before
+
+-- neither the session nor the image has changed
+pub record IsAsBefore (old : Parts) (before : Option (List ℕ)) (new : Parts) (after : Option (List ℕ)) : Type 0 where
+  pub same : new ≡ old
+  pub same_image : after ≡ before
+
+-- The command and these lines are refused so.
+pub record Denies (command : Command) (got : List ScriptLine) (old : Parts) (before : Option (List ℕ)) (new : Parts) (after : Option (List ℕ)) (r : Refusal) : Type 0 where
+  pub moves : WhereBothTold before after (λ image then_image. Moves command got old image new then_image (headed (head.Refused r)))
+  pub as_before : IsAsBefore old before new after
+
+-- what the command and these lines come to
+abbrev pub ComesTo : Command → List ScriptLine → Parts → Option (List ℕ) → Parts → Option (List ℕ) → Result Reply Halt → Type 0
+ComesTo command got old before new after (Ok reply) = Answers command got old before new after reply
+ComesTo command got old before new after (Err (halt.Refusal r)) = Denies command got old before new after r
+ComesTo command got old before new after (Err (halt.Stop stop.Read)) = IsAsBefore old before new after
+ComesTo command got old before new after (Err (halt.Stop stop.Limit)) = IsAsBefore old before new after
+ComesTo command got old before new after (Err (halt.Stop stop.Store)) =
+    (is_writing command ≡ true) × WhereBothTold before after (λ image then_image. CutsOff command got old image then_image)
+
+-- the lines are those that follow, unless the script ended within them
+abbrev pub TakesLines : {A : Type 0} → ℕ → Option (List ScriptLine) → List ScriptLine → Option (List ScriptLine) → Result A Halt → Type 0
+TakesLines count before got after (Ok reply) = Follows count before got after
+TakesLines count before got after (Err (halt.Refusal r)) = Follows count before got after
+TakesLines count before got after (Err (halt.Stop stop.Read)) = Unit {0}
+TakesLines count before got after (Err (halt.Stop stop.Limit)) = Unit {0}
+TakesLines count before got after (Err (halt.Stop stop.Store)) = Follows count before got after

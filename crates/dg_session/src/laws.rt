@@ -1,7 +1,7 @@
 //! What an image starts as that stands for a history. The function does nothing: its clause is the
 //! law.
 
-ghost use Rattle.dg_session.specs.Started.{StartsAsItStands};
+ghost use Rattle.dg_session.specs.SessionStart.{StartsAsItStands};
 
 use dg_columns::{law_events_are_merged_back, law_events_are_read_back};
 use dg_file::law_images_are_opened;

@@ -3,19 +3,20 @@
 //! docs/MODEL.md the machine that says what is due.
 #![tactic(auto)]
 
-mod adding;
-mod chronicle;
-mod following;
-mod graph;
-mod history;
-mod keeping;
+mod batch_command;
+mod batch_events;
+mod batch_lines;
+mod batch_segment;
+mod halt;
+mod handle_table;
+mod history_reader;
 mod keys;
 mod laws;
 mod piece;
-mod preparing;
 mod session;
+mod snapshot;
 mod stop;
-mod table;
+mod stored_history;
 #[cfg(test)]
 mod tests;
 

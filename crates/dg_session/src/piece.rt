@@ -2,7 +2,7 @@
 
 ghost use Rattle.std.specs.Prelude.{◌≡◌, ◌≤◌, ◌<◌, ◌^◌, Ok, IfOk, IfErr, IfSome, IsErrOf, IsSome, Some, ℕ, List, length, slice_get};
 ghost use Rattle.std.specs.List.{All};
-ghost use Rattle.dg_columns.specs.Names.{NamesFit};
+ghost use Rattle.dg_columns.specs.NamesInRange.{NamesFit};
 ghost use Rattle.dg_disk.specs.Counts.{Rose};
 ghost use Rattle.dg_file.specs.Images.{IsOpenedAs};
 ghost use Rattle.dg_graph.specs.declared.event.Event.{Event};
@@ -10,7 +10,7 @@ ghost use Rattle.dg_graph.specs.declared.limits.TheConstants.{NAMES_MAX};
 ghost use Rattle.dg_graph.specs.declared.placed.Placed.{Placed};
 ghost use Rattle.dg_history.specs.OpenedIndex.{Segment};
 ghost use Rattle.dg_history.specs.SessionStart.{events_in_piece, placed_in_piece};
-ghost use Rattle.dg_session.specs.Started.{InPiece, Refuses};
+ghost use Rattle.dg_session.specs.SessionStart.{InPiece, RefusesStart};
 
 use dg_columns::{MergeFault, Placed, ReadFault, merge, read_events};
 use dg_disk::Disk;
@@ -35,7 +35,7 @@ fn read_column<D: Disk>(
         (λ image s. placed_in_piece image names piece s col ≡ Ok placed.items)) }
     ensures fit { IfOk result (λ placed. All (λ (p : Placed). NamesFit p.event.body) placed.items) }
     ensures refused { IfErr result (λ fault. InPiece (D.image disk.old) index.old.opening piece
-        (λ image s. Refuses fault (placed_in_piece image names piece s col))) }
+        (λ image s. RefusesStart fault (placed_in_piece image names piece s col))) }
     ensures same { index.new ≡ index.old }
     ensures same_image { D.image disk.new ≡ D.image disk.old }
     ensures cause { IsErrOf result StartFault.Disk → Rose (D.faults disk.old) (D.faults disk.new) }
@@ -76,7 +76,7 @@ pub fn read_piece<D: Disk>(
     ensures fit { IfOk result (λ events. All (λ (e : Event). NamesFit e.body) events.items) }
     ensures many { IfOk result (λ events. length events.items ≡ count) }
     ensures refused { IfErr result (λ fault. InPiece (D.image disk.old) index.old.opening piece
-        (λ image s. Refuses fault (events_in_piece image names piece s))) }
+        (λ image s. RefusesStart fault (events_in_piece image names piece s))) }
     ensures same { index.new ≡ index.old }
     ensures same_image { D.image disk.new ≡ D.image disk.old }
     ensures cause { IsErrOf result StartFault.Disk → Rose (D.faults disk.old) (D.faults disk.new) }

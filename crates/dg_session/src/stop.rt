@@ -1,5 +1,5 @@
 ghost use Rattle.std.specs.Prelude.{◌≡◌};
-ghost use Rattle.dg_session.specs.Following.{stop_of};
+ghost use Rattle.dg_session.specs.BatchLines.{stop_of};
 
 use dg_io::LineFault;
 

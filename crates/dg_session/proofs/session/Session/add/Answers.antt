@@ -1,135 +1,104 @@
-use Rattle.std.proofs.Common.{◌≡◌, take, refl, sym, ◌∙◌, ap, subst, arith}
-use Rattle.std.specs.Prelude.{IfSome}
-use Rattle.dg_io.specs.Reading.{told}
-use Rattle.dg_session.specs.Adding.{barred, command_with}
-use Rattle.dg_session.specs.declared.chronicle.Chronicle.{Chronicle}
+use Rattle.std.proofs.Common.{◌≡◌, ℕ, List, Option, Err, refl, sym, ◌∙◌, ap, subst}
+use Rattle.dg_graph.specs.Lines.{ScriptLine}
+use Rattle.dg_io.specs.LinesState.{told}
+use Rattle.dg_machine.specs.declared.reply.Refusal.{Refusal}
+use Rattle.dg_machine.specs.declared.reply.Reply.{Reply}
+use Rattle.dg_machine.specs.Answer.{headed}
+use Rattle.dg_session.specs.BatchCommand.{barred, command_with, head_of}
+use Rattle.dg_session.specs.BatchLines.{IsBatch, ReadsBatch}
+use Rattle.dg_session.specs.declared.stored_history.StoredHistory.{StoredHistory}
+use Rattle.dg_session.specs.Halt.{batch_halt}
 use Rattle.dg_session.specs.Parts.{Parts}
-use Rattle.dg_session.specs.Session.{IsHeldBy, Steps, Stops}
+use Rattle.dg_session.specs.Session.{Answers, ComesTo}
 use Rattle.dg_session.specs.contracts.session.Session.{the_view}
-use Rattle.dg_session.proofs.Added.{IsAsked, held_after, is_ready, refused_step, step_after, stops_after, with_chronicle}
-use Rattle.dg_session.proofs.Answering.{refusal_by}
+use Rattle.dg_session.proofs.BatchSteps.{IsAsked, batch_added, batch_failed, is_ready, takes_failed, unread_comes, with_history}
+use Rattle.dg_session.proofs.Steps.{Comes, handed_out}
 use Rattle.dg_session.proofs.session.Session.add.Goals as goal
 
-pub returns-in-Some-clause-step : goal.returns-in-Some-clause-step
-returns-in-Some-clause-step g c =
+pub returns-in_err-batch-clause-comes : goal.returns-in_err-batch-clause-comes
+returns-in_err-batch-clause-comes g c =
     let p : Parts = the_view c.self.inside in
-    let q : Parts = record p { names = c.cut-in-Some.new.self } in
-    let bar : c.barred-barred.result ≡ barred c.args.adding p c.args.count = c.barred-barred.ensures ∙ ap (λ (x : Parts). barred c.args.adding x c.args.count) (sym c.self.view_is) in
-    let names : c.cut-in-Some.new.self ≡ p.names = c.cut-in-Some.ensures ∙ ap (λ k. take k c.gather.new.names) c.len-known.ensures.len ∙ c.in-Ok.ensures.kept in
-    let same : q ≡ p = ap (λ ns. let x : Parts = record p { names = ns } in x) names in
-    subst (λ (x : Parts). Steps (command_with c.args.adding c.args.count) (told c.args.lines.now (g.S.Source.left c.args.source.now)) (told c.gather.new.lines (g.S.Source.left c.gather.new.source)) x (g.D.Disk.image c.args.disk.now) q (g.D.Disk.image c.args.disk.now) c.refused.result)
-    c.self.view_is
-    (refused_step c.args.adding c.args.count c.in-Ok.gathered.read p q c.in-Ok.gathered.front c.self.inside.chronicle.names c.gather.new.names c.in-Ok.gathered.changes.items
-    (told c.args.lines.now (g.S.Source.left c.args.source.now)) (told c.gather.new.lines (g.S.Source.left c.gather.new.source)) (g.D.Disk.image c.args.disk.now) c.in-Some.refusal c.refused.result
-    c.in-Ok.ensures.gathered (ap (refusal_by c.in-Ok.gathered.read c.args.count) (sym bar) ∙ sym c.refusal_of.ensures ∙ c.in-Some.is) same c.refused.ensures)
+    let q : Parts = record p { names = c.read_batch.new.names } in
+    let before : Option (List ScriptLine) = told c.args.lines.now (g.S.Source.left c.args.source.now) in
+    let after : Option (List ScriptLine) = told c.read_batch.new.lines (g.S.Source.left c.read_batch.new.source) in
+    let image : Option (List ℕ) = g.D.Disk.image c.args.disk.now in
+    handed_out c.from_residual.result c.in_err-batch.field-0.0 (Comes (command_with c.args.which c.args.count) c.args.count before after c.args.self.now image q image) c.from_residual.ensures
+    (unread_comes c.args.which c.args.count c.args.self.now q c.self.inside.history.names c.read_batch.new.names before after image c.in_err-batch.field-0.0
+    (λ same. ap (λ ns. let x : Parts = record p { names = ns } in x) same ∙ c.self.view_is)
+    (subst (λ (r : Option Refusal). ReadsBatch c.args.count r before after c.self.inside.history.names c.read_batch.new.names (Err c.in_err-batch.field-0.0)) c.barred-barred.ensures c.in_err-batch.ensures.reads)
+    (λ h. c.read_batch.ensures.no_store (c.in_err-batch.was ∙ ap (λ x. Err x) h)))
 
-pub add_batch-added-requires-clause-ready : goal.add_batch-added-requires-clause-ready
-add_batch-added-requires-clause-ready g c =
+pub add_batch-requires-clause-ready : goal.add_batch-requires-clause-ready
+add_batch-requires-clause-ready g c =
     let p : Parts = the_view c.self.inside in
-    let old : Chronicle = record { index = c.self.inside.chronicle.index; names = c.gather.new.names; now = c.self.inside.chronicle.now; events = c.self.inside.chronicle.events } in
-    let bar : c.barred-barred.result ≡ barred c.args.adding p c.args.count = c.barred-barred.ensures ∙ ap (λ (x : Parts). barred c.args.adding x c.args.count) (sym c.self.view_is) in
-    let asked : IsAsked c.args.adding p c.args.count c.in-Ok.gathered.read c.len-known.result c.self.inside.limits.file_bytes old c.in-Ok.gathered.front c.in-Ok.gathered.changes.items
-    (told c.args.lines.now (g.S.Source.left c.args.source.now)) (told c.gather.new.lines (g.S.Source.left c.gather.new.source)) = record {
+    let old : StoredHistory = record { index = c.self.inside.history.index; names = c.read_batch.new.names; now = c.self.inside.history.now; events = c.self.inside.history.events } in
+    let before : Option (List ScriptLine) = told c.args.lines.now (g.S.Source.left c.args.source.now) in
+    let after : Option (List ScriptLine) = told c.read_batch.new.lines (g.S.Source.left c.read_batch.new.source) in
+    let bar : c.barred-barred.result ≡ barred c.args.which p c.args.count = c.barred-barred.ensures ∙ ap (λ (x : Parts). barred c.args.which x c.args.count) (sym c.self.view_is) in
+    let asked : IsAsked c.args.which p c.args.count c.len-known.result c.self.inside.limits.file_bytes old c.in_ok-batch.batch before after = record {
       index = refl;
-      kept = ap (λ k. take k c.gather.new.names) c.len-known.ensures.len ∙ c.in-Ok.ensures.kept;
       known_is = c.len-known.ensures.len;
       events = refl;
       limit_is = refl;
       few_events = c.self.invariant.3;
       some = c.requires.some;
       few = c.requires.few;
-      most = c.in-Ok.ensures.most;
-      free = ap (refusal_by c.in-Ok.gathered.read c.args.count) (sym bar) ∙ sym c.refusal_of.ensures ∙ c.in_default.is;
-      got = c.in-Ok.ensures.gathered.0;
-      follows = c.in-Ok.ensures.gathered.1;
-      gathers = c.in-Ok.ensures.gathered.2;
-      few_changes = omega (arith, c.in-Ok.gathered.within, c.in-Ok.gathered.changes.ok.0, c.in-Ok.ensures.most);
-      few_names = c.in-Ok.ensures.few;
+      batch = subst (λ (r : Option Refusal). IsBatch c.args.count r before after p.names c.read_batch.new.names c.in_ok-batch.batch) bar c.in_ok-batch.ensures.reads;
     } in
-    is_ready c.args.adding p c.args.count c.in-Ok.gathered.read c.len-known.result c.self.inside.limits.file_bytes old c.in-Ok.gathered.front c.in-Ok.gathered.changes.items
-    (told c.args.lines.now (g.S.Source.left c.args.source.now)) (told c.gather.new.lines (g.S.Source.left c.gather.new.source)) asked c.self.invariant.5
+    is_ready c.args.which p c.args.count c.len-known.result c.self.inside.limits.file_bytes old c.in_ok-batch.batch before after asked c.self.invariant.5
 
-pub returns-in_err-reply_of-clause-store : goal.returns-in_err-reply_of-clause-store
-returns-in_err-reply_of-clause-store g c h =
+pub returns-in_err-added-clause-comes : goal.returns-in_err-added-clause-comes
+returns-in_err-added-clause-comes g c =
     let p : Parts = the_view c.self.inside in
-    let old : Chronicle = record { index = c.self.inside.chronicle.index; names = c.gather.new.names; now = c.self.inside.chronicle.now; events = c.self.inside.chronicle.events } in
-    let bar : c.barred-barred.result ≡ barred c.args.adding p c.args.count = c.barred-barred.ensures ∙ ap (λ (x : Parts). barred c.args.adding x c.args.count) (sym c.self.view_is) in
-    let asked : IsAsked c.args.adding p c.args.count c.in-Ok.gathered.read c.len-known.result c.self.inside.limits.file_bytes old c.in-Ok.gathered.front c.in-Ok.gathered.changes.items
-    (told c.args.lines.now (g.S.Source.left c.args.source.now)) (told c.gather.new.lines (g.S.Source.left c.gather.new.source)) = record {
+    let old : StoredHistory = record { index = c.self.inside.history.index; names = c.read_batch.new.names; now = c.self.inside.history.now; events = c.self.inside.history.events } in
+    let before : Option (List ScriptLine) = told c.args.lines.now (g.S.Source.left c.args.source.now) in
+    let after : Option (List ScriptLine) = told c.read_batch.new.lines (g.S.Source.left c.read_batch.new.source) in
+    let bar : c.barred-barred.result ≡ barred c.args.which p c.args.count = c.barred-barred.ensures ∙ ap (λ (x : Parts). barred c.args.which x c.args.count) (sym c.self.view_is) in
+    let asked : IsAsked c.args.which p c.args.count c.len-known.result c.self.inside.limits.file_bytes old c.in_ok-batch.batch before after = record {
       index = refl;
-      kept = ap (λ k. take k c.gather.new.names) c.len-known.ensures.len ∙ c.in-Ok.ensures.kept;
       known_is = c.len-known.ensures.len;
       events = refl;
       limit_is = refl;
       few_events = c.self.invariant.3;
       some = c.requires.some;
       few = c.requires.few;
-      most = c.in-Ok.ensures.most;
-      free = ap (refusal_by c.in-Ok.gathered.read c.args.count) (sym bar) ∙ sym c.refusal_of.ensures ∙ c.in_default.is;
-      got = c.in-Ok.ensures.gathered.0;
-      follows = c.in-Ok.ensures.gathered.1;
-      gathers = c.in-Ok.ensures.gathered.2;
-      few_changes = omega (arith, c.in-Ok.gathered.within, c.in-Ok.gathered.changes.ok.0, c.in-Ok.ensures.most);
-      few_names = c.in-Ok.ensures.few;
+      batch = subst (λ (r : Option Refusal). IsBatch c.args.count r before after p.names c.read_batch.new.names c.in_ok-batch.batch) bar c.in_ok-batch.ensures.reads;
     } in
-    subst (λ (x : Parts). Stops (command_with c.args.adding c.args.count) (told c.args.lines.now (g.S.Source.left c.args.source.now)) (told c.gather.new.lines (g.S.Source.left c.gather.new.source)) x (g.D.Disk.image c.args.disk.now) (g.D.Disk.image c.add_batch-added.new.disk))
-    c.self.view_is
-    (stops_after c.law_batches_are_measured.ensures c.args.adding p c.args.count c.in-Ok.gathered.read c.len-known.result c.self.inside.limits.file_bytes old c.in-Ok.gathered.front c.in-Ok.gathered.changes.items
-    (told c.args.lines.now (g.S.Source.left c.args.source.now)) (told c.gather.new.lines (g.S.Source.left c.gather.new.source)) (g.D.Disk.image c.args.disk.now) (g.D.Disk.image c.add_batch-added.new.disk) c.add_batch-added.result asked c.add_batch-added.ensures.fails c.in_err-reply_of.ensures.failed)
+    let image : Option (List ℕ) = g.D.Disk.image c.args.disk.now in
+    let then_image : Option (List ℕ) = g.D.Disk.image c.add_batch.new.disk in
+    let q : Parts = with_history p c.add_batch.new.history in
+    handed_out c.from_residual-in_err-added.result (batch_halt c.in_err-added.field-0.0) (Comes (command_with c.args.which c.args.count) c.args.count before after c.args.self.now image q then_image) c.from_residual-in_err-added.ensures
+    (asked.batch.got,
+    takes_failed c.args.count before asked.batch.got after c.in_err-added.field-0.0 asked.batch.follows,
+    subst (λ (x : Parts). ComesTo (command_with c.args.which c.args.count) asked.batch.got x image q then_image (Err (batch_halt c.in_err-added.field-0.0))) c.self.view_is
+    (batch_failed c.args.which p c.args.count c.len-known.result c.self.inside.limits.file_bytes old c.in_ok-batch.batch before after asked c.add_batch.new.history image then_image
+    c.law_batches_are_measured.ensures c.in_err-added.field-0.0 c.in_err-added.ensures.fails c.in_err-added.ensures.back q refl))
 
-pub returns-clause-step : goal.returns-clause-step
-returns-clause-step g c =
+pub returns-clause-comes : goal.returns-clause-comes
+returns-clause-comes g c =
     let p : Parts = the_view c.self.inside in
-    let old : Chronicle = record { index = c.self.inside.chronicle.index; names = c.gather.new.names; now = c.self.inside.chronicle.now; events = c.self.inside.chronicle.events } in
-    let bar : c.barred-barred.result ≡ barred c.args.adding p c.args.count = c.barred-barred.ensures ∙ ap (λ (x : Parts). barred c.args.adding x c.args.count) (sym c.self.view_is) in
-    let asked : IsAsked c.args.adding p c.args.count c.in-Ok.gathered.read c.len-known.result c.self.inside.limits.file_bytes old c.in-Ok.gathered.front c.in-Ok.gathered.changes.items
-    (told c.args.lines.now (g.S.Source.left c.args.source.now)) (told c.gather.new.lines (g.S.Source.left c.gather.new.source)) = record {
+    let old : StoredHistory = record { index = c.self.inside.history.index; names = c.read_batch.new.names; now = c.self.inside.history.now; events = c.self.inside.history.events } in
+    let before : Option (List ScriptLine) = told c.args.lines.now (g.S.Source.left c.args.source.now) in
+    let after : Option (List ScriptLine) = told c.read_batch.new.lines (g.S.Source.left c.read_batch.new.source) in
+    let bar : c.barred-barred.result ≡ barred c.args.which p c.args.count = c.barred-barred.ensures ∙ ap (λ (x : Parts). barred c.args.which x c.args.count) (sym c.self.view_is) in
+    let asked : IsAsked c.args.which p c.args.count c.len-known.result c.self.inside.limits.file_bytes old c.in_ok-batch.batch before after = record {
       index = refl;
-      kept = ap (λ k. take k c.gather.new.names) c.len-known.ensures.len ∙ c.in-Ok.ensures.kept;
       known_is = c.len-known.ensures.len;
       events = refl;
       limit_is = refl;
       few_events = c.self.invariant.3;
       some = c.requires.some;
       few = c.requires.few;
-      most = c.in-Ok.ensures.most;
-      free = ap (refusal_by c.in-Ok.gathered.read c.args.count) (sym bar) ∙ sym c.refusal_of.ensures ∙ c.in_default.is;
-      got = c.in-Ok.ensures.gathered.0;
-      follows = c.in-Ok.ensures.gathered.1;
-      gathers = c.in-Ok.ensures.gathered.2;
-      few_changes = omega (arith, c.in-Ok.gathered.within, c.in-Ok.gathered.changes.ok.0, c.in-Ok.ensures.most);
-      few_names = c.in-Ok.ensures.few;
+      batch = subst (λ (r : Option Refusal). IsBatch c.args.count r before after p.names c.read_batch.new.names c.in_ok-batch.batch) bar c.in_ok-batch.ensures.reads;
     } in
-    subst (λ (x : Parts). Steps (command_with c.args.adding c.args.count) (told c.args.lines.now (g.S.Source.left c.args.source.now)) (told c.gather.new.lines (g.S.Source.left c.gather.new.source)) x (g.D.Disk.image c.args.disk.now) (with_chronicle p c.add_batch-added.new.chronicle) (g.D.Disk.image c.add_batch-added.new.disk) c.in_ok-reply_of.field-0)
-    c.self.view_is
-    (step_after c.law_batches_are_added.ensures c.law_batches_are_measured.ensures c.args.adding p c.args.count c.in-Ok.gathered.read c.len-known.result c.self.inside.limits.file_bytes old c.add_batch-added.new.chronicle c.in-Ok.gathered.front c.in-Ok.gathered.changes.items
-    (told c.args.lines.now (g.S.Source.left c.args.source.now)) (told c.gather.new.lines (g.S.Source.left c.gather.new.source)) (g.D.Disk.image c.args.disk.now) (g.D.Disk.image c.add_batch-added.new.disk) c.add_batch-added.result c.in_ok-reply_of.field-0
-    asked c.add_batch-added.ensures.adds c.add_batch-added.ensures.fails c.add_batch-added.ensures.back c.in_ok-reply_of.ensures.replies)
-
-pub returns-clause-held : goal.returns-clause-held
-returns-clause-held g c =
-    let p : Parts = the_view c.self.inside in
-    let old : Chronicle = record { index = c.self.inside.chronicle.index; names = c.gather.new.names; now = c.self.inside.chronicle.now; events = c.self.inside.chronicle.events } in
-    let bar : c.barred-barred.result ≡ barred c.args.adding p c.args.count = c.barred-barred.ensures ∙ ap (λ (x : Parts). barred c.args.adding x c.args.count) (sym c.self.view_is) in
-    let asked : IsAsked c.args.adding p c.args.count c.in-Ok.gathered.read c.len-known.result c.self.inside.limits.file_bytes old c.in-Ok.gathered.front c.in-Ok.gathered.changes.items
-    (told c.args.lines.now (g.S.Source.left c.args.source.now)) (told c.gather.new.lines (g.S.Source.left c.gather.new.source)) = record {
-      index = refl;
-      kept = ap (λ k. take k c.gather.new.names) c.len-known.ensures.len ∙ c.in-Ok.ensures.kept;
-      known_is = c.len-known.ensures.len;
-      events = refl;
-      limit_is = refl;
-      few_events = c.self.invariant.3;
-      some = c.requires.some;
-      few = c.requires.few;
-      most = c.in-Ok.ensures.most;
-      free = ap (refusal_by c.in-Ok.gathered.read c.args.count) (sym bar) ∙ sym c.refusal_of.ensures ∙ c.in_default.is;
-      got = c.in-Ok.ensures.gathered.0;
-      follows = c.in-Ok.ensures.gathered.1;
-      gathers = c.in-Ok.ensures.gathered.2;
-      few_changes = omega (arith, c.in-Ok.gathered.within, c.in-Ok.gathered.changes.ok.0, c.in-Ok.ensures.most);
-      few_names = c.in-Ok.ensures.few;
-    } in
-    held_after c.args.adding p c.args.count c.in-Ok.gathered.read c.len-known.result c.self.inside.limits.file_bytes old c.add_batch-added.new.chronicle c.in-Ok.gathered.front c.in-Ok.gathered.changes.items
-    (told c.args.lines.now (g.S.Source.left c.args.source.now)) (told c.gather.new.lines (g.S.Source.left c.gather.new.source)) (g.D.Disk.image c.args.disk.now) (g.D.Disk.image c.add_batch-added.new.disk) c.add_batch-added.result c.in_ok-reply_of.field-0
-    asked c.add_batch-added.ensures.adds c.add_batch-added.ensures.fails c.add_batch-added.ensures.back c.in_ok-reply_of.ensures.replies
-    (subst (λ (x : Parts). IfSome (g.D.Disk.image c.args.disk.now) (λ image. IsHeldBy x.index x.names image)) (sym c.self.view_is) c.requires.image)
+    let image : Option (List ℕ) = g.D.Disk.image c.args.disk.now in
+    let then_image : Option (List ℕ) = g.D.Disk.image c.add_batch.new.disk in
+    let q : Parts = with_history p c.add_batch.new.history in
+    let reply : headed (head_of c.args.which c.in_ok-added.added.events c.in_ok-added.added.total c.in_ok-added.added.last) ≡ c.headed.result = sym (c.headed.ensures ∙ ap headed c.head.ensures) in (
+      asked.batch.got,
+      asked.batch.follows,
+      subst (λ (r : Reply). Answers (command_with c.args.which c.args.count) asked.batch.got c.args.self.now image q then_image r) reply
+          (subst (λ (x : Parts). Answers (command_with c.args.which c.args.count) asked.batch.got x image q then_image (headed (head_of c.args.which c.in_ok-added.added.events c.in_ok-added.added.total c.in_ok-added.added.last))) c.self.view_is
+          (batch_added c.args.which p c.args.count c.len-known.result c.self.inside.limits.file_bytes old c.in_ok-batch.batch before after asked c.add_batch.new.history image then_image
+          c.law_batches_are_added.ensures c.law_batches_are_measured.ensures c.in_ok-added.added c.in_ok-added.ensures.adds)),
+    )

@@ -1,49 +1,35 @@
-use Rattle.std.proofs.Common.{◌≡◌, Some, None, [], refl, sym, ◌∙◌, ap}
-use Rattle.dg_file.specs.Images.{IsMadeInPart}
-use Rattle.dg_machine.specs.declared.command.Command.TheVariants as command
-use Rattle.dg_history.specs.History.{empty_history}
-use Rattle.dg_history.specs.LegalHistory.{IsImageOf}
+use Rattle.std.proofs.Common.{◌≡◌, [], Some, None, Err, refl, sym, ◌∙◌, ap}
+use Rattle.std.specs.Prelude.{is_some}
+use Rattle.dg_machine.specs.Needs.{needs}
+use Rattle.dg_session.specs.Halt.{creation_halt}
 use Rattle.dg_session.specs.Parts.{Parts}
-use Rattle.dg_session.specs.Session.{Moves}
+use Rattle.dg_session.specs.Session.{ComesTo, refused_by}
+use Rattle.dg_session.specs.SessionStart.{index_opening}
 use Rattle.dg_session.specs.contracts.session.Session.{the_view}
-use Rattle.dg_session.proofs.Creating.{create_again, create_wrong, create_lacks, create_new, create_cut}
-use Rattle.dg_session.proofs.Moving.{is_there, is_missing, same_told, both_told, one_told}
+use Rattle.dg_session.proofs.CreateStep.{create_answers, create_fails, creation_free, making, no_names}
+use Rattle.dg_session.proofs.Steps.{handed_out, refused_denies}
 use Rattle.dg_session.proofs.session.Session.create.Goals as goal
 
-pub returns-then-is_some-clause-moves : goal.returns-then-is_some-clause-moves
-returns-then-is_some-clause-moves g c =
-    let o = is_there (the_view c.self.inside) c.args.self.now c.self.inside.chronicle.index c.is_some.result c.self.view_is refl c.is_some.ensures c.if-is_some.true in
-    same_told (g.D.Disk.image c.args.disk.now) (g.D.Disk.image c.args.disk.now)
-    (λ before after. Moves (command.Create c.args.params.l c.args.params.k c.args.params.function) [] c.args.self.now before c.args.self.now after c.refused.result) refl
-    (λ image. create_again c.args.self.now image c.args.params o.0 c.refused.result o.1 c.refused.ensures)
+pub returns-in-Some-clause-comes : goal.returns-in-Some-clause-comes
+returns-in-Some-clause-comes g c =
+    refused_denies (making c.args.params) [] c.args.self.now c.args.self.now (g.D.Disk.image c.args.disk.now) (g.D.Disk.image c.args.disk.now) c.in-Some.refusal refl refl
+    (sym c.refused_creation.ensures ∙ c.in-Some.is)
 
-pub returns-then-not-are_parameters-clause-moves : goal.returns-then-not-are_parameters-clause-moves
-returns-then-not-are_parameters-clause-moves g c =
-    let none : c.args.self.now.index ≡ None = is_missing (the_view c.self.inside) c.args.self.now c.self.inside.chronicle.index c.is_some.result c.self.view_is refl c.is_some.ensures c.if-is_some.false in
-    same_told (g.D.Disk.image c.args.disk.now) (g.D.Disk.image c.args.disk.now)
-    (λ before after. Moves (command.Create c.args.params.l c.args.params.k c.args.params.function) [] c.args.self.now before c.args.self.now after c.refused-then-not-are_parameters.result) refl
-    (λ image. create_wrong c.args.self.now image c.args.params c.refused-then-not-are_parameters.result none (sym c.are_parameters.ensures ∙ c.if-not-are_parameters.true) c.refused-then-not-are_parameters.ensures)
+pub returns-in_err-index-clause-comes : goal.returns-in_err-index-clause-comes
+returns-in_err-index-clause-comes g c =
+    handed_out c.from_residual.result (creation_halt c.in_err-index.field-0.0) (ComesTo (making c.args.params) [] c.args.self.now (g.D.Disk.image c.args.disk.now) c.args.self.now (g.D.Disk.image c.create.new.disk)) c.from_residual.ensures
+    (create_fails c.args.self.now c.args.self.now c.args.params (g.D.Disk.image c.args.disk.now) (g.D.Disk.image c.create.new.disk) c.in_err-index.field-0.0
+    (sym c.refused_creation.ensures ∙ c.in_default.is) refl
+    (λ h. (c.create.ensures.memory (c.in_err-index.was ∙ ap (λ f. Err f) h)).0) (λ h. c.create.ensures.part (c.in_err-index.was ∙ ap (λ f. Err f) h)))
 
-pub returns-in-Err-Memory-clause-moves : goal.returns-in-Err-Memory-clause-moves
-returns-in-Err-Memory-clause-moves g c =
-    let none : c.args.self.now.index ≡ None = is_missing (the_view c.self.inside) c.args.self.now c.self.inside.chronicle.index c.is_some.result c.self.view_is refl c.is_some.ensures c.if-is_some.false in
-    let e = rw c.in-Err-Memory.field-0-is at c.in-Err-Memory.ensures in
-    same_told (g.D.Disk.image c.args.disk.now) (g.D.Disk.image c.create.new.disk)
-    (λ before after. Moves (command.Create c.args.params.l c.args.params.k c.args.params.function) [] c.args.self.now before c.args.self.now after c.no_memory.result) (e.memory refl).0
-    (λ image. create_lacks c.args.self.now image c.args.params c.no_memory.result none (sym c.are_parameters.ensures ∙ c.if-not-are_parameters.false) c.no_memory.ensures)
-
-pub returns-in-Err-Disk-clause-store : goal.returns-in-Err-Disk-clause-store
-returns-in-Err-Disk-clause-store g c before after a b =
-    let none : c.args.self.now.index ≡ None = is_missing (the_view c.self.inside) c.args.self.now c.self.inside.chronicle.index c.is_some.result c.self.view_is refl c.is_some.ensures c.if-is_some.false in
-    let e = rw c.in-Err-Disk.field-0-is at c.in-Err-Disk.ensures in
-    create_cut c.args.self.now before after c.args.params none (sym c.are_parameters.ensures ∙ c.if-not-are_parameters.false)
-    (both_told (g.D.Disk.image c.args.disk.now) (g.D.Disk.image c.create.new.disk) (λ old new. IsMadeInPart c.args.params old new) (e.part refl) before after a b)
-
-pub returns-in-Ok-clause-moves : goal.returns-in-Ok-clause-moves
-returns-in-Ok-clause-moves g c before after a b =
-    let none : c.args.self.now.index ≡ None = is_missing (the_view c.self.inside) c.args.self.now c.self.inside.chronicle.index c.is_some.result c.self.view_is refl c.is_some.ensures c.if-is_some.false in
+pub returns-clause-comes : goal.returns-clause-comes
+returns-clause-comes g c =
     let view : Parts = the_view c.self.inside in
-    let new : Parts = record view { index = Some c.in-Ok.index.opening } in
-    create_new c.args.self.now new before after c.args.params c.in-Ok.index.opening c.headed.result none (sym c.are_parameters.ensures ∙ c.if-not-are_parameters.false) c.headed.ensures
-    (one_told (g.D.Disk.image c.create.new.disk) (λ image. IsImageOf (empty_history c.args.params) image) after c.in-Ok.ensures.image b) c.in-Ok.ensures.made
-    (ap (λ (p : Parts). let x : Parts = record p { index = Some c.in-Ok.index.opening } in x) c.self.view_is)
+    let new : Parts = record view { index = Some c.in_ok-index.index.opening } in
+    let none : refused_by c.args.self.now 0 (needs (making c.args.params)) ≡ None = sym c.refused_creation.ensures ∙ c.in_default.is in
+    let names : c.args.self.now.names ≡ [] =
+    ap (λ (p : Parts). p.names) (sym c.self.view_is)
+    ∙ no_names (index_opening c.self.inside.history.index) c.self.inside.history.names c.self.inside.history.events.items c.self.invariant.5.counted
+    (ap (λ (p : Parts). is_some p.index) c.self.view_is ∙ (creation_free c.args.self.now c.args.params none).0) in
+    create_answers c.args.self.now new c.args.params (g.D.Disk.image c.args.disk.now) (g.D.Disk.image c.create.new.disk) c.in_ok-index.index.opening c.headed.result none
+    c.in_ok-index.ensures.image c.in_ok-index.ensures.opened c.in_ok-index.ensures.made names (ap (λ (p : Parts). let x : Parts = record p { index = Some c.in_ok-index.index.opening } in x) c.self.view_is) c.headed.ensures

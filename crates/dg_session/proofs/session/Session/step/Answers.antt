@@ -1,44 +1,17 @@
-use Rattle.std.proofs.Common.{[], refl, sym, subst}
-use Rattle.dg_io.specs.Reading.{told}
-use Rattle.dg_machine.specs.declared.command.Command.{Command}
-use Rattle.dg_machine.specs.declared.command.Command.TheVariants as command
-use Rattle.dg_session.specs.Session.{Moves, Steps, Stops}
-use Rattle.dg_session.proofs.Gathering.{follows_none}
-use Rattle.dg_session.proofs.Moving.{same_told}
+use Rattle.std.proofs.Common.{Err, ◌∙◌, ap}
+use Rattle.dg_io.specs.LinesState.{told}
+use Rattle.dg_session.proofs.Steps.{answered, refused_so}
 use Rattle.dg_session.proofs.session.Session.step.Goals as goal
+use Rattle.dg_session.proofs.session.Session.step.Goals.{in-Ok, in-Err-Refusal, in-Err-Stop}
 
-pub returns-in_err-create-in-Create-clause-store : goal.returns-in_err-create-in-Create-clause-store
-returns-in_err-create-in-Create-clause-store g c e =
-    let before = told c.args.lines.now (g.S.Source.left c.args.source.now) in
-    subst (λ (x : Command). Stops x before before c.args.self.now (g.D.Disk.image c.args.disk.now) (g.D.Disk.image c.create.new.disk))
-    (sym c.in-Create.is) ([], follows_none before, c.in_err-create-in-Create.ensures.store)
-
-pub returns-in_ok-create-in-Create-clause-step : goal.returns-in_ok-create-in-Create-clause-step
-returns-in_ok-create-in-Create-clause-step g c =
-    let before = told c.args.lines.now (g.S.Source.left c.args.source.now) in
-    subst (λ (x : Command). Steps x before before c.args.self.now (g.D.Disk.image c.args.disk.now) c.create.new.self (g.D.Disk.image c.create.new.disk) c.in_ok-create-in-Create.field-0)
-    (sym c.in-Create.is) ([], follows_none before, c.in_ok-create-in-Create.ensures.moves)
-
-pub returns-in-Load-clause-store : goal.returns-in-Load-clause-store
-returns-in-Load-clause-store g c h =
-    subst (λ (x : Command). Stops x (told c.args.lines.now (g.S.Source.left c.args.source.now)) (told c.add.new.lines (g.S.Source.left c.add.new.source)) c.args.self.now (g.D.Disk.image c.args.disk.now) (g.D.Disk.image c.add.new.disk))
-    (sym c.in-Load.is) (c.add.ensures.store h)
-
-pub returns-in-Append-clause-store : goal.returns-in-Append-clause-store
-returns-in-Append-clause-store g c h =
-    subst (λ (x : Command). Stops x (told c.args.lines.now (g.S.Source.left c.args.source.now)) (told c.add-in-Append.new.lines (g.S.Source.left c.add-in-Append.new.source)) c.args.self.now (g.D.Disk.image c.args.disk.now) (g.D.Disk.image c.add-in-Append.new.disk))
-    (sym c.in-Append.is) (c.add-in-Append.ensures.store h)
-
-pub returns-in-At-clause-step : goal.returns-in-At-clause-step
-returns-in-At-clause-step g c =
-    let before = told c.args.lines.now (g.S.Source.left c.args.source.now) in
-    subst (λ (x : Command). Steps x before before c.args.self.now (g.D.Disk.image c.args.disk.now) c.at.new.self (g.D.Disk.image c.args.disk.now) c.at.result)
-    (sym c.in-At.is)
-    ([], follows_none before, same_told (g.D.Disk.image c.args.disk.now) (g.D.Disk.image c.args.disk.now) (λ image then_image. Moves (command.At c.in-At.t c.in-At.cols) [] c.args.self.now image c.at.new.self then_image c.at.result) refl c.at.ensures.moves)
-
-pub returns-in-List-clause-step : goal.returns-in-List-clause-step
-returns-in-List-clause-step g c =
-    let before = told c.args.lines.now (g.S.Source.left c.args.source.now) in
-    subst (λ (x : Command). Steps x before before c.args.self.now (g.D.Disk.image c.args.disk.now) c.args.self.now (g.D.Disk.image c.args.disk.now) c.list.result)
-    (sym c.in-List.is)
-    ([], follows_none before, same_told (g.D.Disk.image c.args.disk.now) (g.D.Disk.image c.args.disk.now) (λ image then_image. Moves (command.List c.in-List.handle) [] c.args.self.now image c.args.self.now then_image c.list.result) refl c.list.ensures)
+pub returns-clause-step : goal.returns-clause-step
+returns-clause-step g c =
+    elim c.match-carry_out.branch [
+      in-Ok w ↦ rw w.result-is
+          (answered c.args.command.now (told c.args.lines.now (g.S.Source.left c.args.source.now)) (told c.carry_out.new.lines (g.S.Source.left c.carry_out.new.source))
+          c.args.self.now (g.D.Disk.image c.args.disk.now) c.carry_out.new.self (g.D.Disk.image c.carry_out.new.disk) c.carry_out.result w.in-Ok.reply c.carry_out.ensures.comes w.in-Ok.is)
+      | in-Err-Refusal w ↦ rw w.result-is
+          (refused_so c.args.command.now (told c.args.lines.now (g.S.Source.left c.args.source.now)) (told c.carry_out.new.lines (g.S.Source.left c.carry_out.new.source))
+          c.args.self.now (g.D.Disk.image c.args.disk.now) c.carry_out.new.self (g.D.Disk.image c.carry_out.new.disk) c.carry_out.result w.in-Err-Refusal.refusal w.headed.result c.carry_out.ensures.comes (w.in-Err-Refusal.is ∙ ap (λ h. Err h) w.in-Err-Refusal.field-0-is) w.headed.ensures)
+      | in-Err-Stop w ↦ rw w.result-is tt
+    ]

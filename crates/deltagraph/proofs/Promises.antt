@@ -1,0 +1,158 @@
+-- The promise of the program: where the words are wrong, where no session begins, and where one does.
+use Rattle.std.proofs.Common.{◌≡◌, ◌≢◌, ℕ, ◌<◌, ◌⊎◌, inl, inr, Bool, true, false, List, ◌++◌, Option, Some, IfSome, Err, length, is_some, refl, sym, ◌∙◌, ap, subst}
+use Rattle.std.specs.Option.{option_map}
+use Rattle.dg_disk.specs.Counts.{Rose as DiskRose}
+use Rattle.dg_history.specs.declared.start_fault.StartFault.{StartFault}
+use Rattle.dg_history.specs.declared.start_fault.StartFault.TheVariants as fault
+use Rattle.dg_history.specs.History.{History}
+use Rattle.dg_history.specs.LegalHistory.{StandsAs}
+use Rattle.dg_history.specs.SessionStart.{start_of}
+use Rattle.dg_machine.specs.declared.limits.Limits.{Limits}
+use Rattle.dg_io.specs.Told.{CountRose, Gives}
+use Rattle.dg_machine.specs.MachineState.{machine_at}
+use Rattle.dg_machine.specs.Run.{last_state, texts_of}
+use Rattle.dg_machine.specs.Script.{script}
+use Rattle.dg_session.specs.Parts.{Parts}
+use Rattle.dg_session.specs.Session.{StandsFor}
+use Rattle.dg_session.specs.SessionStart.{RefusesStart, StartsAs}
+use Rattle.deltagraph.specs.declared.status.Status.{Status}
+use Rattle.deltagraph.specs.declared.status.Status.TheVariants as status
+use Rattle.deltagraph.specs.Outside.{Outside, IsUntouched}
+use Rattle.deltagraph.specs.Promised.{Completes, Promised, WhereItStands}
+use Rattle.deltagraph.specs.Served.{Gained, Remains, Served}
+use Rattle.deltagraph.specs.Statuses.{end_of, is_unbegun, IsBegun}
+use Rattle.deltagraph.specs.Turns.{ScriptAnswered}
+use Rattle.deltagraph.proofs.Completes.{completes_of}
+use Rattle.deltagraph.proofs.RunSoFar.{at_some, if_some, served_nothing}
+use Rattle.deltagraph.proofs.Starts.{where_some, unbegun, unbegun_gains, disk_failed, lies, refused_so, ends_so, never_so, begins_ok}
+
+untouched_here : (start : Outside) → IsUntouched start start
+untouched_here start = record { left = refl; source_faults = refl; written = refl; sink_faults = refl; image = refl }
+
+-- the words are not of the written form
+words_promise : (limits : Limits) (start : Outside) → Promised limits false status.Words start start
+words_promise limits start = record {
+  served = if_some start.image (λ x. (index : Option History) → StandsAs index x → Served (machine_at limits index) status.Words start start)
+      (λ x is index stands. served_nothing status.Words (machine_at limits index) start start x is stands refl refl refl (λ e. cc) (λ nil. nil));
+  told = refl;
+  words = (λ e. refl, λ e. refl);
+  words_untouched = λ e. refl;
+  unbegun = λ e. untouched_here start;
+  done = λ e. cc;
+  source_fault = λ e. cc;
+  sink_fault = λ e. cc;
+  disk_fault = λ e. cc;
+  script_limit = λ e. cc;
+  refused = λ f e. cc;
+  never_refused = if_some start.image (λ x. (index : Option History) → StandsAs index x → (f : StartFault) → status.Words ≡ status.Refused f → ⊥) (λ x is index stands f e. cc);
+  refuses = λ good. absurd (cc);
+  completes = λ good. absurd (cc);
+}
+
+pub wrong_words : (limits : Limits) (are_written : Bool) (start : Outside) → are_written ≡ false → Promised limits are_written status.Words start start
+wrong_words limits are_written start is = subst (λ (b : Bool). Promised limits b status.Words start start) (sym is) (words_promise limits start)
+
+-- no session begins
+pub no_session : (limits : Limits) (s : Status) (f : StartFault) (start now : Outside) → s ≡ end_of f → IsUntouched start now
+    → (f ≡ fault.Disk → DiskRose start.disk_faults now.disk_faults)
+    → IfSome start.image (λ image. RefusesStart f (start_of image))
+    → IfSome start.image (λ image. (index : Option History) → StandsAs index image → (f ≡ fault.Disk) ⊎ (f ≡ fault.Memory))
+    → Promised limits true s start now
+no_session limits s f start now is same cause refuses never =
+    let not = unbegun s f is in
+    let failed : s ≡ status.DiskFault → DiskRose start.disk_faults now.disk_faults = λ e. cause (disk_failed s f is e) in record {
+      served = if_some start.image (λ x. (index : Option History) → StandsAs index x → Served (machine_at limits index) s start now)
+          (λ x here index stands. served_nothing s (machine_at limits index) start now x here stands same.left same.written same.image not.done
+          (λ nil. unbegun_gains s f start.written now.written is nil));
+      told = ap (λ (o : Option (List ℕ)). is_some o) same.image;
+      words = (λ e. absurd (not.words e), λ e. absurd (cc));
+      words_untouched = λ e. absurd (not.words e);
+      unbegun = λ e. same;
+      done = λ e. absurd (not.done e);
+      source_fault = λ e. absurd (not.source e);
+      sink_fault = λ e. absurd (not.sink e);
+      disk_fault = λ e. inr (failed e, same);
+      script_limit = λ e. absurd (not.limit e);
+      refused = λ g e.
+          let l = lies s f g is e in (
+            l.disk,
+            l.memory,
+            where_some start.image (λ image. RefusesStart f (start_of image)) (λ image. start_of image ≡ Err g) (λ x h. refused_so s f g (start_of x) is e h) refuses,
+          );
+      never_refused =
+          where_some start.image (λ image. (index : Option History) → StandsAs index image → (f ≡ fault.Disk) ⊎ (f ≡ fault.Memory))
+          (λ image. (index : Option History) → StandsAs index image → (g : StartFault) → s ≡ status.Refused g → ⊥)
+          (λ x h index stands g e. never_so s f g is (h index stands) e) never;
+      refuses = λ good calm.
+          where_some start.image (λ image. RefusesStart f (start_of image))
+          (λ image. (g : StartFault) → start_of image ≡ Err g → (s ≡ status.Refused g) ⊎ (s ≡ status.NoMemory))
+          (λ x h g e. ends_so s f g (start_of x) is (λ disk. calm (cause disk)) h e) refuses;
+      completes = λ good none.
+          where_some start.image (λ image. (index : Option History) → StandsAs index image → (f ≡ fault.Disk) ⊎ (f ≡ fault.Memory))
+          (λ image. (index : Option History) → StandsAs index image → IfSome start.left (λ script. Completes limits s script))
+          (λ x h index stands. completes_of limits s start.left now.left not.words (λ e. absurd (not.source e)) (λ e. absurd (not.sink e))
+          (λ e. none.disk (failed e)) (λ g e. never_so s f g is (h index stands) e) (λ e. absurd (not.done e)) (λ e. absurd (not.limit e))) never;
+    }
+
+-- a run that begins ends in none of these ways
+begun_not : (s : Status) → IsBegun s → (s ≡ status.Words → ⊥) × (is_unbegun s ≡ true → ⊥) × ((f : StartFault) → s ≡ status.Refused f → ⊥)
+begun_not status.Done begun = (λ e. cc, λ e. cc, λ f e. cc)
+begun_not status.Words begun = absurd begun
+begun_not status.SourceFault begun = (λ e. cc, λ e. cc, λ f e. cc)
+begun_not status.SinkFault begun = (λ e. cc, λ e. cc, λ f e. cc)
+begun_not status.DiskFault begun = (λ e. cc, λ e. cc, λ f e. cc)
+begun_not status.NoMemory begun = absurd begun
+begun_not (status.Refused f) begun = absurd begun
+begun_not status.ScriptLimit begun = (λ e. cc, λ e. cc, λ f e. cc)
+
+-- a session began over what was there at the start, with as many failed writes or more, and answered the script
+pub session_promise : (limits : Limits) (session : Parts) (s : Status) (start mid now : Outside)
+    → mid.left ≡ start.left → mid.source_faults ≡ start.source_faults → mid.written ≡ start.written → mid.sink_faults ≡ start.sink_faults → mid.image ≡ start.image
+    → (DiskRose mid.write_faults now.write_faults → DiskRose start.write_faults now.write_faults)
+    → IfSome start.image (λ image. StartsAs limits session (start_of image))
+    → IfSome start.image (λ image. (index : Option History) → StandsAs index image → StandsFor session image (machine_at limits index))
+    → ScriptAnswered limits.script_bytes session s mid now → Promised limits true s start now
+session_promise limits session s start mid now left source written sink image writes starts stands answered =
+    let not = begun_not s answered.begun in
+    let served : WhereItStands start.image (λ index. Served (machine_at limits index) s start now) =
+        if_some start.image (λ x. (index : Option History) → StandsAs index x → Served (machine_at limits index) s start now)
+        (λ x here index as_index.
+        let one = answered.served x (machine_at limits index) (image ∙ here) (at_some start.image (λ y. (i : Option History) → StandsAs i y → StandsFor session y (machine_at limits i)) x stands here index as_index) in record {
+          entries = one.entries;
+          answers = one.answers;
+          run = one.run;
+          more = one.more;
+          front = subst (λ (o : Option (List ℕ)). option_map script o ≡ option_map (λ rest. one.entries ++ rest) one.more) left one.front;
+          whole = one.whole;
+          gained = subst (λ (o : Option (List ℕ)). Gained s o (texts_of one.answers) now.written) written one.gained;
+          stands = subst (λ (o : Option (List ℕ)). IfSome now.image (λ i. Remains s (last_state (machine_at limits index) one.answers) one.more o i)) image one.stands;
+        }) in
+    let done : s ≡ status.Done → IfSome start.left (λ script. length script < limits.script_bytes) =
+        λ e. subst (λ (o : Option (List ℕ)). IfSome o (λ script. length script < limits.script_bytes)) left (answered.done e) in
+    let limit : s ≡ status.ScriptLimit → (taken : List ℕ) × Gives start.left taken now.left × (length taken ≡ limits.script_bytes) =
+        λ e. let got = answered.script_limit e in (got.0, sym left ∙ got.1, got.2) in
+    let source_fault : s ≡ status.SourceFault → CountRose start.source_faults now.source_faults =
+        λ e. subst (λ (n : ℕ). CountRose n now.source_faults) source (answered.source_fault e) in
+    let sink_fault : s ≡ status.SinkFault → CountRose start.sink_faults now.sink_faults =
+        λ e. subst (λ (n : ℕ). CountRose n now.sink_faults) sink (answered.sink_fault e) in record {
+      served = served;
+      told = answered.told ∙ ap (λ (o : Option (List ℕ)). is_some o) image;
+      words = (λ e. absurd (not.0 e), λ e. absurd (cc));
+      words_untouched = λ e. absurd (not.0 e);
+      unbegun = λ e. absurd (not.1 e);
+      done = done;
+      source_fault = source_fault;
+      sink_fault = sink_fault;
+      disk_fault = λ e. inl (writes (answered.disk_fault e));
+      script_limit = limit;
+      refused = λ f e. absurd (not.2 f e);
+      never_refused = if_some start.image (λ x. (index : Option History) → StandsAs index x → (f : StartFault) → s ≡ status.Refused f → ⊥) (λ x is index as_index f e. not.2 f e);
+      refuses = λ good calm.
+          where_some start.image (λ image. StartsAs limits session (start_of image))
+          (λ image. (g : StartFault) → start_of image ≡ Err g → (s ≡ status.Refused g) ⊎ (s ≡ status.NoMemory))
+          (λ x h g e. absurd (begins_ok limits session (start_of x) g h e)) starts;
+      completes = λ good none.
+          if_some start.image (λ x. (index : Option History) → StandsAs index x → IfSome start.left (λ script. Completes limits s script))
+          (λ x is index as_index. completes_of limits s start.left now.left not.0 (λ e. none.source (source_fault e)) (λ e. none.sink (sink_fault e))
+          (λ e. none.writes (writes (answered.disk_fault e))) not.2 done limit);
+    }

@@ -1,0 +1,22 @@
+-- The run so far, from every machine that the session stood for, and the counts.
+use Rattle.std.proofs.Common.{◌≡◌, ◌≤◌, IfSome, is_some}
+use Rattle.dg_io.specs.Frame.{Advances}
+use Rattle.dg_io.specs.LinesState.{to_come}
+use Rattle.dg_session.specs.Session.{IsHeldBy}
+use Rattle.deltagraph.specs.Turns.{asked}
+use Rattle.deltagraph.proofs.RunSoFar.{GoingOver}
+use Rattle.deltagraph.proofs.serve.answer_script.Given as goal
+
+abbrev pub invariant-loop-reply : goal.invariant-loop-reply
+invariant-loop-reply g l = record {
+  going : GoingOver (g.D.Disk.image l.fn.disk) (g.S.Source.left l.fn.source) (g.K.Sink.written l.fn.sink)
+      l.fn.session l.session (g.D.Disk.image l.disk) (asked l.lines (g.S.Source.left l.source)) (g.K.Sink.written l.sink);
+  told : is_some (g.D.Disk.image l.disk) ≡ is_some (g.D.Disk.image l.fn.disk);
+  held : IfSome (g.D.Disk.image l.disk) (λ image. IsHeldBy l.session.index l.session.names image);
+  lines : Advances l.initial.lines (g.S.Source.left l.fn.source) (g.S.Source.faults l.fn.source) l.lines (g.S.Source.left l.source) (g.S.Source.faults l.source);
+  sink_counted : g.K.Sink.faults l.fn.sink ≤ g.K.Sink.faults l.sink;
+  disk_counted : g.D.Disk.write_faults l.fn.disk ≤ g.D.Disk.write_faults l.disk;
+}
+
+abbrev pub decreases-loop-reply : goal.decreases-loop-reply
+decreases-loop-reply g l = to_come l.lines

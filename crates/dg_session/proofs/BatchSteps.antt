@@ -1,0 +1,480 @@
+-- How a session moves once the lines of a batch were read, and nothing refuses it before they are completed.
+use Rattle.std.proofs.Common.{◌≡◌, inl, inr, ℕ, ◌+◌, ◌<◌, ◌≤◌, Bool, true, false, ◌&&◌, ◌||◌, not, List, [], ◌++◌, Option, Some, None, Result, Ok, Err, if◌then◌else◌, length, map, take, drop, get_or, refl, sym, ◌∙◌, ap, subst, nat_le, nat_lt, arith, length-append}
+use Rattle.std.specs.Prelude.{◌*◌, ◌⊎◌, IfSome, is_some}
+use Rattle.std.specs.List.{All}
+use Rattle.std.proofs.lemmas.List.{length-map, take-append-drop}
+use Rattle.std.proofs.Math.ListN.{get_or-map}
+use borrow.Author.Tests.{le-leb, lt-ltb, le-ltb, ltb-false}
+use Rattle.dg_file.specs.Images.{GainsBatch, GainsBatchOrNot}
+use Rattle.dg_file.specs.Index.{earliest_after, needed_for, new_segment_of, with_segment}
+use Rattle.dg_file.specs.IndexLaws.{BatchesAreAdded, BatchesAreMeasured}
+use Rattle.dg_graph.specs.declared.event.Change.{Change}
+use Rattle.dg_graph.specs.declared.event.Event.{Event}
+use Rattle.dg_graph.specs.declared.limits.TheConstants.{BATCH_LINES_MAX, NAMES_MAX}
+use Rattle.dg_graph.specs.CompletedChanges.{completed, on_value}
+use Rattle.dg_graph.specs.Lines.{ScriptLine}
+use Rattle.dg_graph.specs.Replay.{replay}
+use Rattle.dg_history.specs.declared.limits.TheConstants.{EVENTS_MAX}
+use Rattle.dg_history.specs.Batch.{batch_of, changes_after, names_after}
+use Rattle.dg_history.specs.ChangeGrammar.{change_by_text_in}
+use Rattle.dg_history.specs.FileOfHistory.{size}
+use Rattle.dg_history.specs.History.{History, Batch, earliest_next, events_of, last_time_from, names_of, span_of, with_batch}
+use Rattle.dg_history.specs.LegalHistory.{IsImageOf, IsLegal, StandsAs}
+use Rattle.dg_history.specs.OpenedIndex.{Opening, may_be_named, opening_of}
+use Rattle.dg_machine.specs.declared.limits.Limits.{Limits}
+use Rattle.dg_machine.specs.declared.reply.Head.TheVariants as head
+use Rattle.dg_machine.specs.declared.reply.Refusal.{Refusal}
+use Rattle.dg_machine.specs.declared.reply.Refusal.TheVariants as refusal
+use Rattle.dg_machine.specs.declared.reply.Reply.{Reply}
+use Rattle.dg_machine.specs.Answer.{Answered, accepted, answer, headed, is_refusal, refuse, with_new}
+use Rattle.dg_machine.specs.CutImage.{IsCut, As_before, As_after}
+use Rattle.dg_machine.specs.MachineState.{MachineState, events_in_index, history_in, names_in}
+use Rattle.dg_machine.specs.Needs.{earliest, following, is_writing, needs, refused, when}
+use Rattle.dg_machine.specs.Run.{Step}
+use Rattle.dg_machine.specs.Script.{Asked, Follows}
+use Rattle.dg_session.proofs.Batching.{here, of_here}
+use Rattle.dg_session.proofs.Fitting.{ChangeFits, what_spelled}
+use Rattle.dg_session.proofs.Growing.{IsNext, batch_next, earliest_is, events_with, fitting_next, grown_next, legal_next, names_grown}
+use Rattle.dg_session.proofs.Naming.{Grows, changes_length, grown_new}
+use Rattle.dg_session.proofs.StandsFor.{both_told, not_false, passes, refused_is, some_index, stands}
+use Rattle.dg_session.proofs.Steps.{Comes, accepted_is, accepted_steps, denied, is_accepted, lacking_denies, refused_denies}
+use Rattle.dg_session.specs.BatchCommand.{AddsBatch, BreaksBatch, ComeTo, FailsBatch, FillsFile, IsBack, IsReady, StaysAs, barred, batch_with, command_with, head_of}
+use Rattle.dg_session.specs.BatchLines.{IsBarred, IsBatch, IsFront, NamesGrow, ReadsBatch, first_refusal, lines}
+use Rattle.dg_session.specs.declared.batch_command.AddedBatch.{AddedBatch}
+use Rattle.dg_session.specs.declared.batch_command.BatchCommand.{BatchCommand}
+use Rattle.dg_session.specs.declared.batch_command.BatchCommand.TheVariants.{Load, Append}
+use Rattle.dg_session.specs.declared.batch_lines.BatchLines.{BatchLines}
+use Rattle.dg_session.specs.declared.batch_lines.Front.{Front}
+use Rattle.dg_session.specs.declared.batch_lines.Front.TheVariants.{Whole}
+use Rattle.dg_session.specs.declared.batch_segment.BatchFault.{BatchFault}
+use Rattle.dg_session.specs.declared.batch_segment.BatchFault.TheVariants as fault
+use Rattle.dg_session.specs.declared.halt.Halt.{Halt}
+use Rattle.dg_session.specs.declared.halt.Halt.TheVariants as halt
+use Rattle.dg_session.specs.declared.stop.Stop.TheVariants as stop
+use Rattle.dg_session.specs.declared.stored_history.StoredHistory.{StoredHistory}
+use Rattle.dg_session.specs.Halt.{batch_halt}
+use Rattle.dg_session.specs.Parts.{Parts}
+use Rattle.dg_session.specs.Session.{Answers, ComesTo, CutsOff, Denies, Moves, StandsFor, TakesLines, is_too_full, refusals_by, refused_by}
+use Rattle.dg_session.specs.SessionStart.{index_opening}
+use Rattle.dg_session.specs.SoundHistory.{IsSoundHistory}
+
+-- ---- why the command is refused before its lines are completed
+
+by_first : (b : Bool) (r : Refusal) (rest : List Refusal) → earliest (when b r ++ rest) ≡ (if b then Some r else earliest rest)
+by_first true r rest = refl
+by_first false r rest = refl
+
+-- by the lines that were read, or by what bars it whatever its lines are
+pub refused_first : (which : BatchCommand) (p : Parts) (count read : ℕ)
+    → refused_by p read (needs (command_with which count)) ≡ first_refusal read count (barred which p count)
+refused_first Load p count read = by_first (nat_lt read count) (refusal.ShortBatch read count) (refusals_by (is_some p.index) p 0 (record (needs (command_with Load count)) { lines = None }))
+refused_first Append p count read = by_first (nat_lt read count) (refusal.ShortBatch read count) (refusals_by (is_some p.index) p 0 (record (needs (command_with Append count)) { lines = None }))
+
+-- nothing refuses it only where its lines are as many as were asked for, and nothing bars it
+none_first : (read count : ℕ) (bar : Option Refusal) → first_refusal read count bar ≡ None → (count ≤ read) × (bar ≡ None)
+none_first read count bar h = by (nat_lt read count) refl h
+  where
+    by : (short : Bool) → nat_lt read count ≡ short → (if short then Some (refusal.ShortBatch read count) else bar) ≡ None → (count ≤ read) × (bar ≡ None)
+    by true is e = cc
+    by false is e = (ltb-false read count is, e)
+
+-- what holds where nothing bars the batch
+pub record IsFree (p : Parts) (count : ℕ) : Type 0 where
+  pub index : Opening
+  pub there : p.index ≡ Some index
+  pub room : length p.events + count ≤ p.limits.events
+  pub few_names : length p.names + 2 * count ≤ NAMES_MAX
+
+free_by : (p : Parts) (count : ℕ) → 1 ≤ count → not (is_some p.index) ≡ false → (nat_lt 0 count && is_too_full p count) ≡ false → IsFree p count
+free_by p count some there room = by_index p.index refl (not_false (is_some p.index) there)
+  where
+    neither : (a b : Bool) → (a || b) ≡ false → (a ≡ false) × (b ≡ false)
+    neither true b e = cc
+    neither false true e = cc
+    neither false false e = (refl, refl)
+
+    parts : (nat_lt p.limits.events (length p.events + count) ≡ false) × (nat_lt NAMES_MAX (length p.names + 2 * count) ≡ false)
+    parts =
+        neither (nat_lt p.limits.events (length p.events + count)) (nat_lt NAMES_MAX (length p.names + 2 * count))
+        (ap (λ b. b && is_too_full p count) (sym (lt-ltb 0 count (omega (arith, some)))) ∙ room)
+
+    by_index : (i : Option Opening) → p.index ≡ i → is_some p.index ≡ true → IsFree p count
+    by_index None is h = let e : false ≡ true = sym (ap is_some is) ∙ h in cc
+    by_index (Some o) is h = record {
+      index = o;
+      there = is;
+      room = ltb-false p.limits.events (length p.events + count) parts.0;
+      few_names = ltb-false NAMES_MAX (length p.names + 2 * count) parts.1;
+    }
+
+pub none_bars : (which : BatchCommand) (p : Parts) (count : ℕ) → 1 ≤ count → barred which p count ≡ None → IsFree p count
+none_bars Load p count some h =
+    let a = passes (not (is_some p.index)) refusal.NoIndex _ h in
+    let b = passes (is_some (span_of p.events)) refusal.AlreadyLoaded _ a.1 in
+    let c = passes (nat_lt 0 count && is_too_full p count) (refusal.HistoryFull (length p.events) count) _ b.1 in
+    free_by p count some a.0 c.0
+none_bars Append p count some h =
+    let a = passes (not (is_some p.index)) refusal.NoIndex _ h in
+    let c = passes (nat_lt 0 count && is_too_full p count) (refusal.HistoryFull (length p.events) count) _ a.1 in
+    free_by p count some a.0 c.0
+
+pub barred_denies : (which : BatchCommand) (count : ℕ) (old new : Parts) (names grown : List (List ℕ)) (before after : Option (List ScriptLine)) (image : Option (List ℕ)) (r : Refusal)
+    → new ≡ old → (b : IsBarred count (barred which old count) before after names grown r)
+    → Denies (command_with which count) b.got old image new image r
+barred_denies which count old new names grown before after image r same b =
+    refused_denies (command_with which count) b.got old new image image r same refl (refused_first which old count (length b.got) ∙ b.refused)
+
+-- what the lines come to that are no batch to be completed
+pub unread_comes : (which : BatchCommand) (count : ℕ) (old new : Parts) (names grown : List (List ℕ)) (before after : Option (List ScriptLine)) (image : Option (List ℕ)) (h : Halt)
+    → (grown ≡ names → new ≡ old) → ReadsBatch count (barred which old count) before after names grown (Err h) → (h ≡ halt.Stop stop.Store → ⊥)
+    → Comes (command_with which count) count before after old image new image (Err h)
+unread_comes which count old new names grown before after image (halt.Refusal r) back b no_store =
+    (b.got, b.follows, barred_denies which count old new names grown before after image r (back b.same) b)
+unread_comes which count old new names grown before after image (halt.Stop stop.Read) back b no_store = ([], tt, record { same = back b; same_image = refl })
+unread_comes which count old new names grown before after image (halt.Stop stop.Limit) back b no_store = ([], tt, record { same = back b; same_image = refl })
+unread_comes which count old new names grown before after image (halt.Stop stop.Store) back b no_store = absurd (no_store refl)
+
+-- a batch that was read and is not added
+pub takes_failed : (count : ℕ) (before : Option (List ScriptLine)) (got : List ScriptLine) (after : Option (List ScriptLine)) (f : BatchFault)
+    → Follows count before got after → TakesLines {A = Reply} count before got after (Err (batch_halt f))
+takes_failed count before got after (fault.BadChange line reason) h = h
+takes_failed count before got after (fault.FileFull n most) h = h
+takes_failed count before got after fault.Memory h = h
+takes_failed count before got after fault.Store h = h
+
+-- so many lines follow the command
+pub follows_with : (which : BatchCommand) (count : ℕ) → following (command_with which count) ≡ count
+follows_with Load count = refl
+follows_with Append count = refl
+
+writes : (which : BatchCommand) (count : ℕ) → is_writing (command_with which count) ≡ true
+writes Load count = refl
+writes Append count = refl
+
+lacks : (which : BatchCommand) (count : ℕ) → (needs (command_with which count)).memory ≡ true
+lacks Load count = refl
+lacks Append count = refl
+
+ok_head : (which : BatchCommand) (events total last : ℕ) → is_refusal (head_of which events total last) ≡ false
+ok_head Load events total last = refl
+ok_head Append events total last = refl
+
+-- what the machine answers to the lines
+accepted_new : (which : BatchCommand) (m : MachineState) (count : ℕ) (got : List ScriptLine)
+    → accepted m (command_with which count) got ≡ with_new m (history_in m.index) (head_of which) (batch_of (history_in m.index) got)
+accepted_new Load m count got = refl
+accepted_new Append m count got = refl
+
+-- ---- what was read, and the history that it is to be added to
+
+-- The session keeps a history, in which the names have grown by those of a batch that nothing refuses yet.
+pub record IsAsked (which : BatchCommand) (p : Parts) (count known limit : ℕ) (c : StoredHistory) (b : BatchLines) (before after : Option (List ScriptLine)) : Type 0 where
+  pub index : p.index ≡ index_opening c.index
+  pub known_is : known ≡ length p.names
+  pub events : c.events.items ≡ p.events
+  pub limit_is : limit ≡ p.limits.file_bytes
+  pub few_events : p.limits.events ≤ EVENTS_MAX
+  pub some : 1 ≤ count
+  pub few : count ≤ BATCH_LINES_MAX
+  pub batch : IsBatch count (barred which p count) before after p.names c.names b
+
+-- the history that the session stands for
+record IsOf (p : Parts) (o : Opening) (image : List ℕ) (m : MachineState) (z : History) : Type 0 where
+  index : m.index ≡ Some z
+  opened : o ≡ opening_of z
+  stands : IsImageOf z image
+  names : p.names ≡ names_of z
+  events : p.events ≡ events_of z
+
+is_of : (p : Parts) (o : Opening) (image : List ℕ) (m : MachineState) → p.index ≡ Some o → StandsFor p image m → (z : History) × IsOf p o image m z
+is_of p o image m there s =
+    let z = some_index o m.index (sym there ∙ s.index) in (
+      z.0,
+      record {
+        index = z.1;
+        opened = z.2;
+        stands = subst (λ (i : Option History). StandsAs i image) z.1 s.image_stands;
+        names = s.names ∙ ap names_in z.1;
+        events = s.events ∙ ap events_in_index z.1;
+      },
+    )
+
+-- the batch of the lines, in the names with their texts
+abbrev batch_in : History → List ScriptLine → List Event → Batch
+batch_in z got events = record { names = drop (length (names_of z)) (names_after (names_of z) (map change_by_text_in got)); events = events }
+
+-- the answer, by its test
+abbrev by_room : MachineState → History → BatchCommand → Batch → Bool → Answered
+by_room m z which b full =
+    if full then refuse m (refusal.FileFull (size (with_batch z b)) m.limits.file_bytes)
+    else record {
+      reply = headed (head_of which (length b.events) (length (events_of z) + length b.events) (last_time_from 0 b.events));
+      state = record m { index = Some (with_batch z b) };
+    }
+
+-- the session with what the history holds
+abbrev pub with_history : Parts → StoredHistory → Parts
+with_history p c = record p { index = index_opening c.index; names = c.names; events = c.events.items }
+
+module _ (which : BatchCommand) (p : Parts) (count known limit : ℕ) (c : StoredHistory) (b : BatchLines) (lines_before lines_after : Option (List ScriptLine)) (a : IsAsked which p count known limit c b lines_before lines_after) where
+  abbrev Got : List ScriptLine
+  Got = a.batch.got
+
+  pub free : IsFree p count
+  free = none_bars which p count a.some (none_first b.read count (barred which p count) a.batch.free).1
+
+  pub opening_there : index_opening c.index ≡ Some free.index
+  opening_there = sym a.index ∙ free.there
+
+  all_read : count ≤ b.read
+  all_read = (none_first b.read count (barred which p count) a.batch.free).0
+
+  names_kept : take known c.names ≡ p.names
+  names_kept = ap (λ (k : ℕ). take k c.names) a.known_is ∙ a.batch.kept
+
+  not_refused : refused_by p (length Got) (needs (command_with which count)) ≡ None
+  not_refused =
+      ap (λ (n : ℕ). refused_by p n (needs (command_with which count))) a.batch.reads.read_is ∙ refused_first which p count b.read ∙ a.batch.free
+
+  free_of : (image : List ℕ) (m : MachineState) → StandsFor p image m → refused m (command_with which count) Got ≡ None
+  free_of image m s = sym (refused_is p image m (command_with which count) Got s) ∙ not_refused
+
+  -- ---- the batch may be added
+
+  changes_are : b.front ≡ Whole → changes_after p.names (map change_by_text_in Got) ≡ lines b.changes.items
+  changes_are whole = subst (λ (x : Front). IsFront x b.changes.items (changes_after p.names (map change_by_text_in Got))) whole a.batch.reads.changes_are
+
+  names_are : b.front ≡ Whole → c.names ≡ names_after p.names (map change_by_text_in Got)
+  names_are whole = subst (λ (x : Front). NamesGrow x p.names c.names Got) whole a.batch.reads.names_are
+
+  many_changes : b.front ≡ Whole → length b.changes.items ≡ length Got
+  many_changes whole =
+      sym (length-map b.changes.items (λ (x : Change). Some x)) ∙ ap length (sym (changes_are whole)) ∙ changes_length p.names (map change_by_text_in Got) ∙ length-map Got change_by_text_in
+
+  long : length p.names + length (drop known c.names) ≡ length c.names
+  long =
+      ap (λ (ns : List (List ℕ)). length ns + length (drop known c.names)) (sym names_kept)
+      ∙ sym (length-append (take known c.names) (drop known c.names)) ∙ ap length (take-append-drop known c.names)
+
+  named : b.front ≡ Whole → may_be_named (take known c.names) (drop known c.names) ≡ true
+  named whole =
+      let g : Grows p.names c.names = grown_next p.names c.names Got (names_are whole) in
+      let new : List (List ℕ) = drop (length p.names) c.names in
+      let many : length p.names + length new ≡ length c.names = ap (λ (k : ℕ). length p.names + length (drop k c.names)) (sym a.known_is) ∙ long in
+      ap (λ (k : ℕ). may_be_named (take k c.names) (drop k c.names)) a.known_is
+      ∙ ap (λ (ns : List (List ℕ)). may_be_named ns new) a.batch.kept
+      ∙ ap (λ (t : Bool). t && nat_le (length p.names + length new) NAMES_MAX) (grown_new p.names c.names g)
+      ∙ le-leb (length p.names + length new) NAMES_MAX (omega (arith, many, a.batch.few whole))
+
+  change_fits : b.front ≡ Whole → (k : ℕ) (d : Change) → k < length b.changes.items → ChangeFits c.names (get_or b.changes.items k d)
+  change_fits whole k d lt =
+      let fit : All (λ x. IfSome x (ChangeFits c.names)) (lines b.changes.items) = fitting_next p.names c.names Got b.changes.items (changes_are whole) (names_are whole) in
+      subst (λ (o : Option Change). IfSome o (ChangeFits c.names)) (get_or-map (λ (x : Change). Some x) b.changes.items k d)
+      (fit k (Some d) (omega (arith, lt, length-map b.changes.items (λ (x : Change). Some x))))
+
+  pub is_ready : IsSoundHistory p.index p.names c.now c.events.items → IfSome (index_opening c.index) (λ o. IsReady o known c b.front b.changes.items)
+  is_ready sound = here (index_opening c.index) free.index (λ o. IsReady o known c b.front b.changes.items) opening_there (record {
+    sound = subst (λ (ns : List (List ℕ)). IsSoundHistory (Some free.index) ns c.now c.events.items) (sym names_kept)
+        (subst (λ (i : Option Opening). IsSoundHistory i p.names c.now c.events.items) free.there sound);
+    within = omega (arith, long, a.known_is);
+    some = λ whole. omega (arith, many_changes whole, a.batch.reads.read_is, all_read, a.some);
+    few = omega (arith, a.batch.within, a.batch.most, a.few);
+    room = omega (arith, free.room, a.few_events, a.batch.within, a.batch.most, ap length a.events);
+    named = named;
+    fit = λ whole k d lt. what_spelled (length c.names) (get_or b.changes.items k d).what (omega (arith, a.batch.few whole)) (change_fits whole k d lt).numbers;
+    timed = λ whole k d lt. (change_fits whole k d lt).time;
+  })
+
+  -- ---- what the lines come to
+
+  completed_is : (image : List ℕ) (m : MachineState) (z : History) (due : Result (List Event) (ℕ × ℕ)) → IsOf p free.index image m z → ComeTo free.index c.events.items b.front b.changes.items due
+      → completed 1 (earliest_next (span_of (events_of z))) (replay (events_of z)) (changes_after (names_of z) (map change_by_text_in Got)) ≡ due
+  completed_is image m z due h come =
+      let time : earliest_after 0 free.index.segments ≡ earliest_next (span_of (events_of z)) =
+      ap (λ (x : Opening). earliest_after 0 x.segments) h.opened ∙ earliest_is z h.stands.legal in
+      ap (λ (t : ℕ). completed 1 t (replay (events_of z)) (changes_after (names_of z) (map change_by_text_in Got))) (sym time)
+      ∙ ap (λ (es : List Event). completed 1 (earliest_after 0 free.index.segments) (replay es) (changes_after (names_of z) (map change_by_text_in Got))) (sym (a.events ∙ h.events))
+      ∙ ap (λ (ns : List (List ℕ)). completed 1 (earliest_after 0 free.index.segments) (replay c.events.items) (changes_after ns (map change_by_text_in Got))) (sym h.names)
+      ∙ come (changes_after p.names (map change_by_text_in Got)) a.batch.reads.changes_are
+
+  -- the answer, by what the lines come to
+  answer_with : (image : List ℕ) (m : MachineState) (z : History) (due : Result (List Event) (ℕ × ℕ)) → StandsFor p image m → IsOf p free.index image m z → ComeTo free.index c.events.items b.front b.changes.items due
+      → answer m (command_with which count) Got ≡ with_new m z (head_of which) (on_value (batch_in z Got) due)
+  answer_with image m z due s h come =
+      accepted_is m (command_with which count) Got (with_new m z (head_of which) (on_value (batch_in z Got) due)) (free_of image m s)
+      (accepted_new which m count Got
+      ∙ ap (λ (i : Option History). with_new m (history_in i) (head_of which) (batch_of (history_in i) Got)) h.index
+      ∙ ap (λ r. with_new m z (head_of which) (on_value (batch_in z Got) r)) (completed_is image m z due h come))
+
+  -- ---- where every line is a change
+
+  module _ (events : List Event) (whole : b.front ≡ Whole) (come : ComeTo free.index c.events.items b.front b.changes.items (Ok events)) where
+    abbrev New : Batch
+    New = batch_with known c.names events
+
+    is_next : (image : List ℕ) (m : MachineState) (z : History) → IsOf p free.index image m z → IsNext z Got b.changes.items c.names events
+    is_next image m z h =
+        let are : changes_after (names_of z) (map change_by_text_in Got) ≡ lines b.changes.items =
+        ap (λ (ns : List (List ℕ)). changes_after ns (map change_by_text_in Got)) (sym h.names) ∙ changes_are whole in
+        record {
+          changes_are = are;
+          names_are = names_are whole ∙ ap (λ (ns : List (List ℕ)). names_after ns (map change_by_text_in Got)) h.names;
+          comes = ap (completed 1 (earliest_next (span_of (events_of z))) (replay (events_of z))) (sym are) ∙ completed_is image m z (Ok events) h come;
+          some = omega (arith, a.batch.reads.read_is, all_read, a.some);
+          few = omega (arith, a.batch.reads.read_is, a.batch.most, a.few);
+          room = omega (arith, free.room, a.few_events, a.batch.reads.read_is, a.batch.most, ap length h.events);
+          few_names = a.batch.few whole;
+        }
+
+    known_of : (image : List ℕ) (m : MachineState) (z : History) → IsOf p free.index image m z → known ≡ length (names_of z)
+    known_of image m z h = a.known_is ∙ ap length h.names
+
+    -- the batch of the lines, as the file gets it
+    answer_new : (image : List ℕ) (m : MachineState) (z : History) → StandsFor p image m → IsOf p free.index image m z
+        → answer m (command_with which count) Got ≡ by_room m z which New (nat_lt m.limits.file_bytes (size (with_batch z New)))
+    answer_new image m z s h =
+        let next : IsNext z Got b.changes.items c.names events = is_next image m z h in
+        answer_with image m z (Ok events) s h come
+        ∙ ap (λ (ns : List (List ℕ)). let x : Batch = record { names = drop (length (names_of z)) ns; events = events } in with_new m z (head_of which) (Ok x)) (sym next.names_are)
+        ∙ ap (λ (k : ℕ). with_new m z (head_of which) (Ok (batch_with k c.names events))) (sym (known_of image m z h))
+
+    needed_is : BatchesAreMeasured → (image : List ℕ) (m : MachineState) (z : History) → IsOf p free.index image m z → needed_for free.index (new_segment_of New) ≡ size (with_batch z New)
+    needed_is measured image m z h = ap (λ (x : Opening). needed_for x (new_segment_of New)) h.opened ∙ measured z New
+
+    -- the file has too little room
+    full_steps : BatchesAreMeasured → (n : ℕ) → n ≡ needed_for free.index (new_segment_of New) → limit < n → (image : List ℕ) (m : MachineState) → StandsFor p image m
+        → Step m (Asked (command_with which count) Got) (headed (head.Refused (refusal.FileFull n limit))) m
+    full_steps measured n n_is over image m s =
+        let found = is_of p free.index image m free.there s in
+        let z : History = found.0 in
+        let needed : n ≡ size (with_batch z New) = n_is ∙ needed_is measured image m z found.1 in
+        let limits : limit ≡ m.limits.file_bytes = a.limit_is ∙ ap (λ (x : Limits). x.file_bytes) s.limits in
+        let full : nat_lt m.limits.file_bytes (size (with_batch z New)) ≡ true = lt-ltb m.limits.file_bytes (size (with_batch z New)) (omega (arith, over, needed, limits)) in
+        accepted_steps m (command_with which count) Got (refuse m (refusal.FileFull n limit))
+        (answer_new image m z s found.1 ∙ ap (by_room m z which New) full
+        ∙ ap (λ (k : ℕ). refuse m (refusal.FileFull k m.limits.file_bytes)) (sym needed) ∙ ap (λ (k : ℕ). refuse m (refusal.FileFull n k)) (sym limits))
+
+    -- there is room: the answer, and the legal history with the batch
+    record IsAdded (m : MachineState) (z : History) : Type 0 where
+      answered : answer m (command_with which count) Got
+          ≡ record { reply = headed (head_of which (length events) (length (p.events ++ events)) (last_time_from 0 events)); state = record m { index = Some (with_batch z New) } }
+      legal : IsLegal (with_batch z New)
+      names : c.names ≡ names_of (with_batch z New)
+      events_are : p.events ++ events ≡ events_of (with_batch z New)
+
+    is_added : BatchesAreMeasured → needed_for free.index (new_segment_of New) ≤ limit → (image : List ℕ) (m : MachineState) (z : History) → StandsFor p image m → IsOf p free.index image m z → IsAdded m z
+    is_added measured fits image m z s h =
+        let next : IsNext z Got b.changes.items c.names events = is_next image m z h in
+        let same : batch_next z c.names events ≡ New = ap (λ (k : ℕ). batch_with k c.names events) (sym (known_of image m z h)) in
+        let room : nat_lt m.limits.file_bytes (size (with_batch z New)) ≡ false =
+        le-ltb m.limits.file_bytes (size (with_batch z New)) (omega (arith, fits, needed_is measured image m z h, a.limit_is, ap (λ (x : Limits). x.file_bytes) s.limits)) in
+        let total : length (events_of z) + length events ≡ length (p.events ++ events) = omega (arith, length-append p.events events, ap length h.events) in
+        record {
+          answered = answer_new image m z s h ∙ ap (by_room m z which New) room
+              ∙ ap (λ (n : ℕ). let x : Answered = record { reply = headed (head_of which (length events) n (last_time_from 0 events)); state = record m { index = Some (with_batch z New) } } in x) total;
+          legal = subst (λ (x : Batch). IsLegal (with_batch z x)) same (legal_next z Got b.changes.items c.names events h.stands.legal next);
+          names = sym (ap (λ (x : Batch). names_of (with_batch z x)) (sym same) ∙ names_grown z c.names events (grown_next (names_of z) c.names Got next.names_are));
+          events_are = ap (λ (es : List Event). es ++ events) h.events ∙ sym (events_with z New);
+        }
+
+    add_moves : BatchesAreAdded → BatchesAreMeasured → (q : Parts) (before after : List ℕ) (reply : Reply)
+        → needed_for free.index (new_segment_of New) ≤ limit → GainsBatch (new_segment_of New) before after
+        → q ≡ record p { index = Some (with_segment free.index (new_segment_of New)); names = c.names; events = p.events ++ events }
+        → reply ≡ headed (head_of which (length events) (length (p.events ++ events)) (last_time_from 0 events))
+        → Moves (command_with which count) Got p before q after reply
+    add_moves added measured q before after reply fits gains q_is reply_is m s =
+        let found = is_of p free.index before m free.there s in
+        let z : History = found.0 in
+        let h : IsOf p free.index before m z = found.1 in
+        let is : IsAdded m z = is_added measured fits before m z s h in
+        let k : MachineState = record m { index = Some (with_batch z New) } in
+        let index : Some (with_segment free.index (new_segment_of New)) ≡ Some (opening_of (with_batch z New)) =
+        ap (λ (x : Opening). Some (with_segment x (new_segment_of New))) h.opened ∙ ap (λ (x : Opening). Some x) (added z New) in (
+          k,
+          subst (λ (r : Reply). Step m (Asked (command_with which count) Got) r k) (sym reply_is)
+              (accepted_steps m (command_with which count) Got (record { reply = headed (head_of which (length events) (length (p.events ++ events)) (last_time_from 0 events)); state = k }) is.answered),
+          stands q after k
+              (q_is ∙ (λ i. record { limits = s.limits i; index = index i; names = is.names i; events = is.events_are i; table = s.table i; next = s.next i }))
+              (gains z New h.stands is.legal refl) (λ none. cc),
+        )
+
+    -- the disk failed
+    add_cuts : BatchesAreMeasured → (before after : List ℕ) → needed_for free.index (new_segment_of New) ≤ limit → GainsBatchOrNot (new_segment_of New) before after
+        → CutsOff (command_with which count) Got p before after
+    add_cuts measured before after fits gains m s = by_case found.0 found.1 (is_added measured fits before m found.0 s found.1)
+      where
+        found : (z : History) × IsOf p free.index before m z
+        found = is_of p free.index before m free.there s
+
+        by_case : (z : History) → IsOf p free.index before m z → IsAdded m z → IsCut m (Asked (command_with which count) Got) before after
+        by_case z h is = by_image (gains z New h.stands is.legal refl)
+          where
+            new : Answered
+            new = record { reply = headed (head_of which (length events) (length (p.events ++ events)) (last_time_from 0 events)); state = record m { index = Some (with_batch z New) } }
+
+            by_image : IsImageOf z after ⊎ IsImageOf (with_batch z New) after → IsCut m (Asked (command_with which count) Got) before after
+            by_image (inl same) =
+                As_before (is_accepted m (command_with which count) Got _ is.answered (ok_head which (length events) (length (p.events ++ events)) (last_time_from 0 events)))
+                (subst (λ (i : Option History). StandsAs i after) (sym h.index) same)
+            by_image (inr more) =
+                As_after (is_accepted m (command_with which count) Got _ is.answered (ok_head which (length events) (length (p.events ++ events)) (last_time_from 0 events)))
+                (headed (head_of which (length events) (length (p.events ++ events)) (last_time_from 0 events))) (record m { index = Some (with_batch z New) })
+                (accepted_steps m (command_with which count) Got _ is.answered) more
+
+  -- ---- what the command comes to
+
+  module _ (new : StoredHistory) (before after : Option (List ℕ)) where
+    stays : StaysAs known c new → with_history p new ≡ p
+    stays s =
+        let index : index_opening new.index ≡ p.index = s.0 ∙ sym a.index in
+        let names : new.names ≡ p.names = s.1 ∙ names_kept in
+        let events : new.events.items ≡ p.events = s.2 ∙ a.events in
+        λ i. record p { index = index i; names = names i; events = events i }
+
+    pub batch_added : BatchesAreAdded → BatchesAreMeasured → (x : AddedBatch) → IfSome (index_opening c.index) (λ o. AddsBatch o limit known c new before after b.changes.items b.front x)
+        → Answers (command_with which count) Got p before (with_history p new) after (headed (head_of which x.events x.total x.last))
+    batch_added added measured x adds =
+        let d : AddsBatch free.index limit known c new before after b.changes.items b.front x =
+        of_here (index_opening c.index) free.index (λ o. AddsBatch o limit known c new before after b.changes.items b.front x) opening_there adds in
+        let all : new.events.items ≡ p.events ++ d.events = d.events_are ∙ ap (λ (es : List Event). es ++ d.events) a.events in
+        let index : index_opening new.index ≡ Some (with_segment free.index (new_segment_of (batch_with known c.names d.events))) = d.index in
+        let q_is : with_history p new ≡ record p { index = Some (with_segment free.index (new_segment_of (batch_with known c.names d.events))); names = c.names; events = p.events ++ d.events } =
+        λ i. record p { index = index i; names = d.names i; events = all i } in
+        let told : headed (head_of which x.events x.total x.last) ≡ headed (head_of which (length d.events) (length (p.events ++ d.events)) (last_time_from 0 d.events)) =
+        ap (λ (t : AddedBatch). headed (head_of which t.events t.total t.last)) d.told
+        ∙ ap (λ (n : ℕ). headed (head_of which (length d.events) n (last_time_from 0 d.events))) (ap length all) in
+        record {
+          moves = λ y z ey ez.
+              add_moves d.events d.whole d.come added measured (with_history p new) y z (headed (head_of which x.events x.total x.last)) d.fits
+              (both_told before after (GainsBatch (new_segment_of (batch_with known c.names d.events))) d.gains y z ey ez) q_is told;
+          accepted = ok_head which x.events x.total x.last;
+          held = λ h. d.held;
+          no_index = λ none. let e : Some (with_segment free.index (new_segment_of (batch_with known c.names d.events))) ≡ None = sym index ∙ none in cc;
+          quiet = λ not_writing. let e : true ≡ false = sym (writes which count) ∙ not_writing in cc;
+        }
+
+    pub batch_failed : BatchesAreMeasured → (f : BatchFault) → IfSome (index_opening c.index) (λ o. FailsBatch o limit known c before after b.changes.items b.front f) → IsBack f known c new
+        → (q : Parts) → q ≡ with_history p new → ComesTo (command_with which count) Got p before q after (Err (batch_halt f))
+    batch_failed measured (fault.BadChange line reason) fails back q q_is =
+        let f = of_here (index_opening c.index) free.index (λ o. FailsBatch o limit known c before after b.changes.items b.front (fault.BadChange line reason)) opening_there fails in
+        denied (command_with which count) Got p q before after (refusal.BadChange line reason) (q_is ∙ stays back) f.0
+        (λ m image s.
+        let z = is_of p free.index image m free.there s in
+        accepted_steps m (command_with which count) Got (refuse m (refusal.BadChange line reason)) (answer_with image m z.0 (Err (line, reason)) s z.1 f.1))
+    batch_failed measured (fault.FileFull n most) fails back q q_is =
+        let f = of_here (index_opening c.index) free.index (λ o. FailsBatch o limit known c before after b.changes.items b.front (fault.FileFull n most)) opening_there fails in
+        let d : FillsFile free.index limit known c b.changes.items b.front n = f.2 in
+        subst (λ (k : ℕ). Denies (command_with which count) Got p before q after (refusal.FileFull n k)) (sym f.1)
+        (denied (command_with which count) Got p q before after (refusal.FileFull n limit) (q_is ∙ stays back) f.0
+        (λ m image s. full_steps d.events d.whole d.come measured n d.needed_is d.over image m s))
+    batch_failed measured fault.Memory fails back q q_is =
+        let f : after ≡ before = of_here (index_opening c.index) free.index (λ o. FailsBatch o limit known c before after b.changes.items b.front fault.Memory) opening_there fails in
+        lacking_denies (command_with which count) Got p q before after (q_is ∙ stays back) f (lacks which count) not_refused
+    batch_failed measured fault.Store fails back q q_is =
+        let d : BreaksBatch free.index limit known c before after b.changes.items b.front =
+        of_here (index_opening c.index) free.index (λ o. BreaksBatch o limit known c before after b.changes.items b.front) opening_there fails in (
+          writes which count,
+          λ y z ey ez.
+              add_cuts d.events d.whole d.come measured y z d.fits
+              (both_told before after (GainsBatchOrNot (new_segment_of (batch_with known c.names d.events))) d.gains y z ey ez),
+        )

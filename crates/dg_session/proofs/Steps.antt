@@ -1,0 +1,128 @@
+-- How a step comes from what is refused, for every command alike.
+use Rattle.std.proofs.Common.{◌≡◌, ℕ, Bool, true, false, List, [], Option, Some, None, Result, Ok, Err, length, refl, sym, ◌∙◌, ap, subst}
+use Rattle.std.specs.Prelude.{not, is_some, ◌||◌, ◌&&◌, IsErr, IsErrAnd}
+use Rattle.dg_graph.specs.Lines.{ScriptLine}
+use Rattle.dg_machine.specs.declared.command.Command.{Command}
+use Rattle.dg_machine.specs.declared.reply.Head.TheVariants as head
+use Rattle.dg_machine.specs.declared.reply.Refusal.{Refusal}
+use Rattle.dg_machine.specs.declared.reply.Refusal.TheVariants as refusal
+use Rattle.dg_machine.specs.declared.reply.Reply.{Reply}
+use Rattle.dg_machine.specs.Answer.{Answered, accepted, answer, answer_by, headed, may_lack_memory, no_memory, is_refusal}
+use Rattle.dg_machine.specs.CutImage.{IsAccepted}
+use Rattle.dg_machine.specs.MachineState.{MachineState}
+use Rattle.dg_machine.specs.Needs.{following, needs, refused}
+use Rattle.dg_machine.specs.Run.{Step, Answers, Lacks_memory}
+use Rattle.dg_machine.specs.Script.{Asked}
+use Rattle.dg_session.proofs.Gathering.{follows_none}
+use Rattle.dg_session.proofs.StandsFor.{one_image, refused_is, stands_on}
+use Rattle.dg_session.specs.Parts.{Parts}
+use Rattle.dg_session.specs.declared.halt.Halt.{Halt}
+use Rattle.dg_session.specs.declared.halt.Halt.TheVariants as halt
+use Rattle.dg_session.specs.declared.stop.Stop.TheVariants as stop
+use Rattle.dg_session.specs.Session.{ComesTo, Denies, Moves, StandsFor, Steps, TakesLines, WhereBothTold, refused_by}
+
+-- ---- of the machine
+
+pub refused_steps : (m : MachineState) (c : Command) (lines : List ScriptLine) (r : Refusal) → refused m c lines ≡ Some r
+    → Step m (Asked c lines) (headed (head.Refused r)) m
+refused_steps m c lines r is =
+    subst (λ (o : Option Refusal). Step m (Asked c lines) (answer_by o m c lines).reply (answer_by o m c lines).state) is (Answers c lines)
+
+-- the answer of a command that is not refused by what it needs
+pub accepted_is : (m : MachineState) (c : Command) (lines : List ScriptLine) (a : Answered) → refused m c lines ≡ None → accepted m c lines ≡ a
+    → answer m c lines ≡ a
+accepted_is m c lines a none is = ap (λ (o : Option Refusal). answer_by o m c lines) none ∙ is
+
+pub accepted_steps : (m : MachineState) (c : Command) (lines : List ScriptLine) (a : Answered) → answer m c lines ≡ a → Step m (Asked c lines) a.reply a.state
+accepted_steps m c lines a is = subst (λ (x : Answered). Step m (Asked c lines) x.reply x.state) is (Answers c lines)
+
+pub lacking_steps : (m : MachineState) (c : Command) (lines : List ScriptLine) → (needs c).memory ≡ true → refused m c lines ≡ None
+    → Step m (Asked c lines) no_memory m
+lacking_steps m c lines memory none = Lacks_memory c lines (by memory none)
+  where
+    or_true : (a : Bool) → (a || true) ≡ true
+    or_true true = refl
+    or_true false = refl
+
+    by : (needs c).memory ≡ true → refused m c lines ≡ None → may_lack_memory m c lines ≡ true
+    by x y = (λ i. x i && (is_some (needs c).lines || not (is_some (y i)))) ∙ or_true (is_some (needs c).lines)
+
+-- a command whose answer is no refusal may be cut off
+pub is_accepted : (m : MachineState) (c : Command) (lines : List ScriptLine) (a : Answered) → answer m c lines ≡ a → is_refusal a.reply.head ≡ false
+    → IsAccepted m (Asked c lines)
+is_accepted m c lines a is accepted = ap (λ (x : Answered). is_refusal x.reply.head) is ∙ accepted
+
+-- ---- of the session
+
+-- a refusal that the machine may give, where nothing has changed
+pub denied : (c : Command) (got : List ScriptLine) (old new : Parts) (before after : Option (List ℕ)) (r : Refusal) → new ≡ old → after ≡ before
+    → ((m : MachineState) (image : List ℕ) → StandsFor old image m → Step m (Asked c got) (headed (head.Refused r)) m)
+    → Denies c got old before new after r
+denied c got old new before after r same same_image step = record {
+  moves = λ x y a b m s. (m, step m x s, stands_on old new x y m same (one_image before after x y same_image a b) s);
+  as_before = record { same = same; same_image = same_image };
+}
+
+-- by what it needs
+pub refused_denies : (c : Command) (got : List ScriptLine) (old new : Parts) (before after : Option (List ℕ)) (r : Refusal) → new ≡ old → after ≡ before
+    → refused_by old (length got) (needs c) ≡ Some r → Denies c got old before new after r
+refused_denies c got old new before after r same same_image is =
+    denied c got old new before after r same same_image (λ m image s. refused_steps m c got r (sym (refused_is old image m c got s) ∙ is))
+
+-- by want of memory
+pub lacking_denies : (c : Command) (got : List ScriptLine) (old new : Parts) (before after : Option (List ℕ)) → new ≡ old → after ≡ before
+    → (needs c).memory ≡ true → refused_by old (length got) (needs c) ≡ None → Denies c got old before new after refusal.OutOfMemory
+lacking_denies c got old new before after same same_image memory none =
+    denied c got old new before after refusal.OutOfMemory same same_image (λ m image s. lacking_steps m c got memory (sym (refused_is old image m c got s) ∙ none))
+
+-- a reply of a command that is not refused, and the state that the session then stands for
+pub moved : (c : Command) (got : List ScriptLine) (old new : Parts) (before after : Option (List ℕ)) (reply : Reply)
+    → refused_by old (length got) (needs c) ≡ None
+    → ((m : MachineState) (x y : List ℕ) → before ≡ Some x → after ≡ Some y → StandsFor old x m → refused m c got ≡ None
+    → (k : MachineState) × (accepted m c got ≡ record { reply = reply; state = k }) × StandsFor new y k)
+    → WhereBothTold before after (λ x y. Moves c got old x new y reply)
+moved c got old new before after reply none step x y a b m s =
+    let free : refused m c got ≡ None = sym (refused_is old x m c got s) ∙ none in
+    let k = step m x y a b s free in
+    (k.0, accepted_steps m c got (record { reply = reply; state = k.0 }) (accepted_is m c got (record { reply = reply; state = k.0 }) free k.1), k.2)
+
+-- what a `?` hands out
+pub handed_out : {A E : Type 0} (r : Result A E) (x : E) (P : Result A E → Type 0) → IsErr r × IsErrAnd r (λ y. y ≡ x) → P (Err x) → P r
+handed_out (Ok a) x P h p = cc
+handed_out (Err e) x P h p = subst (λ y. P (Err y)) (sym h.1) p
+
+-- ---- the command and the lines that follow it
+
+-- what the command comes to with the lines that it takes
+abbrev pub Comes : Command → ℕ → Option (List ScriptLine) → Option (List ScriptLine) → Parts → Option (List ℕ) → Parts → Option (List ℕ) → Result Reply Halt → Type 0
+Comes c count lines_before lines_after old before new after r = (got : List ScriptLine) × TakesLines count lines_before got lines_after r × ComesTo c got old before new after r
+
+takes_none : {A : Type 0} (lines : Option (List ScriptLine)) (r : Result A Halt) → TakesLines 0 lines [] lines r
+takes_none lines (Ok x) = follows_none lines
+takes_none lines (Err (halt.Refusal r)) = follows_none lines
+takes_none lines (Err (halt.Stop stop.Read)) = tt
+takes_none lines (Err (halt.Stop stop.Limit)) = tt
+takes_none lines (Err (halt.Stop stop.Store)) = follows_none lines
+
+-- no lines follow the command
+pub alone : (c x : Command) (lines : Option (List ScriptLine)) (old : Parts) (before : Option (List ℕ)) (new : Parts) (after : Option (List ℕ)) (r : Result Reply Halt) → c ≡ x → following x ≡ 0
+    → ComesTo x [] old before new after r → Comes c (following c) lines lines old before new after r
+alone c x lines old before new after r is none h =
+    subst (λ (y : Command). Comes y (following y) lines lines old before new after r) (sym is)
+    ([], subst (λ (n : ℕ). TakesLines n lines [] lines r) (sym none) (takes_none lines r), h)
+
+-- the reply, where there is one
+pub answered : (c : Command) (lines_before lines_after : Option (List ScriptLine)) (old : Parts) (before : Option (List ℕ)) (new : Parts) (after : Option (List ℕ)) (r : Result Reply Halt) (reply : Reply)
+    → Comes c (following c) lines_before lines_after old before new after r → r ≡ Ok reply → Steps c lines_before lines_after old before new after reply
+answered c lines_before lines_after old before new after r reply h is =
+    let k = subst (Comes c (following c) lines_before lines_after old before new after) is h in (k.0, k.1, k.2.moves)
+
+pub refused_so : (c : Command) (lines_before lines_after : Option (List ScriptLine)) (old : Parts) (before : Option (List ℕ)) (new : Parts) (after : Option (List ℕ)) (r : Result Reply Halt) (why : Refusal) (reply : Reply)
+    → Comes c (following c) lines_before lines_after old before new after r → r ≡ Err (halt.Refusal why) → reply ≡ headed (head.Refused why)
+    → Steps c lines_before lines_after old before new after reply
+refused_so c lines_before lines_after old before new after r why reply h is reply_is =
+    let k = subst (Comes c (following c) lines_before lines_after old before new after) is h in (
+      k.0,
+      k.1,
+      subst (λ (x : Reply). WhereBothTold before after (λ y z. Moves c k.0 old y new z x)) (sym reply_is) k.2.moves,
+    )

@@ -1,0 +1,65 @@
+-- How a session starts over an image.
+use Rattle.std.specs.Prelude.{◌≡◌, ℕ, ◌+◌, List, [], ◌++◌, Option, Some, None, Result, Ok, Err, length, map, slice_get}
+use Rattle.dg_file.specs.Index.{IndexState}
+use Rattle.dg_graph.specs.declared.element.Element.{Element}
+use Rattle.dg_graph.specs.declared.event.Event.{Event}
+use Rattle.dg_history.specs.declared.start_fault.StartFault.{StartFault}
+use Rattle.dg_history.specs.declared.start_fault.StartFault.TheVariants as fault
+use Rattle.dg_machine.specs.declared.limits.Limits.{Limits}
+use Rattle.dg_machine.specs.declared.limits.TheConstants.{FIRST_HANDLE}
+use Rattle.dg_history.specs.History.{History}
+use Rattle.dg_history.specs.LegalHistory.{StandsAs}
+use Rattle.dg_machine.specs.MachineState.{events_in_index, names_in}
+use Rattle.dg_history.specs.OpenedIndex.{Opening, Segment, opening_of}
+use Rattle.dg_history.specs.SessionStart.{Started, first_wrong, start_of}
+use Rattle.std.specs.Option.{option_map}
+use Rattle.dg_session.specs.Parts.{Parts}
+
+-- what the image of an index is opened as, where there is an index
+abbrev pub index_opening : Option IndexState → Option Opening
+index_opening index = option_map (λ (i : IndexState). i.opening) index
+
+-- what a start comes to, as the index, the names and the events that it gives
+abbrev pub started_with : Option Opening → List (List ℕ) → List Event → Option Started
+started_with None names events = None
+started_with (Some o) names events = Some (record { opened = record { index = o; names = names }; events = events })
+
+-- The fault is the reason of what is due. Of a failure of the disk and of want of memory nothing is
+-- said.
+abbrev pub RefusesStart : {A : Type 0} → StartFault → Result A StartFault → Type 0
+RefusesStart fault.Disk due = Unit {0}
+RefusesStart fault.Foreign due = due ≡ Err fault.Foreign
+RefusesStart (fault.Damaged place) due = due ≡ Err (fault.Damaged place)
+RefusesStart (fault.BadRecord key col) due = due ≡ Err (fault.BadRecord key col)
+RefusesStart (fault.BadRecent number) due = due ≡ Err (fault.BadRecent number)
+RefusesStart fault.Memory due = Unit {0}
+
+-- the session has no handle yet, and the index, the names and the events that are due
+pub record StartsAs (limits : Limits) (session : Parts) (due : Result (Option Started) StartFault) : Type 0 where
+  pub started : due ≡ Ok (started_with session.index session.names session.events)
+  pub no_index : session.index ≡ None → (session.names ≡ []) × (session.events ≡ [])
+  pub limits_are : session.limits ≡ limits
+  pub table : session.table ≡ []
+  pub next : session.next ≡ FIRST_HANDLE
+
+-- the fact holds of the image, where the disk tells it, and of the segment of the piece
+abbrev pub InPiece : Option (List ℕ) → Opening → ℕ → (List ℕ → Segment → Type 0) → Type 0
+InPiece told o piece P = (image : List ℕ) (s : Segment) → told ≡ Some image → slice_get o.segments piece ≡ Some s → P image s
+
+-- the number that was found, or else what comes later
+abbrev pub or_later : Option ℕ → Option ℕ → Option ℕ
+or_later None later = later
+or_later (Some n) later = Some n
+
+-- The first of the segment's events that is not right has this number; where all are right, they lead
+-- from one set to the other.
+abbrev pub FirstWrong : List (List ℕ) → Segment → ℕ → List Element → List Event → Option ℕ → List Element → Type 0
+FirstWrong names s number set events wrong after =
+    (more : List (Segment × Event)) → first_wrong names number set (map (λ (e : Event). (s, e)) events ++ more)
+    ≡ or_later wrong (first_wrong names (number + length events) after more)
+
+-- what an image that stands for a history, or for none, starts as
+abbrev pub StartsAsItStands : Type 0
+StartsAsItStands =
+    (index : Option History) (image : List ℕ) → StandsAs index image
+    → start_of image ≡ Ok (started_with (option_map opening_of index) (names_in index) (events_in_index index))
