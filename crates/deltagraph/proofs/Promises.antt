@@ -115,26 +115,26 @@ pub session_promise : (limits : Limits) (session : Parts) (s : Status) (start mi
 session_promise limits session s start mid now left source written sink image writes starts stands answered =
     let not = begun_not s answered.begun in
     let served : WhereItStands start.image (λ index. Served (machine_at limits index) s start now) =
-        if_some start.image (λ x. (index : Option History) → StandsAs index x → Served (machine_at limits index) s start now)
-        (λ x here index as_index.
-        let one = answered.served x (machine_at limits index) (image ∙ here) (at_some start.image (λ y. (i : Option History) → StandsAs i y → StandsFor session y (machine_at limits i)) x stands here index as_index) in record {
-          entries = one.entries;
-          answers = one.answers;
-          run = one.run;
-          more = one.more;
-          front = subst (λ (o : Option (List ℕ)). option_map script o ≡ option_map (λ rest. one.entries ++ rest) one.more) left one.front;
-          whole = one.whole;
-          gained = subst (λ (o : Option (List ℕ)). Gained s o (texts_of one.answers) now.written) written one.gained;
-          stands = subst (λ (o : Option (List ℕ)). IfSome now.image (λ i. Remains s (last_state (machine_at limits index) one.answers) one.more o i)) image one.stands;
-        }) in
+    if_some start.image (λ x. (index : Option History) → StandsAs index x → Served (machine_at limits index) s start now)
+    (λ x here index as_index.
+    let one = answered.served x (machine_at limits index) (image ∙ here) (at_some start.image (λ y. (i : Option History) → StandsAs i y → StandsFor session y (machine_at limits i)) x stands here index as_index) in record {
+      entries = one.entries;
+      answers = one.answers;
+      run = one.run;
+      more = one.more;
+      front = subst (λ (o : Option (List ℕ)). option_map script o ≡ option_map (λ rest. one.entries ++ rest) one.more) left one.front;
+      whole = one.whole;
+      gained = subst (λ (o : Option (List ℕ)). Gained s o (texts_of one.answers) now.written) written one.gained;
+      stands = subst (λ (o : Option (List ℕ)). IfSome now.image (λ i. Remains s (last_state (machine_at limits index) one.answers) one.more o i)) image one.stands;
+    }) in
     let done : s ≡ status.Done → IfSome start.left (λ script. length script < limits.script_bytes) =
-        λ e. subst (λ (o : Option (List ℕ)). IfSome o (λ script. length script < limits.script_bytes)) left (answered.done e) in
+    λ e. subst (λ (o : Option (List ℕ)). IfSome o (λ script. length script < limits.script_bytes)) left (answered.done e) in
     let limit : s ≡ status.ScriptLimit → (taken : List ℕ) × Gives start.left taken now.left × (length taken ≡ limits.script_bytes) =
-        λ e. let got = answered.script_limit e in (got.0, sym left ∙ got.1, got.2) in
+    λ e. let got = answered.script_limit e in (got.0, sym left ∙ got.1, got.2) in
     let source_fault : s ≡ status.SourceFault → CountRose start.source_faults now.source_faults =
-        λ e. subst (λ (n : ℕ). CountRose n now.source_faults) source (answered.source_fault e) in
+    λ e. subst (λ (n : ℕ). CountRose n now.source_faults) source (answered.source_fault e) in
     let sink_fault : s ≡ status.SinkFault → CountRose start.sink_faults now.sink_faults =
-        λ e. subst (λ (n : ℕ). CountRose n now.sink_faults) sink (answered.sink_fault e) in record {
+    λ e. subst (λ (n : ℕ). CountRose n now.sink_faults) sink (answered.sink_fault e) in record {
       served = served;
       told = answered.told ∙ ap (λ (o : Option (List ℕ)). is_some o) image;
       words = (λ e. absurd (not.0 e), λ e. absurd (cc));

@@ -216,10 +216,10 @@ over_part start now begun old new image more rest written e r going told then_to
     let here = told_as image now.image mid.0 then_told mid.1 in
     let run = going x mid.0 a mid.1 m stands in
     let next = going_on m start.image start.left start.written old new mid.0 here.0 more rest written e r run is (replies mid.0 here.0 mid.1 here.1)
-        (λ none. some_injective here.0 mid.0 (sym here.1 ∙ same none ∙ mid.1)) in
+    (λ none. some_injective here.0 mid.0 (sym here.1 ∙ same none ∙ mid.1)) in
     let k = replies mid.0 here.0 mid.1 here.1 (last_state m run.answers) run.stands in
     let all : texts_of run.answers ++ text new.names r ≡ texts_of next.answers =
-        ap (λ bytes. texts_of run.answers ++ bytes) (session_text new here.0 k.0 r k.2) ∙ sym (texts_more run.answers (record { reply = r; state = k.0 })) in record {
+    ap (λ bytes. texts_of run.answers ++ bytes) (session_text new here.0 k.0 r k.2) ∙ sym (texts_more run.answers (record { reply = r; state = k.0 })) in record {
       entries = next.entries;
       answers = next.answers;
       run = next.run;

@@ -21,11 +21,13 @@ use words::{index_word, words_after_name};
 
 fn main(rt: HostRuntime) -> ExitCode {
     let status = match begin(&rt) {
-        Ok(Begun {
-            _held,
-            words,
-            index,
-        }) => {
+        Ok(
+            Begun {
+                _held,
+                words,
+                index,
+            },
+        ) => {
             // Where the words name no index, the disk is never called.
             let path = index.unwrap_or(String::new(rt.alloc()));
             let mut disk = FileDisk::new(&rt, path);

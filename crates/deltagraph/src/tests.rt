@@ -5,9 +5,9 @@ use crate::serve::{serve, serve_with};
 use crate::status::Status;
 use crate::words::index_word;
 use dg_disk::MemoryDisk;
-use dg_io::{MemorySink, MemorySource};
 use dg_graph::Column;
 use dg_history::{EVENTS_MAX, FILE_BYTES_MAX, Key, StartFault};
+use dg_io::{MemorySink, MemorySource};
 use dg_machine::{Limits, SCRIPT_BYTES_MAX};
 use std::alloc::Global;
 use std::test::Fail;
@@ -305,11 +305,7 @@ fn other_index_files_are_refused_or_stand_for_less(rt: HostRuntime) -> Result<()
 }
 
 // How a run of the first script ends over a disk that fails at this call, and what it writes.
-fn first_over<R: Threads>(
-    rt: &R,
-    alloc: Global,
-    call: u64,
-) -> Result<(Status, Vec<u8>), Fail> {
+fn first_over<R: Threads>(rt: &R, alloc: Global, call: u64) -> Result<(Status, Vec<u8>), Fail> {
     let words = ["history".to_string(alloc)?].to_vec(alloc)?;
     let mut source = MemorySource::new(alloc, FIRST, WHOLE, &[])?;
     let mut sink = MemorySink::new(alloc, WHOLE, &[])?;
@@ -336,7 +332,10 @@ const CALLS_OF_FIRST: u32 = 15;
 fn exactly_a_failed_call_of_the_disk_ends_a_run_by_the_disk(rt: HostRuntime) -> Result<(), Fail> {
     for call in 0..40u32 {
         let (status, written) = first_over(&rt, rt.alloc(), u64::from(call))?;
-        assert!(rt; FIRST_REPLIES.starts_with(written.as_slice()), "at call {call}");
+        assert!(rt;
+            FIRST_REPLIES.starts_with(written.as_slice()),
+            "at call {call}"
+        );
         if call < CALLS_OF_FIRST {
             assert_eq!(rt; status, Status::DiskFault, "at call {call}");
         } else {

@@ -37,8 +37,8 @@ loop-reply-preserved g c =
     let l = c.loop-reply in
     let turn = rw c.in-Ok-Replied.field-0-is at c.in-Ok-Replied.ensures.turn in
     let written = at_ok c.write_reply.result (g.K.Sink.written c.write_reply.new.sink ≡ grown (g.K.Sink.written l.sink) (text c.names.result.now c.in-Ok-Replied.reply))
-        (sym c.is_err.ensures.value ∙ c.if-is_err.false) c.write_reply.ensures.ok
-        ∙ ap (λ (names : List (List ℕ)). grown (g.K.Sink.written l.sink) (text names c.in-Ok-Replied.reply)) c.names.ensures in record {
+    (sym c.is_err.ensures.value ∙ c.if-is_err.false) c.write_reply.ensures.ok
+    ∙ ap (λ (names : List (List ℕ)). grown (g.K.Sink.written l.sink) (text names c.in-Ok-Replied.reply)) c.names.ensures in record {
       going = over_on _ _ _ _ l.session c.next_turn.new.session _ _
           (asked l.lines (g.S.Source.left l.source)) (asked c.next_turn.new.lines (g.S.Source.left c.next_turn.new.source)) _ _ turn.0 c.in-Ok-Replied.reply
           l.invariant.going l.invariant.told turn.1 turn.2 c.in-Ok-Replied.ensures.no_index written;
