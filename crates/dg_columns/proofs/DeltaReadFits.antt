@@ -1,7 +1,7 @@
 -- What is read of a delta's column fits.
-use Rattle.std.proofs.Common.{◌≡◌, ℕ, zero, suc, ◌+◌, ◌<◌, ◌≤◌, ◌^◌, Bool, true, false, cond, ltb, List, [], ◌∷◌, length, take, drop, get_or, filter, Option, Some, None, Result, Ok, Err, refl, sym, ap, subst, ◌∙◌, arith}
+use Rattle.std.proofs.Common.{◌≡◌, ℕ, zero, suc, ◌+◌, ◌<◌, ◌^◌, Bool, true, false, cond, ltb, List, [], ◌∷◌, length, take, drop, Option, Some, None, Result, Ok, Err, refl, sym, ap, subst, ◌∙◌, arith}
 use Rattle.std.specs.Prelude.{not, ◌&&◌, ◌==◌, nat_lt, nat_le}
-use Rattle.std.specs.Int.{Width, w8, w32, w64, from_be_bytes}
+use Rattle.std.specs.Int.{w32, w64, from_be_bytes}
 use Rattle.std.proofs.lemmas.Bool.{ltb-true}
 use Rattle.std.proofs.lemmas.List.{get_or_default}
 use Rattle.dg_columns.specs.ColumnLaws.{AreBytes}
@@ -10,14 +10,13 @@ use Rattle.dg_graph.specs.declared.element.Column.TheVariants as column
 use Rattle.dg_graph.specs.declared.element.Element.{Element}
 use Rattle.dg_graph.specs.declared.element.Element.TheVariants as element
 use Rattle.dg_graph.specs.Columns.{same_column, in_column}
-use Rattle.dg_graph.specs.Composition.{Delta, IsDelta}
+use Rattle.dg_graph.specs.Composition.{Delta}
 use Rattle.dg_graph.specs.Elements.{column_of, has}
-use Rattle.dg_graph.specs.ColumnGrammar.{and_read, any_number, field, one_byte, four_bytes, eight_bytes, edge_fields, value_element, element_at, element_size, rises_from, elements_at, end_at, delta_in}
-use Rattle.dg_set.specs.Apart.{AreApart}
+use Rattle.dg_graph.specs.ColumnGrammar.{and_read, any_number, one_byte, four_bytes, eight_bytes, edge_fields, value_element, element_at, element_size, rises_from, elements_at, end_at}
 use Rattle.dg_columns.specs.Fields.{next_element_at}
 use Rattle.dg_columns.specs.ReadFits.{DeltaFits, DeltasThatAreReadFit}
-use Rattle.dg_columns.specs.Ranges.{EdgeFits, ElementFits, ElementsFit}
-use Rattle.dg_columns.proofs.ElementsAt.{bind_ok, passed, ok_is, done, both, elements_step, elements_are, elements_keep}
+use Rattle.dg_columns.specs.Ranges.{ElementFits, ElementsFit}
+use Rattle.dg_columns.proofs.ElementsAt.{bind_ok, passed, ok_is, elements_step, elements_are, elements_keep}
 use Rattle.dg_columns.proofs.Fields.{IsBytes, bytes_from_all, IsBytes-drop, IsBytes-take, field_ok}
 
 pub bound8 : (bs : List ℕ) → IsBytes bs → from_be_bytes w64 bs < 2 ^ 64

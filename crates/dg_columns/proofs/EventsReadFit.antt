@@ -1,20 +1,19 @@
 -- What is read of an event column fits.
-use Rattle.std.proofs.Common.{◌≡◌, ℕ, zero, suc, ◌+◌, ◌-◌, ◌<◌, ◌≤◌, ◌^◌, Bool, true, false, cond, ltb, List, [], ◌∷◌, length, take, drop, filter, map, Option, Some, None, Result, Ok, Err, refl, sym, ap, subst, ◌∙◌, arith}
+use Rattle.std.proofs.Common.{◌≡◌, ℕ, zero, suc, ◌+◌, ◌-◌, ◌<◌, ◌≤◌, ◌^◌, Bool, true, false, cond, ltb, List, [], ◌∷◌, length, take, drop, filter, Option, Some, None, Result, Ok, refl, sym, ap, subst, ◌∙◌, arith}
 use Rattle.std.specs.Prelude.{not, ◌&&◌, ◌||◌, ◌==◌, nat_lt, nat_le, IfSome, is_some}
-use Rattle.std.specs.Int.{Width, w8, w16, w32, w64, from_be_bytes}
-use Rattle.std.proofs.lemmas.Bool.{ltb-true, leb-true, eqb-false}
+use Rattle.std.specs.Int.{Width, w16, w32, w64, from_be_bytes}
+use Rattle.std.proofs.lemmas.Bool.{leb-true, eqb-false}
 use Rattle.dg_graph.specs.declared.element.Column.{Column}
 use Rattle.dg_graph.specs.declared.element.Column.TheVariants as column
 use Rattle.dg_graph.specs.declared.event.Body.{Body}
 use Rattle.dg_graph.specs.declared.event.Body.TheVariants as body
-use Rattle.dg_graph.specs.declared.event.Event.{Event}
 use Rattle.dg_graph.specs.declared.limits.TheConstants.{TIME_MAX}
 use Rattle.dg_graph.specs.declared.placed.Placed.{Placed}
 use Rattle.dg_graph.specs.Columns.{same_column, column_of_body}
-use Rattle.dg_graph.specs.ColumnGrammar.{and_read, any_number, field, one_byte, two_bytes, four_bytes, eight_bytes, edge_fields, value_of, value_fields, structure_body, body_at, body_size, end_at, events_at, events_in}
+use Rattle.dg_graph.specs.ColumnGrammar.{and_read, any_number, field, one_byte, two_bytes, four_bytes, eight_bytes, edge_fields, value_of, value_fields, structure_body, body_at, body_size, events_at}
 use Rattle.dg_columns.specs.Fields.{placed_at}
-use Rattle.dg_columns.specs.ReadFits.{PositionsRise, PlacedFit, EventsThatAreReadFit}
-use Rattle.dg_columns.specs.Ranges.{EdgeFits, ChangeFits, BodyFits, EventFits, EventsFit}
+use Rattle.dg_columns.specs.ReadFits.{PlacedFit, EventsThatAreReadFit}
+use Rattle.dg_columns.specs.Ranges.{EdgeFits, ChangeFits, BodyFits}
 use Rattle.dg_columns.proofs.ElementsAt.{bind_ok, passed, ok_is}
 use Rattle.dg_columns.proofs.Fields.{IsBytes, bytes_from_all, field_ok}
 use Rattle.dg_columns.proofs.DeltaReadFits.{id_bound, name_bound}

@@ -1,5 +1,5 @@
 -- Sets of three columns, one after another.
-use Rattle.std.proofs.Common.{◌≡◌, ℕ, suc, ◌+◌, ◌<◌, ◌≤◌, Bool, true, false, cond, not, ◌||◌, ◌&&◌, List, [], ◌∷◌, ◌++◌, length, filter, refl, sym, ap, subst, ◌∙◌, IsTrue, arith}
+use Rattle.std.proofs.Common.{◌≡◌, suc, ◌≤◌, Bool, true, false, cond, ◌||◌, ◌&&◌, List, [], ◌∷◌, ◌++◌, length, filter, refl, sym, ap, ◌∙◌, IsTrue, arith}
 use Rattle.std.proofs.lemmas.Bool.{true≢false, false≢true, or_right}
 use Rattle.std.proofs.lemmas.List.Folds.{list_any-append}
 use Rattle.dg_graph.specs.declared.element.Column.{Column}
@@ -12,7 +12,7 @@ use Rattle.dg_graph.specs.Elements.{IsSet, IsBelowFirst, before, column_of, has,
 use Rattle.dg_graph.proofs.Sets.{element_exact, same_members, has_first, has-filter, IsSet-filter}
 use Rattle.dg_set.specs.Apart.{AreApart}
 use Rattle.dg_delta.specs.Deltas.{joined}
-use Rattle.dg_columns.specs.ReadFits.{IsIn, joined_columns, part_in, PartsAreJoinedBack}
+use Rattle.dg_columns.specs.ReadFits.{IsIn, joined_columns, PartsAreJoinedBack}
 
 -- ---- elements of one column
 

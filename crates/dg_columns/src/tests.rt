@@ -12,22 +12,20 @@ use std::test::Fail;
 // The names of the rows are `name` (0) and `A` (1).
 const NAMES: u32 = 2;
 
-// What a column spells: those events of a list that stand at these positions, or a delta.
-enum Spelled {
-    Events {
-        list: &'static [Event],
-        positions: &'static [u16],
-    },
-    Delta {
-        minus: &'static [Element],
-        plus: &'static [Element],
-    },
+// A list of events, the positions of those that stand in the column, and the column's one spelling,
+// counted by hand from docs/FORMATS.md.
+struct EventSpelling {
+    list: &'static [Event],
+    column: Column,
+    positions: &'static [u16],
+    bytes: &'static [u8],
 }
 
-// A column and its one spelling, counted by hand from docs/FORMATS.md.
-struct Spelling {
+// A delta of elements of one column, and the column's one spelling, counted by hand.
+struct DeltaSpelling {
+    minus: &'static [Element],
+    plus: &'static [Element],
     column: Column,
-    spelled: Spelled,
     bytes: &'static [u8],
 }
 
@@ -121,142 +119,117 @@ const EDGE_NAME: Element = Element::EdgeAttr {
     value: 0,
 };
 
-const SPELLINGS: [Spelling; 14] = [
-    Spelling {
+const EVENT_SPELLINGS: [EventSpelling; 8] = [
+    EventSpelling {
+        list: &TWO_NODES,
         column: Column::Structure,
-        spelled: Spelled::Events {
-            list: &TWO_NODES,
-            positions: &[0, 1],
-        },
+        positions: &[0, 1],
         bytes: &[
             0, 0, 0, 2, 0, 0, 0, 0, 0, 0, 0, 0, 0, 10, 1, 0, 0, 0, 0, 0, 0, 0, 1, 0, 1, 0, 0, 0, 0,
             0, 0, 0, 20, 1, 0, 0, 0, 0, 0, 0, 0, 2,
         ],
     },
-    Spelling {
+    EventSpelling {
+        list: &EDGE_AND_VALUE,
         column: Column::Structure,
-        spelled: Spelled::Events {
-            list: &EDGE_AND_VALUE,
-            positions: &[0],
-        },
+        positions: &[0],
         bytes: &[
             0, 0, 0, 1, 0, 0, 0, 0, 0, 0, 0, 0, 0, 30, 3, 0, 0, 0, 0, 0, 0, 0, 5, 0, 0, 0, 0, 0, 0,
             0, 1, 0, 0, 0, 0, 0, 0, 0, 2, 1,
         ],
     },
-    Spelling {
+    EventSpelling {
+        list: &EDGE_AND_VALUE,
         column: Column::NodeAttr,
-        spelled: Spelled::Events {
-            list: &EDGE_AND_VALUE,
-            positions: &[1],
-        },
+        positions: &[1],
         bytes: &VALUE_COLUMN,
     },
-    Spelling {
+    EventSpelling {
+        list: &EDGE_AND_VALUE,
         column: Column::EdgeAttr,
-        spelled: Spelled::Events {
-            list: &EDGE_AND_VALUE,
-            positions: &[],
-        },
+        positions: &[],
         bytes: &[],
     },
-    Spelling {
+    EventSpelling {
+        list: &EDGE_OUT,
         column: Column::Structure,
-        spelled: Spelled::Events {
-            list: &EDGE_OUT,
-            positions: &[0],
-        },
+        positions: &[0],
         bytes: &[
             0, 0, 0, 1, 0, 0, 0, 0, 0, 0, 0, 0, 0, 50, 4, 0, 0, 0, 0, 0, 0, 0, 5, 0, 0, 0, 0, 0, 0,
             0, 1, 0, 0, 0, 0, 0, 0, 0, 2, 1,
         ],
     },
-    Spelling {
+    EventSpelling {
+        list: &VALUE_AND_NODE_OUT,
         column: Column::Structure,
-        spelled: Spelled::Events {
-            list: &VALUE_AND_NODE_OUT,
-            positions: &[1],
-        },
+        positions: &[1],
         bytes: &[
             0, 0, 0, 1, 0, 1, 0, 0, 0, 0, 0, 0, 0, 80, 2, 0, 0, 0, 0, 0, 0, 0, 7,
         ],
     },
-    Spelling {
+    EventSpelling {
+        list: &VALUE_AND_NODE_OUT,
         column: Column::EdgeAttr,
-        spelled: Spelled::Events {
-            list: &VALUE_AND_NODE_OUT,
-            positions: &[0],
-        },
+        positions: &[0],
         bytes: &[
             0, 0, 0, 1, 0, 0, 0, 0, 0, 0, 0, 0, 0, 70, 0, 0, 0, 0, 0, 0, 0, 5, 0, 0, 0, 0, 0, 0, 0,
             1, 0, 0, 0, 2,
         ],
     },
-    Spelling {
+    EventSpelling {
+        list: &[],
         column: Column::NodeAttr,
-        spelled: Spelled::Events {
-            list: &[],
-            positions: &[],
-        },
+        positions: &[],
         bytes: &[],
     },
-    Spelling {
+];
+
+const DELTA_SPELLINGS: [DeltaSpelling; 6] = [
+    DeltaSpelling {
+        minus: &[],
+        plus: &[NODE_1, NODE_2],
         column: Column::Structure,
-        spelled: Spelled::Delta {
-            minus: &[],
-            plus: &[NODE_1, NODE_2],
-        },
         bytes: &[
             0, 0, 0, 0, 0, 0, 0, 2, 1, 0, 0, 0, 0, 0, 0, 0, 1, 1, 0, 0, 0, 0, 0, 0, 0, 2,
         ],
     },
-    Spelling {
+    DeltaSpelling {
+        minus: &[NODE_1],
+        plus: &[NODE_2],
         column: Column::Structure,
-        spelled: Spelled::Delta {
-            minus: &[NODE_1],
-            plus: &[NODE_2],
-        },
         bytes: &[
             0, 0, 0, 1, 1, 0, 0, 0, 0, 0, 0, 0, 1, 0, 0, 0, 1, 1, 0, 0, 0, 0, 0, 0, 0, 2,
         ],
     },
-    Spelling {
+    DeltaSpelling {
+        minus: &[],
+        plus: &[EDGE],
         column: Column::Structure,
-        spelled: Spelled::Delta {
-            minus: &[],
-            plus: &[EDGE],
-        },
         bytes: &[
             0, 0, 0, 0, 0, 0, 0, 1, 2, 0, 0, 0, 0, 0, 0, 0, 5, 0, 0, 0, 0, 0, 0, 0, 1, 0, 0, 0, 0,
             0, 0, 0, 2, 1,
         ],
     },
-    Spelling {
+    DeltaSpelling {
+        minus: &[],
+        plus: &[NODE_A],
         column: Column::NodeAttr,
-        spelled: Spelled::Delta {
-            minus: &[],
-            plus: &[NODE_A],
-        },
         bytes: &[
             0, 0, 0, 0, 0, 0, 0, 1, 0, 0, 0, 0, 0, 0, 0, 1, 0, 0, 0, 0, 0, 0, 0, 1,
         ],
     },
-    Spelling {
+    DeltaSpelling {
+        minus: &[EDGE_NAME],
+        plus: &[],
         column: Column::EdgeAttr,
-        spelled: Spelled::Delta {
-            minus: &[EDGE_NAME],
-            plus: &[],
-        },
         bytes: &[
             0, 0, 0, 1, 0, 0, 0, 0, 0, 0, 0, 5, 0, 0, 0, 1, 0, 0, 0, 0, 0, 0, 0, 0,
         ],
     },
-    Spelling {
+    DeltaSpelling {
+        minus: &[],
+        plus: &[],
         column: Column::EdgeAttr,
-        spelled: Spelled::Delta {
-            minus: &[],
-            plus: &[],
-        },
         bytes: &[],
     },
 ];
@@ -624,25 +597,25 @@ fn stand_at(placed: &[Placed], list: &[Event], positions: &[u16]) -> bool {
 }
 
 #[test]
-fn columns_are_written_and_read_as_the_format_says(rt: HostRuntime) -> Result<(), Fail> {
-    let alloc = rt.alloc();
-    for (row, case) in SPELLINGS.iter().enumerate() {
-        match case.spelled {
-            Spelled::Events { list, positions } => {
-                let bytes = write_events(alloc, list, case.column)?;
-                assert_eq!(rt; bytes.as_slice(), case.bytes, "row {row}");
-                let placed = read_events(alloc, case.bytes, case.column, NAMES)?;
-                assert!(rt; stand_at(&placed, list, positions), "row {row}");
-            }
-            Spelled::Delta { minus, plus } => {
-                let delta = delta_of(alloc, minus, plus)?;
-                let bytes = write_delta(alloc, &delta, case.column)?;
-                assert_eq!(rt; bytes.as_slice(), case.bytes, "row {row}");
-                let read = read_delta(alloc, case.bytes, case.column, NAMES)?;
-                assert_eq!(rt; read.minus().items(), minus, "minus, row {row}");
-                assert_eq!(rt; read.plus().items(), plus, "plus, row {row}");
-            }
-        }
+fn event_columns_are_written_and_read_as_the_format_says(rt: HostRuntime) -> Result<(), Fail> {
+    for (row, case) in EVENT_SPELLINGS.iter().enumerate() {
+        let bytes = write_events(rt.alloc(), case.list, case.column)?;
+        assert_eq!(rt; bytes.as_slice(), case.bytes, "row {row}");
+        let placed = read_events(rt.alloc(), case.bytes, case.column, NAMES)?;
+        assert!(rt; stand_at(&placed, case.list, case.positions), "row {row}");
+    }
+    Ok(())
+}
+
+#[test]
+fn delta_columns_are_written_and_read_as_the_format_says(rt: HostRuntime) -> Result<(), Fail> {
+    for (row, case) in DELTA_SPELLINGS.iter().enumerate() {
+        let delta = delta_of(rt.alloc(), case.minus, case.plus)?;
+        let bytes = write_delta(rt.alloc(), &delta, case.column)?;
+        assert_eq!(rt; bytes.as_slice(), case.bytes, "row {row}");
+        let read = read_delta(rt.alloc(), case.bytes, case.column, NAMES)?;
+        assert_eq!(rt; read.minus().items(), case.minus, "minus, row {row}");
+        assert_eq!(rt; read.plus().items(), case.plus, "plus, row {row}");
     }
     Ok(())
 }

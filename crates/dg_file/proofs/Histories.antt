@@ -26,7 +26,7 @@ use Rattle.dg_history.specs.LegalHistory.{IsLegal, IsLegalBatch, AreLegalAfter, 
 use Rattle.dg_graph.specs.Names.{are_new}
 use Rattle.dg_history.specs.OpenedIndex.{Segment, Directory, opening, opened_of, opening_of, may_be_named, segment_of, segments_of, params_in, params_with, function_in, four_at}
 use Rattle.dg_graph.specs.declared.event.TheConstants.{REASON_TIME}
-use Rattle.dg_file.specs.Growth.{Gated, Keeps}
+use Rattle.dg_file.specs.Growth.{Gated, KeepsFront}
 use Rattle.dg_file.specs.Headers.{DirectoriesFrom, header_rest, segments_told, names_told}
 use Rattle.dg_file.specs.Index.{NewSegment, new_segment_of, blobs_size, names_size, names_text, back_bytes, segment_bytes, segment_put, needed_for, with_segment}
 use Rattle.dg_file.proofs.Opened.{opened_from, stands_new, Follows, follows_to, columns_length, directory_put, directory_length}
@@ -319,7 +319,7 @@ image_gated z gate text before after h closed g =
     image_from z gate (text ++ 0 ∷ g.rest) after h.legal h.fits closed (g.is ∙ ap (λ (l : List ℕ). l ++ gate ∷ (text ++ 0 ∷ g.rest)) h.begins)
 
 -- what is written behind the gate changes nothing
-pub image_kept : (z : History) (before after : List ℕ) → IsImageOf z before → Keeps (size z) before after → IsImageOf z after
+pub image_kept : (z : History) (before after : List ℕ) → IsImageOf z before → KeepsFront (size z) before after → IsImageOf z after
 image_kept z before after h k =
     let n = length (file z) in
     let lt : n < length after = omega (arith, k.reach) in

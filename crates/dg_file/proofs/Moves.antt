@@ -3,7 +3,7 @@ use Rattle.std.proofs.Common.{◌≡◌, ℕ, ◌+◌, ◌-◌, ◌≤◌, inl, 
 use Rattle.std.specs.Prelude.{is_some, IfSome, OnOk, OnErr, Result, Ok, Err}
 use Rattle.std.proofs.lemmas.List.{take_at, drop_at, take-append-drop, length-take-le}
 use Rattle.dg_disk.specs.Image.{HasOffset, WritesPart, put_at, with_piece}
-use Rattle.dg_file.specs.Growth.{Moved, Keeps, Grown, Gated, GatedOrNot}
+use Rattle.dg_file.specs.Growth.{Moved, KeepsFront, Grown, Gated, GatedOrNot}
 use Rattle.dg_file.specs.Images.{BothTold}
 use Rattle.dg_file.proofs.Ranges.{same_fewer}
 
@@ -67,7 +67,7 @@ moved_part x y place len F P f h w = moved_put x y place w.0 F P (λ a k. f a w.
 
 -- ---- one piece put
 
-pub put_keeps : (place : ℕ) (piece a : List ℕ) → place ≤ length a → Keeps place a (put_at place piece a)
+pub put_keeps : (place : ℕ) (piece a : List ℕ) → place ≤ length a → KeepsFront place a (put_at place piece a)
 put_keeps place piece a le =
     let front = length-take-le place a le in
     let is : put_at place piece a ≡ take place a ++ (piece ++ drop (place + length piece) a) = append_assoc (take place a) piece (drop (place + length piece) a) in
@@ -83,7 +83,7 @@ put_grows place piece a le = record {
   is = append_assoc (take place a) piece (drop (place + length piece) a);
 }
 
-pub none_keeps : (place : ℕ) (a : List ℕ) → place ≤ length a → Keeps place a a
+pub none_keeps : (place : ℕ) (a : List ℕ) → place ≤ length a → KeepsFront place a a
 none_keeps place a le = record { same = refl; reach = le }
 
 pub none_grows : (place : ℕ) (piece a : List ℕ) → piece ≡ [] → place ≤ length a → Grown place piece a a
@@ -95,10 +95,10 @@ none_grows place piece a none le = record {
 
 -- ---- one piece behind another
 
-pub keeps_then : (p q : ℕ) (a b c : List ℕ) → p ≤ q → Keeps p a b → Keeps q b c → Keeps p a c
+pub keeps_then : (p q : ℕ) (a b c : List ℕ) → p ≤ q → KeepsFront p a b → KeepsFront q b c → KeepsFront p a c
 keeps_then p q a b c le k m = record { same = same_fewer p q c b le m.same ∙ k.same; reach = omega (arith, m.reach) }
 
-pub grown_keeps : (p : ℕ) (x a b : List ℕ) → Grown p x a b → Keeps p a b
+pub grown_keeps : (p : ℕ) (x a b : List ℕ) → Grown p x a b → KeepsFront p a b
 grown_keeps p x a b g =
     let front = length-take-le p a g.reached in
     record {
@@ -140,7 +140,7 @@ gate_put used gate text a b some g =
 pub gate_part : (used : ℕ) (text a b bytes : List ℕ) → 1 ≤ used → length bytes ≤ 1 → Grown used (text ++ 0 ∷ []) a b → GatedOrNot used text a (put_at (used - 1) bytes b)
 gate_part used text a b [] some few g =
     let none : put_at (used - 1) [] b ≡ b = append_assoc (take (used - 1) b) [] (drop (used - 1 + 0) b) ∙ ap (λ m. take (used - 1) b ++ drop m b) (add-zero (used - 1)) ∙ take-append-drop (used - 1) b in
-    inl (subst (Keeps used a) (sym none) (grown_keeps used (text ++ 0 ∷ []) a b g))
+    inl (subst (KeepsFront used a) (sym none) (grown_keeps used (text ++ 0 ∷ []) a b g))
 gate_part used text a b (gate ∷ []) some few g = inr (gate, gate_put used gate text a b some g)
 gate_part used text a b (x ∷ y ∷ bytes) some few g = absurd (omega arith)
 
@@ -150,9 +150,9 @@ pub place_behind : (x y : Option (List ℕ)) (p q : ℕ) (piece : List ℕ) → 
 place_behind x y p q piece e m =
     moved_after x y (Grown p piece) (λ b. q ≤ length b) (λ a b g. omega (arith, e, grown_long p piece a b g)) m
 
-pub keep_then : (x y z : Option (List ℕ)) (p q : ℕ) → p ≤ q → Moved x y (Keeps p) → Moved y z (Keeps q) → Moved x z (Keeps p)
+pub keep_then : (x y z : Option (List ℕ)) (p q : ℕ) → p ≤ q → Moved x y (KeepsFront p) → Moved y z (KeepsFront q) → Moved x z (KeepsFront p)
 keep_then x y z p q le m n =
-    moved_then x y z (Keeps p) (Keeps q) (Keeps p) (λ a b c k l. keeps_then p q a b c le k l) m n
+    moved_then x y z (KeepsFront p) (KeepsFront q) (KeepsFront p) (λ a b c k l. keeps_then p q a b c le k l) m n
 
 pub grow_then : (x y z : Option (List ℕ)) (p q : ℕ) (s t : List ℕ) → q ≡ p + length s → Moved x y (Grown p s) → Moved y z (Grown q t) → Moved x z (Grown p (s ++ t))
 grow_then x y z p q s t e m n =

@@ -12,10 +12,10 @@ use Rattle.dg_file.specs.declared.fault.ReopenFault.{ReopenFault}
 use Rattle.dg_file.specs.declared.fault.ReopenFault.TheVariants as fault
 use Rattle.dg_file.specs.declared.reading.Found.{Found}
 use Rattle.dg_file.specs.declared.reading.FoundSegment.{FoundSegment}
-use Rattle.dg_file.specs.Growth.{Moved, Keeps, Gated, GatedOrNot}
+use Rattle.dg_file.specs.Growth.{Moved, KeepsFront, Gated, GatedOrNot}
 use Rattle.dg_file.specs.Headers.{IsOpenedSoFar, IsFoundIn, IsFoundAt}
 use Rattle.dg_file.specs.Held.{segment_in}
-use Rattle.dg_file.specs.Images.{BothTold, Fits, GainsBatch, GainsBatchOrNot, GainsSegment, IsOpenedAs, Misses, Refuses}
+use Rattle.dg_file.specs.Images.{BothTold, Fits, GainsBatch, GainsBatchOrNot, GainsSegment, IsOpenedAs, Misses, RefusesOpening}
 use Rattle.dg_file.specs.Index.{NewSegment, events_after, earliest_after, needed_for, with_segment, IsDue, new_segment_of, segment_bytes}
 use Rattle.dg_file.proofs.Found.{some_both, some_weaker}
 use Rattle.dg_file.proofs.Fronts.{stands_from, stands_told}
@@ -40,11 +40,11 @@ end_opened x o names gate closed h =
     some_weaker x (λ image. IsOpenedSoFar image o names gate) (λ image. opening image ≡ Ok (record { index = o; names = names })) (λ image s. so_far_opened image o names gate s closed) h
 
 pub next_refused : (x : Option (List ℕ)) (o : Opening) (names : List (List ℕ)) (f : ReopenFault) → IfSome x (λ image. IsOpenedSoFar image o names 1)
-    → IfSome x (λ image. Misses o.used (directory_at (events_after 0 o.segments) names (earliest_after 0 o.segments) image o.used ≡ None) f) → IfSome x (λ image. Refuses f (opening image))
+    → IfSome x (λ image. Misses o.used (directory_at (events_after 0 o.segments) names (earliest_after 0 o.segments) image o.used ≡ None) f) → IfSome x (λ image. RefusesOpening f (opening image))
 next_refused x o names f so_far misses =
-    some_both x (λ image. IsOpenedSoFar image o names 1) (λ image. Misses o.used (directory_at (events_after 0 o.segments) names (earliest_after 0 o.segments) image o.used ≡ None) f) (λ image. Refuses f (opening image)) (by f) so_far misses
+    some_both x (λ image. IsOpenedSoFar image o names 1) (λ image. Misses o.used (directory_at (events_after 0 o.segments) names (earliest_after 0 o.segments) image o.used ≡ None) f) (λ image. RefusesOpening f (opening image)) (by f) so_far misses
   where
-    by : (f : ReopenFault) (image : List ℕ) → IsOpenedSoFar image o names 1 → Misses o.used (directory_at (events_after 0 o.segments) names (earliest_after 0 o.segments) image o.used ≡ None) f → Refuses f (opening image)
+    by : (f : ReopenFault) (image : List ℕ) → IsOpenedSoFar image o names 1 → Misses o.used (directory_at (events_after 0 o.segments) names (earliest_after 0 o.segments) image o.used ≡ None) f → RefusesOpening f (opening image)
     by (fault.Damaged place) image s m = so_far_damaged image o names s m.1 ∙ ap (λ p. Err (Damaged_at p)) (sym m.0)
     by fault.Disk image s m = tt
     by fault.Memory image s m = tt
@@ -113,7 +113,7 @@ gains o s before after fits e g z b h legal is =
 gains_or_not : (o : Opening) (s : NewSegment) (before after : List ℕ) → needed_for o s ≤ FILE_BYTES_MAX → IsOpenedAs before o → GatedOrNot o.used (segment_bytes s) before after → GainsBatchOrNot s before after
 gains_or_not o s before after fits e (inl kept) z b h legal is =
     let used : o.used ≡ size z = ap (λ (o : Opening). o.used) (sym (same_opening z before o h e)) in
-    inl (image_kept z before after h (subst (λ n. Keeps n before after) used kept))
+    inl (image_kept z before after h (subst (λ n. KeepsFront n before after) used kept))
 gains_or_not o s before after fits e (inr g) z b h legal is = by (g.0 == 1) refl
   where
     by : (t : Bool) → (g.0 == 1) ≡ t → IsImageOf z after ⊎ IsImageOf (with_batch z b) after

@@ -14,7 +14,7 @@ use Rattle.dg_history.specs.FileOfHistory.{name_bytes}
 use Rattle.dg_graph.specs.Names.{number_of, added, is_name, are_new}
 use Rattle.dg_history.specs.OpenedIndex.{two_at, name_at, names_at}
 use Rattle.dg_file.specs.Heads.{is_fresh, TakesName, TakesNames}
-use Rattle.dg_file.specs.Invariant.{AreNamed, texts_in, named_in}
+use Rattle.dg_file.specs.Invariant.{AreNameTexts, texts_in, named_in}
 use Rattle.dg_file.proofs.Ranges.{behind}
 
 -- ---- one name
@@ -302,10 +302,10 @@ short_more : (names : List (List ℕ)) (text : List ℕ) → AreShort names → 
 short_more [] text short le = (le, tt)
 short_more (x ∷ names) text short le = (short.0, short_more names text short.1 le)
 
-pub named_none : AreNamed 0 []
+pub named_none : AreNameTexts 0 []
 named_none = record { count_is = refl; bytes_are = refl; short = short_to [] tt }
 
-more_is : (count : ℕ) (bytes text more : List ℕ) → AreNamed count bytes → length text ≤ NAME_BYTES_MAX → more ≡ bytes ++ name_bytes text → (flat_map name_bytes (named_in count bytes ++ text ∷ []) ≡ more) × (named_in (count + 1) more ≡ named_in count bytes ++ text ∷ [])
+more_is : (count : ℕ) (bytes text more : List ℕ) → AreNameTexts count bytes → length text ≤ NAME_BYTES_MAX → more ≡ bytes ++ name_bytes text → (flat_map name_bytes (named_in count bytes ++ text ∷ []) ≡ more) × (named_in (count + 1) more ≡ named_in count bytes ++ text ∷ [])
 more_is count bytes text more n le is =
     let names : List (List ℕ) = named_in count bytes in
     let whole : flat_map name_bytes (names ++ text ∷ []) ≡ more = flat_map-append name_bytes names (text ∷ []) ∙ (λ i. n.bytes_are i ++ append-nil (name_bytes text) i) ∙ sym is in
@@ -313,10 +313,10 @@ more_is count bytes text more n le is =
     let read = names_read (names ++ text ∷ []) more [] 0 (short_more names text (short_from names n.short) le) (sym whole ∙ sym (append-nil (flat_map name_bytes (names ++ text ∷ [])))) in
     (whole, ap (λ m. named_in m more) (sym number) ∙ ap texts_in read)
 
-pub named_more : (count : ℕ) (bytes text more : List ℕ) → AreNamed count bytes → length text ≤ NAME_BYTES_MAX → more ≡ bytes ++ name_bytes text → named_in (count + 1) more ≡ named_in count bytes ++ text ∷ []
+pub named_more : (count : ℕ) (bytes text more : List ℕ) → AreNameTexts count bytes → length text ≤ NAME_BYTES_MAX → more ≡ bytes ++ name_bytes text → named_in (count + 1) more ≡ named_in count bytes ++ text ∷ []
 named_more count bytes text more n le is = (more_is count bytes text more n le is).1
 
-pub are_named_more : (count : ℕ) (bytes text more : List ℕ) → AreNamed count bytes → length text ≤ NAME_BYTES_MAX → more ≡ bytes ++ name_bytes text → AreNamed (count + 1) more
+pub are_named_more : (count : ℕ) (bytes text more : List ℕ) → AreNameTexts count bytes → length text ≤ NAME_BYTES_MAX → more ≡ bytes ++ name_bytes text → AreNameTexts (count + 1) more
 are_named_more count bytes text more n le is =
     let names : List (List ℕ) = named_in count bytes in
     let m = more_is count bytes text more n le is in

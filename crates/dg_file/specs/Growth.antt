@@ -9,7 +9,7 @@ Moved (Some before) None P = ⊥
 Moved (Some before) (Some after) P = P before after
 
 -- the bytes before the place are as they were, and the bytes reach up to it
-pub record Keeps (place : ℕ) (before after : List ℕ) : Type 0 where
+pub record KeepsFront (place : ℕ) (before after : List ℕ) : Type 0 where
   pub same : take place after ≡ take place before
   pub reach : place ≤ length after
 
@@ -26,4 +26,4 @@ pub record Gated (place gate : ℕ) (text before after : List ℕ) : Type 0 wher
 
 -- what a failure leaves: the gate is as it was, or it has any byte and the text is behind it
 abbrev pub GatedOrNot : ℕ → List ℕ → List ℕ → List ℕ → Type 0
-GatedOrNot used text before after = Keeps used before after ⊎ ((gate : ℕ) × Gated (used - 1) gate text before after)
+GatedOrNot used text before after = KeepsFront used before after ⊎ ((gate : ℕ) × Gated (used - 1) gate text before after)

@@ -21,12 +21,12 @@ IsMadeInPart params old new =
     ⊎ ((length old ≡ 18) × (length new ≡ 18) × (drop 1 new ≡ drop 1 old))
 
 -- the fault says why the image is not opened; of a failure and of want of memory nothing is said
-abbrev pub Refuses : ReopenFault → Result Opened Unopened → Type 0
-Refuses fault.Blank due = due ≡ Err No_index
-Refuses fault.Foreign due = due ≡ Err Not_ours
-Refuses (fault.Damaged place) due = due ≡ Err (Damaged_at place)
-Refuses fault.Disk due = Unit {0}
-Refuses fault.Memory due = Unit {0}
+abbrev pub RefusesOpening : ReopenFault → Result Opened Unopened → Type 0
+RefusesOpening fault.Blank due = due ≡ Err No_index
+RefusesOpening fault.Foreign due = due ≡ Err Not_ours
+RefusesOpening (fault.Damaged place) due = due ≡ Err (Damaged_at place)
+RefusesOpening fault.Disk due = Unit {0}
+RefusesOpening fault.Memory due = Unit {0}
 
 -- the image is opened as this index, with some names
 abbrev pub IsOpenedAs : List ℕ → Opening → Type 0

@@ -43,7 +43,7 @@ abbrev pub named_in : ℕ → List ℕ → List (List ℕ)
 named_in count bytes = texts_in (names_at count bytes 0)
 
 -- the bytes are those of so many names, each of them short
-pub record AreNamed (count : ℕ) (bytes : List ℕ) : Type 0 where
+pub record AreNameTexts (count : ℕ) (bytes : List ℕ) : Type 0 where
   pub count_is : length (named_in count bytes) ≡ count
   pub bytes_are : flat_map name_bytes (named_in count bytes) ≡ bytes
   pub short : All (λ text. length text ≤ NAME_BYTES_MAX) (named_in count bytes)

@@ -5,7 +5,7 @@ ghost use Rattle.dg_disk.specs.Frame.{OnlyWrites};
 ghost use Rattle.dg_disk.specs.Counts.{Rose};
 ghost use Rattle.dg_disk.specs.Image.{HasOffset};
 ghost use Rattle.dg_file.specs.Index.{blobs_size, names_size, head_bytes, segment_bytes};
-ghost use Rattle.dg_file.specs.Growth.{Moved, Keeps, Grown, Gated, GatedOrNot};
+ghost use Rattle.dg_file.specs.Growth.{Moved, KeepsFront, Grown, Gated, GatedOrNot};
 
 use crate::disk_calls::put_down;
 use crate::head::{back_of, front_of};
@@ -19,7 +19,7 @@ fn put<D: Disk>(disk: &mut D, place: u64, piece: &[u8]) -> Result<u64, Failed>
     requires fits { place + length piece.now < 2 ^ 64 }
     ensures behind { IfOk result (λ n. n ≡ place + length piece.now) }
     ensures written { OnOk result (Moved (D.image disk.old) (D.image disk.new) (Grown place piece.now)) }
-    ensures part { Moved (D.image disk.old) (D.image disk.new) (Keeps place) }
+    ensures part { Moved (D.image disk.old) (D.image disk.new) (KeepsFront place) }
     ensures cause { OnErr result (Rose (D.write_faults disk.old) (D.write_faults disk.new)) }
     ensures frame { OnlyWrites D.image D.faults D.write_faults D.taken disk.old disk.new }
 {
@@ -36,7 +36,7 @@ fn put_columns<D: Disk>(disk: &mut D, place: u64, segment: &Segment) -> Result<u
     requires fits { place + blobs_size segment.now < 2 ^ 64 }
     ensures behind { IfOk result (λ n. n ≡ place + blobs_size segment.now) }
     ensures written { OnOk result (Moved (D.image disk.old) (D.image disk.new) (Grown place (segment.now.structure ++ (segment.now.node_attrs ++ segment.now.edge_attrs)))) }
-    ensures part { Moved (D.image disk.old) (D.image disk.new) (Keeps place) }
+    ensures part { Moved (D.image disk.old) (D.image disk.new) (KeepsFront place) }
     ensures cause { OnErr result (Rose (D.write_faults disk.old) (D.write_faults disk.new)) }
     ensures frame { OnlyWrites D.image D.faults D.write_faults D.taken disk.old disk.new }
 {
@@ -51,7 +51,7 @@ fn put_directory<D: Disk>(disk: &mut D, place: u64, segment: &Segment) -> Result
     requires fits { place + names_size segment.now + 76 < 2 ^ 64 }
     ensures behind { IfOk result (λ n. n ≡ place + (76 + names_size segment.now)) }
     ensures written { OnOk result (Moved (D.image disk.old) (D.image disk.new) (Grown place (head_bytes segment.now))) }
-    ensures part { Moved (D.image disk.old) (D.image disk.new) (Keeps place) }
+    ensures part { Moved (D.image disk.old) (D.image disk.new) (KeepsFront place) }
     ensures cause { OnErr result (Rose (D.write_faults disk.old) (D.write_faults disk.new)) }
     ensures frame { OnlyWrites D.image D.faults D.write_faults D.taken disk.old disk.new }
 {
@@ -67,7 +67,7 @@ fn write_segment<D: Disk>(disk: &mut D, place: u64, segment: &Segment) -> Result
     requires place { HasOffset (D.image disk.old) place }
     requires fits { place + names_size segment.now + blobs_size segment.now + 77 < 2 ^ 64 }
     ensures written { OnOk result (Moved (D.image disk.old) (D.image disk.new) (Grown place (segment_bytes segment.now ++ 0 ∷ []))) }
-    ensures part { Moved (D.image disk.old) (D.image disk.new) (Keeps place) }
+    ensures part { Moved (D.image disk.old) (D.image disk.new) (KeepsFront place) }
     ensures cause { OnErr result (Rose (D.write_faults disk.old) (D.write_faults disk.new)) }
     ensures frame { OnlyWrites D.image D.faults D.write_faults D.taken disk.old disk.new }
 {

@@ -10,7 +10,7 @@ ghost use Rattle.dg_history.specs.LegalHistory.{IsImageOf, is_blank};
 ghost use Rattle.dg_history.specs.OpenedIndex.{opening, opened_of, opening_of, column_of_piece, may_follow};
 ghost use Rattle.dg_shape.specs.Entries.{total};
 ghost use Rattle.dg_file.specs.Index.{piece_of, needed_for, with_segment, IsDue, AreInTurn, events_after, columns_bytes, earliest_after, names_count, opening_bytes};
-ghost use Rattle.dg_file.specs.Images.{BothTold, Fits, GainsBatch, GainsBatchOrNot, GainsSegment, IsMadeInPart, IsOpenedAs, Refuses, taken_after};
+ghost use Rattle.dg_file.specs.Images.{BothTold, Fits, GainsBatch, GainsBatchOrNot, GainsSegment, IsMadeInPart, IsOpenedAs, RefusesOpening, taken_after};
 ghost use Rattle.dg_file.specs.Held.{batch_in, pieces_from, span_in, segment_in};
 ghost use Rattle.dg_file.specs.Headers.{IsOpenedSoFar};
 
@@ -172,7 +172,7 @@ impl Index {
         ensures taken { IfOk result (λ index. D.taken disk.new ≡ raised_by (opening_bytes index.opening) (D.taken disk.old)) }
 
         // errors
-        ensures refused { IfErr result (λ fault. IfSome (D.image disk.old) (λ image. Refuses fault (opening image))) }
+        ensures refused { IfErr result (λ fault. IfSome (D.image disk.old) (λ image. RefusesOpening fault (opening image))) }
         ensures cause { IsErrOf result ReopenFault.Disk → Rose (D.faults disk.old) (D.faults disk.new) }
         ensures bounded { OnErr result (IfSome (D.image disk.old) (λ image. D.taken disk.new ≤ D.taken disk.old + length image)) }
 
@@ -202,7 +202,7 @@ impl Index {
         ensures taken { OnOk result ((t : ℕ) → D.taken disk.old ≡ raised_by (opening_bytes self.old.opening) t → D.taken disk.new ≡ raised_by (opening_bytes self.new.opening) t) }
 
         // errors
-        ensures refused { IfErr result (λ fault. IfSome (D.image disk.old) (λ image. Refuses fault (opening image))) }
+        ensures refused { IfErr result (λ fault. IfSome (D.image disk.old) (λ image. RefusesOpening fault (opening image))) }
         ensures cause { IsErrOf result ReopenFault.Disk → Rose (D.faults disk.old) (D.faults disk.new) }
         ensures bounded { OnErr result ((t : ℕ) → D.taken disk.old ≡ raised_by (opening_bytes self.old.opening) t → D.taken disk.new ≤ t + len) }
 
@@ -235,7 +235,7 @@ impl Index {
         ensures taken { OnOk result ((t : ℕ) → D.taken disk.old ≡ raised_by (opening_bytes self.old.opening) t → D.taken disk.new ≡ raised_by (opening_bytes self.new.opening) t) }
 
         // errors
-        ensures refused { IfErr result (λ fault. IfSome (D.image disk.old) (λ image. Refuses fault (opening image))) }
+        ensures refused { IfErr result (λ fault. IfSome (D.image disk.old) (λ image. RefusesOpening fault (opening image))) }
         ensures cause { IsErrOf result ReopenFault.Disk → Rose (D.faults disk.old) (D.faults disk.new) }
         ensures bounded { OnErr result ((t : ℕ) → D.taken disk.old ≡ raised_by (opening_bytes self.old.opening) t → D.taken disk.new ≤ t + len) }
 

@@ -13,7 +13,7 @@ ghost use Rattle.dg_shape.specs.Entries.{total};
 ghost use Rattle.dg_file.specs.Heads.{lengths_at, fit_in, TakesSegment};
 ghost use Rattle.dg_file.specs.Headers.{IsFoundIn, IsFoundAt};
 ghost use Rattle.dg_file.specs.Held.{segment_in};
-ghost use Rattle.dg_file.specs.Images.{Refuses, Misses, taken_after};
+ghost use Rattle.dg_file.specs.Images.{RefusesOpening, Misses, taken_after};
 
 use crate::batch::Noted;
 use crate::directory::{Before, Untaken, read_directory};
@@ -51,7 +51,7 @@ pub(crate) fn read_header<D: Disk>(disk: &mut D) -> Result<Found, ReopenFault>
     ensures taken { OnOk result (D.taken disk.new ≡ raised_by 18 (D.taken disk.old)) }
 
     // errors
-    ensures refused { IfErr result (λ fault. IfSome (D.image disk.old) (λ image. Refuses fault (opening image))) }
+    ensures refused { IfErr result (λ fault. IfSome (D.image disk.old) (λ image. RefusesOpening fault (opening image))) }
     ensures cause { IsErrOf result ReopenFault.Disk → Rose (D.faults disk.old) (D.faults disk.new) }
     ensures bounded { OnErr result (IfSome (D.image disk.old) (λ image. D.taken disk.new ≤ D.taken disk.old + length image)) }
 

@@ -36,13 +36,13 @@ pub struct Segment {
 impl Model for Segment {
     ghost use Rattle.std.specs.Prelude.{◌+◌, ◌<◌, ◌^◌, length};
     ghost use Rattle.dg_file.specs.Index.{NewSegment};
-    ghost use Rattle.dg_file.specs.Invariant.{AreNamed, named_in};
+    ghost use Rattle.dg_file.specs.Invariant.{AreNameTexts, named_in};
 
     ghost Value = { NewSegment };
 
     ghost view = { λ s. record { events = s.events; first = s.first; last = s.last; names = named_in s.names_len s.names.items; structure = s.structure.items; node_attrs = s.node_attrs.items; edge_attrs = s.edge_attrs.items } };
 
-    ghost invariant = { λ s. (length s.names.items + length s.structure.items + length s.node_attrs.items + length s.edge_attrs.items + 77 < 2 ^ 63) × AreNamed s.names_len s.names.items };
+    ghost invariant = { λ s. (length s.names.items + length s.structure.items + length s.node_attrs.items + length s.edge_attrs.items + 77 < 2 ^ 63) × AreNameTexts s.names_len s.names.items };
 }
 
 // Appends the text behind its length. `AllocError` for want of memory: then nothing changes.

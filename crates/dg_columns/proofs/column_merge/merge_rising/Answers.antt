@@ -1,6 +1,6 @@
-use Rattle.std.proofs.Common.{◌≡◌, drop, arith}
+use Rattle.std.proofs.Common.{drop, arith}
 use Rattle.dg_columns.specs.MergeWalk.{MergeStep, walked}
-use Rattle.dg_columns.proofs.MergeWalk.{after_walked, walks_on}
+use Rattle.dg_columns.proofs.MergeWalk.{walks_on}
 use Rattle.dg_columns.proofs.column_merge.merge_rising.Goals as goal
 
 pub loop-position-preserved : goal.loop-position-preserved

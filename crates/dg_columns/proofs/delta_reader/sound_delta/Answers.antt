@@ -1,9 +1,8 @@
-use Rattle.std.proofs.Common.{◌≡◌, ◌+◌, ℕ, List, Option, Some, None, Result, Ok, Err, refl, sym, ap, ◌∙◌}
+use Rattle.std.proofs.Common.{◌≡◌, ℕ, List, Option, Some, None, Result, Ok, Err, refl, sym, ap, ◌∙◌}
 use Rattle.std.specs.Prelude.{IfSome, IsSome}
 use Rattle.std.specs.Result.{result_ok}
 use Rattle.dg_graph.specs.declared.element.Element.{Element}
 use Rattle.dg_graph.specs.Composition.{Delta}
-use Rattle.dg_graph.specs.ColumnGrammar.{elements_at}
 use Rattle.dg_set.specs.Apart.{AreApart}
 use Rattle.dg_columns.specs.declared.fault.ReadFault.{ReadFault}
 use Rattle.dg_columns.specs.ReadOutcome.{IsReadAs}

@@ -1,17 +1,17 @@
 use Rattle.std.proofs.Common.{◌-◌, ◌≤◌, length, inl, arith}
 use Rattle.std.proofs.lemmas.Result.{on_ok_weaker, on_err_weaker}
-use Rattle.dg_file.specs.Growth.{Keeps, GatedOrNot}
+use Rattle.dg_file.specs.Growth.{KeepsFront, GatedOrNot}
 use Rattle.dg_file.specs.Index.{segment_bytes}
 use Rattle.dg_file.proofs.Moves.{moved_after, moved_weaker, on_err_any, gate_opened, gate_left}
 use Rattle.dg_file.proofs.appending.append.Goals as goal
 
 pub put_down-requires : goal.put_down-requires
 put_down-requires g c =
-    moved_after _ _ (Keeps c.args.used) (λ b. c.args.used - 1 ≤ length b) (λ a b k. omega (arith, k.reach)) c.write_segment.ensures.part
+    moved_after _ _ (KeepsFront c.args.used) (λ b. c.args.used - 1 ≤ length b) (λ a b k. omega (arith, k.reach)) c.write_segment.ensures.part
 
 pub returns-in_err-write_segment-clause-part : goal.returns-in_err-write_segment-clause-part
 returns-in_err-write_segment-clause-part g c =
-    on_err_any c.from_residual.result (moved_weaker _ _ (Keeps c.args.used) (GatedOrNot c.args.used (segment_bytes c.args.segment.now)) (λ a b k. inl k) c.write_segment.ensures.part)
+    on_err_any c.from_residual.result (moved_weaker _ _ (KeepsFront c.args.used) (GatedOrNot c.args.used (segment_bytes c.args.segment.now)) (λ a b k. inl k) c.write_segment.ensures.part)
 
 pub returns-clause-part : goal.returns-clause-part
 returns-clause-part g c =

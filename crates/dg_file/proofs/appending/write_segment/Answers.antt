@@ -1,5 +1,5 @@
 use Rattle.std.proofs.Common.{◌≡◌, ℕ, ◌+◌, ◌++◌, ◌∷◌, List, [], sym, ap, subst, ◌∙◌, append_assoc, arith}
-use Rattle.dg_file.specs.Growth.{Moved, Grown, Keeps}
+use Rattle.dg_file.specs.Growth.{Moved, Grown, KeepsFront}
 use Rattle.dg_file.specs.Index.{head_bytes, segment_bytes}
 use Rattle.dg_file.proofs.Opened.{columns_length, head_length}
 use Rattle.dg_file.proofs.Moves.{place_behind, keep_then, grow_then, on_ok_any}
@@ -30,10 +30,10 @@ returns-in_err-put-clause-part g c =
 
 pub returns-clause-part : goal.returns-clause-part
 returns-clause-part g c =
-    let all : Moved (g.D.Disk.image c.args.disk.now) (g.D.Disk.image c.put.new.disk) (Keeps c.args.place) =
+    let all : Moved (g.D.Disk.image c.args.disk.now) (g.D.Disk.image c.put.new.disk) (KeepsFront c.args.place) =
     keep_then _ _ _ c.args.place c.in_ok-columns_place.columns_place (omega (arith, c.in_ok-columns_place.ensures.behind)) c.put_directory.ensures.part
     (keep_then _ _ _ c.in_ok-columns_place.columns_place c.in_ok-gate_place.gate_place (omega (arith, c.in_ok-gate_place.ensures.behind)) c.put_columns.ensures.part c.put.ensures.part) in
-    subst (λ z. Moved (g.D.Disk.image c.args.disk.now) z (Keeps c.args.place)) (sym c.sync.ensures.frame.same_image) all
+    subst (λ z. Moved (g.D.Disk.image c.args.disk.now) z (KeepsFront c.args.place)) (sym c.sync.ensures.frame.same_image) all
 
 pub returns-clause-written : goal.returns-clause-written
 returns-clause-written g c =

@@ -4,7 +4,7 @@ use Rattle.std.proofs.lemmas.Result.{err_from_is_err_and}
 use Rattle.dg_history.specs.OpenedIndex.{Opening, directory_at, may_follow, opening}
 use Rattle.dg_file.specs.Headers.{IsOpenedSoFar, IsFoundAt}
 use Rattle.dg_file.specs.Held.{segment_in}
-use Rattle.dg_file.specs.Images.{Misses, Refuses}
+use Rattle.dg_file.specs.Images.{Misses, RefusesOpening}
 use Rattle.dg_file.specs.Index.{events_after, earliest_after, names_count, opening_bytes}
 use Rattle.dg_file.proofs.Holding.{names_more, opening_more}
 use Rattle.dg_file.proofs.Steps.{next_refused, next_so_far}
@@ -35,7 +35,7 @@ returns-in_err-found-clause-refused g c =
     subst (λ n. IfSome x (λ image. Misses n (directory_at (events_after 0 o.segments) names (earliest_after 0 o.segments) image n ≡ None) c.in_err-found.field-0.0)) c.used.ensures
     (subst (λ n. IfSome x (λ image. Misses c.used.result (directory_at (events_after 0 o.segments) names n image c.used.result ≡ None) c.in_err-found.field-0.0)) c.earliest.ensures
     (subst (λ n. IfSome x (λ image. Misses c.used.result (directory_at n names c.earliest.result image c.used.result ≡ None) c.in_err-found.field-0.0)) c.events.ensures.events c.in_err-found.ensures.refused)) in
-    let rest : IfSome x (λ image. Refuses c.in_err-found.field-0.0 (opening image)) = next_refused x o names c.in_err-found.field-0.0 so_far misses in
+    let rest : IfSome x (λ image. RefusesOpening c.in_err-found.field-0.0 (opening image)) = next_refused x o names c.in_err-found.field-0.0 so_far misses in
     let p = err_from_is_err_and c.from_residual-in_err-found.result c.from_residual-in_err-found.ensures.1 in
     rw (p.1, p.2) rest
 
