@@ -1,5 +1,5 @@
 -- What the bytes taken say of the end of a run.
-use Rattle.std.proofs.Common.{◌≡◌, ℕ, ◌<◌, ◌≤◌, false, IsTrue, List, [], Option, Some, None, IfSome, length, sym, ap, subst, arith, length-append}
+use Rattle.std.proofs.Common.{◌≡◌, ℕ, ◌<◌, false, IsTrue, List, [], Option, Some, None, IfSome, length, sym, ap, subst, arith, length-append}
 use Rattle.dg_io.specs.Frame.{Advances}
 use Rattle.dg_io.specs.Told.{Gives, IsAtEnd}
 use Rattle.dg_io.specs.LinesState.{LinesState}

@@ -1,5 +1,5 @@
 -- The promise of the program: where the words are wrong, where no session begins, and where one does.
-use Rattle.std.proofs.Common.{◌≡◌, ◌≢◌, ℕ, ◌<◌, ◌⊎◌, inl, inr, Bool, true, false, List, ◌++◌, Option, Some, IfSome, Err, length, is_some, refl, sym, ◌∙◌, ap, subst}
+use Rattle.std.proofs.Common.{◌≡◌, ℕ, ◌<◌, ◌⊎◌, inl, inr, Bool, true, false, List, ◌++◌, Option, IfSome, Err, length, is_some, refl, sym, ◌∙◌, ap, subst}
 use Rattle.std.specs.Option.{option_map}
 use Rattle.dg_disk.specs.Counts.{Rose as DiskRose}
 use Rattle.dg_history.specs.declared.start_fault.StartFault.{StartFault}

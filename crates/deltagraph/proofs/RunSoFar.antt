@@ -5,7 +5,7 @@ use Rattle.std.specs.Result.{is_err}
 use Rattle.std.proofs.lemmas.List.{append-nil}
 use Rattle.std.proofs.lemmas.List.Concat.{flat_map-append}
 use Rattle.std.proofs.Math.Seq.{take-append-add}
-use Rattle.dg_history.specs.declared.start_fault.StartFault.{StartFault}
+use Rattle.dg_history.specs.History.{History}
 use Rattle.dg_history.specs.LegalHistory.{StandsAs}
 use Rattle.dg_history.specs.OpenedIndex.{opening_of}
 use Rattle.dg_io.specs.Told.{grown, GrowsByPart}
@@ -15,7 +15,7 @@ use Rattle.dg_machine.specs.Answer.{Answered}
 use Rattle.dg_machine.specs.CutImage.{IsCut}
 use Rattle.dg_machine.specs.MachineState.{MachineState, names_in}
 use Rattle.dg_machine.specs.ReplyText.{text}
-use Rattle.dg_machine.specs.Run.{Run, Step, last_state, text_of, texts_of}
+use Rattle.dg_machine.specs.Run.{Run, last_state, text_of, texts_of}
 use Rattle.dg_machine.specs.Script.{Entry, script}
 use Rattle.dg_machine.proofs.Runs.{run_more, last_more}
 use Rattle.dg_session.specs.Parts.{Parts}
@@ -25,7 +25,6 @@ use Rattle.deltagraph.specs.declared.status.Status.TheVariants as status
 use Rattle.deltagraph.specs.Outside.{Outside}
 use Rattle.deltagraph.specs.Served.{Served, Gained, Remains, Kept, Cut_off}
 use Rattle.deltagraph.specs.Turns.{Breaks, Replies, asked}
-use Rattle.deltagraph.proofs.Unmade.{step_keeps}
 
 -- The run from m so far over the image now, which was `first` at its start: the entries answered, and those
 -- to come.
@@ -71,9 +70,13 @@ going_first m first left before session image is stands = record {
   unmade = λ none. is;
 }
 
--- a machine has no index where the session has none
+-- a session has no index exactly where the machine has none
 no_index_of : (session : Parts) (image : List ℕ) (m : MachineState) → StandsFor session image m → m.index ≡ None → session.index ≡ None
 no_index_of session image m stands none = stands.index ∙ ap (option_map opening_of) none
+
+none_of : (index : Option History) → option_map opening_of index ≡ None → index ≡ None
+none_of None is = refl
+none_of (Some z) is = absurd (cc)
 
 some_injective : (x y : List ℕ) → Some x ≡ Some y → x ≡ y
 some_injective x y same = cc
@@ -85,7 +88,7 @@ session_text new now k r stands = ap (λ (names : List (List ℕ)). text names r
 -- a turn with a reply that was written
 going_on : (m : MachineState) (first left before : Option (List ℕ)) (old new : Parts) (image now : List ℕ) (more rest : Option (List Entry)) (written : Option (List ℕ)) (e : Entry) (r : Reply)
     → Going m first left before old image more written → more ≡ option_map (λ es. e ∷ es) rest → Replies e old image new now r
-    → (new.index ≡ None → now ≡ image) → Going m first left before new now rest (grown written (text new.names r))
+    → (new.index ≡ None → (old.index ≡ None) × (now ≡ image)) → Going m first left before new now rest (grown written (text new.names r))
 going_on m first left before old new image now more rest written e r going is replies same =
     let next = replies (last_state m going.answers) going.stands in
     let a : Answered = record { reply = r; state = next.0 } in
@@ -101,8 +104,8 @@ going_on m first left before old new image now more rest written e r going is re
           ∙ ap (grown before) (ap (λ bytes. texts_of going.answers ++ bytes) (session_text new now next.0 r next.2) ∙ sym (texts_more going.answers a));
       unmade = λ none.
           let here : next.0.index ≡ None = ap (λ (k : MachineState). k.index) (sym last) ∙ none in
-          going.unmade (step_keeps (last_state m going.answers) e r next.0 next.1 here)
-          ∙ ap (λ x. Some x) (sym (same (no_index_of new now next.0 next.2 here)));
+          let was = same (no_index_of new now next.0 next.2 here) in
+          going.unmade (none_of (last_state m going.answers).index (sym going.stands.index ∙ was.0)) ∙ ap (λ x. Some x) (sym was.1);
     }
 
 -- ---- over a disk that may tell its image
@@ -136,13 +139,13 @@ over_skip first left before start old new image now more rest written going same
 -- a turn with a reply that was written
 pub over_on : (first left before : Option (List ℕ)) (start old new : Parts) (image now : Option (List ℕ)) (more rest : Option (List Entry)) (written after : Option (List ℕ)) (e : Entry) (r : Reply)
     → GoingOver first left before start old image more written → is_some image ≡ is_some first → more ≡ option_map (λ es. e ∷ es) rest
-    → WhereBothTold image now (λ x y. Replies e old x new y r) → (new.index ≡ None → now ≡ image) → after ≡ grown written (text new.names r)
+    → WhereBothTold image now (λ x y. Replies e old x new y r) → (new.index ≡ None → (old.index ≡ None) × (now ≡ image)) → after ≡ grown written (text new.names r)
     → GoingOver first left before start new now rest after
 over_on first left before start old new image now more rest written after e r going told is replies same gained = λ x z a c m stands.
     let mid = told_as first image x told a in
     subst (λ (w : Option (List ℕ)). Going m first left before new z rest w) (sym gained)
     (going_on m first left before old new mid.0 z more rest written e r (going x mid.0 a mid.1 m stands) is (replies mid.0 z mid.1 c)
-    (λ none. some_injective z mid.0 (sym c ∙ same none ∙ mid.1)))
+    (λ none. let was = same none in (was.0, some_injective z mid.0 (sym c ∙ was.1 ∙ mid.1))))
 
 -- ---- what is owed where the run ends
 
@@ -209,14 +212,14 @@ part_later before written after due piece is part = (
 pub over_part : (start now : Outside) (begun old new : Parts) (image : Option (List ℕ)) (more rest : Option (List Entry)) (written : Option (List ℕ)) (e : Entry) (r : Reply)
     → GoingOver start.image start.left start.written begun old image more written → is_some image ≡ is_some start.image
     → is_some now.image ≡ is_some image → more ≡ option_map (λ es. e ∷ es) rest → WhereBothTold image now.image (λ x y. Replies e old x new y r)
-    → (new.index ≡ None → now.image ≡ image) → GrowsByPart written (text new.names r) now.written → ServedOver begun status.SinkFault start now
+    → (new.index ≡ None → (old.index ≡ None) × (now.image ≡ image)) → GrowsByPart written (text new.names r) now.written → ServedOver begun status.SinkFault start now
 unfolding going_on
 over_part start now begun old new image more rest written e r going told then_told is replies same part = λ x m a stands.
     let mid = told_as start.image image x told a in
     let here = told_as image now.image mid.0 then_told mid.1 in
     let run = going x mid.0 a mid.1 m stands in
     let next = going_on m start.image start.left start.written old new mid.0 here.0 more rest written e r run is (replies mid.0 here.0 mid.1 here.1)
-    (λ none. some_injective here.0 mid.0 (sym here.1 ∙ same none ∙ mid.1)) in
+    (λ none. let was = same none in (was.0, some_injective here.0 mid.0 (sym here.1 ∙ was.1 ∙ mid.1))) in
     let k = replies mid.0 here.0 mid.1 here.1 (last_state m run.answers) run.stands in
     let all : texts_of run.answers ++ text new.names r ≡ texts_of next.answers =
     ap (λ bytes. texts_of run.answers ++ bytes) (session_text new here.0 k.0 r k.2) ∙ sym (texts_more run.answers (record { reply = r; state = k.0 })) in record {

@@ -1,5 +1,5 @@
 -- How a turn follows from its line.
-use Rattle.std.proofs.Common.{◌≡◌, ℕ, ◌+◌, ◌<◌, ◌≤◌, IsTrue, Bool, true, false, cond, List, ◌∷◌, Option, Some, None, length, refl, sym, ◌∙◌, ap, subst}
+use Rattle.std.proofs.Common.{◌≡◌, ℕ, Bool, true, false, cond, List, ◌∷◌, Option, Some, None, refl, sym, ◌∙◌, ap, subst}
 use Rattle.std.specs.Option.{option_map}
 use Rattle.dg_machine.specs.declared.command.Command.{Command}
 use Rattle.dg_machine.specs.declared.reply.Head.TheVariants as head
@@ -11,9 +11,7 @@ use Rattle.dg_graph.specs.Lines.{ScriptLine, Text, Long}
 use Rattle.dg_machine.specs.Run.{Step, Leaves_grammar, Too_long}
 use Rattle.dg_machine.specs.Script as script
 use Rattle.dg_machine.proofs.Entries.{told_other, told_asked}
-use Rattle.dg_io.specs.Told.{Gives}
-use Rattle.dg_io.specs.Frame.{Advances}
-use Rattle.dg_io.specs.LinesState.{LinesState, Comes, EndsWith, to_come}
+use Rattle.dg_io.specs.LinesState.{Comes}
 use Rattle.dg_line.specs.declared.command.Syntax.{Syntax}
 use Rattle.dg_session.specs.Session.{WhereBothTold}
 use Rattle.dg_session.specs.Parts.{Parts}

@@ -58,7 +58,7 @@ pub fn next_turn<R: Threads, S: Source, D: Disk>(
     requires { IfSome (D.image disk.old) (λ image. IsHeldBy session.old.index session.old.names image) }
     ensures turn { IfOk result (λ turn. Turns turn (asked lines.old (S.left source.old)) (asked lines.new (S.left source.new)) session.old (D.image disk.old) session.new (D.image disk.new)) }
     ensures held { OnOk result (IfSome (D.image disk.new) (λ image. IsHeldBy session.new.index session.new.names image)) }
-    ensures no_index { OnOk result (session.new.index ≡ None → D.image disk.new ≡ D.image disk.old) }
+    ensures no_index { OnOk result (session.new.index ≡ None → (session.old.index ≡ None) × (D.image disk.new ≡ D.image disk.old)) }
     ensures falls { IfOk result (λ turn. Falls turn (to_come lines.old) (to_come lines.new)) }
     ensures end { IfOk result (λ turn. EndsAt turn lines.new) }
 
@@ -96,7 +96,7 @@ fn turn_of<R: Threads, S: Source, D: Disk>(
     ensures turn { IfOk result (λ turn. TurnsAt turn lines.old.text (told lines.old (S.left source.old)) (told lines.new (S.left source.new)) session.old (D.image disk.old) session.new (D.image disk.new)) }
     ensures goes_on { IfOk result (λ turn. GoesOnward turn) }
     ensures held { OnOk result (IfSome (D.image disk.new) (λ image. IsHeldBy session.new.index session.new.names image)) }
-    ensures no_index { OnOk result (session.new.index ≡ None → D.image disk.new ≡ D.image disk.old) }
+    ensures no_index { OnOk result (session.new.index ≡ None → (session.old.index ≡ None) × (D.image disk.new ≡ D.image disk.old)) }
 
     // why it stops
     ensures stop { IsErrOf result Stop.Read → (session.new ≡ session.old) × (D.image disk.new ≡ D.image disk.old) }

@@ -184,13 +184,13 @@ fn only_id(mut words: Words) -> Option<u64>
 fn new_edge(mut words: Words) -> Option<What>
     ensures { option_map (λ what. Plain what) result ≡ new_edge words.entry }
 {
-    let id_number = id(words.next()?)?;
+    let edge = id(words.next()?)?;
     let src = id(words.next()?)?;
     let dst = id(words.next()?)?;
     let directed = is_directed(words.next()?)?;
     words.end()?;
     Some(What::AddEdge {
-        id: id_number,
+        id: edge,
         src,
         dst,
         directed,

@@ -77,8 +77,8 @@ const COMMANDS: [(&str, Command); 9] = [
 
 #[test]
 fn a_line_is_its_command_or_leaves_the_grammar_at_its_column(rt: HostRuntime) {
-    for (line, command) in COMMANDS {
-        assert_eq!(rt; read_command(line.as_bytes()), Ok(command), "at `{line}`");
+    for (line, asked) in COMMANDS {
+        assert_eq!(rt; read_command(line.as_bytes()), Ok(asked), "at `{line}`");
     }
     for (line, column) in COLUMNS {
         assert_eq!(rt;
@@ -210,13 +210,13 @@ fn the_texts_of_changes_are_numbered_in_the_order_in_which_they_appear(
     rt: HostRuntime,
 ) -> Result<(), Fail> {
     let mut names = Names::new(rt.alloc());
-    for (line, what, len) in CHANGES {
+    for (line, what, count) in CHANGES {
         assert_eq!(rt;
             change(&mut names, line.as_bytes())?,
             Ok(Change { time: 4, what }),
             "at `{line}`"
         );
-        assert_eq!(rt; names.len(), len, "after `{line}`");
+        assert_eq!(rt; names.len(), count, "after `{line}`");
     }
     for (number, text) in NAMES.iter().enumerate() {
         assert_eq!(rt; names.text(number as u32), Some(text.as_bytes()));
@@ -276,11 +276,11 @@ const LENGTHS: [(usize, usize, u32); 5] = [
 #[test]
 fn a_line_that_is_no_change_gives_no_names(rt: HostRuntime) -> Result<(), Fail> {
     let mut names = Names::new(rt.alloc());
-    for line in NO_CHANGES {
+    for row in NO_CHANGES {
         assert_eq!(rt;
-            change(&mut names, line.as_bytes())?,
+            change(&mut names, row.as_bytes())?,
             Err(ChangeFault::Form),
-            "at `{line}`"
+            "at `{row}`"
         );
     }
     assert!(rt; names.is_empty());
@@ -384,7 +384,7 @@ const HEADS: [(Head, &str); 20] = [
 fn a_short_reply_is_one_write(rt: HostRuntime) -> Result<(), Fail> {
     let alloc = rt.alloc();
     let names = Names::new(alloc);
-    for (head, line) in HEADS {
+    for (head, row) in HEADS {
         let reply = Reply {
             head,
             body: BodyLines::new(alloc),
@@ -392,7 +392,7 @@ fn a_short_reply_is_one_write(rt: HostRuntime) -> Result<(), Fail> {
         // A second write would fail.
         let mut sink = MemorySink::new(alloc, 100, &[1])?;
         assert_eq!(rt; write_reply(&mut sink, &names, &reply), Ok(()));
-        let text = format!(in alloc; "{line}\nend\n")?;
+        let text = format!(in alloc; "{row}\nend\n")?;
         assert_eq!(rt; sink.written(), text.as_bytes());
     }
     Ok(())
@@ -458,9 +458,9 @@ fn a_listing_has_a_line_for_each_element(rt: HostRuntime) -> Result<(), Fail> {
     let alloc = rt.alloc();
     let mut lines = Vec::new(alloc);
     let mut text = Vec::from_slice(alloc, b"ok list 1 7\n")?;
-    for (element, line) in ELEMENTS {
+    for (element, row) in ELEMENTS {
         lines.push(BodyLine::Element(element))?;
-        text.extend_from_slice(line.as_bytes())?;
+        text.extend_from_slice(row.as_bytes())?;
     }
     text.extend_from_slice(b"end\n")?;
     let mut names = Names::new(alloc);
@@ -498,9 +498,9 @@ fn a_long_listing_passes_in_parts_and_stops_at_a_failed_write(rt: HostRuntime) -
         },
         body: BodyLines::from_vec(lines),
     };
-    let mut whole = MemorySink::new(alloc, 20_000, &[])?;
-    assert_eq!(rt; write_reply(&mut whole, &names, &reply), Ok(()));
-    assert_eq!(rt; whole.written(), text.as_slice());
+    let mut all = MemorySink::new(alloc, 20_000, &[])?;
+    assert_eq!(rt; write_reply(&mut all, &names, &reply), Ok(()));
+    assert_eq!(rt; all.written(), text.as_slice());
     // Each write is of at most a buffer, and at least three are needed.
     for call in [0, 1, 2] {
         let mut broken = MemorySink::new(alloc, 20_000, &[call])?;
@@ -529,8 +529,8 @@ fn a_fault_tells_its_column_or_its_cause(rt: HostRuntime) -> Result<(), Fail> {
             "out of memory for a new name",
         ),
     ];
-    for (told, text) in &texts {
-        assert_eq!(rt; told.as_str(), *text);
+    for (message, text) in &texts {
+        assert_eq!(rt; message.as_str(), *text);
     }
     Ok(())
 }

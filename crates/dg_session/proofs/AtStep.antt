@@ -37,6 +37,6 @@ at_answers p q t cols image reply none is reply_is = record {
       ));
   accepted = ap (λ (r : Reply). is_refusal r.head) reply_is;
   held = λ h. subst (λ (x : Parts). IfSome image (λ image. IsHeldBy x.index x.names image)) (sym is) h;
-  no_index = λ h. refl;
+  no_index = λ h. (ap (λ (x : Parts). x.index) (sym is) ∙ h, refl);
   quiet = λ h. refl;
 }

@@ -75,7 +75,7 @@ create_answers p q params before after o reply none made opened o_is no_names is
       subst (λ (x : Parts). IfSome after (λ image. IsHeldBy x.index x.names image)) (sym is)
       (subst (λ (x : Opening). IfSome after (λ image. opening image ≡ Ok (record { index = x; names = p.names }))) (sym o_is)
       (subst (λ (ns : List (List ℕ)). IfSome after (λ image. opening image ≡ Ok (record { index = opening_of (empty_history params); names = ns }))) (sym no_names) opened));
-  no_index = λ h. let e : Some o ≡ None = ap (λ (x : Parts). x.index) (sym is) ∙ h in cc;
+  no_index = λ h. absurd (let e : Some o ≡ None = ap (λ (x : Parts). x.index) (sym is) ∙ h in cc);
   quiet = λ h. let e : true ≡ false = h in cc;
 }
 

@@ -53,7 +53,7 @@ list_answers p handle stands image lines count reply some lines_are count_is rep
       ));
   accepted = ap (λ (r : Reply). is_refusal r.head) reply_is;
   held = λ h. h;
-  no_index = λ h. refl;
+  no_index = λ h. (h, refl);
   quiet = λ h. refl;
 }
   where

@@ -13,7 +13,7 @@ use Rattle.dg_machine.specs.MachineState.{MachineState}
 use Rattle.dg_machine.specs.Needs.{following, needs, refused}
 use Rattle.dg_machine.specs.Run.{Step, Answers, Lacks_memory}
 use Rattle.dg_machine.specs.Script.{Asked}
-use Rattle.dg_session.proofs.Gathering.{follows_none}
+use Rattle.dg_session.proofs.ReadLines.{follows_none}
 use Rattle.dg_session.proofs.StandsFor.{one_image, refused_is, stands_on}
 use Rattle.dg_session.specs.Parts.{Parts}
 use Rattle.dg_session.specs.declared.halt.Halt.{Halt}

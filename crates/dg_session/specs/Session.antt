@@ -107,7 +107,7 @@ pub record Answers (command : Command) (got : List ScriptLine) (old : Parts) (be
   pub moves : WhereBothTold before after (λ image then_image. Moves command got old image new then_image reply)
   pub accepted : is_refusal reply.head ≡ false
   pub held : IfSome before (λ image. IsHeldBy old.index old.names image) → IfSome after (λ image. IsHeldBy new.index new.names image)
-  pub no_index : new.index ≡ None → after ≡ before
+  pub no_index : new.index ≡ None → (old.index ≡ None) × (after ≡ before)
   pub quiet : is_writing command ≡ false → after ≡ before
 
 -- neither the session nor the image has changed

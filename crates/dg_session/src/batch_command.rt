@@ -2,6 +2,7 @@
 
 ghost use Rattle.std.specs.Prelude.{◌≡◌, ◌≤◌, ◌^◌, ◌<◌, true, IfOk, IfErr, IfSome, is_some, take};
 ghost use Rattle.dg_disk.specs.Counts.{Rose};
+ghost use Rattle.dg_disk.specs.Frame.{GoesOn};
 ghost use Rattle.dg_file.specs.Index.{earliest_after as earliest_of};
 ghost use Rattle.dg_history.specs.declared.limits.TheConstants.{FILE_BYTES_MAX};
 ghost use Rattle.dg_now.specs.Now.{earliest_time_after};
@@ -10,11 +11,11 @@ ghost use Rattle.dg_session.specs.Session.{IsHeldBy};
 ghost use Rattle.dg_session.specs.SessionStart.{index_opening};
 ghost use Rattle.dg_session.specs.SoundHistory.{IsSoundHistory};
 
-use crate::stored_history::StoredHistory;
-use crate::batch_lines::BatchLines;
-use crate::snapshot::last_instant;
-use crate::batch_segment::{BatchFault, keep_segment, segment_of};
 use crate::batch_events::prepare;
+use crate::batch_lines::BatchLines;
+use crate::batch_segment::{BatchFault, keep_segment, segment_of};
+use crate::snapshot::last_instant;
+use crate::stored_history::StoredHistory;
 use dg_disk::Disk;
 use dg_file::Index;
 use dg_machine::Head;
@@ -95,9 +96,8 @@ fn try_batch<D: Disk>(
         FailsBatch o limit known history.old (D.image disk.old) (D.image disk.new) batch.now.changes.items batch.now.front fault)) }
     ensures leaves { IfErr result (λ fault. LeavesHistory fault history.old history.new) }
     ensures cause { IfErr result (λ fault. fault ≡ BatchFault.Store → Rose (D.write_faults disk.old) (D.write_faults disk.new)) }
-    ensures told { is_some (D.image disk.new) ≡ is_some (D.image disk.old) }
-    ensures counted { D.faults disk.old ≤ D.faults disk.new }
-    ensures write_counted { D.write_faults disk.old ≤ D.write_faults disk.new }
+    // what it leaves
+    ensures disk { GoesOn D.image D.faults D.write_faults disk.old disk.new }
 {
     let Some(index) = &mut history.index else {
         unreachable!()
@@ -143,9 +143,8 @@ pub fn add_batch<D: Disk>(
     ensures back { IfErr result (λ fault. IsBack fault known history.old history.new) }
     ensures sound { IsSoundHistory (index_opening history.new.index) history.new.names history.new.now history.new.events.items }
     ensures cause { IfErr result (λ fault. fault ≡ BatchFault.Store → Rose (D.write_faults disk.old) (D.write_faults disk.new)) }
-    ensures told { is_some (D.image disk.new) ≡ is_some (D.image disk.old) }
-    ensures counted { D.faults disk.old ≤ D.faults disk.new }
-    ensures write_counted { D.write_faults disk.old ≤ D.write_faults disk.new }
+    // what it leaves
+    ensures disk { GoesOn D.image D.faults D.write_faults disk.old disk.new }
 {
     match try_batch(alloc, limit, known, batch, history, disk) {
         Ok(added) => Ok(added),

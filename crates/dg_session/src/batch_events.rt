@@ -8,7 +8,7 @@ ghost use Rattle.dg_graph.specs.CompletedChanges.{completed};
 ghost use Rattle.dg_now.specs.Now.{FaultOf, earliest_time_after};
 ghost use Rattle.dg_session.specs.BatchLines.{IsFront, lines};
 
-use crate::batch_lines::{Front, BatchLines};
+use crate::batch_lines::{BatchLines, Front};
 use dg_graph::{Change, Event, REASON_FORM};
 use dg_now::{Now, PrepareFault};
 

@@ -1,9 +1,10 @@
 //! Putting a batch into an index file.
 
-ghost use Rattle.std.specs.Prelude.{◌≡◌, ◌≤◌, ◌<◌, ◌++◌, Err, IfOk, IfSome, IsErrOf, OnOk, ℕ, List, is_some, length, drop};
+ghost use Rattle.std.specs.Prelude.{◌≡◌, ◌≤◌, ◌<◌, ◌++◌, Err, IfOk, IfSome, IsErrOf, OnOk, ℕ, List, length, drop};
 ghost use Rattle.std.specs.List.{All};
 ghost use Rattle.dg_columns.specs.NamesInRange.{NamesFit};
 ghost use Rattle.dg_disk.specs.Counts.{Rose};
+ghost use Rattle.dg_disk.specs.Frame.{GoesOn};
 ghost use Rattle.dg_file.specs.Images.{BothTold, Fits, GainsBatch, GainsBatchOrNot, GainsSegment};
 ghost use Rattle.dg_file.specs.Index.{IsDue, needed_for, new_segment_of, with_segment};
 ghost use Rattle.dg_graph.specs.declared.limits.TheConstants.{BATCH_LINES_MAX};
@@ -21,17 +22,22 @@ use dg_graph::{Column, Event};
 use dg_names::Names;
 use dg_now::PrepareFault;
 use std::alloc::{AllocError, Global};
+use thiserror::Error;
 
 /// Why a batch was not put into the file.
-#[derive(Clone, Copy, Debug, PartialEq, Eq)]
+#[derive(Clone, Copy, Debug, PartialEq, Eq, Error)]
 pub enum BatchFault {
     /// The least line that is refused, from 1, and the first reason against it.
+    #[error("line {0} is refused for reason {1}")]
     BadChange(u32, u8),
     /// The file would have so many bytes in use, and may have fewer: the two numbers.
+    #[error("the file would have {0} bytes in use, more than {1}")]
     FileFull(u64, u64),
     /// Want of memory.
+    #[error("out of memory")]
     Memory,
     /// The disk failed.
+    #[error("the disk failed")]
     Store,
 }
 
@@ -120,9 +126,8 @@ pub fn keep_segment<D: Disk>(
     ensures part { IsErrOf result BatchFault.Store → BothTold (D.image disk.old) (D.image disk.new) (GainsBatchOrNot segment) }
     ensures part_fits { IsErrOf result BatchFault.Store → needed_for index.old.opening segment ≤ limit }
     ensures cause { IsErrOf result BatchFault.Store → Rose (D.write_faults disk.old) (D.write_faults disk.new) }
-    ensures told { is_some (D.image disk.new) ≡ is_some (D.image disk.old) }
-    ensures counted { D.faults disk.old ≤ D.faults disk.new }
-    ensures write_counted { D.write_faults disk.old ≤ D.write_faults disk.new }
+    // what it leaves
+    ensures disk { GoesOn D.image D.faults D.write_faults disk.old disk.new }
 {
     index.make_room(&segment)?;
     match index.commit(disk, segment, limit) {

@@ -4,6 +4,7 @@ ghost use Rattle.std.specs.Prelude.{◌≡◌, ◌≤◌, ◌<◌, ◌+◌, ◌^
 ghost use Rattle.std.specs.List.{All};
 ghost use Rattle.dg_columns.specs.NamesInRange.{NamesFit};
 ghost use Rattle.dg_disk.specs.Counts.{Rose};
+ghost use Rattle.dg_disk.specs.Frame.{OnlyReads, ReadsAndSyncs};
 ghost use Rattle.dg_file.specs.Index.{events_after};
 ghost use Rattle.dg_graph.specs.declared.event.Event.{Event};
 ghost use Rattle.dg_graph.specs.Effect.{forwards};
@@ -14,9 +15,9 @@ ghost use Rattle.dg_session.specs.Session.{IsHeldBy};
 ghost use Rattle.dg_session.specs.SoundHistory.{IsSoundHistory};
 ghost use Rattle.dg_session.specs.SessionStart.{FirstWrong, RefusesStart, index_opening, started_with};
 
-use crate::stored_history::StoredHistory;
 use crate::keys::has_key;
 use crate::piece::read_piece;
+use crate::stored_history::StoredHistory;
 use dg_disk::Disk;
 use dg_file::{Batch, Index, ReopenFault};
 use dg_graph::Event;
@@ -93,10 +94,9 @@ fn read_history<D: Disk>(
     ensures refused { IfErr result (λ fault. (image : List ℕ) → D.image disk.old ≡ Some image
         → RefusesStart fault (start_of image)) }
     ensures same { index.new ≡ index.old }
-    ensures same_image { D.image disk.new ≡ D.image disk.old }
     ensures cause { IsErrOf result StartFault.Disk → Rose (D.faults disk.old) (D.faults disk.new) }
-    ensures counted { D.faults disk.old ≤ D.faults disk.new }
-    ensures same_write_faults { D.write_faults disk.new ≡ D.write_faults disk.old }
+    // what it leaves
+    ensures disk { OnlyReads D.image D.faults D.write_faults disk.old disk.new }
 {
     let mut events = Vec::new(alloc);
     let mut wrong = None;
@@ -135,10 +135,9 @@ pub fn open<D: Disk>(alloc: Global, disk: &mut D) -> Result<StoredHistory, Start
     ensures held { IfOk result (λ opened. IfSome (D.image disk.new) (λ image. IsHeldBy (index_opening opened.index) opened.names image)) }
     ensures refused { IfErr result (λ fault. (image : List ℕ) → D.image disk.old ≡ Some image
         → RefusesStart fault (start_of image)) }
-    ensures same_image { D.image disk.new ≡ D.image disk.old }
     ensures cause { IsErrOf result StartFault.Disk → Rose (D.faults disk.old) (D.faults disk.new) }
-    ensures counted { D.faults disk.old ≤ D.faults disk.new }
-    ensures write_counted { D.write_faults disk.old ≤ D.write_faults disk.new }
+    // what it leaves
+    ensures disk { ReadsAndSyncs D.image D.faults D.write_faults disk.old disk.new }
 {
     let mut names = Names::new(alloc);
     let mut index = match Index::reopen(alloc, disk, &mut names) {

@@ -4,6 +4,7 @@ ghost use Rattle.std.specs.Prelude.{◌≡◌, ◌≤◌, ◌<◌, ◌^◌, Ok, 
 ghost use Rattle.std.specs.List.{All};
 ghost use Rattle.dg_columns.specs.NamesInRange.{NamesFit};
 ghost use Rattle.dg_disk.specs.Counts.{Rose};
+ghost use Rattle.dg_disk.specs.Frame.{OnlyReads};
 ghost use Rattle.dg_file.specs.Images.{IsOpenedAs};
 ghost use Rattle.dg_graph.specs.declared.event.Event.{Event};
 ghost use Rattle.dg_graph.specs.declared.limits.TheConstants.{NAMES_MAX};
@@ -37,10 +38,9 @@ fn read_column<D: Disk>(
     ensures refused { IfErr result (λ fault. InPiece (D.image disk.old) index.old.opening piece
         (λ image s. RefusesStart fault (placed_in_piece image names piece s col))) }
     ensures same { index.new ≡ index.old }
-    ensures same_image { D.image disk.new ≡ D.image disk.old }
     ensures cause { IsErrOf result StartFault.Disk → Rose (D.faults disk.old) (D.faults disk.new) }
-    ensures counted { D.faults disk.old ≤ D.faults disk.new }
-    ensures same_write_faults { D.write_faults disk.new ≡ D.write_faults disk.old }
+    // what it leaves
+    ensures disk { OnlyReads D.image D.faults D.write_faults disk.old disk.new }
 {
     let bytes = match index.fetch(disk, Key::Piece(piece), col) {
         Ok(bytes) => bytes,
@@ -78,10 +78,9 @@ pub fn read_piece<D: Disk>(
     ensures refused { IfErr result (λ fault. InPiece (D.image disk.old) index.old.opening piece
         (λ image s. RefusesStart fault (events_in_piece image names piece s))) }
     ensures same { index.new ≡ index.old }
-    ensures same_image { D.image disk.new ≡ D.image disk.old }
     ensures cause { IsErrOf result StartFault.Disk → Rose (D.faults disk.old) (D.faults disk.new) }
-    ensures counted { D.faults disk.old ≤ D.faults disk.new }
-    ensures same_write_faults { D.write_faults disk.new ≡ D.write_faults disk.old }
+    // what it leaves
+    ensures disk { OnlyReads D.image D.faults D.write_faults disk.old disk.new }
 {
     let structure = read_column(alloc, index, disk, names, piece, Column::Structure)?;
     let node_attrs = read_column(alloc, index, disk, names, piece, Column::NodeAttr)?;

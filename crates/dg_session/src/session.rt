@@ -34,7 +34,10 @@ use dg_file::{Index, law_batches_are_added, law_batches_are_measured};
 use dg_graph::{Columns, Event, NAMES_MAX};
 use dg_history::{ARITY_MAX, ARITY_MIN, LEAF_MAX, LEAF_MIN, Params, StartFault};
 use dg_io::{Lines, Source};
-use dg_machine::{BodyLine, BodyLines, Command, FIRST_HANDLE, Head, LIVE_HANDLES_MAX, Limits, Refusal, Reply, Stands};
+use dg_machine::{
+    BodyLine, BodyLines, Command, FIRST_HANDLE, Head, LIVE_HANDLES_MAX, Limits, Refusal, Reply,
+    Stands,
+};
 use dg_names::Names;
 use std::alloc::{AllocError, Global};
 use std::marker::Model;
@@ -159,7 +162,7 @@ impl Session {
         ensures refused { IfOk result (λ reply. is_refusal reply.head ≡ true
             → (self.new ≡ self.old) × (D.image disk.new ≡ D.image disk.old)) }
         ensures quiet { is_writing command.now ≡ false → D.image disk.new ≡ D.image disk.old }
-        ensures no_index { OnOk result (self.new.index ≡ None → D.image disk.new ≡ D.image disk.old) }
+        ensures no_index { OnOk result (self.new.index ≡ None → (self.old.index ≡ None) × (D.image disk.new ≡ D.image disk.old)) }
         // why it stops
         ensures stop { IsErrOf result Stop.Read → (self.new ≡ self.old) × (D.image disk.new ≡ D.image disk.old) }
         ensures stop_limit { IsErrOf result Stop.Limit → (self.new ≡ self.old) × (D.image disk.new ≡ D.image disk.old) }
@@ -309,7 +312,14 @@ impl Session {
         law_batches_are_measured();
         let barred = self.barred(which, count);
         let known = self.history.names.len();
-        let batch = read_batch(self.alloc, count, barred, &mut self.history.names, lines, source)?;
+        let batch = read_batch(
+            self.alloc,
+            count,
+            barred,
+            &mut self.history.names,
+            lines,
+            source,
+        )?;
         let limit = self.limits.file_bytes;
         let added = add_batch(self.alloc, limit, known, &batch, &mut self.history, disk)?;
         Ok(headed(self.alloc, which.head(added)))

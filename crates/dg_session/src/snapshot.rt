@@ -8,9 +8,9 @@ ghost use Rattle.dg_history.specs.History.{last_time_from, span_of};
 ghost use Rattle.dg_graph.specs.Replay.{replay_at};
 
 use dg_event::{asks, column_of};
+use dg_graph::{Columns, Event};
 use dg_list::net_to;
 use dg_machine::BodyLine;
-use dg_graph::{Columns, Event};
 use dg_set::Set;
 use std::alloc::{AllocError, Global};
 

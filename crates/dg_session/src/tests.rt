@@ -1,448 +1,307 @@
+ghost use Rattle.std.specs.Prelude.{◌≡◌};
 ghost use Rattle.dg_disk.specs.Memory.{image_of};
+ghost use Rattle.dg_machine.specs.MachineState.{IsWithin};
 ghost use Rattle.dg_session.specs.Session.{IsHeldBy};
 
-use crate::{Session, StartFault};
+use crate::{Session, StartFault, Stop};
 use dg_disk::MemoryDisk;
+use dg_graph::{Column, Element};
+use dg_history::{EVENTS_MAX, FILE_BYTES_MAX, Key};
 use dg_io::{Lines, MemorySource};
 use dg_line::read_command;
 use dg_machine::{BodyLine, Head, Limits, Refusal, SCRIPT_BYTES_MAX};
-use dg_graph::{Column, Element, REASON_FORM, REASON_NO_ATTRIBUTE, REASON_NO_NODE, REASON_NODE_EXISTS, REASON_NODE_IN_USE, REASON_TIME};
-use dg_history::Key;
 use std::test::Fail;
 use std::thread::Threads;
 
-// More bytes than the index file of a test has, and more calls than its disk gets.
+// More bytes than a file of these tests has, and more calls than its disk gets.
 const MANY: usize = 1000;
 
-// More bytes than the script of a test has.
-const NO_LIMIT: u64 = 1000;
+// The line of a command, and what is due: the head of the reply and its body, or why the step ends.
+type Case = (&'static [u8], Result<Head, Stop>, &'static [BodyLine]);
 
-const NODES: [BodyLine; 2] = [
-    BodyLine::Element(Element::Node { id: 1 }),
-    BodyLine::Element(Element::Node { id: 2 }),
-];
+// A run of commands over an empty file.
+struct Run {
+    // The events that the history may have, and the bytes of its file that may be in use.
+    events: u64,
+    file_bytes: u64,
+    // The bytes for which the disk has room, and the reads of the source that fail, from 0.
+    room: usize,
+    failing_reads: &'static [u64],
+    // The lines that follow the commands, and how many bytes of them may be taken.
+    following: &'static [u8],
+    script_bytes: u64,
+    cases: &'static [Case],
+    // The text of the second name then.
+    second_name: Option<&'static [u8]>,
+}
 
-const NODES_AND_EDGE: [BodyLine; 3] = [
+const NODE_WITH_NAME: [BodyLine; 2] = [
     BodyLine::Element(Element::Node { id: 1 }),
-    BodyLine::Element(Element::Node { id: 2 }),
-    BodyLine::Element(Element::Edge {
-        id: 5,
-        src: 1,
-        dst: 2,
-        directed: true,
+    BodyLine::Element(Element::NodeAttr {
+        id: 1,
+        key: 0,
+        value: 1,
     }),
 ];
 
-// The lines that follow the loads of the first test, in their order.
-const FOLLOWING: &[u8] = b"1 +node 1\n1 +node 1\n1 +edge 7 1 1 undir\n2 -node 1\n\
-    1 +node 1\n+node 2\n1 +node 1\n1 +node 1\n+node 2\n\
-    10 +node 2\n20 +node 1\n30 +edge 5 1 2 dir\n50 -edge 5\n\
-    60 +node 3\n70 +node 4\n";
+const RUNS: [Run; 8] = [
+    // The lines of a load and of an append are read, and the texts are numbered as they come.
+    Run {
+        events: 6,
+        file_bytes: 500,
+        room: MANY,
+        failing_reads: &[],
+        following: b"10 +node 1\n20 nset 1 name A\n30 +node 2\n40 -node 2\n",
+        script_bytes: 1000,
+        cases: &[
+            (b"create 2 2 union", Ok(Head::Created), &[]),
+            (
+                b"load 2",
+                Ok(Head::Loaded {
+                    events: 2,
+                    total: 2,
+                    last: 20,
+                }),
+                &[],
+            ),
+            (
+                b"append 2",
+                Ok(Head::Appended {
+                    events: 2,
+                    total: 4,
+                    last: 40,
+                }),
+                &[],
+            ),
+            (
+                b"at 40 sn",
+                Ok(Head::At {
+                    handle: 1,
+                    weight: 0,
+                }),
+                &[],
+            ),
+            (
+                b"list 1",
+                Ok(Head::List {
+                    handle: 1,
+                    lines: 2,
+                }),
+                &NODE_WITH_NAME,
+            ),
+        ],
+        second_name: Some(b"A"),
+    },
+    // There are five events, and there may be six.
+    Run {
+        events: 6,
+        file_bytes: 500,
+        room: MANY,
+        failing_reads: &[],
+        following: b"1 +node 1\n2 +node 2\n3 +node 3\n4 +node 4\n5 +node 5\n6 +node 6\n7 +node 7\n6 +node 6\n7 +node 7\n",
+        script_bytes: 1000,
+        cases: &[
+            (b"create 2 2 union", Ok(Head::Created), &[]),
+            (
+                b"load 5",
+                Ok(Head::Loaded {
+                    events: 5,
+                    total: 5,
+                    last: 5,
+                }),
+                &[],
+            ),
+            (
+                b"append 2",
+                Ok(Head::Refused(Refusal::HistoryFull(5, 2))),
+                &[],
+            ),
+            (
+                b"append 1",
+                Ok(Head::Appended {
+                    events: 1,
+                    total: 6,
+                    last: 6,
+                }),
+                &[],
+            ),
+            (
+                b"append 1",
+                Ok(Head::Refused(Refusal::HistoryFull(6, 1))),
+                &[],
+            ),
+        ],
+        second_name: None,
+    },
+    // A batch of one node takes 100 bytes, after the 18 of an empty index.
+    Run {
+        events: 1,
+        file_bytes: 118,
+        room: MANY,
+        failing_reads: &[],
+        following: b"10 +node 1\n",
+        script_bytes: 1000,
+        cases: &[
+            (b"create 2 2 union", Ok(Head::Created), &[]),
+            (
+                b"load 1",
+                Ok(Head::Loaded {
+                    events: 1,
+                    total: 1,
+                    last: 10,
+                }),
+                &[],
+            ),
+        ],
+        second_name: None,
+    },
+    // There is room for a byte less.
+    Run {
+        events: 1,
+        file_bytes: 117,
+        room: MANY,
+        failing_reads: &[],
+        following: b"10 +node 1\n",
+        script_bytes: 1000,
+        cases: &[
+            (b"create 2 2 union", Ok(Head::Created), &[]),
+            (
+                b"load 1",
+                Ok(Head::Refused(Refusal::FileFull(118, 117))),
+                &[],
+            ),
+            (
+                b"at 10 s",
+                Ok(Head::Refused(Refusal::OutOfRange(None))),
+                &[],
+            ),
+        ],
+        second_name: None,
+    },
+    // The second read fails within the first line.
+    Run {
+        events: 6,
+        file_bytes: 500,
+        room: MANY,
+        failing_reads: &[1],
+        following: b"10 +node 1\n10 +node 2\n",
+        script_bytes: 1000,
+        cases: &[
+            (b"create 2 2 union", Ok(Head::Created), &[]),
+            (b"load 2", Err(Stop::Read), &[]),
+        ],
+        second_name: None,
+    },
+    // The two lines have 22 bytes, and one less may be taken.
+    Run {
+        events: 6,
+        file_bytes: 500,
+        room: MANY,
+        failing_reads: &[],
+        following: b"10 +node 1\n20 +node 2\n",
+        script_bytes: 21,
+        cases: &[
+            (b"create 2 2 union", Ok(Head::Created), &[]),
+            (
+                b"load 1",
+                Ok(Head::Loaded {
+                    events: 1,
+                    total: 1,
+                    last: 10,
+                }),
+                &[],
+            ),
+            (b"append 1", Err(Stop::Limit), &[]),
+        ],
+        second_name: None,
+    },
+    // The disk has no room for a header, and a command that is refused does not ask for it.
+    Run {
+        events: 6,
+        file_bytes: 500,
+        room: 17,
+        failing_reads: &[],
+        following: b"",
+        script_bytes: 1000,
+        cases: &[
+            (
+                b"create 1 2 union",
+                Ok(Head::Refused(Refusal::Parameters)),
+                &[],
+            ),
+            (b"create 2 2 union", Err(Stop::Store), &[]),
+        ],
+        second_name: None,
+    },
+    // The disk has no room for a batch.
+    Run {
+        events: 6,
+        file_bytes: 500,
+        room: 117,
+        failing_reads: &[],
+        following: b"10 +node 1\n",
+        script_bytes: 1000,
+        cases: &[
+            (b"create 2 2 union", Ok(Head::Created), &[]),
+            (b"load 1", Err(Stop::Store), &[]),
+        ],
+        second_name: None,
+    },
+];
 
-// The line of a command, and the head and the body of the reply that is due.
-type Case = (&'static [u8], Head, &'static [BodyLine]);
+fn limits_of(run: &Run) -> Limits
+    ensures { IsWithin result }
+{
+    Limits {
+        script_bytes: SCRIPT_BYTES_MAX,
+        events: run.events.min(EVENTS_MAX),
+        file_bytes: run.file_bytes.min(FILE_BYTES_MAX),
+    }
+}
 
-// The number of the first case that is answered otherwise, if there is one.
+// The number of the first case that comes to something else, if there is one.
 fn first_other<R: Threads>(
     rt: &R,
     session: &mut Session,
-    cases: &[Case],
+    run: &Run,
     source: &mut MemorySource,
     disk: &mut MemoryDisk,
 ) -> Option<usize>
     requires { IsHeldBy session.old.index session.old.names (image_of disk.old) }
 {
-    let mut lines = Lines::new(NO_LIMIT);
-    for (number, case) in cases.iter().enumerate() {
+    let mut lines = Lines::new(run.script_bytes);
+    for (number, case) in run.cases.iter().enumerate() {
         let Ok(command) = read_command(case.0) else {
             return Some(number);
         };
-        let Ok(reply) = session.step(rt, &command, &mut lines, source, disk) else {
-            return Some(number);
-        };
-        if reply.head != case.1 || reply.body.as_slice() != case.2 {
-            return Some(number);
+        match session.step(rt, &command, &mut lines, source, disk) {
+            Ok(reply) => {
+                if case.1 != Ok(reply.head) || reply.body.as_slice() != case.2 {
+                    return Some(number);
+                }
+            }
+            // A stop is the end of the run.
+            Err(stop) => {
+                let is_due = case.1 == Err(stop) && number + 1 == run.cases.len();
+                return if is_due { None } else { Some(number) };
+            }
         }
     }
     None
 }
 
 #[test]
-fn answers_commands_over_a_file_and_again_after_a_restart(rt: HostRuntime) -> Result<(), Fail> {
-    let loaded = Head::Loaded {
-        events: 4,
-        total: 4,
-        last: 50,
-    };
-    let first: [Case; 19] = [
-        (b"list 1", Head::Refused(Refusal::UnknownHandle(1)), &[]),
-        (b"at 0 s", Head::Refused(Refusal::NoIndex), &[]),
-        (b"load 1", Head::Refused(Refusal::NoIndex), &[]),
-        (b"create 1 2 union", Head::Refused(Refusal::Parameters), &[]),
-        (b"create 2 2 union", Head::Created, &[]),
-        (
-            b"create 2 2 union",
-            Head::Refused(Refusal::IndexExists),
-            &[],
-        ),
-        (b"at 0 s", Head::Refused(Refusal::OutOfRange(None)), &[]),
-        (
-            b"load 3",
-            Head::Refused(Refusal::BadChange(3, REASON_NODE_IN_USE)),
-            &[],
-        ),
-        (
-            b"load 2",
-            Head::Refused(Refusal::BadChange(2, REASON_FORM)),
-            &[],
-        ),
-        (
-            b"load 3",
-            Head::Refused(Refusal::BadChange(2, REASON_NODE_EXISTS)),
-            &[],
-        ),
-        (b"load 4", loaded, &[]),
-        (b"load 1", Head::Refused(Refusal::AlreadyLoaded), &[]),
-        (
-            b"at 9 s",
-            Head::Refused(Refusal::OutOfRange(Some((10, 50)))),
-            &[],
-        ),
-        (
-            b"at 30 s",
-            Head::At {
-                handle: 1,
-                weight: 0,
-            },
-            &[],
-        ),
-        (
-            b"at 50 s",
-            Head::At {
-                handle: 2,
-                weight: 0,
-            },
-            &[],
-        ),
-        (
-            b"list 1",
-            Head::List {
-                handle: 1,
-                lines: 3,
-            },
-            &NODES_AND_EDGE,
-        ),
-        (
-            b"list 2",
-            Head::List {
-                handle: 2,
-                lines: 2,
-            },
-            &NODES,
-        ),
-        (b"list 3", Head::Refused(Refusal::UnknownHandle(3)), &[]),
-        (b"load 2", Head::Refused(Refusal::ShortBatch(1, 2)), &[]),
-    ];
-    let second: [Case; 4] = [
-        (b"list 1", Head::Refused(Refusal::UnknownHandle(1)), &[]),
-        (
-            b"create 2 2 union",
-            Head::Refused(Refusal::IndexExists),
-            &[],
-        ),
-        (
-            b"at 30 s",
-            Head::At {
-                handle: 1,
-                weight: 0,
-            },
-            &[],
-        ),
-        (
-            b"list 1",
-            Head::List {
-                handle: 1,
-                lines: 3,
-            },
-            &NODES_AND_EDGE,
-        ),
-    ];
-    let mut source = MemorySource::new(rt.alloc(), FOLLOWING, 7, &[])?;
-    let mut disk = MemoryDisk::new(rt.alloc(), b"", MANY, MANY, &[])?;
-    for cases in [first.as_slice(), second.as_slice()] {
-        match Session::start(&rt, rt.alloc(), &mut disk, Limits::standard()) {
+fn runs_come_to_what_is_due(rt: HostRuntime) -> Result<(), Fail> {
+    for run in &RUNS {
+        let mut source = MemorySource::new(rt.alloc(), run.following, 7, run.failing_reads)?;
+        let mut disk = MemoryDisk::new(rt.alloc(), b"", run.room, MANY, &[])?;
+        match Session::start(&rt, rt.alloc(), &mut disk, limits_of(run)) {
             Ok(mut session) => {
-                let other = first_other(&rt, &mut session, cases, &mut source, &mut disk);
+                let other = first_other(&rt, &mut session, run, &mut source, &mut disk);
                 assert_eq!(rt; other, None);
+                assert_eq!(rt; session.names().text(1), run.second_name);
             }
             Err(_) => return Err("not started".into()),
-        }
-    }
-    Ok(())
-}
-
-// What the lines of `ATTRIBUTES` leave at 30 and at 50, in all columns. The texts are numbered as they
-// come: 0 name, 1 Ann Lee, 2 since, 3 1998, 4 colour, 5 blue.
-const AT_30: [BodyLine; 6] = [
-    BodyLine::Element(Element::Node { id: 1 }),
-    BodyLine::Element(Element::Node { id: 2 }),
-    BodyLine::Element(Element::Edge {
-        id: 7,
-        src: 1,
-        dst: 2,
-        directed: false,
-    }),
-    BodyLine::Element(Element::NodeAttr {
-        id: 1,
-        key: 0,
-        value: 1,
-    }),
-    BodyLine::Element(Element::NodeAttr {
-        id: 2,
-        key: 0,
-        value: 0,
-    }),
-    BodyLine::Element(Element::EdgeAttr {
-        id: 7,
-        key: 2,
-        value: 3,
-    }),
-];
-
-const AT_50: [BodyLine; 5] = [
-    BodyLine::Element(Element::Node { id: 1 }),
-    BodyLine::Element(Element::Node { id: 2 }),
-    BodyLine::Element(Element::Edge {
-        id: 7,
-        src: 1,
-        dst: 2,
-        directed: false,
-    }),
-    BodyLine::Element(Element::NodeAttr {
-        id: 1,
-        key: 0,
-        value: 1,
-    }),
-    BodyLine::Element(Element::NodeAttr {
-        id: 1,
-        key: 4,
-        value: 5,
-    }),
-];
-
-const STRUCTURE_AT_50: [BodyLine; 3] = [
-    BodyLine::Element(Element::Node { id: 1 }),
-    BodyLine::Element(Element::Node { id: 2 }),
-    BodyLine::Element(Element::Edge {
-        id: 7,
-        src: 1,
-        dst: 2,
-        directed: false,
-    }),
-];
-
-// A load of six lines; appends of two lines, of one and of three; and two appends of one.
-const ATTRIBUTES: &[u8] = b"10 +node 1\n10 nset 1 name Ann Lee\n20 +node 2\n20 nset 2 name name\n\
-    30 +edge 7 1 2 undir\n30 eset 7 since 1998\n\
-    31 nset 1 colour red\n31 nset 9 colour blue\n\
-    30 nset 1 age 5\n\
-    40 nset 1 colour blue\n40 ndel 2 name\n50 edel 7 since\n\
-    60 ndel 2 name\n\
-    60 -node 1\n";
-
-#[test]
-fn a_load_and_an_append_with_attributes_are_listed(rt: HostRuntime) -> Result<(), Fail> {
-    let loaded = Head::Loaded {
-        events: 6,
-        total: 6,
-        last: 30,
-    };
-    let appended = Head::Appended {
-        events: 3,
-        total: 9,
-        last: 50,
-    };
-    let first: [Case; 7] = [
-        (b"create 2 2 balanced", Head::Created, &[]),
-        (b"load 6", loaded, &[]),
-        (
-            b"append 2",
-            Head::Refused(Refusal::BadChange(2, REASON_NO_NODE)),
-            &[],
-        ),
-        (
-            b"append 1",
-            Head::Refused(Refusal::BadChange(1, REASON_TIME)),
-            &[],
-        ),
-        (b"append 3", appended, &[]),
-        (
-            b"append 1",
-            Head::Refused(Refusal::BadChange(1, REASON_NO_ATTRIBUTE)),
-            &[],
-        ),
-        (
-            b"append 1",
-            Head::Refused(Refusal::BadChange(1, REASON_NODE_IN_USE)),
-            &[],
-        ),
-    ];
-    let second: [Case; 6] = [
-        (
-            b"at 30 sne",
-            Head::At {
-                handle: 1,
-                weight: 0,
-            },
-            &[],
-        ),
-        (
-            b"at 50 sne",
-            Head::At {
-                handle: 2,
-                weight: 0,
-            },
-            &[],
-        ),
-        (
-            b"at 50 s",
-            Head::At {
-                handle: 3,
-                weight: 0,
-            },
-            &[],
-        ),
-        (
-            b"list 1",
-            Head::List {
-                handle: 1,
-                lines: 6,
-            },
-            &AT_30,
-        ),
-        (
-            b"list 2",
-            Head::List {
-                handle: 2,
-                lines: 5,
-            },
-            &AT_50,
-        ),
-        (
-            b"list 3",
-            Head::List {
-                handle: 3,
-                lines: 3,
-            },
-            &STRUCTURE_AT_50,
-        ),
-    ];
-    let texts: [(u32, Option<&[u8]>); 7] = [
-        (0, Some(b"name".as_slice())),
-        (1, Some(b"Ann Lee".as_slice())),
-        (2, Some(b"since".as_slice())),
-        (3, Some(b"1998".as_slice())),
-        (4, Some(b"colour".as_slice())),
-        (5, Some(b"blue".as_slice())),
-        (6, None),
-    ];
-    let mut source = MemorySource::new(rt.alloc(), ATTRIBUTES, 7, &[])?;
-    let mut disk = MemoryDisk::new(rt.alloc(), b"", MANY, MANY, &[])?;
-    for cases in [first.as_slice(), second.as_slice()] {
-        match Session::start(&rt, rt.alloc(), &mut disk, Limits::standard()) {
-            Ok(mut session) => {
-                let other = first_other(&rt, &mut session, cases, &mut source, &mut disk);
-                assert_eq!(rt; other, None);
-                for (number, text) in texts {
-                    assert_eq!(rt; session.names().text(number), text);
-                }
-            }
-            Err(_) => return Err("not started".into()),
-        }
-    }
-    Ok(())
-}
-
-#[test]
-fn a_history_holds_the_events_that_the_limit_allows(rt: HostRuntime) -> Result<(), Fail> {
-    let loaded = Head::Loaded {
-        events: 2,
-        total: 2,
-        last: 20,
-    };
-    let appended = Head::Appended {
-        events: 1,
-        total: 3,
-        last: 40,
-    };
-    let cases: [Case; 6] = [
-        (b"append 1", Head::Refused(Refusal::NoIndex), &[]),
-        (b"create 2 2 union", Head::Created, &[]),
-        (b"load 2", loaded, &[]),
-        (b"append 2", Head::Refused(Refusal::HistoryFull(2, 2)), &[]),
-        (b"append 1", appended, &[]),
-        (b"append 1", Head::Refused(Refusal::HistoryFull(3, 1)), &[]),
-    ];
-    let following = b"10 +node 1\n10 +node 1\n20 +node 2\n\
-        30 +node 3\n30 +node 4\n40 nset 1 key value\n50 -node 2\n";
-    let limits = Limits {
-        script_bytes: SCRIPT_BYTES_MAX,
-        events: 3,
-        file_bytes: 1000,
-    };
-    let mut source = MemorySource::new(rt.alloc(), following, 7, &[])?;
-    let mut disk = MemoryDisk::new(rt.alloc(), b"", MANY, MANY, &[])?;
-    match Session::start(&rt, rt.alloc(), &mut disk, limits) {
-        Ok(mut session) => {
-            let other = first_other(&rt, &mut session, cases.as_slice(), &mut source, &mut disk);
-            assert_eq!(rt; other, None);
-        }
-        Err(_) => return Err("not started".into()),
-    }
-    Ok(())
-}
-
-#[test]
-fn a_batch_fits_the_file_to_the_byte_or_is_refused(rt: HostRuntime) -> Result<(), Fail> {
-    let loaded = Head::Loaded {
-        events: 1,
-        total: 1,
-        last: 10,
-    };
-    let full = Head::Refused(Refusal::FileFull(118, 117));
-    // A batch of one node takes 100 bytes, after the 18 of an empty index. The first command that is
-    // not answered is told where the disk has no room for it.
-    let cases: [(u64, usize, Head, Option<usize>); 3] = [
-        (118, MANY, loaded, None),
-        (117, MANY, full, None),
-        (118, 50, loaded, Some(1)),
-    ];
-    for (file_bytes, room, head, other) in cases {
-        let replies: [Case; 2] = [
-            (b"create 2 2 union", Head::Created, &[]),
-            (b"load 1", head, &[]),
-        ];
-        let limits = Limits {
-            script_bytes: SCRIPT_BYTES_MAX,
-            events: 1,
-            file_bytes,
-        };
-        let mut source = MemorySource::new(rt.alloc(), b"10 +node 1\n", 7, &[])?;
-        let mut disk = MemoryDisk::new(rt.alloc(), b"", room, MANY, &[])?;
-        if file_bytes <= Limits::standard().file_bytes {
-            match Session::start(&rt, rt.alloc(), &mut disk, limits) {
-                Ok(mut session) => {
-                    let found = first_other(
-                        &rt,
-                        &mut session,
-                        replies.as_slice(),
-                        &mut source,
-                        &mut disk,
-                    );
-                    assert_eq!(rt; found, other);
-                }
-                Err(_) => return Err("not started".into()),
-            }
         }
     }
     Ok(())
@@ -464,22 +323,19 @@ fn file(gate: u8, directory: u8, kind: u8) -> [u8; 118] {
 }
 
 #[test]
-fn a_file_that_is_not_right_is_refused(rt: HostRuntime) -> Result<(), Fail> {
-    let cases: [(u8, u8, u8, Option<StartFault>); 5] = [
-        (1, 60, 1, None),
-        (9, 60, 1, Some(StartFault::Foreign)),
-        (1, 61, 1, Some(StartFault::Damaged(18))),
-        (
-            1,
-            60,
-            7,
-            Some(StartFault::BadRecord(Key::Piece(0), Column::Structure)),
-        ),
-        (1, 60, 2, Some(StartFault::BadRecent(1))),
+fn a_file_is_started_from_or_refused(rt: HostRuntime) -> Result<(), Fail> {
+    let bad_record = StartFault::BadRecord(Key::Piece(0), Column::Structure);
+    let cases: [(u8, u8, u8, usize, Option<StartFault>); 6] = [
+        (1, 60, 1, MANY, None),
+        (1, 60, 1, 0, Some(StartFault::Disk)),
+        (9, 60, 1, MANY, Some(StartFault::Foreign)),
+        (1, 61, 1, MANY, Some(StartFault::Damaged(18))),
+        (1, 60, 7, MANY, Some(bad_record)),
+        (1, 60, 2, MANY, Some(StartFault::BadRecent(1))),
     ];
-    for (gate, directory, kind, fault) in cases {
+    for (gate, directory, kind, calls, fault) in cases {
         let image = file(gate, directory, kind);
-        let mut disk = MemoryDisk::new(rt.alloc(), image.as_slice(), MANY, MANY, &[])?;
+        let mut disk = MemoryDisk::new(rt.alloc(), image.as_slice(), MANY, calls, &[])?;
         let started = Session::start(&rt, rt.alloc(), &mut disk, Limits::standard());
         assert_eq!(rt; started.err(), fault);
     }

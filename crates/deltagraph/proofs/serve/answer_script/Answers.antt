@@ -1,4 +1,4 @@
-use Rattle.std.proofs.Common.{◌≡◌, ℕ, List, true, false, is_some, refl, sym, ◌∙◌, ap, subst, Err, arith, rules}
+use Rattle.std.proofs.Common.{◌≡◌, ℕ, List, refl, sym, ◌∙◌, ap, subst, Err, arith}
 use Rattle.dg_io.proofs.FrameLemmas.{advances_none, advances_both}
 use Rattle.dg_io.specs.Told.{CountRose, grown, GrowsByPart}
 use Rattle.dg_machine.specs.ReplyText.{text}

@@ -1,4 +1,4 @@
-use Rattle.std.proofs.Common.{◌≡◌, refl, ◌∙◌, ap, Err, arith}
+use Rattle.std.proofs.Common.{refl, ◌∙◌, ap, Err, arith}
 use Rattle.deltagraph.proofs.Promises.{no_session, session_promise}
 use Rattle.deltagraph.proofs.serve.carry_out.Goals as goal
 

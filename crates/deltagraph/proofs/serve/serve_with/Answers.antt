@@ -1,4 +1,4 @@
-use Rattle.std.proofs.Common.{◌≡◌, sym, ◌∙◌}
+use Rattle.std.proofs.Common.{sym, ◌∙◌}
 use Rattle.deltagraph.proofs.Promises.{wrong_words}
 use Rattle.deltagraph.proofs.serve.serve_with.Goals as goal
 

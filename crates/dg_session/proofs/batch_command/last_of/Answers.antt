@@ -1,6 +1,6 @@
 use Rattle.std.proofs.Common.{◌∙◌, sym}
 use Rattle.dg_file.specs.Held.{span_in}
-use Rattle.dg_session.proofs.Batching.{last_told, last_told_small, told_map}
+use Rattle.dg_session.proofs.TryBatch.{last_told, last_told_small, told_map}
 use Rattle.dg_session.proofs.batch_command.last_of.Goals as goal
 
 pub returns-clause-last : goal.returns-clause-last

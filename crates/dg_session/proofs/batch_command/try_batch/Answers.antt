@@ -9,9 +9,9 @@ use Rattle.dg_history.specs.OpenedIndex.{Opening}
 use Rattle.dg_graph.specs.Replay.{replay_from}
 use Rattle.dg_session.specs.BatchCommand.{batch_with}
 use Rattle.dg_session.specs.SessionStart.{index_opening}
-use Rattle.dg_session.proofs.Batching.{IsPrepared, added_is, here, keep_adds, keep_fails, prepared_here}
-use Rattle.dg_session.proofs.Pushing.{extended}
-use Rattle.dg_session.proofs.Reading.{err_is}
+use Rattle.dg_session.proofs.TryBatch.{IsPrepared, added_is, here, keep_adds, keep_fails, prepared_here}
+use Rattle.dg_session.proofs.ExtendResult.{extended}
+use Rattle.dg_session.proofs.ReadHistory.{err_is}
 use Rattle.dg_session.proofs.batch_command.try_batch.Goals as goal
 
 pub segment_of-requires-clause-few : goal.segment_of-requires-clause-few
@@ -73,5 +73,5 @@ returns-clause-adds g c =
     here (index_opening c.args.history.now.index) c.in-Some.index.opening _ (ap index_opening c.in-Some.is)
     (keep_adds c.in-Some.index.opening c.args.limit c.args.known c.args.history.now _ (g.D.Disk.image c.args.disk.now) (g.D.Disk.image c.keep_segment.new.disk) c.args.batch.now.changes.items c.args.batch.now.front
     c.in_ok-events.events.items c.in_ok-segment.segment _ (index_opening c.args.history.now.index) (ap index_opening c.in-Some.is) c.requires.ready c.requires.image c.in_ok-events.ensures.whole p segment
-    (ap (λ (x : Opening). Some x) c.in_ok-keep_segment.ensures.kept) refl all graph c.commit.ensures.none opened c.in_ok-keep_segment.ensures.gained c.keep_segment.ensures.told c.in_ok-keep_segment.ensures.fits
+    (ap (λ (x : Opening). Some x) c.in_ok-keep_segment.ensures.kept) refl all graph c.commit.ensures.none opened c.in_ok-keep_segment.ensures.gained c.keep_segment.ensures.disk.told c.in_ok-keep_segment.ensures.fits
     (added_is c.len-2.result (length c.in_ok-events.events.items) c.len-3.result (length c.extend_from_slice.new.self.items) c.last_instant.result (last_time_from 0 c.in_ok-events.events.items) many total last))

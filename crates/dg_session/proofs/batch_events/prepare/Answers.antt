@@ -3,7 +3,7 @@ use Rattle.dg_graph.specs.declared.event.Change.{Change}
 use Rattle.dg_graph.specs.CompletedChanges.{completed}
 use Rattle.dg_now.specs.Now.{FaultOf, earliest_time_after}
 use Rattle.dg_session.specs.BatchLines.{lines}
-use Rattle.dg_session.proofs.Batches.{form_refused}
+use Rattle.dg_session.proofs.IsFront.{form_refused}
 use Rattle.dg_session.proofs.batch_events.prepare.Goals as goal
 
 pub returns-in-Form-clause-refused : goal.returns-in-Form-clause-refused

@@ -1,7 +1,7 @@
 use Rattle.std.proofs.Common.{[], length, ◌∙◌, sym}
 use borrow.Author.Tests.{eqb-true}
 use Rattle.dg_now.specs.Now.{earliest_time_after}
-use Rattle.dg_session.proofs.Batches.{none_completed}
+use Rattle.dg_session.proofs.IsFront.{none_completed}
 use Rattle.dg_session.proofs.batch_events.refusal_of_front.Goals as goal
 
 pub returns-then-is_empty-clause-done : goal.returns-then-is_empty-clause-done

@@ -1,12 +1,13 @@
 use Rattle.std.proofs.Common.{arith}
 use Rattle.dg_io.specs.LinesState.{told}
-use Rattle.dg_session.proofs.Gathering.{advances_more, gathering_kept, gathering_passed, kept_twice}
+use Rattle.dg_io.proofs.FrameLemmas.{advances_both}
+use Rattle.dg_session.proofs.ReadLines.{gathering_kept, gathering_passed, kept_twice}
 use Rattle.dg_session.proofs.batch_lines.read_lines.Goals as goal
 use Rattle.dg_session.proofs.batch_lines.read_lines.Goals.{else-loop-read-test, then-loop-read-test+in_ok-line+then-is_end}
 
 pub returns-in_err-line-clause-advances : goal.returns-in_err-line-clause-advances
 returns-in_err-line-clause-advances g c =
-    advances_more c.args.lines.now c.loop-read.lines c.next_line.new.lines
+    advances_both c.args.lines.now c.loop-read.lines c.next_line.new.lines
     (g.S.Source.left c.args.source.now) (g.S.Source.left c.loop-read.source) (g.S.Source.left c.next_line.new.source)
     (g.S.Source.faults c.args.source.now) (g.S.Source.faults c.loop-read.source) (g.S.Source.faults c.next_line.new.source)
     c.loop-read.invariant.advances c.next_line.ensures.advances
@@ -19,7 +20,7 @@ loop-read-preserved-then-is_whole g c = record {
       c.in_ok-line.line c.text.result.now c.next_line.new.lines.text c.loop-read.invariant.gathering (c.is_whole.ensures.whole c.if-is_whole.true) (c.is_end.ensures.more c.if-is_end.false)
       c.in_ok-line.ensures.comes c.text.ensures c.keep_change-front.ensures.keeps;
   advances =
-      advances_more c.args.lines.now c.loop-read.lines c.next_line.new.lines
+      advances_both c.args.lines.now c.loop-read.lines c.next_line.new.lines
       (g.S.Source.left c.args.source.now) (g.S.Source.left c.loop-read.source) (g.S.Source.left c.next_line.new.source)
       (g.S.Source.faults c.args.source.now) (g.S.Source.faults c.loop-read.source) (g.S.Source.faults c.next_line.new.source)
       c.loop-read.invariant.advances c.next_line.ensures.advances;
@@ -36,7 +37,7 @@ loop-read-preserved g c = record {
       c.loop-read.read c.loop-read.front c.args.names.now c.loop-read.names c.loop-read.changes.items c.in_ok-line.line c.next_line.new.lines.text c.loop-read.invariant.gathering
       (c.is_whole.ensures.other c.if-is_whole.false) (c.is_end.ensures.more c.if-is_end.false) c.in_ok-line.ensures.comes;
   advances =
-      advances_more c.args.lines.now c.loop-read.lines c.next_line.new.lines
+      advances_both c.args.lines.now c.loop-read.lines c.next_line.new.lines
       (g.S.Source.left c.args.source.now) (g.S.Source.left c.loop-read.source) (g.S.Source.left c.next_line.new.source)
       (g.S.Source.faults c.args.source.now) (g.S.Source.faults c.loop-read.source) (g.S.Source.faults c.next_line.new.source)
       c.loop-read.invariant.advances c.next_line.ensures.advances;
@@ -51,7 +52,7 @@ returns-clause-advances g c =
     elim c.loop-read-test.branch [
       | else-loop-read-test w ↦ rw (w.lines-is, w.source-is) c.loop-read.invariant.advances
       | then-loop-read-test+in_ok-line+then-is_end w ↦ rw (w.lines-is, w.source-is)
-          (advances_more c.args.lines.now c.loop-read.lines w.next_line.new.lines
+          (advances_both c.args.lines.now c.loop-read.lines w.next_line.new.lines
           (g.S.Source.left c.args.source.now) (g.S.Source.left c.loop-read.source) (g.S.Source.left w.next_line.new.source)
           (g.S.Source.faults c.args.source.now) (g.S.Source.faults c.loop-read.source) (g.S.Source.faults w.next_line.new.source)
           c.loop-read.invariant.advances w.next_line.ensures.advances)

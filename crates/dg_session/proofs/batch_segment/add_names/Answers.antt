@@ -1,6 +1,6 @@
 use Rattle.std.proofs.Common.{◌≡◌, ◌∙◌, sym, ap, Some, None, slice_get, drop}
 use Rattle.std.specs.Option.{option_copied}
-use Rattle.dg_session.proofs.Segments.{name_more, names_done, with_names}
+use Rattle.dg_session.proofs.AddNames.{name_more, names_done, with_names}
 use Rattle.dg_session.proofs.batch_segment.add_names.Goals as goal
 
 pub loop-text-preserved : goal.loop-text-preserved

@@ -1,6 +1,6 @@
 use Rattle.std.proofs.Common.{sym, ◌∙◌}
 use Rattle.dg_graph.specs.declared.event.Body.TheVariants.{NodeAdded}
-use Rattle.dg_session.proofs.Wrong.{wrong_here}
+use Rattle.dg_session.proofs.FirstWrong.{wrong_here}
 use Rattle.dg_session.proofs.history_reader.first_wrong.Goals as goal
 
 pub returns-then-not-is_right-clause-wrong : goal.returns-then-not-is_right-clause-wrong

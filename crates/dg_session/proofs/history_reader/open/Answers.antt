@@ -4,7 +4,7 @@ use Rattle.dg_history.specs.LegalHistory.{is_blank}
 use Rattle.dg_history.specs.OpenedIndex.{No_index, Opening, opening}
 use Rattle.dg_session.specs.Session.{IsHeldBy}
 use Rattle.dg_session.specs.SessionStart.{index_opening}
-use Rattle.dg_session.proofs.Reading.{blank_is, told_weaker}
+use Rattle.dg_session.proofs.ReadHistory.{blank_is, told_weaker}
 use Rattle.dg_session.proofs.history_reader.open.Goals as goal
 
 pub returns-in-Err-Blank-clause-held : goal.returns-in-Err-Blank-clause-held

@@ -12,8 +12,8 @@ use Rattle.dg_graph.specs.Replay.{replay, replay_from}
 use Rattle.dg_history.specs.SessionStart.{start_of, events_in_piece}
 use Rattle.dg_now.specs.Now.{NowState}
 use Rattle.dg_session.specs.SessionStart.{FirstWrong, RefusesStart}
-use Rattle.dg_session.proofs.Pushing.{pushed}
-use Rattle.dg_session.proofs.Reading.{IsPiece, ReadSoFar, all_counted, read_as, tested_as, err_is, led_more, none_is, some_is, all_right, one_wrong, piece_told, none_told, of_told, piece_tested, piece_untested, piece_refused, none_read}
+use Rattle.dg_session.proofs.ExtendResult.{pushed}
+use Rattle.dg_session.proofs.ReadHistory.{IsPiece, ReadSoFar, all_counted, read_as, tested_as, err_is, led_more, none_is, some_is, all_right, one_wrong, piece_told, none_told, of_told, piece_tested, piece_untested, piece_refused, none_read}
 use Rattle.dg_session.proofs.history_reader.read_history.Goals as goal
 use Rattle.dg_session.proofs.history_reader.read_history.Goals.{then-is_none+in-Ok, else-is_none}
 
@@ -73,13 +73,13 @@ loop-batch-preserved g c =
     items ∙ ap (λ es. c.loop-batch.events.items ++ es) c.deref-in-Some.ensures.value in
     record {
       same = c.read_piece.ensures.same ∙ c.loop-batch.invariant.same;
-      same_image = c.read_piece.ensures.same_image ∙ c.loop-batch.invariant.same_image;
+      same_image = c.read_piece.ensures.disk.same_image ∙ c.loop-batch.invariant.same_image;
       none_pending = elim c.if-is_none.branch [
         | then-is_none+in-Ok w ↦ ap (λ (s : NowState). s.pending) w.current-is ∙ w.first_wrong.ensures.none
         | else-is_none w ↦ ap (λ (s : NowState). s.pending) w.current-is ∙ c.loop-batch.invariant.none_pending
       ];
-      counted = omega (arith, c.read_piece.ensures.counted, c.loop-batch.invariant.counted);
-      same_write_faults = c.read_piece.ensures.same_write_faults ∙ c.loop-batch.invariant.same_write_faults;
+      counted = omega (arith, c.read_piece.ensures.disk.counted, c.loop-batch.invariant.counted);
+      same_write_faults = c.read_piece.ensures.disk.no_write_failed ∙ c.loop-batch.invariant.same_write_faults;
       read = λ image h.
           let read : events_in_piece image (length c.args.names.now) c.loop-batch.piece p.segment ≡ Ok c.in_ok-more.more.items =
           ap (λ (n : ℕ). events_in_piece image n c.loop-batch.piece p.segment) (sym c.len.ensures.len)

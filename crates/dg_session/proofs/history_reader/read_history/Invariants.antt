@@ -4,7 +4,7 @@ use Rattle.dg_columns.specs.NamesInRange.{NamesFit}
 use Rattle.dg_file.specs.Index.{events_after}
 use Rattle.dg_graph.specs.declared.event.Event.{Event}
 use Rattle.dg_graph.specs.Replay.{replay}
-use Rattle.dg_session.proofs.Reading.{ReadSoFar}
+use Rattle.dg_session.proofs.ReadHistory.{ReadSoFar}
 use Rattle.dg_session.proofs.history_reader.read_history.Given as goal
 
 abbrev pub invariant-loop-batch : goal.invariant-loop-batch

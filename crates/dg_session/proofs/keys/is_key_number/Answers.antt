@@ -1,7 +1,7 @@
 use Rattle.std.proofs.Common.{◌≡◌, ◌∙◌, sym, ap, None, slice_get}
 use Rattle.std.specs.Option.{option_copied}
 use Rattle.dg_graph.specs.Names.{is_key}
-use Rattle.dg_session.proofs.Segments.{no_text}
+use Rattle.dg_session.proofs.AddNames.{no_text}
 use Rattle.dg_session.proofs.keys.is_key_number.Goals as goal
 
 pub returns-in-None : goal.returns-in-None

@@ -1,4 +1,4 @@
-use Rattle.dg_session.proofs.Standing.{starts_as_it_stands}
+use Rattle.dg_session.proofs.StartsAsItStands.{starts_as_it_stands}
 use Rattle.dg_session.proofs.laws.law_images_start_as_they_stand.Goals as goal
 
 pub returns : goal.returns

@@ -1,4 +1,4 @@
-use Rattle.dg_session.proofs.Spans.{last_instant_is}
+use Rattle.dg_session.proofs.SpanOf.{last_instant_is}
 use Rattle.dg_session.proofs.snapshot.last_instant.Goals as goal
 
 pub returns-in-Some : goal.returns-in-Some

@@ -1,4 +1,4 @@
-use Rattle.dg_session.proofs.Spans.{span_is}
+use Rattle.dg_session.proofs.SpanOf.{span_is}
 use Rattle.dg_session.proofs.snapshot.span.Goals as goal
 
 pub returns-in-Some-Some : goal.returns-in-Some-Some

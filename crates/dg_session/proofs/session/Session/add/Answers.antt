@@ -11,7 +11,7 @@ use Rattle.dg_session.specs.Halt.{batch_halt}
 use Rattle.dg_session.specs.Parts.{Parts}
 use Rattle.dg_session.specs.Session.{Answers, ComesTo}
 use Rattle.dg_session.specs.contracts.session.Session.{the_view}
-use Rattle.dg_session.proofs.BatchSteps.{IsAsked, batch_added, batch_failed, is_ready, takes_failed, unread_comes, with_history}
+use Rattle.dg_session.proofs.AddStep.{IsAsked, batch_added, batch_failed, is_ready, takes_failed, unread_comes, with_history}
 use Rattle.dg_session.proofs.Steps.{Comes, handed_out}
 use Rattle.dg_session.proofs.session.Session.add.Goals as goal
 
@@ -67,12 +67,13 @@ returns-in_err-added-clause-comes g c =
     let image : Option (List ℕ) = g.D.Disk.image c.args.disk.now in
     let then_image : Option (List ℕ) = g.D.Disk.image c.add_batch.new.disk in
     let q : Parts = with_history p c.add_batch.new.history in
-    handed_out c.from_residual-in_err-added.result (batch_halt c.in_err-added.field-0.0) (Comes (command_with c.args.which c.args.count) c.args.count before after c.args.self.now image q then_image) c.from_residual-in_err-added.ensures
-    (asked.batch.got,
-    takes_failed c.args.count before asked.batch.got after c.in_err-added.field-0.0 asked.batch.follows,
-    subst (λ (x : Parts). ComesTo (command_with c.args.which c.args.count) asked.batch.got x image q then_image (Err (batch_halt c.in_err-added.field-0.0))) c.self.view_is
-    (batch_failed c.args.which p c.args.count c.len-known.result c.self.inside.limits.file_bytes old c.in_ok-batch.batch before after asked c.add_batch.new.history image then_image
-    c.law_batches_are_measured.ensures c.in_err-added.field-0.0 c.in_err-added.ensures.fails c.in_err-added.ensures.back q refl))
+    handed_out c.from_residual-in_err-added.result (batch_halt c.in_err-added.field-0.0) (Comes (command_with c.args.which c.args.count) c.args.count before after c.args.self.now image q then_image) c.from_residual-in_err-added.ensures (
+      asked.batch.got,
+      takes_failed c.args.count before asked.batch.got after c.in_err-added.field-0.0 asked.batch.follows,
+      subst (λ (x : Parts). ComesTo (command_with c.args.which c.args.count) asked.batch.got x image q then_image (Err (batch_halt c.in_err-added.field-0.0))) c.self.view_is
+          (batch_failed c.args.which p c.args.count c.len-known.result c.self.inside.limits.file_bytes old c.in_ok-batch.batch before after asked c.add_batch.new.history image then_image
+          c.law_batches_are_measured.ensures c.in_err-added.field-0.0 c.in_err-added.ensures.fails c.in_err-added.ensures.back q refl),
+    )
 
 pub returns-clause-comes : goal.returns-clause-comes
 returns-clause-comes g c =

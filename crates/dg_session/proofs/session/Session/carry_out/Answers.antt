@@ -1,7 +1,7 @@
 use Rattle.std.proofs.Common.{refl, subst}
 use Rattle.dg_io.specs.LinesState.{told}
 use Rattle.dg_machine.specs.declared.command.Command.TheVariants as command
-use Rattle.dg_session.proofs.Grammars.{InRange, in_range}
+use Rattle.dg_session.proofs.GrammarRanges.{InRange, in_range}
 use Rattle.dg_session.proofs.Steps.{alone}
 use Rattle.dg_session.proofs.session.Session.carry_out.Goals as goal
 

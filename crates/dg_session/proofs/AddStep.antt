@@ -32,10 +32,10 @@ use Rattle.dg_machine.specs.MachineState.{MachineState, events_in_index, history
 use Rattle.dg_machine.specs.Needs.{earliest, following, is_writing, needs, refused, when}
 use Rattle.dg_machine.specs.Run.{Step}
 use Rattle.dg_machine.specs.Script.{Asked, Follows}
-use Rattle.dg_session.proofs.Batching.{here, of_here}
-use Rattle.dg_session.proofs.Fitting.{ChangeFits, what_spelled}
-use Rattle.dg_session.proofs.Growing.{IsNext, batch_next, earliest_is, events_with, fitting_next, grown_next, legal_next, names_grown}
-use Rattle.dg_session.proofs.Naming.{Grows, changes_length, grown_new}
+use Rattle.dg_session.proofs.TryBatch.{here, of_here}
+use Rattle.dg_session.proofs.EventRanges.{ChangeFits, what_spelled}
+use Rattle.dg_session.proofs.LegalHistory.{IsNext, batch_next, earliest_is, events_with, fitting_next, grown_next, legal_next, names_grown}
+use Rattle.dg_session.proofs.NamesAfter.{Grows, changes_length, grown_new}
 use Rattle.dg_session.proofs.StandsFor.{both_told, not_false, passes, refused_is, some_index, stands}
 use Rattle.dg_session.proofs.Steps.{Comes, accepted_is, accepted_steps, denied, is_accepted, lacking_denies, refused_denies}
 use Rattle.dg_session.specs.BatchCommand.{AddsBatch, BreaksBatch, ComeTo, FailsBatch, FillsFile, IsBack, IsReady, StaysAs, barred, batch_with, command_with, head_of}
@@ -449,7 +449,7 @@ module _ (which : BatchCommand) (p : Parts) (count known limit : ℕ) (c : Store
               (both_told before after (GainsBatch (new_segment_of (batch_with known c.names d.events))) d.gains y z ey ez) q_is told;
           accepted = ok_head which x.events x.total x.last;
           held = λ h. d.held;
-          no_index = λ none. let e : Some (with_segment free.index (new_segment_of (batch_with known c.names d.events))) ≡ None = sym index ∙ none in cc;
+          no_index = λ none. absurd (let e : Some (with_segment free.index (new_segment_of (batch_with known c.names d.events))) ≡ None = sym index ∙ none in cc);
           quiet = λ not_writing. let e : true ≡ false = sym (writes which count) ∙ not_writing in cc;
         }
 

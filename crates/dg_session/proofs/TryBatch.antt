@@ -23,11 +23,11 @@ use Rattle.dg_graph.specs.Names.{are_new}
 use Rattle.dg_history.specs.OpenedIndex.{Opening, Segment, may_be_named, may_follow}
 use Rattle.dg_graph.specs.Replay.{replay, replay_from}
 use Rattle.dg_now.specs.Now.{earliest_time_after as earliest_now}
-use Rattle.dg_session.proofs.Completing.{AllCome, AreRight, all_come, are_right, as_many}
-use Rattle.dg_session.proofs.Fitting.{BodyFits, ElementFits, WhatFits, events_fit, from_spelled, replay_fits, spelled_body, spelled_what, times_fit}
-use Rattle.dg_session.proofs.Naming.{both_parts}
-use Rattle.dg_session.proofs.Reading.{led_more}
-use Rattle.dg_session.proofs.Standing.{last_after}
+use Rattle.dg_session.proofs.CompletedChanges.{AllCome, AreRight, all_come, are_right, as_many}
+use Rattle.dg_session.proofs.EventRanges.{BodyFits, ElementFits, WhatFits, events_fit, from_spelled, replay_fits, spelled_body, spelled_what, times_fit}
+use Rattle.dg_session.proofs.NamesAfter.{both_parts}
+use Rattle.dg_session.proofs.ReadHistory.{led_more}
+use Rattle.dg_session.proofs.StartsAsItStands.{last_after}
 use Rattle.dg_session.specs.BatchCommand.{AddsBatch, ComeTo, FailsBatch, IsReady, batch_with}
 use Rattle.dg_session.specs.declared.batch_command.AddedBatch.{AddedBatch}
 use Rattle.dg_session.specs.declared.stored_history.StoredHistory.{StoredHistory}

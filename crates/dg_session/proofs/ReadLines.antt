@@ -6,14 +6,13 @@ use Rattle.std.proofs.lemmas.List.{map-append, take-append-drop}
 use Rattle.dg_io.specs.declared.lines.Line.{Line}
 use Rattle.dg_io.specs.declared.lines.Line.TheVariants as line
 use Rattle.dg_io.specs.declared.lines.Line.TheVariants.{End}
-use Rattle.dg_io.specs.Frame.{Advances}
-use Rattle.dg_io.specs.LinesState.{LinesState, Comes, LineComes}
+use Rattle.dg_io.specs.LinesState.{Comes, LineComes}
 use Rattle.dg_graph.specs.declared.event.Change.{Change}
 use Rattle.dg_history.specs.Batch.{changes_after, names_after}
 use Rattle.dg_history.specs.ChangeGrammar.{ChangeByText, change_by_text_in, named, change_with}
 use Rattle.dg_graph.specs.Lines.{ScriptLine}
 use Rattle.dg_machine.specs.Script.{Follows}
-use Rattle.dg_session.proofs.Naming.{names_both, changes_both}
+use Rattle.dg_session.proofs.NamesAfter.{names_both, changes_both}
 use Rattle.dg_session.specs.declared.batch_lines.Front.{Front}
 use Rattle.dg_session.specs.declared.batch_lines.Front.TheVariants.{Whole, Form, Unkept}
 use Rattle.dg_session.specs.BatchLines.{NamesGrow, IsFront, KeepsChange, lines, line_read}
@@ -28,21 +27,6 @@ pub both_first : {A : Type 0} (old mid new : Option (List A)) (xs ys : List A)
 both_first old mid None xs ys a b = a ∙ ap (option_map (λ rest. xs ++ rest)) b
 both_first old mid (Some rest) xs ys a b =
     a ∙ ap (option_map (λ rest. xs ++ rest)) b ∙ ap (λ zs. Some zs) (sym (append_assoc xs ys rest))
-
-pub advances_more : (r1 r2 r3 : LinesState) (l1 l2 l3 : Option (List ℕ)) (f1 f2 f3 : ℕ)
-    → Advances r1 l1 f1 r2 l2 f2 → Advances r2 l2 f2 r3 l3 f3 → Advances r1 l1 f1 r3 l3 f3
-advances_more r1 r2 r3 l1 l2 l3 f1 f2 f3 a b = record {
-  kept = omega (arith, a.kept, b.kept);
-  taken = (
-    a.taken.0 ++ b.taken.0,
-    both_first l1 l2 l3 a.taken.0 b.taken.0 a.taken.1 b.taken.1,
-    omega (arith, a.taken.2, b.taken.2, length-append a.taken.0 b.taken.0),
-  );
-  at_end = λ h. b.at_end (a.at_end h);
-  within = λ h. b.within (a.within h);
-  same_limit = b.same_limit ∙ a.same_limit;
-  counted = omega (arith, a.counted, b.counted);
-}
 
 -- the changes of these lines so far, and the names with their texts
 abbrev pub AreKept : Front → List (List ℕ) → List (List ℕ) → List ScriptLine → List Change → Type 0

@@ -1,5 +1,5 @@
 -- Numbers that the grammars give are in their ranges, their keys may be keys and their values names.
-use Rattle.std.proofs.Common.{◌≡◌, ℕ, ◌<◌, ◌≤◌, ◌^◌, Bool, true, false, cond, ◌&&◌, List, [], ◌∷◌, Option, Some, None, if◌then◌else◌, map, nat_le, refl, subst, arith, decimal}
+use Rattle.std.proofs.Common.{◌≡◌, ℕ, ◌<◌, ◌≤◌, ◌^◌, Bool, true, false, ◌&&◌, List, [], ◌∷◌, Option, Some, None, if◌then◌else◌, map, nat_le, refl, subst, arith, decimal}
 use Rattle.std.specs.Prelude.{IfSome, option_and_then}
 use Rattle.std.specs.List.{All, AllByRecursion, join_with_byte}
 use Rattle.std.specs.Option.{option_map}
@@ -13,13 +13,14 @@ use Rattle.dg_graph.specs.declared.event.What.TheVariants as what
 use Rattle.dg_graph.specs.declared.limits.TheConstants.{BATCH_LINES_MAX, TIME_MAX}
 use Rattle.dg_graph.specs.Lines.{ScriptLine, Text, Long}
 use Rattle.dg_graph.specs.Names.{is_key, is_name}
-use Rattle.dg_graph.specs.Verbs.{Verb, is_word, look_up, read_by, none_more, one, two, three, four_words}
+use Rattle.dg_graph.specs.Verbs.{Verb, none_more, one, two, three, four_words}
 use Rattle.dg_graph.specs.Words.{words, number}
 use Rattle.dg_history.specs.ChangeGrammar.{WhatByText, Plain, Sets_node, Unsets_node, Sets_edge, Unsets_edge, ChangeByText, change_verbs, id_of, time_of, direction_of, key_text_of, value_text_of, set_of, what_by_text_of, change_by_text_of_words, change_by_text_in}
 use Rattle.dg_machine.specs.declared.command.Command.{Command}
 use Rattle.dg_machine.specs.declared.command.Command.TheVariants as command
 use Rattle.dg_machine.specs.CommandGrammar.{command_verbs, command_of, n32_of, function_of, columns_of, handle_of, count_of}
 use Rattle.dg_machine.specs.Needs.{needs}
+use Rattle.dg_machine.proofs.Tables.{each_read_by}
 
 -- what the words, or one word, are read as has the property
 abbrev pub Gives : {A : Type 0} → (A → Type 0) → (List (List ℕ) → Option A) → Type 0
@@ -31,15 +32,6 @@ Takes {A} P read = (word : List ℕ) (x : A) → read word ≡ Some x → P x
 -- what each verb is read as has the property
 abbrev pub EachGives : {A : Type 0} → (A → Type 0) → List (Verb A) → Type 0
 EachGives {A} P verbs = AllByRecursion (λ (v : Verb A). Gives P v.read) verbs
-
--- so what is looked up has it
-pub each_read : {A : Type 0} (P : A → Type 0) (verbs : List (Verb A)) → EachGives P verbs → (word : List ℕ) → Gives P (look_up word verbs)
-each_read P [] all word rest x e = absurd (none-some x e)
-each_read {A} P (v ∷ verbs) all word rest x e = by (is_word word v.word) e (each_read P verbs all.1 word rest x)
-  where
-    by : (b : Bool) → cond b (v.read rest) (look_up word verbs rest) ≡ Some x → (look_up word verbs rest ≡ Some x → P x) → P x
-    by true e go = all.0 rest x e
-    by false e go = go e
 
 -- ---- readers of words
 
@@ -160,18 +152,29 @@ unset_gives make = two_gives id_of key_text_of make (λ n. n < 2 ^ 64) (λ k. is
 each_change : EachGives AskedFits change_verbs
 each_change = (
   id_gives (λ n. what.AddNode n) (λ n h. h),
-  (id_gives (λ n. what.RemoveNode n) (λ n h. h),
-  (edge_gives id_of direction_of (λ n a b d. Plain (what.AddEdge n a b d)) (λ n. n < 2 ^ 64) AskedFits id_fits (λ n a b d x y z. (x, y, z)),
-  (id_gives (λ n. what.RemoveEdge n) (λ n h. h),
-  (set_gives (λ n k v. Sets_node n k v) (λ n k v a b c. (a, b, c)),
-  (unset_gives (λ n k. Unsets_node n k) (λ n k a b. (a, b)),
-  (set_gives (λ n k v. Sets_edge n k v) (λ n k v a b c. (a, b, c)),
-  (unset_gives (λ n k. Unsets_edge n k) (λ n k a b. (a, b)), tt)))))))
+  (
+    id_gives (λ n. what.RemoveNode n) (λ n h. h),
+    (
+      edge_gives id_of direction_of (λ n a b d. Plain (what.AddEdge n a b d)) (λ n. n < 2 ^ 64) AskedFits id_fits (λ n a b d x y z. (x, y, z)),
+      (
+        id_gives (λ n. what.RemoveEdge n) (λ n h. h),
+        (
+          set_gives (λ n k v. Sets_node n k v) (λ n k v a b c. (a, b, c)),
+          (
+            unset_gives (λ n k. Unsets_node n k) (λ n k a b. (a, b)),
+            (
+              set_gives (λ n k v. Sets_edge n k v) (λ n k v a b c. (a, b, c)),
+              (unset_gives (λ n k. Unsets_edge n k) (λ n k a b. (a, b)), tt),
+            ),
+          ),
+        ),
+      ),
+    ),
+  ),
 )
 
 asked_fits : Gives AskedFits what_by_text_of
-asked_fits [] x e = absurd (none-some x e)
-asked_fits (verb ∷ rest) x e = each_read AskedFits change_verbs each_change verb rest x e
+asked_fits = each_read_by AskedFits change_verbs each_change
 
 words_fit : Gives SaidFits change_by_text_of_words
 words_fit [] x e = absurd (none-some x e)
@@ -204,15 +207,17 @@ count_gives make q = one_gives count_of make (λ n. (1 ≤ n) × (n ≤ BATCH_LI
 each_command : EachGives InRange command_verbs
 each_command = (
   three_gives n32_of n32_of function_of (λ l k f. command.Create l k f) (λ x. Unit {0}) (λ x. Unit {0}) (λ x. Unit {0}) InRange (any n32_of) (any n32_of) (any function_of) (λ l k f a b c. tt),
-  (count_gives (λ n. command.Load n) (λ n a b. (a, b)),
-  (count_gives (λ n. command.Append n) (λ n a b. (a, b)),
-  (two_gives time_of columns_of (λ t cols. command.At t cols) (λ x. Unit {0}) (λ x. Unit {0}) InRange (any time_of) (any columns_of) (λ t cols a b. tt),
-  (one_gives handle_of (λ h. command.List h) (λ x. Unit {0}) InRange (any handle_of) (λ h a. tt), tt))))
+  (
+    count_gives (λ n. command.Load n) (λ n a b. (a, b)),
+    (
+      count_gives (λ n. command.Append n) (λ n a b. (a, b)),
+      (
+        two_gives time_of columns_of (λ t cols. command.At t cols) (λ x. Unit {0}) (λ x. Unit {0}) InRange (any time_of) (any columns_of) (λ t cols a b. tt),
+        (one_gives handle_of (λ h. command.List h) (λ x. Unit {0}) InRange (any handle_of) (λ h a. tt), tt),
+      ),
+    ),
+  ),
 )
 
 pub in_range : (line : List ℕ) (c : Command) → command_of line ≡ Some c → InRange c
-in_range line c e = by (words line) e
-  where
-    by : (ws : List (List ℕ)) → read_by command_verbs ws ≡ Some c → InRange c
-    by [] h = absurd (none-some c h)
-    by (word ∷ rest) h = each_read InRange command_verbs each_command word rest c h
+in_range line c e = each_read_by InRange command_verbs each_command (words line) c e

@@ -21,10 +21,10 @@ use Rattle.dg_graph.specs.Lines.{ScriptLine}
 use Rattle.dg_graph.specs.Names.{are_new}
 use Rattle.dg_history.specs.OpenedIndex.{segments_of}
 use Rattle.dg_graph.specs.Replay.{replay}
-use Rattle.dg_session.proofs.Completing.{AllCome, all_come, as_many}
-use Rattle.dg_session.proofs.Fitting.{BodyFits, ChangeFits, ElementFits, HasKey, WhatFits, body_more, changes_fit, events_fit, events_keys, from_legal, has_key_more, legal_body, lines_grow, replay_fits, times_fit}
-use Rattle.dg_session.proofs.Naming.{Grows, changes_length, grown_drop, grown_long, grows_none, new_joined}
-use Rattle.dg_session.proofs.Grammars.{lines_fit}
+use Rattle.dg_session.proofs.CompletedChanges.{AllCome, all_come, as_many}
+use Rattle.dg_session.proofs.EventRanges.{BodyFits, ChangeFits, ElementFits, HasKey, WhatFits, body_more, changes_fit, events_fit, events_keys, from_legal, has_key_more, legal_body, lines_grow, replay_fits, times_fit}
+use Rattle.dg_session.proofs.NamesAfter.{Grows, changes_length, grown_drop, grown_long, grows_none, new_joined}
+use Rattle.dg_session.proofs.GrammarRanges.{lines_fit}
 use Rattle.dg_session.specs.BatchLines.{lines}
 
 -- ---- the earliest time of the next batch

@@ -31,9 +31,9 @@ use Rattle.dg_history.specs.OpenedIndex.{Segment, opening_of, opened_of, segment
 use Rattle.dg_graph.specs.ColumnGrammar.{events_in}
 use Rattle.dg_graph.specs.Replay.{replay_from, replay}
 use Rattle.dg_history.specs.SessionStart.{and_start, spelled_or, placed_in_piece, merged_or, events_in_piece, events_in_pieces, is_right, first_wrong, right_or, started_from, start_of}
-use Rattle.dg_session.proofs.Completing.{AreRight, all_come, are_right}
-use Rattle.dg_session.proofs.Naming.{both_parts}
-use Rattle.dg_session.proofs.Reading.{tagged, untagged, from_pieces, replay_more, starts}
+use Rattle.dg_session.proofs.CompletedChanges.{AreRight, all_come, are_right}
+use Rattle.dg_session.proofs.NamesAfter.{both_parts}
+use Rattle.dg_session.proofs.ReadHistory.{tagged, untagged, from_pieces, replay_more, starts}
 use Rattle.dg_session.specs.SessionStart.{StartsAsItStands, started_with}
 
 -- times do not fall
