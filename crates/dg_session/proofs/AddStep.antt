@@ -54,7 +54,7 @@ use Rattle.dg_session.specs.declared.stop.Stop.TheVariants as stop
 use Rattle.dg_session.specs.declared.stored_history.StoredHistory.{StoredHistory}
 use Rattle.dg_session.specs.Halt.{batch_halt}
 use Rattle.dg_session.specs.Parts.{Parts}
-use Rattle.dg_session.specs.Session.{Answers, ComesTo, CutsOff, Denies, Moves, StandsFor, TakesLines, is_too_full, refusals_by, refused_by}
+use Rattle.dg_session.specs.Session.{Accepts, ComesTo, CutsOff, Denies, Moves, StandsFor, TakesLines, is_too_full, refusals_by, refused_by}
 use Rattle.dg_session.specs.SessionStart.{index_opening}
 use Rattle.dg_session.specs.SoundHistory.{IsSoundHistory}
 
@@ -125,14 +125,20 @@ barred_denies which count old new names grown before after image r same b =
     refused_denies (command_with which count) b.got old new image image r same refl (refused_first which old count (length b.got) ∙ b.refused)
 
 -- what the lines come to that are no batch to be completed
-pub unread_comes : (which : BatchCommand) (count : ℕ) (old new : Parts) (names grown : List (List ℕ)) (before after : Option (List ScriptLine)) (image : Option (List ℕ)) (h : Halt)
+unread : (which : BatchCommand) (count : ℕ) (old new : Parts) (names grown : List (List ℕ)) (before after : Option (List ScriptLine)) (image : Option (List ℕ)) (h : Halt)
     → (grown ≡ names → new ≡ old) → ReadsBatch count (barred which old count) before after names grown (Err h) → (h ≡ halt.Stop stop.Store → ⊥)
     → Comes (command_with which count) count before after old image new image (Err h)
-unread_comes which count old new names grown before after image (halt.Refusal r) back b no_store =
+unread which count old new names grown before after image (halt.Refusal r) back b no_store =
     (b.got, b.follows, barred_denies which count old new names grown before after image r (back b.same) b)
-unread_comes which count old new names grown before after image (halt.Stop stop.Read) back b no_store = ([], tt, record { same = back b; same_image = refl })
-unread_comes which count old new names grown before after image (halt.Stop stop.Limit) back b no_store = ([], tt, record { same = back b; same_image = refl })
-unread_comes which count old new names grown before after image (halt.Stop stop.Store) back b no_store = absurd (no_store refl)
+unread which count old new names grown before after image (halt.Stop stop.Read) back b no_store = ([], tt, record { same = back b; same_image = refl })
+unread which count old new names grown before after image (halt.Stop stop.Limit) back b no_store = ([], tt, record { same = back b; same_image = refl })
+unread which count old new names grown before after image (halt.Stop stop.Store) back b no_store = absurd (no_store refl)
+
+pub unread_comes : (which : BatchCommand) (count : ℕ) (old new : Parts) (names grown : List (List ℕ)) (before after : Option (List ScriptLine)) (image : Option (List ℕ)) (h : Halt) (bar : Option Refusal)
+    → (grown ≡ names → new ≡ old) → bar ≡ barred which old count → ReadsBatch count bar before after names grown (Err h) → (h ≡ halt.Stop stop.Store → ⊥)
+    → Comes (command_with which count) count before after old image new image (Err h)
+unread_comes which count old new names grown before after image h bar back bar_is b no_store =
+    unread which count old new names grown before after image h back (subst (λ (r : Option Refusal). ReadsBatch count r before after names grown (Err h)) bar_is b) no_store
 
 -- a batch that was read and is not added
 pub takes_failed : (count : ℕ) (before : Option (List ScriptLine)) (got : List ScriptLine) (after : Option (List ScriptLine)) (f : BatchFault)
@@ -177,6 +183,21 @@ pub record IsAsked (which : BatchCommand) (p : Parts) (count known limit : ℕ) 
   pub some : 1 ≤ count
   pub few : count ≤ BATCH_LINES_MAX
   pub batch : IsBatch count (barred which p count) before after p.names c.names b
+
+-- it is so, where the session's parts are those that it was called with
+pub is_asked : (which : BatchCommand) (p called : Parts) (count known : ℕ) (c : StoredHistory) (b : BatchLines) (before after : Option (List ScriptLine)) (bar : Option Refusal)
+    → p ≡ called → bar ≡ barred which called count → p.index ≡ index_opening c.index → known ≡ length p.names → c.events.items ≡ p.events → p.limits.events ≤ EVENTS_MAX → 1 ≤ count → count ≤ BATCH_LINES_MAX
+    → IsBatch count bar before after p.names c.names b → IsAsked which p count known p.limits.file_bytes c b before after
+is_asked which p called count known c b before after bar same bar_is index known_is events few_events some few batch = record {
+  index = index;
+  known_is = known_is;
+  events = events;
+  limit_is = refl;
+  few_events = few_events;
+  some = some;
+  few = few;
+  batch = subst (λ (r : Option Refusal). IsBatch count r before after p.names c.names b) (bar_is ∙ ap (λ (x : Parts). barred which x count) (sym same)) batch;
+}
 
 -- the history that the session stands for
 record IsOf (p : Parts) (o : Opening) (image : List ℕ) (m : MachineState) (z : History) : Type 0 where
@@ -432,7 +453,7 @@ module _ (which : BatchCommand) (p : Parts) (count known limit : ℕ) (c : Store
         λ i. record p { index = index i; names = names i; events = events i }
 
     pub batch_added : BatchesAreAdded → BatchesAreMeasured → (x : AddedBatch) → IfSome (index_opening c.index) (λ o. AddsBatch o limit known c new before after b.changes.items b.front x)
-        → Answers (command_with which count) Got p before (with_history p new) after (headed (head_of which x.events x.total x.last))
+        → Accepts (command_with which count) Got p before (with_history p new) after (headed (head_of which x.events x.total x.last))
     batch_added added measured x adds =
         let d : AddsBatch free.index limit known c new before after b.changes.items b.front x =
         of_here (index_opening c.index) free.index (λ o. AddsBatch o limit known c new before after b.changes.items b.front x) opening_there adds in

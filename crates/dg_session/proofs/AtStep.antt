@@ -14,7 +14,7 @@ use Rattle.dg_machine.specs.Answer.{headed, is_refusal, with_handle}
 use Rattle.dg_session.proofs.StandsFor.{handle_taken, last_passes, not_false, one_image, passes, stands_on}
 use Rattle.dg_session.proofs.Steps.{moved}
 use Rattle.dg_session.specs.Parts.{Parts}
-use Rattle.dg_session.specs.Session.{Answers, IsHeldBy, refused_by, retrieval_needs}
+use Rattle.dg_session.specs.Session.{Accepts, IsHeldBy, refused_by, retrieval_needs}
 
 -- what a retrieval that is not refused finds: an index, and room for a handle
 pub retrieval_free : (p : Parts) (t : ℕ) → refused_by p 0 (retrieval_needs (t ∷ []) 1) ≡ None → (is_some p.index ≡ true) × (length p.table < LIVE_HANDLES_MAX)
@@ -26,7 +26,7 @@ retrieval_free p t none =
 
 pub at_answers : (p q : Parts) (t : ℕ) (cols : Columns) (image : Option (List ℕ)) (reply : Reply) → refused_by p 0 (retrieval_needs (t ∷ []) 1) ≡ None
     → q ≡ record p { table = p.table ++ (p.next, Overlay t cols None) ∷ []; next = p.next + 1 } → reply ≡ headed (head.At p.next 0)
-    → Answers (command.At t cols) [] p image q image reply
+    → Accepts (command.At t cols) [] p image q image reply
 at_answers p q t cols image reply none is reply_is = record {
   moves =
       moved (command.At t cols) [] p q image image reply none

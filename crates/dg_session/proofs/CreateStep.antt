@@ -24,7 +24,7 @@ use Rattle.dg_session.proofs.Steps.{accepted_is, accepted_steps, is_accepted, la
 use Rattle.dg_session.specs.Halt.{creation_halt}
 use Rattle.dg_session.specs.Parts.{Parts}
 use Rattle.dg_session.specs.SoundHistory.{AreCounted}
-use Rattle.dg_session.specs.Session.{Answers, ComesTo, CutsOff, IsHeldBy, StandsFor, refused_by}
+use Rattle.dg_session.specs.Session.{Accepts, ComesTo, CutsOff, IsHeldBy, StandsFor, refused_by}
 
 -- the command with these parameters
 abbrev pub making : Params → Command
@@ -56,7 +56,7 @@ answer_is p image m params s none =
 pub create_answers : (p q : Parts) (params : Params) (before after : Option (List ℕ)) (o : Opening) (reply : Reply) → refused_by p 0 (needs (making params)) ≡ None
     → IfSome after (λ image. IsImageOf (empty_history params) image) → IfSome after (λ image. opening image ≡ Ok (opened_of (empty_history params)))
     → o ≡ opening_of (empty_history params) → p.names ≡ [] → q ≡ record p { index = Some o } → reply ≡ headed head.Created
-    → Answers (making params) [] p before q after reply
+    → Accepts (making params) [] p before q after reply
 create_answers p q params before after o reply none made opened o_is no_names is reply_is = record {
   moves =
       moved (making params) [] p q before after reply none

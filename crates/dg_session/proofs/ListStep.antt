@@ -18,7 +18,7 @@ use Rattle.dg_machine.specs.Needs.{needs}
 use Rattle.dg_session.proofs.StandsFor.{events_there, hit, miss, one_image, stands_on}
 use Rattle.dg_session.proofs.Steps.{moved}
 use Rattle.dg_session.specs.Parts.{Parts}
-use Rattle.dg_session.specs.Session.{Answers, StandsFor, elements_among, refused_by}
+use Rattle.dg_session.specs.Session.{Accepts, StandsFor, elements_among, refused_by}
 
 pub list_refused : (p : Parts) (handle : ℕ) → entry_at handle p.table ≡ None → refused_by p 0 (needs (command.List handle)) ≡ Some (refusal.UnknownHandle handle)
 list_refused p handle none = hit (not (is_some (entry_at handle p.table))) (refusal.UnknownHandle handle) [] (ap (λ o. not (is_some o)) none)
@@ -37,7 +37,7 @@ shown_are p image m handle stands s some =
 
 pub list_answers : (p : Parts) (handle : ℕ) (stands : Stands) (image : Option (List ℕ)) (lines : List BodyLine) (count : ℕ) (reply : Reply) → entry_at handle p.table ≡ Some stands
     → lines ≡ map (λ x. line.Element x) (elements_among p.events stands) → count ≡ length lines → reply ≡ record { head = head.List handle count; body = lines }
-    → Answers (command.List handle) [] p image p image reply
+    → Accepts (command.List handle) [] p image p image reply
 list_answers p handle stands image lines count reply some lines_are count_is reply_is = record {
   moves =
       moved (command.List handle) [] p p image image reply (list_free p handle stands some)

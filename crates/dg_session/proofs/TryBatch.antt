@@ -181,6 +181,11 @@ come_whole o known c front changes events whole p all f =
     let is : all ≡ lines changes = subst (λ (x : Front). IsFront x changes all) whole f in
     ap (completed 1 (earliest_of 0 o.segments) (replay c.events.items)) is ∙ p.comes
 
+-- the segment, by the events that it was made of
+pub segment_is : (segment : NewSegment) (known : ℕ) (names : List (List ℕ)) (given events : List Event) → segment ≡ new_segment_of (batch_with known names given) → given ≡ events
+    → segment ≡ new_segment_of (batch_with known names events)
+segment_is segment known names given events is same = subst (λ (es : List Event). segment ≡ new_segment_of (batch_with known names es)) same is
+
 pub keep_fails : {A : Type 0} (o : Opening) (limit known : ℕ) (c : StoredHistory) (before after : Option (List ℕ)) (changes : List Change) (front : Front) (events : List Event) (segment : NewSegment) (r : Result A BatchFault) (f : BatchFault)
     → r ≡ Err f → front ≡ Whole → IsPrepared o known c changes events → segment ≡ new_segment_of (batch_with known c.names events)
     → ((line reason : ℕ) → r ≡ Err (fault.BadChange line reason) → ⊥)

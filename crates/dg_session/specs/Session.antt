@@ -103,7 +103,7 @@ abbrev pub retrieval_needs : List ℕ → ℕ → Needs
 retrieval_needs instants handles = record nothing_more { index = true; instants = instants; handles = handles }
 
 -- The command and these lines are answered so, by no refusal.
-pub record Answers (command : Command) (got : List ScriptLine) (old : Parts) (before : Option (List ℕ)) (new : Parts) (after : Option (List ℕ)) (reply : Reply) : Type 0 where
+pub record Accepts (command : Command) (got : List ScriptLine) (old : Parts) (before : Option (List ℕ)) (new : Parts) (after : Option (List ℕ)) (reply : Reply) : Type 0 where
   pub moves : WhereBothTold before after (λ image then_image. Moves command got old image new then_image reply)
   pub accepted : is_refusal reply.head ≡ false
   pub held : IfSome before (λ image. IsHeldBy old.index old.names image) → IfSome after (λ image. IsHeldBy new.index new.names image)
@@ -122,7 +122,7 @@ pub record Denies (command : Command) (got : List ScriptLine) (old : Parts) (bef
 
 -- what the command and these lines come to
 abbrev pub ComesTo : Command → List ScriptLine → Parts → Option (List ℕ) → Parts → Option (List ℕ) → Result Reply Halt → Type 0
-ComesTo command got old before new after (Ok reply) = Answers command got old before new after reply
+ComesTo command got old before new after (Ok reply) = Accepts command got old before new after reply
 ComesTo command got old before new after (Err (halt.Refusal r)) = Denies command got old before new after r
 ComesTo command got old before new after (Err (halt.Stop stop.Read)) = IsAsBefore old before new after
 ComesTo command got old before new after (Err (halt.Stop stop.Limit)) = IsAsBefore old before new after

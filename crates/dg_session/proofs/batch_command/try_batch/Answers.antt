@@ -9,7 +9,7 @@ use Rattle.dg_history.specs.OpenedIndex.{Opening}
 use Rattle.dg_graph.specs.Replay.{replay_from}
 use Rattle.dg_session.specs.BatchCommand.{batch_with}
 use Rattle.dg_session.specs.SessionStart.{index_opening}
-use Rattle.dg_session.proofs.TryBatch.{IsPrepared, added_is, here, keep_adds, keep_fails, prepared_here}
+use Rattle.dg_session.proofs.TryBatch.{IsPrepared, added_is, here, keep_adds, keep_fails, prepared_here, segment_is}
 use Rattle.dg_session.proofs.ExtendResult.{extended}
 use Rattle.dg_session.proofs.ReadHistory.{err_is}
 use Rattle.dg_session.proofs.batch_command.try_batch.Goals as goal
@@ -34,7 +34,7 @@ keep_segment-requires-clause-due g c =
     prepared_here c.in-Some.index.opening c.args.known c.args.history.now c.args.batch.now.front c.args.batch.now.changes.items c.in_ok-events.events.items (index_opening c.args.history.now.index) c.last_of-last.result
     (ap index_opening c.in-Some.is) c.requires.ready c.in_ok-events.ensures.whole c.last_of-last.ensures.last c.in_ok-events.ensures.done in
     let segment : c.in_ok-segment.segment ≡ new_segment_of (batch_with c.args.known c.args.history.now.names c.in_ok-events.events.items) =
-    c.in_ok-segment.ensures ∙ ap (λ es. new_segment_of (batch_with c.args.known c.args.history.now.names es)) c.deref.ensures.value in
+    segment_is c.in_ok-segment.segment c.args.known c.args.history.now.names c.deref.result.now c.in_ok-events.events.items c.in_ok-segment.ensures c.deref.ensures.value in
     subst (λ (s : NewSegment). IsDue c.in-Some.index.opening s) (sym segment) p.due
 
 pub returns-in_err-keep_segment-clause-fails : goal.returns-in_err-keep_segment-clause-fails
@@ -43,7 +43,7 @@ returns-in_err-keep_segment-clause-fails g c =
     prepared_here c.in-Some.index.opening c.args.known c.args.history.now c.args.batch.now.front c.args.batch.now.changes.items c.in_ok-events.events.items (index_opening c.args.history.now.index) c.last_of-last.result
     (ap index_opening c.in-Some.is) c.requires.ready c.in_ok-events.ensures.whole c.last_of-last.ensures.last c.in_ok-events.ensures.done in
     let segment : c.in_ok-segment.segment ≡ new_segment_of (batch_with c.args.known c.args.history.now.names c.in_ok-events.events.items) =
-    c.in_ok-segment.ensures ∙ ap (λ es. new_segment_of (batch_with c.args.known c.args.history.now.names es)) c.deref.ensures.value in
+    segment_is c.in_ok-segment.segment c.args.known c.args.history.now.names c.deref.result.now c.in_ok-events.events.items c.in_ok-segment.ensures c.deref.ensures.value in
     err_is c.from_residual-in_err-keep_segment.result c.in_err-keep_segment.field-0.0 _ c.from_residual-in_err-keep_segment.ensures
     (here (index_opening c.args.history.now.index) c.in-Some.index.opening _ (ap index_opening c.in-Some.is)
     (keep_fails c.in-Some.index.opening c.args.limit c.args.known c.args.history.now (g.D.Disk.image c.args.disk.now) (g.D.Disk.image c.keep_segment.new.disk) c.args.batch.now.changes.items c.args.batch.now.front
@@ -56,7 +56,7 @@ returns-clause-adds g c =
     prepared_here c.in-Some.index.opening c.args.known c.args.history.now c.args.batch.now.front c.args.batch.now.changes.items c.in_ok-events.events.items (index_opening c.args.history.now.index) c.last_of-last.result
     (ap index_opening c.in-Some.is) c.requires.ready c.in_ok-events.ensures.whole c.last_of-last.ensures.last c.in_ok-events.ensures.done in
     let segment : c.in_ok-segment.segment ≡ new_segment_of (batch_with c.args.known c.args.history.now.names c.in_ok-events.events.items) =
-    c.in_ok-segment.ensures ∙ ap (λ es. new_segment_of (batch_with c.args.known c.args.history.now.names es)) c.deref.ensures.value in
+    segment_is c.in_ok-segment.segment c.args.known c.args.history.now.names c.deref.result.now c.in_ok-events.events.items c.in_ok-segment.ensures c.deref.ensures.value in
     let ok = c.extend_from_slice.ensures.succeeds (omega (arith, c.in_ok-reserve.ensures.ok, c.deref-2.ensures.len)) in
     let all : c.extend_from_slice.new.self.items ≡ c.args.history.now.events.items ++ c.in_ok-events.events.items =
     extended c.extend_from_slice.result c.reserve.new.self.items c.deref-2.result.now c.extend_from_slice.new.self.items c.extend_from_slice.ensures.items ok
