@@ -3,8 +3,9 @@ use Rattle.std.proofs.Common.{◌≡◌, Bool, true, false, cond, not, ◌||◌,
 use Rattle.dg_graph.specs.declared.element.Element.{Element}
 use Rattle.dg_graph.specs.Elements.{IsSet, has}
 use Rattle.dg_graph.specs.Sets.{unioned, without_all}
-use Rattle.dg_graph.specs.Composition.{Delta, IsDelta, between, applied, Says, In, Out, As_it_was, says, and_then, composition, Composes}
+use Rattle.dg_graph.specs.Composition.{Delta, IsDelta, between, applied, chained, Says, In, Out, As_it_was, says, and_then, composition, Composes}
 use Rattle.dg_graph.proofs.Sets.{same_members, has-unioned, has-without_all, IsSet-unioned, IsSet-without_all}
+use Rattle.dg_graph.proofs.ExactDeltas.{has-cancelled}
 use Rattle.dg_set.specs.Apart.{AreApart}
 use Rattle.dg_delta.specs.Deltas.{composed, applied_in_turn, is_in_after}
 use Rattle.dg_delta.specs.DeltaLaws.{BetweenLeadsOn, ReversedLeadsBack, DecidesEachElement, AppliesOneAfterTheOther, AppliesEachInTurn, SayTheSameAreEqual, IsAssociative, CanBeCut}
@@ -60,6 +61,25 @@ pub apart_composed : (a b : Delta) → AreApart a.minus a.plus → AreApart b.mi
 apart_composed a b f g x e =
     has-edited a.plus b.minus b.plus x
     ∙ apart_edited (has a.minus x) (has a.plus x) (has b.minus x) (has b.plus x) (f x) (g x) (sym (has-edited a.minus b.plus b.minus x) ∙ e)
+
+apart_cancelled : (m p m2 p2 : Bool) → (m ≡ true → p ≡ false) → (m2 ≡ true → p2 ≡ false) → ((m && not p2) || (m2 && not p)) ≡ true → ((p && not m2) || (p2 && not m)) ≡ false
+apart_cancelled true true m2 p2 f g e = cc (f refl)
+apart_cancelled true false true true f g e = cc (g refl)
+apart_cancelled true false true false f g e = refl
+apart_cancelled true false false true f g e = cc
+apart_cancelled true false false false f g e = refl
+apart_cancelled false true true p2 f g e = cc
+apart_cancelled false true false p2 f g e = cc
+apart_cancelled false false true true f g e = cc (g refl)
+apart_cancelled false false true false f g e = refl
+apart_cancelled false false false true f g e = cc
+apart_cancelled false false false false f g e = cc
+
+-- nor do those of chained deltas
+pub apart_chained : (a b : Delta) → AreApart a.minus a.plus → AreApart b.minus b.plus → AreApart (chained a b).minus (chained a b).plus
+apart_chained a b f g x e =
+    has-cancelled a.plus b.minus b.plus a.minus x
+    ∙ apart_cancelled (has a.minus x) (has a.plus x) (has b.minus x) (has b.plus x) (f x) (g x) (sym (has-cancelled a.minus b.plus b.minus a.plus x) ∙ e)
 
 pub IsDelta-composed : (a b : Delta) → IsDelta a → IsDelta b → IsDelta (composed a b)
 IsDelta-composed a b f g = record {

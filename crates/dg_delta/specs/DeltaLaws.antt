@@ -2,7 +2,7 @@
 use Rattle.std.specs.Prelude.{◌≡◌, List, [], ◌∷◌, ◌++◌}
 use Rattle.dg_graph.specs.declared.element.Element.{Element}
 use Rattle.dg_graph.specs.Elements.{IsSet, has}
-use Rattle.dg_graph.specs.Composition.{Delta, IsDelta, between, applied, reversed, says, and_then, composition, Composes}
+use Rattle.dg_graph.specs.Composition.{Delta, IsDelta, between, applied, chained, reversed, says, and_then, composition, Composes}
 use Rattle.dg_delta.specs.Deltas.{composed, applied_in_turn, is_in_after}
 
 -- the exact delta from a to b leads from a to b
@@ -12,6 +12,10 @@ BetweenLeadsOn = (a b : List Element) → IsSet a → IsSet b → applied (betwe
 -- and, reversed, from b to a
 abbrev pub ReversedLeadsBack : Type 0
 ReversedLeadsBack = (a b : List Element) → IsSet a → IsSet b → applied (reversed (between a b)) b ≡ a
+
+-- an exact delta and one from where it ends are one exact delta
+abbrev pub ChainsAreExact : Type 0
+ChainsAreExact = (a b c : List Element) → IsSet a → IsSet b → IsSet c → chained (between a b) (between b c) ≡ between a c
 
 -- what a delta does to one element is what it says of it
 abbrev pub DecidesEachElement : Type 0

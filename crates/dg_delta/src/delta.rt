@@ -1,6 +1,6 @@
 ghost use Rattle.std.specs.Prelude.{◌≡◌, ◌↔◌, [], ◌∷◌, IfOk, IfSome, IsSome};
 ghost use Rattle.dg_graph.specs.Elements.{IsSet};
-ghost use Rattle.dg_graph.specs.Composition.{IsDelta, between, applied, reversed, Composes};
+ghost use Rattle.dg_graph.specs.Composition.{IsDelta, between, applied, chained, reversed, Composes};
 ghost use Rattle.dg_set.specs.Apart.{AreApart};
 ghost use Rattle.dg_delta.specs.Deltas.{composed, joined};
 
@@ -107,6 +107,27 @@ impl Delta {
     {
         let minus = self.minus.replaced(&later.plus, &later.minus)?;
         let plus = self.plus.replaced(&later.minus, &later.plus)?;
+        Ok(Delta::of(minus, plus))
+    }
+
+    /// This delta and then `later`, which begins where this one ends, as one exact delta: what one
+    /// takes out and the other puts in again is as it was. An `Err` says that memory ran out.
+    pub fn chain(&self, later: &Delta) -> Result<Delta, AllocError>
+        ensures { IfOk result (λ d. d ≡ chained self.now later.now) }
+    {
+        let new_minus = later.minus.minus(&self.plus)?;
+        let new_plus = later.plus.minus(&self.minus)?;
+        let minus = self.minus.replaced(&later.plus, &new_minus)?;
+        let plus = self.plus.replaced(&later.minus, &new_plus)?;
+        Ok(Delta::of(minus, plus))
+    }
+
+    /// The same delta once more. An `Err` says that memory ran out.
+    pub fn copy(&self) -> Result<Delta, AllocError>
+        ensures { IfOk result (λ d. d ≡ self.now) }
+    {
+        let minus = self.minus.copy()?;
+        let plus = self.plus.copy()?;
         Ok(Delta::of(minus, plus))
     }
 

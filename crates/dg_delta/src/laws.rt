@@ -3,6 +3,7 @@
 ghost use Rattle.dg_delta.specs.DeltaLaws.{
   BetweenLeadsOn,
   ReversedLeadsBack,
+  ChainsAreExact,
   DecidesEachElement,
   AppliesOneAfterTheOther,
   AppliesEachInTurn,
@@ -19,6 +20,12 @@ pub fn law_between_leads_from_the_first_to_the_second()
 /// The exact delta from one set to another, reversed and applied to the second, gives the first.
 pub fn law_reversed_between_leads_back()
     ensures { ReversedLeadsBack }
+{}
+
+/// Two exact deltas, of which the later begins where the first ends, chain to the exact delta from
+/// where the first begins to where the later ends.
+pub fn law_chained_exact_deltas_are_exact()
+    ensures { ChainsAreExact }
 {}
 
 /// After a delta is applied an element is in where the delta puts it in, out where the delta takes

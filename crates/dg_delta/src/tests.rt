@@ -105,6 +105,89 @@ const COMPOSING: [Composing; 5] = [
     },
 ];
 
+struct Chaining {
+    first: Sets,
+    later: Sets,
+    chained: Sets,
+}
+
+const CHAINING: [Chaining; 5] = [
+    // what comes in and goes out again
+    Chaining {
+        first: Sets {
+            minus: &[],
+            plus: &[A],
+        },
+        later: Sets {
+            minus: &[A],
+            plus: &[],
+        },
+        chained: Sets {
+            minus: &[],
+            plus: &[],
+        },
+    },
+    // what goes out and comes in again
+    Chaining {
+        first: Sets {
+            minus: &[A],
+            plus: &[],
+        },
+        later: Sets {
+            minus: &[],
+            plus: &[A],
+        },
+        chained: Sets {
+            minus: &[],
+            plus: &[],
+        },
+    },
+    // one element becomes another, and then a third
+    Chaining {
+        first: Sets {
+            minus: &[A],
+            plus: &[B],
+        },
+        later: Sets {
+            minus: &[B],
+            plus: &[C],
+        },
+        chained: Sets {
+            minus: &[A],
+            plus: &[C],
+        },
+    },
+    // nothing cancels
+    Chaining {
+        first: Sets {
+            minus: &[D],
+            plus: &[B],
+        },
+        later: Sets {
+            minus: &[C],
+            plus: &[A],
+        },
+        chained: Sets {
+            minus: &[C, D],
+            plus: &[A, B],
+        },
+    },
+    Chaining {
+        first: Sets {
+            minus: &[A, C],
+            plus: &[B],
+        },
+        later: Sets {
+            minus: &[B, D],
+            plus: &[A],
+        },
+        chained: Sets {
+            minus: &[C, D],
+            plus: &[],
+        },
+    },
+];
+
 struct Stepping {
     from: &'static [Element],
     to: &'static [Element],
@@ -172,6 +255,13 @@ fn composes(alloc: Global, case: &Composing) -> Result<bool, Fail> {
     Ok(has_sets(&composed, case.composed))
 }
 
+fn chains(alloc: Global, case: &Chaining) -> Result<bool, Fail> {
+    let first = delta_of(alloc, case.first)?;
+    let later = delta_of(alloc, case.later)?;
+    let chained = first.chain(&later)?;
+    Ok(has_sets(&chained, case.chained))
+}
+
 fn is_the_delta_between(alloc: Global, case: &Stepping) -> Result<bool, Fail> {
     let from = set_of(alloc, case.from)?;
     let to = set_of(alloc, case.to)?;
@@ -198,6 +288,25 @@ fn the_later_delta_decides_where_it_names_an_element(rt: HostRuntime) -> Result<
     for (row, case) in COMPOSING.iter().enumerate() {
         assert!(rt; composes(rt.alloc(), case)?, "row {row}");
     }
+    Ok(())
+}
+
+#[test]
+fn what_two_exact_deltas_undo_is_as_it_was(rt: HostRuntime) -> Result<(), Fail> {
+    for (row, case) in CHAINING.iter().enumerate() {
+        assert!(rt; chains(rt.alloc(), case)?, "row {row}");
+    }
+    Ok(())
+}
+
+#[test]
+fn a_copy_has_the_same_sets(rt: HostRuntime) -> Result<(), Fail> {
+    let sets = Sets {
+        minus: &[A, C],
+        plus: &[B, D],
+    };
+    let delta = delta_of(rt.alloc(), sets)?;
+    assert!(rt; has_sets(&delta.copy()?, sets));
     Ok(())
 }
 

@@ -1,1 +1,2 @@
 pub mod Combined
+pub mod Inwards

@@ -66,7 +66,7 @@ fn balance(first: &Set, last: &Set) -> Result<Set, AllocError>
 }
 
 /// The elements of the set that are in the last child's half. Takes no memory.
-fn last_half(set: Set) -> Set
+pub(crate) fn last_half(set: Set) -> Set
     ensures { result ≡ filter (λ x. part x 128) set }
 {
     let mut items = set.into_items();

@@ -4,9 +4,11 @@
 
 mod differential;
 mod hash;
+mod interior;
 #[cfg(test)]
 mod tests;
 
 pub use dg_graph::Function;
 pub use differential::combine;
 pub use hash::part;
+pub use interior::inward;

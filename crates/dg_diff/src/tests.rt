@@ -1,4 +1,5 @@
-use crate::{Function, combine, part};
+use crate::{Function, combine, inward, part};
+use dg_delta::Delta;
 use dg_graph::Element;
 use dg_set::Set;
 use std::alloc::{AllocError, Global};
@@ -97,6 +98,72 @@ const CASES: [Case; 9] = [
     },
 ];
 
+struct Leading {
+    function: Function,
+    children: &'static [&'static [Element]],
+    // The delta from the first child to the interior node.
+    minus: &'static [Element],
+    plus: &'static [Element],
+}
+
+const LEADING: [Leading; 9] = [
+    Leading {
+        function: Function::Intersection,
+        children: &[&[A, B], &[B, C], &[B]],
+        minus: &[A],
+        plus: &[],
+    },
+    Leading {
+        function: Function::Intersection,
+        children: &[&[A, B, D], &[A, B, D], &[A, D]],
+        minus: &[B],
+        plus: &[],
+    },
+    Leading {
+        function: Function::Intersection,
+        children: &[&[A, B, C, D], &[A, B, C], &[A, B, D], &[B, C, D]],
+        minus: &[A, C, D],
+        plus: &[],
+    },
+    Leading {
+        function: Function::Intersection,
+        children: &[&[A, C], &[A, C]],
+        minus: &[],
+        plus: &[],
+    },
+    Leading {
+        function: Function::Union,
+        children: &[&[A, B], &[B, C], &[B]],
+        minus: &[],
+        plus: &[C],
+    },
+    Leading {
+        function: Function::Union,
+        children: &[&[], &[], &[D]],
+        minus: &[],
+        plus: &[D],
+    },
+    Leading {
+        function: Function::Union,
+        children: &[&[A], &[B], &[C], &[D], &[A, E]],
+        minus: &[],
+        plus: &[B, C, D, E],
+    },
+    // Of A, D and E the last child decides.
+    Leading {
+        function: Function::Balanced,
+        children: &[&[A, B, D], &[A, C, E]],
+        minus: &[D],
+        plus: &[E],
+    },
+    Leading {
+        function: Function::Balanced,
+        children: &[&[A, C, E], &[], &[A, B, D]],
+        minus: &[E],
+        plus: &[D],
+    },
+];
+
 fn set_of(alloc: Global, elements: &[Element]) -> Result<Set, AllocError> {
     let mut set = Set::new(alloc);
     for element in elements {
@@ -131,6 +198,40 @@ fn children_combine_by_the_rule_of_the_function(rt: HostRuntime) -> Result<(), F
         }
         let combined = combine(case.function, &children)?;
         assert_eq!(rt; combined.items(), case.combined, "row {row}");
+    }
+    Ok(())
+}
+
+fn has_sets(delta: &Delta, minus: &[Element], plus: &[Element]) -> bool {
+    delta.minus().items() == minus && delta.plus().items() == plus
+}
+
+#[test]
+fn the_delta_to_an_interior_node_is_that_to_its_combined_set(rt: HostRuntime) -> Result<(), Fail> {
+    let alloc = rt.alloc();
+    for (row, case) in LEADING.iter().enumerate() {
+        let mut children = Vec::new(alloc);
+        for elements in case.children {
+            children.push(set_of(alloc, elements)?)?;
+        }
+        if children.len() < 2 {
+            return Err("fewer than two children".into());
+        }
+        let mut ways = Vec::new(alloc);
+        for child in &children[1..] {
+            ways.push(Delta::between(&children[0], child)?)?;
+        }
+        if ways.is_empty() {
+            return Err("no ways".into());
+        }
+        let delta = inward(alloc, case.function, &ways)?;
+        assert!(rt; has_sets(&delta, case.minus, case.plus), "row {row}");
+        let combined = combine(case.function, &children)?;
+        let between = Delta::between(&children[0], &combined)?;
+        assert!(rt;
+            has_sets(&between, case.minus, case.plus),
+            "row {row}, combined"
+        );
     }
     Ok(())
 }

@@ -1,3 +1,5 @@
 pub mod Sets
 pub mod ColumnRows
 pub mod GrammarRows
+pub mod ExactDeltas
+pub mod ExactEvents

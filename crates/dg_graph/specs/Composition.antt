@@ -23,6 +23,18 @@ between a b = record { minus = without_all a b; plus = without_all b a }
 abbrev pub applied : Delta → List Element → List Element
 applied d set = unioned (without_all set d.minus) d.plus
 
+-- the delta that changes nothing
+abbrev pub nothing : Delta
+nothing = record { minus = []; plus = [] }
+
+-- Two exact deltas, one from where the other ends, as one exact delta: what one takes out and the other puts
+-- in again is as it was.
+abbrev pub chained : Delta → Delta → Delta
+chained d e = record {
+  minus = unioned (without_all d.minus e.plus) (without_all e.minus d.plus);
+  plus = unioned (without_all d.plus e.minus) (without_all e.plus d.minus);
+}
+
 -- the delta with its two sets changed over
 abbrev pub reversed : Delta → Delta
 reversed d = record { minus = d.plus; plus = d.minus }

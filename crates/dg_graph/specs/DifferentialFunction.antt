@@ -1,13 +1,15 @@
 -- The differential functions: how an interior node's set is made from those of its children, element
 -- by element.
-use Rattle.std.specs.Prelude.{ℕ, ◌*◌, ◌/◌, ◌%◌, ◌^◌, Bool, false, List, [], ◌∷◌, ◌++◌, if◌then◌else◌, nat_lt, bit_xor}
+use Rattle.std.specs.Prelude.{ℕ, ◌*◌, ◌/◌, ◌%◌, ◌^◌, Bool, false, List, [], ◌∷◌, ◌++◌, map, filter, if◌then◌else◌, nat_lt, bit_xor}
 use Rattle.std.specs.List.{list_any, list_all}
 use Rattle.dg_graph.specs.declared.element.Element.{Element}
 use Rattle.dg_graph.specs.declared.element.Element.TheVariants.{Node, Edge, NodeAttr, EdgeAttr}
 use Rattle.dg_graph.specs.declared.function.Function.{Function}
 use Rattle.dg_graph.specs.declared.function.Function.TheVariants.{Intersection, Union, Balanced}
 use Rattle.dg_graph.specs.Columns.{four, eight}
+use Rattle.dg_graph.specs.Composition.{Delta, nothing}
 use Rattle.dg_graph.specs.Elements.{bit, has}
+use Rattle.dg_graph.specs.Sets.{unioned}
 
 -- an element as bytes: its kind, and then its fields
 abbrev pub canonical : Element → List ℕ
@@ -43,3 +45,28 @@ abbrev pub in_combined : Function → List (List Element) → Element → Bool
 in_combined Intersection sets x = list_all (λ set. has set x) sets
 in_combined Union sets x = list_any (λ set. has set x) sets
 in_combined Balanced sets x = if part x 128 then in_last sets x else in_first sets x
+
+-- the elements of any of the sets
+abbrev pub all_of : List (List Element) → List Element
+all_of [] = []
+all_of (set ∷ sets) = unioned set (all_of sets)
+
+-- the set of an interior node, from the sets of its children, first to last
+abbrev pub combined : Function → List (List Element) → List Element
+combined f sets = filter (in_combined f sets) (all_of sets)
+
+-- the elements of the delta that are in the last child's half
+abbrev pub halved : Delta → Delta
+halved d = record { minus = filter (λ x. part x 128) d.minus; plus = filter (λ x. part x 128) d.plus }
+
+abbrev pub halved_last : List Delta → Delta
+halved_last [] = nothing
+halved_last (d ∷ []) = halved d
+halved_last (d ∷ e ∷ more) = halved_last (e ∷ more)
+
+-- From the exact deltas that lead from the first child to each other one: the exact delta from the first
+-- child to the interior node.
+abbrev pub inward : Function → List Delta → Delta
+inward Intersection ways = record { minus = all_of (map (λ (d : Delta). d.minus) ways); plus = [] }
+inward Union ways = record { minus = []; plus = all_of (map (λ (d : Delta). d.plus) ways) }
+inward Balanced ways = halved_last ways

@@ -7,6 +7,7 @@ pub mod Sets
 pub mod Composition
 pub mod Effect
 pub mod Replay
+pub mod ExactEvents
 pub mod Completion
 pub mod CompletedChanges
 pub mod Graph

@@ -16,7 +16,6 @@ pub use event::{
 };
 pub use function::Function;
 pub use limits::{
-    BATCH_LINES_MAX, KEY_BYTES_MAX, LINE_BYTES_MAX, NAME_BYTES_MAX, NAMES_MAX, TIME_MAX,
-    graph_limits,
+    KEY_BYTES_MAX, LINE_BYTES_MAX, NAME_BYTES_MAX, NAMES_MAX, TIME_MAX, graph_limits,
 };
 pub use placed::Placed;

@@ -3,9 +3,6 @@ ghost use Rattle.std.specs.Prelude.{◌≡◌, ◌^◌, ◌-◌};
 /// The most bytes that a line may have, its line end not counted.
 pub const LINE_BYTES_MAX: usize = 4096;
 
-/// The most lines of a batch, and so the most events.
-pub const BATCH_LINES_MAX: u32 = 65_536;
-
 /// The most bytes of a name: of a key or of a value.
 pub const NAME_BYTES_MAX: usize = 1024;
 
@@ -21,7 +18,6 @@ pub const TIME_MAX: u64 = 9_223_372_036_854_775_807;
 /// The limits as numbers: lines and names in bytes, the last instant, and counts. Does nothing.
 pub fn graph_limits()
     ensures line { LINE_BYTES_MAX ≡ 4096 }
-    ensures batch { BATCH_LINES_MAX ≡ 65536 }
     ensures name { NAME_BYTES_MAX ≡ 1024 }
     ensures key { KEY_BYTES_MAX ≡ 64 }
     ensures names { NAMES_MAX ≡ 2 ^ 30 }

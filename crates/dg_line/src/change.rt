@@ -64,10 +64,15 @@ pub fn read_change(line: &[u8], names: &mut Names) -> Result<Change, ChangeFault
 // What is asked for, by the numbers of its texts in the names, which get those that they lack.
 fn numbered(what: TextWhat, names: &mut Names) -> Result<What, AllocError>
     requires room { length names.old + 2 ≤ NAMES_MAX }
+    // What is asked for, and the names with its texts.
     ensures what { IfOk result (λ numbered. numbered ≡ what_in names.new (what_by_text what.entry)) }
     ensures named { OnOk result (names.new ≡ named names.old (what_by_text what.entry)) }
+
+    // No memory for a name that is new.
     ensures new_name { OnErr result (length names.old < length (named names.old (what_by_text what.entry))) }
     ensures key_alone { OnErr result ((names.new ≡ names.old) ⊎ (names.new ≡ with_key names.old (what_by_text what.entry))) }
+
+    // Every name keeps its number, and at most two are new.
     ensures kept { take (length names.old) names.new ≡ names.old }
     ensures few { length names.new ≤ length names.old + 2 }
 {
@@ -103,11 +108,16 @@ fn numbered(what: TextWhat, names: &mut Names) -> Result<What, AllocError>
 // The numbers of the key and of the value.
 fn both_numbers(attribute: TextAttribute, names: &mut Names) -> Result<(u32, u32), AllocError>
     requires room { length names.old + 2 ≤ NAMES_MAX }
+    // The numbers, and the names with both texts.
     ensures named { OnOk result (names.new ≡ added (added names.old attribute.entry.key.now) attribute.entry.value.now) }
-    ensures new_name { OnErr result (length names.old < length (added (added names.old attribute.entry.key.now) attribute.entry.value.now)) }
-    ensures key_alone { OnErr result ((names.new ≡ names.old) ⊎ (names.new ≡ added names.old attribute.entry.key.now)) }
     ensures key { IfOk result (λ numbers. numbers.0 ≡ number_in names.new attribute.entry.key.now) }
     ensures value { IfOk result (λ numbers. numbers.1 ≡ number_in names.new attribute.entry.value.now) }
+
+    // No memory for a name that is new.
+    ensures new_name { OnErr result (length names.old < length (added (added names.old attribute.entry.key.now) attribute.entry.value.now)) }
+    ensures key_alone { OnErr result ((names.new ≡ names.old) ⊎ (names.new ≡ added names.old attribute.entry.key.now)) }
+
+    // Every name keeps its number, and at most two are new.
     ensures kept { take (length names.old) names.new ≡ names.old }
     ensures few { length names.new ≤ length names.old + 2 }
 {
@@ -119,10 +129,15 @@ fn both_numbers(attribute: TextAttribute, names: &mut Names) -> Result<(u32, u32
 // The number of the key.
 fn key_number(key: TextKey, names: &mut Names) -> Result<u32, AllocError>
     requires room { length names.old < NAMES_MAX }
+    // The number, and the names with the key.
     ensures named { OnOk result (names.new ≡ added names.old key.entry.key.now) }
+    ensures key { IfOk result (λ number. number ≡ number_in names.new key.entry.key.now) }
+
+    // No memory for a key that is new.
     ensures new_name { OnErr result (length names.old < length (added names.old key.entry.key.now)) }
     ensures unchanged { OnErr result (names.new ≡ names.old) }
-    ensures key { IfOk result (λ number. number ≡ number_in names.new key.entry.key.now) }
+
+    // Every name keeps its number, and at most one is new.
     ensures kept { take (length names.old) names.new ≡ names.old }
     ensures few { length names.new ≤ length names.old + 1 }
 {

@@ -6,7 +6,8 @@ ghost use Rattle.dg_machine.specs.CommandGrammar.{IsColumn, columns_of, command_
 
 use crate::grammar::column;
 use crate::words::{Words, number};
-use dg_graph::{BATCH_LINES_MAX, Columns, Function, TIME_MAX};
+use dg_graph::{Columns, Function, TIME_MAX};
+use dg_history::BATCH_LINES_MAX;
 use dg_machine::{Command, FIRST_HANDLE};
 use thiserror::Error;
 

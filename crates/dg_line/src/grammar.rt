@@ -7,7 +7,8 @@ ghost use Rattle.dg_line.specs.Prefixes.{IsLongestPrefix};
 ghost use Rattle.dg_line.specs.Symbols.{Number, IsWordOf, IsLineOf, IsLineOfOne, is_well_formed, row_of, rows_of, terminal_of, word_texts};
 
 use crate::words::{SPACE, with_digit};
-use dg_graph::{BATCH_LINES_MAX, TIME_MAX};
+use dg_graph::TIME_MAX;
+use dg_history::BATCH_LINES_MAX;
 use dg_machine::FIRST_HANDLE;
 
 /// What stands for a word of a command.

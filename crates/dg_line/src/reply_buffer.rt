@@ -65,11 +65,16 @@ impl ReplyBuffer {
         self.put(sink, b"\n".as_slice())
     }
 
-    /// Writes what is held. `Failed` where a write failed: then a part of it is written.
+    /// Writes what is held. `Failed` where a write failed: then a part of it is written, and all of it is
+    /// still held.
     pub fn flush<K: Sink>(&mut self, sink: &mut K) -> Result<(), Failed>
+        // All that was held is written.
         ensures ok { OnOk result (K.written sink.new ≡ grown (K.written sink.old) self.old) }
         ensures empty { OnOk result (self.new ≡ []) }
+
+        // A write failed.
         ensures err { OnErr result (GrowsByPart (K.written sink.old) self.old (K.written sink.new)) }
+        ensures kept { OnErr result (self.new ≡ self.old) }
         ensures cause { OnErr result (CountRose (K.faults sink.old) (K.faults sink.new)) }
         ensures counted { K.faults sink.old ≤ K.faults sink.new }
     {

@@ -264,15 +264,6 @@ const NO_CHANGES: [&str; 36] = [
     "9223372036854775808 +node 8",
 ];
 
-// The bytes of a key, those of a value, and how many names the line gives.
-const LENGTHS: [(usize, usize, u32); 5] = [
-    (0, 1, 0),
-    (1, 0, 2),
-    (64, 1024, 2),
-    (65, 1024, 0),
-    (64, 1025, 0),
-];
-
 #[test]
 fn a_line_that_is_no_change_gives_no_names(rt: HostRuntime) -> Result<(), Fail> {
     let mut names = Names::new(rt.alloc());
@@ -284,16 +275,6 @@ fn a_line_that_is_no_change_gives_no_names(rt: HostRuntime) -> Result<(), Fail> 
         );
     }
     assert!(rt; names.is_empty());
-    for (key, value, len) in LENGTHS {
-        let mut line = Vec::from_slice(rt.alloc(), b"4 nset 1 ")?;
-        line.extend_from_slice(&vec![in rt.alloc(); b'k'; key]?)?;
-        line.push(b' ')?;
-        line.extend_from_slice(&vec![in rt.alloc(); b'v'; value]?)?;
-        let mut names = Names::new(rt.alloc());
-        let read = change(&mut names, line.as_slice())?;
-        assert_eq!(rt; read.is_ok(), len == 2, "{key} {value}");
-        assert_eq!(rt; names.len(), len, "{key} {value}");
-    }
     Ok(())
 }
 

@@ -11,11 +11,13 @@ use Rattle.dg_graph.specs.Elements.{IsSet, has, same, with_one, without}
 use Rattle.dg_graph.specs.Effect.{removed_by, added_by, forwards}
 use Rattle.dg_graph.specs.Composition.{Delta, and_then, composition, Composes, applied, reversed}
 use Rattle.dg_graph.specs.Replay.{replay_from}
-use Rattle.dg_graph.proofs.Sets.{has-put, has-take_out, same_members, IsSet-put, IsSet-take_out}
+use Rattle.dg_graph.proofs.ExactEvents.{IsSet-with_one, IsSet-without, IsSet-forwards, IsSet-replay_from}
+use Rattle.dg_graph.proofs.Sets.{has-put, has-take_out, same_members}
 use Rattle.dg_delta.specs.Deltas.{applied_in_turn}
 use Rattle.dg_delta.proofs.Deltas.{edited, has-edited, IsSet-edited, can_be_cut, applies_each_in_turn}
 use Rattle.dg_event.proofs.EffectLaws.{undone}
-use Rattle.dg_list.specs.Lists.{effect_of, counts, IsExact, AreChangesOf}
+use Rattle.dg_graph.specs.ExactEvents.{effect_of, IsExact, AreChangesOf}
+use Rattle.dg_list.specs.Lists.{counts}
 
 or_false : (a : Bool) → a ≡ (a || false)
 or_false true = refl
@@ -30,14 +32,6 @@ has-with_one set (Some y) x = has-put y set x ∙ ap (λ b. b || has set x) (or_
 has-without : (set : List Element) (o : Option Element) (x : Element) → has (without set o) x ≡ (not (has (option_to_list o) x) && has set x)
 has-without set None x = refl
 has-without set (Some y) x = has-take_out y set x ∙ ap (λ b. not b && has set x) (or_false (same x y))
-
-IsSet-with_one : (set : List Element) (o : Option Element) → IsSet set → IsSet (with_one set o)
-IsSet-with_one set None s = s
-IsSet-with_one set (Some y) s = IsSet-put y set s
-
-IsSet-without : (set : List Element) (o : Option Element) → IsSet set → IsSet (without set o)
-IsSet-without set None s = s
-IsSet-without set (Some y) s = IsSet-take_out y set s
 
 -- ---- an event as a delta
 
@@ -111,10 +105,6 @@ one_applied set removed added s =
     turned false false true = refl
     turned false false false = refl
 
-IsSet-forwards : (set : List Element) (e : Event) → IsSet set → IsSet (forwards set e)
-IsSet-forwards set e s =
-    IsSet-with_one (without set (removed_by e.body)) (added_by e.body) (IsSet-without set (removed_by e.body) s)
-
 replays_in_turn : (events : List Event) (set : List Element) → IsSet set → applied_in_turn (map effect_of events) set ≡ replay_from set events
 replays_in_turn [] set s = refl
 replays_in_turn (e ∷ events) set s =
@@ -125,10 +115,6 @@ replays_in_turn (e ∷ events) set s =
 pub replays : (d : Delta) (events : List Event) → Composes d (map effect_of events) → (set : List Element) → IsSet set → applied d set ≡ replay_from set events
 replays d events composes set s =
     applies_each_in_turn d (map effect_of events) set composes s ∙ replays_in_turn events set s
-
-IsSet-replay_from : (events : List Event) (set : List Element) → IsSet set → IsSet (replay_from set events)
-IsSet-replay_from [] set s = s
-IsSet-replay_from (e ∷ events) set s = IsSet-replay_from events (forwards set e) (IsSet-forwards set e s)
 
 in_turn-append : (xs ys : List Delta) (set : List Element) → applied_in_turn (xs ++ ys) set ≡ applied_in_turn ys (applied_in_turn xs set)
 in_turn-append [] ys set = refl

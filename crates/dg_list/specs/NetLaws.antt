@@ -6,7 +6,7 @@ use Rattle.dg_graph.specs.Completion.{is_change_of}
 use Rattle.dg_graph.specs.Effect.{forwards}
 use Rattle.dg_graph.specs.Graph.{IsGraph}
 use Rattle.dg_graph.specs.Replay.{replay_from}
-use Rattle.dg_list.specs.Lists.{AreChangesOf}
+use Rattle.dg_graph.specs.ExactEvents.{AreChangesOf}
 
 -- each event in turn is what some change comes to after those before it
 abbrev pub AreMadeByChanges : List Element → List Event → Type 0

@@ -2,6 +2,7 @@
 //! each element the last event that names it decides. docs/MODEL.md has the definitions.
 #![tactic(auto)]
 
+mod exact;
 mod laws;
 mod marks;
 mod net;
@@ -10,5 +11,6 @@ mod tests;
 
 pub use dg_delta::Delta;
 pub use dg_event::Event;
+pub use exact::exact_net;
 pub use laws::{law_changes_of_a_graph_are_exact, law_changes_of_a_graph_lead_to_a_graph};
 pub use net::{merge_lists, net_back, net_to};

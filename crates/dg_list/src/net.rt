@@ -3,7 +3,8 @@ ghost use Rattle.dg_graph.specs.declared.element.Element.{Element};
 ghost use Rattle.dg_graph.specs.Composition.{Composes, applied, reversed};
 ghost use Rattle.dg_graph.specs.Elements.{IsSet};
 ghost use Rattle.dg_graph.specs.Replay.{events_until, replay_from};
-ghost use Rattle.dg_list.specs.Lists.{effect_of, counts, AreChangesOf};
+ghost use Rattle.dg_graph.specs.ExactEvents.{effect_of, AreChangesOf};
+ghost use Rattle.dg_list.specs.Lists.{counts};
 
 use crate::marks::{marks_back, marks_on, net_of};
 use dg_delta::Delta;

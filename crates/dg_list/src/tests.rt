@@ -1,4 +1,4 @@
-use crate::{Delta, Event, merge_lists, net_back, net_to};
+use crate::{Delta, Event, exact_net, merge_lists, net_back, net_to};
 use dg_delta::{Element, Set};
 use dg_graph::Body;
 use std::alloc::Global;
@@ -54,6 +54,20 @@ const EIGHT: Body = Body::NodeAttr {
     key: 0,
     old: Some(7),
     new: Some(8),
+};
+
+const SEVEN_AGAIN: Body = Body::NodeAttr {
+    id: 1,
+    key: 0,
+    old: Some(8),
+    new: Some(7),
+};
+
+const NO_VALUE: Body = Body::NodeAttr {
+    id: 1,
+    key: 0,
+    old: Some(8),
+    new: None,
 };
 
 const VALUE_SEVEN: Element = Element::NodeAttr {
@@ -146,6 +160,68 @@ const CASES: [Case; 8] = [
     },
 ];
 
+// Events that are changes of some set, one after another.
+struct Netting {
+    // Each event's time and body.
+    events: &'static [(u64, Body)],
+    // The exact net.
+    minus: &'static [Element],
+    plus: &'static [Element],
+}
+
+const NETTING: [Netting; 10] = [
+    Netting {
+        events: &[],
+        minus: &[],
+        plus: &[],
+    },
+    Netting {
+        events: &[(1, KEEP)],
+        minus: &[],
+        plus: &[],
+    },
+    Netting {
+        events: &[(1, JOIN), (2, PART)],
+        minus: &[],
+        plus: &[],
+    },
+    Netting {
+        events: &[(1, PART), (2, JOIN)],
+        minus: &[],
+        plus: &[],
+    },
+    Netting {
+        events: &[(1, PART), (2, JOIN), (3, PART)],
+        minus: &[EDGE],
+        plus: &[],
+    },
+    Netting {
+        events: &[(1, SEVEN), (2, EIGHT)],
+        minus: &[],
+        plus: &[VALUE_EIGHT],
+    },
+    Netting {
+        events: &[(1, EIGHT), (2, SEVEN_AGAIN)],
+        minus: &[],
+        plus: &[],
+    },
+    Netting {
+        events: &[(1, EIGHT), (2, NO_VALUE)],
+        minus: &[VALUE_SEVEN],
+        plus: &[],
+    },
+    Netting {
+        events: &[(1, ADD), (2, ADD_OTHER), (3, REMOVE)],
+        minus: &[],
+        plus: &[OTHER],
+    },
+    Netting {
+        events: &[(1, ADD), (2, SEVEN), (3, EIGHT)],
+        minus: &[],
+        plus: &[NODE, VALUE_EIGHT],
+    },
+];
+
 fn listed(alloc: Global, events: &[(u64, Body)]) -> Result<Vec<Event>, Fail> {
     let mut list = Vec::new(alloc);
     for event in events {
@@ -214,6 +290,25 @@ fn a_long_list_has_the_net_of_its_halves(rt: HostRuntime) -> Result<(), Fail> {
     assert!(rt; has_sets(&whole, &nodes(alloc, 0, 2, 100)?, &odd));
     let front = net_to(alloc, &events, 149)?;
     assert!(rt; has_sets(&front, &nodes(alloc, 0, 2, 50)?, &odd));
+    Ok(())
+}
+
+#[test]
+fn what_events_undo_is_not_in_their_exact_net(rt: HostRuntime) -> Result<(), Fail> {
+    for (row, case) in NETTING.iter().enumerate() {
+        let events = listed(rt.alloc(), case.events)?;
+        let net = exact_net(rt.alloc(), &events)?;
+        assert!(rt; has_sets(&net, case.minus, case.plus), "row {row}");
+    }
+    Ok(())
+}
+
+// Of the hundred nodes that are added the even ones are removed again.
+#[test]
+fn a_long_list_has_the_exact_net_of_its_halves(rt: HostRuntime) -> Result<(), Fail> {
+    let alloc = rt.alloc();
+    let net = exact_net(alloc, &long_list(alloc)?)?;
+    assert!(rt; has_sets(&net, &nodes(alloc, 100, 2, 50)?, &nodes(alloc, 1, 2, 50)?));
     Ok(())
 }
 

@@ -3,7 +3,7 @@ use Rattle.std.specs.Prelude.{ℕ, ◌+◌, ◌-◌, ◌≤◌, true, false, Lis
 use Rattle.dg_graph.specs.declared.element.Columns.{Columns}
 use Rattle.dg_machine.specs.declared.command.Command.{Command}
 use Rattle.dg_machine.specs.declared.command.Command.TheVariants as command
-use Rattle.dg_graph.specs.declared.limits.TheConstants.{BATCH_LINES_MAX}
+use Rattle.dg_history.specs.declared.limits.TheConstants.{BATCH_LINES_MAX}
 use Rattle.dg_graph.specs.declared.function.Function.{Function}
 use Rattle.dg_graph.specs.declared.function.Function.TheVariants.{Intersection, Union, Balanced}
 use Rattle.dg_graph.specs.Words.{words, number}

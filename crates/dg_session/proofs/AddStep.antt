@@ -10,11 +10,11 @@ use Rattle.dg_file.specs.Index.{earliest_after, needed_for, new_segment_of, with
 use Rattle.dg_file.specs.IndexLaws.{BatchesAreAdded, BatchesAreMeasured}
 use Rattle.dg_graph.specs.declared.event.Change.{Change}
 use Rattle.dg_graph.specs.declared.event.Event.{Event}
-use Rattle.dg_graph.specs.declared.limits.TheConstants.{BATCH_LINES_MAX, NAMES_MAX}
+use Rattle.dg_graph.specs.declared.limits.TheConstants.{NAMES_MAX}
+use Rattle.dg_history.specs.declared.limits.TheConstants.{BATCH_LINES_MAX, EVENTS_MAX}
 use Rattle.dg_graph.specs.CompletedChanges.{completed, on_value}
 use Rattle.dg_graph.specs.Lines.{ScriptLine}
 use Rattle.dg_graph.specs.Replay.{replay}
-use Rattle.dg_history.specs.declared.limits.TheConstants.{EVENTS_MAX}
 use Rattle.dg_history.specs.Batch.{batch_of, changes_after, names_after}
 use Rattle.dg_history.specs.ChangeGrammar.{change_by_text_in}
 use Rattle.dg_history.specs.FileOfHistory.{size}
@@ -29,7 +29,7 @@ use Rattle.dg_machine.specs.declared.reply.Reply.{Reply}
 use Rattle.dg_machine.specs.Answer.{Answered, accepted, answer, headed, is_refusal, refuse, with_new}
 use Rattle.dg_machine.specs.CutImage.{IsCut, As_before, As_after}
 use Rattle.dg_machine.specs.MachineState.{MachineState, events_in_index, history_in, names_in}
-use Rattle.dg_machine.specs.Needs.{earliest, following, is_writing, needs, refused, when}
+use Rattle.dg_machine.specs.Needs.{earliest, is_writing, needs, refused, when}
 use Rattle.dg_machine.specs.Run.{Step}
 use Rattle.dg_machine.specs.Script.{Asked, Follows}
 use Rattle.dg_session.proofs.TryBatch.{here, of_here}
@@ -147,11 +147,6 @@ takes_failed count before got after (fault.BadChange line reason) h = h
 takes_failed count before got after (fault.FileFull n most) h = h
 takes_failed count before got after fault.Memory h = h
 takes_failed count before got after fault.Store h = h
-
--- so many lines follow the command
-pub follows_with : (which : BatchCommand) (count : ℕ) → following (command_with which count) ≡ count
-follows_with Load count = refl
-follows_with Append count = refl
 
 writes : (which : BatchCommand) (count : ℕ) → is_writing (command_with which count) ≡ true
 writes Load count = refl

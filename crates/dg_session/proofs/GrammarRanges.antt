@@ -10,7 +10,8 @@ use Rattle.std.proofs.lemmas.Option.{none-some, same_Some}
 use borrow.Author.Tests.{leb-true}
 use Rattle.dg_graph.specs.declared.event.What.{What}
 use Rattle.dg_graph.specs.declared.event.What.TheVariants as what
-use Rattle.dg_graph.specs.declared.limits.TheConstants.{BATCH_LINES_MAX, TIME_MAX}
+use Rattle.dg_graph.specs.declared.limits.TheConstants.{TIME_MAX}
+use Rattle.dg_history.specs.declared.limits.TheConstants.{BATCH_LINES_MAX}
 use Rattle.dg_graph.specs.Lines.{ScriptLine, Text, Long}
 use Rattle.dg_graph.specs.Names.{is_key, is_name}
 use Rattle.dg_graph.specs.Verbs.{Verb, none_more, one, two, three, four_words}

@@ -9,8 +9,8 @@ use Rattle.dg_file.specs.Index.{earliest_after}
 use Rattle.dg_graph.specs.declared.element.Element.{Element}
 use Rattle.dg_graph.specs.declared.event.Change.{Change}
 use Rattle.dg_graph.specs.declared.event.Event.{Event}
-use Rattle.dg_graph.specs.declared.limits.TheConstants.{BATCH_LINES_MAX, NAMES_MAX, TIME_MAX}
-use Rattle.dg_history.specs.declared.limits.TheConstants.{EVENTS_MAX}
+use Rattle.dg_graph.specs.declared.limits.TheConstants.{NAMES_MAX, TIME_MAX}
+use Rattle.dg_history.specs.declared.limits.TheConstants.{BATCH_LINES_MAX, EVENTS_MAX}
 use Rattle.dg_graph.specs.CompletedChanges.{completed}
 use Rattle.dg_history.specs.Batch.{changes_after, names_after}
 use Rattle.dg_history.specs.FileOfHistory.{segment}

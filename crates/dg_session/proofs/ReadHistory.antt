@@ -115,7 +115,7 @@ piece_untested image names segments piece s graph events more n so_far there rea
 pub refused_first : {A B : Type 0} (f : StartFault) (r : Result A StartFault) (next : A → Result B StartFault) → RefusesStart f r → RefusesStart f (and_start r next)
 refused_first fault.Disk r next h = tt
 refused_first fault.Foreign r next h = ap (λ x. and_start x next) h
-refused_first (fault.Damaged place) r next h = ap (λ x. and_start x next) h
+refused_first (fault.Damaged offset) r next h = ap (λ x. and_start x next) h
 refused_first (fault.BadRecord key col) r next h = ap (λ x. and_start x next) h
 refused_first (fault.BadRecent number) r next h = ap (λ x. and_start x next) h
 refused_first fault.Memory r next h = tt
@@ -264,7 +264,7 @@ told_weaker old new P Q same weaker h = subst (λ (o : Option (List ℕ)). IfSom
 
 not_blank_with : (params : Params) (r : Result Tail ℕ) → opened_with params r ≡ Err No_index → ⊥
 not_blank_with params (Ok more) h = cc
-not_blank_with params (Err place) h = cc
+not_blank_with params (Err offset) h = cc
 
 not_blank : (image : List ℕ) (params : Option Params) → opened_by image params ≡ Err No_index → ⊥
 not_blank image None h = cc

@@ -139,10 +139,10 @@ pairs_events gate (b ∷ batches) =
     ∙ ap (λ es. es ++ map (λ (e : Segment × Event). e.1) (pairs_of (gate + 1 + length (segment b)) batches)) (untagged (segment_of gate b) b.events)
     ∙ ap (λ es. b.events ++ es) (pairs_events (gate + 1 + length (segment b)) batches)
 
--- a piece of the bytes, by its place and its length
-piece_there : (a x r image : List ℕ) (place len : ℕ) → image ≡ a ++ (x ++ r) → length a ≡ place → length x ≡ len → take len (drop place image) ≡ x
-piece_there a x r image place len is at n =
-    subst (λ (k : ℕ). take k (drop place image) ≡ x) n
+-- a piece of the bytes, by its offset and its length
+piece_there : (a x r image : List ℕ) (offset len : ℕ) → image ≡ a ++ (x ++ r) → length a ≡ offset → length x ≡ len → take len (drop offset image) ≡ x
+piece_there a x r image offset len is at n =
+    subst (λ (k : ℕ). take k (drop offset image) ≡ x) n
     (subst (λ (k : ℕ). take (length x) (drop k image) ≡ x) at
     (ap (λ (bytes : List ℕ). take (length x) (drop (length a) bytes)) is ∙ ap (take (length x)) (drop-append_seam a (x ++ r)) ∙ take-append_seam x r))
 

@@ -29,7 +29,7 @@ started_with (Some o) names events = Some (record { opened = record { index = o;
 abbrev pub RefusesStart : {A : Type 0} → StartFault → Result A StartFault → Type 0
 RefusesStart fault.Disk due = Unit {0}
 RefusesStart fault.Foreign due = due ≡ Err fault.Foreign
-RefusesStart (fault.Damaged place) due = due ≡ Err (fault.Damaged place)
+RefusesStart (fault.Damaged offset) due = due ≡ Err (fault.Damaged offset)
 RefusesStart (fault.BadRecord key col) due = due ≡ Err (fault.BadRecord key col)
 RefusesStart (fault.BadRecent number) due = due ≡ Err (fault.BadRecent number)
 RefusesStart fault.Memory due = Unit {0}

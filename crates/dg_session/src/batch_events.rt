@@ -3,7 +3,7 @@
 ghost use Rattle.std.specs.Prelude.{◌≡◌, ◌≤◌, ◌<◌, ◌^◌, ◌++◌, ◌∷◌, List, [], Option, None, Ok, length, IfOk, IfErr, IfSome, IfNone, OnErr};
 ghost use Rattle.dg_graph.specs.declared.event.Change.{Change};
 ghost use Rattle.dg_graph.specs.declared.event.Event.{Event};
-ghost use Rattle.dg_graph.specs.declared.limits.TheConstants.{BATCH_LINES_MAX};
+ghost use Rattle.dg_history.specs.declared.limits.TheConstants.{BATCH_LINES_MAX};
 ghost use Rattle.dg_graph.specs.CompletedChanges.{completed};
 ghost use Rattle.dg_now.specs.Now.{FaultOf, earliest_time_after};
 ghost use Rattle.dg_session.specs.BatchLines.{IsFront, lines};

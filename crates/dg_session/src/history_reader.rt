@@ -124,7 +124,7 @@ fn read_history<D: Disk>(
 
 /// Reopens the index over the disk, if there is one, and reads its history.
 ///
-/// `StartFault::Foreign` where the file is not one of an index, `StartFault::Damaged` with the place of
+/// `StartFault::Foreign` where the file is not one of an index, `StartFault::Damaged` with the offset of
 /// the first segment that breaks a rule, `StartFault::BadRecord` for the first record that is in no
 /// spelling, `StartFault::BadRecent` with the number of the first event that no change comes to;
 /// `StartFault::Disk` where the disk failed, `StartFault::Memory` for want of memory.
@@ -144,7 +144,7 @@ pub fn open<D: Disk>(alloc: Global, disk: &mut D) -> Result<StoredHistory, Start
         Ok(index) => index,
         Err(ReopenFault::Blank) => return Ok(StoredHistory::empty(alloc)),
         Err(ReopenFault::Foreign) => return Err(StartFault::Foreign),
-        Err(ReopenFault::Damaged(place)) => return Err(StartFault::Damaged(place)),
+        Err(ReopenFault::Damaged(offset)) => return Err(StartFault::Damaged(offset)),
         Err(ReopenFault::Disk) => return Err(StartFault::Disk),
         Err(ReopenFault::Memory) => return Err(StartFault::Memory),
     };

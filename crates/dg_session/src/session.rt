@@ -4,7 +4,7 @@ ghost use Rattle.dg_disk.specs.Frame.{GoesOn, ReadsAndSyncs};
 ghost use Rattle.dg_io.specs.Frame.{Advances};
 ghost use Rattle.dg_io.specs.Told.{CountRose};
 ghost use Rattle.dg_io.specs.LinesState.{told, NeedsByte};
-ghost use Rattle.dg_graph.specs.declared.limits.TheConstants.{BATCH_LINES_MAX};
+ghost use Rattle.dg_history.specs.declared.limits.TheConstants.{BATCH_LINES_MAX};
 ghost use Rattle.dg_graph.specs.Lines.{ScriptLine};
 ghost use Rattle.dg_machine.specs.declared.limits.TheConstants.{LIVE_HANDLES_MAX};
 ghost use Rattle.dg_machine.specs.declared.reply.BodyLine.TheVariants as line;

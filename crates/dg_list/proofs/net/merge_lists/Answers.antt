@@ -1,6 +1,7 @@
 use Rattle.std.proofs.Common.{◌++◌, map, filter, None}
 use Rattle.std.proofs.lemmas.Result.{IfOk-weaker}
-use Rattle.dg_list.specs.Lists.{effect_of, counts}
+use Rattle.dg_graph.specs.ExactEvents.{effect_of}
+use Rattle.dg_list.specs.Lists.{counts}
 use Rattle.dg_list.proofs.Nets.{composes_halves, cut_whole, replays}
 use Rattle.dg_list.proofs.net.merge_lists.Goals as goal
 
