@@ -1,0 +1,5 @@
+use Rattle.dg_index.proofs.FileGrowth.{file_more}
+use Rattle.dg_index.proofs.laws.law_files_grow.Goals as goal
+
+pub returns : goal.returns
+returns c = file_more

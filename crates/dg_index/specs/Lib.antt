@@ -1,0 +1,14 @@
+pub mod Hierarchy
+pub mod IndexRecords
+pub mod FileOfHistory
+pub mod OpenedIndex
+pub mod IndexGrowth
+pub mod ExactSteps
+pub mod ImageOfHistory
+pub mod OpenedSoFar
+pub mod RecentEvents
+pub mod SessionStart
+pub mod OlderNodes
+pub mod IndexKeys
+pub mod EverAdded
+pub mod FileLaws

@@ -1,0 +1,261 @@
+-- What an image of the index file is opened as, by its header and the directories of its segments.
+use Rattle.std.specs.Prelude.{◌≡◌, ◌<◌, ◌^◌, ℕ, zero, suc, ◌+◌, ◌-◌, ◌*◌, Bool, true, ◌&&◌, ◌==◌, not, List, [], ◌∷◌, ◌++◌, Option, Some, None, Result, Ok, Err, if◌then◌else◌, length, map, take, drop, nat_le, nat_lt, option_and_then, slice_index, sum_by}
+use Rattle.dg_graph.specs.declared.element.Column.{Column}
+use Rattle.dg_graph.specs.declared.element.Column.TheVariants as column
+use Rattle.dg_graph.specs.declared.event.Event.{Event}
+use Rattle.dg_graph.specs.declared.limits.TheConstants.{TIME_MAX}
+use Rattle.dg_history.specs.declared.limits.TheConstants.{BATCH_LINES_MAX, EVENTS_MAX}
+use Rattle.dg_history.specs.declared.node.Key.{Key}
+use Rattle.dg_history.specs.declared.node.Key.TheVariants as key
+use Rattle.dg_history.specs.declared.params.Params.{Params}
+use Rattle.dg_history.specs.History.{History, Batch}
+use Rattle.dg_history.specs.LegalHistory.{is_blank}
+use Rattle.dg_history.specs.OpenedIndex.{Unopened, No_index, Not_ours, Damaged_at, four_at, eight_at, params_in, names_at, gate_behind, is_within, may_be_named}
+use Rattle.dg_index.specs.declared.entry.Ends.{Ends}
+use Rattle.dg_index.specs.declared.entry.Entry.{Entry}
+use Rattle.dg_index.specs.declared.entry.Row.{Row}
+use Rattle.dg_index.specs.declared.entry.BatchEntry.{BatchEntry}
+use Rattle.dg_index.specs.Hierarchy.{leaves}
+use Rattle.dg_index.specs.IndexRecords.{lists_due, deltas_due}
+use Rattle.dg_index.specs.FileOfHistory.{Stored, StoredList, Segment, directory, segment_bytes, segment_of, size}
+
+-- What an index keeps of an image: the parameters, the batches, the records in the order of the file, and
+-- the offset behind the gate that closes it.
+pub record Opening : Type 0 where
+  pub params : Params
+  pub batches : List BatchEntry
+  pub records : List (Key × Entry)
+  pub used : ℕ
+
+-- what an image is opened as: an index, and the names of the history
+pub record Opened : Type 0 where
+  pub index : Opening
+  pub names : List (List ℕ)
+
+-- what a directory says of its segment: the batch, its names, its lists, its deltas and its piece
+pub record Directory : Type 0 where
+  pub batch : BatchEntry
+  pub names : List (List ℕ)
+  pub lists : List Row
+  pub deltas : List Row
+  pub piece : Row
+
+-- ---- what stands before a segment
+
+abbrev pub events_in : List BatchEntry → ℕ
+events_in batches = sum_by (λ (b : BatchEntry). b.events) batches
+
+-- the earliest time that the next batch may begin with, where without these it is this one
+abbrev pub earliest_in : ℕ → List BatchEntry → ℕ
+earliest_in t [] = t
+earliest_in t (b ∷ more) = earliest_in (b.ends.last + 1) more
+
+abbrev pub last_or : ℕ → Option Ends → ℕ
+last_or t None = t
+last_or t (Some e) = e.last
+
+-- the last time of the last list among the records, where without one it is this
+abbrev pub last_list : ℕ → List (Key × Entry) → ℕ
+last_list t [] = t
+last_list t (r ∷ more) = last_list (last_or t r.1.ends) more
+
+abbrev pub first_in : ℕ → List BatchEntry → ℕ
+first_in t [] = t
+first_in t (b ∷ more) = b.ends.first
+
+-- the numbers of lists and of deltas that a batch of so many events gives
+abbrev pub list_count : Opening → ℕ → ℕ
+list_count o events = leaves o.params (events_in o.batches + events) - leaves o.params (events_in o.batches)
+
+abbrev pub delta_count : Opening → ℕ → ℕ
+delta_count o events = length (deltas_due o.params.k (leaves o.params (events_in o.batches)) (leaves o.params (events_in o.batches + events)))
+
+-- the keys of the records of such a batch's segment, in the order of the file
+abbrev pub keys_next : Opening → ℕ → List Key
+keys_next o events =
+    lists_due o.params (events_in o.batches) (events_in o.batches + events)
+    ++ (deltas_due o.params.k (leaves o.params (events_in o.batches)) (leaves o.params (events_in o.batches + events))
+    ++ key.Piece (length o.batches) ∷ [])
+
+-- ---- reading a directory
+
+abbrev pub lengths_at : List ℕ → ℕ → List ℕ
+lengths_at bytes at = eight_at bytes at ∷ eight_at bytes (at + 8) ∷ eight_at bytes (at + 16) ∷ []
+
+abbrev pub list_at : List ℕ → ℕ → Row
+list_at bytes at = record { ends = Some (record { first = eight_at bytes at; last = eight_at bytes (at + 8) }); lengths = lengths_at bytes (at + 16) }
+
+abbrev pub record_at : List ℕ → ℕ → Row
+record_at bytes at = record { ends = None; lengths = lengths_at bytes at }
+
+-- so many rows of so many bytes, one behind another from the offset on
+abbrev pub rows_at : (List ℕ → ℕ → Row) → ℕ → ℕ → List ℕ → ℕ → List Row
+rows_at row size zero bytes at = []
+rows_at row size (suc count) bytes at = row bytes at ∷ rows_at row size count bytes (at + size)
+
+-- What a directory says that has so many lists and deltas: behind the names, their number and a row for each.
+abbrev pub directory_with : ℕ → ℕ → List ℕ → List (List ℕ) × ℕ → Option Directory
+directory_with lists deltas bytes names =
+    if length bytes == names.1 + 32 + 40 * lists + 24 * deltas
+    && (four_at bytes names.1 == lists && four_at bytes (names.1 + 4 + 40 * lists) == deltas)
+    then Some (record {
+      batch = record {
+        events = eight_at bytes 0;
+        ends = record { first = eight_at bytes 8; last = eight_at bytes 16 };
+        names = length names.0;
+      };
+      names = names.0;
+      lists = rows_at list_at 40 lists bytes (names.1 + 4);
+      deltas = rows_at record_at 24 deltas bytes (names.1 + 8 + 40 * lists);
+      piece = record_at bytes (names.1 + 8 + 40 * lists + 24 * deltas);
+    })
+    else None
+
+-- what the bytes of a directory say behind what is opened so far, where each field fits in them and none is left
+abbrev pub directory_in : Opening → List ℕ → Option Directory
+directory_in o bytes =
+    if nat_lt (length bytes) 28 then None
+    else option_and_then (directory_with (list_count o (eight_at bytes 0)) (delta_count o (eight_at bytes 0)) bytes) (names_at (four_at bytes 24) bytes 28)
+
+abbrev pub total : List ℕ → ℕ
+total lengths = slice_index lengths 0 + slice_index lengths 1 + slice_index lengths 2
+
+abbrev pub rows_in : Directory → List Row
+rows_in d = d.lists ++ (d.deltas ++ d.piece ∷ [])
+
+-- a batch of so many events may follow so many events, from the earliest time on
+abbrev pub may_follow : ℕ → ℕ → BatchEntry → Bool
+may_follow count earliest b =
+    nat_le 1 b.events
+    && (nat_le b.events BATCH_LINES_MAX
+    && (nat_le (count + b.events) EVENTS_MAX
+    && (nat_le earliest b.ends.first && (nat_le b.ends.first b.ends.last && nat_le b.ends.last TIME_MAX))))
+
+abbrev pub within : ℕ → ℕ → Option Ends → Bool
+within first last None = true
+within first last (Some e) = nat_le first e.first && (nat_le e.first e.last && nat_le e.last last)
+
+-- the lists begin at the first time or later and end at the last or earlier, each not before the one before it
+abbrev pub may_be_listed : ℕ → ℕ → List Row → Bool
+may_be_listed first last [] = true
+may_be_listed first last (r ∷ rows) = within first last r.ends && may_be_listed (last_or first r.ends) last rows
+
+-- the directory may stand behind what is opened so far, before so many bytes of columns
+abbrev pub may_stand : Opened → ℕ → Directory → Bool
+may_stand x columns d =
+    sum_by (λ (r : Row). total r.lengths) (rows_in d) == columns
+    && (may_follow (events_in x.index.batches) (earliest_in 0 x.index.batches) d.batch
+    && (may_be_named x.names d.names
+    && may_be_listed (last_list (first_in d.batch.ends.first x.index.batches) x.index.records) d.batch.ends.last d.lists))
+
+abbrev pub if_it_may : Bool → Directory → Option Directory
+if_it_may may d = if may then Some d else None
+
+-- the directory of the segment behind what is opened so far, where it is one that may stand there
+abbrev pub directory_next : Opened → List ℕ → Option Directory
+directory_next x image =
+    let at = x.index.used in
+    if not (is_within image at) then None
+    else option_and_then
+    (λ d. if_it_may (may_stand x (eight_at image (at + 8)) d) d)
+    (directory_in x.index (take (eight_at image at) (drop (at + 16) image)))
+
+-- ---- what is opened
+
+-- the records whose columns stand one behind another from the offset on
+abbrev pub laid : ℕ → List Key → List Row → List (Key × Entry)
+laid offset [] rows = []
+laid offset (k ∷ keys) [] = []
+laid offset (k ∷ keys) (r ∷ rows) =
+    (k, record { lengths = r.lengths; offset = offset; ends = r.ends }) ∷ laid (offset + total r.lengths) keys rows
+
+-- with one segment more, whose columns begin at the offset, and behind whose closed gate is the other offset
+abbrev pub with_directory : Opened → Directory → ℕ → ℕ → Opened
+with_directory x d offset used = record {
+  index = record {
+    params = x.index.params;
+    batches = x.index.batches ++ d.batch ∷ [];
+    records = x.index.records ++ laid offset (keys_next x.index d.batch.events) (rows_in d);
+    used = used;
+  };
+  names = x.names ++ d.names;
+}
+
+abbrev pub go_on_with : List ℕ → Opened → (Opened → Result Opened ℕ) → Option Directory → Result Opened ℕ
+go_on_with image x more None = Err x.index.used
+go_on_with image x more (Some d) =
+    more (with_directory x d (x.index.used + 16 + eight_at image x.index.used) (gate_behind image x.index.used + 1))
+
+-- What is opened with the segments behind it, each behind an open gate, or the offset of the first one that
+-- breaks a rule. The number only bounds the recursion: each segment takes a byte.
+abbrev pub read_on : ℕ → List ℕ → Opened → Result Opened ℕ
+read_on zero image x = Ok x
+read_on (suc k) image x =
+    if not (slice_index image (x.index.used - 1) == 1) then Ok x
+    else go_on_with image x (read_on k image) (directory_next x image)
+
+-- an index without a batch
+abbrev pub bare : Params → Opened
+bare params = record { index = record { params = params; batches = []; records = []; used = 18 }; names = [] }
+
+abbrev pub opened_or : Result Opened ℕ → Result Opened Unopened
+opened_or (Ok x) = Ok x
+opened_or (Err offset) = Err (Damaged_at offset)
+
+abbrev pub opened_by : List ℕ → Option Params → Result Opened Unopened
+opened_by image None = Err Not_ours
+opened_by image (Some params) = opened_or (read_on (length image) image (bare params))
+
+-- what the image is opened as, or why it is not
+abbrev pub opening : List ℕ → Result Opened Unopened
+opening image = if is_blank image then Err No_index else opened_by image (params_in image)
+
+-- ---- what a history is opened as
+
+abbrev pub lengths_of : Stored → List ℕ
+lengths_of s = length s.structure ∷ length s.node_attrs ∷ length s.edge_attrs ∷ []
+
+abbrev pub list_row : StoredList → Row
+list_row x = record { ends = Some (record { first = x.first; last = x.last }); lengths = lengths_of x.columns }
+
+abbrev pub record_row : Stored → Row
+record_row s = record { ends = None; lengths = lengths_of s }
+
+-- what the directory of a segment says
+abbrev pub directory_of : Segment → Directory
+directory_of s = record {
+  batch = record { events = s.events; ends = record { first = s.first; last = s.last }; names = length s.names };
+  names = s.names;
+  lists = map list_row s.lists;
+  deltas = map record_row s.deltas;
+  piece = record_row s.piece;
+}
+
+-- what is opened with the segment behind it
+abbrev pub with_segment : Opened → Segment → Opened
+with_segment x s =
+    with_directory x (directory_of s) (x.index.used + 16 + length (directory s)) (x.index.used + length (segment_bytes s) + 1)
+
+abbrev pub opened_onto : Params → Opened → List Event → List Batch → Opened
+opened_onto p x before [] = x
+opened_onto p x before (b ∷ batches) = opened_onto p (with_segment x (segment_of p before b)) (before ++ b.events) batches
+
+-- what an image of the history is opened as
+abbrev pub opened_of : History → Opened
+opened_of z = opened_onto z.params (bare z.params) [] z.batches
+
+-- the bytes of a column, by what an index keeps of its record
+abbrev pub column_at : List ℕ → Entry → Column → List ℕ
+column_at image e column.Structure = take (slice_index e.lengths 0) (drop e.offset image)
+column_at image e column.NodeAttr = take (slice_index e.lengths 1) (drop (e.offset + slice_index e.lengths 0) image)
+column_at image e column.EdgeAttr = take (slice_index e.lengths 2) (drop (e.offset + slice_index e.lengths 0 + slice_index e.lengths 1) image)
+
+-- a segment that may stand behind what is opened so far
+pub record MayStand (x : Opened) (s : Segment) : Type 0 where
+  pub lists : length s.lists ≡ list_count x.index s.events
+  pub deltas : length s.deltas ≡ delta_count x.index s.events
+  pub few_lists : length s.lists < 2 ^ 32
+  pub few_deltas : length s.deltas < 2 ^ 32
+  pub follows : may_follow (events_in x.index.batches) (earliest_in 0 x.index.batches) (directory_of s).batch ≡ true
+  pub named : may_be_named x.names s.names ≡ true
+  pub listed : may_be_listed (last_list (first_in s.first x.index.batches) x.index.records) s.last (map list_row s.lists) ≡ true

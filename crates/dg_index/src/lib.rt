@@ -1,0 +1,11 @@
+//! What the index of a history is: its nodes, its records, its file, and how an image is opened. The
+//! plain types of what an index keeps, and, in `specs/`, the definitions. docs/MODEL.md is their prose.
+#![tactic(auto)]
+
+mod entry;
+mod laws;
+
+pub use entry::{BatchEntry, Ends, Entry, Row};
+pub use laws::{
+    law_batches_are_added, law_columns_are_kept, law_files_grow, law_images_are_opened,
+};
