@@ -5,8 +5,8 @@ use Rattle.dg_disk.specs.Counts.{Rose as DiskRose}
 use Rattle.dg_history.specs.declared.start_fault.StartFault.{StartFault}
 use Rattle.dg_history.specs.declared.start_fault.StartFault.TheVariants as fault
 use Rattle.dg_history.specs.History.{History}
-use Rattle.dg_history.specs.LegalHistory.{StandsAs}
-use Rattle.dg_history.specs.SessionStart.{start_of}
+use Rattle.dg_index.specs.ImageOfHistory.{StandsAs}
+use Rattle.dg_index.specs.SessionStart.{start_of}
 use Rattle.dg_machine.specs.declared.limits.Limits.{Limits}
 use Rattle.dg_io.specs.Told.{CountRose, Gives}
 use Rattle.dg_machine.specs.MachineState.{machine_at}

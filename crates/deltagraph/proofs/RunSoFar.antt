@@ -6,8 +6,8 @@ use Rattle.std.proofs.lemmas.List.{append-nil}
 use Rattle.std.proofs.lemmas.List.Concat.{flat_map-append}
 use Rattle.std.proofs.Math.Seq.{take-append-add}
 use Rattle.dg_history.specs.History.{History}
-use Rattle.dg_history.specs.LegalHistory.{StandsAs}
-use Rattle.dg_history.specs.OpenedIndex.{opening_of}
+use Rattle.dg_index.specs.ImageOfHistory.{StandsAs}
+use Rattle.dg_index.specs.OpenedIndex.{opened_of}
 use Rattle.dg_io.specs.Told.{grown, GrowsByPart}
 use Rattle.dg_io.specs.LinesState.{LinesState}
 use Rattle.dg_machine.specs.declared.reply.Reply.{Reply}
@@ -72,9 +72,9 @@ going_first m first left before session image is stands = record {
 
 -- a session has no index exactly where the machine has none
 no_index_of : (session : Parts) (image : List ℕ) (m : MachineState) → StandsFor session image m → m.index ≡ None → session.index ≡ None
-no_index_of session image m stands none = stands.index ∙ ap (option_map opening_of) none
+no_index_of session image m stands none = stands.index ∙ ap (option_map (λ (z : History). (opened_of z).index)) none
 
-none_of : (index : Option History) → option_map opening_of index ≡ None → index ≡ None
+none_of : (index : Option History) → option_map (λ (z : History). (opened_of z).index) index ≡ None → index ≡ None
 none_of None is = refl
 none_of (Some z) is = absurd (cc)
 

@@ -3,7 +3,7 @@ use Rattle.std.proofs.Common.{◌≡◌, ◌≢◌, ℕ, ◌⊎◌, inl, inr, Li
 use Rattle.dg_history.specs.declared.start_fault.StartFault.{StartFault}
 use Rattle.dg_history.specs.declared.start_fault.StartFault.TheVariants as fault
 use Rattle.dg_machine.specs.declared.limits.Limits.{Limits}
-use Rattle.dg_history.specs.SessionStart.{Started}
+use Rattle.dg_index.specs.SessionStart.{Started}
 use Rattle.dg_session.specs.Parts.{Parts}
 use Rattle.dg_session.specs.SessionStart.{RefusesStart, StartsAs}
 use Rattle.deltagraph.specs.declared.status.Status.{Status}

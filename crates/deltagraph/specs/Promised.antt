@@ -4,8 +4,8 @@ use Rattle.dg_disk.specs.Counts.{Rose as DiskRose}
 use Rattle.dg_history.specs.declared.start_fault.StartFault.{StartFault}
 use Rattle.dg_history.specs.declared.start_fault.StartFault.TheVariants as start_fault
 use Rattle.dg_history.specs.History.{History}
-use Rattle.dg_history.specs.LegalHistory.{StandsAs}
-use Rattle.dg_history.specs.SessionStart.{start_of}
+use Rattle.dg_index.specs.ImageOfHistory.{StandsAs}
+use Rattle.dg_index.specs.SessionStart.{start_of}
 use Rattle.dg_io.specs.Told.{Gives, CountRose}
 use Rattle.dg_machine.specs.declared.limits.Limits.{Limits}
 use Rattle.dg_machine.specs.MachineState.{machine_at}

@@ -2,7 +2,7 @@
 -- history that the run came to.
 use Rattle.std.specs.Prelude.{◌≡◌, ℕ, List, [], ◌∷◌, ◌++◌, None, Some, IfSome, Option}
 use Rattle.std.specs.Option.{option_map}
-use Rattle.dg_history.specs.LegalHistory.{StandsAs}
+use Rattle.dg_index.specs.ImageOfHistory.{StandsAs}
 use Rattle.dg_io.specs.Told.{grown, GrowsByPart}
 use Rattle.dg_machine.specs.Answer.{Answered}
 use Rattle.dg_machine.specs.CutImage.{IsCut}

@@ -181,7 +181,7 @@ fn the_limit_ends_a_run_where_another_byte_is_needed(rt: HostRuntime) -> Result<
     Ok(())
 }
 
-// A script that makes an index file of 173 bytes, and its replies.
+// A script that makes an index file of 217 bytes, and its replies.
 const FIRST: &[u8] =
     b"create 2 2 intersection\nload 3\n10 +node 1\n20 +node 2\n30 +edge 5 1 2 dir\n";
 
@@ -196,11 +196,11 @@ fn first_image<R: Threads>(rt: &R, alloc: Global) -> Result<Vec<u8>, Fail> {
 #[test]
 fn an_index_file_is_found_again(rt: HostRuntime) -> Result<(), Fail> {
     let alloc = rt.alloc();
-    let limits = within(NO_LIMIT, 173);
+    let limits = within(NO_LIMIT, 217);
     let ran = run(&rt, alloc, NO_FILE, FIRST, WHOLE, limits)?;
     assert_eq!(rt; ran.status, Status::Done);
     assert_eq!(rt; ran.written.as_slice(), FIRST_REPLIES);
-    assert_eq!(rt; ran.image.len(), 173);
+    assert_eq!(rt; ran.image.len(), 217);
 
     let again = run(
         &rt,
@@ -217,11 +217,11 @@ fn an_index_file_is_found_again(rt: HostRuntime) -> Result<(), Fail> {
     );
     assert_eq!(rt; again.image.as_slice(), ran.image.as_slice());
 
-    let full = run(&rt, alloc, NO_FILE, FIRST, WHOLE, within(NO_LIMIT, 172))?;
+    let full = run(&rt, alloc, NO_FILE, FIRST, WHOLE, within(NO_LIMIT, 216))?;
     assert_eq!(rt; full.status, Status::Done);
     assert_eq!(rt;
         full.written.as_slice(),
-        b"ok create\nend\nrefused 13 file-full 173 172\nend\n".as_slice()
+        b"ok create\nend\nrefused 13 file-full 217 216\nend\n".as_slice()
     );
     Ok(())
 }
@@ -243,7 +243,7 @@ const CHANGES: [Change; 4] = [
         shows: "what stands behind a closed gate does not count",
         at: 17,
         byte: 7,
-        len: 173,
+        len: 217,
         script: "at 20 s\n",
         replies: "refused 7 out-of-range empty\nend\n",
         status: Status::Done,
@@ -252,7 +252,7 @@ const CHANGES: [Change; 4] = [
         shows: "a file that begins otherwise is no index",
         at: 0,
         byte: 68,
-        len: 173,
+        len: 217,
         script: "at 20 s\n",
         replies: "",
         status: Status::Refused(StartFault::Foreign),
@@ -282,8 +282,8 @@ fn other_index_files_are_refused_or_stand_for_less(rt: HostRuntime) -> Result<()
     let alloc = rt.alloc();
     for case in CHANGES.iter() {
         let mut image = first_image(&rt, alloc)?;
-        assert_eq!(rt; image.len(), 173, "{}", case.shows);
-        assert!(rt; case.at < 173 && case.len <= 173);
+        assert_eq!(rt; image.len(), 217, "{}", case.shows);
+        assert!(rt; case.at < 217 && case.len <= 217);
         image[case.at] = case.byte;
         let ran = run(
             &rt,
@@ -324,8 +324,8 @@ fn first_over<R: Threads>(rt: &R, alloc: Global, call: u64) -> Result<(Status, V
 }
 
 // The first script makes two calls to open the file, three writes with a sync each to make the index, and
-// for its batch the writes of two parts of the directory, of the one column and of a closed gate, a sync,
-// the write of the open gate and a sync.
+// for its batch the writes of what stands before the columns, of the list, of the piece and of a closed gate, a
+// sync, the write of the open gate and a sync.
 const CALLS_OF_FIRST: u32 = 15;
 
 #[test]

@@ -6,17 +6,17 @@ use Rattle.std.proofs.lemmas.List.{drop_all}
 use Rattle.dg_disk.specs.Image.{HasOffset, WritesPart, put_at, with_piece}
 use Rattle.dg_history.specs.declared.params.Params.{Params}
 use Rattle.dg_history.specs.History.{are_parameters, empty_history}
-use Rattle.dg_history.specs.LegalHistory.{IsImageOf, is_blank}
+use Rattle.dg_index.specs.ImageOfHistory.{IsImageOf, is_blank}
 use Rattle.dg_file.specs.Growth.{Moved}
 use Rattle.dg_file.specs.Headers.{header_rest}
 use Rattle.dg_file.specs.Images.{IsMadeInPart}
-use Rattle.dg_file.proofs.Fronts.{both}
-use Rattle.dg_file.proofs.Histories.{image_made}
+use Rattle.dg_index.proofs.DirectoryNames.{both}
+use Rattle.dg_file.proofs.AddedSegments.{image_made}
 use Rattle.dg_file.proofs.Moves.{moved_put, moved_part, moved_after}
 
-pub place_zero : (x : Option (List ℕ)) → HasOffset x 0
-place_zero None = tt
-place_zero (Some a) = omega arith
+pub offset_zero : (x : Option (List ℕ)) → HasOffset x 0
+offset_zero None = tt
+offset_zero (Some a) = omega arith
 
 -- ---- blank images
 
@@ -101,8 +101,8 @@ module _ (params : Params) where
   made_first_part x y blank w =
       moved_part x y 0 1 Blank (IsMadeInPart params) (λ a bytes b few. first_part a bytes b few) blank w
 
-  pub place_one : (x y : Option (List ℕ)) → Moved x y Closed → HasOffset y 1
-  place_one x y m = moved_after x y Closed (λ b. 1 ≤ length b) (λ a b c. omega (arith, ap length c.is)) m
+  pub offset_one : (x y : Option (List ℕ)) → Moved x y Closed → HasOffset y 1
+  offset_one x y m = moved_after x y Closed (λ b. 1 ≤ length b) (λ a b c. omega (arith, ap length c.is)) m
 
   pub made_second : (x y z : Option (List ℕ)) (rest : List ℕ) → rest ≡ header_rest params → Moved x y Closed → z ≡ with_piece 1 rest y → Moved x z (Written params)
   made_second x y z rest is m e = subst (λ z. Moved x z (Written params)) (sym (e ∙ ap (λ l. with_piece 1 l y) is)) (by x y m)

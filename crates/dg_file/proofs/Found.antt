@@ -1,26 +1,46 @@
 -- What the parts of an image that are read say of it.
-use Rattle.std.proofs.Common.{◌≡◌, ℕ, ◌+◌, ◌-◌, ◌<◌, ◌≤◌, ◌⊎◌, inl, inr, Bool, true, false, cond, List, ◌++◌, length, get_or, take, drop, slice_range, Option, Some, None, refl, sym, ap, subst, ◌∙◌, add-zero, arith, length-append}
-use Rattle.std.specs.Prelude.{◌&&◌, ◌||◌, ◌==◌, not, nat_lt, nat_le, IfSome, Err}
+use Rattle.std.proofs.Common.{◌≡◌, ℕ, ◌+◌, ◌-◌, ◌<◌, ◌≤◌, Bool, true, false, cond, List, ◌∷◌, ◌++◌, length, get_or, take, drop, slice_range, Option, Some, None, refl, sym, ap, ◌∙◌, add-zero, arith}
+use Rattle.std.specs.Prelude.{◌&&◌, ◌||◌, ◌==◌, not, nat_lt, nat_le, codes, IfSome, Err}
+use Rattle.std.specs.Str.{bytes_eq}
 use Rattle.std.proofs.lemmas.Bool.{le-ltb, lt-ltb, leb-true, eq-eqb, ne_eqb, cond_both}
 use Rattle.std.proofs.lemmas.List.{take-take, take_at, get_or-take, get_or-drop}
 use Rattle.dg_disk.specs.Counts.{raised_by}
 use Rattle.dg_disk.specs.Image.{IsLengthOf, IsRangeOf, HasRange}
 use Rattle.dg_history.specs.declared.limits.TheConstants.{FILE_BYTES_MAX}
 use Rattle.dg_history.specs.declared.params.Params.{Params}
-use Rattle.dg_history.specs.LegalHistory.{is_blank}
-use Rattle.dg_history.specs.OpenedIndex.{opening, params_in, directory_at, is_within, gate_behind, eight_at, No_index, Not_ours, columns_size}
-use Rattle.dg_file.specs.declared.batch.Noted.{Noted}
-use Rattle.dg_file.specs.declared.fault.ReopenFault.{ReopenFault}
-use Rattle.dg_file.specs.declared.fault.ReopenFault.TheVariants as fault
-use Rattle.dg_file.specs.declared.head.Lengths.{Lengths}
-use Rattle.dg_file.specs.Headers.{IsFoundIn, IsFoundAt}
-use Rattle.dg_file.specs.Held.{segment_in}
-use Rattle.dg_file.specs.Images.{Misses, taken_after}
-use Rattle.dg_file.specs.Heads.{lengths_at, gate_after, fit_in, directory_due, TakesDirectory, TakesSegment}
-use Rattle.dg_file.proofs.Directories.{is_directory, named_few}
-use Rattle.dg_file.proofs.Fronts.{both, text_at, stands_to, stands_none, outside_none}
-use Rattle.dg_file.proofs.Heads.{lengths_read, within_is}
-use Rattle.dg_file.proofs.Opened.{opened_blank, opened_foreign, params_same}
+use Rattle.dg_index.specs.ImageOfHistory.{is_blank}
+use Rattle.dg_index.specs.ImageText.{eight_at, function_in, gate_behind, is_within, params_in, params_with}
+use Rattle.dg_index.specs.OpenedIndex.{opened_by, opening, No_index, Not_ours}
+use Rattle.dg_index.proofs.DirectoryNames.{both}
+use Rattle.dg_index.proofs.ImageRanges.{Same, byte_same, four_same, piece_eight, same_fewer}
+use Rattle.dg_file.specs.declared.lengths.Lengths.{Lengths}
+use Rattle.dg_file.specs.declared.reading.Found.{Found}
+use Rattle.dg_file.specs.Directories.{fit_in, gate_after, lengths_at}
+use Rattle.dg_file.specs.Headers.{IsFoundIn}
+use Rattle.dg_file.specs.Images.{taken_after}
+
+opened_blank : (image : List ℕ) → is_blank image ≡ true → opening image ≡ Err No_index
+opened_blank image e = ap (λ b. cond b (Err No_index) (opened_by image (params_in image))) e
+
+opened_foreign : (image : List ℕ) → is_blank image ≡ false → params_in image ≡ None → opening image ≡ Err Not_ours
+opened_foreign image e p = ap (λ b. cond b (Err No_index) (opened_by image (params_in image))) e ∙ ap (opened_by image) p
+
+params_same : (n : ℕ) (image other : List ℕ) → 17 ≤ n → Same n image other → params_in image ≡ params_in other
+params_same n image other le same =
+    let front : take 8 image ≡ take 8 other = same_fewer 8 n image other (omega arith) same in
+    let l = four_same n 8 image other (omega arith) same in
+    let k = four_same n 12 image other (omega arith) same in
+    let f = byte_same n 16 image other (omega arith) same in
+    λ i. cond (bytes_eq (front i) (1 ∷ codes "DGRAPH1")) (params_with (l i) (k i) (function_in (f i))) None
+
+within_is : (image : List ℕ) (at : ℕ) → is_within image at ≡ fit_in at (length image) (lengths_at image at)
+within_is image at = refl
+
+-- the lengths in the bytes that are read are those at the offset
+lengths_read : (bytes image : List ℕ) (at : ℕ) → bytes ≡ take 16 (drop at image) → lengths_at bytes 0 ≡ lengths_at image at
+lengths_read bytes image at is =
+    ap (λ (l : List ℕ). lengths_at l 0) is
+    ∙ (λ i. record { directory = (piece_eight 16 at 0 image (omega arith) ∙ ap (eight_at image) (add-zero at)) i; columns = piece_eight 16 at 8 image (omega arith) i })
 
 pub some_both : (x : Option (List ℕ)) (F G H : List ℕ → Type 0) → ((a : List ℕ) → F a → G a → H a) → IfSome x F → IfSome x G → IfSome x H
 some_both None F G H f p q = tt
@@ -92,7 +112,7 @@ none_stands : (b : Bool) → (b ≡ true → ⊥) → b ≡ false
 none_stands true f = absurd (f refl)
 none_stands false f = refl
 
--- the place has no room for the two lengths and the gate
+-- the offset has no room for the two lengths and the gate
 pub within_short : (x : Option (List ℕ)) (at len : ℕ) → len - at ≤ 16 → IsLengthOf x len → IfSome x (λ image. is_within image at ≡ false)
 within_short x at len le l =
     some_weaker x (LengthIs len) (λ image. is_within image at ≡ false)
@@ -111,11 +131,11 @@ within_wrong x bytes at len h long is wrong l r =
     some_both x (LengthIs len) (RangeIs at bytes) (λ image. is_within image at ≡ false)
     (λ image e k. within_is image at ∙ (λ i. fit_in at (sym e i) (sym (lengths_in bytes image at h long is k) i)) ∙ wrong) l r
 
-pub found_byte : (x : Option (List ℕ)) (bytes : List ℕ) (place byte : ℕ) → length bytes ≡ 1 → byte ≡ get_or bytes 0 0 → IsRangeOf x place bytes → IfSome x (λ image. byte ≡ get_or image place 0)
-found_byte x bytes place byte long b r =
-    some_weaker x (RangeIs place bytes) (λ image. byte ≡ get_or image place 0)
-    (λ image k. let there : bytes ≡ take 1 (drop place image) = k ∙ range_is image place (length bytes) ∙ ap (λ n. take n (drop place image)) long in
-    b ∙ ap (λ (l : List ℕ). get_or l 0 0) there ∙ get_or-take 1 (drop place image) 0 0 (omega arith) ∙ get_or-drop place image 0 0 ∙ ap (λ n. get_or image n 0) (add-zero place)) r
+pub found_byte : (x : Option (List ℕ)) (bytes : List ℕ) (offset byte : ℕ) → length bytes ≡ 1 → byte ≡ get_or bytes 0 0 → IsRangeOf x offset bytes → IfSome x (λ image. byte ≡ get_or image offset 0)
+found_byte x bytes offset byte long b r =
+    some_weaker x (RangeIs offset bytes) (λ image. byte ≡ get_or image offset 0)
+    (λ image k. let there : bytes ≡ take 1 (drop offset image) = k ∙ range_is image offset (length bytes) ∙ ap (λ n. take n (drop offset image)) long in
+    b ∙ ap (λ (l : List ℕ). get_or l 0 0) there ∙ get_or-take 1 (drop offset image) 0 0 (omega arith) ∙ get_or-drop offset image 0 0 ∙ ap (λ n. get_or image n 0) (add-zero offset)) r
 
 -- what the test of the two lengths says
 pub fit_facts : (at len : ℕ) (h : Lengths) → fit_in at len h ≡ true → (at + 17 + h.directory + h.columns ≤ len) × (at + 17 + h.directory + h.columns ≤ FILE_BYTES_MAX)
@@ -123,80 +143,6 @@ fit_facts at len h e =
     let a = both (nat_le (at + 16) len) _ e in
     let b = both (nat_le (gate_after at h + 1) len) _ a.1 in
     (omega (arith, leb-true (gate_after at h + 1) len b.0), omega (arith, leb-true (gate_after at h + 1) FILE_BYTES_MAX b.1))
-
--- the directory at the place, by the bytes that are read
-text_in : (image bytes : List ℕ) (at : ℕ) (h : Lengths) → h ≡ lengths_at image at → bytes ≡ take h.directory (drop (at + 16) image) → bytes ≡ text_at image at
-text_in image bytes at h is e = e ∙ ap (λ (h : Lengths). take h.directory (drop (at + 16) image)) is
-
-due_in : (count : ℕ) (names : List (List ℕ)) (earliest : ℕ) (image bytes : List ℕ) (at : ℕ) (h : Lengths) → h ≡ lengths_at image at → bytes ≡ take h.directory (drop (at + 16) image)
-    → directory_due count names earliest (eight_at image (at + 8)) (text_at image at) (at + 16 + eight_at image at) ≡ directory_due count names earliest h.columns bytes (at + 16 + h.directory)
-due_in count names earliest image bytes at h is e =
-    λ i. directory_due count names earliest (sym is i).columns (sym (text_in image bytes at h is e) i) (at + 16 + (sym is i).directory)
-
-pub damaged_directory : (x : Option (List ℕ)) (count : ℕ) (names : List (List ℕ)) (earliest : ℕ) (bytes : List ℕ) (at : ℕ) (h : Lengths) → IfSome x (λ image. h ≡ lengths_at image at) → IfSome x (λ image. bytes ≡ take h.directory (drop (at + 16) image))
-    → directory_due count names earliest h.columns bytes (at + 16 + h.directory) ≡ None → IfSome x (λ image. directory_at count names earliest image at ≡ None)
-damaged_directory x count names earliest bytes at h l t none =
-    some_both x (λ image. h ≡ lengths_at image at) (λ image. bytes ≡ take h.directory (drop (at + 16) image)) (λ image. directory_at count names earliest image at ≡ None)
-    (λ image is e. stands_none count names earliest image at (due_in count names earliest image bytes at h is e ∙ none)) l t
-
-pub damaged_outside : (x : Option (List ℕ)) (count : ℕ) (names : List (List ℕ)) (earliest at : ℕ) (f : ReopenFault) → IfSome x (λ image. Misses at (is_within image at ≡ false) f) → IfSome x (λ image. Misses at (directory_at count names earliest image at ≡ None) f)
-damaged_outside x count names earliest at f h =
-    some_weaker x (λ image. Misses at (is_within image at ≡ false) f) (λ image. Misses at (directory_at count names earliest image at ≡ None) f) (by f) h
-  where
-    by : (f : ReopenFault) (image : List ℕ) → Misses at (is_within image at ≡ false) f → Misses at (directory_at count names earliest image at ≡ None) f
-    by (fault.Damaged place) image m = (m.0, outside_none count names earliest image at m.1)
-    by fault.Disk image m = tt
-    by fault.Memory image m = tt
-    by fault.Blank image m = absurd m
-    by fault.Foreign image m = absurd m
-
--- the disk failed, or memory ran out
-pub misses_else : (x : Option (List ℕ)) (at : ℕ) (F : List ℕ → Type 0) (f : ReopenFault) → (f ≡ fault.Disk) ⊎ (f ≡ fault.Memory) → IfSome x (λ image. Misses at (F image) f)
-misses_else None at F f e = tt
-misses_else (Some image) at F f (inl e) = subst (Misses at (F image)) (sym e) tt
-misses_else (Some image) at F f (inr e) = subst (Misses at (F image)) (sym e) tt
-
-pub found_there : (x : Option (List ℕ)) (count : ℕ) (earliest : ℕ) (old new : List (List ℕ)) (bytes : List ℕ) (at len gate : ℕ) (h : Lengths) (noted : Noted) → fit_in at len h ≡ true → IsLengthOf x len → IfSome x (λ image. h ≡ lengths_at image at) → IfSome x (λ image. bytes ≡ take h.directory (drop (at + 16) image))
-    → TakesDirectory count earliest h.columns bytes (at + 16 + h.directory) old new noted → IfSome x (λ image. gate ≡ get_or image (at + 16 + h.directory + h.columns) 0)
-    → IfSome x (λ image. IsFoundAt count earliest old image at new (record { noted = noted; gate = gate }))
-found_there x count earliest old new bytes at len gate h noted fits l h_is t taken g =
-    some_both x (λ image. (len ≡ length image) × (h ≡ lengths_at image at)) (λ image. (bytes ≡ take h.directory (drop (at + 16) image)) × (gate ≡ get_or image (at + 16 + h.directory + h.columns) 0)) (λ image. IsFoundAt count earliest old image at new (record { noted = noted; gate = gate })) by
-    (some_both x (LengthIs len) (λ image. h ≡ lengths_at image at) (λ image. (len ≡ length image) × (h ≡ lengths_at image at)) (λ image a b. (a, b)) l h_is)
-    (some_both x (λ image. bytes ≡ take h.directory (drop (at + 16) image)) (λ image. gate ≡ get_or image (at + 16 + h.directory + h.columns) 0) (λ image. (bytes ≡ take h.directory (drop (at + 16) image)) × (gate ≡ get_or image (at + 16 + h.directory + h.columns) 0)) (λ image a b. (a, b)) t g)
-  where
-    by : (image : List ℕ) → (len ≡ length image) × (h ≡ lengths_at image at) → (bytes ≡ take h.directory (drop (at + 16) image)) × (gate ≡ get_or image (at + 16 + h.directory + h.columns) 0) → IsFoundAt count earliest old image at new (record { noted = noted; gate = gate })
-    by image a b =
-        let f = fit_facts at len h fits in
-        let place : gate_behind image at ≡ at + 16 + h.directory + h.columns = ap (gate_after at) (sym a.1) in
-        record {
-          names = taken.names;
-          directory = stands_to count old earliest image at (record { segment = segment_in noted; names = taken.names }) (record {
-            begins = omega (arith, a.0, f);
-            ends = omega (arith, place, a.0, f);
-            fits = omega (arith, place, f);
-            due = due_in count old earliest image bytes at h a.1 b.0 ∙ taken.due;
-          });
-          gained = taken.gained;
-          gate = b.1 ∙ ap (λ n. get_or image n 0) (sym place);
-        }
-
--- what is known of a segment that is taken
-pub takes : (count earliest : ℕ) (old new : List (List ℕ)) (bytes : List ℕ) (at len : ℕ) (h : Lengths) (noted : Noted) → fit_in at len h ≡ true → length bytes ≡ h.directory → TakesDirectory count earliest h.columns bytes (at + 16 + h.directory) old new noted → TakesSegment count earliest old at len new noted
-takes count earliest old new bytes at len h noted fits long taken =
-    let f = fit_facts at len h fits in
-    let d = is_directory count old earliest h.columns bytes (at + 16 + h.directory) (record { segment = segment_in noted; names = taken.names }) taken.due in
-    let number : noted.batch.names ≡ length taken.names = d.number in
-    let place : noted.place ≡ at + 16 + h.directory = d.place_is in
-    let columns : columns_size noted.lengths ≡ h.columns = d.measured in
-    let all = ap length taken.gained ∙ length-append old taken.names in
-    record {
-      follows = d.follows;
-      counted = omega (arith, all, number);
-      few = omega (arith, all, named_few old taken.names d.named);
-      behind = omega (arith, place, d.long, long);
-      within = omega (arith, place, columns, f);
-      fits = omega (arith, place, columns, f);
-    }
 
 pub range_within : (x : Option (List ℕ)) (at n len : ℕ) → at + n ≤ len → IsLengthOf x len → HasRange x at n
 range_within x at n len le l = some_weaker x (LengthIs len) (λ image. at + n ≤ length image) (λ image e. omega (arith, e)) l
@@ -226,11 +172,9 @@ range_filled x bytes old at len n long is r =
 
 -- ---- what is read
 
--- the lengths of a segment, its directory and the gate behind it
-pub taken_segment : (directory place at start one two three : ℕ) → 28 ≤ directory → place ≡ at + 16 + directory → one ≡ raised_by 16 start → two ≡ taken_after directory one → three ≡ raised_by 1 two → three ≡ raised_by (place + 1 - at) start
-taken_segment directory place at start one two three long is o w h =
-    let two_is : two ≡ raised_by directory one = w ∙ ap (λ b. cond b one (raised_by directory one)) (ne_eqb directory 0 (λ e. absurd (omega (arith, e, long)))) in
-    omega (arith, is, o, two_is, h)
-
 pub taken_bound : (n count : ℕ) → taken_after n count ≤ count + n
 taken_bound n count = cond_both (n == 0) count (raised_by n count) (λ m. m ≤ count + n) (λ _. omega arith) (λ _. omega arith)
+
+-- the length of the image, as it is found
+pub found_length : (x : Option (List ℕ)) (found : Found) → IfSome x (λ image. IsFoundIn image found) → IsLengthOf x found.len
+found_length x found h = some_weaker x (λ image. IsFoundIn image found) (λ image. found.len ≡ length image) (λ image f. f.len) h

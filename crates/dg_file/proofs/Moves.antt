@@ -5,7 +5,7 @@ use Rattle.std.proofs.lemmas.List.{take_at, drop_at, take-append-drop, length-ta
 use Rattle.dg_disk.specs.Image.{HasOffset, WritesPart, put_at, with_piece}
 use Rattle.dg_file.specs.Growth.{Moved, KeepsFront, Grown, Gated, GatedOrNot}
 use Rattle.dg_file.specs.Images.{BothTold}
-use Rattle.dg_file.proofs.Ranges.{same_fewer}
+use Rattle.dg_index.proofs.ImageRanges.{same_fewer}
 
 -- ---- told or not
 
@@ -55,42 +55,42 @@ moved_same x y F P f h e = subst (λ z. Moved x z P) (sym e) (by x h)
     by None h = tt
     by (Some a) h = f a h
 
-pub moved_put : (x y : Option (List ℕ)) (place : ℕ) (piece : List ℕ) (F : List ℕ → Type 0) (P : List ℕ → List ℕ → Type 0) → ((a : List ℕ) → F a → P a (put_at place piece a)) → IfSome x F → y ≡ with_piece place piece x → Moved x y P
-moved_put x y place piece F P f h e = subst (λ z. Moved x z P) (sym e) (by x h)
+pub moved_put : (x y : Option (List ℕ)) (offset : ℕ) (piece : List ℕ) (F : List ℕ → Type 0) (P : List ℕ → List ℕ → Type 0) → ((a : List ℕ) → F a → P a (put_at offset piece a)) → IfSome x F → y ≡ with_piece offset piece x → Moved x y P
+moved_put x y offset piece F P f h e = subst (λ z. Moved x z P) (sym e) (by x h)
   where
-    by : (x : Option (List ℕ)) → IfSome x F → Moved x (with_piece place piece x) P
+    by : (x : Option (List ℕ)) → IfSome x F → Moved x (with_piece offset piece x) P
     by None h = tt
     by (Some a) h = f a h
 
-pub moved_part : (x y : Option (List ℕ)) (place len : ℕ) (F : List ℕ → Type 0) (P : List ℕ → List ℕ → Type 0) → ((a bytes : List ℕ) → F a → length bytes ≤ len → P a (put_at place bytes a)) → IfSome x F → WritesPart place len x y → Moved x y P
-moved_part x y place len F P f h w = moved_put x y place w.0 F P (λ a k. f a w.0 k w.1) h w.2
+pub moved_part : (x y : Option (List ℕ)) (offset len : ℕ) (F : List ℕ → Type 0) (P : List ℕ → List ℕ → Type 0) → ((a bytes : List ℕ) → F a → length bytes ≤ len → P a (put_at offset bytes a)) → IfSome x F → WritesPart offset len x y → Moved x y P
+moved_part x y offset len F P f h w = moved_put x y offset w.0 F P (λ a k. f a w.0 k w.1) h w.2
 
 -- ---- one piece put
 
-pub put_keeps : (place : ℕ) (piece a : List ℕ) → place ≤ length a → KeepsFront place a (put_at place piece a)
-put_keeps place piece a le =
-    let front = length-take-le place a le in
-    let is : put_at place piece a ≡ take place a ++ (piece ++ drop (place + length piece) a) = append_assoc (take place a) piece (drop (place + length piece) a) in
+pub put_keeps : (offset : ℕ) (piece a : List ℕ) → offset ≤ length a → KeepsFront offset a (put_at offset piece a)
+put_keeps offset piece a le =
+    let front = length-take-le offset a le in
+    let is : put_at offset piece a ≡ take offset a ++ (piece ++ drop (offset + length piece) a) = append_assoc (take offset a) piece (drop (offset + length piece) a) in
     record {
-      same = ap (take place) is ∙ take_at (take place a) (piece ++ drop (place + length piece) a) place front;
-      reach = omega (arith, ap length is, front, length-append (take place a) (piece ++ drop (place + length piece) a));
+      same = ap (take offset) is ∙ take_at (take offset a) (piece ++ drop (offset + length piece) a) offset front;
+      reach = omega (arith, ap length is, front, length-append (take offset a) (piece ++ drop (offset + length piece) a));
     }
 
-pub put_grows : (place : ℕ) (piece a : List ℕ) → place ≤ length a → Grown place piece a (put_at place piece a)
-put_grows place piece a le = record {
+pub put_grows : (offset : ℕ) (piece a : List ℕ) → offset ≤ length a → Grown offset piece a (put_at offset piece a)
+put_grows offset piece a le = record {
   reached = le;
-  rest = drop (place + length piece) a;
-  is = append_assoc (take place a) piece (drop (place + length piece) a);
+  rest = drop (offset + length piece) a;
+  is = append_assoc (take offset a) piece (drop (offset + length piece) a);
 }
 
-pub none_keeps : (place : ℕ) (a : List ℕ) → place ≤ length a → KeepsFront place a a
-none_keeps place a le = record { same = refl; reach = le }
+pub none_keeps : (offset : ℕ) (a : List ℕ) → offset ≤ length a → KeepsFront offset a a
+none_keeps offset a le = record { same = refl; reach = le }
 
-pub none_grows : (place : ℕ) (piece a : List ℕ) → piece ≡ [] → place ≤ length a → Grown place piece a a
-none_grows place piece a none le = record {
+pub none_grows : (offset : ℕ) (piece a : List ℕ) → piece ≡ [] → offset ≤ length a → Grown offset piece a a
+none_grows offset piece a none le = record {
   reached = le;
-  rest = drop place a;
-  is = sym (take-append-drop place a) ∙ ap (λ (l : List ℕ). take place a ++ (l ++ drop place a)) (sym none);
+  rest = drop offset a;
+  is = sym (take-append-drop offset a) ∙ ap (λ (l : List ℕ). take offset a ++ (l ++ drop offset a)) (sym none);
 }
 
 -- ---- one piece behind another
@@ -126,15 +126,15 @@ grown_then p q x y a b c e g h =
 
 pub gate_put : (used gate : ℕ) (text a b : List ℕ) → 1 ≤ used → Grown used (text ++ 0 ∷ []) a b → Gated (used - 1) gate text a (put_at (used - 1) (gate ∷ []) b)
 gate_put used gate text a b some g =
-    let place = used - 1 in
+    let offset = used - 1 in
     let keeps = grown_keeps used (text ++ 0 ∷ []) a b g in
-    let front : take place b ≡ take place a = same_fewer place used b a (omega arith) keeps.same in
-    let next : place + 1 ≡ used = omega arith in
-    let rest : drop (place + 1) b ≡ text ++ 0 ∷ g.rest =
+    let front : take offset b ≡ take offset a = same_fewer offset used b a (omega arith) keeps.same in
+    let next : offset + 1 ≡ used = omega arith in
+    let rest : drop (offset + 1) b ≡ text ++ 0 ∷ g.rest =
     ap (λ m. drop m b) next ∙ ap (drop used) g.is ∙ drop_at (take used a) ((text ++ 0 ∷ []) ++ g.rest) used (length-take-le used a g.reached) ∙ append_assoc text (0 ∷ []) g.rest in
     record {
       rest = g.rest;
-      is = append_assoc (take place b) (gate ∷ []) (drop (place + 1) b) ∙ (λ i. front i ++ gate ∷ rest i);
+      is = append_assoc (take offset b) (gate ∷ []) (drop (offset + 1) b) ∙ (λ i. front i ++ gate ∷ rest i);
     }
 
 pub gate_part : (used : ℕ) (text a b bytes : List ℕ) → 1 ≤ used → length bytes ≤ 1 → Grown used (text ++ 0 ∷ []) a b → GatedOrNot used text a (put_at (used - 1) bytes b)
@@ -146,8 +146,8 @@ gate_part used text a b (x ∷ y ∷ bytes) some few g = absurd (omega arith)
 
 -- ---- the same of images that may be told
 
-pub place_behind : (x y : Option (List ℕ)) (p q : ℕ) (piece : List ℕ) → q ≡ p + length piece → Moved x y (Grown p piece) → HasOffset y q
-place_behind x y p q piece e m =
+pub offset_behind : (x y : Option (List ℕ)) (p q : ℕ) (piece : List ℕ) → q ≡ p + length piece → Moved x y (Grown p piece) → HasOffset y q
+offset_behind x y p q piece e m =
     moved_after x y (Grown p piece) (λ b. q ≤ length b) (λ a b g. omega (arith, e, grown_long p piece a b g)) m
 
 pub keep_then : (x y z : Option (List ℕ)) (p q : ℕ) → p ≤ q → Moved x y (KeepsFront p) → Moved y z (KeepsFront q) → Moved x z (KeepsFront p)

@@ -1,25 +1,15 @@
--- The names of a directory: read at their places, one behind another.
-use Rattle.std.proofs.Common.{◌≡◌, ℕ, zero, suc, ◌+◌, ◌-◌, ◌<◌, ◌≤◌, Bool, true, false, not, cond, List, [], ◌∷◌, ◌++◌, length, take, drop, Option, Some, None, is_some, refl, sym, ap, subst, ◌∙◌, append_assoc, append-nil, arith, length-append, length-drop}
-use Rattle.std.specs.Prelude.{◌&&◌, nat_le, nat_lt, All, option_and_then}
-use Rattle.std.specs.Int.{from_be_bytes, w16}
-use Rattle.std.specs.List.{flat_map}
+-- The names of a directory: read at their offsets, one behind another.
+use Rattle.std.proofs.Common.{◌≡◌, ℕ, zero, suc, ◌+◌, ◌-◌, ◌<◌, ◌≤◌, Bool, true, false, not, cond, List, [], ◌∷◌, ◌++◌, length, take, drop, Option, Some, None, is_some, refl, sym, ap, subst, ◌∙◌, append_assoc, append-nil, arith}
+use Rattle.std.specs.Prelude.{◌&&◌, nat_le, nat_lt, option_and_then}
 use Rattle.std.specs.Option.{option_map}
 use Rattle.std.proofs.lemmas.Bool.{and_from, leb-true, le-ltb, lt-ltb, false≢true}
-use Rattle.std.proofs.lemmas.List.{take_at}
-use Rattle.std.proofs.lemmas.List.Concat.{flat_map-append}
-use Rattle.std.proofs.lemmas.Nat.{from_be_bytes-to_be_bytes_2}
 use Rattle.dg_graph.specs.declared.limits.TheConstants.{NAME_BYTES_MAX}
-use Rattle.dg_graph.specs.Columns.{two}
-use Rattle.dg_history.specs.FileOfHistory.{name_bytes}
 use Rattle.dg_graph.specs.Names.{number_of, added, is_name, are_new}
-use Rattle.dg_history.specs.OpenedIndex.{two_at, name_at, names_at}
-use Rattle.dg_file.specs.Heads.{is_fresh, TakesName, TakesNames}
-use Rattle.dg_file.specs.Invariant.{AreNameTexts, texts_in, named_in}
-use Rattle.dg_file.proofs.Ranges.{behind}
+use Rattle.dg_index.specs.ImageText.{two_at, name_at, names_at}
+use Rattle.dg_index.proofs.DirectoryNames.{both, in_front_of, names_more, new_append, new_first}
+use Rattle.dg_file.specs.Directories.{is_fresh, TakesName, TakesNames}
 
--- ---- one name
-
--- a text at a place, behind a number that says its length
+-- a text at a offset, behind a number that says its length
 abbrev name_with : ℕ → ℕ → ℕ → List ℕ → Option (List ℕ × ℕ)
 name_with long at len rest =
     cond (nat_lt long (at + 2)) None (cond (nat_lt long (at + 2 + len)) None (Some (take len rest, at + 2 + len)))
@@ -31,16 +21,7 @@ with_room : (long at len : ℕ) (rest : List ℕ) → at + 2 + len ≤ long → 
 with_room long at len rest le =
     λ i. cond (le-ltb long (at + 2) (omega (arith, le)) i) None (cond (le-ltb long (at + 2 + len) le i) None (Some (take len rest, at + 2 + len)))
 
-pub name_read : (bytes text rest : List ℕ) (at : ℕ) → length text ≤ NAME_BYTES_MAX → drop at bytes ≡ name_bytes text ++ rest → name_at bytes at ≡ Some (text, at + 2 + length text)
-name_read bytes text rest at short is =
-    let here : drop at bytes ≡ two (length text) ++ (text ++ rest) = is ∙ append_assoc (two (length text)) text rest in
-    let len : two_at bytes at ≡ length text = ap (λ (l : List ℕ). from_be_bytes w16 (take 2 l)) here ∙ ap (from_be_bytes w16) (take_at (two (length text)) (text ++ rest) 2 refl) ∙ from_be_bytes-to_be_bytes_2 (length text) (omega (arith, short)) in
-    let next : drop (at + 2) bytes ≡ text ++ rest = behind bytes (two (length text)) (text ++ rest) at (at + 2) refl here in
-    let long : at + 2 + length text ≤ length bytes = omega (arith, ap length here, length-drop at bytes, length-append text rest) in
-    name_is bytes at ∙ (λ i. name_with (length bytes) at (len i) (next i)) ∙ with_room (length bytes) at (length text) (text ++ rest) long
-    ∙ ap (λ (l : List ℕ). Some (l, at + 2 + length text)) (take_at text rest (length text) refl)
-
--- where there is no name at the place
+-- where there is no name at the offset
 pub no_length : (bytes : List ℕ) (at : ℕ) → length bytes < at + 2 → name_at bytes at ≡ None
 no_length bytes at lt =
     ap (λ b. cond b None (cond (nat_lt (length bytes) (at + 2 + two_at bytes at)) None (Some (take (two_at bytes at) (drop (at + 2) bytes), at + 2 + two_at bytes at)))) (lt-ltb (length bytes) (at + 2) lt)
@@ -60,7 +41,7 @@ abbrev pub end_in : {A : Type 0} → Option (A × ℕ) → ℕ
 end_in None = 0
 end_in (Some t) = t.1
 
--- a name that is at the place
+-- a name that is at the offset
 name_some : (bytes : List ℕ) (at : ℕ) (n : List ℕ × ℕ) → name_at bytes at ≡ Some n → Some (take (two_at bytes at) (drop (at + 2) bytes), at + 2 + two_at bytes at) ≡ Some n
 name_some bytes at n e =
     let there : Option (List ℕ × ℕ) = Some (take (two_at bytes at) (drop (at + 2) bytes), at + 2 + two_at bytes at) in
@@ -77,7 +58,7 @@ pub none_map : {A B : Type 0} (f : A → B) (o : Option A) → option_map f o �
 none_map f None e = refl
 none_map f (Some x) e = absurd cc
 
--- a name by the place behind it
+-- a name by the offset behind it
 pub name_whole : (bytes : List ℕ) (at end : ℕ) → option_map (λ (n : List ℕ × ℕ). n.1) (name_at bytes at) ≡ Some end → name_at bytes at ≡ Some (take (end - (at + 2)) (drop (at + 2) bytes), end)
 name_whole bytes at end e =
     let n = some_map (λ (n : List ℕ × ℕ). n.1) (name_at bytes at) end e in
@@ -88,31 +69,9 @@ name_whole bytes at end e =
 
 -- ---- several names
 
--- names that are read after one, in front of those
-abbrev pub in_front_of : List ℕ → Option (List (List ℕ) × ℕ) → Option (List (List ℕ) × ℕ)
-in_front_of text more = option_map (λ (more : List (List ℕ) × ℕ). (text ∷ more.0, more.1)) more
-
-pub names_more : (k : ℕ) (bytes : List ℕ) (at : ℕ) (text : List ℕ) (end : ℕ) → name_at bytes at ≡ Some (text, end) → names_at (suc k) bytes at ≡ in_front_of text (names_at k bytes end)
-names_more k bytes at text end e =
-    ap (option_and_then (λ (n : List ℕ × ℕ). option_map (λ (more : List (List ℕ) × ℕ). (n.0 ∷ more.0, more.1)) (names_at k bytes n.1))) e
-
-pub names_none : (k : ℕ) (bytes : List ℕ) (at : ℕ) → name_at bytes at ≡ None → names_at (suc k) bytes at ≡ None
-names_none k bytes at e =
-    ap (option_and_then (λ (n : List ℕ × ℕ). option_map (λ (more : List (List ℕ) × ℕ). (n.0 ∷ more.0, more.1)) (names_at k bytes n.1))) e
-
-abbrev pub AreShort : List (List ℕ) → Type 0
-AreShort [] = Unit {0}
-AreShort (text ∷ texts) = (length text ≤ NAME_BYTES_MAX) × AreShort texts
-
-pub names_read : (names : List (List ℕ)) (bytes rest : List ℕ) (at : ℕ) → AreShort names → drop at bytes ≡ flat_map name_bytes names ++ rest → names_at (length names) bytes at ≡ Some (names, at + length (flat_map name_bytes names))
-names_read [] bytes rest at short is = ap (λ (n : ℕ). Some ([], n)) (omega arith)
-names_read (text ∷ names) bytes rest at short is =
-    let here : drop at bytes ≡ name_bytes text ++ (flat_map name_bytes names ++ rest) = is ∙ append_assoc (name_bytes text) (flat_map name_bytes names) rest in
-    let one = name_read bytes text (flat_map name_bytes names ++ rest) at short.0 here in
-    let next : drop (at + 2 + length text) bytes ≡ flat_map name_bytes names ++ rest = behind bytes (name_bytes text) (flat_map name_bytes names ++ rest) at (at + 2 + length text) (omega arith) here in
-    let more = names_read names bytes rest (at + 2 + length text) short.1 next in
-    let end : at + 2 + length text + length (flat_map name_bytes names) ≡ at + length (flat_map name_bytes (text ∷ names)) = omega (arith, length-append (name_bytes text) (flat_map name_bytes names)) in
-    names_more (length names) bytes at text (at + 2 + length text) one ∙ ap (in_front_of text) more ∙ ap (λ (n : ℕ). Some (text ∷ names, n)) end
+abbrev pub texts_in : Option (List (List ℕ) × ℕ) → List (List ℕ)
+texts_in None = []
+texts_in (Some texts) = texts.0
 
 pub some_then : {A B : Type 0} (f : A → Option B) (o : Option A) (y : B) → option_and_then f o ≡ Some y → (x : A) × (o ≡ Some x) × (f x ≡ Some y)
 some_then f None y e = absurd cc
@@ -146,38 +105,6 @@ names_length zero bytes at t e = ap (λ (o : Option (List (List ℕ) × ℕ)). l
 names_length (suc k) bytes at t e =
     let f = names_first k bytes at t e in
     ap length f.is ∙ ap (λ n. suc n) (names_length k bytes f.end (f.others, t.1) f.more)
-
--- ---- names that are new
-
-and_assoc : (a b c : Bool) → (a && (b && c)) ≡ ((a && b) && c)
-and_assoc true b c = refl
-and_assoc false b c = refl
-
-pub new_first : (names : List (List ℕ)) (text : List ℕ) (texts : List (List ℕ)) → are_new names (text ∷ texts) ≡ (is_fresh names text && are_new (names ++ text ∷ []) texts)
-new_first names text texts = and_assoc (is_name text) (not (is_some (number_of names text))) (are_new (names ++ text ∷ []) texts)
-
-pub new_append : (names xs ys : List (List ℕ)) → are_new names (xs ++ ys) ≡ (are_new names xs && are_new (names ++ xs) ys)
-new_append names [] ys = ap (λ (l : List (List ℕ)). are_new l ys) (sym (append-nil names))
-new_append names (x ∷ xs) ys =
-    new_first names x (xs ++ ys)
-    ∙ ap (λ b. is_fresh names x && b) (new_append (names ++ x ∷ []) xs ys ∙ ap (λ (l : List (List ℕ)). are_new (names ++ x ∷ []) xs && are_new l ys) (append_assoc names (x ∷ []) xs))
-    ∙ and_assoc (is_fresh names x) (are_new (names ++ x ∷ []) xs) (are_new (names ++ x ∷ xs) ys)
-    ∙ ap (λ b. b && are_new (names ++ x ∷ xs) ys) (sym (new_first names x xs))
-
-pub both : (a b : Bool) → (a && b) ≡ true → (a ≡ true) × (b ≡ true)
-both true b e = (refl, e)
-both false b e = absurd (false≢true e)
-
-pub new_parts : (names xs ys : List (List ℕ)) → are_new names (xs ++ ys) ≡ true → (are_new names xs ≡ true) × (are_new (names ++ xs) ys ≡ true)
-new_parts names xs ys e = both (are_new names xs) (are_new (names ++ xs) ys) (sym (new_append names xs ys) ∙ e)
-
-pub new_short : (names texts : List (List ℕ)) → are_new names texts ≡ true → AreShort texts
-new_short names [] e = tt
-new_short names (text ∷ texts) e =
-    let parts = both (is_fresh names text) _ (sym (new_first names text texts) ∙ e) in
-    let name = both (is_name text) _ parts.0 in
-    let short = both (nat_le (length text) NAME_BYTES_MAX) _ name.0 in
-    (leb-true (length text) NAME_BYTES_MAX short.0, new_short (names ++ text ∷ []) texts parts.1)
 
 -- ---- a name more
 
@@ -286,42 +213,3 @@ pub taken_wrong : (bytes : List ℕ) (count counter at : ℕ) (old now : List (L
 taken_wrong bytes count counter at old now lt s stale =
     let more : count - counter ≡ suc (count - (counter + 1)) = omega arith in
     taken_broken bytes count (count - (counter + 1)) at old now (subst (λ n. TakenSoFar bytes count n at old now) more s) stale
-
--- ---- the names of a new segment, as their bytes
-
-short_from : (names : List (List ℕ)) → All (λ text. length text ≤ NAME_BYTES_MAX) names → AreShort names
-short_from [] all = tt
-short_from (text ∷ names) all = (all 0 text (omega arith), short_from names (λ i d lt. all (suc i) d (omega (arith, lt))))
-
-short_to : (names : List (List ℕ)) → AreShort names → All (λ text. length text ≤ NAME_BYTES_MAX) names
-short_to [] short i d lt = absurd (omega arith)
-short_to (text ∷ names) short zero d lt = short.0
-short_to (text ∷ names) short (suc i) d lt = short_to names short.1 i d (omega (arith, lt))
-
-short_more : (names : List (List ℕ)) (text : List ℕ) → AreShort names → length text ≤ NAME_BYTES_MAX → AreShort (names ++ text ∷ [])
-short_more [] text short le = (le, tt)
-short_more (x ∷ names) text short le = (short.0, short_more names text short.1 le)
-
-pub named_none : AreNameTexts 0 []
-named_none = record { count_is = refl; bytes_are = refl; short = short_to [] tt }
-
-more_is : (count : ℕ) (bytes text more : List ℕ) → AreNameTexts count bytes → length text ≤ NAME_BYTES_MAX → more ≡ bytes ++ name_bytes text → (flat_map name_bytes (named_in count bytes ++ text ∷ []) ≡ more) × (named_in (count + 1) more ≡ named_in count bytes ++ text ∷ [])
-more_is count bytes text more n le is =
-    let names : List (List ℕ) = named_in count bytes in
-    let whole : flat_map name_bytes (names ++ text ∷ []) ≡ more = flat_map-append name_bytes names (text ∷ []) ∙ (λ i. n.bytes_are i ++ append-nil (name_bytes text) i) ∙ sym is in
-    let number : length (names ++ text ∷ []) ≡ count + 1 = omega (arith, n.count_is, length-append names (text ∷ [])) in
-    let read = names_read (names ++ text ∷ []) more [] 0 (short_more names text (short_from names n.short) le) (sym whole ∙ sym (append-nil (flat_map name_bytes (names ++ text ∷ [])))) in
-    (whole, ap (λ m. named_in m more) (sym number) ∙ ap texts_in read)
-
-pub named_more : (count : ℕ) (bytes text more : List ℕ) → AreNameTexts count bytes → length text ≤ NAME_BYTES_MAX → more ≡ bytes ++ name_bytes text → named_in (count + 1) more ≡ named_in count bytes ++ text ∷ []
-named_more count bytes text more n le is = (more_is count bytes text more n le is).1
-
-pub are_named_more : (count : ℕ) (bytes text more : List ℕ) → AreNameTexts count bytes → length text ≤ NAME_BYTES_MAX → more ≡ bytes ++ name_bytes text → AreNameTexts (count + 1) more
-are_named_more count bytes text more n le is =
-    let names : List (List ℕ) = named_in count bytes in
-    let m = more_is count bytes text more n le is in
-    record {
-      count_is = ap length m.1 ∙ (let number : length (names ++ text ∷ []) ≡ count + 1 = omega (arith, n.count_is, length-append names (text ∷ [])) in number);
-      bytes_are = ap (flat_map name_bytes) m.1 ∙ m.0;
-      short = subst (λ (l : List (List ℕ)). All (λ text. length text ≤ NAME_BYTES_MAX) l) (sym m.1) (short_to (names ++ text ∷ []) (short_more names text (short_from names n.short) le));
-    }

@@ -2,12 +2,13 @@
 use Rattle.std.specs.Prelude.{◌≡◌, ◌⊎◌, ℕ, true, List, ◌++◌, Option, Result, Ok, Err, IfSome, length, drop, if◌then◌else◌, ◌==◌}
 use Rattle.dg_disk.specs.Counts.{raised_by}
 use Rattle.dg_history.specs.declared.params.Params.{Params}
-use Rattle.dg_history.specs.History.{History, Batch, empty_history, with_batch}
-use Rattle.dg_history.specs.LegalHistory.{IsLegal, IsImageOf, is_blank}
-use Rattle.dg_history.specs.OpenedIndex.{Opening, Opened, Unopened, No_index, Not_ours, Damaged_at, opening, may_be_named}
+use Rattle.dg_history.specs.History.{History, Batch, empty_history, events_of, with_batch}
+use Rattle.dg_history.specs.LegalHistory.{IsLegal}
+use Rattle.dg_index.specs.ImageOfHistory.{is_blank, IsImageOf}
+use Rattle.dg_index.specs.OpenedIndex.{Unopened, No_index, Not_ours, Damaged_at, may_be_named, Opening, Opened, opening}
+use Rattle.dg_index.specs.FileOfHistory.{Segment, segment_of}
 use Rattle.dg_file.specs.declared.fault.ReopenFault.{ReopenFault}
 use Rattle.dg_file.specs.declared.fault.ReopenFault.TheVariants as fault
-use Rattle.dg_file.specs.Index.{NewSegment, new_segment_of}
 
 -- the fact of the bytes before and after, where the disk tells both
 abbrev pub BothTold : Option (List ℕ) → Option (List ℕ) → (List ℕ → List ℕ → Type 0) → Type 0
@@ -33,35 +34,26 @@ abbrev pub IsOpenedAs : List ℕ → Opening → Type 0
 IsOpenedAs image o = (names : List (List ℕ)) × (opening image ≡ Ok (record { index = o; names = names }))
 
 -- the image is opened as this index, with some names which those of the new segment may follow
-abbrev pub Fits : List ℕ → Opening → NewSegment → Type 0
+abbrev pub Fits : List ℕ → Opening → Segment → Type 0
 Fits image o s =
     (names : List (List ℕ)) × (opening image ≡ Ok (record { index = o; names = names })) × (may_be_named names s.names ≡ true)
 
 -- Where an image was opened as the old index with some names, it is opened as the new index, with those
 -- names and then the names of the segment.
-abbrev pub GainsSegment : Opening → NewSegment → Opening → List ℕ → List ℕ → Type 0
+abbrev pub GainsSegment : Opening → Segment → Opening → List ℕ → List ℕ → Type 0
 GainsSegment old s new before after =
     (names : List (List ℕ)) → opening before ≡ Ok (record { index = old; names = names }) → opening after ≡ Ok (record { index = new; names = names ++ s.names })
 
 -- of each history and each batch that the segment is of: the image of that history becomes one of it
 -- with the batch
-abbrev pub GainsBatch : NewSegment → List ℕ → List ℕ → Type 0
+abbrev pub GainsBatch : Segment → List ℕ → List ℕ → Type 0
 GainsBatch s before after =
-    (z : History) (b : Batch) → IsImageOf z before → IsLegal (with_batch z b) → s ≡ new_segment_of b → IsImageOf (with_batch z b) after
+    (z : History) (b : Batch) → IsImageOf z before → IsLegal (with_batch z b) → s ≡ segment_of z.params (events_of z) b → IsImageOf (with_batch z b) after
 
 -- or it stays one of it
-abbrev pub GainsBatchOrNot : NewSegment → List ℕ → List ℕ → Type 0
+abbrev pub GainsBatchOrNot : Segment → List ℕ → List ℕ → Type 0
 GainsBatchOrNot s before after =
-    (z : History) (b : Batch) → IsImageOf z before → IsLegal (with_batch z b) → s ≡ new_segment_of b → IsImageOf z after ⊎ IsImageOf (with_batch z b) after
-
--- where the fault is a damaged place, it is this one and the fact holds; else the disk failed, or memory
--- ran out
-abbrev pub Misses : ℕ → Type 0 → ReopenFault → Type 0
-Misses place fact (fault.Damaged at) = (at ≡ place) × fact
-Misses place fact fault.Disk = Unit {0}
-Misses place fact fault.Memory = Unit {0}
-Misses place fact fault.Blank = ⊥
-Misses place fact fault.Foreign = ⊥
+    (z : History) (b : Batch) → IsImageOf z before → IsLegal (with_batch z b) → s ≡ segment_of z.params (events_of z) b → IsImageOf z after ⊎ IsImageOf (with_batch z b) after
 
 -- The count of bytes read, after a read of n more. Where n is 0 nothing is read.
 abbrev pub taken_after : ℕ → ℕ → ℕ

@@ -1,49 +1,57 @@
--- What holds of what an index keeps.
-use Rattle.std.specs.Prelude.{◌≡◌, ℕ, ◌≤◌, true, List, [], Option, Some, None, length, map}
-use Rattle.std.specs.List.{flat_map, All}
-use Rattle.dg_history.specs.declared.limits.TheConstants.{FILE_BYTES_MAX}
-use Rattle.dg_graph.specs.declared.limits.TheConstants.{NAME_BYTES_MAX, NAMES_MAX}
-use Rattle.dg_history.specs.declared.params.Params.{Params}
+-- What holds of what an index keeps, and what it keeps with one batch more.
+use Rattle.std.specs.Prelude.{◌≡◌, ℕ, ◌+◌, ◌≤◌, true, List, [], ◌∷◌, ◌++◌, Option, Some, None, IfSome, length}
+use Rattle.dg_graph.specs.declared.limits.TheConstants.{NAMES_MAX, TIME_MAX}
+use Rattle.dg_history.specs.declared.limits.TheConstants.{EVENTS_MAX, FILE_BYTES_MAX}
 use Rattle.dg_history.specs.History.{are_parameters}
-use Rattle.dg_history.specs.FileOfHistory.{name_bytes}
-use Rattle.dg_history.specs.OpenedIndex.{Segment, names_at}
-use Rattle.dg_shape.specs.Entries.{Holdings, bytes_of}
-use Rattle.dg_file.specs.declared.batch.Batch.{Batch}
-use Rattle.dg_file.specs.Held.{batch_in, pieces_from, segments_held, span_in}
-use Rattle.dg_file.specs.Index.{AreInTurn, events_after, names_count}
+use Rattle.dg_index.specs.declared.entry.BatchEntry.{BatchEntry}
+use Rattle.dg_index.specs.declared.entry.Ends.{Ends}
+use Rattle.dg_index.specs.declared.entry.Row.{Row}
+use Rattle.dg_index.specs.IndexGrowth.{AreInTurn, columns_in, names_in}
+use Rattle.dg_index.specs.IndexKeys.{AreKept}
+use Rattle.dg_index.specs.OpenedIndex.{Opening, earliest_in, events_in, keys_next, laid, last_list}
 
--- the catalogue and the batches are those of the same segments
-pub record AreHeld (segments : List Segment) (catalogue : Holdings) (batches : List Batch) : Type 0 where
-  pub pieces : catalogue.entries ≡ pieces_from 0 segments
-  pub notes : batches ≡ map batch_in segments
-  pub span : catalogue.span ≡ span_in segments
+-- the last time of the last list, or this one
+abbrev pub last_from : ℕ → Option ℕ → ℕ
+last_from t None = t
+last_from t (Some n) = n
 
--- the parameters, the segments and the bytes in use are those of an index
-pub record IsIndex (params : Params) (segments : List Segment) (used : ℕ) : Type 0 where
-  pub parameters : are_parameters params.l params.k ≡ true
-  pub in_turn : AreInTurn 0 0 segments
-  pub begun : 18 ≤ used
-  pub within : used ≤ FILE_BYTES_MAX
-  pub few_names : names_count segments ≤ NAMES_MAX
+abbrev pub later : Option ℕ → Option Ends → Option ℕ
+later t None = t
+later t (Some e) = Some e.last
 
--- what holds of the fields of an index
-pub record IndexIsSound (params : Params) (catalogue : Holdings) (batches : List Batch) (events names used : ℕ) : Type 0 where
-  pub held : AreHeld (segments_held batches catalogue.entries) catalogue batches
-  pub sound : IsIndex params (segments_held batches catalogue.entries) used
-  pub count : events ≡ events_after 0 (segments_held batches catalogue.entries)
-  pub named : names ≡ names_count (segments_held batches catalogue.entries)
-  pub bytes : bytes_of catalogue.entries ≤ used
+-- the last time of the last list among the rows, where without one it is this
+abbrev pub listed_after : Option ℕ → List Row → Option ℕ
+listed_after t [] = t
+listed_after t (r ∷ rows) = listed_after (later t r.ends) rows
 
-abbrev pub texts_in : Option (List (List ℕ) × ℕ) → List (List ℕ)
-texts_in None = []
-texts_in (Some texts) = texts.0
+-- no list among the rows ends later than this
+abbrev pub EndBy : ℕ → List Row → Type 0
+EndBy t [] = Unit {0}
+EndBy t (r ∷ rows) = IfSome r.ends (λ (e : Ends). e.last ≤ t) × EndBy t rows
 
--- the names of which these are the bytes in a directory
-abbrev pub named_in : ℕ → List ℕ → List (List ℕ)
-named_in count bytes = texts_in (names_at count bytes 0)
+-- what holds of the fields of an index: the events and the names of its batches, the earliest time that the next
+-- one may begin with, and the last time of the last list
+pub record IndexIsSound (o : Opening) (events names from : ℕ) (last : Option ℕ) : Type 0 where
+  pub parameters : are_parameters o.params.l o.params.k ≡ true
+  pub turns : AreInTurn 0 0 o.batches
+  pub count : events ≡ events_in o.batches
+  pub few : events ≤ EVENTS_MAX
+  pub number : length o.batches ≤ events
+  pub named : names ≡ names_in o.batches
+  pub few_names : names ≤ NAMES_MAX
+  pub earliest : from ≡ earliest_in 0 o.batches
+  pub in_time : from ≤ TIME_MAX + 1
+  pub listed : (t : ℕ) → last_list t o.records ≡ last_from t last
+  pub late : last_from 0 last ≤ from
+  pub kept : AreKept o
+  pub bytes : columns_in o.records + 18 ≤ o.used
+  pub within : o.used ≤ FILE_BYTES_MAX
 
--- the bytes are those of so many names, each of them short
-pub record AreNameTexts (count : ℕ) (bytes : List ℕ) : Type 0 where
-  pub count_is : length (named_in count bytes) ≡ count
-  pub bytes_are : flat_map name_bytes (named_in count bytes) ≡ bytes
-  pub short : All (λ text. length text ≤ NAME_BYTES_MAX) (named_in count bytes)
+-- the index with one batch more, whose records are these, and the offset behind its gate
+abbrev pub with_rows : Opening → BatchEntry → List Row → ℕ → ℕ → Opening
+with_rows o b rows offset used = record {
+  params = o.params;
+  batches = o.batches ++ b ∷ [];
+  records = o.records ++ laid offset (keys_next o b.events) rows;
+  used = used;
+}

@@ -1,9 +1,8 @@
 pub mod Index
 pub mod Images
-pub mod Heads
-pub mod Held
-pub mod IndexLaws
-pub mod Growth
+pub mod Directories
 pub mod Headers
 pub mod Invariant
+pub mod Growth
+pub mod IndexLaws
 pub mod Faults

@@ -2,10 +2,10 @@
 //! segment.
 
 ghost use Rattle.std.specs.Prelude.{◌≡◌, ◌≤◌, List, [], ◌∷◌, ◌++◌, length, IfSome, Option, slice_index, codes, true, ◌&&◌, ◌==◌, not};
-ghost use Rattle.dg_history.specs.FileOfHistory.{function_byte};
+ghost use Rattle.dg_index.specs.FileOfHistory.{function_byte};
 ghost use Rattle.dg_graph.specs.Columns.{four};
 ghost use Rattle.dg_history.specs.History.{are_parameters};
-ghost use Rattle.dg_history.specs.OpenedIndex.{function_in, params_in};
+ghost use Rattle.dg_index.specs.ImageText.{function_in, params_in};
 ghost use Rattle.dg_file.specs.Headers.{header_rest};
 
 use crate::numbers::{put_at, u32_at};

@@ -1,71 +1,100 @@
+//! An index over a disk: it is made, reopened, read, and given a batch.
+
 ghost use Rattle.std.specs.Prelude.{◌≡◌, ◌≢◌, ◌≤◌, ◌<◌, ◌+◌, ◌-◌, ◌^◌, ℕ, List, [], ◌∷◌, ◌++◌, true, false, length, map, min, Some, None, Ok, Err, is_some, slice_get, IsSome, IfSome, IfOk, IfErr, OnOk, OnErr, IsErrOf};
-ghost use Rattle.std.specs.Option.{option_map};
+ghost use Rattle.std.specs.Map.{lookup};
 ghost use Rattle.dg_disk.specs.Counts.{Rose, raised_by};
 ghost use Rattle.dg_disk.specs.Frame.{OnlyReads, OnlyWrites, ReadsAndSyncs};
-ghost use Rattle.dg_disk.specs.Image.{IsLengthOf};
 ghost use Rattle.dg_history.specs.declared.limits.TheConstants.{EVENTS_MAX, FILE_BYTES_MAX};
-ghost use Rattle.dg_graph.specs.declared.limits.TheConstants.{NAMES_MAX};
-ghost use Rattle.dg_history.specs.History.{are_parameters, empty_history, with_batch};
-ghost use Rattle.dg_history.specs.LegalHistory.{IsImageOf, is_blank};
-ghost use Rattle.dg_history.specs.OpenedIndex.{opening, opened_of, opening_of, column_of_piece, may_follow};
-ghost use Rattle.dg_shape.specs.Entries.{total};
-ghost use Rattle.dg_file.specs.Index.{piece_of, needed_for, with_segment, IsDue, AreInTurn, events_after, columns_bytes, earliest_after, names_count, opening_bytes};
-ghost use Rattle.dg_file.specs.Images.{BothTold, Fits, GainsBatch, GainsBatchOrNot, GainsSegment, IsMadeInPart, IsOpenedAs, RefusesOpening, taken_after};
-ghost use Rattle.dg_file.specs.Held.{batch_in, pieces_from, span_in, segment_in};
+ghost use Rattle.dg_graph.specs.declared.limits.TheConstants.{NAMES_MAX, TIME_MAX};
+ghost use Rattle.dg_history.specs.History.{are_parameters, empty_history};
+ghost use Rattle.dg_history.specs.Keys.{same_key};
+ghost use Rattle.dg_index.specs.ImageOfHistory.{is_blank, IsImageOf};
+ghost use Rattle.dg_index.specs.IndexGrowth.{AreInTurn, IsDue, columns_in, index_with, last_time_in, names_in, needed_for};
+ghost use Rattle.dg_index.specs.IndexKeys.{AreKept};
+ghost use Rattle.dg_index.specs.OpenedIndex.{column_at, bare, earliest_in, events_in, first_in, keys_next, last_list, list_count, may_follow, opened_of, opening};
+ghost use Rattle.dg_disk.specs.Image.{IsLengthOf};
+ghost use Rattle.dg_shape.specs.Additions.{columns_of, Suits};
+ghost use Rattle.dg_file.specs.Directories.{directory_due, TakesDirectory};
 ghost use Rattle.dg_file.specs.Headers.{IsOpenedSoFar};
+ghost use Rattle.dg_file.specs.Index.{HasRoom, opening_bytes};
+ghost use Rattle.dg_file.specs.Images.{BothTold, Fits, GainsBatch, GainsBatchOrNot, GainsSegment, IsMadeInPart, IsOpenedAs, RefusesOpening, taken_after};
+ghost use Rattle.dg_file.specs.Invariant.{EndBy, listed_after, with_rows};
 
 use crate::appending::append;
-use crate::batch::{Batch, Noted};
-use crate::directory::Before;
+use crate::directory_batch::{batch_at, may_follow};
+use crate::directory_names::{NAMES_OFFSET, Untaken, read_names};
+use crate::directory_rows::{has_rows, is_measured, may_be_listed, rows_in};
 use crate::fault::{CommitFault, CreateFault, FetchFault, ReopenFault};
+use crate::found_directory::FoundDirectory;
 use crate::header::{HEADER_BYTES, OPEN};
+use crate::lengths::LENGTHS_BYTES;
 use crate::making::write_header;
-use crate::reading::{read_header, read_range, read_segment};
-use crate::segment::Segment;
+use crate::numbers::u32_at;
+use crate::prepared_segment::PreparedSegment;
+use crate::reading::{read_byte, read_header, read_lengths, read_range};
 use dg_disk::Disk;
-use dg_graph::Column;
+use dg_graph::{Column, NAMES_MAX};
 use dg_history::{Key, Params};
+use dg_index::{BatchEntry, Entry, Row};
 use dg_names::Names;
-use dg_shape::Catalogue;
+use dg_segment::Segment;
+use dg_shape::{Catalogue, column_length, column_offset, keys_due, leaves};
 use std::alloc::{AllocError, Global};
 use std::marker::Model;
 
+/// The offset of the number of names in a directory.
+const COUNT_OFFSET: usize = 24;
+
 /// An index over the disk with which it was made or reopened. It tells what the disk's image is opened
-/// as, and how many segments it may get without taking memory.
+/// as, and how many records and batches it may get without taking memory.
 #[derive(Drop)]
 pub struct Index {
     alloc: Global,
     params: Params,
-    // the piece of each segment
     catalogue: Catalogue,
-    batches: Vec<Batch>,
-    // the events and the names of all segments
+    batches: Vec<BatchEntry>,
+    // the events and the names of all batches
     events: u64,
     names: u32,
-    // the place behind the closed gate that ends the file
+    // the earliest time that the next batch may begin with
+    earliest: u64,
+    // the last time of the last list
+    listed: Option<u64>,
+    // the offset behind the closed gate that ends the file
     used: u64,
 }
 
 impl Model for Index {
-    ghost use Rattle.std.specs.Prelude.{◌-◌, min, vec_len};
+    ghost use Rattle.std.specs.Prelude.{◌-◌, vec_len};
     ghost use Rattle.std.specs.Vec.{vec_capacity};
     ghost use Rattle.dg_file.specs.Index.{IndexState};
+    ghost use Rattle.dg_file.specs.Invariant.{IndexIsSound};
 
     ghost Value = { IndexState };
 
-    ghost use Rattle.dg_file.specs.Held.{segments_held};
-    ghost use Rattle.dg_file.specs.Invariant.{IndexIsSound};
+    ghost view = { λ x. record { opening = record { params = x.params; batches = x.batches.items; records = x.catalogue.entries; used = x.used }; spare = x.catalogue.spare; room = vec_capacity x.batches - vec_len x.batches } };
 
-    ghost view = { λ x. record { opening = record { params = x.params; segments = segments_held x.batches.items x.catalogue.entries; used = x.used }; room = min x.catalogue.spare (vec_capacity x.batches - vec_len x.batches) } };
+    ghost invariant = { λ x. IndexIsSound (record { params = x.params; batches = x.batches.items; records = x.catalogue.entries; used = x.used }) x.events x.names x.earliest x.listed };
+}
 
-    ghost invariant = { λ x. IndexIsSound x.params x.catalogue x.batches.items x.events x.names x.used };
+// The last time of the last list among the rows, where without one it is this.
+fn listed_after(listed: Option<u64>, rows: &[Row]) -> Option<u64>
+    ensures { result ≡ listed_after listed rows.now }
+{
+    let mut last = listed;
+    for row in rows {
+        if let Some(ends) = row.ends {
+            last = Some(ends.last);
+        }
+    }
+    last
 }
 
 impl Index {
     // An index without a segment. Takes no memory yet.
     fn empty(alloc: Global, params: Params) -> Index
         requires { are_parameters params.l params.k ≡ true }
-        ensures { result.opening ≡ opening_of (empty_history params) }
+        ensures { result.opening ≡ (bare params).index }
     {
         Index {
             alloc,
@@ -74,57 +103,116 @@ impl Index {
             batches: Vec::new(alloc),
             events: 0,
             names: 0,
+            earliest: 0,
+            listed: None,
             used: HEADER_BYTES as u64,
         }
     }
 
-    // Makes room for one more segment.
-    fn reserve(&mut self) -> Result<(), AllocError>
+    // Makes room for so many more records and one more batch.
+    fn reserve(&mut self, records: u64) -> Result<(), AllocError>
+        ensures spare { OnOk result (records ≤ self.new.spare) }
         ensures room { OnOk result (1 ≤ self.new.room) }
         ensures same { self.new.opening ≡ self.old.opening }
-        ensures kept { self.old.room ≤ self.new.room }
     {
-        self.catalogue.reserve(1)?;
+        self.catalogue.reserve(records)?;
         self.batches.reserve(1)
     }
 
-    // Notes a segment behind the bytes in use. There is room for it.
-    fn note(&mut self, noted: Noted)
-        requires room { 1 ≤ self.old.room }
-        requires due { may_follow (events_after 0 self.old.opening.segments) (earliest_after 0 self.old.opening.segments) (segment_in noted) ≡ true }
-        requires names { names_count self.old.opening.segments + noted.batch.names ≤ NAMES_MAX }
-        requires behind { self.old.opening.used ≤ noted.place }
-        requires within { noted.place + total noted.lengths < FILE_BYTES_MAX }
-        ensures { self.new.opening ≡ record self.old.opening { segments = self.old.opening.segments ++ segment_in noted ∷ []; used = noted.place + total noted.lengths + 1 } }
+    // The time before which the first list of the next batch, whose first time is given, may not begin.
+    fn floor(&self, first: u64) -> u64
+        ensures { result ≡ last_list (first_in first self.now.opening.batches) self.now.opening.records }
     {
-        let batch = noted.batch;
-        let [structure, node_attrs, edge_attrs] = noted.lengths;
-        let key = Key::Piece(self.batches.len() as u32);
-        self.catalogue.add(key, noted.lengths, noted.place, None);
+        match self.listed {
+            Some(last) => last,
+            None => match self.batches.first() {
+                Some(batch) => batch.ends.first,
+                None => first,
+            },
+        }
+    }
+
+    // The lists that a batch of so many events gives.
+    fn lists_next(&self, events: u64) -> u32
+        requires { events_in self.now.opening.batches + events ≤ EVENTS_MAX }
+        ensures { result ≡ list_count self.now.opening events }
+    {
+        leaves(self.params, self.events + events) - leaves(self.params, self.events)
+    }
+
+    // The records that a batch of so many events gives, in the order of the file.
+    fn keys_next(&self, events: u64) -> Result<Vec<Key>, AllocError>
+        requires { events_in self.now.opening.batches + events ≤ EVENTS_MAX }
+        ensures keys { IfOk result (λ keys. keys.items ≡ keys_next self.now.opening events) }
+    {
+        let number = self.batches.len() as u32;
+        keys_due(self.alloc, self.params, self.events, events, number)
+    }
+
+    // Notes a segment behind the bytes in use. There is room for it.
+    fn note(&mut self, batch: BatchEntry, keys: &[Key], rows: &[Row], offset: u64, used: u64)
+        requires spare { length keys.now ≤ self.old.spare }
+        requires room { 1 ≤ self.old.room }
+        requires keys { keys.now ≡ keys_next self.old.opening batch.events }
+        requires rows { Suits keys.now rows.now }
+        requires follows { may_follow (events_in self.old.opening.batches) (earliest_in 0 self.old.opening.batches) batch ≡ true }
+        requires ends { EndBy batch.ends.last rows.now }
+        requires names { names_in self.old.opening.batches + batch.names ≤ NAMES_MAX }
+        requires behind { self.old.opening.used ≤ offset }
+        requires used { offset + columns_of rows.now + 1 ≡ used }
+        requires within { used ≤ FILE_BYTES_MAX }
+        ensures { self.new.opening ≡ with_rows self.old.opening batch rows.now offset used }
+    {
+        self.catalogue.add_all(keys, rows, offset);
         self.catalogue.add_batch(batch.ends);
         // There is room, so this cannot fail.
         let _ = self.batches.push(batch);
         self.events += batch.events;
         self.names += batch.names;
-        self.used = noted.place + structure + node_attrs + edge_attrs + 1;
+        self.earliest = batch.ends.last + 1;
+        self.listed = listed_after(self.listed, rows);
+        self.used = used;
     }
 
-    // The events of all segments.
-    fn events(&self) -> u64
-        ensures events { result ≡ events_after 0 self.now.opening.segments }
-        ensures few { result ≤ EVENTS_MAX }
+    // Reads the directory of a segment behind the bytes in use, with so many bytes of columns, and adds its
+    // names to those before it. `Untaken::Broken` where it may not stand there, `Untaken::Memory` for want
+    // of memory: then some of its names may be added.
+    fn read_directory(
+        &self,
+        bytes: &[u8],
+        columns: u64,
+        names: &mut Names,
+    ) -> Result<FoundDirectory, Untaken>
+        ensures taken { IfOk result (λ found. TakesDirectory self.now.opening columns bytes.now names.old names.new found) }
+        ensures broken { IsErrOf result Untaken.Broken → directory_due (record { index = self.now.opening; names = names.old }) columns bytes.now ≡ None }
     {
-        self.events
-    }
-
-    // The earliest time that the next batch may begin with.
-    fn earliest(&self) -> u64
-        ensures { result ≡ earliest_after 0 self.now.opening.segments }
-    {
-        match self.catalogue.span() {
-            Some(span) => span.last + 1,
-            None => 0,
+        if bytes.len() < NAMES_OFFSET {
+            return Err(Untaken::Broken);
         }
+        let count = u32_at(bytes, COUNT_OFFSET);
+        if NAMES_MAX - names.len() < count {
+            return Err(Untaken::Broken);
+        }
+        let end = read_names(bytes, count, names)?;
+        let batch = batch_at(bytes, count);
+        if !may_follow(batch, self.events, self.earliest) {
+            return Err(Untaken::Broken);
+        }
+        let lists = self.lists_next(batch.events);
+        let keys = self.keys_next(batch.events)?;
+        let deltas = keys.len() as u32 - lists - 1;
+        if !has_rows(bytes, end, lists, deltas) {
+            return Err(Untaken::Broken);
+        }
+        let rows = rows_in(self.alloc, bytes, end, lists, deltas)?;
+        if !is_measured(&rows, columns) {
+            return Err(Untaken::Broken);
+        }
+        let floor = self.floor(batch.ends.first);
+        if !may_be_listed(&rows[..lists as usize], floor, batch.ends.last) {
+            return Err(Untaken::Broken);
+        }
+        Ok(FoundDirectory { batch, keys, rows })
     }
 
     /// Makes an index with these parameters and without a batch on a disk that has none. The gate of
@@ -137,7 +225,7 @@ impl Index {
     ) -> Result<Index, CreateFault>
         requires parameters { are_parameters params.l params.k ≡ true }
         requires blank { IfSome (D.image disk.old) (λ image. is_blank image ≡ true) }
-        ensures made { IfOk result (λ index. index.opening ≡ opening_of (empty_history params)) }
+        ensures made { IfOk result (λ index. index.opening ≡ (opened_of (empty_history params)).index) }
         ensures opened { OnOk result (IfSome (D.image disk.new) (λ image. opening image ≡ Ok (opened_of (empty_history params)))) }
         ensures image { OnOk result (IfSome (D.image disk.new) (λ image. IsImageOf (empty_history params) image)) }
 
@@ -150,7 +238,7 @@ impl Index {
         ensures frame { OnlyWrites D.image D.faults D.write_faults D.taken disk.old disk.new }
     {
         let mut index = Index::empty(alloc, params);
-        index.reserve()?;
+        index.reserve(1)?;
         write_header(disk, params)?;
         Ok(index)
     }
@@ -158,7 +246,7 @@ impl Index {
     /// Opens the index that the disk has, and fills `names` with the names of its batches. It reads the
     /// header, and each segment's lengths, directory and gate, each once, and no column.
     /// `ReopenFault::Blank` where there is no index, `ReopenFault::Foreign` where the file is not one of
-    /// an index, `ReopenFault::Damaged` with the place of the first segment that breaks a rule,
+    /// an index, `ReopenFault::Damaged` with the offset of the first segment that breaks a rule,
     /// `ReopenFault::Disk` where the disk failed, `ReopenFault::Memory` for want of memory. After a
     /// fault `names` may have some of the names, and no more bytes were read than the file has.
     pub fn reopen<D: Disk>(
@@ -168,7 +256,7 @@ impl Index {
     ) -> Result<Index, ReopenFault>
         requires names { names.old ≡ [] }
         ensures opened { IfOk result (λ index. IfSome (D.image disk.old) (λ image. opening image ≡ Ok (record { index = index.opening; names = names.new }))) }
-        ensures counted_names { IfOk result (λ index. length names.new ≡ names_count index.opening.segments) }
+        ensures counted_names { IfOk result (λ index. length names.new ≡ names_in index.opening.batches) }
         ensures taken { IfOk result (λ index. D.taken disk.new ≡ raised_by (opening_bytes index.opening) (D.taken disk.old)) }
 
         // errors
@@ -196,9 +284,9 @@ impl Index {
         requires so_far { IfSome (D.image disk.old) (λ image. IsOpenedSoFar image self.old.opening names.old gate) }
         requires len { IsLengthOf (D.image disk.old) len }
         requires within { self.old.opening.used ≤ len }
-        requires counted_names { length names.old ≡ names_count self.old.opening.segments }
+        requires counted_names { length names.old ≡ names_in self.old.opening.batches }
         ensures opened { OnOk result (IfSome (D.image disk.old) (λ image. opening image ≡ Ok (record { index = self.new.opening; names = names.new }))) }
-        ensures counted_names { OnOk result (length names.new ≡ names_count self.new.opening.segments) }
+        ensures counted_names { OnOk result (length names.new ≡ names_in self.new.opening.batches) }
         ensures taken { OnOk result ((t : ℕ) → D.taken disk.old ≡ raised_by (opening_bytes self.old.opening) t → D.taken disk.new ≡ raised_by (opening_bytes self.new.opening) t) }
 
         // errors
@@ -227,11 +315,11 @@ impl Index {
         requires so_far { IfSome (D.image disk.old) (λ image. IsOpenedSoFar image self.old.opening names.old 1) }
         requires len { IsLengthOf (D.image disk.old) len }
         requires within { self.old.opening.used ≤ len }
-        requires counted_names { length names.old ≡ names_count self.old.opening.segments }
+        requires counted_names { length names.old ≡ names_in self.old.opening.batches }
         ensures so_far { IfOk result (λ gate. IfSome (D.image disk.old) (λ image. IsOpenedSoFar image self.new.opening names.new gate)) }
         ensures within { OnOk result (self.new.opening.used ≤ len) }
         ensures progress { OnOk result (self.old.opening.used < self.new.opening.used) }
-        ensures counted_names { OnOk result (length names.new ≡ names_count self.new.opening.segments) }
+        ensures counted_names { OnOk result (length names.new ≡ names_in self.new.opening.batches) }
         ensures taken { OnOk result ((t : ℕ) → D.taken disk.old ≡ raised_by (opening_bytes self.old.opening) t → D.taken disk.new ≡ raised_by (opening_bytes self.new.opening) t) }
 
         // errors
@@ -242,18 +330,30 @@ impl Index {
         // frame
         ensures frame { OnlyReads D.image D.faults D.write_faults disk.old disk.new }
     {
-        self.reserve()?;
-        self.facts();
-        let before = Before {
-            events: self.events(),
-            earliest: self.earliest(),
+        let offset = self.used;
+        let lengths = read_lengths(disk, offset, len)?;
+        let directory_offset = offset + LENGTHS_BYTES as u64;
+        let text = read_range(self.alloc, disk, directory_offset, lengths.directory)?;
+        let found = match self.read_directory(&text, lengths.columns, names) {
+            Ok(found) => found,
+            Err(Untaken::Broken) => return Err(ReopenFault::Damaged(offset)),
+            Err(Untaken::Memory) => return Err(ReopenFault::Memory),
         };
-        let found = read_segment(self.alloc, disk, self.used(), len, before, names)?;
-        self.note(found.noted);
-        Ok(found.gate)
+        let columns_offset = directory_offset + lengths.directory;
+        let gate_offset = columns_offset + lengths.columns;
+        let gate = read_byte(disk, gate_offset)?;
+        self.reserve(found.keys.len() as u64)?;
+        self.note(
+            found.batch,
+            &found.keys,
+            &found.rows,
+            columns_offset,
+            gate_offset + 1,
+        );
+        Ok(gate)
     }
 
-    /// Reads a column of a segment's piece. `FetchFault::Disk` where the disk failed,
+    /// Reads a column of a record that the index keeps. `FetchFault::Disk` where the disk failed,
     /// `FetchFault::Memory` for want of memory.
     pub fn fetch<D: Disk>(
         &mut self,
@@ -261,9 +361,9 @@ impl Index {
         key: Key,
         col: Column,
     ) -> Result<Vec<u8>, FetchFault>
-        requires held { IsSome (piece_of self.old.opening key) }
+        requires held { is_some (lookup (same_key key) self.old.opening.records) ≡ true }
         requires image { IfSome (D.image disk.old) (λ image. IsOpenedAs image self.old.opening) }
-        ensures bytes { IfOk result (λ bytes. IfSome (D.image disk.old) (λ image. IfSome (piece_of self.old.opening key) (λ s. bytes.items ≡ column_of_piece image s col))) }
+        ensures bytes { IfOk result (λ bytes. IfSome (D.image disk.old) (λ image. IfSome (lookup (same_key key) self.old.opening.records) (λ e. bytes.items ≡ column_at image e col))) }
         ensures taken { IfOk result (λ bytes. D.taken disk.new ≡ taken_after (length bytes.items) (D.taken disk.old)) }
 
         // errors
@@ -274,64 +374,82 @@ impl Index {
         ensures same { self.new ≡ self.old }
         ensures frame { OnlyReads D.image D.faults D.write_faults disk.old disk.new }
     {
-        let len = self.catalogue.length(key, col).unwrap();
-        let place = self.catalogue.place(key, col).unwrap();
-        read_range(self.alloc, disk, place, len)
+        let entry = self.catalogue.entry(key).unwrap();
+        let len = column_length(&entry, col);
+        read_range(self.alloc, disk, column_offset(&entry, col), len)
     }
 
-    /// Makes room for one segment more. `AllocError` for want of memory.
-    pub fn make_room(&mut self, _segment: &Segment) -> Result<(), AllocError>
-        ensures room { OnOk result (1 ≤ self.new.room) }
+    /// Makes all of the segment ready to be written behind the index, so that `commit` takes no memory.
+    /// `AllocError` for want of memory.
+    pub fn prepare(&mut self, segment: Segment) -> Result<PreparedSegment, AllocError>
+        requires due { IsDue self.old.opening segment }
+        ensures prepared { IfOk result (λ p. p.segment ≡ segment) }
+        ensures room { IfOk result (λ p. HasRoom self.new p) }
         ensures same { self.new.opening ≡ self.old.opening }
-        ensures kept { self.old.room ≤ self.new.room }
     {
-        self.reserve()
+        let keys = self.keys_next(segment.batch().events)?;
+        self.reserve(keys.len() as u64)?;
+        PreparedSegment::new(self.alloc, segment, keys)
     }
 
     /// Adds the segment of a batch to the file, which may have `limit` bytes in use. The segment's gate
-    /// is opened once all of it is on the device. Takes no memory. `CommitFault::FileFull` with the
-    /// bytes that would be in use, where they are more than `limit`: then nothing is written.
-    /// `CommitFault::Disk` where the disk failed.
+    /// is opened once all else is on the device. `CommitFault::FileFull` with the bytes that would be in
+    /// use, exactly where they are more than `limit`: then nothing has changed. `CommitFault::Disk`
+    /// where the disk failed; then the file has the old or the new history, and the index is used no
+    /// more. Takes no memory.
     pub fn commit<D: Disk>(
         &mut self,
         disk: &mut D,
-        segment: Segment,
+        prepared: PreparedSegment,
         limit: u64,
     ) -> Result<(), CommitFault>
-        requires room { 1 ≤ self.old.room }
+        requires room { HasRoom self.old prepared }
         requires limit { limit ≤ FILE_BYTES_MAX }
-        requires due { IsDue self.old.opening segment }
-        requires image { IfSome (D.image disk.old) (λ image. Fits image self.old.opening segment) }
-        ensures ok { OnOk result (self.new.opening ≡ with_segment self.old.opening segment) }
-        ensures opened { OnOk result (BothTold (D.image disk.old) (D.image disk.new) (GainsSegment self.old.opening segment self.new.opening)) }
-        ensures history { OnOk result (BothTold (D.image disk.old) (D.image disk.new) (GainsBatch segment)) }
-        ensures fits { OnOk result (needed_for self.old.opening segment ≤ limit) }
+        requires due { IsDue self.old.opening prepared.segment }
+        requires image { IfSome (D.image disk.old) (λ image. Fits image self.old.opening prepared.segment) }
+        ensures ok { OnOk result (self.new.opening ≡ index_with self.old.opening prepared.segment) }
+        ensures opened { OnOk result (BothTold (D.image disk.old) (D.image disk.new) (GainsSegment self.old.opening prepared.segment self.new.opening)) }
+        ensures history { OnOk result (BothTold (D.image disk.old) (D.image disk.new) (GainsBatch prepared.segment)) }
+        ensures fits { OnOk result (needed_for self.old.opening prepared.segment ≤ limit) }
 
         // errors
-        ensures full { (n : ℕ) → result ≡ Err (CommitFault.FileFull n) → (n ≡ needed_for self.old.opening segment) × (limit < n) × (self.new ≡ self.old) × (D.image disk.new ≡ D.image disk.old) × (D.faults disk.new ≡ D.faults disk.old) × (D.write_faults disk.new ≡ D.write_faults disk.old) }
-        ensures part { IsErrOf result CommitFault.Disk → BothTold (D.image disk.old) (D.image disk.new) (GainsBatchOrNot segment) }
-        ensures disk_fits { IsErrOf result CommitFault.Disk → needed_for self.old.opening segment ≤ limit }
+        ensures full { (n : ℕ) → result ≡ Err (CommitFault.FileFull n) → (n ≡ needed_for self.old.opening prepared.segment) × (limit < n) × (self.new ≡ self.old) × (D.image disk.new ≡ D.image disk.old) × (D.faults disk.new ≡ D.faults disk.old) × (D.write_faults disk.new ≡ D.write_faults disk.old) }
+        ensures part { IsErrOf result CommitFault.Disk → BothTold (D.image disk.old) (D.image disk.new) (GainsBatchOrNot prepared.segment) }
+        ensures disk_fits { IsErrOf result CommitFault.Disk → needed_for self.old.opening prepared.segment ≤ limit }
         ensures cause { IsErrOf result CommitFault.Disk → Rose (D.write_faults disk.old) (D.write_faults disk.new) }
 
         // frame
         ensures frame { OnlyWrites D.image D.faults D.write_faults D.taken disk.old disk.new }
     {
-        self.facts();
-        let used = self.used();
+        let used = self.used;
+        let segment = prepared.segment();
         let needed = used + segment.size();
         if limit < needed {
             return Err(CommitFault::FileFull(needed));
         }
-        append(disk, used, &segment)?;
-        self.note(segment.noted(used));
+        let head = prepared.head();
+        append(disk, used, head, segment)?;
+        let offset = used + head.len() as u64;
+        self.note(
+            segment.batch(),
+            prepared.keys(),
+            prepared.rows(),
+            offset,
+            needed,
+        );
         Ok(())
     }
 
-    /// What is known of the pieces of the segments, each by its number from 0, and of the times of
-    /// the history.
+    /// What the index keeps of a record, or `None` where it keeps none at the key. One look-up by hash.
+    pub fn entry(&self, key: Key) -> Option<Entry>
+        ensures { result ≡ lookup (same_key key) self.now.opening.records }
+    {
+        self.catalogue.entry(key)
+    }
+
+    /// What the index keeps of each record.
     pub fn catalogue(&self) -> &Catalogue
-        ensures entries { result.now.entries ≡ pieces_from 0 self.now.opening.segments }
-        ensures span { result.now.span ≡ span_in self.now.opening.segments }
+        ensures entries { result.now.entries ≡ self.now.opening.records }
     {
         &self.catalogue
     }
@@ -350,19 +468,41 @@ impl Index {
         self.used
     }
 
+    /// How many events all batches have.
+    pub fn events_len(&self) -> u64
+        ensures events { result ≡ events_in self.now.opening.batches }
+        ensures few { result ≤ EVENTS_MAX }
+    {
+        self.events
+    }
+
     /// How many names all batches bring.
     pub fn names_len(&self) -> u32
-        ensures names { result ≡ names_count self.now.opening.segments }
+        ensures names { result ≡ names_in self.now.opening.batches }
         ensures few { result ≤ NAMES_MAX }
     {
         self.names
     }
 
-    /// The batch of the segment of this number, from 0, or `None` where there is no such segment.
-    pub fn batch(&self, piece: u32) -> Option<Batch>
-        ensures { result ≡ option_map batch_in (slice_get self.now.opening.segments piece) }
+    /// The batch of this number, from 0, or `None` where there is no such batch.
+    pub fn batch(&self, number: u32) -> Option<BatchEntry>
+        ensures { result ≡ slice_get self.now.opening.batches number }
     {
-        self.batches.get(piece as usize).copied()
+        self.batches.get(number as usize).copied()
+    }
+
+    /// The last instant of the last batch, or `None` where there is no batch.
+    pub fn last_time(&self) -> Option<u64>
+        ensures { result ≡ last_time_in self.now.opening.batches }
+    {
+        Some(self.batches.last()?.ends.last)
+    }
+
+    /// The last instant of the last closed list, or 0 where there is none.
+    pub fn last_list(&self) -> u64
+        ensures { result ≡ last_list 0 self.now.opening.records }
+    {
+        self.listed.unwrap_or(0)
     }
 
     /// What holds of each index. Does nothing.
@@ -370,11 +510,14 @@ impl Index {
         ensures parameters { are_parameters self.now.opening.params.l self.now.opening.params.k ≡ true }
         ensures begun { 18 ≤ self.now.opening.used }
         ensures within { self.now.opening.used ≤ FILE_BYTES_MAX }
-        ensures in_turn { AreInTurn 0 0 self.now.opening.segments }
-        ensures events { events_after 0 self.now.opening.segments ≤ EVENTS_MAX }
-        ensures few { length self.now.opening.segments ≤ events_after 0 self.now.opening.segments }
-        ensures number { length self.now.opening.segments < 2 ^ 32 }
-        ensures columns { columns_bytes self.now.opening.segments ≤ self.now.opening.used }
+        ensures in_turn { AreInTurn 0 0 self.now.opening.batches }
+        ensures events { events_in self.now.opening.batches ≤ EVENTS_MAX }
+        ensures few { length self.now.opening.batches ≤ events_in self.now.opening.batches }
+        ensures earliest { earliest_in 0 self.now.opening.batches ≤ TIME_MAX + 1 }
+        ensures names { names_in self.now.opening.batches ≤ NAMES_MAX }
+        ensures listed { last_list 0 self.now.opening.records ≤ earliest_in 0 self.now.opening.batches }
+        ensures kept { AreKept self.now.opening }
+        ensures columns { columns_in self.now.opening.records ≤ self.now.opening.used }
     {
         let _ = &self.used;
     }

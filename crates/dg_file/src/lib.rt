@@ -2,23 +2,24 @@
 #![tactic(auto)]
 
 mod appending;
-mod batch;
-mod directory;
+mod directory_batch;
+mod directory_names;
+mod directory_rows;
 mod disk_calls;
 mod fault;
-mod head;
+mod found_directory;
 mod header;
 mod index;
 mod laws;
+mod lengths;
 mod making;
 mod numbers;
+mod prepared_segment;
 mod reading;
-mod segment;
 #[cfg(test)]
 mod tests;
 
-pub use batch::Batch;
 pub use fault::{CommitFault, CreateFault, FetchFault, ReopenFault};
 pub use index::Index;
-pub use laws::{law_batches_are_added, law_batches_are_measured, law_images_are_opened};
-pub use segment::Segment;
+pub use laws::law_batches_are_measured;
+pub use prepared_segment::PreparedSegment;

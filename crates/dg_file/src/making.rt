@@ -4,7 +4,7 @@ ghost use Rattle.std.specs.Prelude.{◌≡◌, ◌≤◌, true, OnOk, OnErr, IfS
 ghost use Rattle.dg_disk.specs.Frame.{OnlyWrites};
 ghost use Rattle.dg_disk.specs.Counts.{Rose};
 ghost use Rattle.dg_history.specs.History.{are_parameters, empty_history};
-ghost use Rattle.dg_history.specs.LegalHistory.{IsImageOf, is_blank};
+ghost use Rattle.dg_index.specs.ImageOfHistory.{IsImageOf, is_blank};
 ghost use Rattle.dg_file.specs.Growth.{Moved};
 ghost use Rattle.dg_file.specs.Images.{IsMadeInPart};
 

@@ -1,7 +1,7 @@
-//! Numbers at a place of some bytes, the high byte first, and pieces put at a place.
+//! Numbers at a offset of some bytes, the high byte first, and pieces put at a offset.
 
 ghost use Rattle.std.specs.Prelude.{◌≡◌, ◌+◌, ◌≤◌, ◌++◌, length, take};
-ghost use Rattle.dg_history.specs.OpenedIndex.{two_at, four_at, eight_at};
+ghost use Rattle.dg_index.specs.ImageText.{two_at, four_at, eight_at};
 
 /// The number of two bytes.
 pub(crate) fn u16_at(bytes: &[u8], at: usize) -> u16

@@ -1,28 +1,21 @@
-//! Reading the header, the heads and the gates of the segments, and ranges of the file.
+//! Reading the header, the lengths and the gates of the segments, and ranges of the file.
 
 ghost use Rattle.std.specs.Prelude.{◌≡◌, ◌≤◌, ◌+◌, ◌-◌, ℕ, true, false, None, Some, Ok, Err, length, take, drop, slice_index, IfOk, IfErr, OnOk, OnErr, IsErrOf, IfSome};
 ghost use Rattle.dg_disk.specs.Counts.{Rose, raised_by};
 ghost use Rattle.dg_disk.specs.Frame.{OnlyReads, ReadsAndSyncs};
 ghost use Rattle.dg_disk.specs.Image.{HasRange, IsLengthOf};
-ghost use Rattle.dg_history.specs.declared.limits.TheConstants.{EVENTS_MAX, FILE_BYTES_MAX};
-ghost use Rattle.dg_graph.specs.declared.limits.TheConstants.{NAMES_MAX};
 ghost use Rattle.dg_history.specs.History.{are_parameters};
-ghost use Rattle.dg_history.specs.OpenedIndex.{opening, params_in, is_within, directory_at, may_follow};
-ghost use Rattle.dg_history.specs.LegalHistory.{is_blank};
-ghost use Rattle.dg_shape.specs.Entries.{total};
-ghost use Rattle.dg_file.specs.Heads.{lengths_at, fit_in, TakesSegment};
-ghost use Rattle.dg_file.specs.Headers.{IsFoundIn, IsFoundAt};
-ghost use Rattle.dg_file.specs.Held.{segment_in};
-ghost use Rattle.dg_file.specs.Images.{RefusesOpening, Misses, taken_after};
+ghost use Rattle.dg_index.specs.ImageText.{params_in, is_within};
+ghost use Rattle.dg_index.specs.OpenedIndex.{opening};
+ghost use Rattle.dg_file.specs.Directories.{lengths_at, fit_in};
+ghost use Rattle.dg_file.specs.Headers.{IsFoundIn, Misses};
+ghost use Rattle.dg_file.specs.Images.{RefusesOpening, taken_after};
 
-use crate::batch::Noted;
-use crate::directory::{Before, Untaken, read_directory};
 use crate::fault::{FetchFault, ReopenFault};
-use crate::head::{LENGTHS_BYTES, Lengths};
 use crate::header::{HEADER_BYTES, is_closed, params_of};
+use crate::lengths::{LENGTHS_BYTES, Lengths};
 use dg_disk::{Disk, Failed};
 use dg_history::Params;
-use dg_names::Names;
 use std::alloc::Global;
 
 /// What the header of an index says.
@@ -32,14 +25,6 @@ pub(crate) struct Found {
     // the bytes of the image
     pub len: u64,
     // the gate of the first segment
-    pub gate: u8,
-}
-
-/// A segment as it is found.
-#[derive(Clone, Copy)]
-pub(crate) struct FoundSegment {
-    pub noted: Noted,
-    // the gate behind it
     pub gate: u8,
 }
 
@@ -78,41 +63,45 @@ pub(crate) fn read_header<D: Disk>(disk: &mut D) -> Result<Found, ReopenFault>
     }
 }
 
-// Reads the two lengths with which the segment at the place begins, in an image of `len` bytes.
-// `ReopenFault::Damaged` where that segment and the gate behind it would not fit.
-fn read_lengths<D: Disk>(disk: &mut D, place: u64, len: u64) -> Result<Lengths, ReopenFault>
+/// Reads the two lengths with which the segment at the offset begins, in an image of `len` bytes.
+/// `ReopenFault::Damaged` where that segment and the gate behind it would not fit.
+pub(crate) fn read_lengths<D: Disk>(
+    disk: &mut D,
+    offset: u64,
+    len: u64,
+) -> Result<Lengths, ReopenFault>
     requires len { IsLengthOf (D.image disk.old) len }
-    requires within { place ≤ len }
-    ensures lengths { IfOk result (λ lengths. IfSome (D.image disk.old) (λ image. lengths ≡ lengths_at image place)) }
-    ensures fit { IfOk result (λ lengths. fit_in place len lengths ≡ true) }
+    requires within { offset ≤ len }
+    ensures lengths { IfOk result (λ lengths. IfSome (D.image disk.old) (λ image. lengths ≡ lengths_at image offset)) }
+    ensures fit { IfOk result (λ lengths. fit_in offset len lengths ≡ true) }
     ensures taken { OnOk result (D.taken disk.new ≡ raised_by 16 (D.taken disk.old)) }
 
     // errors
-    ensures refused { IfErr result (λ fault. IfSome (D.image disk.old) (λ image. Misses place (is_within image place ≡ false) fault)) }
-    ensures bounded { OnErr result (D.taken disk.new ≤ D.taken disk.old + (len - place)) }
+    ensures refused { IfErr result (λ fault. IfSome (D.image disk.old) (λ image. Misses offset (is_within image offset ≡ false) fault)) }
+    ensures bounded { OnErr result (D.taken disk.new ≤ D.taken disk.old + (len - offset)) }
     ensures cause { IsErrOf result ReopenFault.Disk → Rose (D.faults disk.old) (D.faults disk.new) }
 
     // frame
     ensures frame { OnlyReads D.image D.faults D.write_faults disk.old disk.new }
 {
-    if len - place <= LENGTHS_BYTES as u64 {
-        return Err(ReopenFault::Damaged(place));
+    if len - offset <= LENGTHS_BYTES as u64 {
+        return Err(ReopenFault::Damaged(offset));
     }
     let mut bytes = [0; LENGTHS_BYTES];
-    disk.read_at(place, &mut bytes)?;
+    disk.read_at(offset, &mut bytes)?;
     let lengths = Lengths::read(&bytes);
-    if lengths.fit_in(place, len) {
+    if lengths.fit_in(offset, len) {
         Ok(lengths)
     } else {
-        Err(ReopenFault::Damaged(place))
+        Err(ReopenFault::Damaged(offset))
     }
 }
 
-// Reads the byte at the place.
+/// Reads the byte at the offset.
 #[tactic(auto, using(crate::proofs::Found::found_byte))]
-fn read_byte<D: Disk>(disk: &mut D, place: u64) -> Result<u8, Failed>
-    requires { HasRange (D.image disk.old) place 1 }
-    ensures byte { IfOk result (λ byte. IfSome (D.image disk.old) (λ image. byte ≡ slice_index image place)) }
+pub(crate) fn read_byte<D: Disk>(disk: &mut D, offset: u64) -> Result<u8, Failed>
+    requires { HasRange (D.image disk.old) offset 1 }
+    ensures byte { IfOk result (λ byte. IfSome (D.image disk.old) (λ image. byte ≡ slice_index image offset)) }
     ensures taken { OnOk result (D.taken disk.new ≡ raised_by 1 (D.taken disk.old)) }
 
     // errors
@@ -123,58 +112,19 @@ fn read_byte<D: Disk>(disk: &mut D, place: u64) -> Result<u8, Failed>
     ensures frame { OnlyReads D.image D.faults D.write_faults disk.old disk.new }
 {
     let mut byte = [0];
-    disk.read_at(place, &mut byte)?;
+    disk.read_at(offset, &mut byte)?;
     Ok(byte[0])
-}
-
-/// Reads the two lengths and the directory of the segment at the place and the gate behind it, in an
-/// image of `len` bytes, and adds its names to those before it. `ReopenFault::Damaged` where no such
-/// segment stands there.
-pub(crate) fn read_segment<D: Disk>(
-    alloc: Global,
-    disk: &mut D,
-    place: u64,
-    len: u64,
-    before: Before,
-    names: &mut Names,
-) -> Result<FoundSegment, ReopenFault>
-    requires len { IsLengthOf (D.image disk.old) len }
-    requires within { place ≤ len }
-    requires events { before.events ≤ EVENTS_MAX }
-    ensures found { IfOk result (λ found. IfSome (D.image disk.old) (λ image. IsFoundAt before.events before.earliest names.old image place names.new found)) }
-    ensures takes { IfOk result (λ found. TakesSegment before.events before.earliest names.old place len names.new found.noted) }
-    ensures taken { IfOk result (λ found. D.taken disk.new ≡ raised_by (found.noted.place + 1 - place) (D.taken disk.old)) }
-
-    // errors
-    ensures bounded { OnErr result (D.taken disk.new ≤ D.taken disk.old + (len - place)) }
-    ensures refused { IfErr result (λ fault. IfSome (D.image disk.old) (λ image. Misses place (directory_at before.events names.old before.earliest image place ≡ None) fault)) }
-    ensures cause { IsErrOf result ReopenFault.Disk → Rose (D.faults disk.old) (D.faults disk.new) }
-
-    // frame
-    ensures frame { OnlyReads D.image D.faults D.write_faults disk.old disk.new }
-{
-    let lengths = read_lengths(disk, place, len)?;
-    let directory_place = place + LENGTHS_BYTES as u64;
-    let columns_place = directory_place + lengths.directory;
-    let text = read_range(alloc, disk, directory_place, lengths.directory)?;
-    let noted = match read_directory(&text, before, lengths.columns, columns_place, names) {
-        Ok(noted) => noted,
-        Err(Untaken::Broken) => return Err(ReopenFault::Damaged(place)),
-        Err(Untaken::Memory) => return Err(ReopenFault::Memory),
-    };
-    let gate = read_byte(disk, columns_place + lengths.columns)?;
-    Ok(FoundSegment { noted, gate })
 }
 
 /// The bytes of a range of the image, in memory from `alloc`. Reads nothing where the range is empty.
 pub(crate) fn read_range<D: Disk>(
     alloc: Global,
     disk: &mut D,
-    place: u64,
+    offset: u64,
     len: u64,
 ) -> Result<Vec<u8>, FetchFault>
-    requires { HasRange (D.image disk.old) place len }
-    ensures bytes { IfOk result (λ bytes. IfSome (D.image disk.old) (λ image. bytes.items ≡ take len (drop place image))) }
+    requires { HasRange (D.image disk.old) offset len }
+    ensures bytes { IfOk result (λ bytes. IfSome (D.image disk.old) (λ image. bytes.items ≡ take len (drop offset image))) }
     ensures len { IfOk result (λ bytes. length bytes.items ≡ len) }
     ensures taken { OnOk result (D.taken disk.new ≡ taken_after len (D.taken disk.old)) }
 
@@ -189,6 +139,6 @@ pub(crate) fn read_range<D: Disk>(
         return Ok(Vec::new(alloc));
     }
     let mut bytes = vec![in alloc; 0; len as usize]?;
-    disk.read_at(place, &mut bytes)?;
+    disk.read_at(offset, &mut bytes)?;
     Ok(bytes)
 }

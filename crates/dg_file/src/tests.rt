@@ -1,19 +1,20 @@
-ghost use Rattle.std.specs.Prelude.{◌≡◌, ◌≤◌, ◌∷◌, [], length, true, Ok, IfOk, OnOk, IsSome, slice_get};
-ghost use Rattle.dg_graph.specs.declared.limits.TheConstants.{NAME_BYTES_MAX};
+ghost use Rattle.std.specs.Prelude.{◌≡◌, ◌≤◌, [], length, true, Ok, IfOk, OnOk, is_some};
+ghost use Rattle.std.specs.Map.{lookup};
 ghost use Rattle.dg_disk.specs.Memory.{image_of};
-ghost use Rattle.dg_history.specs.History.{empty_history};
-ghost use Rattle.dg_history.specs.LegalHistory.{is_blank};
 ghost use Rattle.dg_graph.specs.Names.{are_new};
-ghost use Rattle.dg_history.specs.OpenedIndex.{opening, opening_of};
+ghost use Rattle.dg_history.specs.History.{empty_history};
+ghost use Rattle.dg_index.specs.ImageOfHistory.{is_blank};
+ghost use Rattle.dg_index.specs.IndexGrowth.{IsDue};
+ghost use Rattle.dg_index.specs.OpenedIndex.{opened_of, opening};
 ghost use Rattle.dg_file.specs.Images.{IsOpenedAs};
-ghost use Rattle.dg_file.specs.Index.{NewSegment, IsDue};
 
-use crate::{Batch, CommitFault, CreateFault, Index, ReopenFault, Segment};
+use crate::{CommitFault, CreateFault, Index, ReopenFault, law_batches_are_measured};
 use dg_disk::MemoryDisk;
 use dg_graph::{Column, Function};
 use dg_history::{FILE_BYTES_MAX, Key, Params};
+use dg_index::{BatchEntry, Ends, Entry};
 use dg_names::Names;
-use dg_shape::Ends;
+use dg_segment::Segment;
 use std::alloc::{AllocError, Global};
 use std::process::Abort;
 use std::test::Fail;
@@ -25,22 +26,73 @@ const MANY: usize = 1000;
 // gate open and the gate behind it closed.
 const HEADER: [u8; 18] = [1, 68, 71, 82, 65, 80, 72, 49, 0, 0, 0, 2, 0, 0, 0, 2, 1, 0];
 
-// Three events of structure: a node 1 at 10, a node 2 at 20, and a directed edge 5 from 1 to 2 at 30.
-const STRUCTURE: [u8; 78] = [
-    0, 0, 0, 3, // events
-    0, 0, 0, 0, 0, 0, 0, 0, 0, 10, 1, 0, 0, 0, 0, 0, 0, 0, 1, //
-    0, 1, 0, 0, 0, 0, 0, 0, 0, 20, 1, 0, 0, 0, 0, 0, 0, 0, 2, //
-    0, 2, 0, 0, 0, 0, 0, 0, 0, 30, 3, 0, 0, 0, 0, 0, 0, 0, 5, 0, 0, 0, 0, 0, 0, 0, 1, 0, 0, 0, 0,
-    0, 0, 0, 2, 1,
+const PARAMS: Params = Params {
+    l: 2,
+    k: 2,
+    function: Function::Intersection,
+};
+
+// The lengths and the directory of a batch of five events from 10 to 50 with the names `name` and `A`,
+// which closes two lists and gives three deltas.
+const HEAD: [u8; 237] = [
+    0, 0, 0, 0, 0, 0, 0, 221, 0, 0, 0, 0, 0, 0, 0, 240, // directory and columns
+    0, 0, 0, 0, 0, 0, 0, 5, 0, 0, 0, 0, 0, 0, 0, 10, 0, 0, 0, 0, 0, 0, 0, 50, // events and times
+    0, 0, 0, 2, 0, 4, 110, 97, 109, 101, 0, 1, 65, // names
+    0, 0, 0, 2, // lists, the first of them from 10 to 20, the second from 30 to 40
+    0, 0, 0, 0, 0, 0, 0, 10, 0, 0, 0, 0, 0, 0, 0, 20, //
+    0, 0, 0, 0, 0, 0, 0, 42, 0, 0, 0, 0, 0, 0, 0, 0, 0, 0, 0, 0, 0, 0, 0, 0, //
+    0, 0, 0, 0, 0, 0, 0, 30, 0, 0, 0, 0, 0, 0, 0, 40, //
+    0, 0, 0, 0, 0, 0, 0, 40, 0, 0, 0, 0, 0, 0, 0, 34, 0, 0, 0, 0, 0, 0, 0, 0, //
+    0, 0, 0, 3, // deltas
+    0, 0, 0, 0, 0, 0, 0, 26, 0, 0, 0, 0, 0, 0, 0, 0, 0, 0, 0, 0, 0, 0, 0, 0, //
+    0, 0, 0, 0, 0, 0, 0, 0, 0, 0, 0, 0, 0, 0, 0, 0, 0, 0, 0, 0, 0, 0, 0, 0, //
+    0, 0, 0, 0, 0, 0, 0, 34, 0, 0, 0, 0, 0, 0, 0, 24, 0, 0, 0, 0, 0, 0, 0, 0, //
+    0, 0, 0, 0, 0, 0, 0, 40, 0, 0, 0, 0, 0, 0, 0, 0, 0, 0, 0, 0, 0, 0, 0, 0, // piece
 ];
 
-// The lengths and the directory of that batch.
-const HEAD: [u8; 76] = [
-    0, 0, 0, 0, 0, 0, 0, 60, 0, 0, 0, 0, 0, 0, 0, 78, // directory and columns
-    0, 0, 0, 0, 0, 0, 0, 3, 0, 0, 0, 0, 0, 0, 0, 10, 0, 0, 0, 0, 0, 0, 0, 30, // events and times
-    0, 0, 0, 0, 0, 0, 0, 0, 0, 0, 0, 0, // names, lists and deltas
-    0, 0, 0, 0, 0, 0, 0, 78, 0, 0, 0, 0, 0, 0, 0, 0, 0, 0, 0, 0, 0, 0, 0, 0,
+// Its columns: two nodes are added in the first list, an edge between them and an attribute of the first
+// node in the second; the edge is removed in the piece.
+const NODES_ADDED: [u8; 42] = [
+    0, 0, 0, 2, //
+    0, 0, 0, 0, 0, 0, 0, 0, 0, 10, 1, 0, 0, 0, 0, 0, 0, 0, 1, //
+    0, 1, 0, 0, 0, 0, 0, 0, 0, 20, 1, 0, 0, 0, 0, 0, 0, 0, 2,
 ];
+
+const EDGE_ADDED: [u8; 40] = [
+    0, 0, 0, 1, 0, 0, 0, 0, 0, 0, 0, 0, 0, 30, 3, 0, 0, 0, 0, 0, 0, 0, 5, 0, 0, 0, 0, 0, 0, 0, 1,
+    0, 0, 0, 0, 0, 0, 0, 2, 1,
+];
+
+const ATTRIBUTE_SET: [u8; 34] = [
+    0, 0, 0, 1, 0, 1, 0, 0, 0, 0, 0, 0, 0, 40, 0, 0, 0, 0, 0, 0, 0, 1, 0, 0, 0, 0, 0, 0, 0, 0, 0,
+    0, 0, 2,
+];
+
+const BOTH_NODES: [u8; 26] = [
+    0, 0, 0, 0, 0, 0, 0, 2, 1, 0, 0, 0, 0, 0, 0, 0, 1, 1, 0, 0, 0, 0, 0, 0, 0, 2,
+];
+
+const EDGE_BETWEEN: [u8; 34] = [
+    0, 0, 0, 0, 0, 0, 0, 1, 2, 0, 0, 0, 0, 0, 0, 0, 5, 0, 0, 0, 0, 0, 0, 0, 1, 0, 0, 0, 0, 0, 0, 0,
+    2, 1,
+];
+
+const ATTRIBUTE_HELD: [u8; 24] = [
+    0, 0, 0, 0, 0, 0, 0, 1, 0, 0, 0, 0, 0, 0, 0, 1, 0, 0, 0, 0, 0, 0, 0, 1,
+];
+
+const EDGE_REMOVED: [u8; 40] = [
+    0, 0, 0, 1, 0, 0, 0, 0, 0, 0, 0, 0, 0, 50, 4, 0, 0, 0, 0, 0, 0, 0, 5, 0, 0, 0, 0, 0, 0, 0, 1,
+    0, 0, 0, 0, 0, 0, 0, 2, 1,
+];
+
+// The bytes of the file with the batch, and of its columns.
+const FILE_BYTES: u64 = 496;
+
+const COLUMN_BYTES: u64 = 240;
+
+// The header of an index with a leaf list size of 8.
+const WIDE_HEADER: [u8; 17] = [1, 68, 71, 82, 65, 80, 72, 49, 0, 0, 0, 8, 0, 0, 0, 2, 1];
 
 // The lengths and the directory of a batch of one event at 10 with the names `a` and `b` and with two
 // bytes of attributes of nodes.
@@ -61,66 +113,78 @@ const LATER_HEAD: [u8; 79] = [
     0, 0, 0, 0, 0, 0, 0, 0, 0, 0, 0, 0, 0, 0, 0, 0, 0, 0, 0, 0, 0, 0, 0, 0,
 ];
 
-const PARAMS: Params = Params {
-    l: 2,
-    k: 2,
-    function: Function::Intersection,
-};
-
-fn three_events(alloc: Global) -> Result<Segment, AllocError>
-    ensures events { IfOk result (λ s. s.events ≡ 3) }
-    ensures first { IfOk result (λ s. s.first ≡ 10) }
-    ensures last { IfOk result (λ s. s.last ≡ 30) }
-    ensures names { IfOk result (λ s. s.names ≡ []) }
+// The batch of five events.
+fn five_events(alloc: Global) -> Result<Segment, AllocError>
+    ensures due { IfOk result (IsDue (opened_of (empty_history PARAMS)).index) }
+    ensures new { IfOk result (λ s. are_new [] s.names ≡ true) }
 {
-    let mut segment = Segment::new(alloc, 3, 10, 30);
-    let structure = Vec::from_slice(alloc, &STRUCTURE)?;
-    segment.set_piece(structure, Vec::new(alloc), Vec::new(alloc))?;
+    let mut segment = Segment::new(alloc, 5, 10, 50);
+    segment.add_name(b"name")?;
+    segment.add_name(b"A")?;
+    segment.add_list(10, 20, &NODES_ADDED, &[], &[])?;
+    segment.add_list(30, 40, &EDGE_ADDED, &ATTRIBUTE_SET, &[])?;
+    segment.add_delta(&BOTH_NODES, &[], &[])?;
+    segment.add_delta(&[], &[], &[])?;
+    segment.add_delta(&EDGE_BETWEEN, &ATTRIBUTE_HELD, &[])?;
+    segment.set_piece(&EDGE_REMOVED, &[], &[])?;
     Ok(segment)
 }
 
-// An index without a batch on a disk that has none, with room for one.
-fn new_index(alloc: Global, disk: &mut MemoryDisk) -> Result<Index, &'static str>
-    requires { is_blank (image_of disk.old) ≡ true }
-    ensures opened { IfOk result (λ index. opening (image_of disk.new) ≡ Ok (record { index = index.opening; names = [] })) }
-    ensures empty { IfOk result (λ index. index.opening ≡ opening_of (empty_history PARAMS)) }
-    ensures room { IfOk result (λ index. 1 ≤ index.room) }
-{
-    let Ok(mut index) = Index::create(alloc, disk, PARAMS) else {
-        return Err("not made");
-    };
-    match index.make_room(&Segment::new(alloc, 3, 10, 30)) {
-        Ok(()) => Ok(index),
-        Err(_) => Err("no room"),
-    }
-}
-
-// Adds the first batch to an index without one, for a file that may have so many bytes.
-fn add_first(
-    index: &mut Index,
-    disk: &mut MemoryDisk,
-    segment: Segment,
-    limit: u64,
-) -> Result<(), CommitFault>
-    requires opened { opening (image_of disk.old) ≡ Ok (record { index = index.old.opening; names = [] }) }
-    requires room { 1 ≤ index.old.room }
-    requires due { IsDue index.old.opening segment }
-    requires named { are_new [] segment.names ≡ true }
-    requires limit { limit ≤ FILE_BYTES_MAX }
-    ensures opened { OnOk result (IsOpenedAs (image_of disk.new) index.new.opening) }
-    ensures held { OnOk result (IsSome (slice_get index.new.opening.segments 0)) }
-{
-    index.commit(disk, segment, limit)
-}
-
-// The file with the three events, with a closed gate behind them.
-fn file_of_three(alloc: Global) -> Result<Vec<u8>, AllocError> {
+// The file with the five events, with a closed gate behind them.
+fn file_of_five(alloc: Global) -> Result<Vec<u8>, AllocError> {
     let mut file = Vec::from_slice(alloc, &HEADER[..17])?;
     file.push(1)?;
     file.extend_from_slice(&HEAD)?;
-    file.extend_from_slice(&STRUCTURE)?;
+    file.extend_from_slice(&NODES_ADDED)?;
+    file.extend_from_slice(&EDGE_ADDED)?;
+    file.extend_from_slice(&ATTRIBUTE_SET)?;
+    file.extend_from_slice(&BOTH_NODES)?;
+    file.extend_from_slice(&EDGE_BETWEEN)?;
+    file.extend_from_slice(&ATTRIBUTE_HELD)?;
+    file.extend_from_slice(&EDGE_REMOVED)?;
     file.push(0)?;
     Ok(file)
+}
+
+// An index without a batch on a disk that has none.
+fn new_index(alloc: Global, disk: &mut MemoryDisk) -> Result<Index, &'static str>
+    requires { is_blank (image_of disk.old) ≡ true }
+    ensures opened { IfOk result (λ index. opening (image_of disk.new) ≡ Ok (record { index = index.opening; names = [] })) }
+    ensures empty { IfOk result (λ index. index.opening ≡ (opened_of (empty_history PARAMS)).index) }
+{
+    match Index::create(alloc, disk, PARAMS) {
+        Ok(index) => Ok(index),
+        Err(_) => Err("not made"),
+    }
+}
+
+// Adds the five events to an index without a batch, for a file that may have so many bytes.
+fn add_five(
+    alloc: Global,
+    index: &mut Index,
+    disk: &mut MemoryDisk,
+    limit: u64,
+) -> Result<Result<(), CommitFault>, AllocError>
+    requires opened { opening (image_of disk.old) ≡ Ok (record { index = index.old.opening; names = [] }) }
+    requires empty { index.old.opening ≡ (opened_of (empty_history PARAMS)).index }
+    requires limit { limit ≤ FILE_BYTES_MAX }
+    ensures opened { IfOk result (λ added. OnOk added (IsOpenedAs (image_of disk.new) index.new.opening)) }
+{
+    let segment = five_events(alloc)?;
+    let prepared = index.prepare(segment)?;
+    Ok(index.commit(disk, prepared, limit))
+}
+
+// An index with the five events on a disk that has none.
+fn index_of_five(alloc: Global, disk: &mut MemoryDisk) -> Result<Index, Fail>
+    requires { is_blank (image_of disk.old) ≡ true }
+    ensures { IfOk result (λ index. IsOpenedAs (image_of disk.new) index.opening) }
+{
+    let mut index = new_index(alloc, disk)?;
+    match add_five(alloc, &mut index, disk, FILE_BYTES)? {
+        Ok(()) => Ok(index),
+        Err(_) => Err("not added".into()),
+    }
 }
 
 // An index is made over what the disk has, and reopened.
@@ -138,10 +202,12 @@ fn make_and_reopen(rt: &impl Abort, alloc: Global, old: &[u8]) -> Result<(), Fai
             assert_eq!(rt; index.used(), 18);
             assert_eq!(rt; index.params(), PARAMS);
             assert_eq!(rt; index.batch(0), None);
-            assert_eq!(rt; index.catalogue().span(), None);
+            assert_eq!(rt; index.last_time(), None);
+            assert_eq!(rt; index.last_list(), 0);
         }
         Err(fault) => assert_eq!(rt; Some(fault), None),
     }
+    law_batches_are_measured();
     Ok(())
 }
 
@@ -153,34 +219,53 @@ fn an_index_is_made_and_reopened(rt: HostRuntime) -> Result<(), Fail> {
     make_and_reopen(&rt, rt.alloc(), &[9; 18])
 }
 
-// What an index with the three events tells.
-fn tells_three(rt: &impl Abort, index: &Index) {
-    let batch = Batch {
-        events: 3,
+// What an index with the five events tells of its batch.
+fn tells_batch(rt: &impl Abort, index: &Index) {
+    let batch = BatchEntry {
+        events: 5,
         ends: Ends {
             first: 10,
-            last: 30,
+            last: 50,
         },
-        names: 0,
+        names: 2,
     };
-    assert_eq!(rt; index.used(), 173);
+    assert_eq!(rt; index.params(), PARAMS);
+    assert_eq!(rt; index.used(), FILE_BYTES);
+    assert_eq!(rt; index.events_len(), 5);
+    assert_eq!(rt; index.names_len(), 2);
     assert_eq!(rt; index.batch(0), Some(batch));
     assert_eq!(rt; index.batch(1), None);
-    assert_eq!(rt; index.catalogue().span(), Some(batch.ends));
-    let place = index.catalogue().place(Key::Piece(0), Column::Structure);
-    assert_eq!(rt; place, Some(94));
+    assert_eq!(rt; index.last_time(), Some(50));
+    assert_eq!(rt; index.last_list(), 40);
+    index.facts();
 }
 
-// An index with the three events on a disk that has none.
-fn index_of_three(alloc: Global, disk: &mut MemoryDisk) -> Result<Index, Fail>
-    requires { is_blank (image_of disk.old) ≡ true }
-    ensures opened { IfOk result (λ index. IsOpenedAs (image_of disk.new) index.opening) }
-    ensures held { IfOk result (λ index. IsSome (slice_get index.opening.segments 0)) }
-{
-    let mut index = new_index(alloc, disk)?;
-    match add_first(&mut index, disk, three_events(alloc)?, 173) {
-        Ok(()) => Ok(index),
-        Err(_) => Err("not added".into()),
+// What it tells of each record.
+fn tells_records(rt: &impl Abort, index: &Index) {
+    let rows = [
+        (Key::List(0), [42, 0, 0], 255, Some((10, 20))),
+        (Key::List(1), [40, 34, 0], 297, Some((30, 40))),
+        (Key::Top(1), [26, 0, 0], 371, None),
+        (Key::Down(1, 1), [0, 0, 0], 397, None),
+        (Key::Down(1, 2), [34, 24, 0], 397, None),
+        (Key::Piece(0), [40, 0, 0], 455, None),
+    ];
+    assert_eq!(rt; index.catalogue().len(), 6);
+    for (key, lengths, offset, times) in rows {
+        let ends = match times {
+            Some((first, last)) => Some(Ends { first, last }),
+            None => None,
+        };
+        let entry = Entry {
+            lengths,
+            offset,
+            ends,
+        };
+        assert_eq!(rt; index.entry(key), Some(entry));
+        assert_eq!(rt; index.catalogue().entry(key), Some(entry));
+    }
+    for key in [Key::List(2), Key::Top(2), Key::Down(1, 3), Key::Piece(1)] {
+        assert_eq!(rt; index.entry(key), None);
     }
 }
 
@@ -188,23 +273,40 @@ fn index_of_three(alloc: Global, disk: &mut MemoryDisk) -> Result<Index, Fail>
 fn a_batch_is_added_and_reopened(rt: HostRuntime) -> Result<(), Fail> {
     let alloc = rt.alloc();
     let mut disk = MemoryDisk::new(alloc, &[], MANY, MANY, &[])?;
-    let index = index_of_three(alloc, &mut disk)?;
-    tells_three(&rt, &index);
-    assert_eq!(rt; disk.image(), file_of_three(alloc)?.as_slice());
-    match Index::reopen(alloc, &mut disk, &mut Names::new(alloc)) {
-        Ok(again) => tells_three(&rt, &again),
+    let index = index_of_five(alloc, &mut disk)?;
+    tells_batch(&rt, &index);
+    tells_records(&rt, &index);
+    assert_eq!(rt; disk.image(), file_of_five(alloc)?.as_slice());
+    let mut names = Names::new(alloc);
+    match Index::reopen(alloc, &mut disk, &mut names) {
+        Ok(again) => {
+            tells_batch(&rt, &again);
+            tells_records(&rt, &again);
+        }
         Err(fault) => assert_eq!(rt; Some(fault), None),
     }
-    // the header with the first gate, the head of the segment, and the gate behind it
-    assert_eq!(rt; disk.taken(), 18 + 76 + 1);
+    assert_eq!(rt; names.len(), 2);
+    assert_eq!(rt; names.text(0), Some(b"name".as_slice()));
+    assert_eq!(rt; names.text(1), Some(b"A".as_slice()));
+    // all but the columns
+    assert_eq!(rt; disk.taken(), FILE_BYTES - COLUMN_BYTES);
     Ok(())
 }
 
-// A column of the three events is read, and nothing else.
-fn read_of_three(rt: &impl Abort, alloc: Global, col: Column, wanted: &[u8]) -> Result<(), Fail> {
+// A column of a record is read, and nothing else.
+fn reads_column(
+    rt: &impl Abort,
+    alloc: Global,
+    key: Key,
+    col: Column,
+    wanted: &[u8],
+) -> Result<(), Fail> {
     let mut disk = MemoryDisk::new(alloc, &[], MANY, MANY, &[])?;
-    let mut index = index_of_three(alloc, &mut disk)?;
-    match index.fetch(&mut disk, Key::Piece(0), col) {
+    let mut index = index_of_five(alloc, &mut disk)?;
+    if index.entry(key).is_none() {
+        return Err("not held".into());
+    }
+    match index.fetch(&mut disk, key, col) {
         Ok(bytes) => assert_eq!(rt; bytes.as_slice(), wanted),
         Err(fault) => assert_eq!(rt; Some(fault), None),
     }
@@ -214,9 +316,27 @@ fn read_of_three(rt: &impl Abort, alloc: Global, col: Column, wanted: &[u8]) -> 
 
 #[test]
 fn each_column_is_read(rt: HostRuntime) -> Result<(), Fail> {
-    read_of_three(&rt, rt.alloc(), Column::Structure, &STRUCTURE)?;
-    read_of_three(&rt, rt.alloc(), Column::NodeAttr, &[])?;
-    read_of_three(&rt, rt.alloc(), Column::EdgeAttr, &[])
+    let none: &[u8] = &[];
+    let rows = [
+        (Key::List(0), [NODES_ADDED.as_slice(), none, none]),
+        (
+            Key::List(1),
+            [EDGE_ADDED.as_slice(), ATTRIBUTE_SET.as_slice(), none],
+        ),
+        (Key::Top(1), [BOTH_NODES.as_slice(), none, none]),
+        (Key::Down(1, 1), [none, none, none]),
+        (
+            Key::Down(1, 2),
+            [EDGE_BETWEEN.as_slice(), ATTRIBUTE_HELD.as_slice(), none],
+        ),
+        (Key::Piece(0), [EDGE_REMOVED.as_slice(), none, none]),
+    ];
+    for (key, [structure, node_attrs, edge_attrs]) in rows {
+        reads_column(&rt, rt.alloc(), key, Column::Structure, structure)?;
+        reads_column(&rt, rt.alloc(), key, Column::NodeAttr, node_attrs)?;
+        reads_column(&rt, rt.alloc(), key, Column::EdgeAttr, edge_attrs)?;
+    }
+    Ok(())
 }
 
 #[test]
@@ -224,127 +344,93 @@ fn a_full_file_is_left_as_it_is(rt: HostRuntime) -> Result<(), Fail> {
     let alloc = rt.alloc();
     let mut disk = MemoryDisk::new(alloc, &[], MANY, MANY, &[])?;
     let mut index = new_index(alloc, &mut disk)?;
-    let full = add_first(&mut index, &mut disk, three_events(alloc)?, 172);
-    assert_eq!(rt; full, Err(CommitFault::FileFull(173)));
+    let full = add_five(alloc, &mut index, &mut disk, FILE_BYTES - 1)?;
+    assert_eq!(rt; full, Err(CommitFault::FileFull(FILE_BYTES)));
     assert_eq!(rt; disk.image(), HEADER.as_slice());
     assert_eq!(rt; index.used(), 18);
     Ok(())
 }
 
+// The fault with which the image is not reopened.
+fn fault_of(alloc: Global, image: &[u8]) -> Result<Option<ReopenFault>, Fail> {
+    let mut disk = MemoryDisk::new(alloc, image, MANY, MANY, &[])?;
+    Ok(Index::reopen(alloc, &mut disk, &mut Names::new(alloc)).err())
+}
+
 #[test]
 fn images_are_refused(rt: HostRuntime) -> Result<(), Fail> {
     let alloc = rt.alloc();
-    let file = file_of_three(alloc)?;
-    // a place of the file, the byte that it has in place of its own, the bytes that are kept, and the
+    let file = file_of_five(alloc)?;
+    let damaged = Some(ReopenFault::Damaged(18));
+    // an offset of the file, the byte that it has in place of its own, the bytes that are kept, and the
     // fault
     let cases = [
+        // no header, and none of ours
         (0, 1, 17, Some(ReopenFault::Blank)),
         (0, 0, 18, Some(ReopenFault::Blank)),
-        (0, 68, 173, Some(ReopenFault::Foreign)),
-        (1, 88, 173, Some(ReopenFault::Foreign)),
-        (16, 4, 173, Some(ReopenFault::Foreign)),
-        (0, 1, 172, Some(ReopenFault::Damaged(18))),
-        (0, 1, 20, Some(ReopenFault::Damaged(18))),
-        (25, 61, 173, Some(ReopenFault::Damaged(18))),
-        (18, 255, 173, Some(ReopenFault::Damaged(18))),
-        (26, 255, 173, Some(ReopenFault::Damaged(18))),
-        (33, 77, 173, Some(ReopenFault::Damaged(18))),
-        (41, 0, 173, Some(ReopenFault::Damaged(18))),
-        (49, 31, 173, Some(ReopenFault::Damaged(18))),
-        (61, 1, 173, Some(ReopenFault::Damaged(18))),
-        (17, 7, 173, None),
-        (172, 1, 173, Some(ReopenFault::Damaged(173))),
-        (172, 9, 173, None),
+        (0, 68, 496, Some(ReopenFault::Foreign)),
+        (1, 88, 496, Some(ReopenFault::Foreign)),
+        (16, 4, 496, Some(ReopenFault::Foreign)),
+        // a file that ends too early
+        (0, 1, 495, damaged),
+        (0, 1, 20, damaged),
+        // the length of the directory, one more and one less, and that of the columns
+        (25, 222, 496, damaged),
+        (25, 220, 496, damaged),
+        (18, 255, 496, damaged),
+        (26, 255, 496, damaged),
+        (33, 239, 496, damaged),
+        // no event, and one with which a third list is due
+        (41, 0, 496, damaged),
+        (41, 6, 496, damaged),
+        // the batch begins after it ends, ends before a list does, begins after one begins
+        (49, 51, 496, damaged),
+        (57, 39, 496, damaged),
+        (49, 11, 496, damaged),
+        // fewer names
+        (61, 1, 496, damaged),
+        // the number of lists and of deltas
+        (74, 1, 496, damaged),
+        (74, 3, 496, damaged),
+        (158, 2, 496, damaged),
+        (158, 4, 496, damaged),
+        // a list that begins too early, lists that overlap, one that ends too late
+        (82, 9, 496, damaged),
+        (90, 31, 496, damaged),
+        (130, 51, 496, damaged),
+        // lengths that do not come to that of the columns
+        (98, 41, 496, damaged),
+        (166, 27, 496, damaged),
+        (238, 39, 496, damaged),
+        // a gate that is closed by another byte
+        (17, 7, 496, None),
+        (495, 1, 496, Some(ReopenFault::Damaged(496))),
+        (495, 9, 496, None),
     ];
-    for (place, byte, kept, wanted) in cases {
+    for (offset, byte, kept, wanted) in cases {
         let mut image = Vec::from_slice(alloc, &file)?;
-        if let Some(slot) = image.get_mut(place) {
+        if let Some(slot) = image.get_mut(offset) {
             *slot = byte;
         }
         image.truncate(kept);
-        let mut disk = MemoryDisk::new(alloc, &image, MANY, MANY, &[])?;
-        match Index::reopen(alloc, &mut disk, &mut Names::new(alloc)) {
-            Ok(_) => assert_eq!(rt; wanted, None),
-            Err(fault) => assert_eq!(rt; wanted, Some(fault)),
-        }
+        assert_eq!(rt; fault_of(alloc, &image)?, wanted, "{byte} at {offset}");
     }
     Ok(())
 }
 
-// The batch of one event with these two names.
-fn two_names(alloc: Global, first: &[u8], second: &[u8]) -> Result<Segment, AllocError>
-    requires first { length first.now ≤ NAME_BYTES_MAX }
-    requires second { length second.now ≤ NAME_BYTES_MAX }
-    ensures events { IfOk result (λ s. s.events ≡ 1) }
-    ensures first { IfOk result (λ s. s.first ≡ 10) }
-    ensures last { IfOk result (λ s. s.last ≡ 10) }
-    ensures names { IfOk result (λ s. s.names ≡ first.now ∷ second.now ∷ []) }
-{
-    let mut segment = Segment::new(alloc, 1, 10, 10);
-    segment.add_name(first)?;
-    segment.add_name(second)?;
-    let node_attrs = Vec::from_slice(alloc, &[5, 6])?;
-    segment.set_piece(Vec::new(alloc), node_attrs, Vec::new(alloc))?;
-    Ok(segment)
-}
-
-// The file with the names, and with a later batch where that is wanted.
-fn file_of_names(alloc: Global, has_later: bool) -> Result<Vec<u8>, AllocError> {
-    let mut file = Vec::from_slice(alloc, &HEADER[..17])?;
+// A file with names, with two batches.
+fn file_of_names(alloc: Global) -> Result<Vec<u8>, AllocError> {
+    let mut file = Vec::from_slice(alloc, &WIDE_HEADER)?;
     file.push(1)?;
     file.extend_from_slice(&NAMED_HEAD)?;
     file.extend_from_slice(&[5, 6])?;
-    if has_later {
-        file.push(1)?;
-        file.extend_from_slice(&LATER_HEAD)?;
-    }
+    file.push(1)?;
+    file.extend_from_slice(&LATER_HEAD)?;
     file.push(0)?;
     Ok(file)
 }
 
-#[test]
-fn a_batch_brings_names(rt: HostRuntime) -> Result<(), Fail> {
-    let alloc = rt.alloc();
-    let mut disk = MemoryDisk::new(alloc, &[], MANY, MANY, &[])?;
-    let mut index = new_index(alloc, &mut disk)?;
-    let segment = two_names(alloc, &[97], &[98])?;
-    let added = add_first(&mut index, &mut disk, segment, 103);
-    assert_eq!(rt; added, Ok(()));
-    assert_eq!(rt; index.names_len(), 2);
-    let place = index.catalogue().place(Key::Piece(0), Column::NodeAttr);
-    assert_eq!(rt; place, Some(100));
-    assert_eq!(rt; disk.image(), file_of_names(alloc, false)?.as_slice());
-    Ok(())
-}
-
-// A batch with these two names is added, and the index is reopened.
-fn names_come_back(rt: &impl Abort, alloc: Global, first: &[u8], second: &[u8]) -> Result<(), Fail>
-    requires first { length first.now ≤ NAME_BYTES_MAX }
-    requires second { length second.now ≤ NAME_BYTES_MAX }
-    requires new { are_new [] (first.now ∷ second.now ∷ []) ≡ true }
-{
-    let mut disk = MemoryDisk::new(alloc, &[], MANY, MANY, &[])?;
-    let mut index = new_index(alloc, &mut disk)?;
-    let segment = two_names(alloc, first, second)?;
-    let added = add_first(&mut index, &mut disk, segment, FILE_BYTES_MAX);
-    assert_eq!(rt; added, Ok(()));
-    let mut names = Names::new(alloc);
-    let again = Index::reopen(alloc, &mut disk, &mut names);
-    assert_eq!(rt; again.err(), None);
-    assert_eq!(rt; names.len(), 2);
-    assert_eq!(rt; names.text(0), Some(first));
-    assert_eq!(rt; names.text(1), Some(second));
-    Ok(())
-}
-
-#[test]
-fn names_come_back_in_order(rt: HostRuntime) -> Result<(), Fail> {
-    names_come_back(&rt, rt.alloc(), &[98], &[97])?;
-    // the empty name, and one that is no text
-    names_come_back(&rt, rt.alloc(), &[], &[255])
-}
-
-// The names of the file with a later batch, in order.
+// The names of that file, in order.
 fn tells_names(rt: &impl Abort, names: &Names, last: &[u8]) {
     assert_eq!(rt; names.len(), 3);
     assert_eq!(rt; names.text(0), Some(b"a".as_slice()));
@@ -352,17 +438,17 @@ fn tells_names(rt: &impl Abort, names: &Names, last: &[u8]) {
     assert_eq!(rt; names.text(2), Some(last));
 }
 
-// The file is reopened where the byte is at the place. The fault, or `None` where the names come back
+// The file is reopened where the byte is at the offset. The fault, or `None` where the names come back
 // with this last one.
 fn reopened_with(
     rt: &impl Abort,
     alloc: Global,
-    place: usize,
+    offset: usize,
     byte: u8,
     last: &[u8],
 ) -> Result<Option<ReopenFault>, Fail> {
-    let mut image = file_of_names(alloc, true)?;
-    if let Some(slot) = image.get_mut(place) {
+    let mut image = file_of_names(alloc)?;
+    if let Some(slot) = image.get_mut(offset) {
         *slot = byte;
     }
     let mut disk = MemoryDisk::new(alloc, &image, MANY, MANY, &[])?;
@@ -370,6 +456,8 @@ fn reopened_with(
     match Index::reopen(alloc, &mut disk, &mut names) {
         Ok(index) => {
             assert_eq!(rt; index.names_len(), 3);
+            assert_eq!(rt; index.last_time(), Some(11));
+            assert_eq!(rt; index.last_list(), 0);
             tells_names(rt, &names, last);
             // all of the file but the two bytes of the column
             assert_eq!(rt; disk.taken(), image.len() as u64 - 2);
@@ -384,7 +472,9 @@ fn names_are_reopened(rt: HostRuntime) -> Result<(), Fail> {
     let alloc = rt.alloc();
     assert_eq!(rt; reopened_with(&rt, alloc, 17, 1, &[99])?, None);
     assert_eq!(rt; reopened_with(&rt, alloc, 149, 100, &[100])?, None);
-    // a place of the file, the byte that it has in place of its own, and the place of the fault
+    // one that is no text
+    assert_eq!(rt; reopened_with(&rt, alloc, 149, 255, &[255])?, None);
+    // an offset of the file, the byte that it has in place of its own, and the offset of the fault
     let cases = [
         // a name twice in a batch, and in two of them
         (67, 97, 18),
@@ -400,10 +490,12 @@ fn names_are_reopened(rt: HostRuntime) -> Result<(), Fail> {
         (62, 1, 18),
         // an empty name, and then what is no length of one
         (63, 0, 18),
+        // a batch that begins when the one before it ended
+        (134, 10, 103),
     ];
-    for (place, byte, damaged) in cases {
-        let fault = reopened_with(&rt, alloc, place, byte, &[])?;
-        assert_eq!(rt; fault, Some(ReopenFault::Damaged(damaged)), "at {place}");
+    for (offset, byte, damaged) in cases {
+        let fault = reopened_with(&rt, alloc, offset, byte, &[])?;
+        assert_eq!(rt; fault, Some(ReopenFault::Damaged(damaged)), "at {offset}");
     }
     Ok(())
 }
@@ -412,7 +504,7 @@ fn names_are_reopened(rt: HostRuntime) -> Result<(), Fail> {
 fn added_within(alloc: Global, calls: usize) -> Result<Result<(), CommitFault>, Fail> {
     let mut disk = MemoryDisk::new(alloc, &[], MANY, calls, &[])?;
     let mut index = new_index(alloc, &mut disk)?;
-    Ok(add_first(&mut index, &mut disk, three_events(alloc)?, FILE_BYTES_MAX))
+    Ok(add_five(alloc, &mut index, &mut disk, FILE_BYTES_MAX)?)
 }
 
 #[test]
@@ -426,11 +518,18 @@ fn failures_are_told(rt: HostRuntime) -> Result<(), Fail> {
             Err(fault) => assert_eq!(rt; fault, CreateFault::Disk),
         }
     }
-    // and each of the seven that add a batch with one column and without a name
-    for calls in 6..13 {
+    // each of the eight that add a batch with lists, deltas and a piece
+    for calls in 6..14 {
         let failed = added_within(alloc, calls)?;
         assert_eq!(rt; failed, Err(CommitFault::Disk), "within {calls}");
     }
-    assert_eq!(rt; added_within(alloc, 13)?, Ok(()));
+    assert_eq!(rt; added_within(alloc, 14)?, Ok(()));
+    // and each of the six that reopen it
+    let file = file_of_five(alloc)?;
+    for calls in 0..6 {
+        let mut disk = MemoryDisk::new(alloc, &file, MANY, calls, &[])?;
+        let failed = Index::reopen(alloc, &mut disk, &mut Names::new(alloc)).err();
+        assert_eq!(rt; failed, Some(ReopenFault::Disk), "within {calls}");
+    }
     Ok(())
 }

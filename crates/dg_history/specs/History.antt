@@ -35,6 +35,11 @@ names_of z = flat_map (λ (b : Batch). b.names) z.batches
 abbrev pub events_of : History → List Event
 events_of z = flat_map (λ (b : Batch). b.events) z.batches
 
+-- the first time of some events, or 0
+abbrev pub first_time_of : List Event → ℕ
+first_time_of [] = 0
+first_time_of (e ∷ events) = e.time
+
 abbrev pub last_time_from : ℕ → List Event → ℕ
 last_time_from last [] = last
 last_time_from last (e ∷ events) = last_time_from e.time events

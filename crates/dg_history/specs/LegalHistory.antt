@@ -1,4 +1,4 @@
--- Which histories are legal, and which images of the index file stand for a history or for none.
+-- Which histories are legal.
 use Rattle.std.specs.Prelude.{◌≡◌, ◌≢◌, ℕ, ◌<◌, ◌≤◌, ◌^◌, Bool, true, ◌&&◌, ◌||◌, ◌==◌, not, List, [], ◌∷◌, ◌++◌, Option, Some, None, Ok, All, IfSome, length, map, take, nat_lt, slice_get, slice_index, IsTrue}
 use Rattle.dg_graph.specs.declared.event.Body.{Body}
 use Rattle.dg_graph.specs.declared.event.Body.TheVariants as body
@@ -8,7 +8,6 @@ use Rattle.dg_graph.specs.declared.limits.TheConstants.{NAMES_MAX, TIME_MAX}
 use Rattle.dg_history.specs.declared.limits.TheConstants.{BATCH_LINES_MAX, EVENTS_MAX, FILE_BYTES_MAX}
 use Rattle.dg_graph.specs.CompletedChanges.{completed}
 use Rattle.dg_graph.specs.Completion.{has_key}
-use Rattle.dg_history.specs.FileOfHistory.{file, size}
 use Rattle.dg_history.specs.History.{History, Batch, are_parameters, events_of, names_of, span_of, earliest_next}
 use Rattle.dg_graph.specs.Names.{are_new}
 use Rattle.dg_graph.specs.Replay.{replay}
@@ -47,21 +46,3 @@ pub record IsLegal (z : History) : Type 0 where
   pub names : are_new [] (names_of z) ≡ true
   pub few_names : length (names_of z) ≤ NAMES_MAX
   pub few : length (events_of z) ≤ EVENTS_MAX
-
--- the image begins with the file of the history, and the gate behind it is closed
-pub record IsImageOf (z : History) (image : List ℕ) : Type 0 where
-  pub legal : IsLegal z
-  pub fits : size z ≤ FILE_BYTES_MAX
-  pub begins : take (length (file z)) image ≡ file z
-  pub gate : ℕ
-  pub there : slice_get image (length (file z)) ≡ Some gate
-  pub closed : gate ≢ 1
-
--- the image is no index: it has fewer bytes than a header, or as many and its gate is closed
-abbrev pub is_blank : List ℕ → Bool
-is_blank image = nat_lt (length image) 18 || (length image == 18 && not (slice_index image 0 == 1))
-
--- the image stands for an index with this history, or for none
-abbrev pub StandsAs : Option History → List ℕ → Type 0
-StandsAs None image = is_blank image ≡ true
-StandsAs (Some z) image = IsImageOf z image

@@ -2,7 +2,4 @@ pub mod Keys
 pub mod History
 pub mod ChangeGrammar
 pub mod Batch
-pub mod FileOfHistory
 pub mod LegalHistory
-pub mod OpenedIndex
-pub mod SessionStart

@@ -5,7 +5,7 @@ ghost use Rattle.dg_history.specs.declared.params.TheConstants.{ARITY_MAX, ARITY
 pub const FILE_BYTES_MAX: u64 = 281_474_976_710_656;
 
 /// The most lines of a batch, and so the most events.
-pub const BATCH_LINES_MAX: u32 = 65_536;
+pub const BATCH_LINES_MAX: u32 = 1_048_576;
 
 /// The most events of a history: 2^28.
 pub const EVENTS_MAX: u64 = 268_435_456;
@@ -13,7 +13,7 @@ pub const EVENTS_MAX: u64 = 268_435_456;
 /// The limits as numbers: lines, events, bytes, the leaf list size in events and the arity in children. Does
 /// nothing.
 pub fn history_limits()
-    ensures batch { BATCH_LINES_MAX ≡ 65536 }
+    ensures batch { BATCH_LINES_MAX ≡ 2 ^ 20 }
     ensures events { EVENTS_MAX ≡ 2 ^ 28 }
     ensures file { FILE_BYTES_MAX ≡ 2 ^ 48 }
     ensures leaf_least { LEAF_MIN ≡ 2 }

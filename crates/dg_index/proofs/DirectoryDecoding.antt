@@ -8,13 +8,12 @@ use Rattle.std.proofs.lemmas.List.Sums.{sum_by-cons}
 use Rattle.dg_graph.specs.declared.limits.TheConstants.{NAMES_MAX, TIME_MAX}
 use Rattle.dg_history.specs.declared.limits.TheConstants.{BATCH_LINES_MAX, EVENTS_MAX, FILE_BYTES_MAX}
 use Rattle.dg_graph.specs.Columns.{four, eight}
-use Rattle.dg_history.specs.FileOfHistory.{name_bytes}
+use Rattle.dg_index.specs.FileOfHistory.{name_bytes, Stored, StoredList, Segment, bytes_of, lengths_bytes, list_bytes, directory, blobs, stored_in, segment_bytes}
 use Rattle.dg_graph.specs.Names.{are_new}
-use Rattle.dg_history.specs.OpenedIndex.{four_at, eight_at, names_at, gate_behind, is_within, may_be_named}
-use Rattle.dg_index.specs.FileOfHistory.{Stored, StoredList, Segment, bytes_of, lengths_bytes, list_bytes, directory, blobs, stored_in, segment_bytes}
+use Rattle.dg_index.specs.ImageText.{four_at, eight_at, names_at, gate_behind, is_within}
+use Rattle.dg_index.specs.OpenedIndex.{may_be_named, Opened, Directory, lengths_at, list_at, record_at, rows_at, rows_in, total, lengths_of, list_row, record_row, directory_of, directory_with, directory_in, list_count, delta_count, may_follow, may_be_listed, within, may_stand, if_it_may, directory_next, events_in, earliest_in, last_list, first_in, read_on, go_on_with, with_directory, with_segment, MayStand}
 use Rattle.dg_index.specs.declared.entry.BatchEntry.{BatchEntry}
 use Rattle.dg_index.specs.declared.entry.Row.{Row}
-use Rattle.dg_index.specs.OpenedIndex.{Opened, Directory, lengths_at, list_at, record_at, rows_at, rows_in, total, lengths_of, list_row, record_row, directory_of, directory_with, directory_in, list_count, delta_count, may_follow, may_be_listed, within, may_stand, if_it_may, directory_next, events_in, earliest_in, last_list, first_in, read_on, go_on_with, with_directory, with_segment, MayStand}
 use Rattle.dg_index.proofs.ImageRanges.{eight_read, four_read, behind}
 use Rattle.dg_index.proofs.DirectoryNames.{AreShort, names_read, new_short, both}
 

@@ -9,9 +9,9 @@ use Rattle.std.proofs.lemmas.List.{take_at}
 use Rattle.std.proofs.lemmas.Nat.{from_be_bytes-to_be_bytes_2}
 use Rattle.dg_graph.specs.declared.limits.TheConstants.{NAME_BYTES_MAX}
 use Rattle.dg_graph.specs.Columns.{two}
-use Rattle.dg_history.specs.FileOfHistory.{name_bytes}
+use Rattle.dg_index.specs.FileOfHistory.{name_bytes}
 use Rattle.dg_graph.specs.Names.{number_of, is_name, are_new}
-use Rattle.dg_history.specs.OpenedIndex.{two_at, name_at, names_at}
+use Rattle.dg_index.specs.ImageText.{two_at, name_at, names_at}
 use Rattle.dg_index.proofs.ImageRanges.{behind}
 
 -- ---- one name

@@ -3,9 +3,8 @@ use Rattle.std.proofs.Common.{◌≡◌, ℕ, ◌+◌, List, [], ◌∷◌, ◌+
 use Rattle.std.specs.List.{flat_map}
 use Rattle.dg_graph.specs.declared.event.Event.{Event}
 use Rattle.dg_history.specs.declared.params.Params.{Params}
-use Rattle.dg_history.specs.FileOfHistory.{header}
+use Rattle.dg_index.specs.FileOfHistory.{header, segment_bytes, segment_of, segments_from, file, size}
 use Rattle.dg_history.specs.History.{History, Batch, events_of, with_batch}
-use Rattle.dg_index.specs.FileOfHistory.{segment_bytes, segment_of, segments_from, file, size}
 use Rattle.dg_index.specs.OpenedIndex.{Opened, bare, with_segment, opened_onto, opened_of}
 
 abbrev events_among : List Batch → List Event

@@ -12,13 +12,12 @@ use Rattle.dg_history.specs.History.{History, Batch, events_of, with_batch}
 use Rattle.std.specs.Option.{option_map}
 use Rattle.std.specs.Map.{lookup}
 use Rattle.dg_history.specs.Keys.{same_key}
-use Rattle.dg_history.specs.OpenedIndex.{Damaged_at}
-use Rattle.dg_index.specs.OpenedIndex.{opening, opened_of, column_at}
+use Rattle.dg_index.specs.OpenedIndex.{Damaged_at, opening, opened_of, column_at}
 use Rattle.dg_index.specs.Hierarchy.{set_of}
 use Rattle.dg_index.specs.OlderNodes.{older}
 use Rattle.dg_index.specs.IndexRecords.{keys_of, column_in}
 use Rattle.dg_index.specs.FileOfHistory.{file, size}
-use Rattle.dg_index.specs.SessionStart.{sources, start_of}
+use Rattle.dg_index.specs.SessionStart.{start_of}
 use Rattle.dg_history.specs.declared.start_fault.StartFault.TheVariants as fault
 
 p : History

@@ -4,7 +4,7 @@ use Rattle.std.specs.Int.{w32, w64, from_be_bytes}
 use Rattle.std.proofs.lemmas.List.{take_at, drop_at, take-take, drop-take, drop-drop, get_or-take, length-drop}
 use Rattle.std.proofs.lemmas.Nat.{from_be_bytes-to_be_bytes_4, from_be_bytes-to_be_bytes_8}
 use Rattle.dg_graph.specs.Columns.{four, eight}
-use Rattle.dg_history.specs.OpenedIndex.{four_at, eight_at}
+use Rattle.dg_index.specs.ImageText.{four_at, eight_at}
 
 -- two images have the same first n bytes
 abbrev pub Same : ℕ → List ℕ → List ℕ → Type 0

@@ -22,11 +22,10 @@ use Rattle.dg_history.specs.declared.node.Key.{Key}
 use Rattle.dg_history.specs.declared.node.Key.TheVariants as key
 use Rattle.dg_history.specs.declared.params.Params.{Params}
 use Rattle.dg_graph.specs.Composition.{between}
-use Rattle.dg_history.specs.FileOfHistory.{header}
+use Rattle.dg_index.specs.FileOfHistory.{header, Stored, StoredList, Segment, bytes_of, directory, stored_in, blobs, segment_bytes, segment_of, segments_from, stored_list, stored, file}
 use Rattle.dg_history.specs.History.{History, Batch, events_of}
 use Rattle.dg_index.specs.Hierarchy.{numbers, leaves, children, parent, set_at}
 use Rattle.dg_index.specs.IndexRecords.{Record, Events, Exact, closed_list, piece_of, piece_at, record_among, column_of_record, column_in, deltas_of, inner_due, deltas_due_at, deltas_due, lists_due}
-use Rattle.dg_index.specs.FileOfHistory.{Stored, StoredList, Segment, bytes_of, directory, stored_in, blobs, segment_bytes, segment_of, segments_from, stored_list, stored, file}
 use Rattle.dg_index.specs.declared.entry.Entry.{Entry}
 use Rattle.dg_index.specs.declared.entry.Row.{Row}
 use Rattle.dg_index.specs.declared.entry.BatchEntry.{BatchEntry}

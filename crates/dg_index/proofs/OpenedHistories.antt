@@ -22,20 +22,19 @@ use Rattle.dg_graph.specs.CompletedChanges.{completed, event_of, go_on, on_value
 use Rattle.dg_graph.specs.Columns.{four}
 use Rattle.dg_graph.specs.Completion.{complete}
 use Rattle.dg_graph.specs.Effect.{forwards}
-use Rattle.dg_history.specs.FileOfHistory.{header, first_time_of, function_byte}
-use Rattle.dg_history.specs.History.{History, Batch, are_parameters, names_of, span_of, last_time_from, earliest_next}
-use Rattle.dg_history.specs.LegalHistory.{IsLegalBatch, AreLegalAfter, FitsEvent, is_blank}
+use Rattle.dg_index.specs.FileOfHistory.{header, function_byte, Stored, StoredList, Segment, directory, segment_bytes, segment_of, segments_from, stored_list, stored, file}
+use Rattle.dg_history.specs.History.{first_time_of, History, Batch, are_parameters, names_of, span_of, last_time_from, earliest_next}
+use Rattle.dg_history.specs.LegalHistory.{IsLegalBatch, AreLegalAfter, FitsEvent}
+use Rattle.dg_index.specs.ImageOfHistory.{is_blank, IsImageOf}
 use Rattle.dg_graph.specs.Names.{are_new}
-use Rattle.dg_history.specs.OpenedIndex.{No_index, may_be_named, params_in, params_with, function_in, four_at}
+use Rattle.dg_index.specs.OpenedIndex.{No_index, may_be_named, rows_in, Opened, bare, opening, opened_of, opened_onto, with_segment, directory_of, list_row, record_row, laid, total, last_list, last_or, first_in, earliest_in, events_in, may_follow, may_be_listed, within, read_on, opened_or, opened_by, keys_next, MayStand}
+use Rattle.dg_index.specs.ImageText.{params_in, params_with, function_in, four_at}
 use Rattle.dg_graph.specs.declared.event.TheConstants.{REASON_TIME}
 use Rattle.dg_index.specs.Hierarchy.{numbers, leaves}
 use Rattle.dg_index.specs.IndexRecords.{record_among, closed_list, deltas_due, lists_due}
-use Rattle.dg_index.specs.FileOfHistory.{Stored, StoredList, Segment, directory, segment_bytes, segment_of, segments_from, stored_list, stored, file}
 use Rattle.dg_index.specs.declared.entry.Entry.{Entry}
 use Rattle.dg_index.specs.declared.entry.BatchEntry.{BatchEntry}
 use Rattle.dg_index.specs.declared.entry.Row.{Row}
-use Rattle.dg_index.specs.OpenedIndex.{rows_in, Opened, bare, opening, opened_of, opened_onto, with_segment, directory_of, list_row, record_row, laid, total, last_list, last_or, first_in, earliest_in, events_in, may_follow, may_be_listed, within, read_on, opened_or, opened_by, keys_next, MayStand}
-use Rattle.dg_index.specs.ImageOfHistory.{IsImageOf}
 use Rattle.dg_index.proofs.DirectoryDecoding.{map_last, stands_next, read_next, read_end}
 use Rattle.dg_index.proofs.DueNodes.{deltas_fit, numbers_length}
 use Rattle.dg_index.proofs.StableRecords.{leaves_more}

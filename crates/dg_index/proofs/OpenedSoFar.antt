@@ -5,9 +5,9 @@ use Rattle.std.specs.Str.{bytes_eq}
 use Rattle.std.proofs.lemmas.Bool.{eq-eqb, ne_eqb, le-ltb, eqb-true, and_from, le-leb, leb-true}
 use Rattle.dg_history.specs.declared.limits.TheConstants.{FILE_BYTES_MAX}
 use Rattle.dg_history.specs.declared.params.Params.{Params}
-use Rattle.dg_history.specs.LegalHistory.{is_blank}
-use Rattle.dg_history.specs.OpenedIndex.{Unopened, No_index, Damaged_at, params_in, params_with, function_in, eight_at, gate_behind, is_within}
-use Rattle.dg_index.specs.OpenedIndex.{Directory, Opened, bare, opening, opened_or, opened_by, read_on, go_on_with, directory_next, directory_in, may_stand, if_it_may, with_directory, with_segment, MayStand}
+use Rattle.dg_index.specs.ImageOfHistory.{is_blank}
+use Rattle.dg_index.specs.OpenedIndex.{Unopened, No_index, Damaged_at, Directory, Opened, bare, opening, opened_or, opened_by, read_on, go_on_with, directory_next, directory_in, may_stand, if_it_may, with_directory, with_segment, MayStand}
+use Rattle.dg_index.specs.ImageText.{params_in, params_with, function_in, eight_at, gate_behind, is_within}
 use Rattle.dg_index.specs.FileOfHistory.{Segment, segment_bytes}
 use Rattle.dg_index.specs.OpenedSoFar.{OpensOn}
 use Rattle.dg_index.proofs.DirectoryDecoding.{stands_next, read_next, read_end}

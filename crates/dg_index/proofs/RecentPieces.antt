@@ -4,8 +4,7 @@ use Rattle.std.proofs.lemmas.List.{map-append}
 use Rattle.std.proofs.lemmas.List.Concat.{flat_map-append}
 use Rattle.dg_graph.specs.declared.event.Event.{Event}
 use Rattle.dg_history.specs.declared.params.Params.{Params}
-use Rattle.dg_history.specs.FileOfHistory.{first_time_of}
-use Rattle.dg_history.specs.History.{History, Batch, events_of, last_time_from}
+use Rattle.dg_history.specs.History.{first_time_of, History, Batch, events_of, last_time_from}
 use Rattle.dg_index.specs.Hierarchy.{leaves}
 use Rattle.dg_index.specs.IndexRecords.{piece_of, piece_at, recent_of}
 use Rattle.dg_index.specs.FileOfHistory.{segment_of}

@@ -1,14 +1,28 @@
 -- A segment of the index file as one text: the directory, and the columns of lists, deltas and the piece.
-use Rattle.std.specs.Prelude.{ℕ, ◌+◌, ◌-◌, List, [], ◌∷◌, ◌++◌, map, length}
+use Rattle.std.specs.Prelude.{codes, ℕ, ◌+◌, ◌-◌, List, [], ◌∷◌, ◌++◌, map, length}
 use Rattle.std.specs.List.{flat_map}
 use Rattle.dg_graph.specs.declared.element.Column.TheVariants as column
 use Rattle.dg_graph.specs.declared.event.Event.{Event}
 use Rattle.dg_history.specs.declared.params.Params.{Params}
-use Rattle.dg_graph.specs.Columns.{four, eight}
-use Rattle.dg_history.specs.FileOfHistory.{header, first_time_of, name_bytes}
-use Rattle.dg_history.specs.History.{History, Batch, last_time_from}
+use Rattle.dg_graph.specs.declared.function.Function.{Function}
+use Rattle.dg_graph.specs.declared.function.Function.TheVariants.{Intersection, Union, Balanced}
+use Rattle.dg_graph.specs.Columns.{two, four, eight}
+use Rattle.dg_history.specs.History.{first_time_of, History, Batch, last_time_from}
 use Rattle.dg_index.specs.Hierarchy.{numbers, leaves}
 use Rattle.dg_index.specs.IndexRecords.{Record, Events, deltas_due, closed_list, piece_of, record_among, column_of_record}
+
+abbrev pub function_byte : Function → ℕ
+function_byte Intersection = 1
+function_byte Union = 2
+function_byte Balanced = 3
+
+-- the header, its gate open
+abbrev pub header : Params → List ℕ
+header params = 1 ∷ (codes "DGRAPH1" ++ (four params.l ++ (four params.k ++ function_byte params.function ∷ [])))
+
+-- a name behind its length
+abbrev pub name_bytes : List ℕ → List ℕ
+name_bytes text = two (length text) ++ text
 
 -- the three columns of a record
 pub record Stored : Type 0 where

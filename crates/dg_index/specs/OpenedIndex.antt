@@ -3,14 +3,15 @@ use Rattle.std.specs.Prelude.{◌≡◌, ◌<◌, ◌^◌, ℕ, zero, suc, ◌+�
 use Rattle.dg_graph.specs.declared.element.Column.{Column}
 use Rattle.dg_graph.specs.declared.element.Column.TheVariants as column
 use Rattle.dg_graph.specs.declared.event.Event.{Event}
-use Rattle.dg_graph.specs.declared.limits.TheConstants.{TIME_MAX}
+use Rattle.dg_graph.specs.declared.limits.TheConstants.{NAMES_MAX, TIME_MAX}
 use Rattle.dg_history.specs.declared.limits.TheConstants.{BATCH_LINES_MAX, EVENTS_MAX}
 use Rattle.dg_history.specs.declared.node.Key.{Key}
 use Rattle.dg_history.specs.declared.node.Key.TheVariants as key
 use Rattle.dg_history.specs.declared.params.Params.{Params}
 use Rattle.dg_history.specs.History.{History, Batch}
-use Rattle.dg_history.specs.LegalHistory.{is_blank}
-use Rattle.dg_history.specs.OpenedIndex.{Unopened, No_index, Not_ours, Damaged_at, four_at, eight_at, params_in, names_at, gate_behind, is_within, may_be_named}
+use Rattle.dg_index.specs.ImageOfHistory.{is_blank}
+use Rattle.dg_graph.specs.Names.{are_new}
+use Rattle.dg_index.specs.ImageText.{four_at, eight_at, params_in, names_at, gate_behind, is_within}
 use Rattle.dg_index.specs.declared.entry.Ends.{Ends}
 use Rattle.dg_index.specs.declared.entry.Entry.{Entry}
 use Rattle.dg_index.specs.declared.entry.Row.{Row}
@@ -18,6 +19,12 @@ use Rattle.dg_index.specs.declared.entry.BatchEntry.{BatchEntry}
 use Rattle.dg_index.specs.Hierarchy.{leaves}
 use Rattle.dg_index.specs.IndexRecords.{lists_due, deltas_due}
 use Rattle.dg_index.specs.FileOfHistory.{Stored, StoredList, Segment, directory, segment_bytes, segment_of, size}
+
+-- why an image is not opened
+pub data Unopened : Type 0 where
+  No_index : Unopened
+  Not_ours : Unopened
+  Damaged_at : ℕ → Unopened
 
 -- What an index keeps of an image: the parameters, the batches, the records in the order of the file, and
 -- the offset behind the gate that closes it.
@@ -139,6 +146,10 @@ within first last (Some e) = nat_le first e.first && (nat_le e.first e.last && n
 abbrev pub may_be_listed : ℕ → ℕ → List Row → Bool
 may_be_listed first last [] = true
 may_be_listed first last (r ∷ rows) = within first last r.ends && may_be_listed (last_or first r.ends) last rows
+
+-- these new names may follow the names
+abbrev pub may_be_named : List (List ℕ) → List (List ℕ) → Bool
+may_be_named names new = are_new names new && nat_le (length names + length new) NAMES_MAX
 
 -- the directory may stand behind what is opened so far, before so many bytes of columns
 abbrev pub may_stand : Opened → ℕ → Directory → Bool

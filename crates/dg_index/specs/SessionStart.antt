@@ -15,11 +15,10 @@ use Rattle.dg_history.specs.declared.node.Key.TheVariants as key
 use Rattle.dg_history.specs.declared.start_fault.StartFault.{StartFault}
 use Rattle.dg_history.specs.declared.start_fault.StartFault.TheVariants as fault
 use Rattle.dg_history.specs.Keys.{same_key}
-use Rattle.dg_history.specs.OpenedIndex.{Unopened, No_index, Not_ours, Damaged_at}
+use Rattle.dg_index.specs.OpenedIndex.{Unopened, No_index, Not_ours, Damaged_at, Opened, Opening, column_at, events_in, last_list, opening}
 use Rattle.dg_index.specs.declared.entry.Ends.{Ends}
 use Rattle.dg_index.specs.declared.entry.Entry.{Entry}
 use Rattle.dg_index.specs.Hierarchy.{leaves, numbers}
-use Rattle.dg_index.specs.OpenedIndex.{Opened, Opening, column_at, events_in, last_list, opening}
 use Rattle.dg_index.specs.RecentEvents.{RecentPiece, pieces_ahead}
 
 -- the index and the names as the directories tell them, and the events of the history

@@ -4,12 +4,21 @@ ghost use Rattle.dg_graph.specs.Verbs.{one, two, three};
 ghost use Rattle.dg_history.specs.ChangeGrammar.{time_of};
 ghost use Rattle.dg_machine.specs.CommandGrammar.{IsColumn, columns_of, command_of, count_of, function_of, handle_of, n32_of};
 
-use crate::grammar::column;
+use crate::grammar::{COLUMNS, COUNT, FUNCTION, HANDLE, N32, Symbol, TIME, longest_prefix};
 use crate::words::{Words, number};
 use dg_graph::{Columns, Function, TIME_MAX};
 use dg_history::BATCH_LINES_MAX;
 use dg_machine::{Command, FIRST_HANDLE};
 use thiserror::Error;
+
+/// The commands, each as a row of symbols. One space parts two words.
+const COMMANDS: &[&[Symbol]] = &[
+    &[Symbol::OneOf(&[b"create"]), N32, N32, FUNCTION],
+    &[Symbol::OneOf(&[b"load"]), COUNT],
+    &[Symbol::OneOf(&[b"append"]), COUNT],
+    &[Symbol::OneOf(&[b"at"]), TIME, COLUMNS],
+    &[Symbol::OneOf(&[b"list"]), HANDLE],
+];
 
 /// The line is in no command; the column, from 1, at which it leaves the grammar.
 #[derive(Clone, Copy, Debug, PartialEq, Eq, Error)]
@@ -27,6 +36,15 @@ pub fn read_command(line: &[u8]) -> Result<Command, Syntax>
         Some(command) => Ok(command),
         None => Err(Syntax(column(line))),
     }
+}
+
+// The column, from 1, at which the line leaves the grammar of commands: 1 more than the length of
+// the longest prefix of the line that is a prefix of some command.
+fn column(line: &[u8]) -> u32
+    ensures { IsColumn line.now result }
+{
+    let longest = longest_prefix(COMMANDS, line);
+    u32::try_from(longest).unwrap_or(u32::MAX).saturating_add(1)
 }
 
 // The command that the line is.

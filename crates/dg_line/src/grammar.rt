@@ -1,8 +1,7 @@
-//! The grammar of commands as data, and how far a line goes along with it.
+//! Rows of symbols, which stand for words, and how far a line goes along with them.
 
 ghost use Rattle.std.specs.Prelude.{◌≡◌, ◌<◌, ◌≤◌, ◌↔◌, ◌⊎◌, IsTrue, Contains, length, max, slice_index, take};
 ghost use Rattle.std.specs.List.{list_all};
-ghost use Rattle.dg_machine.specs.CommandGrammar.{IsColumn};
 ghost use Rattle.dg_line.specs.Prefixes.{IsLongestPrefix};
 ghost use Rattle.dg_line.specs.Symbols.{Number, IsWordOf, IsLineOf, IsLineOfOne, is_well_formed, row_of, rows_of, terminal_of, word_texts};
 
@@ -13,7 +12,7 @@ use dg_machine::FIRST_HANDLE;
 
 /// What stands for a word of a command.
 #[derive(Clone, Copy)]
-enum Symbol {
+pub(crate) enum Symbol {
     /// One of these words.
     OneOf(&'static [&'static [u8]]),
     /// A number, without a sign or a leading zero. The least is 0 or 1, so each prefix of a number's
@@ -21,38 +20,29 @@ enum Symbol {
     Number { least: u64, greatest: u64 },
 }
 
-const N32: Symbol = Symbol::Number {
+pub(crate) const N32: Symbol = Symbol::Number {
     least: 0,
     greatest: u32::MAX as u64,
 };
 
-const FUNCTION: Symbol = Symbol::OneOf(&[b"intersection", b"union", b"balanced"]);
+pub(crate) const FUNCTION: Symbol = Symbol::OneOf(&[b"intersection", b"union", b"balanced"]);
 
-const COUNT: Symbol = Symbol::Number {
+pub(crate) const COUNT: Symbol = Symbol::Number {
     least: 1,
     greatest: BATCH_LINES_MAX as u64,
 };
 
-const TIME: Symbol = Symbol::Number {
+pub(crate) const TIME: Symbol = Symbol::Number {
     least: 0,
     greatest: TIME_MAX,
 };
 
-const HANDLE: Symbol = Symbol::Number {
+pub(crate) const HANDLE: Symbol = Symbol::Number {
     least: FIRST_HANDLE as u64,
     greatest: u32::MAX as u64,
 };
 
-const COLUMNS: Symbol = Symbol::OneOf(&[b"s", b"sn", b"se", b"sne"]);
-
-/// The commands, each as a row of symbols. One space parts two words.
-const COMMANDS: &[&[Symbol]] = &[
-    &[Symbol::OneOf(&[b"create"]), N32, N32, FUNCTION],
-    &[Symbol::OneOf(&[b"load"]), COUNT],
-    &[Symbol::OneOf(&[b"append"]), COUNT],
-    &[Symbol::OneOf(&[b"at"]), TIME, COLUMNS],
-    &[Symbol::OneOf(&[b"list"]), HANDLE],
-];
+pub(crate) const COLUMNS: Symbol = Symbol::OneOf(&[b"s", b"sn", b"se", b"sne"]);
 
 /// How many bytes are a prefix of a word that a symbol stands for, and whether they are all of it.
 #[derive(Clone, Copy)]
@@ -80,17 +70,8 @@ impl Prefix {
     }
 }
 
-/// The column, from 1, at which the line leaves the grammar of commands: 1 more than the length of
-/// the longest prefix of the line that is a prefix of some command.
-pub fn column(line: &[u8]) -> u32
-    ensures { IsColumn line.now result }
-{
-    let longest = longest_prefix(COMMANDS, line);
-    u32::try_from(longest).unwrap_or(u32::MAX).saturating_add(1)
-}
-
-// The length of the longest prefix of the line that is a prefix of a line of some row.
-fn longest_prefix(rows: &[&[Symbol]], line: &[u8]) -> usize
+/// The length of the longest prefix of the line that is a prefix of a line of some row.
+pub(crate) fn longest_prefix(rows: &[&[Symbol]], line: &[u8]) -> usize
     requires { IsTrue (list_all (list_all is_well_formed) (rows_of rows.now)) }
     ensures { IsLongestPrefix (IsLineOfOne (rows_of rows.now)) line.now result }
 {

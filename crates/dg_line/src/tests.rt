@@ -13,7 +13,7 @@ const COLUMNS: [(&str, u32); 16] = [
     ("create 02 2 union", 9),
     ("create 2 4294967296 union", 19),
     ("load 0", 6),
-    ("load 65537", 10),
+    ("load 1048577", 12),
     ("append 1 ", 9),
     ("at x s", 4),
     ("at 5", 5),
@@ -50,8 +50,8 @@ const COMMANDS: [(&str, Command); 9] = [
         },
     ),
     ("load 1", Command::Load { count: 1 }),
-    ("load 65536", Command::Load { count: 65_536 }),
-    ("append 65536", Command::Append { count: 65_536 }),
+    ("load 1048576", Command::Load { count: 1_048_576 }),
+    ("append 1048576", Command::Append { count: 1_048_576 }),
     (
         "at 0 sne",
         Command::At {

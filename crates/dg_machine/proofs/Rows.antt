@@ -63,8 +63,8 @@ without_index : due_of_none (codes "at 5 s\nload 2\n10 +node 1\n9 +node 1\nload 
 unfolding digits due_of_none due_in output answered
 without_index = refl
 
-file_full : due_in 172 None (codes "create 2 2 intersection\nload 3\n10 +node 1\n20 +node 2\n30 +edge 5 1 2 dir\nat 30 s\n")
-    ≡ codes "ok create\nend\nrefused 13 file-full 173 172\nend\nrefused 7 out-of-range empty\nend\n"
+file_full : due_in 216 None (codes "create 2 2 intersection\nload 3\n10 +node 1\n20 +node 2\n30 +edge 5 1 2 dir\nat 30 s\n")
+    ≡ codes "ok create\nend\nrefused 13 file-full 217 216\nend\nrefused 7 out-of-range empty\nend\n"
 unfolding digits due_in output answered
 file_full = refl
 

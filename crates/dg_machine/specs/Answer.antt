@@ -4,7 +4,7 @@ use Rattle.std.specs.Prelude.{ℕ, ◌+◌, Bool, true, false, ◌&&◌, ◌||�
 use Rattle.dg_graph.specs.declared.element.Element.{Element}
 use Rattle.dg_graph.specs.Lines.{ScriptLine}
 use Rattle.dg_history.specs.Batch.{batch_of}
-use Rattle.dg_history.specs.FileOfHistory.{size}
+use Rattle.dg_index.specs.FileOfHistory.{size}
 use Rattle.dg_history.specs.History.{History, Batch, empty_history, with_batch, events_of, last_time_from}
 use Rattle.dg_machine.specs.declared.command.Command.{Command}
 use Rattle.dg_machine.specs.declared.command.Command.TheVariants as command

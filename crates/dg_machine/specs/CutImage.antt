@@ -1,7 +1,7 @@
 -- What the index file may hold where the disk failed within a command.
 use Rattle.std.specs.Prelude.{◌≡◌, ℕ, List, [], None, false, length, drop}
 use Rattle.dg_graph.specs.declared.function.Function.{Function}
-use Rattle.dg_history.specs.LegalHistory.{StandsAs}
+use Rattle.dg_index.specs.ImageOfHistory.{StandsAs}
 use Rattle.dg_machine.specs.declared.command.Command.TheVariants as command
 use Rattle.dg_machine.specs.declared.reply.Reply.{Reply}
 use Rattle.dg_machine.specs.Answer.{answer, is_refusal}

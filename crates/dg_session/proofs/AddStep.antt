@@ -6,8 +6,6 @@ use Rattle.std.proofs.lemmas.List.{length-map, take-append-drop}
 use Rattle.std.proofs.Math.ListN.{get_or-map}
 use borrow.Author.Tests.{le-leb, lt-ltb, le-ltb, ltb-false}
 use Rattle.dg_file.specs.Images.{GainsBatch, GainsBatchOrNot}
-use Rattle.dg_file.specs.Index.{earliest_after, needed_for, new_segment_of, with_segment}
-use Rattle.dg_file.specs.IndexLaws.{BatchesAreAdded, BatchesAreMeasured}
 use Rattle.dg_graph.specs.declared.event.Change.{Change}
 use Rattle.dg_graph.specs.declared.event.Event.{Event}
 use Rattle.dg_graph.specs.declared.limits.TheConstants.{NAMES_MAX}
@@ -17,10 +15,13 @@ use Rattle.dg_graph.specs.Lines.{ScriptLine}
 use Rattle.dg_graph.specs.Replay.{replay}
 use Rattle.dg_history.specs.Batch.{batch_of, changes_after, names_after}
 use Rattle.dg_history.specs.ChangeGrammar.{change_by_text_in}
-use Rattle.dg_history.specs.FileOfHistory.{size}
+use Rattle.dg_index.specs.FileOfHistory.{segment_of, size}
+use Rattle.dg_index.specs.IndexGrowth.{index_with, needed_for}
+use Rattle.dg_index.proofs.FileGrowth.{measured, opened_more}
 use Rattle.dg_history.specs.History.{History, Batch, earliest_next, events_of, last_time_from, names_of, span_of, with_batch}
-use Rattle.dg_history.specs.LegalHistory.{IsImageOf, IsLegal, StandsAs}
-use Rattle.dg_history.specs.OpenedIndex.{Opening, may_be_named, opening_of}
+use Rattle.dg_index.specs.ImageOfHistory.{IsImageOf, StandsAs}
+use Rattle.dg_history.specs.LegalHistory.{IsLegal}
+use Rattle.dg_index.specs.OpenedIndex.{Opened, Opening, earliest_in, may_be_named}
 use Rattle.dg_machine.specs.declared.limits.Limits.{Limits}
 use Rattle.dg_machine.specs.declared.reply.Head.TheVariants as head
 use Rattle.dg_machine.specs.declared.reply.Refusal.{Refusal}
@@ -34,7 +35,8 @@ use Rattle.dg_machine.specs.Run.{Step}
 use Rattle.dg_machine.specs.Script.{Asked, Follows}
 use Rattle.dg_session.proofs.TryBatch.{here, of_here}
 use Rattle.dg_session.proofs.EventRanges.{ChangeFits, what_spelled}
-use Rattle.dg_session.proofs.LegalHistory.{IsNext, batch_next, earliest_is, events_with, fitting_next, grown_next, legal_next, names_grown}
+use Rattle.dg_session.proofs.LegalHistory.{IsNext, batch_next, events_with, fitting_next, grown_next, legal_next, names_grown}
+use Rattle.dg_session.proofs.OpenedHistory.{behind}
 use Rattle.dg_session.proofs.NamesAfter.{Grows, changes_length, grown_new}
 use Rattle.dg_session.proofs.StandsFor.{both_told, not_false, passes, refused_is, some_index, stands}
 use Rattle.dg_session.proofs.Steps.{Comes, accepted_is, accepted_steps, denied, is_accepted, lacking_denies, refused_denies}
@@ -55,7 +57,7 @@ use Rattle.dg_session.specs.declared.stored_history.StoredHistory.{StoredHistory
 use Rattle.dg_session.specs.Halt.{batch_halt}
 use Rattle.dg_session.specs.Parts.{Parts}
 use Rattle.dg_session.specs.Session.{Accepts, ComesTo, CutsOff, Denies, Moves, StandsFor, TakesLines, is_too_full, refusals_by, refused_by}
-use Rattle.dg_session.specs.SessionStart.{index_opening}
+use Rattle.dg_session.specs.SessionStart.{index_opening, opening_of}
 use Rattle.dg_session.specs.SoundHistory.{IsSoundHistory}
 
 -- ---- why the command is refused before its lines are completed
@@ -306,11 +308,11 @@ module _ (which : BatchCommand) (p : Parts) (count known limit : ℕ) (c : Store
   completed_is : (image : List ℕ) (m : MachineState) (z : History) (due : Result (List Event) (ℕ × ℕ)) → IsOf p free.index image m z → ComeTo free.index c.events.items b.front b.changes.items due
       → completed 1 (earliest_next (span_of (events_of z))) (replay (events_of z)) (changes_after (names_of z) (map change_by_text_in Got)) ≡ due
   completed_is image m z due h come =
-      let time : earliest_after 0 free.index.segments ≡ earliest_next (span_of (events_of z)) =
-      ap (λ (x : Opening). earliest_after 0 x.segments) h.opened ∙ earliest_is z h.stands.legal in
+      let time : earliest_in 0 free.index.batches ≡ earliest_next (span_of (events_of z)) =
+      ap (λ (x : Opening). earliest_in 0 x.batches) h.opened ∙ (behind z h.stands.legal).earliest in
       ap (λ (t : ℕ). completed 1 t (replay (events_of z)) (changes_after (names_of z) (map change_by_text_in Got))) (sym time)
-      ∙ ap (λ (es : List Event). completed 1 (earliest_after 0 free.index.segments) (replay es) (changes_after (names_of z) (map change_by_text_in Got))) (sym (a.events ∙ h.events))
-      ∙ ap (λ (ns : List (List ℕ)). completed 1 (earliest_after 0 free.index.segments) (replay c.events.items) (changes_after ns (map change_by_text_in Got))) (sym h.names)
+      ∙ ap (λ (es : List Event). completed 1 (earliest_in 0 free.index.batches) (replay es) (changes_after (names_of z) (map change_by_text_in Got))) (sym (a.events ∙ h.events))
+      ∙ ap (λ (ns : List (List ℕ)). completed 1 (earliest_in 0 free.index.batches) (replay c.events.items) (changes_after ns (map change_by_text_in Got))) (sym h.names)
       ∙ come (changes_after p.names (map change_by_text_in Got)) a.batch.reads.changes_are
 
   -- the answer, by what the lines come to
@@ -354,16 +356,24 @@ module _ (which : BatchCommand) (p : Parts) (count known limit : ℕ) (c : Store
         ∙ ap (λ (ns : List (List ℕ)). let x : Batch = record { names = drop (length (names_of z)) ns; events = events } in with_new m z (head_of which) (Ok x)) (sym next.names_are)
         ∙ ap (λ (k : ℕ). with_new m z (head_of which) (Ok (batch_with k c.names events))) (sym (known_of image m z h))
 
-    needed_is : BatchesAreMeasured → (image : List ℕ) (m : MachineState) (z : History) → IsOf p free.index image m z → needed_for free.index (new_segment_of New) ≡ size (with_batch z New)
-    needed_is measured image m z h = ap (λ (x : Opening). needed_for x (new_segment_of New)) h.opened ∙ measured z New
+    -- the segment that was put in the file is that of the batch behind the history
+    segment_is : (image : List ℕ) (m : MachineState) (z : History) → IsOf p free.index image m z
+        → segment_of free.index.params c.events.items (batch_with known c.names events) ≡ segment_of z.params (events_of z) (batch_with known c.names events)
+    segment_is image m z h =
+        let params : free.index.params ≡ z.params = ap (λ (x : Opening). x.params) h.opened ∙ (behind z h.stands.legal).params in
+        let past : c.events.items ≡ events_of z = a.events ∙ h.events in
+        λ i. segment_of (params i) (past i) (batch_with known c.names events)
+
+    needed_is : (image : List ℕ) (m : MachineState) (z : History) → IsOf p free.index image m z → needed_for free.index (segment_of free.index.params c.events.items New) ≡ size (with_batch z New)
+    needed_is image m z h = (λ i. needed_for (h.opened i) (segment_is image m z h i)) ∙ measured z New
 
     -- the file has too little room
-    full_steps : BatchesAreMeasured → (n : ℕ) → n ≡ needed_for free.index (new_segment_of New) → limit < n → (image : List ℕ) (m : MachineState) → StandsFor p image m
+    full_steps : (n : ℕ) → n ≡ needed_for free.index (segment_of free.index.params c.events.items New) → limit < n → (image : List ℕ) (m : MachineState) → StandsFor p image m
         → Step m (Asked (command_with which count) Got) (headed (head.Refused (refusal.FileFull n limit))) m
-    full_steps measured n n_is over image m s =
+    full_steps n n_is over image m s =
         let found = is_of p free.index image m free.there s in
         let z : History = found.0 in
-        let needed : n ≡ size (with_batch z New) = n_is ∙ needed_is measured image m z found.1 in
+        let needed : n ≡ size (with_batch z New) = n_is ∙ needed_is image m z found.1 in
         let limits : limit ≡ m.limits.file_bytes = a.limit_is ∙ ap (λ (x : Limits). x.file_bytes) s.limits in
         let full : nat_lt m.limits.file_bytes (size (with_batch z New)) ≡ true = lt-ltb m.limits.file_bytes (size (with_batch z New)) (omega (arith, over, needed, limits)) in
         accepted_steps m (command_with which count) Got (refuse m (refusal.FileFull n limit))
@@ -378,12 +388,12 @@ module _ (which : BatchCommand) (p : Parts) (count known limit : ℕ) (c : Store
       names : c.names ≡ names_of (with_batch z New)
       events_are : p.events ++ events ≡ events_of (with_batch z New)
 
-    is_added : BatchesAreMeasured → needed_for free.index (new_segment_of New) ≤ limit → (image : List ℕ) (m : MachineState) (z : History) → StandsFor p image m → IsOf p free.index image m z → IsAdded m z
-    is_added measured fits image m z s h =
+    is_added : needed_for free.index (segment_of free.index.params c.events.items New) ≤ limit → (image : List ℕ) (m : MachineState) (z : History) → StandsFor p image m → IsOf p free.index image m z → IsAdded m z
+    is_added fits image m z s h =
         let next : IsNext z Got b.changes.items c.names events = is_next image m z h in
         let same : batch_next z c.names events ≡ New = ap (λ (k : ℕ). batch_with k c.names events) (sym (known_of image m z h)) in
         let room : nat_lt m.limits.file_bytes (size (with_batch z New)) ≡ false =
-        le-ltb m.limits.file_bytes (size (with_batch z New)) (omega (arith, fits, needed_is measured image m z h, a.limit_is, ap (λ (x : Limits). x.file_bytes) s.limits)) in
+        le-ltb m.limits.file_bytes (size (with_batch z New)) (omega (arith, fits, needed_is image m z h, a.limit_is, ap (λ (x : Limits). x.file_bytes) s.limits)) in
         let total : length (events_of z) + length events ≡ length (p.events ++ events) = omega (arith, length-append p.events events, ap length h.events) in
         record {
           answered = answer_new image m z s h ∙ ap (by_room m z which New) room
@@ -393,37 +403,37 @@ module _ (which : BatchCommand) (p : Parts) (count known limit : ℕ) (c : Store
           events_are = ap (λ (es : List Event). es ++ events) h.events ∙ sym (events_with z New);
         }
 
-    add_moves : BatchesAreAdded → BatchesAreMeasured → (q : Parts) (before after : List ℕ) (reply : Reply)
-        → needed_for free.index (new_segment_of New) ≤ limit → GainsBatch (new_segment_of New) before after
-        → q ≡ record p { index = Some (with_segment free.index (new_segment_of New)); names = c.names; events = p.events ++ events }
+    add_moves : (q : Parts) (before after : List ℕ) (reply : Reply)
+        → needed_for free.index (segment_of free.index.params c.events.items New) ≤ limit → GainsBatch (segment_of free.index.params c.events.items New) before after
+        → q ≡ record p { index = Some (index_with free.index (segment_of free.index.params c.events.items New)); names = c.names; events = p.events ++ events }
         → reply ≡ headed (head_of which (length events) (length (p.events ++ events)) (last_time_from 0 events))
         → Moves (command_with which count) Got p before q after reply
-    add_moves added measured q before after reply fits gains q_is reply_is m s =
+    add_moves q before after reply fits gains q_is reply_is m s =
         let found = is_of p free.index before m free.there s in
         let z : History = found.0 in
         let h : IsOf p free.index before m z = found.1 in
-        let is : IsAdded m z = is_added measured fits before m z s h in
+        let is : IsAdded m z = is_added fits before m z s h in
         let k : MachineState = record m { index = Some (with_batch z New) } in
-        let index : Some (with_segment free.index (new_segment_of New)) ≡ Some (opening_of (with_batch z New)) =
-        ap (λ (x : Opening). Some (with_segment x (new_segment_of New))) h.opened ∙ ap (λ (x : Opening). Some x) (added z New) in (
+        let index : Some (index_with free.index (segment_of free.index.params c.events.items New)) ≡ Some (opening_of (with_batch z New)) =
+        (λ i. Some (index_with (h.opened i) (segment_is before m z h i))) ∙ ap (λ (x : Opened). Some x.index) (sym (opened_more z New)) in (
           k,
           subst (λ (r : Reply). Step m (Asked (command_with which count) Got) r k) (sym reply_is)
               (accepted_steps m (command_with which count) Got (record { reply = headed (head_of which (length events) (length (p.events ++ events)) (last_time_from 0 events)); state = k }) is.answered),
           stands q after k
               (q_is ∙ (λ i. record { limits = s.limits i; index = index i; names = is.names i; events = is.events_are i; table = s.table i; next = s.next i }))
-              (gains z New h.stands is.legal refl) (λ none. cc),
+              (gains z New h.stands is.legal (segment_is before m z h)) (λ none. cc),
         )
 
     -- the disk failed
-    add_cuts : BatchesAreMeasured → (before after : List ℕ) → needed_for free.index (new_segment_of New) ≤ limit → GainsBatchOrNot (new_segment_of New) before after
+    add_cuts : (before after : List ℕ) → needed_for free.index (segment_of free.index.params c.events.items New) ≤ limit → GainsBatchOrNot (segment_of free.index.params c.events.items New) before after
         → CutsOff (command_with which count) Got p before after
-    add_cuts measured before after fits gains m s = by_case found.0 found.1 (is_added measured fits before m found.0 s found.1)
+    add_cuts before after fits gains m s = by_case found.0 found.1 (is_added fits before m found.0 s found.1)
       where
         found : (z : History) × IsOf p free.index before m z
         found = is_of p free.index before m free.there s
 
         by_case : (z : History) → IsOf p free.index before m z → IsAdded m z → IsCut m (Asked (command_with which count) Got) before after
-        by_case z h is = by_image (gains z New h.stands is.legal refl)
+        by_case z h is = by_image (gains z New h.stands is.legal (segment_is before m z h))
           where
             new : Answered
             new = record { reply = headed (head_of which (length events) (length (p.events ++ events)) (last_time_from 0 events)); state = record m { index = Some (with_batch z New) } }
@@ -447,50 +457,50 @@ module _ (which : BatchCommand) (p : Parts) (count known limit : ℕ) (c : Store
         let events : new.events.items ≡ p.events = s.2 ∙ a.events in
         λ i. record p { index = index i; names = names i; events = events i }
 
-    pub batch_added : BatchesAreAdded → BatchesAreMeasured → (x : AddedBatch) → IfSome (index_opening c.index) (λ o. AddsBatch o limit known c new before after b.changes.items b.front x)
+    pub batch_added : (x : AddedBatch) → IfSome (index_opening c.index) (λ o. AddsBatch o limit known c new before after b.changes.items b.front x)
         → Accepts (command_with which count) Got p before (with_history p new) after (headed (head_of which x.events x.total x.last))
-    batch_added added measured x adds =
+    batch_added x adds =
         let d : AddsBatch free.index limit known c new before after b.changes.items b.front x =
         of_here (index_opening c.index) free.index (λ o. AddsBatch o limit known c new before after b.changes.items b.front x) opening_there adds in
         let all : new.events.items ≡ p.events ++ d.events = d.events_are ∙ ap (λ (es : List Event). es ++ d.events) a.events in
-        let index : index_opening new.index ≡ Some (with_segment free.index (new_segment_of (batch_with known c.names d.events))) = d.index in
-        let q_is : with_history p new ≡ record p { index = Some (with_segment free.index (new_segment_of (batch_with known c.names d.events))); names = c.names; events = p.events ++ d.events } =
+        let index : index_opening new.index ≡ Some (index_with free.index (segment_of free.index.params c.events.items (batch_with known c.names d.events))) = d.index in
+        let q_is : with_history p new ≡ record p { index = Some (index_with free.index (segment_of free.index.params c.events.items (batch_with known c.names d.events))); names = c.names; events = p.events ++ d.events } =
         λ i. record p { index = index i; names = d.names i; events = all i } in
         let told : headed (head_of which x.events x.total x.last) ≡ headed (head_of which (length d.events) (length (p.events ++ d.events)) (last_time_from 0 d.events)) =
         ap (λ (t : AddedBatch). headed (head_of which t.events t.total t.last)) d.told
         ∙ ap (λ (n : ℕ). headed (head_of which (length d.events) n (last_time_from 0 d.events))) (ap length all) in
         record {
           moves = λ y z ey ez.
-              add_moves d.events d.whole d.come added measured (with_history p new) y z (headed (head_of which x.events x.total x.last)) d.fits
-              (both_told before after (GainsBatch (new_segment_of (batch_with known c.names d.events))) d.gains y z ey ez) q_is told;
+              add_moves d.events d.whole d.come (with_history p new) y z (headed (head_of which x.events x.total x.last)) d.fits
+              (both_told before after (GainsBatch (segment_of free.index.params c.events.items (batch_with known c.names d.events))) d.gains y z ey ez) q_is told;
           accepted = ok_head which x.events x.total x.last;
           held = λ h. d.held;
-          no_index = λ none. absurd (let e : Some (with_segment free.index (new_segment_of (batch_with known c.names d.events))) ≡ None = sym index ∙ none in cc);
+          no_index = λ none. absurd (let e : Some (index_with free.index (segment_of free.index.params c.events.items (batch_with known c.names d.events))) ≡ None = sym index ∙ none in cc);
           quiet = λ not_writing. let e : true ≡ false = sym (writes which count) ∙ not_writing in cc;
         }
 
-    pub batch_failed : BatchesAreMeasured → (f : BatchFault) → IfSome (index_opening c.index) (λ o. FailsBatch o limit known c before after b.changes.items b.front f) → IsBack f known c new
+    pub batch_failed : (f : BatchFault) → IfSome (index_opening c.index) (λ o. FailsBatch o limit known c before after b.changes.items b.front f) → IsBack f known c new
         → (q : Parts) → q ≡ with_history p new → ComesTo (command_with which count) Got p before q after (Err (batch_halt f))
-    batch_failed measured (fault.BadChange line reason) fails back q q_is =
+    batch_failed (fault.BadChange line reason) fails back q q_is =
         let f = of_here (index_opening c.index) free.index (λ o. FailsBatch o limit known c before after b.changes.items b.front (fault.BadChange line reason)) opening_there fails in
         denied (command_with which count) Got p q before after (refusal.BadChange line reason) (q_is ∙ stays back) f.0
         (λ m image s.
         let z = is_of p free.index image m free.there s in
         accepted_steps m (command_with which count) Got (refuse m (refusal.BadChange line reason)) (answer_with image m z.0 (Err (line, reason)) s z.1 f.1))
-    batch_failed measured (fault.FileFull n most) fails back q q_is =
+    batch_failed (fault.FileFull n most) fails back q q_is =
         let f = of_here (index_opening c.index) free.index (λ o. FailsBatch o limit known c before after b.changes.items b.front (fault.FileFull n most)) opening_there fails in
         let d : FillsFile free.index limit known c b.changes.items b.front n = f.2 in
         subst (λ (k : ℕ). Denies (command_with which count) Got p before q after (refusal.FileFull n k)) (sym f.1)
         (denied (command_with which count) Got p q before after (refusal.FileFull n limit) (q_is ∙ stays back) f.0
-        (λ m image s. full_steps d.events d.whole d.come measured n d.needed_is d.over image m s))
-    batch_failed measured fault.Memory fails back q q_is =
+        (λ m image s. full_steps d.events d.whole d.come n d.needed_is d.over image m s))
+    batch_failed fault.Memory fails back q q_is =
         let f : after ≡ before = of_here (index_opening c.index) free.index (λ o. FailsBatch o limit known c before after b.changes.items b.front fault.Memory) opening_there fails in
         lacking_denies (command_with which count) Got p q before after (q_is ∙ stays back) f (lacks which count) not_refused
-    batch_failed measured fault.Store fails back q q_is =
+    batch_failed fault.Store fails back q q_is =
         let d : BreaksBatch free.index limit known c before after b.changes.items b.front =
         of_here (index_opening c.index) free.index (λ o. BreaksBatch o limit known c before after b.changes.items b.front) opening_there fails in (
           writes which count,
           λ y z ey ez.
-              add_cuts d.events d.whole d.come measured y z d.fits
-              (both_told before after (GainsBatchOrNot (new_segment_of (batch_with known c.names d.events))) d.gains y z ey ez),
+              add_cuts d.events d.whole d.come y z d.fits
+              (both_told before after (GainsBatchOrNot (segment_of free.index.params c.events.items (batch_with known c.names d.events))) d.gains y z ey ez),
         )

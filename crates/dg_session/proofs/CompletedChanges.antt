@@ -17,6 +17,8 @@ use Rattle.dg_graph.specs.CompletedChanges.{completed, event_of, go_on, on_value
 use Rattle.dg_graph.specs.Completion.{has_node, is_edge, edge_of, needs_node, needs_edge, node_value, edge_value, edge_removal, value_removal, complete, is_change_of, is_found, is_value_change}
 use Rattle.dg_graph.specs.Effect.{forwards}
 use Rattle.dg_graph.proofs.Sets.{same_itself}
+use Rattle.dg_history.specs.History.{last_time_from}
+use Rattle.dg_list.specs.NetLaws.{AreMadeByChanges}
 
 -- the element that is found is one that was looked for
 pub find_is : {A : Type 0} (p : A → Bool) (xs : List A) (x : A) → find p xs ≡ Some x → p x ≡ true
@@ -201,3 +203,13 @@ as_many earliest set [] (e ∷ events) h = absurd h
 as_many earliest set (None ∷ changes) events h = absurd h
 as_many earliest set (Some c ∷ changes) [] h = absurd h
 as_many earliest set (Some c ∷ changes) (e ∷ events) h = omega (arith, as_many e.time (forwards set e) changes events h.1)
+
+-- they do not end before the earliest time
+pub last_after : (t : ℕ) (set : List Element) (events : List Event) → AreRight t set events → t ≤ last_time_from t events
+last_after t set [] h = omega arith
+last_after t set (e ∷ events) h = omega (arith, h.0, last_after e.time (forwards set e) events h.2)
+
+-- and some change comes to each
+pub made_right : (earliest : ℕ) (set : List Element) (events : List Event) → AreRight earliest set events → AreMadeByChanges set events
+made_right earliest set [] h = tt
+made_right earliest set (e ∷ events) h = (h.1, made_right e.time (forwards set e) events h.2)

@@ -7,8 +7,8 @@ use Rattle.dg_file.specs.Images.{IsMadeInPart}
 use Rattle.dg_graph.specs.declared.event.Event.{Event}
 use Rattle.dg_history.specs.declared.params.Params.{Params}
 use Rattle.dg_history.specs.History.{History, are_parameters, empty_history}
-use Rattle.dg_history.specs.LegalHistory.{IsImageOf, StandsAs}
-use Rattle.dg_history.specs.OpenedIndex.{Opening, opened_of, opening, opening_of}
+use Rattle.dg_index.specs.ImageOfHistory.{IsImageOf, StandsAs}
+use Rattle.dg_index.specs.OpenedIndex.{Opening, opened_of, opening}
 use Rattle.dg_machine.specs.declared.command.Command.{Command}
 use Rattle.dg_machine.specs.declared.command.Command.TheVariants as command
 use Rattle.dg_machine.specs.declared.reply.Head.TheVariants as head
@@ -19,6 +19,7 @@ use Rattle.dg_machine.specs.CutImage.{IsAccepted, IsCut, As_before, As_after, Fi
 use Rattle.dg_machine.specs.MachineState.{MachineState, events_in_index}
 use Rattle.dg_machine.specs.Needs.{needs}
 use Rattle.dg_machine.specs.Script.{Asked}
+use Rattle.dg_session.specs.SessionStart.{opening_of}
 use Rattle.dg_session.proofs.StandsFor.{both_told, no_index, one_told, passes, refused_is, stands}
 use Rattle.dg_session.proofs.Steps.{accepted_is, accepted_steps, is_accepted, lacking_denies, moved}
 use Rattle.dg_session.specs.Halt.{creation_halt}

@@ -1,11 +1,10 @@
 -- A legal history with the next batch is legal.
-use Rattle.std.proofs.Common.{◌≡◌, ℕ, ◌+◌, ◌<◌, ◌≤◌, ◌^◌, List, [], ◌∷◌, ◌++◌, Option, Some, None, Ok, length, map, drop, get_or, refl, sym, ◌∙◌, ap, subst, arith, append_assoc, length-append}
+use Rattle.std.proofs.Common.{◌≡◌, ℕ, ◌+◌, ◌<◌, ◌≤◌, ◌^◌, List, [], ◌∷◌, ◌++◌, Option, Some, None, Ok, length, map, drop, get_or, sym, ◌∙◌, ap, subst, arith, append_assoc, length-append}
 use Rattle.std.specs.Prelude.{IfSome}
 use Rattle.std.specs.List.{All, flat_map}
 use Rattle.std.proofs.lemmas.Grind.{flat_map-append}
 use Rattle.std.proofs.lemmas.List.{append-nil, length-map}
 use Rattle.std.proofs.lemmas.List.Elements.{All-nil, All-append}
-use Rattle.dg_file.specs.Index.{earliest_after}
 use Rattle.dg_graph.specs.declared.element.Element.{Element}
 use Rattle.dg_graph.specs.declared.event.Change.{Change}
 use Rattle.dg_graph.specs.declared.event.Event.{Event}
@@ -13,55 +12,17 @@ use Rattle.dg_graph.specs.declared.limits.TheConstants.{NAMES_MAX, TIME_MAX}
 use Rattle.dg_history.specs.declared.limits.TheConstants.{BATCH_LINES_MAX, EVENTS_MAX}
 use Rattle.dg_graph.specs.CompletedChanges.{completed}
 use Rattle.dg_history.specs.Batch.{changes_after, names_after}
-use Rattle.dg_history.specs.FileOfHistory.{segment}
 use Rattle.dg_history.specs.ChangeGrammar.{change_by_text_in}
-use Rattle.dg_history.specs.History.{History, Batch, events_of, names_of, with_batch, span_of, earliest_next, last_time_from}
+use Rattle.dg_history.specs.History.{History, Batch, events_of, names_of, with_batch, span_of, earliest_next}
 use Rattle.dg_history.specs.LegalHistory.{FitsEvent, IsLegal, IsLegalBatch, AreLegalAfter}
 use Rattle.dg_graph.specs.Lines.{ScriptLine}
 use Rattle.dg_graph.specs.Names.{are_new}
-use Rattle.dg_history.specs.OpenedIndex.{segments_of}
 use Rattle.dg_graph.specs.Replay.{replay}
 use Rattle.dg_session.proofs.CompletedChanges.{AllCome, all_come, as_many}
 use Rattle.dg_session.proofs.EventRanges.{BodyFits, ChangeFits, ElementFits, HasKey, WhatFits, body_more, changes_fit, events_fit, events_keys, from_legal, has_key_more, legal_body, lines_grow, replay_fits, times_fit}
 use Rattle.dg_session.proofs.NamesAfter.{Grows, changes_length, grown_drop, grown_long, grows_none, new_joined}
 use Rattle.dg_session.proofs.GrammarRanges.{lines_fit}
 use Rattle.dg_session.specs.BatchLines.{lines}
-
--- ---- the earliest time of the next batch
-
--- one more than the time of the last event, or this time where there is none
-abbrev pub next_after : ℕ → List Event → ℕ
-next_after earliest [] = earliest
-next_after earliest (e ∷ events) = last_time_from e.time events + 1
-
-pub next_is : (events : List Event) → earliest_next (span_of events) ≡ next_after 0 events
-next_is [] = refl
-next_is (e ∷ events) = refl
-
-last_both : (t : ℕ) (a b : List Event) → last_time_from t (a ++ b) ≡ last_time_from (last_time_from t a) b
-last_both t [] b = refl
-last_both t (e ∷ a) b = last_both e.time a b
-
-next_both : (earliest : ℕ) (a b : List Event) → next_after earliest (a ++ b) ≡ next_after (next_after earliest a) b
-next_both earliest [] b = refl
-next_both earliest (e ∷ a) [] = ap (λ n. n + 1) (last_both e.time a [])
-next_both earliest (e ∷ a) (x ∷ b) = ap (λ n. n + 1) (last_both e.time a (x ∷ b))
-
-next_some : (earliest : ℕ) (events : List Event) → 1 ≤ length events → next_after earliest events ≡ last_time_from 0 events + 1
-next_some earliest [] some = absurd (omega (arith, some))
-next_some earliest (e ∷ events) some = refl
-
-segments_next : (names : List (List ℕ)) (before : List Event) (gate earliest : ℕ) (batches : List Batch) → AreLegalAfter names before batches
-    → earliest_after earliest (segments_of gate batches) ≡ next_after earliest (flat_map (λ (b : Batch). b.events) batches)
-segments_next names before gate earliest [] l = refl
-segments_next names before gate earliest (b ∷ batches) l =
-    let more : List Event = flat_map (λ (b : Batch). b.events) batches in
-    segments_next names (before ++ b.events) (gate + 1 + length (segment b)) (last_time_from 0 b.events + 1) batches l.1
-    ∙ ap (λ n. next_after n more) (sym (next_some earliest b.events l.0.some)) ∙ sym (next_both earliest b.events more)
-
--- the earliest time by the segments is that by the events
-pub earliest_is : (z : History) → IsLegal z → earliest_after 0 (segments_of 17 z.batches) ≡ earliest_next (span_of (events_of z))
-earliest_is z legal = segments_next (names_of z) [] 17 0 z.batches legal.batches ∙ sym (next_is (events_of z))
 
 -- ---- batches, with more names
 
@@ -86,7 +47,7 @@ batches_more names more before (x ∷ batches) b l h = (
       (subst (λ (es : List Event). IsLegalBatch (names ++ more) es b) (sym (append_assoc before x.events (flat_map (λ (b : Batch). b.events) batches))) h),
 )
 
-events_all : (names : List (List ℕ)) (before : List Event) (batches : List Batch) → AreLegalAfter names before batches
+pub events_all : (names : List (List ℕ)) (before : List Event) (batches : List Batch) → AreLegalAfter names before batches
     → All (FitsEvent (length names)) (flat_map (λ (b : Batch). b.events) batches)
 events_all names before [] l = All-nil (FitsEvent (length names))
 events_all names before (b ∷ batches) l =

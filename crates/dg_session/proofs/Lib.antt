@@ -3,11 +3,16 @@ pub mod ReadLines
 pub mod ExtendResult
 pub mod SpanOf
 pub mod FirstWrong
+pub mod NodeSets
+pub mod EventSources
+pub mod ReadRecord
+pub mod SourceEvents
 pub mod ReadHistory
 pub mod CompletedChanges
 pub mod NamesAfter
 pub mod GrammarRanges
 pub mod EventRanges
+pub mod OpenedHistory
 pub mod LegalHistory
 pub mod StartsAsItStands
 pub mod StandsFor
@@ -15,7 +20,7 @@ pub mod Steps
 pub mod AtStep
 pub mod ListStep
 pub mod CreateStep
+pub mod GoesOn
 pub mod TryBatch
 pub mod AddStep
-pub mod ReadPiece
 pub mod AddNames

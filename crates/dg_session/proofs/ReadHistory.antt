@@ -1,115 +1,113 @@
--- How the events of an index are read, one piece at a time.
-use Rattle.std.proofs.Common.{◌≡◌, Bool, true, false, not, if◌then◌else◌, ℕ, suc, ◌+◌, ◌<◌, ◌≤◌, ◌⊎◌, inl, inr, List, [], ◌∷◌, ◌++◌, Option, Some, None, Result, Ok, Err, length, map, drop, get_or, refl, sym, ◌∙◌, ap, subst, arith, append_assoc, length-append}
-use Rattle.std.specs.Prelude.{slice_get, IfSome, IfErr, IsErr, IsErrAnd, is_some}
-use Rattle.std.specs.Option.{option_map}
-use Rattle.std.proofs.Math.Seq.{drop-cons}
-use Rattle.std.proofs.lemmas.List.{append-nil, map-append, drop_all}
-use Rattle.std.proofs.lemmas.Option.{slice_get_within, get_or_from_slice_get, slice_get_cases}
-use Rattle.dg_file.specs.declared.batch.Batch.{Batch}
-use Rattle.dg_file.specs.Held.{batch_in}
-use Rattle.dg_file.specs.Index.{IndexState, events_after}
+-- How the events of an index are read, one source at a time.
+use Rattle.std.proofs.Common.{◌≡◌, ℕ, zero, suc, ◌+◌, ◌<◌, ◌≤◌, Bool, true, false, not, List, [], ◌∷◌, ◌++◌, Option, Some, None, Result, Ok, Err, if◌then◌else◌, length, map, take, drop, get_or, refl, sym, ◌∙◌, ap, subst, arith, add-one, append_assoc, length-append}
+use Rattle.std.specs.Prelude.{IfSome, IfErr, IsErr, IsErrAnd, is_some}
+use Rattle.std.proofs.lemmas.List.{append-nil, drop_all, length-map, map-append, take_all}
+use Rattle.dg_build.specs.SpelledRecords.{RisesFrom}
 use Rattle.dg_graph.specs.declared.element.Element.{Element}
 use Rattle.dg_graph.specs.declared.event.Event.{Event}
+use Rattle.dg_graph.specs.Effect.{forwards}
+use Rattle.dg_graph.specs.Replay.{replay, replay_from}
+use Rattle.dg_history.specs.declared.node.Key.TheVariants as key
+use Rattle.dg_history.specs.declared.params.Params.{Params}
 use Rattle.dg_history.specs.declared.start_fault.StartFault.{StartFault}
 use Rattle.dg_history.specs.declared.start_fault.StartFault.TheVariants as fault
-use Rattle.dg_history.specs.declared.params.Params.{Params}
-use Rattle.dg_graph.specs.Effect.{forwards}
-use Rattle.dg_history.specs.LegalHistory.{is_blank}
-use Rattle.dg_history.specs.OpenedIndex.{Segment, Opening, Opened, Tail, No_index, opening, opened_with, opened_by, params_in, segments_from}
-use Rattle.dg_graph.specs.Replay.{replay, replay_from}
-use Rattle.dg_history.specs.SessionStart.{Started, and_start, events_in_piece, events_in_pieces, first_wrong, right_or, started_from, start_of}
-use Rattle.dg_session.specs.SessionStart.{FirstWrong, RefusesStart, or_later, started_with}
+use Rattle.dg_index.specs.declared.entry.Ends.{Ends}
+use Rattle.dg_index.specs.ImageOfHistory.{is_blank}
+use Rattle.dg_index.specs.ImageText.{params_in}
+use Rattle.dg_index.specs.OpenedIndex.{No_index, Opened, Opening, bare, opened_by, opened_or, opening, read_on}
+use Rattle.dg_index.specs.SessionStart.{Source, Started, and_start, events_in_source, events_in_sources, first_wrong, right_or, sources, started_from, start_of}
+use Rattle.dg_session.specs.declared.event_source.EventSource.{EventSource}
+use Rattle.dg_session.specs.SessionStart.{FoundBehind, RefusesStart, or_later, source_of, started_with}
+use Rattle.dg_session.proofs.SourceEvents.{AreOf, are_of_more, tagged, untag, untagged}
 
 -- the pairs in front of those that come
-abbrev pub onto : List (Segment × Event) → Result (List (Segment × Event)) StartFault → Result (List (Segment × Event)) StartFault
-onto pairs r = and_start r (λ (more : List (Segment × Event)). Ok (pairs ++ more))
+abbrev pub onto : List (Ends × Event) → Result (List (Ends × Event)) StartFault → Result (List (Ends × Event)) StartFault
+onto pairs r = and_start r (λ (more : List (Ends × Event)). Ok (pairs ++ more))
 
-onto-none : (r : Result (List (Segment × Event)) StartFault) → r ≡ onto [] r
+onto-none : (r : Result (List (Ends × Event)) StartFault) → r ≡ onto [] r
 onto-none (Ok more) = refl
 onto-none (Err f) = refl
 
-onto-both : (a b : List (Segment × Event)) (r : Result (List (Segment × Event)) StartFault) → onto a (onto b r) ≡ onto (a ++ b) r
-onto-both a b (Ok more) = ap (λ (ps : List (Segment × Event)). Ok ps) (sym (append_assoc a b more))
+onto-both : (a b : List (Ends × Event)) (r : Result (List (Ends × Event)) StartFault) → onto a (onto b r) ≡ onto (a ++ b) r
+onto-both a b (Ok more) = ap (λ (ps : List (Ends × Event)). Ok ps) (sym (append_assoc a b more))
 onto-both a b (Err f) = refl
 
--- The pieces before this one were read as these events. None of them is wrong, and they lead to the
--- graph; or the first wrong one is known.
-pub record ReadSoFar (image : List ℕ) (names : List (List ℕ)) (segments : List Segment) (piece : ℕ) (wrong : Option ℕ) (graph : List Element) (events : List Event) : Type 0 where
-  pub pairs : List (Segment × Event)
-  pub pieces : events_in_pieces image (length names) 0 segments ≡ onto pairs (events_in_pieces image (length names) piece (drop piece segments))
-  pub events_are : map (λ (e : Segment × Event). e.1) pairs ≡ events
-  pub wrong_is : (more : List (Segment × Event)) → first_wrong names 1 [] (pairs ++ more) ≡ or_later wrong (first_wrong names (1 + length events) graph more)
+-- The first of the sources were read as these events. None of them is wrong, and they lead to the graph; or the
+-- first wrong one is known.
+pub record ReadSoFar (told : Option (List ℕ)) (names : List (List ℕ)) (o : Opening) (i : ℕ) (wrong : Option ℕ) (graph : List Element) (events : List Event) : Type 0 where
+  pub pairs : List (Ends × Event)
+  pub read : (image : List ℕ) → told ≡ Some image
+      → events_in_sources image (length names) o (sources o) ≡ onto pairs (events_in_sources image (length names) o (drop i (sources o)))
+  pub comes : AreOf (take i (sources o)) pairs
+  pub events_are : untag pairs ≡ events
+  pub wrong_is : (more : List (Ends × Event)) → first_wrong names 1 [] (pairs ++ more) ≡ or_later wrong (first_wrong names (1 + length events) graph more)
 
-pub none_read : (image : List ℕ) (names : List (List ℕ)) (segments : List Segment) (graph : List Element) (events : List Event) → graph ≡ [] → events ≡ []
-    → ReadSoFar image names segments 0 None graph events
-none_read image names segments graph events no_graph no_event =
-    subst (λ (g : List Element). ReadSoFar image names segments 0 None g events) (sym no_graph)
-    (subst (λ (es : List Event). ReadSoFar image names segments 0 None [] es) (sym no_event)
-    (record { pairs = []; pieces = onto-none (events_in_pieces image (length names) 0 segments); events_are = refl; wrong_is = λ more. refl }))
+pub none_read : (told : Option (List ℕ)) (names : List (List ℕ)) (o : Opening) (graph : List Element) (events : List Event) → graph ≡ [] → events ≡ []
+    → ReadSoFar told names o 0 None graph events
+none_read told names o graph events no_graph no_event =
+    subst (λ (g : List Element). ReadSoFar told names o 0 None g events) (sym no_graph)
+    (subst (λ (es : List Event). ReadSoFar told names o 0 None [] es) (sym no_event)
+    (record { pairs = []; read = λ image h. onto-none (events_in_sources image (length names) o (sources o)); comes = refl; events_are = refl; wrong_is = λ more. refl }))
 
--- the segments from a piece on
-from_here : (segments : List Segment) (piece : ℕ) (s : Segment) → slice_get segments piece ≡ Some s → drop piece segments ≡ s ∷ drop (piece + 1) segments
-from_here segments piece s there =
-    drop-cons segments piece s (slice_get_within segments piece s there)
-    ∙ ap (λ (x : Segment). x ∷ drop (suc piece) segments) (get_or_from_slice_get segments piece s s there)
-    ∙ ap (λ (n : ℕ). s ∷ drop n segments) (let e : suc piece ≡ piece + 1 = omega arith in e)
+-- the source that is read next
+pub record IsNextSource (o : Opening) (i : ℕ) (s : Source) : Type 0 where
+  pub rest : drop i (sources o) ≡ s ∷ drop (i + 1) (sources o)
+  pub front : take (i + 1) (sources o) ≡ take i (sources o) ++ s ∷ []
 
-abbrev pub tagged : Segment → List Event → List (Segment × Event)
-tagged s events = map (λ (e : Event). (s, e)) events
-
-pub untagged : (s : Segment) (events : List Event) → map (λ (e : Segment × Event). e.1) (tagged s events) ≡ events
-untagged s [] = refl
-untagged s (e ∷ events) = ap (λ es. e ∷ es) (untagged s events)
-
--- the pieces from this one on
-abbrev and_more : List ℕ → List (List ℕ) → ℕ → List Segment → Segment → Result (List Event) StartFault → Result (List (Segment × Event)) StartFault
-and_more image names piece rest s r =
-    and_start r (λ events. and_start (events_in_pieces image (length names) (piece + 1) rest) (λ more. Ok (map (λ (e : Event). (s, e)) events ++ more)))
-
-pieces_here : (image : List ℕ) (names : List (List ℕ)) (segments : List Segment) (piece : ℕ) (s : Segment) → slice_get segments piece ≡ Some s
-    → events_in_pieces image (length names) piece (drop piece segments) ≡ and_more image names piece (drop (piece + 1) segments) s (events_in_piece image (length names) piece s)
-pieces_here image names segments piece s there = ap (λ (xs : List Segment). events_in_pieces image (length names) piece xs) (from_here segments piece s there)
-
-more_pieces : (image : List ℕ) (names : List (List ℕ)) (segments : List Segment) (piece : ℕ) (s : Segment) (pairs : List (Segment × Event)) (more : List Event)
-    → slice_get segments piece ≡ Some s → events_in_piece image (length names) piece s ≡ Ok more
-    → events_in_pieces image (length names) 0 segments ≡ onto pairs (events_in_pieces image (length names) piece (drop piece segments))
-    → events_in_pieces image (length names) 0 segments ≡ onto (pairs ++ tagged s more) (events_in_pieces image (length names) (piece + 1) (drop (piece + 1) segments))
-more_pieces image names segments piece s pairs more there read so_far =
-    so_far ∙ ap (onto pairs) (pieces_here image names segments piece s there ∙ ap (and_more image names piece (drop (piece + 1) segments) s) read)
-    ∙ onto-both pairs (tagged s more) (events_in_pieces image (length names) (piece + 1) (drop (piece + 1) segments))
-
-more_events : (s : Segment) (pairs : List (Segment × Event)) (events more : List Event)
-    → map (λ (e : Segment × Event). e.1) pairs ≡ events → map (λ (e : Segment × Event). e.1) (pairs ++ tagged s more) ≡ events ++ more
-more_events s pairs events more are =
-    map-append (λ (e : Segment × Event). e.1) pairs (tagged s more) ∙ ap (λ es. es ++ map (λ (e : Segment × Event). e.1) (tagged s more)) are
-    ∙ ap (λ es. events ++ es) (untagged s more)
-
--- a piece whose events are tested
-pub piece_tested : (image : List ℕ) (names : List (List ℕ)) (segments : List Segment) (piece : ℕ) (s : Segment) (graph then_graph : List Element) (events more : List Event) (wrong : Option ℕ)
-    → ReadSoFar image names segments piece None graph events → slice_get segments piece ≡ Some s → events_in_piece image (length names) piece s ≡ Ok more
-    → FirstWrong names s (1 + length events) graph more wrong then_graph
-    → ReadSoFar image names segments (piece + 1) wrong then_graph (events ++ more)
-piece_tested image names segments piece s graph then_graph events more wrong so_far there read tested = record {
-  pairs = so_far.pairs ++ tagged s more;
-  pieces = more_pieces image names segments piece s so_far.pairs more there read so_far.pieces;
-  events_are = more_events s so_far.pairs events more so_far.events_are;
-  wrong_is = λ later.
-      ap (first_wrong names 1 []) (append_assoc so_far.pairs (tagged s more) later) ∙ so_far.wrong_is (tagged s more ++ later) ∙ tested later
-      ∙ ap (λ (n : ℕ). or_later wrong (first_wrong names n then_graph later))
-      (let e : 1 + length events + length more ≡ 1 + length (events ++ more) = omega (arith, length-append events more) in e);
+pub next_source : (o : Opening) (found : List EventSource) (i : ℕ) (d : EventSource) → map source_of found ≡ sources o → i < length found → IsNextSource o i (source_of (get_or found i d))
+next_source o found i d are lt = record {
+  rest = subst (λ (l : List Source). drop i l ≡ source_of (get_or found i d) ∷ drop (i + 1) l) are (drops found i lt);
+  front = subst (λ (l : List Source). take (i + 1) l ≡ take i l ++ source_of (get_or found i d) ∷ []) are (ap (λ n. take n (map source_of found)) (add-one i) ∙ takes found i lt);
 }
+  where
+    drops : (found : List EventSource) (i : ℕ) → i < length found → drop i (map source_of found) ≡ source_of (get_or found i d) ∷ drop (i + 1) (map source_of found)
+    drops [] i lt = absurd (omega arith)
+    drops (x ∷ found) zero lt = refl
+    drops (x ∷ found) (suc i) lt =
+        drops found i (omega (arith, lt)) ∙ ap (λ (n : ℕ). source_of (get_or found i d) ∷ drop n (source_of x ∷ map source_of found)) (let e : suc (i + 1) ≡ suc i + 1 = omega arith in e)
 
--- a piece after an event that is wrong
-pub piece_untested : (image : List ℕ) (names : List (List ℕ)) (segments : List Segment) (piece : ℕ) (s : Segment) (graph : List Element) (events more : List Event) (n : ℕ)
-    → ReadSoFar image names segments piece (Some n) graph events → slice_get segments piece ≡ Some s → events_in_piece image (length names) piece s ≡ Ok more
-    → ReadSoFar image names segments (piece + 1) (Some n) graph (events ++ more)
-piece_untested image names segments piece s graph events more n so_far there read = record {
-  pairs = so_far.pairs ++ tagged s more;
-  pieces = more_pieces image names segments piece s so_far.pairs more there read so_far.pieces;
-  events_are = more_events s so_far.pairs events more so_far.events_are;
-  wrong_is = λ later.
-      ap (first_wrong names 1 []) (append_assoc so_far.pairs (tagged s more) later) ∙ so_far.wrong_is (tagged s more ++ later);
-}
+    takes : (found : List EventSource) (i : ℕ) → i < length found → take (suc i) (map source_of found) ≡ take i (map source_of found) ++ source_of (get_or found i d) ∷ []
+    takes [] i lt = absurd (omega arith)
+    takes (x ∷ found) zero lt = refl
+    takes (x ∷ found) (suc i) lt = ap (λ (l : List Source). source_of x ∷ l) (takes found i (omega (arith, lt)))
+
+-- what a list of sources has past its end
+abbrev pub no_source : EventSource
+no_source = record { key = key.List 0; count = 0; ends = record { first = 0; last = 0 } }
+
+-- the sources from this one on
+abbrev and_more : List ℕ → List (List ℕ) → Opening → List Source → Source → Result (List Event) StartFault → Result (List (Ends × Event)) StartFault
+and_more image names o rest s r =
+    and_start r (λ events. and_start (events_in_sources image (length names) o rest) (λ more. Ok (map (λ (e : Event). (s.ends, e)) events ++ more)))
+
+sources_here : (image : List ℕ) (names : List (List ℕ)) (o : Opening) (i : ℕ) (s : Source) → IsNextSource o i s
+    → events_in_sources image (length names) o (drop i (sources o)) ≡ and_more image names o (drop (i + 1) (sources o)) s (events_in_source image (length names) o s)
+sources_here image names o i s next = ap (λ (xs : List Source). events_in_sources image (length names) o xs) next.rest
+
+-- one source more
+pub source_read : (told : Option (List ℕ)) (names : List (List ℕ)) (o : Opening) (i : ℕ) (s : Source) (wrong found : Option ℕ) (graph then_graph : List Element) (events more then_events : List Event)
+    → ReadSoFar told names o i wrong graph events → IsNextSource o i s → ((image : List ℕ) → told ≡ Some image → events_in_source image (length names) o s ≡ Ok more)
+    → length more ≡ s.count → RisesFrom 0 more → FoundBehind names s.ends events graph more wrong found then_graph → then_events ≡ events ++ more
+    → ReadSoFar told names o (i + 1) found then_graph then_events
+source_read told names o i s wrong found graph then_graph events more then_events so_far next read many rises tested are =
+    subst (λ (es : List Event). ReadSoFar told names o (i + 1) found then_graph es) (sym are)
+    (record {
+      pairs = so_far.pairs ++ tagged s.ends more;
+      read = λ image h.
+          so_far.read image h
+          ∙ ap (onto so_far.pairs) (sources_here image names o i s next ∙ ap (and_more image names o (drop (i + 1) (sources o)) s) (read image h))
+          ∙ onto-both so_far.pairs (tagged s.ends more) (events_in_sources image (length names) o (drop (i + 1) (sources o)));
+      comes = subst (λ (l : List Source). AreOf l (so_far.pairs ++ tagged s.ends more)) (sym next.front) (are_of_more (take i (sources o)) s so_far.pairs more so_far.comes many rises);
+      events_are = map-append (λ (e : Ends × Event). e.1) so_far.pairs (tagged s.ends more) ∙ (λ j. so_far.events_are j ++ untagged s.ends more j);
+      wrong_is = λ later. ap (first_wrong names 1 []) (append_assoc so_far.pairs (tagged s.ends more) later) ∙ so_far.wrong_is (tagged s.ends more ++ later) ∙ by later wrong tested;
+    })
+  where
+    by : (later : List (Ends × Event)) (w : Option ℕ) → FoundBehind names s.ends events graph more w found then_graph
+        → or_later w (first_wrong names (1 + length events) graph (tagged s.ends more ++ later)) ≡ or_later found (first_wrong names (1 + length (events ++ more)) then_graph later)
+    by later None tested =
+        tested later ∙ ap (λ (n : ℕ). or_later found (first_wrong names n then_graph later))
+        (let e : 1 + length events + length more ≡ 1 + length (events ++ more) = omega (arith, length-append events more) in e)
+    by later (Some n) tested = sym (ap (λ (w : Option ℕ). or_later w (first_wrong names (1 + length (events ++ more)) then_graph later)) tested)
 
 -- what is refused first is refused
 pub refused_first : {A B : Type 0} (f : StartFault) (r : Result A StartFault) (next : A → Result B StartFault) → RefusesStart f r → RefusesStart f (and_start r next)
@@ -120,109 +118,67 @@ refused_first (fault.BadRecord key col) r next h = ap (λ x. and_start x next) h
 refused_first (fault.BadRecent number) r next h = ap (λ x. and_start x next) h
 refused_first fault.Memory r next h = tt
 
-abbrev pub from_pieces : Opened → Result (List (Segment × Event)) StartFault → Result (Option Started) StartFault
-from_pieces o r = and_start r (λ events. right_or o events (first_wrong o.names 1 [] events))
+abbrev pub from_sources : Opened → Result (List (Ends × Event)) StartFault → Result (Option Started) StartFault
+from_sources o r = and_start r (λ events. right_or o events (first_wrong o.names 1 [] events))
 
 pub starts : (image : List ℕ) (names : List (List ℕ)) (o : Opening) → opening image ≡ Ok (record { index = o; names = names })
-    → start_of image ≡ from_pieces (record { index = o; names = names }) (events_in_pieces image (length names) 0 o.segments)
+    → start_of image ≡ from_sources (record { index = o; names = names }) (events_in_sources image (length names) o (sources o))
 starts image names o opened = ap (started_from image) opened
 
--- a piece that is refused
-pub piece_refused : (image : List ℕ) (names : List (List ℕ)) (o : Opening) (piece : ℕ) (s : Segment) (graph : List Element) (events : List Event) (wrong : Option ℕ) (f : StartFault)
-    → opening image ≡ Ok (record { index = o; names = names }) → ReadSoFar image names o.segments piece wrong graph events → slice_get o.segments piece ≡ Some s
-    → RefusesStart f (events_in_piece image (length names) piece s) → RefusesStart f (start_of image)
-piece_refused image names o piece s graph events wrong f opened so_far there bad =
-    let rest : List Segment = drop (piece + 1) o.segments in
-    let here : RefusesStart f (and_more image names piece rest s (events_in_piece image (length names) piece s)) =
-    refused_first f (events_in_piece image (length names) piece s)
-    (λ events. and_start (events_in_pieces image (length names) (piece + 1) rest) (λ more. Ok (map (λ (e : Event). (s, e)) events ++ more))) bad in
-    let all : RefusesStart f (onto so_far.pairs (and_more image names piece rest s (events_in_piece image (length names) piece s))) =
-    refused_first f (and_more image names piece rest s (events_in_piece image (length names) piece s)) (λ (more : List (Segment × Event)). Ok (so_far.pairs ++ more)) here in
-    let is : events_in_pieces image (length names) 0 o.segments ≡ onto so_far.pairs (and_more image names piece rest s (events_in_piece image (length names) piece s)) =
-    so_far.pieces ∙ ap (onto so_far.pairs) (pieces_here image names o.segments piece s there) in
-    subst (λ (r : Result (Option Started) StartFault). RefusesStart f r) (sym (starts image names o opened ∙ ap (from_pieces (record { index = o; names = names })) is))
-    (refused_first f (onto so_far.pairs (and_more image names piece rest s (events_in_piece image (length names) piece s))) (λ events. right_or (record { index = o; names = names }) events (first_wrong names 1 [] events)) all)
+-- a source that is refused
+pub source_refused : (told : Option (List ℕ)) (image : List ℕ) (names : List (List ℕ)) (o : Opening) (i : ℕ) (s : Source) (graph : List Element) (events : List Event) (wrong : Option ℕ) (f : StartFault)
+    → told ≡ Some image → opening image ≡ Ok (record { index = o; names = names }) → ReadSoFar told names o i wrong graph events → IsNextSource o i s
+    → RefusesStart f (events_in_source image (length names) o s) → RefusesStart f (start_of image)
+source_refused told image names o i s graph events wrong f here_told opened so_far next bad =
+    let rest : List Source = drop (i + 1) (sources o) in
+    let here : RefusesStart f (and_more image names o rest s (events_in_source image (length names) o s)) =
+    refused_first f (events_in_source image (length names) o s)
+    (λ events. and_start (events_in_sources image (length names) o rest) (λ more. Ok (map (λ (e : Event). (s.ends, e)) events ++ more))) bad in
+    let all : RefusesStart f (onto so_far.pairs (and_more image names o rest s (events_in_source image (length names) o s))) =
+    refused_first f (and_more image names o rest s (events_in_source image (length names) o s)) (λ (more : List (Ends × Event)). Ok (so_far.pairs ++ more)) here in
+    let is : events_in_sources image (length names) o (sources o) ≡ onto so_far.pairs (and_more image names o rest s (events_in_source image (length names) o s)) =
+    so_far.read image here_told ∙ ap (onto so_far.pairs) (sources_here image names o i s next) in
+    subst (λ (r : Result (Option Started) StartFault). RefusesStart f r) (sym (starts image names o opened ∙ ap (from_sources (record { index = o; names = names })) is))
+    (refused_first f (onto so_far.pairs (and_more image names o rest s (events_in_source image (length names) o s))) (λ events. right_or (record { index = o; names = names }) events (first_wrong names 1 [] events)) all)
 
--- every piece was read
-all_read : (image : List ℕ) (names : List (List ℕ)) (o : Opening) (piece : ℕ) (graph : List Element) (events : List Event) (wrong : Option ℕ)
-    → opening image ≡ Ok (record { index = o; names = names }) → (so_far : ReadSoFar image names o.segments piece wrong graph events) → length o.segments ≤ piece
+-- the first wrong one of all
+later_none : (w : Option ℕ) → or_later w None ≡ w
+later_none None = refl
+later_none (Some n) = refl
+
+pub all_tested : (told : Option (List ℕ)) (names : List (List ℕ)) (o : Opening) (i : ℕ) (graph : List Element) (events : List Event) (wrong : Option ℕ)
+    → (so_far : ReadSoFar told names o i wrong graph events) → first_wrong names 1 [] so_far.pairs ≡ wrong
+all_tested told names o i graph events wrong so_far = ap (first_wrong names 1 []) (sym (append-nil so_far.pairs)) ∙ so_far.wrong_is [] ∙ later_none wrong
+
+-- every source was read
+pub all_of_sources : (told : Option (List ℕ)) (names : List (List ℕ)) (o : Opening) (i : ℕ) (graph : List Element) (events : List Event) (wrong : Option ℕ)
+    → (so_far : ReadSoFar told names o i wrong graph events) → length (sources o) ≤ i → AreOf (sources o) so_far.pairs
+all_of_sources told names o i graph events wrong so_far past = subst (λ (l : List Source). AreOf l so_far.pairs) (take_all i (sources o) past) so_far.comes
+
+all_read : (told : Option (List ℕ)) (image : List ℕ) (names : List (List ℕ)) (o : Opening) (i : ℕ) (graph : List Element) (events : List Event) (wrong : Option ℕ)
+    → told ≡ Some image → opening image ≡ Ok (record { index = o; names = names }) → (so_far : ReadSoFar told names o i wrong graph events) → length (sources o) ≤ i
     → start_of image ≡ right_or (record { index = o; names = names }) so_far.pairs wrong
-all_read image names o piece graph events wrong opened so_far past =
-    let pairs : List (Segment × Event) = so_far.pairs in
+all_read told image names o i graph events wrong here opened so_far past =
+    let pairs : List (Ends × Event) = so_far.pairs in
     starts image names o opened
-    ∙ ap (from_pieces (record { index = o; names = names })) (so_far.pieces ∙ ap (λ (xs : List Segment). onto pairs (events_in_pieces image (length names) piece xs)) (drop_all piece o.segments past)
-    ∙ ap (λ (ps : List (Segment × Event)). Ok ps) (append-nil pairs))
-    ∙ ap (right_or (record { index = o; names = names }) pairs)
-    (ap (first_wrong names 1 []) (sym (append-nil pairs)) ∙ so_far.wrong_is [] ∙ later_none wrong)
-  where
-    later_none : (w : Option ℕ) → or_later w None ≡ w
-    later_none None = refl
-    later_none (Some n) = refl
+    ∙ ap (from_sources (record { index = o; names = names })) (so_far.read image here ∙ ap (λ (xs : List Source). onto pairs (events_in_sources image (length names) o xs)) (drop_all i (sources o) past)
+    ∙ ap (λ (ps : List (Ends × Event)). Ok ps) (append-nil pairs))
+    ∙ ap (right_or (record { index = o; names = names }) pairs) (all_tested told names o i graph events wrong so_far)
 
-pub all_right : (image : List ℕ) (names : List (List ℕ)) (o : Opening) (piece : ℕ) (graph : List Element) (events : List Event)
-    → opening image ≡ Ok (record { index = o; names = names }) → ReadSoFar image names o.segments piece None graph events → length o.segments ≤ piece
+pub all_right : (told : Option (List ℕ)) (image : List ℕ) (names : List (List ℕ)) (o : Opening) (i : ℕ) (graph : List Element) (events : List Event)
+    → told ≡ Some image → opening image ≡ Ok (record { index = o; names = names }) → ReadSoFar told names o i None graph events → length (sources o) ≤ i
     → start_of image ≡ Ok (started_with (Some o) names events)
-all_right image names o piece graph events opened so_far past =
-    all_read image names o piece graph events None opened so_far past
+all_right told image names o i graph events here opened so_far past =
+    all_read told image names o i graph events None here opened so_far past
     ∙ ap (λ (es : List Event). Ok (started_with (Some o) names es)) so_far.events_are
 
-pub one_wrong : (image : List ℕ) (names : List (List ℕ)) (o : Opening) (piece : ℕ) (graph : List Element) (events : List Event) (n : ℕ)
-    → opening image ≡ Ok (record { index = o; names = names }) → ReadSoFar image names o.segments piece (Some n) graph events → length o.segments ≤ piece
+pub one_wrong : (told : Option (List ℕ)) (image : List ℕ) (names : List (List ℕ)) (o : Opening) (i : ℕ) (graph : List Element) (events : List Event) (n : ℕ)
+    → told ≡ Some image → opening image ≡ Ok (record { index = o; names = names }) → ReadSoFar told names o i (Some n) graph events → length (sources o) ≤ i
     → start_of image ≡ Err (fault.BadRecent n)
-one_wrong image names o piece graph events n opened so_far past = all_read image names o piece graph events (Some n) opened so_far past
+one_wrong told image names o i graph events n here opened so_far past = all_read told image names o i graph events (Some n) here opened so_far past
 
--- a batch that is told is that of a segment
-pub batch_there : (segments : List Segment) (piece : ℕ) (told : Option Batch) (batch : Batch) → told ≡ option_map batch_in (slice_get segments piece) → told ≡ Some batch
-    → (s : Segment) × (slice_get segments piece ≡ Some s) × (batch ≡ batch_in s)
-batch_there segments piece told batch is some = there (slice_get segments piece) (sym is ∙ some)
-  where
-    there : (o : Option Segment) → option_map batch_in o ≡ Some batch → (s : Segment) × (o ≡ Some s) × (batch ≡ batch_in s)
-    there None h = cc
-    there (Some s) h = (s, refl, cc)
-
-pub no_batch_there : (segments : List Segment) (piece : ℕ) (told : Option Batch) → told ≡ option_map batch_in (slice_get segments piece) → told ≡ None
-    → length segments ≤ piece
-no_batch_there segments piece told is none = past (slice_get_cases segments piece).1
-  where
-    past : ((x : Segment) × (piece < length segments) × (slice_get segments piece ≡ Some x) × (get_or segments piece x ≡ x)) ⊎ ((length segments ≤ piece) × (slice_get segments piece ≡ None)) → length segments ≤ piece
-    past (inl a) = let e : option_map batch_in (Some a.0) ≡ None = ap (option_map batch_in) (sym a.2) ∙ sym is ∙ none in cc
-    past (inr b) = b.0
-
--- the events of one segment are among those of all
-pub after_more : (n : ℕ) (segments : List Segment) → n ≤ events_after n segments
-after_more n [] = omega arith
-after_more n (s ∷ segments) = omega (arith, after_more (n + s.events) segments)
-
--- What is told of a piece, where so many events were read of the pieces before it.
-pub record IsPiece (segments : List Segment) (piece read : ℕ) (batch : Batch) : Type 0 where
-  pub segment : Segment
-  pub there : slice_get segments piece ≡ Some segment
-  pub batch_is : batch ≡ batch_in segment
-  pub past : piece < length segments
-  pub bound : read + batch.events ≤ events_after 0 segments
-  pub next : events_after (read + batch.events) (drop (piece + 1) segments) ≡ events_after 0 segments
-
-pub piece_told : (old now : IndexState) (piece read : ℕ) (told : Option Batch) (batch : Batch) → now ≡ old
-    → told ≡ option_map batch_in (slice_get now.opening.segments piece) → told ≡ Some batch
-    → events_after read (drop piece old.opening.segments) ≡ events_after 0 old.opening.segments → IsPiece old.opening.segments piece read batch
-piece_told old now piece read told batch same is some counted =
-    let b = batch_there old.opening.segments piece told batch (is ∙ ap (λ (x : IndexState). option_map batch_in (slice_get x.opening.segments piece)) same) some in
-    let rest : List Segment = drop (piece + 1) old.opening.segments in
-    let next : events_after (read + batch.events) rest ≡ events_after 0 old.opening.segments =
-    ap (λ (x : Batch). events_after (read + x.events) rest) b.2 ∙ sym (ap (events_after read) (from_here old.opening.segments piece b.0 b.1)) ∙ counted in
-    record {
-      segment = b.0;
-      there = b.1;
-      batch_is = b.2;
-      past = slice_get_within old.opening.segments piece b.0 b.1;
-      bound = omega (arith, after_more (read + batch.events) rest, next);
-      next = next;
-    }
-
--- once all pieces are read, so many events were read as the segments have
-pub all_counted : (segments : List Segment) (piece read : ℕ) → events_after read (drop piece segments) ≡ events_after 0 segments → length segments ≤ piece
-    → read ≡ events_after 0 segments
-all_counted segments piece read counted past = sym (ap (events_after read) (drop_all piece segments past)) ∙ counted
+pub as_many : (o : Opening) (found : List EventSource) → map source_of found ≡ sources o → length (sources o) ≡ length found
+as_many o found are = sym (ap length are) ∙ length-map found source_of
 
 pub replay_more : (set : List Element) (a b : List Event) → replay_from set (a ++ b) ≡ replay_from (replay_from set a) b
 replay_more set [] b = refl
@@ -233,11 +189,6 @@ pub led_more : (graph then_graph : List Element) (events more then_events : List
     → then_graph ≡ replay then_events
 led_more graph then_graph events more then_events a b c =
     b ∙ ap (λ (g : List Element). replay_from g more) a ∙ sym (replay_more [] events more) ∙ sym (ap replay c)
-
-pub none_told : (old now : IndexState) (piece : ℕ) (told : Option Batch) → now ≡ old
-    → told ≡ option_map batch_in (slice_get now.opening.segments piece) → told ≡ None → length old.opening.segments ≤ piece
-none_told old now piece told same is none =
-    no_batch_there old.opening.segments piece told (is ∙ ap (λ (x : IndexState). option_map batch_in (slice_get x.opening.segments piece)) same) none
 
 pub of_told : {A : Type 0} (o : Option A) (P : A → Type 0) (x : A) → IfSome o P → o ≡ Some x → P x
 of_told o P x h e = subst (λ (y : Option _). IfSome y P) e h
@@ -262,13 +213,13 @@ told_weaker old new P Q same weaker h = subst (λ (o : Option (List ℕ)). IfSom
     weak None h = tt
     weak (Some x) h = weaker x h
 
-not_blank_with : (params : Params) (r : Result Tail ℕ) → opened_with params r ≡ Err No_index → ⊥
-not_blank_with params (Ok more) h = cc
-not_blank_with params (Err offset) h = cc
+not_blank_with : (r : Result Opened ℕ) → opened_or r ≡ Err No_index → ⊥
+not_blank_with (Ok x) h = cc
+not_blank_with (Err offset) h = cc
 
 not_blank : (image : List ℕ) (params : Option Params) → opened_by image params ≡ Err No_index → ⊥
 not_blank image None h = cc
-not_blank image (Some params) h = not_blank_with params (segments_from (length image) 0 [] 0 image 17) h
+not_blank image (Some params) h = not_blank_with (read_on (length image) image (bare params)) h
 
 -- only a blank image has no index
 pub blank_is : (image : List ℕ) → opening image ≡ Err No_index → is_blank image ≡ true
@@ -277,17 +228,3 @@ blank_is image h = by_test (is_blank image) h
     by_test : (b : Bool) → (if b then Err No_index else opened_by image (params_in image)) ≡ Err No_index → b ≡ true
     by_test true h = refl
     by_test false h = absurd (not_blank image (params_in image) h)
-
--- the same over equal values
-pub read_as : (image : List ℕ) (names : List (List ℕ)) (segments : List Segment) (piece : ℕ) (wrong then_wrong : Option ℕ) (graph then_graph : List Element) (events then_events : List Event)
-    → then_wrong ≡ wrong → then_graph ≡ graph → then_events ≡ events
-    → ReadSoFar image names segments piece wrong graph events → ReadSoFar image names segments piece then_wrong then_graph then_events
-read_as image names segments piece wrong then_wrong graph then_graph events then_events a b c r =
-    subst (λ (w : Option ℕ). ReadSoFar image names segments piece w then_graph then_events) (sym a)
-    (subst (λ (x : List Element). ReadSoFar image names segments piece wrong x then_events) (sym b)
-    (subst (λ (es : List Event). ReadSoFar image names segments piece wrong graph es) (sym c) r))
-
-pub tested_as : (names : List (List ℕ)) (s : Segment) (n then_n : ℕ) (set after : List Element) (events then_events : List Event) (wrong : Option ℕ)
-    → n ≡ then_n → events ≡ then_events → FirstWrong names s n set events wrong after → FirstWrong names s then_n set then_events wrong after
-tested_as names s n then_n set after events then_events wrong a b t =
-    subst (λ (k : ℕ). FirstWrong names s k set then_events wrong after) a (subst (λ (es : List Event). FirstWrong names s n set es wrong after) b t)

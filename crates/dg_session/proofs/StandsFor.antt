@@ -5,14 +5,15 @@ use Rattle.std.specs.Option.{option_map}
 use Rattle.std.proofs.lemmas.Option.{none-some}
 use Rattle.dg_graph.specs.Lines.{ScriptLine}
 use Rattle.dg_history.specs.History.{History, events_of}
-use Rattle.dg_history.specs.LegalHistory.{StandsAs}
-use Rattle.dg_history.specs.OpenedIndex.{Opening, opening_of}
+use Rattle.dg_index.specs.ImageOfHistory.{StandsAs}
+use Rattle.dg_index.specs.OpenedIndex.{Opening}
 use Rattle.dg_machine.specs.declared.command.Command.{Command}
 use Rattle.dg_machine.specs.declared.reply.Refusal.{Refusal}
 use Rattle.dg_machine.specs.declared.stands.Stands.{Stands}
 use Rattle.dg_machine.specs.Answer.{with_handle}
 use Rattle.dg_machine.specs.MachineState.{MachineState, events_in_index, history_in, names_in}
 use Rattle.dg_machine.specs.Needs.{needs, refused, when, earliest}
+use Rattle.dg_session.specs.SessionStart.{opening_of}
 use Rattle.dg_session.specs.Parts.{Parts}
 use Rattle.dg_session.specs.Session.{StandsFor, WhereBothTold, refusals_by, refused_by}
 

@@ -2,7 +2,6 @@
 use Rattle.std.specs.Prelude.{◌≡◌, ◌+◌, ◌<◌, ◌≤◌, ◌^◌, ℕ, true, List, ◌++◌, Option, Some, None, Result, Ok, Err, IfSome, length, take, drop}
 use Rattle.std.specs.List.{All}
 use Rattle.dg_file.specs.Images.{BothTold, GainsBatch, GainsBatchOrNot}
-use Rattle.dg_file.specs.Index.{earliest_after, needed_for, new_segment_of, with_segment}
 use Rattle.dg_machine.specs.declared.command.Command.{Command}
 use Rattle.dg_machine.specs.declared.command.Command.TheVariants as command
 use Rattle.dg_graph.specs.declared.event.Change.{Change}
@@ -17,7 +16,9 @@ use Rattle.dg_machine.specs.declared.reply.Refusal.{Refusal}
 use Rattle.dg_machine.specs.Needs.{needs}
 use Rattle.dg_graph.specs.CompletedChanges.{completed}
 use Rattle.dg_history.specs.History.{Batch, last_time_from}
-use Rattle.dg_history.specs.OpenedIndex.{Opening, may_be_named}
+use Rattle.dg_index.specs.FileOfHistory.{segment_of}
+use Rattle.dg_index.specs.IndexGrowth.{index_with, needed_for}
+use Rattle.dg_index.specs.OpenedIndex.{Opening, earliest_in, may_be_named}
 use Rattle.dg_graph.specs.Replay.{replay}
 use Rattle.dg_now.specs.declared.fault.PrepareFault.{PrepareFault}
 use Rattle.dg_now.specs.declared.fault.PrepareFault.TheVariants as prepare_fault
@@ -84,20 +85,20 @@ pub record IsReady (o : Opening) (known : ℕ) (c : StoredHistory) (front : Fron
 -- what the lines come to as the batch behind these events, all those that begin with the changes
 abbrev pub ComeTo : Opening → List Event → Front → List Change → Result (List Event) (ℕ × ℕ) → Type 0
 ComeTo o events front changes due =
-    (all : List (Option Change)) → IsFront front changes all → completed 1 (earliest_after 0 o.segments) (replay events) all ≡ due
+    (all : List (Option Change)) → IsFront front changes all → completed 1 (earliest_in 0 o.batches) (replay events) all ≡ due
 
 -- The batch was added: in the file, behind the segments of the index, and in memory.
 pub record AddsBatch (o : Opening) (limit known : ℕ) (old new : StoredHistory) (before after : Option (List ℕ)) (changes : List Change) (front : Front) (added : AddedBatch) : Type 0 where
   pub events : List Event
   pub whole : front ≡ Whole
   pub come : ComeTo o old.events.items front changes (Ok events)
-  pub index : index_opening new.index ≡ Some (with_segment o (new_segment_of (batch_with known old.names events)))
+  pub index : index_opening new.index ≡ Some (index_with o (segment_of o.params old.events.items (batch_with known old.names events)))
   pub names : new.names ≡ old.names
   pub events_are : new.events.items ≡ old.events.items ++ events
   pub sound : IsSoundHistory (index_opening new.index) new.names new.now new.events.items
-  pub gains : BothTold before after (GainsBatch (new_segment_of (batch_with known old.names events)))
+  pub gains : BothTold before after (GainsBatch (segment_of o.params old.events.items (batch_with known old.names events)))
   pub held : IfSome after (λ image. IsHeldBy (index_opening new.index) new.names image)
-  pub fits : needed_for o (new_segment_of (batch_with known old.names events)) ≤ limit
+  pub fits : needed_for o (segment_of o.params old.events.items (batch_with known old.names events)) ≤ limit
   pub told : added ≡ record { events = length events; total = length new.events.items; last = last_time_from 0 events }
 
 -- The lines come to a batch for which the file has too little room.
@@ -105,7 +106,7 @@ pub record FillsFile (o : Opening) (limit known : ℕ) (old : StoredHistory) (ch
   pub events : List Event
   pub whole : front ≡ Whole
   pub come : ComeTo o old.events.items front changes (Ok events)
-  pub needed_is : needed ≡ needed_for o (new_segment_of (batch_with known old.names events))
+  pub needed_is : needed ≡ needed_for o (segment_of o.params old.events.items (batch_with known old.names events))
   pub over : limit < needed
 
 -- The lines come to a batch, and the disk failed while it was added.
@@ -113,8 +114,8 @@ pub record BreaksBatch (o : Opening) (limit known : ℕ) (old : StoredHistory) (
   pub events : List Event
   pub whole : front ≡ Whole
   pub come : ComeTo o old.events.items front changes (Ok events)
-  pub gains : BothTold before after (GainsBatchOrNot (new_segment_of (batch_with known old.names events)))
-  pub fits : needed_for o (new_segment_of (batch_with known old.names events)) ≤ limit
+  pub gains : BothTold before after (GainsBatchOrNot (segment_of o.params old.events.items (batch_with known old.names events)))
+  pub fits : needed_for o (segment_of o.params old.events.items (batch_with known old.names events)) ≤ limit
 
 -- what a fault says of the batch and of the image
 abbrev pub FailsBatch : Opening → ℕ → ℕ → StoredHistory → Option (List ℕ) → Option (List ℕ) → List Change → Front → BatchFault → Type 0

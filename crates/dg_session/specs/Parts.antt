@@ -3,7 +3,7 @@ use Rattle.std.specs.Prelude.{ℕ, List, Option}
 use Rattle.dg_graph.specs.declared.event.Event.{Event}
 use Rattle.dg_machine.specs.declared.limits.Limits.{Limits}
 use Rattle.dg_machine.specs.declared.stands.Stands.{Stands}
-use Rattle.dg_history.specs.OpenedIndex.{Opening}
+use Rattle.dg_index.specs.OpenedIndex.{Opening}
 
 pub record Parts : Type 0 where
   pub limits : Limits  -- the bounds within which it works

@@ -9,8 +9,8 @@ use Rattle.dg_graph.specs.Elements.{shown}
 use Rattle.dg_graph.specs.Lines.{ScriptLine}
 use Rattle.dg_graph.specs.Replay.{replay_at}
 use Rattle.dg_history.specs.History.{are_parameters, span_of, in_range}
-use Rattle.dg_history.specs.LegalHistory.{StandsAs, is_blank}
-use Rattle.dg_history.specs.OpenedIndex.{Opening, opening, opening_of}
+use Rattle.dg_index.specs.ImageOfHistory.{StandsAs, is_blank}
+use Rattle.dg_index.specs.OpenedIndex.{Opening, opening}
 use Rattle.dg_machine.specs.declared.command.Command.{Command}
 use Rattle.dg_machine.specs.declared.limits.TheConstants.{LIVE_HANDLES_MAX}
 use Rattle.dg_machine.specs.declared.reply.Head.TheVariants as head
@@ -29,6 +29,7 @@ use Rattle.dg_session.specs.declared.halt.Halt.{Halt}
 use Rattle.dg_session.specs.declared.halt.Halt.TheVariants as halt
 use Rattle.dg_session.specs.declared.stop.Stop.TheVariants as stop
 use Rattle.dg_session.specs.Parts.{Parts}
+use Rattle.dg_session.specs.SessionStart.{opening_of}
 
 -- the elements of what a handle stands for, over these events
 abbrev pub elements_among : List Event → Stands → List Element

@@ -3,8 +3,8 @@
 ghost use Rattle.std.specs.Prelude.{◌≡◌, ◌≤◌, ◌^◌, ◌<◌, true, IfOk, IfErr, IfSome, is_some, take};
 ghost use Rattle.dg_disk.specs.Counts.{Rose};
 ghost use Rattle.dg_disk.specs.Frame.{GoesOn};
-ghost use Rattle.dg_file.specs.Index.{earliest_after as earliest_of};
 ghost use Rattle.dg_history.specs.declared.limits.TheConstants.{FILE_BYTES_MAX};
+ghost use Rattle.dg_index.specs.OpenedIndex.{earliest_in};
 ghost use Rattle.dg_now.specs.Now.{earliest_time_after};
 ghost use Rattle.dg_session.specs.BatchCommand.{AddsBatch, FailsBatch, IsBack, IsReady, LeavesHistory, head_of};
 ghost use Rattle.dg_session.specs.Session.{IsHeldBy};
@@ -68,12 +68,11 @@ impl BatchCommand {
 
 // The last time of the batches in the file.
 fn last_of(index: &Index) -> Option<u64>
-    ensures last { earliest_time_after result ≡ earliest_of 0 index.now.opening.segments }
+    ensures last { earliest_time_after result ≡ earliest_in 0 index.now.opening.batches }
     ensures small { IfSome result (λ t. t < 2 ^ 63) }
 {
     index.facts();
-    let span = index.catalogue().span()?;
-    Some(span.last)
+    index.last_time()
 }
 
 // The batch of the changes of the lines, in the file and in memory. After a fault only what is
@@ -102,10 +101,19 @@ fn try_batch<D: Disk>(
     let Some(index) = &mut history.index else {
         unreachable!()
     };
+    index.facts();
     let last = last_of(index);
     let events = prepare(&mut history.now, last, batch)?;
     history.events.reserve(events.len())?;
-    let segment = segment_of(alloc, &history.names, known, &events)?;
+    let segment = segment_of(
+        alloc,
+        index.params(),
+        &history.names,
+        known,
+        &history.events,
+        &history.now,
+        &events,
+    )?;
     keep_segment(index, disk, segment, limit)?;
     // There is room, so this cannot fail.
     let _ = history.events.extend_from_slice(&events);

@@ -1,25 +1,33 @@
 //! Putting a batch into an index file.
 
-ghost use Rattle.std.specs.Prelude.{◌≡◌, ◌≤◌, ◌<◌, ◌++◌, Err, IfOk, IfSome, IsErrOf, OnOk, ℕ, List, length, drop};
+ghost use Rattle.std.specs.Prelude.{◌≡◌, ◌≤◌, ◌<◌, ◌+◌, ◌/◌, ◌++◌, Err, [], true, IfOk, IfSome, IsErrOf, OnOk, ℕ, List, length, drop};
 ghost use Rattle.std.specs.List.{All};
 ghost use Rattle.dg_columns.specs.NamesInRange.{NamesFit};
 ghost use Rattle.dg_disk.specs.Counts.{Rose};
 ghost use Rattle.dg_disk.specs.Frame.{GoesOn};
 ghost use Rattle.dg_file.specs.Images.{BothTold, Fits, GainsBatch, GainsBatchOrNot, GainsSegment};
-ghost use Rattle.dg_file.specs.Index.{IsDue, needed_for, new_segment_of, with_segment};
-ghost use Rattle.dg_history.specs.declared.limits.TheConstants.{BATCH_LINES_MAX, FILE_BYTES_MAX};
+ghost use Rattle.dg_graph.specs.ExactEvents.{AreChangesOf};
+ghost use Rattle.dg_graph.specs.Replay.{replay};
+ghost use Rattle.dg_history.specs.declared.limits.TheConstants.{EVENTS_MAX, FILE_BYTES_MAX};
+ghost use Rattle.dg_history.specs.History.{are_parameters};
+ghost use Rattle.dg_index.specs.FileOfHistory.{segment_of};
+ghost use Rattle.dg_index.specs.IndexGrowth.{IsDue, index_with, needed_for};
 ghost use Rattle.dg_now.specs.declared.fault.PrepareFault.{PrepareFault};
 ghost use Rattle.dg_now.specs.declared.fault.PrepareFault.TheVariants as prepare_fault;
 ghost use Rattle.dg_session.specs.declared.batch_segment.BatchFault.TheVariants as keep_fault;
 ghost use Rattle.dg_session.specs.BatchCommand.{batch_with, fault_of};
 
+use crate::older_sets::older_sets;
 use crate::snapshot::{first_instant, last_instant};
-use dg_columns::write_events;
+use dg_build::build;
 use dg_disk::Disk;
-use dg_file::{CommitFault, Index, Segment};
-use dg_graph::{Column, Event};
+use dg_file::{CommitFault, Index};
+use dg_graph::Event;
+use dg_history::Params;
 use dg_names::Names;
-use dg_now::PrepareFault;
+use dg_now::{Now, PrepareFault};
+use dg_segment::Segment;
+use dg_set::Set;
 use std::alloc::{AllocError, Global};
 use thiserror::Error;
 
@@ -72,17 +80,48 @@ fn add_names(segment: &mut Segment, names: &Names, known: u32) -> Result<(), All
     Ok(())
 }
 
-/// The segment of a batch of these events, which brings the names from number `known` on.
+// The current graph, where so many leaves complete an interior node behind so many; else any set.
+fn completed_set(
+    alloc: Global,
+    now: &Now,
+    arity: usize,
+    leaves: usize,
+    after: usize,
+) -> Result<Set, AllocError>
+    requires { 1 ≤ arity }
+    ensures { IfOk result (λ set. leaves / arity < after / arity → set ≡ now.now.graph) }
+{
+    if leaves / arity < after / arity {
+        now.to_set()
+    } else {
+        Ok(Set::new(alloc))
+    }
+}
+
+/// The segment of a batch of these events behind those of the history, which brings the names from number
+/// `known` on. `now` holds the graph before the batch.
+///
+/// An `Err` says that memory ran out.
 pub fn segment_of(
     alloc: Global,
+    params: Params,
     names: &Names,
     known: u32,
+    before: &[Event],
+    now: &Now,
     events: &[Event],
 ) -> Result<Segment, AllocError>
-    requires few { length events.now ≤ BATCH_LINES_MAX }
+    requires parameters { are_parameters params.l params.k ≡ true }
+    requires few { length before.now + length events.now ≤ EVENTS_MAX }
+    requires before_fit { All (λ e. NamesFit e.body) before.now }
     requires fit { All (λ e. NamesFit e.body) events.now }
-    ensures { IfOk result (λ segment. segment ≡ new_segment_of (batch_with known names.now events.now)) }
+    requires changes { AreChangesOf [] (before.now ++ events.now) }
+    requires graph { now.now.graph ≡ replay before.now }
+    ensures { IfOk result (λ segment. segment ≡ segment_of params before.now (batch_with known names.now events.now)) }
 {
+    let size = params.l as usize;
+    let leaves = before.len() / size;
+    let after = (before.len() + events.len()) / size;
     let mut segment = Segment::new(
         alloc,
         events.len() as u64,
@@ -90,11 +129,23 @@ pub fn segment_of(
         last_instant(events),
     );
     add_names(&mut segment, names, known)?;
-    let structure = write_events(alloc, events, Column::Structure)?;
-    let node_attrs = write_events(alloc, events, Column::NodeAttr)?;
-    let edge_attrs = write_events(alloc, events, Column::EdgeAttr)?;
-    segment.set_piece(structure, node_attrs, edge_attrs)?;
-    Ok(segment)
+    let older = older_sets(alloc, params, before, after)?;
+    let graph = completed_set(alloc, now, params.k as usize, leaves, after)?;
+    let recent = &before[leaves * size..];
+    match build(
+        alloc,
+        params,
+        before.len(),
+        recent,
+        events,
+        &graph,
+        &older,
+        segment,
+    ) {
+        Ok(segment) => Ok(segment),
+        // Behind a history no set is too wide to be counted, so this is want of memory.
+        Err(_) => Err(AllocError),
+    }
 }
 
 /// Puts the segment of the next batch into the file, which may have `limit` bytes in use. All memory
@@ -112,7 +163,7 @@ pub fn keep_segment<D: Disk>(
     requires due { IsDue index.old.opening segment }
     requires limit { limit ≤ FILE_BYTES_MAX }
     requires image { IfSome (D.image disk.old) (λ image. Fits image index.old.opening segment) }
-    ensures kept { OnOk result (index.new.opening ≡ with_segment index.old.opening segment) }
+    ensures kept { OnOk result (index.new.opening ≡ index_with index.old.opening segment) }
     ensures opened { OnOk result (BothTold (D.image disk.old) (D.image disk.new) (GainsSegment index.old.opening segment index.new.opening)) }
     ensures gained { OnOk result (BothTold (D.image disk.old) (D.image disk.new) (GainsBatch segment)) }
     ensures fits { OnOk result (needed_for index.old.opening segment ≤ limit) }
@@ -128,8 +179,8 @@ pub fn keep_segment<D: Disk>(
     // what it leaves
     ensures disk { GoesOn D.image D.faults D.write_faults disk.old disk.new }
 {
-    index.make_room(&segment)?;
-    match index.commit(disk, segment, limit) {
+    let prepared = index.prepare(segment)?;
+    match index.commit(disk, prepared, limit) {
         Ok(()) => Ok(()),
         Err(CommitFault::FileFull(needed)) => Err(BatchFault::FileFull(needed, limit)),
         Err(CommitFault::Disk) => Err(BatchFault::Store),

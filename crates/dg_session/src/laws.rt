@@ -4,13 +4,11 @@
 ghost use Rattle.dg_session.specs.SessionStart.{StartsAsItStands};
 
 use dg_columns::{law_events_are_merged_back, law_events_are_read_back};
-use dg_file::law_images_are_opened;
 
 /// A session starts with the history for which the image stands.
 pub fn law_images_start_as_they_stand()
     ensures { StartsAsItStands }
 {
-    law_images_are_opened();
     law_events_are_read_back();
     law_events_are_merged_back();
 }

@@ -12,9 +12,9 @@ ghost use Rattle.dg_machine.specs.Answer.{headed, is_refusal};
 ghost use Rattle.dg_machine.specs.CommandGrammar.{command_of};
 ghost use Rattle.dg_machine.specs.Needs.{following, is_writing, needs};
 ghost use Rattle.dg_history.specs.History.{History, are_parameters, in_range, span_of};
-ghost use Rattle.dg_history.specs.LegalHistory.{StandsAs};
+ghost use Rattle.dg_index.specs.ImageOfHistory.{StandsAs};
 ghost use Rattle.dg_machine.specs.MachineState.{IsWithin, machine_at};
-ghost use Rattle.dg_history.specs.SessionStart.{start_of};
+ghost use Rattle.dg_index.specs.SessionStart.{start_of};
 ghost use Rattle.dg_session.specs.BatchCommand.{barred, command_with};
 ghost use Rattle.dg_session.specs.Session.{ComesTo, IsHeldBy, StandsFor, Steps, Stops, TakesLines, elements_among, is_too_full, refused_by, retrieval_needs};
 ghost use Rattle.dg_session.specs.SessionStart.{RefusesStart, StartsAs};
@@ -30,7 +30,7 @@ use crate::snapshot::{listing, replay_at, span};
 use crate::stop::Stop;
 use crate::stored_history::StoredHistory;
 use dg_disk::Disk;
-use dg_file::{Index, law_batches_are_added, law_batches_are_measured};
+use dg_file::Index;
 use dg_graph::{Columns, Event, NAMES_MAX};
 use dg_history::{ARITY_MAX, ARITY_MIN, LEAF_MAX, LEAF_MIN, Params, StartFault};
 use dg_io::{Lines, Source};
@@ -308,8 +308,6 @@ impl Session {
             lines.new (S.left source.new) (S.faults source.new) }
         ensures disk { GoesOn D.image D.faults D.write_faults disk.old disk.new }
     {
-        law_batches_are_added();
-        law_batches_are_measured();
         let barred = self.barred(which, count);
         let known = self.history.names.len();
         let batch = read_batch(

@@ -3,8 +3,7 @@
 ghost use Rattle.std.specs.Prelude.{◌≡◌, map, IfOk};
 ghost use Rattle.dg_machine.specs.declared.reply.BodyLine.TheVariants as line;
 ghost use Rattle.dg_graph.specs.Elements.{shown};
-ghost use Rattle.dg_history.specs.FileOfHistory.{first_time_of};
-ghost use Rattle.dg_history.specs.History.{last_time_from, span_of};
+ghost use Rattle.dg_history.specs.History.{first_time_of, last_time_from, span_of};
 ghost use Rattle.dg_graph.specs.Replay.{replay_at};
 
 use dg_event::{asks, column_of};

@@ -48,7 +48,7 @@ const RUNS: [Run; 8] = [
     // The lines of a load and of an append are read, and the texts are numbered as they come.
     Run {
         events: 6,
-        file_bytes: 500,
+        file_bytes: 1000,
         room: MANY,
         failing_reads: &[],
         following: b"10 +node 1\n20 nset 1 name A\n30 +node 2\n40 -node 2\n",
@@ -95,7 +95,7 @@ const RUNS: [Run; 8] = [
     // There are five events, and there may be six.
     Run {
         events: 6,
-        file_bytes: 500,
+        file_bytes: 1000,
         room: MANY,
         failing_reads: &[],
         following: b"1 +node 1\n2 +node 2\n3 +node 3\n4 +node 4\n5 +node 5\n6 +node 6\n7 +node 7\n6 +node 6\n7 +node 7\n",
@@ -181,7 +181,7 @@ const RUNS: [Run; 8] = [
     // The second read fails within the first line.
     Run {
         events: 6,
-        file_bytes: 500,
+        file_bytes: 1000,
         room: MANY,
         failing_reads: &[1],
         following: b"10 +node 1\n10 +node 2\n",
@@ -195,7 +195,7 @@ const RUNS: [Run; 8] = [
     // The two lines have 22 bytes, and one less may be taken.
     Run {
         events: 6,
-        file_bytes: 500,
+        file_bytes: 1000,
         room: MANY,
         failing_reads: &[],
         following: b"10 +node 1\n20 +node 2\n",
@@ -218,7 +218,7 @@ const RUNS: [Run; 8] = [
     // The disk has no room for a header, and a command that is refused does not ask for it.
     Run {
         events: 6,
-        file_bytes: 500,
+        file_bytes: 1000,
         room: 17,
         failing_reads: &[],
         following: b"",
@@ -236,7 +236,7 @@ const RUNS: [Run; 8] = [
     // The disk has no room for a batch.
     Run {
         events: 6,
-        file_bytes: 500,
+        file_bytes: 1000,
         room: 117,
         failing_reads: &[],
         following: b"10 +node 1\n",
@@ -300,6 +300,9 @@ fn runs_come_to_what_is_due(rt: HostRuntime) -> Result<(), Fail> {
                 let other = first_other(&rt, &mut session, run, &mut source, &mut disk);
                 assert_eq!(rt; other, None);
                 assert_eq!(rt; session.names().text(1), run.second_name);
+                // A session starts again over what was written.
+                let again = Session::start(&rt, rt.alloc(), &mut disk, limits_of(run));
+                assert_eq!(rt; again.err(), None);
             }
             Err(_) => return Err("not started".into()),
         }
@@ -320,6 +323,44 @@ fn file(gate: u8, directory: u8, kind: u8) -> [u8; 118] {
         0, 0, 0, 1, 0, 0, 0, 0, 0, 0, 0, 0, 0, 10, kind, 0, 0, 0, 0, 0, 0, 0, 1, // the event
         0, // gate
     ]
+}
+
+// A file with the header and one segment, of two events at 10 and at 20 that close a list, by the last
+// time that the directory tells of the list and the kind of the first event.
+fn file_with_list(last: u8, kind: u8) -> [u8; 177] {
+    [
+        1, 68, 71, 82, 65, 80, 72, 49, 0, 0, 0, 2, 0, 0, 0, 2, 1, // header
+        1, 0, 0, 0, 0, 0, 0, 0, 100, 0, 0, 0, 0, 0, 0, 0, 42, // gate and lengths
+        0, 0, 0, 0, 0, 0, 0, 2, // events
+        0, 0, 0, 0, 0, 0, 0, 10, 0, 0, 0, 0, 0, 0, 0, 20, // times
+        0, 0, 0, 0, 0, 0, 0, 1, // names and lists
+        0, 0, 0, 0, 0, 0, 0, 10, 0, 0, 0, 0, 0, 0, 0, last, // times of the list
+        0, 0, 0, 0, 0, 0, 0, 42, 0, 0, 0, 0, 0, 0, 0, 0, 0, 0, 0, 0, 0, 0, 0, 0, // its columns
+        0, 0, 0, 0, // deltas
+        0, 0, 0, 0, 0, 0, 0, 0, 0, 0, 0, 0, 0, 0, 0, 0, 0, 0, 0, 0, 0, 0, 0, 0, // the piece
+        0, 0, 0, 2, // the events of the list
+        0, 0, 0, 0, 0, 0, 0, 0, 0, 10, kind, 0, 0, 0, 0, 0, 0, 0, 1, // the first
+        0, 1, 0, 0, 0, 0, 0, 0, 0, 20, 1, 0, 0, 0, 0, 0, 0, 0, 2, // the second
+        0, // gate
+    ]
+}
+
+#[test]
+fn a_list_is_started_from_or_refused(rt: HostRuntime) -> Result<(), Fail> {
+    let bad_record = StartFault::BadRecord(Key::List(0), Column::Structure);
+    let cases: [(u8, u8, Option<StartFault>); 4] = [
+        (20, 1, None),
+        (10, 1, Some(StartFault::BadRecent(2))),
+        (20, 7, Some(bad_record)),
+        (20, 2, Some(StartFault::BadRecent(1))),
+    ];
+    for (last, kind, fault) in cases {
+        let image = file_with_list(last, kind);
+        let mut disk = MemoryDisk::new(rt.alloc(), image.as_slice(), MANY, MANY, &[])?;
+        let started = Session::start(&rt, rt.alloc(), &mut disk, Limits::standard());
+        assert_eq!(rt; started.err(), fault);
+    }
+    Ok(())
 }
 
 #[test]

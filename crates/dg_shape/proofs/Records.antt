@@ -10,14 +10,16 @@ use Rattle.std.specs.List.{All}
 use Rattle.std.specs.Map.{keys_of, values_of, lookup}
 use Rattle.std.specs.Option.{IfSome}
 use Rattle.std.specs.Result.{OnOk}
-use Rattle.dg_shape.specs.declared.catalogue.Entry.{Entry}
+use Rattle.dg_index.specs.declared.entry.Entry.{Entry}
+use Rattle.dg_index.specs.IndexGrowth.{columns_in}
+use Rattle.dg_index.specs.OpenedIndex.{total}
 use Rattle.dg_shape.specs.declared.catalogue.TheConstants.{BYTES_MAX}
 use Rattle.dg_history.specs.declared.node.Key.{Key}
 use Rattle.dg_history.specs.declared.node.Key.TheVariants as a_key
 use Rattle.dg_history.specs.contracts.node.KeyPartialEq.TheImpl as of_keys
 use Rattle.dg_history.specs.Keys.{same_key, is_list}
 use Rattle.dg_shape.specs.Keys.{IsNumbered}
-use Rattle.dg_shape.specs.Entries.{Holdings, total, bytes_of, IsInRange, EndsIfList, RecordsAreSound}
+use Rattle.dg_shape.specs.Entries.{Holdings, IsInRange, EndsIfList, RecordsAreSound}
 use Rattle.dg_shape.specs.Held.{entry_of}
 
 -- what a clause says of a call that did not fail
@@ -133,13 +135,13 @@ added_held es new key e is lacks = ap (lookup (same_key key)) is ∙ finds_last 
 pub added_others : (es new : List (Key × Entry)) (key : Key) (e : Entry) → new ≡ es ++ (key, e) ∷ [] → (other : Key) → other ≢ key → lookup (same_key other) new ≡ lookup (same_key other) es
 added_others es new key e is other apart = ap (lookup (same_key other)) is ∙ finds_other (same_key other) key e es (same_key_apart other key apart)
 
-pub added_bytes : (es new : List (Key × Entry)) (key : Key) (e : Entry) → new ≡ es ++ (key, e) ∷ [] → bytes_of new ≡ bytes_of es + total e.lengths
-added_bytes es new key e is = ap bytes_of is ∙ sum_by_push (λ q. total q.1.lengths) es (key, e)
+pub added_bytes : (es new : List (Key × Entry)) (key : Key) (e : Entry) → new ≡ es ++ (key, e) ∷ [] → columns_in new ≡ columns_in es + total e.lengths
+added_bytes es new key e is = ap columns_in is ∙ sum_by_push (λ q. total q.1.lengths) es (key, e)
 
 pub still_sound : (es new : List (Key × Entry)) (key : Key) (e : Entry) → new ≡ es ++ (key, e) ∷ [] → RecordsAreSound es
-    → bytes_of es + total e.lengths ≤ BYTES_MAX → IsInRange e → IsNumbered key → is_some e.ends ≡ is_list key → RecordsAreSound new
+    → columns_in es + total e.lengths ≤ BYTES_MAX → IsInRange e → IsNumbered key → is_some e.ends ≡ is_list key → RecordsAreSound new
 still_sound es new key e is sound bytes in_range numbered ends =
-    let fits : bytes_of (es ++ (key, e) ∷ []) ≤ BYTES_MAX = omega (arith, bytes, sum_by_push (λ q. total q.1.lengths) es (key, e)) in
+    let fits : columns_in (es ++ (key, e) ∷ []) ≤ BYTES_MAX = omega (arith, bytes, sum_by_push (λ q. total q.1.lengths) es (key, e)) in
     let values : values_of (es ++ (key, e) ∷ []) ≡ values_of es ++ e ∷ [] = map-append (λ q. q.1) es ((key, e) ∷ []) in
     let keys : keys_of (es ++ (key, e) ∷ []) ≡ keys_of es ++ key ∷ [] = map-append (λ q. q.0) es ((key, e) ∷ []) in
     subst RecordsAreSound (sym is) (record {

@@ -1,11 +1,13 @@
 -- What a catalogue tells of the records of an index.
-use Rattle.std.specs.Prelude.{◌≡◌, ℕ, ◌+◌, ◌≤◌, List, Option, Some, None, is_some, slice_index, sum_by}
+use Rattle.std.specs.Prelude.{◌≡◌, ℕ, ◌+◌, ◌≤◌, List, Option, Some, None, is_some, slice_index}
 use Rattle.std.specs.List.{All}
 use Rattle.std.specs.Map.{keys_of, values_of}
 use Rattle.dg_graph.specs.declared.element.Column.{Column}
 use Rattle.dg_graph.specs.declared.element.Column.TheVariants.{Structure, NodeAttr, EdgeAttr}
-use Rattle.dg_shape.specs.declared.catalogue.Ends.{Ends}
-use Rattle.dg_shape.specs.declared.catalogue.Entry.{Entry}
+use Rattle.dg_index.specs.declared.entry.Ends.{Ends}
+use Rattle.dg_index.specs.declared.entry.Entry.{Entry}
+use Rattle.dg_index.specs.IndexGrowth.{columns_in}
+use Rattle.dg_index.specs.OpenedIndex.{total}
 use Rattle.dg_shape.specs.declared.catalogue.TheConstants.{BYTES_MAX}
 use Rattle.dg_history.specs.declared.node.Key.{Key}
 use Rattle.dg_history.specs.Keys.{is_list}
@@ -17,14 +19,6 @@ pub record Holdings : Type 0 where
   pub entries : List (Key × Entry)
   pub span : Option Ends
   pub spare : ℕ
-
--- the bytes of the three columns together
-abbrev pub total : List ℕ → ℕ
-total lengths = slice_index lengths 0 + slice_index lengths 1 + slice_index lengths 2
-
--- the bytes of all records
-abbrev pub bytes_of : List (Key × Entry) → ℕ
-bytes_of entries = sum_by (λ e. total e.1.lengths) entries
 
 -- the bytes of one column
 abbrev pub length_in : Entry → Column → ℕ
@@ -53,7 +47,7 @@ EndsIfList e = is_some e.1.ends ≡ is_list e.0
 
 -- what holds of the records of each catalogue, beside that no key is there twice
 pub record RecordsAreSound (entries : List (Key × Entry)) : Type 0 where
-  pub bytes : bytes_of entries ≤ BYTES_MAX
+  pub bytes : columns_in entries ≤ BYTES_MAX
   pub in_range : All IsInRange (values_of entries)
   pub numbered : All IsNumbered (keys_of entries)
   pub ends : All EndsIfList entries

@@ -3,8 +3,8 @@ use Rattle.std.specs.Prelude.{ℕ, Option, option_and_then}
 use Rattle.std.specs.Option.{option_map}
 use Rattle.std.specs.Map.{lookup}
 use Rattle.dg_graph.specs.declared.element.Column.{Column}
-use Rattle.dg_shape.specs.declared.catalogue.Ends.{Ends}
-use Rattle.dg_shape.specs.declared.catalogue.Entry.{Entry}
+use Rattle.dg_index.specs.declared.entry.Ends.{Ends}
+use Rattle.dg_index.specs.declared.entry.Entry.{Entry}
 use Rattle.dg_history.specs.declared.node.Key.{Key}
 use Rattle.dg_history.specs.declared.node.Key.TheVariants as a_key
 use Rattle.dg_history.specs.Keys.{same_key}

@@ -1,16 +1,20 @@
-ghost use Rattle.std.specs.Prelude.{◌≡◌, ◌≢◌, ◌≤◌, ◌<◌, ◌+◌, ◌^◌, List, [], ◌∷◌, ◌++◌, None, Some, is_some, IfSome, IsNone, IsTrue, IsOk, OnOk, OnErr, ◌↔◌};
+ghost use Rattle.std.specs.Prelude.{◌≡◌, ◌≢◌, ◌≤◌, ◌<◌, ◌+◌, ◌^◌, List, [], ◌∷◌, ◌++◌, length, None, Some, is_some, IfSome, IsNone, IsTrue, IsOk, OnOk, OnErr, ◌↔◌};
 ghost use Rattle.std.specs.List.{All, IsDistinct};
 ghost use Rattle.std.specs.Map.{keys_of, values_of};
-ghost use Rattle.dg_shape.specs.declared.catalogue.Entry.{Entry};
+ghost use Rattle.dg_index.specs.declared.entry.Entry.{Entry};
+ghost use Rattle.dg_index.specs.IndexGrowth.{columns_in};
+ghost use Rattle.dg_index.specs.OpenedIndex.{total, laid};
 ghost use Rattle.dg_history.specs.declared.node.Key.{Key};
 ghost use Rattle.dg_history.specs.declared.node.Key.TheVariants as a_key;
 ghost use Rattle.dg_history.specs.Keys.{same_key, is_list};
 ghost use Rattle.dg_shape.specs.Keys.{IsNumbered};
-ghost use Rattle.dg_shape.specs.Entries.{total, bytes_of, length_in, offset_in, spanned, IsInRange, EndsIfList};
+ghost use Rattle.dg_shape.specs.Entries.{length_in, offset_in, spanned, IsInRange, EndsIfList};
+ghost use Rattle.dg_shape.specs.Additions.{IsRoomFor};
 ghost use Rattle.dg_shape.specs.Held.{entry_of, length_of, offset_of, ends_of};
 
 use dg_graph::Column;
 use dg_history::Key;
+use dg_index::{Ends, Entry, Row};
 use indexmap::IndexMap;
 use std::alloc::{AllocError, Global};
 use std::marker::Model;
@@ -29,51 +33,29 @@ pub fn catalogue_limits()
     ensures lists { LISTS_MAX ≡ 2 ^ 28 }
 {}
 
-/// The first and the last instant of a list of events, of a batch or of the history.
-#[derive(Clone, Copy, Debug, PartialEq, Eq, Hash)]
-pub struct Ends {
-    /// The first instant.
-    pub first: u64,
-    /// The last instant.
-    pub last: u64,
-}
-
-/// What the catalogue tells of one record. Its three columns stand one after another: structure,
-/// attributes of nodes, attributes of edges.
-#[derive(Clone, Copy, Debug, PartialEq, Eq, Hash)]
-pub struct Entry {
-    /// The bytes of each column, in their order.
-    pub lengths: [u64; 3],
-    /// The byte of the file at which the first column begins.
-    pub offset: u64,
-    /// The instants of a list of events, and `None` for every other record.
-    pub ends: Option<Ends>,
-}
-
-impl Entry {
-    /// The bytes of a column.
-    pub fn column_length(&self, col: Column) -> u64
-        ensures { result ≡ length_in self.now col }
-    {
-        let [structure, nodes_attr, edges_attr] = self.lengths;
-        match col {
-            Column::Structure => structure,
-            Column::NodeAttr => nodes_attr,
-            Column::EdgeAttr => edges_attr,
-        }
+/// The bytes of a column of a record.
+pub fn column_length(entry: &Entry, col: Column) -> u64
+    ensures { result ≡ length_in entry.now col }
+{
+    let [structure, nodes_attr, edges_attr] = entry.lengths;
+    match col {
+        Column::Structure => structure,
+        Column::NodeAttr => nodes_attr,
+        Column::EdgeAttr => edges_attr,
     }
+}
 
-    /// The byte of the file at which a column begins. The entry is one that a catalogue may hold.
-    pub fn column_offset(&self, col: Column) -> u64
-        requires { IsInRange self.now }
-        ensures { result ≡ offset_in self.now col }
-    {
-        let [structure, nodes_attr, _] = self.lengths;
-        match col {
-            Column::Structure => self.offset,
-            Column::NodeAttr => self.offset + structure,
-            Column::EdgeAttr => self.offset + structure + nodes_attr,
-        }
+/// The byte of the file at which a column of a record begins. The entry is one that a catalogue may
+/// hold.
+pub fn column_offset(entry: &Entry, col: Column) -> u64
+    requires { IsInRange entry.now }
+    ensures { result ≡ offset_in entry.now col }
+{
+    let [structure, nodes_attr, _] = entry.lengths;
+    match col {
+        Column::Structure => entry.offset,
+        Column::NodeAttr => entry.offset + structure,
+        Column::EdgeAttr => entry.offset + structure + nodes_attr,
     }
 }
 
@@ -115,7 +97,7 @@ impl Catalogue {
     /// What holds of each catalogue. Does nothing.
     pub fn facts(&self)
         ensures distinct { IsDistinct same_key (keys_of self.now.entries) }
-        ensures bytes { bytes_of self.now.entries ≤ BYTES_MAX }
+        ensures bytes { columns_in self.now.entries ≤ BYTES_MAX }
         ensures in_range { All IsInRange (values_of self.now.entries) }
         ensures numbered { All IsNumbered (keys_of self.now.entries) }
         ensures ends { All EndsIfList self.now.entries }
@@ -151,14 +133,14 @@ impl Catalogue {
         requires room { 1 ≤ self.old.spare }
         requires lacks { entry_of self.old key ≡ None }
         requires in_range { offset + total lengths ≤ BYTES_MAX }
-        requires bytes { bytes_of self.old.entries + total lengths ≤ BYTES_MAX }
+        requires bytes { columns_in self.old.entries + total lengths ≤ BYTES_MAX }
         requires numbered { IsNumbered key }
         requires ends { is_some ends ≡ is_list key }
 
         // The record stands last, and uses room for one.
         ensures entries { self.new.entries ≡ self.old.entries ++ (key, record { lengths = lengths; offset = offset; ends = ends }) ∷ [] }
         ensures held { entry_of self.new key ≡ Some (record { lengths = lengths; offset = offset; ends = ends }) }
-        ensures bytes { bytes_of self.new.entries ≡ bytes_of self.old.entries + total lengths }
+        ensures bytes { columns_in self.new.entries ≡ columns_in self.old.entries + total lengths }
         ensures spare { self.new.spare + 1 ≡ self.old.spare }
 
         // All else stays.
@@ -173,6 +155,29 @@ impl Catalogue {
         // There is room, so this cannot fail.
         self.records.insert(key, entry).unwrap();
         self.room -= 1;
+    }
+
+    /// Adds the records with these keys, in their order: for each key a row, whose columns stand one
+    /// behind another from the byte `offset` on, behind those of the row before it. There is room for
+    /// all of them. Takes no memory.
+    pub fn add_all(&mut self, keys: &[Key], rows: &[Row], offset: u64)
+        requires room { IsRoomFor self.old offset keys.now rows.now }
+        requires same { length keys.now ≡ length rows.now }
+
+        // The records stand last, and use room for so many.
+        ensures entries { self.new.entries ≡ self.old.entries ++ laid offset keys.now rows.now }
+        ensures spare { self.new.spare + length keys.now ≡ self.old.spare }
+
+        // All else stays.
+        ensures span { self.new.span ≡ self.old.span }
+    {
+        let mut offset = offset;
+        for i in 0..keys.len() {
+            let row = rows[i];
+            self.add(keys[i], row.lengths, offset, row.ends);
+            let [structure, nodes_attr, edges_attr] = row.lengths;
+            offset += structure + nodes_attr + edges_attr;
+        }
     }
 
     /// Notes a batch with these instants: the history's last instant becomes that of the batch, and
@@ -194,6 +199,13 @@ impl Catalogue {
         });
     }
 
+    /// How many records are held.
+    pub fn len(&self) -> usize
+        ensures { result ≡ length self.now.entries }
+    {
+        self.records.len()
+    }
+
     /// What is told of a record, or `None` where the key is not held. One look-up by hash: for more
     /// than one column ask for this.
     pub fn entry(&self, key: Key) -> Option<Entry>
@@ -210,7 +222,7 @@ impl Catalogue {
         ensures within { IfSome result (λ n. n ≤ BYTES_MAX) }
         ensures lacks { IsNone result ↔ (entry_of self.now key ≡ None) }
     {
-        Some(self.entry(key)?.column_length(col))
+        Some(column_length(&self.entry(key)?, col))
     }
 
     /// The byte of the file at which a column of a record begins, or `None` where the key is not
@@ -220,7 +232,7 @@ impl Catalogue {
         ensures within { IfSome result (λ n. n ≤ BYTES_MAX) }
         ensures lacks { IsNone result ↔ (entry_of self.now key ≡ None) }
     {
-        Some(self.entry(key)?.column_offset(col))
+        Some(column_offset(&self.entry(key)?, col))
     }
 
     /// The first and last instant of a list, or `None` where no such list is held.

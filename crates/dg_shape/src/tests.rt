@@ -1,5 +1,6 @@
-use crate::{Catalogue, Ends, Entry, Key, catalogue_limits};
-use dg_graph::Column;
+use crate::{Catalogue, Ends, Entry, Key, Row, catalogue_limits, keys_due, leaves};
+use dg_graph::{Column, Function};
+use dg_history::Params;
 use std::cmp::Ordering;
 use std::test::Fail;
 
@@ -29,9 +30,84 @@ fn each_record_tells_what_was_added(rt: HostRuntime) -> Result<(), Fail> {
             assert_eq!(rt; catalogue.place(key, columns[i]), Some(offsets[i]));
         }
     }
+    assert_eq!(rt; catalogue.len(), 3);
     assert_eq!(rt; catalogue.list_ends(0), Some(ends));
     catalogue.facts();
     catalogue_limits();
+    Ok(())
+}
+
+#[test]
+fn the_records_of_a_segment_stand_one_behind_another(rt: HostRuntime) -> Result<(), Fail> {
+    let mut catalogue = Catalogue::new(rt.alloc());
+    catalogue.reserve(2)?;
+    let ends = Some(Ends { first: 1, last: 9 });
+    let keys = [Key::List(0), Key::Piece(0)];
+    let rows = [
+        Row {
+            ends,
+            lengths: [5, 6, 7],
+        },
+        Row {
+            ends: None,
+            lengths: [1, 2, 3],
+        },
+    ];
+    catalogue.add_all(&keys, &rows, 100);
+    let list = Entry {
+        lengths: [5, 6, 7],
+        offset: 100,
+        ends,
+    };
+    let piece = Entry {
+        lengths: [1, 2, 3],
+        offset: 118,
+        ends: None,
+    };
+    assert_eq!(rt; catalogue.len(), 2);
+    assert_eq!(rt; catalogue.entry(Key::List(0)), Some(list));
+    assert_eq!(rt; catalogue.entry(Key::Piece(0)), Some(piece));
+    Ok(())
+}
+
+#[test]
+fn a_segment_has_the_lists_and_the_nodes_that_its_batch_completes(
+    rt: HostRuntime,
+) -> Result<(), Fail> {
+    let params = Params {
+        l: 2,
+        k: 2,
+        function: Function::Intersection,
+    };
+    let keys = keys_due(rt.alloc(), params, 0, 9, 0)?;
+    let expected = [
+        Key::List(0),
+        Key::List(1),
+        Key::List(2),
+        Key::List(3),
+        Key::Top(1),
+        Key::Down(1, 1),
+        Key::Down(1, 2),
+        Key::Down(1, 3),
+        Key::Down(1, 4),
+        Key::Top(2),
+        Key::Down(2, 1),
+        Key::Down(2, 2),
+        Key::Piece(0),
+    ];
+    assert_eq!(rt; keys.as_slice(), expected.as_slice());
+    let keys = keys_due(rt.alloc(), params, 9, 3, 1)?;
+    let expected = [
+        Key::List(4),
+        Key::List(5),
+        Key::Down(1, 5),
+        Key::Down(1, 6),
+        Key::Piece(1),
+    ];
+    assert_eq!(rt; keys.as_slice(), expected.as_slice());
+    let keys = keys_due(rt.alloc(), params, 12, 1, 2)?;
+    assert_eq!(rt; keys.as_slice(), [Key::Piece(2)].as_slice());
+    assert_eq!(rt; leaves(params, 13), 6);
     Ok(())
 }
 

@@ -7,19 +7,19 @@ use Rattle.dg_file.proofs.appending.put.Goals as goal
 pub returns-then-is_empty-clause-written : goal.returns-then-is_empty-clause-written
 returns-then-is_empty-clause-written g c =
     let none : c.args.piece.now ≡ [] = nil_from_length c.args.piece.now (eqb-true _ _ (sym c.is_empty.ensures ∙ c.if-is_empty.true)) in
-    moved_same _ _ (λ a. c.args.place ≤ length a) _ (λ a le. none_grows c.args.place c.args.piece.now a none le) c.requires.place refl
+    moved_same _ _ (λ a. c.args.offset ≤ length a) _ (λ a le. none_grows c.args.offset c.args.piece.now a none le) c.requires.offset refl
 
 pub returns-then-is_empty-clause-part : goal.returns-then-is_empty-clause-part
-returns-then-is_empty-clause-part g c = moved_same _ _ (λ a. c.args.place ≤ length a) _ (λ a le. none_keeps c.args.place a le) c.requires.place refl
+returns-then-is_empty-clause-part g c = moved_same _ _ (λ a. c.args.offset ≤ length a) _ (λ a le. none_keeps c.args.offset a le) c.requires.offset refl
 
 pub returns-in_err-write_at-clause-part : goal.returns-in_err-write_at-clause-part
 returns-in_err-write_at-clause-part g c =
-    moved_part _ _ c.args.place (length c.args.piece.now) (λ a. c.args.place ≤ length a) _ (λ a bytes le few. put_keeps c.args.place bytes a le) c.requires.place c.in_err-write_at.ensures.part
+    moved_part _ _ c.args.offset (length c.args.piece.now) (λ a. c.args.offset ≤ length a) _ (λ a bytes le few. put_keeps c.args.offset bytes a le) c.requires.offset c.in_err-write_at.ensures.part
 
 pub returns-clause-written : goal.returns-clause-written
 returns-clause-written g c =
-    moved_put _ _ c.args.place c.args.piece.now (λ a. c.args.place ≤ length a) _ (λ a le. put_grows c.args.place c.args.piece.now a le) c.requires.place c.in_ok-write_at.ensures.written
+    moved_put _ _ c.args.offset c.args.piece.now (λ a. c.args.offset ≤ length a) _ (λ a le. put_grows c.args.offset c.args.piece.now a le) c.requires.offset c.in_ok-write_at.ensures.written
 
 pub returns-clause-part : goal.returns-clause-part
 returns-clause-part g c =
-    moved_put _ _ c.args.place c.args.piece.now (λ a. c.args.place ≤ length a) _ (λ a le. put_keeps c.args.place c.args.piece.now a le) c.requires.place c.in_ok-write_at.ensures.written
+    moved_put _ _ c.args.offset c.args.piece.now (λ a. c.args.offset ≤ length a) _ (λ a le. put_keeps c.args.offset c.args.piece.now a le) c.requires.offset c.in_ok-write_at.ensures.written

@@ -1,33 +1,50 @@
-use Rattle.std.proofs.Common.{◌≡◌, ℕ, ◌++◌, List, length, ap, subst, arith}
-use Rattle.std.proofs.lemmas.Result.{on_ok_weaker}
+use Rattle.std.proofs.Common.{◌≡◌, ℕ, ◌+◌, ◌++◌, List, length, ap, subst, ◌∙◌, arith, length-append}
+use Rattle.std.proofs.lemmas.Result.{IfOk-weaker, on_ok_weaker}
+use Rattle.dg_index.specs.FileOfHistory.{Segment, blobs, bytes_of, delta_blobs, list_blobs}
 use Rattle.dg_file.specs.Growth.{Moved, Grown}
-use Rattle.dg_file.proofs.Moves.{place_behind, keep_then, grow_then}
+use Rattle.dg_file.proofs.Moves.{offset_behind, keep_then, grow_then}
+use Rattle.dg_file.proofs.SegmentText.{columns_are}
 use Rattle.dg_file.proofs.appending.put_columns.Goals as goal
 
-pub put-requires-2-clause-place : goal.put-requires-2-clause-place
-put-requires-2-clause-place g c = place_behind _ _ c.args.place _ _ c.in_ok-nodes_place.ensures.behind c.in_ok-nodes_place.ensures.written
+-- the bytes of the three parts are those of all columns
+sum_is : (s : Segment) → length (list_blobs s.lists) + (length (delta_blobs s.deltas) + length (bytes_of s.piece)) ≡ length (blobs s)
+sum_is s =
+    let all = ap length (columns_are s) in
+    omega (arith, all, length-append (list_blobs s.lists) (delta_blobs s.deltas ++ bytes_of s.piece), length-append (delta_blobs s.deltas) (bytes_of s.piece))
+
+pub put-requires-clause-fits : goal.put-requires-clause-fits
+put-requires-clause-fits g c = omega (arith, c.requires.fits, sum_is c.args.segment.now, ap length c.list_columns.ensures)
+
+pub put-requires-2-clause-offset : goal.put-requires-2-clause-offset
+put-requires-2-clause-offset g c = offset_behind _ _ c.args.offset _ _ c.in_ok-deltas_offset.ensures.behind c.in_ok-deltas_offset.ensures.written
 
 pub put-requires-2-clause-fits : goal.put-requires-2-clause-fits
-put-requires-2-clause-fits g c = omega (arith, c.requires.fits, c.in_ok-nodes_place.ensures.behind, ap length c.structure.ensures, ap length c.node_attrs.ensures)
+put-requires-2-clause-fits g c = omega (arith, c.requires.fits, sum_is c.args.segment.now, c.in_ok-deltas_offset.ensures.behind, ap length c.list_columns.ensures, ap length c.delta_columns.ensures)
 
-pub put-requires-3-clause-place : goal.put-requires-3-clause-place
-put-requires-3-clause-place g c = place_behind _ _ c.in_ok-nodes_place.nodes_place _ _ c.in_ok-edges_place.ensures.behind c.in_ok-edges_place.ensures.written
+pub put-requires-3-clause-offset : goal.put-requires-3-clause-offset
+put-requires-3-clause-offset g c = offset_behind _ _ c.in_ok-deltas_offset.deltas_offset _ _ c.in_ok-piece_offset.ensures.behind c.in_ok-piece_offset.ensures.written
 
 pub put-requires-3-clause-fits : goal.put-requires-3-clause-fits
-put-requires-3-clause-fits g c = omega (arith, c.requires.fits, c.in_ok-nodes_place.ensures.behind, c.in_ok-edges_place.ensures.behind, ap length c.structure.ensures, ap length c.node_attrs.ensures, ap length c.edge_attrs.ensures)
+put-requires-3-clause-fits g c =
+    omega (arith, c.requires.fits, sum_is c.args.segment.now, c.in_ok-deltas_offset.ensures.behind, c.in_ok-piece_offset.ensures.behind, ap length c.list_columns.ensures, ap length c.delta_columns.ensures, ap length c.piece_columns.ensures)
 
-pub returns-in_err-edges_place-clause-part : goal.returns-in_err-edges_place-clause-part
-returns-in_err-edges_place-clause-part g c =
-    keep_then _ _ _ c.args.place c.in_ok-nodes_place.nodes_place (omega (arith, c.in_ok-nodes_place.ensures.behind)) c.put.ensures.part c.in_err-edges_place.ensures.part
+pub returns-in_err-piece_offset-clause-part : goal.returns-in_err-piece_offset-clause-part
+returns-in_err-piece_offset-clause-part g c =
+    keep_then _ _ _ c.args.offset c.in_ok-deltas_offset.deltas_offset (omega (arith, c.in_ok-deltas_offset.ensures.behind)) c.put.ensures.part c.in_err-piece_offset.ensures.part
+
+pub returns-clause-behind : goal.returns-clause-behind
+returns-clause-behind g c =
+    IfOk-weaker c.put-3.result (λ n. n ≡ c.in_ok-piece_offset.piece_offset + length c.piece_columns.result.now) (λ n. n ≡ c.args.offset + length (blobs c.args.segment.now))
+    (λ n e. omega (arith, e, sum_is c.args.segment.now, c.in_ok-deltas_offset.ensures.behind, c.in_ok-piece_offset.ensures.behind, ap length c.list_columns.ensures, ap length c.delta_columns.ensures, ap length c.piece_columns.ensures)) c.put-3.ensures.behind
 
 pub returns-clause-part : goal.returns-clause-part
 returns-clause-part g c =
-    keep_then _ _ _ c.args.place c.in_ok-nodes_place.nodes_place (omega (arith, c.in_ok-nodes_place.ensures.behind)) c.put.ensures.part
-    (keep_then _ _ _ c.in_ok-nodes_place.nodes_place c.in_ok-edges_place.edges_place (omega (arith, c.in_ok-edges_place.ensures.behind)) c.put-2.ensures.part c.put-3.ensures.part)
+    keep_then _ _ _ c.args.offset c.in_ok-deltas_offset.deltas_offset (omega (arith, c.in_ok-deltas_offset.ensures.behind)) c.put.ensures.part
+    (keep_then _ _ _ c.in_ok-deltas_offset.deltas_offset c.in_ok-piece_offset.piece_offset (omega (arith, c.in_ok-piece_offset.ensures.behind)) c.put-2.ensures.part c.put-3.ensures.part)
 
 pub returns-clause-written : goal.returns-clause-written
 returns-clause-written g c =
-    let text : c.structure.result.now ++ (c.node_attrs.result.now ++ c.edge_attrs.result.now) ≡ c.args.segment.now.structure ++ (c.args.segment.now.node_attrs ++ c.args.segment.now.edge_attrs) = λ i. c.structure.ensures i ++ (c.node_attrs.ensures i ++ c.edge_attrs.ensures i) in
-    on_ok_weaker c.put-3.result (λ third. subst (λ (l : List ℕ). Moved (g.D.Disk.image c.args.disk.now) (g.D.Disk.image c.put-3.new.disk) (Grown c.args.place l)) text
-    (grow_then _ _ _ c.args.place c.in_ok-nodes_place.nodes_place _ _ c.in_ok-nodes_place.ensures.behind c.in_ok-nodes_place.ensures.written
-    (grow_then _ _ _ c.in_ok-nodes_place.nodes_place c.in_ok-edges_place.edges_place _ _ c.in_ok-edges_place.ensures.behind c.in_ok-edges_place.ensures.written third))) c.put-3.ensures.written
+    let text : c.list_columns.result.now ++ (c.delta_columns.result.now ++ c.piece_columns.result.now) ≡ blobs c.args.segment.now = (λ i. c.list_columns.ensures i ++ (c.delta_columns.ensures i ++ c.piece_columns.ensures i)) ∙ columns_are c.args.segment.now in
+    on_ok_weaker c.put-3.result (λ third. subst (λ (l : List ℕ). Moved (g.D.Disk.image c.args.disk.now) (g.D.Disk.image c.put-3.new.disk) (Grown c.args.offset l)) text
+    (grow_then _ _ _ c.args.offset c.in_ok-deltas_offset.deltas_offset _ _ c.in_ok-deltas_offset.ensures.behind c.in_ok-deltas_offset.ensures.written
+    (grow_then _ _ _ c.in_ok-deltas_offset.deltas_offset c.in_ok-piece_offset.piece_offset _ _ c.in_ok-piece_offset.ensures.behind c.in_ok-piece_offset.ensures.written third))) c.put-3.ensures.written

@@ -1,17 +1,17 @@
 use Rattle.std.proofs.Common.{length, ap, arith}
 use Rattle.std.proofs.lemmas.Result.{on_ok_weaker, on_err_weaker}
 use Rattle.dg_file.proofs.Moves.{on_err_any}
-use Rattle.dg_file.proofs.Creations.{place_zero, place_one, made_first, made_first_part, made_second, made_second_part, made_third, made_third_part}
+use Rattle.dg_file.proofs.Creations.{offset_zero, offset_one, made_first, made_first_part, made_second, made_second_part, made_third, made_third_part}
 use Rattle.dg_file.proofs.making.write_header.Goals as goal
 
 pub put_down-requires : goal.put_down-requires
-put_down-requires g c = place_zero _
+put_down-requires g c = offset_zero _
 
 pub put_down-requires-2 : goal.put_down-requires-2
-put_down-requires-2 g c = place_one c.args.params _ _ (made_first c.args.params _ _ c.requires.blank c.in_ok-put_down.ensures.written)
+put_down-requires-2 g c = offset_one c.args.params _ _ (made_first c.args.params _ _ c.requires.blank c.in_ok-put_down.ensures.written)
 
 pub put_down-requires-3 : goal.put_down-requires-3
-put_down-requires-3 g c = place_zero _
+put_down-requires-3 g c = offset_zero _
 
 pub returns-in_err-put_down-clause-part : goal.returns-in_err-put_down-clause-part
 returns-in_err-put_down-clause-part g c = on_err_any c.from_residual.result (made_first_part c.args.params _ _ c.requires.blank c.in_err-put_down.ensures.part)

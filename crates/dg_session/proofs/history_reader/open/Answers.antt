@@ -1,7 +1,7 @@
 use Rattle.std.proofs.Common.{◌≡◌, true, Err, None, Option, ap, subst, sym}
 use Rattle.std.specs.Prelude.{IfSome}
-use Rattle.dg_history.specs.LegalHistory.{is_blank}
-use Rattle.dg_history.specs.OpenedIndex.{No_index, Opening, opening}
+use Rattle.dg_index.specs.ImageOfHistory.{is_blank}
+use Rattle.dg_index.specs.OpenedIndex.{No_index, Opening, opening}
 use Rattle.dg_session.specs.Session.{IsHeldBy}
 use Rattle.dg_session.specs.SessionStart.{index_opening}
 use Rattle.dg_session.proofs.ReadHistory.{blank_is, told_weaker}

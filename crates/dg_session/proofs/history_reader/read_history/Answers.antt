@@ -1,141 +1,98 @@
-use Rattle.std.proofs.Common.{rules, ◌≡◌, ◌+◌, ◌-◌, ◌<◌, ◌++◌, ℕ, List, Option, Some, None, Ok, length, drop, refl, sym, ◌∙◌, ap, subst, arith, length-append}
-use Rattle.std.specs.Prelude.{slice_get}
+use Rattle.std.proofs.Common.{◌≡◌, ◌≤◌, ◌++◌, ℕ, List, [], Some, Ok, get_or, length, sym, ◌∙◌, ap, subst, arith, map}
 use Rattle.std.specs.List.{All}
-use Rattle.std.proofs.lemmas.List.Elements.{All-append, All-nil}
+use Rattle.std.proofs.lemmas.List.Elements.{All-append}
 use Rattle.dg_columns.specs.NamesInRange.{NamesFit}
-use Rattle.dg_file.specs.declared.batch.Batch.{Batch}
-use Rattle.dg_file.specs.Index.{IndexState, events_after}
+use Rattle.dg_file.specs.Images.{IsOpenedAs}
+use Rattle.dg_file.specs.Index.{IndexState}
 use Rattle.dg_graph.specs.declared.event.Event.{Event}
+use Rattle.dg_graph.specs.Replay.{replay_from}
 use Rattle.dg_history.specs.declared.start_fault.StartFault.{StartFault}
-use Rattle.dg_history.specs.OpenedIndex.{opening}
-use Rattle.dg_graph.specs.Replay.{replay, replay_from}
-use Rattle.dg_history.specs.SessionStart.{start_of, events_in_piece}
-use Rattle.dg_now.specs.Now.{NowState}
-use Rattle.dg_session.specs.SessionStart.{FirstWrong, RefusesStart}
-use Rattle.dg_session.proofs.ExtendResult.{pushed}
-use Rattle.dg_session.proofs.ReadHistory.{IsPiece, ReadSoFar, all_counted, read_as, tested_as, err_is, led_more, none_is, some_is, all_right, one_wrong, piece_told, none_told, of_told, piece_tested, piece_untested, piece_refused, none_read}
+use Rattle.dg_index.specs.OpenedIndex.{Opening, opening}
+use Rattle.dg_index.specs.SessionStart.{events_in_source, sources, start_of}
+use Rattle.dg_list.specs.NetLaws.{AreMadeByChanges}
+use Rattle.dg_session.specs.declared.event_source.EventSource.{EventSource}
+use Rattle.dg_session.specs.SessionStart.{FoundBehind, RefusesStart, source_of}
+use Rattle.dg_session.specs.SoundHistory.{MayGoOn}
+use Rattle.dg_session.proofs.NodeSets.{in_range}
+use Rattle.dg_session.proofs.ReadHistory.{IsNextSource, all_of_sources, all_tested, as_many, err_is, led_more, next_source, no_source, of_told, source_read, source_refused, told_weaker}
+use Rattle.dg_session.proofs.SourceEvents.{all_events, are_made, may_go_on}
 use Rattle.dg_session.proofs.history_reader.read_history.Goals as goal
-use Rattle.dg_session.proofs.history_reader.read_history.Goals.{then-is_none+in-Ok, else-is_none}
 
-pub loop-batch-init : goal.loop-batch-init
-loop-batch-init g c = record {
-  same = refl;
-  same_image = refl;
-  none_pending = c.requires.none_pending;
-  counted = omega arith;
-  same_write_faults = refl;
-  read = λ image h. none_read image c.args.names.now c.args.index.now.opening.segments c.args.current.now.graph c.new-events.result.items c.requires.graph c.new-events.ensures.items;
-  led = λ h. c.requires.graph ∙ sym (ap replay c.new-events.ensures.items);
-  many = ap (λ (es : List Event). events_after (length es) c.args.index.now.opening.segments) c.new-events.ensures.items;
-  fit = subst (λ (es : List Event). All (λ (e : Event). NamesFit e.body) es) (sym c.new-events.ensures.items) (All-nil (λ (e : Event). NamesFit e.body));
-}
-
-pub read_piece-requires-clause-few : goal.read_piece-requires-clause-few
-read_piece-requires-clause-few g c =
-    let p : IsPiece c.args.index.now.opening.segments c.loop-batch.piece (length c.loop-batch.events.items) c.in-Some.batch =
-    piece_told c.args.index.now c.loop-batch.index c.loop-batch.piece (length c.loop-batch.events.items) c.batch.result c.in-Some.batch c.loop-batch.invariant.same c.batch.ensures c.in-Some.is c.loop-batch.invariant.many in
-    omega (arith, p.bound, c.facts.ensures.events)
+pub read_record-requires-clause-image : goal.read_record-requires-clause-image
+read_record-requires-clause-image g c =
+    told_weaker (g.D.Disk.image c.args.disk.now) (g.D.Disk.image c.loop-source.disk) (λ image. opening image ≡ Ok (record { index = c.args.index.now.opening; names = c.args.names.now })) (λ image. IsOpenedAs image c.loop-source.index.opening)
+    c.loop-source.invariant.same_image
+    (λ image e. (c.args.names.now, e ∙ ap (λ (x : IndexState). Ok (record { index = x.opening; names = c.args.names.now })) (sym c.loop-source.invariant.same)))
+    c.requires.image
 
 pub returns-in_err-more-clause-refused : goal.returns-in_err-more-clause-refused
 returns-in_err-more-clause-refused g c =
-    let p : IsPiece c.args.index.now.opening.segments c.loop-batch.piece (length c.loop-batch.events.items) c.in-Some.batch =
-    piece_told c.args.index.now c.loop-batch.index c.loop-batch.piece (length c.loop-batch.events.items) c.batch.result c.in-Some.batch c.loop-batch.invariant.same c.batch.ensures c.in-Some.is c.loop-batch.invariant.many in
+    let o : Opening = c.args.index.now.opening in
+    let item : EventSource = get_or c.deref-source-items.result.now c.loop-source.source-index no_source in
+    let next : IsNextSource o c.loop-source.source-index (source_of item) =
+    next_source o c.deref-source-items.result.now c.loop-source.source-index no_source (ap (map source_of) c.deref-source-items.ensures.value ∙ c.in-Ok.ensures.are) c.loop-source-test.true in
     let due : StartFault → Type 0 = λ f. (image : List ℕ) → g.D.Disk.image c.args.disk.now ≡ Some image → RefusesStart f (start_of image) in
     err_is c.from_residual.result c.in_err-more.field-0.0 due c.from_residual.ensures
-    (λ image h. piece_refused image c.args.names.now c.args.index.now.opening c.loop-batch.piece p.segment c.loop-batch.current.graph c.loop-batch.events.items c.loop-batch.wrong c.in_err-more.field-0.0
-    (of_told (g.D.Disk.image c.args.disk.now) (λ image. opening image ≡ Ok (record { index = c.args.index.now.opening; names = c.args.names.now })) image c.requires.image h)
-    (c.loop-batch.invariant.read image h) p.there
-    (subst (λ (n : ℕ). RefusesStart c.in_err-more.field-0.0 (events_in_piece image n c.loop-batch.piece p.segment)) c.len.ensures.len
-    (c.in_err-more.ensures.refused image p.segment (c.loop-batch.invariant.same_image ∙ h)
-    (ap (λ (x : IndexState). slice_get x.opening.segments c.loop-batch.piece) c.loop-batch.invariant.same ∙ p.there))))
+    (λ image h. source_refused (g.D.Disk.image c.args.disk.now) image c.args.names.now o c.loop-source.source-index (source_of item) c.loop-source.current.graph c.loop-source.events.items c.loop-source.wrong c.in_err-more.field-0.0
+    h (of_told (g.D.Disk.image c.args.disk.now) (λ image. opening image ≡ Ok (record { index = c.args.index.now.opening; names = c.args.names.now })) image c.requires.image h)
+    c.loop-source.invariant.read next
+    (subst (λ (n : ℕ). RefusesStart c.in_err-more.field-0.0 (events_in_source image n o (source_of item))) c.len.ensures.len
+    (subst (λ (x : IndexState). RefusesStart c.in_err-more.field-0.0 (events_in_source image c.len.result x.opening (source_of item))) c.loop-source.invariant.same
+    (c.in_err-more.ensures.refused image (c.loop-source.invariant.same_image ∙ h)))))
 
-pub overflow_add-piece : goal.overflow_add-piece
-overflow_add-piece g c =
-    let p : IsPiece c.args.index.now.opening.segments c.loop-batch.piece (length c.loop-batch.events.items) c.in-Some.batch =
-    piece_told c.args.index.now c.loop-batch.index c.loop-batch.piece (length c.loop-batch.events.items) c.batch.result c.in-Some.batch c.loop-batch.invariant.same c.batch.ensures c.in-Some.is c.loop-batch.invariant.many in
-    omega (arith, p.past, c.facts.ensures.number)
-
-pub loop-batch-smaller : goal.loop-batch-smaller
-loop-batch-smaller g c =
-    let p : IsPiece c.args.index.now.opening.segments c.loop-batch.piece (length c.loop-batch.events.items) c.in-Some.batch =
-    piece_told c.args.index.now c.loop-batch.index c.loop-batch.piece (length c.loop-batch.events.items) c.batch.result c.in-Some.batch c.loop-batch.invariant.same c.batch.ensures c.in-Some.is c.loop-batch.invariant.many in
-    let fewer : length c.read_piece.new.index.opening.segments - (c.loop-batch.piece + 1) < length c.loop-batch.index.opening.segments - c.loop-batch.piece =
-    omega (arith, p.past, ap (λ (x : IndexState). length x.opening.segments) c.read_piece.ensures.same, ap (λ (x : IndexState). length x.opening.segments) c.loop-batch.invariant.same) in
-    fewer
-
-pub loop-batch-preserved : goal.loop-batch-preserved
-loop-batch-preserved g c =
-    let p : IsPiece c.args.index.now.opening.segments c.loop-batch.piece (length c.loop-batch.events.items) c.in-Some.batch =
-    piece_told c.args.index.now c.loop-batch.index c.loop-batch.piece (length c.loop-batch.events.items) c.batch.result c.in-Some.batch c.loop-batch.invariant.same c.batch.ensures c.in-Some.is c.loop-batch.invariant.many in
-    let items : c.extend_from_slice.new.self.items ≡ c.loop-batch.events.items ++ c.deref-in-Some.result.now =
-    pushed c.extend_from_slice.result c.loop-batch.events.items (c.loop-batch.events.items ++ c.deref-in-Some.result.now) c.extend_from_slice.new.self.items c.extend_from_slice.ensures.items (sym c.is_err.ensures.value ∙ c.if-is_err.false) in
-    let all : c.extend_from_slice.new.self.items ≡ c.loop-batch.events.items ++ c.in_ok-more.more.items =
-    items ∙ ap (λ es. c.loop-batch.events.items ++ es) c.deref-in-Some.ensures.value in
+pub loop-source-preserved : goal.loop-source-preserved
+loop-source-preserved g c =
+    let o : Opening = c.args.index.now.opening in
+    let item : EventSource = get_or c.deref-source-items.result.now c.loop-source.source-index no_source in
+    let next : IsNextSource o c.loop-source.source-index (source_of item) =
+    next_source o c.deref-source-items.result.now c.loop-source.source-index no_source (ap (map source_of) c.deref-source-items.ensures.value ∙ c.in-Ok.ensures.are) c.loop-source-test.true in
+    let added : c.add_events.new.events.items ≡ c.loop-source.events.items ++ c.in_ok-more.more.items =
+    c.in-Ok-add_events.ensures.added ∙ ap (λ (es : List Event). c.loop-source.events.items ++ es) c.deref.ensures.value in
     record {
-      same = c.read_piece.ensures.same ∙ c.loop-batch.invariant.same;
-      same_image = c.read_piece.ensures.disk.same_image ∙ c.loop-batch.invariant.same_image;
-      none_pending = elim c.if-is_none.branch [
-        | then-is_none+in-Ok w ↦ ap (λ (s : NowState). s.pending) w.current-is ∙ w.first_wrong.ensures.none
-        | else-is_none w ↦ ap (λ (s : NowState). s.pending) w.current-is ∙ c.loop-batch.invariant.none_pending
-      ];
-      counted = omega (arith, c.read_piece.ensures.disk.counted, c.loop-batch.invariant.counted);
-      same_write_faults = c.read_piece.ensures.disk.no_write_failed ∙ c.loop-batch.invariant.same_write_faults;
-      read = λ image h.
-          let read : events_in_piece image (length c.args.names.now) c.loop-batch.piece p.segment ≡ Ok c.in_ok-more.more.items =
-          ap (λ (n : ℕ). events_in_piece image n c.loop-batch.piece p.segment) (sym c.len.ensures.len)
-          ∙ c.in_ok-more.ensures.read image p.segment (c.loop-batch.invariant.same_image ∙ h)
-          (ap (λ (x : IndexState). slice_get x.opening.segments c.loop-batch.piece) c.loop-batch.invariant.same ∙ p.there) in
-          elim c.if-is_none.branch [
-            | then-is_none+in-Ok w ↦
-                let len : w.len-then-is_none.result ≡ length c.loop-batch.events.items = search rules in
-                let tested : FirstWrong c.args.names.now p.segment (1 + length c.loop-batch.events.items) c.loop-batch.current.graph c.in_ok-more.more.items w.in-Ok.found w.first_wrong.new.current.graph =
-                tested_as c.args.names.now p.segment (1 + w.len-then-is_none.result) (1 + length c.loop-batch.events.items) c.loop-batch.current.graph w.first_wrong.new.current.graph w.deref.result.now c.in_ok-more.more.items w.in-Ok.found
-                (ap (λ n. 1 + n) len) w.deref.ensures.value
-                (w.in-Ok.ensures.wrong p.segment (sym (ap (λ (b : Batch). b.ends.first) p.batch_is)) (sym (ap (λ (b : Batch). b.ends.last) p.batch_is))) in
-                read_as image c.args.names.now c.args.index.now.opening.segments (c.loop-batch.piece + 1) w.in-Ok.found c.if-is_none.wrong w.first_wrong.new.current.graph c.if-is_none.current.graph
-                (c.loop-batch.events.items ++ c.in_ok-more.more.items) c.extend_from_slice.new.self.items w.wrong-is (ap (λ (s : NowState). s.graph) w.current-is) all
-                (piece_tested image c.args.names.now c.args.index.now.opening.segments c.loop-batch.piece p.segment c.loop-batch.current.graph w.first_wrong.new.current.graph c.loop-batch.events.items c.in_ok-more.more.items w.in-Ok.found
-                (subst (λ (x : Option ℕ). ReadSoFar image c.args.names.now c.args.index.now.opening.segments c.loop-batch.piece x c.loop-batch.current.graph c.loop-batch.events.items)
-                (none_is c.loop-batch.wrong c.is_none.result c.is_none.ensures w.if-is_none.true) (c.loop-batch.invariant.read image h)) p.there read tested)
-            | else-is_none w ↦
-                let n = some_is c.loop-batch.wrong c.is_none.result c.is_none.ensures w.if-is_none.false in
-                read_as image c.args.names.now c.args.index.now.opening.segments (c.loop-batch.piece + 1) (Some n.0) c.if-is_none.wrong c.loop-batch.current.graph c.if-is_none.current.graph
-                (c.loop-batch.events.items ++ c.in_ok-more.more.items) c.extend_from_slice.new.self.items (w.wrong-is ∙ n.1) (ap (λ (s : NowState). s.graph) w.current-is) all
-                (piece_untested image c.args.names.now c.args.index.now.opening.segments c.loop-batch.piece p.segment c.loop-batch.current.graph c.loop-batch.events.items c.in_ok-more.more.items n.0
-                (subst (λ (x : Option ℕ). ReadSoFar image c.args.names.now c.args.index.now.opening.segments c.loop-batch.piece x c.loop-batch.current.graph c.loop-batch.events.items) n.1 (c.loop-batch.invariant.read image h)) p.there read)
-          ];
+      same = c.read_record.ensures.same ∙ c.loop-source.invariant.same;
+      same_image = c.read_record.ensures.disk.same_image ∙ c.loop-source.invariant.same_image;
+      none_pending = c.add_events.ensures.none;
+      counted = omega (arith, c.read_record.ensures.disk.counted, c.loop-source.invariant.counted);
+      same_write_faults = c.read_record.ensures.disk.no_write_failed ∙ c.loop-source.invariant.same_write_faults;
+      read =
+          source_read (g.D.Disk.image c.args.disk.now) c.args.names.now o c.loop-source.source-index (source_of item) c.loop-source.wrong c.in-Ok-add_events.found c.loop-source.current.graph c.add_events.new.current.graph
+          c.loop-source.events.items c.in_ok-more.more.items c.add_events.new.events.items c.loop-source.invariant.read next
+          (λ image h.
+          ap (λ (n : ℕ). events_in_source image n o (source_of item)) (sym c.len.ensures.len)
+          ∙ ap (λ (x : IndexState). events_in_source image c.len.result x.opening (source_of item)) (sym c.loop-source.invariant.same)
+          ∙ c.in_ok-more.ensures.read image (c.loop-source.invariant.same_image ∙ h))
+          c.in_ok-more.ensures.many c.in_ok-more.ensures.rises
+          (subst (λ (es : List Event). FoundBehind c.args.names.now item.ends c.loop-source.events.items c.loop-source.current.graph es c.loop-source.wrong c.in-Ok-add_events.found c.add_events.new.current.graph) c.deref.ensures.value
+          c.in-Ok-add_events.ensures.found)
+          added;
       led = λ none.
-          elim c.if-is_none.branch [
-            | then-is_none+in-Ok w ↦
-                led_more c.loop-batch.current.graph c.if-is_none.current.graph c.loop-batch.events.items c.in_ok-more.more.items c.extend_from_slice.new.self.items
-                (c.loop-batch.invariant.led (none_is c.loop-batch.wrong c.is_none.result c.is_none.ensures w.if-is_none.true))
-                (ap (λ (s : NowState). s.graph) w.current-is ∙ w.in-Ok.ensures.led (sym w.wrong-is ∙ none) ∙ ap (replay_from c.loop-batch.current.graph) w.deref.ensures.value) all
-            | else-is_none w ↦
-                let n = some_is c.loop-batch.wrong c.is_none.result c.is_none.ensures w.if-is_none.false in
-                let e : Some n.0 ≡ None = sym n.1 ∙ sym w.wrong-is ∙ none in cc
-          ];
-      many = ap (λ (k : ℕ). events_after k (drop (c.loop-batch.piece + 1) c.args.index.now.opening.segments))
-          (let k : length c.extend_from_slice.new.self.items ≡ length c.loop-batch.events.items + c.in-Some.batch.events =
-          omega (arith, ap length all, length-append c.loop-batch.events.items c.in_ok-more.more.items, c.in_ok-more.ensures.many) in k) ∙ p.next;
-      fit = subst (λ (es : List Event). All (λ (e : Event). NamesFit e.body) es) (sym all)
-          (All-append (λ (e : Event). NamesFit e.body) c.loop-batch.events.items c.in_ok-more.more.items c.loop-batch.invariant.fit c.in_ok-more.ensures.fit);
+          let led = c.in-Ok-add_events.ensures.led none in
+          led_more c.loop-source.current.graph c.add_events.new.current.graph c.loop-source.events.items c.in_ok-more.more.items c.add_events.new.events.items (c.loop-source.invariant.led led.0)
+          (led.1 ∙ ap (replay_from c.loop-source.current.graph) c.deref.ensures.value) added;
+      fit = subst (λ (es : List Event). All (λ (e : Event). NamesFit e.body) es) (sym added)
+          (All-append (λ (e : Event). NamesFit e.body) c.loop-source.events.items c.in_ok-more.more.items c.loop-source.invariant.fit c.in_ok-more.ensures.fit);
     }
 
-pub returns-in-Some-wrong-clause-refused : goal.returns-in-Some-wrong-clause-refused
-returns-in-Some-wrong-clause-refused g c image h =
-    one_wrong image c.args.names.now c.args.index.now.opening c.loop-batch.piece c.loop-batch.current.graph c.loop-batch.events.items c.in-Some-wrong.number
-    (of_told (g.D.Disk.image c.args.disk.now) (λ image. opening image ≡ Ok (record { index = c.args.index.now.opening; names = c.args.names.now })) image c.requires.image h)
-    (subst (λ (w : Option ℕ). ReadSoFar image c.args.names.now c.args.index.now.opening.segments c.loop-batch.piece w c.loop-batch.current.graph c.loop-batch.events.items) c.in-Some-wrong.is (c.loop-batch.invariant.read image h))
-    (none_told c.args.index.now c.loop-batch.index c.loop-batch.piece c.batch.result c.loop-batch.invariant.same c.batch.ensures c.in_default.is)
+pub returns-clause-many : goal.returns-clause-many
+returns-clause-many g c =
+    let o : Opening = c.args.index.now.opening in
+    let past : length (sources o) ≤ c.loop-source.source-index =
+    omega (arith, as_many o c.deref-source-items.result.now (ap (map source_of) c.deref-source-items.ensures.value ∙ c.in-Ok.ensures.are), c.loop-source-test.false) in
+    let read = all_of_sources (g.D.Disk.image c.args.disk.now) c.args.names.now o c.loop-source.source-index c.loop-source.current.graph c.loop-source.events.items c.loop-source.wrong c.loop-source.invariant.read past in
+    sym (ap length c.loop-source.invariant.read.events_are) ∙ all_events o c.loop-source.invariant.read.pairs (in_range o.params.l o.params.k c.facts.ensures.parameters).list_some read
 
-pub returns-in-None-clause-read : goal.returns-in-None-clause-read
-returns-in-None-clause-read g c image h =
-    all_right image c.args.names.now c.args.index.now.opening c.loop-batch.piece c.loop-batch.current.graph c.loop-batch.events.items
-    (of_told (g.D.Disk.image c.args.disk.now) (λ image. opening image ≡ Ok (record { index = c.args.index.now.opening; names = c.args.names.now })) image c.requires.image h)
-    (subst (λ (w : Option ℕ). ReadSoFar image c.args.names.now c.args.index.now.opening.segments c.loop-batch.piece w c.loop-batch.current.graph c.loop-batch.events.items) c.in-None.is (c.loop-batch.invariant.read image h))
-    (none_told c.args.index.now c.loop-batch.index c.loop-batch.piece c.batch.result c.loop-batch.invariant.same c.batch.ensures c.in_default.is)
+pub returns-clause-made : goal.returns-clause-made
+returns-clause-made g c =
+    subst (AreMadeByChanges []) c.loop-source.invariant.read.events_are
+    (are_made c.args.names.now c.loop-source.invariant.read.pairs
+    (all_tested (g.D.Disk.image c.args.disk.now) c.args.names.now c.args.index.now.opening c.loop-source.source-index c.loop-source.current.graph c.loop-source.events.items c.loop-source.wrong c.loop-source.invariant.read ∙ c.in-None.is))
 
-pub returns-in-None-clause-many : goal.returns-in-None-clause-many
-returns-in-None-clause-many g c =
-    all_counted c.args.index.now.opening.segments c.loop-batch.piece (length c.loop-batch.events.items) c.loop-batch.invariant.many
-    (none_told c.args.index.now c.loop-batch.index c.loop-batch.piece c.batch.result c.loop-batch.invariant.same c.batch.ensures c.in_default.is)
+pub returns-clause-goes_on : goal.returns-clause-goes_on
+returns-clause-goes_on g c =
+    let o : Opening = c.args.index.now.opening in
+    let past : length (sources o) ≤ c.loop-source.source-index =
+    omega (arith, as_many o c.deref-source-items.result.now (ap (map source_of) c.deref-source-items.ensures.value ∙ c.in-Ok.ensures.are), c.loop-source-test.false) in
+    let read = all_of_sources (g.D.Disk.image c.args.disk.now) c.args.names.now o c.loop-source.source-index c.loop-source.current.graph c.loop-source.events.items c.loop-source.wrong c.loop-source.invariant.read past in
+    let right = all_tested (g.D.Disk.image c.args.disk.now) c.args.names.now o c.loop-source.source-index c.loop-source.current.graph c.loop-source.events.items c.loop-source.wrong c.loop-source.invariant.read ∙ c.in-None.is in
+    subst (λ (es : List Event). MayGoOn (Some o) es) c.loop-source.invariant.read.events_are
+    (may_go_on o c.args.names.now c.loop-source.invariant.read.pairs (in_range o.params.l o.params.k c.facts.ensures.parameters).list_some c.facts.ensures.in_turn c.facts.ensures.listed read right)

@@ -1,85 +1,25 @@
-use Rattle.std.proofs.Common.{◌≡◌, ℕ, ◌+◌, ◌-◌, ◌≤◌, [], ◌∷◌, ◌++◌, Result, Ok, Err, refl, sym, ap, subst, ◌∙◌, arith}
-use Rattle.dg_disk.specs.Image.{HasOffset}
-use Rattle.dg_history.specs.declared.limits.TheConstants.{FILE_BYTES_MAX}
-use Rattle.dg_history.specs.OpenedIndex.{Segment, Opening, columns_size, may_follow}
+use Rattle.std.proofs.Common.{◌≡◌, ℕ, ◌+◌, ◌-◌, ◌≤◌, List, length, true, Result, Ok, Err, refl, sym, ap, subst, ◌∙◌, arith}
+use Rattle.dg_history.specs.declared.limits.TheConstants.{EVENTS_MAX, FILE_BYTES_MAX}
+use Rattle.dg_history.specs.declared.node.Key.{Key}
+use Rattle.dg_history.specs.History.{are_parameters}
+use Rattle.dg_index.specs.declared.entry.Row.{Row}
+use Rattle.dg_index.specs.FileOfHistory.{Segment, head_of, segment_bytes}
+use Rattle.dg_index.specs.IndexGrowth.{index_with, needed_for}
+use Rattle.dg_index.specs.declared.entry.BatchEntry.{BatchEntry}
+use Rattle.dg_index.specs.OpenedIndex.{Opening, directory_of, earliest_in, events_in, first_in, last_list, rows_in}
+use Rattle.dg_file.specs.Invariant.{EndBy}
+use Rattle.dg_file.proofs.ListEnds.{ends_of}
+use Rattle.dg_index.proofs.OpenedHistories.{large_parameters}
+use Rattle.dg_shape.specs.Additions.{Suits}
 use Rattle.dg_file.specs.declared.fault.CommitFault.{CommitFault}
 use Rattle.dg_file.specs.declared.fault.CommitFault.TheVariants.{FileFull, Disk}
 use Rattle.dg_file.specs.Growth.{Moved, Gated, GatedOrNot}
-use Rattle.dg_file.specs.Held.{segment_in}
-use Rattle.dg_file.specs.Index.{events_after, earliest_after, needed_for, with_segment, segment_put, segment_bytes}
-use Rattle.dg_file.proofs.Steps.{used_there, added_opened, added_gains, added_or_not}
+use Rattle.dg_file.specs.Images.{BothTold, GainsSegment}
+use Rattle.dg_file.specs.Index.{IndexState}
+use Rattle.dg_file.proofs.AddedSegments.{added_batch, added_or_not, added_segment, columns_end, index_is, needed_is, used_there}
+use Rattle.dg_file.proofs.NotedBatches.{follows_in}
+use Rattle.dg_file.proofs.SuitedRows.{suits_segment}
 use Rattle.dg_file.proofs.index.Index.commit.Goals as goal
-
-pub append-requires-clause-place : goal.append-requires-clause-place
-append-requires-clause-place g c = subst (λ n. HasOffset (g.D.Disk.image c.args.disk.now) n) (sym c.used-used.ensures) (used_there _ c.args.self.now.opening c.args.segment c.requires.image)
-
-pub append-requires-clause-some : goal.append-requires-clause-some
-append-requires-clause-some g c = omega (arith, c.used-used.ensures, c.facts.ensures.begun)
-
-pub append-requires-clause-fits : goal.append-requires-clause-fits
-append-requires-clause-fits g c = omega (arith, c.used-used.ensures, c.facts.ensures.within, c.size.ensures.size, c.size.ensures.small)
-
-pub noted-requires : goal.noted-requires
-noted-requires g c = omega (arith, c.used-used.ensures, c.facts.ensures.within, c.size.ensures.size, c.size.ensures.small)
-
-pub note-requires-clause-due : goal.note-requires-clause-due
-note-requires-clause-due g c =
-    let o : Opening = c.args.self.now.opening in
-    let is : segment_in c.noted.result ≡ segment_put o.used c.args.segment = c.noted.ensures ∙ ap (λ n. segment_put n c.args.segment) c.used-used.ensures in
-    ap (may_follow (events_after 0 o.segments) (earliest_after 0 o.segments)) is ∙ c.requires.due.0
-
-pub note-requires-clause-names : goal.note-requires-clause-names
-note-requires-clause-names g c = omega (arith, c.requires.due.1, ap (λ (s : Segment). s.names) c.noted.ensures)
-
-pub note-requires-clause-behind : goal.note-requires-clause-behind
-note-requires-clause-behind g c = omega (arith, c.used-used.ensures, ap (λ (s : Segment). s.place) c.noted.ensures)
-
-pub note-requires-clause-within : goal.note-requires-clause-within
-note-requires-clause-within g c =
-    omega (arith, c.if-limit-needed.false, c.requires.limit, c.size.ensures.size, ap (λ (s : Segment). s.place) c.noted.ensures, ap (λ (s : Segment). columns_size s.lengths) c.noted.ensures)
-
-pub returns-clause-ok : goal.returns-clause-ok
-returns-clause-ok g c =
-    let o : Opening = c.args.self.now.opening in
-    let is : segment_in c.noted.result ≡ segment_put o.used c.args.segment = c.noted.ensures ∙ ap (λ n. segment_put n c.args.segment) c.used-used.ensures in
-    let used : c.noted.result.place + columns_size c.noted.result.lengths + 1 ≡ needed_for o c.args.segment = omega (arith, ap (λ (s : Segment). s.place) is, ap (λ (s : Segment). columns_size s.lengths) is) in
-    c.note.ensures ∙ (λ i. record { params = o.params; segments = o.segments ++ is i ∷ []; used = used i })
-
-pub returns-clause-opened : goal.returns-clause-opened
-returns-clause-opened g c =
-    let o : Opening = c.args.self.now.opening in
-    let x = g.D.Disk.image c.args.disk.now in
-    let y = g.D.Disk.image c.append.new.disk in
-    let is : segment_in c.noted.result ≡ segment_put o.used c.args.segment = c.noted.ensures ∙ ap (λ n. segment_put n c.args.segment) c.used-used.ensures in
-    let used : c.noted.result.place + columns_size c.noted.result.lengths + 1 ≡ needed_for o c.args.segment = omega (arith, ap (λ (s : Segment). s.place) is, ap (λ (s : Segment). columns_size s.lengths) is) in
-    let new : c.note.new.self.opening ≡ with_segment o c.args.segment = c.note.ensures ∙ (λ i. record { params = o.params; segments = o.segments ++ is i ∷ []; used = used i }) in
-    let within : needed_for o c.args.segment ≤ FILE_BYTES_MAX = omega (arith, c.used-used.ensures, c.size.ensures.size, c.if-limit-needed.false, c.requires.limit) in
-    let written : Moved x y (Gated (o.used - 1) 1 (segment_bytes c.args.segment)) = subst (λ n. Moved x y (Gated (n - 1) 1 (segment_bytes c.args.segment))) c.used-used.ensures c.in_ok-append.ensures.written in
-    added_opened x y o c.note.new.self.opening c.args.segment new c.requires.due within c.requires.image written
-
-pub returns-clause-history : goal.returns-clause-history
-returns-clause-history g c =
-    let o : Opening = c.args.self.now.opening in
-    let x = g.D.Disk.image c.args.disk.now in
-    let y = g.D.Disk.image c.append.new.disk in
-    let within : needed_for o c.args.segment ≤ FILE_BYTES_MAX = omega (arith, c.used-used.ensures, c.size.ensures.size, c.if-limit-needed.false, c.requires.limit) in
-    let written : Moved x y (Gated (o.used - 1) 1 (segment_bytes c.args.segment)) = subst (λ n. Moved x y (Gated (n - 1) 1 (segment_bytes c.args.segment))) c.used-used.ensures c.in_ok-append.ensures.written in
-    added_gains x y o c.args.segment within c.requires.image written
-
-pub returns-clause-fits : goal.returns-clause-fits
-returns-clause-fits g c = omega (arith, c.used-used.ensures, c.size.ensures.size, c.if-limit-needed.false)
-
-pub returns-in_err-append-clause-part : goal.returns-in_err-append-clause-part
-returns-in_err-append-clause-part g c = λ _.
-    let o : Opening = c.args.self.now.opening in
-    let x = g.D.Disk.image c.args.disk.now in
-    let y = g.D.Disk.image c.append.new.disk in
-    let within : needed_for o c.args.segment ≤ FILE_BYTES_MAX = omega (arith, c.used-used.ensures, c.size.ensures.size, c.if-limit-needed.false, c.requires.limit) in
-    let part : Moved x y (GatedOrNot o.used (segment_bytes c.args.segment)) = subst (λ n. Moved x y (GatedOrNot n (segment_bytes c.args.segment))) c.used-used.ensures c.in_err-append.ensures.part in
-    added_or_not x y o c.args.segment within c.requires.image part
-
-pub returns-in_err-append-clause-disk_fits : goal.returns-in_err-append-clause-disk_fits
-returns-in_err-append-clause-disk_fits g c = λ _. omega (arith, c.used-used.ensures, c.size.ensures.size, c.if-limit-needed.false)
 
 full_bytes : ℕ → Result (Unit {0}) CommitFault → ℕ
 full_bytes n (Ok x) = n
@@ -89,5 +29,91 @@ full_bytes n (Err Disk) = n
 pub returns-then-limit-needed-clause-full : goal.returns-then-limit-needed-clause-full
 unfolding full_bytes
 returns-then-limit-needed-clause-full g c = λ n e.
-    let same : c.used-used.result + c.size.result ≡ n = ap (full_bytes n) e in
-    (omega (arith, same, c.used-used.ensures, c.size.ensures.size), omega (arith, same, c.if-limit-needed.true), refl, refl, refl, refl)
+    let used : c.self.inside.used ≡ c.args.self.now.opening.used = ap (λ (v : IndexState). v.opening.used) c.self.view_is in
+    let needed = needed_is c.self.inside.used c.size.result c.args.self.now.opening c.args.prepared.segment c.segment-segment.result.now used c.segment-segment.ensures c.size.ensures.size in
+    let same : c.self.inside.used + c.size.result ≡ n = ap (full_bytes n) e in
+    (sym same ∙ needed, omega (arith, same, c.if-limit-needed.true), refl, refl, refl, refl)
+
+pub append-requires-clause-head : goal.append-requires-clause-head
+append-requires-clause-head g c = c.head-head.ensures ∙ ap head_of (sym c.segment-segment.ensures)
+
+pub append-requires-clause-offset : goal.append-requires-clause-offset
+append-requires-clause-offset g c =
+    used_there (g.D.Disk.image c.args.disk.now) c.args.self.now.opening c.args.prepared.segment c.self.inside.used (ap (λ (v : IndexState). v.opening.used) c.self.view_is) c.requires.image
+
+pub returns-in_err-append-clause-part : goal.returns-in_err-append-clause-part
+returns-in_err-append-clause-part g c = λ _.
+    let x = g.D.Disk.image c.args.disk.now in
+    let y = g.D.Disk.image c.append.new.disk in
+    let used : c.self.inside.used ≡ c.args.self.now.opening.used = ap (λ (v : IndexState). v.opening.used) c.self.view_is in
+    let needed = needed_is c.self.inside.used c.size.result c.args.self.now.opening c.args.prepared.segment c.segment-segment.result.now used c.segment-segment.ensures c.size.ensures.size in
+    let within : needed_for c.args.self.now.opening c.args.prepared.segment ≤ FILE_BYTES_MAX = subst (λ n. n ≤ FILE_BYTES_MAX) needed (omega (arith, c.if-limit-needed.false, c.requires.limit)) in
+    added_or_not x y c.args.self.now.opening c.args.prepared.segment c.self.inside.used used within c.requires.image
+    (subst (λ (s : Segment). Moved x y (GatedOrNot c.self.inside.used (segment_bytes s))) c.segment-segment.ensures c.in_err-append.ensures.part)
+
+pub returns-in_err-append-clause-disk_fits : goal.returns-in_err-append-clause-disk_fits
+returns-in_err-append-clause-disk_fits g c = λ _.
+    let used : c.self.inside.used ≡ c.args.self.now.opening.used = ap (λ (v : IndexState). v.opening.used) c.self.view_is in
+    let needed = needed_is c.self.inside.used c.size.result c.args.self.now.opening c.args.prepared.segment c.segment-segment.result.now used c.segment-segment.ensures c.size.ensures.size in
+    subst (λ n. n ≤ c.args.limit) needed (omega (arith, c.if-limit-needed.false))
+
+pub note-requires-clause-rows : goal.note-requires-clause-rows
+note-requires-clause-rows g c =
+    let o : Opening = c.args.self.now.opening in
+    let s : Segment = c.args.prepared.segment in
+    let large = large_parameters o.params.l o.params.k (subst (λ (v : IndexState). are_parameters v.opening.params.l v.opening.params.k ≡ true) c.self.view_is c.self.invariant.parameters) in
+    let few : events_in o.batches + s.events ≤ EVENTS_MAX = (follows_in (events_in o.batches) (earliest_in 0 o.batches) (directory_of s).batch c.requires.due.follows).all in
+    subst (λ (r : List Row). Suits c.keys.result.now r) (sym c.rows.ensures) (subst (λ (k : List Key). Suits k (rows_in (directory_of s))) (sym (c.keys.ensures ∙ c.requires.room.keys)) (suits_segment o s large.0 few c.requires.due))
+
+pub note-requires-clause-ends : goal.note-requires-clause-ends
+note-requires-clause-ends g c =
+    let o : Opening = c.args.self.now.opening in
+    let s : Segment = c.args.prepared.segment in
+    let batch : c.batch.result ≡ (directory_of s).batch = c.batch.ensures ∙ ap (λ (s : Segment). (directory_of s).batch) c.segment-segment.ensures in
+    subst (λ (b : BatchEntry). EndBy b.ends.last c.rows.result.now) (sym batch)
+    (subst (λ (r : List Row). EndBy s.last r) (sym c.rows.ensures)
+    (ends_of (last_list (first_in s.first o.batches) o.records) s.last s c.requires.due.listed))
+
+pub note-requires-clause-used : goal.note-requires-clause-used
+note-requires-clause-used g c =
+    let end = columns_end c.args.prepared.segment c.head-head.result.now c.rows.result.now c.head-head.ensures c.rows.ensures in
+    omega (arith, end, c.size.ensures.size, ap (λ (s : Segment). length (segment_bytes s)) c.segment-segment.ensures)
+
+pub returns-clause-ok : goal.returns-clause-ok
+returns-clause-ok g c =
+    let o : Opening = c.args.self.now.opening in
+    let s : Segment = c.args.prepared.segment in
+    let used : c.self.inside.used ≡ o.used = ap (λ (v : IndexState). v.opening.used) c.self.view_is in
+    let needed = needed_is c.self.inside.used c.size.result o s c.segment-segment.result.now used c.segment-segment.ensures c.size.ensures.size in
+    c.note.ensures ∙ index_is o s c.batch.result c.rows.result.now c.head-head.result.now c.self.inside.used (c.self.inside.used + c.size.result) (c.batch.ensures ∙ ap (λ (s : Segment). (directory_of s).batch) c.segment-segment.ensures) c.rows.ensures c.head-head.ensures used needed
+
+pub returns-clause-opened : goal.returns-clause-opened
+returns-clause-opened g c =
+    let x = g.D.Disk.image c.args.disk.now in
+    let y = g.D.Disk.image c.append.new.disk in
+    let o : Opening = c.args.self.now.opening in
+    let s : Segment = c.args.prepared.segment in
+    let used : c.self.inside.used ≡ o.used = ap (λ (v : IndexState). v.opening.used) c.self.view_is in
+    let needed = needed_is c.self.inside.used c.size.result o s c.segment-segment.result.now used c.segment-segment.ensures c.size.ensures.size in
+    let within : needed_for o s ≤ FILE_BYTES_MAX = subst (λ n. n ≤ FILE_BYTES_MAX) needed (omega (arith, c.if-limit-needed.false, c.requires.limit)) in
+    let new : c.note.new.self.opening ≡ index_with o s = c.note.ensures ∙ index_is o s c.batch.result c.rows.result.now c.head-head.result.now c.self.inside.used (c.self.inside.used + c.size.result) (c.batch.ensures ∙ ap (λ (s : Segment). (directory_of s).batch) c.segment-segment.ensures) c.rows.ensures c.head-head.ensures used needed in
+    let parameters = subst (λ (v : IndexState). are_parameters v.opening.params.l v.opening.params.k ≡ true) c.self.view_is c.self.invariant.parameters in
+    subst (λ (n : Opening). BothTold x y (GainsSegment o s n)) (sym new)
+    (added_segment x y o s c.self.inside.used used within c.requires.image parameters c.requires.due (omega (arith, used, c.self.invariant.bytes))
+    (subst (λ (s : Segment). Moved x y (Gated (c.self.inside.used - 1) 1 (segment_bytes s))) c.segment-segment.ensures c.in_ok-append.ensures.written))
+
+pub returns-clause-history : goal.returns-clause-history
+returns-clause-history g c =
+    let x = g.D.Disk.image c.args.disk.now in
+    let y = g.D.Disk.image c.append.new.disk in
+    let used : c.self.inside.used ≡ c.args.self.now.opening.used = ap (λ (v : IndexState). v.opening.used) c.self.view_is in
+    let needed = needed_is c.self.inside.used c.size.result c.args.self.now.opening c.args.prepared.segment c.segment-segment.result.now used c.segment-segment.ensures c.size.ensures.size in
+    let within : needed_for c.args.self.now.opening c.args.prepared.segment ≤ FILE_BYTES_MAX = subst (λ n. n ≤ FILE_BYTES_MAX) needed (omega (arith, c.if-limit-needed.false, c.requires.limit)) in
+    added_batch x y c.args.self.now.opening c.args.prepared.segment c.self.inside.used used within c.requires.image
+    (subst (λ (s : Segment). Moved x y (Gated (c.self.inside.used - 1) 1 (segment_bytes s))) c.segment-segment.ensures c.in_ok-append.ensures.written)
+
+pub returns-clause-fits : goal.returns-clause-fits
+returns-clause-fits g c =
+    let used : c.self.inside.used ≡ c.args.self.now.opening.used = ap (λ (v : IndexState). v.opening.used) c.self.view_is in
+    let needed = needed_is c.self.inside.used c.size.result c.args.self.now.opening c.args.prepared.segment c.segment-segment.result.now used c.segment-segment.ensures c.size.ensures.size in
+    subst (λ n. n ≤ c.args.limit) needed (omega (arith, c.if-limit-needed.false))

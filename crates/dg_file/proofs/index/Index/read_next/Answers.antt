@@ -1,69 +1,110 @@
-use Rattle.std.proofs.Common.{◌≡◌, ℕ, None, List, sym, ap, subst, ◌∙◌, arith}
-use Rattle.std.specs.Prelude.{IfSome}
+use Rattle.std.proofs.Common.{◌≡◌, ℕ, ◌+◌, ◌≤◌, List, None, Err, take, drop, sym, ap, subst, ◌∙◌, arith, false}
+use Rattle.std.specs.Prelude.{IfSome, slice_index}
 use Rattle.std.proofs.lemmas.Result.{err_from_is_err_and}
-use Rattle.dg_history.specs.OpenedIndex.{Opening, directory_at, may_follow, opening}
-use Rattle.dg_file.specs.Headers.{IsOpenedSoFar, IsFoundAt}
-use Rattle.dg_file.specs.Held.{segment_in}
-use Rattle.dg_file.specs.Images.{Misses, RefusesOpening}
-use Rattle.dg_file.specs.Index.{events_after, earliest_after, names_count, opening_bytes}
-use Rattle.dg_file.proofs.Holding.{names_more, opening_more}
-use Rattle.dg_file.proofs.Steps.{next_refused, next_so_far}
+use Rattle.dg_disk.specs.Image.{IsLengthOf}
+use Rattle.dg_index.specs.IndexGrowth.{columns_in}
+use Rattle.dg_index.specs.OpenedIndex.{Opening, opening, keys_next, events_in, earliest_in, may_follow}
+use Rattle.dg_shape.specs.Additions.{Suits}
+use Rattle.dg_history.specs.declared.node.Key.{Key}
+use Rattle.dg_file.specs.declared.lengths.Lengths.{Lengths}
+use Rattle.dg_file.specs.Directories.{TakesDirectory, directory_due}
+use Rattle.dg_file.specs.Headers.{Misses, IsOpenedSoFar}
+use Rattle.dg_index.specs.ImageText.{is_within}
+use Rattle.dg_file.specs.Index.{IndexState, opening_bytes}
+use Rattle.dg_file.specs.Images.{RefusesOpening}
+use Rattle.dg_index.specs.declared.entry.Row.{Row}
+use Rattle.dg_file.specs.Invariant.{EndBy, with_rows}
+use Rattle.dg_file.proofs.Found.{fit_facts, range_within}
+use Rattle.dg_file.proofs.NextSegments.{outside, broken, next_on, taken_next}
+use Rattle.dg_file.proofs.NotedBatches.{bytes_with}
 use Rattle.dg_file.proofs.index.Index.read_next.Goals as goal
 
-pub note-requires-clause-due : goal.note-requires-clause-due
-note-requires-clause-due g c =
-    let o : Opening = c.reserve.new.self.opening in
-    (λ i. may_follow (sym c.events.ensures.events i) (sym c.earliest.ensures i) (segment_in c.in_ok-found.found.noted)) ∙ c.in_ok-found.ensures.takes.follows
+pub returns-in_err-lengths-clause-refused : goal.returns-in_err-lengths-clause-refused
+returns-in_err-lengths-clause-refused g c =
+    let x = g.D.Disk.image c.args.disk.now in
+    let o : Opening = c.args.self.now.opening in
+    let same : c.self.inside.used ≡ o.used = ap (λ (v : IndexState). v.opening.used) c.self.view_is in
+    let misses = subst (λ n. IfSome x (λ image. Misses n (is_within image n ≡ false) c.in_err-lengths.field-0.0)) same c.in_err-lengths.ensures.refused in
+    let rest : IfSome x (λ image. RefusesOpening c.in_err-lengths.field-0.0 (opening image)) = outside x o c.args.names.now c.in_err-lengths.field-0.0 c.requires.so_far misses in
+    let p = err_from_is_err_and c.from_residual.result c.from_residual.ensures.1 in
+    rw (p.1, p.2) rest
 
-pub note-requires-clause-names : goal.note-requires-clause-names
-note-requires-clause-names g c =
-    omega (arith, c.in_ok-found.ensures.takes.counted, c.in_ok-found.ensures.takes.few, c.requires.counted_names, ap (λ (o : Opening). names_count o.segments) c.reserve.ensures.same)
+pub returns-in-Err-Broken-clause-refused : goal.returns-in-Err-Broken-clause-refused
+returns-in-Err-Broken-clause-refused g c =
+    let x = g.D.Disk.image c.args.disk.now in
+    let o : Opening = c.args.self.now.opening in
+    let same : c.self.inside.used ≡ o.used = ap (λ (v : IndexState). v.opening.used) c.self.view_is in
+    let offset : ℕ = c.self.inside.used in
+    let f = fit_facts offset c.args.len c.in_ok-lengths.lengths c.in_ok-lengths.ensures.fit in
+    let l = c.in_ok-lengths.ensures.lengths in
+    let t = subst (λ y. IfSome y (λ image. c.in_ok-text.text.items ≡ take c.in_ok-lengths.lengths.directory (drop (offset + 16) image))) c.read_lengths.ensures.frame.same_image c.in_ok-text.ensures.bytes in
+    let here : c.deref.result.now ≡ c.in_ok-text.text.items = c.deref.ensures.value in
+    let none : directory_due (record { index = o; names = c.args.names.now }) c.in_ok-lengths.lengths.columns c.in_ok-text.text.items ≡ None = ap (λ (b : List ℕ). directory_due (record { index = o; names = c.args.names.now }) c.in_ok-lengths.lengths.columns b) (sym here) ∙ c.in-Err-Broken.ensures.broken (ap (λ e. Err e) c.in-Err-Broken.field-0-is) in
+    broken x o c.args.names.now offset c.in_ok-lengths.lengths c.in_ok-text.text.items same c.requires.so_far l t none
 
-pub note-requires-clause-behind : goal.note-requires-clause-behind
-note-requires-clause-behind g c = omega (arith, c.in_ok-found.ensures.takes.behind, c.used.ensures)
+pub read_byte-requires : goal.read_byte-requires
+read_byte-requires g c =
+    let f = fit_facts c.self.inside.used c.args.len c.in_ok-lengths.lengths c.in_ok-lengths.ensures.fit in
+    range_within _ _ 1 c.args.len (omega (arith, f)) (subst (λ x. IsLengthOf x c.args.len) (sym (c.read_range.ensures.frame.same_image ∙ c.read_lengths.ensures.frame.same_image)) c.requires.len)
+
+pub overflow_add-gate_offset-2 : goal.overflow_add-gate_offset-2
+overflow_add-gate_offset-2 g c =
+    let f = fit_facts c.self.inside.used c.args.len c.in_ok-lengths.lengths c.in_ok-lengths.ensures.fit in
+    omega (arith, f)
+
+pub note-requires-clause-keys : goal.note-requires-clause-keys
+note-requires-clause-keys g c =
+    c.deref-2.ensures.value ∙ c.in-Ok.ensures.taken.keys ∙ ap (λ (o : Opening). keys_next o c.in-Ok.found.batch.events) (sym c.reserve.ensures.same)
+
+pub note-requires-clause-follows : goal.note-requires-clause-follows
+note-requires-clause-follows g c =
+    ap (λ (o : Opening). may_follow (events_in o.batches) (earliest_in 0 o.batches) c.in-Ok.found.batch) c.reserve.ensures.same ∙ c.in-Ok.ensures.taken.follows
+
+pub note-requires-clause-ends : goal.note-requires-clause-ends
+note-requires-clause-ends g c =
+    subst (λ (l : List Row). EndBy c.in-Ok.found.batch.ends.last l) (sym c.deref-3.ensures.value) c.in-Ok.ensures.taken.ends
 
 pub note-requires-clause-within : goal.note-requires-clause-within
-note-requires-clause-within g c = omega (arith, c.in_ok-found.ensures.takes.fits)
+note-requires-clause-within g c =
+    let f = fit_facts c.self.inside.used c.args.len c.in_ok-lengths.lengths c.in_ok-lengths.ensures.fit in
+    omega (arith, f)
 
-pub returns-in_err-found-clause-refused : goal.returns-in_err-found-clause-refused
-returns-in_err-found-clause-refused g c =
-    let x = g.D.Disk.image c.args.disk.now in
-    let o : Opening = c.reserve.new.self.opening in
-    let names : List (List ℕ) = c.args.names.now in
-    let so_far = subst (λ o. IfSome x (λ image. IsOpenedSoFar image o names 1)) (sym c.reserve.ensures.same) c.requires.so_far in
-    let misses : IfSome x (λ image. Misses o.used (directory_at (events_after 0 o.segments) names (earliest_after 0 o.segments) image o.used ≡ None) c.in_err-found.field-0.0) =
-    subst (λ n. IfSome x (λ image. Misses n (directory_at (events_after 0 o.segments) names (earliest_after 0 o.segments) image n ≡ None) c.in_err-found.field-0.0)) c.used.ensures
-    (subst (λ n. IfSome x (λ image. Misses c.used.result (directory_at (events_after 0 o.segments) names n image c.used.result ≡ None) c.in_err-found.field-0.0)) c.earliest.ensures
-    (subst (λ n. IfSome x (λ image. Misses c.used.result (directory_at n names c.earliest.result image c.used.result ≡ None) c.in_err-found.field-0.0)) c.events.ensures.events c.in_err-found.ensures.refused)) in
-    let rest : IfSome x (λ image. RefusesOpening c.in_err-found.field-0.0 (opening image)) = next_refused x o names c.in_err-found.field-0.0 so_far misses in
-    let p = err_from_is_err_and c.from_residual-in_err-found.result c.from_residual-in_err-found.ensures.1 in
-    rw (p.1, p.2) rest
+pub returns-clause-within : goal.returns-clause-within
+returns-clause-within g c =
+    let f = fit_facts c.self.inside.used c.args.len c.in_ok-lengths.lengths c.in_ok-lengths.ensures.fit in
+    omega (arith, f, ap (λ (o : Opening). o.used) c.note.ensures)
 
 pub returns-clause-so_far : goal.returns-clause-so_far
 returns-clause-so_far g c =
     let x = g.D.Disk.image c.args.disk.now in
-    let o : Opening = c.reserve.new.self.opening in
-    let names : List (List ℕ) = c.args.names.now in
-    let so_far = subst (λ o. IfSome x (λ image. IsOpenedSoFar image o names 1)) (sym c.reserve.ensures.same) c.requires.so_far in
-    let there : IfSome x (λ image. IsFoundAt (events_after 0 o.segments) (earliest_after 0 o.segments) names image o.used c.read_segment.new.names c.in_ok-found.found) =
-    subst (λ n. IfSome x (λ image. IsFoundAt (events_after 0 o.segments) (earliest_after 0 o.segments) names image n c.read_segment.new.names c.in_ok-found.found)) c.used.ensures
-    (subst (λ n. IfSome x (λ image. IsFoundAt (events_after 0 o.segments) n names image c.used.result c.read_segment.new.names c.in_ok-found.found)) c.earliest.ensures
-    (subst (λ n. IfSome x (λ image. IsFoundAt n c.earliest.result names image c.used.result c.read_segment.new.names c.in_ok-found.found)) c.events.ensures.events c.in_ok-found.ensures.found)) in
-    next_so_far x o c.note.new.self.opening names c.read_segment.new.names c.in_ok-found.found c.note.ensures so_far there
-
-pub returns-clause-within : goal.returns-clause-within
-returns-clause-within g c = omega (arith, ap (λ (o : Opening). o.used) c.note.ensures, c.in_ok-found.ensures.takes.within)
-
-pub returns-clause-progress : goal.returns-clause-progress
-returns-clause-progress g c =
-    omega (arith, ap (λ (o : Opening). o.used) c.note.ensures, ap (λ (o : Opening). o.used) c.reserve.ensures.same, c.used.ensures, c.in_ok-found.ensures.takes.behind)
-
-pub returns-clause-counted_names : goal.returns-clause-counted_names
-returns-clause-counted_names g c =
-    omega (arith, ap (λ (o : Opening). names_count o.segments) c.note.ensures, names_more c.reserve.new.self.opening.segments (segment_in c.in_ok-found.found.noted), ap (λ (o : Opening). names_count o.segments) c.reserve.ensures.same, c.in_ok-found.ensures.takes.counted, c.requires.counted_names)
+    let o : Opening = c.args.self.now.opening in
+    let same : c.self.inside.used ≡ o.used = ap (λ (v : IndexState). v.opening.used) c.self.view_is in
+    let offset : ℕ = c.self.inside.used in
+    let h : Lengths = c.in_ok-lengths.lengths in
+    let l = c.in_ok-lengths.ensures.lengths in
+    let t : IfSome x (λ image. c.in_ok-text.text.items ≡ take h.directory (drop (offset + 16) image)) = subst (λ y. IfSome y (λ image. c.in_ok-text.text.items ≡ take h.directory (drop (offset + 16) image))) c.read_lengths.ensures.frame.same_image c.in_ok-text.ensures.bytes in
+    let takes : TakesDirectory o h.columns c.in_ok-text.text.items c.args.names.now c.read_directory.new.names c.in-Ok.found = subst (λ (b : List ℕ). TakesDirectory o h.columns b c.args.names.now c.read_directory.new.names c.in-Ok.found) c.deref.ensures.value c.in-Ok.ensures.taken in
+    let gate : IfSome x (λ image. c.in_ok-gate.gate ≡ slice_index image (offset + 16 + h.directory + h.columns)) = subst (λ y. IfSome y (λ image. c.in_ok-gate.gate ≡ slice_index image (offset + 16 + h.directory + h.columns))) (c.read_range.ensures.frame.same_image ∙ c.read_lengths.ensures.frame.same_image) c.in_ok-gate.ensures.byte in
+    let new : c.note.new.self.opening ≡ with_rows o c.in-Ok.found.batch c.in-Ok.found.rows.items (offset + 16 + h.directory) (offset + 16 + h.directory + h.columns + 1) = c.note.ensures ∙ (λ i. with_rows (c.reserve.ensures.same i) c.in-Ok.found.batch (c.deref-3.ensures.value i) (offset + 16 + h.directory) (offset + 16 + h.directory + h.columns + 1)) in
+    subst (λ (n : Opening). IfSome x (λ image. IsOpenedSoFar image n c.read_directory.new.names c.in_ok-gate.gate)) (sym new)
+    (next_on x o c.args.names.now c.read_directory.new.names offset c.args.len c.in_ok-gate.gate h c.in_ok-text.text.items c.in-Ok.found same c.in_ok-lengths.ensures.fit c.requires.so_far c.requires.len l t takes gate)
 
 pub returns-clause-taken : goal.returns-clause-taken
-returns-clause-taken g c = λ t start.
-    let o : Opening = c.reserve.new.self.opening in
-    let more = opening_more o c.note.new.self.opening c.in_ok-found.found.noted c.note.ensures c.facts.ensures.columns (omega (arith, c.used.ensures, c.in_ok-found.ensures.takes.behind)) in
-    omega (arith, start, more, ap opening_bytes c.reserve.ensures.same, c.used.ensures, c.in_ok-found.ensures.taken)
+returns-clause-taken g c = λ n start.
+    let x = g.D.Disk.image c.args.disk.now in
+    let o : Opening = c.args.self.now.opening in
+    let same : c.self.inside.used ≡ o.used = ap (λ (v : IndexState). v.opening.used) c.self.view_is in
+    let offset : ℕ = c.self.inside.used in
+    let h : Lengths = c.in_ok-lengths.lengths in
+    let l = c.in_ok-lengths.ensures.lengths in
+    let t : IfSome x (λ image. c.in_ok-text.text.items ≡ take h.directory (drop (offset + 16) image)) = subst (λ y. IfSome y (λ image. c.in_ok-text.text.items ≡ take h.directory (drop (offset + 16) image))) c.read_lengths.ensures.frame.same_image c.in_ok-text.ensures.bytes in
+    let takes : TakesDirectory o h.columns c.in_ok-text.text.items c.args.names.now c.read_directory.new.names c.in-Ok.found = subst (λ (b : List ℕ). TakesDirectory o h.columns b c.args.names.now c.read_directory.new.names c.in-Ok.found) c.deref.ensures.value c.in-Ok.ensures.taken in
+    let gate : IfSome x (λ image. c.in_ok-gate.gate ≡ slice_index image (offset + 16 + h.directory + h.columns)) = subst (λ y. IfSome y (λ image. c.in_ok-gate.gate ≡ slice_index image (offset + 16 + h.directory + h.columns))) (c.read_range.ensures.frame.same_image ∙ c.read_lengths.ensures.frame.same_image) c.in_ok-gate.ensures.byte in
+    let new : c.note.new.self.opening ≡ with_rows o c.in-Ok.found.batch c.in-Ok.found.rows.items (offset + 16 + h.directory) (offset + 16 + h.directory + h.columns + 1) = c.note.ensures ∙ (λ i. with_rows (c.reserve.ensures.same i) c.in-Ok.found.batch (c.deref-3.ensures.value i) (offset + 16 + h.directory) (offset + 16 + h.directory + h.columns + 1)) in
+    let suits : Suits (keys_next o c.in-Ok.found.batch.events) c.in-Ok.found.rows.items = subst (λ (k : List Key). Suits k c.in-Ok.found.rows.items) takes.keys takes.suits in
+    let bytes = bytes_with o c.in-Ok.found.batch c.in-Ok.found.rows.items (offset + 16 + h.directory) (offset + 16 + h.directory + h.columns + 1) suits in
+    let sound : columns_in o.records + 18 ≤ o.used = subst (λ (v : IndexState). columns_in v.opening.records + 18 ≤ v.opening.used) c.self.view_is c.self.invariant.bytes in
+    let long : 1 ≤ h.directory = omega (arith, takes.long, c.in_ok-text.ensures.len) in
+    let all : opening_bytes c.note.new.self.opening ≡ opening_bytes o + 17 + h.directory = omega (arith, ap opening_bytes new, bytes, sound, takes.measured, same) in
+    taken_next (opening_bytes o) (opening_bytes c.note.new.self.opening) h.directory n (g.D.Disk.taken c.args.disk.now) (g.D.Disk.taken c.read_lengths.new.disk) (g.D.Disk.taken c.read_range.new.disk) (g.D.Disk.taken c.read_byte.new.disk) long all start
+    c.in_ok-lengths.ensures.taken c.in_ok-text.ensures.taken c.in_ok-gate.ensures.taken

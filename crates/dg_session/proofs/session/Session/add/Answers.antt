@@ -53,7 +53,7 @@ returns-in_err-added-clause-comes g c =
       takes_failed c.args.count before asked.batch.got after c.in_err-added.field-0.0 asked.batch.follows,
       subst (λ (x : Parts). ComesTo (command_with c.args.which c.args.count) asked.batch.got x image q then_image (Err (batch_halt c.in_err-added.field-0.0))) c.self.view_is
           (batch_failed c.args.which p c.args.count c.len-known.result c.self.inside.limits.file_bytes old c.in_ok-batch.batch before after asked c.add_batch.new.history image then_image
-          c.law_batches_are_measured.ensures c.in_err-added.field-0.0 c.in_err-added.ensures.fails c.in_err-added.ensures.back q refl),
+          c.in_err-added.field-0.0 c.in_err-added.ensures.fails c.in_err-added.ensures.back q refl),
     )
 
 pub returns-clause-comes : goal.returns-clause-comes
@@ -74,5 +74,5 @@ returns-clause-comes g c =
       subst (λ (r : Reply). Accepts (command_with c.args.which c.args.count) asked.batch.got c.args.self.now image q then_image r) reply
           (subst (λ (x : Parts). Accepts (command_with c.args.which c.args.count) asked.batch.got x image q then_image (headed (head_of c.args.which c.in_ok-added.added.events c.in_ok-added.added.total c.in_ok-added.added.last))) c.self.view_is
           (batch_added c.args.which p c.args.count c.len-known.result c.self.inside.limits.file_bytes old c.in_ok-batch.batch before after asked c.add_batch.new.history image then_image
-          c.law_batches_are_added.ensures c.law_batches_are_measured.ensures c.in_ok-added.added c.in_ok-added.ensures.adds)),
+          c.in_ok-added.added c.in_ok-added.ensures.adds)),
     )

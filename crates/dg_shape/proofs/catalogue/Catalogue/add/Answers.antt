@@ -1,8 +1,10 @@
 use Rattle.std.proofs.Common.{◌≡◌, ◌+◌, ◌≤◌, [], ◌∷◌, ◌++◌, ap, subst, sym, ◌∙◌, arith}
 use Rattle.indexmap.proofs.CallerLemmas.{insert_entry-new}
-use Rattle.dg_shape.specs.declared.catalogue.Entry.{Entry}
+use Rattle.dg_index.specs.declared.entry.Entry.{Entry}
+use Rattle.dg_index.specs.IndexGrowth.{columns_in}
+use Rattle.dg_index.specs.OpenedIndex.{total}
 use Rattle.dg_shape.specs.declared.catalogue.TheConstants.{BYTES_MAX}
-use Rattle.dg_shape.specs.Entries.{Holdings, total, bytes_of}
+use Rattle.dg_shape.specs.Entries.{Holdings}
 use Rattle.dg_shape.proofs.Records.{from_ok, look_up_is, still_sound, added_held, added_others, added_bytes}
 use Rattle.dg_shape.proofs.catalogue.Catalogue.add.Goals as goal
 
@@ -19,7 +21,7 @@ last c =
 
 pub invariant_of-self : goal.invariant_of-self
 invariant_of-self c =
-    let bytes = subst (λ (h : Holdings). bytes_of h.entries + total c.args.lengths ≤ BYTES_MAX) (sym c.self.view_is) c.requires.bytes in
+    let bytes = subst (λ (h : Holdings). columns_in h.entries + total c.args.lengths ≤ BYTES_MAX) (sym c.self.view_is) c.requires.bytes in
     let sound = still_sound _ _ c.args.key (added c) (last c) c.self.invariant.0 bytes c.requires.in_range c.requires.numbered c.requires.ends in
     (sound, omega (arith, c.insert.ensures.spare, c.self.invariant.1))
 

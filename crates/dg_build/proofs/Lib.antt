@@ -1,0 +1,11 @@
+pub mod LastWays
+pub mod NodeGroups
+pub mod RowSteps
+pub mod DueRecords
+pub mod NextHeight
+pub mod HeightByHeight
+pub mod NewLeaves
+pub mod NarrowDeltas
+pub mod ClosedLists
+pub mod ListTimes
+pub mod WholeSegment

@@ -1,0 +1,73 @@
+use Rattle.std.proofs.Common.{◌≡◌, ℕ, ◌+◌, ◌-◌, ◌/◌, ◌++◌, [], List, drop, length, map, ap, ◌∙◌, arith, length-append}
+use Rattle.std.proofs.lemmas.Result.{err_from_is_err_and}
+use Rattle.dg_graph.specs.declared.event.Event.{Event}
+use Rattle.dg_index.specs.Hierarchy.{numbers}
+use Rattle.dg_index.specs.IndexRecords.{Events, deltas_due}
+use Rattle.dg_index.specs.FileOfHistory.{Segment, Stored, stored}
+use Rattle.dg_build.proofs.ClosedLists.{list_there, lists_long}
+use Rattle.dg_build.proofs.HeightByHeight.{written_at}
+use Rattle.dg_build.proofs.ListTimes.{lists_may}
+use Rattle.dg_build.proofs.NarrowDeltas.{below_more}
+use Rattle.dg_build.proofs.WholeSegment.{lists_within, written_whole, whole}
+use Rattle.dg_build.proofs.batch.build.Goals as goal
+
+pub add_lists-requires-clause-long : goal.add_lists-requires-clause-long
+add_lists-requires-clause-long c =
+    omega (arith, lists_within c.args.params.l c.args.before (length c.args.events.now) c.requires.list.0, c.requires.recent, ap (λ (l : List Event). length l) (c.as_slice.ensures.value ∙ c.in_ok-tail.ensures), length-append c.args.recent.now c.args.events.now)
+
+pub add_interior-requires-clause-long : goal.add_interior-requires-clause-long
+add_interior-requires-clause-long c =
+    omega (arith, lists_within c.args.params.l c.args.before (length c.args.events.now) c.requires.list.0, c.requires.recent, ap (λ (l : List Event). length l) (c.as_slice-2.ensures.value ∙ c.in_ok-tail.ensures), length-append c.args.recent.now c.args.events.now)
+
+pub returns-clause-batch : goal.returns-clause-batch
+returns-clause-batch c =
+    let w = written_whole c.args.segment c.add_lists.new.segment c.add_interior.new.segment c.set_piece.new.segment _ _ c.requires.bare.0 c.in_ok-add_lists.ensures c.in_ok-add_interior.ensures.frame c.in_ok-set_piece.ensures in
+    (ap (λ (s : Segment). s.events) w.is, ap (λ (s : Segment). s.first) w.is, ap (λ (s : Segment). s.last) w.is, ap (λ (s : Segment). s.names) w.is)
+
+pub returns-clause-lists : goal.returns-clause-lists
+returns-clause-lists c =
+    let w = written_whole c.args.segment c.add_lists.new.segment c.add_interior.new.segment c.set_piece.new.segment _ _ c.requires.bare.0 c.in_ok-add_lists.ensures c.in_ok-add_interior.ensures.frame c.in_ok-set_piece.ensures in
+    lists_long c.args.params.l _ c.as_slice.result.now c.set_piece.new.segment.lists (ap (λ (s : Segment). s.lists) w.is)
+
+pub returns-clause-deltas : goal.returns-clause-deltas
+returns-clause-deltas c =
+    let w = written_whole c.args.segment c.add_lists.new.segment c.add_interior.new.segment c.set_piece.new.segment _ _ c.requires.bare.0 c.in_ok-add_lists.ensures c.in_ok-add_interior.ensures.frame c.in_ok-set_piece.ensures in
+    omega (arith, ap (λ (s : Segment). length s.deltas) w.is, c.in_ok-add_interior.ensures.count, ap (λ (s : Segment). length s.deltas) c.in_ok-add_lists.ensures, ap (λ (l : List Stored). length l) c.requires.bare.1)
+
+pub returns-clause-times : goal.returns-clause-times
+returns-clause-times c floor rises =
+    let w = written_whole c.args.segment c.add_lists.new.segment c.add_interior.new.segment c.set_piece.new.segment _ _ c.requires.bare.0 c.in_ok-add_lists.ensures c.in_ok-add_interior.ensures.frame c.in_ok-set_piece.ensures in
+    let n : ℕ = (c.args.before + length c.args.events.now) / c.args.params.l - c.args.before / c.args.params.l in
+    lists_may c.args.params.l n floor (c.args.recent.now ++ c.args.events.now) c.set_piece.new.segment.lists c.requires.list.0
+    (omega (arith, lists_within c.args.params.l c.args.before (length c.args.events.now) c.requires.list.0, c.requires.recent, length-append c.args.recent.now c.args.events.now))
+    rises (ap (λ (s : Segment). s.lists) w.is ∙ ap (λ (l : List Event). map (list_there c.args.params.l l) (numbers 0 n)) (c.as_slice.ensures.value ∙ c.in_ok-tail.ensures))
+
+pub returns-clause-is : goal.returns-clause-is
+returns-clause-is c past long is_recent is_now changes sets e1 e2 e3 =
+    let p = c.args.params in
+    let more = c.args.events.now in
+    let some = c.requires.list.0 in
+    let front = ap (λ (l : List Event). l ++ more) is_recent in
+    let w = written_whole c.args.segment c.add_lists.new.segment c.add_interior.new.segment c.set_piece.new.segment _ _ c.requires.bare.0 c.in_ok-add_lists.ensures c.in_ok-add_interior.ensures.frame
+    (c.in_ok-set_piece.ensures ∙ ap (λ (l : List Event). record c.add_interior.new.segment { piece = stored (Events l) }) (c.behind-piece.ensures ∙ ap (λ n. drop n more) c.saturating_sub.ensures)) in
+    let made = c.in_ok-add_interior.ensures.is past more some (ap (λ n. n / p.l) long) is_recent (c.as_slice-2.ensures.value ∙ c.in_ok-tail.ensures ∙ front) is_now changes sets in
+    let none : c.add_lists.new.segment.deltas ≡ [] = ap (λ (s : Segment). s.deltas) c.in_ok-add_lists.ensures ∙ c.requires.bare.1 in
+    whole p past more c.args.before c.as_slice.result.now c.args.recent.now c.args.segment c.set_piece.new.segment c.add_interior.new.segment.deltas some long is_recent (c.as_slice.ensures.value ∙ c.in_ok-tail.ensures) e1 e2 e3 w
+    (made ∙ ap (λ (l : List Stored). l ++ map (written_at p (past ++ more)) (deltas_due p.k (c.args.before / p.l) ((c.args.before + length more) / p.l))) none)
+
+pub returns-in_err-add_interior-clause-fault : goal.returns-in_err-add_interior-clause-fault
+returns-in_err-add_interior-clause-fault c =
+    let failed = err_from_is_err_and c.from_residual-in_err-add_interior.result c.from_residual-in_err-add_interior.ensures.1 in
+    rw (failed.1, failed.2) (λ past long is_recent is_now changes sets.
+    let p = c.args.params in
+    let more = c.args.events.now in
+    let front = ap (λ (l : List Event). l ++ more) is_recent in
+    c.in_err-add_interior.ensures.fault past more c.requires.list.0 (ap (λ n. n / p.l) long) is_recent (c.as_slice-2.ensures.value ∙ c.in_ok-tail.ensures ∙ front) is_now changes sets
+    (omega (arith, length-append past more, long, c.requires.fits)))
+
+pub returns-in_err-add_interior-clause-wide : goal.returns-in_err-add_interior-clause-wide
+returns-in_err-add_interior-clause-wide c =
+    let failed = err_from_is_err_and c.from_residual-in_err-add_interior.result c.from_residual-in_err-add_interior.ensures.1 in
+    let n : ℕ = length (deltas_due c.args.params.k (c.args.before / c.args.params.l) ((c.args.before + length c.args.events.now) / c.args.params.l)) in
+    let none : length c.add_lists.new.segment.deltas ≡ 0 = ap (λ (s : Segment). length s.deltas) c.in_ok-add_lists.ensures ∙ ap (λ (l : List Stored). length l) c.requires.bare.1 in
+    rw (failed.1, failed.2) (below_more (length c.add_lists.new.segment.deltas + n) n c.in_err-add_interior.field-0.0 (omega (arith, none)) c.in_err-add_interior.ensures.wide)

@@ -1,0 +1,13 @@
+use Rattle.std.proofs.Common.{◌≡◌, List, [], ◌+◌, ◌++◌, ◌≤◌, length}
+use Rattle.dg_graph.specs.declared.event.Event.{Event}
+use Rattle.dg_graph.specs.ExactEvents.{AreChangesOf}
+use Rattle.dg_index.specs.Hierarchy.{leaves}
+use Rattle.dg_index.specs.IndexRecords.{recent_of}
+use Rattle.dg_build.proofs.NewLeaves.{StepsSoFar}
+use Rattle.dg_build.proofs.leaves.new_leaves.Given as goal
+
+abbrev pub invariant-loop-i : goal.invariant-loop-i
+invariant-loop-i l = record {
+  long : length l.steps.items + 1 ≡ l.i;
+  is : (before more : List Event) → 1 ≤ l.fn.params.l → l.tail ≡ recent_of l.fn.params before ++ more → AreChangesOf [] (before ++ more) → StepsSoFar l.fn.params (before ++ more) (leaves l.fn.params (length before)) l.i l.steps.items;
+}

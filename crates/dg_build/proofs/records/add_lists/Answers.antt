@@ -1,0 +1,5 @@
+use Rattle.dg_build.proofs.ClosedLists.{lists_next}
+use Rattle.dg_build.proofs.records.add_lists.Goals as goal
+
+pub loop-i-preserved : goal.loop-i-preserved
+loop-i-preserved c = lists_next c.args.l c.loop-i.i c.args.tail.now c.args.segment.now c.loop-i.segment c.add_list.new.segment c.loop-i.invariant c.in_ok-add_list.ensures

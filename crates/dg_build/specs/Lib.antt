@@ -1,0 +1,2 @@
+pub mod InteriorDeltas
+pub mod SpelledRecords

@@ -1,0 +1,37 @@
+-- Lists and deltas as they are written, and which deltas cannot be.
+use Rattle.std.specs.Prelude.{◌≡◌, ℕ, ◌+◌, ◌≤◌, ◌<◌, ◌^◌, ◌||◌, Bool, List, [], ◌∷◌, Option, Some, None, length, nat_le, if◌then◌else◌}
+use Rattle.dg_graph.specs.declared.event.Event.{Event}
+use Rattle.dg_graph.specs.Composition.{Delta}
+use Rattle.dg_history.specs.History.{first_time_of, last_time_from}
+use Rattle.dg_index.specs.IndexRecords.{Events}
+use Rattle.dg_index.specs.FileOfHistory.{StoredList, stored}
+use Rattle.dg_build.specs.declared.fault.BuildFault.{BuildFault}
+use Rattle.dg_build.specs.declared.fault.BuildFault.TheVariants.{Memory, Wide}
+
+-- a closed list of these events
+abbrev pub stored_cut : List Event → StoredList
+stored_cut events = record { first = first_time_of events; last = last_time_from 0 events; columns = stored (Events events) }
+
+-- a set of the delta has more elements than its column can count
+abbrev pub is_wide : Delta → Bool
+is_wide d = nat_le (2 ^ 32) (length d.minus) || nat_le (2 ^ 32) (length d.plus)
+
+-- the index of the first delta that is too wide, where those before these are so many
+abbrev pub first_wide : ℕ → List Delta → Option ℕ
+first_wide index [] = None
+first_wide index (d ∷ deltas) = if is_wide d then Some index else first_wide (index + 1) deltas
+
+-- why these deltas were not written behind so many others
+abbrev pub IsFaultOfDeltas : ℕ → List Delta → BuildFault → Type 0
+IsFaultOfDeltas index deltas Memory = Unit {0}
+IsFaultOfDeltas index deltas (Wide at) = first_wide index deltas ≡ Some at
+
+-- the fault names none but the first so many deltas of the segment
+abbrev pub IsFaultBelow : ℕ → BuildFault → Type 0
+IsFaultBelow count Memory = Unit {0}
+IsFaultBelow count (Wide at) = at < count
+
+-- no event is earlier than the one before it, nor the first than this time
+abbrev pub RisesFrom : ℕ → List Event → Type 0
+RisesFrom floor [] = Unit {0}
+RisesFrom floor (e ∷ events) = (floor ≤ e.time) × RisesFrom e.time events

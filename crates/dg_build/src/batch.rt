@@ -1,0 +1,108 @@
+//! The segment of a batch.
+
+ghost use Rattle.std.specs.Prelude.{◌≡◌, ◌≤◌, ◌<◌, ◌+◌, ◌-◌, ◌*◌, ◌/◌, ◌^◌, ◌++◌, [], ℕ, List, length, map, drop, true, All, IfOk, IfErr};
+ghost use Rattle.dg_graph.specs.declared.event.Event.{Event};
+ghost use Rattle.dg_graph.specs.ExactEvents.{AreChangesOf};
+ghost use Rattle.dg_graph.specs.Replay.{replay};
+ghost use Rattle.dg_history.specs.History.{first_time_of, last_time_from};
+ghost use Rattle.dg_columns.specs.NamesInRange.{NamesFit};
+ghost use Rattle.dg_index.specs.Hierarchy.{leaves, set_of};
+ghost use Rattle.dg_index.specs.IndexRecords.{deltas_due, recent_of};
+ghost use Rattle.dg_index.specs.FileOfHistory.{segment_of};
+ghost use Rattle.dg_index.specs.OlderNodes.{older};
+ghost use Rattle.dg_index.specs.OpenedIndex.{list_row, may_be_listed};
+ghost use Rattle.dg_build.specs.SpelledRecords.{IsFaultBelow, RisesFrom};
+ghost use Rattle.dg_build.specs.declared.fault.BuildFault.TheVariants.{Memory};
+
+use crate::fault::BuildFault;
+use crate::leaves::add_interior;
+use crate::records::{add_lists, set_piece};
+use dg_event::Event;
+use dg_history::Params;
+use dg_segment::Segment;
+use dg_set::Set;
+use std::alloc::{AllocError, Global};
+
+// The events behind the last leaf.
+fn tail(alloc: Global, recent: &[Event], events: &[Event]) -> Result<Vec<Event>, AllocError>
+    ensures { IfOk result (λ all. all.items ≡ recent.now ++ events.now) }
+{
+    let mut tail = Vec::new(alloc);
+    tail.extend_from_slice(recent)?;
+    tail.extend_from_slice(events)?;
+    Ok(tail)
+}
+
+// The events behind the first `count`.
+fn behind(events: &[Event], count: usize) -> &[Event]
+    requires { count ≤ length events.now }
+    ensures { result.now ≡ drop count events.now }
+{
+    &events[count..]
+}
+
+/// The segment of a batch of `events` behind `before` others: the columns of the lists that the batch
+/// closes, of the deltas of the interior nodes that it completes, and of its piece.
+///
+/// `recent` has the events behind the last closed list. `now` is the current graph; where no interior node
+/// is due, any set will do. `older_sets` has the sets of the older children of the due nodes, by height
+/// and number. `segment` comes with the number of the batch's events, its first and its last time, and its
+/// new names, and without a list or a delta.
+///
+/// `Memory` says that memory ran out, or that the segment would have 2^32 lists or deltas, or 2^63 bytes,
+/// or more. `Wide` names a due delta that cannot be written, which no history brings about.
+pub fn build(
+    alloc: Global,
+    params: Params,
+    before: usize,
+    recent: &[Event],
+    events: &[Event],
+    now: &Set,
+    older_sets: &[Set],
+    segment: Segment,
+) -> Result<Segment, BuildFault>
+    requires list { (1 ≤ params.l) × (params.l ≤ 65536) }
+    requires arity { 2 ≤ params.k }
+    requires recent { length recent.now ≡ before - leaves params before * params.l }
+    requires fits { before + length events.now < 2 ^ 32 }
+    requires recent_names { All (λ e. NamesFit e.body) recent.now }
+    requires event_names { All (λ e. NamesFit e.body) events.now }
+    requires older { length older_sets.now ≡ length (older params.k (leaves params before) (leaves params (before + length events.now))) }
+    requires bare { (segment.lists ≡ []) × (segment.deltas ≡ []) }
+    ensures batch { IfOk result (λ s. (s.events ≡ segment.events) × (s.first ≡ segment.first) × (s.last ≡ segment.last) × (s.names ≡ segment.names)) }
+    ensures lists { IfOk result (λ s. length s.lists ≡ leaves params (before + length events.now) - leaves params before) }
+    ensures deltas { IfOk result (λ s. length s.deltas ≡ length (deltas_due params.k (leaves params before) (leaves params (before + length events.now)))) }
+    ensures times { IfOk result (λ s. (floor : ℕ) → RisesFrom floor (recent.now ++ events.now)
+        → may_be_listed floor (last_time_from floor (recent.now ++ events.now)) (map list_row s.lists) ≡ true) }
+    ensures is { IfOk result (λ s. (past : List Event) → length past ≡ before → recent.now ≡ recent_of params past
+        → (leaves params before / params.k < leaves params (before + length events.now) / params.k → now.now ≡ replay past)
+        → AreChangesOf [] (past ++ events.now) → older_sets.now ≡ map (set_of params past) (older params.k (leaves params before) (leaves params (before + length events.now)))
+        → segment.events ≡ length events.now → segment.first ≡ first_time_of events.now → segment.last ≡ last_time_from 0 events.now
+        → s ≡ segment_of params past (record { names = segment.names; events = events.now })) }
+    ensures fault { IfErr result (λ e. (past : List Event) → length past ≡ before → recent.now ≡ recent_of params past
+        → (leaves params before / params.k < leaves params (before + length events.now) / params.k → now.now ≡ replay past)
+        → AreChangesOf [] (past ++ events.now) → older_sets.now ≡ map (set_of params past) (older params.k (leaves params before) (leaves params (before + length events.now)))
+        → e ≡ Memory) }
+    ensures wide { IfErr result (λ e. IsFaultBelow (length (deltas_due params.k (leaves params before) (leaves params (before + length events.now)))) e) }
+{
+    let l = params.l as usize;
+    let m = before / l;
+    let after = (before + events.len()) / l;
+    let tail = tail(alloc, recent, events)?;
+    let mut segment = segment;
+    add_lists(alloc, l, after - m, tail.as_slice(), &mut segment)?;
+    add_interior(
+        alloc,
+        params,
+        m,
+        after,
+        now,
+        recent,
+        tail.as_slice(),
+        older_sets,
+        &mut segment,
+    )?;
+    let piece = behind(events, (after * l).saturating_sub(before));
+    set_piece(alloc, piece, &mut segment)?;
+    Ok(segment)
+}

@@ -1,0 +1,129 @@
+//! The interior nodes that are due, height after height.
+
+ghost use Rattle.std.specs.Prelude.{◌≡◌, ◌≤◌, ◌<◌, ◌+◌, ◌-◌, ◌*◌, ◌/◌, ◌^◌, ◌==◌, ◌++◌, ◌∷◌, [], ℕ, List, length, map, IfOk, IfErr, OnOk, if◌then◌else◌};
+ghost use Rattle.dg_graph.specs.declared.event.Event.{Event};
+ghost use Rattle.dg_graph.specs.Composition.{between};
+ghost use Rattle.dg_index.specs.Hierarchy.{leaves, set_of};
+ghost use Rattle.dg_index.specs.IndexRecords.{record_among, deltas_due};
+ghost use Rattle.dg_index.specs.FileOfHistory.{stored};
+ghost use Rattle.dg_index.specs.OlderNodes.{older};
+ghost use Rattle.dg_build.specs.InteriorDeltas.{AreNewNodes, AreOlderSets, DiffersInDeltas, Rises, deltas_added, stored_delta};
+ghost use Rattle.dg_build.specs.SpelledRecords.{IsFaultBelow, IsFaultOfDeltas};
+ghost use Rattle.dg_build.specs.declared.fault.BuildFault.TheVariants.{Memory};
+
+use crate::climb::{Interior, climb};
+use crate::fault::BuildFault;
+use crate::records::add_deltas;
+use crate::row::{row_steps, set_or};
+use dg_delta::Delta;
+use dg_history::Params;
+use dg_segment::Segment;
+use dg_set::Set;
+use std::alloc::Global;
+
+/// The new nodes of a height.
+#[derive(Drop)]
+pub(crate) struct NewNodes {
+    /// The set of the first.
+    pub(crate) first: Set,
+    /// The exact steps from each to the next.
+    pub(crate) steps: Vec<Delta>,
+}
+
+// Gives the segment the delta from the root to the first node of a height, where it is among the new ones.
+fn add_top(
+    alloc: Global,
+    below: usize,
+    first: &Set,
+    segment: &mut Segment,
+) -> Result<(), BuildFault>
+    ensures ok { OnOk result (segment.new ≡ record segment.old { deltas = segment.old.deltas ++ map stored_delta (if below == 0 then between [] first.now ∷ [] else []) }) }
+    ensures fault { IfErr result (λ e. IsFaultOfDeltas (length segment.old.deltas) (if below == 0 then between [] first.now ∷ [] else []) e) }
+{
+    if below == 0 {
+        let top = Delta::between(&Set::new(alloc), first)?;
+        add_deltas(alloc, &[top], segment)?;
+    }
+    Ok(())
+}
+
+/// Makes the new nodes of the next height, of those of this one, of which there were `q` and are `end`, and
+/// of the older ones that are children of the first. Gives the segment the deltas from each to its children,
+/// and before them the one from the root to the first node of the height.
+fn rise(
+    alloc: Global,
+    params: Params,
+    q: usize,
+    end: usize,
+    nodes: NewNodes,
+    older_sets: &[Set],
+    segment: &mut Segment,
+) -> Result<NewNodes, BuildFault>
+    requires arity { 2 ≤ params.k }
+    requires due { q / params.k < end / params.k }
+    requires long { length nodes.steps.items + 1 ≡ end - q }
+    requires older { length older_sets.now ≡ q - q / params.k * params.k }
+    ensures long { IfOk result (λ up. length up.steps.items + 1 ≡ end / params.k - q / params.k) }
+    ensures frame { IfOk result (λ up. DiffersInDeltas segment.old segment.new) }
+    ensures adds { IfOk result (λ up. length segment.new.deltas ≡ length segment.old.deltas + deltas_added params.k (q / params.k) (end / params.k)) }
+    ensures is { IfOk result (λ up. (events : List Event) (h : ℕ) → AreNewNodes params events h q end nodes.first nodes.steps.items → AreOlderSets params events h q older_sets.now
+        → Rises params events h (q / params.k) (end / params.k) up.first up.steps.items segment.old segment.new) }
+    ensures fault { IfErr result (λ e. (events : List Event) (h : ℕ) → AreNewNodes params events h q end nodes.first nodes.steps.items → AreOlderSets params events h q older_sets.now
+        → length events < 2 ^ 32 → e ≡ Memory) }
+    ensures wide { IfErr result (λ e. IsFaultBelow (length segment.old.deltas + deltas_added params.k (q / params.k) (end / params.k)) e) }
+{
+    let k = params.k as usize;
+    let below = q / k;
+    let above = end / k;
+    let NewNodes { first: node, steps } = nodes;
+    let row = row_steps(alloc, older_sets, &node, steps, above * k - q - 1)?;
+    let Interior {
+        downs,
+        first: inner,
+        steps: up,
+    } = climb(alloc, params, above - below, row.as_slice())?;
+    let first = inner.apply(set_or(older_sets, 0, &node))?;
+    add_top(alloc, below, &first, segment)?;
+    add_deltas(alloc, downs.as_slice(), segment)?;
+    Ok(NewNodes { first, steps: up })
+}
+
+/// Gives the segment the deltas of all interior nodes that are due between `m` and `after` leaves, in the
+/// order of the segment, from the new leaves and the sets of the older nodes.
+pub(crate) fn add_heights(
+    alloc: Global,
+    params: Params,
+    m: usize,
+    after: usize,
+    new_leaves: NewNodes,
+    older_sets: &[Set],
+    segment: &mut Segment,
+) -> Result<(), BuildFault>
+    requires arity { 2 ≤ params.k }
+    requires some { m < after }
+    requires long { length new_leaves.steps.items + 1 ≡ after - m }
+    requires older { length older_sets.now ≡ length (older params.k m after) }
+    ensures frame { OnOk result (DiffersInDeltas segment.old segment.new) }
+    ensures count { OnOk result (length segment.new.deltas ≡ length segment.old.deltas + length (deltas_due params.k m after)) }
+    ensures is { OnOk result ((before more : List Event) → 1 ≤ params.l → leaves params (length before) ≡ m
+        → AreNewNodes params (before ++ more) 0 m after new_leaves.first new_leaves.steps.items → older_sets.now ≡ map (set_of params before) (older params.k m after)
+        → segment.new.deltas ≡ segment.old.deltas ++ map (λ key. stored (record_among params (before ++ more) [] key)) (deltas_due params.k m after)) }
+    ensures fault { IfErr result (λ e. (before more : List Event) → 1 ≤ params.l → leaves params (length before) ≡ m
+        → AreNewNodes params (before ++ more) 0 m after new_leaves.first new_leaves.steps.items → older_sets.now ≡ map (set_of params before) (older params.k m after)
+        → length (before ++ more) < 2 ^ 32 → e ≡ Memory) }
+    ensures wide { IfErr result (λ e. IsFaultBelow (length segment.old.deltas + length (deltas_due params.k m after)) e) }
+{
+    let k = params.k as usize;
+    let mut nodes = new_leaves;
+    let mut q = m;
+    let mut end = after;
+    let mut at = 0;
+    while q / k < end / k {
+        let next = at + (q - q / k * k);
+        nodes = rise(alloc, params, q, end, nodes, &older_sets[at..next], segment)?;
+        at = next;
+        q = q / k;
+        end = end / k;
+    }
+    Ok(())
+}

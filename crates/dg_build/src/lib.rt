@@ -1,0 +1,18 @@
+//! The segment of a batch, made over memory: the columns of the closed lists that it gives, of the deltas
+//! of the interior nodes that it completes, and of its piece. docs/MODEL.md has the definitions.
+#![tactic(auto)]
+
+mod batch;
+mod climb;
+mod family;
+mod fault;
+mod heights;
+mod leaves;
+mod records;
+mod row;
+#[cfg(test)]
+mod tests;
+
+pub use batch::build;
+pub use dg_segment::Segment;
+pub use fault::BuildFault;

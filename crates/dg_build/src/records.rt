@@ -1,0 +1,131 @@
+//! Writing lists, deltas and the piece of a segment.
+
+ghost use Rattle.std.specs.Prelude.{◌≡◌, ◌≤◌, ◌*◌, ◌++◌, ◌∷◌, [], false, length, map, take, drop, All, IfErr, OnOk};
+ghost use Rattle.dg_graph.specs.declared.event.Event.{Event};
+ghost use Rattle.dg_history.specs.History.{first_time_of, last_time_from};
+ghost use Rattle.dg_columns.specs.NamesInRange.{NamesFit};
+ghost use Rattle.dg_index.specs.Hierarchy.{numbers};
+ghost use Rattle.dg_index.specs.IndexRecords.{Events};
+ghost use Rattle.dg_index.specs.FileOfHistory.{stored};
+ghost use Rattle.dg_build.specs.InteriorDeltas.{stored_delta};
+ghost use Rattle.dg_build.specs.SpelledRecords.{stored_cut, is_wide, IsFaultOfDeltas};
+
+use crate::fault::BuildFault;
+use dg_columns::{write_delta, write_events};
+use dg_delta::Delta;
+use dg_graph::{Column, Event};
+use dg_segment::Segment;
+use std::alloc::{AllocError, Global};
+
+/// The most elements of one set of a delta that its column can count.
+const SET_ELEMENTS_MAX: u64 = 4_294_967_295;
+
+// The time of the first event, or 0.
+fn first_time(events: &[Event]) -> u64
+    ensures { result ≡ first_time_of events.now }
+{
+    if events.is_empty() { 0 } else { events[0].time }
+}
+
+// The time of the last event, or 0.
+fn last_time(events: &[Event]) -> u64
+    ensures { result ≡ last_time_from 0 events.now }
+{
+    if events.is_empty() {
+        0
+    } else {
+        events[events.len() - 1].time
+    }
+}
+
+// Gives the segment the columns of a closed list.
+fn add_list(alloc: Global, events: &[Event], segment: &mut Segment) -> Result<(), AllocError>
+    requires few { length events.now ≤ 65536 }
+    requires names { All (λ e. NamesFit e.body) events.now }
+    ensures { OnOk result (segment.new ≡ record segment.old { lists = segment.old.lists ++ stored_cut events.now ∷ [] }) }
+{
+    let structure = write_events(alloc, events, Column::Structure)?;
+    let node_attrs = write_events(alloc, events, Column::NodeAttr)?;
+    let edge_attrs = write_events(alloc, events, Column::EdgeAttr)?;
+    segment.add_list(
+        first_time(events),
+        last_time(events),
+        &structure,
+        &node_attrs,
+        &edge_attrs,
+    )
+}
+
+/// Gives the segment the columns of the first `count` closed lists, of `l` events each. An `Err` says that
+/// memory ran out, or that the segment would be too long.
+pub(crate) fn add_lists(
+    alloc: Global,
+    l: usize,
+    count: usize,
+    tail: &[Event],
+    segment: &mut Segment,
+) -> Result<(), AllocError>
+    requires few { l ≤ 65536 }
+    requires long { count * l ≤ length tail.now }
+    requires names { All (λ e. NamesFit e.body) tail.now }
+    ensures { OnOk result (segment.new ≡ record segment.old { lists = segment.old.lists ++ map (λ i. stored_cut (take l (drop (i * l) tail.now))) (numbers 0 count) }) }
+{
+    for i in 0..count {
+        add_list(alloc, &tail[i * l..i * l + l], segment)?;
+    }
+    Ok(())
+}
+
+/// Gives the segment the columns of its piece. An `Err` says that memory ran out, or that the segment would
+/// be too long.
+pub(crate) fn set_piece(
+    alloc: Global,
+    events: &[Event],
+    segment: &mut Segment,
+) -> Result<(), AllocError>
+    requires few { length events.now ≤ 65536 }
+    requires names { All (λ e. NamesFit e.body) events.now }
+    ensures { OnOk result (segment.new ≡ record segment.old { piece = stored (Events events.now) }) }
+{
+    let structure = write_events(alloc, events, Column::Structure)?;
+    let node_attrs = write_events(alloc, events, Column::NodeAttr)?;
+    let edge_attrs = write_events(alloc, events, Column::EdgeAttr)?;
+    segment.set_piece(&structure, &node_attrs, &edge_attrs)
+}
+
+// Whether a set of the delta has too many elements to be written.
+fn is_wide(delta: &Delta) -> bool
+    ensures { result ≡ is_wide delta.now }
+{
+    delta.minus().len() > SET_ELEMENTS_MAX || delta.plus().len() > SET_ELEMENTS_MAX
+}
+
+// Gives the segment the columns of a delta.
+fn spell_delta(alloc: Global, delta: &Delta, segment: &mut Segment) -> Result<(), AllocError>
+    requires { is_wide delta.now ≡ false }
+    ensures { OnOk result (segment.new ≡ record segment.old { deltas = segment.old.deltas ++ stored_delta delta.now ∷ [] }) }
+{
+    let structure = write_delta(alloc, delta, Column::Structure)?;
+    let node_attrs = write_delta(alloc, delta, Column::NodeAttr)?;
+    let edge_attrs = write_delta(alloc, delta, Column::EdgeAttr)?;
+    segment.add_delta(&structure, &node_attrs, &edge_attrs)
+}
+
+/// Gives the segment the columns of the deltas. `Memory` says that memory ran out, or that the segment
+/// would be too long, and `Wide` names the first delta of the segment with too many elements.
+pub(crate) fn add_deltas(
+    alloc: Global,
+    deltas: &[Delta],
+    segment: &mut Segment,
+) -> Result<(), BuildFault>
+    ensures ok { OnOk result (segment.new ≡ record segment.old { deltas = segment.old.deltas ++ map stored_delta deltas.now }) }
+    ensures fault { IfErr result (λ e. IsFaultOfDeltas (length segment.old.deltas) deltas.now e) }
+{
+    for delta in deltas {
+        if is_wide(delta) {
+            return Err(BuildFault::Wide(segment.delta_rows().len()));
+        }
+        spell_delta(alloc, delta, segment)?;
+    }
+    Ok(())
+}

@@ -1,0 +1,14 @@
+//! What a directory tells of its segment.
+
+use dg_history::Key;
+use dg_index::{BatchEntry, Row};
+
+/// A directory that may stand where it was found.
+#[derive(Drop)]
+pub(crate) struct FoundDirectory {
+    pub batch: BatchEntry,
+    // the keys of the records, in the order of the file
+    pub keys: Vec<Key>,
+    // a row for each of them
+    pub rows: Vec<Row>,
+}

@@ -1,0 +1,42 @@
+//! The two lengths with which a segment begins.
+
+ghost use Rattle.std.specs.Prelude.{◌≡◌, ◌+◌, ◌≤◌, length};
+ghost use Rattle.dg_file.specs.Directories.{lengths_at, fit_in};
+
+use crate::numbers::u64_at;
+use dg_history::FILE_BYTES_MAX;
+
+/// The bytes of the two lengths in front of a directory.
+pub(crate) const LENGTHS_BYTES: usize = 16;
+
+/// The bytes of a segment's directory and of its columns.
+#[derive(Clone, Copy)]
+pub(crate) struct Lengths {
+    pub directory: u64,
+    pub columns: u64,
+}
+
+impl Lengths {
+    /// The lengths in these bytes.
+    pub(crate) fn read(bytes: &[u8]) -> Lengths
+        requires { length bytes.now ≡ 16 }
+        ensures { result ≡ lengths_at bytes.now 0 }
+    {
+        Lengths {
+            directory: u64_at(bytes, 0),
+            columns: u64_at(bytes, 8),
+        }
+    }
+
+    /// Whether a segment at the offset with these lengths, and the gate behind it, end within `len` bytes
+    /// and within a file.
+    pub(crate) fn fit_in(&self, offset: u64, len: u64) -> bool
+        requires { offset + 17 ≤ len }
+        ensures { result ≡ fit_in offset len self.now }
+    {
+        let room = len.min(FILE_BYTES_MAX);
+        offset + 17 <= room
+            && self.directory <= room - offset - 17
+            && self.columns <= room - offset - 17 - self.directory
+    }
+}

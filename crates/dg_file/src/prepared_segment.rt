@@ -1,0 +1,93 @@
+//! A segment of which all is ready to be written.
+
+ghost use Rattle.std.specs.Prelude.{◌≡◌, IfOk};
+ghost use Rattle.dg_index.specs.FileOfHistory.{head_of};
+ghost use Rattle.dg_index.specs.OpenedIndex.{directory_of, rows_in};
+
+use dg_history::Key;
+use dg_index::Row;
+use dg_segment::Segment;
+use std::alloc::{AllocError, Global};
+use std::marker::Model;
+
+/// A segment of which all is ready to be written, and the keys of its records in the order of the file.
+#[derive(Drop)]
+pub struct PreparedSegment {
+    segment: Segment,
+    keys: Vec<Key>,
+    // a row for each of its records
+    rows: Vec<Row>,
+    // what stands in front of its columns
+    head: Vec<u8>,
+}
+
+impl Model for PreparedSegment {
+    ghost use Rattle.std.specs.Prelude.{◌≡◌};
+    ghost use Rattle.dg_index.specs.FileOfHistory.{head_of};
+    ghost use Rattle.dg_index.specs.OpenedIndex.{directory_of, rows_in};
+    ghost use Rattle.dg_file.specs.Index.{Prepared};
+
+    ghost Value = { Prepared };
+
+    ghost view = { λ p. record { segment = p.segment; keys = p.keys.items } };
+
+    ghost invariant = { λ p. (p.rows.items ≡ rows_in (directory_of p.segment)) × (p.head.items ≡ head_of p.segment) };
+}
+
+// A row for each record of the segment, in the order of the file.
+fn rows_of(alloc: Global, segment: &Segment) -> Result<Vec<Row>, AllocError>
+    ensures { IfOk result (λ rows. rows.items ≡ rows_in (directory_of segment.now)) }
+{
+    let mut rows = Vec::from_slice(alloc, segment.list_rows())?;
+    rows.extend_from_slice(segment.delta_rows())?;
+    rows.push(segment.piece_row())?;
+    Ok(rows)
+}
+
+impl PreparedSegment {
+    /// The segment with these keys, all else made ready. `AllocError` for want of memory.
+    pub(crate) fn new(
+        alloc: Global,
+        segment: Segment,
+        keys: Vec<Key>,
+    ) -> Result<PreparedSegment, AllocError>
+        ensures { IfOk result (λ p. p ≡ record { segment = segment; keys = keys.items }) }
+    {
+        let rows = rows_of(alloc, &segment)?;
+        let head = segment.head(alloc)?;
+        Ok(PreparedSegment {
+            segment,
+            keys,
+            rows,
+            head,
+        })
+    }
+
+    /// The segment.
+    pub(crate) fn segment(&self) -> &Segment
+        ensures { result.now ≡ self.now.segment }
+    {
+        &self.segment
+    }
+
+    /// The keys of its records.
+    pub(crate) fn keys(&self) -> &[Key]
+        ensures { result.now ≡ self.now.keys }
+    {
+        &self.keys
+    }
+
+    /// A row for each of its records.
+    pub(crate) fn rows(&self) -> &[Row]
+        ensures { result.now ≡ rows_in (directory_of self.now.segment) }
+    {
+        &self.rows
+    }
+
+    /// What stands in front of its columns.
+    pub(crate) fn head(&self) -> &[u8]
+        ensures { result.now ≡ head_of self.now.segment }
+    {
+        &self.head
+    }
+}

@@ -1,0 +1,4 @@
+pub mod PackedColumns
+pub mod TextsInBytes
+pub mod SegmentSizes
+pub mod DirectoryTexts

@@ -1,0 +1,4 @@
+pub mod NewNames
+pub mod PackedRecords
+pub mod DirectoryParts
+pub mod SegmentParts

@@ -1,0 +1,13 @@
+//! The segment of a batch as it is to be written: its names, and the columns of its lists, of its deltas and
+//! of its piece.
+#![tactic(auto)]
+
+mod encoding;
+mod names;
+mod piece;
+mod records;
+mod segment;
+#[cfg(test)]
+mod tests;
+
+pub use segment::Segment;

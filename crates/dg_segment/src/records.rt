@@ -1,0 +1,85 @@
+ghost use Rattle.std.specs.Prelude.{◌≡◌, ◌+◌, ◌<◌, ◌^◌, ◌∷◌, ◌++◌, [], length, map, OnOk, OnErr};
+ghost use Rattle.dg_segment.specs.PackedRecords.{stored_bytes, stored_row};
+
+use crate::encoding::put_columns;
+use dg_index::{Ends, Row};
+use std::alloc::{AllocError, Global};
+use std::marker::Model;
+
+/// The most records: their count has four bytes.
+const RECORDS_MAX: usize = 4_294_967_295;
+
+/// Records of a segment, with their columns one record behind another.
+#[derive(Drop)]
+pub(crate) struct Records {
+    rows: Vec<Row>,
+    columns: Vec<u8>,
+}
+
+impl Model for Records {
+    ghost use Rattle.std.specs.Prelude.{List};
+    ghost use Rattle.dg_segment.specs.PackedRecords.{ArePacked, StoredRecord, unpacked};
+
+    ghost Value = { List StoredRecord };
+
+    ghost view = { λ r. unpacked r.rows.items r.columns.items };
+
+    ghost invariant = { λ r. ArePacked r.rows.items r.columns.items };
+}
+
+impl Records {
+    /// No record. Takes no memory.
+    pub fn new(alloc: Global) -> Records
+        ensures { result ≡ [] }
+    {
+        Records {
+            rows: Vec::new(alloc),
+            columns: Vec::new(alloc),
+        }
+    }
+
+    /// Adds a record behind the others, with its instants where it is a list. `AllocError` for want of
+    /// memory, and where there are 2^32 - 1 records: then nothing changes.
+    pub fn push(
+        &mut self,
+        ends: Option<Ends>,
+        structure: &[u8],
+        node_attrs: &[u8],
+        edge_attrs: &[u8],
+    ) -> Result<(), AllocError>
+        requires { length structure.now + length node_attrs.now + length edge_attrs.now < 2 ^ 64 }
+        ensures ok { OnOk result (self.new ≡ self.old ++ record { ends = ends; columns = record { structure = structure.now; node_attrs = node_attrs.now; edge_attrs = edge_attrs.now } } ∷ []) }
+        ensures err { OnErr result (self.new ≡ self.old) }
+    {
+        if self.rows.len() >= RECORDS_MAX {
+            return Err(AllocError);
+        }
+        let lengths = [
+            structure.len() as u64,
+            node_attrs.len() as u64,
+            edge_attrs.len() as u64,
+        ];
+        self.rows.reserve(1)?;
+        self.columns
+            .reserve(structure.len() + node_attrs.len() + edge_attrs.len())?;
+        // There is room, so this cannot fail.
+        let _ = self.rows.push(Row { ends, lengths });
+        put_columns(&mut self.columns, structure, node_attrs, edge_attrs);
+        Ok(())
+    }
+
+    /// What a directory tells of each record.
+    pub fn rows(&self) -> &[Row]
+        ensures rows { result.now ≡ map stored_row self.now }
+        ensures few { length result.now < 2 ^ 32 }
+    {
+        self.rows.as_slice()
+    }
+
+    /// The columns of the records, one record behind another.
+    pub fn columns(&self) -> &[u8]
+        ensures { result.now ≡ stored_bytes self.now }
+    {
+        self.columns.as_slice()
+    }
+}

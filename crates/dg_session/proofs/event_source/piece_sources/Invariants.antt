@@ -1,0 +1,15 @@
+use Rattle.std.proofs.Common.{◌-◌, length}
+use Rattle.std.specs.List.{All}
+use Rattle.dg_session.specs.declared.event_source.EventSource.{EventSource}
+use Rattle.dg_session.specs.SessionStart.{CanBeRead, source_of}
+use Rattle.dg_session.proofs.EventSources.{PiecesSoFar}
+use Rattle.dg_session.proofs.event_source.piece_sources.Given as goal
+
+abbrev pub invariant-loop-batch : goal.invariant-loop-batch
+invariant-loop-batch l = record {
+  so_far : PiecesSoFar l.index.opening l.number l.before l.found.items;
+  readable : All (λ (s : EventSource). CanBeRead l.index.opening (source_of s)) l.found.items;
+}
+
+abbrev pub decreases-loop-batch : goal.decreases-loop-batch
+decreases-loop-batch l = length l.index.opening.batches - l.number
