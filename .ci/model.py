@@ -1,0 +1,306 @@
+"""A model of the program that knows nothing of it: random histories, the replies that are due, and the index file
+as docs/FORMATS.md has it. Every run's replies and file are compared with the model's, byte for byte.
+
+  python3 .ci/model.py PROGRAM FOLDER FIRST LAST     histories with the seeds from FIRST to before LAST
+"""
+
+import os
+import random
+import subprocess
+import sys
+
+NODE, EDGE, NODE_ATTR, EDGE_ATTR = range(4)
+STRUCTURE, NODES, EDGES = range(3)
+COLUMN_OF = {NODE: STRUCTURE, EDGE: STRUCTURE, NODE_ATTR: NODES, EDGE_ATTR: EDGES}
+FUNCTIONS = ["intersection", "union", "balanced"]
+
+
+def number(n, size):
+    return n.to_bytes(size, "big")
+
+
+# Elements are tuples in element order: a kind, and then the fields.
+
+
+def fields(element):
+    kind, *rest = element
+    if kind == NODE:
+        return number(rest[0], 8)
+    if kind == EDGE:
+        return b"".join(number(n, 8) for n in rest[:3]) + number(rest[3], 1)
+    return number(rest[0], 8) + number(rest[1], 4) + number(rest[2], 4)
+
+
+def is_of_last(element):
+    """Whether a balanced node takes the element from its last child."""
+    value = 14695981039346656037
+    for byte in bytes([element[0] + 1]) + fields(element):
+        value = ((value ^ byte) * 1099511628211) % 2**64
+    return value >> 56 < 128
+
+
+def combined(function, sets):
+    if function == "intersection":
+        return set.intersection(*sets)
+    if function == "union":
+        return set.union(*sets)
+    first, last = sets[0], sets[-1]
+    return {x for x in first | last if x in (last if is_of_last(x) else first)}
+
+
+# Events are (time, sign, element) for nodes and edges, and (time, kind, id, key, old, new) for values.
+
+
+def effect(event):
+    """The element that goes out and the one that comes in."""
+    if event[1] == "+":
+        return None, event[2]
+    if event[1] == "-":
+        return event[2], None
+    _, kind, owner, key, old, new = event
+    if old == new:
+        return None, None
+    out = None if old is None else (kind, owner, key, old)
+    return out, None if new is None else (kind, owner, key, new)
+
+
+def replay(events):
+    graph = set()
+    for event in events:
+        out, into = effect(event)
+        if out is not None:
+            graph.remove(out)
+        if into is not None:
+            assert into not in graph
+            graph.add(into)
+    return graph
+
+
+def event_column(events, column):
+    parts = []
+    for at, event in enumerate(events):
+        kind = event[2][0] if event[1] in ("+", "-") else event[1]
+        if COLUMN_OF[kind] != column:
+            continue
+        head = number(at, 2) + number(event[0], 8)
+        if event[1] in ("+", "-"):
+            code = 1 + 2 * kind + (event[1] == "-")
+            parts.append(head + bytes([code]) + fields(event[2]))
+        else:
+            _, _, owner, key, old, new = event
+            values = [0 if value is None else value + 1 for value in (old, new)]
+            parts.append(head + number(owner, 8) + b"".join(number(n, 4) for n in [key] + values))
+    return number(len(parts), 4) + b"".join(parts) if parts else b""
+
+
+def delta_column(before, after, column):
+    def spelled(elements):
+        chosen = sorted(x for x in elements if COLUMN_OF[x[0]] == column)
+        code = column == STRUCTURE
+        return len(chosen), b"".join((bytes([x[0] + 1]) if code else b"") + fields(x) for x in chosen)
+
+    out, out_bytes = spelled(before - after)
+    into, into_bytes = spelled(after - before)
+    return number(out, 4) + out_bytes + number(into, 4) + into_bytes if out + into else b""
+
+
+class History:
+    def __init__(self, size, arity, function):
+        self.size, self.arity, self.function = size, arity, function
+        self.events = []
+        code = bytes([FUNCTIONS.index(function) + 1])
+        self.text = b"\1DGRAPH1" + number(size, 4) + number(arity, 4) + code
+
+    def file(self):
+        return self.text + b"\0"
+
+    def node(self, height, index, made):
+        """The set of a leaf, of height 0, or of an interior node."""
+        if (height, index) not in made:
+            if height == 0:
+                made[0, index] = replay(self.events[: index * self.size])
+            else:
+                children = [self.node(height - 1, c, made) for c in self.children(index)]
+                made[height, index] = combined(self.function, children)
+        return made[height, index]
+
+    def children(self, index):
+        return range((index - 1) * self.arity + 1, index * self.arity + 1)
+
+    def add(self, events, names):
+        """Adds the segment of a batch."""
+        before = len(self.events)
+        self.events += events
+        after = len(self.events)
+        leaves, leaves_after = before // self.size, after // self.size
+        columns, made = [], {}
+
+        def row(three):
+            columns.extend(three)
+            return b"".join(number(len(c), 8) for c in three)
+
+        lists = []
+        for i in range(leaves, leaves_after):
+            of_list = self.events[i * self.size : (i + 1) * self.size]
+            ends = number(of_list[0][0], 8) + number(of_list[-1][0], 8)
+            lists.append(ends + row([event_column(of_list, c) for c in range(3)]))
+        deltas = []
+        height = 1
+        while self.arity**height <= leaves_after:
+            for index in range(leaves // self.arity**height + 1, leaves_after // self.arity**height + 1):
+                graph = self.node(height, index, made)
+                pairs = [(set(), graph)] if index == 1 else []
+                pairs += [(graph, self.node(height - 1, c, made)) for c in self.children(index)]
+                deltas += [row([delta_column(a, b, c) for c in range(3)]) for a, b in pairs]
+            height += 1
+        behind = self.events[max(before, leaves_after * self.size) :]
+        piece = row([event_column(behind, c) for c in range(3)])
+        directory = number(len(events), 8) + number(events[0][0], 8) + number(events[-1][0], 8)
+        directory += number(len(names), 4) + b"".join(number(len(n), 2) + n for n in names)
+        directory += number(len(lists), 4) + b"".join(lists)
+        directory += number(len(deltas), 4) + b"".join(deltas) + piece
+        blobs = b"".join(columns)
+        self.text += b"\1" + number(len(directory), 8) + number(len(blobs), 8) + directory + blobs
+
+
+class Changes:
+    """Random changes, each allowed by the graph before it."""
+
+    def __init__(self, rng):
+        self.rng, self.time, self.names = rng, 0, []
+        self.nodes, self.edges = set(), {}
+        self.values = {NODE_ATTR: {}, EDGE_ATTR: {}}
+
+    def name(self, text, new):
+        if text not in self.names:
+            self.names.append(text)
+            new.append(text)
+        return self.names.index(text)
+
+    def next(self, new):
+        """A line and its event; the names that it brings are added to `new`."""
+        while True:
+            made = self.attempt(new)
+            if made:
+                self.time, line, event = made
+                return f"{self.time} {line}", event
+
+    def attempt(self, new):
+        rng = self.rng
+        time = self.time + rng.choice([0, 0, 1, 1, 2])
+        kind = rng.choice(["+node"] * 3 + ["-node", "+edge", "+edge", "-edge", "nset", "ndel", "eset", "edel"])
+        if kind == "+node":
+            node = rng.randrange(30)
+            if node in self.nodes:
+                return None
+            self.nodes.add(node)
+            return time, f"+node {node}", (time, "+", (NODE, node))
+        if kind == "-node" and self.nodes:
+            node = rng.choice(sorted(self.nodes))
+            if any(node in ends[:2] for ends in self.edges.values()) or self.has_value(NODE_ATTR, node):
+                return None
+            self.nodes.remove(node)
+            return time, f"-node {node}", (time, "-", (NODE, node))
+        if kind == "+edge" and self.nodes:
+            edge, nodes = rng.randrange(40), sorted(self.nodes)
+            if edge in self.edges:
+                return None
+            self.edges[edge] = (rng.choice(nodes), rng.choice(nodes), rng.randrange(2))
+            source, target, directed = self.edges[edge]
+            word = "dir" if directed else "undir"
+            return time, f"+edge {edge} {source} {target} {word}", (time, "+", (EDGE, edge) + self.edges[edge])
+        if kind == "-edge" and self.edges:
+            edge = rng.choice(sorted(self.edges))
+            if self.has_value(EDGE_ATTR, edge):
+                return None
+            return time, f"-edge {edge}", (time, "-", (EDGE, edge) + self.edges.pop(edge))
+        return self.value_change(time, kind, new)
+
+    def has_value(self, kind, owner):
+        return any(key[0] == owner for key in self.values[kind])
+
+    def value_change(self, time, word, new):
+        kind = NODE_ATTR if word[0] == "n" else EDGE_ATTR
+        owners, values = (self.nodes if word[0] == "n" else self.edges), self.values[kind]
+        if word.endswith("set") and owners:
+            owner = self.rng.choice(sorted(owners))
+            key_text, text = self.rng.choice([b"a", b"bb", b"c"]), self.rng.choice([b"x", b"y y", b"", b"zz"])
+            key, value = self.name(key_text, new), self.name(text, new)
+            old = values.get((owner, key))
+            values[owner, key] = value
+            return time, f"{word} {owner} {key_text.decode()} {text.decode()}", (time, kind, owner, key, old, value)
+        if word.endswith("del") and values:
+            owner, key = self.rng.choice(sorted(values))
+            old = values.pop((owner, key))
+            return time, f"{word} {owner} {self.names[key].decode()}", (time, kind, owner, key, old, None)
+        return None
+
+
+def listing(graph, names, columns):
+    lines = []
+    for x in sorted(graph):
+        if x[0] == NODE:
+            lines.append(f"node {x[1]}")
+        elif x[0] == EDGE:
+            lines.append(f"edge {x[1]} {x[2]} {x[3]} {'dir' if x[4] else 'undir'}")
+        elif ("n" if x[0] == NODE_ATTR else "e") in columns:
+            word = "nattr" if x[0] == NODE_ATTR else "eattr"
+            lines.append(f"{word} {x[1]} {names[x[2]].decode()} {names[x[3]].decode()}")
+    return lines
+
+
+class Case:
+    """One history, over several runs of the program."""
+
+    def __init__(self, program, index, seed):
+        self.program, self.index, self.seed = program, index, seed
+        self.script, self.due = [], []
+
+    def reply(self, *lines):
+        self.due += list(lines) + ["end"]
+
+    def run(self, file):
+        script = "".join(line + "\n" for line in self.script)
+        ran = subprocess.run([self.program, self.index], input=script.encode(), capture_output=True)
+        due = "".join(line + "\n" for line in self.due)
+        with open(self.index, "rb") as made:
+            same = made.read() == file
+        if ran.returncode != 0 or ran.stdout.decode() != due or not same:
+            sys.exit(f"seed {self.seed}: status {ran.returncode}, replies {ran.stdout.decode() == due}, file {same}")
+        self.script, self.due = [], []
+
+
+def check(program, index, seed):
+    if os.path.exists(index):
+        os.remove(index)
+    rng = random.Random(seed)
+    size, arity, function = rng.choice([2, 2, 3, 4, 5, 8]), rng.choice([2, 2, 3, 4]), rng.choice(FUNCTIONS)
+    history, changes, case = History(size, arity, function), Changes(rng), Case(program, index, seed)
+    case.script.append(f"create {size} {arity} {function}")
+    case.reply("ok create")
+    for batch in range(rng.randrange(1, 9)):
+        count = rng.choice([1, 1, 2, 3, 5, 8, 13, 40, rng.randrange(1, 90)])
+        word = "append" if batch else "load"
+        changes.time += 1 if batch else 0
+        names, lines, events = [], [], []
+        for _ in range(count):
+            line, event = changes.next(names)
+            lines.append(line)
+            events.append(event)
+        history.add(events, names)
+        case.script += [f"{word} {count}"] + lines
+        case.reply(f"ok {word} {count} {len(history.events)} {events[-1][0]}")
+        if rng.random() < 0.5:
+            time = rng.randrange(history.events[0][0], events[-1][0] + 1)
+            columns = rng.choice(["s", "sn", "se", "sne"])
+            shown = listing(replay(e for e in history.events if e[0] <= time), changes.names, columns)
+            case.script += [f"at {time} {columns}", "list 1"]
+            case.reply("ok at 1 0")
+            case.reply(f"ok list 1 {len(shown)}", *shown)
+            case.run(history.file())
+    case.run(history.file())
+
+
+if __name__ == "__main__":
+    for seed in range(int(sys.argv[3]), int(sys.argv[4])):
+        check(sys.argv[1], os.path.join(sys.argv[2], "index"), seed)
