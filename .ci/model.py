@@ -108,6 +108,7 @@ class History:
     def __init__(self, size, arity, function):
         self.size, self.arity, self.function = size, arity, function
         self.events = []
+        self.sizes = {}  # the bytes of the three columns of each list, top and down, by its key
         code = bytes([FUNCTIONS.index(function) + 1])
         self.text = b"\1DGRAPH1" + number(size, 4) + number(arity, 4) + code
 
@@ -135,23 +136,25 @@ class History:
         leaves, leaves_after = before // self.size, after // self.size
         columns, made = [], {}
 
-        def row(three):
+        def row(three, key=None):
             columns.extend(three)
+            if key is not None:
+                self.sizes[key] = [len(c) for c in three]
             return b"".join(number(len(c), 8) for c in three)
 
         lists = []
         for i in range(leaves, leaves_after):
             of_list = self.events[i * self.size : (i + 1) * self.size]
             ends = number(of_list[0][0], 8) + number(of_list[-1][0], 8)
-            lists.append(ends + row([event_column(of_list, c) for c in range(3)]))
+            lists.append(ends + row([event_column(of_list, c) for c in range(3)], f"list {i}"))
         deltas = []
         height = 1
         while self.arity**height <= leaves_after:
             for index in range(leaves // self.arity**height + 1, leaves_after // self.arity**height + 1):
                 graph = self.node(height, index, made)
-                pairs = [(set(), graph)] if index == 1 else []
-                pairs += [(graph, self.node(height - 1, c, made)) for c in self.children(index)]
-                deltas += [row([delta_column(a, b, c) for c in range(3)]) for a, b in pairs]
+                steps = [(f"top {height}", set(), graph)] if index == 1 else []
+                steps += [(f"down {height} {c}", graph, self.node(height - 1, c, made)) for c in self.children(index)]
+                deltas += [row([delta_column(a, b, c) for c in range(3)], key) for key, a, b in steps]
             height += 1
         behind = self.events[max(before, leaves_after * self.size) :]
         piece = row([event_column(behind, c) for c in range(3)])
@@ -161,6 +164,157 @@ class History:
         directory += number(len(deltas), 4) + b"".join(deltas) + piece
         blobs = b"".join(columns)
         self.text += b"\1" + number(len(directory), 8) + number(len(blobs), 8) + directory + blobs
+
+
+def is_number(word, most):
+    return word.isdigit() and word == str(int(word)) and int(word) <= most
+
+
+class Graph:
+    """The graph of an index, for the asked columns: nodes in their order, and edges (from, to, weight)."""
+
+    def __init__(self, history, columns):
+        leaves, arity = len(history.events) // history.size, history.arity
+
+        def leaf(j):
+            return f"leaf {j}" if j else "root"
+
+        def weight(key):
+            structure, nodes, edges = history.sizes[key]
+            return structure + ("n" in columns) * nodes + ("e" in columns) * edges
+
+        heights = [h for h in range(1, 40) if arity**h <= leaves]
+        memory = bool(history.events)
+        self.nodes = ["root"] + (["now", "recent"] if memory else [])
+        self.nodes += [f"leaf {j + 1}" for j in range(leaves)] + [f"list {i}" for i in range(leaves)]
+        self.nodes += [f"inner {h} {j + 1}" for h in heights for j in range(leaves // arity**h)]
+        edges = [("root", "now", 0)] if memory else []
+        edges += [("root", f"inner {h} 1", weight(f"top {h}")) for h in heights]
+        for i in range(leaves):
+            bytes_of_list = weight(f"list {i}")
+            edges += [(leaf(i), f"list {i}", bytes_of_list), (leaf(i + 1), f"list {i}", bytes_of_list)]
+            edges += [(f"list {i}", leaf(i), 0), (f"list {i}", leaf(i + 1), 0)]
+        for h in heights:
+            for j in range(1, leaves // arity**h + 1):
+                for c in history.children(j):
+                    child = f"inner {h - 1} {c}" if h > 1 else f"leaf {c}"
+                    bytes_of_delta = weight(f"down {h} {c}")
+                    edges += [(f"inner {h} {j}", child, bytes_of_delta), (child, f"inner {h} {j}", bytes_of_delta)]
+        if memory:
+            edges += [("now", "recent", 0), ("recent", "now", 0)]
+            edges += [("recent", leaf(leaves), 0), (leaf(leaves), "recent", 0)]
+        self.edges = [edge for edge in edges if edge[1] != "root"]
+        # The least costs, by rounds over all edges until none changes.
+        self.costs, changed = {"root": (0, 0)}, True
+        while changed:
+            changed = False
+            for tail, head, bytes_of_edge in self.edges:
+                if tail in self.costs:
+                    cost = (self.costs[tail][0] + bytes_of_edge, self.costs[tail][1] + 1)
+                    if head not in self.costs or cost < self.costs[head]:
+                        self.costs[head], changed = cost, True
+
+    def plan(self, target):
+        """The lines of the least plan of a node, and its weight and number of steps."""
+        steps, node = [], target
+        while node != "root":
+            for i, (tail, head, weight) in enumerate(self.edges):
+                cost = self.costs[tail]
+                if head == node and (cost[0] + weight, cost[1] + 1) == self.costs[node]:
+                    break
+            steps.append(f"step {i} {head} {weight}")
+            node = tail
+        weight = self.costs[target][0]
+        potentials = [f"potential {n} {self.costs[n][0]}" for n in self.nodes if self.costs[n][0] < weight]
+        return steps[::-1] + potentials, weight, len(steps)
+
+    def judged(self, target, lines):
+        """What is said of the lines of a certificate."""
+        steps, potentials, weight, place = [], {}, 0, -1
+        for n, line in enumerate(lines, 1):
+            read = plan_line(line)
+            if read is None:
+                return f"line {n}"
+            kind, edge, node, value = read
+            if kind == "step":
+                if potentials or weight + value > 2**63 - 1:
+                    return f"line {n}"
+                steps.append((edge, node, value))
+                weight += value
+            else:
+                if node not in self.nodes or self.nodes.index(node) <= place or value >= weight:
+                    return f"line {n}"
+                place = self.nodes.index(node)
+                potentials[node] = value
+        reached = "root"
+        for n, (edge, head, value) in enumerate(steps, 1):
+            if edge >= len(self.edges) or self.edges[edge] != (reached, head, value):
+                return f"step {n}"
+            reached = head
+        if reached != target:
+            return f"step {len(steps) + 1}"
+        of = {node: potentials.get(node, weight) for node in self.nodes}
+        if of["root"] != 0:
+            return "potential root"
+        for tail, head, value in self.edges:
+            if of[head] > of[tail] + value:
+                return f"potential {head}"
+        return "valid" if of[target] == weight else "not-tight"
+
+
+def plan_line(line):
+    """A plan line as its kind, edge, node and last number, or None where it is none."""
+    words = line.split(" ")
+    kind, edge = words[0], 0
+    if kind == "step" and len(words) > 1 and is_number(words[1], 2**32 - 1):
+        edge, words = int(words[1]), words[2:]
+    elif kind == "potential":
+        words = words[1:]
+    else:
+        return None
+    if not words or not is_number(words[-1], 2**63 - 1):
+        return None
+    node, value = words[:-1], int(words[-1])
+    numbers = {"root": 0, "now": 0, "recent": 0, "leaf": 1, "list": 1, "inner": 2}
+    if not node or numbers.get(node[0]) != len(node) - 1 or not all(is_number(w, 2**32 - 1) for w in node[1:]):
+        return None
+    return kind, edge, " ".join(node), value
+
+
+def point(history, time):
+    """The node from which the graph as of an instant is reached."""
+    count = sum(event[0] <= time for event in history.events)
+    leaves = len(history.events) // history.size
+    if count == len(history.events):
+        return "now"
+    if count % history.size == 0:
+        return f"leaf {count // history.size}"
+    return "recent" if count > leaves * history.size else f"list {count // history.size}"
+
+
+def altered(rng, lines):
+    """The lines of a certificate, most often with some of them changed."""
+    lines = list(lines)
+    for _ in range(rng.choice([0, 1, 1, 2])):
+        at = rng.randrange(len(lines) + 1)
+        change = rng.choice(["drop", "twice", "number", "number", "number", "swap", "junk"])
+        if change == "junk":
+            words = ["hello", "", "potential leaf 0 0", "step 0 root 0", "potential now -1", "step 1 now 9223372036854775807"]
+            lines.insert(at, rng.choice(words))
+        elif at < len(lines) and change == "drop":
+            del lines[at]
+        elif at < len(lines) and change == "twice":
+            lines.insert(at, lines[at])
+        elif at + 1 < len(lines) and change == "swap":
+            lines[at], lines[at + 1] = lines[at + 1], lines[at]
+        elif at < len(lines) and change == "number":
+            words = lines[at].split(" ")
+            places = [i for i, word in enumerate(words) if word.isdigit()]
+            if places:
+                i = rng.choice(places)
+                words[i] = str(int(words[i]) + rng.choice([-1, 1]))
+                lines[at] = " ".join(words)
+    return lines
 
 
 class Changes:
@@ -270,6 +424,31 @@ class Case:
         self.script, self.due = [], []
 
 
+def ask_plans(rng, history, case):
+    """Asks for plans, certificates and records."""
+    if rng.random() < 0.4:
+        records = [f"record {key} {s} {n} {e}" for key, (s, n, e) in sorted(history.sizes.items(), key=key_order)]
+        leaves = len(history.events) // history.size
+        head = f"{history.size} {history.arity} {history.function} {len(history.events)} {leaves} {len(records)}"
+        case.script.append("tree")
+        case.reply(f"ok tree {head}", *records)
+    for _ in range(rng.choice([0, 0, 1, 2])):
+        time = rng.randrange(history.events[0][0], history.events[-1][0] + 1)
+        columns = rng.choice(["s", "sn", "se", "sne"])
+        graph, target = Graph(history, columns), point(history, time)
+        lines, weight, steps = graph.plan(target)
+        case.script.append(f"plan {time} {columns}")
+        case.reply(f"ok plan {weight} {steps}", *lines)
+        lines = altered(rng, lines)
+        case.script += [f"certify {time} {columns} {len(lines)}"] + lines
+        case.reply(f"ok certify {graph.judged(target, lines)}")
+
+
+def key_order(sized):
+    kind, *numbers = sized[0].split(" ")
+    return ["list", "top", "down"].index(kind), [int(n) for n in numbers]
+
+
 def check(program, index, seed):
     if os.path.exists(index):
         os.remove(index)
@@ -290,6 +469,7 @@ def check(program, index, seed):
         history.add(events, names)
         case.script += [f"{word} {count}"] + lines
         case.reply(f"ok {word} {count} {len(history.events)} {events[-1][0]}")
+        ask_plans(rng, history, case)
         if rng.random() < 0.5:
             time = rng.randrange(history.events[0][0], events[-1][0] + 1)
             columns = rng.choice(["s", "sn", "se", "sne"])

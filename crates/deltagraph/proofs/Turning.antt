@@ -82,13 +82,3 @@ long_turn start after session image reply comes is = (
   same_told image (λ x y. Replies script.Long_line session x session y reply)
       (λ x m stands. (m, subst (λ (r : Reply). Step m script.Long_line r m) (sym is) Too_long, stands)),
 )
-
--- a line that means a command is that command
-by_test : (b : Bool) (line : List ℕ) (o : Option Command) (c : Command)
-    → cond b script.Skipped (script.read_as line o) ≡ script.Command_is c → o ≡ Some c
-by_test true line o c e = absurd (cc)
-by_test false line (Some d) c e = cc
-by_test false line None c e = absurd (cc)
-
-pub is_command : (line : List ℕ) (c : Command) → Means (meaning.Command c) line → (text : List ℕ) × (command_of text ≡ Some c)
-is_command line c means = (line, by_test (script.is_skipped line) line (command_of line) c means)

@@ -6,7 +6,7 @@ use Rattle.dg_machine.specs.declared.reply.Reply.{Reply}
 use Rattle.dg_machine.specs.CutImage.{IsCut}
 use Rattle.dg_graph.specs.Lines.{ScriptLine, Text}
 use Rattle.dg_machine.specs.MachineState.{MachineState}
-use Rattle.dg_machine.specs.CommandGrammar.{IsColumn}
+use Rattle.dg_machine.specs.CommandGrammar.{CountIsInRange, IsColumn}
 use Rattle.dg_machine.specs.Run.{Step}
 use Rattle.dg_machine.specs.Script as script
 use Rattle.dg_io.specs.LinesState.{LinesState, told, Comes}
@@ -29,6 +29,12 @@ abbrev pub Means : Meaning → List ℕ → Type 0
 Means meaning.Skipped line = script.meaning (Text line) ≡ script.Skipped
 Means (meaning.Command c) line = script.meaning (Text line) ≡ script.Command_is c
 Means (meaning.Other syntax) line = (script.meaning (Text line) ≡ script.Other (script.No_command line)) × IsColumn line syntax.0
+
+-- the numbers of a command are in their ranges
+abbrev pub HasRanges : Meaning → Type 0
+HasRanges meaning.Skipped = Unit {0}
+HasRanges (meaning.Command c) = CountIsInRange c
+HasRanges (meaning.Other syntax) = Unit {0}
 
 -- the entries to come, where the source tells what is left
 abbrev pub asked : LinesState → Option (List ℕ) → Option (List script.Entry)

@@ -6,7 +6,7 @@ ghost use Rattle.dg_io.specs.Told.{CountRose};
 ghost use Rattle.dg_io.specs.LinesState.{told, to_come, NeedsByte};
 ghost use Rattle.dg_machine.specs.Answer.{headed};
 ghost use Rattle.dg_session.specs.Session.{IsHeldBy};
-ghost use Rattle.deltagraph.specs.Turns.{Breaks, BreaksAt, EndsAt, Falls, GoesOnward, Means, Turns, TurnsAt, asked};
+ghost use Rattle.deltagraph.specs.Turns.{Breaks, BreaksAt, EndsAt, Falls, GoesOnward, HasRanges, Means, Turns, TurnsAt, asked};
 
 use dg_disk::Disk;
 use dg_io::{Line, LineFault, Lines, Source};
@@ -124,7 +124,8 @@ fn turn_of<R: Threads, S: Source, D: Disk>(
 
 // What the line is.
 fn meaning_of(line: &[u8]) -> Meaning
-    ensures { Means result line.now }
+    ensures means { Means result line.now }
+    ensures ranges { HasRanges result }
 {
     match line {
         [] | [COMMENT, ..] => Meaning::Skipped,

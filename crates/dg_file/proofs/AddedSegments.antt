@@ -21,7 +21,7 @@ use Rattle.dg_index.proofs.OpenedHistories.{images_are_opened, large_parameters}
 use Rattle.dg_index.proofs.OpenedSoFar.{gains}
 use Rattle.dg_index.specs.IndexGrowth.{IsDue, index_with, needed_for}
 use Rattle.dg_file.proofs.NotedBatches.{follows_in}
-use Rattle.dg_shape.specs.Additions.{columns_of}
+use Rattle.dg_shape.specs.Additions.{bytes_of_rows}
 use Rattle.dg_file.specs.Invariant.{with_rows}
 use Rattle.dg_file.proofs.SegmentText.{text_is}
 use Rattle.dg_file.proofs.SuitedRows.{keys_count, keys_few}
@@ -174,8 +174,8 @@ pub needed_is : (used size : ℕ) (o : Opening) (s t : Segment) → used ≡ o.u
 needed_is used size o s t same is long = omega (arith, same, long, ap (λ (s : Segment). length (segment_bytes s)) is)
 
 -- the head and the columns come to the segment
-pub columns_end : (s : Segment) (head : List ℕ) (rows : List Row) → head ≡ head_of s → rows ≡ rows_in (directory_of s) → length head + columns_of rows ≡ length (segment_bytes s)
-columns_end s head rows h r = omega (arith, ap length h, ap columns_of r, measures s, length-append (head_of s) (blobs s), ap length (text_is s))
+pub columns_end : (s : Segment) (head : List ℕ) (rows : List Row) → head ≡ head_of s → rows ≡ rows_in (directory_of s) → length head + bytes_of_rows rows ≡ length (segment_bytes s)
+columns_end s head rows h r = omega (arith, ap length h, ap bytes_of_rows r, measures s, length-append (head_of s) (blobs s), ap length (text_is s))
 
 pub index_is : (o : Opening) (s : Segment) (b : BatchEntry) (rows : List Row) (head : List ℕ) (used needed : ℕ) → b ≡ (directory_of s).batch → rows ≡ rows_in (directory_of s) → head ≡ head_of s → used ≡ o.used → needed ≡ needed_for o s
     → with_rows o b rows (used + length head) needed ≡ index_with o s

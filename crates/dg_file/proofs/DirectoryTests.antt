@@ -15,7 +15,7 @@ use Rattle.dg_index.proofs.KeptColumns.{Each}
 use Rattle.dg_file.proofs.SuitedRows.{IsTimed, IsUntimed, suits_due}
 use Rattle.dg_file.specs.declared.found_directory.FoundDirectory.{FoundDirectory}
 use Rattle.dg_file.specs.Directories.{TakesNames, directory_due, TakesDirectory}
-use Rattle.dg_shape.specs.Additions.{columns_of, Suits}
+use Rattle.dg_shape.specs.Additions.{bytes_of_rows, Suits}
 use Rattle.dg_index.proofs.DirectoryNames.{both}
 use Rattle.dg_file.specs.Invariant.{EndBy}
 use Rattle.dg_file.proofs.ListEnds.{ends_read}
@@ -103,7 +103,7 @@ module _ (x : Opened) (columns : ℕ) (bytes : List ℕ) where
           let L = list_count x.index (eight_at bytes 0) in
           let D = delta_count x.index (eight_at bytes 0) in
           let d : Directory = said L D bytes t in
-          due_by le t n ∙ not_named d (has_rows L D bytes t.1) (columns_of (rows_in d) == columns) (may_follow (events_in x.index.batches) (earliest_in 0 x.index.batches) d.batch) (may_be_named x.names d.names)
+          due_by le t n ∙ not_named d (has_rows L D bytes t.1) (bytes_of_rows (rows_in d) == columns) (may_follow (events_in x.index.batches) (earliest_in 0 x.index.batches) d.batch) (may_be_named x.names d.names)
           (may_be_listed (last_list (first_in d.batch.ends.first x.index.batches) x.index.records) d.batch.ends.last d.lists) (wrong t n)
 
   pub due_stale : 28 ≤ length bytes → ((t : List (List ℕ) × ℕ) → names_at (four_at bytes 24) bytes 28 ≡ Some t → are_new x.names t.0 ≡ false) → directory_due x columns bytes ≡ None
@@ -160,7 +160,7 @@ module _ (x : Opened) (columns : ℕ) (bytes : List ℕ) (le : 28 ≤ length byt
   ok = has_rows lists deltas bytes end
 
   abbrev fits : Bool
-  fits = columns_of (rows_in (said lists deltas bytes (taken.names, end))) == columns
+  fits = bytes_of_rows (rows_in (said lists deltas bytes (taken.names, end))) == columns
 
   abbrev follows : Bool
   follows = may_follow (events_in x.index.batches) (earliest_in 0 x.index.batches) (said lists deltas bytes (taken.names, end)).batch
@@ -197,8 +197,8 @@ module _ (x : Opened) (columns : ℕ) (bytes : List ℕ) (le : 28 ≤ length byt
   pub due_rows : has_rows lists deltas bytes end ≡ false → directory_due x columns bytes ≡ None
   due_rows e = due_at ∙ no_rows (said lists deltas bytes (taken.names, end)) ok fits follows is_named is_listed e
 
-  pub due_measured : (rows : List Row) → rows ≡ rows_in (said lists deltas bytes (taken.names, end)) → (columns_of rows == columns) ≡ false → directory_due x columns bytes ≡ None
-  due_measured rows r e = due_at ∙ not_measured (said lists deltas bytes (taken.names, end)) ok fits follows is_named is_listed (ap (λ (l : List Row). columns_of l == columns) (sym r) ∙ e)
+  pub due_measured : (rows : List Row) → rows ≡ rows_in (said lists deltas bytes (taken.names, end)) → (bytes_of_rows rows == columns) ≡ false → directory_due x columns bytes ≡ None
+  due_measured rows r e = due_at ∙ not_measured (said lists deltas bytes (taken.names, end)) ok fits follows is_named is_listed (ap (λ (l : List Row). bytes_of_rows l == columns) (sym r) ∙ e)
 
   listed_same : (rows : List Row) (first : ℕ) → rows ≡ rows_in (said lists deltas bytes (taken.names, end)) → first ≡ last_list (first_in batch.ends.first x.index.batches) x.index.records
       → may_be_listed (last_list (first_in (eight_at bytes 8) x.index.batches) x.index.records) (eight_at bytes 16) (rows_at list_at 40 lists bytes (end + 4)) ≡ may_be_listed first batch.ends.last (take lists rows)
@@ -212,7 +212,7 @@ module _ (x : Opened) (columns : ℕ) (bytes : List ℕ) (le : 28 ≤ length byt
   due_listed rows first r f e = due_at ∙ not_listed (said lists deltas bytes (taken.names, end)) ok fits follows is_named is_listed (listed_same rows first r f ∙ e)
 
   pub due_taken : (found : FoundDirectory) (first : ℕ) → 2 ≤ x.index.params.l → events_in x.index.batches + batch.events ≤ EVENTS_MAX → length x.names + count ≤ NAMES_MAX → found.batch ≡ batch → found.rows.items ≡ rows_in (said lists deltas bytes (taken.names, end))
-      → found.keys.items ≡ keys_next x.index batch.events → has_rows lists deltas bytes end ≡ true → may_follow (events_in x.index.batches) (earliest_in 0 x.index.batches) batch ≡ true → (columns_of found.rows.items == columns) ≡ true
+      → found.keys.items ≡ keys_next x.index batch.events → has_rows lists deltas bytes end ≡ true → may_follow (events_in x.index.batches) (earliest_in 0 x.index.batches) batch ≡ true → (bytes_of_rows found.rows.items == columns) ≡ true
       → first ≡ last_list (first_in batch.ends.first x.index.batches) x.index.records → may_be_listed first batch.ends.last (take lists found.rows.items) ≡ true → TakesDirectory x.index columns bytes x.names new found
   due_taken found first large few room fb r k tables follow measured f listed =
       let named : may_be_named x.names taken.names ≡ true = and_from (are_new x.names taken.names) _ taken.fresh (le-leb (length x.names + length taken.names) NAMES_MAX (omega (arith, long, room))) in
@@ -221,13 +221,13 @@ module _ (x : Opened) (columns : ℕ) (bytes : List ℕ) (le : 28 ≤ length byt
       let number : found.batch.names ≡ count = ap (λ (b : BatchEntry). b.names) (fb ∙ batch_is) in
       record {
         directory = said lists deltas bytes (taken.names, end);
-        due = due_at ∙ it_stands (said lists deltas bytes (taken.names, end)) ok fits follows is_named is_listed tables (ap (λ (l : List Row). columns_of l == columns) (sym r) ∙ measured) (follows_same ∙ follow) named (listed_same found.rows.items first r f ∙ listed);
+        due = due_at ∙ it_stands (said lists deltas bytes (taken.names, end)) ok fits follows is_named is_listed tables (ap (λ (l : List Row). bytes_of_rows l == columns) (sym r) ∙ measured) (follows_same ∙ follow) named (listed_same found.rows.items first r f ∙ listed);
         batch = fb ∙ sym batch_same;
         rows = r;
         keys = k ∙ ap (λ (b : BatchEntry). keys_next x.index b.events) (sym fb);
         gained = taken.gained;
         suits = subst (λ (l : List Key). Suits l found.rows.items) (sym k) (subst (λ (l : List Row). Suits (keys_next x.index batch.events) l) (sym r) (suits_said x.index batch.events lists deltas bytes (taken.names, end) large few lists_is deltas_is));
-        measured = eqb-true (columns_of found.rows.items) columns measured;
+        measured = eqb-true (bytes_of_rows found.rows.items) columns measured;
         follows = ap (may_follow (events_in x.index.batches) (earliest_in 0 x.index.batches)) fb ∙ follow;
         ends =
             let last : eight_at bytes 16 ≡ found.batch.ends.last = ap (λ (b : BatchEntry). b.ends.last) (sym (fb ∙ batch_is)) in

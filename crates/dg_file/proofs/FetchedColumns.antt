@@ -8,14 +8,14 @@ use Rattle.dg_graph.specs.declared.element.Column.{Column}
 use Rattle.dg_history.specs.declared.node.Key.{Key}
 use Rattle.dg_history.specs.Keys.{same_key}
 use Rattle.dg_index.specs.ImageText.{is_within, gate_behind, eight_at}
-use Rattle.dg_shape.specs.Entries.{length_in, offset_in}
+use Rattle.dg_shape.specs.Entries.{column_length_in, offset_in}
 use Rattle.dg_index.specs.OpenedIndex.{total, Opening, Opened, Directory, opening, bare, read_on, go_on_with, directory_next, directory_in, may_stand, if_it_may, keys_next, laid, rows_in, column_at}
 use Rattle.dg_index.specs.declared.entry.Entry.{Entry}
 use Rattle.dg_index.specs.declared.entry.Row.{Row}
 use Rattle.dg_index.proofs.KeptColumns.{Each, each_append}
 use Rattle.dg_index.proofs.OpenedSoFar.{was, one_more}
 use Rattle.std.proofs.lemmas.List.Sums.{sum_by-cons}
-use Rattle.dg_shape.specs.Additions.{columns_of}
+use Rattle.dg_shape.specs.Additions.{bytes_of_rows}
 use Rattle.dg_file.specs.Images.{IsOpenedAs}
 use Rattle.dg_file.specs.Directories.{directory_due}
 use Rattle.dg_index.proofs.DirectoryNames.{both}
@@ -26,7 +26,7 @@ use Rattle.dg_graph.specs.declared.element.Column.TheVariants as column
 abbrev pub IsWithin : ℕ → Key × Entry → Type 0
 IsWithin n r = r.1.offset + total r.1.lengths ≤ n
 
-laid_within : (n offset : ℕ) (keys : List Key) (rows : List Row) → offset + columns_of rows ≤ n → Each (IsWithin n) (laid offset keys rows)
+laid_within : (n offset : ℕ) (keys : List Key) (rows : List Row) → offset + bytes_of_rows rows ≤ n → Each (IsWithin n) (laid offset keys rows)
 laid_within n offset [] rows le = tt
 laid_within n offset (k ∷ keys) [] le = tt
 laid_within n offset (k ∷ keys) (r ∷ rows) le =
@@ -41,7 +41,7 @@ it_may : (b : Bool) (x d : Directory) → if_it_may b x ≡ Some d → (b ≡ tr
 it_may true x d e = (refl, cc)
 it_may false x d e = absurd cc
 
-next_within : (image : List ℕ) (x : Opened) (d : Directory) → directory_next x image ≡ Some d → x.index.used + 16 + eight_at image x.index.used + columns_of (rows_in d) ≤ length image
+next_within : (image : List ℕ) (x : Opened) (d : Directory) → directory_next x image ≡ Some d → x.index.used + 16 + eight_at image x.index.used + bytes_of_rows (rows_in d) ≤ length image
 next_within image x d e =
     let at : ℕ = x.index.used in
     let columns : ℕ = eight_at image (at + 8) in
@@ -50,8 +50,8 @@ next_within image x d e =
     let w2 = both (nat_le (gate_behind image at + 1) (length image)) _ w.1 in
     let s = some_then (λ d. if_it_may (may_stand x columns d) d) (directory_in x.index (take (eight_at image at) (drop (at + 16) image))) d a.1 in
     let may = it_may (may_stand x columns s.0) s.0 d s.2 in
-    let m = both (columns_of (rows_in s.0) == columns) _ may.0 in
-    omega (arith, leb-true _ _ w2.0, eqb-true (columns_of (rows_in s.0)) columns m.0, ap (λ (d : Directory). columns_of (rows_in d)) may.1)
+    let m = both (bytes_of_rows (rows_in s.0) == columns) _ may.0 in
+    omega (arith, leb-true _ _ w2.0, eqb-true (bytes_of_rows (rows_in s.0)) columns m.0, ap (λ (d : Directory). bytes_of_rows (rows_in d)) may.1)
 
 abbrev opened_in : Opened → Result Opened ℕ → Opened
 opened_in x (Ok y) = y
@@ -88,21 +88,21 @@ pub some_value : {A : Type 0} (x : Option A) → is_some x ≡ true → (y : A) 
 some_value None h = absurd cc
 some_value (Some y) h = (y, refl)
 
-column_within : (e : Entry) (col : Column) (n : ℕ) → e.offset + total e.lengths ≤ n → offset_in e col + length_in e col ≤ n
+column_within : (e : Entry) (col : Column) (n : ℕ) → e.offset + total e.lengths ≤ n → offset_in e col + column_length_in e col ≤ n
 column_within e column.Structure n le = omega (arith, le)
 column_within e column.NodeAttr n le = omega (arith, le)
 column_within e column.EdgeAttr n le = omega (arith, le)
 
-pub column_there : (x : Option (List ℕ)) (o : Opening) (k : Key) (col : Column) (e : Entry) → lookup (same_key k) o.records ≡ Some e → IfSome x (λ image. IsOpenedAs image o) → HasRange x (offset_in e col) (length_in e col)
+pub column_there : (x : Option (List ℕ)) (o : Opening) (k : Key) (col : Column) (e : Entry) → lookup (same_key k) o.records ≡ Some e → IfSome x (λ image. IsOpenedAs image o) → HasRange x (offset_in e col) (column_length_in e col)
 column_there None o k col e is h = tt
 column_there (Some image) o k col e is h = column_within e col (length image) (record_there image o k e h is)
 
-column_is : (image : List ℕ) (e : Entry) (col : Column) → take (length_in e col) (drop (offset_in e col) image) ≡ column_at image e col
+column_is : (image : List ℕ) (e : Entry) (col : Column) → take (column_length_in e col) (drop (offset_in e col) image) ≡ column_at image e col
 column_is image e column.Structure = refl
 column_is image e column.NodeAttr = refl
 column_is image e column.EdgeAttr = refl
 
-pub column_read : (x : Option (List ℕ)) (o : Opening) (k : Key) (col : Column) (e : Entry) (offset len : ℕ) (bytes : List ℕ) → lookup (same_key k) o.records ≡ Some e → offset ≡ offset_in e col → len ≡ length_in e col
+pub column_read : (x : Option (List ℕ)) (o : Opening) (k : Key) (col : Column) (e : Entry) (offset len : ℕ) (bytes : List ℕ) → lookup (same_key k) o.records ≡ Some e → offset ≡ offset_in e col → len ≡ column_length_in e col
     → IfSome x (λ image. bytes ≡ take len (drop offset image)) → IfSome x (λ image. IfSome (lookup (same_key k) o.records) (λ e. bytes ≡ column_at image e col))
 column_read None o k col e offset len bytes is p l h = tt
 column_read (Some image) o k col e offset len bytes is p l h =

@@ -18,7 +18,7 @@ use Rattle.dg_history.specs.History.{are_parameters}
 use Rattle.dg_index.proofs.NodeBounds.{kept_laid}
 use Rattle.dg_index.proofs.FreshKeys.{fresh_next}
 use Rattle.dg_index.proofs.OpenedHistories.{large_parameters}
-use Rattle.dg_shape.specs.Additions.{columns_of, Suits, IsRoomFor}
+use Rattle.dg_shape.specs.Additions.{bytes_of_rows, Suits, IsRoomFor}
 use Rattle.dg_file.specs.Invariant.{EndBy, IndexIsSound, last_from, later, listed_after, with_rows}
 use Rattle.dg_shape.proofs.AddedRecords.{suits_length}
 use Rattle.dg_index.proofs.DirectoryNames.{both}
@@ -50,7 +50,7 @@ last_laid t last offset (k ∷ keys) [] s = absurd s
 last_laid t last offset (k ∷ keys) (r ∷ rows) s =
     ap (λ n. last_list n (laid (offset + total r.lengths) keys rows)) (later_is t last r.ends) ∙ last_laid t (later last r.ends) (offset + total r.lengths) keys rows s.2
 
-laid_bytes : (offset : ℕ) (keys : List Key) (rows : List Row) → Suits keys rows → columns_in (laid offset keys rows) ≡ columns_of rows
+laid_bytes : (offset : ℕ) (keys : List Key) (rows : List Row) → Suits keys rows → columns_in (laid offset keys rows) ≡ bytes_of_rows rows
 laid_bytes offset [] [] s = refl
 laid_bytes offset [] (r ∷ rows) s = absurd s
 laid_bytes offset (k ∷ keys) [] s = absurd s
@@ -59,7 +59,7 @@ laid_bytes offset (k ∷ keys) (r ∷ rows) s =
     let rest : List (Key × Entry) = laid (offset + total r.lengths) keys rows in
     omega (arith, sum_by-cons (λ (e : Key × Entry). total e.1.lengths) one rest, sum_by-cons (λ (r : Row). total r.lengths) r rows, laid_bytes (offset + total r.lengths) keys rows s.2)
 
-pub bytes_with : (o : Opening) (b : BatchEntry) (rows : List Row) (offset used : ℕ) → Suits (keys_next o b.events) rows → columns_in (with_rows o b rows offset used).records ≡ columns_in o.records + columns_of rows
+pub bytes_with : (o : Opening) (b : BatchEntry) (rows : List Row) (offset used : ℕ) → Suits (keys_next o b.events) rows → columns_in (with_rows o b rows offset used).records ≡ columns_in o.records + bytes_of_rows rows
 bytes_with o b rows offset used s =
     sum_by-append (λ (e : Key × Entry). total e.1.lengths) o.records (laid offset (keys_next o b.events) rows) ∙ ap (λ n. columns_in o.records + n) (laid_bytes offset (keys_next o b.events) rows s)
 
@@ -91,7 +91,7 @@ follows_in count earliest b e =
     record { some = leb-true _ _ a.0; few = leb-true _ _ c.0; all = leb-true _ _ d.0; starts = leb-true _ _ f.0; rises = leb-true _ _ g.0; in_time = leb-true _ _ g.1 }
 
 pub noted_sound : (o : Opening) (events names from : ℕ) (last : Option ℕ) (b : BatchEntry) (rows : List Row) (offset used : ℕ) → IndexIsSound o events names from last → Suits (keys_next o b.events) rows
-    → may_follow (events_in o.batches) (earliest_in 0 o.batches) b ≡ true → EndBy b.ends.last rows → names_in o.batches + b.names ≤ NAMES_MAX → o.used ≤ offset → offset + columns_of rows + 1 ≡ used → used ≤ FILE_BYTES_MAX
+    → may_follow (events_in o.batches) (earliest_in 0 o.batches) b ≡ true → EndBy b.ends.last rows → names_in o.batches + b.names ≤ NAMES_MAX → o.used ≤ offset → offset + bytes_of_rows rows + 1 ≡ used → used ≤ FILE_BYTES_MAX
     → IndexIsSound (with_rows o b rows offset used) (events + b.events) (names + b.names) (b.ends.last + 1) (listed_after last rows)
 noted_sound o events names from last b rows offset used s suits follows ends few behind is within =
     let f = follows_in (events_in o.batches) (earliest_in 0 o.batches) b follows in
@@ -113,7 +113,7 @@ noted_sound o events names from last b rows offset used s suits follows ends few
     }
 
 pub room_for : (o : Opening) (events names from : ℕ) (last : Option ℕ) (c : Holdings) (b : BatchEntry) (keys : List Key) (rows : List Row) (offset used : ℕ) → IndexIsSound o events names from last → c.entries ≡ o.records
-    → length keys ≤ c.spare → keys ≡ keys_next o b.events → Suits keys rows → o.used ≤ offset → offset + columns_of rows + 1 ≡ used → used ≤ FILE_BYTES_MAX → IsRoomFor c offset keys rows
+    → length keys ≤ c.spare → keys ≡ keys_next o b.events → Suits keys rows → o.used ≤ offset → offset + bytes_of_rows rows + 1 ≡ used → used ≤ FILE_BYTES_MAX → IsRoomFor c offset keys rows
 room_for o events names from last c b keys rows offset used s same room is suits behind end within =
     let large = large_parameters o.params.l o.params.k s.parameters in
     let fresh = fresh_next o.params (omega (arith, large.0)) (omega (arith, large.1)) o.batches b.events in

@@ -5,7 +5,7 @@ use Rattle.dg_graph.specs.Names.{number_of, is_name, are_new}
 use Rattle.dg_history.specs.declared.limits.TheConstants.{FILE_BYTES_MAX}
 use Rattle.dg_index.specs.ImageText.{eight_at, name_at, names_at}
 use Rattle.dg_index.specs.OpenedIndex.{Opening, Opened, Directory, directory_in, earliest_in, events_in, if_it_may, keys_next, may_follow, may_stand, rows_in}
-use Rattle.dg_shape.specs.Additions.{columns_of, Suits}
+use Rattle.dg_shape.specs.Additions.{bytes_of_rows, Suits}
 use Rattle.dg_file.specs.declared.found_directory.FoundDirectory.{FoundDirectory}
 use Rattle.dg_file.specs.declared.lengths.Lengths.{Lengths}
 use Rattle.dg_file.specs.Invariant.{EndBy}
@@ -55,7 +55,7 @@ pub record TakesDirectory (o : Opening) (columns : ℕ) (bytes : List ℕ) (old 
   pub keys : f.keys.items ≡ keys_next o f.batch.events
   pub gained : new ≡ old ++ directory.names
   pub suits : Suits f.keys.items f.rows.items
-  pub measured : columns_of f.rows.items ≡ columns
+  pub measured : bytes_of_rows f.rows.items ≡ columns
   pub follows : may_follow (events_in o.batches) (earliest_in 0 o.batches) f.batch ≡ true
   pub ends : EndBy f.batch.ends.last f.rows.items
   pub counted : length new ≡ length old + f.batch.names

@@ -3,7 +3,7 @@
 ghost use Rattle.std.specs.Prelude.{◌≡◌, ◌≤◌, ◌+◌, ◌*◌, ◌++◌, ◌∷◌, [], ◌==◌, ◌&&◌, length, IfOk, OnOk};
 ghost use Rattle.dg_index.specs.ImageText.{four_at};
 ghost use Rattle.dg_index.specs.OpenedIndex.{lengths_at, list_at, record_at, rows_at, may_be_listed};
-ghost use Rattle.dg_shape.specs.Additions.{columns_of};
+ghost use Rattle.dg_shape.specs.Additions.{bytes_of_rows};
 
 use crate::numbers::{u32_at, u64_at};
 use dg_index::{Ends, Row};
@@ -114,7 +114,7 @@ pub(crate) fn has_rows(bytes: &[u8], end: usize, lists: u32, deltas: u32) -> boo
 
 /// Whether the columns that the rows tell of come to so many bytes.
 pub(crate) fn is_measured(rows: &[Row], columns: u64) -> bool
-    ensures { result ≡ (columns_of rows.now == columns) }
+    ensures { result ≡ (bytes_of_rows rows.now == columns) }
 {
     let mut left = columns;
     for row in rows {

@@ -31,7 +31,7 @@ pub enum ReopenFault {
     /// The file is not one of an index.
     #[error("the file is not one of an index")]
     Foreign,
-    /// The segment at this place breaks a rule.
+    /// The segment at this offset breaks a rule.
     #[error("the segment at byte {0} breaks a rule")]
     Damaged(u64),
     /// The disk failed.

@@ -13,7 +13,7 @@ ghost use Rattle.dg_index.specs.IndexGrowth.{AreInTurn, IsDue, columns_in, index
 ghost use Rattle.dg_index.specs.IndexKeys.{AreKept};
 ghost use Rattle.dg_index.specs.OpenedIndex.{column_at, bare, earliest_in, events_in, first_in, keys_next, last_list, list_count, may_follow, opened_of, opening};
 ghost use Rattle.dg_disk.specs.Image.{IsLengthOf};
-ghost use Rattle.dg_shape.specs.Additions.{columns_of, Suits};
+ghost use Rattle.dg_shape.specs.Additions.{bytes_of_rows, Suits};
 ghost use Rattle.dg_file.specs.Directories.{directory_due, TakesDirectory};
 ghost use Rattle.dg_file.specs.Headers.{IsOpenedSoFar};
 ghost use Rattle.dg_file.specs.Index.{HasRoom, opening_bytes};
@@ -159,7 +159,7 @@ impl Index {
         requires ends { EndBy batch.ends.last rows.now }
         requires names { names_in self.old.opening.batches + batch.names ≤ NAMES_MAX }
         requires behind { self.old.opening.used ≤ offset }
-        requires used { offset + columns_of rows.now + 1 ≡ used }
+        requires used { offset + bytes_of_rows rows.now + 1 ≡ used }
         requires within { used ≤ FILE_BYTES_MAX }
         ensures { self.new.opening ≡ with_rows self.old.opening batch rows.now offset used }
     {

@@ -156,7 +156,7 @@ parent_is k j c pos some from to =
     omega (arith, q, some)
 
 module _ (z : History) (all later : List Event) (pos : 0 < z.params.l) (wide : 0 < z.params.k) (is : events_of z ≡ all ++ later) where
-  list_right : (i : ℕ) → (i + 1) * z.params.l ≤ length all → closed_list z.params all i ≡ closed_list z.params (events_of z) i
+  pub list_right : (i : ℕ) → (i + 1) * z.params.l ≤ length all → closed_list z.params all i ≡ closed_list z.params (events_of z) i
   list_right i le =
       let l : ℕ = z.params.l in
       let sum : (i + 1) * l ≡ i * l + l = omega (arith, add-mul i 1 l) in
@@ -232,7 +232,7 @@ pub record IsSoFar (z : History) (image : List ℕ) (x : Opened) (front : List B
   pub kept : Each (IsKept z image) x.index.records
 
 module _ (z : History) (image : List ℕ) (pos : 0 < z.params.l) (wide : 0 < z.params.k) where
-  segment_matches : (front : List Batch) (b : Batch) (more : List Batch) → z.batches ≡ front ++ b ∷ more → (x : Opened) → IsSoFar z image x front
+  pub segment_matches : (front : List Batch) (b : Batch) (more : List Batch) → z.batches ≡ front ++ b ∷ more → (x : Opened) → IsSoFar z image x front
       → Match z (keys_next x.index (length b.events)) (stored_in (segment_of z.params (events_among front) b))
   segment_matches front b more is x so =
       let before : List Event = events_among front in

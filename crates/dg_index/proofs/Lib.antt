@@ -15,3 +15,5 @@ pub mod HeldKeys
 pub mod FreshKeys
 pub mod NodeBounds
 pub mod RecentPieces
+pub mod HeldRecords
+pub mod HistoryTimes

@@ -170,7 +170,7 @@ pub rises_join : (t : ℕ) (xs ys : List Event) → Rises t xs → Rises (last_t
 rises_join t [] ys r more = more
 rises_join t (x ∷ xs) ys r more = (r.0, rises_join x.time xs ys r.1 more)
 
-rises_later : (s t : ℕ) (events : List Event) → s ≤ t → Rises t events → Rises s events
+pub rises_later : (s t : ℕ) (events : List Event) → s ≤ t → Rises t events → Rises s events
 rises_later s t [] le r = tt
 rises_later s t (e ∷ events) le r = (omega (arith, le, r.0), r.1)
 
@@ -267,7 +267,7 @@ first_front : (xs ys : List Event) → 1 ≤ length xs → first_time_of (xs ++ 
 first_front [] ys some = absurd (omega arith)
 first_front (x ∷ xs) ys some = refl
 
-last_earliest : (before : List Event) → last_time_from 0 before ≤ earliest_next (span_of before)
+pub last_earliest : (before : List Event) → last_time_from 0 before ≤ earliest_next (span_of before)
 last_earliest [] = omega arith
 last_earliest (e ∷ events) = omega arith
 

@@ -1,5 +1,5 @@
 -- The records of an index: which keys there are, what each holds, and its columns.
-use Rattle.std.specs.Prelude.{ℕ, zero, suc, ◌+◌, ◌-◌, ◌*◌, ◌/◌, ◌^◌, ◌==◌, List, [], ◌∷◌, ◌++◌, map, length, take, drop, if◌then◌else◌, nat_le}
+use Rattle.std.specs.Prelude.{ℕ, zero, suc, ◌+◌, ◌-◌, ◌*◌, ◌/◌, ◌^◌, ◌==◌, List, [], ◌∷◌, ◌++◌, map, filter, length, take, drop, if◌then◌else◌, nat_le}
 use Rattle.std.specs.List.{flat_map}
 use Rattle.dg_graph.specs.declared.element.Column.{Column}
 use Rattle.dg_graph.specs.declared.element.Column.TheVariants as column
@@ -37,8 +37,7 @@ deltas_due k m after = flat_map (deltas_due_at k m after) (numbers 1 after)
 
 -- the heights at which there is an interior node
 abbrev pub heights : ℕ → ℕ → List ℕ
-heights k zero = []
-heights k (suc m) = flat_map (λ h. if nat_le (k ^ h) (suc m) then h ∷ [] else []) (numbers 1 (suc m))
+heights k m = filter (λ h. nat_le (k ^ h) m) (numbers 1 m)
 
 -- the lists, tops and downs of an index of so many events, in key order
 abbrev pub keys_of : Params → ℕ → List Key

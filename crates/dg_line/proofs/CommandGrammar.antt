@@ -10,18 +10,21 @@ use Rattle.dg_graph.specs.Words.{words}
 use Rattle.dg_history.specs.ChangeGrammar.{time_of}
 use Rattle.dg_machine.specs.declared.command.Command.{Command}
 use Rattle.dg_machine.specs.declared.command.Command.TheVariants as command
-use Rattle.dg_machine.specs.CommandGrammar.{Begins, IsColumn, columns_of, command_verbs, count_of, function_of, handle_of, n32_of}
+use Rattle.dg_machine.specs.CommandGrammar.{Begins, IsColumn, columns_of, command_verbs, count_from_0, count_of, function_of, handle_of, n32_of}
 use Rattle.dg_line.specs.Prefixes.{IsLongestPrefix}
 use Rattle.dg_line.specs.Symbols.{Terminal, One_of, Number, IsLineOfOne}
 use Rattle.dg_line.proofs.Numbers.{number_within}
 use Rattle.dg_line.proofs.Symbols.{lines_short}
-use Rattle.dg_line.proofs.Verbs.{ReadsWord, Rows, number_word, more_texts, no_text, one_row, two_row, three_row, row, table, ◌▸◌}
+use Rattle.dg_line.proofs.Verbs.{ReadsWord, Rows, number_word, more_texts, no_text, no_words, one_row, two_row, three_row, row, table, ◌▸◌}
 
 pub n32 : ReadsWord n32_of (Number 0 4294967295)
 n32 = number_word 0 4294967295
 
 pub count : ReadsWord count_of (Number 1 BATCH_LINES_MAX)
 count = number_word 1 BATCH_LINES_MAX
+
+pub from_0 : ReadsWord count_from_0 (Number 0 BATCH_LINES_MAX)
+from_0 = number_word 0 BATCH_LINES_MAX
 
 pub time : ReadsWord time_of (Number 0 TIME_MAX)
 time = number_word 0 TIME_MAX
@@ -43,6 +46,9 @@ each_command =
     ▸ row (one_row count _)
     ▸ row (two_row time columns _)
     ▸ row (one_row handle _)
+    ▸ row (two_row time columns _)
+    ▸ row (three_row time columns from_0 _)
+    ▸ row (no_words _)
     ▸ tt
 
 abbrev pub commands : Rows (read_by command_verbs)

@@ -8,3 +8,5 @@ pub mod NumberPrefixes
 pub mod Symbols
 pub mod Verbs
 pub mod CommandGrammar
+pub mod ReplyLines
+pub mod PlanLines

@@ -6,8 +6,8 @@ ghost use Rattle.dg_line.specs.TextChange.{change_by_text, what_by_text, with_ke
 ghost use Rattle.dg_line.specs.declared.change.ChangeFault.TheVariants.{Memory};
 
 use crate::text_change::{TextAttribute, TextChange, TextKey, TextWhat};
-use crate::words::{Words, number};
-use dg_graph::{Change, TIME_MAX, What};
+use crate::words::{Words, number, time};
+use dg_graph::{Change, What};
 use dg_names::{NAMES_MAX, Names, is_key, is_name};
 use std::alloc::AllocError;
 use thiserror::Error;
@@ -149,7 +149,7 @@ fn parse_change(line: &[u8]) -> Option<TextChange>
     ensures { option_map change_by_text result ≡ change_by_text_of line.now }
 {
     let mut words = Words::of(line);
-    let time = number(words.next()?, 0, TIME_MAX)?;
+    let time = time(words.next()?)?;
     let what = parse_what(words)?;
     Some(TextChange { time, what })
 }

@@ -1,12 +1,14 @@
-ghost use Rattle.std.specs.Prelude.{◌≡◌, IfErr, List, ℕ};
+ghost use Rattle.std.specs.Prelude.{◌≡◌, ◌≤◌, IfErr, IfOk, IfSome, List, ℕ};
 ghost use Rattle.std.specs.Result.{result_ok};
-ghost use Rattle.dg_graph.specs.Verbs.{one, two, three};
+ghost use Rattle.dg_graph.specs.Verbs.{none_more, one, two, three};
 ghost use Rattle.dg_history.specs.ChangeGrammar.{time_of};
-ghost use Rattle.dg_machine.specs.CommandGrammar.{IsColumn, columns_of, command_of, count_of, function_of, handle_of, n32_of};
+ghost use Rattle.dg_machine.specs.CommandGrammar.{IsColumn, CountIsInRange, columns_of, command_of, count_from_0, count_of, function_of, handle_of, n32_of};
 
-use crate::grammar::{COLUMNS, COUNT, FUNCTION, HANDLE, N32, Symbol, TIME, longest_prefix};
-use crate::words::{Words, number};
-use dg_graph::{Columns, Function, TIME_MAX};
+use crate::grammar::{
+    COLUMNS, COUNT, COUNT_FROM_0, FUNCTION, HANDLE, N32, Symbol, TIME, longest_prefix,
+};
+use crate::words::{Words, n32, number, time};
+use dg_graph::{Columns, Function};
 use dg_history::BATCH_LINES_MAX;
 use dg_machine::{Command, FIRST_HANDLE};
 use thiserror::Error;
@@ -18,6 +20,9 @@ const COMMANDS: &[&[Symbol]] = &[
     &[Symbol::OneOf(&[b"append"]), COUNT],
     &[Symbol::OneOf(&[b"at"]), TIME, COLUMNS],
     &[Symbol::OneOf(&[b"list"]), HANDLE],
+    &[Symbol::OneOf(&[b"plan"]), TIME, COLUMNS],
+    &[Symbol::OneOf(&[b"certify"]), TIME, COLUMNS, COUNT_FROM_0],
+    &[Symbol::OneOf(&[b"tree"])],
 ];
 
 /// The line is in no command; the column, from 1, at which it leaves the grammar.
@@ -26,10 +31,11 @@ const COMMANDS: &[&[Symbol]] = &[
 pub struct Syntax(pub u32);
 
 /// The command that the line is, or the column at which it leaves the grammar of commands: it is 1
-/// more than the length of the longest prefix of the line that is a prefix of some command. It takes
-/// no memory.
+/// more than the length of the longest prefix of the line that is a prefix of some command. The number
+/// of lines that follow a command is in its range. It takes no memory.
 pub fn read_command(line: &[u8]) -> Result<Command, Syntax>
     ensures command { result_ok result ≡ command_of line.now }
+    ensures ranges { IfOk result (λ c. CountIsInRange c) }
     ensures column { IfErr result (λ syntax. IsColumn line.now syntax.0) }
 {
     match command(line) {
@@ -49,7 +55,8 @@ fn column(line: &[u8]) -> u32
 
 // The command that the line is.
 fn command(line: &[u8]) -> Option<Command>
-    ensures { result ≡ command_of line.now }
+    ensures command { result ≡ command_of line.now }
+    ensures range { IfSome result (λ c. CountIsInRange c) }
 {
     let mut words = Words::of(line);
     let verb = words.next()?;
@@ -63,6 +70,12 @@ fn command(line: &[u8]) -> Option<Command>
         at(words)
     } else if verb == b"list".as_slice() {
         list(words)
+    } else if verb == b"plan".as_slice() {
+        plan(words)
+    } else if verb == b"certify".as_slice() {
+        certify(words)
+    } else if verb == b"tree".as_slice() {
+        tree(words)
     } else {
         None
     }
@@ -70,7 +83,8 @@ fn command(line: &[u8]) -> Option<Command>
 
 // `create N32 N32 FUNCTION`, from the words after `create`.
 fn create(mut words: Words) -> Option<Command>
-    ensures { result ≡ three n32_of n32_of function_of (λ l k function. Command.Create l k function) words.entry }
+    ensures command { result ≡ three n32_of n32_of function_of (λ l k function. Command.Create l k function) words.entry }
+    ensures range { IfSome result (λ c. CountIsInRange c) }
 {
     let l = n32(words.next()?)?;
     let k = n32(words.next()?)?;
@@ -81,7 +95,8 @@ fn create(mut words: Words) -> Option<Command>
 
 // `load COUNT`, from the words after `load`.
 fn load(mut words: Words) -> Option<Command>
-    ensures { result ≡ one count_of (λ count. Command.Load count) words.entry }
+    ensures command { result ≡ one count_of (λ count. Command.Load count) words.entry }
+    ensures range { IfSome result (λ c. CountIsInRange c) }
 {
     let count = count(words.next()?)?;
     words.end()?;
@@ -90,7 +105,8 @@ fn load(mut words: Words) -> Option<Command>
 
 // `append COUNT`, from the words after `append`.
 fn append(mut words: Words) -> Option<Command>
-    ensures { result ≡ one count_of (λ count. Command.Append count) words.entry }
+    ensures command { result ≡ one count_of (λ count. Command.Append count) words.entry }
+    ensures range { IfSome result (λ c. CountIsInRange c) }
 {
     let count = count(words.next()?)?;
     words.end()?;
@@ -99,9 +115,10 @@ fn append(mut words: Words) -> Option<Command>
 
 // `at TIME COLS`, from the words after `at`.
 fn at(mut words: Words) -> Option<Command>
-    ensures { result ≡ two time_of columns_of (λ t cols. Command.At t cols) words.entry }
+    ensures command { result ≡ two time_of columns_of (λ t cols. Command.At t cols) words.entry }
+    ensures range { IfSome result (λ c. CountIsInRange c) }
 {
-    let t = number(words.next()?, 0, TIME_MAX)?;
+    let t = time(words.next()?)?;
     let cols = columns(words.next()?)?;
     words.end()?;
     Some(Command::At { t, cols })
@@ -109,18 +126,61 @@ fn at(mut words: Words) -> Option<Command>
 
 // `list HANDLE`, from the words after `list`.
 fn list(mut words: Words) -> Option<Command>
-    ensures { result ≡ one handle_of (λ handle. Command.List handle) words.entry }
+    ensures command { result ≡ one handle_of (λ handle. Command.List handle) words.entry }
+    ensures range { IfSome result (λ c. CountIsInRange c) }
 {
     let handle = handle(words.next()?)?;
     words.end()?;
     Some(Command::List { handle })
 }
 
+// `plan TIME COLS`, from the words after `plan`.
+fn plan(mut words: Words) -> Option<Command>
+    ensures command { result ≡ two time_of columns_of (λ t cols. Command.Plan t cols) words.entry }
+    ensures range { IfSome result (λ c. CountIsInRange c) }
+{
+    let t = time(words.next()?)?;
+    let cols = columns(words.next()?)?;
+    words.end()?;
+    Some(Command::Plan { t, cols })
+}
+
+// `certify TIME COLS COUNT0`, from the words after `certify`.
+fn certify(mut words: Words) -> Option<Command>
+    ensures command { result ≡ three time_of columns_of count_from_0 (λ t cols count. Command.Certify t cols count) words.entry }
+    ensures range { IfSome result (λ c. CountIsInRange c) }
+{
+    let t = time(words.next()?)?;
+    let cols = columns(words.next()?)?;
+    let count = count_from_0(words.next()?)?;
+    words.end()?;
+    Some(Command::Certify { t, cols, count })
+}
+
+// `tree`, from the words after it, of which there may be none.
+fn tree(words: Words) -> Option<Command>
+    ensures command { result ≡ none_more Command.Tree words.entry }
+    ensures range { IfSome result (λ c. CountIsInRange c) }
+{
+    words.end()?;
+    Some(Command::Tree)
+}
+
 // The number of lines of a batch.
 fn count(word: &[u8]) -> Option<u32>
-    ensures { result ≡ count_of word.now }
+    ensures count { result ≡ count_of word.now }
+    ensures range { IfSome result (λ n. (1 ≤ n) × (n ≤ BATCH_LINES_MAX)) }
 {
     let count = number(word, 1, u64::from(BATCH_LINES_MAX))?;
+    Some(count as u32)
+}
+
+// The number of lines that follow, where none may.
+fn count_from_0(word: &[u8]) -> Option<u32>
+    ensures count { result ≡ count_from_0 word.now }
+    ensures range { IfSome result (λ n. n ≤ BATCH_LINES_MAX) }
+{
+    let count = number(word, 0, u64::from(BATCH_LINES_MAX))?;
     Some(count as u32)
 }
 
@@ -130,14 +190,6 @@ fn handle(word: &[u8]) -> Option<u32>
 {
     let handle = number(word, u64::from(FIRST_HANDLE), u64::from(u32::MAX))?;
     Some(handle as u32)
-}
-
-// A number of 32 bits.
-fn n32(word: &[u8]) -> Option<u32>
-    ensures { result ≡ n32_of word.now }
-{
-    let value = number(word, 0, u64::from(u32::MAX))?;
-    Some(value as u32)
 }
 
 // The differential function of this name.

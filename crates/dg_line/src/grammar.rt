@@ -32,6 +32,11 @@ pub(crate) const COUNT: Symbol = Symbol::Number {
     greatest: BATCH_LINES_MAX as u64,
 };
 
+pub(crate) const COUNT_FROM_0: Symbol = Symbol::Number {
+    least: 0,
+    greatest: BATCH_LINES_MAX as u64,
+};
+
 pub(crate) const TIME: Symbol = Symbol::Number {
     least: 0,
     greatest: TIME_MAX,

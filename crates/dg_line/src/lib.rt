@@ -1,12 +1,14 @@
-//! Lines to values, and values to lines: which line of the script is which command or change, and
-//! the text of a reply. docs/SCRIPT.md has the grammar.
+//! Lines to values, and values to lines: which line of the script is which command, change or plan
+//! line, and the text of a reply. docs/SCRIPT.md has the grammar.
 #![tactic(auto)]
 
 mod change;
 mod command;
 mod grammar;
+mod plan_line;
 mod reply;
 mod reply_buffer;
+mod reply_line;
 #[cfg(test)]
 mod tests;
 mod text_change;
@@ -15,5 +17,8 @@ mod words;
 pub use change::{ChangeFault, read_change};
 pub use command::{Syntax, read_command};
 pub use dg_graph::{Change, Columns, Element, Function, What};
+pub use dg_history::{Key, NodeId};
 pub use dg_machine::{BodyLine, BodyLines, Command, Head, Refusal, Reply};
+pub use dg_plan::{PlanLine, Verdict};
+pub use plan_line::read_plan_line;
 pub use reply::write_reply;

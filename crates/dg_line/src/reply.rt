@@ -1,47 +1,21 @@
-ghost use Rattle.std.specs.Prelude.{length, ◌≡◌, ◌≤◌, ◌++◌, [], ◌∷◌, map, take, codes, decimal, if◌then◌else◌, OnOk, OnErr};
-ghost use Rattle.dg_machine.specs.ReplyText.{text, body_text, head_words, element_words, body_words, refusal_words};
+ghost use Rattle.std.specs.Prelude.{◌≡◌, ◌≤◌, ◌++◌, [], ◌∷◌, map, take, codes, decimal, if◌then◌else◌, OnOk, OnErr};
+ghost use Rattle.dg_machine.specs.ReplyText.{text, body_text, head_words, element_words, body_words, function_word, key_words, node_words, refusal_words, verdict_words};
 ghost use Rattle.dg_graph.specs.Names.{name_text};
 ghost use Rattle.dg_io.specs.Told.{grown, GrowsByPart, CountRose};
 ghost use Rattle.dg_line.specs.Buffered.{IsBuffered, word_bytes};
 
 use crate::reply_buffer::{ReplyBuffer, Word};
-use dg_graph::Element;
+use crate::reply_line::{ReplyLine, WORDS_MAX};
+use dg_graph::{Element, Function};
+use dg_history::{Key, NodeId};
 use dg_io::{Failed, Sink};
 use dg_machine::{BodyLine, Head, Refusal, Reply};
 use dg_names::Names;
-
-/// The most words that a line of a reply has.
-const WORDS_MAX: usize = 5;
-
-/// What stands behind the last word of a line.
-const NO_WORD: Word<'static> = Word::Text(b"");
+use dg_plan::Verdict;
 
 const OK: Word<'static> = Word::Text(b"ok");
 
 const REFUSED: Word<'static> = Word::Text(b"refused");
-
-/// The words of a line.
-#[derive(Clone, Copy)]
-struct ReplyLine<'a> {
-    words: [Word<'a>; WORDS_MAX],
-    len: usize,
-}
-
-impl<'a> ReplyLine<'a> {
-    // The line of these words.
-    fn of(words: &[Word<'a>]) -> ReplyLine<'a>
-        requires { length words.now ≤ WORDS_MAX }
-        ensures words { take result.len result.words ≡ words.now }
-        ensures len { result.len ≤ WORDS_MAX }
-    {
-        let mut all = [NO_WORD; WORDS_MAX];
-        all[..words.len()].copy_from_slice(words);
-        ReplyLine {
-            words: all,
-            len: words.len(),
-        }
-    }
-}
 
 /// Writes the text of a reply: the head line, the lines of the body, and `end`. The names are those
 /// whose numbers the reply has; a number that none of them has stands for the empty text. It takes
@@ -54,7 +28,7 @@ pub fn write_reply<K: Sink>(sink: &mut K, names: &Names, reply: &Reply) -> Resul
 {
     let mut buffer = ReplyBuffer::new();
     let head = head_line(&reply.head);
-    buffer.put_line(sink, &head.words[..head.len])?;
+    buffer.put_line(sink, head.words())?;
     put_body(&mut buffer, sink, names, reply.body.as_slice())?;
     buffer.put_line(sink, &[Word::Text(b"end")])?;
     buffer.flush(sink)
@@ -73,7 +47,7 @@ fn put_body<K: Sink>(
 {
     for line in lines {
         let words = body_line(names, line);
-        buffer.put_line(sink, &words.words[..words.len])?;
+        buffer.put_line(sink, words.words())?;
     }
     Ok(())
 }
@@ -96,6 +70,16 @@ fn head_line(head: &Head) -> ReplyLine<'static>
         } => batch_line(b"append", events, total, last),
         Head::At { handle, weight } => handle_line(b"at", handle, weight),
         Head::List { handle, lines } => handle_line(b"list", handle, lines),
+        Head::Plan { weight, steps } => plan_line(weight, steps),
+        Head::Certified(verdict) => verdict_line(verdict),
+        Head::Tree {
+            l,
+            k,
+            function,
+            events,
+            leaves,
+            records,
+        } => tree_line(l, k, function, events, leaves, records),
         Head::Refused(refusal) => refusal_line(refusal),
     }
 }
@@ -125,6 +109,73 @@ fn handle_line(verb: &'static [u8], handle: u32, number: u64) -> ReplyLine<'stat
         Word::Number(u64::from(handle)),
         Word::Number(number),
     ])
+}
+
+// The head line of a plan: its weight, and its steps.
+fn plan_line(weight: u64, steps: u64) -> ReplyLine<'static>
+    ensures words { map word_bytes (take result.len result.words) ≡ codes "ok" ∷ codes "plan" ∷ decimal weight ∷ decimal steps ∷ [] }
+    ensures len { result.len ≤ WORDS_MAX }
+{
+    ReplyLine::of(&[
+        OK,
+        Word::Text(b"plan"),
+        Word::Number(weight),
+        Word::Number(steps),
+    ])
+}
+
+// The head line of what is said of a certificate.
+fn verdict_line(verdict: Verdict) -> ReplyLine<'static>
+    ensures words { map word_bytes (take result.len result.words) ≡ codes "ok" ∷ codes "certify" ∷ verdict_words verdict }
+    ensures len { result.len ≤ WORDS_MAX }
+{
+    let mut line = ReplyLine::of(&[OK, Word::Text(b"certify")]);
+    match verdict {
+        Verdict::Valid => line.put(Word::Text(b"valid")),
+        Verdict::Line(number) => line.put_numbered(b"line", number),
+        Verdict::Step(number) => line.put_numbered(b"step", number),
+        Verdict::Potential(node) => {
+            line.put(Word::Text(b"potential"));
+            line.put_node(node);
+        }
+        Verdict::NotTight => line.put(Word::Text(b"not-tight")),
+    }
+    line
+}
+
+// The head line of the parameters of the index, its events, leaves and records.
+fn tree_line(
+    l: u32,
+    k: u32,
+    function: Function,
+    events: u64,
+    leaves: u32,
+    records: u64,
+) -> ReplyLine<'static>
+    ensures words { map word_bytes (take result.len result.words) ≡ codes "ok" ∷ codes "tree" ∷ decimal l ∷ decimal k ∷ function_word function ∷ decimal events ∷ decimal leaves ∷ decimal records ∷ [] }
+    ensures len { result.len ≤ WORDS_MAX }
+{
+    ReplyLine::of(&[
+        OK,
+        Word::Text(b"tree"),
+        Word::Number(u64::from(l)),
+        Word::Number(u64::from(k)),
+        Word::Text(function_name(function)),
+        Word::Number(events),
+        Word::Number(u64::from(leaves)),
+        Word::Number(records),
+    ])
+}
+
+// The name of a differential function.
+fn function_name(function: Function) -> &'static [u8]
+    ensures { result.now ≡ function_word function }
+{
+    match function {
+        Function::Intersection => b"intersection".as_slice(),
+        Function::Union => b"union".as_slice(),
+        Function::Balanced => b"balanced".as_slice(),
+    }
 }
 
 fn refusal_line(refusal: Refusal) -> ReplyLine<'static>
@@ -222,7 +273,46 @@ fn body_line<'a>(names: &'a Names, line: &BodyLine) -> ReplyLine<'a>
 {
     match line {
         BodyLine::Element(element) => element_line(names, element),
+        BodyLine::Step { edge, head, weight } => step_line(*edge, *head, *weight),
+        BodyLine::Potential { node, value } => potential_line(*node, *value),
+        BodyLine::Sizes { key, lengths } => sizes_line(*key, *lengths),
     }
+}
+
+// A line of a plan's step: the number of its edge, the node that it enters, and its weight.
+fn step_line(edge: u32, head: NodeId, weight: u64) -> ReplyLine<'static>
+    ensures words { map word_bytes (take result.len result.words) ≡ codes "step" ∷ decimal edge ∷ (node_words head ++ decimal weight ∷ []) }
+    ensures len { result.len ≤ WORDS_MAX }
+{
+    let mut line = ReplyLine::of(&[Word::Text(b"step"), Word::Number(u64::from(edge))]);
+    line.put_node(head);
+    line.put(Word::Number(weight));
+    line
+}
+
+// A line of the potential of a node.
+fn potential_line(node: NodeId, value: u64) -> ReplyLine<'static>
+    ensures words { map word_bytes (take result.len result.words) ≡ codes "potential" ∷ (node_words node ++ decimal value ∷ []) }
+    ensures len { result.len ≤ WORDS_MAX }
+{
+    let mut line = ReplyLine::of(&[Word::Text(b"potential")]);
+    line.put_node(node);
+    line.put(Word::Number(value));
+    line
+}
+
+// A line of a record: its key, and the bytes of its three columns.
+fn sizes_line(key: Key, lengths: [u64; 3]) -> ReplyLine<'static>
+    ensures words { map word_bytes (take result.len result.words) ≡ codes "record" ∷ (key_words key ++ map decimal lengths) }
+    ensures len { result.len ≤ WORDS_MAX }
+{
+    let [structure, nodes, edges] = lengths;
+    let mut line = ReplyLine::of(&[Word::Text(b"record")]);
+    line.put_key(key);
+    line.put(Word::Number(structure));
+    line.put(Word::Number(nodes));
+    line.put(Word::Number(edges));
+    line
 }
 
 fn element_line<'a>(names: &'a Names, element: &Element) -> ReplyLine<'a>

@@ -4,7 +4,7 @@ use dg_names::{NAMES_MAX, Names};
 use std::test::Fail;
 
 // Lines of no command, and the column at which each leaves the grammar.
-const COLUMNS: [(&str, u32); 16] = [
+const COLUMNS: [(&str, u32); 24] = [
     ("", 1),
     ("frob", 1),
     ("c", 2),
@@ -21,10 +21,18 @@ const COLUMNS: [(&str, u32); 16] = [
     ("at 9223372036854775808 s", 22),
     ("listen 1", 5),
     ("list 0", 6),
+    ("plan", 5),
+    ("plan 5", 7),
+    ("plan 5 x", 8),
+    ("certify 5 s 1048577", 19),
+    ("certify 5 s 00", 14),
+    ("tree x", 5),
+    ("t", 2),
+    ("p", 2),
 ];
 
 // Lines of commands.
-const COMMANDS: [(&str, Command); 9] = [
+const COMMANDS: [(&str, Command); 13] = [
     (
         "create 2 3 intersection",
         Command::Create {
@@ -73,6 +81,39 @@ const COMMANDS: [(&str, Command); 9] = [
         },
     ),
     ("list 4294967295", Command::List { handle: u32::MAX }),
+    (
+        "plan 5 sn",
+        Command::Plan {
+            t: 5,
+            cols: Columns {
+                nodes_attr: true,
+                edges_attr: false,
+            },
+        },
+    ),
+    (
+        "certify 5 s 0",
+        Command::Certify {
+            t: 5,
+            cols: Columns {
+                nodes_attr: false,
+                edges_attr: false,
+            },
+            count: 0,
+        },
+    ),
+    (
+        "certify 0 se 1048576",
+        Command::Certify {
+            t: 0,
+            cols: Columns {
+                nodes_attr: false,
+                edges_attr: true,
+            },
+            count: 1_048_576,
+        },
+    ),
+    ("tree", Command::Tree),
 ];
 
 #[test]
@@ -86,6 +127,114 @@ fn a_line_is_its_command_or_leaves_the_grammar_at_its_column(rt: HostRuntime) {
             Err(Syntax(column)),
             "at `{line}`"
         );
+    }
+}
+
+// Plan lines.
+const PLAN_LINES: [(&str, PlanLine); 9] = [
+    (
+        "step 1 leaf 0 26",
+        PlanLine::Step {
+            edge: 1,
+            head: NodeId::Leaf(0),
+            weight: 26,
+        },
+    ),
+    (
+        "step 0 root 0",
+        PlanLine::Step {
+            edge: 0,
+            head: NodeId::Root,
+            weight: 0,
+        },
+    ),
+    (
+        "step 4294967295 inner 1 2 9223372036854775807",
+        PlanLine::Step {
+            edge: u32::MAX,
+            head: NodeId::Inner(1, 2),
+            weight: 9_223_372_036_854_775_807,
+        },
+    ),
+    (
+        "potential root 0",
+        PlanLine::Potential {
+            node: NodeId::Root,
+            value: 0,
+        },
+    ),
+    (
+        "potential now 5",
+        PlanLine::Potential {
+            node: NodeId::Now,
+            value: 5,
+        },
+    ),
+    (
+        "potential recent 6",
+        PlanLine::Potential {
+            node: NodeId::Recent,
+            value: 6,
+        },
+    ),
+    (
+        "potential leaf 4294967295 1",
+        PlanLine::Potential {
+            node: NodeId::Leaf(u32::MAX),
+            value: 1,
+        },
+    ),
+    (
+        "potential list 7 3",
+        PlanLine::Potential {
+            node: NodeId::List(7),
+            value: 3,
+        },
+    ),
+    (
+        "potential inner 4 0 9223372036854775807",
+        PlanLine::Potential {
+            node: NodeId::Inner(4, 0),
+            value: 9_223_372_036_854_775_807,
+        },
+    ),
+];
+
+// Lines that are no plan lines.
+const NO_PLAN_LINES: [&str; 24] = [
+    "",
+    "hello",
+    "step",
+    "step 1",
+    "step 1 root",
+    "step 1 root ",
+    "step 1 root 0 0",
+    "step 1 root -1",
+    "step -1 root 0",
+    "step 01 root 0",
+    "step 4294967296 root 0",
+    "step root 0",
+    "steps 1 root 0",
+    "root 0",
+    "potential root",
+    "potential root 00",
+    "potential  root 0",
+    "potential Root 0",
+    "potential 1 root 0",
+    "potential leaf 1",
+    "potential leaf 4294967296 0",
+    "potential leaf 1 9223372036854775808",
+    "potential inner 1 2",
+    "potential inner 1 2 3 4",
+];
+
+#[test]
+fn a_line_is_its_plan_line_or_none(rt: HostRuntime) {
+    for (line, said) in PLAN_LINES {
+        assert_eq!(rt; read_plan_line(line.as_bytes()), Some(said), "at `{line}`");
+    }
+    for line in NO_PLAN_LINES {
+        assert!(rt; read_plan_line(line.as_bytes()).is_none(), "at `{line}`");
     }
 }
 
@@ -279,7 +428,7 @@ fn a_line_that_is_no_change_gives_no_names(rt: HostRuntime) -> Result<(), Fail> 
 }
 
 // Heads of replies, and their lines.
-const HEADS: [(Head, &str); 20] = [
+const HEADS: [(Head, &str); 30] = [
     (Head::Created, "ok create"),
     (
         Head::Loaded {
@@ -310,6 +459,58 @@ const HEADS: [(Head, &str); 20] = [
             lines: 0,
         },
         "ok list 12 0",
+    ),
+    (
+        Head::Plan {
+            weight: 26,
+            steps: 2,
+        },
+        "ok plan 26 2",
+    ),
+    (Head::Certified(Verdict::Valid), "ok certify valid"),
+    (Head::Certified(Verdict::Line(2)), "ok certify line 2"),
+    (Head::Certified(Verdict::Step(3)), "ok certify step 3"),
+    (
+        Head::Certified(Verdict::Potential(NodeId::Root)),
+        "ok certify potential root",
+    ),
+    (
+        Head::Certified(Verdict::Potential(NodeId::Inner(2, 1))),
+        "ok certify potential inner 2 1",
+    ),
+    (Head::Certified(Verdict::NotTight), "ok certify not-tight"),
+    (
+        Head::Tree {
+            l: 2,
+            k: 3,
+            function: Function::Balanced,
+            events: 7,
+            leaves: 1,
+            records: 4,
+        },
+        "ok tree 2 3 balanced 7 1 4",
+    ),
+    (
+        Head::Tree {
+            l: 65_536,
+            k: 64,
+            function: Function::Intersection,
+            events: 268_435_456,
+            leaves: 4096,
+            records: 8192,
+        },
+        "ok tree 65536 64 intersection 268435456 4096 8192",
+    ),
+    (
+        Head::Tree {
+            l: 3,
+            k: 2,
+            function: Function::Union,
+            events: 0,
+            leaves: 0,
+            records: 0,
+        },
+        "ok tree 3 2 union 0 0 0",
     ),
     (Head::Refused(Refusal::Syntax(26)), "refused 1 syntax 26"),
     (Head::Refused(Refusal::NoIndex), "refused 2 no-index"),
@@ -457,6 +658,112 @@ fn a_listing_has_a_line_for_each_element(rt: HostRuntime) -> Result<(), Fail> {
     };
     let mut sink = MemorySink::new(alloc, 200, &[1])?;
     assert_eq!(rt; write_reply(&mut sink, &names, &reply), Ok(()));
+    assert_eq!(rt; sink.written(), text.as_slice());
+    Ok(())
+}
+
+// Steps, potentials and records, and their lines.
+const BODY_LINES: [(BodyLine, &str); 11] = [
+    (
+        BodyLine::Step {
+            edge: 1,
+            head: NodeId::Inner(2, 3),
+            weight: 26,
+        },
+        "step 1 inner 2 3 26\n",
+    ),
+    (
+        BodyLine::Step {
+            edge: 9,
+            head: NodeId::Leaf(4),
+            weight: 0,
+        },
+        "step 9 leaf 4 0\n",
+    ),
+    (
+        BodyLine::Potential {
+            node: NodeId::Root,
+            value: 0,
+        },
+        "potential root 0\n",
+    ),
+    (
+        BodyLine::Potential {
+            node: NodeId::Now,
+            value: u64::MAX,
+        },
+        "potential now 18446744073709551615\n",
+    ),
+    (
+        BodyLine::Potential {
+            node: NodeId::Recent,
+            value: 3,
+        },
+        "potential recent 3\n",
+    ),
+    (
+        BodyLine::Potential {
+            node: NodeId::List(4),
+            value: 40,
+        },
+        "potential list 4 40\n",
+    ),
+    (
+        BodyLine::Potential {
+            node: NodeId::Inner(1, 2),
+            value: 5,
+        },
+        "potential inner 1 2 5\n",
+    ),
+    (
+        BodyLine::Sizes {
+            key: Key::List(0),
+            lengths: [42, 0, 1],
+        },
+        "record list 0 42 0 1\n",
+    ),
+    (
+        BodyLine::Sizes {
+            key: Key::Piece(5),
+            lengths: [1, 2, 3],
+        },
+        "record piece 5 1 2 3\n",
+    ),
+    (
+        BodyLine::Sizes {
+            key: Key::Top(6),
+            lengths: [26, 7, 8],
+        },
+        "record top 6 26 7 8\n",
+    ),
+    (
+        BodyLine::Sizes {
+            key: Key::Down(1, 2),
+            lengths: [34, 24, 0],
+        },
+        "record down 1 2 34 24 0\n",
+    ),
+];
+
+#[test]
+fn a_body_has_a_line_for_each_step_potential_and_record(rt: HostRuntime) -> Result<(), Fail> {
+    let alloc = rt.alloc();
+    let mut lines = Vec::new(alloc);
+    let mut text = Vec::from_slice(alloc, b"ok plan 26 2\n")?;
+    for (line, row) in BODY_LINES {
+        lines.push(line)?;
+        text.extend_from_slice(row.as_bytes())?;
+    }
+    text.extend_from_slice(b"end\n")?;
+    let reply = Reply {
+        head: Head::Plan {
+            weight: 26,
+            steps: 2,
+        },
+        body: BodyLines::from_vec(lines),
+    };
+    let mut sink = MemorySink::new(alloc, 400, &[1])?;
+    assert_eq!(rt; write_reply(&mut sink, &Names::new(alloc), &reply), Ok(()));
     assert_eq!(rt; sink.written(), text.as_slice());
     Ok(())
 }

@@ -2,8 +2,11 @@ ghost use Rattle.std.specs.Prelude.{◌≡◌, ◌≢◌, ℕ, ◌+◌, ◌*◌,
 ghost use Rattle.std.specs.List.{position};
 ghost use Rattle.dg_graph.specs.Words.{words, number};
 ghost use Rattle.std.specs.Option.{option_map};
+ghost use Rattle.dg_history.specs.ChangeGrammar.{time_of};
+ghost use Rattle.dg_machine.specs.CommandGrammar.{n32_of};
 ghost use Rattle.dg_line.specs.Space.{is_space, rest_of};
 
+use dg_graph::TIME_MAX;
 use std::marker::Model;
 
 /// What parts two words of a line.
@@ -85,7 +88,8 @@ fn find_space(line: &[u8]) -> Option<usize>
 /// The number from `low` to `high` whose decimal text the word is. There is none where the word has
 /// a sign, a leading zero or another byte that is no digit.
 pub fn number(word: &[u8], low: u64, high: u64) -> Option<u64>
-    ensures { result ≡ number low high word.now }
+    ensures number { result ≡ number low high word.now }
+    ensures range { IfSome result (λ n. (low ≤ n) × (n ≤ high)) }
 {
     let value = decimal_value(word)?;
     if low <= value && value <= high {
@@ -93,6 +97,21 @@ pub fn number(word: &[u8], low: u64, high: u64) -> Option<u64>
     } else {
         None
     }
+}
+
+/// A number of 32 bits.
+pub fn n32(word: &[u8]) -> Option<u32>
+    ensures { result ≡ n32_of word.now }
+{
+    let value = number(word, 0, u64::from(u32::MAX))?;
+    Some(value as u32)
+}
+
+/// An instant, or another number that is at most the greatest instant.
+pub fn time(word: &[u8]) -> Option<u64>
+    ensures { result ≡ time_of word.now }
+{
+    number(word, 0, TIME_MAX)
 }
 
 // The number whose decimal text the word is, where it is at most `u64::MAX`.

@@ -1,5 +1,5 @@
 -- What holds of each value that the readers of a table of verbs give.
-use Rattle.std.proofs.Common.{◌≡◌, ℕ, Bool, true, false, cond, List, [], ◌∷◌, Option, Some, None}
+use Rattle.std.proofs.Common.{◌≡◌, ℕ, Bool, true, false, cond, List, [], ◌∷◌, Some}
 use Rattle.std.specs.List.{AllByRecursion}
 use Rattle.std.proofs.lemmas.Option.{none-some}
 use Rattle.dg_graph.specs.Verbs.{Verb, is_word, look_up, read_by}

@@ -1,6 +1,8 @@
 -- The machine's answer to a command and the lines that follow it: a reply and a new state. A refusal keeps
 -- the state.
-use Rattle.std.specs.Prelude.{ℕ, ◌+◌, Bool, true, false, ◌&&◌, ◌||◌, not, List, [], ◌∷◌, ◌++◌, Option, Some, None, Result, Ok, Err, if◌then◌else◌, length, map, nat_lt, is_some}
+use Rattle.std.specs.Prelude.{ℕ, ◌+◌, Bool, true, false, ◌&&◌, ◌||◌, not, List, [], ◌∷◌, ◌++◌, Option, Some, None, Result, Ok, Err, if◌then◌else◌, length, map, nat_lt, is_some, slice_get}
+use Rattle.std.specs.List.{flat_map}
+use Rattle.dg_graph.specs.declared.element.Column.TheVariants as column
 use Rattle.dg_graph.specs.declared.element.Element.{Element}
 use Rattle.dg_graph.specs.Lines.{ScriptLine}
 use Rattle.dg_history.specs.Batch.{batch_of}
@@ -8,6 +10,15 @@ use Rattle.dg_index.specs.FileOfHistory.{size}
 use Rattle.dg_history.specs.History.{History, Batch, empty_history, with_batch, events_of, last_time_from}
 use Rattle.dg_machine.specs.declared.command.Command.{Command}
 use Rattle.dg_machine.specs.declared.command.Command.TheVariants as command
+use Rattle.dg_history.specs.declared.node.Key.{Key}
+use Rattle.dg_history.specs.declared.node.NodeId.{NodeId}
+use Rattle.dg_index.specs.Hierarchy.{leaves}
+use Rattle.dg_index.specs.IndexRecords.{column_in, keys_of}
+use Rattle.dg_plan.specs.declared.edge.Edge.{Edge}
+use Rattle.dg_plan.specs.CertificateLines.{judged}
+use Rattle.dg_plan.specs.IndexGraph.{arcs_of}
+use Rattle.dg_plan.specs.Walks.{weight_of}
+use Rattle.dg_machine.specs.declared.reply.BodyLine.{BodyLine}
 use Rattle.dg_machine.specs.declared.reply.BodyLine.TheVariants as line
 use Rattle.dg_machine.specs.declared.reply.Head.{Head}
 use Rattle.dg_machine.specs.declared.reply.Head.TheVariants as head
@@ -17,7 +28,9 @@ use Rattle.dg_machine.specs.declared.reply.Reply.{Reply}
 use Rattle.dg_machine.specs.declared.stands.Stands.{Stands}
 use Rattle.dg_machine.specs.declared.stands.Stands.TheVariants.{Overlay}
 use Rattle.dg_machine.specs.MachineState.{MachineState, entry_at, elements, history_in}
+use Rattle.dg_machine.specs.CommandGrammar.{plan_line_in}
 use Rattle.dg_machine.specs.Needs.{needs, refused, is_followed}
+use Rattle.dg_machine.specs.Planning.{Planned, IsPlanned, edges_in, nodes_in, point_for}
 
 pub record Answered : Type 0 where
   pub reply : Reply
@@ -66,27 +79,81 @@ shown_by m handle = elements_if (history_in m.index) (entry_at handle m.table)
 abbrev pub listing : ℕ → List Element → Reply
 listing handle set = record { head = head.List handle (length set); body = map (λ x. line.Element x) set }
 
--- the answer to a command that is not refused by what it needs
-abbrev pub accepted : MachineState → Command → List ScriptLine → Answered
-accepted m (command.Create l k function) lines = record {
+-- ---- plans
+
+-- the line of a step, where there is an edge of its number
+abbrev pub step_if : ℕ → Option Edge → List BodyLine
+step_if i None = []
+step_if i (Some e) = line.Step i e.to e.weight ∷ []
+
+-- the lines of a plan's steps
+abbrev pub step_lines : List Edge → List ℕ → List BodyLine
+step_lines edges steps = flat_map (λ i. step_if i (slice_get edges i)) steps
+
+-- the line of a potential that is below the weight
+abbrev pub potential_line : ℕ → NodeId → ℕ → List BodyLine
+potential_line weight node p = if nat_lt p weight then line.Potential node p ∷ [] else []
+
+-- the potentials below the weight, in the order of nodes
+abbrev pub potential_lines : ℕ → List NodeId → List ℕ → List BodyLine
+potential_lines weight [] potentials = []
+potential_lines weight (node ∷ nodes) [] = []
+potential_lines weight (node ∷ nodes) (p ∷ potentials) = potential_line weight node p ++ potential_lines weight nodes potentials
+
+-- the reply of a plan with these steps and potentials, which weighs so much
+abbrev pub plan_reply : List Edge → List NodeId → ℕ → List ℕ → List ℕ → Reply
+plan_reply edges nodes weight steps potentials = record {
+  head = head.Plan weight (length steps);
+  body = step_lines edges steps ++ potential_lines weight nodes potentials;
+}
+
+-- ---- records
+
+-- the line of a record
+abbrev pub record_line : History → Key → BodyLine
+record_line z k =
+    line.Sizes k (length (column_in z k column.Structure) ∷ length (column_in z k column.NodeAttr) ∷ length (column_in z k column.EdgeAttr) ∷ [])
+
+-- the parameters, and a line for each list, top and down
+abbrev pub tree_reply : History → Reply
+tree_reply z = record {
+  head = head.Tree z.params.l z.params.k z.params.function (length (events_of z)) (leaves z.params (length (events_of z))) (length (keys_of z.params (length (events_of z))));
+  body = map (record_line z) (keys_of z.params (length (events_of z)));
+}
+
+-- ---- the answer
+
+-- the answer to a command that is not refused by what it needs, with what is planned for it
+abbrev pub accepted : MachineState → Command → List ScriptLine → Planned → Answered
+accepted m (command.Create l k function) lines p = record {
   reply = headed head.Created;
   state = record m { index = Some (empty_history (record { l = l; k = k; function = function })) };
 }
-accepted m (command.Load count) lines = with_lines m (λ events total last. head.Loaded events total last) lines
-accepted m (command.Append count) lines = with_lines m (λ events total last. head.Appended events total last) lines
-accepted m (command.At t cols) lines = record {
+accepted m (command.Load count) lines p = with_lines m (λ events total last. head.Loaded events total last) lines
+accepted m (command.Append count) lines p = with_lines m (λ events total last. head.Appended events total last) lines
+accepted m (command.At t cols) lines p = record {
   reply = headed (head.At m.next 0);
   state = with_handle m (Overlay t cols None);
 }
-accepted m (command.List handle) lines = say m (listing handle (shown_by m handle))
+accepted m (command.List handle) lines p = say m (listing handle (shown_by m handle))
+accepted m (command.Plan t cols) lines p =
+    say m (plan_reply (edges_in m cols) (nodes_in m cols) (weight_of (arcs_of (edges_in m cols)) p.steps) p.steps p.potentials)
+accepted m (command.Certify t cols count) lines p =
+    say m (headed (head.Certified (judged (edges_in m cols) (nodes_in m cols) (point_for m t) (map plan_line_in lines))))
+accepted m command.Tree lines p = say m (tree_reply (history_in m.index))
 
 -- the refusal, or else the answer of an accepted command
-abbrev pub answer_by : Option Refusal → MachineState → Command → List ScriptLine → Answered
-answer_by (Some r) m c lines = refuse m r
-answer_by None m c lines = accepted m c lines
+abbrev pub answer_by : Option Refusal → MachineState → Command → List ScriptLine → Planned → Answered
+answer_by (Some r) m c lines p = refuse m r
+answer_by None m c lines p = accepted m c lines p
 
-abbrev pub answer : MachineState → Command → List ScriptLine → Answered
-answer m c lines = answer_by (refused m c lines) m c lines
+abbrev pub answer : MachineState → Command → List ScriptLine → Planned → Answered
+answer m c lines p = answer_by (refused m c lines) m c lines p
+
+-- what is planned, where the command is not refused
+abbrev pub IsPlannedBy : Option Refusal → MachineState → Command → Planned → Type 0
+IsPlannedBy (Some r) m c p = Unit {0}
+IsPlannedBy None m c p = IsPlanned m c p
 
 -- want of memory
 abbrev pub no_memory : Reply
@@ -99,6 +166,9 @@ is_refusal (head.Loaded events total last) = false
 is_refusal (head.Appended events total last) = false
 is_refusal (head.At handle weight) = false
 is_refusal (head.List handle lines) = false
+is_refusal (head.Plan weight steps) = false
+is_refusal (head.Certified verdict) = false
+is_refusal (head.Tree l k function events leaves records) = false
 
 -- Want of memory may be answered by a command that needs memory: where lines follow it, and where it is not
 -- refused by what it needs. Every other refusal is decided before any memory is taken.

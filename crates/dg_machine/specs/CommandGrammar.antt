@@ -1,5 +1,5 @@
--- The grammar of commands: which line of a script is which command.
-use Rattle.std.specs.Prelude.{ℕ, ◌+◌, ◌-◌, ◌≤◌, true, false, List, [], ◌∷◌, ◌++◌, Option, Some, None, if◌then◌else◌, codes, length, take, is_some, IsTrue}
+-- The grammar of commands and of plan lines: which line of a script is which.
+use Rattle.std.specs.Prelude.{ℕ, ◌+◌, ◌-◌, ◌≤◌, true, false, List, [], ◌∷◌, ◌++◌, Option, Some, None, if◌then◌else◌, codes, length, take, is_some, option_and_then, IsTrue}
 use Rattle.dg_graph.specs.declared.element.Columns.{Columns}
 use Rattle.dg_machine.specs.declared.command.Command.{Command}
 use Rattle.dg_machine.specs.declared.command.Command.TheVariants as command
@@ -7,7 +7,12 @@ use Rattle.dg_history.specs.declared.limits.TheConstants.{BATCH_LINES_MAX}
 use Rattle.dg_graph.specs.declared.function.Function.{Function}
 use Rattle.dg_graph.specs.declared.function.Function.TheVariants.{Intersection, Union, Balanced}
 use Rattle.dg_graph.specs.Words.{words, number}
-use Rattle.dg_graph.specs.Verbs.{Verb, verb, is_word, read_by, one, two, three}
+use Rattle.dg_graph.specs.Lines.{ScriptLine, Text, Long}
+use Rattle.dg_graph.specs.Verbs.{Verb, verb, is_word, read_by, none_more, one, two, three}
+use Rattle.dg_history.specs.declared.node.NodeId.{NodeId}
+use Rattle.dg_history.specs.declared.node.NodeId.TheVariants as node
+use Rattle.dg_plan.specs.declared.certificate.PlanLine.{PlanLine}
+use Rattle.dg_plan.specs.declared.certificate.PlanLine.TheVariants as plan_line
 use Rattle.dg_history.specs.ChangeGrammar.{time_of}
 
 abbrev pub handle_of : List ℕ → Option ℕ
@@ -34,6 +39,10 @@ columns_of word =
 abbrev pub count_of : List ℕ → Option ℕ
 count_of word = number 1 BATCH_LINES_MAX word
 
+-- the number of lines that follow, where none may
+abbrev pub count_from_0 : List ℕ → Option ℕ
+count_from_0 word = number 0 BATCH_LINES_MAX word
+
 -- the commands, by their first word
 abbrev pub command_verbs : List (Verb Command)
 command_verbs =
@@ -42,6 +51,9 @@ command_verbs =
     ∷ verb (codes "append") (one count_of (λ n. command.Append n))
     ∷ verb (codes "at") (two time_of columns_of (λ t cols. command.At t cols))
     ∷ verb (codes "list") (one handle_of (λ h. command.List h))
+    ∷ verb (codes "plan") (two time_of columns_of (λ t cols. command.Plan t cols))
+    ∷ verb (codes "certify") (three time_of columns_of count_from_0 (λ t cols n. command.Certify t cols n))
+    ∷ verb (codes "tree") (none_more command.Tree)
     ∷ []
 
 -- the command that the line is
@@ -59,3 +71,47 @@ pub record IsColumn (line : List ℕ) (column : ℕ) : Type 0 where
   pub within : column ≤ length line + 1
   pub begins : Begins (take (column - 1) line)
   pub longest : (n : ℕ) → column ≤ n → n ≤ length line → Begins (take n line) → ⊥
+
+-- ---- plan lines
+
+-- A node, and behind it a number that is at most the greatest instant. The root is `root` alone.
+abbrev pub node_verbs : {A : Type 0} → (NodeId → ℕ → A) → List (Verb A)
+node_verbs make =
+    verb (codes "root") (one time_of (make node.Root))
+    ∷ verb (codes "now") (one time_of (make node.Now))
+    ∷ verb (codes "recent") (one time_of (make node.Recent))
+    ∷ verb (codes "leaf") (two n32_of time_of (λ j n. make (node.Leaf j) n))
+    ∷ verb (codes "list") (two n32_of time_of (λ i n. make (node.List i) n))
+    ∷ verb (codes "inner") (three n32_of n32_of time_of (λ h j n. make (node.Inner h j) n))
+    ∷ []
+
+-- the number of an edge, the node that it enters, and its weight
+abbrev pub step_of : List (List ℕ) → Option PlanLine
+step_of [] = None
+step_of (edge ∷ rest) = option_and_then (λ e. read_by (node_verbs (λ n weight. plan_line.Step e n weight)) rest) (n32_of edge)
+
+-- the lines of a certificate, by their first word
+abbrev pub plan_verbs : List (Verb PlanLine)
+plan_verbs =
+    verb (codes "step") step_of
+    ∷ verb (codes "potential") (read_by (node_verbs (λ n value. plan_line.Potential n value)))
+    ∷ []
+
+-- the plan line that the line is
+abbrev pub plan_line_of : List ℕ → Option PlanLine
+plan_line_of line = read_by plan_verbs (words line)
+
+-- what a line that follows `certify` says; one of more bytes than a line may have says nothing
+abbrev pub plan_line_in : ScriptLine → Option PlanLine
+plan_line_in (Text line) = plan_line_of line
+plan_line_in Long = None
+
+-- ---- ranges
+
+-- The number of lines that follow is in its range: a batch has one at least, and no command has more than a
+-- batch may have. Every command that a line is is so.
+abbrev pub CountIsInRange : Command → Type 0
+CountIsInRange (command.Load count) = (1 ≤ count) × (count ≤ BATCH_LINES_MAX)
+CountIsInRange (command.Append count) = (1 ≤ count) × (count ≤ BATCH_LINES_MAX)
+CountIsInRange (command.Certify t cols count) = count ≤ BATCH_LINES_MAX
+CountIsInRange c = Unit {0}

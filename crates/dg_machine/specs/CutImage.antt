@@ -6,12 +6,13 @@ use Rattle.dg_machine.specs.declared.command.Command.TheVariants as command
 use Rattle.dg_machine.specs.declared.reply.Reply.{Reply}
 use Rattle.dg_machine.specs.Answer.{answer, is_refusal}
 use Rattle.dg_machine.specs.MachineState.{MachineState}
+use Rattle.dg_machine.specs.Planning.{no_plan}
 use Rattle.dg_machine.specs.Run.{Step}
 use Rattle.dg_machine.specs.Script.{Entry, Asked, No_command, Long_line}
 
 -- the entry is a command that the machine does not refuse
 abbrev pub IsAccepted : MachineState → Entry → Type 0
-IsAccepted m (Asked c lines) = is_refusal (answer m c lines).reply.head ≡ false
+IsAccepted m (Asked c lines) = is_refusal (answer m c lines no_plan).reply.head ≡ false
 IsAccepted m (No_command line) = ⊥
 IsAccepted m Long_line = ⊥
 

@@ -2,7 +2,9 @@ pub mod CommandGrammar
 pub mod ReplyText
 pub mod MachineState
 pub mod Needs
+pub mod Planning
 pub mod Answer
 pub mod Script
 pub mod Run
 pub mod CutImage
+pub mod MachineLaws

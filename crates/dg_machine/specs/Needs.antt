@@ -47,6 +47,9 @@ needs (command.Load count) = record (batch_needs count) { unloaded = true }
 needs (command.Append count) = batch_needs count
 needs (command.At t cols) = record nothing_more { index = true; instants = t ∷ []; handles = 1 }
 needs (command.List handle) = record nothing_more { handle = Some handle }
+needs (command.Plan t cols) = record nothing_more { index = true; instants = t ∷ [] }
+needs (command.Certify t cols count) = record nothing_more { lines = Some count; index = true; instants = t ∷ [] }
+needs command.Tree = record nothing_more { index = true }
 
 abbrev pub or_none : Option ℕ → ℕ
 or_none None = 0

@@ -1,5 +1,5 @@
 -- The text of a reply.
-use Rattle.std.specs.Prelude.{ℕ, List, [], ◌∷◌, ◌++◌, Some, None, if◌then◌else◌, codes, decimal}
+use Rattle.std.specs.Prelude.{ℕ, List, [], ◌∷◌, ◌++◌, Some, None, if◌then◌else◌, codes, decimal, map}
 use Rattle.std.specs.List.{flat_map, join_with_byte}
 use Rattle.dg_graph.specs.declared.element.Element.{Element}
 use Rattle.dg_graph.specs.declared.element.Element.TheVariants.{Node, Edge, NodeAttr, EdgeAttr}
@@ -11,6 +11,14 @@ use Rattle.dg_machine.specs.declared.reply.BodyLine.{BodyLine}
 use Rattle.dg_machine.specs.declared.reply.BodyLine.TheVariants as line
 use Rattle.dg_machine.specs.declared.reply.Reply.{Reply}
 use Rattle.dg_graph.specs.Names.{name_text}
+use Rattle.dg_graph.specs.declared.function.Function.{Function}
+use Rattle.dg_graph.specs.declared.function.Function.TheVariants.{Intersection, Union, Balanced}
+use Rattle.dg_history.specs.declared.node.Key.{Key}
+use Rattle.dg_history.specs.declared.node.Key.TheVariants as key
+use Rattle.dg_history.specs.declared.node.NodeId.{NodeId}
+use Rattle.dg_history.specs.declared.node.NodeId.TheVariants as node
+use Rattle.dg_plan.specs.declared.certificate.Verdict.{Verdict}
+use Rattle.dg_plan.specs.declared.certificate.Verdict.TheVariants as verdict
 
 -- the words of an element's line
 abbrev pub element_words : List (List ℕ) → Element → List (List ℕ)
@@ -20,9 +28,41 @@ element_words names (Edge id src dst directed) =
 element_words names (NodeAttr id key value) = codes "nattr" ∷ decimal id ∷ name_text names key ∷ name_text names value ∷ []
 element_words names (EdgeAttr id key value) = codes "eattr" ∷ decimal id ∷ name_text names key ∷ name_text names value ∷ []
 
+-- the words of a node
+abbrev pub node_words : NodeId → List (List ℕ)
+node_words node.Root = codes "root" ∷ []
+node_words node.Now = codes "now" ∷ []
+node_words node.Recent = codes "recent" ∷ []
+node_words (node.Leaf j) = codes "leaf" ∷ decimal j ∷ []
+node_words (node.List i) = codes "list" ∷ decimal i ∷ []
+node_words (node.Inner h j) = codes "inner" ∷ decimal h ∷ decimal j ∷ []
+
+-- the words of a record's key
+abbrev pub key_words : Key → List (List ℕ)
+key_words (key.List i) = codes "list" ∷ decimal i ∷ []
+key_words (key.Piece s) = codes "piece" ∷ decimal s ∷ []
+key_words (key.Top h) = codes "top" ∷ decimal h ∷ []
+key_words (key.Down h c) = codes "down" ∷ decimal h ∷ decimal c ∷ []
+
+abbrev pub function_word : Function → List ℕ
+function_word Intersection = codes "intersection"
+function_word Union = codes "union"
+function_word Balanced = codes "balanced"
+
+-- the words of what is said of a certificate
+abbrev pub verdict_words : Verdict → List (List ℕ)
+verdict_words verdict.Valid = codes "valid" ∷ []
+verdict_words (verdict.Line i) = codes "line" ∷ decimal i ∷ []
+verdict_words (verdict.Step i) = codes "step" ∷ decimal i ∷ []
+verdict_words (verdict.Potential at) = codes "potential" ∷ node_words at
+verdict_words verdict.NotTight = codes "not-tight" ∷ []
+
 -- the words of a body line
 abbrev pub body_words : List (List ℕ) → BodyLine → List (List ℕ)
 body_words names (line.Element x) = element_words names x
+body_words names (line.Step edge into weight) = codes "step" ∷ decimal edge ∷ (node_words into ++ decimal weight ∷ [])
+body_words names (line.Potential at value) = codes "potential" ∷ (node_words at ++ decimal value ∷ [])
+body_words names (line.Sizes k lengths) = codes "record" ∷ (key_words k ++ map decimal lengths)
 
 -- the number and the name of a refusal, and what it keeps
 abbrev pub refusal_words : Refusal → List (List ℕ)
@@ -49,6 +89,10 @@ head_words (head.Loaded events total last) = codes "ok" ∷ codes "load" ∷ dec
 head_words (head.Appended events total last) = codes "ok" ∷ codes "append" ∷ decimal events ∷ decimal total ∷ decimal last ∷ []
 head_words (head.At handle weight) = codes "ok" ∷ codes "at" ∷ decimal handle ∷ decimal weight ∷ []
 head_words (head.List handle lines) = codes "ok" ∷ codes "list" ∷ decimal handle ∷ decimal lines ∷ []
+head_words (head.Plan weight steps) = codes "ok" ∷ codes "plan" ∷ decimal weight ∷ decimal steps ∷ []
+head_words (head.Certified v) = codes "ok" ∷ codes "certify" ∷ verdict_words v
+head_words (head.Tree l k function events leaves records) =
+    codes "ok" ∷ codes "tree" ∷ decimal l ∷ decimal k ∷ function_word function ∷ decimal events ∷ decimal leaves ∷ decimal records ∷ []
 head_words (head.Refused r) = codes "refused" ∷ refusal_words r
 
 -- words with a space between each two, and a line feed

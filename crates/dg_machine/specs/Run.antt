@@ -1,4 +1,5 @@
--- The runs of the machine: a reply to each entry, one after another.
+-- The runs of the machine: a reply to each entry, one after another. What is planned for a command is a witness of
+-- its step.
 use Rattle.std.specs.Prelude.{ℕ, List, [], ◌∷◌, IsTrue}
 use Rattle.std.specs.List.{flat_map}
 use Rattle.dg_graph.specs.Lines.{ScriptLine}
@@ -6,15 +7,18 @@ use Rattle.dg_machine.specs.declared.command.Command.{Command}
 use Rattle.dg_machine.specs.declared.reply.Head.TheVariants as head
 use Rattle.dg_machine.specs.declared.reply.Refusal.TheVariants as refusal
 use Rattle.dg_machine.specs.declared.reply.Reply.{Reply}
-use Rattle.dg_machine.specs.Answer.{Answered, answer, headed, no_memory, may_lack_memory}
+use Rattle.dg_machine.specs.Answer.{Answered, IsPlannedBy, answer, headed, no_memory, may_lack_memory}
 use Rattle.dg_machine.specs.CommandGrammar.{IsColumn}
 use Rattle.dg_machine.specs.MachineState.{MachineState, names_in}
+use Rattle.dg_machine.specs.Needs.{refused}
+use Rattle.dg_machine.specs.Planning.{Planned}
 use Rattle.dg_machine.specs.ReplyText.{text}
 use Rattle.dg_machine.specs.Script.{Entry, Asked, No_command, Long_line}
 
 -- From the state m the machine may give the entry this reply, and go on in the new state.
 pub data Step (m : MachineState) : Entry → Reply → MachineState → Type 0 where
-  Answers : (c : Command) (lines : List ScriptLine) → Step m (Asked c lines) (answer m c lines).reply (answer m c lines).state
+  Answers : (c : Command) (lines : List ScriptLine) (p : Planned) → IsPlannedBy (refused m c lines) m c p
+      → Step m (Asked c lines) (answer m c lines p).reply (answer m c lines p).state
   Lacks_memory : (c : Command) (lines : List ScriptLine) → IsTrue (may_lack_memory m c lines) → Step m (Asked c lines) no_memory m
   Leaves_grammar : (line : List ℕ) (column : ℕ) → IsColumn line column
       → Step m (No_command line) (headed (head.Refused (refusal.Syntax column))) m

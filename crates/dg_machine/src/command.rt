@@ -13,4 +13,10 @@ pub enum Command {
     At { t: u64, cols: Columns },
     /// List the elements of a handle.
     List { handle: u32 },
+    /// Print the least plan of the instant `t` in these columns, with the potentials that certify it.
+    Plan { t: u64, cols: Columns },
+    /// Read `count` plan lines, and say whether they are a certificate for the instant `t` in these columns.
+    Certify { t: u64, cols: Columns, count: u32 },
+    /// Print the parameters of the index and its records.
+    Tree,
 }

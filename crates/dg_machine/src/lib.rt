@@ -3,11 +3,13 @@
 #![tactic(auto)]
 
 mod command;
+mod laws;
 mod limits;
 mod reply;
 mod stands;
 
 pub use command::Command;
+pub use laws::law_machine_is_determined;
 pub use limits::{FIRST_HANDLE, LIVE_HANDLES_MAX, Limits, SCRIPT_BYTES_MAX, machine_limits};
 pub use reply::{BodyLine, BodyLines, Head, Refusal, Reply};
 pub use stands::Stands;

@@ -1,6 +1,8 @@
 ghost use Rattle.std.specs.Prelude.{◌≡◌, List, [], ◌∷◌, ◌++◌, length, OnOk, OnErr};
 
-use dg_graph::Element;
+use dg_graph::{Element, Function};
+use dg_history::{Key, NodeId};
+use dg_plan::Verdict;
 use std::alloc::{AllocError, Global};
 use std::marker::Model;
 
@@ -19,13 +21,43 @@ pub enum Head {
     /// An index was made.
     Created,
     /// A batch was loaded: its events, the events of the history, and the last instant.
-    Loaded { events: u64, total: u64, last: u64 },
+    Loaded {
+        events: u64,
+        total: u64,
+        last: u64,
+    },
     /// A batch was appended: its events, the events of the history, and the last instant.
-    Appended { events: u64, total: u64, last: u64 },
+    Appended {
+        events: u64,
+        total: u64,
+        last: u64,
+    },
     /// A graph was retrieved as this handle, by a plan of this weight.
-    At { handle: u32, weight: u64 },
+    At {
+        handle: u32,
+        weight: u64,
+    },
     /// The elements of a handle: as many lines follow.
-    List { handle: u32, lines: u64 },
+    List {
+        handle: u32,
+        lines: u64,
+    },
+    /// A plan of this weight: its steps, and behind them the potentials below the weight.
+    Plan {
+        weight: u64,
+        steps: u64,
+    },
+    /// What is said of a certificate.
+    Certified(Verdict),
+    /// The parameters of the index, its events, leaves and records: as many lines follow.
+    Tree {
+        l: u32,
+        k: u32,
+        function: Function,
+        events: u64,
+        leaves: u32,
+        records: u64,
+    },
     /// The command was refused, and nothing has changed.
     Refused(Refusal),
 }
@@ -68,6 +100,22 @@ pub enum Refusal {
 pub enum BodyLine {
     /// An element of a listing.
     Element(Element),
+    /// A step of a plan: the number of its edge, the node that it enters, and its weight.
+    Step {
+        edge: u32,
+        head: NodeId,
+        weight: u64,
+    },
+    /// The potential of a node.
+    Potential {
+        node: NodeId,
+        value: u64,
+    },
+    /// A record, and the bytes of its three columns.
+    Sizes {
+        key: Key,
+        lengths: [u64; 3],
+    },
 }
 
 /// The lines of a body, seen as their list.

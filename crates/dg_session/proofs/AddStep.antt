@@ -31,6 +31,7 @@ use Rattle.dg_machine.specs.Answer.{Answered, accepted, answer, headed, is_refus
 use Rattle.dg_machine.specs.CutImage.{IsCut, As_before, As_after}
 use Rattle.dg_machine.specs.MachineState.{MachineState, events_in_index, history_in, names_in}
 use Rattle.dg_machine.specs.Needs.{earliest, is_writing, needs, refused, when}
+use Rattle.dg_machine.specs.Planning.{IsPlanned, no_plan}
 use Rattle.dg_machine.specs.Run.{Step}
 use Rattle.dg_machine.specs.Script.{Asked, Follows}
 use Rattle.dg_session.proofs.TryBatch.{here, of_here}
@@ -38,7 +39,7 @@ use Rattle.dg_session.proofs.EventRanges.{ChangeFits, what_spelled}
 use Rattle.dg_session.proofs.LegalHistory.{IsNext, batch_next, events_with, fitting_next, grown_next, legal_next, names_grown}
 use Rattle.dg_session.proofs.OpenedHistory.{behind}
 use Rattle.dg_session.proofs.NamesAfter.{Grows, changes_length, grown_new}
-use Rattle.dg_session.proofs.StandsFor.{both_told, not_false, passes, refused_is, some_index, stands}
+use Rattle.dg_session.proofs.StandsFor.{IsOf, both_told, by_first, is_of, not_false, passes, refused_is, stands}
 use Rattle.dg_session.proofs.Steps.{Comes, accepted_is, accepted_steps, denied, is_accepted, lacking_denies, refused_denies}
 use Rattle.dg_session.specs.BatchCommand.{AddsBatch, BreaksBatch, ComeTo, FailsBatch, FillsFile, IsBack, IsReady, StaysAs, barred, batch_with, command_with, head_of}
 use Rattle.dg_session.specs.BatchLines.{IsBarred, IsBatch, IsFront, NamesGrow, ReadsBatch, first_refusal, lines}
@@ -61,10 +62,6 @@ use Rattle.dg_session.specs.SessionStart.{index_opening, opening_of}
 use Rattle.dg_session.specs.SoundHistory.{IsSoundHistory}
 
 -- ---- why the command is refused before its lines are completed
-
-by_first : (b : Bool) (r : Refusal) (rest : List Refusal) → earliest (when b r ++ rest) ≡ (if b then Some r else earliest rest)
-by_first true r rest = refl
-by_first false r rest = refl
 
 -- by the lines that were read, or by what bars it whatever its lines are
 pub refused_first : (which : BatchCommand) (p : Parts) (count read : ℕ)
@@ -164,9 +161,14 @@ ok_head Append events total last = refl
 
 -- what the machine answers to the lines
 accepted_new : (which : BatchCommand) (m : MachineState) (count : ℕ) (got : List ScriptLine)
-    → accepted m (command_with which count) got ≡ with_new m (history_in m.index) (head_of which) (batch_of (history_in m.index) got)
+    → accepted m (command_with which count) got no_plan ≡ with_new m (history_in m.index) (head_of which) (batch_of (history_in m.index) got)
 accepted_new Load m count got = refl
 accepted_new Append m count got = refl
+
+-- a batch has no plan
+unplanned : (which : BatchCommand) (m : MachineState) (count : ℕ) → IsPlanned m (command_with which count) no_plan
+unplanned Load m count = refl
+unplanned Append m count = refl
 
 -- ---- what was read, and the history that it is to be added to
 
@@ -195,27 +197,6 @@ is_asked which p called count known c b before after bar same bar_is index known
   few = few;
   batch = subst (λ (r : Option Refusal). IsBatch count r before after p.names c.names b) (bar_is ∙ ap (λ (x : Parts). barred which x count) (sym same)) batch;
 }
-
--- the history that the session stands for
-record IsOf (p : Parts) (o : Opening) (image : List ℕ) (m : MachineState) (z : History) : Type 0 where
-  index : m.index ≡ Some z
-  opened : o ≡ opening_of z
-  stands : IsImageOf z image
-  names : p.names ≡ names_of z
-  events : p.events ≡ events_of z
-
-is_of : (p : Parts) (o : Opening) (image : List ℕ) (m : MachineState) → p.index ≡ Some o → StandsFor p image m → (z : History) × IsOf p o image m z
-is_of p o image m there s =
-    let z = some_index o m.index (sym there ∙ s.index) in (
-      z.0,
-      record {
-        index = z.1;
-        opened = z.2;
-        stands = subst (λ (i : Option History). StandsAs i image) z.1 s.image_stands;
-        names = s.names ∙ ap names_in z.1;
-        events = s.events ∙ ap events_in_index z.1;
-      },
-    )
 
 -- the batch of the lines, in the names with their texts
 abbrev batch_in : History → List ScriptLine → List Event → Batch
@@ -256,6 +237,9 @@ module _ (which : BatchCommand) (p : Parts) (count known limit : ℕ) (c : Store
 
   free_of : (image : List ℕ) (m : MachineState) → StandsFor p image m → refused m (command_with which count) Got ≡ None
   free_of image m s = sym (refused_is p image m (command_with which count) Got s) ∙ not_refused
+
+  steps_as : (image : List ℕ) (m : MachineState) → StandsFor p image m → (x : Answered) → answer m (command_with which count) Got no_plan ≡ x → Step m (Asked (command_with which count) Got) x.reply x.state
+  steps_as image m s x is = accepted_steps m (command_with which count) Got no_plan x (free_of image m s) (unplanned which m count) is
 
   -- ---- the batch may be added
 
@@ -317,9 +301,9 @@ module _ (which : BatchCommand) (p : Parts) (count known limit : ℕ) (c : Store
 
   -- the answer, by what the lines come to
   answer_with : (image : List ℕ) (m : MachineState) (z : History) (due : Result (List Event) (ℕ × ℕ)) → StandsFor p image m → IsOf p free.index image m z → ComeTo free.index c.events.items b.front b.changes.items due
-      → answer m (command_with which count) Got ≡ with_new m z (head_of which) (on_value (batch_in z Got) due)
+      → answer m (command_with which count) Got no_plan ≡ with_new m z (head_of which) (on_value (batch_in z Got) due)
   answer_with image m z due s h come =
-      accepted_is m (command_with which count) Got (with_new m z (head_of which) (on_value (batch_in z Got) due)) (free_of image m s)
+      accepted_is m (command_with which count) Got no_plan (with_new m z (head_of which) (on_value (batch_in z Got) due)) (free_of image m s)
       (accepted_new which m count Got
       ∙ ap (λ (i : Option History). with_new m (history_in i) (head_of which) (batch_of (history_in i) Got)) h.index
       ∙ ap (λ r. with_new m z (head_of which) (on_value (batch_in z Got) r)) (completed_is image m z due h come))
@@ -349,7 +333,7 @@ module _ (which : BatchCommand) (p : Parts) (count known limit : ℕ) (c : Store
 
     -- the batch of the lines, as the file gets it
     answer_new : (image : List ℕ) (m : MachineState) (z : History) → StandsFor p image m → IsOf p free.index image m z
-        → answer m (command_with which count) Got ≡ by_room m z which New (nat_lt m.limits.file_bytes (size (with_batch z New)))
+        → answer m (command_with which count) Got no_plan ≡ by_room m z which New (nat_lt m.limits.file_bytes (size (with_batch z New)))
     answer_new image m z s h =
         let next : IsNext z Got b.changes.items c.names events = is_next image m z h in
         answer_with image m z (Ok events) s h come
@@ -376,13 +360,13 @@ module _ (which : BatchCommand) (p : Parts) (count known limit : ℕ) (c : Store
         let needed : n ≡ size (with_batch z New) = n_is ∙ needed_is image m z found.1 in
         let limits : limit ≡ m.limits.file_bytes = a.limit_is ∙ ap (λ (x : Limits). x.file_bytes) s.limits in
         let full : nat_lt m.limits.file_bytes (size (with_batch z New)) ≡ true = lt-ltb m.limits.file_bytes (size (with_batch z New)) (omega (arith, over, needed, limits)) in
-        accepted_steps m (command_with which count) Got (refuse m (refusal.FileFull n limit))
+        steps_as image m s (refuse m (refusal.FileFull n limit))
         (answer_new image m z s found.1 ∙ ap (by_room m z which New) full
         ∙ ap (λ (k : ℕ). refuse m (refusal.FileFull k m.limits.file_bytes)) (sym needed) ∙ ap (λ (k : ℕ). refuse m (refusal.FileFull n k)) (sym limits))
 
     -- there is room: the answer, and the legal history with the batch
     record IsAdded (m : MachineState) (z : History) : Type 0 where
-      answered : answer m (command_with which count) Got
+      answered : answer m (command_with which count) Got no_plan
           ≡ record { reply = headed (head_of which (length events) (length (p.events ++ events)) (last_time_from 0 events)); state = record m { index = Some (with_batch z New) } }
       legal : IsLegal (with_batch z New)
       names : c.names ≡ names_of (with_batch z New)
@@ -418,7 +402,7 @@ module _ (which : BatchCommand) (p : Parts) (count known limit : ℕ) (c : Store
         (λ i. Some (index_with (h.opened i) (segment_is before m z h i))) ∙ ap (λ (x : Opened). Some x.index) (sym (opened_more z New)) in (
           k,
           subst (λ (r : Reply). Step m (Asked (command_with which count) Got) r k) (sym reply_is)
-              (accepted_steps m (command_with which count) Got (record { reply = headed (head_of which (length events) (length (p.events ++ events)) (last_time_from 0 events)); state = k }) is.answered),
+              (steps_as before m s (record { reply = headed (head_of which (length events) (length (p.events ++ events)) (last_time_from 0 events)); state = k }) is.answered),
           stands q after k
               (q_is ∙ (λ i. record { limits = s.limits i; index = index i; names = is.names i; events = is.events_are i; table = s.table i; next = s.next i }))
               (gains z New h.stands is.legal (segment_is before m z h)) (λ none. cc),
@@ -445,7 +429,7 @@ module _ (which : BatchCommand) (p : Parts) (count known limit : ℕ) (c : Store
             by_image (inr more) =
                 As_after (is_accepted m (command_with which count) Got _ is.answered (ok_head which (length events) (length (p.events ++ events)) (last_time_from 0 events)))
                 (headed (head_of which (length events) (length (p.events ++ events)) (last_time_from 0 events))) (record m { index = Some (with_batch z New) })
-                (accepted_steps m (command_with which count) Got _ is.answered) more
+                (steps_as before m s _ is.answered) more
 
   -- ---- what the command comes to
 
@@ -486,7 +470,7 @@ module _ (which : BatchCommand) (p : Parts) (count known limit : ℕ) (c : Store
         denied (command_with which count) Got p q before after (refusal.BadChange line reason) (q_is ∙ stays back) f.0
         (λ m image s.
         let z = is_of p free.index image m free.there s in
-        accepted_steps m (command_with which count) Got (refuse m (refusal.BadChange line reason)) (answer_with image m z.0 (Err (line, reason)) s z.1 f.1))
+        steps_as image m s (refuse m (refusal.BadChange line reason)) (answer_with image m z.0 (Err (line, reason)) s z.1 f.1))
     batch_failed (fault.FileFull n most) fails back q q_is =
         let f = of_here (index_opening c.index) free.index (λ o. FailsBatch o limit known c before after b.changes.items b.front (fault.FileFull n most)) opening_there fails in
         let d : FillsFile free.index limit known c b.changes.items b.front n = f.2 in

@@ -29,7 +29,7 @@ pub at_answers : (p q : Parts) (t : ℕ) (cols : Columns) (image : Option (List 
     → Accepts (command.At t cols) [] p image q image reply
 at_answers p q t cols image reply none is reply_is = record {
   moves =
-      moved (command.At t cols) [] p q image image reply none
+      moved (command.At t cols) [] p q image image reply (λ m. refl) none
       (λ m x y a b s free. (
         with_handle m (Overlay t cols None),
         (λ i. record { reply = (ap (λ n. headed (head.At n 0)) (sym s.next) ∙ sym reply_is) i; state = with_handle m (Overlay t cols None) }),

@@ -17,7 +17,8 @@ use Rattle.dg_machine.specs.declared.reply.Reply.{Reply}
 use Rattle.dg_machine.specs.Answer.{Answered, answer, headed, is_refusal}
 use Rattle.dg_machine.specs.CutImage.{IsAccepted, IsCut, As_before, As_after, First_byte}
 use Rattle.dg_machine.specs.MachineState.{MachineState, events_in_index}
-use Rattle.dg_machine.specs.Needs.{needs}
+use Rattle.dg_machine.specs.Needs.{needs, refused}
+use Rattle.dg_machine.specs.Planning.{no_plan}
 use Rattle.dg_machine.specs.Script.{Asked}
 use Rattle.dg_session.specs.SessionStart.{opening_of}
 use Rattle.dg_session.proofs.StandsFor.{both_told, no_index, one_told, passes, refused_is, stands}
@@ -49,10 +50,13 @@ none_there p image m params s none = no_index m.index (ap is_some (sym s.index) 
 abbrev made_in : MachineState → Params → MachineState
 made_in m params = record m { index = Some (empty_history params) }
 
+free_of : (p : Parts) (image : List ℕ) (m : MachineState) (params : Params) → StandsFor p image m → refused_by p 0 (needs (making params)) ≡ None → refused m (making params) [] ≡ None
+free_of p image m params s none = sym (refused_is p image m (making params) [] s) ∙ none
+
 answer_is : (p : Parts) (image : List ℕ) (m : MachineState) (params : Params) → StandsFor p image m → refused_by p 0 (needs (making params)) ≡ None
-    → answer m (making params) [] ≡ record { reply = headed head.Created; state = made_in m params }
+    → answer m (making params) [] no_plan ≡ record { reply = headed head.Created; state = made_in m params }
 answer_is p image m params s none =
-    accepted_is m (making params) [] (record { reply = headed head.Created; state = made_in m params }) (sym (refused_is p image m (making params) [] s) ∙ none) refl
+    accepted_is m (making params) [] no_plan (record { reply = headed head.Created; state = made_in m params }) (free_of p image m params s none) refl
 
 pub create_answers : (p q : Parts) (params : Params) (before after : Option (List ℕ)) (o : Opening) (reply : Reply) → refused_by p 0 (needs (making params)) ≡ None
     → IfSome after (λ image. IsImageOf (empty_history params) image) → IfSome after (λ image. opening image ≡ Ok (opened_of (empty_history params)))
@@ -60,7 +64,7 @@ pub create_answers : (p q : Parts) (params : Params) (before after : Option (Lis
     → Accepts (making params) [] p before q after reply
 create_answers p q params before after o reply none made opened o_is no_names is reply_is = record {
   moves =
-      moved (making params) [] p q before after reply none
+      moved (making params) [] p q before after reply (λ m. refl) none
       (λ m x y a b s free.
       let gone : m.index ≡ None = none_there p x m params s none in
       let names : p.names ≡ [] = no_names in
@@ -96,7 +100,7 @@ create_cuts p params before after none part m s = by_part part
 
     by_part : IsMadeInPart params before after → IsCut m (Asked (making params) []) before after
     by_part (inl blank) = As_before allowed (subst (λ (i : Option History). StandsAs i after) (sym gone) blank)
-    by_part (inr (inl made)) = As_after allowed (headed head.Created) (made_in m params) (accepted_steps m (making params) [] new (answer_is p before m params s none)) made
+    by_part (inr (inl made)) = As_after allowed (headed head.Created) (made_in m params) (accepted_steps m (making params) [] no_plan new (free_of p before m params s none) refl (answer_is p before m params s none)) made
     by_part (inr (inr byte)) = First_byte allowed params.l params.k params.function refl gone byte.0 byte.1 byte.2
 
 pub create_fails : (p q : Parts) (params : Params) (before after : Option (List ℕ)) (f : CreateFault) → refused_by p 0 (needs (making params)) ≡ None → q ≡ p

@@ -26,7 +26,7 @@ use Rattle.dg_graph.specs.Names.{added, is_key, is_name, name_text}
 use Rattle.dg_graph.specs.Replay.{replay_from}
 use Rattle.dg_session.proofs.CompletedChanges.{AllCome}
 use Rattle.dg_session.proofs.NamesAfter.{Grows, Has, grows_none, grows_both, added_grows, added_has, has_more, key_is_name, number_within, text_is}
-use Rattle.dg_session.proofs.GrammarRanges.{AskedFits, PlainFits, SaidFits}
+use Rattle.dg_session.proofs.ChangeRanges.{AskedFits, PlainFits, SaidFits}
 use Rattle.dg_session.specs.BatchCommand.{WhatNamesFit}
 
 -- Ids of which the fact `I` holds, and numbers of names below n: in a change, in an element and in what

@@ -21,7 +21,7 @@ use Rattle.dg_graph.specs.Replay.{replay}
 use Rattle.dg_session.proofs.CompletedChanges.{AllCome, all_come, as_many}
 use Rattle.dg_session.proofs.EventRanges.{BodyFits, ChangeFits, ElementFits, HasKey, WhatFits, body_more, changes_fit, events_fit, events_keys, from_legal, has_key_more, legal_body, lines_grow, replay_fits, times_fit}
 use Rattle.dg_session.proofs.NamesAfter.{Grows, changes_length, grown_drop, grown_long, grows_none, new_joined}
-use Rattle.dg_session.proofs.GrammarRanges.{lines_fit}
+use Rattle.dg_session.proofs.ChangeRanges.{lines_fit}
 use Rattle.dg_session.specs.BatchLines.{lines}
 
 -- ---- batches, with more names

@@ -1,5 +1,7 @@
 pub mod IsFront
 pub mod ReadLines
+pub mod ReadPlanLines
+pub mod ListedRecords
 pub mod ExtendResult
 pub mod SpanOf
 pub mod FirstWrong
@@ -10,7 +12,7 @@ pub mod SourceEvents
 pub mod ReadHistory
 pub mod CompletedChanges
 pub mod NamesAfter
-pub mod GrammarRanges
+pub mod ChangeRanges
 pub mod EventRanges
 pub mod OpenedHistory
 pub mod LegalHistory
@@ -19,6 +21,11 @@ pub mod StandsFor
 pub mod Steps
 pub mod AtStep
 pub mod ListStep
+pub mod ShownPlans
+pub mod PlanReplies
+pub mod PointNodes
+pub mod PlanStep
+pub mod TreeStep
 pub mod CreateStep
 pub mod GoesOn
 pub mod TryBatch

@@ -40,7 +40,7 @@ pub list_answers : (p : Parts) (handle : ℕ) (stands : Stands) (image : Option 
     → Accepts (command.List handle) [] p image p image reply
 list_answers p handle stands image lines count reply some lines_are count_is reply_is = record {
   moves =
-      moved (command.List handle) [] p p image image reply (list_free p handle stands some)
+      moved (command.List handle) [] p p image image reply (λ m. refl) (list_free p handle stands some)
       (λ m x y a b s free.
       let set : List Element = elements_among p.events stands in
       let n : length set ≡ count = sym (length-map set (λ x. line.Element x)) ∙ ap length (sym lines_are) ∙ sym count_is in

@@ -1,11 +1,11 @@
 -- What a session keeps of the state that it stands for, and the refusals that follow from it.
-use Rattle.std.proofs.Common.{◌≡◌, ℕ, ◌+◌, Bool, true, false, not, List, [], ◌∷◌, ◌++◌, Option, Some, None, length, refl, sym, ◌∙◌, ap, subst}
+use Rattle.std.proofs.Common.{◌≡◌, ℕ, ◌+◌, Bool, true, false, not, List, [], ◌∷◌, ◌++◌, Option, Some, None, if◌then◌else◌, length, refl, sym, ◌∙◌, ap, subst}
 use Rattle.std.specs.Prelude.{IfSome, is_some}
 use Rattle.std.specs.Option.{option_map}
 use Rattle.std.proofs.lemmas.Option.{none-some}
 use Rattle.dg_graph.specs.Lines.{ScriptLine}
-use Rattle.dg_history.specs.History.{History, events_of}
-use Rattle.dg_index.specs.ImageOfHistory.{StandsAs}
+use Rattle.dg_history.specs.History.{History, events_of, names_of}
+use Rattle.dg_index.specs.ImageOfHistory.{IsImageOf, StandsAs}
 use Rattle.dg_index.specs.OpenedIndex.{Opening}
 use Rattle.dg_machine.specs.declared.command.Command.{Command}
 use Rattle.dg_machine.specs.declared.reply.Refusal.{Refusal}
@@ -73,6 +73,27 @@ pub events_there : (index : Option History) → events_of (history_in index) ≡
 events_there None = refl
 events_there (Some z) = refl
 
+-- the history that the session stands for
+pub record IsOf (p : Parts) (o : Opening) (image : List ℕ) (m : MachineState) (z : History) : Type 0 where
+  pub index : m.index ≡ Some z
+  pub opened : o ≡ opening_of z
+  pub stands : IsImageOf z image
+  pub names : p.names ≡ names_of z
+  pub events : p.events ≡ events_of z
+
+pub is_of : (p : Parts) (o : Opening) (image : List ℕ) (m : MachineState) → p.index ≡ Some o → StandsFor p image m → (z : History) × IsOf p o image m z
+is_of p o image m there s =
+    let z = some_index o m.index (sym there ∙ s.index) in (
+      z.0,
+      record {
+        index = z.1;
+        opened = z.2;
+        stands = subst (λ (i : Option History). StandsAs i image) z.1 s.image_stands;
+        names = s.names ∙ ap names_in z.1;
+        events = s.events ∙ ap events_in_index z.1;
+      },
+    )
+
 -- ---- refusals
 
 pub refused_is : (p : Parts) (image : List ℕ) (m : MachineState) (c : Command) (lines : List ScriptLine) → StandsFor p image m
@@ -91,6 +112,11 @@ hit b r rest e = ap (λ t. earliest (when t r ++ rest)) e
 
 pub miss : (b : Bool) (r : Refusal) (rest : List Refusal) → b ≡ false → earliest (when b r ++ rest) ≡ earliest rest
 miss b r rest e = ap (λ t. earliest (when t r ++ rest)) e
+
+-- the first of these, or the first of the rest
+pub by_first : (b : Bool) (r : Refusal) (rest : List Refusal) → earliest (when b r ++ rest) ≡ (if b then Some r else earliest rest)
+by_first true r rest = refl
+by_first false r rest = refl
 
 pub not_false : (b : Bool) → not b ≡ false → b ≡ true
 not_false true e = refl

@@ -7,10 +7,11 @@ use Rattle.dg_machine.specs.declared.reply.Head.TheVariants as head
 use Rattle.dg_machine.specs.declared.reply.Refusal.{Refusal}
 use Rattle.dg_machine.specs.declared.reply.Refusal.TheVariants as refusal
 use Rattle.dg_machine.specs.declared.reply.Reply.{Reply}
-use Rattle.dg_machine.specs.Answer.{Answered, accepted, answer, answer_by, headed, may_lack_memory, no_memory, is_refusal}
+use Rattle.dg_machine.specs.Answer.{Answered, IsPlannedBy, accepted, answer, answer_by, headed, may_lack_memory, no_memory, is_refusal}
 use Rattle.dg_machine.specs.CutImage.{IsAccepted}
 use Rattle.dg_machine.specs.MachineState.{MachineState}
 use Rattle.dg_machine.specs.Needs.{following, needs, refused}
+use Rattle.dg_machine.specs.Planning.{Planned, IsPlanned, no_plan}
 use Rattle.dg_machine.specs.Run.{Step, Answers, Lacks_memory}
 use Rattle.dg_machine.specs.Script.{Asked}
 use Rattle.dg_session.proofs.ReadLines.{follows_none}
@@ -26,15 +27,19 @@ use Rattle.dg_session.specs.Session.{ComesTo, Denies, Moves, StandsFor, Steps, T
 pub refused_steps : (m : MachineState) (c : Command) (lines : List ScriptLine) (r : Refusal) → refused m c lines ≡ Some r
     → Step m (Asked c lines) (headed (head.Refused r)) m
 refused_steps m c lines r is =
-    subst (λ (o : Option Refusal). Step m (Asked c lines) (answer_by o m c lines).reply (answer_by o m c lines).state) is (Answers c lines)
+    subst (λ (o : Option Refusal). Step m (Asked c lines) (answer_by o m c lines no_plan).reply (answer_by o m c lines no_plan).state) is
+    (Answers c lines no_plan (subst (λ (o : Option Refusal). IsPlannedBy o m c no_plan) (sym is) tt))
 
 -- the answer of a command that is not refused by what it needs
-pub accepted_is : (m : MachineState) (c : Command) (lines : List ScriptLine) (a : Answered) → refused m c lines ≡ None → accepted m c lines ≡ a
-    → answer m c lines ≡ a
-accepted_is m c lines a none is = ap (λ (o : Option Refusal). answer_by o m c lines) none ∙ is
+pub accepted_is : (m : MachineState) (c : Command) (lines : List ScriptLine) (p : Planned) (a : Answered) → refused m c lines ≡ None → accepted m c lines p ≡ a
+    → answer m c lines p ≡ a
+accepted_is m c lines p a none is = ap (λ (o : Option Refusal). answer_by o m c lines p) none ∙ is
 
-pub accepted_steps : (m : MachineState) (c : Command) (lines : List ScriptLine) (a : Answered) → answer m c lines ≡ a → Step m (Asked c lines) a.reply a.state
-accepted_steps m c lines a is = subst (λ (x : Answered). Step m (Asked c lines) x.reply x.state) is (Answers c lines)
+-- with what is planned for it
+pub accepted_steps : (m : MachineState) (c : Command) (lines : List ScriptLine) (p : Planned) (a : Answered) → refused m c lines ≡ None → IsPlanned m c p → answer m c lines p ≡ a
+    → Step m (Asked c lines) a.reply a.state
+accepted_steps m c lines p a none planned is =
+    subst (λ (x : Answered). Step m (Asked c lines) x.reply x.state) is (Answers c lines p (subst (λ (o : Option Refusal). IsPlannedBy o m c p) (sym none) planned))
 
 pub lacking_steps : (m : MachineState) (c : Command) (lines : List ScriptLine) → (needs c).memory ≡ true → refused m c lines ≡ None
     → Step m (Asked c lines) no_memory m
@@ -48,7 +53,7 @@ lacking_steps m c lines memory none = Lacks_memory c lines (by memory none)
     by x y = (λ i. x i && (is_some (needs c).lines || not (is_some (y i)))) ∙ or_true (is_some (needs c).lines)
 
 -- a command whose answer is no refusal may be cut off
-pub is_accepted : (m : MachineState) (c : Command) (lines : List ScriptLine) (a : Answered) → answer m c lines ≡ a → is_refusal a.reply.head ≡ false
+pub is_accepted : (m : MachineState) (c : Command) (lines : List ScriptLine) (a : Answered) → answer m c lines no_plan ≡ a → is_refusal a.reply.head ≡ false
     → IsAccepted m (Asked c lines)
 is_accepted m c lines a is accepted = ap (λ (x : Answered). is_refusal x.reply.head) is ∙ accepted
 
@@ -75,16 +80,29 @@ pub lacking_denies : (c : Command) (got : List ScriptLine) (old new : Parts) (be
 lacking_denies c got old new before after same same_image memory none =
     denied c got old new before after refusal.OutOfMemory same same_image (λ m image s. lacking_steps m c got memory (sym (refused_is old image m c got s) ∙ none))
 
--- a reply of a command that is not refused, and the state that the session then stands for
-pub moved : (c : Command) (got : List ScriptLine) (old new : Parts) (before after : Option (List ℕ)) (reply : Reply)
+-- a reply of a command that is not refused, by a plan for it, and the state that the session then stands for
+pub moved_by : (c : Command) (got : List ScriptLine) (plan : Planned) (old new : Parts) (before after : Option (List ℕ)) (reply : Reply)
     → refused_by old (length got) (needs c) ≡ None
     → ((m : MachineState) (x y : List ℕ) → before ≡ Some x → after ≡ Some y → StandsFor old x m → refused m c got ≡ None
-    → (k : MachineState) × (accepted m c got ≡ record { reply = reply; state = k }) × StandsFor new y k)
+    → (k : MachineState) × IsPlanned m c plan × (accepted m c got plan ≡ record { reply = reply; state = k }) × StandsFor new y k)
     → WhereBothTold before after (λ x y. Moves c got old x new y reply)
-moved c got old new before after reply none step x y a b m s =
+moved_by c got plan old new before after reply none step x y a b m s =
     let free : refused m c got ≡ None = sym (refused_is old x m c got s) ∙ none in
     let k = step m x y a b s free in
-    (k.0, accepted_steps m c got (record { reply = reply; state = k.0 }) (accepted_is m c got (record { reply = reply; state = k.0 }) free k.1), k.2)
+    (k.0, accepted_steps m c got plan (record { reply = reply; state = k.0 }) free k.1 (accepted_is m c got plan (record { reply = reply; state = k.0 }) free k.2), k.3)
+
+-- nothing is planned for the command
+abbrev pub IsUnplanned : Command → Type 0
+IsUnplanned c = (m : MachineState) → IsPlanned m c no_plan
+
+-- the same of a command that has no plan
+pub moved : (c : Command) (got : List ScriptLine) (old new : Parts) (before after : Option (List ℕ)) (reply : Reply) → IsUnplanned c
+    → refused_by old (length got) (needs c) ≡ None
+    → ((m : MachineState) (x y : List ℕ) → before ≡ Some x → after ≡ Some y → StandsFor old x m → refused m c got ≡ None
+    → (k : MachineState) × (accepted m c got no_plan ≡ record { reply = reply; state = k }) × StandsFor new y k)
+    → WhereBothTold before after (λ x y. Moves c got old x new y reply)
+moved c got old new before after reply unplanned none step =
+    moved_by c got no_plan old new before after reply none (λ m x y a b s free. let k = step m x y a b s free in (k.0, unplanned m, k.1, k.2))
 
 -- what a `?` hands out
 pub handed_out : {A E : Type 0} (r : Result A E) (x : E) (P : Result A E → Type 0) → IsErr r × IsErrAnd r (λ y. y ≡ x) → P (Err x) → P r

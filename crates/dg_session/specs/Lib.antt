@@ -5,3 +5,6 @@ pub mod SoundHistory
 pub mod Halt
 pub mod Session
 pub mod BatchCommand
+pub mod PlanLines
+pub mod Plans
+pub mod RecordListing

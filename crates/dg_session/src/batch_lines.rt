@@ -50,7 +50,7 @@ pub struct BatchLines {
 }
 
 // The next line that follows a command. Its text is in `lines`.
-fn next_line<S: Source>(lines: &mut Lines, source: &mut S) -> Result<Line, Stop>
+pub(crate) fn next_line<S: Source>(lines: &mut Lines, source: &mut S) -> Result<Line, Stop>
     ensures comes { IfOk result (λ line. LineComes line
         (told lines.old (S.left source.old)) (told lines.new (S.left source.new)) lines.new.text) }
     ensures advances { Advances lines.old (S.left source.old) (S.faults source.old)
@@ -64,7 +64,7 @@ fn next_line<S: Source>(lines: &mut Lines, source: &mut S) -> Result<Line, Stop>
 }
 
 // Whether no line came.
-fn is_end(line: Line) -> bool
+pub(crate) fn is_end(line: Line) -> bool
     ensures end { result ≡ true → line ≡ Line.End }
     ensures more { result ≡ false → line ≡ Line.End → ⊥ }
 {

@@ -20,6 +20,22 @@ pub enum Halt {
     Stop(Stop),
 }
 
+impl From<Refusal> for Halt {
+    ghost from_gives = { λ refusal to. to ≡ halt.Refusal refusal };
+
+    fn from(refusal: Refusal) -> Halt {
+        Halt::Refusal(refusal)
+    }
+}
+
+impl From<Stop> for Halt {
+    ghost from_gives = { λ stop to. to ≡ halt.Stop stop };
+
+    fn from(stop: Stop) -> Halt {
+        Halt::Stop(stop)
+    }
+}
+
 impl From<AllocError> for Halt {
     ghost from_gives = { λ _ to. to ≡ halt.Refusal refusal.OutOfMemory };
 

@@ -4,12 +4,12 @@ ghost use Rattle.dg_disk.specs.Frame.{GoesOn, ReadsAndSyncs};
 ghost use Rattle.dg_io.specs.Frame.{Advances};
 ghost use Rattle.dg_io.specs.Told.{CountRose};
 ghost use Rattle.dg_io.specs.LinesState.{told, NeedsByte};
-ghost use Rattle.dg_history.specs.declared.limits.TheConstants.{BATCH_LINES_MAX};
+ghost use Rattle.dg_history.specs.declared.limits.TheConstants.{BATCH_LINES_MAX, EVENTS_MAX};
 ghost use Rattle.dg_graph.specs.Lines.{ScriptLine};
 ghost use Rattle.dg_machine.specs.declared.limits.TheConstants.{LIVE_HANDLES_MAX};
 ghost use Rattle.dg_machine.specs.declared.reply.BodyLine.TheVariants as line;
 ghost use Rattle.dg_machine.specs.Answer.{headed, is_refusal};
-ghost use Rattle.dg_machine.specs.CommandGrammar.{command_of};
+ghost use Rattle.dg_machine.specs.CommandGrammar.{CountIsInRange};
 ghost use Rattle.dg_machine.specs.Needs.{following, is_writing, needs};
 ghost use Rattle.dg_history.specs.History.{History, are_parameters, in_range, span_of};
 ghost use Rattle.dg_index.specs.ImageOfHistory.{StandsAs};
@@ -26,6 +26,9 @@ use crate::halt::Halt;
 use crate::handle_table::{Entry, entry_at};
 use crate::history_reader::open;
 use crate::laws::law_images_start_as_they_stand;
+use crate::plan_lines::read_plan_lines;
+use crate::planning::{judge, plan_reply};
+use crate::record_listing::tree_reply;
 use crate::snapshot::{listing, replay_at, span};
 use crate::stop::Stop;
 use crate::stored_history::StoredHistory;
@@ -152,7 +155,7 @@ impl Session {
         source: &mut S,
         disk: &mut D,
     ) -> Result<Reply, Stop>
-        requires command { (line : List ℕ) × (command_of line ≡ Some command.now) }
+        requires command { CountIsInRange command.now }
         requires image { IfSome (D.image disk.old) (λ image. IsHeldBy self.old.index self.old.names image) }
         // the reply
         ensures step { IfOk result (λ reply. Steps command.now
@@ -193,7 +196,7 @@ impl Session {
         source: &mut S,
         disk: &mut D,
     ) -> Result<Reply, Halt>
-        requires command { (line : List ℕ) × (command_of line ≡ Some command.now) }
+        requires command { CountIsInRange command.now }
         requires image { IfSome (D.image disk.old) (λ image. IsHeldBy self.old.index self.old.names image) }
         // what it comes to
         ensures comes { (got : List ScriptLine)
@@ -214,6 +217,9 @@ impl Session {
             Command::Append { count } => self.add(BatchCommand::Append, count, lines, source, disk),
             Command::At { t, cols } => self.at(t, cols),
             Command::List { handle } => self.list(handle),
+            Command::Plan { t, cols } => self.plan(t, cols),
+            Command::Certify { t, cols, count } => self.certify(t, cols, count, lines, source),
+            Command::Tree => self.tree(),
         }
     }
 
@@ -323,16 +329,42 @@ impl Session {
         Ok(headed(self.alloc, which.head(added)))
     }
 
+    // The index, or why nothing is asked of it.
+    fn index(&self) -> Result<&Index, Refusal>
+        ensures index { IfOk result (λ index. self.now.index ≡ Some index.now.opening) }
+        ensures few { OnOk result (length self.now.events ≤ EVENTS_MAX) }
+        ensures none { IfErr result (λ refusal. (self.now.index ≡ None) × (refusal ≡ Refusal.NoIndex)) }
+    {
+        match &self.history.index {
+            Some(index) => {
+                index.facts();
+                Ok(index)
+            }
+            None => Err(Refusal::NoIndex),
+        }
+    }
+
+    // The index, where the instant `t` is in its history, or why nothing is asked of the instant.
+    fn index_at(&self, t: u64) -> Result<&Index, Refusal>
+        ensures index { IfOk result (λ index. self.now.index ≡ Some index.now.opening) }
+        ensures few { OnOk result (length self.now.events ≤ EVENTS_MAX) }
+        ensures there { OnOk result (in_range (span_of self.now.events) t ≡ true) }
+        ensures refused { IfErr result (λ refusal. (handles : ℕ) → refused_by self.now 0 (retrieval_needs (t ∷ []) handles) ≡ Some refusal) }
+    {
+        let index = self.index()?;
+        let ends = span(&self.history.events);
+        if !in_range(ends, t) {
+            return Err(Refusal::OutOfRange(ends));
+        }
+        Ok(index)
+    }
+
     // Why no retrieval as of `t` is made.
     fn refused_retrieval(&self, t: u64) -> Option<Refusal>
         ensures { result ≡ refused_by self.now 0 (retrieval_needs (t ∷ []) 1) }
     {
-        if !self.has_index() {
-            return Some(Refusal::NoIndex);
-        }
-        let ends = span(&self.history.events);
-        if !in_range(ends, t) {
-            return Some(Refusal::OutOfRange(ends));
+        if let Err(refusal) = self.index_at(t) {
+            return Some(refusal);
         }
         let live = self.table.len();
         if live >= LIVE_HANDLES_MAX {
@@ -388,6 +420,63 @@ impl Session {
             },
             body: BodyLines::from_vec(lines),
         })
+    }
+
+    // The least plan of the instant `t` in these columns.
+    fn plan(&self, t: u64, cols: Columns) -> Result<Reply, Halt>
+        ensures comes { (image : Option (List ℕ)) → ComesTo (Command.Plan t cols) [] self.now image self.now image result }
+        ensures no_stop { (stop : Stop) → result ≡ Err (Halt.Stop stop) → ⊥ }
+    {
+        let index = self.index_at(t)?;
+        let reply = plan_reply(self.alloc, index, &self.history.events, t, cols)?;
+        Ok(reply)
+    }
+
+    // What is said of the certificate for the instant `t` in these columns that the lines that follow
+    // write. They are all read.
+    fn certify<S: Source>(
+        &self,
+        t: u64,
+        cols: Columns,
+        count: u32,
+        lines: &mut Lines,
+        source: &mut S,
+    ) -> Result<Reply, Halt>
+        requires few { count ≤ BATCH_LINES_MAX }
+        // what it comes to
+        ensures comes { (image : Option (List ℕ)) → (got : List ScriptLine)
+            × TakesLines count (told lines.old (S.left source.old)) got (told lines.new (S.left source.new)) result
+            × ComesTo (Command.Certify t cols count) got self.now image self.now image result }
+        // why it stops
+        ensures read { IsErrOf result (Halt.Stop Stop.Read) → CountRose (S.faults source.old) (S.faults source.new) }
+        ensures limit { IsErrOf result (Halt.Stop Stop.Limit) → (lines.new.taken ≡ lines.new.limit) × NeedsByte lines.new }
+        ensures no_store { IsErrOf result (Halt.Stop Stop.Store) → ⊥ }
+        // what it takes
+        ensures lines { Advances lines.old (S.left source.old) (S.faults source.old)
+            lines.new (S.left source.new) (S.faults source.new) }
+    {
+        let index = self.index_at(t);
+        let written = read_plan_lines(self.alloc, count, index.is_ok(), lines, source)?;
+        if written.read < count {
+            return Err(Halt::Refusal(Refusal::ShortBatch(written.read, count)));
+        }
+        let index = index?;
+        if !written.is_whole {
+            return Err(Halt::Refusal(Refusal::OutOfMemory));
+        }
+        let events = &self.history.events;
+        let verdict = judge(self.alloc, index, events, t, cols, &written.said)?;
+        Ok(headed(self.alloc, Head::Certified(verdict)))
+    }
+
+    // The parameters of the index, and a line for each of its records.
+    fn tree(&self) -> Result<Reply, Halt>
+        ensures comes { (image : Option (List ℕ)) → ComesTo Command.Tree [] self.now image self.now image result }
+        ensures no_stop { (stop : Stop) → result ≡ Err (Halt.Stop stop) → ⊥ }
+    {
+        let index = self.index()?;
+        let reply = tree_reply(self.alloc, index, self.history.events.len() as u64)?;
+        Ok(reply)
     }
 }
 

@@ -44,7 +44,7 @@ const NODE_WITH_NAME: [BodyLine; 2] = [
     }),
 ];
 
-const RUNS: [Run; 8] = [
+const RUNS: [Run; 10] = [
     // The lines of a load and of an append are read, and the texts are numbered as they come.
     Run {
         events: 6,
@@ -244,6 +244,40 @@ const RUNS: [Run; 8] = [
         cases: &[
             (b"create 2 2 union", Ok(Head::Created), &[]),
             (b"load 1", Err(Stop::Store), &[]),
+        ],
+        second_name: None,
+    },
+    // The second read fails within the plan line.
+    Run {
+        events: 6,
+        file_bytes: 1000,
+        room: MANY,
+        failing_reads: &[1],
+        following: b"step 0 now 0\n",
+        script_bytes: 1000,
+        cases: &[
+            (b"create 2 2 union", Ok(Head::Created), &[]),
+            (b"certify 10 s 1", Err(Stop::Read), &[]),
+        ],
+        second_name: None,
+    },
+    // A plan line has 13 bytes, and fewer than those of two may be taken. The first one is read, though
+    // the instant is in no history.
+    Run {
+        events: 6,
+        file_bytes: 1000,
+        room: MANY,
+        failing_reads: &[],
+        following: b"step 0 now 0\nstep 0 now 0\n",
+        script_bytes: 25,
+        cases: &[
+            (b"create 2 2 union", Ok(Head::Created), &[]),
+            (
+                b"certify 10 s 1",
+                Ok(Head::Refused(Refusal::OutOfRange(None))),
+                &[],
+            ),
+            (b"certify 10 s 1", Err(Stop::Limit), &[]),
         ],
         second_name: None,
     },

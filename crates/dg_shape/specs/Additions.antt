@@ -12,8 +12,8 @@ use Rattle.dg_shape.specs.Entries.{Holdings}
 use Rattle.dg_shape.specs.Keys.{IsNumbered}
 
 -- the bytes of all columns that the rows tell of
-abbrev pub columns_of : List Row → ℕ
-columns_of rows = sum_by (λ (r : Row). total r.lengths) rows
+abbrev pub bytes_of_rows : List Row → ℕ
+bytes_of_rows rows = sum_by (λ (r : Row). total r.lengths) rows
 
 -- a row for each key, with instants exactly for a list, whose number is small enough
 abbrev pub Suits : List Key → List Row → Type 0
@@ -27,6 +27,6 @@ Suits (k ∷ keys) (r ∷ rows) = IsNumbered k × (is_some r.ends ≡ is_list k)
 pub record IsRoomFor (c : Holdings) (offset : ℕ) (keys : List Key) (rows : List Row) : Type 0 where
   pub room : length keys ≤ c.spare
   pub fresh : Fresh (map (λ (r : Key × Entry). r.0) c.entries) keys
-  pub in_range : offset + columns_of rows ≤ BYTES_MAX
-  pub bytes : columns_in c.entries + columns_of rows ≤ BYTES_MAX
+  pub in_range : offset + bytes_of_rows rows ≤ BYTES_MAX
+  pub bytes : columns_in c.entries + bytes_of_rows rows ≤ BYTES_MAX
   pub suits : Suits keys rows

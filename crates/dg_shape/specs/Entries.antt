@@ -21,10 +21,10 @@ pub record Holdings : Type 0 where
   pub spare : ℕ
 
 -- the bytes of one column
-abbrev pub length_in : Entry → Column → ℕ
-length_in e Structure = slice_index e.lengths 0
-length_in e NodeAttr = slice_index e.lengths 1
-length_in e EdgeAttr = slice_index e.lengths 2
+abbrev pub column_length_in : Entry → Column → ℕ
+column_length_in e Structure = slice_index e.lengths 0
+column_length_in e NodeAttr = slice_index e.lengths 1
+column_length_in e EdgeAttr = slice_index e.lengths 2
 
 -- the byte at which a column begins: the columns stand one after another
 abbrev pub offset_in : Entry → Column → ℕ

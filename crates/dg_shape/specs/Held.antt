@@ -8,7 +8,7 @@ use Rattle.dg_index.specs.declared.entry.Entry.{Entry}
 use Rattle.dg_history.specs.declared.node.Key.{Key}
 use Rattle.dg_history.specs.declared.node.Key.TheVariants as a_key
 use Rattle.dg_history.specs.Keys.{same_key}
-use Rattle.dg_shape.specs.Entries.{Holdings, length_in, offset_in}
+use Rattle.dg_shape.specs.Entries.{Holdings, column_length_in, offset_in}
 
 -- what is held of a record
 abbrev pub entry_of : Holdings → Key → Option Entry
@@ -16,7 +16,7 @@ entry_of c key = lookup (same_key key) c.entries
 
 -- the bytes of a column of a record
 abbrev pub length_of : Holdings → Key → Column → Option ℕ
-length_of c key col = option_map (λ e. length_in e col) (entry_of c key)
+length_of c key col = option_map (λ e. column_length_in e col) (entry_of c key)
 
 -- the byte at which a column of a record begins
 abbrev pub offset_of : Holdings → Key → Column → Option ℕ

@@ -8,7 +8,7 @@ ghost use Rattle.dg_history.specs.declared.node.Key.{Key};
 ghost use Rattle.dg_history.specs.declared.node.Key.TheVariants as a_key;
 ghost use Rattle.dg_history.specs.Keys.{same_key, is_list};
 ghost use Rattle.dg_shape.specs.Keys.{IsNumbered};
-ghost use Rattle.dg_shape.specs.Entries.{length_in, offset_in, spanned, IsInRange, EndsIfList};
+ghost use Rattle.dg_shape.specs.Entries.{column_length_in, offset_in, spanned, IsInRange, EndsIfList};
 ghost use Rattle.dg_shape.specs.Additions.{IsRoomFor};
 ghost use Rattle.dg_shape.specs.Held.{entry_of, length_of, offset_of, ends_of};
 
@@ -35,7 +35,7 @@ pub fn catalogue_limits()
 
 /// The bytes of a column of a record.
 pub fn column_length(entry: &Entry, col: Column) -> u64
-    ensures { result ≡ length_in entry.now col }
+    ensures { result ≡ column_length_in entry.now col }
 {
     let [structure, nodes_attr, edges_attr] = entry.lengths;
     match col {

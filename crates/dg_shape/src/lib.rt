@@ -1,9 +1,12 @@
-//! The shape of an index: which records the segment of a batch has, and the catalogue, which tells
-//! how long each record is and at which byte it begins.
+//! The shape of an index: which nodes it has, which records the segment of a batch has, and the
+//! catalogue, which tells how long each record is and at which byte it begins, and from which node the
+//! graph as of an instant is reached.
 #![tactic(auto)]
 
 mod catalogue;
+mod point;
 mod segment_keys;
+mod shape;
 #[cfg(test)]
 mod tests;
 
@@ -13,3 +16,4 @@ pub use catalogue::{
 pub use dg_history::{Key, NodeId};
 pub use dg_index::{Ends, Entry, Row};
 pub use segment_keys::{keys_due, leaves};
+pub use shape::Shape;

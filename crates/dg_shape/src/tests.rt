@@ -1,6 +1,10 @@
-use crate::{Catalogue, Ends, Entry, Key, Row, catalogue_limits, keys_due, leaves};
+ghost use Rattle.std.specs.Prelude.{◌≡◌, [], IfOk};
+ghost use Rattle.dg_shape.specs.Points.{ListsRise};
+
+use crate::{Catalogue, Ends, Entry, Key, NodeId, Row, Shape, catalogue_limits, keys_due, leaves};
 use dg_graph::{Column, Function};
 use dg_history::Params;
+use std::alloc::{AllocError, Global};
 use std::cmp::Ordering;
 use std::test::Fail;
 
@@ -160,5 +164,197 @@ fn keys_are_ordered_lists_pieces_tops_downs(rt: HostRuntime) -> Result<(), Fail>
         }
     }
     assert_eq!(rt; Key::Top(4).compare(&Key::Top(4)), Ordering::Equal);
+    Ok(())
+}
+
+#[test]
+fn five_events_give_two_leaves_and_one_node_above_them(rt: HostRuntime) -> Result<(), Fail> {
+    let shape = Shape {
+        l: 2,
+        k: 2,
+        events: 5,
+    };
+    assert_eq!(rt; shape.leaves(), 2);
+    let above = NodeId::Inner(1, 1);
+    let rows = [
+        (NodeId::Root, true, None),
+        (NodeId::Now, true, None),
+        (NodeId::Recent, true, None),
+        (NodeId::Leaf(0), false, None),
+        (NodeId::Leaf(1), true, Some(above)),
+        (NodeId::Leaf(2), true, Some(above)),
+        (NodeId::Leaf(3), false, None),
+        (NodeId::List(0), true, None),
+        (NodeId::List(1), true, None),
+        (NodeId::List(2), false, None),
+        (NodeId::Inner(0, 1), false, None),
+        (NodeId::Inner(1, 0), false, None),
+        (above, true, None),
+        (NodeId::Inner(1, 2), false, None),
+        (NodeId::Inner(2, 1), false, None),
+    ];
+    for (node, exists, parent) in rows {
+        assert_eq!(rt; shape.exists(node), exists);
+        assert_eq!(rt; shape.parent(node), parent);
+        if node != above {
+            assert_eq!(rt; shape.child(node, 1), None);
+        }
+    }
+    let children = [None, Some(NodeId::Leaf(1)), Some(NodeId::Leaf(2)), None];
+    for i in 0..4 {
+        assert_eq!(rt; shape.child(above, i as u32), children[i]);
+    }
+    Ok(())
+}
+
+#[test]
+fn a_history_with_no_event_has_the_root_alone(rt: HostRuntime) -> Result<(), Fail> {
+    let shape = Shape {
+        l: 65_536,
+        k: 64,
+        events: 0,
+    };
+    assert_eq!(rt; shape.leaves(), 0);
+    assert_eq!(rt; shape.exists(NodeId::Root), true);
+    let others = [
+        NodeId::Now,
+        NodeId::Recent,
+        NodeId::Leaf(1),
+        NodeId::List(0),
+        NodeId::Inner(1, 1),
+    ];
+    for node in others {
+        assert_eq!(rt; shape.exists(node), false);
+    }
+    Ok(())
+}
+
+#[test]
+fn a_parent_is_there_only_with_all_of_its_children(rt: HostRuntime) -> Result<(), Fail> {
+    let shape = Shape {
+        l: 3,
+        k: 2,
+        events: 21,
+    };
+    let rows = [
+        (NodeId::Leaf(6), Some(NodeId::Inner(1, 3))),
+        (NodeId::Leaf(7), None),
+        (NodeId::Inner(1, 2), Some(NodeId::Inner(2, 1))),
+        (NodeId::Inner(1, 3), None),
+    ];
+    for (node, parent) in rows {
+        assert_eq!(rt; shape.parent(node), parent);
+    }
+    assert_eq!(rt; shape.child(NodeId::Inner(1, 3), 2), Some(NodeId::Leaf(6)));
+    assert_eq!(rt;
+        shape.child(NodeId::Inner(2, 1), 2),
+        Some(NodeId::Inner(1, 2))
+    );
+    assert_eq!(rt; shape.child(NodeId::Inner(2, 2), 1), None);
+    Ok(())
+}
+
+#[test]
+fn great_heights_have_no_node(rt: HostRuntime) -> Result<(), Fail> {
+    let narrow = Shape {
+        l: 2,
+        k: 2,
+        events: 268_435_456,
+    };
+    let wide = Shape {
+        l: 2,
+        k: 64,
+        events: 268_435_456,
+    };
+    let rows = [
+        (NodeId::Inner(26, 2), true, false),
+        (NodeId::Inner(27, 1), true, false),
+        (NodeId::Inner(27, 2), false, false),
+        (NodeId::Inner(28, 1), false, false),
+        (NodeId::Inner(4, 8), true, true),
+        (NodeId::Inner(4, 9), true, false),
+        (NodeId::Inner(5, 1), true, false),
+        (NodeId::Inner(1, 4_294_967_295), false, false),
+        (NodeId::Inner(4_294_967_295, 1), false, false),
+        (NodeId::Inner(4_294_967_295, 4_294_967_295), false, false),
+    ];
+    for (node, in_narrow, in_wide) in rows {
+        assert_eq!(rt; narrow.exists(node), in_narrow);
+        assert_eq!(rt; wide.exists(node), in_wide);
+    }
+    let highest = NodeId::Inner(27, 1);
+    assert_eq!(rt; narrow.parent(highest), None);
+    assert_eq!(rt; narrow.child(highest, 2), Some(NodeId::Inner(26, 2)));
+    assert_eq!(rt; narrow.parent(NodeId::Inner(26, 2)), Some(highest));
+    assert_eq!(rt; narrow.parent(NodeId::Inner(4_294_967_295, 1)), None);
+    assert_eq!(rt; narrow.child(NodeId::Inner(4_294_967_295, 1), 1), None);
+    Ok(())
+}
+
+// A catalogue with these instants of the history, and with no record.
+fn with_span(alloc: Global, span: Option<Ends>) -> Catalogue
+    ensures { result.entries ≡ [] }
+{
+    let mut catalogue = Catalogue::new(alloc);
+    if let Some(ends) = span {
+        catalogue.add_batch(ends);
+    }
+    catalogue
+}
+
+// A catalogue with these instants of the history, and with two lists.
+fn with_lists(alloc: Global, span: Option<Ends>) -> Result<Catalogue, AllocError>
+    ensures { IfOk result ListsRise }
+{
+    let mut catalogue = with_span(alloc, span);
+    catalogue.reserve(2)?;
+    let ends = Ends {
+        first: 10,
+        last: 20,
+    };
+    catalogue.add(Key::List(0), [1, 1, 1], 0, Some(ends));
+    let ends = Ends {
+        first: 30,
+        last: 50,
+    };
+    catalogue.add(Key::List(1), [1, 1, 1], 3, Some(ends));
+    Ok(catalogue)
+}
+
+#[test]
+fn the_point_is_now_recent_the_root_a_leaf_or_a_list(rt: HostRuntime) -> Result<(), Fail> {
+    let span = Ends { first: 5, last: 90 };
+    let catalogue = with_lists(rt.alloc(), Some(span))?;
+    let rows = [
+        (4, None),
+        (5, Some(NodeId::Root)),
+        (9, Some(NodeId::Root)),
+        (10, Some(NodeId::List(0))),
+        (19, Some(NodeId::List(0))),
+        (20, Some(NodeId::Leaf(1))),
+        (29, Some(NodeId::Leaf(1))),
+        (30, Some(NodeId::List(1))),
+        (49, Some(NodeId::List(1))),
+        (50, Some(NodeId::Leaf(2))),
+        (59, Some(NodeId::Leaf(2))),
+        (60, Some(NodeId::Recent)),
+        (89, Some(NodeId::Recent)),
+        (90, Some(NodeId::Now)),
+        (91, None),
+    ];
+    for (t, point) in rows {
+        assert_eq!(rt; catalogue.point(t, Some(60)), point);
+    }
+    assert_eq!(rt; catalogue.point(60, None), Some(NodeId::Leaf(2)));
+    assert_eq!(rt; catalogue.point(90, None), Some(NodeId::Now));
+    Ok(())
+}
+
+#[test]
+fn a_history_with_no_batch_has_no_point(rt: HostRuntime) -> Result<(), Fail> {
+    let catalogue = with_lists(rt.alloc(), None)?;
+    for t in [0, 10, 90] {
+        assert_eq!(rt; catalogue.point(t, None), None);
+    }
     Ok(())
 }

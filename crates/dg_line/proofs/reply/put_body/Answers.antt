@@ -1,4 +1,4 @@
-use Rattle.std.proofs.Common.{◌+◌, ◌++◌, map, take, drop, arith}
+use Rattle.std.proofs.Common.{◌+◌, ◌++◌, ◌∙◌, map, drop, arith}
 use Rattle.dg_machine.specs.ReplyText.{body_text, text_line}
 use Rattle.dg_line.specs.Buffered.{word_bytes}
 use Rattle.dg_line.proofs.Buffered.{put_first, put_next, put_fails, put_line, put_lines_past, on_err}
@@ -14,10 +14,10 @@ pub returns-in_err-put_line-clause-err : goal.returns-in_err-put_line-clause-err
 returns-in_err-put_line-clause-err g c =
     let lines = c.args.lines.now in
     let i = c.loop-line.line-index in
-    let words = map word_bytes (take c.body_line-words.result.len c.body_line-words.result.words) in
+    let words = map word_bytes c.words.result.now in
     let here =
     put_line c.args.names.now (g.K.Sink.written c.args.sink.now) (g.K.Sink.written c.loop-line.sink)
-    (c.args.buffer.now ++ body_text c.args.names.now lines) c.loop-line.buffer lines i _ words (omega arith) c.body_line-words.ensures.words
+    (c.args.buffer.now ++ body_text c.args.names.now lines) c.loop-line.buffer lines i _ words (omega arith) (c.words.ensures ∙ c.body_line-words.ensures.words)
     c.loop-line.invariant.put in
     on_err c.from_residual.result
     (put_fails _ _ _ _ _ (text_line words) (body_text c.args.names.now (drop (i + 1) lines)) here c.in_err-put_line.ensures.err)
@@ -26,10 +26,10 @@ pub loop-line-preserved : goal.loop-line-preserved
 loop-line-preserved g c =
     let lines = c.args.lines.now in
     let i = c.loop-line.line-index in
-    let words = map word_bytes (take c.body_line-words.result.len c.body_line-words.result.words) in
+    let words = map word_bytes c.words.result.now in
     let here =
     put_line c.args.names.now (g.K.Sink.written c.args.sink.now) (g.K.Sink.written c.loop-line.sink)
-    (c.args.buffer.now ++ body_text c.args.names.now lines) c.loop-line.buffer lines i _ words (omega arith) c.body_line-words.ensures.words
+    (c.args.buffer.now ++ body_text c.args.names.now lines) c.loop-line.buffer lines i _ words (omega arith) (c.words.ensures ∙ c.body_line-words.ensures.words)
     c.loop-line.invariant.put in
     record {
       put = put_next _ _ _ _ _ (text_line words) (body_text c.args.names.now (drop (i + 1) lines)) _ here c.in_ok-put_line.ensures.ok;

@@ -9,7 +9,7 @@ use Rattle.dg_index.specs.declared.entry.Row.{Row}
 use Rattle.dg_index.specs.OpenedIndex.{Opening, Opened, may_follow, list_count, delta_count, keys_next, events_in, earliest_in, rows_in, may_be_listed}
 use Rattle.dg_index.proofs.OpenedHistories.{large_parameters}
 use Rattle.dg_file.specs.declared.directory_names.Untaken.TheVariants.{Broken}
-use Rattle.dg_shape.specs.Additions.{columns_of}
+use Rattle.dg_shape.specs.Additions.{bytes_of_rows}
 use Rattle.dg_file.specs.Index.{IndexState}
 use Rattle.dg_file.proofs.DirectoryTests.{due_many, due_stale, due_following, due_rows, due_measured, due_listed, due_taken, rows_number, said}
 use Rattle.dg_file.proofs.SuitedRows.{keys_count, keys_few}
@@ -103,7 +103,7 @@ returns-then-not-is_measured-clause-broken c = λ _.
     let rows : List Row = c.in_ok-rows.rows.items in
     let rows_are : rows ≡ rows_in (said lists deltas c.args.bytes.now (c.in_ok-end.ensures.taken.names, c.in_ok-end.end)) = c.in_ok-rows.ensures in
     let here : c.deref.result.now ≡ rows = c.deref.ensures.value in
-    due_measured x c.args.columns c.args.bytes.now long c.u32_at-count.result c.in_ok-end.end c.read_names.new.names b c.u32_at-count.ensures c.in_ok-end.ensures.taken c.batch_at-batch.ensures lists deltas c.lists_next-lists.ensures deltas_is rows rows_are (ap (λ (l : List Row). columns_of l == c.args.columns) (sym here) ∙ sym c.is_measured.ensures ∙ c.if-not-is_measured.true)
+    due_measured x c.args.columns c.args.bytes.now long c.u32_at-count.result c.in_ok-end.end c.read_names.new.names b c.u32_at-count.ensures c.in_ok-end.ensures.taken c.batch_at-batch.ensures lists deltas c.lists_next-lists.ensures deltas_is rows rows_are (ap (λ (l : List Row). bytes_of_rows l == c.args.columns) (sym here) ∙ sym c.is_measured.ensures ∙ c.if-not-is_measured.true)
 
 pub slice_bounds-may_be_listed-end : goal.slice_bounds-may_be_listed-end
 slice_bounds-may_be_listed-end c =
@@ -160,5 +160,5 @@ returns-clause-taken c =
     let here : c.deref.result.now ≡ rows = c.deref.ensures.value in
     let here2 : c.deref-2.result.now ≡ rows = c.deref-2.ensures.value in
     due_taken x c.args.columns c.args.bytes.now long c.u32_at-count.result c.in_ok-end.end c.read_names.new.names b c.u32_at-count.ensures c.in_ok-end.ensures.taken c.batch_at-batch.ensures lists deltas c.lists_next-lists.ensures deltas_is (record { batch = b; keys = c.in_ok-keys.keys; rows = c.in_ok-rows.rows }) c.floor-floor.result large.0 few (omega (arith, c.len.ensures, c.if-len-count.false)) refl rows_are
-    c.in_ok-keys.ensures.keys (sym c.has_rows.ensures ∙ c.if-not-has_rows.false) follow (ap (λ (l : List Row). columns_of l == c.args.columns) (sym here) ∙ sym c.is_measured.ensures ∙ c.if-not-is_measured.false)
+    c.in_ok-keys.ensures.keys (sym c.has_rows.ensures ∙ c.if-not-has_rows.false) follow (ap (λ (l : List Row). bytes_of_rows l == c.args.columns) (sym here) ∙ sym c.is_measured.ensures ∙ c.if-not-is_measured.false)
     c.floor-floor.ensures (ap (λ (l : List Row). may_be_listed c.floor-floor.result b.ends.last (take lists l)) (sym here2) ∙ sym c.may_be_listed.ensures ∙ c.if-not-may_be_listed.false)

@@ -1,0 +1,41 @@
+-- The plans of commands: over which graph of the index, and to which node.
+use Rattle.std.specs.Prelude.{◌≡◌, ℕ, List as ListOf, [], ◌∷◌}
+use Rattle.std.specs.List.{AllZip}
+use Rattle.dg_graph.specs.declared.element.Columns.{Columns}
+use Rattle.dg_history.specs.declared.node.NodeId.{NodeId}
+use Rattle.dg_history.specs.declared.node.NodeId.TheVariants.{Root}
+use Rattle.dg_history.specs.History.{events_of}
+use Rattle.dg_plan.specs.declared.edge.Edge.{Edge}
+use Rattle.dg_plan.specs.HistoryGraph.{ground_of_history}
+use Rattle.dg_plan.specs.IndexGraph.{nodes_of, edges_of, arcs_of}
+use Rattle.dg_plan.specs.InstantPoint.{point}
+use Rattle.dg_plan.specs.Walks.{IsPlan, IsPotential, weight_of}
+use Rattle.dg_machine.specs.declared.command.Command.{Command}
+use Rattle.dg_machine.specs.declared.command.Command.TheVariants as command
+use Rattle.dg_machine.specs.MachineState.{MachineState, history_in}
+
+abbrev pub edges_in : MachineState → Columns → ListOf Edge
+edges_in m cols = edges_of (ground_of_history (history_in m.index) cols)
+
+abbrev pub nodes_in : MachineState → Columns → ListOf NodeId
+nodes_in m cols = nodes_of (ground_of_history (history_in m.index) cols)
+
+-- the node from which the graph as of an instant is reached
+abbrev pub point_for : MachineState → ℕ → NodeId
+point_for m t = point (history_in m.index).params (events_of (history_in m.index)) t
+
+-- what is planned for a command: the steps of a plan, and a potential for each node, in their order
+pub record Planned : Type 0 where
+  pub steps : ListOf ℕ
+  pub potentials : ListOf ℕ
+
+abbrev pub no_plan : Planned
+no_plan = record { steps = []; potentials = [] }
+
+-- This is planned for the command: the least plan of the instant, and the potentials that certify it. Most
+-- commands have no plan.
+abbrev pub IsPlanned : MachineState → Command → Planned → Type 0
+IsPlanned m (command.Plan t cols) p =
+    IsPlan (arcs_of (edges_in m cols)) (Root ∷ []) (point_for m t) p.steps
+    × AllZip (IsPotential (arcs_of (edges_in m cols)) (Root ∷ []) (weight_of (arcs_of (edges_in m cols)) p.steps)) (nodes_in m cols) p.potentials
+IsPlanned m c p = p ≡ no_plan

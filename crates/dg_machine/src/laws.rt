@@ -1,0 +1,6 @@
+ghost use Rattle.dg_machine.specs.MachineLaws.{IsDetermined};
+
+/// The machine gives each entry one reply and one next state, but for want of memory. Does nothing.
+pub fn law_machine_is_determined()
+    ensures { IsDetermined }
+{}

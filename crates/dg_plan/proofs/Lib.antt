@@ -1,0 +1,10 @@
+pub mod GraphRows
+pub mod Costs
+pub mod LeastWalks
+pub mod Plans
+pub mod Trees
+pub mod RenamedGraphs
+pub mod Numbers
+pub mod ReachedNodes
+pub mod EnteredOnce
+pub mod AlikeGraphs

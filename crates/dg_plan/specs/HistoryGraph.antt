@@ -1,0 +1,17 @@
+-- The graph of the index of a history.
+use Rattle.std.specs.Prelude.{[], length, nat_lt}
+use Rattle.dg_graph.specs.declared.element.Columns.{Columns}
+use Rattle.dg_history.specs.History.{History, events_of}
+use Rattle.dg_index.specs.Hierarchy.{leaves}
+use Rattle.dg_index.specs.IndexRecords.{length_in}
+use Rattle.dg_plan.specs.IndexGraph.{Ground}
+
+-- the graph of the records of a history, with the current graph where there is an event
+abbrev pub ground_of_history : History → Columns → Ground
+ground_of_history z cols = record {
+  leaves = leaves z.params (length (events_of z));
+  arity = z.params.k;
+  bases = [];
+  memory = nat_lt 0 (length (events_of z));
+  weight = λ k. length_in z k cols;
+}

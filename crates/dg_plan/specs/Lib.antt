@@ -1,0 +1,7 @@
+pub mod Walks
+pub mod IndexGraph
+pub mod EnteredRecords
+pub mod InstantPoint
+pub mod CertificateLines
+pub mod HistoryGraph
+pub mod PlanLaws

@@ -1,0 +1,159 @@
+-- A tree as it grows, target by target.
+use Rattle.std.proofs.Common.{◌≡◌, ℕ, ◌+◌, ◌*◌, ◌≤◌, ◌<◌, List as ListOf, [], ◌∷◌, ◌++◌, Option, None, Some, length, map, refl, sym, ap, subst, ◌∙◌, arith}
+use Rattle.std.specs.Prelude.{slice_get}
+use Rattle.std.specs.Option.{option_map, option_to_list}
+use Rattle.std.specs.List.{All, AllZip, Contains}
+use Rattle.std.proofs.lemmas.List.{length_push, map-append}
+use Rattle.std.proofs.lemmas.List.Elements.{All-append, All-contains, All-from_recursion, All-nil}
+use Rattle.std.proofs.lemmas.List.Sums.{sum_by_push}
+use Rattle.std.proofs.lemmas.Option.{slice_get-map}
+use Rattle.dg_history.specs.declared.node.NodeId.{NodeId}
+use Rattle.dg_history.specs.declared.node.NodeId.TheVariants.{Root}
+use Rattle.dg_plan.specs.declared.edge.Edge.{Edge}
+use Rattle.dg_plan.specs.IndexGraph.{Ground, arcs_of, nodes_of}
+use Rattle.dg_plan.specs.Walks.{Arc, AreSingles, Graft, IsPlan, IsTree, Leads, entered, renamed, renamed_arc, steps_of, tree_weight, weight_of}
+use Rattle.dg_plan.proofs.RenamedGraphs.{plan_named}
+use Rattle.dg_plan.proofs.Trees.{nodes_more, tree_push}
+use Rattle.dg_path.specs.declared.adjacency.Adjacency.{Adjacency}
+use Rattle.dg_path.specs.declared.search.Link.{Link}
+use Rattle.dg_path.specs.declared.search.Cost.{Cost as Label}
+use Rattle.dg_path.specs.Search.{Falls, Fits, IsTable, arcs, label_at}
+use Rattle.dg_path.proofs.Tables as tables
+use Rattle.dg_planner.specs.Order.{place_of}
+use Rattle.dg_planner.specs.Whole.{FARTHEST, IsWhole}
+use Rattle.dg_planner.proofs.Standing.{apart_places}
+use Rattle.dg_planner.proofs.NodePlans.{inside, is_target, place_within, plan_is, weight_is}
+use Rattle.dg_planner.proofs.Singles.{has_plan}
+
+-- what is shown of the grafts, the singles and the weight of the targets so far, and of the costs from the tree
+pub record IsGrown (g : Ground) (edges : ListOf Edge) (links : ListOf Link) (targets : ListOf NodeId) (grafts : ListOf (Graft NodeId)) (singles : ListOf ℕ) (weight : ℕ) (costs : ListOf Label) : Type 0 where
+  pub count : length costs ≡ length (nodes_of g)
+  pub fits : Fits costs
+  pub table : IsTable (arcs links) (map (place_of g) ((Root ∷ []) ++ entered (arcs_of edges) (steps_of grafts))) costs
+  pub near : (v : ℕ) → v < length costs → (label_at costs v).weight ≤ FARTHEST
+  pub tree : IsTree (arcs_of edges) (Root ∷ []) targets grafts
+  pub weight_is : weight ≡ tree_weight (arcs_of edges) grafts
+  pub light : weight ≤ length targets * FARTHEST
+  pub singles_are : AreSingles (arcs_of edges) (Root ∷ []) targets singles
+
+zip_push : {A B : Type 0} (R : A → B → Type 0) (xs : ListOf A) (ys : ListOf B) (x : A) (y : B) → AllZip R xs ys → R x y → AllZip R (xs ++ x ∷ []) (ys ++ y ∷ [])
+zip_push R [] [] x y all last = (last, tt)
+zip_push R [] (b ∷ ys) x y all last = absurd all
+zip_push R (a ∷ xs) [] x y all last = absurd all
+zip_push R (a ∷ xs) (b ∷ ys) x y all last = (all.0, zip_push R xs ys x y all.1 last)
+
+-- the nodes that steps enter, by their places
+entered_renamed : {N M : Type 0} (name : N → M) (g : ListOf (Arc N)) (steps : ListOf ℕ) → entered (renamed name g) steps ≡ map name (entered g steps)
+entered_renamed name g [] = refl
+entered_renamed {N = N} {M = M} name g (i ∷ steps) =
+    (λ k. option_to_list (option_map (λ (e : Arc M). e.to) (here k)) ++ entered_renamed name g steps k)
+    ∙ (ap (λ t. t ++ map name (entered g steps)) (one (slice_get g i)) ∙ sym (map-append name (option_to_list (option_map (λ (e : Arc N). e.to) (slice_get g i))) (entered g steps)))
+  where
+    here : slice_get (renamed name g) i ≡ option_map (renamed_arc name) (slice_get g i)
+    here = slice_get-map (renamed_arc name) g i
+
+    one : (o : Option (Arc N)) → option_to_list (option_map (λ (e : Arc M). e.to) (option_map (renamed_arc name) o)) ≡ map name (option_to_list (option_map (λ (e : Arc N). e.to) o))
+    one None = refl
+    one (Some e) = refl
+
+module _ (g : Ground) (edges : ListOf Edge) (starts : ListOf ℕ) (links : ListOf Link) (outs ins : Adjacency) (costs : ListOf Label) (whole : IsWhole g edges starts links outs ins costs) where
+  -- steps enter nodes of the graph
+  entered_in : (steps : ListOf ℕ) → All (Contains (nodes_of g)) (entered (arcs_of edges) steps)
+  entered_in [] = All-nil (Contains (nodes_of g))
+  entered_in (i ∷ steps) = All-append (Contains (nodes_of g)) _ (entered (arcs_of edges) steps) (one (slice_get (arcs_of edges) i) refl) (entered_in steps)
+    where
+      one : (o : Option (Arc NodeId)) → slice_get (arcs_of edges) i ≡ o → All (Contains (nodes_of g)) (option_to_list (option_map (λ (e : Arc NodeId). e.to) o))
+      one None is = All-nil (Contains (nodes_of g))
+      one (Some e) is = All-from_recursion (Contains (nodes_of g)) (e.to ∷ []) ((inside g edges starts links outs ins costs whole i e is).1, tt)
+
+  tree_in : (steps : ListOf ℕ) (a : NodeId) → Contains ((Root ∷ []) ++ entered (arcs_of edges) steps) a → Contains (nodes_of g) a
+  tree_in steps a c =
+      All-contains (Contains (nodes_of g)) ((Root ∷ []) ++ entered (arcs_of edges) steps) a
+      (All-append (Contains (nodes_of g)) (Root ∷ []) (entered (arcs_of edges) steps) (All-from_recursion (Contains (nodes_of g)) (Root ∷ []) ((0, omega arith, refl), tt)) (entered_in steps)) c
+
+  -- before the first target
+  pub none_grown : (copy : ListOf Label) → copy ≡ costs → IsGrown g edges links [] [] [] 0 copy
+  none_grown copy is = subst (IsGrown g edges links [] [] [] 0) (sym is) (record {
+    count = whole.count;
+    fits = whole.fits;
+    table = whole.table;
+    near = whole.near;
+    tree = tt;
+    weight_is = refl;
+    light = omega arith;
+    singles_are = tt;
+  })
+
+  -- what a single plan weighs stands in the table of the root
+  single_is : (v : NodeId) → Contains (nodes_of g) v → (steps : ListOf ℕ) × IsPlan (arcs_of edges) (Root ∷ []) v steps × ((label_at costs (place_of g v)).weight ≡ weight_of (arcs_of edges) steps)
+  single_is v vn =
+      let near = (is_target g edges starts links outs ins costs whole v vn).near in
+      let p = has_plan links costs (0 ∷ []) whole.table (place_of g v) near in
+      let plan = plan_is g edges starts links outs ins costs whole v p.0 vn p.1 in (
+        p.0,
+        plan,
+        tables.weight_is links costs (0 ∷ []) whole.table (place_of g v) near p.0 p.1 ∙ weight_is g edges starts links outs ins costs whole plan.walk.0 p.0 v plan.walk.2,
+      )
+
+  module _ (targets : ListOf NodeId) (grafts : ListOf (Graft NodeId)) (singles : ListOf ℕ) (weight : ℕ) (now : ListOf Label) (had : IsGrown g edges links targets grafts singles weight now)
+      (target : NodeId) (vn : Contains (nodes_of g) target) where
+    pub near_now : (label_at now (place_of g target)).weight ≤ FARTHEST
+    near_now = had.near (place_of g target) (let p = place_within g target vn in let n = had.count in omega arith)
+
+    module _ (x : Graft NodeId) (new : ListOf Label)
+        (plan : (from : ListOf ℕ) → IsTable (arcs links) from now → IsPlan (arcs links) from (place_of g target) x.steps)
+        (begins : (a : NodeId) → Leads (arcs_of edges) a x.steps target → x.from ≡ a)
+        (len : length new ≡ length now) (fits : Fits new) (falls : Falls now new)
+        (table : (from : ListOf ℕ) → IsTable (arcs links) from now → IsTable (arcs links) (from ++ entered (arcs links) x.steps) new) where
+      tree_now : ListOf NodeId
+      tree_now = (Root ∷ []) ++ entered (arcs_of edges) (steps_of grafts)
+
+      by_places : IsPlan (arcs links) (map (place_of g) tree_now) (place_of g target) x.steps
+      unfolding tree_now
+      by_places = plan (map (place_of g) tree_now) had.table
+
+      by_nodes : IsPlan (arcs_of edges) tree_now target x.steps
+      unfolding tree_now
+      by_nodes =
+          plan_named (place_of g) (arcs_of edges) (nodes_of g) (apart_places g) (inside g edges starts links outs ins costs whole) tree_now (tree_in (steps_of grafts)) target x.steps vn
+          (subst (λ h. IsPlan h (map (place_of g) tree_now) (place_of g target) x.steps) whole.named by_places)
+
+      begins_at : x.from ≡ by_nodes.walk.0
+      begins_at = begins by_nodes.walk.0 by_nodes.walk.2
+
+      pub weighs : (label_at now (place_of g target)).weight ≡ weight_of (arcs_of edges) x.steps
+      unfolding tree_now
+      weighs =
+          tables.weight_is links now (map (place_of g) tree_now) had.table (place_of g target) (let n = near_now in omega arith) x.steps by_places
+          ∙ weight_is g edges starts links outs ins costs whole by_nodes.walk.0 x.steps target by_nodes.walk.2
+
+      places_more : map (place_of g) tree_now ++ entered (arcs links) x.steps ≡ map (place_of g) ((Root ∷ []) ++ entered (arcs_of edges) (steps_of (grafts ++ x ∷ [])))
+      unfolding tree_now
+      places_more =
+          ap (λ t. map (place_of g) tree_now ++ t) (ap (λ h. entered h x.steps) whole.named ∙ entered_renamed (place_of g) (arcs_of edges) x.steps)
+          ∙ (sym (map-append (place_of g) tree_now (entered (arcs_of edges) x.steps)) ∙ ap (map (place_of g)) (nodes_more (arcs_of edges) (Root ∷ []) grafts x))
+
+      -- one more target
+      pub one_grown : IsGrown g edges links (targets ++ target ∷ []) (grafts ++ x ∷ []) (singles ++ (label_at costs (place_of g target)).weight ∷ []) (weight + (label_at now (place_of g target)).weight) new
+      unfolding tree_now
+      one_grown = record {
+        count = len ∙ had.count;
+        fits = fits;
+        table = subst (λ s. IsTable (arcs links) s new) places_more (table (map (place_of g) tree_now) had.table);
+        near = λ v within. (let a = had.near v (let l = len in omega arith) in let b = (falls v).0 in omega arith);
+        tree = tree_push (arcs_of edges) (Root ∷ []) targets grafts target x had.tree by_nodes (subst (Contains tree_now) (sym begins_at) by_nodes.walk.1) (subst (λ a. Leads (arcs_of edges) a x.steps target) (sym begins_at) by_nodes.walk.2);
+        weight_is = (λ i. had.weight_is i + weighs i) ∙ sym (sum_by_push (λ (y : Graft NodeId). weight_of (arcs_of edges) y.steps) grafts x);
+        light = (let a = had.light in let b = near_now in let n = length_push targets target in omega arith);
+        singles_are = zip_push _ targets singles target (label_at costs (place_of g target)).weight had.singles_are (single_is target vn);
+      }
+
+-- with each part told otherwise
+pub grown_as : (g : Ground) (edges : ListOf Edge) (links : ListOf Link) (targets targets' : ListOf NodeId) (grafts grafts' : ListOf (Graft NodeId)) (singles singles' : ListOf ℕ) (weight weight' : ℕ) (costs costs' : ListOf Label)
+    → targets' ≡ targets → grafts' ≡ grafts → singles' ≡ singles → weight' ≡ weight → costs' ≡ costs
+    → IsGrown g edges links targets grafts singles weight costs → IsGrown g edges links targets' grafts' singles' weight' costs'
+grown_as g edges links targets targets' grafts grafts' singles singles' weight weight' costs costs' a b c d e h =
+    subst (λ x. IsGrown g edges links targets' grafts' singles' weight' x) (sym e)
+    (subst (λ x. IsGrown g edges links targets' grafts' singles' x costs) (sym d)
+    (subst (λ x. IsGrown g edges links targets' grafts' x weight costs) (sym c)
+    (subst (λ x. IsGrown g edges links targets' x singles weight costs) (sym b)
+    (subst (λ x. IsGrown g edges links x grafts singles weight costs) (sym a) h))))

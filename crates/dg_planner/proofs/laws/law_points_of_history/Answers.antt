@@ -1,0 +1,5 @@
+use Rattle.dg_planner.proofs.HistoryPoints.{points_of_history}
+use Rattle.dg_planner.proofs.laws.law_points_of_history.Goals as goal
+
+pub returns : goal.returns
+returns c = points_of_history

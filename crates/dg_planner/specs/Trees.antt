@@ -1,0 +1,15 @@
+-- The tree of several targets, as the definitions have it.
+use Rattle.std.specs.Prelude.{List, map}
+use Rattle.dg_history.specs.declared.node.NodeId.{NodeId}
+use Rattle.dg_plan.specs.Walks.{Graft as GraftOf}
+use Rattle.dg_planner.specs.declared.tree.Graft.{Graft}
+use Rattle.dg_planner.specs.declared.tree.Tree.{Tree}
+
+abbrev pub graft_of : Graft → GraftOf NodeId
+graft_of x = record { from = x.from; steps = x.steps.items }
+
+abbrev pub grafts_of : List Graft → List (GraftOf NodeId)
+grafts_of xs = map graft_of xs
+
+abbrev pub grafts_in : Tree → List (GraftOf NodeId)
+grafts_in t = grafts_of t.grafts.items

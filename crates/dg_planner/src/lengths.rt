@@ -1,0 +1,29 @@
+ghost use Rattle.std.specs.Prelude.{◌≡◌, ◌≤◌};
+ghost use Rattle.dg_shape.specs.declared.catalogue.TheConstants.{BYTES_MAX};
+ghost use Rattle.dg_shape.specs.Entries.{IsInRange};
+ghost use Rattle.dg_planner.specs.AskedLengths.{asked_in, asked_length};
+
+use dg_graph::Columns;
+use dg_history::Key;
+use dg_shape::{Catalogue, Entry};
+
+// The bytes of the asked columns of an entry.
+fn asked_in(entry: &Entry, cols: Columns) -> u64
+    requires { IsInRange entry.now }
+    ensures { result ≡ asked_in entry.now cols }
+{
+    let [structure, nodes_attr, edges_attr] = entry.lengths;
+    let of_nodes = if cols.nodes_attr { nodes_attr } else { 0 };
+    let of_edges = if cols.edges_attr { edges_attr } else { 0 };
+    structure + (of_nodes + of_edges)
+}
+
+/// The bytes of the asked columns of a record, and 0 where its key is not held.
+pub fn asked_length(catalogue: &Catalogue, cols: Columns, key: Key) -> u64
+    ensures { result ≡ asked_length catalogue.now cols key }
+{
+    match catalogue.entry(key) {
+        Some(entry) => asked_in(&entry, cols),
+        None => 0,
+    }
+}

@@ -1,0 +1,192 @@
+-- The answers to a plan and to a certificate.
+use Rattle.std.proofs.Common.{◌≡◌, ℕ, ◌≤◌, ◌<◌, Bool, true, false, not, List, [], ◌∷◌, Option, Some, None, Err, if◌then◌else◌, length, map, refl, sym, ◌∙◌, ap, subst, nat_lt, arith}
+use Rattle.std.specs.Prelude.{is_some, ◌||◌}
+use Rattle.std.specs.List.{AllZip}
+use borrow.Author.Tests.{le-ltb, lt-ltb}
+use Rattle.dg_graph.specs.declared.element.Columns.{Columns}
+use Rattle.dg_graph.specs.declared.event.Event.{Event}
+use Rattle.dg_graph.specs.Lines.{ScriptLine}
+use Rattle.dg_history.specs.declared.node.NodeId.{NodeId}
+use Rattle.dg_history.specs.declared.node.NodeId.TheVariants.{Root}
+use Rattle.dg_history.specs.declared.params.Params.{Params}
+use Rattle.dg_history.specs.History.{History, events_of, in_range, span_of}
+use Rattle.dg_index.specs.declared.entry.Entry.{Entry}
+use Rattle.dg_history.specs.declared.node.Key.{Key}
+use Rattle.dg_index.specs.OpenedIndex.{Opening, opened_of}
+use Rattle.dg_machine.specs.declared.command.Command.TheVariants as command
+use Rattle.dg_machine.specs.declared.reply.Head.TheVariants as head
+use Rattle.dg_machine.specs.declared.reply.Refusal.{Refusal}
+use Rattle.dg_machine.specs.declared.reply.Refusal.TheVariants as refusal
+use Rattle.dg_machine.specs.declared.reply.Reply.{Reply}
+use Rattle.dg_machine.specs.Answer.{headed, is_refusal, plan_reply}
+use Rattle.dg_machine.specs.CommandGrammar.{plan_line_in}
+use Rattle.dg_machine.specs.MachineState.{MachineState, history_in}
+use Rattle.dg_machine.specs.Needs.{needs}
+use Rattle.dg_machine.specs.Planning.{IsPlanned, edges_in, nodes_in, point_for}
+use Rattle.dg_plan.specs.declared.certificate.Verdict.{Verdict}
+use Rattle.dg_plan.specs.declared.edge.Edge.{Edge}
+use Rattle.dg_plan.specs.CertificateLines.{judged}
+use Rattle.dg_plan.specs.HistoryGraph.{ground_of_history}
+use Rattle.dg_plan.specs.IndexGraph.{arcs_of, edges_of, nodes_of}
+use Rattle.dg_plan.specs.InstantPoint.{point}
+use Rattle.dg_plan.specs.Walks.{IsPlan, IsPotential, weight_of}
+use Rattle.dg_planner.specs.Bases.{ground_of}
+use Rattle.dg_planner.proofs.HistoryGraph.{graph_of_history}
+use Rattle.dg_session.proofs.OpenedHistory.{behind}
+use Rattle.dg_session.proofs.StandsFor.{IsOf, by_first, is_of, miss, one_image, stands_on}
+use Rattle.dg_session.specs.declared.halt.Halt.TheVariants as halt
+use Rattle.dg_session.specs.declared.stop.Stop.{Stop}
+use Rattle.dg_session.specs.declared.stop.Stop.TheVariants as stop
+use Rattle.dg_session.proofs.Steps.{Comes, lacking_denies, moved, moved_by, refused_denies}
+use Rattle.dg_session.specs.BatchLines.{first_refusal}
+use Rattle.dg_session.specs.Parts.{Parts}
+use Rattle.dg_session.specs.Plans.{IsPlanReply, holding, kept_edges, kept_nodes, shape_with}
+use Rattle.dg_session.specs.Session.{Accepts, Denies, StandsFor, refusals_by, refused_by, retrieval_needs}
+
+-- ---- what is refused
+
+-- where there is an index and the instant is in its history, nothing is
+pub free_at : (p : Parts) (t : ℕ) (o : Opening) → p.index ≡ Some o → in_range (span_of p.events) t ≡ true → refused_by p 0 (retrieval_needs (t ∷ []) 0) ≡ None
+free_at p t o there inside =
+    miss (not (is_some p.index)) refusal.NoIndex _ (ap (λ i. not (is_some i)) there)
+    ∙ miss (not (in_range (span_of p.events) t) || false) (refusal.OutOfRange (span_of p.events)) [] (ap (λ b. not b || false) inside)
+
+-- a certificate is refused by the lines that were read, or as a plan is
+pub certificate_refused : (p : Parts) (t : ℕ) (cols : Columns) (count read : ℕ) → refused_by p read (needs (command.Certify t cols count)) ≡ first_refusal read count (refused_by p 0 (retrieval_needs (t ∷ []) 0))
+certificate_refused p t cols count read = by_first (nat_lt read count) (refusal.ShortBatch read count) (refusals_by (is_some p.index) p 0 (retrieval_needs (t ∷ []) 0))
+
+pub short_refused : (p : Parts) (t : ℕ) (cols : Columns) (count read : ℕ) → nat_lt read count ≡ true → refused_by p read (needs (command.Certify t cols count)) ≡ Some (refusal.ShortBatch read count)
+short_refused p t cols count read short =
+    certificate_refused p t cols count read
+    ∙ ap (λ (b : Bool). if b then Some (refusal.ShortBatch read count) else refused_by p 0 (retrieval_needs (t ∷ []) 0)) short
+
+-- enough lines were read
+pub enough_refused : (p : Parts) (t : ℕ) (cols : Columns) (count read : ℕ) → nat_lt read count ≡ false → refused_by p read (needs (command.Certify t cols count)) ≡ refused_by p 0 (retrieval_needs (t ∷ []) 0)
+enough_refused p t cols count read enough =
+    certificate_refused p t cols count read
+    ∙ ap (λ (b : Bool). if b then Some (refusal.ShortBatch read count) else refused_by p 0 (retrieval_needs (t ∷ []) 0)) enough
+
+-- ---- the graph
+
+-- what the index has, it has of the history that the session stands for
+module _ (p : Parts) (o : Opening) (image : List ℕ) (m : MachineState) (there : p.index ≡ Some o) (s : StandsFor p image m) where
+  abbrev z : History
+  z = (is_of p o image m there s).0
+
+  of_z : IsOf p o image m z
+  of_z = (is_of p o image m there s).1
+
+  pub params_are : o.params ≡ z.params
+  params_are = ap (λ (x : Opening). x.params) of_z.opened ∙ (behind z of_z.stands.legal).params
+
+  records_are : o.records ≡ (opened_of z).index.records
+  records_are = ap (λ (x : Opening). x.records) of_z.opened
+
+  pub edges_are : (cols : Columns) → kept_edges o (length p.events) cols ≡ edges_in m cols
+  edges_are cols =
+      (λ i. edges_of (ground_of (shape_with (params_are i) (length (of_z.events i))) (holding (records_are i)) cols [] (nat_lt 0 (length (of_z.events i)))))
+      ∙ (graph_of_history z of_z.stands.legal (holding (opened_of z).index.records) refl cols).0
+      ∙ sym (ap (λ (i : Option History). edges_of (ground_of_history (history_in i) cols)) of_z.index)
+
+  pub nodes_are : (cols : Columns) → kept_nodes o (length p.events) cols ≡ nodes_in m cols
+  nodes_are cols =
+      (λ i. nodes_of (ground_of (shape_with (params_are i) (length (of_z.events i))) (holding (records_are i)) cols [] (nat_lt 0 (length (of_z.events i)))))
+      ∙ (graph_of_history z of_z.stands.legal (holding (opened_of z).index.records) refl cols).1
+      ∙ sym (ap (λ (i : Option History). nodes_of (ground_of_history (history_in i) cols)) of_z.index)
+
+  pub point_is : (t : ℕ) → point o.params p.events t ≡ point_for m t
+  point_is t =
+      (λ i. point (params_are i) (of_z.events i) t)
+      ∙ sym (ap (λ (i : Option History). point (history_in i).params (events_of (history_in i)) t) of_z.index)
+
+  -- what is planned over the index is planned for the machine
+  pub is_planned : (t : ℕ) (cols : Columns) (reply : Reply) (r : IsPlanReply o p.events t cols reply) → IsPlanned m (command.Plan t cols) r.plan
+  is_planned t cols reply r = (
+    subst (λ (es : List Edge). IsPlan (arcs_of es) (Root ∷ []) (point_for m t) r.plan.steps) (edges_are cols)
+        (subst (λ (a : NodeId). IsPlan (arcs_of (kept_edges o (length p.events) cols)) (Root ∷ []) a r.plan.steps) (point_is t) r.least),
+    subst (λ (ns : List NodeId). AllZip (IsPotential (arcs_of (edges_in m cols)) (Root ∷ []) (weight_of (arcs_of (edges_in m cols)) r.plan.steps)) ns r.plan.potentials) (nodes_are cols)
+        (subst (λ (es : List Edge). AllZip (IsPotential (arcs_of es) (Root ∷ []) (weight_of (arcs_of es) r.plan.steps)) (kept_nodes o (length p.events) cols) r.plan.potentials) (edges_are cols) r.certified),
+  )
+
+  pub plan_due : (t : ℕ) (cols : Columns) (reply : Reply) (r : IsPlanReply o p.events t cols reply)
+      → plan_reply (edges_in m cols) (nodes_in m cols) (weight_of (arcs_of (edges_in m cols)) r.plan.steps) r.plan.steps r.plan.potentials ≡ reply
+  plan_due t cols reply r =
+      sym (r.says ∙ (λ i. plan_reply (edges_are cols i) (nodes_are cols i) (weight_of (arcs_of (edges_are cols i)) r.plan.steps) r.plan.steps r.plan.potentials))
+
+  pub verdict_due : (t : ℕ) (cols : Columns) (got : List ScriptLine) → judged (kept_edges o (length p.events) cols) (kept_nodes o (length p.events) cols) (point o.params p.events t) (map plan_line_in got)
+      ≡ judged (edges_in m cols) (nodes_in m cols) (point_for m t) (map plan_line_in got)
+  verdict_due t cols got = λ i. judged (edges_are cols i) (nodes_are cols i) (point_is t i) (map plan_line_in got)
+
+-- ---- the answers
+
+pub plan_answers : (p : Parts) (t : ℕ) (cols : Columns) (image : Option (List ℕ)) (o : Opening) (reply : Reply) → p.index ≡ Some o → in_range (span_of p.events) t ≡ true → IsPlanReply o p.events t cols reply
+    → Accepts (command.Plan t cols) [] p image p image reply
+plan_answers p t cols image o reply there inside r = record {
+  moves =
+      moved_by (command.Plan t cols) [] r.plan p p image image reply (free_at p t o there inside)
+      (λ m x y a b s free. (
+        m,
+        is_planned p o x m there s t cols reply r,
+        (λ i. record { reply = plan_due p o x m there s t cols reply r i; state = m }),
+        stands_on p p x y m refl (one_image image image x y refl a b) s,
+      ));
+  accepted = ap (λ (x : Reply). is_refusal x.head) r.says;
+  held = λ h. h;
+  no_index = λ h. (h, refl);
+  quiet = λ h. refl;
+}
+
+pub certificate_answers : (p : Parts) (t : ℕ) (cols : Columns) (count : ℕ) (got : List ScriptLine) (image : Option (List ℕ)) (o : Opening) (verdict : Verdict) (reply : Reply)
+    → p.index ≡ Some o → in_range (span_of p.events) t ≡ true → nat_lt (length got) count ≡ false
+    → verdict ≡ judged (kept_edges o (length p.events) cols) (kept_nodes o (length p.events) cols) (point o.params p.events t) (map plan_line_in got) → reply ≡ headed (head.Certified verdict)
+    → Accepts (command.Certify t cols count) got p image p image reply
+certificate_answers p t cols count got image o verdict reply there inside enough is reply_is = record {
+  moves =
+      moved (command.Certify t cols count) got p p image image reply (λ m. refl) (enough_refused p t cols count (length got) enough ∙ free_at p t o there inside)
+      (λ m x y a b s free. (
+        m,
+        (λ i. record { reply = sym (reply_is ∙ ap (λ v. headed (head.Certified v)) (is ∙ verdict_due p o x m there s t cols got)) i; state = m }),
+        stands_on p p x y m refl (one_image image image x y refl a b) s,
+      ));
+  accepted = ap (λ (x : Reply). is_refusal x.head) reply_is;
+  held = λ h. h;
+  no_index = λ h. (h, refl);
+  quiet = λ h. refl;
+}
+
+-- ---- a certificate whose lines were read
+
+-- it is refused so
+pub certificate_denied : (p : Parts) (t : ℕ) (cols : Columns) (count : ℕ) (got : List ScriptLine) (image : Option (List ℕ)) (r : Refusal)
+    → refused_by p (length got) (needs (command.Certify t cols count)) ≡ Some r → Denies (command.Certify t cols count) got p image p image r
+certificate_denied p t cols count got image r is = refused_denies (command.Certify t cols count) got p p image image r refl refl is
+
+pub certificate_lacks : (p : Parts) (t : ℕ) (cols : Columns) (count : ℕ) (got : List ScriptLine) (image : Option (List ℕ)) (o : Opening)
+    → p.index ≡ Some o → in_range (span_of p.events) t ≡ true → nat_lt (length got) count ≡ false
+    → Denies (command.Certify t cols count) got p image p image refusal.OutOfMemory
+certificate_lacks p t cols count got image o there inside enough =
+    lacking_denies (command.Certify t cols count) got p p image image refl refl refl (enough_refused p t cols count (length got) enough ∙ free_at p t o there inside)
+
+-- the script ended within its lines
+pub certificate_stopped : (p : Parts) (t : ℕ) (cols : Columns) (count : ℕ) (before after : Option (List ScriptLine)) (image : Option (List ℕ)) (s : Stop) → (s ≡ stop.Store → ⊥)
+    → Comes (command.Certify t cols count) count before after p image p image (Err (halt.Stop s))
+certificate_stopped p t cols count before after image stop.Read no_store = ([], tt, record { same = refl; same_image = refl })
+certificate_stopped p t cols count before after image stop.Limit no_store = ([], tt, record { same = refl; same_image = refl })
+certificate_stopped p t cols count before after image stop.Store no_store = absurd (no_store refl)
+
+-- enough lines were read of those that were counted
+pub enough_read : (got : List ScriptLine) (read count : ℕ) → length got ≡ read → count ≤ read → nat_lt (length got) count ≡ false
+enough_read got read count is le = le-ltb (length got) count (omega (arith, is, le))
+
+-- too few lines were read
+pub certificate_short : (p : Parts) (t : ℕ) (cols : Columns) (count read : ℕ) (got : List ScriptLine) (image : Option (List ℕ)) → length got ≡ read → read < count
+    → Denies (command.Certify t cols count) got p image p image (refusal.ShortBatch read count)
+certificate_short p t cols count read got image is lt =
+    certificate_denied p t cols count got image (refusal.ShortBatch read count)
+    (short_refused p t cols count (length got) (lt-ltb (length got) count (omega (arith, is, lt))) ∙ ap (λ n. Some (refusal.ShortBatch n count)) is)
+
+-- enough lines were read, and the instant is refused
+pub certificate_out : (p : Parts) (t : ℕ) (cols : Columns) (count read : ℕ) (got : List ScriptLine) (image : Option (List ℕ)) (r : Refusal) → length got ≡ read → count ≤ read
+    → refused_by p 0 (retrieval_needs (t ∷ []) 0) ≡ Some r → Denies (command.Certify t cols count) got p image p image r
+certificate_out p t cols count read got image r is le refused =
+    certificate_denied p t cols count got image r (enough_refused p t cols count (length got) (enough_read got read count is le) ∙ refused)

@@ -1,0 +1,13 @@
+use Rattle.std.proofs.Common.{◌≡◌, [], List, subst, nat_lt}
+use Rattle.std.specs.Prelude.{IfOk}
+use Rattle.dg_plan.specs.declared.edge.Edge.{Edge}
+use Rattle.dg_plan.specs.IndexGraph.{edges_of}
+use Rattle.dg_planner.specs.Bases.{ground_of}
+use Rattle.dg_session.specs.Plans.{holding}
+use Rattle.dg_session.proofs.planning.planner_of.Goals as goal
+
+pub returns-clause-edges : goal.returns-clause-edges
+returns-clause-edges c =
+    subst (λ (es : List Edge). IfOk c.new.result (λ p. p.edges ≡ es))
+    (λ i. edges_of (ground_of (c.shape_of-shape.ensures i) (holding (c.catalogue.ensures.entries i)) c.args.cols [] (nat_lt 0 c.args.events)))
+    c.new.ensures.edges

@@ -1,0 +1,29 @@
+use Rattle.std.proofs.Common.{◌≡◌, [], length, refl, sym, ◌∙◌, ap, subst, rules}
+use Rattle.std.specs.Prelude.{IsErrAnd}
+use Rattle.dg_machine.specs.declared.command.Command.TheVariants as command
+use Rattle.dg_machine.specs.declared.reply.Refusal.TheVariants as refusal
+use Rattle.dg_session.specs.declared.halt.Halt.TheVariants as halt
+use Rattle.dg_session.specs.Parts.{Parts}
+use Rattle.dg_session.specs.RecordListing.{listing_of}
+use Rattle.dg_session.specs.Session.{ComesTo}
+use Rattle.dg_session.proofs.Steps.{handed_out, lacking_denies, refused_denies}
+use Rattle.dg_session.proofs.TreeStep.{tree_answers, tree_free, tree_refused}
+use Rattle.dg_session.proofs.session.Session.tree.Goals as goal
+
+pub returns-in_err-index-clause-comes : goal.returns-in_err-index-clause-comes
+returns-in_err-index-clause-comes c image =
+    handed_out c.from_residual.result (halt.Refusal refusal.NoIndex) (ComesTo command.Tree [] c.args.self.now image c.args.self.now image)
+    (c.from_residual.ensures.0, subst (λ r. IsErrAnd c.from_residual.result (λ y. y ≡ halt.Refusal r)) c.in_err-index.ensures.none.1 c.from_residual.ensures.1)
+    (refused_denies command.Tree [] c.args.self.now c.args.self.now image image refusal.NoIndex refl refl (tree_refused c.args.self.now c.in_err-index.ensures.none.0))
+
+pub returns-in_err-reply-clause-comes : goal.returns-in_err-reply-clause-comes
+returns-in_err-reply-clause-comes c image =
+    handed_out c.from_residual-in_err-reply.result (halt.Refusal refusal.OutOfMemory) (ComesTo command.Tree [] c.args.self.now image c.args.self.now image) c.from_residual-in_err-reply.ensures
+    (lacking_denies command.Tree [] c.args.self.now c.args.self.now image image refl refl refl (tree_free c.args.self.now c.in_ok-index.index.now.opening c.in_ok-index.ensures.index))
+
+pub returns-clause-comes : goal.returns-clause-comes
+returns-clause-comes c image =
+    let held : c.len.result ≡ length c.self.inside.history.events.items = search rules in
+    let count = held ∙ ap length (ap (λ (x : Parts). x.events) c.self.view_is) in
+    tree_answers c.args.self.now image c.in_ok-index.index.now.opening c.in_ok-reply.reply c.in_ok-index.ensures.index
+    (c.in_ok-reply.ensures ∙ ap (listing_of c.in_ok-index.index.now.opening) count)
