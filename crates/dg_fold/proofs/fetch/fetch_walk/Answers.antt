@@ -1,0 +1,45 @@
+use Rattle.std.proofs.Common.{sym, ap, subst, arith, ◌∙◌}
+use Rattle.std.specs.Option.{IfSome}
+use Rattle.std.proofs.lemmas.List.{take_all}
+use Rattle.dg_file.specs.Images.{IsOpenedAs}
+use Rattle.dg_index.specs.OpenedIndex.{Opening}
+use Rattle.dg_fold.specs.BytesRead.{AreParts, kept_in, named_along}
+use Rattle.dg_fold.proofs.Fetching.{if_told, is_entered, most_of_walk, so_far_more}
+use Rattle.dg_fold.proofs.fetch.fetch_walk.Goals as goal
+
+pub take_step-requires-clause-entered : goal.take_step-requires-clause-entered
+take_step-requires-clause-entered g c =
+    is_entered (g.D.Disk.image c.args.disk.now) c.args.index.now.opening c.args.cols c.args.walk.now c.loop-edge.edge-index _ c.loop-edge-test.true
+    c.loop-edge.parts.items (g.D.Disk.taken c.args.disk.now) (g.D.Disk.taken c.loop-edge.disk) c.loop-edge.invariant.so_far
+
+pub take_step-requires-clause-image : goal.take_step-requires-clause-image
+take_step-requires-clause-image g c =
+    subst (λ m. IfSome m (λ image. IsOpenedAs image c.loop-edge.index.opening)) (sym c.loop-edge.invariant.frame.same_image)
+    (subst (λ (o : Opening). IfSome (g.D.Disk.image c.args.disk.now) (λ image. IsOpenedAs image o)) (sym (ap (λ x. x.opening) c.loop-edge.invariant.same)) c.requires.image)
+
+pub returns-in_err-take_step-clause-most : goal.returns-in_err-take_step-clause-most
+returns-in_err-take_step-clause-most g c =
+    most_of_walk (g.D.Disk.image c.args.disk.now) c.args.index.now.opening c.args.cols c.args.walk.now c.loop-edge.edge-index _ c.loop-edge-test.true
+    (g.D.Disk.image c.loop-edge.disk) c.loop-edge.index.opening c.loop-edge.invariant.frame.same_image (ap (λ x. x.opening) c.loop-edge.invariant.same)
+    c.loop-edge.parts.items (g.D.Disk.taken c.args.disk.now) (g.D.Disk.taken c.loop-edge.disk) (g.D.Disk.taken c.take_step.new.disk) c.loop-edge.invariant.so_far
+    c.take_step.ensures.most
+
+pub loop-edge-preserved : goal.loop-edge-preserved
+loop-edge-preserved g c = record {
+  so_far = so_far_more (g.D.Disk.image c.args.disk.now) c.args.index.now.opening c.args.cols c.args.walk.now c.loop-edge.edge-index _ c.loop-edge-test.true
+      (g.D.Disk.image c.loop-edge.disk) c.loop-edge.index.opening c.loop-edge.invariant.frame.same_image (ap (λ x. x.opening) c.loop-edge.invariant.same)
+      c.loop-edge.parts.items (g.D.Disk.taken c.args.disk.now) (g.D.Disk.taken c.loop-edge.disk) (g.D.Disk.taken c.take_step.new.disk) c.loop-edge.invariant.so_far
+      c.take_step.new.parts.items c.in_ok-take_step.ensures.named c.in_ok-take_step.ensures.parts c.in_ok-take_step.ensures.takes;
+  same = c.take_step.ensures.same ∙ c.loop-edge.invariant.same;
+  frame = record {
+    same_image = c.take_step.ensures.frame.same_image ∙ c.loop-edge.invariant.frame.same_image;
+    counted = omega (arith, c.take_step.ensures.frame.counted, c.loop-edge.invariant.frame.counted);
+    no_write_failed = c.take_step.ensures.frame.no_write_failed ∙ c.loop-edge.invariant.frame.no_write_failed;
+  };
+}
+
+pub returns-clause-parts : goal.returns-clause-parts
+returns-clause-parts g c =
+    if_told (g.D.Disk.image c.args.disk.now) (λ bytes. AreParts (kept_in bytes c.args.index.now.opening) c.args.cols (named_along c.args.walk.now) c.loop-edge.parts.items)
+    (λ bytes is. subst (λ w. AreParts (kept_in bytes c.args.index.now.opening) c.args.cols (named_along w) c.loop-edge.parts.items) (take_all c.loop-edge.edge-index c.args.walk.now c.loop-edge-test.false)
+    (c.loop-edge.invariant.so_far.are bytes is))

@@ -1,0 +1,5 @@
+use Rattle.dg_fold.proofs.WalksLead.{instants_are_reached}
+use Rattle.dg_fold.proofs.laws.law_instants_are_reached.Goals as goal
+
+pub returns : goal.returns
+returns c = instants_are_reached

@@ -1,0 +1,5 @@
+use Rattle.dg_fold.proofs.InstantsPart.{instants_part}
+use Rattle.dg_fold.proofs.laws.law_instants_part.Goals as goal
+
+pub returns : goal.returns
+returns c = instants_part

@@ -1,0 +1,5 @@
+use Rattle.dg_fold.proofs.Parted.{plans_reach}
+use Rattle.dg_fold.proofs.laws.law_plans_reach.Goals as goal
+
+pub returns : goal.returns
+returns c = plans_reach

@@ -1,0 +1,5 @@
+use Rattle.dg_fold.proofs.RecordsLead.{records_lead}
+use Rattle.dg_fold.proofs.laws.law_records_lead.Goals as goal
+
+pub returns : goal.returns
+returns c = records_lead

@@ -1,0 +1,5 @@
+use Rattle.dg_fold.proofs.Leading.{trees_reach}
+use Rattle.dg_fold.proofs.laws.law_trees_reach.Goals as goal
+
+pub returns : goal.returns
+returns c = trees_reach

@@ -1,0 +1,11 @@
+pub mod PathIndependence
+pub mod Parts
+pub mod Steps
+pub mod Fitting
+pub mod BytesRead
+pub mod Trees
+pub mod TreeSteps
+pub mod Ends
+pub mod HistoryPaths
+pub mod PointSplits
+pub mod HistoryTrees

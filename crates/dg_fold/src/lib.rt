@@ -1,0 +1,33 @@
+//! Reading the records of a walk through the index of a history, and composing them: along a plan, and along
+//! each path of a tree. docs/MODEL.md has the definitions.
+#![tactic(auto)]
+
+mod along;
+mod column;
+mod ends;
+mod fault;
+mod fetch;
+mod gate;
+mod laws;
+mod net;
+mod part;
+mod plan;
+mod record;
+mod stepping;
+#[cfg(test)]
+mod tests;
+mod tree;
+
+pub use dg_delta::Delta;
+pub use fault::FoldFault;
+pub use fetch::fetch_walk;
+pub use gate::{Gate, Open};
+pub use laws::{
+    law_columns_of_an_image, law_edges_are_sound, law_history_paths_lead, law_history_trees_reach,
+    law_instants_are_reached, law_instants_part, law_legal_histories_are_indexed,
+    law_parts_are_read, law_plans_lead, law_plans_reach, law_points_split, law_records_fit,
+    law_records_lead, law_steps_are_walks, law_trees_lead, law_trees_reach, law_walks_lead,
+};
+pub use part::{Bytes, Part};
+pub use plan::compose_plan;
+pub use tree::{Branch, Lead, compose_tree};

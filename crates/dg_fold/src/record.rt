@@ -1,0 +1,81 @@
+//! Reading a record of an index.
+
+ghost use Rattle.std.specs.Prelude.{◌≡◌, true, length, is_some, IfOk, IfSome, OnOk, OnErr, IsErrOf};
+ghost use Rattle.std.specs.Map.{lookup};
+ghost use Rattle.std.specs.Option.{ForSome};
+ghost use Rattle.dg_disk.specs.Counts.{Rose};
+ghost use Rattle.dg_disk.specs.Frame.{OnlyReads};
+ghost use Rattle.dg_file.specs.Images.{IsOpenedAs};
+ghost use Rattle.dg_graph.specs.declared.element.Column.{Column};
+ghost use Rattle.dg_history.specs.Keys.{same_key};
+ghost use Rattle.dg_fold.specs.BytesRead.{Takes, TakesAtMost, asked_column, asked_length, kept_in};
+ghost use Rattle.dg_fold.specs.Parts.{bytes_in};
+
+use crate::part::Bytes;
+use dg_disk::Disk;
+use dg_event::asks;
+use dg_file::{FetchFault, Index};
+use dg_graph::{Column, Columns};
+use dg_history::Key;
+use std::alloc::Global;
+
+// A column of a record, and no bytes where it is not asked for.
+fn read_column<D: Disk>(
+    alloc: Global,
+    index: &mut Index,
+    disk: &mut D,
+    key: Key,
+    col: Column,
+    cols: Columns,
+) -> Result<Vec<u8>, FetchFault>
+    requires held { is_some (lookup (same_key key) index.old.opening.records) ≡ true }
+    requires image { IfSome (D.image disk.old) (λ image. IsOpenedAs image index.old.opening) }
+    ensures bytes { IfOk result (λ v. ForSome (D.image disk.old) (λ image. v.items ≡ asked_column (kept_in image index.old.opening) cols key col)) }
+    ensures takes { IfOk result (λ v. Takes (length v.items) (D.taken disk.old) (D.taken disk.new)) }
+
+    // errors
+    ensures none_taken { OnErr result (D.taken disk.new ≡ D.taken disk.old) }
+    ensures cause { IsErrOf result FetchFault.Disk → Rose (D.faults disk.old) (D.faults disk.new) }
+
+    // frame
+    ensures same { index.new ≡ index.old }
+    ensures frame { OnlyReads D.image D.faults D.write_faults disk.old disk.new }
+{
+    if asks(cols, col) {
+        index.fetch(disk, key, col)
+    } else {
+        Ok(Vec::new(alloc))
+    }
+}
+
+/// Reads the asked columns of a record that the index keeps. `FetchFault::Disk` where the disk failed,
+/// `FetchFault::Memory` for want of memory.
+pub(crate) fn read_record<D: Disk>(
+    alloc: Global,
+    index: &mut Index,
+    disk: &mut D,
+    key: Key,
+    cols: Columns,
+) -> Result<Bytes, FetchFault>
+    requires held { is_some (lookup (same_key key) index.old.opening.records) ≡ true }
+    requires image { IfSome (D.image disk.old) (λ image. IsOpenedAs image index.old.opening) }
+    ensures bytes { IfOk result (λ b. ForSome (D.image disk.old) (λ image. (col : Column) → bytes_in b col ≡ asked_column (kept_in image index.old.opening) cols key col)) }
+    ensures takes { OnOk result (ForSome (D.image disk.old) (λ image. Takes (asked_length (kept_in image index.old.opening) cols key) (D.taken disk.old) (D.taken disk.new))) }
+    ensures most { ForSome (D.image disk.old) (λ image. TakesAtMost (asked_length (kept_in image index.old.opening) cols key) (D.taken disk.old) (D.taken disk.new)) }
+
+    // errors
+    ensures cause { IsErrOf result FetchFault.Disk → Rose (D.faults disk.old) (D.faults disk.new) }
+
+    // frame
+    ensures same { index.new ≡ index.old }
+    ensures frame { OnlyReads D.image D.faults D.write_faults disk.old disk.new }
+{
+    let structure = read_column(alloc, index, disk, key, Column::Structure, cols)?;
+    let node_attr = read_column(alloc, index, disk, key, Column::NodeAttr, cols)?;
+    let edge_attr = read_column(alloc, index, disk, key, Column::EdgeAttr, cols)?;
+    Ok(Bytes {
+        structure,
+        node_attr,
+        edge_attr,
+    })
+}
