@@ -2,7 +2,7 @@
 use Rattle.std.proofs.Common.{◌≡◌, ℕ, ◌+◌, ◌*◌, ◌≤◌, ◌<◌, List as ListOf, [], ◌∷◌, ◌++◌, Option, None, Some, length, map, refl, sym, ap, subst, ◌∙◌, arith}
 use Rattle.std.specs.Prelude.{slice_get}
 use Rattle.std.specs.Option.{option_map, option_to_list}
-use Rattle.std.specs.List.{All, AllZip, Contains}
+use Rattle.std.specs.List.{All, AllZip, Contains, sum}
 use Rattle.std.proofs.lemmas.List.{length_push, map-append}
 use Rattle.std.proofs.lemmas.List.Elements.{All-append, All-contains, All-from_recursion, All-nil}
 use Rattle.std.proofs.lemmas.List.Sums.{sum_by_push}
@@ -25,6 +25,10 @@ use Rattle.dg_planner.proofs.Standing.{apart_places}
 use Rattle.dg_planner.proofs.NodePlans.{inside, is_target, place_within, plan_is, weight_is}
 use Rattle.dg_planner.proofs.Singles.{has_plan}
 
+-- the sum of the singles with one more
+pub sum_push : (xs : ListOf ℕ) (x : ℕ) → sum (xs ++ x ∷ []) ≡ sum xs + x
+sum_push xs x = sum_by_push (λ n. n) xs x
+
 -- what is shown of the grafts, the singles and the weight of the targets so far, and of the costs from the tree
 pub record IsGrown (g : Ground) (edges : ListOf Edge) (links : ListOf Link) (targets : ListOf NodeId) (grafts : ListOf (Graft NodeId)) (singles : ListOf ℕ) (weight : ℕ) (costs : ListOf Label) : Type 0 where
   pub count : length costs ≡ length (nodes_of g)
@@ -35,6 +39,7 @@ pub record IsGrown (g : Ground) (edges : ListOf Edge) (links : ListOf Link) (tar
   pub weight_is : weight ≡ tree_weight (arcs_of edges) grafts
   pub light : weight ≤ length targets * FARTHEST
   pub singles_are : AreSingles (arcs_of edges) (Root ∷ []) targets singles
+  pub singles_light : sum singles ≤ length targets * FARTHEST
 
 zip_push : {A B : Type 0} (R : A → B → Type 0) (xs : ListOf A) (ys : ListOf B) (x : A) (y : B) → AllZip R xs ys → R x y → AllZip R (xs ++ x ∷ []) (ys ++ y ∷ [])
 zip_push R [] [] x y all last = (last, tt)
@@ -82,6 +87,7 @@ module _ (g : Ground) (edges : ListOf Edge) (starts : ListOf ℕ) (links : ListO
     weight_is = refl;
     light = omega arith;
     singles_are = tt;
+    singles_light = omega arith;
   })
 
   -- what a single plan weighs stands in the table of the root
@@ -94,6 +100,10 @@ module _ (g : Ground) (edges : ListOf Edge) (starts : ListOf ℕ) (links : ListO
         plan,
         tables.weight_is links costs (0 ∷ []) whole.table (place_of g v) near p.0 p.1 ∙ weight_is g edges starts links outs ins costs whole plan.walk.0 p.0 v plan.walk.2,
       )
+
+  -- what a single plan weighs is no more than the farthest node
+  pub single_light : (v : NodeId) → Contains (nodes_of g) v → (label_at costs (place_of g v)).weight ≤ FARTHEST
+  single_light v vn = whole.near (place_of g v) (let p = place_within g v vn in let n = whole.count in omega arith)
 
   module _ (targets : ListOf NodeId) (grafts : ListOf (Graft NodeId)) (singles : ListOf ℕ) (weight : ℕ) (now : ListOf Label) (had : IsGrown g edges links targets grafts singles weight now)
       (target : NodeId) (vn : Contains (nodes_of g) target) where
@@ -145,6 +155,7 @@ module _ (g : Ground) (edges : ListOf Edge) (starts : ListOf ℕ) (links : ListO
         weight_is = (λ i. had.weight_is i + weighs i) ∙ sym (sum_by_push (λ (y : Graft NodeId). weight_of (arcs_of edges) y.steps) grafts x);
         light = (let a = had.light in let b = near_now in let n = length_push targets target in omega arith);
         singles_are = zip_push _ targets singles target (label_at costs (place_of g target)).weight had.singles_are (single_is target vn);
+        singles_light = (let a = had.singles_light in let b = single_light target vn in let n = length_push targets target in let s = sum_push singles (label_at costs (place_of g target)).weight in omega arith);
       }
 
 -- with each part told otherwise

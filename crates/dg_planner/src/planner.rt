@@ -155,6 +155,7 @@ impl Planner {
         ensures tree { IfOk result (λ t. IsTree (arcs_of self.now.edges) (Root ∷ []) targets.now (grafts_in t)) }
         ensures singles { IfOk result (λ t. AreSingles (arcs_of self.now.edges) (Root ∷ []) targets.now t.singles.items) }
         ensures weight { IfOk result (λ t. t.weight ≡ tree_weight (arcs_of self.now.edges) (grafts_in t)) }
+        ensures sum { IfOk result (λ t. t.sum ≡ sum t.singles.items) }
         ensures shared { IfOk result (λ t. t.weight ≤ sum t.singles.items) }
         ensures once { IfOk result (λ t. EntersOnce self.now.edges (steps_of (grafts_in t))) }
     {
@@ -163,10 +164,12 @@ impl Planner {
         let mut grafts = Vec::with_capacity(alloc, targets.len())?;
         let mut singles = Vec::with_capacity(alloc, targets.len())?;
         let mut weight = 0;
+        let mut sum = 0;
         for target in targets {
             let at = place(self.form, &self.starts, *target);
             let single = weight_at(&self.costs, at);
             singles.push(single)?;
+            sum += single;
             let nearest = weight_at(&costs, at);
             weight += nearest;
             let steps = plan_to(
@@ -192,6 +195,7 @@ impl Planner {
             grafts,
             weight,
             singles,
+            sum,
         })
     }
 }

@@ -28,6 +28,8 @@ pub struct Tree {
     pub weight: u64,
     /// What the plan of each target from the root weighs, in bytes, in the order of targets.
     pub singles: Vec<u64>,
+    /// What these plans weigh together, in bytes.
+    pub sum: u64,
 }
 
 /// The node at which a walk to the target begins: the target itself, where there is no step.

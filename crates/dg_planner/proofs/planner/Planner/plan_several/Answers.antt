@@ -1,6 +1,6 @@
 use Rattle.std.proofs.Common.{◌≡◌, ℕ, ◌+◌, ◌<◌, List, [], ◌∷◌, ◌++◌, length, refl, take, sym, ap, subst, ◌∙◌, arith}
 use Rattle.std.specs.Prelude.{slice_index_or}
-use Rattle.std.specs.List.{All, Contains}
+use Rattle.std.specs.List.{All, Contains, sum}
 use Rattle.std.proofs.lemmas.List.{length-take, map-append, take_more}
 use Rattle.dg_history.specs.declared.node.NodeId.TheVariants.{Root}
 use Rattle.dg_plan.specs.EnteredRecords.{EntersOnce}
@@ -12,15 +12,17 @@ use Rattle.dg_path.specs.Search.{Falls, IsTable, arcs, label_at}
 use Rattle.dg_planner.specs.Order.{bare_ground, place_of}
 use Rattle.dg_planner.specs.Trees.{graft_of, grafts_of}
 use Rattle.dg_planner.specs.Whole.{PlannerGraph}
-use Rattle.dg_planner.proofs.Grown.{grown_as, near_now, none_grown, one_grown}
+use Rattle.dg_planner.proofs.Grown.{grown_as, near_now, none_grown, one_grown, single_light, sum_push}
 use Rattle.dg_planner.proofs.NodePlans.{link_count, node_is, place_within}
 use Rattle.dg_planner.proofs.planner.Planner.plan_several.Goals as goal
 
 pub loop-target-init : goal.loop-target-init
 loop-target-init c =
-    let g = bare_ground c.self.inside.form.leaves c.self.inside.form.arity c.self.inside.form.memory in
-    grown_as g c.self.inside.edges.items c.self.inside.links.items [] [] [] _ [] _ 0 0 _ _ refl (ap grafts_of c.in_ok-grafts.ensures.items) c.in_ok-singles.ensures.items refl refl
-    (none_grown _ _ _ _ _ _ _ c.self.invariant _ (c.in_ok-costs.ensures.items ∙ c.deref.ensures.value))
+    let g = bare_ground c.self.inside.form.leaves c.self.inside.form.arity c.self.inside.form.memory in (
+      grown_as g c.self.inside.edges.items c.self.inside.links.items [] [] [] _ [] _ 0 0 _ _ refl (ap grafts_of c.in_ok-grafts.ensures.items) c.in_ok-singles.ensures.items refl refl
+          (none_grown _ _ _ _ _ _ _ c.self.invariant _ (c.in_ok-costs.ensures.items ∙ c.deref.ensures.value)),
+      sym (ap sum c.in_ok-singles.ensures.items),
+    )
 
 pub place-at-requires-clause-node : goal.place-at-requires-clause-node
 place-at-requires-clause-node c =
@@ -48,7 +50,23 @@ weight_at-nearest-requires c =
     let p = place_within (bare_ground c.self.inside.form.leaves c.self.inside.form.arity c.self.inside.form.memory) (slice_index_or c.args.targets.now i Root) vn in
     let e = c.place-at.ensures in
     let d = ap length c.deref-in-loop-target-3.ensures.value in
-    let n = c.loop-target.invariant.count in
+    let n = c.loop-target.invariant.0.count in
+    omega arith
+
+pub overflow_add-sum : goal.overflow_add-sum
+overflow_add-sum c =
+    let i = c.loop-target.target-index in
+    let within : i < length c.args.targets.now = (let h = c.loop-target-test.true in omega arith) in
+    let g = bare_ground c.self.inside.form.leaves c.self.inside.form.arity c.self.inside.form.memory in
+    let target = slice_index_or c.args.targets.now i Root in
+    let vn = subst (λ (s : PlannerGraph). Contains s.nodes target) (sym c.self.view_is) (c.requires.targets i Root within) in
+    let near = single_light _ _ _ _ _ _ _ c.self.invariant target vn in
+    let now : c.weight_at-single.result ≡ (label_at c.self.inside.costs.items (place_of g target)).weight =
+    c.weight_at-single.ensures ∙ (λ k. (label_at (c.deref-in-loop-target-2.ensures.value k) (c.place-at.ensures k)).weight) in
+    let light = c.loop-target.invariant.0.singles_light in
+    let is = c.loop-target.invariant.1 in
+    let len = length-take i c.args.targets.now in
+    let few = c.requires.few in
     omega arith
 
 pub overflow_add-weight : goal.overflow_add-weight
@@ -56,10 +74,10 @@ overflow_add-weight c =
     let i = c.loop-target.target-index in
     let within : i < length c.args.targets.now = (let h = c.loop-target-test.true in omega arith) in
     let vn = subst (λ (s : PlannerGraph). Contains s.nodes (slice_index_or c.args.targets.now i Root)) (sym c.self.view_is) (c.requires.targets i Root within) in
-    let near = near_now _ _ _ _ _ _ _ c.self.invariant _ _ _ _ _ c.loop-target.invariant (slice_index_or c.args.targets.now i Root) vn in
+    let near = near_now _ _ _ _ _ _ _ c.self.invariant _ _ _ _ _ c.loop-target.invariant.0 (slice_index_or c.args.targets.now i Root) vn in
     let now : c.weight_at-nearest.result ≡ (label_at c.loop-target.costs.items (place_of (bare_ground c.self.inside.form.leaves c.self.inside.form.arity c.self.inside.form.memory) (slice_index_or c.args.targets.now i Root))).weight =
     c.weight_at-nearest.ensures ∙ (λ k. (label_at (c.deref-in-loop-target-3.ensures.value k) (c.place-at.ensures k)).weight) in
-    let light = c.loop-target.invariant.light in
+    let light = c.loop-target.invariant.0.light in
     let len = length-take i c.args.targets.now in
     let few = c.requires.few in
     omega arith
@@ -72,7 +90,7 @@ plan_to-requires-clause-node c =
     let p = place_within (bare_ground c.self.inside.form.leaves c.self.inside.form.arity c.self.inside.form.memory) (slice_index_or c.args.targets.now i Root) vn in
     let e = c.place-at.ensures in
     let d = ap length c.deref-in-loop-target-7.ensures.value in
-    let n = c.loop-target.invariant.count in
+    let n = c.loop-target.invariant.0.count in
     omega arith
 
 pub plan_to-requires-clause-near : goal.plan_to-requires-clause-near
@@ -80,7 +98,7 @@ plan_to-requires-clause-near c =
     let i = c.loop-target.target-index in
     let within : i < length c.args.targets.now = (let h = c.loop-target-test.true in omega arith) in
     let vn = subst (λ (s : PlannerGraph). Contains s.nodes (slice_index_or c.args.targets.now i Root)) (sym c.self.view_is) (c.requires.targets i Root within) in
-    let near = near_now _ _ _ _ _ _ _ c.self.invariant _ _ _ _ _ c.loop-target.invariant (slice_index_or c.args.targets.now i Root) vn in
+    let near = near_now _ _ _ _ _ _ _ c.self.invariant _ _ _ _ _ c.loop-target.invariant.0 (slice_index_or c.args.targets.now i Root) vn in
     let now : (label_at c.deref-in-loop-target-7.result.now c.place-at.result).weight ≡ (label_at c.loop-target.costs.items (place_of (bare_ground c.self.inside.form.leaves c.self.inside.form.arity c.self.inside.form.memory) (slice_index_or c.args.targets.now i Root))).weight =
     λ k. (label_at (c.deref-in-loop-target-7.ensures.value k) (c.place-at.ensures k)).weight in
     omega arith
@@ -119,34 +137,36 @@ loop-target-preserved c =
     (c.in_ok-grow.ensures.table from
     (subst (λ cs. IsTable (arcs c.deref-in-loop-target-8.result.now) from cs) (sym c.deref_mut.ensures.value)
     (subst (λ ls. IsTable (arcs ls) from now) (sym c.deref-in-loop-target-8.ensures.value) t)))) in
-    let one = one_grown g edges _ links _ _ root_costs c.self.invariant _ _ _ _ now c.loop-target.invariant target vn
+    let one = one_grown g edges _ links _ _ root_costs c.self.invariant _ _ _ _ now c.loop-target.invariant.0 target vn
     (record { from = c.beginning-from.result; steps = steps }) new plan
     (λ a leads. c.beginning-from.ensures a
     (subst (λ s. Leads (arcs_of c.deref-in-loop-target-12.result.now) a s target) (sym c.deref-in-loop-target-13.ensures.value)
     (subst (λ es. Leads (arcs_of es) a steps target) (sym c.deref-in-loop-target-12.ensures.value) leads)))
-    len c.in_ok-grow.ensures.fits falls table in
-    grown_as g edges links _ _ _ _ _ _ _ _ _ _
-    (take_more c.args.targets.now i Root within)
-    (ap grafts_of c.in_ok-push-2.ensures.items ∙ map-append graft_of c.loop-target.grafts.items _)
-    (c.in_ok-push.ensures.items ∙ ap (λ w. c.loop-target.singles.items ++ w ∷ []) (c.weight_at-single.ensures ∙ (λ k. (label_at (c.deref-in-loop-target-2.ensures.value k) (c.place-at.ensures k)).weight)))
-    (ap (λ w. c.loop-target.weight + w) (c.weight_at-nearest.ensures ∙ (λ k. (label_at (c.deref-in-loop-target-3.ensures.value k) (c.place-at.ensures k)).weight)))
-    (put_back c.loop-target.costs.len new now (let a = c.loop-target.costs.ok.0 in omega arith) (let a = c.loop-target.costs.ok.0 in omega arith))
-    one
+    len c.in_ok-grow.ensures.fits falls table in (
+      grown_as g edges links _ _ _ _ _ _ _ _ _ _
+          (take_more c.args.targets.now i Root within)
+          (ap grafts_of c.in_ok-push-2.ensures.items ∙ map-append graft_of c.loop-target.grafts.items _)
+          (c.in_ok-push.ensures.items ∙ ap (λ w. c.loop-target.singles.items ++ w ∷ []) (c.weight_at-single.ensures ∙ (λ k. (label_at (c.deref-in-loop-target-2.ensures.value k) (c.place-at.ensures k)).weight)))
+          (ap (λ w. c.loop-target.weight + w) (c.weight_at-nearest.ensures ∙ (λ k. (label_at (c.deref-in-loop-target-3.ensures.value k) (c.place-at.ensures k)).weight)))
+          (put_back c.loop-target.costs.len new now (let a = c.loop-target.costs.ok.0 in omega arith) (let a = c.loop-target.costs.ok.0 in omega arith))
+          one,
+      (λ k. c.loop-target.invariant.1 k + c.weight_at-single.result) ∙ sym (sum_push c.loop-target.singles.items c.weight_at-single.result) ∙ sym (ap sum c.in_ok-push.ensures.items),
+    )
 
 pub returns-clause-weight : goal.returns-clause-weight
 returns-clause-weight c =
-    subst (λ (s : PlannerGraph). c.loop-target.weight ≡ tree_weight (arcs_of s.edges) (grafts_of c.loop-target.grafts.items)) c.self.view_is c.loop-target.invariant.weight_is
+    subst (λ (s : PlannerGraph). c.loop-target.weight ≡ tree_weight (arcs_of s.edges) (grafts_of c.loop-target.grafts.items)) c.self.view_is c.loop-target.invariant.0.weight_is
 
 pub returns-clause-shared : goal.returns-clause-shared
 returns-clause-shared c =
-    let inv = c.loop-target.invariant in
+    let inv = c.loop-target.invariant.0 in
     let low = tree_weighs (arcs_of c.self.inside.edges.items) (Root ∷ []) (Root ∷ []) (λ a in'. in') (take c.loop-target.target-index c.args.targets.now) (grafts_of c.loop-target.grafts.items) c.loop-target.singles.items inv.tree inv.singles_are in
     let is = inv.weight_is in
     omega arith
 
 pub returns-clause-once : goal.returns-clause-once
 returns-clause-once c =
-    let inv = c.loop-target.invariant in
+    let inv = c.loop-target.invariant.0 in
     let grafts = grafts_of c.loop-target.grafts.items in
     subst (λ (s : PlannerGraph). EntersOnce s.edges (steps_of grafts)) c.self.view_is
     (c.self.invariant.once (Root ∷ []) (steps_of grafts) (tree_grows (arcs_of c.self.inside.edges.items) (Root ∷ []) (take c.loop-target.target-index c.args.targets.now) grafts inv.tree))

@@ -1,0 +1,47 @@
+-- The law of path independence over the index of a history, as a retrieval uses it.
+use Rattle.std.proofs.Common.{◌≡◌, ℕ, List as ListOf, [], Ok, length, subst, sym}
+use Rattle.std.specs.Prelude.{◌≢◌}
+use Rattle.std.proofs.lemmas.List.Elements.{All-nil}
+use Rattle.dg_history.specs.declared.node.NodeId.TheVariants.{List}
+use Rattle.dg_fold.proofs.HistoryTrees.{history_trees_reach}
+use Rattle.dg_fold.proofs.LegalHistories.{legal_is_indexed}
+use Rattle.std.specs.List.{All, Contains}
+use Rattle.dg_fold.specs.declared.part.Part.{Part}
+use Rattle.dg_fold.specs.BytesRead.{AreParts, named_along}
+use Rattle.dg_fold.specs.Ends.{LeadsUntil}
+use Rattle.dg_fold.specs.HistoryPaths.{IsGraphOf}
+use Rattle.dg_fold.specs.Steps.{paired, steps_in}
+use Rattle.dg_graph.specs.declared.element.Columns.{Columns}
+use Rattle.dg_graph.specs.declared.element.Element.{Element}
+use Rattle.dg_graph.specs.Composition.{Delta, applied}
+use Rattle.dg_graph.specs.Elements.{IsSet, shown}
+use Rattle.dg_graph.specs.Replay.{replay_at}
+use Rattle.dg_history.specs.declared.node.NodeId.{NodeId}
+use Rattle.dg_history.specs.History.{History, events_of, names_of}
+use Rattle.dg_history.specs.LegalHistory.{IsLegal}
+use Rattle.dg_index.specs.Hierarchy.{set_of}
+use Rattle.dg_index.specs.IndexRecords.{column_in, recent_of}
+use Rattle.dg_plan.specs.declared.edge.Edge.{Edge}
+use Rattle.dg_plan.specs.IndexGraph.{Ground, edges_of}
+use Rattle.dg_plan.specs.InstantPoint.{point}
+
+-- With the columns of the history's records as parts nothing along the edges is damaged.
+abbrev pub IsWholeAlong : ℕ → History → ListOf Edge → ListOf Part → Type 0
+IsWholeAlong names z walk parts = (list : ListOf Delta) × (steps_in names (recent_of z.params (events_of z)) (paired walk parts) ≡ Ok list)
+
+-- The tree's path to the point of an instant leads to the graph as of the instant.
+abbrev pub ReachesInstants : ℕ → History → Columns → ListOf Edge → ListOf Part → Type 0
+ReachesInstants names z cols walk parts =
+    (t : ℕ) (begun : NodeId) (d : Delta) → LeadsUntil names (recent_of z.params (events_of z)) parts (paired walk parts) (point z.params (events_of z) t) t begun d
+    → (set : ListOf Element) → IsSet set → shown set cols ≡ shown (set_of z.params (events_of z) begun) cols → shown (applied d set) cols ≡ shown (replay_at (events_of z) t) cols
+
+-- So it is over the graph of a legal history that is on no base.
+pub trees_reach : (z : History) → IsLegal z → (g : Ground) → IsGraphOf z g → g.bases ≡ [] → (cols : Columns) (walk : ListOf Edge) → All (Contains (edges_of g)) walk
+    → (parts : ListOf Part) → AreParts (λ key col. column_in z key col) cols (named_along walk) parts
+    → IsWholeAlong (length (names_of z)) z walk parts × ReachesInstants (length (names_of z)) z cols walk parts
+trees_reach z legal g graph none cols walk among parts are =
+    let indexed = legal_is_indexed z legal in
+    let reaches = history_trees_reach (length (names_of z)) z indexed.0 indexed.1 g graph cols walk among parts are in (
+      reaches.whole,
+      reaches.reached (subst (λ (bs : ListOf (ℕ × NodeId)). All (λ (b : ℕ × NodeId). (i : ℕ) → b.1 ≢ List i) bs) (sym none) (All-nil (λ (b : ℕ × NodeId). (i : ℕ) → b.1 ≢ List i))),
+    )

@@ -1,0 +1,10 @@
+pub mod TreeBranches
+pub mod TreeRecords
+pub mod TreeWeights
+pub mod KeptBranches
+pub mod NamedRecords
+pub mod BranchSteps
+pub mod DamagedParts
+pub mod ReachedGraphs
+pub mod HistoryLaws
+pub mod Retrieving

@@ -1,0 +1,5 @@
+pub mod KeptGraph
+pub mod Retrieval
+pub mod Branches
+pub mod Graphs
+pub mod Faults

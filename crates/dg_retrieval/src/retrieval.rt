@@ -1,0 +1,103 @@
+ghost use Rattle.std.specs.Prelude.{◌≡◌, ℕ, ◌≤◌, List, ◌∷◌, [], length, IfErr, IfOk, IfSome, IsErrOf};
+ghost use Rattle.std.specs.List.{All, Contains, sum};
+ghost use Rattle.dg_disk.specs.Counts.{Rose};
+ghost use Rattle.dg_disk.specs.Frame.{OnlyReads};
+ghost use Rattle.dg_file.specs.Images.{IsOpenedAs};
+ghost use Rattle.dg_fold.specs.BytesRead.{Takes};
+ghost use Rattle.dg_history.specs.History.{History};
+ghost use Rattle.dg_history.specs.declared.node.NodeId.TheVariants.{Root};
+ghost use Rattle.dg_index.specs.OpenedIndex.{events_in};
+ghost use Rattle.dg_plan.specs.IndexGraph.{arcs_of};
+ghost use Rattle.dg_plan.specs.Walks.{AreSingles};
+ghost use Rattle.dg_retrieval.specs.KeptGraph.{kept_edges, kept_nodes};
+ghost use Rattle.dg_retrieval.specs.Retrieval.{ArePoints, IsFirstDamage, IsNoDamage, IsOver, IsTreeOf, TakesAtMostTree, graphs_at};
+
+use crate::branches::{branches_of, walk_along};
+use crate::fault::RetrievalFault;
+use crate::graphs::graphs_of;
+use dg_disk::Disk;
+use dg_file::Index;
+use dg_fold::{compose_tree, fetch_walk};
+use dg_graph::{Columns, Event};
+use dg_history::NodeId;
+use dg_now::Now;
+use dg_planner::Planner;
+use dg_set::Set;
+use std::alloc::Global;
+use std::thread::Threads;
+
+/// The graphs as of several instants, and what the tree to them weighs.
+#[derive(Drop)]
+pub struct Retrieved {
+    /// The graph as of each instant, in the asked columns.
+    pub graphs: Vec<Set>,
+    /// The bytes of the records that the tree enters, in the asked columns.
+    pub weight: u64,
+    /// What the single plan of each instant weighs, in bytes.
+    pub singles: Vec<u64>,
+    /// What all single plans weigh together, in bytes.
+    pub sum: u64,
+}
+
+/// Retrieves the graphs as of the instants, 1 to 32 of them, in these columns, by one tree through the graph of
+/// the index to the targets: the node from which the graph as of each instant is reached. Each record that the
+/// tree enters is read once, and nothing else; the names of the history are so many, and its current graph and
+/// its recent events are in memory.
+///
+/// `Disk` where a read failed, `Damaged` with the first column that is in no spelling, in the order of the
+/// tree's steps and of structure, node attributes, edge attributes, and `Memory`.
+pub fn retrieve<R: Threads, D: Disk>(
+    rt: &R,
+    alloc: Global,
+    index: &mut Index,
+    disk: &mut D,
+    names: u32,
+    current: &Now,
+    recent: &[Event],
+    planner: &Planner,
+    targets: &[NodeId],
+    times: &[u64],
+    cols: Columns,
+) -> Result<Retrieved, RetrievalFault>
+    requires image { IfSome (D.image disk.old) (λ image. IsOpenedAs image index.old.opening) }
+    requires edges { planner.now.edges ≡ kept_edges index.old.opening (events_in index.old.opening.batches) cols }
+    requires nodes { planner.now.nodes ≡ kept_nodes index.old.opening (events_in index.old.opening.batches) cols }
+    requires targets { All (Contains planner.now.nodes) targets.now }
+    requires some { 1 ≤ length targets.now }
+    requires few { length targets.now ≤ 32 }
+    requires times { length times.now ≡ length targets.now }
+    // the graphs and the weights
+    ensures tree { IfOk result (λ r. IsTreeOf planner.now.edges targets.now r.weight) }
+    ensures singles { IfOk result (λ r. AreSingles (arcs_of planner.now.edges) (Root ∷ []) targets.now r.singles.items) }
+    ensures sum { IfOk result (λ r. r.sum ≡ sum r.singles.items) }
+    ensures graphs { IfOk result (λ r. IfSome (D.image disk.old) (λ image. (z : History) → IsOver z image index.old.opening names current.now.graph recent.now
+        → ArePoints z targets.now times.now → r.graphs.items ≡ graphs_at z times.now cols)) }
+    // the bytes read, over an image of a history
+    ensures takes { IfOk result (λ r. IfSome (D.image disk.old) (λ image. (z : History) → IsOver z image index.old.opening names current.now.graph recent.now
+        → Takes r.weight (D.taken disk.old) (D.taken disk.new))) }
+    ensures most { IfSome (D.image disk.old) (λ image. (z : History) → IsOver z image index.old.opening names current.now.graph recent.now
+        → TakesAtMostTree planner.now.edges targets.now (D.taken disk.old) (D.taken disk.new)) }
+    // why nothing is retrieved
+    ensures cause { IsErrOf result RetrievalFault.Disk → Rose (D.faults disk.old) (D.faults disk.new) }
+    ensures damage { IfErr result (λ fault. IfSome (D.image disk.old) (λ image. IsFirstDamage names planner.now.edges index.old.opening cols targets.now image fault)) }
+    ensures never { IfErr result (λ fault. IfSome (D.image disk.old) (λ image. (z : History) → IsOver z image index.old.opening names current.now.graph recent.now
+        → ArePoints z targets.now times.now → IsNoDamage fault)) }
+    // what it leaves
+    ensures same { index.new ≡ index.old }
+    ensures disk { OnlyReads D.image D.faults D.write_faults disk.old disk.new }
+{
+    // Its clauses say which records the index keeps.
+    index.facts();
+    let tree = planner.plan_several(alloc, targets)?;
+    let branches = branches_of(alloc, planner.edges(), targets, &tree.grafts)?;
+    let walk = walk_along(alloc, &branches)?;
+    let parts = fetch_walk(alloc, index, disk, &walk, cols)?;
+    let leads = compose_tree(rt, alloc, names, &branches, &parts, recent, times)?;
+    let graphs = graphs_of(alloc, current, &leads, cols)?;
+    Ok(Retrieved {
+        graphs,
+        weight: tree.weight,
+        singles: tree.singles,
+        sum: tree.sum,
+    })
+}
