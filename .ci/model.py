@@ -204,29 +204,47 @@ class Graph:
             edges += [("now", "recent", 0), ("recent", "now", 0)]
             edges += [("recent", leaf(leaves), 0), (leaf(leaves), "recent", 0)]
         self.edges = [edge for edge in edges if edge[1] != "root"]
-        # The least costs, by rounds over all edges until none changes.
-        self.costs, changed = {"root": (0, 0)}, True
+        self.costs = self.costs_from(["root"])
+
+    def costs_from(self, starts):
+        """The least cost of each node from these, by rounds over all edges until none changes."""
+        costs, changed = {node: (0, 0) for node in starts}, True
         while changed:
             changed = False
-            for tail, head, bytes_of_edge in self.edges:
-                if tail in self.costs:
-                    cost = (self.costs[tail][0] + bytes_of_edge, self.costs[tail][1] + 1)
-                    if head not in self.costs or cost < self.costs[head]:
-                        self.costs[head], changed = cost, True
+            for tail, head, weight in self.edges:
+                if tail in costs:
+                    cost = (costs[tail][0] + weight, costs[tail][1] + 1)
+                    if head not in costs or cost < costs[head]:
+                        costs[head], changed = cost, True
+        return costs
+
+    def walk(self, target, starts, costs):
+        """The numbers of the steps of the least walk to a node from one of these."""
+        steps, node = [], target
+        while node not in starts:
+            for i, (tail, head, weight) in enumerate(self.edges):
+                cost = costs[tail]
+                if head == node and (cost[0] + weight, cost[1] + 1) == costs[node]:
+                    break
+            steps.append(i)
+            node = tail
+        return steps[::-1]
 
     def plan(self, target):
         """The lines of the least plan of a node, and its weight and number of steps."""
-        steps, node = [], target
-        while node != "root":
-            for i, (tail, head, weight) in enumerate(self.edges):
-                cost = self.costs[tail]
-                if head == node and (cost[0] + weight, cost[1] + 1) == self.costs[node]:
-                    break
-            steps.append(f"step {i} {head} {weight}")
-            node = tail
+        steps = [f"step {i} {self.edges[i][1]} {self.edges[i][2]}" for i in self.walk(target, ["root"], self.costs)]
         weight = self.costs[target][0]
         potentials = [f"potential {n} {self.costs[n][0]}" for n in self.nodes if self.costs[n][0] < weight]
-        return steps[::-1] + potentials, weight, len(steps)
+        return steps + potentials, weight, len(steps)
+
+    def tree_weight(self, targets):
+        """What the tree of these targets weighs: for each the least walk from the tree so far is added."""
+        tree, weight = ["root"], 0
+        for target in targets:
+            costs = self.costs_from(tree)
+            weight += costs[target][0]
+            tree += [self.edges[i][1] for i in self.walk(target, tree, costs)]
+        return weight
 
     def judged(self, target, lines):
         """What is said of the lines of a certificate."""
@@ -409,6 +427,7 @@ class Case:
     def __init__(self, program, index, seed):
         self.program, self.index, self.seed = program, index, seed
         self.script, self.due = [], []
+        self.handles = []  # what each handle of this run lists, in order
 
     def reply(self, *lines):
         self.due += list(lines) + ["end"]
@@ -421,7 +440,36 @@ class Case:
             same = made.read() == file
         if ran.returncode != 0 or ran.stdout.decode() != due or not same:
             sys.exit(f"seed {self.seed}: status {ran.returncode}, replies {ran.stdout.decode() == due}, file {same}")
-        self.script, self.due = [], []
+        self.script, self.due, self.handles = [], [], []
+
+
+def ask_graphs(rng, history, changes, case):
+    """Retrieves graphs, one at a time or several at once, and lists handles of this run."""
+    for _ in range(rng.choice([0, 1, 1, 2])):
+        columns = rng.choice(["s", "sn", "se", "sne"])
+        graph = Graph(history, columns)
+        first, last = history.events[0][0], history.events[-1][0]
+        times = [rng.randrange(first, last + 1) for _ in range(rng.choice([1, 1, 2, 3, 7]))]
+        if len(case.handles) + len(times) > 127:
+            return
+        targets = [point(history, time) for time in times]
+        singles = [graph.costs[target][0] for target in targets]
+        handle = len(case.handles) + 1
+        if len(times) == 1 and rng.random() < 0.7:
+            case.script.append(f"at {times[0]} {columns}")
+            case.reply(f"ok at {handle} {singles[0]}")
+        else:
+            case.script.append(f"several {columns} {' '.join(map(str, times))}")
+            lines = [f"handle {handle + i} {time} {single}" for i, (time, single) in enumerate(zip(times, singles))]
+            case.reply(f"ok several {graph.tree_weight(targets)} {sum(singles)}", *lines)
+        for time in times:
+            shown = replay(e for e in history.events if e[0] <= time)
+            case.handles.append(listing(shown, changes.names, columns))
+    for _ in range(rng.choice([0, 1, 2])):
+        if case.handles:
+            handle = rng.randrange(len(case.handles))
+            case.script.append(f"list {handle + 1}")
+            case.reply(f"ok list {handle + 1} {len(case.handles[handle])}", *case.handles[handle])
 
 
 def ask_plans(rng, history, case):
@@ -470,13 +518,8 @@ def check(program, index, seed):
         case.script += [f"{word} {count}"] + lines
         case.reply(f"ok {word} {count} {len(history.events)} {events[-1][0]}")
         ask_plans(rng, history, case)
+        ask_graphs(rng, history, changes, case)
         if rng.random() < 0.5:
-            time = rng.randrange(history.events[0][0], events[-1][0] + 1)
-            columns = rng.choice(["s", "sn", "se", "sne"])
-            shown = listing(replay(e for e in history.events if e[0] <= time), changes.names, columns)
-            case.script += [f"at {time} {columns}", "list 1"]
-            case.reply("ok at 1 0")
-            case.reply(f"ok list 1 {len(shown)}", *shown)
             case.run(history.file())
     case.run(history.file())
 

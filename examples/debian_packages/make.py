@@ -5,10 +5,16 @@ A package is a node from the time of its first version on, with its name, its se
 time, its version. A dependency is an edge to the package that it is on, from the time on at which the
 installed version was made, or at which the other package was first there.
 
-The replies are made here, from plain dictionaries, and never by the program.
+The replies are made here, from plain dictionaries, and never by the program. What the cheapest way to an instant
+weighs comes from the model of the index in `.ci/model.py`, which knows nothing of the program either.
 """
 import csv
+import os
+import sys
 from datetime import datetime, timezone
+
+sys.path.insert(0, os.path.join(os.path.dirname(os.path.abspath(__file__)), "..", "..", ".ci"))
+import model
 
 
 def seconds(year, month, day):
@@ -90,6 +96,36 @@ def graph_at(history, time):
     return graph
 
 
+class Index:
+    """The model's index of the batches so far."""
+
+    def __init__(self, numbers):
+        self.numbers, self.values, self.history = numbers, {}, model.History(64, 4, "balanced")
+        self.names = 0
+
+    def event(self, time, what):
+        if what[0] == "node":
+            return time, "+", (model.NODE, what[1])
+        if what[0] == "edge":
+            return time, "+", (model.EDGE, *what[1:], 1)
+        kind = model.NODE_ATTR if what[0] == "nattr" else model.EDGE_ATTR
+        key, value = self.numbers[what[2]], self.numbers[what[3]]
+        old = self.values.get((kind, what[1], key))
+        self.values[kind, what[1], key] = value
+        return time, kind, what[1], key, old, value
+
+    def add(self, batch):
+        known = {text for _, _, what in batch if what[0].endswith("attr") for text in what[2:]}
+        ends = max([self.names] + [self.numbers[text] + 1 for text in known])
+        new = sorted(self.numbers, key=self.numbers.get)[self.names : ends]
+        self.history.add([self.event(time, what) for time, _, what in batch], [text.encode() for text in new])
+        self.names = ends
+
+    def weight(self, time, columns):
+        """What the cheapest way to the instant weighs."""
+        return model.Graph(self.history, columns).costs[model.point(self.history, time)][0]
+
+
 def write(name, lines):
     with open(name, "w") as file:
         file.write("\n".join(lines) + "\n")
@@ -102,7 +138,7 @@ def main():
         if what[0].endswith("attr"):
             for text in what[2:]:
                 numbers.setdefault(text, len(numbers))
-    held = 0
+    held, index = 0, Index(numbers)
     for run, (ends, asked) in enumerate(RUNS, 1):
         script, replies, handles = [], [], 0
         if held == 0:
@@ -114,11 +150,12 @@ def main():
             script.append(f"{word} {len(batch)}")
             script += [f"{time} {line}" for time, line, _ in batch]
             held += len(batch)
+            index.add(batch)
             replies += [f"ok {word} {len(batch)} {held} {batch[-1][0]}", "end"]
             for time, columns in asked[handles:] if end == ends[-1] else asked[:1]:
                 handles += 1
                 script.append(f"at {time} {columns}")
-                replies += [f"ok at {handles} 0", "end"]
+                replies += [f"ok at {handles} {index.weight(time, columns)}", "end"]
         for handle, (time, columns) in enumerate(asked, 1):
             lines = graph_at(found[:held], time).listing(columns, numbers)
             script.append(f"list {handle}")

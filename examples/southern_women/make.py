@@ -7,10 +7,16 @@ attendance (`davis_southern_women_graph`). The figure has no year; days are coun
 365 days.
 
 The first run makes the index and loads the history, the second asks for it as of several days. The
-replies are made here, from plain sets, and never by the program.
+replies are made here, from plain sets, and never by the program. What the cheapest way to a day weighs comes
+from the model of the index in `.ci/model.py`, which knows nothing of the program either.
 """
 import csv
+import os
+import sys
 from datetime import date
+
+sys.path.insert(0, os.path.join(os.path.dirname(os.path.abspath(__file__)), "..", "..", ".ci"))
+import model
 
 DATES = {  # event: month, day
     1: (6, 27), 2: (3, 2), 3: (4, 12), 4: (9, 26), 5: (2, 25), 6: (5, 19), 7: (3, 15),
@@ -43,6 +49,23 @@ def changes(attendance, women):
     return found
 
 
+def index_of(batch):
+    """The model's index of the batch."""
+    history, events = model.History(16, 4, "intersection"), []
+    for t, _, what in batch:
+        element = (model.NODE, what[1]) if what[0] == "node" else (model.EDGE, *what[1:], 0)
+        events.append((t, "+", element))
+    history.add(events, [])
+    return history
+
+
+def weight(history, times, columns):
+    """What the tree of these days weighs, and what the single plan of each of them weighs."""
+    graph = model.Graph(history, columns)
+    targets = [model.point(history, t) for t in times]
+    return graph.tree_weight(targets), [graph.costs[target][0] for target in targets]
+
+
 def write(name, lines):
     with open(name, "w") as file:
         file.write("\n".join(lines) + "\n")
@@ -64,15 +87,22 @@ def main():
     write("1.script", script)
     write("1.replies", ["ok create", "end", f"ok load {len(batch)} {len(batch)} {last}", "end"])
 
-    script, replies, handles = ["# The graph as of several days."], [], []
+    script, replies, handles, index = ["# The graph as of several days."], [], [], index_of(batch)
     for asked in ASKED:
         script.append(f"at {asked}")
-        t = int(asked.split()[0])
+        t, columns = int(asked.split()[0]), asked.split()[1]
         if first <= t <= last:
             handles.append(t)
-            replies += [f"ok at {len(handles)} 0", "end"]
+            replies += [f"ok at {len(handles)} {weight(index, [t], columns)[0]}", "end"]
         else:
             replies += [f"refused 7 out-of-range {first} {last}", "end"]
+    # All of them once more, by one tree.
+    tree, singles = weight(index, handles, "s")
+    script.append(f"several s {' '.join(map(str, handles))}")
+    replies.append(f"ok several {tree} {sum(singles)}")
+    replies += [f"handle {len(handles) + 1 + i} {t} {single}" for i, (t, single) in enumerate(zip(handles, singles))]
+    replies.append("end")
+    handles += handles
     for handle, t in enumerate(handles, 1):
         script.append(f"list {handle}")
         there = [what for at, _, what in batch if at <= t]

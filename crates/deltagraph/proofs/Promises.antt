@@ -1,5 +1,5 @@
 -- The promise of the program: where the words are wrong, where no session begins, and where one does.
-use Rattle.std.proofs.Common.{◌≡◌, ℕ, ◌<◌, ◌⊎◌, inl, inr, Bool, true, false, List, ◌++◌, Option, IfSome, Err, length, is_some, refl, sym, ◌∙◌, ap, subst}
+use Rattle.std.proofs.Common.{◌≡◌, ℕ, ◌<◌, ◌≤◌, arith, ◌⊎◌, inl, inr, Bool, true, false, List, ◌++◌, Option, IfSome, Err, length, is_some, refl, sym, ◌∙◌, ap, subst}
 use Rattle.std.specs.Option.{option_map}
 use Rattle.dg_disk.specs.Counts.{Rose as DiskRose}
 use Rattle.dg_history.specs.declared.start_fault.StartFault.{StartFault}
@@ -33,7 +33,7 @@ untouched_here start = record { left = refl; source_faults = refl; written = ref
 words_promise : (limits : Limits) (start : Outside) → Promised limits false status.Words start start
 words_promise limits start = record {
   served = if_some start.image (λ x. (index : Option History) → StandsAs index x → Served (machine_at limits index) status.Words start start)
-      (λ x is index stands. served_nothing status.Words (machine_at limits index) start start x is stands refl refl refl (λ e. cc) (λ nil. nil));
+      (λ x is index stands. served_nothing status.Words (machine_at limits index) start start x is stands refl refl refl (λ e. cc) (λ nil. nil) (omega arith));
   told = refl;
   words = (λ e. refl, λ e. refl);
   words_untouched = λ e. refl;
@@ -53,17 +53,17 @@ pub wrong_words : (limits : Limits) (are_written : Bool) (start : Outside) → a
 wrong_words limits are_written start is = subst (λ (b : Bool). Promised limits b status.Words start start) (sym is) (words_promise limits start)
 
 -- no session begins
-pub no_session : (limits : Limits) (s : Status) (f : StartFault) (start now : Outside) → s ≡ end_of f → IsUntouched start now
+pub no_session : (limits : Limits) (s : Status) (f : StartFault) (start now : Outside) → s ≡ end_of f → IsUntouched start now → start.disk_faults ≤ now.disk_faults
     → (f ≡ fault.Disk → DiskRose start.disk_faults now.disk_faults)
     → IfSome start.image (λ image. RefusesStart f (start_of image))
     → IfSome start.image (λ image. (index : Option History) → StandsAs index image → (f ≡ fault.Disk) ⊎ (f ≡ fault.Memory))
     → Promised limits true s start now
-no_session limits s f start now is same cause refuses never =
+no_session limits s f start now is same counted cause refuses never =
     let not = unbegun s f is in
     let failed : s ≡ status.DiskFault → DiskRose start.disk_faults now.disk_faults = λ e. cause (disk_failed s f is e) in record {
       served = if_some start.image (λ x. (index : Option History) → StandsAs index x → Served (machine_at limits index) s start now)
           (λ x here index stands. served_nothing s (machine_at limits index) start now x here stands same.left same.written same.image not.done
-          (λ nil. unbegun_gains s f start.written now.written is nil));
+          (λ nil. unbegun_gains s f start.written now.written is nil) counted);
       told = ap (λ (o : Option (List ℕ)). is_some o) same.image;
       words = (λ e. absurd (not.words e), λ e. absurd (cc));
       words_untouched = λ e. absurd (not.words e);
@@ -108,11 +108,11 @@ begun_not status.ScriptLimit begun = (λ e. cc, λ e. cc, λ f e. cc)
 -- a session began over what was there at the start, with as many failed writes or more, and answered the script
 pub session_promise : (limits : Limits) (session : Parts) (s : Status) (start mid now : Outside)
     → mid.left ≡ start.left → mid.source_faults ≡ start.source_faults → mid.written ≡ start.written → mid.sink_faults ≡ start.sink_faults → mid.image ≡ start.image
-    → (DiskRose mid.write_faults now.write_faults → DiskRose start.write_faults now.write_faults)
+    → (DiskRose mid.write_faults now.write_faults → DiskRose start.write_faults now.write_faults) → start.disk_faults ≤ mid.disk_faults
     → IfSome start.image (λ image. StartsAs limits session (start_of image))
     → IfSome start.image (λ image. (index : Option History) → StandsAs index image → StandsFor session image (machine_at limits index))
     → ScriptAnswered limits.script_bytes session s mid now → Promised limits true s start now
-session_promise limits session s start mid now left source written sink image writes starts stands answered =
+session_promise limits session s start mid now left source written sink image writes counted starts stands answered =
     let not = begun_not s answered.begun in
     let served : WhereItStands start.image (λ index. Served (machine_at limits index) s start now) =
     if_some start.image (λ x. (index : Option History) → StandsAs index x → Served (machine_at limits index) s start now)
@@ -126,6 +126,7 @@ session_promise limits session s start mid now left source written sink image wr
       whole = one.whole;
       gained = subst (λ (o : Option (List ℕ)). Gained s o (texts_of one.answers) now.written) written one.gained;
       stands = subst (λ (o : Option (List ℕ)). IfSome now.image (λ i. Remains s (last_state (machine_at limits index) one.answers) one.more o i)) image one.stands;
+      failed = omega (arith, counted, one.failed);
     }) in
     let done : s ≡ status.Done → IfSome start.left (λ script. length script < limits.script_bytes) =
     λ e. subst (λ (o : Option (List ℕ)). IfSome o (λ script. length script < limits.script_bytes)) left (answered.done e) in

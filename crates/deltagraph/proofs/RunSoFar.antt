@@ -1,10 +1,12 @@
 -- The run so far, how each turn lengthens it, and what is owed where it ends.
-use Rattle.std.proofs.Common.{◌≡◌, ℕ, ◌+◌, true, false, List, [], ◌∷◌, ◌++◌, Option, Some, None, IfSome, Result, Ok, Err, OnOk, OnErr, is_some, length, take, refl, sym, ◌∙◌, ap, subst, append_assoc, arith, length-append}
+use Rattle.std.proofs.Common.{◌≡◌, ◌≤◌, ℕ, ◌+◌, Bool, true, false, cond, List, [], ◌∷◌, ◌++◌, Option, Some, None, IfSome, Result, Ok, Err, OnOk, OnErr, is_some, length, take, refl, sym, ◌∙◌, ap, subst, append_assoc, arith, length-append}
 use Rattle.std.specs.Option.{option_map}
 use Rattle.std.specs.Result.{is_err}
 use Rattle.std.proofs.lemmas.List.{append-nil}
 use Rattle.std.proofs.lemmas.List.Concat.{flat_map-append}
+use Rattle.std.proofs.lemmas.List.Sums.{sum_by-append, sum_by-cons}
 use Rattle.std.proofs.Math.Seq.{take-append-add}
+use Rattle.dg_disk.specs.Counts.{Rose as DiskRose, raised_by}
 use Rattle.dg_history.specs.History.{History}
 use Rattle.dg_index.specs.ImageOfHistory.{StandsAs}
 use Rattle.dg_index.specs.OpenedIndex.{opened_of}
@@ -15,7 +17,7 @@ use Rattle.dg_machine.specs.Answer.{Answered}
 use Rattle.dg_machine.specs.CutImage.{IsCut}
 use Rattle.dg_machine.specs.MachineState.{MachineState, names_in}
 use Rattle.dg_machine.specs.ReplyText.{text}
-use Rattle.dg_machine.specs.Run.{Run, last_state, text_of, texts_of}
+use Rattle.dg_machine.specs.Run.{Run, failed_reads, is_store_read, last_state, text_of, texts_of}
 use Rattle.dg_machine.specs.Script.{Entry, script}
 use Rattle.dg_machine.proofs.Runs.{run_more, last_more}
 use Rattle.dg_session.specs.Parts.{Parts}
@@ -27,8 +29,8 @@ use Rattle.deltagraph.specs.Served.{Served, Gained, Remains, Kept, Cut_off}
 use Rattle.deltagraph.specs.Turns.{Breaks, Replies, asked}
 
 -- The run from m so far over the image now, which was `first` at its start: the entries answered, and those
--- to come.
-pub record Going (m : MachineState) (first left before : Option (List ℕ)) (session : Parts) (image : List ℕ) (more : Option (List Entry)) (written : Option (List ℕ)) : Type 0 where
+-- to come. So many calls of the disk failed before it, and so many by now.
+pub record Going (m : MachineState) (first left before : Option (List ℕ)) (f : ℕ) (session : Parts) (image : List ℕ) (more : Option (List Entry)) (written : Option (List ℕ)) (n : ℕ) : Type 0 where
   pub entries : List Entry
   pub answers : List Answered
   pub run : Run m entries answers
@@ -36,6 +38,7 @@ pub record Going (m : MachineState) (first left before : Option (List ℕ)) (ses
   pub front : option_map script left ≡ option_map (λ rest. entries ++ rest) more
   pub gained : written ≡ grown before (texts_of answers)
   pub unmade : (last_state m answers).index ≡ None → first ≡ Some image
+  pub failed : raised_by (failed_reads answers) f ≤ n
 
 map-nothing : {A : Type 0} (o : Option (List A)) → o ≡ option_map (λ rest. [] ++ rest) o
 map-nothing None = refl
@@ -57,10 +60,30 @@ front_more (Some rest) entries e = ap (λ es. Some es) (sym (append_assoc entrie
 texts_more : (answers : List Answered) (a : Answered) → texts_of (answers ++ a ∷ []) ≡ texts_of answers ++ text_of a
 texts_more answers a = flat_map-append text_of answers (a ∷ []) ∙ ap (λ (bytes : List ℕ). texts_of answers ++ bytes) (append-nil (text_of a))
 
+-- the replies of a turn, and the calls of the disk that failed before it and by its end
+pub record IsCounted (r : Reply) (n k : ℕ) : Type 0 where
+  pub counted : n ≤ k
+  pub rose : is_store_read r.head ≡ true → DiskRose n k
+
+one_more : (b : Bool) (answers : List Answered) (a : Answered) → is_store_read a.reply.head ≡ b
+    → failed_reads (answers ++ a ∷ []) ≡ failed_reads answers + cond b 1 0
+one_more b answers a is =
+    sum_by-append (λ (x : Answered). cond (is_store_read x.reply.head) 1 0) answers (a ∷ [])
+    ∙ ap (λ (n : ℕ). failed_reads answers + n) (sum_by-cons (λ (x : Answered). cond (is_store_read x.reply.head) 1 0) a [] ∙ last b is)
+  where
+    last : (b : Bool) → is_store_read a.reply.head ≡ b → cond (is_store_read a.reply.head) 1 0 + 0 ≡ cond b 1 0
+    last true e = ap (λ (x : Bool). cond x 1 0 + 0) e
+    last false e = ap (λ (x : Bool). cond x 1 0 + 0) e
+
+failed_on : (b : Bool) (answers : List Answered) (a : Answered) (f n k : ℕ) → is_store_read a.reply.head ≡ b → raised_by (failed_reads answers) f ≤ n → IsCounted a.reply n k
+    → raised_by (failed_reads (answers ++ a ∷ [])) f ≤ k
+failed_on true answers a f n k is failed counts = omega (arith, one_more true answers a is, failed, counts.rose is)
+failed_on false answers a f n k is failed counts = omega (arith, one_more false answers a is, failed, counts.counted)
+
 -- before the first turn
-going_first : (m : MachineState) (first left before : Option (List ℕ)) (session : Parts) (image : List ℕ) → first ≡ Some image → StandsFor session image m
-    → Going m first left before session image (option_map script left) before
-going_first m first left before session image is stands = record {
+going_first : (m : MachineState) (first left before : Option (List ℕ)) (f : ℕ) (session : Parts) (image : List ℕ) → first ≡ Some image → StandsFor session image m
+    → Going m first left before f session image (option_map script left) before f
+going_first m first left before f session image is stands = record {
   entries = [];
   answers = [];
   run = tt;
@@ -68,6 +91,7 @@ going_first m first left before session image is stands = record {
   front = map-nothing (option_map script left);
   gained = grown-nil before;
   unmade = λ none. is;
+  failed = omega arith;
 }
 
 -- a session has no index exactly where the machine has none
@@ -86,10 +110,10 @@ session_text : (new : Parts) (now : List ℕ) (k : MachineState) (r : Reply) →
 session_text new now k r stands = ap (λ (names : List (List ℕ)). text names r) stands.names
 
 -- a turn with a reply that was written
-going_on : (m : MachineState) (first left before : Option (List ℕ)) (old new : Parts) (image now : List ℕ) (more rest : Option (List Entry)) (written : Option (List ℕ)) (e : Entry) (r : Reply)
-    → Going m first left before old image more written → more ≡ option_map (λ es. e ∷ es) rest → Replies e old image new now r
-    → (new.index ≡ None → (old.index ≡ None) × (now ≡ image)) → Going m first left before new now rest (grown written (text new.names r))
-going_on m first left before old new image now more rest written e r going is replies same =
+going_on : (m : MachineState) (first left before : Option (List ℕ)) (f : ℕ) (old new : Parts) (image now : List ℕ) (more rest : Option (List Entry)) (written : Option (List ℕ)) (n k : ℕ) (e : Entry) (r : Reply)
+    → Going m first left before f old image more written n → more ≡ option_map (λ es. e ∷ es) rest → Replies e old image new now r
+    → (new.index ≡ None → (old.index ≡ None) × (now ≡ image)) → IsCounted r n k → Going m first left before f new now rest (grown written (text new.names r)) k
+going_on m first left before f old new image now more rest written n k e r going is replies same counts =
     let next = replies (last_state m going.answers) going.stands in
     let a : Answered = record { reply = r; state = next.0 } in
     let last : last_state m (going.answers ++ a ∷ []) ≡ next.0 = last_more m going.answers a in record {
@@ -106,14 +130,15 @@ going_on m first left before old new image now more rest written e r going is re
           let here : next.0.index ≡ None = ap (λ (k : MachineState). k.index) (sym last) ∙ none in
           let was = same (no_index_of new now next.0 next.2 here) in
           going.unmade (none_of (last_state m going.answers).index (sym going.stands.index ∙ was.0)) ∙ ap (λ x. Some x) (sym was.1);
+      failed = failed_on (is_store_read r.head) going.answers a f n k refl going.failed counts;
     }
 
 -- ---- over a disk that may tell its image
 
 -- the run so far, from every machine that the session stood for over the first image, where the images are told
-abbrev pub GoingOver : Option (List ℕ) → Option (List ℕ) → Option (List ℕ) → Parts → Parts → Option (List ℕ) → Option (List Entry) → Option (List ℕ) → Type 0
-GoingOver first left before start session image more written =
-    (x y : List ℕ) → first ≡ Some x → image ≡ Some y → (m : MachineState) → StandsFor start x m → Going m first left before session y more written
+abbrev pub GoingOver : Option (List ℕ) → Option (List ℕ) → Option (List ℕ) → ℕ → Parts → Parts → Option (List ℕ) → Option (List Entry) → Option (List ℕ) → ℕ → Type 0
+GoingOver first left before f start session image more written n =
+    (x y : List ℕ) → first ≡ Some x → image ≡ Some y → (m : MachineState) → StandsFor start x m → Going m first left before f session y more written n
 
 -- an option that is told where another is
 told_as : (a b : Option (List ℕ)) (x : List ℕ) → is_some b ≡ is_some a → a ≡ Some x → (y : List ℕ) × (b ≡ Some y)
@@ -121,31 +146,46 @@ told_as a None x same is = absurd (let none : false ≡ true = same ∙ ap (λ (
 told_as a (Some y) x same is = (y, refl)
 
 -- before the first turn
-pub over_first : (first left before : Option (List ℕ)) (session : Parts) (more : Option (List Entry))
-    → option_map script left ≡ more → GoingOver first left before session session first more before
-over_first first left before session more is = λ x y a b m stands.
+pub over_first : (first left before : Option (List ℕ)) (f : ℕ) (session : Parts) (more : Option (List Entry))
+    → option_map script left ≡ more → GoingOver first left before f session session first more before f
+over_first first left before f session more is = λ x y a b m stands.
     let one : x ≡ y = some_injective x y (sym a ∙ b) in
-    subst (λ (es : Option (List Entry)). Going m first left before session y es before) is
-    (going_first m first left before session y b (subst (λ (z : List ℕ). StandsFor session z m) one stands))
+    subst (λ (es : Option (List Entry)). Going m first left before f session y es before f) is
+    (going_first m first left before f session y b (subst (λ (z : List ℕ). StandsFor session z m) one stands))
+
+-- the run so far, where more calls of the disk may have failed since
+failed_later : (m : MachineState) (first left before : Option (List ℕ)) (f : ℕ) (session : Parts) (image : List ℕ) (more : Option (List Entry)) (written : Option (List ℕ)) (n k : ℕ)
+    → n ≤ k → Going m first left before f session image more written n → Going m first left before f session image more written k
+failed_later m first left before f session image more written n k le going = record {
+  entries = going.entries;
+  answers = going.answers;
+  run = going.run;
+  stands = going.stands;
+  front = going.front;
+  gained = going.gained;
+  unmade = going.unmade;
+  failed = omega (arith, le, going.failed);
+}
 
 -- a turn with no reply
-pub over_skip : (first left before : Option (List ℕ)) (start old new : Parts) (image now : Option (List ℕ)) (more rest : Option (List Entry)) (written : Option (List ℕ))
-    → GoingOver first left before start old image more written → more ≡ rest → new ≡ old → now ≡ image
-    → GoingOver first left before start new now rest written
-over_skip first left before start old new image now more rest written going same kept stays = λ x y a b m stands.
-    subst (λ (es : Option (List Entry)). Going m first left before new y es written) same
-    (subst (λ (s : Parts). Going m first left before s y more written) (sym kept) (going x y a (sym stays ∙ b) m stands))
+pub over_skip : (first left before : Option (List ℕ)) (f : ℕ) (start old new : Parts) (image now : Option (List ℕ)) (more rest : Option (List Entry)) (written : Option (List ℕ)) (n k : ℕ)
+    → GoingOver first left before f start old image more written n → more ≡ rest → new ≡ old → now ≡ image → n ≤ k
+    → GoingOver first left before f start new now rest written k
+over_skip first left before f start old new image now more rest written n k going same kept stays le = λ x y a b m stands.
+    subst (λ (es : Option (List Entry)). Going m first left before f new y es written k) same
+    (subst (λ (s : Parts). Going m first left before f s y more written k) (sym kept)
+    (failed_later m first left before f old y more written n k le (going x y a (sym stays ∙ b) m stands)))
 
 -- a turn with a reply that was written
-pub over_on : (first left before : Option (List ℕ)) (start old new : Parts) (image now : Option (List ℕ)) (more rest : Option (List Entry)) (written after : Option (List ℕ)) (e : Entry) (r : Reply)
-    → GoingOver first left before start old image more written → is_some image ≡ is_some first → more ≡ option_map (λ es. e ∷ es) rest
+pub over_on : (first left before : Option (List ℕ)) (f : ℕ) (start old new : Parts) (image now : Option (List ℕ)) (more rest : Option (List Entry)) (written after : Option (List ℕ)) (n k : ℕ) (e : Entry) (r : Reply)
+    → GoingOver first left before f start old image more written n → is_some image ≡ is_some first → more ≡ option_map (λ es. e ∷ es) rest
     → WhereBothTold image now (λ x y. Replies e old x new y r) → (new.index ≡ None → (old.index ≡ None) × (now ≡ image)) → after ≡ grown written (text new.names r)
-    → GoingOver first left before start new now rest after
-over_on first left before start old new image now more rest written after e r going told is replies same gained = λ x z a c m stands.
+    → IsCounted r n k → GoingOver first left before f start new now rest after k
+over_on first left before f start old new image now more rest written after n k e r going told is replies same gained counts = λ x z a c m stands.
     let mid = told_as first image x told a in
-    subst (λ (w : Option (List ℕ)). Going m first left before new z rest w) (sym gained)
-    (going_on m first left before old new mid.0 z more rest written e r (going x mid.0 a mid.1 m stands) is (replies mid.0 z mid.1 c)
-    (λ none. let was = same none in (was.0, some_injective z mid.0 (sym c ∙ was.1 ∙ mid.1))))
+    subst (λ (w : Option (List ℕ)). Going m first left before f new z rest w k) (sym gained)
+    (going_on m first left before f old new mid.0 z more rest written n k e r (going x mid.0 a mid.1 m stands) is (replies mid.0 z mid.1 c)
+    (λ none. let was = same none in (was.0, some_injective z mid.0 (sym c ∙ was.1 ∙ mid.1))) counts)
 
 -- ---- what is owed where the run ends
 
@@ -155,7 +195,7 @@ ServedOver session s start now = (image : List ℕ) (m : MachineState) → start
 
 -- a run that ends between two entries
 pub over_cut : (s : Status) (start now : Outside) (begun session : Parts) (more : Option (List Entry))
-    → GoingOver start.image start.left start.written begun session now.image more now.written → is_some now.image ≡ is_some start.image
+    → GoingOver start.image start.left start.written start.disk_faults begun session now.image more now.written now.disk_faults → is_some now.image ≡ is_some start.image
     → (s ≡ status.Done → IfSome more (λ rest. rest ≡ [])) → ((due : List ℕ) → now.written ≡ grown start.written due → Gained s start.written due now.written)
     → ServedOver begun s start now
 over_cut s start now begun session more going told whole gained = λ x m a stands.
@@ -169,6 +209,7 @@ over_cut s start now begun session more going told whole gained = λ x m a stand
       whole = whole;
       gained = gained (texts_of run.answers) run.gained;
       stands = subst (λ (o : Option (List ℕ)). IfSome o (λ image. Remains s (last_state m run.answers) more start.image image)) (sym here.1) (Kept run.stands.image_stands);
+      failed = run.failed;
     }
 
 comes_first : (more rest : Option (List Entry)) (e : Entry) → more ≡ option_map (λ es. e ∷ es) rest → (es : List Entry) × IfSome more (λ all. all ≡ e ∷ es)
@@ -176,10 +217,10 @@ comes_first more None e is = ([], subst (λ (o : Option (List Entry)). IfSome o 
 comes_first more (Some es) e is = (es, subst (λ (o : Option (List Entry)). IfSome o (λ all. all ≡ e ∷ es)) (sym is) refl)
 
 -- a run that a failure of the disk cuts off within an entry
-pub over_broken : (start now : Outside) (begun session : Parts) (image : Option (List ℕ)) (more rest : Option (List Entry))
-    → GoingOver start.image start.left start.written begun session image more now.written → is_some image ≡ is_some start.image
-    → is_some now.image ≡ is_some image → Breaks more rest session image now.image → ServedOver begun status.DiskFault start now
-over_broken start now begun session image more rest going told then_told breaks = λ x m a stands.
+pub over_broken : (start now : Outside) (begun session : Parts) (image : Option (List ℕ)) (more rest : Option (List Entry)) (n : ℕ)
+    → GoingOver start.image start.left start.written start.disk_faults begun session image more now.written n → is_some image ≡ is_some start.image
+    → is_some now.image ≡ is_some image → Breaks more rest session image now.image → n ≤ now.disk_faults → ServedOver begun status.DiskFault start now
+over_broken start now begun session image more rest n going told then_told breaks le = λ x m a stands.
     let mid = told_as start.image image x told a in
     let here = told_as image now.image mid.0 then_told mid.1 in
     let run = going x mid.0 a mid.1 m stands in
@@ -196,6 +237,7 @@ over_broken start now begun session image more rest going told then_told breaks 
       stands =
           subst (λ (o : Option (List ℕ)). IfSome o (λ image. Remains status.DiskFault (last_state m run.answers) more start.image image)) (sym here.1)
           (Cut_off e first.0 mid.0 refl first.1 run.stands.image_stands run.unmade cut);
+      failed = omega (arith, le, run.failed);
     }
 
 -- a proper prefix of a later piece is one of all pieces
@@ -209,17 +251,17 @@ part_later before written after due piece is part = (
 )
 
 -- the reply of the last turn was written in part
-pub over_part : (start now : Outside) (begun old new : Parts) (image : Option (List ℕ)) (more rest : Option (List Entry)) (written : Option (List ℕ)) (e : Entry) (r : Reply)
-    → GoingOver start.image start.left start.written begun old image more written → is_some image ≡ is_some start.image
+pub over_part : (start now : Outside) (begun old new : Parts) (image : Option (List ℕ)) (more rest : Option (List Entry)) (written : Option (List ℕ)) (n : ℕ) (e : Entry) (r : Reply)
+    → GoingOver start.image start.left start.written start.disk_faults begun old image more written n → is_some image ≡ is_some start.image
     → is_some now.image ≡ is_some image → more ≡ option_map (λ es. e ∷ es) rest → WhereBothTold image now.image (λ x y. Replies e old x new y r)
-    → (new.index ≡ None → (old.index ≡ None) × (now.image ≡ image)) → GrowsByPart written (text new.names r) now.written → ServedOver begun status.SinkFault start now
+    → (new.index ≡ None → (old.index ≡ None) × (now.image ≡ image)) → GrowsByPart written (text new.names r) now.written → IsCounted r n now.disk_faults → ServedOver begun status.SinkFault start now
 unfolding going_on
-over_part start now begun old new image more rest written e r going told then_told is replies same part = λ x m a stands.
+over_part start now begun old new image more rest written n e r going told then_told is replies same part counts = λ x m a stands.
     let mid = told_as start.image image x told a in
     let here = told_as image now.image mid.0 then_told mid.1 in
     let run = going x mid.0 a mid.1 m stands in
-    let next = going_on m start.image start.left start.written old new mid.0 here.0 more rest written e r run is (replies mid.0 here.0 mid.1 here.1)
-    (λ none. let was = same none in (was.0, some_injective here.0 mid.0 (sym here.1 ∙ was.1 ∙ mid.1))) in
+    let next = going_on m start.image start.left start.written start.disk_faults old new mid.0 here.0 more rest written n now.disk_faults e r run is (replies mid.0 here.0 mid.1 here.1)
+    (λ none. let was = same none in (was.0, some_injective here.0 mid.0 (sym here.1 ∙ was.1 ∙ mid.1))) counts in
     let k = replies mid.0 here.0 mid.1 here.1 (last_state m run.answers) run.stands in
     let all : texts_of run.answers ++ text new.names r ≡ texts_of next.answers =
     ap (λ bytes. texts_of run.answers ++ bytes) (session_text new here.0 k.0 r k.2) ∙ sym (texts_more run.answers (record { reply = r; state = k.0 })) in record {
@@ -235,6 +277,7 @@ over_part start now begun old new image more rest written e r going told then_to
       stands =
           subst (λ (o : Option (List ℕ)). IfSome o (λ image. Remains status.SinkFault (last_state m next.answers) rest start.image image)) (sym here.1)
           (Kept next.stands.image_stands);
+      failed = next.failed;
     }
 
 pub if_some : (o : Option (List ℕ)) (P : List ℕ → Type 0) → ((x : List ℕ) → o ≡ Some x → P x) → IfSome o P
@@ -247,8 +290,8 @@ at_some o P x all is = let here : IfSome (Some x) P = subst (λ (p : Option (Lis
 -- nothing was answered
 pub served_nothing : (s : Status) (m : MachineState) (start now : Outside) (image : List ℕ) → start.image ≡ Some image → StandsAs m.index image
     → now.left ≡ start.left → now.written ≡ start.written → now.image ≡ start.image
-    → (s ≡ status.Done → ⊥) → (now.written ≡ grown start.written [] → Gained s start.written [] now.written) → Served m s start now
-served_nothing s m start now image is stands left written same undone gained = record {
+    → (s ≡ status.Done → ⊥) → (now.written ≡ grown start.written [] → Gained s start.written [] now.written) → start.disk_faults ≤ now.disk_faults → Served m s start now
+served_nothing s m start now image is stands left written same undone gained counted = record {
   entries = [];
   answers = [];
   run = tt;
@@ -258,6 +301,7 @@ served_nothing s m start now image is stands left written same undone gained = r
   gained = gained (written ∙ grown-nil start.written);
   stands =
       subst (λ (o : Option (List ℕ)). IfSome o (λ i. Remains s m (option_map script start.left) start.image i)) (sym (same ∙ is)) (Kept stands);
+  failed = omega (arith, counted);
 }
 
 -- before anything is read, the entries to come are those of the script

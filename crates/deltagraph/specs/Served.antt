@@ -1,13 +1,14 @@
 -- What is owed for a script: the texts of a run of the machine, and an index file that stands for the
 -- history that the run came to.
-use Rattle.std.specs.Prelude.{◌≡◌, ℕ, List, [], ◌∷◌, ◌++◌, None, Some, IfSome, Option}
+use Rattle.std.specs.Prelude.{◌≡◌, ◌≤◌, ℕ, List, [], ◌∷◌, ◌++◌, None, Some, IfSome, Option}
 use Rattle.std.specs.Option.{option_map}
+use Rattle.dg_disk.specs.Counts.{raised_by}
 use Rattle.dg_index.specs.ImageOfHistory.{StandsAs}
 use Rattle.dg_io.specs.Told.{grown, GrowsByPart}
 use Rattle.dg_machine.specs.Answer.{Answered}
 use Rattle.dg_machine.specs.CutImage.{IsCut}
 use Rattle.dg_machine.specs.MachineState.{MachineState}
-use Rattle.dg_machine.specs.Run.{Run, last_state, texts_of}
+use Rattle.dg_machine.specs.Run.{Run, failed_reads, last_state, texts_of}
 use Rattle.dg_machine.specs.Script.{Entry, script}
 use Rattle.deltagraph.specs.declared.status.Status.{Status}
 use Rattle.deltagraph.specs.declared.status.Status.TheVariants as status
@@ -33,7 +34,8 @@ pub data Remains (s : Status) (m : MachineState) (more : Option (List Entry)) (f
       → StandsAs m.index before → (m.index ≡ None → first ≡ Some before) → IsCut m e before now → Remains s m more first now
 
 -- What the sink gained is the texts of the replies of a run of the machine from m over the first
--- entries of the script; with `Done` over all of them. The index file keeps what the run came to.
+-- entries of the script; with `Done` over all of them. The index file keeps what the run came to. No more replies
+-- say that a read of it failed than calls of the disk did.
 pub record Served (m : MachineState) (s : Status) (start now : Outside) : Type 0 where
   pub entries : List Entry
   pub answers : List Answered
@@ -43,3 +45,4 @@ pub record Served (m : MachineState) (s : Status) (start now : Outside) : Type 0
   pub whole : s ≡ status.Done → IfSome more (λ rest. rest ≡ [])
   pub gained : Gained s start.written (texts_of answers) now.written
   pub stands : IfSome now.image (λ image. Remains s (last_state m answers) more start.image image)
+  pub failed : raised_by (failed_reads answers) start.disk_faults ≤ now.disk_faults

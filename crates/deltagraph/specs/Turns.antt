@@ -1,13 +1,13 @@
 -- What one turn over the script does: to the entries to come, to the session and its image, and in
 -- reply.
-use Rattle.std.specs.Prelude.{◌≡◌, ℕ, ◌<◌, List, [], ◌∷◌, IsTrue, IfSome, Option, Some, is_some, length}
+use Rattle.std.specs.Prelude.{◌≡◌, ℕ, ◌<◌, true, List, [], ◌∷◌, IsTrue, IfSome, Option, Some, is_some, length}
 use Rattle.std.specs.Option.{option_map}
 use Rattle.dg_machine.specs.declared.reply.Reply.{Reply}
 use Rattle.dg_machine.specs.CutImage.{IsCut}
 use Rattle.dg_graph.specs.Lines.{ScriptLine, Text}
 use Rattle.dg_machine.specs.MachineState.{MachineState}
 use Rattle.dg_machine.specs.CommandGrammar.{CountIsInRange, IsColumn}
-use Rattle.dg_machine.specs.Run.{Step}
+use Rattle.dg_machine.specs.Run.{Step, is_store_read}
 use Rattle.dg_machine.specs.Script as script
 use Rattle.dg_io.specs.LinesState.{LinesState, told, Comes}
 use Rattle.dg_session.specs.Session.{WhereBothTold, StandsFor}
@@ -53,6 +53,12 @@ Turns turn.Skipped before after old image new now = (before ≡ after) × (new �
 Turns (turn.Replied reply) before after old image new now =
     (e : script.Entry) × (before ≡ option_map (λ more. e ∷ more) after)
     × WhereBothTold image now (λ x y. Replies e old x new y reply)
+
+-- a reply that says that a read of the index file failed comes only where a call of the disk did
+abbrev pub TellsFailedReads : Turn → ℕ → ℕ → Type 0
+TellsFailedReads turn.End before after = Unit {0}
+TellsFailedReads turn.Skipped before after = Unit {0}
+TellsFailedReads (turn.Replied reply) before after = is_store_read reply.head ≡ true → DiskRose before after
 
 -- the disk failed within the first of the entries to come, and the image is that of a cut
 abbrev pub Breaks : Option (List script.Entry) → Option (List script.Entry) → Parts → Option (List ℕ) → Option (List ℕ) → Type 0

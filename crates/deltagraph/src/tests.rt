@@ -304,10 +304,15 @@ fn other_index_files_are_refused_or_stand_for_less(rt: HostRuntime) -> Result<()
     Ok(())
 }
 
-// How a run of the first script ends over a disk that fails at this call, and what it writes.
-fn first_over<R: Threads>(rt: &R, alloc: Global, call: u64) -> Result<(Status, Vec<u8>), Fail> {
+// How a run of the script ends over a disk that fails at this call, and what it writes.
+fn run_over<R: Threads>(
+    rt: &R,
+    alloc: Global,
+    script: &[u8],
+    call: u64,
+) -> Result<(Status, Vec<u8>), Fail> {
     let words = ["history".to_string(alloc)?].to_vec(alloc)?;
-    let mut source = MemorySource::new(alloc, FIRST, WHOLE, &[])?;
+    let mut source = MemorySource::new(alloc, script, WHOLE, &[])?;
     let mut sink = MemorySink::new(alloc, WHOLE, &[])?;
     let mut disk = MemoryDisk::new(alloc, NO_FILE, ROOM, CALLS_MAX, &[call])?;
     let limits = Limits::standard();
@@ -331,7 +336,7 @@ const CALLS_OF_FIRST: u32 = 15;
 #[test]
 fn exactly_a_failed_call_of_the_disk_ends_a_run_by_the_disk(rt: HostRuntime) -> Result<(), Fail> {
     for call in 0..40u32 {
-        let (status, written) = first_over(&rt, rt.alloc(), u64::from(call))?;
+        let (status, written) = run_over(&rt, rt.alloc(), FIRST, u64::from(call))?;
         assert!(rt;
             FIRST_REPLIES.starts_with(written.as_slice()),
             "at call {call}"
@@ -350,7 +355,26 @@ fn exactly_a_failed_call_of_the_disk_ends_a_run_by_the_disk(rt: HostRuntime) -> 
 const SCRIPT: &str = "create 2 2 union\nload 2\n10 +node 1\n20 +node 2\nat 10 s\nlist 1\n";
 
 const REPLIES: &str =
-    "ok create\nend\nok load 2 2 20\nend\nok at 1 0\nend\nok list 1 1\nnode 1\nend\n";
+    "ok create\nend\nok load 2 2 20\nend\nok at 1 42\nend\nok list 1 1\nnode 1\nend\n";
+
+// Its replies where the read of the list fails, which is all that its retrieval reads.
+const REPLIES_UNREAD: &str =
+    "ok create\nend\nok load 2 2 20\nend\nrefused 14 store-read\nend\nrefused 8 unknown-handle 1\nend\n";
+
+#[test]
+fn a_read_that_fails_refuses_its_command_alone(rt: HostRuntime) -> Result<(), Fail> {
+    let mut unread = None;
+    for call in 0..40u32 {
+        let (status, written) = run_over(&rt, rt.alloc(), SCRIPT.as_bytes(), u64::from(call))?;
+        if written.as_slice() == REPLIES_UNREAD.as_bytes() {
+            assert_eq!(rt; status, Status::Done, "at call {call}");
+            assert_eq!(rt; unread, None, "at call {call}");
+            unread = Some(call);
+        }
+    }
+    assert!(rt; unread.is_some());
+    Ok(())
+}
 
 #[test]
 fn a_failed_read_ends_a_run_with_the_replies_so_far(rt: HostRuntime) -> Result<(), Fail> {

@@ -1,6 +1,6 @@
 -- The rows of the grammar of commands are those that the table of commands reads.
-use Rattle.std.proofs.Common.{◌≡◌, ℕ, ◌+◌, ◌-◌, ◌*◌, ◌<◌, List, [], ◌∷◌, ◌++◌, length, take, drop, codes, option_and_then, is_some, Option, Some, refl, sym, ap, subst, arith, zero, suc, length-append}
-use Rattle.std.specs.List.{AllByRecursion}
+use Rattle.std.proofs.Common.{◌≡◌, ℕ, ◌+◌, ◌-◌, ◌*◌, ◌<◌, List, [], ◌∷◌, ◌++◌, length, take, drop, codes, option_and_then, is_some, Option, Some, refl, sym, ap, ◌∙◌, subst, arith, zero, suc, length-append, append_assoc}
+use Rattle.std.specs.List.{AllByRecursion, Any}
 use Rattle.std.proofs.lemmas.Fmt.{decimal_digit}
 use Rattle.std.proofs.lemmas.List.{length-take-le, take-append-drop}
 use Rattle.dg_graph.specs.declared.limits.TheConstants.{TIME_MAX}
@@ -11,11 +11,12 @@ use Rattle.dg_history.specs.ChangeGrammar.{time_of}
 use Rattle.dg_machine.specs.declared.command.Command.{Command}
 use Rattle.dg_machine.specs.declared.command.Command.TheVariants as command
 use Rattle.dg_machine.specs.CommandGrammar.{Begins, IsColumn, columns_of, command_verbs, count_from_0, count_of, function_of, handle_of, n32_of}
-use Rattle.dg_line.specs.Prefixes.{IsLongestPrefix}
+use Rattle.dg_line.specs.Prefixes.{IsLongestPrefix, IsPrefixOfOne}
 use Rattle.dg_line.specs.Symbols.{Terminal, One_of, Number, IsLineOfOne}
 use Rattle.dg_line.proofs.Numbers.{number_within}
+use Rattle.dg_line.proofs.Instants.{several_row, zero_text, zero_words}
 use Rattle.dg_line.proofs.Symbols.{lines_short}
-use Rattle.dg_line.proofs.Verbs.{ReadsWord, Rows, number_word, more_texts, no_text, no_words, one_row, two_row, three_row, row, table, ◌▸◌}
+use Rattle.dg_line.proofs.Verbs.{AreWordsOf, ReadsWord, Rows, number_word, more_texts, no_text, no_words, one_row, two_row, three_row, row, filled_row, zeros, table, ◌▸◌}
 
 pub n32 : ReadsWord n32_of (Number 0 4294967295)
 n32 = number_word 0 4294967295
@@ -45,6 +46,7 @@ each_command =
     ▸ row (one_row count _)
     ▸ row (one_row count _)
     ▸ row (two_row time columns _)
+    ▸ filled_row (several_row columns time)
     ▸ row (one_row handle _)
     ▸ row (two_row time columns _)
     ▸ row (three_row time columns from_0 _)
@@ -73,10 +75,17 @@ column_is line longest column f is = record {
   within = omega (arith, f.within);
   begins = subst (λ (n : ℕ). Begins (take n line)) (let e : longest ≡ column - 1 = omega arith in e) (begins longest f);
   longest = λ n above in_line b.
-      let most = f.longest (take n line) (drop n line) (take-append-drop n line) (b.0, commands.takes (words (take n line ++ b.0)) b.1) in
+      let most = f.longest (take n line) (drop n line) (take-append-drop n line) (fills (take n line) b) in
       omega (arith, length-take-le n line in_line);
 }
   where
+    fills : (bytes : List ℕ) → Begins bytes → IsPrefixOfOne (IsLineOfOne command_rows) bytes
+    fills bytes b =
+        let found = commands.takes (words (bytes ++ b.0)) b.1 in
+        let same : words (bytes ++ b.0) ++ zeros found.0 ≡ words (bytes ++ (b.0 ++ zero_text found.0)) =
+        sym (zero_words found.0 (bytes ++ b.0)) ∙ ap words (append_assoc bytes b.0 (zero_text found.0)) in
+        (b.0 ++ zero_text found.0, subst (λ (ws : List (List ℕ)). Any (AreWordsOf ws) command_rows) same found.1)
+
     begins : (n : ℕ) → IsLongestPrefix (IsLineOfOne command_rows) line n → Begins (take n line)
     begins zero g = some_command
     begins (suc n) g =

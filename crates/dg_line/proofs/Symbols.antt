@@ -1,6 +1,6 @@
 -- Lines of rows of symbols, as words with a space between each two.
-use Rattle.std.proofs.Common.{◌≡◌, ℕ, suc, ◌+◌, ◌*◌, ◌<◌, ◌≤◌, ◌^◌, ◌⊎◌, inl, inr, max, Bool, true, false, not, ◌&&◌, nat_le, List, [], ◌∷◌, ◌++◌, length, get_or, take, drop, decimal, refl, sym, ap, ◌∙◌, subst, arith, ltb, add-one, drop-cons, length-append}
-use Rattle.std.specs.List.{AllByRecursion, AllZip, Contains, list_all, position_or_len, before_first, after_first}
+use Rattle.std.proofs.Common.{◌≡◌, ℕ, suc, ◌+◌, ◌*◌, ◌<◌, ◌≤◌, ◌^◌, ◌⊎◌, inl, inr, max, Bool, true, false, cond, not, ◌&&◌, nat_le, List, [], ◌∷◌, ◌++◌, length, get_or, take, drop, decimal, refl, sym, ap, ◌∙◌, subst, arith, ltb, add-one, drop-cons, length-append}
+use Rattle.std.specs.List.{AllByRecursion, AllZip, Contains, list_all, onto_first, position_or_len, before_first, after_first}
 use Rattle.std.proofs.lemmas.Bool.{ltb-true, ltb-false, leb-true, eqb-true, false≢true}
 use Rattle.std.proofs.lemmas.Fmt.{length-decimal-le, digits_decimal}
 use Rattle.std.proofs.lemmas.Grind.{common_steps}
@@ -134,6 +134,19 @@ some_words line = elim (cut line) [
   | Whole plain e ↦ Words_are line [] e
   | Split w b parts e ↦ Words_are w (words b) e
 ]
+
+onto_some : (x : ℕ) (ws more : List (List ℕ)) → SomeWords ws → onto_first x (ws ++ more) ≡ onto_first x ws ++ more
+onto_some x ws more (Words_are w rest e) = ap (λ (l : List (List ℕ)). onto_first x (l ++ more)) e ∙ ap (λ (l : List (List ℕ)). onto_first x l ++ more) (sym e)
+
+-- the words of a line, a space and a line
+pub words_both : (line b : List ℕ) → words (line ++ 32 ∷ b) ≡ words line ++ words b
+words_both [] b = refl
+words_both (x ∷ line) b = ap (λ l. cond (is_space x) ([] ∷ l) (onto_first x l)) (words_both line b) ∙ by_test (is_space x)
+  where
+    by_test : (t : Bool)
+        → cond t ([] ∷ words line ++ words b) (onto_first x (words line ++ words b)) ≡ cond t ([] ∷ words line) (onto_first x (words line)) ++ words b
+    by_test true = refl
+    by_test false = onto_some x (words line) (words b) (some_words line)
 
 abbrev WordsOf : List Terminal → List (List ℕ) → Type 0
 WordsOf row ws = AllZip IsWordOf row ws

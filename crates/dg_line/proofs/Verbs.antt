@@ -2,9 +2,10 @@
 --     number_terminal, more_texts, no_texts      what a reader of a word takes
 --     one_row, two_row, three_row, no_words      what a reader of some words takes
 --     table_rows      what a table of verbs takes
-use Rattle.std.proofs.Common.{◌≡◌, ℕ, inl, inr, IsTrue, Bool, true, false, cond, not, ◌&&◌, ◌||◌, is_some, Option, Some, None, List, [], ◌∷◌, ◌++◌, map, option_and_then, refl, sym, subst}
+use Rattle.std.proofs.Common.{◌≡◌, ℕ, inl, inr, IsTrue, Bool, true, false, cond, not, ◌&&◌, ◌||◌, is_some, Option, Some, None, List, [], ◌∷◌, ◌++◌, map, codes, replicate, option_and_then, refl, sym, subst}
 use Rattle.std.specs.List.{AllZip, AllByRecursion, Any, Contains, list_any}
 use Rattle.std.proofs.lemmas.Bool.{false≢true}
+use Rattle.std.proofs.lemmas.List.{append-nil}
 use Rattle.std.proofs.lemmas.Slice.Eq.{bytes_eq-Decides}
 use Rattle.dg_graph.specs.Verbs.{Verb, is_word, look_up, read_by, none_more, one, two, three}
 use Rattle.dg_graph.specs.Words.{number}
@@ -71,11 +72,11 @@ no_words {A} x = record { takes = takes; gives = gives }
     gives [] h = refl
     gives (w ∷ ws) h = absurd h
 
-bound : {A B : Type 0} (f : A → Option B) (o : Option A) → Is (option_and_then f o) → Is o × ((x : A) × Is (f x))
+pub bound : {A B : Type 0} (f : A → Option B) (o : Option A) → Is (option_and_then f o) → Is o × ((x : A) × Is (f x))
 bound f (Some x) h = (refl, (x, h))
 bound f None h = absurd (false≢true h)
 
-both : {A B : Type 0} (f : A → Option B) (o : Option A) → Is o → ((x : A) → Is (f x)) → Is (option_and_then f o)
+pub both : {A B : Type 0} (f : A → Option B) (o : Option A) → Is o → ((x : A) → Is (f x)) → Is (option_and_then f o)
 both f (Some x) h g = g x
 both f None h g = absurd (false≢true h)
 
@@ -112,22 +113,38 @@ three_row {a = a} {b = b} {c = c} {t = t} {u = u} {v = v} r s q make =
 
 -- ---- a table of verbs
 
+-- so many words `0`
+abbrev pub zeros : ℕ → List (List ℕ)
+zeros n = replicate n (codes "0")
+
 -- The rows of words that a reader takes: one for a command, and more where a word may be followed in
--- several ways.
+-- several ways. Words that are taken may be too few for a row: then words `0` behind them fill it.
 pub record Rows {A : Type 0} (read : List (List ℕ) → Option A) : Type 0 where
   pub rows : List (List Terminal)
-  pub takes : (ws : List (List ℕ)) → Is (read ws) → Any (AreWordsOf ws) rows
+  pub takes : (ws : List (List ℕ)) → Is (read ws) → (n : ℕ) × Any (AreWordsOf (ws ++ zeros n)) rows
   pub gives : (ws : List (List ℕ)) → Any (AreWordsOf ws) rows → Is (read ws)
 
-abbrev pub row : {A : Type 0} {read : List (List ℕ) → Option A} {r : List Terminal} → ReadsRow read r → Rows read
-row {read = read} {r = r} reads = record {
+-- what a reader of some words takes, where words `0` may have to fill a row
+pub record ReadsFilled {A : Type 0} (read : List (List ℕ) → Option A) (row : List Terminal) : Type 0 where
+  pub takes : (ws : List (List ℕ)) → Is (read ws) → (n : ℕ) × AreWordsOf (ws ++ zeros n) row
+  pub gives : (ws : List (List ℕ)) → AreWordsOf ws row → Is (read ws)
+
+abbrev pub filled_row : {A : Type 0} {read : List (List ℕ) → Option A} {r : List Terminal} → ReadsFilled read r → Rows read
+filled_row {read = read} {r = r} reads = record {
   rows = r ∷ [];
-  takes = λ ws h. any_first (AreWordsOf ws) r [] (reads.takes ws h);
+  takes = λ ws h. let filled = reads.takes ws h in (filled.0, any_first (AreWordsOf (ws ++ zeros filled.0)) r [] filled.1);
   gives = λ ws h. elim (any_cases (AreWordsOf ws) r [] h) [
     | inl here ↦ reads.gives ws here
     | inr none ↦ absurd (any_none (AreWordsOf ws) none)
   ];
 }
+
+-- a row that takes its words as they are
+abbrev pub row : {A : Type 0} {read : List (List ℕ) → Option A} {r : List Terminal} → ReadsRow read r → Rows read
+row {r = r} reads = filled_row (record {
+  takes = λ ws h. (0, subst (λ (l : List (List ℕ)). AreWordsOf l r) (sym (append-nil ws)) (reads.takes ws h));
+  gives = reads.gives;
+})
 
 infixr 60 ◌▸◌
 -- the rows of a verb, and those of the verbs after it in the table
@@ -188,18 +205,23 @@ named {A} (v ∷ verbs) all w ws h = elim (any_either (AreWordsOf (w ∷ ws)) (b
 ]
 
 table_takes : {A : Type 0} (verbs : List (Verb A)) (all : AllByRecursion (λ (v : Verb A). Rows v.read) verbs) (w : List ℕ) (ws : List (List ℕ))
-    → Is (look_up w verbs ws) → Any (AreWordsOf (w ∷ ws)) (table_rows verbs all)
+    → Is (look_up w verbs ws) → (n : ℕ) × Any (AreWordsOf (w ∷ ws ++ zeros n)) (table_rows verbs all)
 table_takes [] all w ws h = absurd (false≢true h)
 table_takes {A} (v ∷ verbs) all w ws h = by_test (is_word w v.word) refl h (table_takes verbs all.1 w ws)
   where
     by_test : (b : Bool) → is_word w v.word ≡ b → Is (cond b (v.read ws) (look_up w verbs ws))
-        → (Is (look_up w verbs ws) → Any (AreWordsOf (w ∷ ws)) (table_rows verbs all.1))
-        → Any (AreWordsOf (w ∷ ws)) (behind v.word all.0.rows ++ table_rows verbs all.1)
+        → (Is (look_up w verbs ws) → (n : ℕ) × Any (AreWordsOf (w ∷ ws ++ zeros n)) (table_rows verbs all.1))
+        → (n : ℕ) × Any (AreWordsOf (w ∷ ws ++ zeros n)) (behind v.word all.0.rows ++ table_rows verbs all.1)
     by_test true e g later =
-        any_left (AreWordsOf (w ∷ ws)) (behind v.word all.0.rows) (table_rows verbs all.1)
-        (behind_takes v.word w ws all.0.rows (sym ((bytes_eq-Decides w v.word).0 e)) (all.0.takes ws g))
+        let found = all.0.takes ws g in
+        let words = ws ++ zeros found.0 in (
+          found.0,
+          any_left (AreWordsOf (w ∷ words)) (behind v.word all.0.rows) (table_rows verbs all.1)
+              (behind_takes v.word w words all.0.rows (sym ((bytes_eq-Decides w v.word).0 e)) found.1),
+        )
     by_test false e g later =
-        any_right (AreWordsOf (w ∷ ws)) (behind v.word all.0.rows) (table_rows verbs all.1) (later g)
+        let found = later g in
+        (found.0, any_right (AreWordsOf (w ∷ ws ++ zeros found.0)) (behind v.word all.0.rows) (table_rows verbs all.1) found.1)
 
 not_both : (b : Bool) → not b ≡ true → b ≡ true → ⊥
 not_both true e f = false≢true e
@@ -239,7 +261,7 @@ no_table_row (v ∷ verbs) all h = elim (any_either (AreWordsOf []) (behind v.wo
 ]
 
 pub table_only : {A : Type 0} (verbs : List (Verb A)) (all : AllByRecursion (λ (v : Verb A). Rows v.read) verbs) (ws : List (List ℕ))
-    → Is (read_by verbs ws) → Any (AreWordsOf ws) (table_rows verbs all)
+    → Is (read_by verbs ws) → (n : ℕ) × Any (AreWordsOf (ws ++ zeros n)) (table_rows verbs all)
 table_only verbs all [] h = absurd (false≢true h)
 table_only verbs all (w ∷ ws) h = table_takes verbs all w ws h
 

@@ -1,8 +1,8 @@
-ghost use Rattle.std.specs.Prelude.{◌≡◌, ◌≤◌, IfErr, IfOk, IfSome, List, ℕ};
+ghost use Rattle.std.specs.Prelude.{◌≡◌, ◌≤◌, ◌∷◌, IfErr, IfOk, IfSome, List, option_and_then, ℕ};
 ghost use Rattle.std.specs.Result.{result_ok};
 ghost use Rattle.dg_graph.specs.Verbs.{none_more, one, two, three};
 ghost use Rattle.dg_history.specs.ChangeGrammar.{time_of};
-ghost use Rattle.dg_machine.specs.CommandGrammar.{IsColumn, CountIsInRange, columns_of, command_of, count_from_0, count_of, function_of, handle_of, n32_of};
+ghost use Rattle.dg_machine.specs.CommandGrammar.{IsColumn, CountIsInRange, columns_of, command_of, count_from_0, count_of, function_of, handle_of, n32_of, several_of, several_with, times_of};
 
 use crate::grammar::{
     COLUMNS, COUNT, COUNT_FROM_0, FUNCTION, HANDLE, N32, Symbol, TIME, longest_prefix,
@@ -10,15 +10,24 @@ use crate::grammar::{
 use crate::words::{Words, n32, number, time};
 use dg_graph::{Columns, Function};
 use dg_history::BATCH_LINES_MAX;
-use dg_machine::{Command, FIRST_HANDLE};
+use dg_machine::{Command, FIRST_HANDLE, TIMES_MAX};
 use thiserror::Error;
 
-/// The commands, each as a row of symbols. One space parts two words.
+/// The word `several`, whose row has many symbols.
+const SEVERAL: Symbol = Symbol::OneOf(&[b"several"]);
+
+/// The commands, each as a row of symbols. One space parts two words. A command of fewer instants than
+/// `TIMES_MAX` is a prefix of one of so many.
 const COMMANDS: &[&[Symbol]] = &[
     &[Symbol::OneOf(&[b"create"]), N32, N32, FUNCTION],
     &[Symbol::OneOf(&[b"load"]), COUNT],
     &[Symbol::OneOf(&[b"append"]), COUNT],
     &[Symbol::OneOf(&[b"at"]), TIME, COLUMNS],
+    &[
+        SEVERAL, COLUMNS, TIME, TIME, TIME, TIME, TIME, TIME, TIME, TIME, TIME, TIME, TIME, TIME,
+        TIME, TIME, TIME, TIME, TIME, TIME, TIME, TIME, TIME, TIME, TIME, TIME, TIME, TIME, TIME,
+        TIME, TIME, TIME, TIME, TIME,
+    ],
     &[Symbol::OneOf(&[b"list"]), HANDLE],
     &[Symbol::OneOf(&[b"plan"]), TIME, COLUMNS],
     &[Symbol::OneOf(&[b"certify"]), TIME, COLUMNS, COUNT_FROM_0],
@@ -32,7 +41,7 @@ pub struct Syntax(pub u32);
 
 /// The command that the line is, or the column at which it leaves the grammar of commands: it is 1
 /// more than the length of the longest prefix of the line that is a prefix of some command. The number
-/// of lines that follow a command is in its range. It takes no memory.
+/// of lines that follow a command, or of its instants, is in its range. It takes no memory.
 pub fn read_command(line: &[u8]) -> Result<Command, Syntax>
     ensures command { result_ok result ≡ command_of line.now }
     ensures ranges { IfOk result (λ c. CountIsInRange c) }
@@ -68,6 +77,8 @@ fn command(line: &[u8]) -> Option<Command>
         append(words)
     } else if verb == b"at".as_slice() {
         at(words)
+    } else if verb == b"several".as_slice() {
+        several(words)
     } else if verb == b"list".as_slice() {
         list(words)
     } else if verb == b"plan".as_slice() {
@@ -122,6 +133,39 @@ fn at(mut words: Words) -> Option<Command>
     let cols = columns(words.next()?)?;
     words.end()?;
     Some(Command::At { t, cols })
+}
+
+// `several COLS TIME..`, from the words after `several`.
+fn several(mut words: Words) -> Option<Command>
+    ensures command { result ≡ several_of words.entry }
+    ensures range { IfSome result (λ c. CountIsInRange c) }
+{
+    let cols = columns(words.next()?)?;
+    let first = time(words.next()?)?;
+    several_from(cols, first, words)
+}
+
+// `several` with these columns and this first instant, from the words of the other instants.
+fn several_from(cols: Columns, first: u64, mut words: Words) -> Option<Command>
+    ensures command { result ≡ option_and_then (λ times. several_with cols (first ∷ times)) (times_of words.entry) }
+    ensures range { IfSome result (λ c. CountIsInRange c) }
+{
+    let mut times = [0; TIMES_MAX];
+    times[0] = first;
+    let mut count = 1;
+    while let Some(word) = words.next() {
+        let t = time(word)?;
+        if count == TIMES_MAX {
+            return None;
+        }
+        times[count] = t;
+        count += 1;
+    }
+    Some(Command::Several {
+        cols,
+        times,
+        count: count as u8,
+    })
 }
 
 // `list HANDLE`, from the words after `list`.

@@ -16,9 +16,9 @@ mod words;
 
 pub use change::{ChangeFault, read_change};
 pub use command::{Syntax, read_command};
-pub use dg_graph::{Change, Columns, Element, Function, What};
+pub use dg_graph::{Change, Column, Columns, Element, Function, What};
 pub use dg_history::{Key, NodeId};
-pub use dg_machine::{BodyLine, BodyLines, Command, Head, Refusal, Reply};
+pub use dg_machine::{BodyLine, BodyLines, Command, Head, Refusal, Reply, TIMES_MAX};
 pub use dg_plan::{PlanLine, Verdict};
 pub use plan_line::read_plan_line;
 pub use reply::write_reply;

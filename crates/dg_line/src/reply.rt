@@ -1,12 +1,12 @@
 ghost use Rattle.std.specs.Prelude.{◌≡◌, ◌≤◌, ◌++◌, [], ◌∷◌, map, take, codes, decimal, if◌then◌else◌, OnOk, OnErr};
-ghost use Rattle.dg_machine.specs.ReplyText.{text, body_text, head_words, element_words, body_words, function_word, key_words, node_words, refusal_words, verdict_words};
+ghost use Rattle.dg_machine.specs.ReplyText.{text, body_text, column_word, head_words, element_words, body_words, function_word, key_words, node_words, refusal_words, verdict_words};
 ghost use Rattle.dg_graph.specs.Names.{name_text};
 ghost use Rattle.dg_io.specs.Told.{grown, GrowsByPart, CountRose};
 ghost use Rattle.dg_line.specs.Buffered.{IsBuffered, word_bytes};
 
 use crate::reply_buffer::{ReplyBuffer, Word};
 use crate::reply_line::{ReplyLine, WORDS_MAX};
-use dg_graph::{Element, Function};
+use dg_graph::{Column, Element, Function};
 use dg_history::{Key, NodeId};
 use dg_io::{Failed, Sink};
 use dg_machine::{BodyLine, Head, Refusal, Reply};
@@ -68,9 +68,10 @@ fn head_line(head: &Head) -> ReplyLine<'static>
             total,
             last,
         } => batch_line(b"append", events, total, last),
-        Head::At { handle, weight } => handle_line(b"at", handle, weight),
-        Head::List { handle, lines } => handle_line(b"list", handle, lines),
-        Head::Plan { weight, steps } => plan_line(weight, steps),
+        Head::At { handle, weight } => numbers_line(b"at", u64::from(handle), weight),
+        Head::Several { weight, sum } => numbers_line(b"several", weight, sum),
+        Head::List { handle, lines } => numbers_line(b"list", u64::from(handle), lines),
+        Head::Plan { weight, steps } => numbers_line(b"plan", weight, steps),
         Head::Certified(verdict) => verdict_line(verdict),
         Head::Tree {
             l,
@@ -98,29 +99,16 @@ fn batch_line(verb: &'static [u8], events: u64, total: u64, last: u64) -> ReplyL
     ])
 }
 
-// The head line of a command with a handle, and a number.
-fn handle_line(verb: &'static [u8], handle: u32, number: u64) -> ReplyLine<'static>
-    ensures words { map word_bytes (take result.len result.words) ≡ codes "ok" ∷ verb.now ∷ decimal handle ∷ decimal number ∷ [] }
+// The head line of a command with two numbers: a handle or a weight, and another.
+fn numbers_line(verb: &'static [u8], first: u64, second: u64) -> ReplyLine<'static>
+    ensures words { map word_bytes (take result.len result.words) ≡ codes "ok" ∷ verb.now ∷ decimal first ∷ decimal second ∷ [] }
     ensures len { result.len ≤ WORDS_MAX }
 {
     ReplyLine::of(&[
         OK,
         Word::Text(verb),
-        Word::Number(u64::from(handle)),
-        Word::Number(number),
-    ])
-}
-
-// The head line of a plan: its weight, and its steps.
-fn plan_line(weight: u64, steps: u64) -> ReplyLine<'static>
-    ensures words { map word_bytes (take result.len result.words) ≡ codes "ok" ∷ codes "plan" ∷ decimal weight ∷ decimal steps ∷ [] }
-    ensures len { result.len ≤ WORDS_MAX }
-{
-    ReplyLine::of(&[
-        OK,
-        Word::Text(b"plan"),
-        Word::Number(weight),
-        Word::Number(steps),
+        Word::Number(first),
+        Word::Number(second),
     ])
 }
 
@@ -221,6 +209,8 @@ fn refusal_line(refusal: Refusal) -> ReplyLine<'static>
             refused_with_both(b"12", b"history-full", held, asked)
         }
         Refusal::FileFull(needed, limit) => refused_with_both(b"13", b"file-full", needed, limit),
+        Refusal::StoreRead => refused(b"14", b"store-read"),
+        Refusal::Damaged(key, column) => damaged_line(key, column),
         Refusal::OutOfMemory => refused(b"16", b"out-of-memory"),
         Refusal::LineLong => refused(b"18", b"line-long"),
         Refusal::AlreadyLoaded => refused(b"20", b"already-loaded"),
@@ -266,6 +256,28 @@ fn refused_with_both(
     ])
 }
 
+// The refusal of a column of a record that is in no spelling.
+fn damaged_line(key: Key, column: Column) -> ReplyLine<'static>
+    ensures words { map word_bytes (take result.len result.words) ≡ codes "refused" ∷ codes "15" ∷ codes "damaged" ∷ (key_words key ++ column_word column ∷ []) }
+    ensures len { result.len ≤ WORDS_MAX }
+{
+    let mut line = ReplyLine::of(&[REFUSED, Word::Text(b"15"), Word::Text(b"damaged")]);
+    line.put_key(key);
+    line.put(Word::Text(column_letter(column)));
+    line
+}
+
+// The letter of a column.
+fn column_letter(column: Column) -> &'static [u8]
+    ensures { result.now ≡ column_word column }
+{
+    match column {
+        Column::Structure => b"s".as_slice(),
+        Column::NodeAttr => b"n".as_slice(),
+        Column::EdgeAttr => b"e".as_slice(),
+    }
+}
+
 // The words of a body line.
 fn body_line<'a>(names: &'a Names, line: &BodyLine) -> ReplyLine<'a>
     ensures words { map word_bytes (take result.len result.words) ≡ body_words names.now line.now }
@@ -273,10 +285,24 @@ fn body_line<'a>(names: &'a Names, line: &BodyLine) -> ReplyLine<'a>
 {
     match line {
         BodyLine::Element(element) => element_line(names, element),
+        BodyLine::Handle { handle, t, single } => handle_line(*handle, *t, *single),
         BodyLine::Step { edge, head, weight } => step_line(*edge, *head, *weight),
         BodyLine::Potential { node, value } => potential_line(*node, *value),
         BodyLine::Sizes { key, lengths } => sizes_line(*key, *lengths),
     }
+}
+
+// A line of a new handle: its number, its instant, and the weight of the instant's single plan.
+fn handle_line(handle: u32, t: u64, single: u64) -> ReplyLine<'static>
+    ensures words { map word_bytes (take result.len result.words) ≡ codes "handle" ∷ decimal handle ∷ decimal t ∷ decimal single ∷ [] }
+    ensures len { result.len ≤ WORDS_MAX }
+{
+    ReplyLine::of(&[
+        Word::Text(b"handle"),
+        Word::Number(u64::from(handle)),
+        Word::Number(t),
+        Word::Number(single),
+    ])
 }
 
 // A line of a plan's step: the number of its edge, the node that it enters, and its weight.

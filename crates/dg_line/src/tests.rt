@@ -4,7 +4,7 @@ use dg_names::{NAMES_MAX, Names};
 use std::test::Fail;
 
 // Lines of no command, and the column at which each leaves the grammar.
-const COLUMNS: [(&str, u32); 24] = [
+const COLUMNS: [(&str, u32); 32] = [
     ("", 1),
     ("frob", 1),
     ("c", 2),
@@ -19,6 +19,17 @@ const COLUMNS: [(&str, u32); 24] = [
     ("at 5", 5),
     ("at 5 snee", 9),
     ("at 9223372036854775808 s", 22),
+    ("s", 2),
+    ("several", 8),
+    ("several 5 s", 9),
+    ("several snee 5", 12),
+    ("several s", 10),
+    ("several s x", 11),
+    ("several s 20  30", 14),
+    (
+        "several s 1 1 1 1 1 1 1 1 1 1 1 1 1 1 1 1 1 1 1 1 1 1 1 1 1 1 1 1 1 1 1 1 1",
+        74,
+    ),
     ("listen 1", 5),
     ("list 0", 6),
     ("plan", 5),
@@ -31,8 +42,19 @@ const COLUMNS: [(&str, u32); 24] = [
     ("p", 2),
 ];
 
+// Instants of `several`.
+const THREE: [u64; TIMES_MAX] = [
+    20, 30, 20, 0, 0, 0, 0, 0, 0, 0, 0, 0, 0, 0, 0, 0, 0, 0, 0, 0, 0, 0, 0, 0, 0, 0, 0, 0, 0, 0, 0,
+    0,
+];
+
+const ALL: [u64; TIMES_MAX] = [
+    1, 2, 3, 4, 5, 6, 7, 8, 9, 10, 11, 12, 13, 14, 15, 16, 17, 18, 19, 20, 21, 22, 23, 24, 25, 26,
+    27, 28, 29, 30, 31, 32,
+];
+
 // Lines of commands.
-const COMMANDS: [(&str, Command); 13] = [
+const COMMANDS: [(&str, Command); 15] = [
     (
         "create 2 3 intersection",
         Command::Create {
@@ -78,6 +100,28 @@ const COMMANDS: [(&str, Command); 13] = [
                 nodes_attr: false,
                 edges_attr: true,
             },
+        },
+    ),
+    (
+        "several s 20 30 20",
+        Command::Several {
+            cols: Columns {
+                nodes_attr: false,
+                edges_attr: false,
+            },
+            times: THREE,
+            count: 3,
+        },
+    ),
+    (
+        "several sn 1 2 3 4 5 6 7 8 9 10 11 12 13 14 15 16 17 18 19 20 21 22 23 24 25 26 27 28 29 30 31 32",
+        Command::Several {
+            cols: Columns {
+                nodes_attr: true,
+                edges_attr: false,
+            },
+            times: ALL,
+            count: 32,
         },
     ),
     ("list 4294967295", Command::List { handle: u32::MAX }),
@@ -428,7 +472,7 @@ fn a_line_that_is_no_change_gives_no_names(rt: HostRuntime) -> Result<(), Fail> 
 }
 
 // Heads of replies, and their lines.
-const HEADS: [(Head, &str); 30] = [
+const HEADS: [(Head, &str); 33] = [
     (Head::Created, "ok create"),
     (
         Head::Loaded {
@@ -452,6 +496,13 @@ const HEADS: [(Head, &str); 30] = [
             weight: 40,
         },
         "ok at 1 40",
+    ),
+    (
+        Head::Several {
+            weight: 66,
+            sum: 92,
+        },
+        "ok several 66 92",
     ),
     (
         Head::List {
@@ -550,6 +601,11 @@ const HEADS: [(Head, &str); 30] = [
     (
         Head::Refused(Refusal::FileFull(173, 172)),
         "refused 13 file-full 173 172",
+    ),
+    (Head::Refused(Refusal::StoreRead), "refused 14 store-read"),
+    (
+        Head::Refused(Refusal::Damaged(Key::Down(1, 2), Column::NodeAttr)),
+        "refused 15 damaged down 1 2 n",
     ),
     (
         Head::Refused(Refusal::OutOfMemory),
@@ -662,8 +718,16 @@ fn a_listing_has_a_line_for_each_element(rt: HostRuntime) -> Result<(), Fail> {
     Ok(())
 }
 
-// Steps, potentials and records, and their lines.
-const BODY_LINES: [(BodyLine, &str); 11] = [
+// Handles, steps, potentials and records, and their lines.
+const BODY_LINES: [(BodyLine, &str); 12] = [
+    (
+        BodyLine::Handle {
+            handle: 3,
+            t: 20,
+            single: 26,
+        },
+        "handle 3 20 26\n",
+    ),
     (
         BodyLine::Step {
             edge: 1,
@@ -746,7 +810,9 @@ const BODY_LINES: [(BodyLine, &str); 11] = [
 ];
 
 #[test]
-fn a_body_has_a_line_for_each_step_potential_and_record(rt: HostRuntime) -> Result<(), Fail> {
+fn a_body_has_a_line_for_each_handle_step_potential_and_record(
+    rt: HostRuntime,
+) -> Result<(), Fail> {
     let alloc = rt.alloc();
     let mut lines = Vec::new(alloc);
     let mut text = Vec::from_slice(alloc, b"ok plan 26 2\n")?;

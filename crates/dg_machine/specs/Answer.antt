@@ -1,8 +1,9 @@
 -- The machine's answer to a command and the lines that follow it: a reply and a new state. A refusal keeps
 -- the state.
-use Rattle.std.specs.Prelude.{ℕ, ◌+◌, Bool, true, false, ◌&&◌, ◌||◌, not, List, [], ◌∷◌, ◌++◌, Option, Some, None, Result, Ok, Err, if◌then◌else◌, length, map, nat_lt, is_some, slice_get}
+use Rattle.std.specs.Prelude.{ℕ, ◌+◌, Bool, true, false, ◌&&◌, ◌||◌, not, List, [], ◌∷◌, ◌++◌, Option, Some, None, Result, Ok, Err, if◌then◌else◌, length, map, nat_lt, is_some, slice_get, sum, take}
 use Rattle.std.specs.List.{flat_map}
 use Rattle.dg_graph.specs.declared.element.Column.TheVariants as column
+use Rattle.dg_graph.specs.declared.element.Columns.{Columns}
 use Rattle.dg_graph.specs.declared.element.Element.{Element}
 use Rattle.dg_graph.specs.Lines.{ScriptLine}
 use Rattle.dg_history.specs.Batch.{batch_of}
@@ -17,7 +18,7 @@ use Rattle.dg_index.specs.IndexRecords.{column_in, keys_of}
 use Rattle.dg_plan.specs.declared.edge.Edge.{Edge}
 use Rattle.dg_plan.specs.CertificateLines.{judged}
 use Rattle.dg_plan.specs.IndexGraph.{arcs_of}
-use Rattle.dg_plan.specs.Walks.{weight_of}
+use Rattle.dg_plan.specs.Walks.{tree_weight, weight_of}
 use Rattle.dg_machine.specs.declared.reply.BodyLine.{BodyLine}
 use Rattle.dg_machine.specs.declared.reply.BodyLine.TheVariants as line
 use Rattle.dg_machine.specs.declared.reply.Head.{Head}
@@ -71,6 +72,15 @@ abbrev pub elements_if : History → Option Stands → List Element
 elements_if z None = []
 elements_if z (Some stands) = elements z stands
 
+-- the state with a new handle for each of these, in order
+abbrev pub with_handles : MachineState → List Stands → MachineState
+with_handles m [] = m
+with_handles m (stands ∷ more) = with_handles (with_handle m stands) more
+
+-- the graphs as of these instants
+abbrev pub overlays : Columns → List ℕ → List Stands
+overlays cols times = map (λ t. Overlay t cols None) times
+
 -- the elements of a handle
 abbrev pub shown_by : MachineState → ℕ → List Element
 shown_by m handle = elements_if (history_in m.index) (entry_at handle m.table)
@@ -78,6 +88,16 @@ shown_by m handle = elements_if (history_in m.index) (entry_at handle m.table)
 -- the listing of a set
 abbrev pub listing : ℕ → List Element → Reply
 listing handle set = record { head = head.List handle (length set); body = map (λ x. line.Element x) set }
+
+-- the lines of new handles from this number on: each with its instant and the weight of its single plan
+abbrev pub handle_lines : ℕ → List ℕ → List ℕ → List BodyLine
+handle_lines next [] singles = []
+handle_lines next (t ∷ times) [] = []
+handle_lines next (t ∷ times) (single ∷ singles) = line.Handle next t single ∷ handle_lines (next + 1) times singles
+
+-- the reply of a tree that weighs so much, with the weights of the single plans, for handles from this number on
+abbrev pub several_reply : ℕ → ℕ → List ℕ → List ℕ → Reply
+several_reply next weight times singles = record { head = head.Several weight (sum singles); body = handle_lines next times singles }
 
 -- ---- plans
 
@@ -132,8 +152,12 @@ accepted m (command.Create l k function) lines p = record {
 accepted m (command.Load count) lines p = with_lines m (λ events total last. head.Loaded events total last) lines
 accepted m (command.Append count) lines p = with_lines m (λ events total last. head.Appended events total last) lines
 accepted m (command.At t cols) lines p = record {
-  reply = headed (head.At m.next 0);
+  reply = headed (head.At m.next (weight_of (arcs_of (edges_in m cols)) p.steps));
   state = with_handle m (Overlay t cols None);
+}
+accepted m (command.Several cols times count) lines p = record {
+  reply = several_reply m.next (tree_weight (arcs_of (edges_in m cols)) p.grafts) (take count times) p.singles;
+  state = with_handles m (overlays cols (take count times));
 }
 accepted m (command.List handle) lines p = say m (listing handle (shown_by m handle))
 accepted m (command.Plan t cols) lines p =
@@ -165,12 +189,38 @@ is_refusal head.Created = false
 is_refusal (head.Loaded events total last) = false
 is_refusal (head.Appended events total last) = false
 is_refusal (head.At handle weight) = false
+is_refusal (head.Several weight sum) = false
 is_refusal (head.List handle lines) = false
 is_refusal (head.Plan weight steps) = false
 is_refusal (head.Certified verdict) = false
 is_refusal (head.Tree l k function events leaves records) = false
 
--- Want of memory may be answered by a command that needs memory: where lines follow it, and where it is not
--- refused by what it needs. Every other refusal is decided before any memory is taken.
+-- a failed read of the index file
+abbrev pub store_read : Reply
+store_read = headed (head.Refused refusal.StoreRead)
+
+-- The command is begun: lines follow it, or it is not refused by what it needs. Every other refusal is decided
+-- before any memory is taken and anything is read.
+abbrev pub is_begun : MachineState → Command → List ScriptLine → Bool
+is_begun m c lines = is_followed c || not (is_some (refused m c lines))
+
+-- want of memory may be answered by a command that needs memory, once it is begun
 abbrev pub may_lack_memory : MachineState → Command → List ScriptLine → Bool
-may_lack_memory m c lines = (needs c).memory && (is_followed c || not (is_some (refused m c lines)))
+may_lack_memory m c lines = (needs c).memory && is_begun m c lines
+
+-- and a failed read by one that reads records of the file
+abbrev pub may_fail_to_read : MachineState → Command → List ScriptLine → Bool
+may_fail_to_read m c lines = (needs c).reads && is_begun m c lines
+
+-- the weight that the reply to a retrieval tells
+abbrev pub weight_told : Head → ℕ
+weight_told head.Created = 0
+weight_told (head.Loaded events total last) = 0
+weight_told (head.Appended events total last) = 0
+weight_told (head.At handle weight) = weight
+weight_told (head.Several weight sum) = weight
+weight_told (head.List handle lines) = 0
+weight_told (head.Plan weight steps) = 0
+weight_told (head.Certified verdict) = 0
+weight_told (head.Tree l k function events leaves records) = 0
+weight_told (head.Refused r) = 0

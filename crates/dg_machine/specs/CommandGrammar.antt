@@ -1,8 +1,10 @@
 -- The grammar of commands and of plan lines: which line of a script is which.
-use Rattle.std.specs.Prelude.{ℕ, ◌+◌, ◌-◌, ◌≤◌, true, false, List, [], ◌∷◌, ◌++◌, Option, Some, None, if◌then◌else◌, codes, length, take, is_some, option_and_then, IsTrue}
+use Rattle.std.specs.Prelude.{ℕ, ◌+◌, ◌-◌, ◌≤◌, true, false, List, [], ◌∷◌, ◌++◌, Option, Some, None, if◌then◌else◌, codes, length, take, is_some, nat_le, option_and_then, replicate, IsTrue}
+use Rattle.std.specs.Option.{option_map}
 use Rattle.dg_graph.specs.declared.element.Columns.{Columns}
 use Rattle.dg_machine.specs.declared.command.Command.{Command}
 use Rattle.dg_machine.specs.declared.command.Command.TheVariants as command
+use Rattle.dg_machine.specs.declared.command.TheConstants.{TIMES_MAX}
 use Rattle.dg_history.specs.declared.limits.TheConstants.{BATCH_LINES_MAX}
 use Rattle.dg_graph.specs.declared.function.Function.{Function}
 use Rattle.dg_graph.specs.declared.function.Function.TheVariants.{Intersection, Union, Balanced}
@@ -43,6 +45,21 @@ count_of word = number 1 BATCH_LINES_MAX word
 abbrev pub count_from_0 : List ℕ → Option ℕ
 count_from_0 word = number 0 BATCH_LINES_MAX word
 
+-- one instant and others: each word one
+abbrev pub times_of : List (List ℕ) → Option (List ℕ)
+times_of [] = Some []
+times_of (word ∷ rest) = option_and_then (λ t. option_map (λ ts. t ∷ ts) (times_of rest)) (time_of word)
+
+-- the instants, with zeros behind them, unless there are too many
+abbrev pub several_with : Columns → List ℕ → Option Command
+several_with cols times =
+    if nat_le (length times) TIMES_MAX then Some (command.Several cols (times ++ replicate (TIMES_MAX - length times) 0) (length times)) else None
+
+-- columns, an instant, and others
+abbrev pub several_of : List (List ℕ) → Option Command
+several_of (cols ∷ word ∷ rest) = option_and_then (λ c. option_and_then (several_with c) (times_of (word ∷ rest))) (columns_of cols)
+several_of rest = None
+
 -- the commands, by their first word
 abbrev pub command_verbs : List (Verb Command)
 command_verbs =
@@ -50,6 +67,7 @@ command_verbs =
     ∷ verb (codes "load") (one count_of (λ n. command.Load n))
     ∷ verb (codes "append") (one count_of (λ n. command.Append n))
     ∷ verb (codes "at") (two time_of columns_of (λ t cols. command.At t cols))
+    ∷ verb (codes "several") several_of
     ∷ verb (codes "list") (one handle_of (λ h. command.List h))
     ∷ verb (codes "plan") (two time_of columns_of (λ t cols. command.Plan t cols))
     ∷ verb (codes "certify") (three time_of columns_of count_from_0 (λ t cols n. command.Certify t cols n))
@@ -109,9 +127,10 @@ plan_line_in Long = None
 -- ---- ranges
 
 -- The number of lines that follow is in its range: a batch has one at least, and no command has more than a
--- batch may have. Every command that a line is is so.
+-- batch may have; and so is the number of instants. Every command that a line is is so.
 abbrev pub CountIsInRange : Command → Type 0
 CountIsInRange (command.Load count) = (1 ≤ count) × (count ≤ BATCH_LINES_MAX)
 CountIsInRange (command.Append count) = (1 ≤ count) × (count ≤ BATCH_LINES_MAX)
 CountIsInRange (command.Certify t cols count) = count ≤ BATCH_LINES_MAX
+CountIsInRange (command.Several cols times count) = (1 ≤ count) × (count ≤ TIMES_MAX)
 CountIsInRange c = Unit {0}

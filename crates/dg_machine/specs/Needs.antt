@@ -1,5 +1,5 @@
 -- What each command needs, and the refusals that follow from it.
-use Rattle.std.specs.Prelude.{ℕ, ◌+◌, ◌*◌, Bool, true, false, ◌&&◌, ◌||◌, not, List, [], ◌∷◌, ◌++◌, Option, Some, None, length, nat_lt, is_some}
+use Rattle.std.specs.Prelude.{ℕ, ◌+◌, ◌*◌, Bool, true, false, ◌&&◌, ◌||◌, not, List, [], ◌∷◌, ◌++◌, Option, Some, None, length, nat_lt, is_some, take}
 use Rattle.std.specs.List.{list_any}
 use Rattle.dg_graph.specs.declared.limits.TheConstants.{NAMES_MAX}
 use Rattle.dg_graph.specs.Lines.{ScriptLine}
@@ -21,6 +21,7 @@ pub record Needs : Type 0 where
   pub handle : Option ℕ  -- that this one is live
   pub handles : ℕ  -- so many new handles
   pub memory : Bool  -- memory
+  pub reads : Bool  -- records of the file
   pub writes : Bool  -- to write to the file
 
 abbrev pub nothing_more : Needs
@@ -34,6 +35,7 @@ nothing_more = record {
   handle = None;
   handles = 0;
   memory = true;
+  reads = false;
   writes = false;
 }
 
@@ -45,7 +47,8 @@ abbrev pub needs : Command → Needs
 needs (command.Create l k function) = record nothing_more { parameters = Some (l, k); writes = true }
 needs (command.Load count) = record (batch_needs count) { unloaded = true }
 needs (command.Append count) = batch_needs count
-needs (command.At t cols) = record nothing_more { index = true; instants = t ∷ []; handles = 1 }
+needs (command.At t cols) = record nothing_more { index = true; instants = t ∷ []; handles = 1; reads = true }
+needs (command.Several cols times count) = record nothing_more { index = true; instants = take count times; handles = count; reads = true }
 needs (command.List handle) = record nothing_more { handle = Some handle }
 needs (command.Plan t cols) = record nothing_more { index = true; instants = t ∷ [] }
 needs (command.Certify t cols count) = record nothing_more { lines = Some count; index = true; instants = t ∷ [] }

@@ -1,5 +1,5 @@
 -- The plans of commands: over which graph of the index, and to which node.
-use Rattle.std.specs.Prelude.{◌≡◌, ℕ, List as ListOf, [], ◌∷◌}
+use Rattle.std.specs.Prelude.{◌≡◌, ℕ, List as ListOf, [], ◌∷◌, map, take}
 use Rattle.std.specs.List.{AllZip}
 use Rattle.dg_graph.specs.declared.element.Columns.{Columns}
 use Rattle.dg_history.specs.declared.node.NodeId.{NodeId}
@@ -9,7 +9,7 @@ use Rattle.dg_plan.specs.declared.edge.Edge.{Edge}
 use Rattle.dg_plan.specs.HistoryGraph.{ground_of_history}
 use Rattle.dg_plan.specs.IndexGraph.{nodes_of, edges_of, arcs_of}
 use Rattle.dg_plan.specs.InstantPoint.{point}
-use Rattle.dg_plan.specs.Walks.{IsPlan, IsPotential, weight_of}
+use Rattle.dg_plan.specs.Walks.{Graft, IsPlan, IsPotential, IsTree, AreSingles, weight_of}
 use Rattle.dg_machine.specs.declared.command.Command.{Command}
 use Rattle.dg_machine.specs.declared.command.Command.TheVariants as command
 use Rattle.dg_machine.specs.MachineState.{MachineState, history_in}
@@ -24,17 +24,28 @@ nodes_in m cols = nodes_of (ground_of_history (history_in m.index) cols)
 abbrev pub point_for : MachineState → ℕ → NodeId
 point_for m t = point (history_in m.index).params (events_of (history_in m.index)) t
 
--- what is planned for a command: the steps of a plan, and a potential for each node, in their order
+-- What is planned for a command: the steps of a plan, and a potential for each node, in their order; or the
+-- grafts of a tree, and the weights of the single plans.
 pub record Planned : Type 0 where
   pub steps : ListOf ℕ
   pub potentials : ListOf ℕ
+  pub grafts : ListOf (Graft NodeId)
+  pub singles : ListOf ℕ
 
 abbrev pub no_plan : Planned
-no_plan = record { steps = []; potentials = [] }
+no_plan = record { steps = []; potentials = []; grafts = []; singles = [] }
 
--- This is planned for the command: the least plan of the instant, and the potentials that certify it. Most
--- commands have no plan.
+-- the nodes from which the graphs as of these instants are reached
+abbrev pub points_for : MachineState → ListOf ℕ → ListOf NodeId
+points_for m times = map (point_for m) times
+
+-- This is planned for the command: the least plan of its instant, for `plan` with the potentials that certify
+-- it; or the tree of its instants. Most commands have no plan.
 abbrev pub IsPlanned : MachineState → Command → Planned → Type 0
+IsPlanned m (command.At t cols) p = IsPlan (arcs_of (edges_in m cols)) (Root ∷ []) (point_for m t) p.steps
+IsPlanned m (command.Several cols times count) p =
+    IsTree (arcs_of (edges_in m cols)) (Root ∷ []) (points_for m (take count times)) p.grafts
+    × AreSingles (arcs_of (edges_in m cols)) (Root ∷ []) (points_for m (take count times)) p.singles
 IsPlanned m (command.Plan t cols) p =
     IsPlan (arcs_of (edges_in m cols)) (Root ∷ []) (point_for m t) p.steps
     × AllZip (IsPotential (arcs_of (edges_in m cols)) (Root ∷ []) (weight_of (arcs_of (edges_in m cols)) p.steps)) (nodes_in m cols) p.potentials

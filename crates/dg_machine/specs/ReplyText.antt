@@ -1,6 +1,8 @@
 -- The text of a reply.
 use Rattle.std.specs.Prelude.{ℕ, List, [], ◌∷◌, ◌++◌, Some, None, if◌then◌else◌, codes, decimal, map}
 use Rattle.std.specs.List.{flat_map, join_with_byte}
+use Rattle.dg_graph.specs.declared.element.Column.{Column}
+use Rattle.dg_graph.specs.declared.element.Column.TheVariants as column
 use Rattle.dg_graph.specs.declared.element.Element.{Element}
 use Rattle.dg_graph.specs.declared.element.Element.TheVariants.{Node, Edge, NodeAttr, EdgeAttr}
 use Rattle.dg_machine.specs.declared.reply.Head.{Head}
@@ -44,6 +46,12 @@ key_words (key.Piece s) = codes "piece" ∷ decimal s ∷ []
 key_words (key.Top h) = codes "top" ∷ decimal h ∷ []
 key_words (key.Down h c) = codes "down" ∷ decimal h ∷ decimal c ∷ []
 
+-- the letter of a column
+abbrev pub column_word : Column → List ℕ
+column_word column.Structure = codes "s"
+column_word column.NodeAttr = codes "n"
+column_word column.EdgeAttr = codes "e"
+
 abbrev pub function_word : Function → List ℕ
 function_word Intersection = codes "intersection"
 function_word Union = codes "union"
@@ -60,6 +68,7 @@ verdict_words verdict.NotTight = codes "not-tight" ∷ []
 -- the words of a body line
 abbrev pub body_words : List (List ℕ) → BodyLine → List (List ℕ)
 body_words names (line.Element x) = element_words names x
+body_words names (line.Handle handle t single) = codes "handle" ∷ decimal handle ∷ decimal t ∷ decimal single ∷ []
 body_words names (line.Step edge into weight) = codes "step" ∷ decimal edge ∷ (node_words into ++ decimal weight ∷ [])
 body_words names (line.Potential at value) = codes "potential" ∷ (node_words at ++ decimal value ∷ [])
 body_words names (line.Sizes k lengths) = codes "record" ∷ (key_words k ++ map decimal lengths)
@@ -78,6 +87,8 @@ refusal_words (refusal.UnknownHandle handle) = codes "8" ∷ codes "unknown-hand
 refusal_words (refusal.PoolFull live asked) = codes "9" ∷ codes "pool-full" ∷ decimal live ∷ decimal asked ∷ []
 refusal_words (refusal.HistoryFull held asked) = codes "12" ∷ codes "history-full" ∷ decimal held ∷ decimal asked ∷ []
 refusal_words (refusal.FileFull needed limit) = codes "13" ∷ codes "file-full" ∷ decimal needed ∷ decimal limit ∷ []
+refusal_words refusal.StoreRead = codes "14" ∷ codes "store-read" ∷ []
+refusal_words (refusal.Damaged k col) = codes "15" ∷ codes "damaged" ∷ (key_words k ++ column_word col ∷ [])
 refusal_words refusal.OutOfMemory = codes "16" ∷ codes "out-of-memory" ∷ []
 refusal_words refusal.LineLong = codes "18" ∷ codes "line-long" ∷ []
 refusal_words refusal.AlreadyLoaded = codes "20" ∷ codes "already-loaded" ∷ []
@@ -88,6 +99,7 @@ head_words head.Created = codes "ok" ∷ codes "create" ∷ []
 head_words (head.Loaded events total last) = codes "ok" ∷ codes "load" ∷ decimal events ∷ decimal total ∷ decimal last ∷ []
 head_words (head.Appended events total last) = codes "ok" ∷ codes "append" ∷ decimal events ∷ decimal total ∷ decimal last ∷ []
 head_words (head.At handle weight) = codes "ok" ∷ codes "at" ∷ decimal handle ∷ decimal weight ∷ []
+head_words (head.Several weight sum) = codes "ok" ∷ codes "several" ∷ decimal weight ∷ decimal sum ∷ []
 head_words (head.List handle lines) = codes "ok" ∷ codes "list" ∷ decimal handle ∷ decimal lines ∷ []
 head_words (head.Plan weight steps) = codes "ok" ∷ codes "plan" ∷ decimal weight ∷ decimal steps ∷ []
 head_words (head.Certified v) = codes "ok" ∷ codes "certify" ∷ verdict_words v

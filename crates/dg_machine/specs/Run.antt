@@ -1,13 +1,14 @@
 -- The runs of the machine: a reply to each entry, one after another. What is planned for a command is a witness of
 -- its step.
-use Rattle.std.specs.Prelude.{ℕ, List, [], ◌∷◌, IsTrue}
-use Rattle.std.specs.List.{flat_map}
+use Rattle.std.specs.Prelude.{ℕ, Bool, true, false, List, [], ◌∷◌, IsTrue}
+use Rattle.std.specs.List.{count_by, flat_map}
 use Rattle.dg_graph.specs.Lines.{ScriptLine}
 use Rattle.dg_machine.specs.declared.command.Command.{Command}
+use Rattle.dg_machine.specs.declared.reply.Head.{Head}
 use Rattle.dg_machine.specs.declared.reply.Head.TheVariants as head
 use Rattle.dg_machine.specs.declared.reply.Refusal.TheVariants as refusal
 use Rattle.dg_machine.specs.declared.reply.Reply.{Reply}
-use Rattle.dg_machine.specs.Answer.{Answered, IsPlannedBy, answer, headed, no_memory, may_lack_memory}
+use Rattle.dg_machine.specs.Answer.{Answered, IsPlannedBy, answer, headed, no_memory, may_lack_memory, store_read, may_fail_to_read}
 use Rattle.dg_machine.specs.CommandGrammar.{IsColumn}
 use Rattle.dg_machine.specs.MachineState.{MachineState, names_in}
 use Rattle.dg_machine.specs.Needs.{refused}
@@ -20,9 +21,19 @@ pub data Step (m : MachineState) : Entry → Reply → MachineState → Type 0 w
   Answers : (c : Command) (lines : List ScriptLine) (p : Planned) → IsPlannedBy (refused m c lines) m c p
       → Step m (Asked c lines) (answer m c lines p).reply (answer m c lines p).state
   Lacks_memory : (c : Command) (lines : List ScriptLine) → IsTrue (may_lack_memory m c lines) → Step m (Asked c lines) no_memory m
+  Fails_to_read : (c : Command) (lines : List ScriptLine) → IsTrue (may_fail_to_read m c lines) → Step m (Asked c lines) store_read m
   Leaves_grammar : (line : List ℕ) (column : ℕ) → IsColumn line column
       → Step m (No_command line) (headed (head.Refused (refusal.Syntax column))) m
   Too_long : Step m Long_line (headed (head.Refused refusal.LineLong)) m
+
+-- the reply says that a read of the index file failed
+abbrev pub is_store_read : Head → Bool
+is_store_read (head.Refused refusal.StoreRead) = true
+is_store_read h = false
+
+-- how many of the replies say so
+abbrev pub failed_reads : List Answered → ℕ
+failed_reads answers = count_by (λ a. is_store_read a.reply.head) answers
 
 -- A run from m: to each entry a reply, with the state after it.
 abbrev pub Run : MachineState → List Entry → List Answered → Type 0

@@ -1,22 +1,52 @@
 use dg_graph::{Columns, Function};
 
+/// The most instants of one command.
+pub const TIMES_MAX: usize = 32;
+
 /// A command of the script. docs/SCRIPT.md has its grammar.
 #[derive(Clone, Copy, Debug, PartialEq, Eq, Hash)]
 pub enum Command {
     /// Make an empty index with this leaf list size, arity and differential function.
-    Create { l: u32, k: u32, function: Function },
+    Create {
+        l: u32,
+        k: u32,
+        function: Function,
+    },
     /// Read `count` change lines, and add them to the empty history as one batch.
-    Load { count: u32 },
+    Load {
+        count: u32,
+    },
     /// Read `count` change lines, and add them to the history as its next batch.
-    Append { count: u32 },
+    Append {
+        count: u32,
+    },
     /// Retrieve the graph as of the instant `t`, in these columns, as a new handle.
-    At { t: u64, cols: Columns },
+    At {
+        t: u64,
+        cols: Columns,
+    },
+    /// Retrieve the graphs as of the first `count` of these instants by one tree, in these columns, each as a
+    /// new handle. The other instants are 0.
+    Several {
+        cols: Columns,
+        times: [u64; TIMES_MAX],
+        count: u8,
+    },
     /// List the elements of a handle.
-    List { handle: u32 },
+    List {
+        handle: u32,
+    },
     /// Print the least plan of the instant `t` in these columns, with the potentials that certify it.
-    Plan { t: u64, cols: Columns },
+    Plan {
+        t: u64,
+        cols: Columns,
+    },
     /// Read `count` plan lines, and say whether they are a certificate for the instant `t` in these columns.
-    Certify { t: u64, cols: Columns, count: u32 },
+    Certify {
+        t: u64,
+        cols: Columns,
+        count: u32,
+    },
     /// Print the parameters of the index and its records.
     Tree,
 }

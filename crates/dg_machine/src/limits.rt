@@ -1,5 +1,6 @@
 ghost use Rattle.std.specs.Prelude.{◌≡◌, ◌^◌};
 ghost use Rattle.dg_history.specs.declared.limits.TheConstants.{EVENTS_MAX, FILE_BYTES_MAX};
+ghost use Rattle.dg_machine.specs.declared.command.TheConstants.{TIMES_MAX};
 
 use dg_history::{EVENTS_MAX, FILE_BYTES_MAX};
 
@@ -36,9 +37,11 @@ impl Limits {
     }
 }
 
-/// The limits as numbers: bytes of a script, handles that live, and the first of them. Does nothing.
+/// The limits as numbers: bytes of a script, handles that live, the first of them, and instants of one command.
+/// Does nothing.
 pub fn machine_limits()
     ensures script { SCRIPT_BYTES_MAX ≡ 2 ^ 40 }
     ensures live { LIVE_HANDLES_MAX ≡ 127 }
     ensures first { FIRST_HANDLE ≡ 1 }
+    ensures times { TIMES_MAX ≡ 32 }
 {}

@@ -1,6 +1,6 @@
 ghost use Rattle.std.specs.Prelude.{◌≡◌, List, [], ◌∷◌, ◌++◌, length, OnOk, OnErr};
 
-use dg_graph::{Element, Function};
+use dg_graph::{Column, Element, Function};
 use dg_history::{Key, NodeId};
 use dg_plan::Verdict;
 use std::alloc::{AllocError, Global};
@@ -36,6 +36,12 @@ pub enum Head {
     At {
         handle: u32,
         weight: u64,
+    },
+    /// Graphs were retrieved by a tree of this weight; the weights of their single plans have this sum. A line
+    /// for each handle follows.
+    Several {
+        weight: u64,
+        sum: u64,
     },
     /// The elements of a handle: as many lines follow.
     List {
@@ -87,6 +93,10 @@ pub enum Refusal {
     HistoryFull(u64, u64),
     /// 13: the file has no room for the batch; the bytes that it would take, and the limit.
     FileFull(u64, u64),
+    /// 14: a read of the index file failed.
+    StoreRead,
+    /// 15: this column of this record of the index is in no spelling.
+    Damaged(Key, Column),
     /// 16: want of memory.
     OutOfMemory,
     /// 18: the line has more than `LINE_BYTES_MAX` bytes.
@@ -100,6 +110,12 @@ pub enum Refusal {
 pub enum BodyLine {
     /// An element of a listing.
     Element(Element),
+    /// A new handle with its instant, and the weight of the instant's single plan.
+    Handle {
+        handle: u32,
+        t: u64,
+        single: u64,
+    },
     /// A step of a plan: the number of its edge, the node that it enters, and its weight.
     Step {
         edge: u32,

@@ -18,24 +18,27 @@ use Rattle.dg_history.specs.ChangeGrammar.{change_by_text_in}
 use Rattle.dg_index.specs.FileOfHistory.{segment_of, size}
 use Rattle.dg_index.specs.IndexGrowth.{index_with, needed_for}
 use Rattle.dg_index.proofs.FileGrowth.{measured, opened_more}
+use Rattle.dg_index.proofs.OpenedHistories.{Rises, completed_rises}
 use Rattle.dg_history.specs.History.{History, Batch, earliest_next, events_of, last_time_from, names_of, span_of, with_batch}
 use Rattle.dg_index.specs.ImageOfHistory.{IsImageOf, StandsAs}
 use Rattle.dg_history.specs.LegalHistory.{IsLegal}
 use Rattle.dg_index.specs.OpenedIndex.{Opened, Opening, earliest_in, may_be_named}
 use Rattle.dg_machine.specs.declared.limits.Limits.{Limits}
+use Rattle.dg_machine.specs.declared.stands.Stands.{Stands}
 use Rattle.dg_machine.specs.declared.reply.Head.TheVariants as head
 use Rattle.dg_machine.specs.declared.reply.Refusal.{Refusal}
 use Rattle.dg_machine.specs.declared.reply.Refusal.TheVariants as refusal
 use Rattle.dg_machine.specs.declared.reply.Reply.{Reply}
 use Rattle.dg_machine.specs.Answer.{Answered, accepted, answer, headed, is_refusal, refuse, with_new}
 use Rattle.dg_machine.specs.CutImage.{IsCut, As_before, As_after}
-use Rattle.dg_machine.specs.MachineState.{MachineState, events_in_index, history_in, names_in}
-use Rattle.dg_machine.specs.Needs.{earliest, is_writing, needs, refused, when}
+use Rattle.dg_machine.specs.MachineState.{MachineState, elements, history_in}
+use Rattle.dg_machine.specs.Needs.{is_writing, needs, refused}
 use Rattle.dg_machine.specs.Planning.{IsPlanned, no_plan}
 use Rattle.dg_machine.specs.Run.{Step}
 use Rattle.dg_machine.specs.Script.{Asked, Follows}
 use Rattle.dg_session.proofs.TryBatch.{here, of_here}
 use Rattle.dg_session.proofs.EventRanges.{ChangeFits, what_spelled}
+use Rattle.dg_session.proofs.KeptGraphs.{all_reached_more, graphs_more}
 use Rattle.dg_session.proofs.LegalHistory.{IsNext, batch_next, events_with, fitting_next, grown_next, legal_next, names_grown}
 use Rattle.dg_session.proofs.OpenedHistory.{behind}
 use Rattle.dg_session.proofs.NamesAfter.{Grows, changes_length, grown_new}
@@ -57,7 +60,7 @@ use Rattle.dg_session.specs.declared.stop.Stop.TheVariants as stop
 use Rattle.dg_session.specs.declared.stored_history.StoredHistory.{StoredHistory}
 use Rattle.dg_session.specs.Halt.{batch_halt}
 use Rattle.dg_session.specs.Parts.{Parts}
-use Rattle.dg_session.specs.Session.{Accepts, ComesTo, CutsOff, Denies, Moves, StandsFor, TakesLines, is_too_full, refusals_by, refused_by}
+use Rattle.dg_session.specs.Session.{Accepts, ComesTo, CutsOff, Denies, Moves, StandsFor, TakesLines, is_reached, is_too_full, refusals_by, refused_by}
 use Rattle.dg_session.specs.SessionStart.{index_opening, opening_of}
 use Rattle.dg_session.specs.SoundHistory.{IsSoundHistory}
 
@@ -371,6 +374,7 @@ module _ (which : BatchCommand) (p : Parts) (count known limit : ℕ) (c : Store
       legal : IsLegal (with_batch z New)
       names : c.names ≡ names_of (with_batch z New)
       events_are : p.events ++ events ≡ events_of (with_batch z New)
+      rises : Rises (earliest_next (span_of (events_of z))) events
 
     is_added : needed_for free.index (segment_of free.index.params c.events.items New) ≤ limit → (image : List ℕ) (m : MachineState) (z : History) → StandsFor p image m → IsOf p free.index image m z → IsAdded m z
     is_added fits image m z s h =
@@ -385,6 +389,7 @@ module _ (which : BatchCommand) (p : Parts) (count known limit : ℕ) (c : Store
           legal = subst (λ (x : Batch). IsLegal (with_batch z x)) same (legal_next z Got b.changes.items c.names events h.stands.legal next);
           names = sym (ap (λ (x : Batch). names_of (with_batch z x)) (sym same) ∙ names_grown z c.names events (grown_next (names_of z) c.names Got next.names_are));
           events_are = ap (λ (es : List Event). es ++ events) h.events ∙ sym (events_with z New);
+          rises = completed_rises b.changes.items 1 (earliest_next (span_of (events_of z))) (replay (events_of z)) events next.comes;
         }
 
     add_moves : (q : Parts) (before after : List ℕ) (reply : Reply)
@@ -399,13 +404,17 @@ module _ (which : BatchCommand) (p : Parts) (count known limit : ℕ) (c : Store
         let is : IsAdded m z = is_added fits before m z s h in
         let k : MachineState = record m { index = Some (with_batch z New) } in
         let index : Some (index_with free.index (segment_of free.index.params c.events.items New)) ≡ Some (opening_of (with_batch z New)) =
-        (λ i. Some (index_with (h.opened i) (segment_is before m z h i))) ∙ ap (λ (x : Opened). Some x.index) (sym (opened_more z New)) in (
+        (λ i. Some (index_with (h.opened i) (segment_is before m z h i))) ∙ ap (λ (x : Opened). Some x.index) (sym (opened_more z New)) in
+        let reached : All (λ (e : ℕ × Stands). is_reached z e.1 ≡ true) m.table =
+        subst (λ (i : Option History). All (λ (e : ℕ × Stands). is_reached (history_in i) e.1 ≡ true) m.table) h.index s.reached in
+        let graphs : p.graphs ≡ map (λ (e : ℕ × Stands). elements (with_batch z New) e.1) m.table =
+        s.graphs ∙ ap (λ (i : Option History). map (λ (e : ℕ × Stands). elements (history_in i) e.1) m.table) h.index ∙ graphs_more z New is.rises m.table reached in (
           k,
           subst (λ (r : Reply). Step m (Asked (command_with which count) Got) r k) (sym reply_is)
               (steps_as before m s (record { reply = headed (head_of which (length events) (length (p.events ++ events)) (last_time_from 0 events)); state = k }) is.answered),
           stands q after k
-              (q_is ∙ (λ i. record { limits = s.limits i; index = index i; names = is.names i; events = is.events_are i; table = s.table i; next = s.next i }))
-              (gains z New h.stands is.legal (segment_is before m z h)) (λ none. cc),
+              (q_is ∙ (λ i. record { limits = s.limits i; index = index i; names = is.names i; events = is.events_are i; table = s.table i; graphs = graphs i; next = s.next i }))
+              (gains z New h.stands is.legal (segment_is before m z h)) (all_reached_more z New is.rises m.table reached) (λ none. cc),
         )
 
     -- the disk failed
@@ -470,13 +479,13 @@ module _ (which : BatchCommand) (p : Parts) (count known limit : ℕ) (c : Store
         denied (command_with which count) Got p q before after (refusal.BadChange line reason) (q_is ∙ stays back) f.0
         (λ m image s.
         let z = is_of p free.index image m free.there s in
-        steps_as image m s (refuse m (refusal.BadChange line reason)) (answer_with image m z.0 (Err (line, reason)) s z.1 f.1))
+        steps_as image m s (refuse m (refusal.BadChange line reason)) (answer_with image m z.0 (Err (line, reason)) s z.1 f.1)) (λ h. absurd cc)
     batch_failed (fault.FileFull n most) fails back q q_is =
         let f = of_here (index_opening c.index) free.index (λ o. FailsBatch o limit known c before after b.changes.items b.front (fault.FileFull n most)) opening_there fails in
         let d : FillsFile free.index limit known c b.changes.items b.front n = f.2 in
         subst (λ (k : ℕ). Denies (command_with which count) Got p before q after (refusal.FileFull n k)) (sym f.1)
         (denied (command_with which count) Got p q before after (refusal.FileFull n limit) (q_is ∙ stays back) f.0
-        (λ m image s. full_steps d.events d.whole d.come n d.needed_is d.over image m s))
+        (λ m image s. full_steps d.events d.whole d.come n d.needed_is d.over image m s) (λ h. absurd cc))
     batch_failed fault.Memory fails back q q_is =
         let f : after ≡ before = of_here (index_opening c.index) free.index (λ o. FailsBatch o limit known c before after b.changes.items b.front fault.Memory) opening_there fails in
         lacking_denies (command_with which count) Got p q before after (q_is ∙ stays back) f (lacks which count) not_refused

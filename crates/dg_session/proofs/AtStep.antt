@@ -1,42 +1,72 @@
--- The answer to a retrieval.
-use Rattle.std.proofs.Common.{◌≡◌, ℕ, ◌+◌, ◌<◌, true, false, not, List, [], ◌∷◌, ◌++◌, Option, None, length, refl, sym, ◌∙◌, ap, subst, arith, nat_lt}
-use Rattle.std.specs.Prelude.{IfSome, is_some, ◌||◌}
-use borrow.Author.Tests.{ltb-false}
+-- The answer to the retrieval of one instant.
+use Rattle.std.proofs.Common.{◌≡◌, ℕ, true, ◌+◌, List, [], ◌∷◌, Option, None, refl, sym, ◌∙◌, ap, subst, arith}
+use Rattle.std.specs.Prelude.{IfSome}
+use Rattle.dg_fold.specs.BytesRead.{TakesAtMost}
 use Rattle.dg_graph.specs.declared.element.Columns.{Columns}
-use Rattle.dg_history.specs.History.{in_range, span_of}
+use Rattle.dg_graph.specs.declared.element.Element.{Element}
+use Rattle.dg_graph.specs.Lines.{ScriptLine}
+use Rattle.dg_history.specs.declared.node.NodeId.{NodeId}
+use Rattle.dg_history.specs.declared.node.NodeId.TheVariants.{Root}
 use Rattle.dg_machine.specs.declared.command.Command.TheVariants as command
-use Rattle.dg_machine.specs.declared.limits.TheConstants.{LIVE_HANDLES_MAX}
+use Rattle.dg_machine.specs.declared.reply.Head.{Head}
 use Rattle.dg_machine.specs.declared.reply.Head.TheVariants as head
-use Rattle.dg_machine.specs.declared.reply.Refusal.TheVariants as refusal
 use Rattle.dg_machine.specs.declared.reply.Reply.{Reply}
-use Rattle.dg_machine.specs.declared.stands.Stands.TheVariants.{Overlay}
-use Rattle.dg_machine.specs.Answer.{headed, is_refusal, with_handle}
-use Rattle.dg_session.proofs.StandsFor.{handle_taken, last_passes, not_false, one_image, passes, stands_on}
-use Rattle.dg_session.proofs.Steps.{moved}
+use Rattle.dg_machine.specs.Answer.{accepted, headed, is_refusal, overlays, weight_told, with_handles}
+use Rattle.dg_machine.specs.MachineState.{MachineState}
+use Rattle.dg_machine.specs.Planning.{IsPlanned, Planned, edges_in, no_plan, point_for, points_for}
+use Rattle.dg_plan.specs.IndexGraph.{arcs_of}
+use Rattle.dg_plan.specs.Walks.{Arc, Graft, IsPlan, IsTree, tree_weight, weight_of}
+use Rattle.dg_retrieval.specs.Retrieval.{TakesAtMostTree}
+use Rattle.dg_session.proofs.Retrievals.{handles_stand, if_some, moved_with, reads_failed, retrieval_accepted}
+use Rattle.dg_session.proofs.StandsFor.{one_image, one_told}
 use Rattle.dg_session.specs.Parts.{Parts}
-use Rattle.dg_session.specs.Session.{Accepts, IsHeldBy, refused_by, retrieval_needs}
+use Rattle.dg_session.specs.Reads.{IsRetrieved, Reads, new_entries, with_entries}
+use Rattle.dg_session.specs.Session.{Accepts, StandsFor, refused_by, retrieval_needs}
 
--- what a retrieval that is not refused finds: an index, and room for a handle
-pub retrieval_free : (p : Parts) (t : ℕ) → refused_by p 0 (retrieval_needs (t ∷ []) 1) ≡ None → (is_some p.index ≡ true) × (length p.table < LIVE_HANDLES_MAX)
-retrieval_free p t none =
-    let a = passes (not (is_some p.index)) refusal.NoIndex _ none in
-    let b = passes (not (in_range (span_of p.events) t) || false) (refusal.OutOfRange (span_of p.events)) _ a.1 in
-    let c = last_passes (nat_lt LIVE_HANDLES_MAX (length p.table + 1)) (refusal.PoolFull (length p.table) 1) b.1 in
-    (not_false (is_some p.index) a.0, omega (arith, ltb-false LIVE_HANDLES_MAX (length p.table + 1) c))
+-- a tree of one target is the plan of the target
+plan_alone : {N : Type 0} (g : List (Arc N)) (starts : List N) (v : N) (grafts : List (Graft N)) → IsTree g starts (v ∷ []) grafts
+    → (steps : List ℕ) × IsPlan g starts v steps × (tree_weight g grafts ≡ weight_of g steps)
+plan_alone g starts v [] h = elim h [ ]
+plan_alone g starts v (x ∷ []) h = (x.steps, h.0, (let e : 0 + weight_of g x.steps ≡ weight_of g x.steps = omega arith in e))
+plan_alone g starts v (x ∷ y ∷ more) h = elim h.3 [ ]
 
-pub at_answers : (p q : Parts) (t : ℕ) (cols : Columns) (image : Option (List ℕ)) (reply : Reply) → refused_by p 0 (retrieval_needs (t ∷ []) 1) ≡ None
-    → q ≡ record p { table = p.table ++ (p.next, Overlay t cols None) ∷ []; next = p.next + 1 } → reply ≡ headed (head.At p.next 0)
-    → Accepts (command.At t cols) [] p image q image reply
-at_answers p q t cols image reply none is reply_is = record {
-  moves =
-      moved (command.At t cols) [] p q image image reply (λ m. refl) none
-      (λ m x y a b s free. (
-        with_handle m (Overlay t cols None),
-        (λ i. record { reply = (ap (λ n. headed (head.At n 0)) (sym s.next) ∙ sym reply_is) i; state = with_handle m (Overlay t cols None) }),
-        handle_taken p q y m (Overlay t cols None) (stands_on p p x y m refl (one_image image image x y refl a b) s) (retrieval_free p t none).0 is,
-      ));
-  accepted = ap (λ (r : Reply). is_refusal r.head) reply_is;
-  held = λ h. subst (λ (x : Parts). IfSome image (λ image. IsHeldBy x.index x.names image)) (sym is) h;
-  no_index = λ h. (ap (λ (x : Parts). x.index) (sym is) ∙ h, refl);
-  quiet = λ h. refl;
-}
+-- and the plan is such a tree
+tree_alone : {N : Type 0} (g : List (Arc N)) (starts : List N) (v : N) (steps : List ℕ) → IsPlan g starts v steps
+    → (grafts : List (Graft N)) × IsTree g starts (v ∷ []) grafts × (tree_weight g grafts ≡ weight_of g steps)
+tree_alone g starts v steps h = (
+  record { from = h.walk.0; steps = steps } ∷ [],
+  (h, h.walk.1, h.walk.2, tt),
+  (let e : 0 + weight_of g steps ≡ weight_of g steps = omega arith in e),
+)
+
+pub at_answers : (p q : Parts) (t : ℕ) (cols : Columns) (before after : Option (List ℕ)) (weight : ℕ) (singles : List ℕ) (graphs : List (List Element)) (reply : Reply)
+    → refused_by p 0 (retrieval_needs (t ∷ []) 1) ≡ None → after ≡ before
+    → IfSome before (λ image. (m : MachineState) → StandsFor p image m → IsRetrieved m (t ∷ []) cols weight singles graphs)
+    → q ≡ with_entries p (new_entries p.next (overlays cols (t ∷ [])) graphs) → reply ≡ headed (head.At p.next weight)
+    → Accepts (command.At t cols) [] p before q after reply
+at_answers p q t cols before after weight singles graphs reply none same got is reply_is =
+    retrieval_accepted (command.At t cols) p q before after (new_entries p.next (overlays cols (t ∷ [])) graphs) reply
+    (moved_with (command.At t cols) p q before after reply none
+    (λ m x y a b s.
+    let r = one_told before (λ image. (k : MachineState) → StandsFor p image k → IsRetrieved k (t ∷ []) cols weight singles graphs) x got a m s in
+    let plan = plan_alone (arcs_of (edges_in m cols)) (Root ∷ []) (point_for m t) r.tree.0 r.tree.1 in (
+      record no_plan { steps = plan.0 },
+      with_handles m (overlays cols (t ∷ [])),
+      plan.1,
+      (λ i. record { reply = (ap (λ n. headed (head.At n (weight_of (arcs_of (edges_in m cols)) plan.0))) (sym s.next) ∙ ap (λ w. headed (head.At p.next w)) (sym (r.tree.2 ∙ plan.2)) ∙ sym reply_is) i; state = with_handles m (overlays cols (t ∷ [])) }),
+      handles_stand p q x y m (t ∷ []) cols weight singles graphs s (one_image before after x y same a b) (omega arith) none r is,
+    )))
+    (ap (λ (r : Reply). is_refusal r.head) reply_is) same is
+
+-- where it fails, the bytes read are at most what its reply would tell
+pub at_fails : (p : Parts) (t : ℕ) (cols : Columns) (image : Option (List ℕ)) (h : Head) (before after : ℕ) → is_refusal h ≡ true → refused_by p 0 (retrieval_needs (t ∷ []) 1) ≡ None
+    → IfSome image (λ bytes. (m : MachineState) → StandsFor p bytes m → TakesAtMostTree (edges_in m cols) (points_for m (t ∷ [])) before after)
+    → Reads (command.At t cols) p image h before after
+at_fails p t cols image h before after refuses none most =
+    reads_failed (command.At t cols) p image h before after refl refuses (λ got. none)
+    (if_some image (λ bytes. (m : MachineState) → StandsFor p bytes m → TakesAtMostTree (edges_in m cols) (points_for m (t ∷ [])) before after)
+    (λ bytes. (m : MachineState) → StandsFor p bytes m → (got : List ScriptLine) (plan : Planned) → IsPlanned m (command.At t cols) plan
+    → TakesAtMost (weight_told (accepted m (command.At t cols) got plan).reply.head) before after)
+    (λ x f m s got plan planned.
+    let tree = tree_alone (arcs_of (edges_in m cols)) (Root ∷ []) (point_for m t) plan.steps planned in
+    subst (λ w. TakesAtMost w before after) tree.2 (f m s tree.0 tree.1)) most)

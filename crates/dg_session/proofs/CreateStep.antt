@@ -21,7 +21,7 @@ use Rattle.dg_machine.specs.Needs.{needs, refused}
 use Rattle.dg_machine.specs.Planning.{no_plan}
 use Rattle.dg_machine.specs.Script.{Asked}
 use Rattle.dg_session.specs.SessionStart.{opening_of}
-use Rattle.dg_session.proofs.StandsFor.{both_told, no_index, one_told, passes, refused_is, stands}
+use Rattle.dg_session.proofs.StandsFor.{both_told, no_graphs, no_handle_reached, no_index, one_told, passes, refused_is, stands}
 use Rattle.dg_session.proofs.Steps.{accepted_is, accepted_steps, is_accepted, lacking_denies, moved}
 use Rattle.dg_session.specs.Halt.{creation_halt}
 use Rattle.dg_session.specs.Parts.{Parts}
@@ -67,13 +67,16 @@ create_answers p q params before after o reply none made opened o_is no_names is
       moved (making params) [] p q before after reply (λ m. refl) none
       (λ m x y a b s free.
       let gone : m.index ≡ None = none_there p x m params s none in
+      let handles : m.table ≡ [] = s.no_handles gone in
       let names : p.names ≡ [] = no_names in
       let events : p.events ≡ [] = s.events ∙ ap events_in_index gone in (
         made_in m params,
         (λ i. record { reply = sym reply_is i; state = made_in m params }),
         stands q y (made_in m params)
-            (is ∙ (λ i. record { limits = s.limits i; index = Some (o_is i); names = names i; events = events i; table = s.table i; next = s.next i }))
-            (one_told after (λ image. IsImageOf (empty_history params) image) y made b) (λ e. cc),
+            (is
+            ∙ (λ i. record { limits = s.limits i; index = Some (o_is i); names = names i; events = events i; table = s.table i; graphs = (s.graphs ∙ no_graphs m (made_in m params) handles handles) i; next = s.next i }))
+            (one_told after (λ image. IsImageOf (empty_history params) image) y made b)
+            (no_handle_reached (made_in m params) handles) (λ e. cc),
       ));
   accepted = ap (λ (r : Reply). is_refusal r.head) reply_is;
   held = λ h.

@@ -14,7 +14,9 @@ use Rattle.dg_plan.specs.declared.edge.Edge.{Edge}
 use Rattle.dg_plan.specs.IndexGraph.{arcs_of}
 use Rattle.dg_plan.specs.InstantPoint.{point}
 use Rattle.dg_plan.specs.Walks.{IsPlan, IsPotential, weight_of}
-use Rattle.dg_session.specs.Plans.{IsPlanReply, kept_edges, kept_nodes}
+use Rattle.dg_machine.specs.Planning.{no_plan}
+use Rattle.dg_retrieval.specs.KeptGraph.{kept_edges, kept_nodes}
+use Rattle.dg_session.specs.Plans.{IsPlanReply}
 
 pub reply_is : (o : Opening) (events : List Event) (t : ℕ) (cols : Columns) (edges : List Edge) (nodes : List NodeId) (target : NodeId) (steps potentials : List ℕ) (weight count : ℕ) (lines : List BodyLine)
     → edges ≡ kept_edges o (length events) cols → nodes ≡ kept_nodes o (length events) cols → target ≡ point o.params events t
@@ -22,7 +24,7 @@ pub reply_is : (o : Opening) (events : List Event) (t : ℕ) (cols : Columns) (e
     → lines ≡ step_lines edges steps ++ potential_lines weight nodes potentials → count ≡ length steps
     → IsPlanReply o events t cols (record { head = head.Plan weight count; body = lines })
 reply_is o events t cols edges nodes target steps potentials weight count lines e n at plan w zip l c = record {
-  plan = record { steps = steps; potentials = potentials };
+  plan = record no_plan { steps = steps; potentials = potentials };
   least =
       subst (λ (es : List Edge). IsPlan (arcs_of es) (Root ∷ []) (point o.params events t) steps) e
       (subst (λ (a : NodeId). IsPlan (arcs_of edges) (Root ∷ []) a steps) at plan);

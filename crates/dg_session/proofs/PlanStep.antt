@@ -40,7 +40,8 @@ use Rattle.dg_session.specs.declared.stop.Stop.TheVariants as stop
 use Rattle.dg_session.proofs.Steps.{Comes, lacking_denies, moved, moved_by, refused_denies}
 use Rattle.dg_session.specs.BatchLines.{first_refusal}
 use Rattle.dg_session.specs.Parts.{Parts}
-use Rattle.dg_session.specs.Plans.{IsPlanReply, holding, kept_edges, kept_nodes, shape_with}
+use Rattle.dg_retrieval.specs.KeptGraph.{holding, kept_edges, kept_nodes, shape_with}
+use Rattle.dg_session.specs.Plans.{IsPlanReply}
 use Rattle.dg_session.specs.Session.{Accepts, Denies, StandsFor, refusals_by, refused_by, retrieval_needs}
 
 -- ---- what is refused

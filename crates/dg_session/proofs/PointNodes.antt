@@ -17,7 +17,7 @@ use Rattle.dg_index.specs.OpenedIndex.{Opening}
 use Rattle.dg_plan.specs.IndexGraph.{inner_nodes}
 use Rattle.dg_plan.specs.InstantPoint.{point_at}
 use Rattle.dg_plan.proofs.ReachedNodes.{contains_mapped, contains_number}
-use Rattle.dg_session.specs.Plans.{kept_ground, kept_nodes}
+use Rattle.dg_retrieval.specs.KeptGraph.{kept_ground, kept_nodes}
 
 -- ---- the events up to an instant
 

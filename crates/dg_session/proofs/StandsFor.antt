@@ -1,8 +1,12 @@
 -- What a session keeps of the state that it stands for, and the refusals that follow from it.
-use Rattle.std.proofs.Common.{◌≡◌, ℕ, ◌+◌, Bool, true, false, not, List, [], ◌∷◌, ◌++◌, Option, Some, None, if◌then◌else◌, length, refl, sym, ◌∙◌, ap, subst}
+use Rattle.std.proofs.Common.{◌≡◌, ℕ, ◌+◌, Bool, true, false, not, List, [], ◌∷◌, ◌++◌, Option, Some, None, if◌then◌else◌, length, map, refl, sym, ◌∙◌, ap, subst}
 use Rattle.std.specs.Prelude.{IfSome, is_some}
+use Rattle.std.specs.List.{All}
 use Rattle.std.specs.Option.{option_map}
+use Rattle.std.proofs.lemmas.List.{map-append}
+use Rattle.std.proofs.lemmas.List.Elements.{All-append, All-cons, All-nil}
 use Rattle.std.proofs.lemmas.Option.{none-some}
+use Rattle.dg_graph.specs.declared.element.Element.{Element}
 use Rattle.dg_graph.specs.Lines.{ScriptLine}
 use Rattle.dg_history.specs.History.{History, events_of, names_of}
 use Rattle.dg_index.specs.ImageOfHistory.{IsImageOf, StandsAs}
@@ -11,11 +15,11 @@ use Rattle.dg_machine.specs.declared.command.Command.{Command}
 use Rattle.dg_machine.specs.declared.reply.Refusal.{Refusal}
 use Rattle.dg_machine.specs.declared.stands.Stands.{Stands}
 use Rattle.dg_machine.specs.Answer.{with_handle}
-use Rattle.dg_machine.specs.MachineState.{MachineState, events_in_index, history_in, names_in}
+use Rattle.dg_machine.specs.MachineState.{MachineState, elements, events_in_index, history_in, names_in}
 use Rattle.dg_machine.specs.Needs.{needs, refused, when, earliest}
 use Rattle.dg_session.specs.SessionStart.{opening_of}
 use Rattle.dg_session.specs.Parts.{Parts}
-use Rattle.dg_session.specs.Session.{StandsFor, WhereBothTold, refusals_by, refused_by}
+use Rattle.dg_session.specs.Session.{StandsFor, WhereBothTold, graphs_of, is_reached, refusals_by, refused_by}
 
 -- what a session that stands for the state keeps
 abbrev pub parts_of : MachineState → Parts
@@ -25,6 +29,7 @@ parts_of m = record {
   names = names_in m.index;
   events = events_in_index m.index;
   table = m.table;
+  graphs = graphs_of m;
   next = m.next;
 }
 
@@ -35,20 +40,36 @@ kept p image m s = λ i. record {
   names = s.names i;
   events = s.events i;
   table = s.table i;
+  graphs = s.graphs i;
   next = s.next i;
 }
 
-pub stands : (p : Parts) (image : List ℕ) (m : MachineState) → p ≡ parts_of m → StandsAs m.index image → (m.index ≡ None → m.table ≡ []) → StandsFor p image m
-stands p image m is here none = record {
+-- the instants of all live handles are in the history
+abbrev pub AreReached : MachineState → Type 0
+AreReached m = All (λ (e : ℕ × Stands). is_reached (history_in m.index) e.1 ≡ true) m.table
+
+pub stands : (p : Parts) (image : List ℕ) (m : MachineState) → p ≡ parts_of m → StandsAs m.index image → AreReached m → (m.index ≡ None → m.table ≡ []) → StandsFor p image m
+stands p image m is here reached none = record {
   image_stands = here;
   index = ap (λ (x : Parts). x.index) is;
   names = ap (λ (x : Parts). x.names) is;
   events = ap (λ (x : Parts). x.events) is;
   limits = ap (λ (x : Parts). x.limits) is;
   table = ap (λ (x : Parts). x.table) is;
+  graphs = ap (λ (x : Parts). x.graphs) is;
+  reached = reached;
   next = ap (λ (x : Parts). x.next) is;
   no_handles = none;
 }
+
+-- where no handle is live, nothing is listed, and no instant is asked for
+pub no_graphs : (m k : MachineState) → m.table ≡ [] → k.table ≡ [] → graphs_of m ≡ graphs_of k
+no_graphs m k none no_more =
+    ap (map (λ (e : ℕ × Stands). elements (history_in m.index) e.1)) none ∙ sym (ap (map (λ (e : ℕ × Stands). elements (history_in k.index) e.1)) no_more)
+
+pub no_handle_reached : (m : MachineState) → m.table ≡ [] → AreReached m
+no_handle_reached m none =
+    subst (All (λ (e : ℕ × Stands). is_reached (history_in m.index) e.1 ≡ true)) (sym none) (All-nil (λ (e : ℕ × Stands). is_reached (history_in m.index) e.1 ≡ true))
 
 -- another session that keeps the same, over the same image
 pub stands_on : (p q : Parts) (x y : List ℕ) (m : MachineState) → q ≡ p → x ≡ y → StandsFor p x m → StandsFor q y m
@@ -139,12 +160,23 @@ one_told told P x h e = subst (λ (o : Option (List ℕ)). IfSome o P) e h
 
 -- ---- a new handle
 
-pub handle_taken : (p q : Parts) (image : List ℕ) (m : MachineState) (stands_as : Stands) → StandsFor p image m → is_some p.index ≡ true
-    → q ≡ record p { table = p.table ++ (p.next, stands_as) ∷ []; next = p.next + 1 } → StandsFor q image (with_handle m stands_as)
-handle_taken p q image m stands_as s there is =
+-- its elements are the last ones
+graphs_with : (m : MachineState) (stands_as : Stands) → graphs_of m ++ elements (history_in m.index) stands_as ∷ [] ≡ graphs_of (with_handle m stands_as)
+graphs_with m stands_as = sym (map-append (λ (e : ℕ × Stands). elements (history_in m.index) e.1) m.table ((m.next, stands_as) ∷ []))
+
+-- the session keeps a new handle of the state, with the elements that it lists
+pub handle_taken : (p q : Parts) (image : List ℕ) (m : MachineState) (stands_as : Stands) (graph : List Element) → StandsFor p image m → is_some p.index ≡ true
+    → is_reached (history_in m.index) stands_as ≡ true → graph ≡ elements (history_in m.index) stands_as
+    → q ≡ record p { table = p.table ++ (p.next, stands_as) ∷ []; graphs = p.graphs ++ graph ∷ []; next = p.next + 1 } → StandsFor q image (with_handle m stands_as)
+handle_taken p q image m stands_as graph s there reached graph_is is =
+    let reaches : ℕ × Stands → Type 0 = λ e. is_reached (history_in m.index) e.1 ≡ true in
     stands q image (with_handle m stands_as)
-    (is ∙ ap (λ (x : Parts). let y : Parts = record x { table = x.table ++ (x.next, stands_as) ∷ []; next = x.next + 1 } in y) (kept p image m s))
+    (is
+    ∙ ap (λ (x : Parts). let y : Parts = record x { table = x.table ++ (x.next, stands_as) ∷ []; graphs = x.graphs ++ graph ∷ []; next = x.next + 1 } in y) (kept p image m s)
+    ∙ ap (λ (g : List Element). let y : Parts = record (parts_of m) { table = m.table ++ (m.next, stands_as) ∷ []; graphs = graphs_of m ++ g ∷ []; next = m.next + 1 } in y) graph_is
+    ∙ ap (λ (gs : List (List Element)). let y : Parts = record (parts_of m) { table = m.table ++ (m.next, stands_as) ∷ []; graphs = gs; next = m.next + 1 } in y) (graphs_with m stands_as))
     s.image_stands
+    (All-append reaches m.table ((m.next, stands_as) ∷ []) s.reached (All-cons reaches (m.next, stands_as) [] reached (All-nil reaches)))
     (λ none. let e : false ≡ true = ap is_some (sym none) ∙ sym (ap is_some s.index ∙ is_there m.index) ∙ there in cc)
 
 -- ---- what a session over the state is refused

@@ -1,18 +1,22 @@
 -- How a step comes from what is refused, for every command alike.
-use Rattle.std.proofs.Common.{◌≡◌, ℕ, Bool, true, false, List, [], Option, Some, None, Result, Ok, Err, length, refl, sym, ◌∙◌, ap, subst}
+use Rattle.std.proofs.Common.{◌≡◌, ℕ, ◌+◌, ◌++◌, nat_lt, Bool, true, false, List, [], Option, Some, None, Result, Ok, Err, length, refl, sym, ◌∙◌, ap, subst}
 use Rattle.std.specs.Prelude.{not, is_some, ◌||◌, ◌&&◌, IsErr, IsErrAnd}
+use Rattle.std.specs.List.{list_any}
+use Rattle.std.proofs.lemmas.Option.{none-some, same_Some}
 use Rattle.dg_graph.specs.Lines.{ScriptLine}
 use Rattle.dg_machine.specs.declared.command.Command.{Command}
 use Rattle.dg_machine.specs.declared.reply.Head.TheVariants as head
 use Rattle.dg_machine.specs.declared.reply.Refusal.{Refusal}
 use Rattle.dg_machine.specs.declared.reply.Refusal.TheVariants as refusal
 use Rattle.dg_machine.specs.declared.reply.Reply.{Reply}
-use Rattle.dg_machine.specs.Answer.{Answered, IsPlannedBy, accepted, answer, answer_by, headed, may_lack_memory, no_memory, is_refusal}
+use Rattle.dg_machine.specs.Answer.{Answered, IsPlannedBy, accepted, answer, answer_by, headed, is_begun, no_memory, is_refusal, store_read}
 use Rattle.dg_machine.specs.CutImage.{IsAccepted}
-use Rattle.dg_machine.specs.MachineState.{MachineState}
-use Rattle.dg_machine.specs.Needs.{following, needs, refused}
+use Rattle.dg_machine.specs.MachineState.{MachineState, entry_at}
+use Rattle.dg_history.specs.History.{are_parameters, in_range, span_of}
+use Rattle.dg_machine.specs.declared.limits.TheConstants.{LIVE_HANDLES_MAX}
+use Rattle.dg_machine.specs.Needs.{Needs, earliest, following, is_followed, needs, of, refused, when}
 use Rattle.dg_machine.specs.Planning.{Planned, IsPlanned, no_plan}
-use Rattle.dg_machine.specs.Run.{Step, Answers, Lacks_memory}
+use Rattle.dg_machine.specs.Run.{Step, Answers, Fails_to_read, Lacks_memory}
 use Rattle.dg_machine.specs.Script.{Asked}
 use Rattle.dg_session.proofs.ReadLines.{follows_none}
 use Rattle.dg_session.proofs.StandsFor.{one_image, refused_is, stands_on}
@@ -20,7 +24,7 @@ use Rattle.dg_session.specs.Parts.{Parts}
 use Rattle.dg_session.specs.declared.halt.Halt.{Halt}
 use Rattle.dg_session.specs.declared.halt.Halt.TheVariants as halt
 use Rattle.dg_session.specs.declared.stop.Stop.TheVariants as stop
-use Rattle.dg_session.specs.Session.{ComesTo, Denies, Moves, StandsFor, Steps, TakesLines, WhereBothTold, refused_by}
+use Rattle.dg_session.specs.Session.{ComesTo, Denies, Moves, StandsFor, Steps, TakesLines, WhereBothTold, is_too_full, refused_by}
 
 -- ---- of the machine
 
@@ -41,16 +45,21 @@ pub accepted_steps : (m : MachineState) (c : Command) (lines : List ScriptLine) 
 accepted_steps m c lines p a none planned is =
     subst (λ (x : Answered). Step m (Asked c lines) x.reply x.state) is (Answers c lines p (subst (λ (o : Option Refusal). IsPlannedBy o m c p) (sym none) planned))
 
-pub lacking_steps : (m : MachineState) (c : Command) (lines : List ScriptLine) → (needs c).memory ≡ true → refused m c lines ≡ None
-    → Step m (Asked c lines) no_memory m
-lacking_steps m c lines memory none = Lacks_memory c lines (by memory none)
+-- a command that is not refused by what it needs is begun
+begun : (m : MachineState) (c : Command) (lines : List ScriptLine) → refused m c lines ≡ None → is_begun m c lines ≡ true
+begun m c lines none = ap (λ (o : Option Refusal). is_followed c || not (is_some o)) none ∙ or_true (is_followed c)
   where
     or_true : (a : Bool) → (a || true) ≡ true
     or_true true = refl
     or_true false = refl
 
-    by : (needs c).memory ≡ true → refused m c lines ≡ None → may_lack_memory m c lines ≡ true
-    by x y = (λ i. x i && (is_some (needs c).lines || not (is_some (y i)))) ∙ or_true (is_some (needs c).lines)
+pub lacking_steps : (m : MachineState) (c : Command) (lines : List ScriptLine) → (needs c).memory ≡ true → refused m c lines ≡ None
+    → Step m (Asked c lines) no_memory m
+lacking_steps m c lines memory none = Lacks_memory c lines (λ i. memory i && begun m c lines none i)
+
+pub failing_steps : (m : MachineState) (c : Command) (lines : List ScriptLine) → (needs c).reads ≡ true → refused m c lines ≡ None
+    → Step m (Asked c lines) store_read m
+failing_steps m c lines reads none = Fails_to_read c lines (λ i. reads i && begun m c lines none i)
 
 -- a command whose answer is no refusal may be cut off
 pub is_accepted : (m : MachineState) (c : Command) (lines : List ScriptLine) (a : Answered) → answer m c lines no_plan ≡ a → is_refusal a.reply.head ≡ false
@@ -62,23 +71,58 @@ is_accepted m c lines a is accepted = ap (λ (x : Answered). is_refusal x.reply.
 -- a refusal that the machine may give, where nothing has changed
 pub denied : (c : Command) (got : List ScriptLine) (old new : Parts) (before after : Option (List ℕ)) (r : Refusal) → new ≡ old → after ≡ before
     → ((m : MachineState) (image : List ℕ) → StandsFor old image m → Step m (Asked c got) (headed (head.Refused r)) m)
-    → Denies c got old before new after r
-denied c got old new before after r same same_image step = record {
+    → (r ≡ refusal.StoreRead → (needs c).reads ≡ true) → Denies c got old before new after r
+denied c got old new before after r same same_image step reads = record {
   moves = λ x y a b m s. (m, step m x s, stands_on old new x y m same (one_image before after x y same_image a b) s);
   as_before = record { same = same; same_image = same_image };
+  reads = reads;
 }
+
+-- the first of these refusals is no failed read
+when_not_read : (b : Bool) (r : Refusal) (rest : List Refusal) → (r ≡ refusal.StoreRead → ⊥) → (earliest rest ≡ Some refusal.StoreRead → ⊥) → earliest (when b r ++ rest) ≡ Some refusal.StoreRead → ⊥
+when_not_read true r rest other more e = other (same_Some r refusal.StoreRead e)
+when_not_read false r rest other more e = more e
+
+of_not_read : {A : Type 0} (x : Option A) (f : A → Bool) (r : A → Refusal) (rest : List Refusal) → ((a : A) → r a ≡ refusal.StoreRead → ⊥) → (earliest rest ≡ Some refusal.StoreRead → ⊥)
+    → earliest (of x (λ a. when (f a) (r a)) ++ rest) ≡ Some refusal.StoreRead → ⊥
+of_not_read None f r rest other more e = more e
+of_not_read (Some a) f r rest other more e = when_not_read (f a) (r a) rest (other a) more e
+
+-- what a command needs is refused as no failed read
+never_read : (p : Parts) (read : ℕ) (n : Needs) → refused_by p read n ≡ Some refusal.StoreRead → ⊥
+never_read p read n =
+    of_not_read n.lines (λ count. nat_lt read count) (λ count. refusal.ShortBatch read count) _ (λ count e. absurd cc)
+    (when_not_read (n.index && not (is_some p.index)) refusal.NoIndex _ (λ e. absurd cc)
+    (of_not_read n.parameters (λ x. is_some p.index) (λ x. refusal.IndexExists) _ (λ x e. absurd cc)
+    (of_not_read n.parameters (λ x. not (are_parameters x.0 x.1)) (λ x. refusal.Parameters) _ (λ x e. absurd cc)
+    (when_not_read (n.unloaded && is_some (span_of p.events)) refusal.AlreadyLoaded _ (λ e. absurd cc)
+    (when_not_read (nat_lt 0 n.changes && is_too_full p n.changes) (refusal.HistoryFull (length p.events) n.changes) _ (λ e. absurd cc)
+    (when_not_read (list_any (λ t. not (in_range (span_of p.events) t)) n.instants) (refusal.OutOfRange (span_of p.events)) _ (λ e. absurd cc)
+    (of_not_read n.handle (λ h. not (is_some (entry_at h p.table))) (λ h. refusal.UnknownHandle h) (when (nat_lt 0 n.handles && nat_lt LIVE_HANDLES_MAX (length p.table + n.handles)) (refusal.PoolFull (length p.table) n.handles)) (λ h e. absurd cc)
+    (λ e. by (nat_lt 0 n.handles && nat_lt LIVE_HANDLES_MAX (length p.table + n.handles)) e))))))))
+  where
+    by : (b : Bool) → earliest (when b (refusal.PoolFull (length p.table) n.handles)) ≡ Some refusal.StoreRead → ⊥
+    by true e = let h : refusal.PoolFull (length p.table) n.handles ≡ refusal.StoreRead = same_Some _ _ e in absurd cc
+    by false e = absurd (none-some refusal.StoreRead e)
 
 -- by what it needs
 pub refused_denies : (c : Command) (got : List ScriptLine) (old new : Parts) (before after : Option (List ℕ)) (r : Refusal) → new ≡ old → after ≡ before
     → refused_by old (length got) (needs c) ≡ Some r → Denies c got old before new after r
 refused_denies c got old new before after r same same_image is =
     denied c got old new before after r same same_image (λ m image s. refused_steps m c got r (sym (refused_is old image m c got s) ∙ is))
+    (λ h. absurd (never_read old (length got) (needs c) (is ∙ ap (λ x. Some x) h)))
 
 -- by want of memory
 pub lacking_denies : (c : Command) (got : List ScriptLine) (old new : Parts) (before after : Option (List ℕ)) → new ≡ old → after ≡ before
     → (needs c).memory ≡ true → refused_by old (length got) (needs c) ≡ None → Denies c got old before new after refusal.OutOfMemory
 lacking_denies c got old new before after same same_image memory none =
-    denied c got old new before after refusal.OutOfMemory same same_image (λ m image s. lacking_steps m c got memory (sym (refused_is old image m c got s) ∙ none))
+    denied c got old new before after refusal.OutOfMemory same same_image (λ m image s. lacking_steps m c got memory (sym (refused_is old image m c got s) ∙ none)) (λ h. absurd cc)
+
+-- by a failed read of the index file
+pub failing_denies : (c : Command) (got : List ScriptLine) (old new : Parts) (before after : Option (List ℕ)) → new ≡ old → after ≡ before
+    → (needs c).reads ≡ true → refused_by old (length got) (needs c) ≡ None → Denies c got old before new after refusal.StoreRead
+failing_denies c got old new before after same same_image reads none =
+    denied c got old new before after refusal.StoreRead same same_image (λ m image s. failing_steps m c got reads (sym (refused_is old image m c got s) ∙ none)) (λ h. reads)
 
 -- a reply of a command that is not refused, by a plan for it, and the state that the session then stands for
 pub moved_by : (c : Command) (got : List ScriptLine) (plan : Planned) (old new : Parts) (before after : Option (List ℕ)) (reply : Reply)

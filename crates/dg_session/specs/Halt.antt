@@ -2,6 +2,8 @@
 use Rattle.dg_file.specs.declared.fault.CreateFault.{CreateFault}
 use Rattle.dg_file.specs.declared.fault.CreateFault.TheVariants as create_fault
 use Rattle.dg_machine.specs.declared.reply.Refusal.TheVariants as refusal
+use Rattle.dg_retrieval.specs.declared.fault.RetrievalFault.{RetrievalFault}
+use Rattle.dg_retrieval.specs.declared.fault.RetrievalFault.TheVariants as retrieval_fault
 use Rattle.dg_session.specs.declared.batch_segment.BatchFault.{BatchFault}
 use Rattle.dg_session.specs.declared.batch_segment.BatchFault.TheVariants as batch_fault
 use Rattle.dg_session.specs.declared.halt.Halt.{Halt}
@@ -17,3 +19,8 @@ batch_halt (batch_fault.BadChange line reason) = halt.Refusal (refusal.BadChange
 batch_halt (batch_fault.FileFull needed limit) = halt.Refusal (refusal.FileFull needed limit)
 batch_halt batch_fault.Memory = halt.Refusal refusal.OutOfMemory
 batch_halt batch_fault.Store = halt.Stop stop.Store
+
+abbrev pub retrieval_halt : RetrievalFault → Halt
+retrieval_halt retrieval_fault.Disk = halt.Refusal refusal.StoreRead
+retrieval_halt (retrieval_fault.Damaged key column) = halt.Refusal (refusal.Damaged key column)
+retrieval_halt retrieval_fault.Memory = halt.Refusal refusal.OutOfMemory

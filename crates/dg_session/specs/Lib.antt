@@ -7,4 +7,5 @@ pub mod Session
 pub mod BatchCommand
 pub mod PlanLines
 pub mod Plans
+pub mod Reads
 pub mod RecordListing

@@ -1,5 +1,6 @@
 -- What a session keeps.
 use Rattle.std.specs.Prelude.{ℕ, List, Option}
+use Rattle.dg_graph.specs.declared.element.Element.{Element}
 use Rattle.dg_graph.specs.declared.event.Event.{Event}
 use Rattle.dg_machine.specs.declared.limits.Limits.{Limits}
 use Rattle.dg_machine.specs.declared.stands.Stands.{Stands}
@@ -11,4 +12,5 @@ pub record Parts : Type 0 where
   pub names : List (List ℕ)  -- the names of the history, in the order of their numbers
   pub events : List Event  -- the events of the history, in their order
   pub table : List (ℕ × Stands)  -- the live handles, with what they stand for, the oldest first
+  pub graphs : List (List Element)  -- the elements that each of them lists, in the same order
   pub next : ℕ  -- the number of the next handle

@@ -1,14 +1,12 @@
 -- How the steps of a session are steps of the machine.
-use Rattle.std.specs.Prelude.{◌≡◌, ℕ, ◌+◌, ◌*◌, Bool, true, false, ◌&&◌, ◌||◌, not, List, [], ◌++◌, Option, Some, None, Result, Ok, Err, IfSome, is_some, length, nat_lt}
-use Rattle.std.specs.List.{list_any}
+use Rattle.std.specs.Prelude.{◌≡◌, ℕ, ◌+◌, ◌*◌, Bool, true, false, ◌&&◌, ◌||◌, not, ◌==◌, List, [], ◌∷◌, ◌++◌, Option, Some, None, Result, Ok, Err, IfSome, if◌then◌else◌, is_some, length, map, nat_lt}
+use Rattle.std.specs.List.{All, list_any}
 use Rattle.std.specs.Option.{option_map}
 use Rattle.dg_graph.specs.declared.element.Element.{Element}
 use Rattle.dg_graph.specs.declared.event.Event.{Event}
 use Rattle.dg_graph.specs.declared.limits.TheConstants.{NAMES_MAX}
-use Rattle.dg_graph.specs.Elements.{shown}
 use Rattle.dg_graph.specs.Lines.{ScriptLine}
-use Rattle.dg_graph.specs.Replay.{replay_at}
-use Rattle.dg_history.specs.History.{are_parameters, span_of, in_range}
+use Rattle.dg_history.specs.History.{History, are_parameters, events_of, span_of, in_range}
 use Rattle.dg_index.specs.ImageOfHistory.{StandsAs, is_blank}
 use Rattle.dg_index.specs.OpenedIndex.{Opening, opening}
 use Rattle.dg_machine.specs.declared.command.Command.{Command}
@@ -21,8 +19,8 @@ use Rattle.dg_machine.specs.declared.stands.Stands.{Stands}
 use Rattle.dg_machine.specs.declared.stands.Stands.TheVariants.{Overlay}
 use Rattle.dg_machine.specs.Answer.{headed, is_refusal}
 use Rattle.dg_machine.specs.CutImage.{IsCut}
-use Rattle.dg_machine.specs.MachineState.{MachineState, entry_at, events_in_index, names_in}
-use Rattle.dg_machine.specs.Needs.{Needs, nothing_more, following, is_writing, when, of, earliest}
+use Rattle.dg_machine.specs.MachineState.{MachineState, elements, entry_at, events_in_index, history_in, names_in}
+use Rattle.dg_machine.specs.Needs.{Needs, needs, nothing_more, following, is_writing, when, of, earliest}
 use Rattle.dg_machine.specs.Run.{Step}
 use Rattle.dg_machine.specs.Script.{Asked, Follows}
 use Rattle.dg_session.specs.declared.halt.Halt.{Halt}
@@ -31,9 +29,19 @@ use Rattle.dg_session.specs.declared.stop.Stop.TheVariants as stop
 use Rattle.dg_session.specs.Parts.{Parts}
 use Rattle.dg_session.specs.SessionStart.{opening_of}
 
--- the elements of what a handle stands for, over these events
-abbrev pub elements_among : List Event → Stands → List Element
-elements_among events (Overlay t cols on) = shown (replay_at events t) cols
+-- the instant of what a handle stands for is in the history, so that no later event changes it
+abbrev pub is_reached : History → Stands → Bool
+is_reached z (Overlay t cols on) = in_range (span_of (events_of z)) t
+
+-- the elements that the live handles list, the oldest first
+abbrev pub graphs_of : MachineState → List (List Element)
+graphs_of m = map (λ (e : ℕ × Stands). elements (history_in m.index) e.1) m.table
+
+-- the elements that a live handle lists
+abbrev pub graph_among : ℕ → List (ℕ × Stands) → List (List Element) → Option (List Element)
+graph_among handle [] graphs = None
+graph_among handle (entry ∷ table) [] = None
+graph_among handle (entry ∷ table) (graph ∷ graphs) = if entry.0 == handle then Some graph else graph_among handle table graphs
 
 -- the session stands for this state of the machine, over the image
 pub record StandsFor (session : Parts) (image : List ℕ) (m : MachineState) : Type 0 where
@@ -43,6 +51,8 @@ pub record StandsFor (session : Parts) (image : List ℕ) (m : MachineState) : T
   pub events : session.events ≡ events_in_index m.index
   pub limits : session.limits ≡ m.limits
   pub table : session.table ≡ m.table
+  pub graphs : session.graphs ≡ graphs_of m
+  pub reached : All (λ (e : ℕ × Stands). is_reached (history_in m.index) e.1 ≡ true) m.table
   pub next : session.next ≡ m.next
   pub no_handles : m.index ≡ None → m.table ≡ []
 
@@ -120,6 +130,7 @@ pub record IsAsBefore (old : Parts) (before : Option (List ℕ)) (new : Parts) (
 pub record Denies (command : Command) (got : List ScriptLine) (old : Parts) (before : Option (List ℕ)) (new : Parts) (after : Option (List ℕ)) (r : Refusal) : Type 0 where
   pub moves : WhereBothTold before after (λ image then_image. Moves command got old image new then_image (headed (head.Refused r)))
   pub as_before : IsAsBefore old before new after
+  pub reads : r ≡ refusal.StoreRead → (needs command).reads ≡ true
 
 -- what the command and these lines come to
 abbrev pub ComesTo : Command → List ScriptLine → Parts → Option (List ℕ) → Parts → Option (List ℕ) → Result Reply Halt → Type 0

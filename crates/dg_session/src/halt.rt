@@ -3,12 +3,13 @@
 ghost use Rattle.std.specs.Prelude.{◌≡◌};
 ghost use Rattle.dg_machine.specs.declared.reply.Refusal.TheVariants as refusal;
 ghost use Rattle.dg_session.specs.declared.halt.Halt.TheVariants as halt;
-ghost use Rattle.dg_session.specs.Halt.{creation_halt, batch_halt};
+ghost use Rattle.dg_session.specs.Halt.{creation_halt, batch_halt, retrieval_halt};
 
 use crate::batch_segment::BatchFault;
 use crate::stop::Stop;
 use dg_file::CreateFault;
 use dg_machine::Refusal;
+use dg_retrieval::RetrievalFault;
 use std::alloc::AllocError;
 
 /// Why a command is not carried out.
@@ -66,6 +67,18 @@ impl From<BatchFault> for Halt {
             BatchFault::FileFull(needed, limit) => Halt::Refusal(Refusal::FileFull(needed, limit)),
             BatchFault::Memory => Halt::Refusal(Refusal::OutOfMemory),
             BatchFault::Store => Halt::Stop(Stop::Store),
+        }
+    }
+}
+
+impl From<RetrievalFault> for Halt {
+    ghost from_gives = { λ fault to. to ≡ retrieval_halt fault };
+
+    fn from(fault: RetrievalFault) -> Halt {
+        match fault {
+            RetrievalFault::Disk => Halt::Refusal(Refusal::StoreRead),
+            RetrievalFault::Damaged(key, column) => { Halt::Refusal(Refusal::Damaged(key, column)) }
+            RetrievalFault::Memory => Halt::Refusal(Refusal::OutOfMemory),
         }
     }
 }

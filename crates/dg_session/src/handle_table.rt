@@ -1,43 +1,49 @@
-ghost use Rattle.std.specs.Prelude.{◌≡◌, Option};
-ghost use Rattle.dg_machine.specs.MachineState.{entry_at};
+ghost use Rattle.std.specs.Prelude.{◌≡◌, map};
+ghost use Rattle.std.specs.Option.{option_map};
+ghost use Rattle.dg_session.specs.Session.{graph_among};
 
 use dg_machine::Stands;
+use dg_set::Set;
 use std::marker::Model;
 
-/// A live handle, with what it stands for.
-#[derive(Clone, Copy)]
+/// A live handle, with what it stands for and the elements that it lists.
+#[derive(Drop)]
 pub struct Entry {
     handle: u32,
     stands: Stands,
+    graph: Set,
 }
 
 impl Model for Entry {
-    ghost use Rattle.std.specs.Prelude.{ℕ};
+    ghost use Rattle.std.specs.Prelude.{ℕ, List};
+    ghost use Rattle.dg_graph.specs.declared.element.Element.{Element};
     ghost use Rattle.dg_machine.specs.declared.stands.Stands.{Stands};
 
-    ghost Value = { ℕ × Stands };
+    ghost Value = { (ℕ × Stands) × List Element };
 
-    ghost view = { λ e. (e.handle, e.stands) };
-
-    ghost inverse = { λ pair. record { handle = pair.0; stands = pair.1 } };
+    ghost view = { λ e. ((e.handle, e.stands), e.graph) };
 }
 
 impl Entry {
     /// The entry of a new handle.
-    pub fn new(handle: u32, stands: Stands) -> Entry
-        ensures { result ≡ (handle, stands) }
+    pub fn new(handle: u32, stands: Stands, graph: Set) -> Entry
+        ensures { result ≡ ((handle, stands), graph) }
     {
-        Entry { handle, stands }
+        Entry {
+            handle,
+            stands,
+            graph,
+        }
     }
 }
 
-/// What the handle stands for, where it is live.
-pub fn entry_at(table: &[Entry], handle: u32) -> Option<Stands>
-    ensures { result ≡ entry_at handle table.now }
+/// The elements that the handle lists, where it is live.
+pub fn graph_at(table: &[Entry], handle: u32) -> Option<&Set>
+    ensures { option_map (λ graph. graph.now) result ≡ graph_among handle (map (λ e. e.0) table.now) (map (λ e. e.1) table.now) }
 {
     for entry in table {
         if entry.handle == handle {
-            return Some(entry.stands);
+            return Some(&entry.graph);
         }
     }
     None

@@ -18,6 +18,7 @@ mod plan_lines;
 mod planning;
 mod record;
 mod record_listing;
+mod retrieving;
 mod session;
 mod snapshot;
 mod stop;

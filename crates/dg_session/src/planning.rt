@@ -9,7 +9,8 @@ ghost use Rattle.dg_machine.specs.Answer.{potential_lines, step_lines};
 ghost use Rattle.dg_plan.specs.CertificateLines.{judged};
 ghost use Rattle.dg_plan.specs.IndexGraph.{edges_of, nodes_of};
 ghost use Rattle.dg_plan.specs.InstantPoint.{point, point_at};
-ghost use Rattle.dg_session.specs.Plans.{IsPlanReply, kept_ground, shape_with};
+ghost use Rattle.dg_retrieval.specs.KeptGraph.{kept_ground, shape_with};
+ghost use Rattle.dg_session.specs.Plans.{IsPlanReply};
 
 use dg_certify::certify;
 use dg_file::Index;
@@ -30,8 +31,8 @@ pub fn shape_of(index: &Index, events: u64) -> Shape
     Shape { l, k, events }
 }
 
-// The graph of an index with so many events, for the asked columns.
-fn planner_of(
+/// The graph of an index with so many events, for the asked columns.
+pub fn planner_of(
     alloc: Global,
     index: &Index,
     events: u64,
@@ -72,8 +73,8 @@ fn point_at(params: Params, events: u64, count: u64) -> NodeId
     }
 }
 
-// The node from which the graph as of the instant `t` is reached.
-fn point_of(index: &Index, events: &[Event], t: u64) -> NodeId
+/// The node from which the graph as of the instant `t` is reached.
+pub fn point_of(index: &Index, events: &[Event], t: u64) -> NodeId
     requires { length events.now ≤ EVENTS_MAX }
     ensures { result ≡ point index.now.opening.params events.now t }
 {

@@ -1,56 +1,58 @@
-ghost use Rattle.std.specs.Prelude.{◌≡◌, ◌⊎◌, ℕ, ◌+◌, ◌<◌, ◌≤◌, IfErr, IfSome, IsErrOf, OnErr, OnOk, List, [], ◌∷◌, ◌++◌, Option, None, is_some, true, false, length, map, IfOk};
+ghost use Rattle.std.specs.Prelude.{◌≡◌, ◌⊎◌, ℕ, ◌+◌, ◌<◌, ◌≤◌, IfErr, IfSome, IsErrOf, OnErr, OnOk, List, [], ◌∷◌, ◌++◌, Option, None, is_some, true, false, not, length, map, take, IfOk};
+ghost use Rattle.std.specs.List.{list_any, sum};
 ghost use Rattle.dg_disk.specs.Counts.{Rose as DiskRose};
-ghost use Rattle.dg_disk.specs.Frame.{GoesOn, ReadsAndSyncs};
+ghost use Rattle.dg_disk.specs.Frame.{GoesOn, OnlyReads, ReadsAndSyncs};
+ghost use Rattle.dg_fold.specs.BytesRead.{Takes};
 ghost use Rattle.dg_io.specs.Frame.{Advances};
 ghost use Rattle.dg_io.specs.Told.{CountRose};
 ghost use Rattle.dg_io.specs.LinesState.{told, NeedsByte};
 ghost use Rattle.dg_history.specs.declared.limits.TheConstants.{BATCH_LINES_MAX, EVENTS_MAX};
 ghost use Rattle.dg_graph.specs.Lines.{ScriptLine};
+ghost use Rattle.dg_machine.specs.declared.command.TheConstants.{TIMES_MAX};
 ghost use Rattle.dg_machine.specs.declared.limits.TheConstants.{LIVE_HANDLES_MAX};
-ghost use Rattle.dg_machine.specs.declared.reply.BodyLine.TheVariants as line;
-ghost use Rattle.dg_machine.specs.Answer.{headed, is_refusal};
+ghost use Rattle.dg_machine.specs.Answer.{headed, is_refusal, overlays};
 ghost use Rattle.dg_machine.specs.CommandGrammar.{CountIsInRange};
 ghost use Rattle.dg_machine.specs.Needs.{following, is_writing, needs};
 ghost use Rattle.dg_history.specs.History.{History, are_parameters, in_range, span_of};
 ghost use Rattle.dg_index.specs.ImageOfHistory.{StandsAs};
-ghost use Rattle.dg_machine.specs.MachineState.{IsWithin, machine_at};
+ghost use Rattle.dg_machine.specs.MachineState.{IsWithin, MachineState, machine_at};
+ghost use Rattle.dg_machine.specs.Planning.{edges_in, points_for};
+ghost use Rattle.dg_machine.specs.Run.{is_store_read};
+ghost use Rattle.dg_retrieval.specs.Retrieval.{IsNoDamage, TakesAtMostTree};
 ghost use Rattle.dg_index.specs.SessionStart.{start_of};
 ghost use Rattle.dg_session.specs.BatchCommand.{barred, command_with};
-ghost use Rattle.dg_session.specs.Session.{ComesTo, IsHeldBy, StandsFor, Steps, Stops, TakesLines, elements_among, is_too_full, refused_by, retrieval_needs};
+ghost use Rattle.dg_session.specs.Reads.{IsRetrieved, Reads, ReadsIn, new_entries, with_entries};
+ghost use Rattle.dg_session.specs.Session.{ComesTo, IsHeldBy, StandsFor, Steps, Stops, TakesLines, is_too_full, refused_by, retrieval_needs};
 ghost use Rattle.dg_session.specs.SessionStart.{RefusesStart, StartsAs};
 ghost use Rattle.dg_session.specs.declared.stop.Stop.TheVariants as stop;
 
 use crate::batch_command::{BatchCommand, add_batch};
 use crate::batch_lines::read_batch;
 use crate::halt::Halt;
-use crate::handle_table::{Entry, entry_at};
+use crate::handle_table::{Entry, graph_at};
 use crate::history_reader::open;
 use crate::laws::law_images_start_as_they_stand;
 use crate::plan_lines::read_plan_lines;
 use crate::planning::{judge, plan_reply};
 use crate::record_listing::tree_reply;
-use crate::snapshot::{listing, replay_at, span};
+use crate::retrieving::{entries_of, graphs_at, handle_lines};
+use crate::snapshot::{listing, span};
 use crate::stop::Stop;
 use crate::stored_history::StoredHistory;
 use dg_disk::Disk;
 use dg_file::Index;
-use dg_graph::{Columns, Event, NAMES_MAX};
+use dg_graph::{Columns, NAMES_MAX};
 use dg_history::{ARITY_MAX, ARITY_MIN, LEAF_MAX, LEAF_MIN, Params, StartFault};
 use dg_io::{Lines, Source};
 use dg_machine::{
-    BodyLine, BodyLines, Command, FIRST_HANDLE, Head, LIVE_HANDLES_MAX, Limits, Refusal, Reply,
-    Stands,
+    BodyLines, Command, FIRST_HANDLE, Head, LIVE_HANDLES_MAX, Limits, Refusal, Reply, TIMES_MAX,
 };
 use dg_names::Names;
+use dg_retrieval::{RetrievalFault, Retrieved};
+use dg_set::Set;
 use std::alloc::{AllocError, Global};
 use std::marker::Model;
 use std::thread::Threads;
-
-// A retrieval rests on no other graph, so its plan weighs nothing.
-const PLAN_WEIGHT: u64 = 0;
-
-// A retrieval asks for one handle.
-const HANDLES_ASKED: u32 = 1;
 
 // A line may bring the text of a key and that of a value.
 const NAMES_OF_A_LINE: u32 = 2;
@@ -66,7 +68,7 @@ pub struct Session {
 }
 
 impl Model for Session {
-    ghost use Rattle.std.specs.Prelude.{◌≡◌, ◌+◌, ◌≤◌, vec_len};
+    ghost use Rattle.std.specs.Prelude.{◌≡◌, ◌+◌, ◌≤◌, map, vec_len};
     ghost use Rattle.dg_history.specs.declared.limits.TheConstants.{EVENTS_MAX, FILE_BYTES_MAX};
     ghost use Rattle.dg_machine.specs.declared.limits.TheConstants.{FIRST_HANDLE, LIVE_HANDLES_MAX, SCRIPT_BYTES_MAX};
     ghost use Rattle.dg_session.specs.Parts.{Parts};
@@ -80,7 +82,8 @@ impl Model for Session {
       index = index_opening s.history.index;
       names = s.history.names;
       events = s.history.events.items;
-      table = s.table.items;
+      table = map (λ e. e.0) s.table.items;
+      graphs = map (λ e. e.1) s.table.items;
       next = s.next;
     } };
 
@@ -149,7 +152,7 @@ impl Session {
     /// index.
     pub fn step<R: Threads, S: Source, D: Disk>(
         &mut self,
-        _rt: &R,
+        rt: &R,
         command: &Command,
         lines: &mut Lines,
         source: &mut S,
@@ -176,12 +179,15 @@ impl Session {
         ensures store_command { IsErrOf result Stop.Store → is_writing command.now ≡ true }
         ensures read { IsErrOf result Stop.Read → CountRose (S.faults source.old) (S.faults source.new) }
         ensures limit { IsErrOf result Stop.Limit → (lines.new.taken ≡ lines.new.limit) × NeedsByte lines.new }
+        ensures store_read { IfOk result (λ reply. is_store_read reply.head ≡ true
+            → DiskRose (D.faults disk.old) (D.faults disk.new) × (D.write_faults disk.new ≡ D.write_faults disk.old)) }
         // what it takes and leaves
+        ensures reads { IfOk result (λ reply. Reads command.now self.old (D.image disk.old) reply.head (D.taken disk.old) (D.taken disk.new)) }
         ensures lines { Advances lines.old (S.left source.old) (S.faults source.old)
             lines.new (S.left source.new) (S.faults source.new) }
         ensures disk { GoesOn D.image D.faults D.write_faults disk.old disk.new }
     {
-        match self.carry_out(command, lines, source, disk) {
+        match self.carry_out(rt, command, lines, source, disk) {
             Ok(reply) => Ok(reply),
             Err(Halt::Refusal(refusal)) => Ok(headed(self.alloc, Head::Refused(refusal))),
             Err(Halt::Stop(stop)) => Err(stop),
@@ -189,8 +195,9 @@ impl Session {
     }
 
     // Carries out the command.
-    fn carry_out<S: Source, D: Disk>(
+    fn carry_out<R: Threads, S: Source, D: Disk>(
         &mut self,
+        rt: &R,
         command: &Command,
         lines: &mut Lines,
         source: &mut S,
@@ -206,7 +213,10 @@ impl Session {
         ensures store { IsErrOf result (Halt.Stop Stop.Store) → DiskRose (D.write_faults disk.old) (D.write_faults disk.new) }
         ensures read { IsErrOf result (Halt.Stop Stop.Read) → CountRose (S.faults source.old) (S.faults source.new) }
         ensures limit { IsErrOf result (Halt.Stop Stop.Limit) → (lines.new.taken ≡ lines.new.limit) × NeedsByte lines.new }
+        ensures store_read { IsErrOf result (Halt.Refusal Refusal.StoreRead)
+            → DiskRose (D.faults disk.old) (D.faults disk.new) × (D.write_faults disk.new ≡ D.write_faults disk.old) }
         // what it takes and leaves
+        ensures reads { ReadsIn command.now self.old (D.image disk.old) result (D.taken disk.old) (D.taken disk.new) }
         ensures lines { Advances lines.old (S.left source.old) (S.faults source.old)
             lines.new (S.left source.new) (S.faults source.new) }
         ensures disk { GoesOn D.image D.faults D.write_faults disk.old disk.new }
@@ -215,7 +225,10 @@ impl Session {
             Command::Create { l, k, function } => self.create(disk, Params { l, k, function }),
             Command::Load { count } => self.add(BatchCommand::Load, count, lines, source, disk),
             Command::Append { count } => self.add(BatchCommand::Append, count, lines, source, disk),
-            Command::At { t, cols } => self.at(t, cols),
+            Command::At { t, cols } => self.at(rt, t, cols, disk),
+            Command::Several { cols, times, count } => {
+                self.several(rt, cols, times, count, disk)
+            }
             Command::List { handle } => self.list(handle),
             Command::Plan { t, cols } => self.plan(t, cols),
             Command::Certify { t, cols, count } => self.certify(t, cols, count, lines, source),
@@ -359,49 +372,147 @@ impl Session {
         Ok(index)
     }
 
-    // Why no retrieval as of `t` is made.
-    fn refused_retrieval(&self, t: u64) -> Option<Refusal>
-        ensures { result ≡ refused_by self.now 0 (retrieval_needs (t ∷ []) 1) }
+    // Why no graphs as of these instants are retrieved, each as a new handle.
+    fn refused_retrieval(&self, times: &[u64]) -> Option<Refusal>
+        requires few { length times.now ≤ TIMES_MAX }
+        ensures { result ≡ refused_by self.now 0 (retrieval_needs times.now (length times.now)) }
     {
-        if let Err(refusal) = self.index_at(t) {
-            return Some(refusal);
+        if !self.has_index() {
+            return Some(Refusal::NoIndex);
+        }
+        let ends = span(&self.history.events);
+        if is_any_out(ends, times) {
+            return Some(Refusal::OutOfRange(ends));
         }
         let live = self.table.len();
-        if live >= LIVE_HANDLES_MAX {
-            return Some(Refusal::PoolFull(live as u32, HANDLES_ASKED));
+        if live + times.len() > LIVE_HANDLES_MAX {
+            return Some(Refusal::PoolFull(live as u32, times.len() as u32));
         }
         None
     }
 
-    // A new handle for this, which is live then.
-    fn add_handle(&mut self, stands: Stands) -> Result<u32, AllocError>
-        requires room { length self.old.table < LIVE_HANDLES_MAX }
-        ensures handle { IfOk result (λ handle. handle ≡ self.old.next) }
-        ensures added { OnOk result (self.new ≡ record self.old { table = self.old.table ++ (self.old.next, stands) ∷ []; next = self.old.next + 1 }) }
+    // The graphs as of the instants in these columns, by one tree.
+    fn retrieve<R: Threads, D: Disk>(
+        &mut self,
+        rt: &R,
+        times: &[u64],
+        cols: Columns,
+        disk: &mut D,
+    ) -> Result<Retrieved, RetrievalFault>
+        requires some { 1 ≤ length times.now }
+        requires few { length times.now ≤ TIMES_MAX }
+        requires free { refused_by self.old 0 (retrieval_needs times.now (length times.now)) ≡ None }
+        requires image { IfSome (D.image disk.old) (λ image. IsHeldBy self.old.index self.old.names image) }
+        // what is retrieved
+        ensures retrieved { IfOk result (λ r. IfSome (D.image disk.old) (λ image. (m : MachineState) → StandsFor self.old image m
+            → IsRetrieved m times.now cols r.weight r.singles.items r.graphs.items)) }
+        ensures sum { IfOk result (λ r. r.sum ≡ sum r.singles.items) }
+        // the bytes read
+        ensures takes { IfOk result (λ r. IfSome (D.image disk.old) (λ image. (m : MachineState) → StandsFor self.old image m
+            → Takes r.weight (D.taken disk.old) (D.taken disk.new))) }
+        ensures most { IfSome (D.image disk.old) (λ image. (m : MachineState) → StandsFor self.old image m
+            → TakesAtMostTree (edges_in m cols) (points_for m times.now) (D.taken disk.old) (D.taken disk.new)) }
+        // why nothing is retrieved
+        ensures cause { IsErrOf result RetrievalFault.Disk → DiskRose (D.faults disk.old) (D.faults disk.new) }
+        ensures never { IfErr result (λ fault. IfSome (D.image disk.old) (λ image. (m : MachineState) → StandsFor self.old image m → IsNoDamage fault)) }
+        // what it leaves
+        ensures same { self.new ≡ self.old }
+        ensures disk { OnlyReads D.image D.faults D.write_faults disk.old disk.new }
+    {
+        let Some(index) = &mut self.history.index else {
+            unreachable!()
+        };
+        graphs_at(
+            rt,
+            self.alloc,
+            index,
+            disk,
+            self.history.names.len(),
+            &self.history.now,
+            &self.history.events,
+            times,
+            cols,
+        )
+    }
+
+    // A new handle for each of these graphs, as of these instants in these columns.
+    fn add_handles(
+        &mut self,
+        cols: Columns,
+        times: &[u64],
+        graphs: Vec<Set>,
+    ) -> Result<(), AllocError>
+        requires room { length self.old.table + length times.now ≤ LIVE_HANDLES_MAX }
+        ensures added { OnOk result (self.new ≡ with_entries self.old (new_entries self.old.next (overlays cols times.now) graphs.items)) }
         ensures err { OnErr result (self.new ≡ self.old) }
     {
-        let handle = self.next;
-        self.table.push(Entry::new(handle, stands))?;
-        self.next = handle + 1;
-        Ok(handle)
+        let mut entries = entries_of(self.alloc, self.next, cols, times, graphs)?;
+        let count = entries.len() as u32;
+        self.table.append(&mut entries)?;
+        self.next += count;
+        Ok(())
     }
 
     // A new handle for the graph as of `t` in these columns.
-    fn at(&mut self, t: u64, cols: Columns) -> Result<Reply, Halt>
-        ensures comes { (image : Option (List ℕ)) → ComesTo (Command.At t cols) [] self.old image self.new image result }
+    fn at<R: Threads, D: Disk>(
+        &mut self,
+        rt: &R,
+        t: u64,
+        cols: Columns,
+        disk: &mut D,
+    ) -> Result<Reply, Halt>
+        requires image { IfSome (D.image disk.old) (λ image. IsHeldBy self.old.index self.old.names image) }
+        ensures comes { ComesTo (Command.At t cols) [] self.old (D.image disk.old) self.new (D.image disk.new) result }
         ensures no_stop { (stop : Stop) → result ≡ Err (Halt.Stop stop) → ⊥ }
+        ensures store_read { IsErrOf result (Halt.Refusal Refusal.StoreRead) → DiskRose (D.faults disk.old) (D.faults disk.new) }
+        ensures reads { ReadsIn (Command.At t cols) self.old (D.image disk.old) result (D.taken disk.old) (D.taken disk.new) }
+        ensures disk { OnlyReads D.image D.faults D.write_faults disk.old disk.new }
     {
-        if let Some(refusal) = self.refused_retrieval(t) {
+        let times = [t];
+        if let Some(refusal) = self.refused_retrieval(&times) {
             return Err(Halt::Refusal(refusal));
         }
-        let handle = self.add_handle(Stands::Overlay { t, cols, on: None })?;
-        Ok(headed(
-            self.alloc,
-            Head::At {
-                handle,
-                weight: PLAN_WEIGHT,
-            },
-        ))
+        let Retrieved { graphs, weight, .. } = self.retrieve(rt, &times, cols, disk)?;
+        let handle = self.next;
+        self.add_handles(cols, &times, graphs)?;
+        Ok(headed(self.alloc, Head::At { handle, weight }))
+    }
+
+    // A new handle for the graph as of each of the first `count` instants in these columns, by one tree.
+    fn several<R: Threads, D: Disk>(
+        &mut self,
+        rt: &R,
+        cols: Columns,
+        times: [u64; TIMES_MAX],
+        count: u8,
+        disk: &mut D,
+    ) -> Result<Reply, Halt>
+        requires some { 1 ≤ count }
+        requires few { count ≤ TIMES_MAX }
+        requires image { IfSome (D.image disk.old) (λ image. IsHeldBy self.old.index self.old.names image) }
+        ensures comes { ComesTo (Command.Several cols times count) [] self.old (D.image disk.old) self.new (D.image disk.new) result }
+        ensures no_stop { (stop : Stop) → result ≡ Err (Halt.Stop stop) → ⊥ }
+        ensures store_read { IsErrOf result (Halt.Refusal Refusal.StoreRead) → DiskRose (D.faults disk.old) (D.faults disk.new) }
+        ensures reads { ReadsIn (Command.Several cols times count) self.old (D.image disk.old) result (D.taken disk.old) (D.taken disk.new) }
+        ensures disk { OnlyReads D.image D.faults D.write_faults disk.old disk.new }
+    {
+        let asked = first_of(&times, count);
+        if let Some(refusal) = self.refused_retrieval(asked) {
+            return Err(Halt::Refusal(refusal));
+        }
+        let retrieved = self.retrieve(rt, asked, cols, disk)?;
+        let lines = handle_lines(self.alloc, self.next, asked, &retrieved.singles)?;
+        let Retrieved {
+            graphs,
+            weight,
+            sum,
+            ..
+        } = retrieved;
+        self.add_handles(cols, asked, graphs)?;
+        Ok(Reply {
+            head: Head::Several { weight, sum },
+            body: BodyLines::from_vec(lines),
+        })
     }
 
     // The elements of a handle.
@@ -409,10 +520,10 @@ impl Session {
         ensures comes { (image : Option (List ℕ)) → ComesTo (Command.List handle) [] self.now image self.now image result }
         ensures no_stop { (stop : Stop) → result ≡ Err (Halt.Stop stop) → ⊥ }
     {
-        let Some(stands) = entry_at(&self.table, handle) else {
+        let Some(graph) = graph_at(&self.table, handle) else {
             return Err(Halt::Refusal(Refusal::UnknownHandle(handle)));
         };
-        let lines = elements(self.alloc, &self.history.events, stands)?;
+        let lines = listing(self.alloc, graph)?;
         Ok(Reply {
             head: Head::List {
                 handle,
@@ -497,13 +608,20 @@ fn in_range(ends: Option<(u64, u64)>, t: u64) -> bool
     }
 }
 
-// A line for each element of what a handle stands for.
-fn elements(alloc: Global, events: &[Event], stands: Stands) -> Result<Vec<BodyLine>, AllocError>
-    ensures { IfOk result (λ lines. lines.items ≡ map (λ x. line.Element x) (elements_among events.now stands)) }
+// Whether one of the instants does not lie between the ends.
+fn is_any_out(ends: Option<(u64, u64)>, times: &[u64]) -> bool
+    ensures { result ≡ list_any (λ t. not (in_range ends t)) times.now }
 {
-    match stands {
-        Stands::Overlay { t, cols, .. } => listing(alloc, &replay_at(alloc, events, t)?, cols),
-    }
+    times.iter().any(|t| !in_range(ends, *t))
+}
+
+// The first `count` of the instants.
+fn first_of<'a>(times: &'a [u64], count: u8) -> &'a [u64]
+    requires { count ≤ length times.now }
+    ensures times { result.now ≡ take count times.entry.now }
+    ensures count { length result.now ≡ count }
+{
+    &times[..usize::from(count)]
 }
 
 // A reply of a head line alone.

@@ -3,7 +3,7 @@ use Rattle.std.specs.Prelude.{IfOk}
 use Rattle.dg_plan.specs.declared.edge.Edge.{Edge}
 use Rattle.dg_plan.specs.IndexGraph.{edges_of}
 use Rattle.dg_planner.specs.Bases.{ground_of}
-use Rattle.dg_session.specs.Plans.{holding}
+use Rattle.dg_retrieval.specs.KeptGraph.{holding}
 use Rattle.dg_session.proofs.planning.planner_of.Goals as goal
 
 pub returns-clause-edges : goal.returns-clause-edges

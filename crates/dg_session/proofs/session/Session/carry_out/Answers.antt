@@ -1,8 +1,10 @@
-use Rattle.std.proofs.Common.{refl, sym, subst}
+use Rattle.std.proofs.Common.{[], refl, sym, subst}
 use Rattle.dg_io.specs.LinesState.{told}
 use Rattle.dg_machine.specs.declared.command.Command.TheVariants as command
 use Rattle.dg_machine.specs.CommandGrammar.{CountIsInRange}
 use Rattle.dg_machine.specs.Needs.{following}
+use Rattle.dg_session.specs.Reads.{ReadsIn}
+use Rattle.dg_session.proofs.ReadsStep.{fails_no_read, reads_freely, reads_nothing}
 use Rattle.dg_session.proofs.Steps.{Comes, alone}
 use Rattle.dg_session.proofs.session.Session.carry_out.Goals as goal
 
@@ -21,10 +23,97 @@ add-requires-in-Append-clause-few g c = (subst CountIsInRange c.in-Append.is c.r
 pub certify-requires : goal.certify-requires
 certify-requires g c = record { few = subst CountIsInRange c.in-Certify.is c.requires.command }
 
+pub several-requires-clause-some : goal.several-requires-clause-some
+several-requires-clause-some g c = (subst CountIsInRange c.in-Several.is c.requires.command).0
+
+pub several-requires-clause-few : goal.several-requires-clause-few
+several-requires-clause-few g c = (subst CountIsInRange c.in-Several.is c.requires.command).1
+
 pub returns-in-At-clause-comes : goal.returns-in-At-clause-comes
 returns-in-At-clause-comes g c =
-    alone c.args.command.now (command.At c.in-At.t c.in-At.cols) (told c.args.lines.now (g.S.Source.left c.args.source.now)) c.args.self.now (g.D.Disk.image c.args.disk.now) c.at.new.self (g.D.Disk.image c.args.disk.now) c.at.result
-    c.in-At.is refl (c.at.ensures.comes (g.D.Disk.image c.args.disk.now))
+    alone c.args.command.now (command.At c.in-At.t c.in-At.cols) (told c.args.lines.now (g.S.Source.left c.args.source.now)) c.args.self.now (g.D.Disk.image c.args.disk.now) c.at.new.self (g.D.Disk.image c.at.new.disk) c.at.result
+    c.in-At.is refl c.at.ensures.comes
+
+pub returns-in-Several-clause-comes : goal.returns-in-Several-clause-comes
+returns-in-Several-clause-comes g c =
+    alone c.args.command.now (command.Several c.in-Several.cols c.in-Several.times c.in-Several.count) (told c.args.lines.now (g.S.Source.left c.args.source.now)) c.args.self.now (g.D.Disk.image c.args.disk.now) c.several.new.self (g.D.Disk.image c.several.new.disk) c.several.result
+    c.in-Several.is refl c.several.ensures.comes
+
+pub returns-in-At-clause-reads : goal.returns-in-At-clause-reads
+returns-in-At-clause-reads g c =
+    subst (λ x. ReadsIn x c.args.self.now (g.D.Disk.image c.args.disk.now) c.at.result (g.D.Disk.taken c.args.disk.now) (g.D.Disk.taken c.at.new.disk)) (sym c.in-At.is) c.at.ensures.reads
+
+pub returns-in-Several-clause-reads : goal.returns-in-Several-clause-reads
+returns-in-Several-clause-reads g c =
+    subst (λ x. ReadsIn x c.args.self.now (g.D.Disk.image c.args.disk.now) c.several.result (g.D.Disk.taken c.args.disk.now) (g.D.Disk.taken c.several.new.disk)) (sym c.in-Several.is) c.several.ensures.reads
+
+pub returns-in-List-clause-reads : goal.returns-in-List-clause-reads
+returns-in-List-clause-reads g c =
+    subst (λ x. ReadsIn x c.args.self.now (g.D.Disk.image c.args.disk.now) c.list.result (g.D.Disk.taken c.args.disk.now) (g.D.Disk.taken c.args.disk.now)) (sym c.in-List.is)
+    (reads_nothing (command.List c.in-List.handle) c.args.self.now (g.D.Disk.image c.args.disk.now) c.list.result (g.D.Disk.taken c.args.disk.now) refl)
+
+pub returns-in-List-clause-store_read : goal.returns-in-List-clause-store_read
+returns-in-List-clause-store_read g c h =
+    absurd (fails_no_read (command.List c.in-List.handle) [] c.args.self.now (g.D.Disk.image c.args.disk.now) c.args.self.now (g.D.Disk.image c.args.disk.now) c.list.result refl (c.list.ensures.comes (g.D.Disk.image c.args.disk.now)) h)
+
+pub returns-in-Plan-clause-reads : goal.returns-in-Plan-clause-reads
+returns-in-Plan-clause-reads g c =
+    subst (λ x. ReadsIn x c.args.self.now (g.D.Disk.image c.args.disk.now) c.plan.result (g.D.Disk.taken c.args.disk.now) (g.D.Disk.taken c.args.disk.now)) (sym c.in-Plan.is)
+    (reads_nothing (command.Plan c.in-Plan.t c.in-Plan.cols) c.args.self.now (g.D.Disk.image c.args.disk.now) c.plan.result (g.D.Disk.taken c.args.disk.now) refl)
+
+pub returns-in-Plan-clause-store_read : goal.returns-in-Plan-clause-store_read
+returns-in-Plan-clause-store_read g c h =
+    absurd (fails_no_read (command.Plan c.in-Plan.t c.in-Plan.cols) [] c.args.self.now (g.D.Disk.image c.args.disk.now) c.args.self.now (g.D.Disk.image c.args.disk.now) c.plan.result refl (c.plan.ensures.comes (g.D.Disk.image c.args.disk.now)) h)
+
+pub returns-in-Tree-clause-reads : goal.returns-in-Tree-clause-reads
+returns-in-Tree-clause-reads g c =
+    subst (λ x. ReadsIn x c.args.self.now (g.D.Disk.image c.args.disk.now) c.tree.result (g.D.Disk.taken c.args.disk.now) (g.D.Disk.taken c.args.disk.now)) (sym c.in-Tree.is)
+    (reads_nothing command.Tree c.args.self.now (g.D.Disk.image c.args.disk.now) c.tree.result (g.D.Disk.taken c.args.disk.now) refl)
+
+pub returns-in-Tree-clause-store_read : goal.returns-in-Tree-clause-store_read
+returns-in-Tree-clause-store_read g c h =
+    absurd (fails_no_read command.Tree [] c.args.self.now (g.D.Disk.image c.args.disk.now) c.args.self.now (g.D.Disk.image c.args.disk.now) c.tree.result refl (c.tree.ensures.comes (g.D.Disk.image c.args.disk.now)) h)
+
+pub returns-in-Certify-clause-reads : goal.returns-in-Certify-clause-reads
+returns-in-Certify-clause-reads g c =
+    subst (λ x. ReadsIn x c.args.self.now (g.D.Disk.image c.args.disk.now) c.certify.result (g.D.Disk.taken c.args.disk.now) (g.D.Disk.taken c.args.disk.now)) (sym c.in-Certify.is)
+    (reads_nothing (command.Certify c.in-Certify.t c.in-Certify.cols c.in-Certify.count) c.args.self.now (g.D.Disk.image c.args.disk.now) c.certify.result (g.D.Disk.taken c.args.disk.now) refl)
+
+pub returns-in-Certify-clause-store_read : goal.returns-in-Certify-clause-store_read
+returns-in-Certify-clause-store_read g c h =
+    let comes = c.certify.ensures.comes (g.D.Disk.image c.args.disk.now) in
+    absurd (fails_no_read (command.Certify c.in-Certify.t c.in-Certify.cols c.in-Certify.count) comes.0 c.args.self.now (g.D.Disk.image c.args.disk.now) c.args.self.now (g.D.Disk.image c.args.disk.now) c.certify.result refl comes.2 h)
+
+pub returns-in-Create-clause-reads : goal.returns-in-Create-clause-reads
+returns-in-Create-clause-reads g c =
+    subst (λ x. ReadsIn x c.args.self.now (g.D.Disk.image c.args.disk.now) c.create.result (g.D.Disk.taken c.args.disk.now) (g.D.Disk.taken c.create.new.disk)) (sym c.in-Create.is)
+    (reads_freely (command.Create c.in-Create.l c.in-Create.k c.in-Create.function) c.args.self.now (g.D.Disk.image c.args.disk.now) c.create.result (g.D.Disk.taken c.args.disk.now) (g.D.Disk.taken c.create.new.disk) refl refl)
+
+pub returns-in-Create-clause-store_read : goal.returns-in-Create-clause-store_read
+returns-in-Create-clause-store_read g c h =
+    absurd (fails_no_read (command.Create c.in-Create.l c.in-Create.k c.in-Create.function) [] c.args.self.now (g.D.Disk.image c.args.disk.now) c.create.new.self (g.D.Disk.image c.create.new.disk) c.create.result refl c.create.ensures.comes h)
+
+pub returns-in-Load-clause-reads : goal.returns-in-Load-clause-reads
+returns-in-Load-clause-reads g c =
+    subst (λ x. ReadsIn x c.args.self.now (g.D.Disk.image c.args.disk.now) c.add.result (g.D.Disk.taken c.args.disk.now) (g.D.Disk.taken c.add.new.disk)) (sym c.in-Load.is)
+    (reads_freely (command.Load c.in-Load.count) c.args.self.now (g.D.Disk.image c.args.disk.now) c.add.result (g.D.Disk.taken c.args.disk.now) (g.D.Disk.taken c.add.new.disk) refl refl)
+
+pub returns-in-Load-clause-store_read : goal.returns-in-Load-clause-store_read
+returns-in-Load-clause-store_read g c h =
+    let comes = c.add.ensures.comes in
+    absurd (fails_no_read (command.Load c.in-Load.count) comes.0 c.args.self.now (g.D.Disk.image c.args.disk.now) c.add.new.self (g.D.Disk.image c.add.new.disk) c.add.result refl comes.2 h)
+
+pub returns-in-Append-clause-reads : goal.returns-in-Append-clause-reads
+returns-in-Append-clause-reads g c =
+    let r = c.add-in-Append in
+    subst (λ x. ReadsIn x c.args.self.now (g.D.Disk.image c.args.disk.now) r.result (g.D.Disk.taken c.args.disk.now) (g.D.Disk.taken r.new.disk)) (sym c.in-Append.is)
+    (reads_freely (command.Append c.in-Append.count) c.args.self.now (g.D.Disk.image c.args.disk.now) r.result (g.D.Disk.taken c.args.disk.now) (g.D.Disk.taken r.new.disk) refl refl)
+
+pub returns-in-Append-clause-store_read : goal.returns-in-Append-clause-store_read
+returns-in-Append-clause-store_read g c h =
+    let r = c.add-in-Append in
+    let comes = r.ensures.comes in
+    absurd (fails_no_read (command.Append c.in-Append.count) comes.0 c.args.self.now (g.D.Disk.image c.args.disk.now) r.new.self (g.D.Disk.image r.new.disk) r.result refl comes.2 h)
 
 pub returns-in-List-clause-comes : goal.returns-in-List-clause-comes
 returns-in-List-clause-comes g c =

@@ -1,5 +1,11 @@
-use Rattle.std.proofs.Common.{Err, ◌∙◌, ap}
+use Rattle.std.proofs.Common.{Err, sym, subst, ◌∙◌, ap}
 use Rattle.dg_io.specs.LinesState.{told}
+use Rattle.dg_machine.specs.declared.reply.Head.TheVariants as head
+use Rattle.dg_machine.specs.declared.reply.Reply.{Reply}
+use Rattle.dg_machine.specs.Run.{is_store_read}
+use Rattle.dg_session.specs.declared.halt.Halt.TheVariants as halt
+use Rattle.dg_session.specs.Reads.{Reads, head_of}
+use Rattle.dg_session.proofs.ReadsStep.{accepted_reads, reads_in_reply, store_read_is}
 use Rattle.dg_session.proofs.Steps.{answered, refused_so}
 use Rattle.dg_session.proofs.session.Session.step.Goals as goal
 use Rattle.dg_session.proofs.session.Session.step.Goals.{in-Ok, in-Err-Refusal, in-Err-Stop}
@@ -13,5 +19,33 @@ returns-clause-step g c =
       | in-Err-Refusal w ↦ rw w.result-is
           (refused_so c.args.command.now (told c.args.lines.now (g.S.Source.left c.args.source.now)) (told c.carry_out.new.lines (g.S.Source.left c.carry_out.new.source))
           c.args.self.now (g.D.Disk.image c.args.disk.now) c.carry_out.new.self (g.D.Disk.image c.carry_out.new.disk) c.carry_out.result w.in-Err-Refusal.refusal w.headed.result c.carry_out.ensures.comes (w.in-Err-Refusal.is ∙ ap (λ h. Err h) w.in-Err-Refusal.field-0-is) w.headed.ensures)
+      | in-Err-Stop w ↦ rw w.result-is tt
+    ]
+
+pub returns-clause-reads : goal.returns-clause-reads
+returns-clause-reads g c =
+    let p = c.args.self.now in
+    let image = g.D.Disk.image c.args.disk.now in
+    let before = g.D.Disk.taken c.args.disk.now in
+    let after = g.D.Disk.taken c.carry_out.new.disk in
+    elim c.match-carry_out.branch [
+      | in-Ok w ↦ rw w.result-is (reads_in_reply c.args.command.now p image c.carry_out.result w.in-Ok.reply.head before after (ap head_of w.in-Ok.is) c.carry_out.ensures.reads)
+      | in-Err-Refusal w ↦ rw w.result-is
+          (subst (λ (x : Reply). Reads c.args.command.now p image x.head before after) (sym w.headed.ensures)
+          (reads_in_reply c.args.command.now p image c.carry_out.result (head.Refused w.in-Err-Refusal.refusal) before after (ap head_of (w.in-Err-Refusal.is ∙ ap (λ h. Err h) w.in-Err-Refusal.field-0-is)) c.carry_out.ensures.reads))
+      | in-Err-Stop w ↦ rw w.result-is tt
+    ]
+
+pub returns-clause-store_read : goal.returns-clause-store_read
+returns-clause-store_read g c =
+    let p = c.args.self.now in
+    let comes = c.carry_out.ensures.comes in
+    elim c.match-carry_out.branch [
+      | in-Ok w ↦ rw w.result-is
+          (λ e. absurd (accepted_reads c.args.command.now comes.0 p (g.D.Disk.image c.args.disk.now) c.carry_out.new.self (g.D.Disk.image c.carry_out.new.disk) c.carry_out.result w.in-Ok.reply comes.2 w.in-Ok.is e))
+      | in-Err-Refusal w ↦ rw w.result-is
+          (λ e. c.carry_out.ensures.store_read
+          (w.in-Err-Refusal.is ∙ ap (λ h. Err h) w.in-Err-Refusal.field-0-is
+          ∙ ap (λ r. Err (halt.Refusal r)) (store_read_is w.in-Err-Refusal.refusal (ap (λ (x : Reply). is_store_read x.head) (sym w.headed.ensures) ∙ e))))
       | in-Err-Stop w ↦ rw w.result-is tt
     ]

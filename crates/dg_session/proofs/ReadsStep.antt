@@ -1,0 +1,84 @@
+-- Which commands read the file, and which reply says that a read failed.
+use Rattle.std.proofs.Common.{◌≡◌, ℕ, Bool, true, false, List, [], Option, Some, None, Result, Ok, Err, refl, sym, ◌∙◌, ap, subst}
+use Rattle.std.specs.Prelude.{IfSome}
+use Rattle.std.proofs.lemmas.Bool.{false≢true}
+use Rattle.dg_graph.specs.Lines.{ScriptLine}
+use Rattle.dg_machine.specs.declared.command.Command.{Command}
+use Rattle.dg_machine.specs.declared.reply.Head.{Head}
+use Rattle.dg_machine.specs.declared.reply.Head.TheVariants as head
+use Rattle.dg_machine.specs.declared.reply.Refusal.{Refusal}
+use Rattle.dg_machine.specs.declared.reply.Refusal.TheVariants as refusal
+use Rattle.dg_machine.specs.declared.reply.Reply.{Reply}
+use Rattle.dg_machine.specs.Answer.{headed, is_refusal}
+use Rattle.dg_machine.specs.Needs.{needs}
+use Rattle.dg_machine.specs.Run.{is_store_read}
+use Rattle.dg_session.proofs.Retrievals.{every_some}
+use Rattle.dg_session.specs.declared.halt.Halt.{Halt}
+use Rattle.dg_session.specs.declared.halt.Halt.TheVariants as halt
+use Rattle.dg_session.specs.Parts.{Parts}
+use Rattle.dg_session.specs.Reads.{Reads, ReadsIn, head_of, is_quiet}
+use Rattle.dg_session.specs.Session.{Accepts, ComesTo, Denies}
+
+-- ---- bytes
+
+-- of a command that writes, and reads no records, nothing is said
+pub reads_freely : (c : Command) (p : Parts) (image : Option (List ℕ)) (r : Result Reply Halt) (before after : ℕ) → (needs c).reads ≡ false → is_quiet c ≡ false → ReadsIn c p image r before after
+reads_freely c p image r before after no_reads writes =
+    every_some (head_of r) (λ h. Reads c p image h before after)
+    (λ h. record { told = λ e. absurd (false≢true (sym no_reads ∙ e)); nothing = λ e. absurd (false≢true (sym writes ∙ e)) })
+
+-- one that reads no records has read nothing
+pub reads_nothing : (c : Command) (p : Parts) (image : Option (List ℕ)) (r : Result Reply Halt) (count : ℕ) → (needs c).reads ≡ false → ReadsIn c p image r count count
+reads_nothing c p image r count no_reads =
+    every_some (head_of r) (λ h. Reads c p image h count count) (λ h. record { told = λ e. absurd (false≢true (sym no_reads ∙ e)); nothing = λ e. refl })
+
+-- the reply, where there is one
+pub reads_in_reply : (c : Command) (p : Parts) (image : Option (List ℕ)) (r : Result Reply Halt) (h : Head) (before after : ℕ) → head_of r ≡ Some h → ReadsIn c p image r before after → Reads c p image h before after
+reads_in_reply c p image r h before after is reads = subst (λ (o : Option Head). IfSome o (λ x. Reads c p image x before after)) is reads
+
+-- ---- a failed read
+
+-- a command that reads no records is not refused for a failed read
+pub fails_no_read : (c : Command) (got : List ScriptLine) (p : Parts) (before : Option (List ℕ)) (q : Parts) (after : Option (List ℕ)) (r : Result Reply Halt) → (needs c).reads ≡ false
+    → ComesTo c got p before q after r → r ≡ Err (halt.Refusal refusal.StoreRead) → ⊥
+fails_no_read c got p before q after r no_reads comes is =
+    let d : Denies c got p before q after refusal.StoreRead = subst (ComesTo c got p before q after) is comes in
+    false≢true (sym no_reads ∙ d.reads refl)
+
+store_read_refuses : (h : Head) → is_refusal h ≡ false → is_store_read h ≡ true → ⊥
+store_read_refuses (head.Refused _) accepts e = false≢true (sym accepts)
+store_read_refuses head.Created accepts e = false≢true e
+store_read_refuses (head.Loaded _ _ _) accepts e = false≢true e
+store_read_refuses (head.Appended _ _ _) accepts e = false≢true e
+store_read_refuses (head.At _ _) accepts e = false≢true e
+store_read_refuses (head.Several _ _) accepts e = false≢true e
+store_read_refuses (head.List _ _) accepts e = false≢true e
+store_read_refuses (head.Plan _ _) accepts e = false≢true e
+store_read_refuses (head.Certified _) accepts e = false≢true e
+store_read_refuses (head.Tree _ _ _ _ _ _) accepts e = false≢true e
+
+-- a reply that is no refusal does not say that a read failed
+pub accepted_reads : (c : Command) (got : List ScriptLine) (p : Parts) (before : Option (List ℕ)) (q : Parts) (after : Option (List ℕ)) (r : Result Reply Halt) (reply : Reply)
+    → ComesTo c got p before q after r → r ≡ Ok reply → is_store_read reply.head ≡ true → ⊥
+accepted_reads c got p before q after r reply comes is e =
+    let a : Accepts c got p before q after reply = subst (ComesTo c got p before q after) is comes in
+    store_read_refuses reply.head a.accepted e
+
+-- the refusal of a reply that says so
+pub store_read_is : (r : Refusal) → is_store_read (head.Refused r) ≡ true → r ≡ refusal.StoreRead
+store_read_is refusal.StoreRead e = refl
+store_read_is (refusal.Syntax column) e = absurd (false≢true e)
+store_read_is refusal.NoIndex e = absurd (false≢true e)
+store_read_is refusal.IndexExists e = absurd (false≢true e)
+store_read_is refusal.Parameters e = absurd (false≢true e)
+store_read_is (refusal.ShortBatch read count) e = absurd (false≢true e)
+store_read_is (refusal.BadChange line reason) e = absurd (false≢true e)
+store_read_is (refusal.OutOfRange ends) e = absurd (false≢true e)
+store_read_is (refusal.UnknownHandle handle) e = absurd (false≢true e)
+store_read_is (refusal.PoolFull live asked) e = absurd (false≢true e)
+store_read_is (refusal.HistoryFull held more) e = absurd (false≢true e)
+store_read_is (refusal.FileFull needed limit) e = absurd (false≢true e)
+store_read_is (refusal.Damaged key column) e = absurd (false≢true e)
+store_read_is refusal.OutOfMemory e = absurd (false≢true e)
+store_read_is refusal.LineLong e = absurd (false≢true e)
+store_read_is refusal.AlreadyLoaded e = absurd (false≢true e)

@@ -1,0 +1,396 @@
+-- What a retrieval gives of the state that a session stands for, and how its answer is a step of the machine.
+use Rattle.std.proofs.Common.{◌≡◌, ◌⊎◌, ⊎_elim, ℕ, suc, ◌+◌, ◌≤◌, ◌<◌, Bool, true, false, not, List, [], ◌∷◌, ◌++◌, Option, Some, None, Err, length, map, refl, sym, ◌∙◌, ap, subst, arith, rules, nat_lt, append_assoc}
+use Rattle.std.specs.Prelude.{IfErr, IfOk, IfSome, Result, Ok, is_some, ◌||◌, ◌&&◌}
+use Rattle.std.specs.List.{All, Contains, list_any}
+use Rattle.std.proofs.lemmas.Bool.{false≢true}
+use Rattle.std.proofs.lemmas.List.{append-nil, length-map}
+use Rattle.std.proofs.lemmas.List.Elements.{All-cons, All-head, All-nil, All-tail}
+use borrow.Author.Tests.{le-ltb, lt-ltb, ltb-false}
+use Rattle.dg_fold.specs.BytesRead.{Takes, TakesAtMost}
+use Rattle.dg_graph.specs.declared.element.Column.{Column}
+use Rattle.dg_graph.specs.declared.element.Columns.{Columns}
+use Rattle.dg_graph.specs.declared.element.Element.{Element}
+use Rattle.dg_graph.specs.declared.event.Event.{Event}
+use Rattle.dg_graph.specs.Lines.{ScriptLine}
+use Rattle.dg_graph.specs.Replay.{replay}
+use Rattle.dg_history.specs.declared.node.Key.{Key}
+use Rattle.dg_history.specs.declared.node.NodeId.{NodeId}
+use Rattle.dg_history.specs.declared.node.NodeId.TheVariants.{Root}
+use Rattle.dg_history.specs.History.{History, events_of, in_range, names_of, span_of}
+use Rattle.dg_index.specs.IndexRecords.{recent_of}
+use Rattle.dg_index.specs.OpenedIndex.{Opening}
+use Rattle.dg_machine.specs.declared.command.Command.{Command}
+use Rattle.dg_machine.specs.declared.limits.TheConstants.{LIVE_HANDLES_MAX}
+use Rattle.dg_machine.specs.declared.reply.Head.{Head}
+use Rattle.dg_machine.specs.declared.reply.Head.TheVariants as head
+use Rattle.dg_machine.specs.declared.reply.Refusal.{Refusal}
+use Rattle.dg_machine.specs.declared.reply.Refusal.TheVariants as refusal
+use Rattle.dg_machine.specs.declared.reply.Reply.{Reply}
+use Rattle.dg_machine.specs.declared.stands.Stands.{Stands}
+use Rattle.dg_machine.specs.declared.stands.Stands.TheVariants.{Overlay}
+use Rattle.dg_machine.specs.Answer.{Answered, IsPlannedBy, accepted, answer, is_refusal, overlays, weight_told, with_handle, with_handles}
+use Rattle.dg_machine.specs.MachineState.{MachineState, elements, history_in}
+use Rattle.dg_machine.specs.Needs.{earliest, needs, refused, when}
+use Rattle.dg_machine.specs.Planning.{IsPlanned, Planned, edges_in, point_for, points_for}
+use Rattle.dg_plan.specs.declared.edge.Edge.{Edge}
+use Rattle.dg_plan.specs.IndexGraph.{arcs_of}
+use Rattle.dg_plan.specs.InstantPoint.{point}
+use Rattle.dg_plan.specs.Walks.{AreSingles}
+use Rattle.dg_graph.specs.Replay.{events_until}
+use Rattle.dg_file.specs.Index.{IndexState}
+use Rattle.dg_retrieval.specs.declared.retrieval.Retrieved.{Retrieved}
+use Rattle.dg_retrieval.specs.declared.fault.RetrievalFault.{RetrievalFault}
+use Rattle.dg_retrieval.specs.declared.fault.RetrievalFault.TheVariants as retrieval_fault
+use Rattle.dg_retrieval.specs.KeptGraph.{kept_edges, kept_nodes}
+use Rattle.dg_retrieval.specs.Retrieval.{ArePoints, IsNoDamage, IsOver, IsTreeOf, TakesAtMostTree, graphs_at}
+use Rattle.dg_session.proofs.PlanStep.{edges_are, params_are, point_is}
+use Rattle.dg_session.proofs.PointNodes.{most_until, point_there, some_until}
+use Rattle.dg_session.proofs.StandsFor.{events_there, handle_taken, miss, is_of, last_passes, not_false, one_image, one_told, passes, refused_is}
+use Rattle.dg_session.proofs.Steps.{accepted_is, accepted_steps, failing_denies, lacking_denies}
+use Rattle.dg_session.specs.declared.halt.Halt.TheVariants as halt
+use Rattle.dg_session.specs.Halt.{retrieval_halt}
+use Rattle.dg_session.specs.contracts.session.Session.{the_view}
+use Rattle.dg_session.specs.declared.session.Session.TheInside.{Inside}
+use Rattle.dg_session.specs.SessionStart.{index_opening}
+use Rattle.dg_session.specs.Parts.{Parts}
+use Rattle.dg_session.specs.declared.stop.Stop.{Stop}
+use Rattle.dg_session.specs.Reads.{IsRetrieved, Reads, ReadsAsTold, ReadsIn, new_entries, points_over, with_entries}
+use Rattle.dg_session.specs.Session.{Accepts, ComesTo, IsHeldBy, Moves, StandsFor, WhereBothTold, is_reached, refused_by, retrieval_needs}
+
+-- ---- what is refused
+
+-- the instant is not in the history of these events
+abbrev pub is_out : List Event → ℕ → Bool
+is_out events t = not (in_range (span_of events) t)
+
+-- what a retrieval that is not refused finds: an index, instants that are in its history, and room for the handles
+pub retrieval_free : (p : Parts) (times : List ℕ) → 1 ≤ length times → refused_by p 0 (retrieval_needs times (length times)) ≡ None
+    → (is_some p.index ≡ true) × (list_any (is_out p.events) times ≡ false) × (length p.table + length times ≤ LIVE_HANDLES_MAX)
+retrieval_free p times some none =
+    let a = passes (not (is_some p.index)) refusal.NoIndex _ none in
+    let b = passes (list_any (is_out p.events) times) (refusal.OutOfRange (span_of p.events)) _ a.1 in
+    let c = last_passes (nat_lt 0 (length times) && nat_lt LIVE_HANDLES_MAX (length p.table + length times)) (refusal.PoolFull (length p.table) (length times)) b.1 in
+    let d : nat_lt LIVE_HANDLES_MAX (length p.table + length times) ≡ false = ap (λ x. x && nat_lt LIVE_HANDLES_MAX (length p.table + length times)) (sym (lt-ltb 0 (length times) some)) ∙ c in
+    (not_false (is_some p.index) a.0, b.0, omega (arith, ltb-false LIVE_HANDLES_MAX (length p.table + length times) d))
+
+-- the first that holds of them is that the pool is full
+pub pool_refused : (p : Parts) (times : List ℕ) (live : ℕ) → is_some p.index ≡ true → list_any (is_out p.events) times ≡ false → live ≡ length p.table → live ≤ LIVE_HANDLES_MAX
+    → LIVE_HANDLES_MAX < live + length times → refused_by p 0 (retrieval_needs times (length times)) ≡ Some (refusal.PoolFull live (length times))
+pool_refused p times live there out live_is most full =
+    let n : ℕ = length times in
+    let many : nat_lt LIVE_HANDLES_MAX (length p.table + n) ≡ true = lt-ltb LIVE_HANDLES_MAX (length p.table + n) (omega (arith, live_is, full)) in
+    let some : nat_lt 0 n ≡ true = lt-ltb 0 n (omega (arith, most, full)) in
+    miss (not (is_some p.index)) refusal.NoIndex _ (ap (λ b. not b) there)
+    ∙ miss (list_any (is_out p.events) times) (refusal.OutOfRange (span_of p.events)) _ out
+    ∙ ap (λ b. earliest (when (b && nat_lt LIVE_HANDLES_MAX (length p.table + n)) (refusal.PoolFull (length p.table) n))) some
+    ∙ ap (λ b. earliest (when b (refusal.PoolFull (length p.table) n))) many ∙ ap (λ k. Some (refusal.PoolFull k n)) (sym live_is)
+
+-- none holds
+pub nothing_refused : (p : Parts) (times : List ℕ) → is_some p.index ≡ true → list_any (is_out p.events) times ≡ false → length p.table + length times ≤ LIVE_HANDLES_MAX
+    → refused_by p 0 (retrieval_needs times (length times)) ≡ None
+nothing_refused p times there out room =
+    let n : ℕ = length times in
+    miss (not (is_some p.index)) refusal.NoIndex _ (ap (λ b. not b) there)
+    ∙ miss (list_any (is_out p.events) times) (refusal.OutOfRange (span_of p.events)) _ out
+    ∙ ap (λ b. earliest (when (nat_lt 0 n && b) (refusal.PoolFull (length p.table) n))) (le-ltb LIVE_HANDLES_MAX (length p.table + n) room) ∙ never (nat_lt 0 n)
+  where
+    never : (b : Bool) → earliest (when (b && false) (refusal.PoolFull (length p.table) (length times))) ≡ None
+    never true = refl
+    never false = refl
+
+pub there_is : (i : Option Opening) → is_some i ≡ true → (o : Opening) × (i ≡ Some o)
+there_is None h = absurd (false≢true h)
+there_is (Some o) h = (o, refl)
+
+-- ---- the instants
+
+or_left : (a b : Bool) → (a || b) ≡ false → a ≡ false
+or_left true b h = sym (sym h)
+or_left false b h = refl
+
+or_right : (a b : Bool) → (a || b) ≡ false → b ≡ false
+or_right true b h = absurd (false≢true (sym h))
+or_right false b h = h
+
+-- what holds of each instant that is not out holds of all of them
+pub each_in : {A : Type 0} (out : ℕ → Bool) (P : A → Type 0) (f : ℕ → A) (times : List ℕ) → ((t : ℕ) → out t ≡ false → P (f t)) → list_any out times ≡ false → All P (map f times)
+each_in out P f [] each h = All-nil P
+each_in out P f (t ∷ times) each h =
+    All-cons P (f t) (map f times) (each t (or_left (out t) (list_any out times) h)) (each_in out P f times each (or_right (out t) (list_any out times) h))
+
+-- the points of instants that are in the history are nodes of the graph
+pub points_there : (o : Opening) (events : List Event) (cols : Columns) (times : List ℕ) → 0 < o.params.l → list_any (is_out events) times ≡ false
+    → All (Contains (kept_nodes o (length events) cols)) (points_over o events times)
+points_there o events cols times wide =
+    each_in (is_out events) (Contains (kept_nodes o (length events) cols)) (λ t. point o.params events t) times
+    (λ t h.
+    let some = some_until events t (not_false (in_range (span_of events) t) h) in
+    let most = most_until events t in
+    point_there o (length events) cols wide (omega (arith, some, most)) (length (events_until events t)) some most)
+
+-- ---- the state that the session stands for
+
+module _ (p : Parts) (o : Opening) (image : List ℕ) (m : MachineState) (there : p.index ≡ Some o) (s : StandsFor p image m) where
+  abbrev pub z_of : History
+  z_of = (is_of p o image m there s).0
+
+  points_are : (times : List ℕ) → points_over o p.events times ≡ points_for m times
+  points_are times = λ i. map (λ t. point_is p o image m there s t i) times
+
+  -- the image stands for its history, and what is in memory is of that history
+  pub is_over : (graph : List Element) → graph ≡ replay p.events → IsOver z_of image o (length p.names) graph (recent_of o.params p.events)
+  is_over graph is = record {
+    stands = (is_of p o image m there s).1.stands;
+    opened = (is_of p o image m there s).1.opened;
+    names = ap length (is_of p o image m there s).1.names;
+    now = is ∙ ap replay (is_of p o image m there s).1.events;
+    recent = λ i. recent_of (params_are p o image m there s i) ((is_of p o image m there s).1.events i);
+  }
+
+  pub at_points : (times : List ℕ) → ArePoints z_of (points_over o p.events times) times
+  at_points times = λ i. map (λ t. point (params_are p o image m there s i) ((is_of p o image m there s).1.events i) t) times
+
+  mapped : (times : List ℕ) (cols : Columns) → graphs_at z_of times cols ≡ map (elements z_of) (overlays cols times)
+  mapped [] cols = refl
+  mapped (t ∷ times) cols = λ i. elements z_of (Overlay t cols None) ∷ mapped times cols i
+
+  -- the graphs as of the instants are those that new handles list
+  listed : (times : List ℕ) (cols : Columns) → graphs_at z_of times cols ≡ map (elements (history_in m.index)) (overlays cols times)
+  listed times cols =
+      mapped times cols ∙ sym (ap (λ (i : Option History). map (elements (history_in i)) (overlays cols times)) (is_of p o image m there s).1.index)
+
+  pub is_retrieved : (times : List ℕ) (cols : Columns) (weight : ℕ) (singles : List ℕ) (graphs : List (List Element))
+      → IsTreeOf (kept_edges o (length p.events) cols) (points_over o p.events times) weight
+      → AreSingles (arcs_of (kept_edges o (length p.events) cols)) (Root ∷ []) (points_over o p.events times) singles
+      → graphs ≡ graphs_at z_of times cols → IsRetrieved m times cols weight singles graphs
+  is_retrieved times cols weight singles graphs tree plans graphs_are = record {
+    tree = subst (λ (ns : List NodeId). IsTreeOf (edges_in m cols) ns weight) (points_are times) (subst (λ (es : List Edge). IsTreeOf es (points_over o p.events times) weight) (edges_are p o image m there s cols) tree);
+    single_plans =
+        subst (λ (ns : List NodeId). AreSingles (arcs_of (edges_in m cols)) (Root ∷ []) ns singles) (points_are times)
+        (subst (λ (es : List Edge). AreSingles (arcs_of es) (Root ∷ []) (points_over o p.events times) singles) (edges_are p o image m there s cols) plans);
+    listed = graphs_are ∙ listed times cols;
+  }
+
+-- ---- new handles
+
+pub few_entries : (next : ℕ) (stands : List Stands) (graphs : List (List Element)) → length (new_entries next stands graphs) ≤ length stands
+few_entries next [] graphs = omega arith
+few_entries next (x ∷ stands) [] = omega arith
+few_entries next (x ∷ stands) (g ∷ graphs) = let h = few_entries (next + 1) stands graphs in omega (arith, h)
+
+-- there is an entry for each instant at most
+pub entry_count : (next : ℕ) (cols : Columns) (times : List ℕ) (graphs : List (List Element)) (entries : List ((ℕ × Stands) × List Element)) → entries ≡ new_entries next (overlays cols times) graphs → length entries ≤ length times
+entry_count next cols times graphs entries is =
+    let few = few_entries next (overlays cols times) graphs in
+    let count : length (overlays cols times) ≡ length times = length-map times (λ t. Overlay t cols None) in
+    omega (arith, few, count, ap length is)
+
+pub handles_taken : (p q : Parts) (image : List ℕ) (m : MachineState) (all : List Stands) → StandsFor p image m → is_some p.index ≡ true
+    → All (λ (x : Stands). is_reached (history_in m.index) x ≡ true) all → q ≡ with_entries p (new_entries p.next all (map (elements (history_in m.index)) all))
+    → StandsFor q image (with_handles m all)
+handles_taken p q image m [] s there reached is = subst (λ (x : Parts). StandsFor x image m) (sym (is ∙ same)) s
+  where
+    no_more : p.next + 0 ≡ p.next
+    no_more = omega arith
+
+    same : with_entries p [] ≡ p
+    same = λ i. record p { table = append-nil p.table i; graphs = append-nil p.graphs i; next = no_more i }
+handles_taken p q image m (x ∷ all) s there reached is =
+    handles_taken one q image (with_handle m x) all
+    (handle_taken p one image m x graph s there (All-head reaches x all reached) refl refl)
+    there (All-tail reaches x all reached) (is ∙ same)
+  where
+    reaches : Stands → Type 0
+    reaches y = is_reached (history_in m.index) y ≡ true
+
+    graph : List Element
+    graph = elements (history_in m.index) x
+
+    one : Parts
+    one = record p { table = p.table ++ (p.next, x) ∷ []; graphs = p.graphs ++ graph ∷ []; next = p.next + 1 }
+
+    more : List ((ℕ × Stands) × List Element)
+    more = new_entries (p.next + 1) all (map (elements (history_in m.index)) all)
+
+    count : p.next + suc (length more) ≡ p.next + 1 + length more
+    count = omega arith
+
+    same : with_entries p (((p.next, x), graph) ∷ more) ≡ with_entries one more
+    same = λ i. record p {
+      table = sym (append_assoc p.table ((p.next, x) ∷ []) (map (λ e. e.0) more)) i;
+      graphs = sym (append_assoc p.graphs (graph ∷ []) (map (λ e. e.1) more)) i;
+      next = count i;
+    }
+
+-- the instants of a retrieval that is not refused are in the history
+pub instants_reached : (p : Parts) (image : List ℕ) (m : MachineState) (times : List ℕ) (cols : Columns) → StandsFor p image m → list_any (is_out p.events) times ≡ false
+    → All (λ (x : Stands). is_reached (history_in m.index) x ≡ true) (overlays cols times)
+instants_reached p image m times cols s =
+    each_in (is_out p.events) (λ (x : Stands). is_reached (history_in m.index) x ≡ true) (λ t. Overlay t cols None) times
+    (λ t h. ap (λ (es : List Event). in_range (span_of es) t) (events_there m.index ∙ sym s.events) ∙ not_false (in_range (span_of p.events) t) h)
+
+-- the state that the session stands for with the new handles
+pub handles_stand : (p q : Parts) (x y : List ℕ) (m : MachineState) (times : List ℕ) (cols : Columns) (weight : ℕ) (singles : List ℕ) (graphs : List (List Element))
+    → StandsFor p x m → x ≡ y → 1 ≤ length times → refused_by p 0 (retrieval_needs times (length times)) ≡ None → IsRetrieved m times cols weight singles graphs
+    → q ≡ with_entries p (new_entries p.next (overlays cols times) graphs) → StandsFor q y (with_handles m (overlays cols times))
+handles_stand p q x y m times cols weight singles graphs s same some none r is =
+    let free = retrieval_free p times some none in
+    handles_taken p q y m (overlays cols times) (subst (λ image. StandsFor p image m) same s) free.0 (instants_reached p x m times cols s free.1)
+    (is ∙ ap (λ gs. with_entries p (new_entries p.next (overlays cols times) gs)) r.listed)
+
+-- ---- the step
+
+-- a reply of a command that is not refused, by what is planned for it in the state, and the state that the session then stands for
+pub moved_with : (c : Command) (old new : Parts) (before after : Option (List ℕ)) (reply : Reply) → refused_by old 0 (needs c) ≡ None
+    → ((m : MachineState) (x y : List ℕ) → before ≡ Some x → after ≡ Some y → StandsFor old x m
+    → (plan : Planned) × (k : MachineState) × IsPlanned m c plan × (accepted m c [] plan ≡ record { reply = reply; state = k }) × StandsFor new y k)
+    → WhereBothTold before after (λ x y. Moves c [] old x new y reply)
+moved_with c old new before after reply none step x y a b m s =
+    let free : refused m c [] ≡ None = sym (refused_is old x m c [] s) ∙ none in
+    let k = step m x y a b s in
+    (k.1, accepted_steps m c [] k.0 (record { reply = reply; state = k.1 }) free k.2 (accepted_is m c [] k.0 (record { reply = reply; state = k.1 }) free k.3), k.4)
+
+-- a retrieval that gives new handles
+pub retrieval_accepted : (c : Command) (p q : Parts) (before after : Option (List ℕ)) (entries : List ((ℕ × Stands) × List Element)) (reply : Reply)
+    → WhereBothTold before after (λ x y. Moves c [] p x q y reply) → is_refusal reply.head ≡ false → after ≡ before → q ≡ with_entries p entries
+    → Accepts c [] p before q after reply
+retrieval_accepted c p q before after entries reply moves accepts same is = record {
+  moves = moves;
+  accepted = accepts;
+  held = λ h. subst (λ (x : Parts). IfSome after (λ image. IsHeldBy x.index x.names image)) (sym is) (subst (λ (o : Option (List ℕ)). IfSome o (λ image. IsHeldBy p.index p.names image)) (sym same) h);
+  no_index = λ h. (ap (λ (x : Parts). x.index) (sym is) ∙ h, same);
+  quiet = λ h. same;
+}
+
+no_damage : (key : Key) (col : Column) → IsNoDamage (retrieval_fault.Damaged key col) → ⊥
+no_damage key col h = ⊎_elim (λ (e : retrieval_fault.Damaged key col ≡ retrieval_fault.Disk). absurd cc) (λ (e : retrieval_fault.Damaged key col ≡ retrieval_fault.Memory). absurd cc) h
+
+-- a retrieval that fails is refused by a failed read or by want of memory, since an image of a history is not damaged
+pub retrieval_failed : (c : Command) (p q : Parts) (before after : Option (List ℕ)) (f : RetrievalFault) → (needs c).memory ≡ true → (needs c).reads ≡ true → refused_by p 0 (needs c) ≡ None
+    → q ≡ p → after ≡ before → IfSome before (λ image. (m : MachineState) → StandsFor p image m → IsNoDamage f) → ComesTo c [] p before q after (Err (retrieval_halt f))
+retrieval_failed c p q before after retrieval_fault.Disk memory reads none same same_image never = failing_denies c [] p q before after same same_image reads none
+retrieval_failed c p q before after retrieval_fault.Memory memory reads none same same_image never = lacking_denies c [] p q before after same same_image memory none
+retrieval_failed c p q before after (retrieval_fault.Damaged key col) memory reads none same same_image never = record {
+  moves = λ x y a b m s. absurd (no_damage key col (one_told before (λ image. (k : MachineState) → StandsFor p image k → IsNoDamage (retrieval_fault.Damaged key col)) x never a m s));
+  as_before = record { same = same; same_image = same_image };
+  reads = λ h. reads;
+}
+
+pub no_stop_failed : (f : RetrievalFault) (s : Stop) → retrieval_halt f ≡ halt.Stop s → ⊥
+no_stop_failed retrieval_fault.Disk s h = cc
+no_stop_failed retrieval_fault.Memory s h = cc
+no_stop_failed (retrieval_fault.Damaged key col) s h = cc
+
+-- the refusal of a failed read comes from a failed read
+pub read_failed : (f : RetrievalFault) → retrieval_halt f ≡ halt.Refusal refusal.StoreRead → f ≡ retrieval_fault.Disk
+read_failed retrieval_fault.Disk h = refl
+read_failed retrieval_fault.Memory h = absurd cc
+read_failed (retrieval_fault.Damaged key col) h = absurd cc
+
+-- ---- the bytes read
+
+pub if_some : {A : Type 0} (o : Option A) (P Q : A → Type 0) → ((x : A) → P x → Q x) → IfSome o P → IfSome o Q
+if_some None P Q f h = tt
+if_some (Some x) P Q f h = f x h
+
+pub every_some : {A : Type 0} (o : Option A) (P : A → Type 0) → ((x : A) → P x) → IfSome o P
+every_some None P f = tt
+every_some (Some x) P f = f x
+
+-- a command that reads and fails has read at most what its answer would tell
+pub reads_failed : (c : Command) (p : Parts) (image : Option (List ℕ)) (h : Head) (before after : ℕ) → (needs c).reads ≡ true → is_refusal h ≡ true
+    → ((got : List ScriptLine) → refused_by p (length got) (needs c) ≡ None)
+    → IfSome image (λ bytes. (m : MachineState) → StandsFor p bytes m → (got : List ScriptLine) (plan : Planned) → IsPlanned m c plan → TakesAtMost (weight_told (accepted m c got plan).reply.head) before after)
+    → Reads c p image h before after
+reads_failed c p image h before after reads refuses none most = record {
+  told = λ e. if_some image (λ x. (m : MachineState) → StandsFor p x m → (got : List ScriptLine) (plan : Planned) → IsPlanned m c plan → TakesAtMost (weight_told (accepted m c got plan).reply.head) before after) _
+      (λ x t m s got.
+      let free : refused m c got ≡ None = sym (refused_is p x m c got s) ∙ none got in
+      subst (λ b. ReadsAsTold b m c got h before after) (sym refuses)
+      (λ plan planned.
+      subst (λ (a : Answered). TakesAtMost (weight_told a.reply.head) before after) (sym (accepted_is m c got plan (accepted m c got plan) free refl))
+      (t m s got plan (subst (λ (o : Option Refusal). IsPlannedBy o m c plan) free planned)))) most;
+  nothing = λ q. absurd (false≢true (sym (ap (λ b. not b && not (needs c).writes) reads) ∙ q));
+}
+
+-- whatever the fault is
+pub reads_failing : (c : Command) (p : Parts) (image : Option (List ℕ)) (f : RetrievalFault) (before after : ℕ) → ((h : Head) → is_refusal h ≡ true → Reads c p image h before after)
+    → ReadsIn c p image (Err (retrieval_halt f)) before after
+reads_failing c p image retrieval_fault.Disk before after each = each (head.Refused refusal.StoreRead) refl
+reads_failing c p image retrieval_fault.Memory before after each = each (head.Refused refusal.OutOfMemory) refl
+reads_failing c p image (retrieval_fault.Damaged key col) before after each = each (head.Refused (refusal.Damaged key col)) refl
+
+-- ---- a retrieval over what the session has in memory
+
+-- the index, the number of names, the current graph and the events are the session's
+pub record IsSession (p : Parts) (o : Opening) (names : ℕ) (graph : List Element) (events : List Event) : Type 0 where
+  pub there : p.index ≡ Some o
+  pub count : names ≡ length p.names
+  pub current : graph ≡ replay p.events
+  pub all : events ≡ p.events
+
+pub is_session : (p : Parts) (s : Inside) (index : IndexState) (names : ℕ) (events : List Event) → the_view s ≡ p → s.history.index ≡ Some index → s.history.now.graph ≡ replay s.history.events.items
+    → names ≡ length s.history.names → events ≡ s.history.events.items → IsSession p index.opening names s.history.now.graph events
+is_session p s index names events view there graph count all = record {
+  there = sym (ap (λ (x : Parts). x.index) view) ∙ ap index_opening there;
+  count = count ∙ ap (λ (x : Parts). length x.names) view;
+  current = graph ∙ ap (λ (x : Parts). replay x.events) view;
+  all = all ∙ ap (λ (x : Parts). x.events) view;
+}
+
+module _ (p : Parts) (o : Opening) (names : ℕ) (graph : List Element) (events : List Event) (is : IsSession p o names graph events) where
+  over_session : (image : List ℕ) (m : MachineState) (s : StandsFor p image m) → IsOver (z_of p o image m is.there s) image o names graph (recent_of o.params events)
+  over_session image m s =
+      subst (λ es. IsOver (z_of p o image m is.there s) image o names graph (recent_of o.params es)) (sym is.all)
+      (subst (λ n. IsOver (z_of p o image m is.there s) image o n graph (recent_of o.params p.events)) (sym is.count) (is_over p o image m is.there s graph is.current))
+
+  points_of_session : (image : List ℕ) (m : MachineState) (s : StandsFor p image m) (times : List ℕ) → ArePoints (z_of p o image m is.there s) (points_over o events times) times
+  points_of_session image m s times = ap (λ es. points_over o es times) is.all ∙ at_points p o image m is.there s times
+
+pub retrieved_over : (p : Parts) (o : Opening) (times : List ℕ) (cols : Columns) (told : Option (List ℕ)) (names : ℕ) (graph : List Element) (events : List Event) (r : Result Retrieved RetrievalFault)
+    → IsSession p o names graph events
+    → IfOk r (λ x. IsTreeOf (kept_edges o (length events) cols) (points_over o events times) x.weight)
+    → IfOk r (λ x. AreSingles (arcs_of (kept_edges o (length events) cols)) (Root ∷ []) (points_over o events times) x.singles.items)
+    → IfOk r (λ x. IfSome told (λ image. (z : History) → IsOver z image o names graph (recent_of o.params events) → ArePoints z (points_over o events times) times → x.graphs.items ≡ graphs_at z times cols))
+    → IfOk r (λ x. IfSome told (λ image. (m : MachineState) → StandsFor p image m → IsRetrieved m times cols x.weight x.singles.items x.graphs.items))
+retrieved_over p o times cols told names graph events (Err f) is tree singles graphs = tt
+retrieved_over p o times cols told names graph events (Ok x) is tree singles graphs =
+    if_some told (λ image. (z : History) → IsOver z image o names graph (recent_of o.params events) → ArePoints z (points_over o events times) times → x.graphs.items ≡ graphs_at z times cols)
+    (λ image. (m : MachineState) → StandsFor p image m → IsRetrieved m times cols x.weight x.singles.items x.graphs.items)
+    (λ image f m s.
+    is_retrieved p o image m is.there s times cols x.weight x.singles.items x.graphs.items
+    (subst (λ es. IsTreeOf (kept_edges o (length es) cols) (points_over o es times) x.weight) is.all tree)
+    (subst (λ es. AreSingles (arcs_of (kept_edges o (length es) cols)) (Root ∷ []) (points_over o es times) x.singles.items) is.all singles)
+    (f (z_of p o image m is.there s) (over_session p o names graph events is image m s) (points_of_session p o names graph events is image m s times))) graphs
+
+pub taken_over : (p : Parts) (o : Opening) (told : Option (List ℕ)) (names : ℕ) (graph : List Element) (events : List Event) (r : Result Retrieved RetrievalFault) (before after : ℕ)
+    → IsSession p o names graph events
+    → IfOk r (λ x. IfSome told (λ image. (z : History) → IsOver z image o names graph (recent_of o.params events) → Takes x.weight before after))
+    → IfOk r (λ x. IfSome told (λ image. (m : MachineState) → StandsFor p image m → Takes x.weight before after))
+taken_over p o told names graph events (Err f) before after is takes = tt
+taken_over p o told names graph events (Ok x) before after is takes =
+    if_some told (λ image. (z : History) → IsOver z image o names graph (recent_of o.params events) → Takes x.weight before after)
+    (λ image. (m : MachineState) → StandsFor p image m → Takes x.weight before after)
+    (λ image f m s. f (z_of p o image m is.there s) (over_session p o names graph events is image m s)) takes
+
+pub most_read : (p : Parts) (o : Opening) (times : List ℕ) (cols : Columns) (told : Option (List ℕ)) (names : ℕ) (graph : List Element) (events : List Event) (before after : ℕ)
+    → IsSession p o names graph events
+    → IfSome told (λ image. (z : History) → IsOver z image o names graph (recent_of o.params events) → TakesAtMostTree (kept_edges o (length events) cols) (points_over o events times) before after)
+    → IfSome told (λ image. (m : MachineState) → StandsFor p image m → TakesAtMostTree (edges_in m cols) (points_for m times) before after)
+most_read p o times cols told names graph events before after is most =
+    if_some told (λ image. (z : History) → IsOver z image o names graph (recent_of o.params events) → TakesAtMostTree (kept_edges o (length events) cols) (points_over o events times) before after)
+    (λ image. (m : MachineState) → StandsFor p image m → TakesAtMostTree (edges_in m cols) (points_for m times) before after)
+    (λ image f m s.
+    subst (λ (ns : List NodeId). TakesAtMostTree (edges_in m cols) ns before after) (points_are p o image m is.there s times)
+    (subst (λ (es : List Edge). TakesAtMostTree es (points_over o p.events times) before after) (edges_are p o image m is.there s cols)
+    (subst (λ es. TakesAtMostTree (kept_edges o (length es) cols) (points_over o es times) before after) is.all (f (z_of p o image m is.there s) (over_session p o names graph events is image m s))))) most
+
+pub never_damaged : (p : Parts) (o : Opening) (times : List ℕ) (told : Option (List ℕ)) (names : ℕ) (graph : List Element) (events : List Event) (r : Result Retrieved RetrievalFault)
+    → IsSession p o names graph events
+    → IfErr r (λ f. IfSome told (λ image. (z : History) → IsOver z image o names graph (recent_of o.params events) → ArePoints z (points_over o events times) times → IsNoDamage f))
+    → IfErr r (λ f. IfSome told (λ image. (m : MachineState) → StandsFor p image m → IsNoDamage f))
+never_damaged p o times told names graph events (Ok x) is never = tt
+never_damaged p o times told names graph events (Err f) is never =
+    if_some told (λ image. (z : History) → IsOver z image o names graph (recent_of o.params events) → ArePoints z (points_over o events times) times → IsNoDamage f)
+    (λ image. (m : MachineState) → StandsFor p image m → IsNoDamage f)
+    (λ image h m s. h (z_of p o image m is.there s) (over_session p o names graph events is image m s) (points_of_session p o names graph events is image m s times)) never

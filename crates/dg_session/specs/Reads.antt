@@ -1,0 +1,83 @@
+-- What a retrieval gives, the handles that it is given, and the bytes that commands read.
+use Rattle.std.specs.Prelude.{◌≡◌, ℕ, ◌+◌, Bool, true, false, ◌&&◌, not, List, [], ◌∷◌, ◌++◌, Option, Some, None, Result, Ok, Err, IfSome, is_some, length, map}
+use Rattle.dg_fold.specs.BytesRead.{Takes, TakesAtMost}
+use Rattle.dg_graph.specs.declared.element.Columns.{Columns}
+use Rattle.dg_graph.specs.declared.element.Element.{Element}
+use Rattle.dg_graph.specs.declared.event.Event.{Event}
+use Rattle.dg_graph.specs.Lines.{ScriptLine}
+use Rattle.dg_history.specs.declared.node.NodeId.{NodeId}
+use Rattle.dg_history.specs.declared.node.NodeId.TheVariants.{Root}
+use Rattle.dg_index.specs.OpenedIndex.{Opening}
+use Rattle.dg_machine.specs.declared.command.Command.{Command}
+use Rattle.dg_machine.specs.declared.reply.Head.{Head}
+use Rattle.dg_machine.specs.declared.reply.Head.TheVariants as head
+use Rattle.dg_machine.specs.declared.reply.Reply.{Reply}
+use Rattle.dg_machine.specs.declared.stands.Stands.{Stands}
+use Rattle.dg_machine.specs.Answer.{IsPlannedBy, answer, headed, is_refusal, overlays, weight_told}
+use Rattle.dg_machine.specs.MachineState.{MachineState, elements, history_in}
+use Rattle.dg_machine.specs.Needs.{Needs, needs, refused}
+use Rattle.dg_machine.specs.Planning.{Planned, edges_in, points_for}
+use Rattle.dg_plan.specs.IndexGraph.{arcs_of}
+use Rattle.dg_plan.specs.InstantPoint.{point}
+use Rattle.dg_plan.specs.Walks.{AreSingles}
+use Rattle.dg_retrieval.specs.Retrieval.{IsTreeOf}
+use Rattle.dg_session.specs.declared.halt.Halt.{Halt}
+use Rattle.dg_session.specs.declared.halt.Halt.TheVariants as halt
+use Rattle.dg_session.specs.Parts.{Parts}
+use Rattle.dg_session.specs.Session.{StandsFor}
+
+-- the nodes from which the graphs as of the instants are reached, over this index and these events
+abbrev pub points_over : Opening → List Event → List ℕ → List NodeId
+points_over o events times = map (λ t. point o.params events t) times
+
+-- The entries of new handles from this number on: each with what it stands for, and the elements that it lists.
+-- There is one for each of these that there is a set of elements for.
+abbrev pub new_entries : ℕ → List Stands → List (List Element) → List ((ℕ × Stands) × List Element)
+new_entries next [] graphs = []
+new_entries next (s ∷ more) [] = []
+new_entries next (s ∷ more) (g ∷ graphs) = ((next, s), g) ∷ new_entries (next + 1) more graphs
+
+-- the session with these entries behind those of its handles
+abbrev pub with_entries : Parts → List ((ℕ × Stands) × List Element) → Parts
+with_entries p entries = record p {
+  table = p.table ++ map (λ e. e.0) entries;
+  graphs = p.graphs ++ map (λ e. e.1) entries;
+  next = p.next + length entries;
+}
+
+-- These graphs are those as of the instants, by a tree over the index of this state that weighs so much, beside
+-- the weights of the single plans.
+pub record IsRetrieved (m : MachineState) (times : List ℕ) (cols : Columns) (weight : ℕ) (singles : List ℕ) (graphs : List (List Element)) : Type 0 where
+  pub tree : IsTreeOf (edges_in m cols) (points_for m times) weight
+  pub single_plans : AreSingles (arcs_of (edges_in m cols)) (Root ∷ []) (points_for m times) singles
+  pub listed : graphs ≡ map (elements (history_in m.index)) (overlays cols times)
+
+-- ---- the bytes read
+
+-- A retrieval whose reply has this head has read exactly the weight that it tells. One that is refused has read
+-- at most what its answer would tell.
+abbrev pub ReadsAsTold : Bool → MachineState → Command → List ScriptLine → Head → ℕ → ℕ → Type 0
+ReadsAsTold false m c got h before after = Takes (weight_told h) before after
+ReadsAsTold true m c got h before after =
+    (p : Planned) → IsPlannedBy (refused m c got) m c p → TakesAtMost (weight_told (answer m c got p).reply.head) before after
+
+-- commands of this kind neither read nor write
+abbrev pub is_quiet : Command → Bool
+is_quiet c = not (needs c).reads && not (needs c).writes
+
+-- The bytes that the command reads, where the reply has this head: what the reply tells, for a
+-- retrieval over an image that stands for a state; and nothing, for a command that neither reads nor writes.
+pub record Reads (c : Command) (old : Parts) (image : Option (List ℕ)) (h : Head) (before after : ℕ) : Type 0 where
+  pub told : (needs c).reads ≡ true → IfSome image (λ bytes. (m : MachineState) → StandsFor old bytes m
+      → (got : List ScriptLine) → ReadsAsTold (is_refusal h) m c got h before after)
+  pub nothing : is_quiet c ≡ true → after ≡ before
+
+-- the first line of the reply to a command that comes to this, unless it is stopped
+abbrev pub head_of : Result Reply Halt → Option Head
+head_of (Ok reply) = Some reply.head
+head_of (Err (halt.Refusal r)) = Some (head.Refused r)
+head_of (Err (halt.Stop s)) = None
+
+-- the same of what the command comes to
+abbrev pub ReadsIn : Command → Parts → Option (List ℕ) → Result Reply Halt → ℕ → ℕ → Type 0
+ReadsIn c old image r before after = IfSome (head_of r) (λ h. Reads c old image h before after)

@@ -1,0 +1,159 @@
+//! Retrievals over the index of a session: the graphs as of several instants, by one tree, and the new
+//! handles for them.
+
+ghost use Rattle.std.specs.Prelude.{◌≡◌, ℕ, ◌≤◌, ◌+◌, ◌<◌, ◌^◌, ◌∷◌, ◌++◌, [], false, not, List, length, map, IfErr, IfOk, IfSome, IsErrOf};
+ghost use Rattle.std.specs.List.{list_any, sum};
+ghost use Rattle.dg_disk.specs.Counts.{Rose};
+ghost use Rattle.dg_disk.specs.Frame.{OnlyReads};
+ghost use Rattle.dg_file.specs.Images.{IsOpenedAs};
+ghost use Rattle.dg_fold.specs.BytesRead.{Takes};
+ghost use Rattle.dg_history.specs.declared.limits.TheConstants.{EVENTS_MAX};
+ghost use Rattle.dg_history.specs.declared.node.NodeId.TheVariants.{Root};
+ghost use Rattle.dg_history.specs.History.{History, in_range, span_of};
+ghost use Rattle.dg_index.specs.IndexRecords.{recent_of};
+ghost use Rattle.dg_index.specs.OpenedIndex.{events_in};
+ghost use Rattle.dg_machine.specs.declared.command.TheConstants.{TIMES_MAX};
+ghost use Rattle.dg_machine.specs.Answer.{handle_lines, overlays};
+ghost use Rattle.dg_plan.specs.IndexGraph.{arcs_of};
+ghost use Rattle.dg_plan.specs.Walks.{AreSingles};
+ghost use Rattle.dg_retrieval.specs.KeptGraph.{kept_edges};
+ghost use Rattle.dg_retrieval.specs.Retrieval.{ArePoints, IsNoDamage, IsOver, IsTreeOf, TakesAtMostTree, graphs_at};
+ghost use Rattle.dg_session.specs.Reads.{new_entries, points_over};
+
+use crate::handle_table::Entry;
+use crate::planning::{planner_of, point_of};
+use dg_disk::Disk;
+use dg_file::Index;
+use dg_graph::{Columns, Event};
+use dg_history::NodeId;
+use dg_machine::{BodyLine, Stands};
+use dg_now::Now;
+use dg_retrieval::{RetrievalFault, Retrieved, retrieve};
+use dg_set::Set;
+use std::alloc::{AllocError, Global};
+use std::thread::Threads;
+
+// The events behind the last closed list.
+fn recent_of<'a>(index: &Index, events: &'a [Event]) -> &'a [Event]
+    ensures { result.now ≡ recent_of index.now.opening.params events.entry.now }
+{
+    index.facts();
+    let size = index.params().l as usize;
+    &events[events.len() / size * size..]
+}
+
+// The nodes from which the graphs as of the instants are reached.
+fn points_of(
+    alloc: Global,
+    index: &Index,
+    events: &[Event],
+    times: &[u64],
+) -> Result<Vec<NodeId>, AllocError>
+    requires { length events.now ≤ EVENTS_MAX }
+    ensures { IfOk result (λ points. points.items ≡ points_over index.now.opening events.now times.now) }
+{
+    let mut points = Vec::with_capacity(alloc, times.len())?;
+    for t in times {
+        points.push(point_of(index, events, *t))?;
+    }
+    Ok(points)
+}
+
+/// The graphs as of the instants in these columns, by one tree through the graph of the index. The names of the
+/// history are so many; its current graph and its events are in memory, and the instants are in it.
+pub fn graphs_at<R: Threads, D: Disk>(
+    rt: &R,
+    alloc: Global,
+    index: &mut Index,
+    disk: &mut D,
+    names: u32,
+    current: &Now,
+    events: &[Event],
+    times: &[u64],
+    cols: Columns,
+) -> Result<Retrieved, RetrievalFault>
+    requires image { IfSome (D.image disk.old) (λ image. IsOpenedAs image index.old.opening) }
+    requires counted { length events.now ≡ events_in index.old.opening.batches }
+    requires some { 1 ≤ length times.now }
+    requires few { length times.now ≤ TIMES_MAX }
+    requires there { list_any (λ t. not (in_range (span_of events.now) t)) times.now ≡ false }
+    // the graphs and the weights
+    ensures tree { IfOk result (λ r. IsTreeOf (kept_edges index.old.opening (length events.now) cols) (points_over index.old.opening events.now times.now) r.weight) }
+    ensures singles { IfOk result (λ r. AreSingles (arcs_of (kept_edges index.old.opening (length events.now) cols)) (Root ∷ [])
+        (points_over index.old.opening events.now times.now) r.singles.items) }
+    ensures sum { IfOk result (λ r. r.sum ≡ sum r.singles.items) }
+    ensures graphs { IfOk result (λ r. IfSome (D.image disk.old) (λ image. (z : History) → IsOver z image index.old.opening names current.now.graph (recent_of index.old.opening.params events.now)
+        → ArePoints z (points_over index.old.opening events.now times.now) times.now → r.graphs.items ≡ graphs_at z times.now cols)) }
+    // the bytes read
+    ensures takes { IfOk result (λ r. IfSome (D.image disk.old) (λ image. (z : History) → IsOver z image index.old.opening names current.now.graph (recent_of index.old.opening.params events.now)
+        → Takes r.weight (D.taken disk.old) (D.taken disk.new))) }
+    ensures most { IfSome (D.image disk.old) (λ image. (z : History) → IsOver z image index.old.opening names current.now.graph (recent_of index.old.opening.params events.now)
+        → TakesAtMostTree (kept_edges index.old.opening (length events.now) cols) (points_over index.old.opening events.now times.now) (D.taken disk.old) (D.taken disk.new)) }
+    // why nothing is retrieved
+    ensures cause { IsErrOf result RetrievalFault.Disk → Rose (D.faults disk.old) (D.faults disk.new) }
+    ensures never { IfErr result (λ fault. IfSome (D.image disk.old) (λ image. (z : History) → IsOver z image index.old.opening names current.now.graph (recent_of index.old.opening.params events.now)
+        → ArePoints z (points_over index.old.opening events.now times.now) times.now → IsNoDamage fault)) }
+    // what it leaves
+    ensures same { index.new ≡ index.old }
+    ensures disk { OnlyReads D.image D.faults D.write_faults disk.old disk.new }
+{
+    index.facts();
+    let planner = planner_of(alloc, index, events.len() as u64, cols)?;
+    let targets = points_of(alloc, index, events, times)?;
+    let recent = recent_of(index, events);
+    retrieve(
+        rt, alloc, index, disk, names, current, recent, &planner, &targets, times, cols,
+    )
+}
+
+/// An entry of a new handle for each of the graphs, as of these instants in these columns; the handles have the
+/// numbers from `next` on.
+pub fn entries_of(
+    alloc: Global,
+    next: u32,
+    cols: Columns,
+    times: &[u64],
+    graphs: Vec<Set>,
+) -> Result<Vec<Entry>, AllocError>
+    requires { next + length times.now < 2 ^ 32 }
+    ensures { IfOk result (λ entries. entries.items ≡ new_entries next (overlays cols times.now) graphs.items) }
+{
+    let mut entries = Vec::with_capacity(alloc, times.len())?;
+    let mut rest = graphs.into_iter();
+    let mut handle = next;
+    for t in times {
+        let Some(graph) = rest.next() else {
+            return Ok(entries);
+        };
+        let stands = Stands::Overlay {
+            t: *t,
+            cols,
+            on: None,
+        };
+        entries.push(Entry::new(handle, stands, graph))?;
+        handle += 1;
+    }
+    Ok(entries)
+}
+
+/// The lines of new handles from `next` on: each with its instant and the weight of its single plan.
+pub fn handle_lines(
+    alloc: Global,
+    next: u32,
+    times: &[u64],
+    singles: &[u64],
+) -> Result<Vec<BodyLine>, AllocError>
+    requires { next + length times.now < 2 ^ 32 }
+    ensures { IfOk result (λ lines. lines.items ≡ handle_lines next times.now singles.now) }
+{
+    let count = times.len().min(singles.len());
+    let mut lines = Vec::with_capacity(alloc, count)?;
+    for i in 0..count {
+        lines.push(BodyLine::Handle {
+            handle: next + i as u32,
+            t: times[i],
+            single: singles[i],
+        })?;
+    }
+    Ok(lines)
+}
