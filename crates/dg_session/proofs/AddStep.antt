@@ -2,6 +2,7 @@
 use Rattle.std.proofs.Common.{◌≡◌, inl, inr, ℕ, ◌+◌, ◌<◌, ◌≤◌, Bool, true, false, ◌&&◌, ◌||◌, not, List, [], ◌++◌, Option, Some, None, Result, Ok, Err, if◌then◌else◌, length, map, take, drop, get_or, refl, sym, ◌∙◌, ap, subst, nat_le, nat_lt, arith, length-append}
 use Rattle.std.specs.Prelude.{◌*◌, ◌⊎◌, IfSome, is_some}
 use Rattle.std.specs.List.{All}
+use Rattle.std.proofs.lemmas.Bool.{false≢true}
 use Rattle.std.proofs.lemmas.List.{length-map, take-append-drop}
 use Rattle.std.proofs.Math.ListN.{get_or-map}
 use borrow.Author.Tests.{le-leb, lt-ltb, le-ltb, ltb-false}
@@ -479,13 +480,13 @@ module _ (which : BatchCommand) (p : Parts) (count known limit : ℕ) (c : Store
         denied (command_with which count) Got p q before after (refusal.BadChange line reason) (q_is ∙ stays back) f.0
         (λ m image s.
         let z = is_of p free.index image m free.there s in
-        steps_as image m s (refuse m (refusal.BadChange line reason)) (answer_with image m z.0 (Err (line, reason)) s z.1 f.1)) (λ h. absurd cc)
+        steps_as image m s (refuse m (refusal.BadChange line reason)) (answer_with image m z.0 (Err (line, reason)) s z.1 f.1)) (λ h. absurd (false≢true h))
     batch_failed (fault.FileFull n most) fails back q q_is =
         let f = of_here (index_opening c.index) free.index (λ o. FailsBatch o limit known c before after b.changes.items b.front (fault.FileFull n most)) opening_there fails in
         let d : FillsFile free.index limit known c b.changes.items b.front n = f.2 in
         subst (λ (k : ℕ). Denies (command_with which count) Got p before q after (refusal.FileFull n k)) (sym f.1)
         (denied (command_with which count) Got p q before after (refusal.FileFull n limit) (q_is ∙ stays back) f.0
-        (λ m image s. full_steps d.events d.whole d.come n d.needed_is d.over image m s) (λ h. absurd cc))
+        (λ m image s. full_steps d.events d.whole d.come n d.needed_is d.over image m s) (λ h. absurd (false≢true h)))
     batch_failed fault.Memory fails back q q_is =
         let f : after ≡ before = of_here (index_opening c.index) free.index (λ o. FailsBatch o limit known c before after b.changes.items b.front fault.Memory) opening_there fails in
         lacking_denies (command_with which count) Got p q before after (q_is ∙ stays back) f (lacks which count) not_refused

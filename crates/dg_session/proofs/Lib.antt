@@ -29,6 +29,7 @@ pub mod Retrievals
 pub mod AtStep
 pub mod SeveralStep
 pub mod ReadsStep
+pub mod DamageStep
 pub mod TreeStep
 pub mod CreateStep
 pub mod GoesOn

@@ -1,8 +1,8 @@
 -- How a step comes from what is refused, for every command alike.
 use Rattle.std.proofs.Common.{◌≡◌, ℕ, ◌+◌, ◌++◌, nat_lt, Bool, true, false, List, [], Option, Some, None, Result, Ok, Err, length, refl, sym, ◌∙◌, ap, subst}
-use Rattle.std.specs.Prelude.{not, is_some, ◌||◌, ◌&&◌, IsErr, IsErrAnd}
+use Rattle.std.specs.Prelude.{IfSome, not, is_some, ◌||◌, ◌&&◌, IsErr, IsErrAnd}
 use Rattle.std.specs.List.{list_any}
-use Rattle.std.proofs.lemmas.Option.{none-some, same_Some}
+use Rattle.std.proofs.lemmas.Bool.{false≢true}
 use Rattle.dg_graph.specs.Lines.{ScriptLine}
 use Rattle.dg_machine.specs.declared.command.Command.{Command}
 use Rattle.dg_machine.specs.declared.reply.Head.TheVariants as head
@@ -24,7 +24,7 @@ use Rattle.dg_session.specs.Parts.{Parts}
 use Rattle.dg_session.specs.declared.halt.Halt.{Halt}
 use Rattle.dg_session.specs.declared.halt.Halt.TheVariants as halt
 use Rattle.dg_session.specs.declared.stop.Stop.TheVariants as stop
-use Rattle.dg_session.specs.Session.{ComesTo, Denies, Moves, StandsFor, Steps, TakesLines, WhereBothTold, is_too_full, refused_by}
+use Rattle.dg_session.specs.Session.{ComesTo, Denies, Moves, StandsFor, Steps, TakesLines, WhereBothTold, is_of_read, is_too_full, refused_by}
 
 -- ---- of the machine
 
@@ -71,52 +71,58 @@ is_accepted m c lines a is accepted = ap (λ (x : Answered). is_refusal x.reply.
 -- a refusal that the machine may give, where nothing has changed
 pub denied : (c : Command) (got : List ScriptLine) (old new : Parts) (before after : Option (List ℕ)) (r : Refusal) → new ≡ old → after ≡ before
     → ((m : MachineState) (image : List ℕ) → StandsFor old image m → Step m (Asked c got) (headed (head.Refused r)) m)
-    → (r ≡ refusal.StoreRead → (needs c).reads ≡ true) → Denies c got old before new after r
+    → (is_of_read r ≡ true → (needs c).reads ≡ true) → Denies c got old before new after r
 denied c got old new before after r same same_image step reads = record {
   moves = λ x y a b m s. (m, step m x s, stands_on old new x y m same (one_image before after x y same_image a b) s);
   as_before = record { same = same; same_image = same_image };
   reads = reads;
 }
 
--- the first of these refusals is no failed read
-when_not_read : (b : Bool) (r : Refusal) (rest : List Refusal) → (r ≡ refusal.StoreRead → ⊥) → (earliest rest ≡ Some refusal.StoreRead → ⊥) → earliest (when b r ++ rest) ≡ Some refusal.StoreRead → ⊥
-when_not_read true r rest other more e = other (same_Some r refusal.StoreRead e)
-when_not_read false r rest other more e = more e
+-- the first of these refusals tells of no read
+abbrev IsNotOfRead : Option Refusal → Type 0
+IsNotOfRead o = IfSome o (λ s. is_of_read s ≡ false)
 
-of_not_read : {A : Type 0} (x : Option A) (f : A → Bool) (r : A → Refusal) (rest : List Refusal) → ((a : A) → r a ≡ refusal.StoreRead → ⊥) → (earliest rest ≡ Some refusal.StoreRead → ⊥)
-    → earliest (of x (λ a. when (f a) (r a)) ++ rest) ≡ Some refusal.StoreRead → ⊥
-of_not_read None f r rest other more e = more e
-of_not_read (Some a) f r rest other more e = when_not_read (f a) (r a) rest (other a) more e
+when_not_read : (b : Bool) (r : Refusal) (rest : List Refusal) → is_of_read r ≡ false → IsNotOfRead (earliest rest) → IsNotOfRead (earliest (when b r ++ rest))
+when_not_read true r rest other more = other
+when_not_read false r rest other more = more
 
--- what a command needs is refused as no failed read
-never_read : (p : Parts) (read : ℕ) (n : Needs) → refused_by p read n ≡ Some refusal.StoreRead → ⊥
+of_not_read : {A : Type 0} (x : Option A) (f : A → Bool) (r : A → Refusal) (rest : List Refusal) → ((a : A) → is_of_read (r a) ≡ false) → IsNotOfRead (earliest rest)
+    → IsNotOfRead (earliest (of x (λ a. when (f a) (r a)) ++ rest))
+of_not_read None f r rest other more = more
+of_not_read (Some a) f r rest other more = when_not_read (f a) (r a) rest (other a) more
+
+last_not_read : (b : Bool) (r : Refusal) → is_of_read r ≡ false → IsNotOfRead (earliest (when b r))
+last_not_read true r other = other
+last_not_read false r other = tt
+
+-- what a command needs is refused as no read of the file
+never_read : (p : Parts) (read : ℕ) (n : Needs) → IsNotOfRead (refused_by p read n)
 never_read p read n =
-    of_not_read n.lines (λ count. nat_lt read count) (λ count. refusal.ShortBatch read count) _ (λ count e. absurd cc)
-    (when_not_read (n.index && not (is_some p.index)) refusal.NoIndex _ (λ e. absurd cc)
-    (of_not_read n.parameters (λ x. is_some p.index) (λ x. refusal.IndexExists) _ (λ x e. absurd cc)
-    (of_not_read n.parameters (λ x. not (are_parameters x.0 x.1)) (λ x. refusal.Parameters) _ (λ x e. absurd cc)
-    (when_not_read (n.unloaded && is_some (span_of p.events)) refusal.AlreadyLoaded _ (λ e. absurd cc)
-    (when_not_read (nat_lt 0 n.changes && is_too_full p n.changes) (refusal.HistoryFull (length p.events) n.changes) _ (λ e. absurd cc)
-    (when_not_read (list_any (λ t. not (in_range (span_of p.events) t)) n.instants) (refusal.OutOfRange (span_of p.events)) _ (λ e. absurd cc)
-    (of_not_read n.handle (λ h. not (is_some (entry_at h p.table))) (λ h. refusal.UnknownHandle h) (when (nat_lt 0 n.handles && nat_lt LIVE_HANDLES_MAX (length p.table + n.handles)) (refusal.PoolFull (length p.table) n.handles)) (λ h e. absurd cc)
-    (λ e. by (nat_lt 0 n.handles && nat_lt LIVE_HANDLES_MAX (length p.table + n.handles)) e))))))))
-  where
-    by : (b : Bool) → earliest (when b (refusal.PoolFull (length p.table) n.handles)) ≡ Some refusal.StoreRead → ⊥
-    by true e = let h : refusal.PoolFull (length p.table) n.handles ≡ refusal.StoreRead = same_Some _ _ e in absurd cc
-    by false e = absurd (none-some refusal.StoreRead e)
+    of_not_read n.lines (λ count. nat_lt read count) (λ count. refusal.ShortBatch read count) _ (λ count. refl)
+    (when_not_read (n.index && not (is_some p.index)) refusal.NoIndex _ refl
+    (of_not_read n.parameters (λ x. is_some p.index) (λ x. refusal.IndexExists) _ (λ x. refl)
+    (of_not_read n.parameters (λ x. not (are_parameters x.0 x.1)) (λ x. refusal.Parameters) _ (λ x. refl)
+    (when_not_read (n.unloaded && is_some (span_of p.events)) refusal.AlreadyLoaded _ refl
+    (when_not_read (nat_lt 0 n.changes && is_too_full p n.changes) (refusal.HistoryFull (length p.events) n.changes) _ refl
+    (when_not_read (list_any (λ t. not (in_range (span_of p.events) t)) n.instants) (refusal.OutOfRange (span_of p.events)) _ refl
+    (of_not_read n.handle (λ h. not (is_some (entry_at h p.table))) (λ h. refusal.UnknownHandle h) (when (nat_lt 0 n.handles && nat_lt LIVE_HANDLES_MAX (length p.table + n.handles)) (refusal.PoolFull (length p.table) n.handles)) (λ h. refl)
+    (last_not_read (nat_lt 0 n.handles && nat_lt LIVE_HANDLES_MAX (length p.table + n.handles)) (refusal.PoolFull (length p.table) n.handles) refl))))))))
+
+pub refused_not_read : (p : Parts) (read : ℕ) (n : Needs) (r : Refusal) → refused_by p read n ≡ Some r → is_of_read r ≡ false
+refused_not_read p read n r is = subst IsNotOfRead is (never_read p read n)
 
 -- by what it needs
 pub refused_denies : (c : Command) (got : List ScriptLine) (old new : Parts) (before after : Option (List ℕ)) (r : Refusal) → new ≡ old → after ≡ before
     → refused_by old (length got) (needs c) ≡ Some r → Denies c got old before new after r
 refused_denies c got old new before after r same same_image is =
     denied c got old new before after r same same_image (λ m image s. refused_steps m c got r (sym (refused_is old image m c got s) ∙ is))
-    (λ h. absurd (never_read old (length got) (needs c) (is ∙ ap (λ x. Some x) h)))
+    (λ h. absurd (false≢true (sym (refused_not_read old (length got) (needs c) r is) ∙ h)))
 
 -- by want of memory
 pub lacking_denies : (c : Command) (got : List ScriptLine) (old new : Parts) (before after : Option (List ℕ)) → new ≡ old → after ≡ before
     → (needs c).memory ≡ true → refused_by old (length got) (needs c) ≡ None → Denies c got old before new after refusal.OutOfMemory
 lacking_denies c got old new before after same same_image memory none =
-    denied c got old new before after refusal.OutOfMemory same same_image (λ m image s. lacking_steps m c got memory (sym (refused_is old image m c got s) ∙ none)) (λ h. absurd cc)
+    denied c got old new before after refusal.OutOfMemory same same_image (λ m image s. lacking_steps m c got memory (sym (refused_is old image m c got s) ∙ none)) (λ h. absurd (false≢true h))
 
 -- by a failed read of the index file
 pub failing_denies : (c : Command) (got : List ScriptLine) (old new : Parts) (before after : Option (List ℕ)) → new ≡ old → after ≡ before

@@ -8,4 +8,5 @@ pub mod BatchCommand
 pub mod PlanLines
 pub mod Plans
 pub mod Reads
+pub mod Damage
 pub mod RecordListing

@@ -126,11 +126,17 @@ pub record IsAsBefore (old : Parts) (before : Option (List ℕ)) (new : Parts) (
   pub same : new ≡ old
   pub same_image : after ≡ before
 
+-- the refusal tells of a read of the index file: it failed, or gave a column that is in no spelling
+abbrev pub is_of_read : Refusal → Bool
+is_of_read refusal.StoreRead = true
+is_of_read (refusal.Damaged key col) = true
+is_of_read r = false
+
 -- The command and these lines are refused so.
 pub record Denies (command : Command) (got : List ScriptLine) (old : Parts) (before : Option (List ℕ)) (new : Parts) (after : Option (List ℕ)) (r : Refusal) : Type 0 where
   pub moves : WhereBothTold before after (λ image then_image. Moves command got old image new then_image (headed (head.Refused r)))
   pub as_before : IsAsBefore old before new after
-  pub reads : r ≡ refusal.StoreRead → (needs command).reads ≡ true
+  pub reads : is_of_read r ≡ true → (needs command).reads ≡ true
 
 -- what the command and these lines come to
 abbrev pub ComesTo : Command → List ScriptLine → Parts → Option (List ℕ) → Parts → Option (List ℕ) → Result Reply Halt → Type 0

@@ -17,7 +17,7 @@ ghost use Rattle.dg_machine.specs.Answer.{handle_lines, overlays};
 ghost use Rattle.dg_plan.specs.IndexGraph.{arcs_of};
 ghost use Rattle.dg_plan.specs.Walks.{AreSingles};
 ghost use Rattle.dg_retrieval.specs.KeptGraph.{kept_edges};
-ghost use Rattle.dg_retrieval.specs.Retrieval.{ArePoints, IsNoDamage, IsOver, IsTreeOf, TakesAtMostTree, graphs_at};
+ghost use Rattle.dg_retrieval.specs.Retrieval.{ArePoints, IsFirstDamage, IsNoDamage, IsOver, IsTreeOf, TakesAtMostTree, graphs_at};
 ghost use Rattle.dg_session.specs.Reads.{new_entries, points_over};
 
 use crate::handle_table::Entry;
@@ -91,6 +91,8 @@ pub fn graphs_at<R: Threads, D: Disk>(
         → TakesAtMostTree (kept_edges index.old.opening (length events.now) cols) (points_over index.old.opening events.now times.now) (D.taken disk.old) (D.taken disk.new)) }
     // why nothing is retrieved
     ensures cause { IsErrOf result RetrievalFault.Disk → Rose (D.faults disk.old) (D.faults disk.new) }
+    ensures damage { IfErr result (λ fault. IfSome (D.image disk.old) (λ image.
+        IsFirstDamage names (kept_edges index.old.opening (length events.now) cols) index.old.opening cols (points_over index.old.opening events.now times.now) image fault)) }
     ensures never { IfErr result (λ fault. IfSome (D.image disk.old) (λ image. (z : History) → IsOver z image index.old.opening names current.now.graph (recent_of index.old.opening.params events.now)
         → ArePoints z (points_over index.old.opening events.now times.now) times.now → IsNoDamage fault)) }
     // what it leaves

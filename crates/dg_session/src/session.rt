@@ -21,6 +21,7 @@ ghost use Rattle.dg_machine.specs.Run.{is_store_read};
 ghost use Rattle.dg_retrieval.specs.Retrieval.{IsNoDamage, TakesAtMostTree};
 ghost use Rattle.dg_index.specs.SessionStart.{start_of};
 ghost use Rattle.dg_session.specs.BatchCommand.{barred, command_with};
+ghost use Rattle.dg_session.specs.Damage.{DamageIn, DamageIs, NamesDamage};
 ghost use Rattle.dg_session.specs.Reads.{IsRetrieved, Reads, ReadsIn, new_entries, with_entries};
 ghost use Rattle.dg_session.specs.Session.{ComesTo, IsHeldBy, StandsFor, Steps, Stops, TakesLines, is_too_full, refused_by, retrieval_needs};
 ghost use Rattle.dg_session.specs.SessionStart.{RefusesStart, StartsAs};
@@ -143,7 +144,8 @@ impl Session {
 
     /// Carries out the command, and answers it. A load and an append read the lines that follow them,
     /// whatever the answer is. A reply that is a refusal leaves the session and the disk's image as
-    /// they were.
+    /// they were. Only a retrieval is refused for damage: for the first column that its tree enters and
+    /// that is in no spelling.
     ///
     /// `Stop::Read` where a read of the source failed, `Stop::Limit` where another byte is needed and
     /// as many as the limit allows were taken: the session is then as it was. `Stop::Store` where the
@@ -181,6 +183,7 @@ impl Session {
         ensures limit { IsErrOf result Stop.Limit → (lines.new.taken ≡ lines.new.limit) × NeedsByte lines.new }
         ensures store_read { IfOk result (λ reply. is_store_read reply.head ≡ true
             → DiskRose (D.faults disk.old) (D.faults disk.new) × (D.write_faults disk.new ≡ D.write_faults disk.old)) }
+        ensures damaged { IfOk result (λ reply. DamageIs command.now self.old (D.image disk.old) reply.head) }
         // what it takes and leaves
         ensures reads { IfOk result (λ reply. Reads command.now self.old (D.image disk.old) reply.head (D.taken disk.old) (D.taken disk.new)) }
         ensures lines { Advances lines.old (S.left source.old) (S.faults source.old)
@@ -215,6 +218,7 @@ impl Session {
         ensures limit { IsErrOf result (Halt.Stop Stop.Limit) → (lines.new.taken ≡ lines.new.limit) × NeedsByte lines.new }
         ensures store_read { IsErrOf result (Halt.Refusal Refusal.StoreRead)
             → DiskRose (D.faults disk.old) (D.faults disk.new) × (D.write_faults disk.new ≡ D.write_faults disk.old) }
+        ensures damaged { DamageIn command.now self.old (D.image disk.old) result }
         // what it takes and leaves
         ensures reads { ReadsIn command.now self.old (D.image disk.old) result (D.taken disk.old) (D.taken disk.new) }
         ensures lines { Advances lines.old (S.left source.old) (S.faults source.old)
@@ -414,6 +418,7 @@ impl Session {
             → TakesAtMostTree (edges_in m cols) (points_for m times.now) (D.taken disk.old) (D.taken disk.new)) }
         // why nothing is retrieved
         ensures cause { IsErrOf result RetrievalFault.Disk → DiskRose (D.faults disk.old) (D.faults disk.new) }
+        ensures damage { IfErr result (λ fault. NamesDamage self.old (D.image disk.old) (times.now, cols) fault) }
         ensures never { IfErr result (λ fault. IfSome (D.image disk.old) (λ image. (m : MachineState) → StandsFor self.old image m → IsNoDamage fault)) }
         // what it leaves
         ensures same { self.new ≡ self.old }
@@ -465,6 +470,7 @@ impl Session {
         ensures comes { ComesTo (Command.At t cols) [] self.old (D.image disk.old) self.new (D.image disk.new) result }
         ensures no_stop { (stop : Stop) → result ≡ Err (Halt.Stop stop) → ⊥ }
         ensures store_read { IsErrOf result (Halt.Refusal Refusal.StoreRead) → DiskRose (D.faults disk.old) (D.faults disk.new) }
+        ensures damaged { DamageIn (Command.At t cols) self.old (D.image disk.old) result }
         ensures reads { ReadsIn (Command.At t cols) self.old (D.image disk.old) result (D.taken disk.old) (D.taken disk.new) }
         ensures disk { OnlyReads D.image D.faults D.write_faults disk.old disk.new }
     {
@@ -493,6 +499,7 @@ impl Session {
         ensures comes { ComesTo (Command.Several cols times count) [] self.old (D.image disk.old) self.new (D.image disk.new) result }
         ensures no_stop { (stop : Stop) → result ≡ Err (Halt.Stop stop) → ⊥ }
         ensures store_read { IsErrOf result (Halt.Refusal Refusal.StoreRead) → DiskRose (D.faults disk.old) (D.faults disk.new) }
+        ensures damaged { DamageIn (Command.Several cols times count) self.old (D.image disk.old) result }
         ensures reads { ReadsIn (Command.Several cols times count) self.old (D.image disk.old) result (D.taken disk.old) (D.taken disk.new) }
         ensures disk { OnlyReads D.image D.faults D.write_faults disk.old disk.new }
     {

@@ -1,5 +1,5 @@
 use Rattle.std.proofs.Common.{◌≡◌, ℕ, ◌<◌, List, length, sym, ◌∙◌, subst, arith}
-use Rattle.std.specs.Prelude.{IfOk, IfSome}
+use Rattle.std.specs.Prelude.{IfErr, IfOk, IfSome}
 use Rattle.std.specs.List.{All, Contains}
 use Rattle.dg_fold.specs.BytesRead.{Takes}
 use Rattle.dg_graph.specs.declared.event.Event.{Event}
@@ -10,7 +10,7 @@ use Rattle.dg_index.specs.IndexRecords.{recent_of}
 use Rattle.dg_index.specs.OpenedIndex.{Opening}
 use Rattle.dg_plan.specs.declared.edge.Edge.{Edge}
 use Rattle.dg_retrieval.specs.KeptGraph.{kept_edges, kept_nodes}
-use Rattle.dg_retrieval.specs.Retrieval.{IsOver, TakesAtMostTree}
+use Rattle.dg_retrieval.specs.Retrieval.{IsFirstDamage, IsOver, TakesAtMostTree}
 use Rattle.dg_session.proofs.Retrievals.{points_there}
 use Rattle.dg_session.specs.Reads.{points_over}
 use Rattle.dg_session.proofs.retrieving.graphs_at.Goals as goal
@@ -37,3 +37,10 @@ returns-clause-most g c =
     subst (λ behind. Most behind (kept_edges o (length c.args.events.now) c.args.cols) (points_over o c.args.events.now c.args.times.now)) c.recent_of-recent.ensures
     (subst (λ es. Most c.recent_of-recent.result.now es (points_over o c.args.events.now c.args.times.now)) c.in_ok-planner.ensures.edges
     (subst (λ ts. Most c.recent_of-recent.result.now c.in_ok-planner.planner.edges ts) (c.deref.ensures.value ∙ c.in_ok-targets.ensures) c.retrieve.ensures.most))
+
+pub returns-clause-damage : goal.returns-clause-damage
+returns-clause-damage g c =
+    let o : Opening = c.args.index.now.opening in
+    let Damage : List Edge → List NodeId → Type 0 = λ edges targets. IfErr c.retrieve.result (λ f. IfSome (g.D.Disk.image c.args.disk.now) (λ image. IsFirstDamage c.args.names edges o c.args.cols targets image f)) in
+    subst (λ es. Damage es (points_over o c.args.events.now c.args.times.now)) c.in_ok-planner.ensures.edges
+    (subst (λ ts. Damage c.in_ok-planner.planner.edges ts) (c.deref.ensures.value ∙ c.in_ok-targets.ensures) c.retrieve.ensures.damage)

@@ -3,15 +3,19 @@ use Rattle.dg_machine.specs.declared.command.Command.{Command}
 use Rattle.dg_machine.specs.declared.command.Command.TheVariants as command
 use Rattle.dg_machine.specs.declared.reply.Head.TheVariants as head
 use Rattle.dg_machine.specs.declared.reply.Refusal.TheVariants as refusal
+use Rattle.dg_machine.specs.declared.reply.Reply.{Reply}
 use Rattle.dg_machine.specs.Answer.{headed, overlays}
+use Rattle.dg_machine.specs.Needs.{needs}
 use Rattle.dg_session.specs.declared.halt.Halt.TheVariants as halt
+use Rattle.dg_session.specs.Damage.{DamageIn, DamageIs}
 use Rattle.dg_session.specs.Halt.{retrieval_halt}
 use Rattle.dg_session.specs.Parts.{Parts}
 use Rattle.dg_session.specs.Reads.{ReadsIn, new_entries, with_entries}
 use Rattle.dg_session.specs.Session.{ComesTo}
 use Rattle.dg_session.proofs.AtStep.{at_answers, at_fails}
+use Rattle.dg_session.proofs.DamageStep.{damage_in, tells_no_damage}
 use Rattle.dg_session.proofs.Retrievals.{reads_failing, retrieval_failed}
-use Rattle.dg_session.proofs.Steps.{handed_out, lacking_denies, refused_denies}
+use Rattle.dg_session.proofs.Steps.{handed_out, lacking_denies, refused_denies, refused_not_read}
 use Rattle.dg_session.proofs.session.Session.at.Goals as goal
 
 pub returns-in-Some-clause-comes : goal.returns-in-Some-clause-comes
@@ -56,3 +60,23 @@ returns-clause-comes g c =
     (sym c.refused_retrieval.ensures ∙ c.in_default.is) c.retrieve.ensures.disk.same_image c.in_ok-graphs.ensures.retrieved
     (c.in_ok-add_handles.ensures.added ∙ (λ i. with_entries (c.retrieve.ensures.same i) (new_entries (c.retrieve.ensures.same i).next (overlays c.args.cols (c.args.t ∷ [])) r.graphs.items)))
     (c.headed.ensures ∙ ap (λ n. headed (head.At n r.weight)) number)
+
+pub returns-in-Some-clause-damaged : goal.returns-in-Some-clause-damaged
+returns-in-Some-clause-damaged g c =
+    tells_no_damage (command.At c.args.t c.args.cols) c.args.self.now (g.D.Disk.image c.args.disk.now) c.in-Some.refusal
+    (refused_not_read c.args.self.now 0 (needs (command.At c.args.t c.args.cols)) c.in-Some.refusal (sym c.refused_retrieval.ensures ∙ c.in-Some.is))
+
+pub returns-in_err-graphs-clause-damaged : goal.returns-in_err-graphs-clause-damaged
+returns-in_err-graphs-clause-damaged g c =
+    handed_out c.from_residual.result (retrieval_halt c.in_err-graphs.field-0.0)
+    (λ r. DamageIn (command.At c.args.t c.args.cols) c.args.self.now (g.D.Disk.image c.args.disk.now) r) c.from_residual.ensures
+    (damage_in (command.At c.args.t c.args.cols) c.args.self.now (g.D.Disk.image c.args.disk.now) (c.args.t ∷ [], c.args.cols) c.in_err-graphs.field-0.0 refl c.in_err-graphs.ensures.damage)
+
+pub returns-in_err-add_handles-clause-damaged : goal.returns-in_err-add_handles-clause-damaged
+returns-in_err-add_handles-clause-damaged g c =
+    handed_out c.from_residual-in_err-add_handles.result (halt.Refusal refusal.OutOfMemory)
+    (λ r. DamageIn (command.At c.args.t c.args.cols) c.args.self.now (g.D.Disk.image c.args.disk.now) r) c.from_residual-in_err-add_handles.ensures tt
+
+pub returns-clause-damaged : goal.returns-clause-damaged
+returns-clause-damaged g c =
+    subst (λ (x : Reply). DamageIs (command.At c.args.t c.args.cols) c.args.self.now (g.D.Disk.image c.args.disk.now) x.head) (sym c.headed.ensures) tt

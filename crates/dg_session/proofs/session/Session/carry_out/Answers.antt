@@ -3,7 +3,9 @@ use Rattle.dg_io.specs.LinesState.{told}
 use Rattle.dg_machine.specs.declared.command.Command.TheVariants as command
 use Rattle.dg_machine.specs.CommandGrammar.{CountIsInRange}
 use Rattle.dg_machine.specs.Needs.{following}
+use Rattle.dg_session.specs.Damage.{DamageIn}
 use Rattle.dg_session.specs.Reads.{ReadsIn}
+use Rattle.dg_session.proofs.DamageStep.{never_for_damage}
 use Rattle.dg_session.proofs.ReadsStep.{fails_no_read, reads_freely, reads_nothing}
 use Rattle.dg_session.proofs.Steps.{Comes, alone}
 use Rattle.dg_session.proofs.session.Session.carry_out.Goals as goal
@@ -135,3 +137,43 @@ returns-in-Certify-clause-comes g c =
     let image = g.D.Disk.image c.args.disk.now in
     subst (λ x. Comes x (following x) (told c.args.lines.now (g.S.Source.left c.args.source.now)) (told c.certify.new.lines (g.S.Source.left c.certify.new.source)) c.args.self.now image c.args.self.now image c.certify.result)
     (sym c.in-Certify.is) (c.certify.ensures.comes image)
+
+pub returns-in-At-clause-damaged : goal.returns-in-At-clause-damaged
+returns-in-At-clause-damaged g c =
+    subst (λ x. DamageIn x c.args.self.now (g.D.Disk.image c.args.disk.now) c.at.result) (sym c.in-At.is) c.at.ensures.damaged
+
+pub returns-in-Several-clause-damaged : goal.returns-in-Several-clause-damaged
+returns-in-Several-clause-damaged g c =
+    subst (λ x. DamageIn x c.args.self.now (g.D.Disk.image c.args.disk.now) c.several.result) (sym c.in-Several.is) c.several.ensures.damaged
+
+pub returns-in-List-clause-damaged : goal.returns-in-List-clause-damaged
+returns-in-List-clause-damaged g c =
+    never_for_damage c.args.command.now (command.List c.in-List.handle) [] c.args.self.now (g.D.Disk.image c.args.disk.now) c.args.self.now (g.D.Disk.image c.args.disk.now) c.list.result c.in-List.is refl (c.list.ensures.comes (g.D.Disk.image c.args.disk.now))
+
+pub returns-in-Plan-clause-damaged : goal.returns-in-Plan-clause-damaged
+returns-in-Plan-clause-damaged g c =
+    never_for_damage c.args.command.now (command.Plan c.in-Plan.t c.in-Plan.cols) [] c.args.self.now (g.D.Disk.image c.args.disk.now) c.args.self.now (g.D.Disk.image c.args.disk.now) c.plan.result c.in-Plan.is refl (c.plan.ensures.comes (g.D.Disk.image c.args.disk.now))
+
+pub returns-in-Tree-clause-damaged : goal.returns-in-Tree-clause-damaged
+returns-in-Tree-clause-damaged g c =
+    never_for_damage c.args.command.now command.Tree [] c.args.self.now (g.D.Disk.image c.args.disk.now) c.args.self.now (g.D.Disk.image c.args.disk.now) c.tree.result c.in-Tree.is refl (c.tree.ensures.comes (g.D.Disk.image c.args.disk.now))
+
+pub returns-in-Certify-clause-damaged : goal.returns-in-Certify-clause-damaged
+returns-in-Certify-clause-damaged g c =
+    let comes = c.certify.ensures.comes (g.D.Disk.image c.args.disk.now) in
+    never_for_damage c.args.command.now (command.Certify c.in-Certify.t c.in-Certify.cols c.in-Certify.count) comes.0 c.args.self.now (g.D.Disk.image c.args.disk.now) c.args.self.now (g.D.Disk.image c.args.disk.now) c.certify.result c.in-Certify.is refl comes.2
+
+pub returns-in-Create-clause-damaged : goal.returns-in-Create-clause-damaged
+returns-in-Create-clause-damaged g c =
+    never_for_damage c.args.command.now (command.Create c.in-Create.l c.in-Create.k c.in-Create.function) [] c.args.self.now (g.D.Disk.image c.args.disk.now) c.create.new.self (g.D.Disk.image c.create.new.disk) c.create.result c.in-Create.is refl c.create.ensures.comes
+
+pub returns-in-Load-clause-damaged : goal.returns-in-Load-clause-damaged
+returns-in-Load-clause-damaged g c =
+    let comes = c.add.ensures.comes in
+    never_for_damage c.args.command.now (command.Load c.in-Load.count) comes.0 c.args.self.now (g.D.Disk.image c.args.disk.now) c.add.new.self (g.D.Disk.image c.add.new.disk) c.add.result c.in-Load.is refl comes.2
+
+pub returns-in-Append-clause-damaged : goal.returns-in-Append-clause-damaged
+returns-in-Append-clause-damaged g c =
+    let r = c.add-in-Append in
+    let comes = r.ensures.comes in
+    never_for_damage c.args.command.now (command.Append c.in-Append.count) comes.0 c.args.self.now (g.D.Disk.image c.args.disk.now) r.new.self (g.D.Disk.image r.new.disk) r.result c.in-Append.is refl comes.2

@@ -2,6 +2,7 @@ use Rattle.std.proofs.Common.{◌≡◌, ℕ, List, Option, Some, length, sym, �
 use Rattle.std.specs.Prelude.{IfErr, IfOk, IfSome}
 use Rattle.dg_session.specs.Parts.{Parts}
 use Rattle.dg_session.proofs.Retrievals.{IsSession, is_session, most_read, never_damaged, retrieved_over, taken_over}
+use Rattle.dg_session.proofs.DamageStep.{damage_over}
 use Rattle.dg_session.proofs.session.Session.retrieve.Goals as goal
 
 pub returns-clause-retrieved : goal.returns-clause-retrieved
@@ -27,3 +28,9 @@ returns-clause-never g c =
     never_damaged c.args.self.now c.in-Some.index.opening c.args.times.now (g.D.Disk.image c.args.disk.now) c.len.result c.self.inside.history.now.graph c.deref.result.now c.graphs_at.result
     (is_session c.args.self.now c.self.inside c.in-Some.index c.len.result c.deref.result.now c.self.view_is c.in-Some.is c.self.invariant.5.graph c.len.ensures.len c.deref.ensures.value)
     c.graphs_at.ensures.never
+
+pub returns-clause-damage : goal.returns-clause-damage
+returns-clause-damage g c =
+    damage_over c.args.self.now c.in-Some.index.opening c.args.times.now c.args.cols (g.D.Disk.image c.args.disk.now) c.len.result c.self.inside.history.now.graph c.deref.result.now c.graphs_at.result
+    (is_session c.args.self.now c.self.inside c.in-Some.index c.len.result c.deref.result.now c.self.view_is c.in-Some.is c.self.invariant.5.graph c.len.ensures.len c.deref.ensures.value)
+    c.graphs_at.ensures.damage

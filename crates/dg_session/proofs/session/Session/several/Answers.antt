@@ -7,16 +7,19 @@ use Rattle.dg_machine.specs.declared.reply.Refusal.TheVariants as refusal
 use Rattle.dg_machine.specs.declared.reply.Reply.{Reply}
 use Rattle.dg_machine.specs.Answer.{handle_lines, overlays}
 use Rattle.dg_machine.specs.MachineState.{MachineState}
+use Rattle.dg_machine.specs.Needs.{needs}
 use Rattle.dg_machine.specs.Planning.{edges_in, points_for}
 use Rattle.dg_retrieval.specs.Retrieval.{TakesAtMostTree}
 use Rattle.dg_session.specs.declared.halt.Halt.TheVariants as halt
+use Rattle.dg_session.specs.Damage.{DamageIn, NamesDamage}
 use Rattle.dg_session.specs.Halt.{retrieval_halt}
 use Rattle.dg_session.specs.Parts.{Parts}
 use Rattle.dg_session.specs.Reads.{IsRetrieved, ReadsIn, new_entries, with_entries}
 use Rattle.dg_session.specs.Session.{ComesTo, StandsFor, refused_by, retrieval_needs}
 use Rattle.dg_session.proofs.SeveralStep.{needed, several_answers, several_fails}
+use Rattle.dg_session.proofs.DamageStep.{damage_in, tells_no_damage}
 use Rattle.dg_session.proofs.Retrievals.{reads_failing, retrieval_failed}
-use Rattle.dg_session.proofs.Steps.{handed_out, lacking_denies, refused_denies}
+use Rattle.dg_session.proofs.Steps.{handed_out, lacking_denies, refused_denies, refused_not_read}
 use Rattle.dg_session.proofs.session.Session.several.Goals as goal
 
 pub returns-in-Some-clause-comes : goal.returns-in-Some-clause-comes
@@ -110,3 +113,29 @@ returns-clause-comes g c =
     c.in_ok-retrieved.ensures.sum
     (c.in_ok-lines.ensures ∙ (let singles : c.deref.result.now ≡ r.singles.items = c.deref.ensures.value in λ i. handle_lines (next i) (asked i) (singles i)))
     (let body = c.from_vec.ensures in λ i. record { head = head.Several r.weight r.sum; body = body i })
+
+pub returns-in-Some-clause-damaged : goal.returns-in-Some-clause-damaged
+returns-in-Some-clause-damaged g c =
+    let p : Parts = c.args.self.now in
+    let asked : c.first_of-asked.result.now ≡ take c.args.count c.args.times = c.first_of-asked.ensures.times in
+    let number : length (take c.args.count c.args.times) ≡ c.args.count = sym (ap length asked) ∙ c.first_of-asked.ensures.count in
+    tells_no_damage (command.Several c.args.cols c.args.times c.args.count) p (g.D.Disk.image c.args.disk.now) c.in-Some.refusal
+    (refused_not_read p 0 (needs (command.Several c.args.cols c.args.times c.args.count)) c.in-Some.refusal
+    (needed p c.args.cols c.args.times c.args.count number c.requires.some ∙ ap (λ ts. refused_by p 0 (retrieval_needs ts (length ts))) (sym asked) ∙ sym c.refused_retrieval.ensures ∙ c.in-Some.is))
+
+pub returns-in_err-retrieved-clause-damaged : goal.returns-in_err-retrieved-clause-damaged
+returns-in_err-retrieved-clause-damaged g c =
+    let p : Parts = c.args.self.now in
+    let image = g.D.Disk.image c.args.disk.now in
+    let asked : c.first_of-asked.result.now ≡ take c.args.count c.args.times = c.first_of-asked.ensures.times in
+    handed_out c.from_residual.result (retrieval_halt c.in_err-retrieved.field-0.0) (λ r. DamageIn (command.Several c.args.cols c.args.times c.args.count) p image r) c.from_residual.ensures
+    (damage_in (command.Several c.args.cols c.args.times c.args.count) p image (take c.args.count c.args.times, c.args.cols) c.in_err-retrieved.field-0.0 refl
+    (subst (λ ts. NamesDamage p image (ts, c.args.cols) c.in_err-retrieved.field-0.0) asked c.in_err-retrieved.ensures.damage))
+
+pub returns-in_err-lines-clause-damaged : goal.returns-in_err-lines-clause-damaged
+returns-in_err-lines-clause-damaged g c =
+    handed_out c.from_residual-in_err-lines.result (halt.Refusal refusal.OutOfMemory) (λ r. DamageIn (command.Several c.args.cols c.args.times c.args.count) c.args.self.now (g.D.Disk.image c.args.disk.now) r) c.from_residual-in_err-lines.ensures tt
+
+pub returns-in_err-add_handles-clause-damaged : goal.returns-in_err-add_handles-clause-damaged
+returns-in_err-add_handles-clause-damaged g c =
+    handed_out c.from_residual-in_err-add_handles.result (halt.Refusal refusal.OutOfMemory) (λ r. DamageIn (command.Several c.args.cols c.args.times c.args.count) c.args.self.now (g.D.Disk.image c.args.disk.now) r) c.from_residual-in_err-add_handles.ensures tt

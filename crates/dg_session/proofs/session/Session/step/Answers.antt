@@ -4,7 +4,9 @@ use Rattle.dg_machine.specs.declared.reply.Head.TheVariants as head
 use Rattle.dg_machine.specs.declared.reply.Reply.{Reply}
 use Rattle.dg_machine.specs.Run.{is_store_read}
 use Rattle.dg_session.specs.declared.halt.Halt.TheVariants as halt
+use Rattle.dg_session.specs.Damage.{DamageIs}
 use Rattle.dg_session.specs.Reads.{Reads, head_of}
+use Rattle.dg_session.proofs.DamageStep.{damage_in_reply}
 use Rattle.dg_session.proofs.ReadsStep.{accepted_reads, reads_in_reply, store_read_is}
 use Rattle.dg_session.proofs.Steps.{answered, refused_so}
 use Rattle.dg_session.proofs.session.Session.step.Goals as goal
@@ -47,5 +49,17 @@ returns-clause-store_read g c =
           (λ e. c.carry_out.ensures.store_read
           (w.in-Err-Refusal.is ∙ ap (λ h. Err h) w.in-Err-Refusal.field-0-is
           ∙ ap (λ r. Err (halt.Refusal r)) (store_read_is w.in-Err-Refusal.refusal (ap (λ (x : Reply). is_store_read x.head) (sym w.headed.ensures) ∙ e))))
+      | in-Err-Stop w ↦ rw w.result-is tt
+    ]
+
+pub returns-clause-damaged : goal.returns-clause-damaged
+returns-clause-damaged g c =
+    let p = c.args.self.now in
+    let image = g.D.Disk.image c.args.disk.now in
+    elim c.match-carry_out.branch [
+      | in-Ok w ↦ rw w.result-is (damage_in_reply c.args.command.now p image c.carry_out.result w.in-Ok.reply.head (ap head_of w.in-Ok.is) c.carry_out.ensures.damaged)
+      | in-Err-Refusal w ↦ rw w.result-is
+          (subst (λ (x : Reply). DamageIs c.args.command.now p image x.head) (sym w.headed.ensures)
+          (damage_in_reply c.args.command.now p image c.carry_out.result (head.Refused w.in-Err-Refusal.refusal) (ap head_of (w.in-Err-Refusal.is ∙ ap (λ h. Err h) w.in-Err-Refusal.field-0-is)) c.carry_out.ensures.damaged))
       | in-Err-Stop w ↦ rw w.result-is tt
     ]

@@ -1,0 +1,109 @@
+-- Which reply tells of a damage, and which damage it is.
+use Rattle.std.proofs.Common.{◌≡◌, ℕ, Bool, true, false, List, Option, Some, Result, Ok, Err, length, refl, sym, ◌∙◌, subst}
+use Rattle.std.specs.Prelude.{IfErr, IfSome}
+use Rattle.std.proofs.lemmas.Bool.{false≢true}
+use Rattle.dg_graph.specs.declared.element.Columns.{Columns}
+use Rattle.dg_graph.specs.declared.element.Element.{Element}
+use Rattle.dg_graph.specs.declared.event.Event.{Event}
+use Rattle.dg_graph.specs.Lines.{ScriptLine}
+use Rattle.dg_index.specs.OpenedIndex.{Opening}
+use Rattle.dg_machine.specs.declared.command.Command.{Command}
+use Rattle.dg_machine.specs.declared.reply.Head.{Head}
+use Rattle.dg_machine.specs.declared.reply.Head.TheVariants as head
+use Rattle.dg_machine.specs.declared.reply.Refusal.{Refusal}
+use Rattle.dg_machine.specs.declared.reply.Refusal.TheVariants as refusal
+use Rattle.dg_machine.specs.declared.reply.Reply.{Reply}
+use Rattle.dg_machine.specs.Answer.{is_refusal}
+use Rattle.dg_machine.specs.Needs.{needs}
+use Rattle.dg_retrieval.specs.declared.fault.RetrievalFault.{RetrievalFault}
+use Rattle.dg_retrieval.specs.declared.fault.RetrievalFault.TheVariants as retrieval_fault
+use Rattle.dg_retrieval.specs.declared.retrieval.Retrieved.{Retrieved}
+use Rattle.dg_retrieval.specs.KeptGraph.{kept_edges}
+use Rattle.dg_retrieval.specs.Retrieval.{IsFirstDamage}
+use Rattle.dg_session.proofs.Retrievals.{IsSession}
+use Rattle.dg_session.specs.declared.halt.Halt.{Halt}
+use Rattle.dg_session.specs.declared.halt.Halt.TheVariants as halt
+use Rattle.dg_session.specs.Damage.{DamageIn, DamageIs, NamesDamage, asked_by}
+use Rattle.dg_session.specs.Halt.{retrieval_halt}
+use Rattle.dg_session.specs.Parts.{Parts}
+use Rattle.dg_session.specs.Reads.{head_of, points_over}
+use Rattle.dg_session.specs.Session.{Accepts, ComesTo, Denies, is_of_read}
+
+-- ---- no damage
+
+-- a refusal that tells of no read tells of no damage
+pub tells_no_damage : (c : Command) (p : Parts) (image : Option (List ℕ)) (r : Refusal) → is_of_read r ≡ false → DamageIs c p image (head.Refused r)
+tells_no_damage c p image (refusal.Damaged key column) e = absurd (false≢true (sym e))
+tells_no_damage c p image (refusal.Syntax column) e = tt
+tells_no_damage c p image refusal.NoIndex e = tt
+tells_no_damage c p image refusal.IndexExists e = tt
+tells_no_damage c p image refusal.Parameters e = tt
+tells_no_damage c p image (refusal.ShortBatch read count) e = tt
+tells_no_damage c p image (refusal.BadChange line reason) e = tt
+tells_no_damage c p image (refusal.OutOfRange ends) e = tt
+tells_no_damage c p image (refusal.UnknownHandle handle) e = tt
+tells_no_damage c p image (refusal.PoolFull live asked) e = tt
+tells_no_damage c p image (refusal.HistoryFull held more) e = tt
+tells_no_damage c p image (refusal.FileFull needed limit) e = tt
+tells_no_damage c p image refusal.StoreRead e = tt
+tells_no_damage c p image refusal.OutOfMemory e = tt
+tells_no_damage c p image refusal.LineLong e = tt
+tells_no_damage c p image refusal.AlreadyLoaded e = tt
+
+-- nor does a reply that is no refusal
+accepted_tells_none : (c : Command) (p : Parts) (image : Option (List ℕ)) (h : Head) → is_refusal h ≡ false → DamageIs c p image h
+accepted_tells_none c p image (head.Refused _) e = absurd (false≢true (sym e))
+accepted_tells_none c p image head.Created e = tt
+accepted_tells_none c p image (head.Loaded _ _ _) e = tt
+accepted_tells_none c p image (head.Appended _ _ _) e = tt
+accepted_tells_none c p image (head.At _ _) e = tt
+accepted_tells_none c p image (head.Several _ _) e = tt
+accepted_tells_none c p image (head.List _ _) e = tt
+accepted_tells_none c p image (head.Plan _ _) e = tt
+accepted_tells_none c p image (head.Certified _) e = tt
+accepted_tells_none c p image (head.Tree _ _ _ _ _ _) e = tt
+
+not_true : (b : Bool) → (b ≡ true → ⊥) → b ≡ false
+not_true true h = absurd (h refl)
+not_true false h = refl
+
+come_to_none : (c : Command) (got : List ScriptLine) (p : Parts) (before : Option (List ℕ)) (q : Parts) (after : Option (List ℕ)) (r : Result Reply Halt) → (needs c).reads ≡ false
+    → ComesTo c got p before q after r → DamageIn c p before r
+come_to_none c got p before q after (Ok reply) no_reads comes =
+    let a : Accepts c got p before q after reply = comes in accepted_tells_none c p before reply.head a.accepted
+come_to_none c got p before q after (Err (halt.Refusal r)) no_reads comes =
+    let d : Denies c got p before q after r = comes in
+    tells_no_damage c p before r (not_true (is_of_read r) (λ e. false≢true (sym no_reads ∙ d.reads e)))
+come_to_none c got p before q after (Err (halt.Stop s)) no_reads comes = tt
+
+-- a command that reads no records is not refused for damage
+pub never_for_damage : (c x : Command) (got : List ScriptLine) (p : Parts) (before : Option (List ℕ)) (q : Parts) (after : Option (List ℕ)) (r : Result Reply Halt) → c ≡ x → (needs x).reads ≡ false
+    → ComesTo x got p before q after r → DamageIn c p before r
+never_for_damage c x got p before q after r is no_reads comes =
+    subst (λ y. DamageIn y p before r) (sym is) (come_to_none x got p before q after r no_reads comes)
+
+-- ---- a damage
+
+-- the fault of a retrieval over what the session has in memory
+pub damage_over : (p : Parts) (o : Opening) (times : List ℕ) (cols : Columns) (told : Option (List ℕ)) (names : ℕ) (graph : List Element) (events : List Event) (r : Result Retrieved RetrievalFault)
+    → IsSession p o names graph events
+    → IfErr r (λ f. IfSome told (λ image. IsFirstDamage names (kept_edges o (length events) cols) o cols (points_over o events times) image f))
+    → IfErr r (λ f. NamesDamage p told (times, cols) f)
+damage_over p o times cols told names graph events (Ok x) is damage = tt
+damage_over p o times cols told names graph events (Err f) is damage = (
+  o,
+  is.there,
+  subst (λ es. IfSome told (λ image. IsFirstDamage (length p.names) (kept_edges o (length es) cols) o cols (points_over o es times) image f)) is.all
+      (subst (λ n. IfSome told (λ image. IsFirstDamage n (kept_edges o (length events) cols) o cols (points_over o events times) image f)) is.count damage),
+)
+
+-- what the command that asks for it comes to by the fault
+pub damage_in : (c : Command) (p : Parts) (image : Option (List ℕ)) (asked : List ℕ × Columns) (f : RetrievalFault) → asked_by c ≡ Some asked → NamesDamage p image asked f
+    → DamageIn c p image (Err (retrieval_halt f))
+damage_in c p image asked retrieval_fault.Disk is damage = tt
+damage_in c p image asked retrieval_fault.Memory is damage = tt
+damage_in c p image asked (retrieval_fault.Damaged key col) is damage = (asked, is, damage)
+
+-- the reply, where there is one
+pub damage_in_reply : (c : Command) (p : Parts) (image : Option (List ℕ)) (r : Result Reply Halt) (h : Head) → head_of r ≡ Some h → DamageIn c p image r → DamageIs c p image h
+damage_in_reply c p image r h is damage = subst (λ (o : Option Head). IfSome o (λ x. DamageIs c p image x)) is damage
