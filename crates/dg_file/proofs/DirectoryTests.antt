@@ -17,8 +17,7 @@ use Rattle.dg_file.specs.declared.found_directory.FoundDirectory.{FoundDirectory
 use Rattle.dg_file.specs.Directories.{TakesNames, directory_due, TakesDirectory}
 use Rattle.dg_shape.specs.Additions.{bytes_of_rows, Suits}
 use Rattle.dg_index.proofs.DirectoryNames.{both}
-use Rattle.dg_file.specs.Invariant.{EndBy}
-use Rattle.dg_file.proofs.ListEnds.{ends_read}
+use Rattle.dg_file.proofs.ListedRows.{listed_read}
 use Rattle.dg_file.proofs.Texts.{names_length, end_in, names_first, name_far}
 
 -- what the bytes say that has so many lists and deltas, whose names are read as these and end at the offset
@@ -229,13 +228,15 @@ module _ (x : Opened) (columns : ℕ) (bytes : List ℕ) (le : 28 ≤ length byt
         suits = subst (λ (l : List Key). Suits l found.rows.items) (sym k) (subst (λ (l : List Row). Suits (keys_next x.index batch.events) l) (sym r) (suits_said x.index batch.events lists deltas bytes (taken.names, end) large few lists_is deltas_is));
         measured = eqb-true (bytes_of_rows found.rows.items) columns measured;
         follows = ap (may_follow (events_in x.index.batches) (earliest_in 0 x.index.batches)) fb ∙ follow;
-        ends =
+        listed =
+            let o : Opening = x.index in
+            let rows : List Row = rows_in (said lists deltas bytes (taken.names, end)) in
+            let from : eight_at bytes 8 ≡ found.batch.ends.first = ap (λ (b : BatchEntry). b.ends.first) (sym (fb ∙ batch_is)) in
             let last : eight_at bytes 16 ≡ found.batch.ends.last = ap (λ (b : BatchEntry). b.ends.last) (sym (fb ∙ batch_is)) in
-            let rows : rows_in (said lists deltas bytes (taken.names, end)) ≡ found.rows.items = sym r in
-            subst (λ (l : List Row). EndBy found.batch.ends.last l) rows
-            (subst (λ n. EndBy n (rows_in (said lists deltas bytes (taken.names, end)))) last
-            (ends_read (last_list (first_in (eight_at bytes 8) x.index.batches) x.index.records) (eight_at bytes 16) (rows_at list_at 40 lists bytes (end + 4)) deltas bytes (end + 8 + 40 * lists) (end + 8 + 40 * lists + 24 * deltas)
-            (listed_same found.rows.items first r f ∙ listed)));
+            let read : may_be_listed (last_list (first_in (eight_at bytes 8) o.batches) o.records) (eight_at bytes 16) rows ≡ true =
+            listed_read (last_list (first_in (eight_at bytes 8) o.batches) o.records) (eight_at bytes 16) (rows_at list_at 40 lists bytes (end + 4)) deltas bytes (end + 8 + 40 * lists) (end + 8 + 40 * lists + 24 * deltas)
+            (listed_same found.rows.items first r f ∙ listed) in
+            (λ i. may_be_listed (last_list (first_in (sym from i) o.batches) o.records) (sym last i) (r i)) ∙ read;
         counted = omega (arith, all, long, number);
         few = omega (arith, all, long, room);
         long = omega (arith, eqb-true (length bytes) (end + 32 + 40 * lists + 24 * deltas) ends.0, names_past count bytes 28 (taken.names, end) taken.read);

@@ -10,4 +10,5 @@ pub mod NextSegments
 pub mod FetchedColumns
 pub mod AddedSegments
 pub mod Creations
-pub mod ListEnds
+pub mod ListedRows
+pub mod RisingLists

@@ -1,13 +1,13 @@
 -- What an index holds with one segment more.
 use Rattle.std.proofs.Common.{◌≡◌, ℕ, suc, ◌+◌, ◌-◌, ◌≤◌, true, List, [], ◌∷◌, ◌++◌, length, map, Option, Some, None, refl, sym, ap, subst, ◌∙◌, arith, length-append}
-use Rattle.std.specs.Prelude.{IfSome, nat_le, slice_get}
+use Rattle.std.specs.Prelude.{nat_le, slice_get}
 use Rattle.std.proofs.lemmas.Bool.{leb-true}
 use Rattle.std.proofs.lemmas.List.Sums.{sum_by-cons, sum_by_push, sum_by-append}
 use Rattle.dg_history.specs.declared.limits.TheConstants.{BATCH_LINES_MAX, EVENTS_MAX, FILE_BYTES_MAX}
 use Rattle.dg_graph.specs.declared.limits.TheConstants.{NAMES_MAX, TIME_MAX}
 use Rattle.dg_history.specs.declared.node.Key.{Key}
-use Rattle.dg_shape.specs.Entries.{Holdings}
-use Rattle.dg_index.specs.OpenedIndex.{total, Opening, events_in, earliest_in, last_or, last_list, keys_next, laid, may_follow}
+use Rattle.dg_shape.specs.Entries.{Holdings, spanned}
+use Rattle.dg_index.specs.OpenedIndex.{total, Opening, events_in, earliest_in, first_in, last_or, last_list, keys_next, laid, may_be_listed, may_follow, span_in, within}
 use Rattle.dg_index.specs.IndexGrowth.{AreInTurn, columns_in, last_time_in, names_in}
 use Rattle.dg_index.specs.declared.entry.Ends.{Ends}
 use Rattle.dg_index.specs.declared.entry.Entry.{Entry}
@@ -19,8 +19,9 @@ use Rattle.dg_index.proofs.NodeBounds.{kept_laid}
 use Rattle.dg_index.proofs.FreshKeys.{fresh_next}
 use Rattle.dg_index.proofs.OpenedHistories.{large_parameters}
 use Rattle.dg_shape.specs.Additions.{bytes_of_rows, Suits, IsRoomFor}
-use Rattle.dg_file.specs.Invariant.{EndBy, IndexIsSound, last_from, later, listed_after, with_rows}
+use Rattle.dg_file.specs.Invariant.{IndexIsSound, TimesRise, last_from, later, listed_after, with_rows}
 use Rattle.dg_shape.proofs.AddedRecords.{suits_length}
+use Rattle.dg_file.proofs.RisingLists.{span_push, times_with}
 use Rattle.dg_index.proofs.DirectoryNames.{both}
 
 earliest_push : (t : ℕ) (batches : List BatchEntry) (b : BatchEntry) → earliest_in t (batches ++ b ∷ []) ≡ b.ends.last + 1
@@ -64,13 +65,15 @@ bytes_with o b rows offset used s =
     sum_by-append (λ (e : Key × Entry). total e.1.lengths) o.records (laid offset (keys_next o b.events) rows) ∙ ap (λ n. columns_in o.records + n) (laid_bytes offset (keys_next o b.events) rows s)
 
 -- a later list ends by this time too
-ends_by : (t : ℕ) (last : Option ℕ) (rows : List Row) → last_from 0 last ≤ t → EndBy t rows → last_from 0 (listed_after last rows) ≤ t
-ends_by t last [] le e = le
-ends_by t last (r ∷ rows) le e = ends_by t (later last r.ends) rows (by r.ends e.0) e.1
+ends_by : (first t : ℕ) (last : Option ℕ) (rows : List Row) → last_from 0 last ≤ t → may_be_listed first t rows ≡ true → last_from 0 (listed_after last rows) ≤ t
+ends_by first t last [] le may = le
+ends_by first t last (r ∷ rows) le may =
+    let parts = both (within first t r.ends) _ may in
+    ends_by (last_or first r.ends) t (later last r.ends) rows (by r.ends parts.0) parts.1
   where
-    by : (ends : Option Ends) → IfSome ends (λ (e : Ends). e.last ≤ t) → last_from 0 (later last ends) ≤ t
+    by : (ends : Option Ends) → within first t ends ≡ true → last_from 0 (later last ends) ≤ t
     by None i = le
-    by (Some e) i = i
+    by (Some e) i = leb-true _ _ (both (nat_le e.first e.last) _ (both (nat_le first e.first) _ i).1).1
 
 -- what the test of a batch behind others says
 pub record Follows (count earliest : ℕ) (b : BatchEntry) : Type 0 where
@@ -90,10 +93,10 @@ follows_in count earliest b e =
     let g = both (nat_le b.ends.first b.ends.last) _ f.1 in
     record { some = leb-true _ _ a.0; few = leb-true _ _ c.0; all = leb-true _ _ d.0; starts = leb-true _ _ f.0; rises = leb-true _ _ g.0; in_time = leb-true _ _ g.1 }
 
-pub noted_sound : (o : Opening) (events names from : ℕ) (last : Option ℕ) (b : BatchEntry) (rows : List Row) (offset used : ℕ) → IndexIsSound o events names from last → Suits (keys_next o b.events) rows
-    → may_follow (events_in o.batches) (earliest_in 0 o.batches) b ≡ true → EndBy b.ends.last rows → names_in o.batches + b.names ≤ NAMES_MAX → o.used ≤ offset → offset + bytes_of_rows rows + 1 ≡ used → used ≤ FILE_BYTES_MAX
-    → IndexIsSound (with_rows o b rows offset used) (events + b.events) (names + b.names) (b.ends.last + 1) (listed_after last rows)
-noted_sound o events names from last b rows offset used s suits follows ends few behind is within =
+pub noted_sound : (o : Opening) (events names from : ℕ) (last : Option ℕ) (span : Option Ends) (b : BatchEntry) (rows : List Row) (offset used : ℕ) → IndexIsSound o events names from last span → Suits (keys_next o b.events) rows
+    → may_follow (events_in o.batches) (earliest_in 0 o.batches) b ≡ true → may_be_listed (last_list (first_in b.ends.first o.batches) o.records) b.ends.last rows ≡ true → names_in o.batches + b.names ≤ NAMES_MAX → o.used ≤ offset → offset + bytes_of_rows rows + 1 ≡ used → used ≤ FILE_BYTES_MAX
+    → IndexIsSound (with_rows o b rows offset used) (events + b.events) (names + b.names) (b.ends.last + 1) (listed_after last rows) (Some (spanned span b.ends))
+noted_sound o events names from last span b rows offset used s suits follows may few behind is within =
     let f = follows_in (events_in o.batches) (earliest_in 0 o.batches) b follows in
     record {
       parameters = s.parameters;
@@ -106,15 +109,17 @@ noted_sound o events names from last b rows offset used s suits follows ends few
       earliest = sym (earliest_push 0 o.batches b);
       in_time = omega (arith, f.in_time);
       listed = λ t. last_append t o.records (laid offset (keys_next o b.events) rows) ∙ ap (λ n. last_list n (laid offset (keys_next o b.events) rows)) (s.listed t) ∙ last_laid t last offset (keys_next o b.events) rows suits;
-      late = omega (arith, ends_by b.ends.last last rows (omega (arith, s.late, s.earliest, f.starts, f.rises)) ends);
+      late = omega (arith, ends_by (last_list (first_in b.ends.first o.batches) o.records) b.ends.last last rows (omega (arith, s.late, s.earliest, f.starts, f.rises)) may);
+      rise = times_with o last b rows offset s.rise s.listed may;
+      span_is = ap (λ (x : Option Ends). Some (spanned x b.ends)) s.span_is ∙ span_push o.batches b;
       kept = kept_laid o b rows offset used s.kept (suits_length (keys_next o b.events) rows suits);
       bytes = omega (arith, s.bytes, behind, is, bytes_with o b rows offset used suits);
       within = within;
     }
 
-pub room_for : (o : Opening) (events names from : ℕ) (last : Option ℕ) (c : Holdings) (b : BatchEntry) (keys : List Key) (rows : List Row) (offset used : ℕ) → IndexIsSound o events names from last → c.entries ≡ o.records
+pub room_for : (o : Opening) (events names from : ℕ) (last : Option ℕ) (span : Option Ends) (c : Holdings) (b : BatchEntry) (keys : List Key) (rows : List Row) (offset used : ℕ) → IndexIsSound o events names from last span → c.entries ≡ o.records
     → length keys ≤ c.spare → keys ≡ keys_next o b.events → Suits keys rows → o.used ≤ offset → offset + bytes_of_rows rows + 1 ≡ used → used ≤ FILE_BYTES_MAX → IsRoomFor c offset keys rows
-room_for o events names from last c b keys rows offset used s same room is suits behind end within =
+room_for o events names from last span c b keys rows offset used s same room is suits behind end within =
     let large = large_parameters o.params.l o.params.k s.parameters in
     let fresh = fresh_next o.params (omega (arith, large.0)) (omega (arith, large.1)) o.batches b.events in
     record {
@@ -125,7 +130,7 @@ room_for o events names from last c b keys rows offset used s same room is suits
       suits = suits;
     }
 
-pub bare_sound : (o : Opening) → are_parameters o.params.l o.params.k ≡ true → o.batches ≡ [] → o.records ≡ [] → o.used ≡ 18 → IndexIsSound o 0 0 0 None
+pub bare_sound : (o : Opening) → are_parameters o.params.l o.params.k ≡ true → o.batches ≡ [] → o.records ≡ [] → o.used ≡ 18 → IndexIsSound o 0 0 0 None None
 bare_sound o p b r u = record {
   parameters = p;
   turns = subst (AreInTurn 0 0) (sym b) tt;
@@ -138,6 +143,8 @@ bare_sound o p b r u = record {
   in_time = omega arith;
   listed = λ t. ap (last_list t) r;
   late = omega arith;
+  rise = subst (TimesRise 0) (sym r) tt;
+  span_is = ap span_in (sym b);
   kept = (λ i. map (λ (x : Key × Entry). x.0) (r i)) ∙ (λ i. keys_among o.params 0 0 (sym b i));
   bytes = omega (arith, ap columns_in r, u);
   within = omega (arith, u);

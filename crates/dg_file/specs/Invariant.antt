@@ -1,14 +1,16 @@
 -- What holds of what an index keeps, and what it keeps with one batch more.
-use Rattle.std.specs.Prelude.{◌≡◌, ℕ, ◌+◌, ◌≤◌, true, List, [], ◌∷◌, ◌++◌, Option, Some, None, IfSome, length}
+use Rattle.std.specs.Prelude.{◌≡◌, ℕ, ◌+◌, ◌≤◌, true, List, [], ◌∷◌, ◌++◌, Option, Some, None, length}
 use Rattle.dg_graph.specs.declared.limits.TheConstants.{NAMES_MAX, TIME_MAX}
 use Rattle.dg_history.specs.declared.limits.TheConstants.{EVENTS_MAX, FILE_BYTES_MAX}
 use Rattle.dg_history.specs.History.{are_parameters}
+use Rattle.dg_history.specs.declared.node.Key.{Key}
 use Rattle.dg_index.specs.declared.entry.BatchEntry.{BatchEntry}
 use Rattle.dg_index.specs.declared.entry.Ends.{Ends}
+use Rattle.dg_index.specs.declared.entry.Entry.{Entry}
 use Rattle.dg_index.specs.declared.entry.Row.{Row}
 use Rattle.dg_index.specs.IndexGrowth.{AreInTurn, columns_in, names_in}
 use Rattle.dg_index.specs.IndexKeys.{AreKept}
-use Rattle.dg_index.specs.OpenedIndex.{Opening, earliest_in, events_in, keys_next, laid, last_list}
+use Rattle.dg_index.specs.OpenedIndex.{Opening, earliest_in, events_in, keys_next, laid, last_list, last_or, span_in}
 
 -- the last time of the last list, or this one
 abbrev pub last_from : ℕ → Option ℕ → ℕ
@@ -24,14 +26,19 @@ abbrev pub listed_after : Option ℕ → List Row → Option ℕ
 listed_after t [] = t
 listed_after t (r ∷ rows) = listed_after (later t r.ends) rows
 
--- no list among the rows ends later than this
-abbrev pub EndBy : ℕ → List Row → Type 0
-EndBy t [] = Unit {0}
-EndBy t (r ∷ rows) = IfSome r.ends (λ (e : Ends). e.last ≤ t) × EndBy t rows
+-- a list's times begin no earlier than this, and do not fall
+abbrev pub BeginsFrom : ℕ → Option Ends → Type 0
+BeginsFrom t None = Unit {0}
+BeginsFrom t (Some e) = (t ≤ e.first) × (e.first ≤ e.last)
+
+-- no list among the records begins earlier than this, nor than the list before it ended
+abbrev pub TimesRise : ℕ → List (Key × Entry) → Type 0
+TimesRise t [] = Unit {0}
+TimesRise t (r ∷ more) = BeginsFrom t r.1.ends × TimesRise (last_or t r.1.ends) more
 
 -- what holds of the fields of an index: the events and the names of its batches, the earliest time that the next
--- one may begin with, and the last time of the last list
-pub record IndexIsSound (o : Opening) (events names from : ℕ) (last : Option ℕ) : Type 0 where
+-- one may begin with, the last time of the last list, and the first and the last time of all batches
+pub record IndexIsSound (o : Opening) (events names from : ℕ) (last : Option ℕ) (span : Option Ends) : Type 0 where
   pub parameters : are_parameters o.params.l o.params.k ≡ true
   pub turns : AreInTurn 0 0 o.batches
   pub count : events ≡ events_in o.batches
@@ -43,6 +50,8 @@ pub record IndexIsSound (o : Opening) (events names from : ℕ) (last : Option �
   pub in_time : from ≤ TIME_MAX + 1
   pub listed : (t : ℕ) → last_list t o.records ≡ last_from t last
   pub late : last_from 0 last ≤ from
+  pub rise : TimesRise 0 o.records
+  pub span_is : span ≡ span_in o.batches
   pub kept : AreKept o
   pub bytes : columns_in o.records + 18 ≤ o.used
   pub within : o.used ≤ FILE_BYTES_MAX

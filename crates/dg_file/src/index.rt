@@ -11,14 +11,15 @@ ghost use Rattle.dg_history.specs.Keys.{same_key};
 ghost use Rattle.dg_index.specs.ImageOfHistory.{is_blank, IsImageOf};
 ghost use Rattle.dg_index.specs.IndexGrowth.{AreInTurn, IsDue, columns_in, index_with, last_time_in, names_in, needed_for};
 ghost use Rattle.dg_index.specs.IndexKeys.{AreKept};
-ghost use Rattle.dg_index.specs.OpenedIndex.{column_at, bare, earliest_in, events_in, first_in, keys_next, last_list, list_count, may_follow, opened_of, opening};
+ghost use Rattle.dg_index.specs.OpenedIndex.{column_at, bare, earliest_in, events_in, first_in, keys_next, last_list, list_count, may_be_listed, may_follow, opened_of, opening, span_in};
 ghost use Rattle.dg_disk.specs.Image.{IsLengthOf};
 ghost use Rattle.dg_shape.specs.Additions.{bytes_of_rows, Suits};
+ghost use Rattle.dg_shape.specs.Points.{ListsRise};
 ghost use Rattle.dg_file.specs.Directories.{directory_due, TakesDirectory};
 ghost use Rattle.dg_file.specs.Headers.{IsOpenedSoFar};
 ghost use Rattle.dg_file.specs.Index.{HasRoom, opening_bytes};
 ghost use Rattle.dg_file.specs.Images.{BothTold, Fits, GainsBatch, GainsBatchOrNot, GainsSegment, IsMadeInPart, IsOpenedAs, RefusesOpening, taken_after};
-ghost use Rattle.dg_file.specs.Invariant.{EndBy, listed_after, with_rows};
+ghost use Rattle.dg_file.specs.Invariant.{listed_after, with_rows};
 
 use crate::appending::append;
 use crate::directory_batch::{batch_at, may_follow};
@@ -74,7 +75,7 @@ impl Model for Index {
 
     ghost view = { λ x. record { opening = record { params = x.params; batches = x.batches.items; records = x.catalogue.entries; used = x.used }; spare = x.catalogue.spare; room = vec_capacity x.batches - vec_len x.batches } };
 
-    ghost invariant = { λ x. IndexIsSound (record { params = x.params; batches = x.batches.items; records = x.catalogue.entries; used = x.used }) x.events x.names x.earliest x.listed };
+    ghost invariant = { λ x. IndexIsSound (record { params = x.params; batches = x.batches.items; records = x.catalogue.entries; used = x.used }) x.events x.names x.earliest x.listed x.catalogue.span };
 }
 
 // The last time of the last list among the rows, where without one it is this.
@@ -156,7 +157,7 @@ impl Index {
         requires keys { keys.now ≡ keys_next self.old.opening batch.events }
         requires rows { Suits keys.now rows.now }
         requires follows { may_follow (events_in self.old.opening.batches) (earliest_in 0 self.old.opening.batches) batch ≡ true }
-        requires ends { EndBy batch.ends.last rows.now }
+        requires listed { may_be_listed (last_list (first_in batch.ends.first self.old.opening.batches) self.old.opening.records) batch.ends.last rows.now ≡ true }
         requires names { names_in self.old.opening.batches + batch.names ≤ NAMES_MAX }
         requires behind { self.old.opening.used ≤ offset }
         requires used { offset + bytes_of_rows rows.now + 1 ≡ used }
@@ -447,10 +448,15 @@ impl Index {
         self.catalogue.entry(key)
     }
 
-    /// What the index keeps of each record.
+    /// What the index keeps of each record, and the first and the last instant of its batches. The
+    /// numbers of the lists go from 0 on, and each begins no earlier than the one before it.
     pub fn catalogue(&self) -> &Catalogue
         ensures entries { result.now.entries ≡ self.now.opening.records }
+        ensures span { result.now.span ≡ span_in self.now.opening.batches }
+        ensures rise { ListsRise result.now }
     {
+        // Its clauses tell that a list has instants.
+        self.catalogue.facts();
         &self.catalogue
     }
 

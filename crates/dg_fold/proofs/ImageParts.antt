@@ -12,8 +12,7 @@ use Rattle.dg_history.specs.Keys.{same_key}
 use Rattle.dg_index.specs.declared.entry.Entry.{Entry}
 use Rattle.dg_index.specs.ImageOfHistory.{IsImageOf}
 use Rattle.dg_index.specs.IndexRecords.{column_in}
-use Rattle.dg_index.specs.OpenedIndex.{column_at, opened_of}
-use Rattle.dg_index.specs.SessionStart.{entry_or_none}
+use Rattle.dg_index.specs.OpenedIndex.{column_at, entry_or_none, opened_of}
 use Rattle.dg_index.proofs.KeptColumns.{columns_are_kept}
 use Rattle.dg_plan.specs.declared.edge.Way.{Way}
 use Rattle.dg_fold.specs.declared.part.Part.{Part}

@@ -9,8 +9,7 @@ use Rattle.dg_graph.specs.declared.element.Columns.{Columns}
 use Rattle.dg_graph.specs.Elements.{asks}
 use Rattle.dg_history.specs.declared.node.Key.{Key}
 use Rattle.dg_history.specs.Keys.{same_key}
-use Rattle.dg_index.specs.OpenedIndex.{Opening, column_at}
-use Rattle.dg_index.specs.SessionStart.{entry_at}
+use Rattle.dg_index.specs.OpenedIndex.{Opening, column_at, entry_at}
 use Rattle.dg_plan.specs.declared.edge.Edge.{Edge}
 use Rattle.dg_plan.specs.declared.edge.Via.{Via}
 use Rattle.dg_plan.specs.declared.edge.Via.TheVariants as via

@@ -174,6 +174,7 @@ pub fn compose_tree<R: Threads>(
     requires on { All (λ (e : Edge). e.to ≢ Root) (all_edges branches.now) }
     requires times { length times.now ≡ length branches.now }
     ensures ok { IfOk result (λ v. AreLedUntil names recent.now parts.now (paired (all_edges branches.now) parts.now) branches.now times.now v.items) }
+    ensures read { OnOk result ((list : List Delta) × (steps_in names recent.now (paired (all_edges branches.now) parts.now) ≡ Ok list)) }
     ensures err { IfErr result (λ f. FailsIn f (beside (steps_in names recent.now (paired (all_edges branches.now) parts.now)) (lasts_in names recent.now parts.now branches.now times.now))) }
 {
     let firsts = match compose_paths(rt, alloc, names, branches, parts, recent) {

@@ -17,8 +17,6 @@ use Rattle.dg_index.specs.Hierarchy.{set_of}
 use Rattle.dg_index.specs.OlderNodes.{older}
 use Rattle.dg_index.specs.IndexRecords.{keys_of, column_in}
 use Rattle.dg_index.specs.FileOfHistory.{file, size}
-use Rattle.dg_index.specs.SessionStart.{start_of}
-use Rattle.dg_history.specs.declared.start_fault.StartFault.TheVariants as fault
 
 p : History
 p = record {
@@ -117,19 +115,3 @@ older_leaves = refl
 longer_opened : opening (file longer ++ 0 ∷ []) ≡ Ok (opened_of longer)
 unfolding longer p
 longer_opened = refl
-
--- ---- what a session starts with
-
-started : start_of (file longer ++ 0 ∷ []) ≡ Ok (Some (record { opened = opened_of longer; events = events_of longer }))
-unfolding longer p
-started = refl
-
--- a kind that no event has, in the first list
-list_in_no_spelling : start_of (changed 269 9) ≡ Err (fault.BadRecord (key.List 0) column.Structure)
-unfolding p changed
-list_in_no_spelling = refl
-
--- the second event of the first list adds the node that is there
-not_right : start_of (changed 296 1) ≡ Err (fault.BadRecent 2)
-unfolding p changed
-not_right = refl

@@ -8,7 +8,6 @@ pub mod ExactSteps
 pub mod ImageOfHistory
 pub mod OpenedSoFar
 pub mod RecentEvents
-pub mod SessionStart
 pub mod OlderNodes
 pub mod IndexKeys
 pub mod EverAdded

@@ -1,5 +1,6 @@
 -- What an image of the index file is opened as, by its header and the directories of its segments.
 use Rattle.std.specs.Prelude.{◌≡◌, ◌<◌, ◌^◌, ℕ, zero, suc, ◌+◌, ◌-◌, ◌*◌, Bool, true, ◌&&◌, ◌==◌, not, List, [], ◌∷◌, ◌++◌, Option, Some, None, Result, Ok, Err, if◌then◌else◌, length, map, take, drop, nat_le, nat_lt, option_and_then, slice_index, sum_by}
+use Rattle.std.specs.Map.{lookup}
 use Rattle.dg_graph.specs.declared.element.Column.{Column}
 use Rattle.dg_graph.specs.declared.element.Column.TheVariants as column
 use Rattle.dg_graph.specs.declared.event.Event.{Event}
@@ -9,6 +10,7 @@ use Rattle.dg_history.specs.declared.node.Key.{Key}
 use Rattle.dg_history.specs.declared.node.Key.TheVariants as key
 use Rattle.dg_history.specs.declared.params.Params.{Params}
 use Rattle.dg_history.specs.History.{History, Batch}
+use Rattle.dg_history.specs.Keys.{same_key}
 use Rattle.dg_index.specs.ImageOfHistory.{is_blank}
 use Rattle.dg_graph.specs.Names.{are_new}
 use Rattle.dg_index.specs.ImageText.{four_at, eight_at, params_in, names_at, gate_behind, is_within}
@@ -69,6 +71,16 @@ last_list t (r ∷ more) = last_list (last_or t r.1.ends) more
 abbrev pub first_in : ℕ → List BatchEntry → ℕ
 first_in t [] = t
 first_in t (b ∷ more) = b.ends.first
+
+-- the last time of the last of the batches, where without one it is this
+abbrev pub last_end : ℕ → List BatchEntry → ℕ
+last_end t [] = t
+last_end t (b ∷ more) = last_end b.ends.last more
+
+-- the first and the last time of the batches, where there is one
+abbrev pub span_in : List BatchEntry → Option Ends
+span_in [] = None
+span_in (b ∷ batches) = Some (record { first = b.ends.first; last = last_end b.ends.last batches })
 
 -- the numbers of lists and of deltas that a batch of so many events gives
 abbrev pub list_count : Opening → ℕ → ℕ
@@ -260,6 +272,14 @@ abbrev pub column_at : List ℕ → Entry → Column → List ℕ
 column_at image e column.Structure = take (slice_index e.lengths 0) (drop e.offset image)
 column_at image e column.NodeAttr = take (slice_index e.lengths 1) (drop (e.offset + slice_index e.lengths 0) image)
 column_at image e column.EdgeAttr = take (slice_index e.lengths 2) (drop (e.offset + slice_index e.lengths 0 + slice_index e.lengths 1) image)
+
+abbrev pub entry_or_none : Option Entry → Entry
+entry_or_none (Some e) = e
+entry_or_none None = record { lengths = 0 ∷ 0 ∷ 0 ∷ []; offset = 0; ends = None }
+
+-- what the index keeps of a record
+abbrev pub entry_at : Opening → Key → Entry
+entry_at o k = entry_or_none (lookup (same_key k) o.records)
 
 -- a segment that may stand behind what is opened so far
 pub record MayStand (x : Opened) (s : Segment) : Type 0 where

@@ -39,9 +39,9 @@ nothing_more = record {
   writes = false;
 }
 
--- a batch of so many lines
+-- a batch of so many lines: the older children of interior nodes that it completes are read
 abbrev pub batch_needs : ℕ → Needs
-batch_needs count = record nothing_more { lines = Some count; index = true; changes = count; writes = true }
+batch_needs count = record nothing_more { lines = Some count; index = true; changes = count; reads = true; writes = true }
 
 abbrev pub needs : Command → Needs
 needs (command.Create l k function) = record nothing_more { parameters = Some (l, k); writes = true }

@@ -6,7 +6,7 @@ use Rattle.dg_history.specs.declared.node.NodeId.{NodeId}
 use Rattle.dg_history.specs.declared.node.NodeId.TheVariants.{Root}
 use Rattle.dg_history.specs.History.{events_of}
 use Rattle.dg_plan.specs.declared.edge.Edge.{Edge}
-use Rattle.dg_plan.specs.HistoryGraph.{ground_of_history}
+use Rattle.dg_plan.specs.HistoryGraph.{ground_of_history, ground_of_records}
 use Rattle.dg_plan.specs.IndexGraph.{nodes_of, edges_of, arcs_of}
 use Rattle.dg_plan.specs.InstantPoint.{point}
 use Rattle.dg_plan.specs.Walks.{Graft, IsPlan, IsPotential, IsTree, AreSingles, weight_of}
@@ -19,6 +19,10 @@ edges_in m cols = edges_of (ground_of_history (history_in m.index) cols)
 
 abbrev pub nodes_in : MachineState → Columns → ListOf NodeId
 nodes_in m cols = nodes_of (ground_of_history (history_in m.index) cols)
+
+-- the edges between the records alone, without what is in memory
+abbrev pub record_edges_in : MachineState → Columns → ListOf Edge
+record_edges_in m cols = edges_of (ground_of_records (history_in m.index) cols)
 
 -- the node from which the graph as of an instant is reached
 abbrev pub point_for : MachineState → ℕ → NodeId

@@ -154,3 +154,13 @@ pub none_damaged : (names : ℕ) (recent : ListOf Event) (bytes : ColumnBytes) (
     → AreParts bytes cols (named_along walk) parts → steps_in names recent (paired walk parts) ≡ Ok list → parts_in names parts ≡ Err x → ⊥
 none_damaged names recent bytes cols walk parts list x are ok damaged =
     subst (λ (b : Deltas). SameFault (Ok list) b) damaged (subst (λ (a : Deltas). SameFault a (parts_in names parts)) ok (steps_same names recent bytes cols walk parts are))
+
+-- where nothing along the walk is damaged, all parts are whole
+pub parts_are_whole : (names : ℕ) (recent : ListOf Event) (bytes : ColumnBytes) (cols : Columns) (walk : ListOf Edge) (parts : ListOf Part) (list : ListOf Delta)
+    → AreParts bytes cols (named_along walk) parts → steps_in names recent (paired walk parts) ≡ Ok list → (all : ListOf Delta) × (parts_in names parts ≡ Ok all)
+parts_are_whole names recent bytes cols walk parts list are ok =
+    by (parts_in names parts) (subst (λ (a : Deltas). SameFault a (parts_in names parts)) ok (steps_same names recent bytes cols walk parts are))
+  where
+    by : (due : Deltas) → SameFault (Ok list) due → (all : ListOf Delta) × (due ≡ Ok all)
+    by (Ok all) same = (all, refl)
+    by (Err x) same = elim same [ ]

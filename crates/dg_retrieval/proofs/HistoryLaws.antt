@@ -1,16 +1,24 @@
 -- The law of path independence over the index of a history, as a retrieval uses it.
 use Rattle.std.proofs.Common.{◌≡◌, ℕ, List as ListOf, [], Ok, length, subst, sym}
 use Rattle.std.specs.Prelude.{◌≢◌}
-use Rattle.std.proofs.lemmas.List.Elements.{All-nil}
-use Rattle.dg_history.specs.declared.node.NodeId.TheVariants.{List}
+use Rattle.std.proofs.lemmas.List.Elements.{All-contains, All-nil, All-weaker}
+use Rattle.dg_history.specs.declared.node.Key.{Key}
+use Rattle.dg_history.specs.declared.node.NodeId.TheVariants.{List, Root}
+use Rattle.dg_fold.proofs.Fittings.{records_fit}
+use Rattle.dg_fold.proofs.HistoryPaths.{edges_paired, node_set, parts_hold}
 use Rattle.dg_fold.proofs.HistoryTrees.{history_trees_reach}
+use Rattle.dg_fold.proofs.Leading.{trees_lead}
 use Rattle.dg_fold.proofs.LegalHistories.{legal_is_indexed}
+use Rattle.dg_fold.proofs.SoundEdges.{edges_are_sound}
 use Rattle.std.specs.List.{All, Contains}
 use Rattle.dg_fold.specs.declared.part.Part.{Part}
 use Rattle.dg_fold.specs.BytesRead.{AreParts, named_along}
 use Rattle.dg_fold.specs.Ends.{LeadsUntil}
 use Rattle.dg_fold.specs.HistoryPaths.{IsGraphOf}
-use Rattle.dg_fold.specs.Steps.{paired, steps_in}
+use Rattle.dg_fold.specs.Parts.{RecordFits}
+use Rattle.dg_fold.specs.PathIndependence.{IsSound, contents}
+use Rattle.dg_fold.specs.Steps.{BeginsWith, paired, steps_in}
+use Rattle.dg_fold.specs.Trees.{LeadsTo}
 use Rattle.dg_graph.specs.declared.element.Columns.{Columns}
 use Rattle.dg_graph.specs.declared.element.Element.{Element}
 use Rattle.dg_graph.specs.Composition.{Delta, applied}
@@ -20,7 +28,7 @@ use Rattle.dg_history.specs.declared.node.NodeId.{NodeId}
 use Rattle.dg_history.specs.History.{History, events_of, names_of}
 use Rattle.dg_history.specs.LegalHistory.{IsLegal}
 use Rattle.dg_index.specs.Hierarchy.{set_of}
-use Rattle.dg_index.specs.IndexRecords.{column_in, recent_of}
+use Rattle.dg_index.specs.IndexRecords.{column_in, record_among, recent_of}
 use Rattle.dg_plan.specs.declared.edge.Edge.{Edge}
 use Rattle.dg_plan.specs.IndexGraph.{Ground, edges_of}
 use Rattle.dg_plan.specs.InstantPoint.{point}
@@ -35,6 +43,12 @@ ReachesInstants names z cols walk parts =
     (t : ℕ) (begun : NodeId) (d : Delta) → LeadsUntil names (recent_of z.params (events_of z)) parts (paired walk parts) (point z.params (events_of z) t) t begun d
     → (set : ListOf Element) → IsSet set → shown set cols ≡ shown (set_of z.params (events_of z) begun) cols → shown (applied d set) cols ≡ shown (replay_at (events_of z) t) cols
 
+-- The tree's path to a node leads to the set of the node.
+abbrev pub ReachesNodes : ℕ → History → Columns → ListOf Edge → ListOf Part → Type 0
+ReachesNodes names z cols walk parts =
+    (v : NodeId) (d : Delta) (led : LeadsTo names (recent_of z.params (events_of z)) (paired walk parts) v d) (set : ListOf Element) → BeginsWith cols (contents z) Root led.0 set
+    → shown (applied d set) cols ≡ shown (set_of z.params (events_of z) v) cols
+
 -- So it is over the graph of a legal history that is on no base.
 pub trees_reach : (z : History) → IsLegal z → (g : Ground) → IsGraphOf z g → g.bases ≡ [] → (cols : Columns) (walk : ListOf Edge) → All (Contains (edges_of g)) walk
     → (parts : ListOf Part) → AreParts (λ key col. column_in z key col) cols (named_along walk) parts
@@ -45,3 +59,15 @@ trees_reach z legal g graph none cols walk among parts are =
       reaches.whole,
       reaches.reached (subst (λ (bs : ListOf (ℕ × NodeId)). All (λ (b : ℕ × NodeId). (i : ℕ) → b.1 ≢ List i) bs) (sym none) (All-nil (λ (b : ℕ × NodeId). (i : ℕ) → b.1 ≢ List i))),
     )
+
+-- And with whatever bases the paths lead to the nodes.
+pub nodes_reach : (z : History) → IsLegal z → (g : Ground) → IsGraphOf z g → (cols : Columns) (walk : ListOf Edge) → All (Contains (edges_of g)) walk
+    → (parts : ListOf Part) → AreParts (λ key col. column_in z key col) cols (named_along walk) parts → ReachesNodes (length (names_of z)) z cols walk parts
+nodes_reach z legal g graph cols walk among parts are v d led set begins =
+    let names : ℕ = length (names_of z) in
+    let indexed = (legal_is_indexed z legal).0 in
+    let all = edges_are_sound z g indexed.arity indexed.changes graph.leaves graph.arity in
+    let sound : All (IsSound (contents z)) walk = All-weaker (Contains (edges_of g)) (IsSound (contents z)) (λ e there. All-contains (IsSound (contents z)) (edges_of g) e all there) walk among in
+    let fits : (k : Key) → RecordFits names (record_among z.params (events_of z) z.batches k) = records_fit names z indexed.fits indexed.few indexed.lists indexed.short in
+    trees_lead names indexed.names_fit cols (contents z) (node_set z) (paired walk parts) (subst (All (IsSound (contents z))) (sym (edges_paired walk parts)) sound)
+    (parts_hold names z cols fits walk parts are) v d led set begins

@@ -1,10 +1,14 @@
 pub mod TreeBranches
 pub mod TreeRecords
 pub mod TreeWeights
-pub mod KeptBranches
 pub mod NamedRecords
+pub mod IndexWalks
+pub mod RecordWalks
+pub mod PlannedSets
 pub mod BranchSteps
 pub mod DamagedParts
 pub mod ReachedGraphs
 pub mod HistoryLaws
+pub mod RetrievedGraphs
+pub mod LedSets
 pub mod Retrieving

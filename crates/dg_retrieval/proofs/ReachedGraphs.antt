@@ -41,12 +41,12 @@ EntersNow e = enters_held e.via ≡ true → e.to ≡ Now
 -- so does each edge of the graph of an index that is on no base
 pub edges_enter : (g : Ground) → g.bases ≡ [] → All EntersNow (edges_of g)
 edges_enter g none = each_edge g EntersNow (record {
-  now = λ held. refl;
+  now = λ there held. refl;
   base = λ b there. absurd (nothing b (subst (λ (bs : ListOf (ℕ × NodeId)). Contains bs b) none there));
   top = λ h low within held. absurd (false≢true held);
   list = λ i within. ((λ held. absurd (false≢true held)), ((λ held. absurd (false≢true held)), ((λ held. absurd (false≢true held)), ((λ held. absurd (false≢true held)), tt))));
   child = λ h j c some few low high. ((λ held. absurd (false≢true held)), ((λ held. absurd (false≢true held)), tt));
-  recent = ((λ held. absurd (false≢true held)), ((λ held. absurd (false≢true held)), ((λ held. absurd (false≢true held)), ((λ held. absurd (false≢true held)), tt))));
+  recent = λ there. ((λ held. absurd (false≢true held)), ((λ held. absurd (false≢true held)), ((λ held. absurd (false≢true held)), ((λ held. absurd (false≢true held)), tt))));
 })
   where
     nothing : (b : ℕ × NodeId) → Contains [] b → ⊥
@@ -57,7 +57,7 @@ abbrev pub IsBeginning : NodeId → Type 0
 IsBeginning n = (n ≡ Root) ⊎ (n ≡ Now)
 
 -- what holds of the edges holds of the edge of each of their steps
-step_has : (P : Edge → Type 0) (walk : ListOf Edge) (parts : ListOf Part) → All P walk → (s : Step) → IsStepOf s (paired walk parts) → P s.0
+pub step_has : (P : Edge → Type 0) (walk : ListOf Edge) (parts : ListOf Part) → All P walk → (s : Step) → IsStepOf s (paired walk parts) → P s.0
 step_has P [] parts all s among = elim among [ ]
 step_has P (e ∷ walk) parts all s among =
     let first : P e = all 0 e (omega arith) in
@@ -89,7 +89,7 @@ path_begins all enters v walk (Steps_on s before among path) = by before (path_b
 -- ---- what the paths of a tree lead to
 
 -- the branches lead to the targets
-ends_are : (edges : ListOf Edge) (targets : ListOf NodeId) (grafts : ListOf (Graft NodeId)) (branches : ListOf Branch) → AreBranches edges targets grafts branches → map (λ (b : Branch). b.to) branches ≡ targets
+pub ends_are : (edges : ListOf Edge) (targets : ListOf NodeId) (grafts : ListOf (Graft NodeId)) (branches : ListOf Branch) → AreBranches edges targets grafts branches → map (λ (b : Branch). b.to) branches ≡ targets
 ends_are edges [] [] [] are = refl
 ends_are edges [] [] (b ∷ branches) are = elim are [ ]
 ends_are edges [] (x ∷ grafts) branches are = elim are [ ]

@@ -31,19 +31,19 @@ use Rattle.dg_plan.proofs.EnteredOnce.{all_flat, number_of}
 use Rattle.dg_plan.proofs.Trees.{tree_grows}
 use Rattle.dg_fold.specs.BytesRead.{HoldsWhatIsEntered, IsEntered, IsKept, entered_by}
 use Rattle.dg_fold.specs.PathIndependence.{edges_at}
-use Rattle.dg_retrieval.specs.KeptGraph.{kept_edges, kept_ground}
-use Rattle.dg_retrieval.proofs.TreeBranches.{all_at, at_place}
+use Rattle.dg_retrieval.specs.KeptGraph.{index_edges, index_ground}
+use Rattle.dg_retrieval.proofs.TreeBranches.{at_place}
 
 -- ---- the edges of the graph of an index, form by form
 
 -- what holds of each form of edge
 pub record OfEachForm (g : Ground) (P : Edge → Type 0) : Type 0 where
-  pub now : P (edge Root Now 0 via.Now)
+  pub now : g.memory ≡ true → P (edge Root Now 0 via.Now)
   pub base : (b : ℕ × NodeId) → Contains g.bases b → P (base_edge b)
   pub top : (h : ℕ) → 1 ≤ h → g.arity ^ h ≤ g.leaves → P (top_edge g.weight h)
   pub list : (i : ℕ) → i < g.leaves → AllByRecursion P (list_edges g.weight i)
   pub child : (h j c : ℕ) → 1 ≤ j → j ≤ g.leaves / g.arity ^ (h + 1) → (j - 1) * g.arity + 1 ≤ c → c < (j - 1) * g.arity + 1 + g.arity → AllByRecursion P (child_edges g.weight h j c)
-  pub recent : AllByRecursion P (recent_edges g.leaves)
+  pub recent : g.memory ≡ true → AllByRecursion P (recent_edges g.leaves)
 
 height_of : (k m h : ℕ) → Contains (heights k m) h → (1 ≤ h) × (k ^ h ≤ m)
 height_of k m h there =
@@ -59,7 +59,7 @@ pub each_edge : (g : Ground) (P : Edge → Type 0) → OfEachForm g P → All P 
 each_edge g P of =
     All-filter (λ (e : Edge). not (is_root e.to)) P _
     (All-append P (first_edges g) _
-    (All-append P (cond g.memory (edge Root Now 0 via.Now ∷ []) []) _ (first g.memory)
+    (All-append P (cond g.memory (edge Root Now 0 via.Now ∷ []) []) _ (first g.memory refl)
     (All-append P (map base_edge g.bases) _
     (All-map P base_edge g.bases (All-weaker (Contains g.bases) (λ b. P (base_edge b)) of.base g.bases (All-contains_itself g.bases)))
     (All-map P (top_edge g.weight) (heights g.arity g.leaves)
@@ -68,15 +68,15 @@ each_edge g P of =
     (all_flat P (list_edges g.weight) (numbers 0 g.leaves) (λ i there.
     All-from_recursion P (list_edges g.weight i) (of.list i (let r = number_of 0 g.leaves i there in let a = r.1 in let b = r.2 in omega arith))))
     (All-append P (flat_map (level_edges g.weight g.leaves g.arity) (heights g.arity g.leaves)) _
-    (all_flat P (level_edges g.weight g.leaves g.arity) (heights g.arity g.leaves) level) (last g.memory))))
+    (all_flat P (level_edges g.weight g.leaves g.arity) (heights g.arity g.leaves) level) (last g.memory refl))))
   where
-    first : (m : Bool) → All P (cond m (edge Root Now 0 via.Now ∷ []) [])
-    first true = All-from_recursion P (edge Root Now 0 via.Now ∷ []) (of.now, tt)
-    first false = All-nil P
+    first : (m : Bool) → g.memory ≡ m → All P (cond m (edge Root Now 0 via.Now ∷ []) [])
+    first true there = All-from_recursion P (edge Root Now 0 via.Now ∷ []) (of.now there, tt)
+    first false there = All-nil P
 
-    last : (m : Bool) → All P (cond m (recent_edges g.leaves) [])
-    last true = All-from_recursion P (recent_edges g.leaves) of.recent
-    last false = All-nil P
+    last : (m : Bool) → g.memory ≡ m → All P (cond m (recent_edges g.leaves) [])
+    last true there = All-from_recursion P (recent_edges g.leaves) (of.recent there)
+    last false there = All-nil P
 
     level : (h : ℕ) → Contains (heights g.arity g.leaves) h → All P (level_edges g.weight g.leaves g.arity h)
     level h there =
@@ -147,7 +147,7 @@ into_list from i weight way = record {
 
 by_lists : (g : Ground) → g.bases ≡ [] → OfEachForm g IsByLists
 by_lists g none = record {
-  now = no_list (edge Root Now 0 via.Now) refl (λ i is. absurd cc);
+  now = λ there. no_list (edge Root Now 0 via.Now) refl (λ i is. absurd cc);
   base = λ b there. absurd (nothing b (subst (λ (bs : ListOf (ℕ × NodeId)). Contains bs b) none there));
   top = λ h low within. no_list (top_edge g.weight h) refl (λ i is. absurd cc);
   list = λ i within. (
@@ -158,7 +158,7 @@ by_lists g none = record {
     no_list (edge (Inner (h + 1) j) (level_node h c) (g.weight (key.Down (h + 1) c)) (via.Paid (key.Down (h + 1) c) Forward)) refl (level_no_list h c),
     (no_list (edge (level_node h c) (Inner (h + 1) j) (g.weight (key.Down (h + 1) c)) (via.Paid (key.Down (h + 1) c) Back)) refl (λ i is. absurd cc), tt),
   );
-  recent = (
+  recent = λ there. (
     no_list (edge Now Recent 0 (via.Recent Back)) refl (λ i is. absurd cc),
     (
       no_list (edge Recent Now 0 (via.Recent Forward)) refl (λ i is. absurd cc),
@@ -224,11 +224,6 @@ tree_holds g none targets grafts t =
         by zero within is = absurd cc
         by (suc k) within is = absurd (omega arith)
 
--- the same in the graph of the records that an index keeps
-pub kept_holds : (o : Opening) (n : ℕ) (cols : Columns) (targets : ListOf NodeId) (grafts : ListOf (Graft NodeId)) → IsTree (arcs_of (kept_edges o n cols)) (Root ∷ []) targets grafts
-    → HoldsWhatIsEntered [] (edges_at (kept_edges o n cols) (steps_of grafts))
-kept_holds o n cols targets grafts t = tree_holds (kept_ground o n cols) refl targets grafts t
-
 -- ---- an index keeps each record that is entered
 
 -- an edge that enters a record weighs what the record does, and the record is one of an index of so many events;
@@ -242,12 +237,12 @@ IsPaid p n weight w (via.Recent way) = w ≡ 0
 
 pub paid_edges : (p : Params) (n : ℕ) → 0 < p.k → (g : Ground) → g.leaves ≡ leaves p n → g.arity ≡ p.k → All (λ (e : Edge). IsPaid p n g.weight e.weight e.via) (edges_of g)
 paid_edges p n wide g many arity = each_edge g (λ (e : Edge). IsPaid p n g.weight e.weight e.via) (record {
-  now = refl;
+  now = λ there. refl;
   base = λ b there. refl;
   top = λ h low within. (and_from (nat_le 1 h) _ (le-leb 1 h low) (le-leb (p.k ^ h) (leaves p n) (subst (λ k. k ^ h ≤ leaves p n) arity (subst (λ m. g.arity ^ h ≤ m) many within))), refl);
   list = λ i within. let there = list_there i within in ((there, refl), ((there, refl), (refl, (refl, tt))));
   child = λ h j c some few low high. let there = child_there h j c some few low high in ((there, refl), ((there, refl), tt));
-  recent = (refl, (refl, (refl, (refl, tt))));
+  recent = λ there. (refl, (refl, (refl, (refl, tt))));
 })
   where
     list_there : (i : ℕ) → i < g.leaves → key_exists p n (key.List i) ≡ true
@@ -263,14 +258,14 @@ paid_edges p n wide g many arity = each_edge g (λ (e : Edge). IsPaid p n g.weig
         (and_from (nat_le 1 c) _ (le-leb 1 c (omega (arith, least))) (le-leb (parent p.k c * p.k ^ (h + 1)) (leaves p n) (subst (λ x. x * p.k ^ (h + 1) ≤ leaves p n) (sym above) within)))
 
 -- An index keeps the record of each edge of its graph.
-pub edges_kept : (o : Opening) → are_parameters o.params.l o.params.k ≡ true → AreKept o → (cols : Columns) → All (λ (e : Edge). IsKept o e.via) (kept_edges o (events_in o.batches) cols)
-edges_kept o right kept cols =
+pub edges_kept : (o : Opening) → are_parameters o.params.l o.params.k ≡ true → AreKept o → (cols : Columns) (memory : Bool) → All (λ (e : Edge). IsKept o e.via) (index_edges o cols memory)
+edges_kept o right kept cols memory =
     let large = large_parameters o.params.l o.params.k right in
-    All-weaker (λ (e : Edge). IsPaid o.params (events_in o.batches) (kept_ground o (events_in o.batches) cols).weight e.weight e.via) (λ (e : Edge). IsKept o e.via)
-    (λ e paid. by e.via e.weight paid) (kept_edges o (events_in o.batches) cols)
-    (paid_edges o.params (events_in o.batches) (omega (arith, large.1)) (kept_ground o (events_in o.batches) cols) refl refl)
+    All-weaker (λ (e : Edge). IsPaid o.params (events_in o.batches) (index_ground o cols memory).weight e.weight e.via) (λ (e : Edge). IsKept o e.via)
+    (λ e paid. by e.via e.weight paid) (index_edges o cols memory)
+    (paid_edges o.params (events_in o.batches) (omega (arith, large.1)) (index_ground o cols memory) refl refl)
   where
-    by : (v : Via) (w : ℕ) → IsPaid o.params (events_in o.batches) (kept_ground o (events_in o.batches) cols).weight w v → IsKept o v
+    by : (v : Via) (w : ℕ) → IsPaid o.params (events_in o.batches) (index_ground o cols memory).weight w v → IsKept o v
     by via.Now w paid = tt
     by (via.Base handle) w paid = tt
     by (via.Paid k way) w paid =
@@ -278,7 +273,3 @@ edges_kept o right kept cols =
         found o.records k (ap (among k) kept ∙ exists_held o.params (omega (arith, large.0)) large.1 o.batches k paid.0)
     by (via.Held k way) w paid = tt
     by (via.Recent way) w paid = tt
-
-pub steps_kept : (o : Opening) → are_parameters o.params.l o.params.k ≡ true → AreKept o → (cols : Columns) (steps : ListOf ℕ)
-    → All (λ (e : Edge). IsKept o e.via) (edges_at (kept_edges o (events_in o.batches) cols) steps)
-steps_kept o right kept cols steps = all_at (λ (e : Edge). IsKept o e.via) (kept_edges o (events_in o.batches) cols) steps (edges_kept o right kept cols)

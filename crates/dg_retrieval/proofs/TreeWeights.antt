@@ -13,7 +13,6 @@ use Rattle.dg_graph.specs.declared.element.Column.TheVariants.{Structure, NodeAt
 use Rattle.dg_graph.specs.declared.element.Columns.{Columns}
 use Rattle.dg_graph.specs.declared.event.Event.{Event}
 use Rattle.dg_history.specs.declared.node.Key.{Key}
-use Rattle.dg_history.specs.declared.node.NodeId.{NodeId}
 use Rattle.dg_history.specs.declared.params.Params.{Params}
 use Rattle.dg_history.specs.History.{Batch, History, events_of}
 use Rattle.dg_history.specs.Keys.{same_key}
@@ -23,8 +22,7 @@ use Rattle.dg_index.specs.FileOfHistory.{segment_of}
 use Rattle.dg_index.specs.ImageOfHistory.{IsImageOf}
 use Rattle.dg_index.specs.IndexKeys.{key_exists}
 use Rattle.dg_index.specs.IndexRecords.{column_in, length_in}
-use Rattle.dg_index.specs.OpenedIndex.{Opened, Opening, bare, column_at, events_in, opened_of, opened_onto, with_segment}
-use Rattle.dg_index.specs.SessionStart.{entry_or_none}
+use Rattle.dg_index.specs.OpenedIndex.{Opened, Opening, bare, column_at, entry_or_none, events_in, opened_of, opened_onto, with_segment}
 use Rattle.dg_index.proofs.HeldRecords.{record_held}
 use Rattle.dg_index.proofs.KeptColumns.{columns_are_kept}
 use Rattle.dg_index.proofs.OpenedHistories.{large_parameters}
@@ -38,7 +36,7 @@ use Rattle.dg_plan.proofs.Plans.{one_plan}
 use Rattle.dg_planner.proofs.HistoryGraph.{lengths_are}
 use Rattle.dg_fold.specs.BytesRead.{ColumnBytes, asked_length, entered_along, entered_by, entered_length, kept_in}
 use Rattle.dg_fold.specs.PathIndependence.{edges_at}
-use Rattle.dg_retrieval.specs.KeptGraph.{holding, kept_edges, kept_ground}
+use Rattle.dg_retrieval.specs.KeptGraph.{holding, index_edges, index_ground}
 use Rattle.dg_retrieval.proofs.TreeBranches.{at_place}
 use Rattle.dg_retrieval.proofs.TreeRecords.{IsPaid, paid_edges}
 
@@ -131,7 +129,7 @@ asked_is z bytes cols k same = by cols.nodes_attr cols.edges_attr
     by false true = omega (arith, ap length (same Structure), ap length (same EdgeAttr))
     by false false = omega (arith, ap length (same Structure))
 
-module _ (z : History) (image : ListOf ℕ) (stands : IsImageOf z image) (o : Opening) (opened : o ≡ (opened_of z).index) (has : HasColumns z image o) (cols : Columns) where
+module _ (z : History) (image : ListOf ℕ) (stands : IsImageOf z image) (o : Opening) (opened : o ≡ (opened_of z).index) (has : HasColumns z image o) (cols : Columns) (memory : Bool) where
   abbrev n : ℕ
   n = events_in o.batches
 
@@ -141,35 +139,30 @@ module _ (z : History) (image : ListOf ℕ) (stands : IsImageOf z image) (o : Op
   count : n ≡ length (events_of z)
   count = ap (λ (x : Opening). events_in x.batches) opened ∙ opened_events z
 
-  weighs : (e : Edge) → IsPaid o.params n (kept_ground o n cols).weight e.weight e.via → WeighsWhatItEnters (kept_in image o) cols e
+  weighs : (e : Edge) → IsPaid o.params n (index_ground o cols memory).weight e.weight e.via → WeighsWhatItEnters (kept_in image o) cols e
   weighs e = by e.via e.weight
     where
-      by : (v : Via) (w : ℕ) → IsPaid o.params n (kept_ground o n cols).weight w v → w ≡ sum_by (asked_length (kept_in image o) cols) (entered_by v)
+      by : (v : Via) (w : ℕ) → IsPaid o.params n (index_ground o cols memory).weight w v → w ≡ sum_by (asked_length (kept_in image o) cols) (entered_by v)
       by via.Now w paid = paid
       by (via.Base handle) w paid = paid
       by (via.Paid k way) w paid =
           let there : key_exists z.params (length (events_of z)) k ≡ true = (λ i. key_exists (sym params i) (sym count i) k) ∙ paid.0 in
           let held : is_some (lookup (same_key k) o.records) ≡ true = ap (λ (x : Opening). is_some (lookup (same_key k) x.records)) opened ∙ record_held z stands.legal k there in
-          let weight : (kept_ground o n cols).weight k ≡ length_in z k cols = lengths_are z stands.legal (holding o.records) (ap (λ (x : Opening). x.records) opened) cols k there in
+          let weight : (index_ground o cols memory).weight k ≡ length_in z k cols = lengths_are z stands.legal (holding o.records) (ap (λ (x : Opening). x.records) opened) cols k there in
           let bytes : asked_length (kept_in image o) cols k ≡ length_in z k cols = asked_is z (kept_in image o) cols k (has k held) in
           omega (arith, paid.1, weight, bytes)
       by (via.Held k way) w paid = paid
       by (via.Recent way) w paid = paid
 
   -- each edge of the graph weighs the asked bytes of the record that it enters
-  pub edges_weigh : All (WeighsWhatItEnters (kept_in image o) cols) (kept_edges o (events_in o.batches) cols)
+  pub edges_weigh : All (WeighsWhatItEnters (kept_in image o) cols) (index_edges o cols memory)
   edges_weigh =
       let large = large_parameters z.params.l z.params.k stands.legal.parameters in
       let wide : 0 < o.params.k = subst (λ (p : Params). 0 < p.k) (sym params) (let two = large.1 in omega arith) in
-      All-weaker (λ (e : Edge). IsPaid o.params n (kept_ground o n cols).weight e.weight e.via) (WeighsWhatItEnters (kept_in image o) cols) weighs (kept_edges o n cols)
-      (paid_edges o.params n wide (kept_ground o n cols) refl refl)
+      All-weaker (λ (e : Edge). IsPaid o.params n (index_ground o cols memory).weight e.weight e.via) (WeighsWhatItEnters (kept_in image o) cols) weighs (index_edges o cols memory)
+      (paid_edges o.params n wide (index_ground o cols memory) refl refl)
 
   -- steps weigh the asked bytes of the records that they enter
   pub steps_weigh : (steps : ListOf ℕ)
-      → entered_length (kept_in image o) cols (edges_at (kept_edges o (events_in o.batches) cols) steps) ≡ weight_of (arcs_of (kept_edges o (events_in o.batches) cols)) steps
-  steps_weigh steps = weigh_all (kept_edges o n cols) (kept_in image o) cols edges_weigh steps
-
-  -- so does a tree
-  pub tree_weighs_entered : (grafts : ListOf (Graft NodeId))
-      → entered_length (kept_in image o) cols (edges_at (kept_edges o (events_in o.batches) cols) (steps_of grafts)) ≡ tree_weight (arcs_of (kept_edges o (events_in o.batches) cols)) grafts
-  tree_weighs_entered grafts = steps_weigh (steps_of grafts) ∙ sym (tree_steps_weigh (arcs_of (kept_edges o n cols)) grafts)
+      → entered_length (kept_in image o) cols (edges_at (index_edges o cols memory) steps) ≡ weight_of (arcs_of (index_edges o cols memory)) steps
+  steps_weigh steps = weigh_all (index_edges o cols memory) (kept_in image o) cols edges_weigh steps

@@ -3,3 +3,5 @@ pub mod Retrieval
 pub mod Branches
 pub mod Graphs
 pub mod Faults
+pub mod NodeSets
+pub mod TreeLeads

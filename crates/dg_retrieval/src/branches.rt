@@ -19,8 +19,12 @@ fn edge_at(edges: &[Edge], number: u32) -> Option<Edge>
     edges.get(number as usize).copied()
 }
 
-// The edges of these numbers, in order.
-fn edges_at(alloc: Global, edges: &[Edge], steps: &[u32]) -> Result<Vec<Edge>, AllocError>
+/// The edges of these numbers, in order.
+pub(crate) fn edges_at(
+    alloc: Global,
+    edges: &[Edge],
+    steps: &[u32],
+) -> Result<Vec<Edge>, AllocError>
     ensures { IfOk result (λ walk. walk.items ≡ edges_at edges.now steps.now) }
 {
     let mut walk = Vec::with_capacity(alloc, steps.len())?;

@@ -5,7 +5,10 @@
 mod branches;
 mod fault;
 mod graphs;
+mod leads;
+mod record_sets;
 mod retrieval;
 
 pub use fault::RetrievalFault;
+pub use record_sets::{ALL_COLUMNS, node_sets, plan_set};
 pub use retrieval::{Retrieved, retrieve};

@@ -1,4 +1,4 @@
-ghost use Rattle.std.specs.Prelude.{◌≡◌, ℕ, ◌≤◌, List, ◌∷◌, [], length, IfErr, IfOk, IfSome, IsErrOf};
+ghost use Rattle.std.specs.Prelude.{◌≡◌, ℕ, ◌≤◌, List, ◌∷◌, [], length, IfErr, IfOk, IfSome, IsErrOf, OnOk};
 ghost use Rattle.std.specs.List.{All, Contains, sum};
 ghost use Rattle.dg_disk.specs.Counts.{Rose};
 ghost use Rattle.dg_disk.specs.Frame.{OnlyReads};
@@ -10,14 +10,14 @@ ghost use Rattle.dg_index.specs.OpenedIndex.{events_in};
 ghost use Rattle.dg_plan.specs.IndexGraph.{arcs_of};
 ghost use Rattle.dg_plan.specs.Walks.{AreSingles};
 ghost use Rattle.dg_retrieval.specs.KeptGraph.{kept_edges, kept_nodes};
+ghost use Rattle.dg_retrieval.specs.NodeSets.{IsUndamaged};
 ghost use Rattle.dg_retrieval.specs.Retrieval.{ArePoints, IsFirstDamage, IsNoDamage, IsOver, IsTreeOf, TakesAtMostTree, graphs_at};
 
-use crate::branches::{branches_of, walk_along};
 use crate::fault::RetrievalFault;
 use crate::graphs::graphs_of;
+use crate::leads::{TreeLeads, lead_along_tree};
 use dg_disk::Disk;
 use dg_file::Index;
-use dg_fold::{compose_tree, fetch_walk};
 use dg_graph::{Columns, Event};
 use dg_history::NodeId;
 use dg_now::Now;
@@ -67,11 +67,13 @@ pub fn retrieve<R: Threads, D: Disk>(
     requires few { length targets.now ≤ 32 }
     requires times { length times.now ≡ length targets.now }
     // the graphs and the weights
+    ensures count { IfOk result (λ r. (length r.graphs.items ≡ length targets.now) × (length r.singles.items ≡ length targets.now)) }
     ensures tree { IfOk result (λ r. IsTreeOf planner.now.edges targets.now r.weight) }
     ensures singles { IfOk result (λ r. AreSingles (arcs_of planner.now.edges) (Root ∷ []) targets.now r.singles.items) }
     ensures sum { IfOk result (λ r. r.sum ≡ sum r.singles.items) }
     ensures graphs { IfOk result (λ r. IfSome (D.image disk.old) (λ image. (z : History) → IsOver z image index.old.opening names current.now.graph recent.now
         → ArePoints z targets.now times.now → r.graphs.items ≡ graphs_at z times.now cols)) }
+    ensures whole { OnOk result (IfSome (D.image disk.old) (λ image. IsUndamaged names planner.now.edges index.old.opening cols targets.now image)) }
     // the bytes read, over an image of a history
     ensures takes { IfOk result (λ r. IfSome (D.image disk.old) (λ image. (z : History) → IsOver z image index.old.opening names current.now.graph recent.now
         → Takes r.weight (D.taken disk.old) (D.taken disk.new))) }
@@ -86,13 +88,9 @@ pub fn retrieve<R: Threads, D: Disk>(
     ensures same { index.new ≡ index.old }
     ensures disk { OnlyReads D.image D.faults D.write_faults disk.old disk.new }
 {
-    // Its clauses say which records the index keeps.
-    index.facts();
-    let tree = planner.plan_several(alloc, targets)?;
-    let branches = branches_of(alloc, planner.edges(), targets, &tree.grafts)?;
-    let walk = walk_along(alloc, &branches)?;
-    let parts = fetch_walk(alloc, index, disk, &walk, cols)?;
-    let leads = compose_tree(rt, alloc, names, &branches, &parts, recent, times)?;
+    let TreeLeads { tree, leads } = lead_along_tree(
+        rt, alloc, index, disk, names, recent, planner, targets, times, cols,
+    )?;
     let graphs = graphs_of(alloc, current, &leads, cols)?;
     Ok(Retrieved {
         graphs,

@@ -5,10 +5,8 @@ use Rattle.dg_history.specs.History.{are_parameters}
 use Rattle.dg_index.specs.declared.entry.Row.{Row}
 use Rattle.dg_index.specs.FileOfHistory.{Segment, head_of, segment_bytes}
 use Rattle.dg_index.specs.IndexGrowth.{index_with, needed_for}
-use Rattle.dg_index.specs.declared.entry.BatchEntry.{BatchEntry}
-use Rattle.dg_index.specs.OpenedIndex.{Opening, directory_of, earliest_in, events_in, first_in, last_list, rows_in}
-use Rattle.dg_file.specs.Invariant.{EndBy}
-use Rattle.dg_file.proofs.ListEnds.{ends_of}
+use Rattle.dg_index.specs.OpenedIndex.{Opening, directory_of, earliest_in, events_in, first_in, last_list, may_be_listed, rows_in}
+use Rattle.dg_file.proofs.ListedRows.{listed_segment}
 use Rattle.dg_index.proofs.OpenedHistories.{large_parameters}
 use Rattle.dg_shape.specs.Additions.{Suits}
 use Rattle.dg_file.specs.declared.fault.CommitFault.{CommitFault}
@@ -65,14 +63,13 @@ note-requires-clause-rows g c =
     let few : events_in o.batches + s.events ≤ EVENTS_MAX = (follows_in (events_in o.batches) (earliest_in 0 o.batches) (directory_of s).batch c.requires.due.follows).all in
     subst (λ (r : List Row). Suits c.keys.result.now r) (sym c.rows.ensures) (subst (λ (k : List Key). Suits k (rows_in (directory_of s))) (sym (c.keys.ensures ∙ c.requires.room.keys)) (suits_segment o s large.0 few c.requires.due))
 
-pub note-requires-clause-ends : goal.note-requires-clause-ends
-note-requires-clause-ends g c =
+pub note-requires-clause-listed : goal.note-requires-clause-listed
+note-requires-clause-listed g c =
     let o : Opening = c.args.self.now.opening in
     let s : Segment = c.args.prepared.segment in
     let batch : c.batch.result ≡ (directory_of s).batch = c.batch.ensures ∙ ap (λ (s : Segment). (directory_of s).batch) c.segment-segment.ensures in
-    subst (λ (b : BatchEntry). EndBy b.ends.last c.rows.result.now) (sym batch)
-    (subst (λ (r : List Row). EndBy s.last r) (sym c.rows.ensures)
-    (ends_of (last_list (first_in s.first o.batches) o.records) s.last s c.requires.due.listed))
+    (λ i. may_be_listed (last_list (first_in (batch i).ends.first o.batches) o.records) (batch i).ends.last (c.rows.ensures i))
+    ∙ listed_segment (last_list (first_in s.first o.batches) o.records) s.last s c.requires.due.listed
 
 pub note-requires-clause-used : goal.note-requires-clause-used
 note-requires-clause-used g c =

@@ -3,7 +3,7 @@ use Rattle.std.specs.Prelude.{IfSome, slice_index}
 use Rattle.std.proofs.lemmas.Result.{err_from_is_err_and}
 use Rattle.dg_disk.specs.Image.{IsLengthOf}
 use Rattle.dg_index.specs.IndexGrowth.{columns_in}
-use Rattle.dg_index.specs.OpenedIndex.{Opening, opening, keys_next, events_in, earliest_in, may_follow}
+use Rattle.dg_index.specs.OpenedIndex.{Opening, opening, keys_next, events_in, earliest_in, first_in, last_list, may_be_listed, may_follow}
 use Rattle.dg_shape.specs.Additions.{Suits}
 use Rattle.dg_history.specs.declared.node.Key.{Key}
 use Rattle.dg_file.specs.declared.lengths.Lengths.{Lengths}
@@ -12,8 +12,8 @@ use Rattle.dg_file.specs.Headers.{Misses, IsOpenedSoFar}
 use Rattle.dg_index.specs.ImageText.{is_within}
 use Rattle.dg_file.specs.Index.{IndexState, opening_bytes}
 use Rattle.dg_file.specs.Images.{RefusesOpening}
-use Rattle.dg_index.specs.declared.entry.Row.{Row}
-use Rattle.dg_file.specs.Invariant.{EndBy, with_rows}
+use Rattle.dg_index.specs.declared.entry.BatchEntry.{BatchEntry}
+use Rattle.dg_file.specs.Invariant.{with_rows}
 use Rattle.dg_file.proofs.Found.{fit_facts, range_within}
 use Rattle.dg_file.proofs.NextSegments.{outside, broken, next_on, taken_next}
 use Rattle.dg_file.proofs.NotedBatches.{bytes_with}
@@ -60,9 +60,11 @@ pub note-requires-clause-follows : goal.note-requires-clause-follows
 note-requires-clause-follows g c =
     ap (λ (o : Opening). may_follow (events_in o.batches) (earliest_in 0 o.batches) c.in-Ok.found.batch) c.reserve.ensures.same ∙ c.in-Ok.ensures.taken.follows
 
-pub note-requires-clause-ends : goal.note-requires-clause-ends
-note-requires-clause-ends g c =
-    subst (λ (l : List Row). EndBy c.in-Ok.found.batch.ends.last l) (sym c.deref-3.ensures.value) c.in-Ok.ensures.taken.ends
+pub note-requires-clause-listed : goal.note-requires-clause-listed
+note-requires-clause-listed g c =
+    let b : BatchEntry = c.in-Ok.found.batch in
+    (λ i. may_be_listed (last_list (first_in b.ends.first (c.reserve.ensures.same i).batches) (c.reserve.ensures.same i).records) b.ends.last (c.deref-3.ensures.value i))
+    ∙ c.in-Ok.ensures.taken.listed
 
 pub note-requires-clause-within : goal.note-requires-clause-within
 note-requires-clause-within g c =

@@ -1,0 +1,29 @@
+-- What leads to the targets of a tree.
+use Rattle.std.specs.Prelude.{◌≡◌, ℕ, Bool, List}
+use Rattle.dg_fold.specs.BytesRead.{AreParts, kept_in, named_along}
+use Rattle.dg_fold.specs.declared.part.Part.{Part}
+use Rattle.dg_fold.specs.declared.tree.Branch.{Branch}
+use Rattle.dg_fold.specs.declared.tree.Lead.{Lead}
+use Rattle.dg_fold.specs.Ends.{AreLedUntil}
+use Rattle.dg_fold.specs.Steps.{paired}
+use Rattle.dg_fold.specs.Trees.{all_edges}
+use Rattle.dg_graph.specs.declared.element.Columns.{Columns}
+use Rattle.dg_graph.specs.declared.event.Event.{Event}
+use Rattle.dg_history.specs.declared.node.NodeId.{NodeId}
+use Rattle.dg_index.specs.OpenedIndex.{Opening}
+use Rattle.dg_plan.specs.declared.edge.Edge.{Edge}
+use Rattle.dg_plan.specs.Walks.{Graft}
+use Rattle.dg_retrieval.specs.Branches.{AreBranches}
+use Rattle.dg_retrieval.specs.KeptGraph.{index_edges}
+
+-- these are the edges of the index in these columns, with the current graph or without
+abbrev pub AreIndexEdges : Opening → Columns → List Edge → Type 0
+AreIndexEdges o cols edges = (memory : Bool) × (edges ≡ index_edges o cols memory)
+
+-- In this image the records of a tree lead to each target: along the tree's path to it, and on with the target's
+-- own events up to its instant.
+abbrev pub AreTreeLeads : ℕ → List Event → List Edge → Opening → Columns → List NodeId → List (Graft NodeId) → List ℕ → List Lead → List ℕ → Type 0
+AreTreeLeads names recent edges o cols targets grafts times leads image =
+    (branches : List Branch) × AreBranches edges targets grafts branches
+    × (parts : List Part) × AreParts (kept_in image o) cols (named_along (all_edges branches)) parts
+    × AreLedUntil names recent parts (paired (all_edges branches) parts) branches times leads
