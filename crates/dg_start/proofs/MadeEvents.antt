@@ -1,0 +1,181 @@
+-- The events of a legal history are what changes come to, one after another.
+use Rattle.std.proofs.Common.{◌≡◌, ℕ, ◌+◌, Bool, true, false, not, ◌&&◌, List, [], ◌∷◌, ◌++◌, Option, Some, None, Result, Ok, Err, cond, map, is_some, nat_lt, nat_eq, refl, sym, ◌∙◌, ap, subst, append_assoc, append-nil}
+use Rattle.std.specs.Option.{option_eq}
+use Rattle.std.specs.List.{list_any, flat_map}
+use Rattle.std.proofs.lemmas.Bool.{eq-eqb, eqb-true}
+use Rattle.dg_graph.specs.declared.element.Element.{Element}
+use Rattle.dg_graph.specs.declared.element.Element.TheVariants as element
+use Rattle.dg_graph.specs.declared.event.Body.{Body}
+use Rattle.dg_graph.specs.declared.event.Body.TheVariants as body
+use Rattle.dg_graph.specs.declared.event.Change.{Change}
+use Rattle.dg_graph.specs.declared.event.Event.{Event}
+use Rattle.dg_graph.specs.declared.event.What.{What}
+use Rattle.dg_graph.specs.declared.event.What.TheVariants as what
+use Rattle.dg_graph.specs.declared.event.TheConstants.{REASON_NODE_EXISTS, REASON_NO_NODE, REASON_NODE_IN_USE, REASON_EDGE_EXISTS, REASON_NO_END, REASON_NO_EDGE, REASON_TIME}
+use Rattle.dg_graph.specs.CompletedChanges.{completed, event_of, go_on, on_value}
+use Rattle.dg_graph.specs.Completion.{has_node, edge_of, is_edge, needs_node, needs_edge, node_value, edge_value, edge_removal, value_removal, complete, is_change_of, is_found, is_value_change}
+use Rattle.dg_graph.specs.Effect.{forwards}
+use Rattle.dg_graph.specs.Replay.{replay, replay_from}
+use Rattle.dg_graph.proofs.Sets.{same_itself}
+use Rattle.dg_history.specs.History.{Batch, span_of, earliest_next}
+use Rattle.dg_history.specs.LegalHistory.{AreLegalAfter}
+use Rattle.dg_list.specs.NetLaws.{AreMadeByChanges}
+use Rattle.dg_list.proofs.Completion.{found_in}
+
+-- ---- what a change comes to is one
+
+node_added : (id : ℕ) (set : List Element) (b : Body) (there : Bool) → has_node set id ≡ there
+    → cond there (Err REASON_NODE_EXISTS) (Ok (body.NodeAdded id)) ≡ Ok b → is_change_of set b ≡ true
+node_added id set b true is h = cc
+node_added id set b false is h = (let e : body.NodeAdded id ≡ b = cc in subst (λ (x : Body). is_change_of set x ≡ true) e (ap not is))
+
+node_removed : (id : ℕ) (set : List Element) (b : Body) (there used : Bool) → has_node set id ≡ there → list_any (needs_node id) set ≡ used
+    → cond (not there) (Err REASON_NO_NODE) (cond used (Err REASON_NODE_IN_USE) (Ok (body.NodeRemoved id))) ≡ Ok b → is_change_of set b ≡ true
+node_removed id set b false used is is_used h = cc
+node_removed id set b true true is is_used h = cc
+node_removed id set b true false is is_used h =
+    let e : body.NodeRemoved id ≡ b = cc in
+    subst (λ (x : Body). is_change_of set x ≡ true) e (λ i. is i && not (is_used i))
+
+edge_added : (id src dst : ℕ) (directed : Bool) (set : List Element) (b : Body) (there ends : Bool)
+    → is_some (edge_of set id) ≡ there → (has_node set src && has_node set dst) ≡ ends
+    → cond there (Err REASON_EDGE_EXISTS) (cond ends (Ok (body.EdgeAdded id src dst directed)) (Err REASON_NO_END)) ≡ Ok b → is_change_of set b ≡ true
+edge_added id src dst directed set b true ends is is_ends h = cc
+edge_added id src dst directed set b false false is is_ends h = cc
+edge_added id src dst directed set b false true is is_ends h =
+    let e : body.EdgeAdded id src dst directed ≡ b = cc in
+    subst (λ (x : Body). is_change_of set x ≡ true) e (λ i. not (is i) && is_ends i)
+
+edge_removed : (id : ℕ) (set : List Element) (b : Body) (needed : Bool) (found : Option Element)
+    → list_any (needs_edge id) set ≡ needed → edge_of set id ≡ found → edge_removal needed found ≡ Ok b → is_change_of set b ≡ true
+edge_removed id set b needed None is_needed is h = cc
+edge_removed id set b needed (Some (element.Node n)) is_needed is h = cc
+edge_removed id set b needed (Some (element.NodeAttr n key value)) is_needed is h = cc
+edge_removed id set b needed (Some (element.EdgeAttr n key value)) is_needed is h = cc
+edge_removed id set b true (Some (element.Edge n src dst directed)) is_needed is h = cc
+edge_removed id set b false (Some (element.Edge n src dst directed)) is_needed is h =
+    let e : body.EdgeRemoved n src dst directed ≡ b = cc in
+    let same_id : n ≡ id = eqb-true n id (found_in (is_edge id) set (element.Edge n src dst directed) is).1 in
+    let there : is_found (edge_of set n) (element.Edge n src dst directed) ≡ true =
+    ap (λ (k : ℕ). is_found (edge_of set k) (element.Edge n src dst directed)) same_id
+    ∙ ap (λ (x : Option Element). is_found x (element.Edge n src dst directed)) is ∙ same_itself (element.Edge n src dst directed) in
+    let free : list_any (needs_edge n) set ≡ false = ap (λ (k : ℕ). list_any (needs_edge k) set) same_id ∙ is_needed in
+    subst (λ (x : Body). is_change_of set x ≡ true) e (λ i. there i && not (free i))
+
+same_value : (o : Option ℕ) → option_eq nat_eq o o ≡ true
+same_value None = refl
+same_value (Some n) = eq-eqb n n refl
+
+value_set : (there : Option ℕ) (value : ℕ) → is_value_change there there (Some value) ≡ true
+value_set None value = refl
+value_set (Some old) value = ap (λ x. x && true) (same_value (Some old))
+
+value_taken : (there : Option ℕ) (value : ℕ) → there ≡ Some value → is_value_change there (Some value) None ≡ true
+value_taken there value is = ap (λ (x : Option ℕ). is_value_change x (Some value) None) is ∙ ap (λ x. x && true) (same_value (Some value))
+
+node_set : (id key value : ℕ) (set : List Element) (b : Body) (there : Bool) → has_node set id ≡ there
+    → cond there (Ok (body.NodeAttr id key (node_value set id key) (Some value))) (Err REASON_NO_NODE) ≡ Ok b → is_change_of set b ≡ true
+node_set id key value set b false is h = cc
+node_set id key value set b true is h =
+    let e : body.NodeAttr id key (node_value set id key) (Some value) ≡ b = cc in
+    subst (λ (x : Body). is_change_of set x ≡ true) e (λ i. is i && value_set (node_value set id key) value i)
+
+node_unset : (id key : ℕ) (set : List Element) (b : Body) (there : Bool) (found : Option ℕ) → has_node set id ≡ there → node_value set id key ≡ found
+    → cond there (value_removal (λ old new. body.NodeAttr id key old new) found) (Err REASON_NO_NODE) ≡ Ok b → is_change_of set b ≡ true
+node_unset id key set b false found is is_found h = cc
+node_unset id key set b true None is is_found h = cc
+node_unset id key set b true (Some value) is is_found h =
+    let e : body.NodeAttr id key (Some value) None ≡ b = cc in
+    subst (λ (x : Body). is_change_of set x ≡ true) e (λ i. is i && value_taken (node_value set id key) value is_found i)
+
+edge_set : (id key value : ℕ) (set : List Element) (b : Body) (there : Bool) → is_some (edge_of set id) ≡ there
+    → cond there (Ok (body.EdgeAttr id key (edge_value set id key) (Some value))) (Err REASON_NO_EDGE) ≡ Ok b → is_change_of set b ≡ true
+edge_set id key value set b false is h = cc
+edge_set id key value set b true is h =
+    let e : body.EdgeAttr id key (edge_value set id key) (Some value) ≡ b = cc in
+    subst (λ (x : Body). is_change_of set x ≡ true) e (λ i. is i && value_set (edge_value set id key) value i)
+
+edge_unset : (id key : ℕ) (set : List Element) (b : Body) (there : Bool) (found : Option ℕ) → is_some (edge_of set id) ≡ there → edge_value set id key ≡ found
+    → cond there (value_removal (λ old new. body.EdgeAttr id key old new) found) (Err REASON_NO_EDGE) ≡ Ok b → is_change_of set b ≡ true
+edge_unset id key set b false found is is_found h = cc
+edge_unset id key set b true None is is_found h = cc
+edge_unset id key set b true (Some value) is is_found h =
+    let e : body.EdgeAttr id key (Some value) None ≡ b = cc in
+    subst (λ (x : Body). is_change_of set x ≡ true) e (λ i. is i && value_taken (edge_value set id key) value is_found i)
+
+comes_to : (w : What) (set : List Element) (b : Body) → complete w set ≡ Ok b → is_change_of set b ≡ true
+comes_to (what.AddNode id) set b h = node_added id set b (has_node set id) refl h
+comes_to (what.RemoveNode id) set b h = node_removed id set b (has_node set id) (list_any (needs_node id) set) refl refl h
+comes_to (what.AddEdge id src dst directed) set b h =
+    edge_added id src dst directed set b (is_some (edge_of set id)) (has_node set src && has_node set dst) refl refl h
+comes_to (what.RemoveEdge id) set b h = edge_removed id set b (list_any (needs_edge id) set) (edge_of set id) refl refl h
+comes_to (what.SetNode id key value) set b h = node_set id key value set b (has_node set id) refl h
+comes_to (what.UnsetNode id key) set b h = node_unset id key set b (has_node set id) (node_value set id key) refl refl h
+comes_to (what.SetEdge id key value) set b h = edge_set id key value set b (is_some (edge_of set id)) refl h
+comes_to (what.UnsetEdge id key) set b h = edge_unset id key set b (is_some (edge_of set id)) (edge_value set id key) refl refl h
+
+-- ---- what changes come to are changes
+
+event_made : (earliest : ℕ) (set : List Element) (c : Change) (e : Event) → event_of earliest set c ≡ Ok e → is_change_of set e.body ≡ true
+event_made earliest set c e h = by_time (nat_lt c.time earliest) h
+  where
+    by_body : (r : Result Body ℕ) → complete c.what set ≡ r → on_value (λ (b : Body). record { time = c.time; body = b }) r ≡ Ok e → is_change_of set e.body ≡ true
+    by_body (Err x) is k = cc
+    by_body (Ok b) is k =
+        let s : (let x : Event = record { time = c.time; body = b } in x) ≡ e = cc in
+        subst (λ (x : Event). is_change_of set x.body ≡ true) s (comes_to c.what set b is)
+
+    by_time : (early : Bool) → cond early (Err REASON_TIME) (on_value (λ (b : Body). record { time = c.time; body = b }) (complete c.what set)) ≡ Ok e
+        → is_change_of set e.body ≡ true
+    by_time true k = cc
+    by_time false k = by_body (complete c.what set) refl k
+
+completed_made : (n earliest : ℕ) (set : List Element) (changes : List (Option Change)) (events : List Event)
+    → completed n earliest set changes ≡ Ok events → AreMadeByChanges set events
+completed_made n earliest set [] [] h = tt
+completed_made n earliest set [] (e ∷ events) h = cc
+completed_made n earliest set (None ∷ changes) events h = cc
+completed_made n earliest set (Some c ∷ changes) events h =
+    by_event (event_of earliest set c) refl h (λ e more k. completed_made (n + 1) e.time (forwards set e) changes more k)
+  where
+    by_rest : (e : Event) (r : Result (List Event) (ℕ × ℕ)) → event_of earliest set c ≡ Ok e
+        → on_value (λ (es : List Event). e ∷ es) r ≡ Ok events
+        → ((more : List Event) → r ≡ Ok more → AreMadeByChanges (forwards set e) more)
+        → AreMadeByChanges set events
+    by_rest e (Err x) is k next = cc
+    by_rest e (Ok more) is k next =
+        let s : e ∷ more ≡ events = cc in
+        subst (λ (es : List Event). AreMadeByChanges set es) s (event_made earliest set c e is, next more refl)
+
+    by_event : (r : Result Event ℕ) → event_of earliest set c ≡ r
+        → go_on n (λ e. completed (n + 1) e.time (forwards set e) changes) r ≡ Ok events
+        → ((e : Event) (more : List Event) → completed (n + 1) e.time (forwards set e) changes ≡ Ok more → AreMadeByChanges (forwards set e) more)
+        → AreMadeByChanges set events
+    by_event (Err x) is k next = cc
+    by_event (Ok e) is k next = by_rest e (completed (n + 1) e.time (forwards set e) changes) is k (next e)
+
+-- ---- the events of a legal history
+
+pub made_joined : (set : List Element) (xs ys : List Event) → AreMadeByChanges set xs → AreMadeByChanges (replay_from set xs) ys → AreMadeByChanges set (xs ++ ys)
+made_joined set [] ys first more = more
+made_joined set (e ∷ xs) ys first more = (first.0, made_joined (forwards set e) xs ys first.1 more)
+
+abbrev pub events_among : List Batch → List Event
+events_among batches = flat_map (λ (b : Batch). b.events) batches
+
+pub batches_made : (names : List (List ℕ)) (before : List Event) (batches : List Batch) → AreMadeByChanges [] before → AreLegalAfter names before batches
+    → AreMadeByChanges [] (before ++ events_among batches)
+batches_made names before [] made l = subst (AreMadeByChanges []) (sym (append-nil before)) made
+batches_made names before (b ∷ batches) made l =
+    let here = completed_made 1 (earliest_next (span_of before)) (replay before) (map (λ (c : Change). Some c) l.0.changes) b.events l.0.comes in
+    subst (AreMadeByChanges []) (append_assoc before b.events (events_among batches))
+    (batches_made names (before ++ b.events) batches (made_joined [] before b.events made here) l.1)
+
+-- and those behind some of them are, after those
+pub made_behind : (set : List Element) (xs ys : List Event) → AreMadeByChanges set (xs ++ ys) → AreMadeByChanges (replay_from set xs) ys
+made_behind set [] ys made = made
+made_behind set (e ∷ xs) ys made = made_behind (forwards set e) xs ys made.1
+
+pub made_before : (set : List Element) (xs ys : List Event) → AreMadeByChanges set (xs ++ ys) → AreMadeByChanges set xs
+made_before set [] ys made = tt
+made_before set (e ∷ xs) ys made = (made.0, made_before (forwards set e) xs ys made.1)

@@ -1,0 +1,128 @@
+-- What is read of a record has numbers of names that can be spelled, as many events as are due, and times that do not fall.
+use Rattle.std.proofs.Common.{◌≡◌, ℕ, zero, suc, ◌+◌, ◌<◌, ◌≤◌, ◌^◌, Bool, true, false, List, [], ◌∷◌, ◌++◌, Option, Some, None, if◌then◌else◌, length, map, find, refl, ap, subst, arith}
+use Rattle.std.specs.Prelude.{IfSome, ◌==◌, ◌&&◌, is_some, nat_le, option_and_then}
+use Rattle.std.specs.List.{All}
+use Rattle.std.specs.Option.{option_map}
+use Rattle.std.proofs.lemmas.List.Elements.{All-nil, All-cons, All-head, All-tail, All-append}
+use Rattle.std.specs.Map.{lookup}
+use borrow.Author.Tests.{leb-true}
+use Rattle.dg_build.specs.SpelledRecords.{RisesFrom}
+use Rattle.dg_columns.specs.NamesInRange.{NamesFit}
+use Rattle.dg_columns.specs.Ranges.{BodyFits, EventsFit}
+use Rattle.dg_graph.specs.declared.event.Body.{Body}
+use Rattle.dg_graph.specs.declared.event.Body.TheVariants as body
+use Rattle.dg_graph.specs.declared.event.Event.{Event}
+use Rattle.dg_graph.specs.declared.placed.Placed.{Placed}
+use Rattle.dg_graph.specs.declared.element.Column.{Column}
+use Rattle.dg_history.specs.declared.node.Key.{Key}
+use Rattle.dg_history.specs.Keys.{same_key}
+use Rattle.dg_index.specs.declared.entry.Entry.{Entry}
+use Rattle.dg_index.specs.OpenedIndex.{Opening, column_at, entry_at, entry_or_none}
+use Rattle.dg_graph.specs.ColumnMerge.{at_positions, if_never_fall, merged, never_fall}
+
+abbrev pub PlacedFits : Placed → Type 0
+PlacedFits p = NamesFit p.event.body
+
+value_fits : (names : ℕ) (o : Option ℕ) → names ≤ 2 ^ 30 → IfSome o (λ n. n < names) → IfSome o (λ n. n < 2 ^ 30)
+value_fits names None few h = tt
+value_fits names (Some n) few h = omega (arith, h, few)
+
+body_fits : (names : ℕ) (b : Body) → names ≤ 2 ^ 30 → BodyFits names b → NamesFit b
+body_fits names (body.NodeAdded id) few h = tt
+body_fits names (body.NodeRemoved id) few h = tt
+body_fits names (body.EdgeAdded id src dst directed) few h = tt
+body_fits names (body.EdgeRemoved id src dst directed) few h = tt
+body_fits names (body.NodeAttr id key old new) few h = (omega (arith, h.key_fits, few), value_fits names old few h.old_fits, value_fits names new few h.new_fits)
+body_fits names (body.EdgeAttr id key old new) few h = (omega (arith, h.key_fits, few), value_fits names old few h.old_fits, value_fits names new few h.new_fits)
+
+-- events that are read of a column, in a history with so many names
+pub read_fits : (names earliest : ℕ) (placed : List Placed) → names ≤ 2 ^ 30 → EventsFit names earliest (map (λ (p : Placed). p.event) placed) → All PlacedFits placed
+read_fits names earliest [] few h = All-nil PlacedFits
+read_fits names earliest (p ∷ placed) few h =
+    All-cons PlacedFits p placed (body_fits names p.event.body few h.0.fits) (read_fits names p.event.time placed few h.1)
+
+-- ---- the columns together
+
+found_all : (P : Placed → Type 0) (p : Placed → Bool) (xs : List Placed) (x : Placed) → All P xs → find p xs ≡ Some x → P x
+found_all P p [] x f h = cc
+found_all P p (y ∷ xs) x f h = go (p y) h (λ e. found_all P p xs x (All-tail P y xs f) e)
+  where
+    go : (b : Bool) → (if b then Some y else find p xs) ≡ Some x → (find p xs ≡ Some x → P x) → P x
+    go true e later = let s : y ≡ x = cc in subst P s (All-head P y xs f)
+    go false e later = later e
+
+-- so many events, all of which fit
+abbrev pub AreSoMany : ℕ → List Event → Type 0
+AreSoMany n events = (length events ≡ n) × All (λ (e : Event). NamesFit e.body) events
+
+positions_fit : (k n : ℕ) (placed : List Placed) (events : List Event) → All PlacedFits placed → at_positions k n placed ≡ Some events → AreSoMany k events
+positions_fit zero n placed events f h =
+    let is : [] ≡ events = cc in subst (λ (es : List Event). AreSoMany 0 es) is (refl, All-nil (λ (e : Event). NamesFit e.body))
+positions_fit (suc k) n placed events f h =
+    by_found (find (λ (p : Placed). p.at == n) placed) refl h (λ more e. positions_fit k (n + 1) placed more f e)
+  where
+    by_more : (p : Placed) (o : Option (List Event)) → PlacedFits p → option_map (λ (es : List Event). p.event ∷ es) o ≡ Some events
+        → ((more : List Event) → o ≡ Some more → AreSoMany k more) → AreSoMany (suc k) events
+    by_more p None fits e next = cc
+    by_more p (Some more) fits e next =
+        let is : p.event ∷ more ≡ events = cc in
+        let rest : AreSoMany k more = next more refl in
+        subst (λ (es : List Event). AreSoMany (suc k) es) is
+        (ap (λ m. suc m) rest.0, All-cons (λ (e : Event). NamesFit e.body) p.event more fits rest.1)
+
+    by_found : (o : Option Placed) → find (λ (p : Placed). p.at == n) placed ≡ o
+        → option_and_then (λ (p : Placed). option_map (λ (es : List Event). p.event ∷ es) (at_positions k (n + 1) placed)) o ≡ Some events
+        → ((more : List Event) → at_positions k (n + 1) placed ≡ Some more → AreSoMany k more) → AreSoMany (suc k) events
+    by_found None is e next = cc
+    by_found (Some p) is e next =
+        by_more p (at_positions k (n + 1) placed) (found_all PlacedFits (λ (p : Placed). p.at == n) placed p f is) e next
+
+if_not_falling : (es events : List Event) → if_never_fall es ≡ Some events → (es ≡ events) × (never_fall 0 es ≡ true)
+if_not_falling es events h = by_test (never_fall 0 es) refl h
+  where
+    by_test : (b : Bool) → never_fall 0 es ≡ b → (if b then Some es else None) ≡ Some events → (es ≡ events) × (never_fall 0 es ≡ true)
+    by_test true is e = (cc, is)
+    by_test false is e = cc
+
+never_falls : (earliest : ℕ) (events : List Event) → never_fall earliest events ≡ true → RisesFrom earliest events
+never_falls earliest [] h = tt
+never_falls earliest (e ∷ events) h =
+    let parts = both (nat_le earliest e.time) (never_fall e.time events) h in
+    (leb-true earliest e.time parts.0, never_falls e.time events parts.1)
+  where
+    both : (a b : Bool) → (a && b) ≡ true → (a ≡ true) × (b ≡ true)
+    both true b h = (refl, h)
+    both false b h = cc
+
+-- so many events, all of which fit, and whose times do not fall
+pub record IsMerged (n : ℕ) (events : List Event) : Type 0 where
+  pub many : length events ≡ n
+  pub fit : All (λ (e : Event). NamesFit e.body) events
+  pub rises : RisesFrom 0 events
+
+pub merged_fit : (a b c : List Placed) (len : ℕ) (events : List Event) → All PlacedFits a → All PlacedFits b → All PlacedFits c → merged a b c len ≡ Some events → IsMerged len events
+merged_fit a b c len events fa fb fc h = by_length (length (a ++ b ++ c) == len) h
+  where
+    all : All PlacedFits (a ++ b ++ c)
+    all = All-append PlacedFits (a ++ b) c (All-append PlacedFits a b fa fb) fc
+
+    by_positions : (o : Option (List Event)) → at_positions len 0 (a ++ b ++ c) ≡ o → option_and_then if_never_fall o ≡ Some events → IsMerged len events
+    by_positions None is e = cc
+    by_positions (Some es) is e =
+        let kept = if_not_falling es events e in
+        let many = positions_fit len 0 (a ++ b ++ c) es all is in
+        subst (λ (xs : List Event). IsMerged len xs) kept.0 (record { many = many.0; fit = many.1; rises = never_falls 0 es kept.1 })
+
+    by_length : (t : Bool) → (if t then option_and_then if_never_fall (at_positions len 0 (a ++ b ++ c)) else None) ≡ Some events → IsMerged len events
+    by_length true e = by_positions (at_positions len 0 (a ++ b ++ c)) refl e
+    by_length false e = cc
+
+-- ---- a column of a record
+
+pub column_there : (image bytes : List ℕ) (o : Opening) (k : Key) (col : Column) → is_some (lookup (same_key k) o.records) ≡ true
+    → IfSome (lookup (same_key k) o.records) (λ e. bytes ≡ column_at image e col) → bytes ≡ column_at image (entry_at o k) col
+column_there image bytes o k col held is = by (lookup (same_key k) o.records) held is
+  where
+    by : (e : Option Entry) → is_some e ≡ true → IfSome e (λ e. bytes ≡ column_at image e col) → bytes ≡ column_at image (entry_or_none e) col
+    by None h is = cc
+    by (Some e) h is = is

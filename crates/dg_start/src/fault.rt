@@ -1,0 +1,74 @@
+//! Why an index file is not started from.
+
+ghost use Rattle.std.specs.Prelude.{◌≡◌};
+ghost use Rattle.dg_start.specs.declared.fault.StartFault.TheVariants.{Memory};
+
+use dg_file::FetchFault;
+use dg_graph::Column;
+use dg_history::Key;
+use dg_retrieval::RetrievalFault;
+use std::alloc::AllocError;
+use thiserror::Error;
+
+/// Why an index file is not started from. docs/FORMATS.md says of each where it comes, in the order in
+/// which they are tested.
+#[derive(Clone, Copy, Debug, PartialEq, Eq, Hash, Error)]
+pub enum StartFault {
+    /// The disk failed.
+    #[error("the disk failed")]
+    Disk,
+    /// The file is no index.
+    #[error("the file is no index")]
+    Foreign,
+    /// A segment breaks the format; the offset of its first byte.
+    #[error("the segment at byte {0} breaks the format")]
+    Damaged(u64),
+    /// A record that the start reads has a column that is in no spelling, or the columns of a recent piece do not
+    /// come together.
+    #[error("the record {0:?} is damaged in {1:?}")]
+    BadRecord(Key, Column),
+    /// The records along the plan of the last leaf come to a set that is no graph.
+    #[error("the records of the last leaf come to no graph")]
+    NotGraph,
+    /// A recent event is not what some change comes to, or is out of its time; its number in the history, from 1.
+    #[error("event {0} of the history is none that a change comes to")]
+    BadRecent(u64),
+    /// Want of memory.
+    #[error("out of memory")]
+    Memory,
+}
+
+impl From<AllocError> for StartFault {
+    ghost from_gives = { λ _ fault. fault ≡ Memory };
+
+    fn from(_error: AllocError) -> StartFault {
+        StartFault::Memory
+    }
+}
+
+impl From<FetchFault> for StartFault {
+    ghost use Rattle.dg_start.specs.Faults.{of_read};
+
+    ghost from_gives = { λ read fault. fault ≡ of_read read };
+
+    fn from(read: FetchFault) -> StartFault {
+        match read {
+            FetchFault::Disk => StartFault::Disk,
+            FetchFault::Memory => StartFault::Memory,
+        }
+    }
+}
+
+impl From<RetrievalFault> for StartFault {
+    ghost use Rattle.dg_start.specs.Faults.{start_fault_of};
+
+    ghost from_gives = { λ retrieved fault. fault ≡ start_fault_of retrieved };
+
+    fn from(retrieved: RetrievalFault) -> StartFault {
+        match retrieved {
+            RetrievalFault::Damaged(key, col) => StartFault::BadRecord(key, col),
+            RetrievalFault::Disk => StartFault::Disk,
+            RetrievalFault::Memory => StartFault::Memory,
+        }
+    }
+}

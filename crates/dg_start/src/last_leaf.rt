@@ -1,0 +1,97 @@
+//! The graph behind the last closed list of an index, by the records along its plan.
+
+ghost use Rattle.std.specs.Prelude.{◌≡◌, ◌≤◌, ◌+◌, ◌*◌, Ok, IfOk, IfErr, IfSome, IsErrOf, OnOk, List, ℕ};
+ghost use Rattle.dg_disk.specs.Counts.{Rose};
+ghost use Rattle.dg_disk.specs.Frame.{OnlyReads};
+ghost use Rattle.dg_file.specs.Images.{IsOpenedAs};
+ghost use Rattle.dg_fold.specs.BytesRead.{Takes};
+ghost use Rattle.dg_history.specs.declared.limits.TheConstants.{EVENTS_MAX};
+ghost use Rattle.dg_history.specs.History.{History};
+ghost use Rattle.dg_plan.specs.IndexGraph.{arcs_of, leaf};
+ghost use Rattle.dg_plan.specs.Walks.{weight_of};
+ghost use Rattle.dg_retrieval.specs.KeptGraph.{record_edges, record_nodes};
+ghost use Rattle.dg_retrieval.specs.NodeSets.{IsIndexOver, IsLedByPlan};
+ghost use Rattle.dg_start.specs.Refusals.{RefusesPlan};
+ghost use Rattle.dg_start.specs.SessionStart.{PlansLastLeaf, first_recent, last_leaf, lists_in};
+
+use crate::fault::StartFault;
+use dg_disk::Disk;
+use dg_file::Index;
+use dg_history::{NodeId, Params};
+use dg_planner::Planner;
+use dg_retrieval::{ALL_COLUMNS, plan_set};
+use dg_set::Set;
+use dg_shape::Shape;
+use std::alloc::{AllocError, Global};
+use std::thread::Threads;
+
+// The number of closed lists.
+fn lists_in(index: &Index) -> u32
+    ensures lists { result ≡ lists_in index.now.opening }
+    ensures few { result * index.now.opening.params.l ≤ EVENTS_MAX }
+{
+    index.facts();
+    (index.events_len() / u64::from(index.params().l)) as u32
+}
+
+/// The number of the first event behind the last closed list, from 1 in the whole history.
+pub fn first_recent(index: &Index) -> u64
+    ensures number { result ≡ first_recent index.now.opening }
+    ensures few { result ≤ EVENTS_MAX + 1 }
+{
+    u64::from(lists_in(index)) * u64::from(index.params().l) + 1
+}
+
+// The node of the graph behind the last closed list.
+fn last_leaf(index: &Index) -> NodeId
+    ensures { result ≡ last_leaf index.now.opening }
+{
+    match lists_in(index) {
+        0 => NodeId::Root,
+        lists => NodeId::Leaf(lists),
+    }
+}
+
+// The graph of the records of an index alone.
+fn planner_of(alloc: Global, index: &Index) -> Result<Planner, AllocError>
+    ensures nodes { IfOk result (λ p. p.nodes ≡ record_nodes index.now.opening) }
+    ensures edges { IfOk result (λ p. p.edges ≡ record_edges index.now.opening) }
+{
+    index.facts();
+    let Params { l, k, .. } = index.params();
+    let events = index.events_len();
+    let shape = Shape { l, k, events };
+    Planner::new(alloc, shape, index.catalogue(), ALL_COLUMNS, &[], false)
+}
+
+/// The graph behind the last closed list, by the records along its plan. The names of the history are so many.
+///
+/// `StartFault::BadRecord` for the first column that is in no spelling; `StartFault::Disk` where the disk failed,
+/// `StartFault::Memory` for want of memory.
+pub fn last_set<R: Threads + Sync, D: Disk>(
+    rt: &R,
+    alloc: Global,
+    index: &mut Index,
+    disk: &mut D,
+    names: u32,
+) -> Result<Set, StartFault>
+    requires image { IfSome (D.image disk.old) (λ image. IsOpenedAs image index.old.opening) }
+    // the set
+    ensures led { IfOk result (λ set. IfSome (D.image disk.old) (λ image.
+        IsLedByPlan names image index.old.opening (last_leaf index.old.opening) (Ok set))) }
+    // the bytes read, over an image of a history
+    ensures takes { OnOk result (IfSome (D.image disk.old) (λ image. (z : History) → IsIndexOver z image index.old.opening names
+        → (steps : List ℕ) → PlansLastLeaf index.old.opening steps
+        → Takes (weight_of (arcs_of (record_edges index.old.opening)) steps) (D.taken disk.old) (D.taken disk.new))) }
+    // why there is none
+    ensures refused { IfErr result (λ fault. IfSome (D.image disk.old) (λ image. RefusesPlan names image index.old.opening fault)) }
+    ensures cause { IsErrOf result StartFault.Disk → Rose (D.faults disk.old) (D.faults disk.new) }
+    // what it leaves
+    ensures same { index.new ≡ index.old }
+    ensures disk { OnlyReads D.image D.faults D.write_faults disk.old disk.new }
+{
+    let planner = planner_of(alloc, index)?;
+    let leaf = last_leaf(index);
+    let set = plan_set(rt, alloc, index, disk, names, &planner, leaf)?;
+    Ok(set)
+}

@@ -1,0 +1,21 @@
+//! Starting over an index file: the index is opened, the recent events are read, the graph behind the last closed
+//! list is composed along its plan, and the current graph is made of the two. docs/MODEL.md has the definitions.
+#![tactic(auto)]
+
+mod event_source;
+mod fault;
+mod keys;
+mod last_leaf;
+mod laws;
+mod opening;
+mod reading;
+mod record;
+mod stored_history;
+mod testing;
+#[cfg(test)]
+mod tests;
+
+pub use fault::StartFault;
+pub use laws::{law_images_start_as_they_stand, law_starts_are_determined};
+pub use opening::open;
+pub use stored_history::StoredHistory;

@@ -1,0 +1,126 @@
+//! Opening an index file.
+
+ghost use Rattle.std.specs.Prelude.{◌≡◌, ◌⊎◌, ◌+◌, ℕ, List, [], Ok, Option, Some, IfErr, IfOk, IfSome, IsErrOf, OnOk, length};
+ghost use Rattle.std.specs.List.{All};
+ghost use Rattle.dg_columns.specs.NamesInRange.{NamesFit};
+ghost use Rattle.dg_disk.specs.Counts.{Rose};
+ghost use Rattle.dg_disk.specs.Frame.{OnlyReads, ReadsAndSyncs};
+ghost use Rattle.dg_fold.specs.BytesRead.{Takes};
+ghost use Rattle.dg_history.specs.History.{History};
+ghost use Rattle.dg_index.specs.ImageOfHistory.{IsImageOf, StandsAs};
+ghost use Rattle.dg_graph.specs.declared.event.Event.{Event};
+ghost use Rattle.dg_index.specs.OpenedIndex.{opened_of, opening};
+ghost use Rattle.dg_plan.specs.IndexGraph.{arcs_of};
+ghost use Rattle.dg_plan.specs.Walks.{weight_of};
+ghost use Rattle.dg_retrieval.specs.KeptGraph.{record_edges};
+ghost use Rattle.dg_retrieval.specs.NodeSets.{IsIndexOver};
+ghost use Rattle.dg_start.specs.SessionStart.{PlansLastLeaf, RefusesStart, Starts, recent_bytes, start_bytes};
+ghost use Rattle.dg_start.specs.StoredHistory.{IsHeldBy, IsSoundHistory, KeepsHistory, MayGoOn, index_opening, recent_count, started_with};
+
+use crate::event_source::recent_sources;
+use crate::fault::StartFault;
+use crate::last_leaf::{first_recent, last_set};
+use crate::laws::law_images_start_as_they_stand;
+use crate::reading::read_sources;
+use crate::stored_history::StoredHistory;
+use crate::testing::current_graph;
+use dg_disk::Disk;
+use dg_file::{Index, ReopenFault};
+use dg_graph::Event;
+use dg_names::Names;
+use dg_now::Now;
+use std::alloc::Global;
+use std::thread::Threads;
+
+// The current graph, and the recent events.
+struct Current {
+    now: Now,
+    recent: Vec<Event>,
+}
+
+// The current graph and the recent events of an index with these names.
+fn read_current<R: Threads + Sync, D: Disk>(
+    rt: &R,
+    alloc: Global,
+    index: &mut Index,
+    disk: &mut D,
+    names: &Names,
+) -> Result<Current, StartFault>
+    requires image { IfSome (D.image disk.old) (λ image. opening image ≡ Ok (record { index = index.old.opening; names = names.now })) }
+    // the graph and the events
+    ensures started { IfOk result (λ current. IfSome (D.image disk.old) (λ image.
+        Starts image (Ok (started_with (Some index.old.opening) names.now current.now.graph current.recent.items)))) }
+    ensures none { IfOk result (λ current. current.now.pending ≡ []) }
+    ensures many { IfOk result (λ current. length current.recent.items ≡ recent_count index.old.opening) }
+    ensures fit { IfOk result (λ current. All (λ (e : Event). NamesFit e.body) current.recent.items) }
+    ensures goes_on { IfOk result (λ current. MayGoOn (Some index.old.opening) current.recent.items) }
+    // the bytes read, over an image of a history
+    ensures takes { OnOk result (IfSome (D.image disk.old) (λ image. (z : History) → IsIndexOver z image index.old.opening (length names.now)
+        → (steps : List ℕ) → PlansLastLeaf index.old.opening steps
+        → Takes (recent_bytes index.old.opening + weight_of (arcs_of (record_edges index.old.opening)) steps) (D.taken disk.old) (D.taken disk.new))) }
+    // why there are none
+    ensures refused { IfErr result (λ fault. IfSome (D.image disk.old) (λ image. RefusesStart fault image)) }
+    ensures cause { IsErrOf result StartFault.Disk → Rose (D.faults disk.old) (D.faults disk.new) }
+    // what it leaves
+    ensures same { index.new ≡ index.old }
+    ensures disk { OnlyReads D.image D.faults D.write_faults disk.old disk.new }
+{
+    index.facts();
+    let sources = recent_sources(alloc, index)?;
+    let recent = read_sources(alloc, index, disk, names.len(), &sources)?;
+    let set = last_set(rt, alloc, index, disk, names.len())?;
+    let now = current_graph(alloc, names, &set, first_recent(index), &sources, &recent)?;
+    Ok(Current { now, recent })
+}
+
+/// Opens the index over the disk, if there is one: reads its recent events, composes the records along the plan of
+/// its last leaf, and takes the graph that they come to past the recent events, each of which some change comes to.
+/// Nothing else is read.
+///
+/// In this order: `StartFault::Foreign` where the file is not one of an index, `StartFault::Damaged` with the offset
+/// of the first segment that breaks a rule, `StartFault::BadRecord` for the first column of the recent pieces and
+/// then of the plan that is in no spelling, or a piece whose columns do not come together, `StartFault::NotGraph`,
+/// `StartFault::BadRecent` with the number of the first recent event that no change comes to or that is out of its
+/// time; `StartFault::Disk` where the disk failed, `StartFault::Memory` for want of memory.
+pub fn open<R: Threads + Sync, D: Disk>(
+    rt: &R,
+    alloc: Global,
+    disk: &mut D,
+) -> Result<StoredHistory, StartFault>
+    // the history
+    ensures started { IfOk result (λ opened. IfSome (D.image disk.old) (λ image.
+        Starts image (Ok (started_with (index_opening opened.index) opened.names opened.now.graph opened.recent.items)))) }
+    ensures stands { IfOk result (λ opened. IfSome (D.image disk.old) (λ image. (z : Option History) → StandsAs z image
+        → KeepsHistory z (index_opening opened.index) opened.names opened.now.graph opened.recent.items)) }
+    ensures sound { IfOk result (λ opened. IsSoundHistory (index_opening opened.index) opened.names opened.now opened.recent.items) }
+    ensures held { IfOk result (λ opened. IfSome (D.image disk.new) (λ image. IsHeldBy (index_opening opened.index) opened.names image)) }
+    // the bytes read, over an image of a history
+    ensures takes { IfOk result (λ opened. IfSome (D.image disk.old) (λ image. (z : History) → IsImageOf z image
+        → (steps : List ℕ) → PlansLastLeaf (opened_of z).index steps
+        → Takes (start_bytes (opened_of z).index steps) (D.taken disk.old) (D.taken disk.new))) }
+    // why there is none
+    ensures refused { IfErr result (λ fault. IfSome (D.image disk.old) (λ image. RefusesStart fault image)) }
+    ensures never { IfErr result (λ fault. IfSome (D.image disk.old) (λ image. (z : Option History) → StandsAs z image
+        → (fault ≡ StartFault.Disk) ⊎ (fault ≡ StartFault.Memory))) }
+    ensures cause { IsErrOf result StartFault.Disk → Rose (D.faults disk.old) (D.faults disk.new) }
+    // what it leaves
+    ensures disk { ReadsAndSyncs D.image D.faults D.write_faults disk.old disk.new }
+{
+    law_images_start_as_they_stand();
+    let mut names = Names::new(alloc);
+    let mut index = match Index::reopen(alloc, disk, &mut names) {
+        Ok(index) => index,
+        Err(ReopenFault::Blank) => return Ok(StoredHistory::empty(alloc)),
+        Err(ReopenFault::Foreign) => return Err(StartFault::Foreign),
+        Err(ReopenFault::Damaged(offset)) => return Err(StartFault::Damaged(offset)),
+        Err(ReopenFault::Disk) => return Err(StartFault::Disk),
+        Err(ReopenFault::Memory) => return Err(StartFault::Memory),
+    };
+    let Current { now, recent } = read_current(rt, alloc, &mut index, disk, &names)?;
+    Ok(StoredHistory {
+        index: Some(index),
+        names,
+        now,
+        recent,
+    })
+}
