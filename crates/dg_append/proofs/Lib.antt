@@ -1,0 +1,14 @@
+pub mod IsFront
+pub mod OlderHeights
+pub mod NodeGroups
+pub mod CompletedChanges
+pub mod RisingTimes
+pub mod BehindIndex
+pub mod PreparedBatch
+pub mod OverHistory
+pub mod BatchOutcome
+pub mod AddNames
+pub mod OlderThere
+pub mod LastEvent
+pub mod DueDelta
+pub mod SegmentParts

@@ -1,0 +1,163 @@
+-- What holds of the events that the changes of a next batch come to.
+use Rattle.std.proofs.Common.{◌≡◌, ℕ, ◌+◌, ◌<◌, ◌≤◌, ◌^◌, Bool, true, false, ◌&&◌, List, [], ◌∷◌, Option, Some, None, Ok, length, take, drop, refl, sym, ◌∙◌, ap, subst, nat_le, arith}
+use Rattle.std.specs.Prelude.{IfSome}
+use Rattle.std.specs.List.{All}
+use Rattle.std.proofs.lemmas.List.{length-map}
+use Rattle.std.proofs.lemmas.List.Elements.{All-nil, All-cons, All-head, All-tail}
+use borrow.Author.Tests.{leb-true}
+use Rattle.dg_append.proofs.BehindIndex.{MayFollow}
+use Rattle.dg_append.proofs.CompletedChanges.{AllCome, AreRight, all_come, are_right, as_many, last_after, made_right, times_fit}
+use Rattle.dg_append.specs.AddedBatches.{ComesToSegment, IsReady, IsSegmentOver}
+use Rattle.dg_append.specs.declared.front.Front.{Front}
+use Rattle.dg_append.specs.declared.front.Front.TheVariants.{Whole}
+use Rattle.dg_append.specs.Fronts.{ComeTo, IsFront, lines}
+use Rattle.dg_build.specs.SpelledRecords.{RisesFrom}
+use Rattle.dg_graph.specs.declared.element.Element.{Element}
+use Rattle.dg_graph.specs.declared.event.Change.{Change}
+use Rattle.dg_graph.specs.declared.event.Event.{Event}
+use Rattle.dg_graph.specs.declared.limits.TheConstants.{NAMES_MAX, TIME_MAX}
+use Rattle.dg_graph.specs.CompletedChanges.{completed}
+use Rattle.dg_graph.specs.Effect.{forwards}
+use Rattle.dg_graph.specs.ExactEvents.{AreChangesOf}
+use Rattle.dg_graph.specs.Graph.{IsGraph}
+use Rattle.dg_graph.specs.Names.{are_new}
+use Rattle.dg_history.specs.declared.params.TheConstants.{ARITY_MAX, ARITY_MIN, LEAF_MAX, LEAF_MIN}
+use Rattle.dg_history.specs.History.{are_parameters, first_time_of, last_time_from}
+use Rattle.dg_index.specs.declared.entry.BatchEntry.{BatchEntry}
+use Rattle.dg_index.specs.FileOfHistory.{Segment}
+use Rattle.dg_index.specs.IndexGrowth.{last_time_in}
+use Rattle.dg_index.specs.OpenedIndex.{Opening, earliest_in, may_be_named}
+use Rattle.dg_list.proofs.NetLaws.{changes_are_exact}
+use Rattle.dg_now.specs.Now.{earliest_time_after as earliest_now}
+use Rattle.dg_start.specs.declared.stored_history.StoredHistory.{StoredHistory}
+
+-- ---- the last time of the batches
+
+told_from : (t : ℕ) (b : BatchEntry) (batches : List BatchEntry) → earliest_now (last_time_in (b ∷ batches)) ≡ earliest_in t (b ∷ batches)
+told_from t b [] = refl
+told_from t b (c ∷ batches) = told_from (b.ends.last + 1) c batches
+
+earliest_told : (batches : List BatchEntry) → earliest_now (last_time_in batches) ≡ earliest_in 0 batches
+earliest_told [] = refl
+earliest_told (b ∷ batches) = told_from 0 b batches
+
+pub last_told : (batches : List BatchEntry) (last : Option ℕ) → last ≡ last_time_in batches → earliest_now last ≡ earliest_in 0 batches
+last_told batches last is = ap earliest_now is ∙ earliest_told batches
+
+pub last_small : (batches : List BatchEntry) (last : Option ℕ) → last ≡ last_time_in batches → earliest_in 0 batches ≤ TIME_MAX + 1 → IfSome last (λ t. t < 2 ^ 63)
+last_small batches last is le = by last (last_told batches last is)
+  where
+    by : (o : Option ℕ) → earliest_now o ≡ earliest_in 0 batches → IfSome o (λ t. t < 2 ^ 63)
+    by None e = tt
+    by (Some t) e = omega (arith, e, le)
+
+-- ---- parameters
+
+pub record InRange (l k : ℕ) : Type 0 where
+  pub list_some : 1 ≤ l
+  pub list_most : l ≤ 65536
+  pub arity_some : 2 ≤ k
+  pub arity_most : k ≤ 64
+
+pub both_parts : (a b : Bool) → (a && b) ≡ true → (a ≡ true) × (b ≡ true)
+both_parts true b h = (refl, h)
+both_parts false b h = cc
+
+pub in_range : (l k : ℕ) → are_parameters l k ≡ true → InRange l k
+in_range l k h =
+    let a = both_parts (nat_le LEAF_MIN l) _ h in
+    let b = both_parts (nat_le l LEAF_MAX) _ a.1 in
+    let c = both_parts (nat_le ARITY_MIN k) (nat_le k ARITY_MAX) b.1 in
+    let least = leb-true LEAF_MIN l a.0 in
+    record { list_some = omega (arith, least); list_most = leb-true l LEAF_MAX b.0; arity_some = leb-true ARITY_MIN k c.0; arity_most = leb-true k ARITY_MAX c.1 }
+
+-- ---- events that changes come to
+
+first_early : (earliest : ℕ) (set : List Element) (events : List Event) → 1 ≤ length events → AreRight earliest set events
+    → (earliest ≤ first_time_of events) × (first_time_of events ≤ last_time_from 0 events)
+first_early earliest set [] some h = absurd (omega (arith, some))
+first_early earliest set (e ∷ events) some h = (h.0, last_after e.time _ events h.2)
+
+last_bound : (last : ℕ) (events : List Event) → last ≤ TIME_MAX → All (λ (e : Event). e.time ≤ TIME_MAX) events → last_time_from last events ≤ TIME_MAX
+last_bound last [] le f = le
+last_bound last (e ∷ events) le f =
+    last_bound e.time events (All-head (λ (e : Event). e.time ≤ TIME_MAX) e events f) (All-tail (λ (e : Event). e.time ≤ TIME_MAX) e events f)
+
+-- what holds of every change holds of every line
+on_lines : (P : Change → Type 0) (changes : List Change) → All P changes → All (λ c. IfSome c P) (lines changes)
+on_lines P [] f = All-nil (λ c. IfSome c P)
+on_lines P (c ∷ changes) f = All-cons (λ c. IfSome c P) (Some c) (lines changes) (All-head P c changes f) (on_lines P changes (All-tail P c changes f))
+
+-- events that are right rise
+rises_right : (earliest : ℕ) (set : List Element) (events : List Event) → AreRight earliest set events → RisesFrom earliest events
+rises_right earliest set [] h = tt
+rises_right earliest set (e ∷ events) h = (h.0, rises_right e.time (forwards set e) events h.2)
+
+may_name_parts : (names new : List (List ℕ)) → may_be_named names new ≡ true → length names + length new ≤ NAMES_MAX
+may_name_parts names new h =
+    leb-true (length names + length new) NAMES_MAX (both_parts (are_new names new) (nat_le (length names + length new) NAMES_MAX) h).1
+
+-- The events are those of the changes as a batch behind the index.
+pub record IsPrepared (o : Opening) (known : ℕ) (h : StoredHistory) (front : Front) (changes : List Change) (events : List Event) : Type 0 where
+  pub whole : front ≡ Whole
+  pub comes : completed 1 (earliest_in 0 o.batches) h.now.graph (lines changes) ≡ Ok events
+  pub many : length events ≡ length changes
+  pub follows : MayFollow o h.recent.items events
+  pub changes_are : AreChangesOf h.now.graph events
+  pub few_names : length (take known h.names) + length (drop known h.names) ≤ NAMES_MAX
+
+prepared_whole : (o : Opening) (known : ℕ) (h : StoredHistory) (changes : List Change) (events : List Event) → are_parameters o.params.l o.params.k ≡ true → IsReady o known h Whole changes
+    → IsGraph h.now.graph → completed 1 (earliest_in 0 o.batches) h.now.graph (lines changes) ≡ Ok events → IsPrepared o known h Whole changes events
+prepared_whole o known h changes events parameters r graph comes =
+    let p : InRange o.params.l o.params.k = in_range o.params.l o.params.k parameters in
+    let earliest : ℕ = earliest_in 0 o.batches in
+    let come : AllCome earliest h.now.graph (lines changes) events = all_come 1 earliest h.now.graph (lines changes) events comes in
+    let right : AreRight earliest h.now.graph events = are_right earliest h.now.graph (lines changes) events come in
+    let many : length events ≡ length changes = as_many earliest h.now.graph (lines changes) events come ∙ length-map changes (λ (x : Change). Some x) in
+    let some : 1 ≤ length events = omega (arith, many, r.some refl) in
+    let times : All (λ (e : Event). e.time ≤ TIME_MAX) events =
+    times_fit earliest h.now.graph (lines changes) events come (on_lines (λ (c : Change). c.time ≤ TIME_MAX) changes (r.timed refl)) in
+    let early = first_early earliest h.now.graph events some right in
+    record {
+      whole = refl;
+      comes = comes;
+      many = many;
+      follows = record {
+        pos = omega (arith, p.list_some);
+        some = some;
+        few = omega (arith, many, r.few);
+        room = omega (arith, many, r.room);
+        early = early.0;
+        later = early.1;
+        last = last_bound 0 events (omega arith) times;
+        rises = rises_right earliest h.now.graph events right;
+        counted = r.sound.counted.1;
+        goes_on = r.sound.goes_on;
+      };
+      changes_are = changes_are_exact h.now.graph events graph (made_right earliest h.now.graph events right);
+      few_names = may_name_parts (take known h.names) (drop known h.names) (r.named refl);
+    }
+
+pub here : (told : Option Opening) (o : Opening) (P : Opening → Type 0) → told ≡ Some o → P o → IfSome told P
+here told o P is p = subst (λ (i : Option Opening). IfSome i P) (sym is) p
+
+pub of_here : (told : Option Opening) (o : Opening) (P : Opening → Type 0) → told ≡ Some o → IfSome told P → P o
+of_here told o P is p = subst (λ (i : Option Opening). IfSome i P) is p
+
+pub is_prepared : (o : Opening) (known : ℕ) (h : StoredHistory) (front : Front) (changes : List Change) (events : List Event) (last : Option ℕ)
+    → are_parameters o.params.l o.params.k ≡ true → IsReady o known h front changes → IsGraph h.now.graph → front ≡ Whole → earliest_now last ≡ earliest_in 0 o.batches
+    → completed 1 (earliest_now last) h.now.graph (lines changes) ≡ Ok events → IsPrepared o known h front changes events
+is_prepared o known h front changes events last parameters ready graph whole early comes =
+    subst (λ (f : Front). IsPrepared o known h f changes events) (sym whole)
+    (prepared_whole o known h changes events parameters (subst (λ (f : Front). IsReady o known h f changes) whole ready) graph
+    (ap (λ (t : ℕ). completed 1 t h.now.graph (lines changes)) (sym early) ∙ comes))
+
+-- the lines come to these events
+pub come_whole : (o : Opening) (known : ℕ) (h : StoredHistory) (front : Front) (changes : List Change) (events : List Event) → IsPrepared o known h front changes events → ComeTo o h.now.graph front changes (Ok events)
+come_whole o known h front changes events p all f =
+    let is : all ≡ lines changes = subst (λ (x : Front). IsFront x changes all) p.whole f in
+    ap (completed 1 (earliest_in 0 o.batches) h.now.graph) is ∙ p.comes
+
+pub comes_to_segment : (o : Opening) (known : ℕ) (h : StoredHistory) (before : Option (List ℕ)) (front : Front) (changes : List Change) (events : List Event) (s : Segment)
+    → IsPrepared o known h front changes events → IsSegmentOver before o known h events s → ComesToSegment o known h before changes front events s
+comes_to_segment o known h before front changes events s p built = record { whole = p.whole; come = come_whole o known h front changes events p; built = built }

@@ -1,0 +1,44 @@
+-- The parts of which the segment of a batch is made.
+use Rattle.std.proofs.Common.{◌≡◌, ℕ, ◌+◌, ◌-◌, ◌/◌, ◌<◌, ◌≤◌, true, List, ◌++◌, length, map, sym, ap, subst, ◌∙◌}
+use Rattle.dg_append.proofs.RisingTimes.{last_of_both}
+use Rattle.dg_append.specs.BatchSegments.{IsPast}
+use Rattle.dg_append.specs.OlderGroups.{older_children}
+use Rattle.dg_graph.specs.declared.element.Element.{Element}
+use Rattle.dg_graph.specs.declared.event.Event.{Event}
+use Rattle.dg_graph.specs.Replay.{replay}
+use Rattle.dg_history.specs.declared.params.Params.{Params}
+use Rattle.dg_history.specs.History.{last_time_from}
+use Rattle.dg_index.specs.declared.entry.Row.{Row}
+use Rattle.dg_index.specs.Hierarchy.{leaves, set_of}
+use Rattle.dg_index.specs.IndexRecords.{deltas_due, recent_of}
+use Rattle.dg_index.specs.OlderNodes.{older}
+use Rattle.dg_index.specs.OpenedIndex.{Opening, delta_count, events_in, list_count, may_be_listed}
+
+module _ (o : Opening) (p : Params) (before : ℕ) (params : p ≡ o.params) (counted : before ≡ events_in o.batches) where
+  pub as_many_lists : (count : ℕ) → leaves p (before + count) - leaves p before ≡ list_count o count
+  as_many_lists count = λ i. leaves (params i) (counted i + count) - leaves (params i) (counted i)
+
+  pub as_many_deltas : (count : ℕ) → length (deltas_due p.k (leaves p before) (leaves p (before + count))) ≡ delta_count o count
+  as_many_deltas count = λ i. length (deltas_due (params i).k (leaves (params i) (counted i)) (leaves (params i) (counted i + count)))
+
+  pub older_are : (count : ℕ) → older p.k (leaves p before) (leaves p (before + count)) ≡ older_children o count
+  older_are count = λ i. older (params i).k (leaves (params i) (counted i)) (leaves (params i) (counted i + count))
+
+  module _ (past recent : List Event) (graph : List Element) (events : List Event) (sets : List (List Element)) (is : IsPast o past recent graph events sets) where
+    pub past_long : length past ≡ before
+    past_long = is.long ∙ sym counted
+
+    pub past_recent : recent ≡ recent_of p past
+    past_recent = is.recent_is ∙ ap (λ (q : Params). recent_of q past) (sym params)
+
+    pub past_graph : (low high : ℕ) (set : List Element) → low ≡ leaves p before → high ≡ leaves p (before + length events) → (low / p.k < high / p.k → set ≡ graph)
+        → leaves p before / p.k < leaves p (before + length events) / p.k → set ≡ replay past
+    past_graph low high set low_is high_is taken due =
+        taken (subst (λ n. n / p.k < high / p.k) (sym low_is) (subst (λ n. leaves p before / p.k < n / p.k) (sym high_is) due)) ∙ is.graph_is
+
+    pub past_sets : sets ≡ map (set_of p past) (older p.k (leaves p before) (leaves p (before + length events)))
+    past_sets = is.sets_are ∙ (λ i. map (set_of (sym params i) past) (sym (older_are (length events)) i))
+
+-- the last time of the recent events and those behind them is that of these
+pub listed_by : (floor : ℕ) (recent events : List Event) (rows : List Row) → 1 ≤ length events → may_be_listed floor (last_time_from floor (recent ++ events)) rows ≡ true → may_be_listed floor (last_time_from 0 events) rows ≡ true
+listed_by floor recent events rows some may = ap (λ t. may_be_listed floor t rows) (sym (last_of_both floor recent events some)) ∙ may

@@ -1,0 +1,59 @@
+use Rattle.std.proofs.Common.{◌∙◌, ℕ, List, map, ap, subst}
+use Rattle.dg_append.proofs.SegmentParts.{as_many_deltas, as_many_lists, listed_by, past_graph, past_long, past_recent, past_sets}
+use Rattle.dg_append.proofs.segment.segment_of.Goals as goal
+use Rattle.dg_append.specs.AddedBatches.{recent_behind}
+use Rattle.dg_append.specs.BatchSegments.{BeginsBehind, last_in_rows}
+use Rattle.dg_graph.specs.declared.event.Event.{Event}
+use Rattle.dg_history.specs.declared.params.Params.{Params}
+use Rattle.dg_history.specs.History.{first_time_of}
+use Rattle.dg_index.specs.FileOfHistory.{segment_of}
+use Rattle.dg_index.specs.OpenedIndex.{Opening, events_in, list_row}
+use Rattle.dg_start.specs.StoredHistory.{floor_of}
+
+pub returns-then-begins_behind-clause-behind : goal.returns-then-begins_behind-clause-behind
+returns-then-begins_behind-clause-behind c =
+    let o : Opening = c.args.index.now.opening in
+    let parts = c.in_ok-segment.ensures.parts in
+    let made = c.in-Ok.ensures.batch in
+    record {
+      events_are = made.0 ∙ parts.0;
+      first_is = made.1 ∙ parts.1;
+      last_is = made.2 ∙ parts.2;
+      names_are = made.3 ∙ parts.3;
+      lists = c.in-Ok.ensures.lists ∙ as_many_lists o c.params-params.result c.events_len-before.result c.params-params.ensures c.events_len-before.ensures.events _;
+      deltas = c.in-Ok.ensures.deltas ∙ as_many_deltas o c.params-params.result c.events_len-before.result c.params-params.ensures c.events_len-before.ensures.events _;
+      listed = listed_by (floor_of o (first_time_of c.args.events.now)) c.args.recent.now c.args.events.now (map list_row c.in-Ok.segment.lists) c.requires.some (c.in-Ok.ensures.times (floor_of o (first_time_of c.args.events.now)) c.requires.rises);
+      behind = subst (λ (t : ℕ). BeginsBehind t (recent_behind o.params (events_in o.batches) c.args.recent.now c.args.events.now)) (c.last_in.ensures ∙ ap (last_in_rows 0) c.list_rows.ensures)
+          (subst (λ (left : List Event). BeginsBehind c.last_in.result left) c.requires.left (c.begins_behind.ensures c.if-begins_behind.true));
+    }
+
+pub returns-then-begins_behind-clause-is : goal.returns-then-begins_behind-clause-is
+returns-then-begins_behind-clause-is c past is =
+    let o : Opening = c.args.index.now.opening in
+    let p : Params = c.params-params.result in
+    let n : ℕ = c.events_len-before.result in
+    let parts = c.in_ok-segment.ensures.parts in
+    c.in-Ok.ensures.is past
+    (past_long o p n c.params-params.ensures c.events_len-before.ensures.events past c.args.recent.now c.args.now.now.graph c.args.events.now c.args.older.now is)
+    (past_recent o p n c.params-params.ensures c.events_len-before.ensures.events past c.args.recent.now c.args.now.now.graph c.args.events.now c.args.older.now is)
+    (past_graph o p n c.params-params.ensures c.events_len-before.ensures.events past c.args.recent.now c.args.now.now.graph c.args.events.now c.args.older.now is
+    c.leaves.result c.leaves-2.result c.in_ok-graph.graph c.leaves.ensures.leaves c.leaves-2.ensures.leaves c.in_ok-graph.ensures)
+    is.changes
+    (past_sets o p n c.params-params.ensures c.events_len-before.ensures.events past c.args.recent.now c.args.now.now.graph c.args.events.now c.args.older.now is)
+    parts.0 parts.1 parts.2
+    ∙ (λ i. segment_of (c.params-params.ensures i) past (record { names = parts.3 i; events = c.args.events.now }))
+
+pub returns-clause-never : goal.returns-clause-never
+returns-clause-never c past is =
+    let o : Opening = c.args.index.now.opening in
+    let p : Params = c.params-params.result in
+    let n : ℕ = c.events_len-before.result in
+    let parts = c.in_ok-segment.ensures.parts in
+    let none = c.in-Err-Wide.ensures.fault past
+    (past_long o p n c.params-params.ensures c.events_len-before.ensures.events past c.args.recent.now c.args.now.now.graph c.args.events.now c.args.older.now is)
+    (past_recent o p n c.params-params.ensures c.events_len-before.ensures.events past c.args.recent.now c.args.now.now.graph c.args.events.now c.args.older.now is)
+    (past_graph o p n c.params-params.ensures c.events_len-before.ensures.events past c.args.recent.now c.args.now.now.graph c.args.events.now c.args.older.now is
+    c.leaves.result c.leaves-2.result c.in_ok-graph.graph c.leaves.ensures.leaves c.leaves-2.ensures.leaves c.in_ok-graph.ensures)
+    is.changes
+    (past_sets o p n c.params-params.ensures c.events_len-before.ensures.events past c.args.recent.now c.args.now.now.graph c.args.events.now c.args.older.now is)
+    in cc (none, c.in-Err-Wide.field-0-is)

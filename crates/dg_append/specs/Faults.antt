@@ -1,0 +1,18 @@
+-- Why a batch was not added, by why its changes were not completed or its older children not read.
+use Rattle.dg_append.specs.declared.fault.BatchFault.{BatchFault}
+use Rattle.dg_append.specs.declared.fault.BatchFault.TheVariants as fault
+use Rattle.dg_now.specs.declared.fault.PrepareFault.{PrepareFault}
+use Rattle.dg_now.specs.declared.fault.PrepareFault.TheVariants as prepare_fault
+use Rattle.dg_retrieval.specs.declared.fault.RetrievalFault.{RetrievalFault}
+use Rattle.dg_retrieval.specs.declared.fault.RetrievalFault.TheVariants as retrieval_fault
+
+-- the same cause
+abbrev pub of_prepare : PrepareFault → BatchFault
+of_prepare (prepare_fault.BadChange line reason) = fault.BadChange line reason
+of_prepare prepare_fault.Memory = fault.Memory
+
+-- the same cause
+abbrev pub of_retrieval : RetrievalFault → BatchFault
+of_retrieval retrieval_fault.Disk = fault.Read
+of_retrieval (retrieval_fault.Damaged key col) = fault.Damaged key col
+of_retrieval retrieval_fault.Memory = fault.Memory

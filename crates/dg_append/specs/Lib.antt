@@ -1,0 +1,5 @@
+pub mod Fronts
+pub mod OlderGroups
+pub mod Faults
+pub mod AddedBatches
+pub mod BatchSegments

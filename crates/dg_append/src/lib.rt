@@ -1,0 +1,22 @@
+//! Adding a batch to a history: its changes are completed over the current graph, the older children of the interior
+//! nodes that it completes are read, its segment is made and written, and what is in memory goes on. docs/MODEL.md
+//! has the definitions.
+#![tactic(auto)]
+
+mod batch;
+mod completed;
+mod fault;
+mod front;
+mod making;
+mod older_children;
+mod older_sets;
+mod recent;
+mod segment;
+mod spelled;
+#[cfg(test)]
+mod tests;
+
+pub use batch::{AddedBatch, add_batch};
+pub use fault::BatchFault;
+pub use front::Front;
+pub use older_sets::GROUP_MAX;

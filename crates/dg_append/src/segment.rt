@@ -1,0 +1,236 @@
+//! The segment of a batch: it is made, and put into the index file.
+
+ghost use Rattle.std.specs.Prelude.{◌≡◌, ◌≤◌, ◌<◌, ◌+◌, ◌/◌, ◌++◌, List, [], length, drop, IfOk, IfErr, IfSome, IsErrOf, IsTrue, OnOk};
+ghost use Rattle.std.specs.List.{All};
+ghost use Rattle.dg_append.specs.AddedBatches.{batch_with, recent_behind};
+ghost use Rattle.dg_append.specs.BatchSegments.{BeginsBehind, IsPast, IsSegmentBehind, IsUnmade, StopsKeeping, last_in_rows};
+ghost use Rattle.dg_append.specs.OlderGroups.{IsDueDelta, leaves_after, leaves_before, older_children};
+ghost use Rattle.dg_build.specs.SpelledRecords.{RisesFrom};
+ghost use Rattle.dg_columns.specs.NamesInRange.{NamesFit};
+ghost use Rattle.dg_disk.specs.Counts.{Rose};
+ghost use Rattle.dg_disk.specs.Frame.{OnlyWrites};
+ghost use Rattle.dg_file.specs.Images.{BothTold, Fits, GainsBatch, GainsSegment};
+ghost use Rattle.dg_graph.specs.declared.event.Event.{Event};
+ghost use Rattle.dg_history.specs.declared.limits.TheConstants.{EVENTS_MAX, FILE_BYTES_MAX};
+ghost use Rattle.dg_history.specs.History.{first_time_of, last_time_from};
+ghost use Rattle.dg_index.specs.FileOfHistory.{segment_of};
+ghost use Rattle.dg_index.specs.IndexGrowth.{IsDue, index_with, needed_for};
+ghost use Rattle.dg_index.specs.IndexRecords.{deltas_due};
+ghost use Rattle.dg_index.specs.OpenedIndex.{events_in};
+ghost use Rattle.dg_start.specs.StoredHistory.{floor_of, recent_count};
+
+use crate::fault::BatchFault;
+use dg_build::{BuildFault, build};
+use dg_disk::Disk;
+use dg_file::{CommitFault, Index};
+use dg_graph::{Column, Event};
+use dg_history::Key;
+use dg_index::Row;
+use dg_names::Names;
+use dg_now::Now;
+use dg_segment::Segment;
+use dg_set::Set;
+use dg_shape::{keys_due, leaves};
+use std::alloc::{AllocError, Global};
+
+/// The instant of the first event, or 0 where there is none.
+pub(crate) fn first_instant(events: &[Event]) -> u64
+    ensures { result ≡ first_time_of events.now }
+{
+    match events.first() {
+        Some(first) => first.time,
+        None => 0,
+    }
+}
+
+/// The instant of the last event, or 0 where there is none.
+pub(crate) fn last_instant(events: &[Event]) -> u64
+    ensures { result ≡ last_time_from 0 events.now }
+{
+    match events.last() {
+        Some(last) => last.time,
+        None => 0,
+    }
+}
+
+// Gives the segment the names from this number on.
+fn add_names(segment: &mut Segment, names: &Names, known: u32) -> Result<(), AllocError>
+    ensures { OnOk result (segment.new ≡ record segment.old { names = segment.old.names ++ drop known names.now }) }
+{
+    let mut number = known;
+    names.facts();
+    while let Some(text) = names.text(number) {
+        segment.add_name(text)?;
+        number += 1;
+    }
+    Ok(())
+}
+
+// The current graph, where so many leaves complete an interior node behind so many; else any set.
+fn completed_set(
+    alloc: Global,
+    now: &Now,
+    arity: u32,
+    before: u32,
+    after: u32,
+) -> Result<Set, AllocError>
+    requires { 1 ≤ arity }
+    ensures { IfOk result (λ set. before / arity < after / arity → set ≡ now.now.graph) }
+{
+    if before / arity < after / arity {
+        now.to_set()
+    } else {
+        Ok(Set::new(alloc))
+    }
+}
+
+// The key of the delta at this place, from 0, among those that a batch of so many events gives.
+fn delta_key(alloc: Global, index: &Index, count: u64, place: usize) -> Result<Key, AllocError>
+    requires few { events_in index.now.opening.batches + count ≤ EVENTS_MAX }
+    requires place { place < length (deltas_due index.now.opening.params.k (leaves_before index.now.opening) (leaves_after index.now.opening count)) }
+    ensures { IfOk result (λ key. IsDueDelta index.now.opening count key) }
+{
+    index.facts();
+    let params = index.params();
+    let events = index.events_len();
+    let lists = leaves(params, events + count) - leaves(params, events);
+    let keys = keys_due(alloc, params, events, count, 0)?;
+    Ok(keys[lists as usize + place])
+}
+
+// The last time of the last list among the rows, or 0 where there is none.
+fn last_in(rows: &[Row]) -> u64
+    ensures { result ≡ last_in_rows 0 rows.now }
+{
+    let mut last = 0;
+    for row in rows {
+        if let Some(ends) = row.ends {
+            last = ends.last;
+        }
+    }
+    last
+}
+
+// Whether the first of the events is not earlier than this time.
+fn begins_behind(time: u64, events: &[Event]) -> bool
+    ensures { IsTrue result → BeginsBehind time events.now }
+{
+    match events.first() {
+        Some(first) => time <= first.time,
+        None => true,
+    }
+}
+
+// A segment of so many events, with its names, and without a list or a delta.
+fn begun(alloc: Global, names: &Names, known: u32, events: &[Event]) -> Result<Segment, AllocError>
+    ensures parts { IfOk result (λ s. (s.events ≡ length events.now) × (s.first ≡ first_time_of events.now) × (s.last ≡ last_time_from 0 events.now) × (s.names ≡ drop known names.now)) }
+    ensures bare { IfOk result (λ s. (s.lists ≡ []) × (s.deltas ≡ [])) }
+{
+    let count = events.len() as u64;
+    let mut segment = Segment::new(alloc, count, first_instant(events), last_instant(events));
+    add_names(&mut segment, names, known)?;
+    Ok(segment)
+}
+
+/// The segment of a batch of these events behind those of the index, which brings the names from number `known` on.
+/// `now` holds the graph before the batch, `recent` the events behind the last closed list, and `left` those behind it
+/// once the batch is there. `older` has the sets of the older children of the interior nodes that the batch completes.
+///
+/// `Damaged` names a due delta that has more elements than its column can count, and its structure; `Memory` says that
+/// memory ran out.
+pub(crate) fn segment_of(
+    alloc: Global,
+    index: &Index,
+    names: &Names,
+    known: u32,
+    recent: &[Event],
+    now: &Now,
+    events: &[Event],
+    left: &[Event],
+    older: &[Set],
+) -> Result<Segment, BatchFault>
+    requires few { events_in index.now.opening.batches + length events.now ≤ EVENTS_MAX }
+    requires some { 1 ≤ length events.now }
+    requires counted { length recent.now ≡ recent_count index.now.opening }
+    requires recent_fit { All (λ e. NamesFit e.body) recent.now }
+    requires fit { All (λ e. NamesFit e.body) events.now }
+    requires rises { RisesFrom (floor_of index.now.opening (first_time_of events.now)) (recent.now ++ events.now) }
+    requires left { left.now ≡ recent_behind index.now.opening.params (events_in index.now.opening.batches) recent.now events.now }
+    requires older { length older.now ≡ length (older_children index.now.opening (length events.now)) }
+    ensures behind { IfOk result (λ s. IsSegmentBehind index.now.opening (drop known names.now) recent.now events.now s) }
+    ensures is { IfOk result (λ s. (past : List Event) → IsPast index.now.opening past recent.now now.now.graph events.now older.now
+        → s ≡ segment_of index.now.opening.params past (batch_with known names.now events.now)) }
+    ensures fails { IfErr result (λ fault. IsUnmade index.now.opening (length events.now) fault) }
+    ensures never { IfErr result (λ fault. (past : List Event) → IsPast index.now.opening past recent.now now.now.graph events.now older.now
+        → fault ≡ BatchFault.Memory) }
+{
+    index.facts();
+    let params = index.params();
+    let before = index.events_len();
+    let count = events.len() as u64;
+    let segment = begun(alloc, names, known, events)?;
+    let graph = completed_set(
+        alloc,
+        now,
+        params.k,
+        leaves(params, before),
+        leaves(params, before + count),
+    )?;
+    match build(
+        alloc,
+        params,
+        before as usize,
+        recent,
+        events,
+        &graph,
+        older,
+        segment,
+    ) {
+        Ok(segment) => {
+            // The lists are cut from these events, whose times do not fall.
+            if begins_behind(last_in(segment.list_rows()), left) {
+                Ok(segment)
+            } else {
+                Err(BatchFault::Memory)
+            }
+        }
+        Err(BuildFault::Memory) => Err(BatchFault::Memory),
+        Err(BuildFault::Wide(place)) => {
+            let key = delta_key(alloc, index, count, place)?;
+            Err(BatchFault::Damaged(key, Column::Structure))
+        }
+    }
+}
+
+/// Puts the segment of the next batch into the file, which may have `limit` bytes in use. All memory
+/// is taken before the first write.
+///
+/// `BatchFault::FileFull` with the bytes that would be in use and `limit`, where they are more than it;
+/// `BatchFault::Memory` for want of memory; then nothing has changed. `BatchFault::Store` where the disk
+/// failed.
+pub(crate) fn keep_segment<D: Disk>(
+    index: &mut Index,
+    disk: &mut D,
+    segment: Segment,
+    limit: u64,
+) -> Result<(), BatchFault>
+    requires due { IsDue index.old.opening segment }
+    requires limit { limit ≤ FILE_BYTES_MAX }
+    requires image { IfSome (D.image disk.old) (λ image. Fits image index.old.opening segment) }
+    ensures kept { OnOk result (index.new.opening ≡ index_with index.old.opening segment) }
+    ensures opened { OnOk result (BothTold (D.image disk.old) (D.image disk.new) (GainsSegment index.old.opening segment index.new.opening)) }
+    ensures gained { OnOk result (BothTold (D.image disk.old) (D.image disk.new) (GainsBatch segment)) }
+    ensures fits { OnOk result (needed_for index.old.opening segment ≤ limit) }
+    // why it is not kept
+    ensures fails { IfErr result (λ fault. StopsKeeping index.old.opening index.new.opening segment limit (D.image disk.old) (D.image disk.new) fault) }
+    ensures cause { IsErrOf result BatchFault.Store → Rose (D.write_faults disk.old) (D.write_faults disk.new) }
+    // what it leaves
+    ensures disk { OnlyWrites D.image D.faults D.write_faults D.taken disk.old disk.new }
+{
+    let prepared = index.prepare(segment)?;
+    match index.commit(disk, prepared, limit) {
+        Ok(()) => Ok(()),
+        Err(CommitFault::FileFull(needed)) => Err(BatchFault::FileFull(needed, limit)),
+        Err(CommitFault::Disk) => Err(BatchFault::Store),
+    }
+}
