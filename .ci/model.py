@@ -1,5 +1,6 @@
 """A model of the program that knows nothing of it: random histories, the replies that are due, and the index file
-as docs/FORMATS.md has it. Every run's replies and file are compared with the model's, byte for byte.
+as docs/FORMATS.md has it. Every run's replies and file are compared with the model's, byte for byte. And files with
+one damaged column: which start is refused, which command names the damage, and which one does not meet it.
 
   python3 .ci/model.py PROGRAM FOLDER FIRST LAST     histories with the seeds from FIRST to before LAST
 """
@@ -107,8 +108,10 @@ def delta_column(before, after, column):
 class History:
     def __init__(self, size, arity, function):
         self.size, self.arity, self.function = size, arity, function
-        self.events = []
+        self.events, self.segments = [], 0
         self.sizes = {}  # the bytes of the three columns of each list, top and down, by its key
+        self.places = {}  # where the three columns of each record stand in the file, by its key
+        self.recent = []  # the keys of the recent pieces
         code = bytes([FUNCTIONS.index(function) + 1])
         self.text = b"\1DGRAPH1" + number(size, 4) + number(arity, 4) + code
 
@@ -134,11 +137,12 @@ class History:
         self.events += events
         after = len(self.events)
         leaves, leaves_after = before // self.size, after // self.size
-        columns, made = [], {}
+        columns, made, keys = [], {}, []
 
-        def row(three, key=None):
+        def row(three, key):
             columns.extend(three)
-            if key is not None:
+            keys.append(key)
+            if not key.startswith("piece"):
                 self.sizes[key] = [len(c) for c in three]
             return b"".join(number(len(c), 8) for c in three)
 
@@ -157,12 +161,19 @@ class History:
                 deltas += [row([delta_column(a, b, c) for c in range(3)], key) for key, a, b in steps]
             height += 1
         behind = self.events[max(before, leaves_after * self.size) :]
-        piece = row([event_column(behind, c) for c in range(3)])
+        segment = f"piece {self.segments}"
+        piece = row([event_column(behind, c) for c in range(3)], segment)
         directory = number(len(events), 8) + number(events[0][0], 8) + number(events[-1][0], 8)
         directory += number(len(names), 4) + b"".join(number(len(n), 2) + n for n in names)
         directory += number(len(lists), 4) + b"".join(lists)
         directory += number(len(deltas), 4) + b"".join(deltas) + piece
         blobs = b"".join(columns)
+        offset = len(self.text) + 17 + len(directory)
+        for i, column in enumerate(columns):
+            self.places.setdefault(keys[i // 3], []).append((offset, len(column)))
+            offset += len(column)
+        self.recent = ([] if leaves_after > leaves else self.recent) + [segment]
+        self.segments += 1
         self.text += b"\1" + number(len(directory), 8) + number(len(blobs), 8) + directory + blobs
 
 
@@ -173,7 +184,7 @@ def is_number(word, most):
 class Graph:
     """The graph of an index, for the asked columns: nodes in their order, and edges (from, to, weight)."""
 
-    def __init__(self, history, columns):
+    def __init__(self, history, columns, memory=True):
         leaves, arity = len(history.events) // history.size, history.arity
 
         def leaf(j):
@@ -184,26 +195,29 @@ class Graph:
             return structure + ("n" in columns) * nodes + ("e" in columns) * edges
 
         heights = [h for h in range(1, 40) if arity**h <= leaves]
-        memory = bool(history.events)
+        memory = memory and bool(history.events)
         self.nodes = ["root"] + (["now", "recent"] if memory else [])
         self.nodes += [f"leaf {j + 1}" for j in range(leaves)] + [f"list {i}" for i in range(leaves)]
         self.nodes += [f"inner {h} {j + 1}" for h in heights for j in range(leaves // arity**h)]
-        edges = [("root", "now", 0)] if memory else []
-        edges += [("root", f"inner {h} 1", weight(f"top {h}")) for h in heights]
+        # Each edge with the record that it enters, or None.
+        edges = [("root", "now", 0, None)] if memory else []
+        edges += [("root", f"inner {h} 1", weight(f"top {h}"), f"top {h}") for h in heights]
         for i in range(leaves):
-            bytes_of_list = weight(f"list {i}")
-            edges += [(leaf(i), f"list {i}", bytes_of_list), (leaf(i + 1), f"list {i}", bytes_of_list)]
-            edges += [(f"list {i}", leaf(i), 0), (f"list {i}", leaf(i + 1), 0)]
+            record = f"list {i}"
+            edges += [(leaf(j), record, weight(record), record) for j in (i, i + 1)]
+            edges += [(record, leaf(j), 0, None) for j in (i, i + 1)]
         for h in heights:
             for j in range(1, leaves // arity**h + 1):
                 for c in history.children(j):
                     child = f"inner {h - 1} {c}" if h > 1 else f"leaf {c}"
-                    bytes_of_delta = weight(f"down {h} {c}")
-                    edges += [(f"inner {h} {j}", child, bytes_of_delta), (child, f"inner {h} {j}", bytes_of_delta)]
+                    record = f"down {h} {c}"
+                    edges += [(f"inner {h} {j}", child, weight(record), record), (child, f"inner {h} {j}", weight(record), record)]
         if memory:
-            edges += [("now", "recent", 0), ("recent", "now", 0)]
-            edges += [("recent", leaf(leaves), 0), (leaf(leaves), "recent", 0)]
-        self.edges = [edge for edge in edges if edge[1] != "root"]
+            edges += [("now", "recent", 0, None), ("recent", "now", 0, None)]
+            edges += [("recent", leaf(leaves), 0, None), (leaf(leaves), "recent", 0, None)]
+        edges = [edge for edge in edges if edge[1] != "root"]
+        self.edges = [edge[:3] for edge in edges]
+        self.records = [edge[3] for edge in edges]
         self.costs = self.costs_from(["root"])
 
     def costs_from(self, starts):
@@ -237,14 +251,21 @@ class Graph:
         potentials = [f"potential {n} {self.costs[n][0]}" for n in self.nodes if self.costs[n][0] < weight]
         return steps + potentials, weight, len(steps)
 
-    def tree_weight(self, targets):
-        """What the tree of these targets weighs: for each the least walk from the tree so far is added."""
-        tree, weight = ["root"], 0
+    def tree(self, targets):
+        """The steps of the tree of these targets: for each the least walk from the tree so far is added."""
+        tree, steps = ["root"], []
         for target in targets:
-            costs = self.costs_from(tree)
-            weight += costs[target][0]
-            tree += [self.edges[i][1] for i in self.walk(target, tree, costs)]
-        return weight
+            walk = self.walk(target, tree, self.costs_from(tree))
+            tree += [self.edges[i][1] for i in walk]
+            steps += walk
+        return steps
+
+    def tree_weight(self, targets):
+        return sum(self.edges[i][2] for i in self.tree(targets))
+
+    def entered(self, targets):
+        """The records that the tree of these targets enters."""
+        return [self.records[i] for i in self.tree(targets) if self.records[i] is not None]
 
     def judged(self, target, lines):
         """What is said of the lines of a certificate."""
@@ -432,13 +453,13 @@ class Case:
     def reply(self, *lines):
         self.due += list(lines) + ["end"]
 
-    def run(self, file):
+    def run(self, file, status=0):
         script = "".join(line + "\n" for line in self.script)
         ran = subprocess.run([self.program, self.index], input=script.encode(), capture_output=True)
         due = "".join(line + "\n" for line in self.due)
         with open(self.index, "rb") as made:
             same = made.read() == file
-        if ran.returncode != 0 or ran.stdout.decode() != due or not same:
+        if ran.returncode != status or ran.stdout.decode() != due or not same:
             sys.exit(f"seed {self.seed}: status {ran.returncode}, replies {ran.stdout.decode() == due}, file {same}")
         self.script, self.due, self.handles = [], [], []
 
@@ -524,6 +545,87 @@ def check(program, index, seed):
     case.run(history.file())
 
 
+# Seeds of files whose damage no start meets and a batch does: few files are such.
+MET_BY_A_BATCH = [314, 378, 485, 1136]
+
+
+def older_children(history, count):
+    """The children, there now, of the interior nodes that so many more events complete."""
+    leaves, after = (n // history.size for n in (len(history.events), len(history.events) + count))
+    found, height = [], 1
+    while history.arity**height <= after:
+        done = leaves // history.arity**height
+        if after // history.arity**height > done:
+            last = leaves // history.arity ** (height - 1)
+            found += [f"inner {height - 1} {c}" if height > 1 else f"leaf {c}" for c in range(done * history.arity + 1, last + 1)]
+        height += 1
+    return found
+
+
+def check_damage(program, index, seed):
+    """A file with one damaged column: what meets it names it, and nothing else does."""
+    rng = random.Random(seed)
+    size, arity, function = rng.choice([2, 2, 3, 4]), rng.choice([2, 2, 3]), rng.choice(FUNCTIONS)
+    history, changes = History(size, arity, function), Changes(rng)
+
+    def batch(count):
+        changes.time += 1 if history.events else 0
+        names = []
+        made = [changes.next(names) for _ in range(count)]
+        return names, [line for line, _ in made], [event for _, event in made]
+
+    for _ in range(rng.randrange(1, 6)):
+        names, _, events = batch(rng.choice([1, 2, 5, 9, rng.randrange(1, 60)]))
+        history.add(events, names)
+    records, leaves = Graph(history, "sne", memory=False), len(history.events) // size
+    starts = history.recent + records.entered([f"leaf {leaves}"] if leaves else [])
+    names, lines, events = batch(rng.choice([1, 2, 5, 9, rng.randrange(1, 60)]))
+    children = older_children(history, len(events))
+    met = {key for i in range(0, len(children), 32) for key in records.entered(children[i : i + 32])}
+    held = [(key, c) for key, three in history.places.items() for c in range(3) if three[c][1] > 0]
+    by_batch = [(key, c) for key, c in held if key in met and key not in starts]
+    damaged, column = rng.choice(by_batch if by_batch and rng.random() < 0.7 else held)
+    place = history.places[damaged][column][0]
+
+    def with_damage():
+        text = bytearray(history.file())
+        text[place] = 255
+        return bytes(text)
+
+    with open(index, "wb") as made:
+        made.write(with_damage())
+    case = Case(program, index, seed)
+    if damaged in starts:
+        case.script.append("tree")
+        case.run(with_damage(), 7)
+        return
+    told = f"refused 15 damaged {damaged} {'sne'[column]}"
+    for _ in range(rng.randrange(1, 5)):
+        columns = rng.choice(["s", "sn", "se", "sne"])
+        graph = Graph(history, columns)
+        first, last = history.events[0][0], history.events[-1][0]
+        times = [rng.randrange(first, last + 1) for _ in range(rng.choice([1, 2, 3]))]
+        targets = [point(history, time) for time in times]
+        case.script.append(f"several {columns} {' '.join(map(str, times))}")
+        if damaged in graph.entered(targets) and "sne"[column] in columns:
+            case.reply(told)
+            continue
+        handle, singles = len(case.handles) + 1, [graph.costs[target][0] for target in targets]
+        listed = [f"handle {handle + i} {time} {single}" for i, (time, single) in enumerate(zip(times, singles))]
+        case.reply(f"ok several {graph.tree_weight(targets)} {sum(singles)}", *listed)
+        case.handles += times
+    case.script += [f"append {len(lines)}"] + lines
+    if damaged in met:
+        case.reply(told)
+    else:
+        history.add(events, names)
+        case.reply(f"ok append {len(lines)} {len(history.events)} {events[-1][0]}")
+    case.run(with_damage())
+
+
 if __name__ == "__main__":
-    for seed in range(int(sys.argv[3]), int(sys.argv[4])):
-        check(sys.argv[1], os.path.join(sys.argv[2], "index"), seed)
+    program, folder, first, last = *sys.argv[1:3], *map(int, sys.argv[3:5])
+    for seed in range(first, last):
+        check(program, os.path.join(folder, "index"), seed)
+    for seed in [*range(first, last), *MET_BY_A_BATCH]:
+        check_damage(program, os.path.join(folder, "damaged"), seed)

@@ -1,6 +1,6 @@
 -- Where nothing failed, the length of the script decides how a run ends.
 use Rattle.std.proofs.Common.{◌≡◌, ℕ, ◌<◌, ◌≤◌, inl, inr, List, ◌++◌, Option, Some, None, IfSome, length, refl, ap, arith, length-append}
-use Rattle.dg_history.specs.declared.start_fault.StartFault.{StartFault}
+use Rattle.dg_start.specs.declared.fault.StartFault.{StartFault}
 use Rattle.dg_machine.specs.declared.limits.Limits.{Limits}
 use Rattle.dg_io.specs.Told.{Gives}
 use Rattle.deltagraph.specs.declared.status.Status.{Status}

@@ -1,12 +1,14 @@
 -- The promise of the program: where the words are wrong, where no session begins, and where one does.
-use Rattle.std.proofs.Common.{◌≡◌, ℕ, ◌<◌, ◌≤◌, arith, ◌⊎◌, inl, inr, Bool, true, false, List, ◌++◌, Option, IfSome, Err, length, is_some, refl, sym, ◌∙◌, ap, subst}
+use Rattle.std.proofs.Common.{◌≡◌, ℕ, ◌<◌, ◌≤◌, arith, ◌⊎◌, inl, inr, Bool, true, false, List, ◌++◌, Option, IfSome, Ok, Err, length, is_some, refl, sym, ◌∙◌, ap, subst}
 use Rattle.std.specs.Option.{option_map}
 use Rattle.dg_disk.specs.Counts.{Rose as DiskRose}
-use Rattle.dg_history.specs.declared.start_fault.StartFault.{StartFault}
-use Rattle.dg_history.specs.declared.start_fault.StartFault.TheVariants as fault
+use Rattle.dg_start.specs.declared.fault.StartFault.{StartFault}
+use Rattle.dg_start.specs.declared.fault.StartFault.TheVariants as fault
 use Rattle.dg_history.specs.History.{History}
-use Rattle.dg_index.specs.ImageOfHistory.{StandsAs}
-use Rattle.dg_index.specs.SessionStart.{start_of}
+use Rattle.dg_fold.specs.BytesRead.{Takes}
+use Rattle.dg_index.specs.ImageOfHistory.{IsImageOf, StandsAs}
+use Rattle.dg_index.specs.OpenedIndex.{opened_of}
+use Rattle.dg_start.specs.SessionStart.{PlansLastLeaf, RefusesStart, Starts, StartsAreDetermined, start_bytes}
 use Rattle.dg_machine.specs.declared.limits.Limits.{Limits}
 use Rattle.dg_io.specs.Told.{CountRose, Gives}
 use Rattle.dg_machine.specs.MachineState.{machine_at}
@@ -14,7 +16,7 @@ use Rattle.dg_machine.specs.Run.{last_state, texts_of}
 use Rattle.dg_machine.specs.Script.{script}
 use Rattle.dg_session.specs.Parts.{Parts}
 use Rattle.dg_session.specs.Session.{StandsFor}
-use Rattle.dg_session.specs.SessionStart.{RefusesStart, StartsAs}
+use Rattle.dg_start.specs.StoredHistory.{started_with}
 use Rattle.deltagraph.specs.declared.status.Status.{Status}
 use Rattle.deltagraph.specs.declared.status.Status.TheVariants as status
 use Rattle.deltagraph.specs.Outside.{Outside, IsUntouched}
@@ -46,6 +48,7 @@ words_promise limits start = record {
   refused = λ f e. cc;
   never_refused = if_some start.image (λ x. (index : Option History) → StandsAs index x → (f : StartFault) → status.Words ≡ status.Refused f → ⊥) (λ x is index stands f e. cc);
   refuses = λ good. absurd (cc);
+  start_reads = λ e. cc;
   completes = λ good. absurd (cc);
 }
 
@@ -53,12 +56,12 @@ pub wrong_words : (limits : Limits) (are_written : Bool) (start : Outside) → a
 wrong_words limits are_written start is = subst (λ (b : Bool). Promised limits b status.Words start start) (sym is) (words_promise limits start)
 
 -- no session begins
-pub no_session : (limits : Limits) (s : Status) (f : StartFault) (start now : Outside) → s ≡ end_of f → IsUntouched start now → start.disk_faults ≤ now.disk_faults
+pub no_session : StartsAreDetermined → (limits : Limits) (s : Status) (f : StartFault) (start now : Outside) → s ≡ end_of f → IsUntouched start now → start.disk_faults ≤ now.disk_faults
     → (f ≡ fault.Disk → DiskRose start.disk_faults now.disk_faults)
-    → IfSome start.image (λ image. RefusesStart f (start_of image))
+    → IfSome start.image (λ image. RefusesStart f image)
     → IfSome start.image (λ image. (index : Option History) → StandsAs index image → (f ≡ fault.Disk) ⊎ (f ≡ fault.Memory))
     → Promised limits true s start now
-no_session limits s f start now is same counted cause refuses never =
+no_session determined limits s f start now is same counted cause refuses never =
     let not = unbegun s f is in
     let failed : s ≡ status.DiskFault → DiskRose start.disk_faults now.disk_faults = λ e. cause (disk_failed s f is e) in record {
       served = if_some start.image (λ x. (index : Option History) → StandsAs index x → Served (machine_at limits index) s start now)
@@ -77,16 +80,17 @@ no_session limits s f start now is same counted cause refuses never =
           let l = lies s f g is e in (
             l.disk,
             l.memory,
-            where_some start.image (λ image. RefusesStart f (start_of image)) (λ image. start_of image ≡ Err g) (λ x h. refused_so s f g (start_of x) is e h) refuses,
+            where_some start.image (λ image. RefusesStart f image) (λ image. Starts image (Err g)) (λ x h. refused_so s f g x is e h) refuses,
           );
       never_refused =
           where_some start.image (λ image. (index : Option History) → StandsAs index image → (f ≡ fault.Disk) ⊎ (f ≡ fault.Memory))
           (λ image. (index : Option History) → StandsAs index image → (g : StartFault) → s ≡ status.Refused g → ⊥)
           (λ x h index stands g e. never_so s f g is (h index stands) e) never;
       refuses = λ good calm.
-          where_some start.image (λ image. RefusesStart f (start_of image))
-          (λ image. (g : StartFault) → start_of image ≡ Err g → (s ≡ status.Refused g) ⊎ (s ≡ status.NoMemory))
-          (λ x h g e. ends_so s f g (start_of x) is (λ disk. calm (cause disk)) h e) refuses;
+          where_some start.image (λ image. RefusesStart f image)
+          (λ image. (g : StartFault) → Starts image (Err g) → (s ≡ status.Refused g) ⊎ (s ≡ status.NoMemory))
+          (λ x h g e. ends_so determined s f g x is (λ disk. calm (cause disk)) h e) refuses;
+      start_reads = λ e. absurd (not.done e);
       completes = λ good none.
           where_some start.image (λ image. (index : Option History) → StandsAs index image → (f ≡ fault.Disk) ⊎ (f ≡ fault.Memory))
           (λ image. (index : Option History) → StandsAs index image → IfSome start.left (λ script. Completes limits s script))
@@ -105,14 +109,20 @@ begun_not status.NoMemory begun = absurd begun
 begun_not (status.Refused f) begun = absurd begun
 begun_not status.ScriptLimit begun = (λ e. cc, λ e. cc, λ f e. cc)
 
+-- over an image of a history so many bytes were read as a start reads
+abbrev pub StartTakes : ℕ → ℕ → List ℕ → Type 0
+StartTakes before after image =
+    (z : History) → IsImageOf z image → (steps : List ℕ) → PlansLastLeaf (opened_of z).index steps → Takes (start_bytes (opened_of z).index steps) before after
+
 -- a session began over what was there at the start, with as many failed writes or more, and answered the script
-pub session_promise : (limits : Limits) (session : Parts) (s : Status) (start mid now : Outside)
+pub session_promise : StartsAreDetermined → (limits : Limits) (session : Parts) (s : Status) (start mid now : Outside)
     → mid.left ≡ start.left → mid.source_faults ≡ start.source_faults → mid.written ≡ start.written → mid.sink_faults ≡ start.sink_faults → mid.image ≡ start.image
     → (DiskRose mid.write_faults now.write_faults → DiskRose start.write_faults now.write_faults) → start.disk_faults ≤ mid.disk_faults
-    → IfSome start.image (λ image. StartsAs limits session (start_of image))
+    → IfSome start.image (λ image. Starts image (Ok (started_with session.index session.names session.graph session.recent)))
     → IfSome start.image (λ image. (index : Option History) → StandsAs index image → StandsFor session image (machine_at limits index))
+    → IfSome start.image (StartTakes start.bytes_read mid.bytes_read)
     → ScriptAnswered limits.script_bytes session s mid now → Promised limits true s start now
-session_promise limits session s start mid now left source written sink image writes counted starts stands answered =
+session_promise determined limits session s start mid now left source written sink image writes counted starts stands takes answered =
     let not = begun_not s answered.begun in
     let served : WhereItStands start.image (λ index. Served (machine_at limits index) s start now) =
     if_some start.image (λ x. (index : Option History) → StandsAs index x → Served (machine_at limits index) s start now)
@@ -149,9 +159,12 @@ session_promise limits session s start mid now left source written sink image wr
       refused = λ f e. absurd (not.2 f e);
       never_refused = if_some start.image (λ x. (index : Option History) → StandsAs index x → (f : StartFault) → s ≡ status.Refused f → ⊥) (λ x is index as_index f e. not.2 f e);
       refuses = λ good calm.
-          where_some start.image (λ image. StartsAs limits session (start_of image))
-          (λ image. (g : StartFault) → start_of image ≡ Err g → (s ≡ status.Refused g) ⊎ (s ≡ status.NoMemory))
-          (λ x h g e. absurd (begins_ok limits session (start_of x) g h e)) starts;
+          where_some start.image (λ image. Starts image (Ok (started_with session.index session.names session.graph session.recent)))
+          (λ image. (g : StartFault) → Starts image (Err g) → (s ≡ status.Refused g) ⊎ (s ≡ status.NoMemory))
+          (λ x h g e. absurd (begins_ok determined x (started_with session.index session.names session.graph session.recent) g h e)) starts;
+      start_reads = λ e none.
+          where_some start.image (StartTakes start.bytes_read mid.bytes_read) (StartTakes start.bytes_read now.bytes_read)
+          (λ x h z is steps plan. subst (Takes (start_bytes (opened_of z).index steps) start.bytes_read) (sym (answered.silent e (ap (option_map script) left ∙ none))) (h z is steps plan)) takes;
       completes = λ good none.
           if_some start.image (λ x. (index : Option History) → StandsAs index x → IfSome start.left (λ script. Completes limits s script))
           (λ x is index as_index. completes_of limits s start.left now.left not.0 (λ e. none.source (source_fault e)) (λ e. none.sink (sink_fault e))

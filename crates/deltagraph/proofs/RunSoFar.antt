@@ -22,6 +22,7 @@ use Rattle.dg_machine.specs.Script.{Entry, script}
 use Rattle.dg_machine.proofs.Runs.{run_more, last_more}
 use Rattle.dg_session.specs.Parts.{Parts}
 use Rattle.dg_session.specs.Session.{WhereBothTold, StandsFor}
+use Rattle.dg_start.specs.StoredHistory.{KeepsHistory}
 use Rattle.deltagraph.specs.declared.status.Status.{Status}
 use Rattle.deltagraph.specs.declared.status.Status.TheVariants as status
 use Rattle.deltagraph.specs.Outside.{Outside}
@@ -94,9 +95,18 @@ going_first m first left before f session image is stands = record {
   failed = omega arith;
 }
 
+-- what a session keeps of the index and the names of the machine's history
+kept_index : (index : Option History) (p : Parts) → KeepsHistory index p.index p.names p.graph p.recent → p.index ≡ option_map (λ (z : History). (opened_of z).index) index
+kept_index None p kept = kept.0
+kept_index (Some z) p kept = kept.index_is
+
+kept_names : (index : Option History) (p : Parts) → KeepsHistory index p.index p.names p.graph p.recent → p.names ≡ names_in index
+kept_names None p kept = kept.1
+kept_names (Some z) p kept = kept.names_are
+
 -- a session has no index exactly where the machine has none
 no_index_of : (session : Parts) (image : List ℕ) (m : MachineState) → StandsFor session image m → m.index ≡ None → session.index ≡ None
-no_index_of session image m stands none = stands.index ∙ ap (option_map (λ (z : History). (opened_of z).index)) none
+no_index_of session image m stands none = kept_index m.index session stands.kept ∙ ap (option_map (λ (z : History). (opened_of z).index)) none
 
 none_of : (index : Option History) → option_map (λ (z : History). (opened_of z).index) index ≡ None → index ≡ None
 none_of None is = refl
@@ -107,7 +117,7 @@ some_injective x y same = cc
 
 -- the text of the reply by the names of the session, which are those of the machine's history
 session_text : (new : Parts) (now : List ℕ) (k : MachineState) (r : Reply) → StandsFor new now k → text new.names r ≡ text (names_in k.index) r
-session_text new now k r stands = ap (λ (names : List (List ℕ)). text names r) stands.names
+session_text new now k r stands = ap (λ (names : List (List ℕ)). text names r) (kept_names k.index new stands.kept)
 
 -- a turn with a reply that was written
 going_on : (m : MachineState) (first left before : Option (List ℕ)) (f : ℕ) (old new : Parts) (image now : List ℕ) (more rest : Option (List Entry)) (written : Option (List ℕ)) (n k : ℕ) (e : Entry) (r : Reply)
@@ -129,7 +139,7 @@ going_on m first left before f old new image now more rest written n k e r going
       unmade = λ none.
           let here : next.0.index ≡ None = ap (λ (k : MachineState). k.index) (sym last) ∙ none in
           let was = same (no_index_of new now next.0 next.2 here) in
-          going.unmade (none_of (last_state m going.answers).index (sym going.stands.index ∙ was.0)) ∙ ap (λ x. Some x) (sym was.1);
+          going.unmade (none_of (last_state m going.answers).index (sym (kept_index (last_state m going.answers).index old going.stands.kept) ∙ was.0)) ∙ ap (λ x. Some x) (sym was.1);
       failed = failed_on (is_store_read r.head) going.answers a f n k refl going.failed counts;
     }
 
@@ -311,6 +321,23 @@ pub asked_first : (r : LinesState) (left : Option (List ℕ)) (limit : ℕ)
 asked_first r None limit is = refl
 asked_first r (Some bytes) limit is =
     ap (λ (x : LinesState). asked x (Some bytes)) (sym is)
+
+-- ---- where no entry is to come
+
+-- a script without an entry stays one, and nothing was read from the disk
+abbrev pub StaysSilent : Option (List Entry) → Option (List Entry) → ℕ → ℕ → Type 0
+StaysSilent first now before after = first ≡ Some [] → (now ≡ Some []) × (after ≡ before)
+
+-- a turn with a reply is one at an entry
+none_more : (more : Option (List Entry)) (e : Entry) → ◌≡◌ {A = Option (List Entry)} (Some []) (option_map (λ es. e ∷ es) more) → ⊥
+none_more None e is = cc
+none_more (Some es) e is = cc
+
+pub silent_on : (first more rest : Option (List Entry)) (e : Entry) (before mid after : ℕ) → StaysSilent first more before mid → more ≡ option_map (λ es. e ∷ es) rest → StaysSilent first rest before after
+silent_on first more rest e before mid after silent is none = absurd (none_more rest e (sym (silent none).0 ∙ is))
+
+pub silent_skip : (first more rest : Option (List Entry)) (before mid after : ℕ) → StaysSilent first more before mid → more ≡ rest → after ≡ mid → StaysSilent first rest before after
+silent_skip first more rest before mid after silent same unread none = let s = silent none in (sym same ∙ s.0, unread ∙ s.1)
 
 -- what is said of an error, where the test says that it is one
 pub at_err : {T E : Type 0} (r : Result T E) (P : Type 0) → is_err r ≡ true → OnErr r P → P

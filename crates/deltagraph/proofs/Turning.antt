@@ -1,12 +1,11 @@
 -- How a turn follows from its line.
-use Rattle.std.proofs.Common.{◌≡◌, ℕ, Bool, true, false, cond, List, ◌∷◌, Option, Some, None, refl, sym, ◌∙◌, ap, subst}
+use Rattle.std.proofs.Common.{◌≡◌, ℕ, List, ◌∷◌, Option, Some, refl, sym, ◌∙◌, ap, subst}
 use Rattle.std.specs.Option.{option_map}
 use Rattle.dg_machine.specs.declared.command.Command.{Command}
 use Rattle.dg_machine.specs.declared.reply.Head.TheVariants as head
 use Rattle.dg_machine.specs.declared.reply.Refusal.TheVariants as refusal
 use Rattle.dg_machine.specs.declared.reply.Reply.{Reply}
 use Rattle.dg_machine.specs.Answer.{headed}
-use Rattle.dg_machine.specs.CommandGrammar.{command_of}
 use Rattle.dg_graph.specs.Lines.{ScriptLine, Text, Long}
 use Rattle.dg_machine.specs.Run.{Step, Leaves_grammar, Too_long}
 use Rattle.dg_machine.specs.Script as script

@@ -1,18 +1,20 @@
 -- The promise of the program, on one page.
 use Rattle.std.specs.Prelude.{◌≡◌, ◌≢◌, ℕ, ◌<◌, ◌≤◌, ◌↔◌, ◌⊎◌, Bool, true, false, ◌==◌, not, List, [], ◌∷◌, length, IfSome, Option, Err, is_some, slice_index}
 use Rattle.dg_disk.specs.Counts.{Rose as DiskRose}
-use Rattle.dg_history.specs.declared.start_fault.StartFault.{StartFault}
-use Rattle.dg_history.specs.declared.start_fault.StartFault.TheVariants as start_fault
+use Rattle.dg_start.specs.declared.fault.StartFault.{StartFault}
+use Rattle.dg_start.specs.declared.fault.StartFault.TheVariants as start_fault
 use Rattle.dg_history.specs.History.{History}
-use Rattle.dg_index.specs.ImageOfHistory.{StandsAs}
-use Rattle.dg_index.specs.SessionStart.{start_of}
+use Rattle.dg_fold.specs.BytesRead.{Takes}
+use Rattle.dg_index.specs.ImageOfHistory.{IsImageOf, StandsAs}
+use Rattle.dg_index.specs.OpenedIndex.{opened_of}
+use Rattle.dg_start.specs.SessionStart.{PlansLastLeaf, Starts, start_bytes}
 use Rattle.dg_io.specs.Told.{Gives, CountRose}
 use Rattle.dg_machine.specs.declared.limits.Limits.{Limits}
 use Rattle.dg_machine.specs.MachineState.{machine_at}
 use Rattle.deltagraph.specs.declared.status.Status.{Status}
 use Rattle.deltagraph.specs.declared.status.Status.TheVariants as status
 use Rattle.deltagraph.specs.Outside.{Outside, IsUntouched}
-use Rattle.deltagraph.specs.Served.{Served}
+use Rattle.deltagraph.specs.Served.{HasNoEntry, Served}
 use Rattle.deltagraph.specs.Statuses.{is_unbegun}
 
 -- one word that does not begin with `-`
@@ -66,10 +68,14 @@ pub record Promised (limits : Limits) (are_written : Bool) (s : Status) (start n
   -- Status 7 comes only for what the image is refused for, and never where it stands for a history or for no
   -- index; and an image that is refused gives it, unless the disk failed or memory lacked.
   pub refused : (fault : StartFault) → s ≡ status.Refused fault → (fault ≢ start_fault.Disk) × (fault ≢ start_fault.Memory)
-      × IfSome start.image (λ image. start_of image ≡ Err fault)
+      × IfSome start.image (λ image. Starts image (Err fault))
   pub never_refused : WhereItStands start.image (λ index. (fault : StartFault) → s ≡ status.Refused fault → ⊥)
   pub refuses : are_written ≡ true → (DiskRose start.disk_faults now.disk_faults → ⊥)
-      → IfSome start.image (λ image. (fault : StartFault) → start_of image ≡ Err fault → (s ≡ status.Refused fault) ⊎ (s ≡ status.NoMemory))
+      → IfSome start.image (λ image. (fault : StartFault) → Starts image (Err fault) → (s ≡ status.Refused fault) ⊎ (s ≡ status.NoMemory))
+  -- Where the image stands for a history, a run over a script without an entry has read of the disk what its start
+  -- reads: all that is in use but the columns, the recent pieces, and the records along the plan of the last leaf.
+  pub start_reads : s ≡ status.Done → HasNoEntry start.left → IfSome start.image (λ image. (z : History) → IsImageOf z image
+      → (steps : List ℕ) → PlansLastLeaf (opened_of z).index steps → Takes (start_bytes (opened_of z).index steps) start.bytes_read now.bytes_read)
   -- Where the words are of the written form, the image stands for a history or for no index and nothing
   -- failed, the script is answered to its end or to the limit.
   pub completes : are_written ≡ true → NoneFailed start now

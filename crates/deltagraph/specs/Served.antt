@@ -14,6 +14,10 @@ use Rattle.deltagraph.specs.declared.status.Status.{Status}
 use Rattle.deltagraph.specs.declared.status.Status.TheVariants as status
 use Rattle.deltagraph.specs.Outside.{Outside}
 
+-- the source tells what it has left, and there is no entry in it
+abbrev pub HasNoEntry : Option (List ℕ) → Type 0
+HasNoEntry left = option_map script left ≡ Some []
+
 -- what the sink gained: the bytes that are due, or where it failed a proper prefix of them
 abbrev pub Gained : Status → Option (List ℕ) → List ℕ → Option (List ℕ) → Type 0
 Gained status.Done before due after = after ≡ grown before due

@@ -1,7 +1,7 @@
 -- The exit status of each end of a run, and how a run ends whose session does not begin.
 use Rattle.std.specs.Prelude.{ℕ, Bool, true, false}
-use Rattle.dg_history.specs.declared.start_fault.StartFault.{StartFault}
-use Rattle.dg_history.specs.declared.start_fault.StartFault.TheVariants as fault
+use Rattle.dg_start.specs.declared.fault.StartFault.{StartFault}
+use Rattle.dg_start.specs.declared.fault.StartFault.TheVariants as fault
 use Rattle.deltagraph.specs.declared.status.Status.{Status}
 use Rattle.deltagraph.specs.declared.status.Status.TheVariants as status
 
@@ -22,6 +22,7 @@ end_of fault.Disk = status.DiskFault
 end_of fault.Foreign = status.Refused fault.Foreign
 end_of (fault.Damaged place) = status.Refused (fault.Damaged place)
 end_of (fault.BadRecord key col) = status.Refused (fault.BadRecord key col)
+end_of fault.NotGraph = status.Refused fault.NotGraph
 end_of (fault.BadRecent number) = status.Refused (fault.BadRecent number)
 end_of fault.Memory = status.NoMemory
 

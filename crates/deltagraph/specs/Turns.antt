@@ -17,7 +17,7 @@ use Rattle.dg_io.specs.Told.{Gives, CountRose}
 use Rattle.deltagraph.specs.declared.status.Status.{Status}
 use Rattle.deltagraph.specs.declared.status.Status.TheVariants as status
 use Rattle.deltagraph.specs.Outside.{Outside}
-use Rattle.deltagraph.specs.Served.{Served}
+use Rattle.deltagraph.specs.Served.{HasNoEntry, Served}
 use Rattle.deltagraph.specs.Statuses.{IsBegun}
 use Rattle.deltagraph.specs.declared.turn.Meaning.{Meaning}
 use Rattle.deltagraph.specs.declared.turn.Meaning.TheVariants as meaning
@@ -59,6 +59,12 @@ abbrev pub TellsFailedReads : Turn → ℕ → ℕ → Type 0
 TellsFailedReads turn.End before after = Unit {0}
 TellsFailedReads turn.Skipped before after = Unit {0}
 TellsFailedReads (turn.Replied reply) before after = is_store_read reply.head ≡ true → DiskRose before after
+
+-- a turn without a reply reads nothing from the disk
+abbrev pub ReadsToReply : Turn → ℕ → ℕ → Type 0
+ReadsToReply turn.End before after = after ≡ before
+ReadsToReply turn.Skipped before after = after ≡ before
+ReadsToReply (turn.Replied reply) before after = Unit {0}
 
 -- the disk failed within the first of the entries to come, and the image is that of a cut
 abbrev pub Breaks : Option (List script.Entry) → Option (List script.Entry) → Parts → Option (List ℕ) → Option (List ℕ) → Type 0
@@ -106,3 +112,4 @@ pub record ScriptAnswered (limit : ℕ) (session : Parts) (s : Status) (start no
   pub sink_fault : s ≡ status.SinkFault → CountRose start.sink_faults now.sink_faults
   pub disk_fault : s ≡ status.DiskFault → DiskRose start.write_faults now.write_faults
   pub script_limit : s ≡ status.ScriptLimit → (taken : List ℕ) × Gives start.left taken now.left × (length taken ≡ limit)
+  pub silent : s ≡ status.Done → HasNoEntry start.left → now.bytes_read ≡ start.bytes_read

@@ -1,6 +1,6 @@
 ghost use Rattle.std.specs.Prelude.{◌≡◌, IfSome, map, string_bytes, true};
 ghost use Rattle.dg_machine.specs.MachineState.{IsWithin};
-ghost use Rattle.dg_session.specs.Session.{IsHeldBy};
+ghost use Rattle.dg_start.specs.StoredHistory.{IsHeldBy};
 ghost use Rattle.deltagraph.specs.Outside.{outside};
 ghost use Rattle.deltagraph.specs.Promised.{Promised, is_written_form};
 ghost use Rattle.deltagraph.specs.Turns.{ScriptAnswered};
@@ -14,13 +14,14 @@ use dg_io::{Lines, Sink, Source};
 use dg_line::write_reply;
 use dg_machine::{Limits, SCRIPT_BYTES_MAX};
 use dg_session::{Session, Stop};
+use dg_start::law_starts_are_determined;
 use std::alloc::Global;
 use std::thread::Threads;
 
 /// Reads the words, and carries out the commands of the script one by one over the index file that
 /// the disk holds. Each reply is written before the next line is read. It is `serve_with` at the
 /// standard limits.
-pub fn serve<R: Threads, S: Source, K: Sink, D: Disk>(
+pub fn serve<R: Threads + Sync, S: Source, K: Sink, D: Disk>(
     rt: &R,
     alloc: Global,
     words: &[String],
@@ -37,7 +38,7 @@ pub fn serve<R: Threads, S: Source, K: Sink, D: Disk>(
 }
 
 /// The same within these limits. `specs/Promised.antt` says field by field what it promises.
-pub fn serve_with<R: Threads, S: Source, K: Sink, D: Disk>(
+pub fn serve_with<R: Threads + Sync, S: Source, K: Sink, D: Disk>(
     rt: &R,
     alloc: Global,
     words: &[String],
@@ -58,7 +59,7 @@ pub fn serve_with<R: Threads, S: Source, K: Sink, D: Disk>(
 }
 
 // Starts a session over the disk's image, and carries out the script.
-fn carry_out<R: Threads, S: Source, K: Sink, D: Disk>(
+fn carry_out<R: Threads + Sync, S: Source, K: Sink, D: Disk>(
     rt: &R,
     alloc: Global,
     limits: Limits,
@@ -71,6 +72,8 @@ fn carry_out<R: Threads, S: Source, K: Sink, D: Disk>(
         (outside S.left S.faults K.written K.faults D.image D.faults D.write_faults D.taken source.old sink.old disk.old)
         (outside S.left S.faults K.written K.faults D.image D.faults D.write_faults D.taken source.new sink.new disk.new) }
 {
+    // Its clause says that an image comes to one start.
+    law_starts_are_determined();
     match Session::start(rt, alloc, disk, limits) {
         Ok(mut session) => answer_script(
             rt,

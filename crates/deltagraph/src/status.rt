@@ -1,7 +1,7 @@
 ghost use Rattle.std.specs.Prelude.{◌≡◌};
 ghost use Rattle.deltagraph.specs.Statuses.{code_of, end_of};
 
-use dg_history::StartFault;
+use dg_start::StartFault;
 
 /// How a run ended.
 #[derive(Clone, Copy, Debug, PartialEq, Eq)]

@@ -6,9 +6,10 @@ use crate::status::Status;
 use crate::words::index_word;
 use dg_disk::MemoryDisk;
 use dg_graph::Column;
-use dg_history::{EVENTS_MAX, FILE_BYTES_MAX, Key, StartFault};
+use dg_history::{EVENTS_MAX, FILE_BYTES_MAX, Key};
 use dg_io::{MemorySink, MemorySource};
 use dg_machine::{Limits, SCRIPT_BYTES_MAX};
+use dg_start::StartFault;
 use std::alloc::Global;
 use std::test::Fail;
 use std::thread::Threads;
@@ -37,7 +38,7 @@ struct Ran {
 }
 
 // A run over the index file and the script, with reads of at most `chunk` bytes.
-fn run<R: Threads>(
+fn run<R: Threads + Sync>(
     rt: &R,
     alloc: Global,
     image: &[u8],
@@ -188,7 +189,7 @@ const FIRST: &[u8] =
 const FIRST_REPLIES: &[u8] = b"ok create\nend\nok load 3 3 30\nend\n";
 
 // The index file that the first script makes.
-fn first_image<R: Threads>(rt: &R, alloc: Global) -> Result<Vec<u8>, Fail> {
+fn first_image<R: Threads + Sync>(rt: &R, alloc: Global) -> Result<Vec<u8>, Fail> {
     let ran = run(rt, alloc, NO_FILE, FIRST, WHOLE, within(NO_LIMIT, NO_LIMIT))?;
     Ok(ran.image)
 }
@@ -305,7 +306,7 @@ fn other_index_files_are_refused_or_stand_for_less(rt: HostRuntime) -> Result<()
 }
 
 // How a run of the script ends over a disk that fails at this call, and what it writes.
-fn run_over<R: Threads>(
+fn run_over<R: Threads + Sync>(
     rt: &R,
     alloc: Global,
     script: &[u8],
@@ -491,6 +492,7 @@ fn each_status_has_its_code_and_its_line(rt: HostRuntime) {
             7,
             Some(refused),
         ),
+        (Status::Refused(StartFault::NotGraph), 7, Some(refused)),
         (Status::Refused(StartFault::BadRecent(1)), 7, Some(refused)),
         (Status::ScriptLimit, 9, Some("the script is too long")),
     ];

@@ -5,8 +5,8 @@ ghost use Rattle.dg_io.specs.Frame.{Advances};
 ghost use Rattle.dg_io.specs.Told.{CountRose};
 ghost use Rattle.dg_io.specs.LinesState.{told, to_come, NeedsByte};
 ghost use Rattle.dg_machine.specs.Answer.{headed};
-ghost use Rattle.dg_session.specs.Session.{IsHeldBy};
-ghost use Rattle.deltagraph.specs.Turns.{Breaks, BreaksAt, EndsAt, Falls, GoesOnward, HasRanges, Means, TellsFailedReads, Turns, TurnsAt, asked};
+ghost use Rattle.dg_start.specs.StoredHistory.{IsHeldBy};
+ghost use Rattle.deltagraph.specs.Turns.{Breaks, BreaksAt, EndsAt, Falls, GoesOnward, HasRanges, Means, ReadsToReply, TellsFailedReads, Turns, TurnsAt, asked};
 
 use dg_disk::Disk;
 use dg_io::{Line, LineFault, Lines, Source};
@@ -62,6 +62,7 @@ pub fn next_turn<R: Threads, S: Source, D: Disk>(
     ensures falls { IfOk result (λ turn. Falls turn (to_come lines.old) (to_come lines.new)) }
     ensures end { IfOk result (λ turn. EndsAt turn lines.new) }
     ensures store_read { IfOk result (λ turn. TellsFailedReads turn (D.faults disk.old) (D.faults disk.new)) }
+    ensures unread { IfOk result (λ turn. ReadsToReply turn (D.taken disk.old) (D.taken disk.new)) }
 
     // why it stops
     ensures stop { IsErrOf result Stop.Read → (session.new ≡ session.old) × (D.image disk.new ≡ D.image disk.old) }
@@ -97,6 +98,7 @@ fn turn_of<R: Threads, S: Source, D: Disk>(
     ensures turn { IfOk result (λ turn. TurnsAt turn lines.old.text (told lines.old (S.left source.old)) (told lines.new (S.left source.new)) session.old (D.image disk.old) session.new (D.image disk.new)) }
     ensures goes_on { IfOk result (λ turn. GoesOnward turn) }
     ensures store_read { IfOk result (λ turn. TellsFailedReads turn (D.faults disk.old) (D.faults disk.new)) }
+    ensures unread { IfOk result (λ turn. ReadsToReply turn (D.taken disk.old) (D.taken disk.new)) }
     ensures held { OnOk result (IfSome (D.image disk.new) (λ image. IsHeldBy session.new.index session.new.names image)) }
     ensures no_index { OnOk result (session.new.index ≡ None → (session.old.index ≡ None) × (D.image disk.new ≡ D.image disk.old)) }
 

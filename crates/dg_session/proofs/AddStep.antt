@@ -1,29 +1,41 @@
 -- How a session moves once the lines of a batch were read, and nothing refuses it before they are completed.
-use Rattle.std.proofs.Common.{◌≡◌, inl, inr, ℕ, ◌+◌, ◌<◌, ◌≤◌, Bool, true, false, ◌&&◌, ◌||◌, not, List, [], ◌++◌, Option, Some, None, Result, Ok, Err, if◌then◌else◌, length, map, take, drop, get_or, refl, sym, ◌∙◌, ap, subst, nat_le, nat_lt, arith, length-append}
+use Rattle.std.proofs.Common.{◌≡◌, inl, inr, ℕ, ◌+◌, ◌-◌, ◌<◌, ◌≤◌, Bool, true, false, ◌&&◌, ◌||◌, not, List, [], ◌++◌, Option, Some, None, Result, Ok, Err, if◌then◌else◌, length, map, take, drop, get_or, refl, sym, ◌∙◌, ap, subst, nat_le, nat_lt, arith, length-append, drop-drop, mul-le-mul_right}
 use Rattle.std.specs.Prelude.{◌*◌, ◌⊎◌, IfSome, is_some}
 use Rattle.std.specs.List.{All}
 use Rattle.std.proofs.lemmas.Bool.{false≢true}
 use Rattle.std.proofs.lemmas.List.{length-map, take-append-drop}
 use Rattle.std.proofs.Math.ListN.{get_or-map}
 use borrow.Author.Tests.{le-leb, lt-ltb, le-ltb, ltb-false}
+use Rattle.dg_append.specs.AddedBatches.{AddsBatch, BreaksBatch, ComesToSegment, FailsBatch, FillsFile, IsAsKnown, IsBack, IsOverHistory, IsReady, batch_with, recent_behind}
+use Rattle.dg_append.specs.Fronts.{ComeTo, IsFront, lines}
+use Rattle.dg_append.specs.declared.batch.AddedBatch.{AddedBatch}
+use Rattle.dg_append.specs.declared.fault.BatchFault.{BatchFault}
+use Rattle.dg_append.specs.declared.fault.BatchFault.TheVariants as fault
+use Rattle.dg_append.specs.declared.front.Front.{Front}
+use Rattle.dg_append.specs.declared.front.Front.TheVariants.{Whole}
 use Rattle.dg_file.specs.Images.{GainsBatch, GainsBatchOrNot}
+use Rattle.dg_graph.specs.declared.element.Element.{Element}
 use Rattle.dg_graph.specs.declared.event.Change.{Change}
 use Rattle.dg_graph.specs.declared.event.Event.{Event}
 use Rattle.dg_graph.specs.declared.limits.TheConstants.{NAMES_MAX}
 use Rattle.dg_history.specs.declared.limits.TheConstants.{BATCH_LINES_MAX, EVENTS_MAX}
+use Rattle.dg_history.specs.declared.params.Params.{Params}
 use Rattle.dg_graph.specs.CompletedChanges.{completed, on_value}
 use Rattle.dg_graph.specs.Lines.{ScriptLine}
-use Rattle.dg_graph.specs.Replay.{replay}
+use Rattle.dg_graph.specs.Replay.{replay, replay_from}
 use Rattle.dg_history.specs.Batch.{batch_of, changes_after, names_after}
 use Rattle.dg_history.specs.ChangeGrammar.{change_by_text_in}
-use Rattle.dg_index.specs.FileOfHistory.{segment_of, size}
+use Rattle.dg_index.specs.FileOfHistory.{Segment, segment_of, size}
+use Rattle.dg_index.specs.Hierarchy.{leaves}
 use Rattle.dg_index.specs.IndexGrowth.{index_with, needed_for}
+use Rattle.dg_index.specs.IndexRecords.{recent_of}
 use Rattle.dg_index.proofs.FileGrowth.{measured, opened_more}
-use Rattle.dg_index.proofs.OpenedHistories.{Rises, completed_rises}
+use Rattle.dg_index.proofs.OpenedHistories.{Rises, completed_rises, large_parameters}
+use Rattle.dg_index.proofs.StableRecords.{leaves_more, recent_more, replay_append}
 use Rattle.dg_history.specs.History.{History, Batch, earliest_next, events_of, last_time_from, names_of, span_of, with_batch}
 use Rattle.dg_index.specs.ImageOfHistory.{IsImageOf, StandsAs}
 use Rattle.dg_history.specs.LegalHistory.{IsLegal}
-use Rattle.dg_index.specs.OpenedIndex.{Opened, Opening, earliest_in, may_be_named}
+use Rattle.dg_index.specs.OpenedIndex.{Opened, Opening, earliest_in, events_in, may_be_named}
 use Rattle.dg_machine.specs.declared.limits.Limits.{Limits}
 use Rattle.dg_machine.specs.declared.stands.Stands.{Stands}
 use Rattle.dg_machine.specs.declared.reply.Head.TheVariants as head
@@ -37,33 +49,28 @@ use Rattle.dg_machine.specs.Needs.{is_writing, needs, refused}
 use Rattle.dg_machine.specs.Planning.{IsPlanned, no_plan}
 use Rattle.dg_machine.specs.Run.{Step}
 use Rattle.dg_machine.specs.Script.{Asked, Follows}
-use Rattle.dg_session.proofs.TryBatch.{here, of_here}
 use Rattle.dg_session.proofs.EventRanges.{ChangeFits, what_spelled}
+use Rattle.dg_session.proofs.HeldHistory.{count_is}
 use Rattle.dg_session.proofs.KeptGraphs.{all_reached_more, graphs_more}
 use Rattle.dg_session.proofs.LegalHistory.{IsNext, batch_next, events_with, fitting_next, grown_next, legal_next, names_grown}
 use Rattle.dg_session.proofs.OpenedHistory.{behind}
 use Rattle.dg_session.proofs.NamesAfter.{Grows, changes_length, grown_new}
-use Rattle.dg_session.proofs.StandsFor.{IsOf, both_told, by_first, is_of, not_false, passes, refused_is, stands}
-use Rattle.dg_session.proofs.Steps.{Comes, accepted_is, accepted_steps, denied, is_accepted, lacking_denies, refused_denies}
-use Rattle.dg_session.specs.BatchCommand.{AddsBatch, BreaksBatch, ComeTo, FailsBatch, FillsFile, IsBack, IsReady, StaysAs, barred, batch_with, command_with, head_of}
-use Rattle.dg_session.specs.BatchLines.{IsBarred, IsBatch, IsFront, NamesGrow, ReadsBatch, first_refusal, lines}
-use Rattle.dg_session.specs.declared.batch_command.AddedBatch.{AddedBatch}
+use Rattle.dg_session.proofs.StandsFor.{IsOf, both_told, by_first, is_of, not_false, one_told, opening_of, passes, refused_is, stands}
+use Rattle.dg_session.proofs.Steps.{Comes, accepted_is, accepted_steps, denied, denied_at, failing_denies, is_accepted, lacking_denies, refused_denies}
+use Rattle.dg_session.specs.BatchCommand.{barred, command_with, head_of}
+use Rattle.dg_session.specs.BatchLines.{IsBarred, IsBatch, NamesGrow, ReadsBatch, first_refusal}
 use Rattle.dg_session.specs.declared.batch_command.BatchCommand.{BatchCommand}
 use Rattle.dg_session.specs.declared.batch_command.BatchCommand.TheVariants.{Load, Append}
 use Rattle.dg_session.specs.declared.batch_lines.BatchLines.{BatchLines}
-use Rattle.dg_session.specs.declared.batch_lines.Front.{Front}
-use Rattle.dg_session.specs.declared.batch_lines.Front.TheVariants.{Whole}
-use Rattle.dg_session.specs.declared.batch_segment.BatchFault.{BatchFault}
-use Rattle.dg_session.specs.declared.batch_segment.BatchFault.TheVariants as fault
 use Rattle.dg_session.specs.declared.halt.Halt.{Halt}
 use Rattle.dg_session.specs.declared.halt.Halt.TheVariants as halt
 use Rattle.dg_session.specs.declared.stop.Stop.TheVariants as stop
-use Rattle.dg_session.specs.declared.stored_history.StoredHistory.{StoredHistory}
 use Rattle.dg_session.specs.Halt.{batch_halt}
+use Rattle.dg_session.specs.HeldIndex.{events_held, span_held}
 use Rattle.dg_session.specs.Parts.{Parts}
 use Rattle.dg_session.specs.Session.{Accepts, ComesTo, CutsOff, Denies, Moves, StandsFor, TakesLines, is_reached, is_too_full, refusals_by, refused_by}
-use Rattle.dg_session.specs.SessionStart.{index_opening, opening_of}
-use Rattle.dg_session.specs.SoundHistory.{IsSoundHistory}
+use Rattle.dg_start.specs.declared.stored_history.StoredHistory.{StoredHistory}
+use Rattle.dg_start.specs.StoredHistory.{IsSoundHistory, index_opening}
 
 -- ---- why the command is refused before its lines are completed
 
@@ -85,7 +92,7 @@ none_first read count bar h = by (nat_lt read count) refl h
 pub record IsFree (p : Parts) (count : ℕ) : Type 0 where
   pub index : Opening
   pub there : p.index ≡ Some index
-  pub room : length p.events + count ≤ p.limits.events
+  pub room : events_held p.index + count ≤ p.limits.events
   pub few_names : length p.names + 2 * count ≤ NAMES_MAX
 
 free_by : (p : Parts) (count : ℕ) → 1 ≤ count → not (is_some p.index) ≡ false → (nat_lt 0 count && is_too_full p count) ≡ false → IsFree p count
@@ -96,9 +103,9 @@ free_by p count some there room = by_index p.index refl (not_false (is_some p.in
     neither false true e = cc
     neither false false e = (refl, refl)
 
-    parts : (nat_lt p.limits.events (length p.events + count) ≡ false) × (nat_lt NAMES_MAX (length p.names + 2 * count) ≡ false)
+    parts : (nat_lt p.limits.events (events_held p.index + count) ≡ false) × (nat_lt NAMES_MAX (length p.names + 2 * count) ≡ false)
     parts =
-        neither (nat_lt p.limits.events (length p.events + count)) (nat_lt NAMES_MAX (length p.names + 2 * count))
+        neither (nat_lt p.limits.events (events_held p.index + count)) (nat_lt NAMES_MAX (length p.names + 2 * count))
         (ap (λ b. b && is_too_full p count) (sym (lt-ltb 0 count (omega (arith, some)))) ∙ room)
 
     by_index : (i : Option Opening) → p.index ≡ i → is_some p.index ≡ true → IsFree p count
@@ -106,19 +113,19 @@ free_by p count some there room = by_index p.index refl (not_false (is_some p.in
     by_index (Some o) is h = record {
       index = o;
       there = is;
-      room = ltb-false p.limits.events (length p.events + count) parts.0;
+      room = ltb-false p.limits.events (events_held p.index + count) parts.0;
       few_names = ltb-false NAMES_MAX (length p.names + 2 * count) parts.1;
     }
 
 pub none_bars : (which : BatchCommand) (p : Parts) (count : ℕ) → 1 ≤ count → barred which p count ≡ None → IsFree p count
 none_bars Load p count some h =
     let a = passes (not (is_some p.index)) refusal.NoIndex _ h in
-    let b = passes (is_some (span_of p.events)) refusal.AlreadyLoaded _ a.1 in
-    let c = passes (nat_lt 0 count && is_too_full p count) (refusal.HistoryFull (length p.events) count) _ b.1 in
+    let b = passes (is_some (span_held p.index)) refusal.AlreadyLoaded _ a.1 in
+    let c = passes (nat_lt 0 count && is_too_full p count) (refusal.HistoryFull (events_held p.index) count) _ b.1 in
     free_by p count some a.0 c.0
 none_bars Append p count some h =
     let a = passes (not (is_some p.index)) refusal.NoIndex _ h in
-    let c = passes (nat_lt 0 count && is_too_full p count) (refusal.HistoryFull (length p.events) count) _ a.1 in
+    let c = passes (nat_lt 0 count && is_too_full p count) (refusal.HistoryFull (events_held p.index) count) _ a.1 in
     free_by p count some a.0 c.0
 
 pub barred_denies : (which : BatchCommand) (count : ℕ) (old new : Parts) (names grown : List (List ℕ)) (before after : Option (List ScriptLine)) (image : Option (List ℕ)) (r : Refusal)
@@ -148,6 +155,8 @@ pub takes_failed : (count : ℕ) (before : Option (List ScriptLine)) (got : List
     → Follows count before got after → TakesLines {A = Reply} count before got after (Err (batch_halt f))
 takes_failed count before got after (fault.BadChange line reason) h = h
 takes_failed count before got after (fault.FileFull n most) h = h
+takes_failed count before got after (fault.Damaged key col) h = h
+takes_failed count before got after fault.Read h = h
 takes_failed count before got after fault.Memory h = h
 takes_failed count before got after fault.Store h = h
 
@@ -159,7 +168,11 @@ lacks : (which : BatchCommand) (count : ℕ) → (needs (command_with which coun
 lacks Load count = refl
 lacks Append count = refl
 
-ok_head : (which : BatchCommand) (events total last : ℕ) → is_refusal (head_of which events total last) ≡ false
+reads_records : (which : BatchCommand) (count : ℕ) → (needs (command_with which count)).reads ≡ true
+reads_records Load count = refl
+reads_records Append count = refl
+
+pub ok_head : (which : BatchCommand) (events total last : ℕ) → is_refusal (head_of which events total last) ≡ false
 ok_head Load events total last = refl
 ok_head Append events total last = refl
 
@@ -176,11 +189,19 @@ unplanned Append m count = refl
 
 -- ---- what was read, and the history that it is to be added to
 
+-- what is told is this
+here : (told : Option Opening) (o : Opening) (P : Opening → Type 0) → told ≡ Some o → P o → IfSome told P
+here told o P is p = subst (λ (i : Option Opening). IfSome i P) (sym is) p
+
+pub of_here : (told : Option Opening) (o : Opening) (P : Opening → Type 0) → told ≡ Some o → IfSome told P → P o
+of_here told o P is p = subst (λ (i : Option Opening). IfSome i P) is p
+
 -- The session keeps a history, in which the names have grown by those of a batch that nothing refuses yet.
 pub record IsAsked (which : BatchCommand) (p : Parts) (count known limit : ℕ) (c : StoredHistory) (b : BatchLines) (before after : Option (List ScriptLine)) : Type 0 where
   pub index : p.index ≡ index_opening c.index
   pub known_is : known ≡ length p.names
-  pub events : c.events.items ≡ p.events
+  pub graph : c.now.graph ≡ p.graph
+  pub recent : c.recent.items ≡ p.recent
   pub limit_is : limit ≡ p.limits.file_bytes
   pub few_events : p.limits.events ≤ EVENTS_MAX
   pub some : 1 ≤ count
@@ -189,12 +210,13 @@ pub record IsAsked (which : BatchCommand) (p : Parts) (count known limit : ℕ) 
 
 -- it is so, where the session's parts are those that it was called with
 pub is_asked : (which : BatchCommand) (p called : Parts) (count known : ℕ) (c : StoredHistory) (b : BatchLines) (before after : Option (List ScriptLine)) (bar : Option Refusal)
-    → p ≡ called → bar ≡ barred which called count → p.index ≡ index_opening c.index → known ≡ length p.names → c.events.items ≡ p.events → p.limits.events ≤ EVENTS_MAX → 1 ≤ count → count ≤ BATCH_LINES_MAX
+    → p ≡ called → bar ≡ barred which called count → p.index ≡ index_opening c.index → known ≡ length p.names → c.now.graph ≡ p.graph → c.recent.items ≡ p.recent → p.limits.events ≤ EVENTS_MAX → 1 ≤ count → count ≤ BATCH_LINES_MAX
     → IsBatch count bar before after p.names c.names b → IsAsked which p count known p.limits.file_bytes c b before after
-is_asked which p called count known c b before after bar same bar_is index known_is events few_events some few batch = record {
+is_asked which p called count known c b before after bar same bar_is index known_is graph recent few_events some few batch = record {
   index = index;
   known_is = known_is;
-  events = events;
+  graph = graph;
+  recent = recent;
   limit_is = refl;
   few_events = few_events;
   some = some;
@@ -217,10 +239,21 @@ by_room m z which b full =
 
 -- the session with what the history holds
 abbrev pub with_history : Parts → StoredHistory → Parts
-with_history p c = record p { index = index_opening c.index; names = c.names; events = c.events.items }
+with_history p c = record p { index = index_opening c.index; names = c.names; graph = c.now.graph; recent = c.recent.items }
+
+-- the recent events behind those of a history and so many others
+recent_with : (p : Params) → 0 < p.l → (before events : List Event) → recent_behind p (length before) (recent_of p before) events ≡ recent_of p (before ++ events)
+recent_with p pos before events =
+    let m : ℕ = leaves p (length before) in
+    let after : ℕ = leaves p (length before + length events) in
+    let up : m * p.l ≤ after * p.l = mul-le-mul_right p.l (leaves_more p.l (length before) (length events) pos) in
+    let whole : m * p.l + (after * p.l - m * p.l) ≡ after * p.l = omega (arith, up) in
+    ap (drop (after * p.l - m * p.l)) (sym (recent_more p before events pos))
+    ∙ drop-drop (after * p.l - m * p.l) (m * p.l) (before ++ events)
+    ∙ ap (λ n. drop n (before ++ events)) (whole ∙ ap (λ n. leaves p n * p.l) (sym (length-append before events)))
 
 module _ (which : BatchCommand) (p : Parts) (count known limit : ℕ) (c : StoredHistory) (b : BatchLines) (lines_before lines_after : Option (List ScriptLine)) (a : IsAsked which p count known limit c b lines_before lines_after) where
-  abbrev Got : List ScriptLine
+  abbrev pub Got : List ScriptLine
   Got = a.batch.got
 
   pub free : IsFree p count
@@ -228,6 +261,9 @@ module _ (which : BatchCommand) (p : Parts) (count known limit : ℕ) (c : Store
 
   pub opening_there : index_opening c.index ≡ Some free.index
   opening_there = sym a.index ∙ free.there
+
+  held_here : events_held p.index ≡ events_in free.index.batches
+  held_here = ap events_held free.there
 
   all_read : count ≤ b.read
   all_read = (none_first b.read count (barred which p count) a.batch.free).0
@@ -253,9 +289,12 @@ module _ (which : BatchCommand) (p : Parts) (count known limit : ℕ) (c : Store
   names_are : b.front ≡ Whole → c.names ≡ names_after p.names (map change_by_text_in Got)
   names_are whole = subst (λ (x : Front). NamesGrow x p.names c.names Got) whole a.batch.reads.names_are
 
-  many_changes : b.front ≡ Whole → length b.changes.items ≡ length Got
+  -- as many as were asked for
+  pub many_changes : b.front ≡ Whole → length b.changes.items ≡ count
   many_changes whole =
-      sym (length-map b.changes.items (λ (x : Change). Some x)) ∙ ap length (sym (changes_are whole)) ∙ changes_length p.names (map change_by_text_in Got) ∙ length-map Got change_by_text_in
+      let many : length b.changes.items ≡ length Got =
+      sym (length-map b.changes.items (λ (x : Change). Some x)) ∙ ap length (sym (changes_are whole)) ∙ changes_length p.names (map change_by_text_in Got) ∙ length-map Got change_by_text_in in
+      omega (arith, many, a.batch.reads.read_is, all_read, a.batch.most)
 
   long : length p.names + length (drop known c.names) ≡ length c.names
   long =
@@ -278,33 +317,52 @@ module _ (which : BatchCommand) (p : Parts) (count known limit : ℕ) (c : Store
       subst (λ (o : Option Change). IfSome o (ChangeFits c.names)) (get_or-map (λ (x : Change). Some x) b.changes.items k d)
       (fit k (Some d) (omega (arith, lt, length-map b.changes.items (λ (x : Change). Some x))))
 
-  pub is_ready : IsSoundHistory p.index p.names c.now c.events.items → IfSome (index_opening c.index) (λ o. IsReady o known c b.front b.changes.items)
+  pub is_ready : IsSoundHistory p.index p.names c.now c.recent.items → IfSome (index_opening c.index) (λ o. IsReady o known c b.front b.changes.items)
   is_ready sound = here (index_opening c.index) free.index (λ o. IsReady o known c b.front b.changes.items) opening_there (record {
-    sound = subst (λ (ns : List (List ℕ)). IsSoundHistory (Some free.index) ns c.now c.events.items) (sym names_kept)
-        (subst (λ (i : Option Opening). IsSoundHistory i p.names c.now c.events.items) free.there sound);
+    sound = subst (λ (ns : List (List ℕ)). IsSoundHistory (Some free.index) ns c.now c.recent.items) (sym names_kept)
+        (subst (λ (i : Option Opening). IsSoundHistory i p.names c.now c.recent.items) free.there sound);
     within = omega (arith, long, a.known_is);
-    some = λ whole. omega (arith, many_changes whole, a.batch.reads.read_is, all_read, a.some);
+    some = λ whole. omega (arith, many_changes whole, a.some);
     few = omega (arith, a.batch.within, a.batch.most, a.few);
-    room = omega (arith, free.room, a.few_events, a.batch.within, a.batch.most, ap length a.events);
+    room = omega (arith, free.room, held_here, a.few_events, a.batch.within, a.batch.most);
     named = named;
     fit = λ whole k d lt. what_spelled (length c.names) (get_or b.changes.items k d).what (omega (arith, a.batch.few whole)) (change_fits whole k d lt).numbers;
     timed = λ whole k d lt. (change_fits whole k d lt).time;
   })
 
+  pub image_known : (told : Option (List ℕ)) (P : Option Opening → List (List ℕ) → List ℕ → Type 0) → IfSome told (P p.index p.names) → IfSome told (P (index_opening c.index) (take known c.names))
+  image_known told P h =
+      subst (λ (i : Option Opening). IfSome told (P i (take known c.names))) a.index (subst (λ (ns : List (List ℕ)). IfSome told (P p.index ns)) (sym names_kept) h)
+
   -- ---- what the lines come to
 
-  completed_is : (image : List ℕ) (m : MachineState) (z : History) (due : Result (List Event) (ℕ × ℕ)) → IsOf p free.index image m z → ComeTo free.index c.events.items b.front b.changes.items due
+  -- the history of a state that the session stands for is what is kept of it
+  pub over : (image : List ℕ) (m : MachineState) (z : History) → IsOf p free.index image m z → IsOverHistory z image free.index known c
+  over image m z h = record {
+    stands = h.stands;
+    kept = record {
+      index_is = ap (λ (o : Opening). Some o) h.opened;
+      names_are = names_kept ∙ h.names;
+      graph_is = a.graph ∙ h.graph;
+      recent_are = a.recent ∙ h.recent;
+    };
+  }
+
+  many_of : (image : List ℕ) (m : MachineState) (z : History) → IsOf p free.index image m z → events_in free.index.batches ≡ length (events_of z)
+  many_of image m z h = ap (λ (x : Opening). events_in x.batches) h.opened ∙ count_is z h.stands.legal
+
+  completed_is : (image : List ℕ) (m : MachineState) (z : History) (due : Result (List Event) (ℕ × ℕ)) → IsOf p free.index image m z → ComeTo free.index c.now.graph b.front b.changes.items due
       → completed 1 (earliest_next (span_of (events_of z))) (replay (events_of z)) (changes_after (names_of z) (map change_by_text_in Got)) ≡ due
   completed_is image m z due h come =
       let time : earliest_in 0 free.index.batches ≡ earliest_next (span_of (events_of z)) =
       ap (λ (x : Opening). earliest_in 0 x.batches) h.opened ∙ (behind z h.stands.legal).earliest in
       ap (λ (t : ℕ). completed 1 t (replay (events_of z)) (changes_after (names_of z) (map change_by_text_in Got))) (sym time)
-      ∙ ap (λ (es : List Event). completed 1 (earliest_in 0 free.index.batches) (replay es) (changes_after (names_of z) (map change_by_text_in Got))) (sym (a.events ∙ h.events))
-      ∙ ap (λ (ns : List (List ℕ)). completed 1 (earliest_in 0 free.index.batches) (replay c.events.items) (changes_after ns (map change_by_text_in Got))) (sym h.names)
+      ∙ ap (λ (set : List Element). completed 1 (earliest_in 0 free.index.batches) set (changes_after (names_of z) (map change_by_text_in Got))) (sym (a.graph ∙ h.graph))
+      ∙ ap (λ (ns : List (List ℕ)). completed 1 (earliest_in 0 free.index.batches) c.now.graph (changes_after ns (map change_by_text_in Got))) (sym h.names)
       ∙ come (changes_after p.names (map change_by_text_in Got)) a.batch.reads.changes_are
 
   -- the answer, by what the lines come to
-  answer_with : (image : List ℕ) (m : MachineState) (z : History) (due : Result (List Event) (ℕ × ℕ)) → StandsFor p image m → IsOf p free.index image m z → ComeTo free.index c.events.items b.front b.changes.items due
+  answer_with : (image : List ℕ) (m : MachineState) (z : History) (due : Result (List Event) (ℕ × ℕ)) → StandsFor p image m → IsOf p free.index image m z → ComeTo free.index c.now.graph b.front b.changes.items due
       → answer m (command_with which count) Got no_plan ≡ with_new m z (head_of which) (on_value (batch_in z Got) due)
   answer_with image m z due s h come =
       accepted_is m (command_with which count) Got no_plan (with_new m z (head_of which) (on_value (batch_in z Got) due)) (free_of image m s)
@@ -314,22 +372,22 @@ module _ (which : BatchCommand) (p : Parts) (count known limit : ℕ) (c : Store
 
   -- ---- where every line is a change
 
-  module _ (events : List Event) (whole : b.front ≡ Whole) (come : ComeTo free.index c.events.items b.front b.changes.items (Ok events)) where
-    abbrev New : Batch
+  module _ (told : Option (List ℕ)) (events : List Event) (segment : Segment) (comes : ComesToSegment free.index known c told b.changes.items b.front events segment) where
+    abbrev pub New : Batch
     New = batch_with known c.names events
 
     is_next : (image : List ℕ) (m : MachineState) (z : History) → IsOf p free.index image m z → IsNext z Got b.changes.items c.names events
     is_next image m z h =
         let are : changes_after (names_of z) (map change_by_text_in Got) ≡ lines b.changes.items =
-        ap (λ (ns : List (List ℕ)). changes_after ns (map change_by_text_in Got)) (sym h.names) ∙ changes_are whole in
+        ap (λ (ns : List (List ℕ)). changes_after ns (map change_by_text_in Got)) (sym h.names) ∙ changes_are comes.whole in
         record {
           changes_are = are;
-          names_are = names_are whole ∙ ap (λ (ns : List (List ℕ)). names_after ns (map change_by_text_in Got)) h.names;
-          comes = ap (completed 1 (earliest_next (span_of (events_of z))) (replay (events_of z))) (sym are) ∙ completed_is image m z (Ok events) h come;
+          names_are = names_are comes.whole ∙ ap (λ (ns : List (List ℕ)). names_after ns (map change_by_text_in Got)) h.names;
+          comes = ap (completed 1 (earliest_next (span_of (events_of z))) (replay (events_of z))) (sym are) ∙ completed_is image m z (Ok events) h comes.come;
           some = omega (arith, a.batch.reads.read_is, all_read, a.some);
           few = omega (arith, a.batch.reads.read_is, a.batch.most, a.few);
-          room = omega (arith, free.room, a.few_events, a.batch.reads.read_is, a.batch.most, ap length h.events);
-          few_names = a.batch.few whole;
+          room = omega (arith, free.room, held_here, a.few_events, a.batch.reads.read_is, a.batch.most, many_of image m z h);
+          few_names = a.batch.few comes.whole;
         }
 
     known_of : (image : List ℕ) (m : MachineState) (z : History) → IsOf p free.index image m z → known ≡ length (names_of z)
@@ -340,136 +398,139 @@ module _ (which : BatchCommand) (p : Parts) (count known limit : ℕ) (c : Store
         → answer m (command_with which count) Got no_plan ≡ by_room m z which New (nat_lt m.limits.file_bytes (size (with_batch z New)))
     answer_new image m z s h =
         let next : IsNext z Got b.changes.items c.names events = is_next image m z h in
-        answer_with image m z (Ok events) s h come
+        answer_with image m z (Ok events) s h comes.come
         ∙ ap (λ (ns : List (List ℕ)). let x : Batch = record { names = drop (length (names_of z)) ns; events = events } in with_new m z (head_of which) (Ok x)) (sym next.names_are)
         ∙ ap (λ (k : ℕ). with_new m z (head_of which) (Ok (batch_with k c.names events))) (sym (known_of image m z h))
 
-    -- the segment that was put in the file is that of the batch behind the history
-    segment_is : (image : List ℕ) (m : MachineState) (z : History) → IsOf p free.index image m z
-        → segment_of free.index.params c.events.items (batch_with known c.names events) ≡ segment_of z.params (events_of z) (batch_with known c.names events)
-    segment_is image m z h =
-        let params : free.index.params ≡ z.params = ap (λ (x : Opening). x.params) h.opened ∙ (behind z h.stands.legal).params in
-        let past : c.events.items ≡ events_of z = a.events ∙ h.events in
-        λ i. segment_of (params i) (past i) (batch_with known c.names events)
+    -- the segment is that of the batch behind the history
+    segment_is : (image : List ℕ) → told ≡ Some image → (m : MachineState) (z : History) → IsOf p free.index image m z → segment ≡ segment_of z.params (events_of z) New
+    segment_is image at m z h =
+        one_told told (λ x. (z : History) → IsOverHistory z x free.index known c → segment ≡ segment_of z.params (events_of z) New) image comes.built at z (over image m z h)
 
-    needed_is : (image : List ℕ) (m : MachineState) (z : History) → IsOf p free.index image m z → needed_for free.index (segment_of free.index.params c.events.items New) ≡ size (with_batch z New)
-    needed_is image m z h = (λ i. needed_for (h.opened i) (segment_is image m z h i)) ∙ measured z New
+    needed_is : (image : List ℕ) → told ≡ Some image → (m : MachineState) (z : History) → IsOf p free.index image m z → needed_for free.index segment ≡ size (with_batch z New)
+    needed_is image at m z h = (λ i. needed_for (h.opened i) (segment_is image at m z h i)) ∙ measured z New
 
     -- the file has too little room
-    full_steps : (n : ℕ) → n ≡ needed_for free.index (segment_of free.index.params c.events.items New) → limit < n → (image : List ℕ) (m : MachineState) → StandsFor p image m
+    full_steps : (n : ℕ) → n ≡ needed_for free.index segment → limit < n → (m : MachineState) (image : List ℕ) → told ≡ Some image → StandsFor p image m
         → Step m (Asked (command_with which count) Got) (headed (head.Refused (refusal.FileFull n limit))) m
-    full_steps n n_is over image m s =
+    full_steps n n_is over m image at s =
         let found = is_of p free.index image m free.there s in
         let z : History = found.0 in
-        let needed : n ≡ size (with_batch z New) = n_is ∙ needed_is image m z found.1 in
+        let needed : n ≡ size (with_batch z New) = n_is ∙ needed_is image at m z found.1 in
         let limits : limit ≡ m.limits.file_bytes = a.limit_is ∙ ap (λ (x : Limits). x.file_bytes) s.limits in
         let full : nat_lt m.limits.file_bytes (size (with_batch z New)) ≡ true = lt-ltb m.limits.file_bytes (size (with_batch z New)) (omega (arith, over, needed, limits)) in
         steps_as image m s (refuse m (refusal.FileFull n limit))
         (answer_new image m z s found.1 ∙ ap (by_room m z which New) full
         ∙ ap (λ (k : ℕ). refuse m (refusal.FileFull k m.limits.file_bytes)) (sym needed) ∙ ap (λ (k : ℕ). refuse m (refusal.FileFull n k)) (sym limits))
 
+    -- the first line of the reply
+    abbrev said : Reply
+    said = headed (head_of which (length events) (events_in free.index.batches + length events) (last_time_from 0 events))
+
     -- there is room: the answer, and the legal history with the batch
     record IsAdded (m : MachineState) (z : History) : Type 0 where
-      answered : answer m (command_with which count) Got no_plan
-          ≡ record { reply = headed (head_of which (length events) (length (p.events ++ events)) (last_time_from 0 events)); state = record m { index = Some (with_batch z New) } }
+      answered : answer m (command_with which count) Got no_plan ≡ record { reply = said; state = record m { index = Some (with_batch z New) } }
       legal : IsLegal (with_batch z New)
       names : c.names ≡ names_of (with_batch z New)
-      events_are : p.events ++ events ≡ events_of (with_batch z New)
+      graph : replay_from c.now.graph events ≡ replay (events_of (with_batch z New))
+      recent : recent_behind free.index.params (events_in free.index.batches) c.recent.items events ≡ recent_of z.params (events_of (with_batch z New))
       rises : Rises (earliest_next (span_of (events_of z))) events
 
-    is_added : needed_for free.index (segment_of free.index.params c.events.items New) ≤ limit → (image : List ℕ) (m : MachineState) (z : History) → StandsFor p image m → IsOf p free.index image m z → IsAdded m z
-    is_added fits image m z s h =
+    is_added : needed_for free.index segment ≤ limit → (image : List ℕ) → told ≡ Some image → (m : MachineState) (z : History) → StandsFor p image m → IsOf p free.index image m z → IsAdded m z
+    is_added fits image at m z s h =
         let next : IsNext z Got b.changes.items c.names events = is_next image m z h in
         let same : batch_next z c.names events ≡ New = ap (λ (k : ℕ). batch_with k c.names events) (sym (known_of image m z h)) in
         let room : nat_lt m.limits.file_bytes (size (with_batch z New)) ≡ false =
-        le-ltb m.limits.file_bytes (size (with_batch z New)) (omega (arith, fits, needed_is image m z h, a.limit_is, ap (λ (x : Limits). x.file_bytes) s.limits)) in
-        let total : length (events_of z) + length events ≡ length (p.events ++ events) = omega (arith, length-append p.events events, ap length h.events) in
+        le-ltb m.limits.file_bytes (size (with_batch z New)) (omega (arith, fits, needed_is image at m z h, a.limit_is, ap (λ (x : Limits). x.file_bytes) s.limits)) in
+        let many : length (events_of z) ≡ events_in free.index.batches = sym (many_of image m z h) in
+        let params : free.index.params ≡ z.params = ap (λ (x : Opening). x.params) h.opened ∙ (behind z h.stands.legal).params in
+        let large = large_parameters z.params.l z.params.k h.stands.legal.parameters in
+        let held : c.recent.items ≡ recent_of z.params (events_of z) = a.recent ∙ h.recent in
         record {
           answered = answer_new image m z s h ∙ ap (by_room m z which New) room
-              ∙ ap (λ (n : ℕ). let x : Answered = record { reply = headed (head_of which (length events) n (last_time_from 0 events)); state = record m { index = Some (with_batch z New) } } in x) total;
+              ∙ ap (λ (n : ℕ). let x : Answered = record { reply = headed (head_of which (length events) (n + length events) (last_time_from 0 events)); state = record m { index = Some (with_batch z New) } } in x) many;
           legal = subst (λ (x : Batch). IsLegal (with_batch z x)) same (legal_next z Got b.changes.items c.names events h.stands.legal next);
           names = sym (ap (λ (x : Batch). names_of (with_batch z x)) (sym same) ∙ names_grown z c.names events (grown_next (names_of z) c.names Got next.names_are));
-          events_are = ap (λ (es : List Event). es ++ events) h.events ∙ sym (events_with z New);
+          graph = ap (λ (set : List Element). replay_from set events) (a.graph ∙ h.graph) ∙ sym (replay_append [] (events_of z) events) ∙ ap replay (sym (events_with z New));
+          recent = (λ i. recent_behind (params i) (sym many i) (held i) events) ∙ recent_with z.params (omega (arith, large.0)) (events_of z) events ∙ ap (recent_of z.params) (sym (events_with z New));
           rises = completed_rises b.changes.items 1 (earliest_next (span_of (events_of z))) (replay (events_of z)) events next.comes;
         }
 
-    add_moves : (q : Parts) (before after : List ℕ) (reply : Reply)
-        → needed_for free.index (segment_of free.index.params c.events.items New) ≤ limit → GainsBatch (segment_of free.index.params c.events.items New) before after
-        → q ≡ record p { index = Some (index_with free.index (segment_of free.index.params c.events.items New)); names = c.names; events = p.events ++ events }
-        → reply ≡ headed (head_of which (length events) (length (p.events ++ events)) (last_time_from 0 events))
+    -- the session with the batch
+    abbrev added_to : Parts
+    added_to = record p {
+      index = Some (index_with free.index segment);
+      names = c.names;
+      graph = replay_from c.now.graph events;
+      recent = recent_behind free.index.params (events_in free.index.batches) c.recent.items events;
+    }
+
+    add_moves : (q : Parts) (before after : List ℕ) (reply : Reply) → told ≡ Some before → needed_for free.index segment ≤ limit → GainsBatch segment before after → q ≡ added_to → reply ≡ said
         → Moves (command_with which count) Got p before q after reply
-    add_moves q before after reply fits gains q_is reply_is m s =
+    add_moves q before after reply at fits gains q_is reply_is m s =
         let found = is_of p free.index before m free.there s in
         let z : History = found.0 in
         let h : IsOf p free.index before m z = found.1 in
-        let is : IsAdded m z = is_added fits before m z s h in
+        let is : IsAdded m z = is_added fits before at m z s h in
         let k : MachineState = record m { index = Some (with_batch z New) } in
-        let index : Some (index_with free.index (segment_of free.index.params c.events.items New)) ≡ Some (opening_of (with_batch z New)) =
-        (λ i. Some (index_with (h.opened i) (segment_is before m z h i))) ∙ ap (λ (x : Opened). Some x.index) (sym (opened_more z New)) in
+        let index : Some (index_with free.index segment) ≡ Some (opening_of (with_batch z New)) =
+        (λ i. Some (index_with (h.opened i) (segment_is before at m z h i))) ∙ ap (λ (x : Opened). Some x.index) (sym (opened_more z New)) in
         let reached : All (λ (e : ℕ × Stands). is_reached z e.1 ≡ true) m.table =
         subst (λ (i : Option History). All (λ (e : ℕ × Stands). is_reached (history_in i) e.1 ≡ true) m.table) h.index s.reached in
         let graphs : p.graphs ≡ map (λ (e : ℕ × Stands). elements (with_batch z New) e.1) m.table =
         s.graphs ∙ ap (λ (i : Option History). map (λ (e : ℕ × Stands). elements (history_in i) e.1) m.table) h.index ∙ graphs_more z New is.rises m.table reached in (
           k,
-          subst (λ (r : Reply). Step m (Asked (command_with which count) Got) r k) (sym reply_is)
-              (steps_as before m s (record { reply = headed (head_of which (length events) (length (p.events ++ events)) (last_time_from 0 events)); state = k }) is.answered),
+          subst (λ (r : Reply). Step m (Asked (command_with which count) Got) r k) (sym reply_is) (steps_as before m s (record { reply = said; state = k }) is.answered),
           stands q after k
-              (q_is ∙ (λ i. record { limits = s.limits i; index = index i; names = is.names i; events = is.events_are i; table = s.table i; graphs = graphs i; next = s.next i }))
-              (gains z New h.stands is.legal (segment_is before m z h)) (all_reached_more z New is.rises m.table reached) (λ none. cc),
+              (q_is ∙ (λ i. record { limits = s.limits i; index = index i; names = is.names i; graph = is.graph i; recent = is.recent i; table = s.table i; graphs = graphs i; next = s.next i }))
+              (gains z New h.stands is.legal (segment_is before at m z h)) (all_reached_more z New is.rises m.table reached) (λ none. cc),
         )
 
     -- the disk failed
-    add_cuts : (before after : List ℕ) → needed_for free.index (segment_of free.index.params c.events.items New) ≤ limit → GainsBatchOrNot (segment_of free.index.params c.events.items New) before after
-        → CutsOff (command_with which count) Got p before after
-    add_cuts before after fits gains m s = by_case found.0 found.1 (is_added fits before m found.0 s found.1)
+    add_cuts : (before after : List ℕ) → told ≡ Some before → needed_for free.index segment ≤ limit → GainsBatchOrNot segment before after → CutsOff (command_with which count) Got p before after
+    add_cuts before after at fits gains m s = by_case found.0 found.1 (is_added fits before at m found.0 s found.1)
       where
         found : (z : History) × IsOf p free.index before m z
         found = is_of p free.index before m free.there s
 
         by_case : (z : History) → IsOf p free.index before m z → IsAdded m z → IsCut m (Asked (command_with which count) Got) before after
-        by_case z h is = by_image (gains z New h.stands is.legal (segment_is before m z h))
+        by_case z h is = by_image (gains z New h.stands is.legal (segment_is before at m z h))
           where
-            new : Answered
-            new = record { reply = headed (head_of which (length events) (length (p.events ++ events)) (last_time_from 0 events)); state = record m { index = Some (with_batch z New) } }
-
             by_image : IsImageOf z after ⊎ IsImageOf (with_batch z New) after → IsCut m (Asked (command_with which count) Got) before after
             by_image (inl same) =
-                As_before (is_accepted m (command_with which count) Got _ is.answered (ok_head which (length events) (length (p.events ++ events)) (last_time_from 0 events)))
+                As_before (is_accepted m (command_with which count) Got _ is.answered (ok_head which (length events) (events_in free.index.batches + length events) (last_time_from 0 events)))
                 (subst (λ (i : Option History). StandsAs i after) (sym h.index) same)
             by_image (inr more) =
-                As_after (is_accepted m (command_with which count) Got _ is.answered (ok_head which (length events) (length (p.events ++ events)) (last_time_from 0 events)))
-                (headed (head_of which (length events) (length (p.events ++ events)) (last_time_from 0 events))) (record m { index = Some (with_batch z New) })
-                (steps_as before m s _ is.answered) more
+                As_after (is_accepted m (command_with which count) Got _ is.answered (ok_head which (length events) (events_in free.index.batches + length events) (last_time_from 0 events)))
+                said (record m { index = Some (with_batch z New) }) (steps_as before m s _ is.answered) more
 
   -- ---- what the command comes to
 
   module _ (new : StoredHistory) (before after : Option (List ℕ)) where
-    stays : StaysAs known c new → with_history p new ≡ p
+    stays : IsAsKnown known c new → with_history p new ≡ p
     stays s =
-        let index : index_opening new.index ≡ p.index = s.0 ∙ sym a.index in
-        let names : new.names ≡ p.names = s.1 ∙ names_kept in
-        let events : new.events.items ≡ p.events = s.2 ∙ a.events in
-        λ i. record p { index = index i; names = names i; events = events i }
+        let index : index_opening new.index ≡ p.index = s.index ∙ sym a.index in
+        let names : new.names ≡ p.names = s.names ∙ names_kept in
+        let graph : new.now.graph ≡ p.graph = s.graph ∙ a.graph in
+        let recent : new.recent.items ≡ p.recent = s.recent ∙ a.recent in
+        λ i. record p { index = index i; names = names i; graph = graph i; recent = recent i }
 
     pub batch_added : (x : AddedBatch) → IfSome (index_opening c.index) (λ o. AddsBatch o limit known c new before after b.changes.items b.front x)
         → Accepts (command_with which count) Got p before (with_history p new) after (headed (head_of which x.events x.total x.last))
     batch_added x adds =
         let d : AddsBatch free.index limit known c new before after b.changes.items b.front x =
         of_here (index_opening c.index) free.index (λ o. AddsBatch o limit known c new before after b.changes.items b.front x) opening_there adds in
-        let all : new.events.items ≡ p.events ++ d.events = d.events_are ∙ ap (λ (es : List Event). es ++ d.events) a.events in
-        let index : index_opening new.index ≡ Some (index_with free.index (segment_of free.index.params c.events.items (batch_with known c.names d.events))) = d.index in
-        let q_is : with_history p new ≡ record p { index = Some (index_with free.index (segment_of free.index.params c.events.items (batch_with known c.names d.events))); names = c.names; events = p.events ++ d.events } =
-        λ i. record p { index = index i; names = d.names i; events = all i } in
-        let told : headed (head_of which x.events x.total x.last) ≡ headed (head_of which (length d.events) (length (p.events ++ d.events)) (last_time_from 0 d.events)) =
-        ap (λ (t : AddedBatch). headed (head_of which t.events t.total t.last)) d.told
-        ∙ ap (λ (n : ℕ). headed (head_of which (length d.events) n (last_time_from 0 d.events))) (ap length all) in
+        let index : index_opening new.index ≡ Some (index_with free.index d.segment) = d.index in
+        let names : new.names ≡ c.names = d.names in
+        let q_is : with_history p new ≡ added_to before d.events d.segment d.comes = λ i. record p { index = index i; names = names i; graph = d.graph i; recent = d.recent i } in
+        let told : headed (head_of which x.events x.total x.last) ≡ said before d.events d.segment d.comes = ap (λ (t : AddedBatch). headed (head_of which t.events t.total t.last)) d.told in
         record {
           moves = λ y z ey ez.
-              add_moves d.events d.whole d.come (with_history p new) y z (headed (head_of which x.events x.total x.last)) d.fits
-              (both_told before after (GainsBatch (segment_of free.index.params c.events.items (batch_with known c.names d.events))) d.gains y z ey ez) q_is told;
+              add_moves before d.events d.segment d.comes (with_history p new) y z (headed (head_of which x.events x.total x.last)) ey d.fits
+              (both_told before after (GainsBatch d.segment) d.gains y z ey ez) q_is told;
           accepted = ok_head which x.events x.total x.last;
           held = λ h. d.held;
-          no_index = λ none. absurd (let e : Some (index_with free.index (segment_of free.index.params c.events.items (batch_with known c.names d.events))) ≡ None = sym index ∙ none in cc);
+          no_index = λ none. absurd (let e : Some (index_with free.index d.segment) ≡ None = sym index ∙ none in cc);
           quiet = λ not_writing. let e : true ≡ false = sym (writes which count) ∙ not_writing in cc;
         }
 
@@ -483,10 +544,20 @@ module _ (which : BatchCommand) (p : Parts) (count known limit : ℕ) (c : Store
         steps_as image m s (refuse m (refusal.BadChange line reason)) (answer_with image m z.0 (Err (line, reason)) s z.1 f.1)) (λ h. absurd (false≢true h))
     batch_failed (fault.FileFull n most) fails back q q_is =
         let f = of_here (index_opening c.index) free.index (λ o. FailsBatch o limit known c before after b.changes.items b.front (fault.FileFull n most)) opening_there fails in
-        let d : FillsFile free.index limit known c b.changes.items b.front n = f.2 in
+        let d : FillsFile free.index limit known c before b.changes.items b.front n = f.2 in
         subst (λ (k : ℕ). Denies (command_with which count) Got p before q after (refusal.FileFull n k)) (sym f.1)
-        (denied (command_with which count) Got p q before after (refusal.FileFull n limit) (q_is ∙ stays back) f.0
-        (λ m image s. full_steps d.events d.whole d.come n d.needed_is d.over image m s) (λ h. absurd (false≢true h)))
+        (denied_at (command_with which count) Got p q before after (refusal.FileFull n limit) (q_is ∙ stays back) f.0
+        (full_steps before d.events d.segment d.comes n d.needed_is d.over) (λ h. absurd (false≢true h)))
+    batch_failed (fault.Damaged key col) fails back q q_is =
+        let f = of_here (index_opening c.index) free.index (λ o. FailsBatch o limit known c before after b.changes.items b.front (fault.Damaged key col)) opening_there fails in
+        denied_at (command_with which count) Got p q before after (refusal.Damaged key col) (q_is ∙ stays back) f.0
+        (λ m image at s.
+        let z = is_of p free.index image m free.there s in
+        absurd (one_told before (λ x. (z : History) → IsOverHistory z x free.index known c → ⊥) image f.1.never at z.0 (over image m z.0 z.1)))
+        (λ h. reads_records which count)
+    batch_failed fault.Read fails back q q_is =
+        let f : after ≡ before = of_here (index_opening c.index) free.index (λ o. FailsBatch o limit known c before after b.changes.items b.front fault.Read) opening_there fails in
+        failing_denies (command_with which count) Got p q before after (q_is ∙ stays back) f (reads_records which count) not_refused
     batch_failed fault.Memory fails back q q_is =
         let f : after ≡ before = of_here (index_opening c.index) free.index (λ o. FailsBatch o limit known c before after b.changes.items b.front fault.Memory) opening_there fails in
         lacking_denies (command_with which count) Got p q before after (q_is ∙ stays back) f (lacks which count) not_refused
@@ -494,7 +565,5 @@ module _ (which : BatchCommand) (p : Parts) (count known limit : ℕ) (c : Store
         let d : BreaksBatch free.index limit known c before after b.changes.items b.front =
         of_here (index_opening c.index) free.index (λ o. BreaksBatch o limit known c before after b.changes.items b.front) opening_there fails in (
           writes which count,
-          λ y z ey ez.
-              add_cuts d.events d.whole d.come y z d.fits
-              (both_told before after (GainsBatchOrNot (segment_of free.index.params c.events.items (batch_with known c.names d.events))) d.gains y z ey ez),
+          λ y z ey ez. add_cuts before d.events d.segment d.comes y z ey d.fits (both_told before after (GainsBatchOrNot d.segment) d.gains y z ey ez),
         )

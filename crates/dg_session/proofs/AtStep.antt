@@ -1,11 +1,10 @@
 -- The answer to the retrieval of one instant.
-use Rattle.std.proofs.Common.{◌≡◌, ℕ, true, ◌+◌, List, [], ◌∷◌, Option, None, refl, sym, ◌∙◌, ap, subst, arith}
+use Rattle.std.proofs.Common.{◌≡◌, ℕ, true, false, ◌+◌, List, [], ◌∷◌, Option, None, refl, sym, ◌∙◌, ap, subst, arith}
 use Rattle.std.specs.Prelude.{IfSome}
 use Rattle.dg_fold.specs.BytesRead.{TakesAtMost}
 use Rattle.dg_graph.specs.declared.element.Columns.{Columns}
 use Rattle.dg_graph.specs.declared.element.Element.{Element}
 use Rattle.dg_graph.specs.Lines.{ScriptLine}
-use Rattle.dg_history.specs.declared.node.NodeId.{NodeId}
 use Rattle.dg_history.specs.declared.node.NodeId.TheVariants.{Root}
 use Rattle.dg_machine.specs.declared.command.Command.TheVariants as command
 use Rattle.dg_machine.specs.declared.reply.Head.{Head}
@@ -20,7 +19,7 @@ use Rattle.dg_retrieval.specs.Retrieval.{TakesAtMostTree}
 use Rattle.dg_session.proofs.Retrievals.{handles_stand, if_some, moved_with, reads_failed, retrieval_accepted}
 use Rattle.dg_session.proofs.StandsFor.{one_image, one_told}
 use Rattle.dg_session.specs.Parts.{Parts}
-use Rattle.dg_session.specs.Reads.{IsRetrieved, Reads, new_entries, with_entries}
+use Rattle.dg_session.specs.Reads.{IsRetrieved, Reads, is_early, new_entries, with_entries}
 use Rattle.dg_session.specs.Session.{Accepts, StandsFor, refused_by, retrieval_needs}
 
 -- a tree of one target is the plan of the target
@@ -59,11 +58,11 @@ at_answers p q t cols before after weight singles graphs reply none same got is 
     (ap (λ (r : Reply). is_refusal r.head) reply_is) same is
 
 -- where it fails, the bytes read are at most what its reply would tell
-pub at_fails : (p : Parts) (t : ℕ) (cols : Columns) (image : Option (List ℕ)) (h : Head) (before after : ℕ) → is_refusal h ≡ true → refused_by p 0 (retrieval_needs (t ∷ []) 1) ≡ None
+pub at_fails : (p : Parts) (t : ℕ) (cols : Columns) (image : Option (List ℕ)) (h : Head) (before after : ℕ) → is_refusal h ≡ true → is_early h ≡ false → refused_by p 0 (retrieval_needs (t ∷ []) 1) ≡ None
     → IfSome image (λ bytes. (m : MachineState) → StandsFor p bytes m → TakesAtMostTree (edges_in m cols) (points_for m (t ∷ [])) before after)
     → Reads (command.At t cols) p image h before after
-at_fails p t cols image h before after refuses none most =
-    reads_failed (command.At t cols) p image h before after refl refuses (λ got. none)
+at_fails p t cols image h before after refuses late none most =
+    reads_failed (command.At t cols) p image h before after refl refuses late (λ m got reads. reads) (λ got. none)
     (if_some image (λ bytes. (m : MachineState) → StandsFor p bytes m → TakesAtMostTree (edges_in m cols) (points_for m (t ∷ [])) before after)
     (λ bytes. (m : MachineState) → StandsFor p bytes m → (got : List ScriptLine) (plan : Planned) → IsPlanned m (command.At t cols) plan
     → TakesAtMost (weight_told (accepted m (command.At t cols) got plan).reply.head) before after)

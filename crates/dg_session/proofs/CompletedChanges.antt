@@ -1,132 +1,14 @@
 -- What is known of events that some changes come to.
-use Rattle.std.proofs.Common.{◌≡◌, ℕ, ◌+◌, ◌≤◌, Bool, true, false, not, ◌&&◌, List, [], ◌∷◌, Option, Some, None, Result, Ok, Err, if◌then◌else◌, length, find, refl, sym, ◌∙◌, ap, subst, nat_lt, arith}
-use Rattle.std.specs.Prelude.{is_some, nat_eq}
-use Rattle.std.specs.Option.{option_eq}
-use Rattle.std.specs.List.{list_any}
-use borrow.Author.Tests.{ltb-false, eqb-true, eq-eqb}
+use Rattle.std.proofs.Common.{◌≡◌, ℕ, ◌+◌, ◌≤◌, Bool, true, false, List, [], ◌∷◌, Option, Some, None, Result, Ok, Err, if◌then◌else◌, length, refl, subst, nat_lt, arith}
+use borrow.Author.Tests.{ltb-false}
 use Rattle.dg_graph.specs.declared.element.Element.{Element}
-use Rattle.dg_graph.specs.declared.element.Element.TheVariants as element
 use Rattle.dg_graph.specs.declared.event.Body.{Body}
-use Rattle.dg_graph.specs.declared.event.Body.TheVariants as body
 use Rattle.dg_graph.specs.declared.event.Change.{Change}
 use Rattle.dg_graph.specs.declared.event.Event.{Event}
-use Rattle.dg_graph.specs.declared.event.What.{What}
-use Rattle.dg_graph.specs.declared.event.What.TheVariants as what
-use Rattle.dg_graph.specs.declared.event.TheConstants.{REASON_NODE_EXISTS, REASON_NO_NODE, REASON_NODE_IN_USE, REASON_EDGE_EXISTS, REASON_NO_END, REASON_NO_EDGE, REASON_TIME}
+use Rattle.dg_graph.specs.declared.event.TheConstants.{REASON_TIME}
 use Rattle.dg_graph.specs.CompletedChanges.{completed, event_of, go_on, on_value}
-use Rattle.dg_graph.specs.Completion.{has_node, is_edge, edge_of, needs_node, needs_edge, node_value, edge_value, edge_removal, value_removal, complete, is_change_of, is_found, is_value_change}
+use Rattle.dg_graph.specs.Completion.{complete}
 use Rattle.dg_graph.specs.Effect.{forwards}
-use Rattle.dg_graph.proofs.Sets.{same_itself}
-use Rattle.dg_history.specs.History.{last_time_from}
-use Rattle.dg_list.specs.NetLaws.{AreMadeByChanges}
-
--- the element that is found is one that was looked for
-pub find_is : {A : Type 0} (p : A → Bool) (xs : List A) (x : A) → find p xs ≡ Some x → p x ≡ true
-find_is p [] x h = cc
-find_is p (y ∷ xs) x h = go (p y) refl h (λ e. find_is p xs x e)
-  where
-    go : (b : Bool) → p y ≡ b → (if b then Some y else find p xs) ≡ Some x → (find p xs ≡ Some x → p x ≡ true) → p x ≡ true
-    go true py e later = let s : y ≡ x = cc in ap p (sym s) ∙ py
-    go false py e later = later e
-
--- a change that comes to this
-node_added : (id : ℕ) (set : List Element) (b : Body) (there : Bool) → has_node set id ≡ there
-    → (if there then Err REASON_NODE_EXISTS else Ok (body.NodeAdded id)) ≡ Ok b → is_change_of set b ≡ true
-node_added id set b true is h = cc
-node_added id set b false is h = let e : body.NodeAdded id ≡ b = cc in subst (λ (x : Body). is_change_of set x ≡ true) e (ap not is)
-
-node_removed : (id : ℕ) (set : List Element) (b : Body) (there used : Bool) → has_node set id ≡ there → list_any (needs_node id) set ≡ used
-    → (if not there then Err REASON_NO_NODE else (if used then Err REASON_NODE_IN_USE else Ok (body.NodeRemoved id))) ≡ Ok b → is_change_of set b ≡ true
-node_removed id set b false used is is_used h = cc
-node_removed id set b true true is is_used h = cc
-node_removed id set b true false is is_used h =
-    let e : body.NodeRemoved id ≡ b = cc in
-    subst (λ (x : Body). is_change_of set x ≡ true) e (ap (λ x. x && not (list_any (needs_node id) set)) is ∙ ap not is_used)
-
-edge_added : (id src dst : ℕ) (directed : Bool) (set : List Element) (b : Body) (there ends : Bool)
-    → is_some (edge_of set id) ≡ there → (has_node set src && has_node set dst) ≡ ends
-    → (if there then Err REASON_EDGE_EXISTS else (if ends then Ok (body.EdgeAdded id src dst directed) else Err REASON_NO_END)) ≡ Ok b → is_change_of set b ≡ true
-edge_added id src dst directed set b true ends is is_ends h = cc
-edge_added id src dst directed set b false false is is_ends h = cc
-edge_added id src dst directed set b false true is is_ends h =
-    let e : body.EdgeAdded id src dst directed ≡ b = cc in
-    subst (λ (x : Body). is_change_of set x ≡ true) e (ap (λ x. not x && (has_node set src && has_node set dst)) is ∙ is_ends)
-
-edge_removed : (id : ℕ) (set : List Element) (b : Body) (needed : Bool) (found : Option Element)
-    → list_any (needs_edge id) set ≡ needed → edge_of set id ≡ found → edge_removal needed found ≡ Ok b → is_change_of set b ≡ true
-edge_removed id set b needed None is_needed is h = cc
-edge_removed id set b needed (Some (element.Node n)) is_needed is h = cc
-edge_removed id set b needed (Some (element.NodeAttr n key value)) is_needed is h = cc
-edge_removed id set b needed (Some (element.EdgeAttr n key value)) is_needed is h = cc
-edge_removed id set b true (Some (element.Edge n src dst directed)) is_needed is h = cc
-edge_removed id set b false (Some (element.Edge n src dst directed)) is_needed is h =
-    let e : body.EdgeRemoved n src dst directed ≡ b = cc in
-    let same_id : n ≡ id = eqb-true n id (find_is (is_edge id) set (element.Edge n src dst directed) is) in
-    let there : is_found (edge_of set n) (element.Edge n src dst directed) ≡ true =
-    ap (λ (k : ℕ). is_found (edge_of set k) (element.Edge n src dst directed)) same_id
-    ∙ ap (λ (x : Option Element). is_found x (element.Edge n src dst directed)) is ∙ same_itself (element.Edge n src dst directed) in
-    let free : list_any (needs_edge n) set ≡ false = ap (λ (k : ℕ). list_any (needs_edge k) set) same_id ∙ is_needed in
-    subst (λ (x : Body). is_change_of set x ≡ true) e (ap (λ x. x && not (list_any (needs_edge n) set)) there ∙ ap not free)
-
--- a value is set, or taken away
-same_value : (o : Option ℕ) → option_eq nat_eq o o ≡ true
-same_value None = refl
-same_value (Some n) = eq-eqb n n refl
-
-value_set : (there : Option ℕ) (value : ℕ) → is_value_change there there (Some value) ≡ true
-value_set None value = refl
-value_set (Some old) value = ap (λ x. x && true) (same_value (Some old))
-
-value_taken : (there : Option ℕ) (value : ℕ) → there ≡ Some value → is_value_change there (Some value) None ≡ true
-value_taken there value is = ap (λ (x : Option ℕ). is_value_change x (Some value) None) is ∙ ap (λ x. x && true) (same_value (Some value))
-
-both : (a b : Bool) → a ≡ true → b ≡ true → (a && b) ≡ true
-both a b is_a is_b = ap (λ x. x && b) is_a ∙ is_b
-
-node_set : (id key value : ℕ) (set : List Element) (b : Body) (there : Bool) → has_node set id ≡ there
-    → (if there then Ok (body.NodeAttr id key (node_value set id key) (Some value)) else Err REASON_NO_NODE) ≡ Ok b → is_change_of set b ≡ true
-node_set id key value set b false is h = cc
-node_set id key value set b true is h =
-    let e : body.NodeAttr id key (node_value set id key) (Some value) ≡ b = cc in
-    subst (λ (x : Body). is_change_of set x ≡ true) e
-    (both (has_node set id) (is_value_change (node_value set id key) (node_value set id key) (Some value)) is (value_set (node_value set id key) value))
-
-node_unset : (id key : ℕ) (set : List Element) (b : Body) (there : Bool) (found : Option ℕ) → has_node set id ≡ there → node_value set id key ≡ found
-    → (if there then value_removal (λ old new. body.NodeAttr id key old new) found else Err REASON_NO_NODE) ≡ Ok b → is_change_of set b ≡ true
-node_unset id key set b false found is is_found h = cc
-node_unset id key set b true None is is_found h = cc
-node_unset id key set b true (Some value) is is_found h =
-    let e : body.NodeAttr id key (Some value) None ≡ b = cc in
-    subst (λ (x : Body). is_change_of set x ≡ true) e
-    (both (has_node set id) (is_value_change (node_value set id key) (Some value) None) is (value_taken (node_value set id key) value is_found))
-
-edge_set : (id key value : ℕ) (set : List Element) (b : Body) (there : Bool) → is_some (edge_of set id) ≡ there
-    → (if there then Ok (body.EdgeAttr id key (edge_value set id key) (Some value)) else Err REASON_NO_EDGE) ≡ Ok b → is_change_of set b ≡ true
-edge_set id key value set b false is h = cc
-edge_set id key value set b true is h =
-    let e : body.EdgeAttr id key (edge_value set id key) (Some value) ≡ b = cc in
-    subst (λ (x : Body). is_change_of set x ≡ true) e
-    (both (is_some (edge_of set id)) (is_value_change (edge_value set id key) (edge_value set id key) (Some value)) is (value_set (edge_value set id key) value))
-
-edge_unset : (id key : ℕ) (set : List Element) (b : Body) (there : Bool) (found : Option ℕ) → is_some (edge_of set id) ≡ there → edge_value set id key ≡ found
-    → (if there then value_removal (λ old new. body.EdgeAttr id key old new) found else Err REASON_NO_EDGE) ≡ Ok b → is_change_of set b ≡ true
-edge_unset id key set b false found is is_found h = cc
-edge_unset id key set b true None is is_found h = cc
-edge_unset id key set b true (Some value) is is_found h =
-    let e : body.EdgeAttr id key (Some value) None ≡ b = cc in
-    subst (λ (x : Body). is_change_of set x ≡ true) e
-    (both (is_some (edge_of set id)) (is_value_change (edge_value set id key) (Some value) None) is (value_taken (edge_value set id key) value is_found))
-
-pub comes_to : (w : What) (set : List Element) (b : Body) → complete w set ≡ Ok b → is_change_of set b ≡ true
-comes_to (what.AddNode id) set b h = node_added id set b (has_node set id) refl h
-comes_to (what.RemoveNode id) set b h = node_removed id set b (has_node set id) (list_any (needs_node id) set) refl refl h
-comes_to (what.AddEdge id src dst directed) set b h =
-    edge_added id src dst directed set b (is_some (edge_of set id)) (has_node set src && has_node set dst) refl refl h
-comes_to (what.RemoveEdge id) set b h = edge_removed id set b (list_any (needs_edge id) set) (edge_of set id) refl refl h
-comes_to (what.SetNode id key value) set b h = node_set id key value set b (has_node set id) refl h
-comes_to (what.UnsetNode id key) set b h = node_unset id key set b (has_node set id) (node_value set id key) refl refl h
-comes_to (what.SetEdge id key value) set b h = edge_set id key value set b (is_some (edge_of set id)) refl h
-comes_to (what.UnsetEdge id key) set b h = edge_unset id key set b (is_some (edge_of set id)) (edge_value set id key) refl refl h
 
 -- the event of a change that comes to one
 pub record Comes (earliest : ℕ) (set : List Element) (c : Change) (e : Event) : Type 0 where
@@ -181,20 +63,6 @@ all_come n earliest set (Some c ∷ changes) events h =
     by_event (Err x) is k next = cc
     by_event (Ok e) is k next = by_rest e (completed (n + 1) e.time (forwards set e) changes) is k (next e)
 
--- events that are right after one another, in order of time
-abbrev pub AreRight : ℕ → List Element → List Event → Type 0
-AreRight earliest set [] = Unit {0}
-AreRight earliest set (e ∷ events) = (earliest ≤ e.time) × (is_change_of set e.body ≡ true) × AreRight e.time (forwards set e) events
-
-pub are_right : (earliest : ℕ) (set : List Element) (changes : List (Option Change)) (events : List Event)
-    → AllCome earliest set changes events → AreRight earliest set events
-are_right earliest set [] [] h = tt
-are_right earliest set [] (e ∷ events) h = absurd h
-are_right earliest set (None ∷ changes) events h = absurd h
-are_right earliest set (Some c ∷ changes) [] h = absurd h
-are_right earliest set (Some c ∷ changes) (e ∷ events) h =
-    (omega (arith, h.0.late, h.0.time), comes_to c.what set e.body h.0.body, are_right e.time (forwards set e) changes events h.1)
-
 -- as many events as changes
 pub as_many : (earliest : ℕ) (set : List Element) (changes : List (Option Change)) (events : List Event)
     → AllCome earliest set changes events → length events ≡ length changes
@@ -203,13 +71,3 @@ as_many earliest set [] (e ∷ events) h = absurd h
 as_many earliest set (None ∷ changes) events h = absurd h
 as_many earliest set (Some c ∷ changes) [] h = absurd h
 as_many earliest set (Some c ∷ changes) (e ∷ events) h = omega (arith, as_many e.time (forwards set e) changes events h.1)
-
--- they do not end before the earliest time
-pub last_after : (t : ℕ) (set : List Element) (events : List Event) → AreRight t set events → t ≤ last_time_from t events
-last_after t set [] h = omega arith
-last_after t set (e ∷ events) h = omega (arith, h.0, last_after e.time (forwards set e) events h.2)
-
--- and some change comes to each
-pub made_right : (earliest : ℕ) (set : List Element) (events : List Event) → AreRight earliest set events → AreMadeByChanges set events
-made_right earliest set [] h = tt
-made_right earliest set (e ∷ events) h = (h.1, made_right e.time (forwards set e) events h.2)

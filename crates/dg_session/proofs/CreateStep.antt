@@ -1,9 +1,11 @@
 -- The answer to the making of an index.
-use Rattle.std.proofs.Common.{◌≡◌, inl, inr, ℕ, Bool, true, false, not, List, [], Option, Some, None, Ok, Err, refl, sym, ◌∙◌, ap, subst}
+use Rattle.std.proofs.Common.{◌≡◌, inl, inr, ℕ, zero, suc, ◌*◌, Bool, true, false, not, List, [], Option, Some, None, Ok, Err, drop, refl, sym, ◌∙◌, ap, subst}
 use Rattle.std.specs.Prelude.{IfSome, is_some}
+use Rattle.std.proofs.lemmas.Bool.{false≢true}
 use Rattle.dg_file.specs.declared.fault.CreateFault.{CreateFault}
 use Rattle.dg_file.specs.declared.fault.CreateFault.TheVariants as fault
 use Rattle.dg_file.specs.Images.{IsMadeInPart}
+use Rattle.dg_graph.specs.declared.element.Element.{Element}
 use Rattle.dg_graph.specs.declared.event.Event.{Event}
 use Rattle.dg_history.specs.declared.params.Params.{Params}
 use Rattle.dg_history.specs.History.{History, are_parameters, empty_history}
@@ -16,17 +18,20 @@ use Rattle.dg_machine.specs.declared.reply.Refusal.TheVariants as refusal
 use Rattle.dg_machine.specs.declared.reply.Reply.{Reply}
 use Rattle.dg_machine.specs.Answer.{Answered, answer, headed, is_refusal}
 use Rattle.dg_machine.specs.CutImage.{IsAccepted, IsCut, As_before, As_after, First_byte}
-use Rattle.dg_machine.specs.MachineState.{MachineState, events_in_index}
+use Rattle.dg_machine.specs.MachineState.{MachineState}
 use Rattle.dg_machine.specs.Needs.{needs, refused}
 use Rattle.dg_machine.specs.Planning.{no_plan}
 use Rattle.dg_machine.specs.Script.{Asked}
-use Rattle.dg_session.specs.SessionStart.{opening_of}
-use Rattle.dg_session.proofs.StandsFor.{both_told, no_graphs, no_handle_reached, no_index, one_told, passes, refused_is, stands}
+use Rattle.dg_index.specs.Hierarchy.{leaves}
+use Rattle.dg_index.specs.IndexRecords.{recent_of}
+use Rattle.dg_session.proofs.ReadsStep.{reads_freely}
+use Rattle.dg_session.proofs.StandsFor.{AreOf, are_of, both_told, graph_in, no_graphs, no_handle_reached, no_index, one_told, opening_of, passes, recent_in, refused_is, stands}
 use Rattle.dg_session.proofs.Steps.{accepted_is, accepted_steps, is_accepted, lacking_denies, moved}
 use Rattle.dg_session.specs.Halt.{creation_halt}
 use Rattle.dg_session.specs.Parts.{Parts}
-use Rattle.dg_session.specs.SoundHistory.{AreCounted}
-use Rattle.dg_session.specs.Session.{Accepts, ComesTo, CutsOff, IsHeldBy, StandsFor, refused_by}
+use Rattle.dg_session.specs.Reads.{ReadsIn}
+use Rattle.dg_start.specs.StoredHistory.{AreCounted, IsHeldBy}
+use Rattle.dg_session.specs.Session.{Accepts, ComesTo, CutsOff, StandsFor, refused_by}
 
 -- the command with these parameters
 abbrev pub making : Params → Command
@@ -44,7 +49,7 @@ creation_free p params none =
     not_false' false e = sym e
 
 none_there : (p : Parts) (image : List ℕ) (m : MachineState) (params : Params) → StandsFor p image m → refused_by p 0 (needs (making params)) ≡ None → m.index ≡ None
-none_there p image m params s none = no_index m.index (ap is_some (sym s.index) ∙ (creation_free p params none).0)
+none_there p image m params s none = no_index m.index (ap is_some (sym (are_of m.index p s.kept).index_is) ∙ (creation_free p params none).0)
 
 -- the state with the new index
 abbrev made_in : MachineState → Params → MachineState
@@ -58,6 +63,10 @@ answer_is : (p : Parts) (image : List ℕ) (m : MachineState) (params : Params) 
 answer_is p image m params s none =
     accepted_is m (making params) [] no_plan (record { reply = headed head.Created; state = made_in m params }) (free_of p image m params s none) refl
 
+no_recent : (n : ℕ) → ◌≡◌ {A = List Event} [] (drop n [])
+no_recent zero = refl
+no_recent (suc n) = refl
+
 pub create_answers : (p q : Parts) (params : Params) (before after : Option (List ℕ)) (o : Opening) (reply : Reply) → refused_by p 0 (needs (making params)) ≡ None
     → IfSome after (λ image. IsImageOf (empty_history params) image) → IfSome after (λ image. opening image ≡ Ok (opened_of (empty_history params)))
     → o ≡ opening_of (empty_history params) → p.names ≡ [] → q ≡ record p { index = Some o } → reply ≡ headed head.Created
@@ -68,13 +77,15 @@ create_answers p q params before after o reply none made opened o_is no_names is
       (λ m x y a b s free.
       let gone : m.index ≡ None = none_there p x m params s none in
       let handles : m.table ≡ [] = s.no_handles gone in
+      let kept : AreOf m.index p = are_of m.index p s.kept in
       let names : p.names ≡ [] = no_names in
-      let events : p.events ≡ [] = s.events ∙ ap events_in_index gone in (
+      let graph : p.graph ≡ [] = kept.graph_is ∙ ap graph_in gone in
+      let recent : p.recent ≡ recent_of params [] = kept.recent_are ∙ ap recent_in gone ∙ no_recent (leaves params 0 * params.l) in (
         made_in m params,
         (λ i. record { reply = sym reply_is i; state = made_in m params }),
         stands q y (made_in m params)
             (is
-            ∙ (λ i. record { limits = s.limits i; index = Some (o_is i); names = names i; events = events i; table = s.table i; graphs = (s.graphs ∙ no_graphs m (made_in m params) handles handles) i; next = s.next i }))
+            ∙ (λ i. record { limits = s.limits i; index = Some (o_is i); names = names i; graph = graph i; recent = recent i; table = s.table i; graphs = (s.graphs ∙ no_graphs m (made_in m params) handles handles) i; next = s.next i }))
             (one_told after (λ image. IsImageOf (empty_history params) image) y made b)
             (no_handle_reached (made_in m params) handles) (λ e. cc),
       ));
@@ -116,6 +127,13 @@ create_fails p q params before after fault.Disk none same memory part = (
 )
 
 -- without an index there are no names
-pub no_names : (index : Option Opening) (names : List (List ℕ)) (events : List Event) → AreCounted index names events → is_some index ≡ false → names ≡ []
-no_names None names events counted none = counted.0
-no_names (Some o) names events counted none = cc
+pub no_names : (index : Option Opening) (names : List (List ℕ)) (graph : List Element) (recent : List Event) → AreCounted index names graph recent → is_some index ≡ false → names ≡ []
+no_names None names graph recent counted none = counted.0
+no_names (Some o) names graph recent counted none = cc
+
+-- ---- the bytes read
+
+-- a creation that fails is refused by no cause that is told before all others
+pub create_reads : (params : Params) (p : Parts) (image : Option (List ℕ)) (f : CreateFault) (before after : ℕ) → ReadsIn (making params) p image (Err (creation_halt f)) before after
+create_reads params p image fault.Memory before after = reads_freely (making params) p image (Err (creation_halt fault.Memory)) before after refl refl (λ e. absurd (false≢true e))
+create_reads params p image fault.Disk before after = tt

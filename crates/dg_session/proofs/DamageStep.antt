@@ -6,7 +6,7 @@ use Rattle.dg_graph.specs.declared.element.Columns.{Columns}
 use Rattle.dg_graph.specs.declared.element.Element.{Element}
 use Rattle.dg_graph.specs.declared.event.Event.{Event}
 use Rattle.dg_graph.specs.Lines.{ScriptLine}
-use Rattle.dg_index.specs.OpenedIndex.{Opening}
+use Rattle.dg_index.specs.OpenedIndex.{Opening, events_in}
 use Rattle.dg_machine.specs.declared.command.Command.{Command}
 use Rattle.dg_machine.specs.declared.reply.Head.{Head}
 use Rattle.dg_machine.specs.declared.reply.Head.TheVariants as head
@@ -23,10 +23,11 @@ use Rattle.dg_retrieval.specs.Retrieval.{IsFirstDamage}
 use Rattle.dg_session.proofs.Retrievals.{IsSession}
 use Rattle.dg_session.specs.declared.halt.Halt.{Halt}
 use Rattle.dg_session.specs.declared.halt.Halt.TheVariants as halt
-use Rattle.dg_session.specs.Damage.{DamageIn, DamageIs, NamesDamage, asked_by}
+use Rattle.dg_session.specs.Damage.{DamageIn, DamageIs, Graphs, IsMetBy, NamesDamage, ReadsFor, reads_for}
 use Rattle.dg_session.specs.Halt.{retrieval_halt}
 use Rattle.dg_session.specs.Parts.{Parts}
-use Rattle.dg_session.specs.Reads.{head_of, points_over}
+use Rattle.dg_session.specs.HeldIndex.{points_over}
+use Rattle.dg_session.specs.Reads.{head_of}
 use Rattle.dg_session.specs.Session.{Accepts, ComesTo, Denies, is_of_read}
 
 -- ---- no damage
@@ -85,24 +86,24 @@ never_for_damage c x got p before q after r is no_reads comes =
 -- ---- a damage
 
 -- the fault of a retrieval over what the session has in memory
-pub damage_over : (p : Parts) (o : Opening) (times : List ℕ) (cols : Columns) (told : Option (List ℕ)) (names : ℕ) (graph : List Element) (events : List Event) (r : Result Retrieved RetrievalFault)
-    → IsSession p o names graph events
-    → IfErr r (λ f. IfSome told (λ image. IsFirstDamage names (kept_edges o (length events) cols) o cols (points_over o events times) image f))
+pub damage_over : (p : Parts) (o : Opening) (times : List ℕ) (cols : Columns) (told : Option (List ℕ)) (names : ℕ) (graph : List Element) (recent : List Event) (r : Result Retrieved RetrievalFault)
+    → IsSession p o names graph recent
+    → IfErr r (λ f. IfSome told (λ image. IsFirstDamage names (kept_edges o (events_in o.batches) cols) o cols (points_over o recent times) image f))
     → IfErr r (λ f. NamesDamage p told (times, cols) f)
-damage_over p o times cols told names graph events (Ok x) is damage = tt
-damage_over p o times cols told names graph events (Err f) is damage = (
+damage_over p o times cols told names graph recent (Ok x) is damage = tt
+damage_over p o times cols told names graph recent (Err f) is damage = (
   o,
   is.there,
-  subst (λ es. IfSome told (λ image. IsFirstDamage (length p.names) (kept_edges o (length es) cols) o cols (points_over o es times) image f)) is.all
-      (subst (λ n. IfSome told (λ image. IsFirstDamage n (kept_edges o (length events) cols) o cols (points_over o events times) image f)) is.count damage),
+  subst (λ es. IfSome told (λ image. IsFirstDamage (length p.names) (kept_edges o (events_in o.batches) cols) o cols (points_over o es times) image f)) is.all
+      (subst (λ n. IfSome told (λ image. IsFirstDamage n (kept_edges o (events_in o.batches) cols) o cols (points_over o recent times) image f)) is.count damage),
 )
 
--- what the command that asks for it comes to by the fault
-pub damage_in : (c : Command) (p : Parts) (image : Option (List ℕ)) (asked : List ℕ × Columns) (f : RetrievalFault) → asked_by c ≡ Some asked → NamesDamage p image asked f
+-- what the command that reads for it comes to by the fault
+pub damage_in : (c : Command) (p : Parts) (image : Option (List ℕ)) (times : List ℕ) (cols : Columns) (f : RetrievalFault) → reads_for c ≡ Graphs times cols → NamesDamage p image (times, cols) f
     → DamageIn c p image (Err (retrieval_halt f))
-damage_in c p image asked retrieval_fault.Disk is damage = tt
-damage_in c p image asked retrieval_fault.Memory is damage = tt
-damage_in c p image asked (retrieval_fault.Damaged key col) is damage = (asked, is, damage)
+damage_in c p image times cols retrieval_fault.Disk is damage = tt
+damage_in c p image times cols retrieval_fault.Memory is damage = tt
+damage_in c p image times cols (retrieval_fault.Damaged key col) is damage = subst (λ (x : ReadsFor). IsMetBy x p image key col) (sym is) damage
 
 -- the reply, where there is one
 pub damage_in_reply : (c : Command) (p : Parts) (image : Option (List ℕ)) (r : Result Reply Halt) (h : Head) → head_of r ≡ Some h → DamageIn c p image r → DamageIs c p image h

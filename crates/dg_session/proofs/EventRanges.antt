@@ -5,7 +5,6 @@ use Rattle.std.specs.List.{All, list_any}
 use Rattle.std.specs.Option.{option_map, option_eq}
 use Rattle.std.proofs.lemmas.List.{get_or_append_left}
 use Rattle.std.proofs.lemmas.List.Elements.{All-nil, All-cons, All-head, All-tail, All-filter}
-use Rattle.dg_columns.specs.NamesInRange.{NamesFit}
 use Rattle.dg_graph.specs.declared.element.Element.{Element}
 use Rattle.dg_graph.specs.declared.element.Element.TheVariants as element
 use Rattle.dg_graph.specs.declared.event.Body.{Body}
@@ -27,7 +26,7 @@ use Rattle.dg_graph.specs.Replay.{replay_from}
 use Rattle.dg_session.proofs.CompletedChanges.{AllCome}
 use Rattle.dg_session.proofs.NamesAfter.{Grows, Has, grows_none, grows_both, added_grows, added_has, has_more, key_is_name, number_within, text_is}
 use Rattle.dg_session.proofs.ChangeRanges.{AskedFits, PlainFits, SaidFits}
-use Rattle.dg_session.specs.BatchCommand.{WhatNamesFit}
+use Rattle.dg_append.specs.AddedBatches.{WhatNamesFit}
 
 -- Ids of which the fact `I` holds, and numbers of names below n: in a change, in an element and in what
 -- changes.
@@ -345,32 +344,6 @@ from_legal n (body.EdgeAdded id src dst directed) h = h
 from_legal n (body.EdgeRemoved id src dst directed) h = h
 from_legal n (body.NodeAttr id key old new) h = h
 from_legal n (body.EdgeAttr id key old new) h = h
-
-pub spelled_body : (b : Body) → BodyFits (λ n. Unit {0}) (2 ^ 30) b → NamesFit b
-spelled_body (body.NodeAdded id) h = tt
-spelled_body (body.NodeRemoved id) h = tt
-spelled_body (body.EdgeAdded id src dst directed) h = tt
-spelled_body (body.EdgeRemoved id src dst directed) h = tt
-spelled_body (body.NodeAttr id key old new) h = (h.1, h.2, h.3)
-spelled_body (body.EdgeAttr id key old new) h = (h.1, h.2, h.3)
-
-pub from_spelled : (b : Body) → NamesFit b → BodyFits (λ n. Unit {0}) (2 ^ 30) b
-from_spelled (body.NodeAdded id) h = tt
-from_spelled (body.NodeRemoved id) h = tt
-from_spelled (body.EdgeAdded id src dst directed) h = (tt, tt, tt)
-from_spelled (body.EdgeRemoved id src dst directed) h = (tt, tt, tt)
-from_spelled (body.NodeAttr id key old new) h = (tt, h.0, h.1, h.2)
-from_spelled (body.EdgeAttr id key old new) h = (tt, h.0, h.1, h.2)
-
-pub spelled_what : (w : What) → WhatNamesFit w → WhatFits (λ n. Unit {0}) (2 ^ 30) w
-spelled_what (what.AddNode id) h = tt
-spelled_what (what.RemoveNode id) h = tt
-spelled_what (what.AddEdge id src dst directed) h = (tt, tt, tt)
-spelled_what (what.RemoveEdge id) h = tt
-spelled_what (what.SetNode id key value) h = (tt, h.0, h.1)
-spelled_what (what.UnsetNode id key) h = (tt, h)
-spelled_what (what.SetEdge id key value) h = (tt, h.0, h.1)
-spelled_what (what.UnsetEdge id key) h = (tt, h)
 
 pub what_spelled : (n : ℕ) (w : What) → n ≤ 2 ^ 30 → WhatFits (λ n. n < 2 ^ 64) n w → WhatNamesFit w
 what_spelled n (what.AddNode id) le h = tt

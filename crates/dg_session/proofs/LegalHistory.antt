@@ -22,7 +22,7 @@ use Rattle.dg_session.proofs.CompletedChanges.{AllCome, all_come, as_many}
 use Rattle.dg_session.proofs.EventRanges.{BodyFits, ChangeFits, ElementFits, HasKey, WhatFits, body_more, changes_fit, events_fit, events_keys, from_legal, has_key_more, legal_body, lines_grow, replay_fits, times_fit}
 use Rattle.dg_session.proofs.NamesAfter.{Grows, changes_length, grown_drop, grown_long, grows_none, new_joined}
 use Rattle.dg_session.proofs.ChangeRanges.{lines_fit}
-use Rattle.dg_session.specs.BatchLines.{lines}
+use Rattle.dg_append.specs.Fronts.{lines}
 
 -- ---- batches, with more names
 

@@ -1,18 +1,17 @@
 -- The answers to a plan and to a certificate.
-use Rattle.std.proofs.Common.{◌≡◌, ℕ, ◌≤◌, ◌<◌, Bool, true, false, not, List, [], ◌∷◌, Option, Some, None, Err, if◌then◌else◌, length, map, refl, sym, ◌∙◌, ap, subst, nat_lt, arith}
-use Rattle.std.specs.Prelude.{is_some, ◌||◌}
+use Rattle.std.proofs.Common.{◌≡◌, ℕ, ◌+◌, ◌≤◌, ◌<◌, Bool, true, false, not, List, [], ◌∷◌, Option, Some, None, Err, if◌then◌else◌, length, map, refl, sym, ◌∙◌, ap, subst, nat_lt, arith}
+use Rattle.std.specs.Prelude.{is_some, unwrap_or, ◌||◌}
 use Rattle.std.specs.List.{AllZip}
 use borrow.Author.Tests.{le-ltb, lt-ltb}
 use Rattle.dg_graph.specs.declared.element.Columns.{Columns}
-use Rattle.dg_graph.specs.declared.event.Event.{Event}
 use Rattle.dg_graph.specs.Lines.{ScriptLine}
 use Rattle.dg_history.specs.declared.node.NodeId.{NodeId}
 use Rattle.dg_history.specs.declared.node.NodeId.TheVariants.{Root}
-use Rattle.dg_history.specs.declared.params.Params.{Params}
 use Rattle.dg_history.specs.History.{History, events_of, in_range, span_of}
-use Rattle.dg_index.specs.declared.entry.Entry.{Entry}
-use Rattle.dg_history.specs.declared.node.Key.{Key}
-use Rattle.dg_index.specs.OpenedIndex.{Opening, opened_of}
+use Rattle.dg_append.specs.OlderGroups.{older_children}
+use Rattle.dg_index.specs.Hierarchy.{leaves}
+use Rattle.dg_index.specs.OlderNodes.{older}
+use Rattle.dg_index.specs.OpenedIndex.{Opening, events_in, opened_of}
 use Rattle.dg_machine.specs.declared.command.Command.TheVariants as command
 use Rattle.dg_machine.specs.declared.reply.Head.TheVariants as head
 use Rattle.dg_machine.specs.declared.reply.Refusal.{Refusal}
@@ -22,35 +21,44 @@ use Rattle.dg_machine.specs.Answer.{headed, is_refusal, plan_reply}
 use Rattle.dg_machine.specs.CommandGrammar.{plan_line_in}
 use Rattle.dg_machine.specs.MachineState.{MachineState, history_in}
 use Rattle.dg_machine.specs.Needs.{needs}
-use Rattle.dg_machine.specs.Planning.{IsPlanned, edges_in, nodes_in, point_for}
+use Rattle.dg_machine.specs.Planning.{IsPlanned, edges_in, nodes_in, point_for, record_edges_in}
 use Rattle.dg_plan.specs.declared.certificate.Verdict.{Verdict}
 use Rattle.dg_plan.specs.declared.edge.Edge.{Edge}
 use Rattle.dg_plan.specs.CertificateLines.{judged}
-use Rattle.dg_plan.specs.HistoryGraph.{ground_of_history}
+use Rattle.dg_plan.specs.HistoryGraph.{all_columns, ground_of_history, ground_of_records}
 use Rattle.dg_plan.specs.IndexGraph.{arcs_of, edges_of, nodes_of}
 use Rattle.dg_plan.specs.InstantPoint.{point}
 use Rattle.dg_plan.specs.Walks.{IsPlan, IsPotential, weight_of}
 use Rattle.dg_planner.specs.Bases.{ground_of}
-use Rattle.dg_planner.proofs.HistoryGraph.{graph_of_history}
+use Rattle.dg_planner.specs.HistoryLaws.{first_time_in}
+use Rattle.dg_planner.proofs.HistoryGraph.{edges_are as edges_of_records, graph_of_history}
+use Rattle.dg_planner.proofs.HistoryPoints.{points_of_history}
+use Rattle.dg_shape.specs.Points.{point_of}
+use Rattle.dg_session.proofs.HeldHistory.{count_is, kept_span_is, span_is}
 use Rattle.dg_session.proofs.OpenedHistory.{behind}
-use Rattle.dg_session.proofs.StandsFor.{IsOf, by_first, is_of, miss, one_image, stands_on}
+use Rattle.dg_session.proofs.StandsFor.{IsOf, by_first, is_of, miss, one_image, opening_of, stands_on}
 use Rattle.dg_session.specs.declared.halt.Halt.TheVariants as halt
 use Rattle.dg_session.specs.declared.stop.Stop.{Stop}
 use Rattle.dg_session.specs.declared.stop.Stop.TheVariants as stop
 use Rattle.dg_session.proofs.Steps.{Comes, lacking_denies, moved, moved_by, refused_denies}
 use Rattle.dg_session.specs.BatchLines.{first_refusal}
 use Rattle.dg_session.specs.Parts.{Parts}
-use Rattle.dg_retrieval.specs.KeptGraph.{holding, kept_edges, kept_nodes, shape_with}
+use Rattle.dg_retrieval.specs.KeptGraph.{holding, kept_edges, kept_nodes, record_edges, shape_with}
+use Rattle.dg_session.specs.HeldIndex.{catalogue_of, point_over, span_held}
 use Rattle.dg_session.specs.Plans.{IsPlanReply}
+use Rattle.dg_session.specs.Reads.{older_for}
 use Rattle.dg_session.specs.Session.{Accepts, Denies, StandsFor, refusals_by, refused_by, retrieval_needs}
 
 -- ---- what is refused
 
+pub inside_there : (p : Parts) (t : ℕ) (o : Opening) → p.index ≡ Some o → in_range (span_held (Some o)) t ≡ true → in_range (span_held p.index) t ≡ true
+inside_there p t o there inside = ap (λ i. in_range (span_held i) t) there ∙ inside
+
 -- where there is an index and the instant is in its history, nothing is
-pub free_at : (p : Parts) (t : ℕ) (o : Opening) → p.index ≡ Some o → in_range (span_of p.events) t ≡ true → refused_by p 0 (retrieval_needs (t ∷ []) 0) ≡ None
+pub free_at : (p : Parts) (t : ℕ) (o : Opening) → p.index ≡ Some o → in_range (span_held (Some o)) t ≡ true → refused_by p 0 (retrieval_needs (t ∷ []) 0) ≡ None
 free_at p t o there inside =
     miss (not (is_some p.index)) refusal.NoIndex _ (ap (λ i. not (is_some i)) there)
-    ∙ miss (not (in_range (span_of p.events) t) || false) (refusal.OutOfRange (span_of p.events)) [] (ap (λ b. not b || false) inside)
+    ∙ miss (not (in_range (span_held p.index) t) || false) (refusal.OutOfRange (span_held p.index)) [] (ap (λ b. not b || false) (inside_there p t o there inside))
 
 -- a certificate is refused by the lines that were read, or as a plan is
 pub certificate_refused : (p : Parts) (t : ℕ) (cols : Columns) (count read : ℕ) → refused_by p read (needs (command.Certify t cols count)) ≡ first_refusal read count (refused_by p 0 (retrieval_needs (t ∷ []) 0))
@@ -77,57 +85,82 @@ module _ (p : Parts) (o : Opening) (image : List ℕ) (m : MachineState) (there 
   of_z : IsOf p o image m z
   of_z = (is_of p o image m there s).1
 
-  pub params_are : o.params ≡ z.params
+  params_are : o.params ≡ z.params
   params_are = ap (λ (x : Opening). x.params) of_z.opened ∙ (behind z of_z.stands.legal).params
 
   records_are : o.records ≡ (opened_of z).index.records
   records_are = ap (λ (x : Opening). x.records) of_z.opened
 
-  pub edges_are : (cols : Columns) → kept_edges o (length p.events) cols ≡ edges_in m cols
+  pub many_are : events_in o.batches ≡ length (events_of z)
+  many_are = ap (λ (x : Opening). events_in x.batches) of_z.opened ∙ count_is z of_z.stands.legal
+
+  pub span_there : span_held (Some o) ≡ span_of (events_of z)
+  span_there = ap (λ (x : Opening). span_held (Some x)) of_z.opened ∙ span_is z of_z.stands.legal
+
+  pub edges_are : (cols : Columns) → kept_edges o (events_in o.batches) cols ≡ edges_in m cols
   edges_are cols =
-      (λ i. edges_of (ground_of (shape_with (params_are i) (length (of_z.events i))) (holding (records_are i)) cols [] (nat_lt 0 (length (of_z.events i)))))
+      (λ i. edges_of (ground_of (shape_with (params_are i) (many_are i)) (holding (records_are i)) cols [] (nat_lt 0 (many_are i))))
       ∙ (graph_of_history z of_z.stands.legal (holding (opened_of z).index.records) refl cols).0
       ∙ sym (ap (λ (i : Option History). edges_of (ground_of_history (history_in i) cols)) of_z.index)
 
-  pub nodes_are : (cols : Columns) → kept_nodes o (length p.events) cols ≡ nodes_in m cols
+  pub nodes_are : (cols : Columns) → kept_nodes o (events_in o.batches) cols ≡ nodes_in m cols
   nodes_are cols =
-      (λ i. nodes_of (ground_of (shape_with (params_are i) (length (of_z.events i))) (holding (records_are i)) cols [] (nat_lt 0 (length (of_z.events i)))))
+      (λ i. nodes_of (ground_of (shape_with (params_are i) (many_are i)) (holding (records_are i)) cols [] (nat_lt 0 (many_are i))))
       ∙ (graph_of_history z of_z.stands.legal (holding (opened_of z).index.records) refl cols).1
       ∙ sym (ap (λ (i : Option History). nodes_of (ground_of_history (history_in i) cols)) of_z.index)
 
-  pub point_is : (t : ℕ) → point o.params p.events t ≡ point_for m t
-  point_is t =
-      (λ i. point (params_are i) (of_z.events i) t)
-      ∙ sym (ap (λ (i : Option History). point (history_in i).params (events_of (history_in i)) t) of_z.index)
+  -- the same of the records alone
+  pub records_edges_are : record_edges o ≡ record_edges_in m all_columns
+  records_edges_are =
+      (λ i. edges_of (ground_of (shape_with (params_are i) (many_are i)) (holding (records_are i)) all_columns [] false))
+      ∙ edges_of_records z of_z.stands.legal (holding (opened_of z).index.records) refl all_columns [] false
+      ∙ sym (ap (λ (i : Option History). edges_of (ground_of_records (history_in i) all_columns)) of_z.index)
+
+  -- the older children of the interior nodes that a batch of so many lines completes
+  pub older_are : (count : ℕ) → older_children o count ≡ older_for m count
+  older_are count =
+      (λ i. older (params_are i).k (leaves (params_are i) (many_are i)) (leaves (params_are i) (many_are i + count)))
+      ∙ sym (ap (λ (i : Option History). older (history_in i).params.k (leaves (history_in i).params (length (events_of (history_in i)))) (leaves (history_in i).params (length (events_of (history_in i)) + count))) of_z.index)
+
+  -- of an instant of the history
+  pub point_here : (t : ℕ) → in_range (span_held (Some o)) t ≡ true → point_over o p.recent t ≡ point z.params (events_of z) t
+  point_here t inside =
+      let law = (points_of_history z of_z.stands.legal (catalogue_of (opening_of z)) refl).1 (kept_span_is z of_z.stands.legal) t (ap (λ ends. in_range ends t) (sym span_there) ∙ inside) in
+      (λ i. unwrap_or (point_of (catalogue_of (of_z.opened i)) t (first_time_in (of_z.recent i))) Root) ∙ ap (λ (x : Option NodeId). unwrap_or x Root) law
+
+  pub point_is : (t : ℕ) → in_range (span_held (Some o)) t ≡ true → point_over o p.recent t ≡ point_for m t
+  point_is t inside =
+      point_here t inside ∙ sym (ap (λ (i : Option History). point (history_in i).params (events_of (history_in i)) t) of_z.index)
 
   -- what is planned over the index is planned for the machine
-  pub is_planned : (t : ℕ) (cols : Columns) (reply : Reply) (r : IsPlanReply o p.events t cols reply) → IsPlanned m (command.Plan t cols) r.plan
-  is_planned t cols reply r = (
+  pub is_planned : (t : ℕ) (cols : Columns) (reply : Reply) → in_range (span_held (Some o)) t ≡ true → (r : IsPlanReply o p.recent t cols reply) → IsPlanned m (command.Plan t cols) r.plan
+  is_planned t cols reply inside r = (
     subst (λ (es : List Edge). IsPlan (arcs_of es) (Root ∷ []) (point_for m t) r.plan.steps) (edges_are cols)
-        (subst (λ (a : NodeId). IsPlan (arcs_of (kept_edges o (length p.events) cols)) (Root ∷ []) a r.plan.steps) (point_is t) r.least),
+        (subst (λ (a : NodeId). IsPlan (arcs_of (kept_edges o (events_in o.batches) cols)) (Root ∷ []) a r.plan.steps) (point_is t inside) r.least),
     subst (λ (ns : List NodeId). AllZip (IsPotential (arcs_of (edges_in m cols)) (Root ∷ []) (weight_of (arcs_of (edges_in m cols)) r.plan.steps)) ns r.plan.potentials) (nodes_are cols)
-        (subst (λ (es : List Edge). AllZip (IsPotential (arcs_of es) (Root ∷ []) (weight_of (arcs_of es) r.plan.steps)) (kept_nodes o (length p.events) cols) r.plan.potentials) (edges_are cols) r.certified),
+        (subst (λ (es : List Edge). AllZip (IsPotential (arcs_of es) (Root ∷ []) (weight_of (arcs_of es) r.plan.steps)) (kept_nodes o (events_in o.batches) cols) r.plan.potentials) (edges_are cols) r.certified),
   )
 
-  pub plan_due : (t : ℕ) (cols : Columns) (reply : Reply) (r : IsPlanReply o p.events t cols reply)
+  pub plan_due : (t : ℕ) (cols : Columns) (reply : Reply) (r : IsPlanReply o p.recent t cols reply)
       → plan_reply (edges_in m cols) (nodes_in m cols) (weight_of (arcs_of (edges_in m cols)) r.plan.steps) r.plan.steps r.plan.potentials ≡ reply
   plan_due t cols reply r =
       sym (r.says ∙ (λ i. plan_reply (edges_are cols i) (nodes_are cols i) (weight_of (arcs_of (edges_are cols i)) r.plan.steps) r.plan.steps r.plan.potentials))
 
-  pub verdict_due : (t : ℕ) (cols : Columns) (got : List ScriptLine) → judged (kept_edges o (length p.events) cols) (kept_nodes o (length p.events) cols) (point o.params p.events t) (map plan_line_in got)
+  pub verdict_due : (t : ℕ) (cols : Columns) (got : List ScriptLine) → in_range (span_held (Some o)) t ≡ true
+      → judged (kept_edges o (events_in o.batches) cols) (kept_nodes o (events_in o.batches) cols) (point_over o p.recent t) (map plan_line_in got)
       ≡ judged (edges_in m cols) (nodes_in m cols) (point_for m t) (map plan_line_in got)
-  verdict_due t cols got = λ i. judged (edges_are cols i) (nodes_are cols i) (point_is t i) (map plan_line_in got)
+  verdict_due t cols got inside = λ i. judged (edges_are cols i) (nodes_are cols i) (point_is t inside i) (map plan_line_in got)
 
 -- ---- the answers
 
-pub plan_answers : (p : Parts) (t : ℕ) (cols : Columns) (image : Option (List ℕ)) (o : Opening) (reply : Reply) → p.index ≡ Some o → in_range (span_of p.events) t ≡ true → IsPlanReply o p.events t cols reply
+pub plan_answers : (p : Parts) (t : ℕ) (cols : Columns) (image : Option (List ℕ)) (o : Opening) (reply : Reply) → p.index ≡ Some o → in_range (span_held (Some o)) t ≡ true → IsPlanReply o p.recent t cols reply
     → Accepts (command.Plan t cols) [] p image p image reply
 plan_answers p t cols image o reply there inside r = record {
   moves =
       moved_by (command.Plan t cols) [] r.plan p p image image reply (free_at p t o there inside)
       (λ m x y a b s free. (
         m,
-        is_planned p o x m there s t cols reply r,
+        is_planned p o x m there s t cols reply inside r,
         (λ i. record { reply = plan_due p o x m there s t cols reply r i; state = m }),
         stands_on p p x y m refl (one_image image image x y refl a b) s,
       ));
@@ -138,15 +171,15 @@ plan_answers p t cols image o reply there inside r = record {
 }
 
 pub certificate_answers : (p : Parts) (t : ℕ) (cols : Columns) (count : ℕ) (got : List ScriptLine) (image : Option (List ℕ)) (o : Opening) (verdict : Verdict) (reply : Reply)
-    → p.index ≡ Some o → in_range (span_of p.events) t ≡ true → nat_lt (length got) count ≡ false
-    → verdict ≡ judged (kept_edges o (length p.events) cols) (kept_nodes o (length p.events) cols) (point o.params p.events t) (map plan_line_in got) → reply ≡ headed (head.Certified verdict)
+    → p.index ≡ Some o → in_range (span_held (Some o)) t ≡ true → nat_lt (length got) count ≡ false
+    → verdict ≡ judged (kept_edges o (events_in o.batches) cols) (kept_nodes o (events_in o.batches) cols) (point_over o p.recent t) (map plan_line_in got) → reply ≡ headed (head.Certified verdict)
     → Accepts (command.Certify t cols count) got p image p image reply
 certificate_answers p t cols count got image o verdict reply there inside enough is reply_is = record {
   moves =
       moved (command.Certify t cols count) got p p image image reply (λ m. refl) (enough_refused p t cols count (length got) enough ∙ free_at p t o there inside)
       (λ m x y a b s free. (
         m,
-        (λ i. record { reply = sym (reply_is ∙ ap (λ v. headed (head.Certified v)) (is ∙ verdict_due p o x m there s t cols got)) i; state = m }),
+        (λ i. record { reply = sym (reply_is ∙ ap (λ v. headed (head.Certified v)) (is ∙ verdict_due p o x m there s t cols got inside)) i; state = m }),
         stands_on p p x y m refl (one_image image image x y refl a b) s,
       ));
   accepted = ap (λ (x : Reply). is_refusal x.head) reply_is;
@@ -163,7 +196,7 @@ pub certificate_denied : (p : Parts) (t : ℕ) (cols : Columns) (count : ℕ) (g
 certificate_denied p t cols count got image r is = refused_denies (command.Certify t cols count) got p p image image r refl refl is
 
 pub certificate_lacks : (p : Parts) (t : ℕ) (cols : Columns) (count : ℕ) (got : List ScriptLine) (image : Option (List ℕ)) (o : Opening)
-    → p.index ≡ Some o → in_range (span_of p.events) t ≡ true → nat_lt (length got) count ≡ false
+    → p.index ≡ Some o → in_range (span_held (Some o)) t ≡ true → nat_lt (length got) count ≡ false
     → Denies (command.Certify t cols count) got p image p image refusal.OutOfMemory
 certificate_lacks p t cols count got image o there inside enough =
     lacking_denies (command.Certify t cols count) got p p image image refl refl refl (enough_refused p t cols count (length got) enough ∙ free_at p t o there inside)

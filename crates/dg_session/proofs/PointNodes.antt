@@ -1,49 +1,111 @@
--- The point of an instant is a node of the graph.
-use Rattle.std.proofs.Common.{◌≡◌, ℕ, zero, suc, ◌+◌, ◌-◌, ◌*◌, ◌/◌, ◌%◌, ◌≤◌, ◌<◌, Bool, true, false, cond, if◌then◌else◌, List as ListOf, [], ◌∷◌, ◌++◌, length, map, refl, sym, ap, subst, ◌∙◌, arith, le-div_iff_mul-le, div-lt_iff_lt-mul}
-use Rattle.std.specs.Prelude.{◌==◌, ◌&&◌, filter, nat_le, nat_lt}
+-- The node from which the graph as of an instant is reached is a node of the graph of the index.
+use Rattle.std.proofs.Common.{◌≡◌, ℕ, zero, suc, ◌+◌, ◌-◌, ◌*◌, ◌/◌, ◌^◌, ◌≤◌, ◌<◌, Bool, true, false, cond, max, List as ListOf, [], ◌∷◌, ◌++◌, Option, Some, None, length, map, refl, sym, ap, subst, ◌∙◌, arith}
+use Rattle.std.specs.Prelude.{◌==◌, ◌&&◌, nat_le, unwrap_or}
 use Rattle.std.specs.List.{Contains}
-use Rattle.std.proofs.lemmas.Bool.{eqb-true, false≢true, ltb-true}
+use Rattle.std.specs.Map.{keys_of}
+use Rattle.std.proofs.lemmas.Bool.{false≢true}
 use Rattle.std.proofs.lemmas.List.Elements.{Contains-append_left, Contains-append_right}
-use Rattle.std.proofs.lemmas.Nat.{div-add-mod', mod-mul-add}
-use borrow.Author.Tests.{lt-ltb, ltb-false}
+use Rattle.std.proofs.lemmas.List.Sums.{sum_by-cons}
+use borrow.Author.Tests.{lt-ltb}
 use Rattle.dg_graph.specs.declared.element.Columns.{Columns}
 use Rattle.dg_graph.specs.declared.event.Event.{Event}
-use Rattle.dg_graph.specs.Replay.{events_until}
+use Rattle.dg_history.specs.declared.node.Key.{Key}
+use Rattle.dg_history.specs.declared.node.Key.TheVariants as key
 use Rattle.dg_history.specs.declared.node.NodeId.{NodeId}
 use Rattle.dg_history.specs.declared.node.NodeId.TheVariants.{Root, Now, Recent, Leaf, List}
-use Rattle.dg_history.specs.History.{in_range, span_of}
-use Rattle.dg_index.specs.Hierarchy.{numbers}
-use Rattle.dg_index.specs.OpenedIndex.{Opening}
+use Rattle.dg_history.specs.declared.params.Params.{Params}
+use Rattle.dg_history.specs.History.{are_parameters, in_range}
+use Rattle.dg_index.specs.declared.entry.BatchEntry.{BatchEntry}
+use Rattle.dg_index.specs.declared.entry.Ends.{Ends}
+use Rattle.dg_index.specs.declared.entry.Entry.{Entry}
+use Rattle.dg_index.specs.Hierarchy.{children, leaves, numbers}
+use Rattle.dg_index.specs.IndexKeys.{AreKept, keys_among}
+use Rattle.dg_index.specs.IndexRecords.{deltas_due, deltas_due_at, deltas_of, inner_due, lists_due}
+use Rattle.dg_index.specs.OpenedIndex.{Opening, events_in, span_in}
+use Rattle.dg_index.proofs.KeptColumns.{Each, each_append, each_flat, each_map, each_number}
+use Rattle.dg_index.proofs.OpenedHistories.{large_parameters}
+use Rattle.dg_index.proofs.StableRecords.{leaves_more}
 use Rattle.dg_plan.specs.IndexGraph.{inner_nodes}
-use Rattle.dg_plan.specs.InstantPoint.{point_at}
 use Rattle.dg_plan.proofs.ReachedNodes.{contains_mapped, contains_number}
+use Rattle.dg_planner.specs.HistoryLaws.{first_time_in}
 use Rattle.dg_retrieval.specs.KeptGraph.{kept_ground, kept_nodes}
+use Rattle.dg_shape.specs.Entries.{Holdings}
+use Rattle.dg_shape.specs.Held.{ends_of}
+use Rattle.dg_shape.specs.Points.{after_all_begun, after_begun, begun_by, end_by, has_begun, has_come, point_in, point_in_lists, point_of}
+use Rattle.dg_session.specs.HeldIndex.{catalogue_of, ends_pair, point_over, span_held}
 
--- ---- the events up to an instant
+-- what holds of each index, as far as it is needed here
+pub record IsSoundIndex (o : Opening) : Type 0 where
+  pub parameters : are_parameters o.params.l o.params.k ≡ true
+  pub kept : AreKept o
+  pub few : length o.batches ≤ events_in o.batches
 
-pub most_until : (events : ListOf Event) (t : ℕ) → length (events_until events t) ≤ length events
-most_until [] t = omega arith
-most_until (e ∷ events) t = by (nat_le e.time t) (most_until events t)
+-- ---- the lists among the records
+
+-- the number of a list is below this
+abbrev IsBelow : ℕ → Key → Type 0
+IsBelow m (key.List i) = i < m
+IsBelow m (key.Piece s) = Unit {0}
+IsBelow m (key.Top h) = Unit {0}
+IsBelow m (key.Down h c) = Unit {0}
+
+below_deltas : (most k m after : ℕ) → Each (IsBelow most) (deltas_due k m after)
+below_deltas most k m after = each_flat (IsBelow most) (deltas_due_at k m after) (numbers 1 after) (each_number (λ h. Each (IsBelow most) (deltas_due_at k m after h)) 1 after (λ h from to. at h))
   where
-    by : (b : Bool) → length (events_until events t) ≤ length events → length (cond b (e ∷ events_until events t) (events_until events t)) ≤ suc (length events)
-    by true h = omega arith
-    by false h = omega arith
+    top : (h : ℕ) (b : Bool) → Each (IsBelow most) (cond b (key.Top h ∷ []) [])
+    top h true = (tt, tt)
+    top h false = tt
 
--- one at least has come by an instant that is in the history
-pub some_until : (events : ListOf Event) (t : ℕ) → in_range (span_of events) t ≡ true → 0 < length (events_until events t)
-some_until [] t inside = absurd (false≢true inside)
-some_until (e ∷ events) t inside =
-    let first : nat_le e.time t ≡ true = both (nat_le e.time t) _ inside in
-    let is : length (events_until (e ∷ events) t) ≡ suc (length (events_until events t)) = ap (λ b. length (cond b (e ∷ events_until events t) (events_until events t))) first in
-    omega (arith, is)
-  where
-    both : (a b : Bool) → (a && b) ≡ true → a ≡ true
-    both true b h = refl
-    both false b h = absurd (false≢true h)
+    node : (h j : ℕ) → Each (IsBelow most) (deltas_of k h j)
+    node h j =
+        each_append (IsBelow most) (cond (j == 1) (key.Top h ∷ []) []) (map (λ c. key.Down h c) (children k j)) (top h (j == 1))
+        (each_map (IsBelow most) (λ c. key.Down h c) (children k j) (each_number (λ c. IsBelow most (key.Down h c)) ((j - 1) * k + 1) k (λ c from to. tt)))
+
+    at : (h : ℕ) → Each (IsBelow most) (deltas_due_at k m after h)
+    at h = each_flat (IsBelow most) (deltas_of k h) (inner_due k m after h) (each_number (λ j. Each (IsBelow most) (deltas_of k h j)) (m / k ^ h + 1) (after / k ^ h - m / k ^ h) (λ j low high. node h j))
+
+-- the lists of batches behind so many events
+below_among : (p : Params) → 0 < p.l → (most number count : ℕ) (batches : ListOf BatchEntry) → leaves p (count + events_in batches) ≤ most → Each (IsBelow most) (keys_among p number count batches)
+below_among p pos most number count [] le = tt
+below_among p pos most number count (b ∷ batches) le =
+    let m : ℕ = leaves p count in
+    let after : ℕ = leaves p (count + b.events) in
+    let lists : ListOf Key = lists_due p count (count + b.events) in
+    let up : m ≤ after = leaves_more p.l count b.events pos in
+    let one : events_in (b ∷ batches) ≡ b.events + events_in batches = sum_by-cons (λ (x : BatchEntry). x.events) b batches in
+    let whole : count + b.events + events_in batches ≡ count + events_in (b ∷ batches) = omega (arith, one) in
+    let within : leaves p (count + b.events + events_in batches) ≤ most = subst (λ n. leaves p n ≤ most) (sym whole) le in
+    let on : after ≤ leaves p (count + b.events + events_in batches) = leaves_more p.l (count + b.events) (events_in batches) pos in
+    each_append (IsBelow most) (lists ++ (deltas_due p.k m after ++ key.Piece number ∷ [])) (keys_among p (number + 1) (count + b.events) batches)
+    (each_append (IsBelow most) lists (deltas_due p.k m after ++ key.Piece number ∷ [])
+    (each_map (IsBelow most) (λ i. key.List i) (numbers m (after - m)) (each_number (λ i. IsBelow most (key.List i)) m (after - m) (λ i low high. omega (arith, low, high, up, on, within))))
+    (each_append (IsBelow most) (deltas_due p.k m after) (key.Piece number ∷ []) (below_deltas most p.k m after) (tt, tt)))
+    (below_among p pos most (number + 1) (count + b.events) batches within)
+
+-- those of an index
+below_records : (o : Opening) → 0 < o.params.l → AreKept o → Each (IsBelow (leaves o.params (events_in o.batches))) (keys_of o.records)
+below_records o pos kept =
+    subst (Each (IsBelow (leaves o.params (events_in o.batches)))) (sym kept)
+    (below_among o.params pos (leaves o.params (events_in o.batches)) 0 0 o.batches (let e : 0 + events_in o.batches ≡ events_in o.batches = omega arith in subst (λ n. leaves o.params n ≤ leaves o.params (events_in o.batches)) (sym e) (omega arith)))
+
+-- so no more lists have begun than there are
+if_begun : (b : Bool) (i m : ℕ) → i < m → cond b (i + 1) 0 ≤ m
+if_begun true i m lt = omega (arith, lt)
+if_begun false i m lt = omega arith
+
+one_begun : (c : Holdings) (t m : ℕ) (k : Key) → IsBelow m k → after_begun c t k ≤ m
+one_begun c t m (key.List i) lt = if_begun (has_begun c t i) i m lt
+one_begun c t m (key.Piece s) lt = omega arith
+one_begun c t m (key.Top h) lt = omega arith
+one_begun c t m (key.Down h child) lt = omega arith
+
+few_begun : (c : Holdings) (t m : ℕ) (keys : ListOf Key) → Each (IsBelow m) keys → after_all_begun c t keys ≤ m
+few_begun c t m [] all = omega arith
+few_begun c t m (k ∷ keys) all = omega (arith, one_begun c t m k all.0, few_begun c t m keys all.1)
 
 -- ---- the nodes
 
-module _ (o : Opening) (n : ℕ) (cols : Columns) (wide : 0 < o.params.l) (some : 0 < n) where
+module _ (o : Opening) (n : ℕ) (cols : Columns) (some : 0 < n) where
   abbrev leaves_here : ℕ
   leaves_here = n / o.params.l
 
@@ -55,6 +117,9 @@ module _ (o : Opening) (n : ℕ) (cols : Columns) (wide : 0 < o.params.l) (some 
 
   later : (x : NodeId) → Contains others x → Contains (kept_nodes o n cols) x
   later x c = subst (λ ns. Contains ns x) (sym nodes_are) (suc (suc (suc c.0)), (let h = c.1 in omega arith), c.2)
+
+  in_root : Contains (kept_nodes o n cols) Root
+  in_root = subst (λ ns. Contains ns Root) (sym nodes_are) (0, omega arith, refl)
 
   in_now : Contains (kept_nodes o n cols) Now
   in_now = subst (λ ns. Contains ns Now) (sym nodes_are) (1, omega arith, refl)
@@ -77,46 +142,83 @@ module _ (o : Opening) (n : ℕ) (cols : Columns) (wide : 0 < o.params.l) (some 
       (contains_mapped (λ i. List i) (numbers 0 leaves_here) i
       (subst (Contains (numbers 0 leaves_here)) (let h : 0 + i ≡ i = omega arith in h) (contains_number 0 leaves_here i within)))))
 
-  -- ---- the point
+  -- the node in the lists, where so many have begun
+  in_lists : (c : Holdings) (t begun : ℕ) → begun ≤ leaves_here → Contains (kept_nodes o n cols) (point_in_lists c t begun)
+  in_lists c t zero le = in_root
+  in_lists c t (suc i) le = by (end_by t (ends_of c i))
+    where
+      by : (b : Bool) → Contains (kept_nodes o n cols) (cond b (Leaf (i + 1)) (List i))
+      by true = in_leaf (i + 1) (omega arith) (omega (arith, le))
+      by false = in_list i (omega (arith, le))
 
-  module _ (count : ℕ) (begun : 0 < count) (within : count ≤ n) where
-    split : count / o.params.l * o.params.l + count % o.params.l ≡ count
-    split = div-add-mod' count o.params.l
+-- ---- the point
 
-    -- behind the last list of those events there is a leaf
-    at_leaf : count % o.params.l ≡ 0 → Contains (kept_nodes o n cols) (Leaf (count / o.params.l))
-    at_leaf none = in_leaf (count / o.params.l) (not_none (count / o.params.l) refl) ((le-div_iff_mul-le wide).1 (let h : count / o.params.l * o.params.l ≤ n = omega (arith, split) in h))
-      where
-        not_none : (q : ℕ) → count / o.params.l ≡ q → 1 ≤ count / o.params.l
-        not_none zero is = absurd (let z : count / o.params.l * o.params.l ≡ 0 * o.params.l = ap (λ x. x * o.params.l) is in omega (arith, z, split, none))
-        not_none (suc q) is = omega (arith, is)
+some_events : (batches : ListOf BatchEntry) (span : Ends) → span_in batches ≡ Some span → length batches ≤ events_in batches → 0 < events_in batches
+some_events [] span is few = cc
+some_events (b ∷ batches) span is few = omega (arith, few)
 
-    at_list : (count % o.params.l ≡ 0 → ⊥) → count ≤ leaves_here * o.params.l → Contains (kept_nodes o n cols) (List (count / o.params.l))
-    at_list some_left low =
-        in_list (count / o.params.l) ((div-lt_iff_lt-mul wide).1 below)
-      where
-        whole : count ≡ leaves_here * o.params.l → count % o.params.l ≡ 0
-        whole is = ap (λ x. x % o.params.l) (is ∙ (let h : leaves_here * o.params.l ≡ leaves_here * o.params.l + 0 = omega arith in h)) ∙ mod-mul-add leaves_here o.params.l 0 wide
+-- the point of an instant of the history is a node of the graph
+pub point_there : (o : Opening) (recent : ListOf Event) (t : ℕ) (cols : Columns) → IsSoundIndex o → in_range (span_held (Some o)) t ≡ true → Contains (kept_nodes o (events_in o.batches) cols) (point_over o recent t)
+point_there o recent t cols sound inside = by_span (span_in o.batches) refl inside
+  where
+    pos : 0 < o.params.l
+    pos = let large = large_parameters o.params.l o.params.k sound.parameters in omega (arith, large.0)
 
-        below : count < leaves_here * o.params.l
-        below = by (nat_lt count (leaves_here * o.params.l)) refl
-          where
-            by : (b : Bool) → nat_lt count (leaves_here * o.params.l) ≡ b → count < leaves_here * o.params.l
-            by true e = ltb-true count (leaves_here * o.params.l) e
-            by false e = absurd (some_left (whole (let h = ltb-false count (leaves_here * o.params.l) e in omega (arith, h, low))))
+    begun : begun_by (catalogue_of o) t ≤ leaves o.params (events_in o.batches)
+    begun = few_begun (catalogue_of o) t (leaves o.params (events_in o.batches)) (keys_of o.records) (below_records o pos sound.kept)
 
-    pub point_there : Contains (kept_nodes o n cols) (point_at o.params n count)
-    point_there = by_end (count == n)
-      where
-        by_list : (b : Bool) → nat_lt (leaves_here * o.params.l) count ≡ b → (count % o.params.l ≡ 0 → ⊥) → Contains (kept_nodes o n cols) (if b then Recent else List (count / o.params.l))
-        by_list true e some_left = in_recent
-        by_list false e some_left = at_list some_left (ltb-false (leaves_here * o.params.l) count e)
+    by_recent : 0 < events_in o.batches → (come : Bool) → Contains (kept_nodes o (events_in o.batches) cols) (cond come Recent (point_in_lists (catalogue_of o) t (begun_by (catalogue_of o) t)))
+    by_recent some true = in_recent o (events_in o.batches) cols some
+    by_recent some false = in_lists o (events_in o.batches) cols some (catalogue_of o) t (begun_by (catalogue_of o) t) begun
 
-        by_leaf : (b : Bool) → (count % o.params.l == 0) ≡ b
-            → Contains (kept_nodes o n cols) (if b then Leaf (count / o.params.l) else (if nat_lt (leaves_here * o.params.l) count then Recent else List (count / o.params.l)))
-        by_leaf true e = at_leaf (eqb-true (count % o.params.l) 0 e)
-        by_leaf false e = by_list (nat_lt (leaves_here * o.params.l) count) refl (λ h. false≢true (sym e ∙ ap (λ x. x == 0) h))
+    by_last : 0 < events_in o.batches → (last : Bool)
+        → Contains (kept_nodes o (events_in o.batches) cols) (cond last Now (cond (has_come t (first_time_in recent)) Recent (point_in_lists (catalogue_of o) t (begun_by (catalogue_of o) t))))
+    by_last some true = in_now o (events_in o.batches) cols some
+    by_last some false = by_recent some (has_come t (first_time_in recent))
 
-        by_end : (b : Bool) → Contains (kept_nodes o n cols) (if b then Now else (if count % o.params.l == 0 then Leaf (count / o.params.l) else (if nat_lt (leaves_here * o.params.l) count then Recent else List (count / o.params.l))))
-        by_end true = in_now
-        by_end false = by_leaf (count % o.params.l == 0) refl
+    by_within : (within : Bool) (found : NodeId) → within ≡ true → Contains (kept_nodes o (events_in o.batches) cols) found
+        → Contains (kept_nodes o (events_in o.batches) cols) (unwrap_or (cond within (Some found) None) Root)
+    by_within true found is there = there
+    by_within false found is there = absurd (false≢true is)
+
+    by_span : (span : Option Ends) → span_in o.batches ≡ span → in_range (ends_pair span) t ≡ true
+        → Contains (kept_nodes o (events_in o.batches) cols) (unwrap_or (point_in (catalogue_of o) span t (first_time_in recent)) Root)
+    by_span None is within = absurd (false≢true within)
+    by_span (Some ends) is within =
+        by_within (nat_le ends.first t && nat_le t ends.last) _ within (by_last (some_events o.batches ends is sound.few) (t == ends.last))
+
+-- ---- the point does not depend on the room of the catalogue
+
+same_begun : (records : ListOf (Key × Entry)) (span : Option Ends) (a b t : ℕ) (k : Key)
+    → after_begun (record { entries = records; span = span; spare = a }) t k ≡ after_begun (record { entries = records; span = span; spare = b }) t k
+same_begun records span a b t (key.List i) = refl
+same_begun records span a b t (key.Piece s) = refl
+same_begun records span a b t (key.Top h) = refl
+same_begun records span a b t (key.Down h c) = refl
+
+same_all_begun : (records : ListOf (Key × Entry)) (span : Option Ends) (a b t : ℕ) (keys : ListOf Key)
+    → after_all_begun (record { entries = records; span = span; spare = a }) t keys ≡ after_all_begun (record { entries = records; span = span; spare = b }) t keys
+same_all_begun records span a b t [] = refl
+same_all_begun records span a b t (k ∷ keys) = λ i. max (same_begun records span a b t k i) (same_all_begun records span a b t keys i)
+
+same_in_lists : (records : ListOf (Key × Entry)) (span : Option Ends) (a b t begun : ℕ)
+    → point_in_lists (record { entries = records; span = span; spare = a }) t begun ≡ point_in_lists (record { entries = records; span = span; spare = b }) t begun
+same_in_lists records span a b t zero = refl
+same_in_lists records span a b t (suc i) = refl
+
+same_point_in : (records : ListOf (Key × Entry)) (span : Option Ends) (a b t : ℕ) (recent : Option ℕ) (at : Option Ends)
+    → point_in (record { entries = records; span = span; spare = a }) at t recent ≡ point_in (record { entries = records; span = span; spare = b }) at t recent
+same_point_in records span a b t recent None = refl
+same_point_in records span a b t recent (Some ends) =
+    let same : point_in_lists (record { entries = records; span = span; spare = a }) t (begun_by (record { entries = records; span = span; spare = a }) t)
+    ≡ point_in_lists (record { entries = records; span = span; spare = b }) t (begun_by (record { entries = records; span = span; spare = b }) t) =
+    ap (point_in_lists (record { entries = records; span = span; spare = a }) t) (same_all_begun records span a b t (keys_of records))
+    ∙ same_in_lists records span a b t (begun_by (record { entries = records; span = span; spare = b }) t) in
+    ap (λ (x : NodeId). cond (nat_le ends.first t && nat_le t ends.last) (Some (cond (t == ends.last) Now (cond (has_come t recent) Recent x))) None) same
+
+-- a catalogue with the records and the times of the index gives the point
+pub point_is_over : (o : Opening) (c : Holdings) (recent : ListOf Event) (t : ℕ) (first : Option ℕ) → c.entries ≡ o.records → c.span ≡ span_in o.batches → first ≡ first_time_in recent
+    → point_of c t first ≡ point_of (catalogue_of o) t (first_time_in recent)
+point_is_over o c recent t first entries span first_is =
+    (λ i. let d : Holdings = record { entries = entries i; span = span i; spare = c.spare } in point_of d t (first_is i))
+    ∙ same_point_in o.records (span_in o.batches) c.spare 0 t (first_time_in recent) (span_in o.batches)

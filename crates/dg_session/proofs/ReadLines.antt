@@ -13,9 +13,10 @@ use Rattle.dg_history.specs.ChangeGrammar.{ChangeByText, change_by_text_in, name
 use Rattle.dg_graph.specs.Lines.{ScriptLine}
 use Rattle.dg_machine.specs.Script.{Follows}
 use Rattle.dg_session.proofs.NamesAfter.{names_both, changes_both}
-use Rattle.dg_session.specs.declared.batch_lines.Front.{Front}
-use Rattle.dg_session.specs.declared.batch_lines.Front.TheVariants.{Whole, Form, Unkept}
-use Rattle.dg_session.specs.BatchLines.{NamesGrow, IsFront, KeepsChange, lines, line_read}
+use Rattle.dg_append.specs.declared.front.Front.{Front}
+use Rattle.dg_append.specs.declared.front.Front.TheVariants.{Whole, Form, Unkept}
+use Rattle.dg_append.specs.Fronts.{IsFront, lines}
+use Rattle.dg_session.specs.BatchLines.{KeepsChange, NamesGrow, line_read}
 
 -- nothing in front changes nothing
 pub none_first : {A : Type 0} (told : Option (List A)) → told ≡ option_map (λ rest. [] ++ rest) told

@@ -1,11 +1,11 @@
 -- How plan lines are gathered, one at a time.
-use Rattle.std.proofs.Common.{◌≡◌, ℕ, ◌+◌, Bool, true, false, List, [], ◌∷◌, ◌++◌, Option, length, map, sym, ◌∙◌, ap, subst, arith, length-append}
+use Rattle.std.proofs.Common.{◌≡◌, ℕ, ◌+◌, Bool, true, List, [], ◌∷◌, ◌++◌, Option, length, map, sym, ◌∙◌, ap, arith, length-append}
 use Rattle.std.specs.Option.{option_map}
 use Rattle.std.proofs.lemmas.List.{map-append}
 use Rattle.dg_graph.specs.Lines.{ScriptLine}
 use Rattle.dg_io.specs.declared.lines.Line.{Line}
 use Rattle.dg_io.specs.declared.lines.Line.TheVariants.{End}
-use Rattle.dg_io.specs.LinesState.{Comes, LineComes}
+use Rattle.dg_io.specs.LinesState.{LineComes}
 use Rattle.dg_machine.specs.CommandGrammar.{plan_line_in}
 use Rattle.dg_plan.specs.declared.certificate.PlanLine.{PlanLine}
 use Rattle.dg_session.proofs.ReadLines.{both_first, line_comes}

@@ -1,5 +1,5 @@
 -- Which commands read the file, and which reply says that a read failed.
-use Rattle.std.proofs.Common.{◌≡◌, ℕ, Bool, true, false, List, [], Option, Some, None, Result, Ok, Err, refl, sym, ◌∙◌, ap, subst}
+use Rattle.std.proofs.Common.{◌≡◌, ℕ, true, false, List, Option, Some, Result, Ok, Err, refl, sym, ◌∙◌, subst}
 use Rattle.std.specs.Prelude.{IfSome}
 use Rattle.std.proofs.lemmas.Bool.{false≢true}
 use Rattle.dg_graph.specs.Lines.{ScriptLine}
@@ -9,28 +9,29 @@ use Rattle.dg_machine.specs.declared.reply.Head.TheVariants as head
 use Rattle.dg_machine.specs.declared.reply.Refusal.{Refusal}
 use Rattle.dg_machine.specs.declared.reply.Refusal.TheVariants as refusal
 use Rattle.dg_machine.specs.declared.reply.Reply.{Reply}
-use Rattle.dg_machine.specs.Answer.{headed, is_refusal}
+use Rattle.dg_machine.specs.Answer.{is_refusal}
 use Rattle.dg_machine.specs.Needs.{needs}
 use Rattle.dg_machine.specs.Run.{is_store_read}
-use Rattle.dg_session.proofs.Retrievals.{every_some}
+use Rattle.dg_session.proofs.Retrievals.{every_some, if_some}
 use Rattle.dg_session.specs.declared.halt.Halt.{Halt}
 use Rattle.dg_session.specs.declared.halt.Halt.TheVariants as halt
 use Rattle.dg_session.specs.Parts.{Parts}
-use Rattle.dg_session.specs.Reads.{Reads, ReadsIn, head_of, is_quiet}
+use Rattle.dg_session.specs.Reads.{Reads, ReadsIn, head_of, is_early, is_quiet}
 use Rattle.dg_session.specs.Session.{Accepts, ComesTo, Denies}
 
 -- ---- bytes
 
--- of a command that writes, and reads no records, nothing is said
-pub reads_freely : (c : Command) (p : Parts) (image : Option (List ℕ)) (r : Result Reply Halt) (before after : ℕ) → (needs c).reads ≡ false → is_quiet c ≡ false → ReadsIn c p image r before after
-reads_freely c p image r before after no_reads writes =
-    every_some (head_of r) (λ h. Reads c p image h before after)
-    (λ h. record { told = λ e. absurd (false≢true (sym no_reads ∙ e)); nothing = λ e. absurd (false≢true (sym writes ∙ e)) })
+-- one that reads no records and is not refused early may read what it likes, where it writes
+pub reads_freely : (c : Command) (p : Parts) (image : Option (List ℕ)) (r : Result Reply Halt) (before after : ℕ) → (needs c).reads ≡ false → is_quiet c ≡ false
+    → IfSome (head_of r) (λ h. is_early h ≡ true → after ≡ before) → ReadsIn c p image r before after
+reads_freely c p image r before after no_reads writes early =
+    if_some (head_of r) (λ h. is_early h ≡ true → after ≡ before) (λ h. Reads c p image h before after)
+    (λ h nothing. record { told = λ e. absurd (false≢true (sym no_reads ∙ e)); early = nothing; nothing = λ e. absurd (false≢true (sym writes ∙ e)) }) early
 
 -- one that reads no records has read nothing
 pub reads_nothing : (c : Command) (p : Parts) (image : Option (List ℕ)) (r : Result Reply Halt) (count : ℕ) → (needs c).reads ≡ false → ReadsIn c p image r count count
 reads_nothing c p image r count no_reads =
-    every_some (head_of r) (λ h. Reads c p image h count count) (λ h. record { told = λ e. absurd (false≢true (sym no_reads ∙ e)); nothing = λ e. refl })
+    every_some (head_of r) (λ h. Reads c p image h count count) (λ h. record { told = λ e. absurd (false≢true (sym no_reads ∙ e)); early = λ e. refl; nothing = λ e. refl })
 
 -- the reply, where there is one
 pub reads_in_reply : (c : Command) (p : Parts) (image : Option (List ℕ)) (r : Result Reply Halt) (h : Head) (before after : ℕ) → head_of r ≡ Some h → ReadsIn c p image r before after → Reads c p image h before after

@@ -1,5 +1,5 @@
 -- What a retrieval gives of the state that a session stands for, and how its answer is a step of the machine.
-use Rattle.std.proofs.Common.{◌≡◌, ◌⊎◌, ⊎_elim, ℕ, suc, ◌+◌, ◌≤◌, ◌<◌, Bool, true, false, not, List, [], ◌∷◌, ◌++◌, Option, Some, None, Err, length, map, refl, sym, ◌∙◌, ap, subst, arith, rules, nat_lt, append_assoc}
+use Rattle.std.proofs.Common.{◌≡◌, ⊎_elim, ℕ, suc, ◌+◌, ◌≤◌, ◌<◌, Bool, true, false, not, List, [], ◌∷◌, ◌++◌, Option, Some, None, Err, length, map, refl, sym, ◌∙◌, ap, subst, arith, nat_lt, append_assoc}
 use Rattle.std.specs.Prelude.{IfErr, IfOk, IfSome, Result, Ok, is_some, ◌||◌, ◌&&◌}
 use Rattle.std.specs.List.{All, Contains, list_any}
 use Rattle.std.proofs.lemmas.Bool.{false≢true}
@@ -12,13 +12,11 @@ use Rattle.dg_graph.specs.declared.element.Columns.{Columns}
 use Rattle.dg_graph.specs.declared.element.Element.{Element}
 use Rattle.dg_graph.specs.declared.event.Event.{Event}
 use Rattle.dg_graph.specs.Lines.{ScriptLine}
-use Rattle.dg_graph.specs.Replay.{replay}
 use Rattle.dg_history.specs.declared.node.Key.{Key}
 use Rattle.dg_history.specs.declared.node.NodeId.{NodeId}
 use Rattle.dg_history.specs.declared.node.NodeId.TheVariants.{Root}
-use Rattle.dg_history.specs.History.{History, events_of, in_range, names_of, span_of}
-use Rattle.dg_index.specs.IndexRecords.{recent_of}
-use Rattle.dg_index.specs.OpenedIndex.{Opening}
+use Rattle.dg_history.specs.History.{History, events_of, in_range, span_of}
+use Rattle.dg_index.specs.OpenedIndex.{Opening, events_in}
 use Rattle.dg_machine.specs.declared.command.Command.{Command}
 use Rattle.dg_machine.specs.declared.limits.TheConstants.{LIVE_HANDLES_MAX}
 use Rattle.dg_machine.specs.declared.reply.Head.{Head}
@@ -28,7 +26,7 @@ use Rattle.dg_machine.specs.declared.reply.Refusal.TheVariants as refusal
 use Rattle.dg_machine.specs.declared.reply.Reply.{Reply}
 use Rattle.dg_machine.specs.declared.stands.Stands.{Stands}
 use Rattle.dg_machine.specs.declared.stands.Stands.TheVariants.{Overlay}
-use Rattle.dg_machine.specs.Answer.{Answered, IsPlannedBy, accepted, answer, is_refusal, overlays, weight_told, with_handle, with_handles}
+use Rattle.dg_machine.specs.Answer.{Answered, IsPlannedBy, accepted, is_refusal, overlays, weight_told, with_handle, with_handles}
 use Rattle.dg_machine.specs.MachineState.{MachineState, elements, history_in}
 use Rattle.dg_machine.specs.Needs.{earliest, needs, refused, when}
 use Rattle.dg_machine.specs.Planning.{IsPlanned, Planned, edges_in, point_for, points_for}
@@ -36,62 +34,60 @@ use Rattle.dg_plan.specs.declared.edge.Edge.{Edge}
 use Rattle.dg_plan.specs.IndexGraph.{arcs_of}
 use Rattle.dg_plan.specs.InstantPoint.{point}
 use Rattle.dg_plan.specs.Walks.{AreSingles}
-use Rattle.dg_graph.specs.Replay.{events_until}
 use Rattle.dg_file.specs.Index.{IndexState}
 use Rattle.dg_retrieval.specs.declared.retrieval.Retrieved.{Retrieved}
 use Rattle.dg_retrieval.specs.declared.fault.RetrievalFault.{RetrievalFault}
 use Rattle.dg_retrieval.specs.declared.fault.RetrievalFault.TheVariants as retrieval_fault
 use Rattle.dg_retrieval.specs.KeptGraph.{kept_edges, kept_nodes}
 use Rattle.dg_retrieval.specs.Retrieval.{ArePoints, IsNoDamage, IsOver, IsTreeOf, TakesAtMostTree, graphs_at}
-use Rattle.dg_session.proofs.PlanStep.{edges_are, params_are, point_is}
-use Rattle.dg_session.proofs.PointNodes.{most_until, point_there, some_until}
-use Rattle.dg_session.proofs.StandsFor.{events_there, handle_taken, miss, is_of, last_passes, not_false, one_image, one_told, passes, refused_is}
+use Rattle.dg_session.proofs.PlanStep.{edges_are, point_here, point_is}
+use Rattle.dg_session.proofs.PointNodes.{IsSoundIndex, point_there}
+use Rattle.dg_session.proofs.StandsFor.{events_there, handle_taken, instants_are, miss, is_of, last_passes, not_false, one_told, passes, refused_is}
 use Rattle.dg_session.proofs.Steps.{accepted_is, accepted_steps, failing_denies, lacking_denies}
-use Rattle.dg_session.specs.declared.halt.Halt.TheVariants as halt
 use Rattle.dg_session.specs.Halt.{retrieval_halt}
 use Rattle.dg_session.specs.contracts.session.Session.{the_view}
 use Rattle.dg_session.specs.declared.session.Session.TheInside.{Inside}
-use Rattle.dg_session.specs.SessionStart.{index_opening}
+use Rattle.dg_session.specs.HeldIndex.{point_over, points_over, span_held}
 use Rattle.dg_session.specs.Parts.{Parts}
-use Rattle.dg_session.specs.declared.stop.Stop.{Stop}
-use Rattle.dg_session.specs.Reads.{IsRetrieved, Reads, ReadsAsTold, ReadsIn, new_entries, points_over, with_entries}
-use Rattle.dg_session.specs.Session.{Accepts, ComesTo, IsHeldBy, Moves, StandsFor, WhereBothTold, is_reached, refused_by, retrieval_needs}
+use Rattle.dg_session.specs.Reads.{IsRetrieved, Reads, ReadsAsTold, ReadsBy, ReadsIn, is_early, new_entries, with_entries}
+use Rattle.dg_start.specs.StoredHistory.{IsHeldBy, index_opening}
+use Rattle.dg_session.specs.Session.{Accepts, ComesTo, Moves, StandsFor, WhereBothTold, is_reached, refused_by, retrieval_needs}
 
 -- ---- what is refused
 
--- the instant is not in the history of these events
-abbrev pub is_out : List Event → ℕ → Bool
-is_out events t = not (in_range (span_of events) t)
+-- the instant does not lie between these
+abbrev pub is_out : Option (ℕ × ℕ) → ℕ → Bool
+is_out span t = not (in_range span t)
 
 -- what a retrieval that is not refused finds: an index, instants that are in its history, and room for the handles
 pub retrieval_free : (p : Parts) (times : List ℕ) → 1 ≤ length times → refused_by p 0 (retrieval_needs times (length times)) ≡ None
-    → (is_some p.index ≡ true) × (list_any (is_out p.events) times ≡ false) × (length p.table + length times ≤ LIVE_HANDLES_MAX)
+    → (is_some p.index ≡ true) × (list_any (is_out (span_held p.index)) times ≡ false) × (length p.table + length times ≤ LIVE_HANDLES_MAX)
 retrieval_free p times some none =
     let a = passes (not (is_some p.index)) refusal.NoIndex _ none in
-    let b = passes (list_any (is_out p.events) times) (refusal.OutOfRange (span_of p.events)) _ a.1 in
+    let b = passes (list_any (is_out (span_held p.index)) times) (refusal.OutOfRange (span_held p.index)) _ a.1 in
     let c = last_passes (nat_lt 0 (length times) && nat_lt LIVE_HANDLES_MAX (length p.table + length times)) (refusal.PoolFull (length p.table) (length times)) b.1 in
     let d : nat_lt LIVE_HANDLES_MAX (length p.table + length times) ≡ false = ap (λ x. x && nat_lt LIVE_HANDLES_MAX (length p.table + length times)) (sym (lt-ltb 0 (length times) some)) ∙ c in
     (not_false (is_some p.index) a.0, b.0, omega (arith, ltb-false LIVE_HANDLES_MAX (length p.table + length times) d))
 
 -- the first that holds of them is that the pool is full
-pub pool_refused : (p : Parts) (times : List ℕ) (live : ℕ) → is_some p.index ≡ true → list_any (is_out p.events) times ≡ false → live ≡ length p.table → live ≤ LIVE_HANDLES_MAX
+pub pool_refused : (p : Parts) (times : List ℕ) (live : ℕ) → is_some p.index ≡ true → list_any (is_out (span_held p.index)) times ≡ false → live ≡ length p.table → live ≤ LIVE_HANDLES_MAX
     → LIVE_HANDLES_MAX < live + length times → refused_by p 0 (retrieval_needs times (length times)) ≡ Some (refusal.PoolFull live (length times))
 pool_refused p times live there out live_is most full =
     let n : ℕ = length times in
     let many : nat_lt LIVE_HANDLES_MAX (length p.table + n) ≡ true = lt-ltb LIVE_HANDLES_MAX (length p.table + n) (omega (arith, live_is, full)) in
     let some : nat_lt 0 n ≡ true = lt-ltb 0 n (omega (arith, most, full)) in
     miss (not (is_some p.index)) refusal.NoIndex _ (ap (λ b. not b) there)
-    ∙ miss (list_any (is_out p.events) times) (refusal.OutOfRange (span_of p.events)) _ out
+    ∙ miss (list_any (is_out (span_held p.index)) times) (refusal.OutOfRange (span_held p.index)) _ out
     ∙ ap (λ b. earliest (when (b && nat_lt LIVE_HANDLES_MAX (length p.table + n)) (refusal.PoolFull (length p.table) n))) some
     ∙ ap (λ b. earliest (when b (refusal.PoolFull (length p.table) n))) many ∙ ap (λ k. Some (refusal.PoolFull k n)) (sym live_is)
 
 -- none holds
-pub nothing_refused : (p : Parts) (times : List ℕ) → is_some p.index ≡ true → list_any (is_out p.events) times ≡ false → length p.table + length times ≤ LIVE_HANDLES_MAX
+pub nothing_refused : (p : Parts) (times : List ℕ) → is_some p.index ≡ true → list_any (is_out (span_held p.index)) times ≡ false → length p.table + length times ≤ LIVE_HANDLES_MAX
     → refused_by p 0 (retrieval_needs times (length times)) ≡ None
 nothing_refused p times there out room =
     let n : ℕ = length times in
     miss (not (is_some p.index)) refusal.NoIndex _ (ap (λ b. not b) there)
-    ∙ miss (list_any (is_out p.events) times) (refusal.OutOfRange (span_of p.events)) _ out
+    ∙ miss (list_any (is_out (span_held p.index)) times) (refusal.OutOfRange (span_held p.index)) _ out
     ∙ ap (λ b. earliest (when (nat_lt 0 n && b) (refusal.PoolFull (length p.table) n))) (le-ltb LIVE_HANDLES_MAX (length p.table + n) room) ∙ never (nat_lt 0 n)
   where
     never : (b : Bool) → earliest (when (b && false) (refusal.PoolFull (length p.table) (length times))) ≡ None
@@ -118,15 +114,24 @@ each_in out P f [] each h = All-nil P
 each_in out P f (t ∷ times) each h =
     All-cons P (f t) (map f times) (each t (or_left (out t) (list_any out times) h)) (each_in out P f times each (or_right (out t) (list_any out times) h))
 
+-- and what is equal at each of them is equal
+each_same : {A : Type 0} (out : ℕ → Bool) (f g : ℕ → A) (times : List ℕ) → ((t : ℕ) → out t ≡ false → f t ≡ g t) → list_any out times ≡ false → map f times ≡ map g times
+each_same out f g [] each h = refl
+each_same out f g (t ∷ times) each h =
+    λ i. each t (or_left (out t) (list_any out times) h) i ∷ each_same out f g times each (or_right (out t) (list_any out times) h) i
+
 -- the points of instants that are in the history are nodes of the graph
-pub points_there : (o : Opening) (events : List Event) (cols : Columns) (times : List ℕ) → 0 < o.params.l → list_any (is_out events) times ≡ false
-    → All (Contains (kept_nodes o (length events) cols)) (points_over o events times)
-points_there o events cols times wide =
-    each_in (is_out events) (Contains (kept_nodes o (length events) cols)) (λ t. point o.params events t) times
-    (λ t h.
-    let some = some_until events t (not_false (in_range (span_of events) t) h) in
-    let most = most_until events t in
-    point_there o (length events) cols wide (omega (arith, some, most)) (length (events_until events t)) some most)
+pub points_there : (o : Opening) (recent : List Event) (cols : Columns) (times : List ℕ) → IsSoundIndex o → list_any (is_out (span_held (Some o))) times ≡ false
+    → All (Contains (kept_nodes o (events_in o.batches) cols)) (points_over o recent times)
+points_there o recent cols times sound =
+    each_in (is_out (span_held (Some o))) (Contains (kept_nodes o (events_in o.batches) cols)) (point_over o recent) times
+    (λ t h. point_there o recent t cols sound (not_false (in_range (span_held (Some o)) t) h))
+
+-- a retrieval that is not refused is of instants that are between those that the index tells
+pub instants_inside : (p : Parts) (o : Opening) (times : List ℕ) → p.index ≡ Some o → 1 ≤ length times → refused_by p 0 (retrieval_needs times (length times)) ≡ None
+    → list_any (is_out (span_held (Some o))) times ≡ false
+instants_inside p o times there some none =
+    ap (λ (i : Option Opening). list_any (is_out (span_held i)) times) (sym there) ∙ (retrieval_free p times some none).1
 
 -- ---- the state that the session stands for
 
@@ -134,21 +139,25 @@ module _ (p : Parts) (o : Opening) (image : List ℕ) (m : MachineState) (there 
   abbrev pub z_of : History
   z_of = (is_of p o image m there s).0
 
-  points_are : (times : List ℕ) → points_over o p.events times ≡ points_for m times
-  points_are times = λ i. map (λ t. point_is p o image m there s t i) times
+  points_are : (times : List ℕ) → list_any (is_out (span_held (Some o))) times ≡ false → points_over o p.recent times ≡ points_for m times
+  points_are times =
+      each_same (is_out (span_held (Some o))) (point_over o p.recent) (point_for m) times
+      (λ t h. point_is p o image m there s t (not_false (in_range (span_held (Some o)) t) h))
 
   -- the image stands for its history, and what is in memory is of that history
-  pub is_over : (graph : List Element) → graph ≡ replay p.events → IsOver z_of image o (length p.names) graph (recent_of o.params p.events)
-  is_over graph is = record {
+  pub is_over : IsOver z_of image o (length p.names) p.graph p.recent
+  is_over = record {
     stands = (is_of p o image m there s).1.stands;
     opened = (is_of p o image m there s).1.opened;
     names = ap length (is_of p o image m there s).1.names;
-    now = is ∙ ap replay (is_of p o image m there s).1.events;
-    recent = λ i. recent_of (params_are p o image m there s i) ((is_of p o image m there s).1.events i);
+    now = (is_of p o image m there s).1.graph;
+    recent = (is_of p o image m there s).1.recent;
   }
 
-  pub at_points : (times : List ℕ) → ArePoints z_of (points_over o p.events times) times
-  at_points times = λ i. map (λ t. point (params_are p o image m there s i) ((is_of p o image m there s).1.events i) t) times
+  pub at_points : (times : List ℕ) → list_any (is_out (span_held (Some o))) times ≡ false → ArePoints z_of (points_over o p.recent times) times
+  at_points times =
+      each_same (is_out (span_held (Some o))) (point_over o p.recent) (point z_of.params (events_of z_of)) times
+      (λ t h. point_here p o image m there s t (not_false (in_range (span_held (Some o)) t) h))
 
   mapped : (times : List ℕ) (cols : Columns) → graphs_at z_of times cols ≡ map (elements z_of) (overlays cols times)
   mapped [] cols = refl
@@ -159,15 +168,15 @@ module _ (p : Parts) (o : Opening) (image : List ℕ) (m : MachineState) (there 
   listed times cols =
       mapped times cols ∙ sym (ap (λ (i : Option History). map (elements (history_in i)) (overlays cols times)) (is_of p o image m there s).1.index)
 
-  pub is_retrieved : (times : List ℕ) (cols : Columns) (weight : ℕ) (singles : List ℕ) (graphs : List (List Element))
-      → IsTreeOf (kept_edges o (length p.events) cols) (points_over o p.events times) weight
-      → AreSingles (arcs_of (kept_edges o (length p.events) cols)) (Root ∷ []) (points_over o p.events times) singles
+  pub is_retrieved : (times : List ℕ) (cols : Columns) (weight : ℕ) (singles : List ℕ) (graphs : List (List Element)) → list_any (is_out (span_held (Some o))) times ≡ false
+      → IsTreeOf (kept_edges o (events_in o.batches) cols) (points_over o p.recent times) weight
+      → AreSingles (arcs_of (kept_edges o (events_in o.batches) cols)) (Root ∷ []) (points_over o p.recent times) singles
       → graphs ≡ graphs_at z_of times cols → IsRetrieved m times cols weight singles graphs
-  is_retrieved times cols weight singles graphs tree plans graphs_are = record {
-    tree = subst (λ (ns : List NodeId). IsTreeOf (edges_in m cols) ns weight) (points_are times) (subst (λ (es : List Edge). IsTreeOf es (points_over o p.events times) weight) (edges_are p o image m there s cols) tree);
+  is_retrieved times cols weight singles graphs inside tree plans graphs_are = record {
+    tree = subst (λ (ns : List NodeId). IsTreeOf (edges_in m cols) ns weight) (points_are times inside) (subst (λ (es : List Edge). IsTreeOf es (points_over o p.recent times) weight) (edges_are p o image m there s cols) tree);
     single_plans =
-        subst (λ (ns : List NodeId). AreSingles (arcs_of (edges_in m cols)) (Root ∷ []) ns singles) (points_are times)
-        (subst (λ (es : List Edge). AreSingles (arcs_of es) (Root ∷ []) (points_over o p.events times) singles) (edges_are p o image m there s cols) plans);
+        subst (λ (ns : List NodeId). AreSingles (arcs_of (edges_in m cols)) (Root ∷ []) ns singles) (points_are times inside)
+        (subst (λ (es : List Edge). AreSingles (arcs_of es) (Root ∷ []) (points_over o p.recent times) singles) (edges_are p o image m there s cols) plans);
     listed = graphs_are ∙ listed times cols;
   }
 
@@ -223,11 +232,13 @@ handles_taken p q image m (x ∷ all) s there reached is =
     }
 
 -- the instants of a retrieval that is not refused are in the history
-pub instants_reached : (p : Parts) (image : List ℕ) (m : MachineState) (times : List ℕ) (cols : Columns) → StandsFor p image m → list_any (is_out p.events) times ≡ false
+pub instants_reached : (p : Parts) (image : List ℕ) (m : MachineState) (times : List ℕ) (cols : Columns) → StandsFor p image m → list_any (is_out (span_held p.index)) times ≡ false
     → All (λ (x : Stands). is_reached (history_in m.index) x ≡ true) (overlays cols times)
 instants_reached p image m times cols s =
-    each_in (is_out p.events) (λ (x : Stands). is_reached (history_in m.index) x ≡ true) (λ t. Overlay t cols None) times
-    (λ t h. ap (λ (es : List Event). in_range (span_of es) t) (events_there m.index ∙ sym s.events) ∙ not_false (in_range (span_of p.events) t) h)
+    each_in (is_out (span_held p.index)) (λ (x : Stands). is_reached (history_in m.index) x ≡ true) (λ t. Overlay t cols None) times
+    (λ t h.
+    ap (λ (es : List Event). in_range (span_of es) t) (events_there m.index) ∙ ap (λ (ends : Option (ℕ × ℕ)). in_range ends t) (sym (instants_are p image m s))
+    ∙ not_false (in_range (span_held p.index) t) h)
 
 -- the state that the session stands for with the new handles
 pub handles_stand : (p q : Parts) (x y : List ℕ) (m : MachineState) (times : List ℕ) (cols : Columns) (weight : ℕ) (singles : List ℕ) (graphs : List (List Element))
@@ -276,17 +287,6 @@ retrieval_failed c p q before after (retrieval_fault.Damaged key col) memory rea
   reads = λ h. reads;
 }
 
-pub no_stop_failed : (f : RetrievalFault) (s : Stop) → retrieval_halt f ≡ halt.Stop s → ⊥
-no_stop_failed retrieval_fault.Disk s h = cc
-no_stop_failed retrieval_fault.Memory s h = cc
-no_stop_failed (retrieval_fault.Damaged key col) s h = cc
-
--- the refusal of a failed read comes from a failed read
-pub read_failed : (f : RetrievalFault) → retrieval_halt f ≡ halt.Refusal refusal.StoreRead → f ≡ retrieval_fault.Disk
-read_failed retrieval_fault.Disk h = refl
-read_failed retrieval_fault.Memory h = absurd cc
-read_failed (retrieval_fault.Damaged key col) h = absurd cc
-
 -- ---- the bytes read
 
 pub if_some : {A : Type 0} (o : Option A) (P Q : A → Type 0) → ((x : A) → P x → Q x) → IfSome o P → IfSome o Q
@@ -298,99 +298,100 @@ every_some None P f = tt
 every_some (Some x) P f = f x
 
 -- a command that reads and fails has read at most what its answer would tell
-pub reads_failed : (c : Command) (p : Parts) (image : Option (List ℕ)) (h : Head) (before after : ℕ) → (needs c).reads ≡ true → is_refusal h ≡ true
+pub reads_failed : (c : Command) (p : Parts) (image : Option (List ℕ)) (h : Head) (before after : ℕ) → (needs c).reads ≡ true → is_refusal h ≡ true → is_early h ≡ false
+    → ((m : MachineState) (got : List ScriptLine) → ReadsAsTold (is_refusal h) m c got h before after → ReadsBy m c got h before after)
     → ((got : List ScriptLine) → refused_by p (length got) (needs c) ≡ None)
     → IfSome image (λ bytes. (m : MachineState) → StandsFor p bytes m → (got : List ScriptLine) (plan : Planned) → IsPlanned m c plan → TakesAtMost (weight_told (accepted m c got plan).reply.head) before after)
     → Reads c p image h before after
-reads_failed c p image h before after reads refuses none most = record {
+reads_failed c p image h before after reads refuses late as_told none most = record {
   told = λ e. if_some image (λ x. (m : MachineState) → StandsFor p x m → (got : List ScriptLine) (plan : Planned) → IsPlanned m c plan → TakesAtMost (weight_told (accepted m c got plan).reply.head) before after) _
       (λ x t m s got.
       let free : refused m c got ≡ None = sym (refused_is p x m c got s) ∙ none got in
-      subst (λ b. ReadsAsTold b m c got h before after) (sym refuses)
+      as_told m got
+      (subst (λ b. ReadsAsTold b m c got h before after) (sym refuses)
       (λ plan planned.
       subst (λ (a : Answered). TakesAtMost (weight_told a.reply.head) before after) (sym (accepted_is m c got plan (accepted m c got plan) free refl))
-      (t m s got plan (subst (λ (o : Option Refusal). IsPlannedBy o m c plan) free planned)))) most;
+      (t m s got plan (subst (λ (o : Option Refusal). IsPlannedBy o m c plan) free planned))))) most;
+  early = λ e. absurd (false≢true (sym late ∙ e));
   nothing = λ q. absurd (false≢true (sym (ap (λ b. not b && not (needs c).writes) reads) ∙ q));
 }
 
 -- whatever the fault is
-pub reads_failing : (c : Command) (p : Parts) (image : Option (List ℕ)) (f : RetrievalFault) (before after : ℕ) → ((h : Head) → is_refusal h ≡ true → Reads c p image h before after)
+pub reads_failing : (c : Command) (p : Parts) (image : Option (List ℕ)) (f : RetrievalFault) (before after : ℕ) → ((h : Head) → is_refusal h ≡ true → is_early h ≡ false → Reads c p image h before after)
     → ReadsIn c p image (Err (retrieval_halt f)) before after
-reads_failing c p image retrieval_fault.Disk before after each = each (head.Refused refusal.StoreRead) refl
-reads_failing c p image retrieval_fault.Memory before after each = each (head.Refused refusal.OutOfMemory) refl
-reads_failing c p image (retrieval_fault.Damaged key col) before after each = each (head.Refused (refusal.Damaged key col)) refl
+reads_failing c p image retrieval_fault.Disk before after each = each (head.Refused refusal.StoreRead) refl refl
+reads_failing c p image retrieval_fault.Memory before after each = each (head.Refused refusal.OutOfMemory) refl refl
+reads_failing c p image (retrieval_fault.Damaged key col) before after each = each (head.Refused (refusal.Damaged key col)) refl refl
 
 -- ---- a retrieval over what the session has in memory
 
--- the index, the number of names, the current graph and the events are the session's
-pub record IsSession (p : Parts) (o : Opening) (names : ℕ) (graph : List Element) (events : List Event) : Type 0 where
+-- the index, the number of names, the current graph and the recent events are the session's
+pub record IsSession (p : Parts) (o : Opening) (names : ℕ) (graph : List Element) (recent : List Event) : Type 0 where
   pub there : p.index ≡ Some o
   pub count : names ≡ length p.names
-  pub current : graph ≡ replay p.events
-  pub all : events ≡ p.events
+  pub current : graph ≡ p.graph
+  pub all : recent ≡ p.recent
 
-pub is_session : (p : Parts) (s : Inside) (index : IndexState) (names : ℕ) (events : List Event) → the_view s ≡ p → s.history.index ≡ Some index → s.history.now.graph ≡ replay s.history.events.items
-    → names ≡ length s.history.names → events ≡ s.history.events.items → IsSession p index.opening names s.history.now.graph events
-is_session p s index names events view there graph count all = record {
+pub is_session : (p : Parts) (s : Inside) (index : IndexState) (names : ℕ) (recent : List Event) → the_view s ≡ p → s.history.index ≡ Some index
+    → names ≡ length s.history.names → recent ≡ s.history.recent.items → IsSession p index.opening names s.history.now.graph recent
+is_session p s index names recent view there count all = record {
   there = sym (ap (λ (x : Parts). x.index) view) ∙ ap index_opening there;
   count = count ∙ ap (λ (x : Parts). length x.names) view;
-  current = graph ∙ ap (λ (x : Parts). replay x.events) view;
-  all = all ∙ ap (λ (x : Parts). x.events) view;
+  current = ap (λ (x : Parts). x.graph) view;
+  all = all ∙ ap (λ (x : Parts). x.recent) view;
 }
 
-module _ (p : Parts) (o : Opening) (names : ℕ) (graph : List Element) (events : List Event) (is : IsSession p o names graph events) where
-  over_session : (image : List ℕ) (m : MachineState) (s : StandsFor p image m) → IsOver (z_of p o image m is.there s) image o names graph (recent_of o.params events)
+module _ (p : Parts) (o : Opening) (times : List ℕ) (cols : Columns) (told : Option (List ℕ)) (names : ℕ) (graph : List Element) (recent : List Event) (is : IsSession p o names graph recent)
+    (inside : list_any (is_out (span_held (Some o))) times ≡ false) where
+  over_session : (image : List ℕ) (m : MachineState) (s : StandsFor p image m) → IsOver (z_of p o image m is.there s) image o names graph recent
   over_session image m s =
-      subst (λ es. IsOver (z_of p o image m is.there s) image o names graph (recent_of o.params es)) (sym is.all)
-      (subst (λ n. IsOver (z_of p o image m is.there s) image o n graph (recent_of o.params p.events)) (sym is.count) (is_over p o image m is.there s graph is.current))
+      subst (λ es. IsOver (z_of p o image m is.there s) image o names graph es) (sym is.all)
+      (subst (λ g. IsOver (z_of p o image m is.there s) image o names g p.recent) (sym is.current)
+      (subst (λ n. IsOver (z_of p o image m is.there s) image o n p.graph p.recent) (sym is.count) (is_over p o image m is.there s)))
 
-  points_of_session : (image : List ℕ) (m : MachineState) (s : StandsFor p image m) (times : List ℕ) → ArePoints (z_of p o image m is.there s) (points_over o events times) times
-  points_of_session image m s times = ap (λ es. points_over o es times) is.all ∙ at_points p o image m is.there s times
+  points_of_session : (image : List ℕ) (m : MachineState) (s : StandsFor p image m) → ArePoints (z_of p o image m is.there s) (points_over o recent times) times
+  points_of_session image m s = ap (λ es. points_over o es times) is.all ∙ at_points p o image m is.there s times inside
 
-pub retrieved_over : (p : Parts) (o : Opening) (times : List ℕ) (cols : Columns) (told : Option (List ℕ)) (names : ℕ) (graph : List Element) (events : List Event) (r : Result Retrieved RetrievalFault)
-    → IsSession p o names graph events
-    → IfOk r (λ x. IsTreeOf (kept_edges o (length events) cols) (points_over o events times) x.weight)
-    → IfOk r (λ x. AreSingles (arcs_of (kept_edges o (length events) cols)) (Root ∷ []) (points_over o events times) x.singles.items)
-    → IfOk r (λ x. IfSome told (λ image. (z : History) → IsOver z image o names graph (recent_of o.params events) → ArePoints z (points_over o events times) times → x.graphs.items ≡ graphs_at z times cols))
-    → IfOk r (λ x. IfSome told (λ image. (m : MachineState) → StandsFor p image m → IsRetrieved m times cols x.weight x.singles.items x.graphs.items))
-retrieved_over p o times cols told names graph events (Err f) is tree singles graphs = tt
-retrieved_over p o times cols told names graph events (Ok x) is tree singles graphs =
-    if_some told (λ image. (z : History) → IsOver z image o names graph (recent_of o.params events) → ArePoints z (points_over o events times) times → x.graphs.items ≡ graphs_at z times cols)
-    (λ image. (m : MachineState) → StandsFor p image m → IsRetrieved m times cols x.weight x.singles.items x.graphs.items)
-    (λ image f m s.
-    is_retrieved p o image m is.there s times cols x.weight x.singles.items x.graphs.items
-    (subst (λ es. IsTreeOf (kept_edges o (length es) cols) (points_over o es times) x.weight) is.all tree)
-    (subst (λ es. AreSingles (arcs_of (kept_edges o (length es) cols)) (Root ∷ []) (points_over o es times) x.singles.items) is.all singles)
-    (f (z_of p o image m is.there s) (over_session p o names graph events is image m s) (points_of_session p o names graph events is image m s times))) graphs
+  pub retrieved_over : (r : Result Retrieved RetrievalFault)
+      → IfOk r (λ x. IsTreeOf (kept_edges o (events_in o.batches) cols) (points_over o recent times) x.weight)
+      → IfOk r (λ x. AreSingles (arcs_of (kept_edges o (events_in o.batches) cols)) (Root ∷ []) (points_over o recent times) x.singles.items)
+      → IfOk r (λ x. IfSome told (λ image. (z : History) → IsOver z image o names graph recent → ArePoints z (points_over o recent times) times → x.graphs.items ≡ graphs_at z times cols))
+      → IfOk r (λ x. IfSome told (λ image. (m : MachineState) → StandsFor p image m → IsRetrieved m times cols x.weight x.singles.items x.graphs.items))
+  retrieved_over (Err f) tree singles graphs = tt
+  retrieved_over (Ok x) tree singles graphs =
+      if_some told (λ image. (z : History) → IsOver z image o names graph recent → ArePoints z (points_over o recent times) times → x.graphs.items ≡ graphs_at z times cols)
+      (λ image. (m : MachineState) → StandsFor p image m → IsRetrieved m times cols x.weight x.singles.items x.graphs.items)
+      (λ image f m s.
+      is_retrieved p o image m is.there s times cols x.weight x.singles.items x.graphs.items inside
+      (subst (λ es. IsTreeOf (kept_edges o (events_in o.batches) cols) (points_over o es times) x.weight) is.all tree)
+      (subst (λ es. AreSingles (arcs_of (kept_edges o (events_in o.batches) cols)) (Root ∷ []) (points_over o es times) x.singles.items) is.all singles)
+      (f (z_of p o image m is.there s) (over_session image m s) (points_of_session image m s))) graphs
 
-pub taken_over : (p : Parts) (o : Opening) (told : Option (List ℕ)) (names : ℕ) (graph : List Element) (events : List Event) (r : Result Retrieved RetrievalFault) (before after : ℕ)
-    → IsSession p o names graph events
-    → IfOk r (λ x. IfSome told (λ image. (z : History) → IsOver z image o names graph (recent_of o.params events) → Takes x.weight before after))
-    → IfOk r (λ x. IfSome told (λ image. (m : MachineState) → StandsFor p image m → Takes x.weight before after))
-taken_over p o told names graph events (Err f) before after is takes = tt
-taken_over p o told names graph events (Ok x) before after is takes =
-    if_some told (λ image. (z : History) → IsOver z image o names graph (recent_of o.params events) → Takes x.weight before after)
-    (λ image. (m : MachineState) → StandsFor p image m → Takes x.weight before after)
-    (λ image f m s. f (z_of p o image m is.there s) (over_session p o names graph events is image m s)) takes
+  pub taken_over : (r : Result Retrieved RetrievalFault) (before after : ℕ)
+      → IfOk r (λ x. IfSome told (λ image. (z : History) → IsOver z image o names graph recent → Takes x.weight before after))
+      → IfOk r (λ x. IfSome told (λ image. (m : MachineState) → StandsFor p image m → Takes x.weight before after))
+  taken_over (Err f) before after takes = tt
+  taken_over (Ok x) before after takes =
+      if_some told (λ image. (z : History) → IsOver z image o names graph recent → Takes x.weight before after)
+      (λ image. (m : MachineState) → StandsFor p image m → Takes x.weight before after)
+      (λ image f m s. f (z_of p o image m is.there s) (over_session image m s)) takes
 
-pub most_read : (p : Parts) (o : Opening) (times : List ℕ) (cols : Columns) (told : Option (List ℕ)) (names : ℕ) (graph : List Element) (events : List Event) (before after : ℕ)
-    → IsSession p o names graph events
-    → IfSome told (λ image. (z : History) → IsOver z image o names graph (recent_of o.params events) → TakesAtMostTree (kept_edges o (length events) cols) (points_over o events times) before after)
-    → IfSome told (λ image. (m : MachineState) → StandsFor p image m → TakesAtMostTree (edges_in m cols) (points_for m times) before after)
-most_read p o times cols told names graph events before after is most =
-    if_some told (λ image. (z : History) → IsOver z image o names graph (recent_of o.params events) → TakesAtMostTree (kept_edges o (length events) cols) (points_over o events times) before after)
-    (λ image. (m : MachineState) → StandsFor p image m → TakesAtMostTree (edges_in m cols) (points_for m times) before after)
-    (λ image f m s.
-    subst (λ (ns : List NodeId). TakesAtMostTree (edges_in m cols) ns before after) (points_are p o image m is.there s times)
-    (subst (λ (es : List Edge). TakesAtMostTree es (points_over o p.events times) before after) (edges_are p o image m is.there s cols)
-    (subst (λ es. TakesAtMostTree (kept_edges o (length es) cols) (points_over o es times) before after) is.all (f (z_of p o image m is.there s) (over_session p o names graph events is image m s))))) most
+  pub most_read : (before after : ℕ)
+      → IfSome told (λ image. (z : History) → IsOver z image o names graph recent → TakesAtMostTree (kept_edges o (events_in o.batches) cols) (points_over o recent times) before after)
+      → IfSome told (λ image. (m : MachineState) → StandsFor p image m → TakesAtMostTree (edges_in m cols) (points_for m times) before after)
+  most_read before after most =
+      if_some told (λ image. (z : History) → IsOver z image o names graph recent → TakesAtMostTree (kept_edges o (events_in o.batches) cols) (points_over o recent times) before after)
+      (λ image. (m : MachineState) → StandsFor p image m → TakesAtMostTree (edges_in m cols) (points_for m times) before after)
+      (λ image f m s.
+      subst (λ (ns : List NodeId). TakesAtMostTree (edges_in m cols) ns before after) (points_are p o image m is.there s times inside)
+      (subst (λ (es : List Edge). TakesAtMostTree es (points_over o p.recent times) before after) (edges_are p o image m is.there s cols)
+      (subst (λ es. TakesAtMostTree (kept_edges o (events_in o.batches) cols) (points_over o es times) before after) is.all (f (z_of p o image m is.there s) (over_session image m s))))) most
 
-pub never_damaged : (p : Parts) (o : Opening) (times : List ℕ) (told : Option (List ℕ)) (names : ℕ) (graph : List Element) (events : List Event) (r : Result Retrieved RetrievalFault)
-    → IsSession p o names graph events
-    → IfErr r (λ f. IfSome told (λ image. (z : History) → IsOver z image o names graph (recent_of o.params events) → ArePoints z (points_over o events times) times → IsNoDamage f))
-    → IfErr r (λ f. IfSome told (λ image. (m : MachineState) → StandsFor p image m → IsNoDamage f))
-never_damaged p o times told names graph events (Ok x) is never = tt
-never_damaged p o times told names graph events (Err f) is never =
-    if_some told (λ image. (z : History) → IsOver z image o names graph (recent_of o.params events) → ArePoints z (points_over o events times) times → IsNoDamage f)
-    (λ image. (m : MachineState) → StandsFor p image m → IsNoDamage f)
-    (λ image h m s. h (z_of p o image m is.there s) (over_session p o names graph events is image m s) (points_of_session p o names graph events is image m s times)) never
+  pub never_damaged : (r : Result Retrieved RetrievalFault)
+      → IfErr r (λ f. IfSome told (λ image. (z : History) → IsOver z image o names graph recent → ArePoints z (points_over o recent times) times → IsNoDamage f))
+      → IfErr r (λ f. IfSome told (λ image. (m : MachineState) → StandsFor p image m → IsNoDamage f))
+  never_damaged (Ok x) never = tt
+  never_damaged (Err f) never =
+      if_some told (λ image. (z : History) → IsOver z image o names graph recent → ArePoints z (points_over o recent times) times → IsNoDamage f)
+      (λ image. (m : MachineState) → StandsFor p image m → IsNoDamage f)
+      (λ image h m s. h (z_of p o image m is.there s) (over_session image m s) (points_of_session image m s)) never

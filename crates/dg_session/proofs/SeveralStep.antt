@@ -1,5 +1,5 @@
 -- The answer to the retrieval of several instants.
-use Rattle.std.proofs.Common.{◌≡◌, ℕ, true, ◌≤◌, List, [], Option, None, length, take, refl, sym, ◌∙◌, ap, subst}
+use Rattle.std.proofs.Common.{◌≡◌, ℕ, true, false, ◌≤◌, List, [], Option, None, length, take, refl, sym, ◌∙◌, ap, subst}
 use Rattle.std.specs.Prelude.{IfSome}
 use Rattle.std.specs.List.{sum}
 use Rattle.dg_fold.specs.BytesRead.{TakesAtMost}
@@ -21,7 +21,7 @@ use Rattle.dg_retrieval.specs.Retrieval.{TakesAtMostTree}
 use Rattle.dg_session.proofs.Retrievals.{handles_stand, if_some, moved_with, reads_failed, retrieval_accepted}
 use Rattle.dg_session.proofs.StandsFor.{one_image, one_told}
 use Rattle.dg_session.specs.Parts.{Parts}
-use Rattle.dg_session.specs.Reads.{IsRetrieved, Reads, new_entries, with_entries}
+use Rattle.dg_session.specs.Reads.{IsRetrieved, Reads, is_early, new_entries, with_entries}
 use Rattle.dg_session.specs.Session.{Accepts, StandsFor, refused_by, retrieval_needs}
 
 module _ (p : Parts) (cols : Columns) (times : List ℕ) (count : ℕ) (number : length (take count times) ≡ count) (some : 1 ≤ count) where
@@ -54,11 +54,11 @@ module _ (p : Parts) (cols : Columns) (times : List ℕ) (count : ℕ) (number :
         (ap (λ (r : Reply). is_refusal r.head) reply_is) same is
 
     -- where it fails, the bytes read are at most what its reply would tell
-    pub several_fails : (image : Option (List ℕ)) (h : Head) (before after : ℕ) → is_refusal h ≡ true
+    pub several_fails : (image : Option (List ℕ)) (h : Head) (before after : ℕ) → is_refusal h ≡ true → is_early h ≡ false
         → IfSome image (λ bytes. (m : MachineState) → StandsFor p bytes m → TakesAtMostTree (edges_in m cols) (points_for m (take count times)) before after)
         → Reads (command.Several cols times count) p image h before after
-    several_fails image h before after refuses most =
-        reads_failed (command.Several cols times count) p image h before after refl refuses (λ got. needed ∙ free)
+    several_fails image h before after refuses late most =
+        reads_failed (command.Several cols times count) p image h before after refl refuses late (λ m got reads. reads) (λ got. needed ∙ free)
         (if_some image (λ bytes. (m : MachineState) → StandsFor p bytes m → TakesAtMostTree (edges_in m cols) (points_for m (take count times)) before after)
         (λ bytes. (m : MachineState) → StandsFor p bytes m → (got : List ScriptLine) (plan : Planned) → IsPlanned m (command.Several cols times count) plan
         → TakesAtMost (weight_told (accepted m (command.Several cols times count) got plan).reply.head) before after)

@@ -12,7 +12,7 @@ use Rattle.dg_machine.specs.declared.reply.Reply.{Reply}
 use Rattle.dg_machine.specs.Answer.{Answered, IsPlannedBy, accepted, answer, answer_by, headed, is_begun, no_memory, is_refusal, store_read}
 use Rattle.dg_machine.specs.CutImage.{IsAccepted}
 use Rattle.dg_machine.specs.MachineState.{MachineState, entry_at}
-use Rattle.dg_history.specs.History.{are_parameters, in_range, span_of}
+use Rattle.dg_history.specs.History.{are_parameters, in_range}
 use Rattle.dg_machine.specs.declared.limits.TheConstants.{LIVE_HANDLES_MAX}
 use Rattle.dg_machine.specs.Needs.{Needs, earliest, following, is_followed, needs, of, refused, when}
 use Rattle.dg_machine.specs.Planning.{Planned, IsPlanned, no_plan}
@@ -20,6 +20,7 @@ use Rattle.dg_machine.specs.Run.{Step, Answers, Fails_to_read, Lacks_memory}
 use Rattle.dg_machine.specs.Script.{Asked}
 use Rattle.dg_session.proofs.ReadLines.{follows_none}
 use Rattle.dg_session.proofs.StandsFor.{one_image, refused_is, stands_on}
+use Rattle.dg_session.specs.HeldIndex.{events_held, span_held}
 use Rattle.dg_session.specs.Parts.{Parts}
 use Rattle.dg_session.specs.declared.halt.Halt.{Halt}
 use Rattle.dg_session.specs.declared.halt.Halt.TheVariants as halt
@@ -68,15 +69,22 @@ is_accepted m c lines a is accepted = ap (λ (x : Answered). is_refusal x.reply.
 
 -- ---- of the session
 
--- a refusal that the machine may give, where nothing has changed
-pub denied : (c : Command) (got : List ScriptLine) (old new : Parts) (before after : Option (List ℕ)) (r : Refusal) → new ≡ old → after ≡ before
-    → ((m : MachineState) (image : List ℕ) → StandsFor old image m → Step m (Asked c got) (headed (head.Refused r)) m)
+-- a refusal that the machine may give over the image that the disk tells, where nothing has changed
+pub denied_at : (c : Command) (got : List ScriptLine) (old new : Parts) (before after : Option (List ℕ)) (r : Refusal) → new ≡ old → after ≡ before
+    → ((m : MachineState) (image : List ℕ) → before ≡ Some image → StandsFor old image m → Step m (Asked c got) (headed (head.Refused r)) m)
     → (is_of_read r ≡ true → (needs c).reads ≡ true) → Denies c got old before new after r
-denied c got old new before after r same same_image step reads = record {
-  moves = λ x y a b m s. (m, step m x s, stands_on old new x y m same (one_image before after x y same_image a b) s);
+denied_at c got old new before after r same same_image step reads = record {
+  moves = λ x y a b m s. (m, step m x a s, stands_on old new x y m same (one_image before after x y same_image a b) s);
   as_before = record { same = same; same_image = same_image };
   reads = reads;
 }
+
+-- over any image
+pub denied : (c : Command) (got : List ScriptLine) (old new : Parts) (before after : Option (List ℕ)) (r : Refusal) → new ≡ old → after ≡ before
+    → ((m : MachineState) (image : List ℕ) → StandsFor old image m → Step m (Asked c got) (headed (head.Refused r)) m)
+    → (is_of_read r ≡ true → (needs c).reads ≡ true) → Denies c got old before new after r
+denied c got old new before after r same same_image step reads =
+    denied_at c got old new before after r same same_image (λ m image at s. step m image s) reads
 
 -- the first of these refusals tells of no read
 abbrev IsNotOfRead : Option Refusal → Type 0
@@ -102,9 +110,9 @@ never_read p read n =
     (when_not_read (n.index && not (is_some p.index)) refusal.NoIndex _ refl
     (of_not_read n.parameters (λ x. is_some p.index) (λ x. refusal.IndexExists) _ (λ x. refl)
     (of_not_read n.parameters (λ x. not (are_parameters x.0 x.1)) (λ x. refusal.Parameters) _ (λ x. refl)
-    (when_not_read (n.unloaded && is_some (span_of p.events)) refusal.AlreadyLoaded _ refl
-    (when_not_read (nat_lt 0 n.changes && is_too_full p n.changes) (refusal.HistoryFull (length p.events) n.changes) _ refl
-    (when_not_read (list_any (λ t. not (in_range (span_of p.events) t)) n.instants) (refusal.OutOfRange (span_of p.events)) _ refl
+    (when_not_read (n.unloaded && is_some (span_held p.index)) refusal.AlreadyLoaded _ refl
+    (when_not_read (nat_lt 0 n.changes && is_too_full p n.changes) (refusal.HistoryFull (events_held p.index) n.changes) _ refl
+    (when_not_read (list_any (λ t. not (in_range (span_held p.index) t)) n.instants) (refusal.OutOfRange (span_held p.index)) _ refl
     (of_not_read n.handle (λ h. not (is_some (entry_at h p.table))) (λ h. refusal.UnknownHandle h) (when (nat_lt 0 n.handles && nat_lt LIVE_HANDLES_MAX (length p.table + n.handles)) (refusal.PoolFull (length p.table) n.handles)) (λ h. refl)
     (last_not_read (nat_lt 0 n.handles && nat_lt LIVE_HANDLES_MAX (length p.table + n.handles)) (refusal.PoolFull (length p.table) n.handles) refl))))))))
 

@@ -1,34 +1,32 @@
 -- The answer to a listing of the records.
-use Rattle.std.proofs.Common.{◌≡◌, ℕ, suc, false, true, not, List, [], ◌∷◌, Option, Some, None, length, map, refl, sym, ◌∙◌, ap, arith}
+use Rattle.std.proofs.Common.{◌≡◌, ℕ, suc, true, not, List, [], ◌∷◌, Option, Some, None, length, map, refl, sym, ◌∙◌, ap, arith}
 use Rattle.std.specs.Prelude.{is_some, slice_index}
 use Rattle.std.specs.List.{Contains}
 use Rattle.std.specs.Map.{lookup}
 use Rattle.std.proofs.lemmas.Bool.{false≢true}
 use Rattle.dg_history.specs.declared.node.Key.{Key}
-use Rattle.dg_history.specs.declared.params.Params.{Params}
 use Rattle.dg_history.specs.History.{History, events_of}
 use Rattle.dg_history.specs.Keys.{same_key}
 use Rattle.dg_history.specs.LegalHistory.{IsLegal}
 use Rattle.dg_index.specs.declared.entry.Entry.{Entry}
 use Rattle.dg_index.specs.IndexRecords.{keys_of}
-use Rattle.dg_index.specs.OpenedIndex.{Opening, opened_of}
+use Rattle.dg_index.specs.OpenedIndex.{Opening, events_in, opened_of}
 use Rattle.dg_index.proofs.HeldRecords.{told_at}
 use Rattle.dg_machine.specs.declared.command.Command.TheVariants as command
 use Rattle.dg_machine.specs.declared.reply.BodyLine.TheVariants as line
-use Rattle.dg_machine.specs.declared.reply.Head.TheVariants as head
 use Rattle.dg_machine.specs.declared.reply.Refusal.TheVariants as refusal
 use Rattle.dg_machine.specs.declared.reply.Reply.{Reply}
 use Rattle.dg_machine.specs.Answer.{is_refusal, record_line, tree_reply}
-use Rattle.dg_machine.specs.MachineState.{MachineState, history_in}
+use Rattle.dg_machine.specs.MachineState.{history_in}
 use Rattle.dg_machine.specs.Needs.{needs}
 use Rattle.dg_planner.proofs.HistoryGraph.{keys_held}
 use Rattle.dg_session.proofs.OpenedHistory.{behind}
-use Rattle.dg_session.proofs.StandsFor.{IsOf, hit, is_of, miss, one_image, stands_on}
+use Rattle.dg_session.proofs.HeldHistory.{count_is}
+use Rattle.dg_session.proofs.StandsFor.{IsOf, hit, is_of, miss, one_image, opening_of, stands_on}
 use Rattle.dg_session.proofs.Steps.{moved}
 use Rattle.dg_session.specs.Parts.{Parts}
 use Rattle.dg_session.specs.RecordListing.{held_line, lengths_held, listing_of}
-use Rattle.dg_session.specs.SessionStart.{opening_of}
-use Rattle.dg_session.specs.Session.{Accepts, StandsFor, refused_by}
+use Rattle.dg_session.specs.Session.{Accepts, refused_by}
 
 pub tree_refused : (p : Parts) → p.index ≡ None → refused_by p 0 (needs command.Tree) ≡ Some refusal.NoIndex
 tree_refused p none = hit (not (is_some p.index)) refusal.NoIndex [] (ap (λ i. not (is_some i)) none)
@@ -61,7 +59,7 @@ listed z legal =
 
 -- ---- the answer
 
-pub tree_answers : (p : Parts) (image : Option (List ℕ)) (o : Opening) (reply : Reply) → p.index ≡ Some o → reply ≡ listing_of o (length p.events)
+pub tree_answers : (p : Parts) (image : Option (List ℕ)) (o : Opening) (reply : Reply) → p.index ≡ Some o → reply ≡ listing_of o (events_in o.batches)
     → Accepts command.Tree [] p image p image reply
 tree_answers p image o reply there is = record {
   moves =
@@ -71,7 +69,7 @@ tree_answers p image o reply there is = record {
       let z : History = found.0 in
       let h : IsOf p o x m z = found.1 in
       let due : reply ≡ tree_reply (history_in m.index) =
-      is ∙ (λ i. listing_of (h.opened i) (length (h.events i))) ∙ listed z h.stands.legal ∙ sym (ap (λ (i : Option History). tree_reply (history_in i)) h.index) in (
+      is ∙ (λ i. listing_of (h.opened i) (events_in (h.opened i).batches)) ∙ ap (listing_of (opening_of z)) (count_is z h.stands.legal) ∙ listed z h.stands.legal ∙ sym (ap (λ (i : Option History). tree_reply (history_in i)) h.index) in (
         m,
         (λ i. record { reply = sym due i; state = m }),
         stands_on p p x y m refl (one_image image image x y refl a b) s,

@@ -13,8 +13,9 @@ use Rattle.dg_machine.specs.declared.reply.Refusal.{Refusal}
 use Rattle.dg_machine.specs.declared.reply.Refusal.TheVariants as refusal
 use Rattle.dg_machine.specs.Script.{Follows}
 use Rattle.dg_session.specs.declared.batch_lines.BatchLines.{BatchLines}
-use Rattle.dg_session.specs.declared.batch_lines.Front.{Front}
-use Rattle.dg_session.specs.declared.batch_lines.Front.TheVariants.{Whole, Form, Unkept}
+use Rattle.dg_append.specs.declared.front.Front.{Front}
+use Rattle.dg_append.specs.declared.front.Front.TheVariants.{Whole, Form, Unkept}
+use Rattle.dg_append.specs.Fronts.{IsFront}
 use Rattle.dg_session.specs.declared.halt.Halt.{Halt}
 use Rattle.dg_session.specs.declared.halt.Halt.TheVariants as halt
 use Rattle.dg_session.specs.declared.stop.Stop.{Stop}
@@ -31,10 +32,6 @@ line_read (line.Text n) text = Text text
 line_read line.TooLong text = Long
 line_read line.End text = Long
 
--- the changes as lines that are changes
-abbrev pub lines : List Change → List (Option Change)
-lines changes = map (λ (c : Change). Some c) changes
-
 -- What a line says was kept behind the changes, and the names have its texts; or the line is no
 -- change. Where it is not kept, nothing is said.
 abbrev pub KeepsChange : Front → Option ChangeByText → List (List ℕ) → List (List ℕ) → List Change → List Change → Type 0
@@ -42,12 +39,6 @@ KeepsChange Whole due names new changes then_changes =
     (said : ChangeByText) × (due ≡ Some said) × (then_changes ≡ changes ++ change_with names said ∷ []) × (new ≡ named names said.asked)
 KeepsChange Form due names new changes then_changes = (due ≡ None) × (then_changes ≡ changes)
 KeepsChange Unkept due names new changes then_changes = Unit {0}
-
--- these lines are the changes, or begin with them and then a line that is no change
-abbrev pub IsFront : Front → List Change → List (Option Change) → Type 0
-IsFront Whole changes all = all ≡ lines changes
-IsFront Form changes all = (rest : List (Option Change)) × (all ≡ lines changes ++ None ∷ rest)
-IsFront Unkept changes all = Unit {0}
 
 -- where every line is a change, the names have all their texts
 abbrev pub NamesGrow : Front → List (List ℕ) → List (List ℕ) → List ScriptLine → Type 0

@@ -1,7 +1,10 @@
--- What a refusal for damage names.
-use Rattle.std.specs.Prelude.{◌≡◌, ℕ, List, [], ◌∷◌, Option, Some, None, Result, IfSome, length, take}
+-- Which damage a refusal names.
+use Rattle.std.specs.Prelude.{◌≡◌, ℕ, List, [], ◌∷◌, Option, Some, Result, IfSome, length, take}
+use Rattle.dg_append.specs.OlderGroups.{IsBatchDamage}
+use Rattle.dg_graph.specs.declared.element.Column.{Column}
 use Rattle.dg_graph.specs.declared.element.Columns.{Columns}
-use Rattle.dg_index.specs.OpenedIndex.{Opening}
+use Rattle.dg_history.specs.declared.node.Key.{Key}
+use Rattle.dg_index.specs.OpenedIndex.{Opening, events_in}
 use Rattle.dg_machine.specs.declared.command.Command.{Command}
 use Rattle.dg_machine.specs.declared.command.Command.TheVariants as command
 use Rattle.dg_machine.specs.declared.reply.Head.{Head}
@@ -13,26 +16,46 @@ use Rattle.dg_retrieval.specs.declared.fault.RetrievalFault.TheVariants as fault
 use Rattle.dg_retrieval.specs.KeptGraph.{kept_edges}
 use Rattle.dg_retrieval.specs.Retrieval.{IsFirstDamage}
 use Rattle.dg_session.specs.declared.halt.Halt.{Halt}
+use Rattle.dg_session.specs.HeldIndex.{points_over}
 use Rattle.dg_session.specs.Parts.{Parts}
-use Rattle.dg_session.specs.Reads.{head_of, points_over}
+use Rattle.dg_session.specs.Reads.{head_of}
 
--- the instants and the columns that a retrieval asks for; another command asks for none
-abbrev pub asked_by : Command → Option (List ℕ × Columns)
-asked_by (command.At t cols) = Some (t ∷ [], cols)
-asked_by (command.Several cols times count) = Some (take count times, cols)
-asked_by c = None
+-- what a command reads records for: the graphs as of instants, in columns; the older children of a batch of so
+-- many lines; or nothing
+pub data ReadsFor : Type 0 where
+  Graphs : List ℕ → Columns → ReadsFor
+  Batch_of : ℕ → ReadsFor
+  Nothing_read : ReadsFor
+
+abbrev pub reads_for : Command → ReadsFor
+reads_for (command.At t cols) = Graphs (t ∷ []) cols
+reads_for (command.Several cols times count) = Graphs (take count times) cols
+reads_for (command.Load count) = Batch_of count
+reads_for (command.Append count) = Batch_of count
+reads_for c = Nothing_read
 
 -- Of a retrieval that fails so: a damage that the fault names is the first among the columns that the tree of its
 -- instants enters over the index that the session keeps, in the order of its steps and of the columns.
 abbrev pub NamesDamage : Parts → Option (List ℕ) → List ℕ × Columns → RetrievalFault → Type 0
 NamesDamage old image asked f =
     (o : Opening) × (old.index ≡ Some o)
-    × IfSome image (λ bytes. IsFirstDamage (length old.names) (kept_edges o (length old.events) asked.1) o asked.1 (points_over o old.events asked.0) bytes f)
+    × IfSome image (λ bytes. IsFirstDamage (length old.names) (kept_edges o (events_in o.batches) asked.1) o asked.1 (points_over o old.recent asked.0) bytes f)
 
--- a refusal for damage comes of a retrieval alone, and names that damage
+-- Of a batch of so many lines: the damage is the first that the trees of the older children enter, or a delta that
+-- is due is too large.
+abbrev pub NamesBatchDamage : Parts → Option (List ℕ) → ℕ → Key → Column → Type 0
+NamesBatchDamage old image count key col =
+    (o : Opening) × (old.index ≡ Some o) × IfSome image (λ bytes. IsBatchDamage (length old.names) o bytes count key col)
+
+-- the damage is one that what is read for it meets
+abbrev pub IsMetBy : ReadsFor → Parts → Option (List ℕ) → Key → Column → Type 0
+IsMetBy (Graphs times cols) old image key col = NamesDamage old image (times, cols) (fault.Damaged key col)
+IsMetBy (Batch_of count) old image key col = NamesBatchDamage old image count key col
+IsMetBy Nothing_read old image key col = ⊥
+
+-- a refusal for damage comes of a retrieval or a batch alone, and names that damage
 abbrev pub DamageIs : Command → Parts → Option (List ℕ) → Head → Type 0
-DamageIs c old image (head.Refused (refusal.Damaged key col)) =
-    (asked : List ℕ × Columns) × (asked_by c ≡ Some asked) × NamesDamage old image asked (fault.Damaged key col)
+DamageIs c old image (head.Refused (refusal.Damaged key col)) = IsMetBy (reads_for c) old image key col
 DamageIs c old image h = Unit {0}
 
 -- the same of what the command comes to

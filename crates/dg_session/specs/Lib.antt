@@ -1,7 +1,7 @@
 pub mod Parts
+pub mod HeldIndex
 pub mod BatchLines
 pub mod SessionStart
-pub mod SoundHistory
 pub mod Halt
 pub mod Session
 pub mod BatchCommand

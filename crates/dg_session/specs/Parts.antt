@@ -10,7 +10,8 @@ pub record Parts : Type 0 where
   pub limits : Limits  -- the bounds within which it works
   pub index : Option Opening  -- what its image is opened as, where there is an index
   pub names : List (List ℕ)  -- the names of the history, in the order of their numbers
-  pub events : List Event  -- the events of the history, in their order
+  pub graph : List Element  -- the graph of all events of the history
+  pub recent : List Event  -- the events behind its last closed list, in their order
   pub table : List (ℕ × Stands)  -- the live handles, with what they stand for, the oldest first
   pub graphs : List (List Element)  -- the elements that each of them lists, in the same order
   pub next : ℕ  -- the number of the next handle

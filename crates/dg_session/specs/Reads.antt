@@ -1,34 +1,34 @@
 -- What a retrieval gives, the handles that it is given, and the bytes that commands read.
-use Rattle.std.specs.Prelude.{◌≡◌, ℕ, ◌+◌, Bool, true, false, ◌&&◌, not, List, [], ◌∷◌, ◌++◌, Option, Some, None, Result, Ok, Err, IfSome, is_some, length, map}
+use Rattle.std.specs.Prelude.{◌≡◌, ℕ, ◌+◌, Bool, true, false, ◌&&◌, not, List, [], ◌∷◌, ◌++◌, Option, Some, None, Result, Ok, Err, IfSome, length, map}
+use Rattle.std.specs.List.{sum}
 use Rattle.dg_fold.specs.BytesRead.{Takes, TakesAtMost}
 use Rattle.dg_graph.specs.declared.element.Columns.{Columns}
 use Rattle.dg_graph.specs.declared.element.Element.{Element}
-use Rattle.dg_graph.specs.declared.event.Event.{Event}
 use Rattle.dg_graph.specs.Lines.{ScriptLine}
 use Rattle.dg_history.specs.declared.node.NodeId.{NodeId}
 use Rattle.dg_history.specs.declared.node.NodeId.TheVariants.{Root}
-use Rattle.dg_index.specs.OpenedIndex.{Opening}
+use Rattle.dg_history.specs.History.{events_of}
+use Rattle.dg_index.specs.Hierarchy.{leaves}
+use Rattle.dg_index.specs.OlderNodes.{older}
 use Rattle.dg_machine.specs.declared.command.Command.{Command}
+use Rattle.dg_machine.specs.declared.command.Command.TheVariants as command
 use Rattle.dg_machine.specs.declared.reply.Head.{Head}
 use Rattle.dg_machine.specs.declared.reply.Head.TheVariants as head
+use Rattle.dg_machine.specs.declared.reply.Refusal.TheVariants as refusal
 use Rattle.dg_machine.specs.declared.reply.Reply.{Reply}
 use Rattle.dg_machine.specs.declared.stands.Stands.{Stands}
-use Rattle.dg_machine.specs.Answer.{IsPlannedBy, answer, headed, is_refusal, overlays, weight_told}
+use Rattle.dg_machine.specs.Answer.{IsPlannedBy, answer, is_refusal, overlays, weight_told}
 use Rattle.dg_machine.specs.MachineState.{MachineState, elements, history_in}
-use Rattle.dg_machine.specs.Needs.{Needs, needs, refused}
-use Rattle.dg_machine.specs.Planning.{Planned, edges_in, points_for}
+use Rattle.dg_machine.specs.Needs.{needs, refused}
+use Rattle.dg_machine.specs.Planning.{Planned, edges_in, points_for, record_edges_in}
+use Rattle.dg_plan.specs.HistoryGraph.{all_columns}
 use Rattle.dg_plan.specs.IndexGraph.{arcs_of}
-use Rattle.dg_plan.specs.InstantPoint.{point}
 use Rattle.dg_plan.specs.Walks.{AreSingles}
 use Rattle.dg_retrieval.specs.Retrieval.{IsTreeOf}
 use Rattle.dg_session.specs.declared.halt.Halt.{Halt}
 use Rattle.dg_session.specs.declared.halt.Halt.TheVariants as halt
 use Rattle.dg_session.specs.Parts.{Parts}
 use Rattle.dg_session.specs.Session.{StandsFor}
-
--- the nodes from which the graphs as of the instants are reached, over this index and these events
-abbrev pub points_over : Opening → List Event → List ℕ → List NodeId
-points_over o events times = map (λ t. point o.params events t) times
 
 -- The entries of new handles from this number on: each with what it stands for, and the elements that it lists.
 -- There is one for each of these that there is a set of elements for.
@@ -61,15 +61,44 @@ ReadsAsTold false m c got h before after = Takes (weight_told h) before after
 ReadsAsTold true m c got h before after =
     (p : Planned) → IsPlannedBy (refused m c got) m c p → TakesAtMost (weight_told (answer m c got p).reply.head) before after
 
+-- the older children of the interior nodes that a batch of so many lines completes
+abbrev pub older_for : MachineState → ℕ → List NodeId
+older_for m count =
+    let z = history_in m.index in
+    older z.params.k (leaves z.params (length (events_of z))) (leaves z.params (length (events_of z) + count))
+
+-- A batch of so many lines has read at most what the single plans of those children weigh together, over the records
+-- alone.
+abbrev pub ReadsOlder : MachineState → ℕ → ℕ → ℕ → Type 0
+ReadsOlder m count before after =
+    (singles : List ℕ) → AreSingles (arcs_of (record_edges_in m all_columns)) (Root ∷ []) (older_for m count) singles → TakesAtMost (sum singles) before after
+
+-- the batch is refused before anything is read
+abbrev pub is_early : Head → Bool
+is_early (head.Refused refusal.NoIndex) = true
+is_early (head.Refused refusal.AlreadyLoaded) = true
+is_early (head.Refused (refusal.ShortBatch read asked)) = true
+is_early (head.Refused (refusal.HistoryFull held asked)) = true
+is_early (head.Refused (refusal.BadChange number reason)) = true
+is_early h = false
+
+-- what a command that adds a batch, or a retrieval, reads over an image that stands for the state
+abbrev pub ReadsBy : MachineState → Command → List ScriptLine → Head → ℕ → ℕ → Type 0
+ReadsBy m (command.Load count) got h before after = ReadsOlder m count before after
+ReadsBy m (command.Append count) got h before after = ReadsOlder m count before after
+ReadsBy m c got h before after = ReadsAsTold (is_refusal h) m c got h before after
+
 -- commands of this kind neither read nor write
 abbrev pub is_quiet : Command → Bool
 is_quiet c = not (needs c).reads && not (needs c).writes
 
--- The bytes that the command reads, where the reply has this head: what the reply tells, for a
--- retrieval over an image that stands for a state; and nothing, for a command that neither reads nor writes.
+-- The bytes that the command reads, where the reply has this head: over an image that stands for a state what the
+-- reply to a retrieval tells, and no more than the older children of a batch; nothing, where it is refused before
+-- that, and for a command that neither reads nor writes.
 pub record Reads (c : Command) (old : Parts) (image : Option (List ℕ)) (h : Head) (before after : ℕ) : Type 0 where
   pub told : (needs c).reads ≡ true → IfSome image (λ bytes. (m : MachineState) → StandsFor old bytes m
-      → (got : List ScriptLine) → ReadsAsTold (is_refusal h) m c got h before after)
+      → (got : List ScriptLine) → ReadsBy m c got h before after)
+  pub early : is_early h ≡ true → after ≡ before
   pub nothing : is_quiet c ≡ true → after ≡ before
 
 -- the first line of the reply to a command that comes to this, unless it is stopped

@@ -1,14 +1,11 @@
 -- How the steps of a session are steps of the machine.
 use Rattle.std.specs.Prelude.{◌≡◌, ℕ, ◌+◌, ◌*◌, Bool, true, false, ◌&&◌, ◌||◌, not, ◌==◌, List, [], ◌∷◌, ◌++◌, Option, Some, None, Result, Ok, Err, IfSome, if◌then◌else◌, is_some, length, map, nat_lt}
 use Rattle.std.specs.List.{All, list_any}
-use Rattle.std.specs.Option.{option_map}
 use Rattle.dg_graph.specs.declared.element.Element.{Element}
-use Rattle.dg_graph.specs.declared.event.Event.{Event}
 use Rattle.dg_graph.specs.declared.limits.TheConstants.{NAMES_MAX}
 use Rattle.dg_graph.specs.Lines.{ScriptLine}
 use Rattle.dg_history.specs.History.{History, are_parameters, events_of, span_of, in_range}
-use Rattle.dg_index.specs.ImageOfHistory.{StandsAs, is_blank}
-use Rattle.dg_index.specs.OpenedIndex.{Opening, opening}
+use Rattle.dg_index.specs.ImageOfHistory.{StandsAs}
 use Rattle.dg_machine.specs.declared.command.Command.{Command}
 use Rattle.dg_machine.specs.declared.limits.TheConstants.{LIVE_HANDLES_MAX}
 use Rattle.dg_machine.specs.declared.reply.Head.TheVariants as head
@@ -19,7 +16,7 @@ use Rattle.dg_machine.specs.declared.stands.Stands.{Stands}
 use Rattle.dg_machine.specs.declared.stands.Stands.TheVariants.{Overlay}
 use Rattle.dg_machine.specs.Answer.{headed, is_refusal}
 use Rattle.dg_machine.specs.CutImage.{IsCut}
-use Rattle.dg_machine.specs.MachineState.{MachineState, elements, entry_at, events_in_index, history_in, names_in}
+use Rattle.dg_machine.specs.MachineState.{MachineState, elements, entry_at, history_in}
 use Rattle.dg_machine.specs.Needs.{Needs, needs, nothing_more, following, is_writing, when, of, earliest}
 use Rattle.dg_machine.specs.Run.{Step}
 use Rattle.dg_machine.specs.Script.{Asked, Follows}
@@ -27,7 +24,8 @@ use Rattle.dg_session.specs.declared.halt.Halt.{Halt}
 use Rattle.dg_session.specs.declared.halt.Halt.TheVariants as halt
 use Rattle.dg_session.specs.declared.stop.Stop.TheVariants as stop
 use Rattle.dg_session.specs.Parts.{Parts}
-use Rattle.dg_session.specs.SessionStart.{opening_of}
+use Rattle.dg_session.specs.HeldIndex.{events_held, span_held}
+use Rattle.dg_start.specs.StoredHistory.{IsHeldBy, KeepsHistory}
 
 -- the instant of what a handle stands for is in the history, so that no later event changes it
 abbrev pub is_reached : History → Stands → Bool
@@ -46,9 +44,7 @@ graph_among handle (entry ∷ table) (graph ∷ graphs) = if entry.0 == handle t
 -- the session stands for this state of the machine, over the image
 pub record StandsFor (session : Parts) (image : List ℕ) (m : MachineState) : Type 0 where
   pub image_stands : StandsAs m.index image
-  pub index : session.index ≡ option_map opening_of m.index
-  pub names : session.names ≡ names_in m.index
-  pub events : session.events ≡ events_in_index m.index
+  pub kept : KeepsHistory m.index session.index session.names session.graph session.recent
   pub limits : session.limits ≡ m.limits
   pub table : session.table ≡ m.table
   pub graphs : session.graphs ≡ graphs_of m
@@ -59,11 +55,6 @@ pub record StandsFor (session : Parts) (image : List ℕ) (m : MachineState) : T
 -- the fact holds of the two images, where the disk tells them
 abbrev pub WhereBothTold : Option (List ℕ) → Option (List ℕ) → (List ℕ → List ℕ → Type 0) → Type 0
 WhereBothTold a b P = (x y : List ℕ) → a ≡ Some x → b ≡ Some y → P x y
-
--- the image is as the session's last call left it: no index, or one with these names
-abbrev pub IsHeldBy : Option Opening → List (List ℕ) → List ℕ → Type 0
-IsHeldBy None names image = is_blank image ≡ true
-IsHeldBy (Some o) names image = opening image ≡ Ok (record { index = o; names = names })
 
 -- from every state that the session stands for, the machine may give the reply and go on to one that
 -- it then stands for
@@ -90,7 +81,7 @@ Stops command lines_before lines_after old before after =
 
 -- so many more events, or the names that so many lines may bring, are too many
 abbrev pub is_too_full : Parts → ℕ → Bool
-is_too_full p count = nat_lt p.limits.events (length p.events + count) || nat_lt NAMES_MAX (length p.names + 2 * count)
+is_too_full p count = nat_lt p.limits.events (events_held p.index + count) || nat_lt NAMES_MAX (length p.names + 2 * count)
 
 -- The refusals of a command that needs this and is followed by so many lines, by what a session keeps.
 abbrev pub refusals_by : Bool → Parts → ℕ → Needs → List Refusal
@@ -99,9 +90,9 @@ refusals_by there p read n =
     ++ (when (n.index && not there) refusal.NoIndex
     ++ (of n.parameters (λ p. when there refusal.IndexExists)
     ++ (of n.parameters (λ p. when (not (are_parameters p.0 p.1)) refusal.Parameters)
-    ++ (when (n.unloaded && is_some (span_of p.events)) refusal.AlreadyLoaded
-    ++ (when (nat_lt 0 n.changes && is_too_full p n.changes) (refusal.HistoryFull (length p.events) n.changes)
-    ++ (when (list_any (λ t. not (in_range (span_of p.events) t)) n.instants) (refusal.OutOfRange (span_of p.events))
+    ++ (when (n.unloaded && is_some (span_held p.index)) refusal.AlreadyLoaded
+    ++ (when (nat_lt 0 n.changes && is_too_full p n.changes) (refusal.HistoryFull (events_held p.index) n.changes)
+    ++ (when (list_any (λ t. not (in_range (span_held p.index) t)) n.instants) (refusal.OutOfRange (span_held p.index))
     ++ (of n.handle (λ h. when (not (is_some (entry_at h p.table))) (refusal.UnknownHandle h))
     ++ when (nat_lt 0 n.handles && nat_lt LIVE_HANDLES_MAX (length p.table + n.handles)) (refusal.PoolFull (length p.table) n.handles))))))))
 

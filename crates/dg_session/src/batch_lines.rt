@@ -10,6 +10,7 @@ ghost use Rattle.dg_session.specs.BatchLines.{KeepsChange, ReadsAs, ReadsBatch, 
 
 use crate::halt::Halt;
 use crate::stop::Stop;
+use dg_append::Front;
 use dg_graph::Change;
 use dg_io::{Line, Lines, Source};
 use dg_line::{ChangeFault, read_change};
@@ -17,25 +18,12 @@ use dg_machine::Refusal;
 use dg_names::Names;
 use std::alloc::Global;
 
-/// How far the changes of the lines that follow a command are kept.
-#[derive(Clone, Copy, Debug, PartialEq, Eq)]
-pub enum Front {
-    /// Each line is a change, and all are kept.
-    Whole,
-    /// Those before the first line that is no change are kept.
-    Form,
-    /// Not all of these are kept: they are not wanted, or memory lacked.
-    Unkept,
-}
-
-impl Front {
-    // Whether every change is kept.
-    fn is_whole(self) -> bool
-        ensures whole { result ≡ true → self ≡ Front.Whole }
-        ensures other { result ≡ false → self ≡ Front.Whole → ⊥ }
-    {
-        matches!(self, Front::Whole)
-    }
+// Whether every change is kept.
+fn is_whole(front: Front) -> bool
+    ensures whole { result ≡ true → front ≡ Front.Whole }
+    ensures other { result ≡ false → front ≡ Front.Whole → ⊥ }
+{
+    matches!(front, Front::Whole)
 }
 
 /// What the lines that follow a command came to.
@@ -138,7 +126,7 @@ fn read_lines<S: Source>(
             break;
         }
         read += 1;
-        if front.is_whole() {
+        if is_whole(front) {
             front = keep_change(line, lines.text(), names, &mut changes);
         }
     }

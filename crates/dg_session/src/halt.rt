@@ -5,8 +5,8 @@ ghost use Rattle.dg_machine.specs.declared.reply.Refusal.TheVariants as refusal;
 ghost use Rattle.dg_session.specs.declared.halt.Halt.TheVariants as halt;
 ghost use Rattle.dg_session.specs.Halt.{creation_halt, batch_halt, retrieval_halt};
 
-use crate::batch_segment::BatchFault;
 use crate::stop::Stop;
+use dg_append::BatchFault;
 use dg_file::CreateFault;
 use dg_machine::Refusal;
 use dg_retrieval::RetrievalFault;
@@ -65,6 +65,8 @@ impl From<BatchFault> for Halt {
                 Halt::Refusal(Refusal::BadChange(line, reason))
             }
             BatchFault::FileFull(needed, limit) => Halt::Refusal(Refusal::FileFull(needed, limit)),
+            BatchFault::Damaged(key, column) => Halt::Refusal(Refusal::Damaged(key, column)),
+            BatchFault::Read => Halt::Refusal(Refusal::StoreRead),
             BatchFault::Memory => Halt::Refusal(Refusal::OutOfMemory),
             BatchFault::Store => Halt::Stop(Stop::Store),
         }

@@ -1,15 +1,15 @@
 //! The plans over the index of a session: the graph in which they are made, the node of an instant, and
 //! what is said of them.
 
-ghost use Rattle.std.specs.Prelude.{◌≡◌, ◌≤◌, true, ◌++◌, length, slice_get, IfOk, OnOk};
-ghost use Rattle.dg_graph.specs.Replay.{events_until};
-ghost use Rattle.dg_history.specs.declared.limits.TheConstants.{BATCH_LINES_MAX, EVENTS_MAX};
-ghost use Rattle.dg_history.specs.History.{are_parameters, in_range, span_of};
+ghost use Rattle.std.specs.Prelude.{◌≡◌, ◌≤◌, true, ◌++◌, Some, length, slice_get, IfOk, OnOk};
+ghost use Rattle.dg_history.specs.declared.limits.TheConstants.{BATCH_LINES_MAX};
+ghost use Rattle.dg_history.specs.History.{in_range};
+ghost use Rattle.dg_index.specs.OpenedIndex.{events_in};
 ghost use Rattle.dg_machine.specs.Answer.{potential_lines, step_lines};
 ghost use Rattle.dg_plan.specs.CertificateLines.{judged};
-ghost use Rattle.dg_plan.specs.IndexGraph.{edges_of, nodes_of};
-ghost use Rattle.dg_plan.specs.InstantPoint.{point, point_at};
-ghost use Rattle.dg_retrieval.specs.KeptGraph.{kept_ground, shape_with};
+ghost use Rattle.dg_planner.specs.HistoryLaws.{first_time_in};
+ghost use Rattle.dg_retrieval.specs.KeptGraph.{kept_edges, kept_nodes, shape_with};
+ghost use Rattle.dg_session.specs.HeldIndex.{point_over, span_held};
 ghost use Rattle.dg_session.specs.Plans.{IsPlanReply};
 
 use dg_certify::certify;
@@ -31,55 +31,33 @@ pub fn shape_of(index: &Index, events: u64) -> Shape
     Shape { l, k, events }
 }
 
-/// The graph of an index with so many events, for the asked columns.
-pub fn planner_of(
-    alloc: Global,
-    index: &Index,
-    events: u64,
-    cols: Columns,
-) -> Result<Planner, AllocError>
-    requires { events ≤ EVENTS_MAX }
-    ensures nodes { IfOk result (λ p. p.nodes ≡ nodes_of (kept_ground index.now.opening events cols)) }
-    ensures edges { IfOk result (λ p. p.edges ≡ edges_of (kept_ground index.now.opening events cols)) }
+/// The graph of an index, for the asked columns.
+pub fn planner_of(alloc: Global, index: &Index, cols: Columns) -> Result<Planner, AllocError>
+    ensures nodes { IfOk result (λ p. p.nodes ≡ kept_nodes index.now.opening (events_in index.now.opening.batches) cols) }
+    ensures edges { IfOk result (λ p. p.edges ≡ kept_edges index.now.opening (events_in index.now.opening.batches) cols) }
 {
     index.facts();
+    let events = index.events_len();
     let shape = shape_of(index, events);
     Planner::new(alloc, shape, index.catalogue(), cols, &[], events > 0)
 }
 
-// How many events there are up to the instant.
-fn count_until(events: &[Event], t: u64) -> u64
-    ensures { result ≡ length (events_until events.now t) }
+// The instant of the first of the events, where there is one.
+fn first_time(events: &[Event]) -> Option<u64>
+    ensures { result ≡ first_time_in events.now }
 {
-    events.iter().filter(|event| event.time <= t).count() as u64
+    Some(events.first()?.time)
 }
 
-// The node for the graph after the first `count` of so many events.
-fn point_at(params: Params, events: u64, count: u64) -> NodeId
-    requires parameters { are_parameters params.l params.k ≡ true }
-    requires few { events ≤ EVENTS_MAX }
-    requires within { count ≤ events }
-    ensures { result ≡ point_at params events count }
+/// The node from which the graph as of the instant `t` is reached, where these are the recent events. Takes at most
+/// 30 look-ups by hash.
+pub fn point_of(index: &Index, recent: &[Event], t: u64) -> NodeId
+    ensures { result ≡ point_over index.now.opening recent.now t }
 {
-    let l = u64::from(params.l);
-    if count == events {
-        NodeId::Now
-    } else if count % l == 0 {
-        NodeId::Leaf((count / l) as u32)
-    } else if count > events / l * l {
-        NodeId::Recent
-    } else {
-        NodeId::List((count / l) as u32)
+    match index.catalogue().point(t, first_time(recent)) {
+        Some(node) => node,
+        None => NodeId::Root,
     }
-}
-
-/// The node from which the graph as of the instant `t` is reached.
-pub fn point_of(index: &Index, events: &[Event], t: u64) -> NodeId
-    requires { length events.now ≤ EVENTS_MAX }
-    ensures { result ≡ point index.now.opening.params events.now t }
-{
-    index.facts();
-    point_at(index.params(), events.len() as u64, count_until(events, t))
 }
 
 // The edge of this number.
@@ -143,23 +121,22 @@ fn plan_lines(
     Ok(lines)
 }
 
-/// The reply with the least plan of the instant `t`, which is in the history, for the asked columns,
-/// over the index and the events that it has.
+/// The reply with the least plan of the instant `t`, which is in the history, for the asked columns, over the index
+/// and its recent events.
 pub fn plan_reply(
     alloc: Global,
     index: &Index,
-    events: &[Event],
+    recent: &[Event],
     t: u64,
     cols: Columns,
 ) -> Result<Reply, AllocError>
-    requires few { length events.now ≤ EVENTS_MAX }
-    requires there { in_range (span_of events.now) t ≡ true }
-    ensures { IfOk result (λ reply. IsPlanReply index.now.opening events.now t cols reply) }
+    requires there { in_range (span_held (Some index.now.opening)) t ≡ true }
+    ensures { IfOk result (λ reply. IsPlanReply index.now.opening recent.now t cols reply) }
 {
     index.facts();
-    let planner = planner_of(alloc, index, events.len() as u64, cols)?;
+    let planner = planner_of(alloc, index, cols)?;
     let nodes = planner.nodes(alloc)?;
-    let route = planner.plan(alloc, point_of(index, events, t))?;
+    let route = planner.plan(alloc, point_of(index, recent, t))?;
     let lines = plan_lines(alloc, planner.edges(), &nodes, &route)?;
     Ok(Reply {
         head: Head::Plan {
@@ -170,25 +147,25 @@ pub fn plan_reply(
     })
 }
 
-/// What is said of the certificate that the lines write for the instant `t`, for the asked columns,
-/// over the index and the events that it has. `None` is a line in no form.
+/// What is said of the certificate that the lines write for the instant `t`, for the asked columns, over the index
+/// and its recent events. `None` is a line in no form.
 pub fn judge(
     alloc: Global,
     index: &Index,
-    events: &[Event],
+    recent: &[Event],
     t: u64,
     cols: Columns,
     lines: &[Option<PlanLine>],
 ) -> Result<Verdict, AllocError>
-    requires few { length events.now ≤ EVENTS_MAX }
+    requires there { in_range (span_held (Some index.now.opening)) t ≡ true }
     requires few_lines { length lines.now ≤ BATCH_LINES_MAX }
     ensures { IfOk result (λ verdict. verdict ≡ judged
-        (edges_of (kept_ground index.now.opening (length events.now) cols))
-        (nodes_of (kept_ground index.now.opening (length events.now) cols))
-        (point index.now.opening.params events.now t) lines.now) }
+        (kept_edges index.now.opening (events_in index.now.opening.batches) cols)
+        (kept_nodes index.now.opening (events_in index.now.opening.batches) cols)
+        (point_over index.now.opening recent.now t) lines.now) }
 {
-    let planner = planner_of(alloc, index, events.len() as u64, cols)?;
+    let planner = planner_of(alloc, index, cols)?;
     let nodes = planner.nodes(alloc)?;
-    let target = point_of(index, events, t);
+    let target = point_of(index, recent, t);
     certify(alloc, planner.edges(), &nodes, target, lines)
 }

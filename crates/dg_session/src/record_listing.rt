@@ -3,10 +3,10 @@
 ghost use Rattle.std.specs.Prelude.{◌≡◌, ◌≤◌, ◌<◌, ◌+◌, ◌*◌, ◌/◌, ◌^◌, ◌++◌, map, IfOk, OnOk};
 ghost use Rattle.std.specs.List.{flat_map};
 ghost use Rattle.dg_graph.specs.declared.function.Function.{Function};
-ghost use Rattle.dg_history.specs.declared.limits.TheConstants.{EVENTS_MAX};
 ghost use Rattle.dg_history.specs.declared.node.Key.TheVariants as key;
 ghost use Rattle.dg_index.specs.Hierarchy.{numbers};
 ghost use Rattle.dg_index.specs.IndexRecords.{heights, keys_of};
+ghost use Rattle.dg_index.specs.OpenedIndex.{events_in};
 ghost use Rattle.dg_session.specs.RecordListing.{downs_of, held_line, listing_of};
 ghost use Rattle.dg_shape.specs.Shapes.{IsShape, made_with};
 
@@ -136,13 +136,12 @@ fn record_lines(
     Ok(lines)
 }
 
-/// The reply with the parameters of an index that has so many events, and a line for each of its
-/// records.
-pub fn tree_reply(alloc: Global, index: &Index, events: u64) -> Result<Reply, AllocError>
-    requires { events ≤ EVENTS_MAX }
-    ensures { IfOk result (λ reply. reply ≡ listing_of index.now.opening events) }
+/// The reply with the parameters of an index, and a line for each of its records.
+pub fn tree_reply(alloc: Global, index: &Index) -> Result<Reply, AllocError>
+    ensures { IfOk result (λ reply. reply ≡ listing_of index.now.opening (events_in index.now.opening.batches)) }
 {
     index.facts();
+    let events = index.events_len();
     let shape = shape_of(index, events);
     let lines = record_lines(alloc, shape, index.catalogue())?;
     let Params { l, k, function } = index.params();

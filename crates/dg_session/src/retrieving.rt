@@ -1,16 +1,14 @@
 //! Retrievals over the index of a session: the graphs as of several instants, by one tree, and the new
 //! handles for them.
 
-ghost use Rattle.std.specs.Prelude.{◌≡◌, ℕ, ◌≤◌, ◌+◌, ◌<◌, ◌^◌, ◌∷◌, ◌++◌, [], false, not, List, length, map, IfErr, IfOk, IfSome, IsErrOf};
+ghost use Rattle.std.specs.Prelude.{◌≡◌, ℕ, ◌≤◌, ◌+◌, ◌<◌, ◌^◌, ◌∷◌, ◌++◌, [], false, not, Some, List, length, map, IfErr, IfOk, IfSome, IsErrOf};
 ghost use Rattle.std.specs.List.{list_any, sum};
 ghost use Rattle.dg_disk.specs.Counts.{Rose};
 ghost use Rattle.dg_disk.specs.Frame.{OnlyReads};
 ghost use Rattle.dg_file.specs.Images.{IsOpenedAs};
 ghost use Rattle.dg_fold.specs.BytesRead.{Takes};
-ghost use Rattle.dg_history.specs.declared.limits.TheConstants.{EVENTS_MAX};
 ghost use Rattle.dg_history.specs.declared.node.NodeId.TheVariants.{Root};
-ghost use Rattle.dg_history.specs.History.{History, in_range, span_of};
-ghost use Rattle.dg_index.specs.IndexRecords.{recent_of};
+ghost use Rattle.dg_history.specs.History.{History, in_range};
 ghost use Rattle.dg_index.specs.OpenedIndex.{events_in};
 ghost use Rattle.dg_machine.specs.declared.command.TheConstants.{TIMES_MAX};
 ghost use Rattle.dg_machine.specs.Answer.{handle_lines, overlays};
@@ -18,7 +16,8 @@ ghost use Rattle.dg_plan.specs.IndexGraph.{arcs_of};
 ghost use Rattle.dg_plan.specs.Walks.{AreSingles};
 ghost use Rattle.dg_retrieval.specs.KeptGraph.{kept_edges};
 ghost use Rattle.dg_retrieval.specs.Retrieval.{ArePoints, IsFirstDamage, IsNoDamage, IsOver, IsTreeOf, TakesAtMostTree, graphs_at};
-ghost use Rattle.dg_session.specs.Reads.{new_entries, points_over};
+ghost use Rattle.dg_session.specs.HeldIndex.{points_over, span_held};
+ghost use Rattle.dg_session.specs.Reads.{new_entries};
 
 use crate::handle_table::Entry;
 use crate::planning::{planner_of, point_of};
@@ -33,34 +32,24 @@ use dg_set::Set;
 use std::alloc::{AllocError, Global};
 use std::thread::Threads;
 
-// The events behind the last closed list.
-fn recent_of<'a>(index: &Index, events: &'a [Event]) -> &'a [Event]
-    ensures { result.now ≡ recent_of index.now.opening.params events.entry.now }
-{
-    index.facts();
-    let size = index.params().l as usize;
-    &events[events.len() / size * size..]
-}
-
 // The nodes from which the graphs as of the instants are reached.
 fn points_of(
     alloc: Global,
     index: &Index,
-    events: &[Event],
+    recent: &[Event],
     times: &[u64],
 ) -> Result<Vec<NodeId>, AllocError>
-    requires { length events.now ≤ EVENTS_MAX }
-    ensures { IfOk result (λ points. points.items ≡ points_over index.now.opening events.now times.now) }
+    ensures { IfOk result (λ points. points.items ≡ points_over index.now.opening recent.now times.now) }
 {
     let mut points = Vec::with_capacity(alloc, times.len())?;
     for t in times {
-        points.push(point_of(index, events, *t))?;
+        points.push(point_of(index, recent, *t))?;
     }
     Ok(points)
 }
 
 /// The graphs as of the instants in these columns, by one tree through the graph of the index. The names of the
-/// history are so many; its current graph and its events are in memory, and the instants are in it.
+/// history are so many; its current graph and its recent events are in memory, and the instants are in it.
 pub fn graphs_at<R: Threads, D: Disk>(
     rt: &R,
     alloc: Global,
@@ -68,41 +57,39 @@ pub fn graphs_at<R: Threads, D: Disk>(
     disk: &mut D,
     names: u32,
     current: &Now,
-    events: &[Event],
+    recent: &[Event],
     times: &[u64],
     cols: Columns,
 ) -> Result<Retrieved, RetrievalFault>
     requires image { IfSome (D.image disk.old) (λ image. IsOpenedAs image index.old.opening) }
-    requires counted { length events.now ≡ events_in index.old.opening.batches }
     requires some { 1 ≤ length times.now }
     requires few { length times.now ≤ TIMES_MAX }
-    requires there { list_any (λ t. not (in_range (span_of events.now) t)) times.now ≡ false }
+    requires there { list_any (λ t. not (in_range (span_held (Some index.old.opening)) t)) times.now ≡ false }
     // the graphs and the weights
-    ensures tree { IfOk result (λ r. IsTreeOf (kept_edges index.old.opening (length events.now) cols) (points_over index.old.opening events.now times.now) r.weight) }
-    ensures singles { IfOk result (λ r. AreSingles (arcs_of (kept_edges index.old.opening (length events.now) cols)) (Root ∷ [])
-        (points_over index.old.opening events.now times.now) r.singles.items) }
+    ensures tree { IfOk result (λ r. IsTreeOf (kept_edges index.old.opening (events_in index.old.opening.batches) cols) (points_over index.old.opening recent.now times.now) r.weight) }
+    ensures singles { IfOk result (λ r. AreSingles (arcs_of (kept_edges index.old.opening (events_in index.old.opening.batches) cols)) (Root ∷ [])
+        (points_over index.old.opening recent.now times.now) r.singles.items) }
     ensures sum { IfOk result (λ r. r.sum ≡ sum r.singles.items) }
-    ensures graphs { IfOk result (λ r. IfSome (D.image disk.old) (λ image. (z : History) → IsOver z image index.old.opening names current.now.graph (recent_of index.old.opening.params events.now)
-        → ArePoints z (points_over index.old.opening events.now times.now) times.now → r.graphs.items ≡ graphs_at z times.now cols)) }
+    ensures graphs { IfOk result (λ r. IfSome (D.image disk.old) (λ image. (z : History) → IsOver z image index.old.opening names current.now.graph recent.now
+        → ArePoints z (points_over index.old.opening recent.now times.now) times.now → r.graphs.items ≡ graphs_at z times.now cols)) }
     // the bytes read
-    ensures takes { IfOk result (λ r. IfSome (D.image disk.old) (λ image. (z : History) → IsOver z image index.old.opening names current.now.graph (recent_of index.old.opening.params events.now)
+    ensures takes { IfOk result (λ r. IfSome (D.image disk.old) (λ image. (z : History) → IsOver z image index.old.opening names current.now.graph recent.now
         → Takes r.weight (D.taken disk.old) (D.taken disk.new))) }
-    ensures most { IfSome (D.image disk.old) (λ image. (z : History) → IsOver z image index.old.opening names current.now.graph (recent_of index.old.opening.params events.now)
-        → TakesAtMostTree (kept_edges index.old.opening (length events.now) cols) (points_over index.old.opening events.now times.now) (D.taken disk.old) (D.taken disk.new)) }
+    ensures most { IfSome (D.image disk.old) (λ image. (z : History) → IsOver z image index.old.opening names current.now.graph recent.now
+        → TakesAtMostTree (kept_edges index.old.opening (events_in index.old.opening.batches) cols) (points_over index.old.opening recent.now times.now) (D.taken disk.old) (D.taken disk.new)) }
     // why nothing is retrieved
     ensures cause { IsErrOf result RetrievalFault.Disk → Rose (D.faults disk.old) (D.faults disk.new) }
     ensures damage { IfErr result (λ fault. IfSome (D.image disk.old) (λ image.
-        IsFirstDamage names (kept_edges index.old.opening (length events.now) cols) index.old.opening cols (points_over index.old.opening events.now times.now) image fault)) }
-    ensures never { IfErr result (λ fault. IfSome (D.image disk.old) (λ image. (z : History) → IsOver z image index.old.opening names current.now.graph (recent_of index.old.opening.params events.now)
-        → ArePoints z (points_over index.old.opening events.now times.now) times.now → IsNoDamage fault)) }
+        IsFirstDamage names (kept_edges index.old.opening (events_in index.old.opening.batches) cols) index.old.opening cols (points_over index.old.opening recent.now times.now) image fault)) }
+    ensures never { IfErr result (λ fault. IfSome (D.image disk.old) (λ image. (z : History) → IsOver z image index.old.opening names current.now.graph recent.now
+        → ArePoints z (points_over index.old.opening recent.now times.now) times.now → IsNoDamage fault)) }
     // what it leaves
     ensures same { index.new ≡ index.old }
     ensures disk { OnlyReads D.image D.faults D.write_faults disk.old disk.new }
 {
     index.facts();
-    let planner = planner_of(alloc, index, events.len() as u64, cols)?;
-    let targets = points_of(alloc, index, events, times)?;
-    let recent = recent_of(index, events);
+    let planner = planner_of(alloc, index, cols)?;
+    let targets = points_of(alloc, index, recent, times)?;
     retrieve(
         rt, alloc, index, disk, names, current, recent, &planner, &targets, times, cols,
     )

@@ -1,4 +1,4 @@
-ghost use Rattle.std.specs.Prelude.{◌≡◌, ◌⊎◌, ℕ, ◌+◌, ◌<◌, ◌≤◌, IfErr, IfSome, IsErrOf, OnErr, OnOk, List, [], ◌∷◌, ◌++◌, Option, None, is_some, true, false, not, length, map, take, IfOk};
+ghost use Rattle.std.specs.Prelude.{◌≡◌, ◌⊎◌, ℕ, ◌+◌, ◌<◌, ◌≤◌, IfErr, IfSome, IsErrOf, OnErr, OnOk, List, [], ◌∷◌, ◌++◌, Ok, Option, None, Some, is_some, true, false, not, length, map, take, IfOk};
 ghost use Rattle.std.specs.List.{list_any, sum};
 ghost use Rattle.dg_disk.specs.Counts.{Rose as DiskRose};
 ghost use Rattle.dg_disk.specs.Frame.{GoesOn, OnlyReads, ReadsAndSyncs};
@@ -13,37 +13,38 @@ ghost use Rattle.dg_machine.specs.declared.limits.TheConstants.{LIVE_HANDLES_MAX
 ghost use Rattle.dg_machine.specs.Answer.{headed, is_refusal, overlays};
 ghost use Rattle.dg_machine.specs.CommandGrammar.{CountIsInRange};
 ghost use Rattle.dg_machine.specs.Needs.{following, is_writing, needs};
-ghost use Rattle.dg_history.specs.History.{History, are_parameters, in_range, span_of};
-ghost use Rattle.dg_index.specs.ImageOfHistory.{StandsAs};
+ghost use Rattle.dg_history.specs.History.{History, are_parameters, in_range};
+ghost use Rattle.dg_index.specs.ImageOfHistory.{IsImageOf, StandsAs};
+ghost use Rattle.dg_index.specs.OpenedIndex.{opened_of};
 ghost use Rattle.dg_machine.specs.MachineState.{IsWithin, MachineState, machine_at};
 ghost use Rattle.dg_machine.specs.Planning.{edges_in, points_for};
 ghost use Rattle.dg_machine.specs.Run.{is_store_read};
 ghost use Rattle.dg_retrieval.specs.Retrieval.{IsNoDamage, TakesAtMostTree};
-ghost use Rattle.dg_index.specs.SessionStart.{start_of};
 ghost use Rattle.dg_session.specs.BatchCommand.{barred, command_with};
+ghost use Rattle.dg_session.specs.HeldIndex.{events_held, span_held};
 ghost use Rattle.dg_session.specs.Damage.{DamageIn, DamageIs, NamesDamage};
 ghost use Rattle.dg_session.specs.Reads.{IsRetrieved, Reads, ReadsIn, new_entries, with_entries};
-ghost use Rattle.dg_session.specs.Session.{ComesTo, IsHeldBy, StandsFor, Steps, Stops, TakesLines, is_too_full, refused_by, retrieval_needs};
-ghost use Rattle.dg_session.specs.SessionStart.{RefusesStart, StartsAs};
+ghost use Rattle.dg_session.specs.Session.{ComesTo, StandsFor, Steps, Stops, TakesLines, is_too_full, refused_by, retrieval_needs};
+ghost use Rattle.dg_session.specs.SessionStart.{IsNew};
+ghost use Rattle.dg_start.specs.SessionStart.{PlansLastLeaf, RefusesStart, Starts, start_bytes};
+ghost use Rattle.dg_start.specs.StoredHistory.{IsHeldBy, started_with};
 ghost use Rattle.dg_session.specs.declared.stop.Stop.TheVariants as stop;
 
-use crate::batch_command::{BatchCommand, add_batch};
+use crate::batch_command::BatchCommand;
 use crate::batch_lines::read_batch;
 use crate::halt::Halt;
 use crate::handle_table::{Entry, graph_at};
-use crate::history_reader::open;
-use crate::laws::law_images_start_as_they_stand;
 use crate::plan_lines::read_plan_lines;
 use crate::planning::{judge, plan_reply};
 use crate::record_listing::tree_reply;
 use crate::retrieving::{entries_of, graphs_at, handle_lines};
 use crate::snapshot::{listing, span};
 use crate::stop::Stop;
-use crate::stored_history::StoredHistory;
+use dg_append::add_batch;
 use dg_disk::Disk;
 use dg_file::Index;
 use dg_graph::{Columns, NAMES_MAX};
-use dg_history::{ARITY_MAX, ARITY_MIN, LEAF_MAX, LEAF_MIN, Params, StartFault};
+use dg_history::{ARITY_MAX, ARITY_MIN, LEAF_MAX, LEAF_MIN, Params};
 use dg_io::{Lines, Source};
 use dg_machine::{
     BodyLines, Command, FIRST_HANDLE, Head, LIVE_HANDLES_MAX, Limits, Refusal, Reply, TIMES_MAX,
@@ -51,6 +52,7 @@ use dg_machine::{
 use dg_names::Names;
 use dg_retrieval::{RetrievalFault, Retrieved};
 use dg_set::Set;
+use dg_start::{StartFault, StoredHistory, open};
 use std::alloc::{AllocError, Global};
 use std::marker::Model;
 use std::thread::Threads;
@@ -73,8 +75,7 @@ impl Model for Session {
     ghost use Rattle.dg_history.specs.declared.limits.TheConstants.{EVENTS_MAX, FILE_BYTES_MAX};
     ghost use Rattle.dg_machine.specs.declared.limits.TheConstants.{FIRST_HANDLE, LIVE_HANDLES_MAX, SCRIPT_BYTES_MAX};
     ghost use Rattle.dg_session.specs.Parts.{Parts};
-    ghost use Rattle.dg_session.specs.SoundHistory.{IsSoundHistory};
-    ghost use Rattle.dg_session.specs.SessionStart.{index_opening};
+    ghost use Rattle.dg_start.specs.StoredHistory.{IsSoundHistory, index_opening};
 
     ghost Value = { Parts };
 
@@ -82,7 +83,8 @@ impl Model for Session {
       limits = s.limits;
       index = index_opening s.history.index;
       names = s.history.names;
-      events = s.history.events.items;
+      graph = s.history.now.graph;
+      recent = s.history.recent.items;
       table = map (λ e. e.0) s.table.items;
       graphs = map (λ e. e.1) s.table.items;
       next = s.next;
@@ -91,41 +93,47 @@ impl Model for Session {
     ghost invariant = { λ s.
         (vec_len s.table ≤ LIVE_HANDLES_MAX) × (s.next ≡ FIRST_HANDLE + vec_len s.table)
         × (s.limits.script_bytes ≤ SCRIPT_BYTES_MAX) × (s.limits.events ≤ EVENTS_MAX) × (s.limits.file_bytes ≤ FILE_BYTES_MAX)
-        × IsSoundHistory (index_opening s.history.index) s.history.names s.history.now s.history.events.items };
+        × IsSoundHistory (index_opening s.history.index) s.history.names s.history.now s.history.recent.items };
 }
 
 impl Session {
     /// A session over the index file that the disk has, within these limits, with room for every
     /// handle that may live. Where the file has no index yet, the session has none.
     ///
-    /// `StartFault` says why not: the disk failed, the file is not one of an index, a segment, a record
-    /// or an event of it is not right, or memory lacks. An image that stands for a history, or for
-    /// none, is refused only for the disk or for memory.
-    pub fn start<R: Threads, D: Disk>(
-        _rt: &R,
+    /// It reads the directories, the recent pieces and the records along the plan of the last leaf, and nothing
+    /// else. `StartFault` says why there is none: the disk failed, the file is not one of an index, a segment, a
+    /// record that is read or a recent event is not right, or memory lacks. An image that stands for a history, or
+    /// for none, is refused only for the disk or for memory.
+    pub fn start<R: Threads + Sync, D: Disk>(
+        rt: &R,
         alloc: Global,
         disk: &mut D,
         limits: Limits,
     ) -> Result<Session, StartFault>
         requires limits { IsWithin limits }
         // the session
-        ensures started { IfOk result (λ session. IfSome (D.image disk.old) (λ image. StartsAs limits session (start_of image))) }
+        ensures started { IfOk result (λ session. IfSome (D.image disk.old) (λ image.
+            Starts image (Ok (started_with session.index session.names session.graph session.recent)))) }
+        ensures new { IfOk result (λ session. IsNew limits session) }
         ensures stands { IfOk result (λ session. IfSome (D.image disk.old) (λ image. (index : Option History)
             → StandsAs index image → StandsFor session image (machine_at limits index))) }
         ensures held { IfOk result (λ session. IfSome (D.image disk.new) (λ image. IsHeldBy session.index session.names image)) }
+        // the bytes read, over an image of a history
+        ensures takes { OnOk result (IfSome (D.image disk.old) (λ image. (z : History) → IsImageOf z image
+            → (steps : List ℕ) → PlansLastLeaf (opened_of z).index steps
+            → Takes (start_bytes (opened_of z).index steps) (D.taken disk.old) (D.taken disk.new))) }
         // why there is none
-        ensures refused { IfErr result (λ fault. IfSome (D.image disk.old) (λ image. RefusesStart fault (start_of image))) }
+        ensures refused { IfErr result (λ fault. IfSome (D.image disk.old) (λ image. RefusesStart fault image)) }
         ensures never { IfErr result (λ fault. IfSome (D.image disk.old) (λ image. (index : Option History)
             → StandsAs index image → (fault ≡ StartFault.Disk) ⊎ (fault ≡ StartFault.Memory))) }
         ensures cause { IsErrOf result StartFault.Disk → DiskRose (D.faults disk.old) (D.faults disk.new) }
         // what it leaves
         ensures disk { ReadsAndSyncs D.image D.faults D.write_faults disk.old disk.new }
     {
-        law_images_start_as_they_stand();
         let Ok(table) = Vec::with_capacity(alloc, LIVE_HANDLES_MAX) else {
             return Err(StartFault::Memory);
         };
-        let history = open(alloc, disk)?;
+        let history = open(rt, alloc, disk)?;
         Ok(Session {
             limits,
             history,
@@ -144,8 +152,9 @@ impl Session {
 
     /// Carries out the command, and answers it. A load and an append read the lines that follow them,
     /// whatever the answer is. A reply that is a refusal leaves the session and the disk's image as
-    /// they were. Only a retrieval is refused for damage: for the first column that its tree enters and
-    /// that is in no spelling.
+    /// they were. Only a retrieval and a batch are refused for damage: a retrieval for the first column that its tree
+    /// enters and that is in no spelling, a batch for the first that the trees of the older children of the interior
+    /// nodes that it completes enter.
     ///
     /// `Stop::Read` where a read of the source failed, `Stop::Limit` where another byte is needed and
     /// as many as the limit allows were taken: the session is then as it was. `Stop::Store` where the
@@ -227,8 +236,15 @@ impl Session {
     {
         match *command {
             Command::Create { l, k, function } => self.create(disk, Params { l, k, function }),
-            Command::Load { count } => self.add(BatchCommand::Load, count, lines, source, disk),
-            Command::Append { count } => self.add(BatchCommand::Append, count, lines, source, disk),
+            Command::Load { count } => self.add(rt, BatchCommand::Load, count, lines, source, disk),
+            Command::Append { count } => self.add(
+                rt,
+                BatchCommand::Append,
+                count,
+                lines,
+                source,
+                disk,
+            ),
             Command::At { t, cols } => self.at(rt, t, cols, disk),
             Command::Several { cols, times, count } => {
                 self.several(rt, cols, times, count, disk)
@@ -245,6 +261,27 @@ impl Session {
         ensures { result ≡ is_some self.now.index }
     {
         self.history.index.is_some()
+    }
+
+    // How many events the history has.
+    fn events_held(&self) -> u64
+        ensures held { result ≡ events_held self.now.index }
+        ensures few { result ≤ EVENTS_MAX }
+    {
+        match &self.history.index {
+            Some(index) => index.events_len(),
+            None => 0,
+        }
+    }
+
+    // The first and the last instant of the history, where there is an event.
+    fn span(&self) -> Option<(u64, u64)>
+        ensures { result ≡ span_held self.now.index }
+    {
+        match &self.history.index {
+            Some(index) => span(index),
+            None => None,
+        }
     }
 
     // Why no index with these parameters is made.
@@ -267,6 +304,7 @@ impl Session {
         ensures store { IsErrOf result (Halt.Stop Stop.Store) → DiskRose (D.write_faults disk.old) (D.write_faults disk.new) }
         ensures no_read { IsErrOf result (Halt.Stop Stop.Read) → ⊥ }
         ensures no_limit { IsErrOf result (Halt.Stop Stop.Limit) → ⊥ }
+        ensures reads { ReadsIn (Command.Create params.l params.k params.function) self.old (D.image disk.old) result (D.taken disk.old) (D.taken disk.new) }
         ensures disk { GoesOn D.image D.faults D.write_faults disk.old disk.new }
     {
         if let Some(refusal) = self.refused_creation(params) {
@@ -286,12 +324,11 @@ impl Session {
         if !self.has_index() {
             return Some(Refusal::NoIndex);
         }
-        let held = self.history.events.len() as u64;
-        if matches!(which, BatchCommand::Load) && held > 0 {
+        if matches!(which, BatchCommand::Load) && self.span().is_some() {
             return Some(Refusal::AlreadyLoaded);
         }
         if self.is_too_full(count) {
-            return Some(Refusal::HistoryFull(held, u64::from(count)));
+            return Some(Refusal::HistoryFull(self.events_held(), u64::from(count)));
         }
         None
     }
@@ -301,14 +338,15 @@ impl Session {
         requires { count ≤ BATCH_LINES_MAX }
         ensures { result ≡ is_too_full self.now count }
     {
-        let events = self.history.events.len() as u64 + u64::from(count);
+        let events = self.events_held() + u64::from(count);
         let names = self.history.names.len() + NAMES_OF_A_LINE * count;
         self.limits.events < events || NAMES_MAX < names
     }
 
     // The batch of the lines that follow, as the history's first or next one.
-    fn add<S: Source, D: Disk>(
+    fn add<R: Threads, S: Source, D: Disk>(
         &mut self,
+        rt: &R,
         which: BatchCommand,
         count: u32,
         lines: &mut Lines,
@@ -326,7 +364,11 @@ impl Session {
         ensures store { IsErrOf result (Halt.Stop Stop.Store) → DiskRose (D.write_faults disk.old) (D.write_faults disk.new) }
         ensures read { IsErrOf result (Halt.Stop Stop.Read) → CountRose (S.faults source.old) (S.faults source.new) }
         ensures limit { IsErrOf result (Halt.Stop Stop.Limit) → (lines.new.taken ≡ lines.new.limit) × NeedsByte lines.new }
+        ensures store_read { IsErrOf result (Halt.Refusal Refusal.StoreRead)
+            → DiskRose (D.faults disk.old) (D.faults disk.new) × (D.write_faults disk.new ≡ D.write_faults disk.old) }
+        ensures damaged { DamageIn (command_with which count) self.old (D.image disk.old) result }
         // what it takes and leaves
+        ensures reads { ReadsIn (command_with which count) self.old (D.image disk.old) result (D.taken disk.old) (D.taken disk.new) }
         ensures lines { Advances lines.old (S.left source.old) (S.faults source.old)
             lines.new (S.left source.new) (S.faults source.new) }
         ensures disk { GoesOn D.image D.faults D.write_faults disk.old disk.new }
@@ -341,22 +383,26 @@ impl Session {
             lines,
             source,
         )?;
-        let limit = self.limits.file_bytes;
-        let added = add_batch(self.alloc, limit, known, &batch, &mut self.history, disk)?;
+        let added = add_batch(
+            rt,
+            self.alloc,
+            self.limits.file_bytes,
+            known,
+            batch.front,
+            &batch.changes,
+            &mut self.history,
+            disk,
+        )?;
         Ok(headed(self.alloc, which.head(added)))
     }
 
     // The index, or why nothing is asked of it.
     fn index(&self) -> Result<&Index, Refusal>
         ensures index { IfOk result (λ index. self.now.index ≡ Some index.now.opening) }
-        ensures few { OnOk result (length self.now.events ≤ EVENTS_MAX) }
         ensures none { IfErr result (λ refusal. (self.now.index ≡ None) × (refusal ≡ Refusal.NoIndex)) }
     {
         match &self.history.index {
-            Some(index) => {
-                index.facts();
-                Ok(index)
-            }
+            Some(index) => Ok(index),
             None => Err(Refusal::NoIndex),
         }
     }
@@ -364,12 +410,11 @@ impl Session {
     // The index, where the instant `t` is in its history, or why nothing is asked of the instant.
     fn index_at(&self, t: u64) -> Result<&Index, Refusal>
         ensures index { IfOk result (λ index. self.now.index ≡ Some index.now.opening) }
-        ensures few { OnOk result (length self.now.events ≤ EVENTS_MAX) }
-        ensures there { OnOk result (in_range (span_of self.now.events) t ≡ true) }
+        ensures there { IfOk result (λ index. in_range (span_held (Some index.now.opening)) t ≡ true) }
         ensures refused { IfErr result (λ refusal. (handles : ℕ) → refused_by self.now 0 (retrieval_needs (t ∷ []) handles) ≡ Some refusal) }
     {
         let index = self.index()?;
-        let ends = span(&self.history.events);
+        let ends = span(index);
         if !in_range(ends, t) {
             return Err(Refusal::OutOfRange(ends));
         }
@@ -384,7 +429,7 @@ impl Session {
         if !self.has_index() {
             return Some(Refusal::NoIndex);
         }
-        let ends = span(&self.history.events);
+        let ends = self.span();
         if is_any_out(ends, times) {
             return Some(Refusal::OutOfRange(ends));
         }
@@ -434,7 +479,7 @@ impl Session {
             disk,
             self.history.names.len(),
             &self.history.now,
-            &self.history.events,
+            &self.history.recent,
             times,
             cols,
         )
@@ -546,7 +591,7 @@ impl Session {
         ensures no_stop { (stop : Stop) → result ≡ Err (Halt.Stop stop) → ⊥ }
     {
         let index = self.index_at(t)?;
-        let reply = plan_reply(self.alloc, index, &self.history.events, t, cols)?;
+        let reply = plan_reply(self.alloc, index, &self.history.recent, t, cols)?;
         Ok(reply)
     }
 
@@ -582,8 +627,8 @@ impl Session {
         if !written.is_whole {
             return Err(Halt::Refusal(Refusal::OutOfMemory));
         }
-        let events = &self.history.events;
-        let verdict = judge(self.alloc, index, events, t, cols, &written.said)?;
+        let recent = &self.history.recent;
+        let verdict = judge(self.alloc, index, recent, t, cols, &written.said)?;
         Ok(headed(self.alloc, Head::Certified(verdict)))
     }
 
@@ -593,7 +638,7 @@ impl Session {
         ensures no_stop { (stop : Stop) → result ≡ Err (Halt.Stop stop) → ⊥ }
     {
         let index = self.index()?;
-        let reply = tree_reply(self.alloc, index, self.history.events.len() as u64)?;
+        let reply = tree_reply(self.alloc, index)?;
         Ok(reply)
     }
 }

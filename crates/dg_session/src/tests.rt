@@ -1,7 +1,7 @@
 ghost use Rattle.std.specs.Prelude.{◌≡◌};
 ghost use Rattle.dg_disk.specs.Memory.{image_of};
 ghost use Rattle.dg_machine.specs.MachineState.{IsWithin};
-ghost use Rattle.dg_session.specs.Session.{IsHeldBy};
+ghost use Rattle.dg_start.specs.StoredHistory.{IsHeldBy};
 
 use crate::{Session, StartFault, Stop};
 use dg_disk::MemoryDisk;
@@ -379,14 +379,16 @@ fn file_with_list(last: u8, kind: u8) -> [u8; 177] {
     ]
 }
 
+// The plan of the last leaf goes over the list. Its columns have to be in their spelling, and the graph that they
+// come to has to be one; its times, and whether some change comes to each of its events, are not tested.
 #[test]
 fn a_list_is_started_from_or_refused(rt: HostRuntime) -> Result<(), Fail> {
     let bad_record = StartFault::BadRecord(Key::List(0), Column::Structure);
     let cases: [(u8, u8, Option<StartFault>); 4] = [
         (20, 1, None),
-        (10, 1, Some(StartFault::BadRecent(2))),
+        (10, 1, None),
         (20, 7, Some(bad_record)),
-        (20, 2, Some(StartFault::BadRecent(1))),
+        (20, 2, None),
     ];
     for (last, kind, fault) in cases {
         let image = file_with_list(last, kind);

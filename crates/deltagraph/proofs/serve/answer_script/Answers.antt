@@ -5,7 +5,7 @@ use Rattle.dg_machine.specs.ReplyText.{text}
 use Rattle.deltagraph.specs.declared.status.Status.TheVariants as status
 use Rattle.deltagraph.specs.Turns.{asked}
 use Rattle.deltagraph.proofs.EndOfRun.{done_within, limit_taken}
-use Rattle.deltagraph.proofs.RunSoFar.{asked_first, at_err, at_ok, over_first, over_skip, over_on, over_cut, over_broken, over_part}
+use Rattle.deltagraph.proofs.RunSoFar.{asked_first, at_err, at_ok, over_first, over_skip, over_on, over_cut, over_broken, over_part, silent_on, silent_skip}
 use Rattle.deltagraph.proofs.serve.answer_script.Goals as goal
 
 pub loop-reply-init : goal.loop-reply-init
@@ -17,6 +17,7 @@ loop-reply-init g c = record {
   lines = advances_none c.new-lines.result _ _;
   sink_counted = omega arith;
   disk_counted = omega arith;
+  silent = λ none. (sym (asked_first c.new-lines.result (g.S.Source.left c.args.source.now) c.args.limit c.new-lines.ensures) ∙ none, refl);
 }
 
 pub loop-reply-preserved-in-Ok-Skipped : goal.loop-reply-preserved-in-Ok-Skipped
@@ -31,6 +32,7 @@ loop-reply-preserved-in-Ok-Skipped g c =
       lines = advances_both c.new-lines.result l.lines c.next_turn.new.lines _ _ _ _ _ _ l.invariant.lines c.next_turn.ensures.lines;
       sink_counted = l.invariant.sink_counted;
       disk_counted = omega (arith, l.invariant.disk_counted, c.next_turn.ensures.disk.writes_counted);
+      silent = silent_skip _ _ _ _ (g.D.Disk.taken l.disk) _ l.invariant.silent turn.0 (rw c.in-Ok-Skipped.field-0-is at c.in-Ok-Skipped.ensures.unread);
     }
 
 pub loop-reply-preserved : goal.loop-reply-preserved
@@ -49,6 +51,7 @@ loop-reply-preserved g c =
       lines = advances_both c.new-lines.result l.lines c.next_turn.new.lines _ _ _ _ _ _ l.invariant.lines c.next_turn.ensures.lines;
       sink_counted = omega (arith, l.invariant.sink_counted, c.write_reply.ensures.counted);
       disk_counted = omega (arith, l.invariant.disk_counted, c.next_turn.ensures.disk.writes_counted);
+      silent = silent_on _ (asked l.lines (g.S.Source.left l.source)) _ turn.0 _ (g.D.Disk.taken l.disk) _ l.invariant.silent turn.1;
     }
 
 pub returns-then-is_err : goal.returns-then-is_err
@@ -70,6 +73,7 @@ returns-then-is_err g c =
         sink_fault = λ e. omega (arith, l.invariant.sink_counted, at_err c.write_reply.result (CountRose (g.K.Sink.faults l.sink) (g.K.Sink.faults c.write_reply.new.sink)) (sym c.is_err.ensures.value ∙ c.if-is_err.true) c.write_reply.ensures.cause);
         disk_fault = λ e. cc;
         script_limit = λ e. cc;
+        silent = λ e. cc;
       };
     }
 
@@ -89,6 +93,7 @@ returns-in-Ok-End g c =
         sink_fault = λ e. cc;
         disk_fault = λ e. cc;
         script_limit = λ e. cc;
+        silent = λ e none. (rw c.in-Ok-End.field-0-is at c.in-Ok-End.ensures.unread) ∙ (l.invariant.silent none).1;
       };
     }
 
@@ -108,6 +113,7 @@ returns-in-Err-Read g c =
         sink_fault = λ e. cc;
         disk_fault = λ e. cc;
         script_limit = λ e. cc;
+        silent = λ e. cc;
       };
     }
 
@@ -129,6 +135,7 @@ returns-in-Err-Limit g c =
         sink_fault = λ e. cc;
         disk_fault = λ e. cc;
         script_limit = λ e. limit_taken c.args.limit c.new-lines.result c.next_turn.new.lines _ _ _ _ lines c.new-lines.ensures limit.0;
+        silent = λ e. cc;
       };
     }
 
@@ -145,5 +152,6 @@ returns-in-Err-Store g c =
         sink_fault = λ e. cc;
         disk_fault = λ e. omega (arith, l.invariant.disk_counted, c.next_turn.ensures.store_cause is);
         script_limit = λ e. cc;
+        silent = λ e. cc;
       };
     }

@@ -1,10 +1,12 @@
 -- The run so far, from every machine that the session stood for, and the counts.
 use Rattle.std.proofs.Common.{◌≡◌, ◌≤◌, IfSome, is_some}
+use Rattle.std.specs.Option.{option_map}
 use Rattle.dg_io.specs.Frame.{Advances}
 use Rattle.dg_io.specs.LinesState.{to_come}
-use Rattle.dg_session.specs.Session.{IsHeldBy}
+use Rattle.dg_machine.specs.Script.{script}
+use Rattle.dg_start.specs.StoredHistory.{IsHeldBy}
 use Rattle.deltagraph.specs.Turns.{asked}
-use Rattle.deltagraph.proofs.RunSoFar.{GoingOver}
+use Rattle.deltagraph.proofs.RunSoFar.{GoingOver, StaysSilent}
 use Rattle.deltagraph.proofs.serve.answer_script.Given as goal
 
 abbrev pub invariant-loop-reply : goal.invariant-loop-reply
@@ -16,6 +18,7 @@ invariant-loop-reply g l = record {
   lines : Advances l.initial.lines (g.S.Source.left l.fn.source) (g.S.Source.faults l.fn.source) l.lines (g.S.Source.left l.source) (g.S.Source.faults l.source);
   sink_counted : g.K.Sink.faults l.fn.sink ≤ g.K.Sink.faults l.sink;
   disk_counted : g.D.Disk.write_faults l.fn.disk ≤ g.D.Disk.write_faults l.disk;
+  silent : StaysSilent (option_map script (g.S.Source.left l.fn.source)) (asked l.lines (g.S.Source.left l.source)) (g.D.Disk.taken l.fn.disk) (g.D.Disk.taken l.disk);
 }
 
 abbrev pub decreases-loop-reply : goal.decreases-loop-reply

@@ -1,7 +1,7 @@
 use Rattle.std.proofs.Common.{◌≡◌, ◌-◌, ◌+◌, ◌*◌, ◌≤◌, vec_len, length, take}
 use Rattle.dg_io.specs.LinesState.{told}
 use Rattle.dg_graph.specs.declared.limits.TheConstants.{NAMES_MAX}
-use Rattle.dg_session.specs.declared.batch_lines.Front.TheVariants.{Whole}
+use Rattle.dg_append.specs.declared.front.Front.TheVariants.{Whole}
 use Rattle.dg_io.specs.Frame.{Advances}
 use Rattle.dg_session.proofs.ReadLines.{Gathering}
 use Rattle.dg_session.proofs.batch_lines.read_lines.Given as goal

@@ -1,4 +1,4 @@
-use Rattle.std.proofs.Common.{◌+◌, ◌∷◌, [], ◌++◌, ◌∙◌, ap, arith}
+use Rattle.std.proofs.Common.{◌+◌, ◌∷◌, [], ◌++◌, ◌∙◌, arith}
 use Rattle.dg_history.specs.declared.node.Key.TheVariants as key
 use Rattle.dg_session.specs.RecordListing.{held_line}
 use Rattle.dg_session.proofs.ListedRecords.{numbered_more}

@@ -1,6 +1,5 @@
 use Rattle.std.proofs.Common.{ℕ, ◌*◌, ◌/◌, ◌≤◌, arith, div-mul-le_self}
 use Rattle.std.proofs.Math.Nat.{mul-le-mul_left}
-use Rattle.dg_session.proofs.record_listing.children_at.Goals as goal
 
 few : (leaves arity width : ℕ) → arity ≤ width → leaves / width * arity ≤ leaves
 few leaves arity width wide =

@@ -1,5 +1,3 @@
-use Rattle.std.proofs.Common.{◌≡◌}
-use Rattle.dg_index.specs.Hierarchy.{leaves}
 use Rattle.dg_shape.specs.Shapes.{made_with}
 use Rattle.dg_session.specs.RecordListing.{held_line}
 use Rattle.dg_session.proofs.ListedRecords.{all_listed}

@@ -1,4 +1,4 @@
-use Rattle.std.proofs.Common.{◌≡◌, length, arith}
+use Rattle.std.proofs.Common.{arith}
 use Rattle.dg_session.proofs.HandleEntries.{entries_end, none_left}
 use Rattle.dg_session.proofs.retrieving.entries_of.Goals as goal
 

@@ -1,4 +1,4 @@
-use Rattle.std.proofs.Common.{◌≡◌, ◌+◌, ◌++◌, drop}
+use Rattle.std.proofs.Common.{◌≡◌, ◌+◌}
 use Rattle.dg_session.proofs.HandleEntries.{EntriesSoFar}
 use Rattle.dg_session.proofs.retrieving.entries_of.Given as goal
 

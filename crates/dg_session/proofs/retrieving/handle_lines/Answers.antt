@@ -1,4 +1,4 @@
-use Rattle.std.proofs.Common.{◌≡◌, ℕ, Bool, true, false, length, arith, refl}
+use Rattle.std.proofs.Common.{◌≡◌, Bool, true, false, length, arith, refl}
 use Rattle.std.specs.Prelude.{nat_le}
 use Rattle.std.proofs.lemmas.Bool.{leb-true, leb-false}
 use Rattle.dg_machine.specs.Answer.{handle_lines}

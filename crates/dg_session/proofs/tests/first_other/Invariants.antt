@@ -1,5 +1,5 @@
 use Rattle.dg_disk.specs.Memory.{image_of}
-use Rattle.dg_session.specs.Session.{IsHeldBy}
+use Rattle.dg_start.specs.StoredHistory.{IsHeldBy}
 use Rattle.dg_session.proofs.tests.first_other.Given as goal
 
 abbrev pub invariant-loop-number : goal.invariant-loop-number

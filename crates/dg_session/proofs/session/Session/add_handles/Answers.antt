@@ -1,8 +1,7 @@
-use Rattle.std.proofs.Common.{◌≡◌, ℕ, ◌+◌, ◌≤◌, length, map, sym, ◌∙◌, ap, subst, arith}
+use Rattle.std.proofs.Common.{◌≡◌, length, map, ap, arith}
 use Rattle.std.proofs.lemmas.List.{length-map}
-use Rattle.dg_machine.specs.Answer.{overlays}
 use Rattle.dg_session.specs.Parts.{Parts}
-use Rattle.dg_session.proofs.Retrievals.{entry_count, few_entries}
+use Rattle.dg_session.proofs.Retrievals.{entry_count}
 use Rattle.dg_session.proofs.session.Session.add_handles.Goals as goal
 
 pub overflow_cast-count : goal.overflow_cast-count

@@ -1,5 +1,4 @@
-use Rattle.std.proofs.Common.{◌≡◌, ℕ, List, [], ◌∷◌, Err, refl, sym, ◌∙◌, ap, subst, rules}
-use Rattle.dg_machine.specs.declared.command.Command.{Command}
+use Rattle.std.proofs.Common.{◌≡◌, [], ◌∷◌, refl, sym, ◌∙◌, ap, subst}
 use Rattle.dg_machine.specs.declared.command.Command.TheVariants as command
 use Rattle.dg_machine.specs.declared.reply.Head.TheVariants as head
 use Rattle.dg_machine.specs.declared.reply.Refusal.TheVariants as refusal
@@ -35,7 +34,7 @@ returns-in_err-graphs-clause-reads g c =
     handed_out c.from_residual.result (retrieval_halt c.in_err-graphs.field-0.0)
     (λ r. ReadsIn (command.At c.args.t c.args.cols) c.args.self.now (g.D.Disk.image c.args.disk.now) r (g.D.Disk.taken c.args.disk.now) (g.D.Disk.taken c.retrieve.new.disk)) c.from_residual.ensures
     (reads_failing (command.At c.args.t c.args.cols) c.args.self.now (g.D.Disk.image c.args.disk.now) c.in_err-graphs.field-0.0 (g.D.Disk.taken c.args.disk.now) (g.D.Disk.taken c.retrieve.new.disk)
-    (λ h refuses. at_fails c.args.self.now c.args.t c.args.cols (g.D.Disk.image c.args.disk.now) h (g.D.Disk.taken c.args.disk.now) (g.D.Disk.taken c.retrieve.new.disk) refuses
+    (λ h refuses late. at_fails c.args.self.now c.args.t c.args.cols (g.D.Disk.image c.args.disk.now) h (g.D.Disk.taken c.args.disk.now) (g.D.Disk.taken c.retrieve.new.disk) refuses late
     (sym c.refused_retrieval.ensures ∙ c.in_default.is) c.retrieve.ensures.most))
 
 pub returns-in_err-add_handles-clause-comes : goal.returns-in_err-add_handles-clause-comes
@@ -49,7 +48,7 @@ pub returns-in_err-add_handles-clause-reads : goal.returns-in_err-add_handles-cl
 returns-in_err-add_handles-clause-reads g c =
     handed_out c.from_residual-in_err-add_handles.result (halt.Refusal refusal.OutOfMemory)
     (λ r. ReadsIn (command.At c.args.t c.args.cols) c.args.self.now (g.D.Disk.image c.args.disk.now) r (g.D.Disk.taken c.args.disk.now) (g.D.Disk.taken c.retrieve.new.disk)) c.from_residual-in_err-add_handles.ensures
-    (at_fails c.args.self.now c.args.t c.args.cols (g.D.Disk.image c.args.disk.now) (head.Refused refusal.OutOfMemory) (g.D.Disk.taken c.args.disk.now) (g.D.Disk.taken c.retrieve.new.disk) refl
+    (at_fails c.args.self.now c.args.t c.args.cols (g.D.Disk.image c.args.disk.now) (head.Refused refusal.OutOfMemory) (g.D.Disk.taken c.args.disk.now) (g.D.Disk.taken c.retrieve.new.disk) refl refl
     (sym c.refused_retrieval.ensures ∙ c.in_default.is) c.retrieve.ensures.most)
 
 pub returns-clause-comes : goal.returns-clause-comes
@@ -70,7 +69,7 @@ pub returns-in_err-graphs-clause-damaged : goal.returns-in_err-graphs-clause-dam
 returns-in_err-graphs-clause-damaged g c =
     handed_out c.from_residual.result (retrieval_halt c.in_err-graphs.field-0.0)
     (λ r. DamageIn (command.At c.args.t c.args.cols) c.args.self.now (g.D.Disk.image c.args.disk.now) r) c.from_residual.ensures
-    (damage_in (command.At c.args.t c.args.cols) c.args.self.now (g.D.Disk.image c.args.disk.now) (c.args.t ∷ [], c.args.cols) c.in_err-graphs.field-0.0 refl c.in_err-graphs.ensures.damage)
+    (damage_in (command.At c.args.t c.args.cols) c.args.self.now (g.D.Disk.image c.args.disk.now) (c.args.t ∷ []) c.args.cols c.in_err-graphs.field-0.0 refl c.in_err-graphs.ensures.damage)
 
 pub returns-in_err-add_handles-clause-damaged : goal.returns-in_err-add_handles-clause-damaged
 returns-in_err-add_handles-clause-damaged g c =

@@ -6,7 +6,7 @@ use Rattle.dg_machine.specs.Needs.{following}
 use Rattle.dg_session.specs.Damage.{DamageIn}
 use Rattle.dg_session.specs.Reads.{ReadsIn}
 use Rattle.dg_session.proofs.DamageStep.{never_for_damage}
-use Rattle.dg_session.proofs.ReadsStep.{fails_no_read, reads_freely, reads_nothing}
+use Rattle.dg_session.proofs.ReadsStep.{fails_no_read, reads_nothing}
 use Rattle.dg_session.proofs.Steps.{Comes, alone}
 use Rattle.dg_session.proofs.session.Session.carry_out.Goals as goal
 
@@ -88,8 +88,7 @@ returns-in-Certify-clause-store_read g c h =
 
 pub returns-in-Create-clause-reads : goal.returns-in-Create-clause-reads
 returns-in-Create-clause-reads g c =
-    subst (λ x. ReadsIn x c.args.self.now (g.D.Disk.image c.args.disk.now) c.create.result (g.D.Disk.taken c.args.disk.now) (g.D.Disk.taken c.create.new.disk)) (sym c.in-Create.is)
-    (reads_freely (command.Create c.in-Create.l c.in-Create.k c.in-Create.function) c.args.self.now (g.D.Disk.image c.args.disk.now) c.create.result (g.D.Disk.taken c.args.disk.now) (g.D.Disk.taken c.create.new.disk) refl refl)
+    subst (λ x. ReadsIn x c.args.self.now (g.D.Disk.image c.args.disk.now) c.create.result (g.D.Disk.taken c.args.disk.now) (g.D.Disk.taken c.create.new.disk)) (sym c.in-Create.is) c.create.ensures.reads
 
 pub returns-in-Create-clause-store_read : goal.returns-in-Create-clause-store_read
 returns-in-Create-clause-store_read g c h =
@@ -97,25 +96,12 @@ returns-in-Create-clause-store_read g c h =
 
 pub returns-in-Load-clause-reads : goal.returns-in-Load-clause-reads
 returns-in-Load-clause-reads g c =
-    subst (λ x. ReadsIn x c.args.self.now (g.D.Disk.image c.args.disk.now) c.add.result (g.D.Disk.taken c.args.disk.now) (g.D.Disk.taken c.add.new.disk)) (sym c.in-Load.is)
-    (reads_freely (command.Load c.in-Load.count) c.args.self.now (g.D.Disk.image c.args.disk.now) c.add.result (g.D.Disk.taken c.args.disk.now) (g.D.Disk.taken c.add.new.disk) refl refl)
-
-pub returns-in-Load-clause-store_read : goal.returns-in-Load-clause-store_read
-returns-in-Load-clause-store_read g c h =
-    let comes = c.add.ensures.comes in
-    absurd (fails_no_read (command.Load c.in-Load.count) comes.0 c.args.self.now (g.D.Disk.image c.args.disk.now) c.add.new.self (g.D.Disk.image c.add.new.disk) c.add.result refl comes.2 h)
+    subst (λ x. ReadsIn x c.args.self.now (g.D.Disk.image c.args.disk.now) c.add.result (g.D.Disk.taken c.args.disk.now) (g.D.Disk.taken c.add.new.disk)) (sym c.in-Load.is) c.add.ensures.reads
 
 pub returns-in-Append-clause-reads : goal.returns-in-Append-clause-reads
 returns-in-Append-clause-reads g c =
     let r = c.add-in-Append in
-    subst (λ x. ReadsIn x c.args.self.now (g.D.Disk.image c.args.disk.now) r.result (g.D.Disk.taken c.args.disk.now) (g.D.Disk.taken r.new.disk)) (sym c.in-Append.is)
-    (reads_freely (command.Append c.in-Append.count) c.args.self.now (g.D.Disk.image c.args.disk.now) r.result (g.D.Disk.taken c.args.disk.now) (g.D.Disk.taken r.new.disk) refl refl)
-
-pub returns-in-Append-clause-store_read : goal.returns-in-Append-clause-store_read
-returns-in-Append-clause-store_read g c h =
-    let r = c.add-in-Append in
-    let comes = r.ensures.comes in
-    absurd (fails_no_read (command.Append c.in-Append.count) comes.0 c.args.self.now (g.D.Disk.image c.args.disk.now) r.new.self (g.D.Disk.image r.new.disk) r.result refl comes.2 h)
+    subst (λ x. ReadsIn x c.args.self.now (g.D.Disk.image c.args.disk.now) r.result (g.D.Disk.taken c.args.disk.now) (g.D.Disk.taken r.new.disk)) (sym c.in-Append.is) r.ensures.reads
 
 pub returns-in-List-clause-comes : goal.returns-in-List-clause-comes
 returns-in-List-clause-comes g c =
@@ -169,11 +155,9 @@ returns-in-Create-clause-damaged g c =
 
 pub returns-in-Load-clause-damaged : goal.returns-in-Load-clause-damaged
 returns-in-Load-clause-damaged g c =
-    let comes = c.add.ensures.comes in
-    never_for_damage c.args.command.now (command.Load c.in-Load.count) comes.0 c.args.self.now (g.D.Disk.image c.args.disk.now) c.add.new.self (g.D.Disk.image c.add.new.disk) c.add.result c.in-Load.is refl comes.2
+    subst (λ x. DamageIn x c.args.self.now (g.D.Disk.image c.args.disk.now) c.add.result) (sym c.in-Load.is) c.add.ensures.damaged
 
 pub returns-in-Append-clause-damaged : goal.returns-in-Append-clause-damaged
 returns-in-Append-clause-damaged g c =
     let r = c.add-in-Append in
-    let comes = r.ensures.comes in
-    never_for_damage c.args.command.now (command.Append c.in-Append.count) comes.0 c.args.self.now (g.D.Disk.image c.args.disk.now) r.new.self (g.D.Disk.image r.new.disk) r.result c.in-Append.is refl comes.2
+    subst (λ x. DamageIn x c.args.self.now (g.D.Disk.image c.args.disk.now) r.result) (sym c.in-Append.is) r.ensures.damaged

@@ -1,18 +1,15 @@
-use Rattle.std.specs.Prelude.{IfErr, IfOk, OnOk}
-use Rattle.dg_history.specs.History.{in_range, span_of}
+use Rattle.std.specs.Prelude.{IfErr, IfOk}
+use Rattle.dg_history.specs.History.{in_range}
+use Rattle.dg_index.specs.OpenedIndex.{events_in}
+use Rattle.dg_session.specs.HeldIndex.{point_over, span_held}
 use Rattle.dg_session.specs.Session.{refused_by, retrieval_needs}
-use Rattle.std.proofs.Common.{◌≡◌, ℕ, true, [], ◌∷◌, Some, Err, List, Option, length, map, refl, sym, ◌∙◌, ap, subst, arith}
-use Rattle.dg_graph.specs.declared.event.Event.{Event}
+use Rattle.std.proofs.Common.{◌≡◌, ℕ, true, [], ◌∷◌, Some, Err, List, Option, map, ◌∙◌, ap, subst, arith}
 use Rattle.dg_graph.specs.Lines.{ScriptLine}
 use Rattle.dg_io.specs.LinesState.{told}
 use Rattle.dg_machine.specs.declared.command.Command.TheVariants as command
-use Rattle.dg_machine.specs.declared.reply.Head.TheVariants as head
 use Rattle.dg_machine.specs.declared.reply.Refusal.TheVariants as refusal
-use Rattle.dg_machine.specs.Answer.{headed}
 use Rattle.dg_machine.specs.CommandGrammar.{plan_line_in}
-use Rattle.dg_plan.specs.declared.certificate.PlanLine.{PlanLine}
 use Rattle.dg_plan.specs.CertificateLines.{judged}
-use Rattle.dg_plan.specs.InstantPoint.{point}
 use Rattle.dg_session.specs.declared.halt.Halt.TheVariants as halt
 use Rattle.dg_session.specs.Parts.{Parts}
 use Rattle.dg_retrieval.specs.KeptGraph.{kept_edges, kept_nodes}
@@ -45,7 +42,7 @@ returns-then-not-written-clause-comes g c image =
     let w = c.in_ok-written.ensures.reads in (
       w.0,
       w.1,
-      certificate_lacks c.args.self.now c.args.t c.args.cols c.args.count w.0 image c.in_ok-index.index.now.opening (subst (λ r. IfOk r (λ x. c.args.self.now.index ≡ Some x.now.opening)) c.in_ok-index.was c.index_at-index.ensures.index) (subst (λ r. OnOk r (in_range (span_of c.args.self.now.events) c.args.t ≡ true)) c.in_ok-index.was c.index_at-index.ensures.there)
+      certificate_lacks c.args.self.now c.args.t c.args.cols c.args.count w.0 image c.in_ok-index.index.now.opening (subst (λ r. IfOk r (λ x. c.args.self.now.index ≡ Some x.now.opening)) c.in_ok-index.was c.index_at-index.ensures.index) (subst (λ r. IfOk r (λ x. in_range (span_held (Some x.now.opening)) c.args.t ≡ true)) c.in_ok-index.was c.index_at-index.ensures.there)
           (enough_read w.0 c.in_ok-written.written.read c.args.count w.2.read_is (omega (arith, c.if-written-count.false))),
     )
 
@@ -57,7 +54,7 @@ returns-in_err-verdict-clause-comes g c image =
     handed_out c.from_residual-in_err-verdict.result (halt.Refusal refusal.OutOfMemory) (Comes (command.Certify c.args.t c.args.cols c.args.count) c.args.count before after c.args.self.now image c.args.self.now image) c.from_residual-in_err-verdict.ensures (
       w.0,
       w.1,
-      certificate_lacks c.args.self.now c.args.t c.args.cols c.args.count w.0 image c.in_ok-index.index.now.opening (subst (λ r. IfOk r (λ x. c.args.self.now.index ≡ Some x.now.opening)) c.in_ok-index.was c.index_at-index.ensures.index) (subst (λ r. OnOk r (in_range (span_of c.args.self.now.events) c.args.t ≡ true)) c.in_ok-index.was c.index_at-index.ensures.there)
+      certificate_lacks c.args.self.now c.args.t c.args.cols c.args.count w.0 image c.in_ok-index.index.now.opening (subst (λ r. IfOk r (λ x. c.args.self.now.index ≡ Some x.now.opening)) c.in_ok-index.was c.index_at-index.ensures.index) (subst (λ r. IfOk r (λ x. in_range (span_held (Some x.now.opening)) c.args.t ≡ true)) c.in_ok-index.was c.index_at-index.ensures.there)
           (enough_read w.0 c.in_ok-written.written.read c.args.count w.2.read_is (omega (arith, c.if-written-count.false))),
     )
 
@@ -65,12 +62,12 @@ pub returns-clause-comes : goal.returns-clause-comes
 returns-clause-comes g c image =
     let w = c.in_ok-written.ensures.reads in
     let o = c.in_ok-index.index.now.opening in
-    let events : c.deref.result.now ≡ c.args.self.now.events = c.deref.ensures.value ∙ ap (λ (x : Parts). x.events) c.self.view_is in
+    let recent : c.deref.result.now ≡ c.args.self.now.recent = c.deref.ensures.value ∙ ap (λ (x : Parts). x.recent) c.self.view_is in
     let said : c.deref-2.result.now ≡ map plan_line_in w.0 = c.deref-2.ensures.value ∙ w.2.said_is c.if-not-written.false in (
       w.0,
       w.1,
-      certificate_answers c.args.self.now c.args.t c.args.cols c.args.count w.0 image o c.in_ok-verdict.verdict c.headed.result (subst (λ r. IfOk r (λ x. c.args.self.now.index ≡ Some x.now.opening)) c.in_ok-index.was c.index_at-index.ensures.index) (subst (λ r. OnOk r (in_range (span_of c.args.self.now.events) c.args.t ≡ true)) c.in_ok-index.was c.index_at-index.ensures.there)
+      certificate_answers c.args.self.now c.args.t c.args.cols c.args.count w.0 image o c.in_ok-verdict.verdict c.headed.result (subst (λ r. IfOk r (λ x. c.args.self.now.index ≡ Some x.now.opening)) c.in_ok-index.was c.index_at-index.ensures.index) (subst (λ r. IfOk r (λ x. in_range (span_held (Some x.now.opening)) c.args.t ≡ true)) c.in_ok-index.was c.index_at-index.ensures.there)
           (enough_read w.0 c.in_ok-written.written.read c.args.count w.2.read_is (omega (arith, c.if-written-count.false)))
-          (c.in_ok-verdict.ensures ∙ (λ i. judged (kept_edges o (length (events i)) c.args.cols) (kept_nodes o (length (events i)) c.args.cols) (point o.params (events i) c.args.t) (said i)))
+          (c.in_ok-verdict.ensures ∙ (λ i. judged (kept_edges o (events_in o.batches) c.args.cols) (kept_nodes o (events_in o.batches) c.args.cols) (point_over o (recent i) c.args.t) (said i)))
           c.headed.ensures,
     )

@@ -1,12 +1,17 @@
-use Rattle.std.proofs.Common.{◌≡◌, [], Some, None, Err, refl, sym, ◌∙◌, ap}
+use Rattle.std.proofs.Common.{◌≡◌, true, [], Some, None, Ok, Err, refl, sym, ◌∙◌, ap, subst}
+use Rattle.std.proofs.lemmas.Bool.{false≢true}
+use Rattle.dg_machine.specs.declared.reply.Reply.{Reply}
+use Rattle.dg_session.specs.declared.halt.Halt.TheVariants as halt
+use Rattle.dg_session.specs.Reads.{ReadsIn, is_early}
 use Rattle.std.specs.Prelude.{is_some}
 use Rattle.dg_machine.specs.Needs.{needs}
 use Rattle.dg_session.specs.Halt.{creation_halt}
 use Rattle.dg_session.specs.Parts.{Parts}
 use Rattle.dg_session.specs.Session.{ComesTo, refused_by}
-use Rattle.dg_session.specs.SessionStart.{index_opening}
+use Rattle.dg_start.specs.StoredHistory.{index_opening}
 use Rattle.dg_session.specs.contracts.session.Session.{the_view}
-use Rattle.dg_session.proofs.CreateStep.{create_answers, create_fails, creation_free, making, no_names}
+use Rattle.dg_session.proofs.CreateStep.{create_answers, create_fails, create_reads, creation_free, making, no_names}
+use Rattle.dg_session.proofs.ReadsStep.{reads_freely, reads_nothing}
 use Rattle.dg_session.proofs.Steps.{handed_out, refused_denies}
 use Rattle.dg_session.proofs.session.Session.create.Goals as goal
 
@@ -29,7 +34,21 @@ returns-clause-comes g c =
     let none : refused_by c.args.self.now 0 (needs (making c.args.params)) ≡ None = sym c.refused_creation.ensures ∙ c.in_default.is in
     let names : c.args.self.now.names ≡ [] =
     ap (λ (p : Parts). p.names) (sym c.self.view_is)
-    ∙ no_names (index_opening c.self.inside.history.index) c.self.inside.history.names c.self.inside.history.events.items c.self.invariant.5.counted
+    ∙ no_names (index_opening c.self.inside.history.index) c.self.inside.history.names c.self.inside.history.now.graph c.self.inside.history.recent.items c.self.invariant.5.counted
     (ap (λ (p : Parts). is_some p.index) c.self.view_is ∙ (creation_free c.args.self.now c.args.params none).0) in
     create_answers c.args.self.now new c.args.params (g.D.Disk.image c.args.disk.now) (g.D.Disk.image c.create.new.disk) c.in_ok-index.index.opening c.headed.result none
     c.in_ok-index.ensures.image c.in_ok-index.ensures.opened c.in_ok-index.ensures.made names (ap (λ (p : Parts). let x : Parts = record p { index = Some c.in_ok-index.index.opening } in x) c.self.view_is) c.headed.ensures
+
+pub returns-in-Some-clause-reads : goal.returns-in-Some-clause-reads
+returns-in-Some-clause-reads g c =
+    reads_nothing (making c.args.params) c.args.self.now (g.D.Disk.image c.args.disk.now) (Err (halt.Refusal c.in-Some.refusal)) (g.D.Disk.taken c.args.disk.now) refl
+
+pub returns-in_err-index-clause-reads : goal.returns-in_err-index-clause-reads
+returns-in_err-index-clause-reads g c =
+    handed_out c.from_residual.result (creation_halt c.in_err-index.field-0.0) (λ r. ReadsIn (making c.args.params) c.args.self.now (g.D.Disk.image c.args.disk.now) r (g.D.Disk.taken c.args.disk.now) (g.D.Disk.taken c.create.new.disk)) c.from_residual.ensures
+    (create_reads c.args.params c.args.self.now (g.D.Disk.image c.args.disk.now) c.in_err-index.field-0.0 (g.D.Disk.taken c.args.disk.now) (g.D.Disk.taken c.create.new.disk))
+
+pub returns-clause-reads : goal.returns-clause-reads
+returns-clause-reads g c =
+    reads_freely (making c.args.params) c.args.self.now (g.D.Disk.image c.args.disk.now) (Ok c.headed.result) (g.D.Disk.taken c.args.disk.now) (g.D.Disk.taken c.create.new.disk) refl refl
+    (subst (λ (r : Reply). is_early r.head ≡ true → g.D.Disk.taken c.create.new.disk ≡ g.D.Disk.taken c.args.disk.now) (sym c.headed.ensures) (λ e. absurd (false≢true e)))

@@ -1,5 +1,4 @@
-use Rattle.std.proofs.Common.{◌≡◌, [], Some, refl, sym, ◌∙◌, ap, subst}
-use Rattle.dg_graph.specs.declared.event.Event.{Event}
+use Rattle.std.proofs.Common.{[], refl, ◌∙◌, ap, subst}
 use Rattle.dg_machine.specs.declared.command.Command.TheVariants as command
 use Rattle.dg_machine.specs.declared.reply.Refusal.TheVariants as refusal
 use Rattle.dg_session.specs.declared.halt.Halt.TheVariants as halt
@@ -23,6 +22,6 @@ returns-in_err-reply-clause-comes c image =
 
 pub returns-clause-comes : goal.returns-clause-comes
 returns-clause-comes c image =
-    let events = c.deref.ensures.value ∙ ap (λ (x : Parts). x.events) c.self.view_is in
+    let recent = c.deref.ensures.value ∙ ap (λ (x : Parts). x.recent) c.self.view_is in
     plan_answers c.args.self.now c.args.t c.args.cols image c.in_ok-index.index.now.opening c.in_ok-reply.reply c.in_ok-index.ensures.index c.in_ok-index.ensures.there
-    (subst (λ es. IsPlanReply c.in_ok-index.index.now.opening es c.args.t c.args.cols c.in_ok-reply.reply) events c.in_ok-reply.ensures)
+    (subst (λ es. IsPlanReply c.in_ok-index.index.now.opening es c.args.t c.args.cols c.in_ok-reply.reply) recent c.in_ok-reply.ensures)

@@ -1,10 +1,8 @@
-use Rattle.std.proofs.Common.{◌≡◌, ℕ, List, [], ◌∷◌, None, Err, length, take, refl, sym, ◌∙◌, ap, subst, rules}
+use Rattle.std.proofs.Common.{◌≡◌, [], None, length, take, refl, sym, ◌∙◌, ap, subst}
 use Rattle.std.specs.Prelude.{IfSome}
-use Rattle.dg_machine.specs.declared.command.Command.{Command}
 use Rattle.dg_machine.specs.declared.command.Command.TheVariants as command
 use Rattle.dg_machine.specs.declared.reply.Head.TheVariants as head
 use Rattle.dg_machine.specs.declared.reply.Refusal.TheVariants as refusal
-use Rattle.dg_machine.specs.declared.reply.Reply.{Reply}
 use Rattle.dg_machine.specs.Answer.{handle_lines, overlays}
 use Rattle.dg_machine.specs.MachineState.{MachineState}
 use Rattle.dg_machine.specs.Needs.{needs}
@@ -50,7 +48,7 @@ returns-in_err-retrieved-clause-reads g c =
     handed_out c.from_residual.result (retrieval_halt c.in_err-retrieved.field-0.0)
     (λ r. ReadsIn (command.Several c.args.cols c.args.times c.args.count) p (g.D.Disk.image c.args.disk.now) r (g.D.Disk.taken c.args.disk.now) (g.D.Disk.taken c.retrieve.new.disk)) c.from_residual.ensures
     (reads_failing (command.Several c.args.cols c.args.times c.args.count) p (g.D.Disk.image c.args.disk.now) c.in_err-retrieved.field-0.0 (g.D.Disk.taken c.args.disk.now) (g.D.Disk.taken c.retrieve.new.disk)
-    (λ h refuses. several_fails p c.args.cols c.args.times c.args.count number c.requires.some none (g.D.Disk.image c.args.disk.now) h (g.D.Disk.taken c.args.disk.now) (g.D.Disk.taken c.retrieve.new.disk) refuses
+    (λ h refuses late. several_fails p c.args.cols c.args.times c.args.count number c.requires.some none (g.D.Disk.image c.args.disk.now) h (g.D.Disk.taken c.args.disk.now) (g.D.Disk.taken c.retrieve.new.disk) refuses late
     (subst (λ ts. IfSome (g.D.Disk.image c.args.disk.now) (λ image. (m : MachineState) → StandsFor p image m → TakesAtMostTree (edges_in m c.args.cols) (points_for m ts) (g.D.Disk.taken c.args.disk.now) (g.D.Disk.taken c.retrieve.new.disk))) asked c.retrieve.ensures.most)))
 
 pub returns-in_err-lines-clause-comes : goal.returns-in_err-lines-clause-comes
@@ -72,7 +70,7 @@ returns-in_err-lines-clause-reads g c =
     let none : refused_by p 0 (retrieval_needs (take c.args.count c.args.times) (length (take c.args.count c.args.times))) ≡ None = ap (λ ts. refused_by p 0 (retrieval_needs ts (length ts))) (sym asked) ∙ sym c.refused_retrieval.ensures ∙ c.in_default.is in
     handed_out c.from_residual-in_err-lines.result (halt.Refusal refusal.OutOfMemory)
     (λ r. ReadsIn (command.Several c.args.cols c.args.times c.args.count) p (g.D.Disk.image c.args.disk.now) r (g.D.Disk.taken c.args.disk.now) (g.D.Disk.taken c.retrieve.new.disk)) c.from_residual-in_err-lines.ensures
-    (several_fails p c.args.cols c.args.times c.args.count number c.requires.some none (g.D.Disk.image c.args.disk.now) (head.Refused refusal.OutOfMemory) (g.D.Disk.taken c.args.disk.now) (g.D.Disk.taken c.retrieve.new.disk) refl
+    (several_fails p c.args.cols c.args.times c.args.count number c.requires.some none (g.D.Disk.image c.args.disk.now) (head.Refused refusal.OutOfMemory) (g.D.Disk.taken c.args.disk.now) (g.D.Disk.taken c.retrieve.new.disk) refl refl
     (subst (λ ts. IfSome (g.D.Disk.image c.args.disk.now) (λ image. (m : MachineState) → StandsFor p image m → TakesAtMostTree (edges_in m c.args.cols) (points_for m ts) (g.D.Disk.taken c.args.disk.now) (g.D.Disk.taken c.retrieve.new.disk))) asked c.retrieve.ensures.most))
 
 pub returns-in_err-add_handles-clause-comes : goal.returns-in_err-add_handles-clause-comes
@@ -94,7 +92,7 @@ returns-in_err-add_handles-clause-reads g c =
     let none : refused_by p 0 (retrieval_needs (take c.args.count c.args.times) (length (take c.args.count c.args.times))) ≡ None = ap (λ ts. refused_by p 0 (retrieval_needs ts (length ts))) (sym asked) ∙ sym c.refused_retrieval.ensures ∙ c.in_default.is in
     handed_out c.from_residual-in_err-add_handles.result (halt.Refusal refusal.OutOfMemory)
     (λ r. ReadsIn (command.Several c.args.cols c.args.times c.args.count) p (g.D.Disk.image c.args.disk.now) r (g.D.Disk.taken c.args.disk.now) (g.D.Disk.taken c.retrieve.new.disk)) c.from_residual-in_err-add_handles.ensures
-    (several_fails p c.args.cols c.args.times c.args.count number c.requires.some none (g.D.Disk.image c.args.disk.now) (head.Refused refusal.OutOfMemory) (g.D.Disk.taken c.args.disk.now) (g.D.Disk.taken c.retrieve.new.disk) refl
+    (several_fails p c.args.cols c.args.times c.args.count number c.requires.some none (g.D.Disk.image c.args.disk.now) (head.Refused refusal.OutOfMemory) (g.D.Disk.taken c.args.disk.now) (g.D.Disk.taken c.retrieve.new.disk) refl refl
     (subst (λ ts. IfSome (g.D.Disk.image c.args.disk.now) (λ image. (m : MachineState) → StandsFor p image m → TakesAtMostTree (edges_in m c.args.cols) (points_for m ts) (g.D.Disk.taken c.args.disk.now) (g.D.Disk.taken c.retrieve.new.disk))) asked c.retrieve.ensures.most))
 
 pub returns-clause-comes : goal.returns-clause-comes
@@ -129,7 +127,7 @@ returns-in_err-retrieved-clause-damaged g c =
     let image = g.D.Disk.image c.args.disk.now in
     let asked : c.first_of-asked.result.now ≡ take c.args.count c.args.times = c.first_of-asked.ensures.times in
     handed_out c.from_residual.result (retrieval_halt c.in_err-retrieved.field-0.0) (λ r. DamageIn (command.Several c.args.cols c.args.times c.args.count) p image r) c.from_residual.ensures
-    (damage_in (command.Several c.args.cols c.args.times c.args.count) p image (take c.args.count c.args.times, c.args.cols) c.in_err-retrieved.field-0.0 refl
+    (damage_in (command.Several c.args.cols c.args.times c.args.count) p image (take c.args.count c.args.times) c.args.cols c.in_err-retrieved.field-0.0 refl
     (subst (λ ts. NamesDamage p image (ts, c.args.cols) c.in_err-retrieved.field-0.0) asked c.in_err-retrieved.ensures.damage))
 
 pub returns-in_err-lines-clause-damaged : goal.returns-in_err-lines-clause-damaged

@@ -1,10 +1,8 @@
-use Rattle.std.proofs.Common.{◌≡◌, [], length, refl, sym, ◌∙◌, ap, subst, rules}
+use Rattle.std.proofs.Common.{◌≡◌, [], refl, subst}
 use Rattle.std.specs.Prelude.{IsErrAnd}
 use Rattle.dg_machine.specs.declared.command.Command.TheVariants as command
 use Rattle.dg_machine.specs.declared.reply.Refusal.TheVariants as refusal
 use Rattle.dg_session.specs.declared.halt.Halt.TheVariants as halt
-use Rattle.dg_session.specs.Parts.{Parts}
-use Rattle.dg_session.specs.RecordListing.{listing_of}
 use Rattle.dg_session.specs.Session.{ComesTo}
 use Rattle.dg_session.proofs.Steps.{handed_out, lacking_denies, refused_denies}
 use Rattle.dg_session.proofs.TreeStep.{tree_answers, tree_free, tree_refused}
@@ -23,7 +21,4 @@ returns-in_err-reply-clause-comes c image =
 
 pub returns-clause-comes : goal.returns-clause-comes
 returns-clause-comes c image =
-    let held : c.len.result ≡ length c.self.inside.history.events.items = search rules in
-    let count = held ∙ ap length (ap (λ (x : Parts). x.events) c.self.view_is) in
-    tree_answers c.args.self.now image c.in_ok-index.index.now.opening c.in_ok-reply.reply c.in_ok-index.ensures.index
-    (c.in_ok-reply.ensures ∙ ap (listing_of c.in_ok-index.index.now.opening) count)
+    tree_answers c.args.self.now image c.in_ok-index.index.now.opening c.in_ok-reply.reply c.in_ok-index.ensures.index c.in_ok-reply.ensures

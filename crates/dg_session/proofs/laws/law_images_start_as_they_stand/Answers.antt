@@ -1,5 +1,0 @@
-use Rattle.dg_session.proofs.StartsAsItStands.{starts_as_it_stands}
-use Rattle.dg_session.proofs.laws.law_images_start_as_they_stand.Goals as goal
-
-pub returns : goal.returns
-returns c = starts_as_it_stands c.law_events_are_read_back.ensures c.law_events_are_merged_back.ensures

@@ -1,0 +1,37 @@
+-- What the index that a session keeps tells of its history.
+use Rattle.std.specs.Prelude.{ℕ, List as ListOf, Option, Some, None, map, unwrap_or}
+use Rattle.dg_graph.specs.declared.event.Event.{Event}
+use Rattle.dg_history.specs.declared.node.NodeId.{NodeId}
+use Rattle.dg_history.specs.declared.node.NodeId.TheVariants.{Root}
+use Rattle.dg_index.specs.declared.entry.Ends.{Ends}
+use Rattle.dg_index.specs.OpenedIndex.{Opening, events_in, span_in}
+use Rattle.dg_planner.specs.HistoryLaws.{first_time_in}
+use Rattle.dg_shape.specs.Entries.{Holdings}
+use Rattle.dg_shape.specs.Points.{point_of}
+
+-- how many events it has
+abbrev pub events_held : Option Opening → ℕ
+events_held None = 0
+events_held (Some o) = events_in o.batches
+
+abbrev pub ends_pair : Option Ends → Option (ℕ × ℕ)
+ends_pair None = None
+ends_pair (Some e) = Some (e.first, e.last)
+
+-- the first and the last instant, where there is an event
+abbrev pub span_held : Option Opening → Option (ℕ × ℕ)
+span_held None = None
+span_held (Some o) = ends_pair (span_in o.batches)
+
+-- what its catalogue holds
+abbrev pub catalogue_of : Opening → Holdings
+catalogue_of o = record { entries = o.records; span = span_in o.batches; spare = 0 }
+
+-- the node from which the graph as of the instant is reached, where these are the recent events; out of the history
+-- it is the root
+abbrev pub point_over : Opening → ListOf Event → ℕ → NodeId
+point_over o recent t = unwrap_or (point_of (catalogue_of o) t (first_time_in recent)) Root
+
+-- the nodes of several instants
+abbrev pub points_over : Opening → ListOf Event → ListOf ℕ → ListOf NodeId
+points_over o recent times = map (point_over o recent) times
