@@ -1,0 +1,10 @@
+pub mod Bits
+pub mod Changed
+pub mod Exits
+pub mod Growing
+pub mod Listed
+pub mod Merged
+pub mod Ordered
+pub mod Orders
+pub mod Strung
+pub mod Walked

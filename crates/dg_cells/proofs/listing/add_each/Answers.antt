@@ -1,0 +1,28 @@
+use Rattle.std.proofs.Common.{◌+◌}
+use Rattle.dg_graph.specs.declared.element.Element.TheVariants as kind
+use Rattle.dg_cells.proofs.Growing.{grows_then, all_have_more, among_more, has_whole}
+use Rattle.dg_cells.proofs.listing.add_each.Goals as goal
+
+pub returns-in_err-near-clause-among : goal.returns-in_err-near-clause-among
+returns-in_err-near-clause-among c = λ n r e f.
+    has_whole c.args.items.now (c.loop-x.x-index + 1) r.element
+    (among_more c.args.rows.now.items c.loop-x.rows.items c.add.new.rows.items c.args.items.now c.loop-x.x-index (kind.Node 0) c.loop-x-test.true c.add.ensures.grows c.loop-x.invariant.among c.add.ensures.fresh n r e f)
+
+pub loop-x-preserved : goal.loop-x-preserved
+loop-x-preserved c =
+    let first = c.args.rows.now.items in
+    let old = c.loop-x.rows.items in
+    let new = c.add.new.rows.items in
+    let items = c.args.items.now in
+    let i = c.loop-x.x-index in
+    let inv = c.loop-x.invariant in
+    record {
+      listed = c.add.ensures.listed;
+      grows = grows_then first old new inv.grows c.add.ensures.grows;
+      there = all_have_more old new items i (kind.Node 0) c.loop-x-test.true c.add.ensures.grows inv.there c.in_ok-near.ensures.there;
+      among = among_more first old new items i (kind.Node 0) c.loop-x-test.true c.add.ensures.grows inv.among c.add.ensures.fresh;
+    }
+
+pub returns-clause-among : goal.returns-clause-among
+returns-clause-among c = λ n r e f.
+    has_whole c.args.items.now c.loop-x.x-index r.element (c.loop-x.invariant.among n r e f)

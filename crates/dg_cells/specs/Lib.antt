@@ -1,0 +1,4 @@
+pub mod Cursors
+pub mod Order
+pub mod Pieces
+pub mod Rows

@@ -1,0 +1,104 @@
+-- Cells, and the bits of a cell.
+use Rattle.std.specs.Prelude.{◌≡◌, ℕ, ◌+◌, ◌*◌, ◌/◌, ◌%◌, ◌≤◌, ◌==◌, Bool, true, false, ◌&&◌, not, cond, if◌then◌else◌, List, Option, Some, None, slice_index_or, slice_set}
+use Rattle.std.specs.Int.{bit_at}
+use Rattle.dg_graph.specs.declared.element.Element.{Element}
+use Rattle.dg_graph.specs.Elements.{same, has}
+use Rattle.dg_cells.specs.declared.row.Row.{Row}
+
+-- the cell has the bit
+abbrev pub has_bit : Row → ℕ → Bool
+has_bit r b = bit_at (slice_index_or r.bits (b / 64) 0) (b % 64) == 1
+
+-- bit 0 says that the current graph has the element
+abbrev pub is_current : Row → Bool
+is_current r = has_bit r 0
+
+-- the two bits of a slot: explicit, and own
+abbrev pub pair : ℕ → Row → Bool × Bool
+pair s r = (has_bit r (2 * s), has_bit r (2 * s + 1))
+
+pub record SetsCurrent (on : Bool) (old new : Row) : Type 0 where
+  pub element : new.element ≡ old.element
+  pub current : is_current new ≡ on
+  pub pairs : (u : ℕ) → 1 ≤ u → pair u new ≡ pair u old
+
+pub record SetsPair (s : ℕ) (p : Bool × Bool) (old new : Row) : Type 0 where
+  pub element : new.element ≡ old.element
+  pub current : is_current new ≡ is_current old
+  pub pairs : (u : ℕ) → 1 ≤ u → pair u new ≡ cond (u == s) p (pair u old)
+
+-- the bit is set in the words
+abbrev pub word_bit : List ℕ → ℕ → Bool
+word_bit words b = bit_at (slice_index_or words (b / 64) 0) (b % 64) == 1
+
+pub record SetsBits (words : List ℕ) (old new : Row) : Type 0 where
+  pub element : new.element ≡ old.element
+  pub bits : new.bits ≡ words
+
+-- the bits of the mask are off, and all others as they were
+pub record ClearsBits (mask : List ℕ) (old new : Row) : Type 0 where
+  pub element : new.element ≡ old.element
+  pub bits : (b : ℕ) → has_bit new b ≡ (has_bit old b && not (word_bit mask b))
+
+-- what stands in a cell
+abbrev pub cell_at : List (Option Row) → ℕ → Option Row
+cell_at rows n = slice_index_or rows n None
+
+-- one cell is written so, and all others stay
+pub record Writes (old new : List (Option Row)) (n : ℕ) (How : Row → Row → Type 0) : Type 0 where
+  pub before : Row
+  pub after : Row
+  pub was : cell_at old n ≡ Some before
+  pub is : new ≡ slice_set old n (Some after)
+  pub how : How before after
+
+-- the cell has the element
+pub record Holds (rows : List (Option Row)) (x : Element) (n : ℕ) : Type 0 where
+  pub row : Row
+  pub there : cell_at rows n ≡ Some row
+  pub element : row.element ≡ x
+
+-- no cell has the element
+abbrev pub Lacks : List (Option Row) → Element → Type 0
+Lacks rows x = (n : ℕ) (r : Row) → cell_at rows n ≡ Some r → same x r.element ≡ false
+
+-- no element has two cells
+abbrev pub AreApart : List (Option Row) → Type 0
+AreApart rows = (i j : ℕ) (r q : Row) → cell_at rows i ≡ Some r → cell_at rows j ≡ Some q → r.element ≡ q.element → i ≡ j
+
+-- the element has a cell
+abbrev pub HasCell : List (Option Row) → Element → Type 0
+HasCell rows x = (n : ℕ) × Holds rows x n
+
+-- the cell has no bit
+abbrev pub IsBare : Row → Type 0
+IsBare r = (b : ℕ) → has_bit r b ≡ false
+
+-- all cells stay, and new ones have no bit
+pub record Grows (old new : List (Option Row)) : Type 0 where
+  pub kept : (n : ℕ) (r : Row) → cell_at old n ≡ Some r → cell_at new n ≡ Some r
+  pub bare : (n : ℕ) (r : Row) → cell_at old n ≡ None → cell_at new n ≡ Some r → IsBare r
+
+-- a cell of one of these elements has this pair for the slot, and all else is as it was
+pub record MarksRow (s : ℕ) (p : Bool × Bool) (items : List Element) (old new : Row) : Type 0 where
+  pub element : new.element ≡ old.element
+  pub current : is_current new ≡ is_current old
+  pub own : pair s new ≡ (if has items old.element then p else pair s old)
+  pub others : (u : ℕ) → 1 ≤ u → (u ≡ s → ⊥) → pair u new ≡ pair u old
+
+abbrev pub MarksCell : ℕ → Bool × Bool → List Element → Option Row → Option Row → Type 0
+MarksCell s p items None None = Unit {0}
+MarksCell s p items None (Some r) = ⊥
+MarksCell s p items (Some r) None = ⊥
+MarksCell s p items (Some r) (Some q) = MarksRow s p items r q
+
+abbrev pub Marks : ℕ → Bool × Bool → List Element → List (Option Row) → List (Option Row) → Type 0
+Marks s p items old new = (n : ℕ) → MarksCell s p items (cell_at old n) (cell_at new n)
+
+-- each of the elements has a cell
+abbrev pub AllHave : List (Option Row) → List Element → Type 0
+AllHave rows items = (x : Element) → has items x ≡ true → HasCell rows x
+
+-- the elements of the new cells are among these
+abbrev pub AreAmong : List (Option Row) → List (Option Row) → List Element → Type 0
+AreAmong old new items = (n : ℕ) (r : Row) → cell_at old n ≡ None → cell_at new n ≡ Some r → has items r.element ≡ true

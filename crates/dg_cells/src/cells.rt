@@ -1,0 +1,255 @@
+//! The cells of the pool.
+ghost use Rattle.std.specs.Prelude.{◌≡◌, ℕ, ◌<◌, ◌≤◌, ◌==◌, Bool, true, false, List, Option, Some, None, [], ◌∷◌, ◌++◌, length, IfSome, IfNone, IsSome, IfOk, OnErr, OnOk, slice_set};
+ghost use Rattle.dg_cells.specs.declared.row.Row.{Row};
+ghost use Rattle.dg_cells.specs.Rows.{cell_at, is_current, pair, Writes, SetsCurrent, SetsPair, SetsBits, ClearsBits, Holds, Lacks, AreApart, Grows, HasCell, AllHave, AreAmong};
+ghost use Rattle.std.specs.Prelude.{◌+◌, min, slice_get};
+ghost use Rattle.dg_graph.specs.Elements.{IsSet};
+ghost use Rattle.dg_cells.specs.Order.{IsLower};
+ghost use Rattle.dg_cells.specs.Cursors.{ordered, ordered_elements, cursor_place};
+ghost use Rattle.std.specs.Option.{option_map};
+
+use crate::cursors::{self, Cursor};
+use crate::listing::{add, add_each, number_at, unlist};
+use crate::merging::merge;
+use crate::pieces::Pieces;
+use crate::places::{START, has_element, seek};
+use crate::row::{Row, is_current, pair, with_bits, with_current, with_pair, without_bits};
+use dg_graph::Element;
+use std::alloc::{AllocError, Global};
+use std::marker::Model;
+
+/// A list of numbered cells, each with an element of its own, or vacant. The numbers of the occupied
+/// ones are kept in the order of their elements, and vacated numbers are used again.
+#[derive(Drop)]
+pub struct Cells {
+    rows: Vec<Option<Row>>,
+    order: Pieces,
+    free: Vec<u32>,
+}
+
+impl Model for Cells {
+    ghost use Rattle.std.specs.Prelude.{List, Option};
+    ghost use Rattle.dg_cells.specs.declared.row.Row.{Row};
+
+    ghost Value = { List (Option Row) };
+
+    ghost use Rattle.dg_cells.specs.Pieces.{strung};
+    ghost use Rattle.dg_cells.specs.Order.{IsListed};
+
+    ghost view = { λ cells. cells.rows.items };
+
+    ghost invariant = { λ cells. IsListed cells.rows.items (strung cells.order) };
+}
+
+/// One walk over all cells gives new ones where more elements come than one for so many cells.
+const MANY: usize = 16;
+
+impl Cells {
+    /// No cell. Takes no memory yet.
+    pub fn new(alloc: Global) -> Cells
+        ensures { result ≡ [] }
+    {
+        Cells {
+            rows: Vec::new(alloc),
+            order: Pieces::new(alloc),
+            free: Vec::new(alloc),
+        }
+    }
+
+    /// No element has two cells. Does nothing.
+    pub fn facts(&self)
+        ensures { AreApart self.now }
+    {
+        let _ = &self.rows;
+    }
+
+    /// All numbers of cells are below this.
+    pub fn len(&self) -> usize
+        ensures { result ≡ length self.now }
+    {
+        self.rows.len()
+    }
+
+    /// The number of the element's cell.
+    pub fn find(&self, element: &Element) -> Option<usize>
+        ensures found { IfSome result (Holds self.now element.now) }
+        ensures lacks { IfNone result (Lacks self.now element.now) }
+    {
+        let place = seek(&self.rows, &self.order, START, element);
+        match number_at(&self.rows, &self.order, place, element) {
+            Some(n) => Some(n as usize),
+            None => None,
+        }
+    }
+
+    /// What stands in the cell; none where it is vacant or there is no such cell.
+    pub fn row(&self, n: usize) -> Option<Row>
+        ensures { result ≡ cell_at self.now n }
+    {
+        if n < self.rows.len() {
+            self.rows[n]
+        } else {
+            None
+        }
+    }
+
+    pub fn set_current(&mut self, n: usize, on: bool)
+        requires { IsSome (cell_at self.old n) }
+        ensures { Writes self.old self.new n (SetsCurrent on) }
+    {
+        if let Some(row) = self.rows[n] {
+            self.rows[n] = Some(with_current(row, on));
+        }
+    }
+
+    pub fn set_pair(&mut self, n: usize, slot: u8, explicit: bool, own: bool)
+        requires there { IsSome (cell_at self.old n) }
+        requires low { 1 ≤ slot }
+        requires high { slot ≤ 127 }
+        ensures { Writes self.old self.new n (SetsPair slot (explicit, own)) }
+    {
+        if let Some(row) = self.rows[n] {
+            self.rows[n] = Some(with_pair(row, slot, explicit, own));
+        }
+    }
+
+    /// The 256 bits of an occupied cell, from the lowest on.
+    pub fn bits(&self, n: usize) -> [u64; 4]
+        requires { IsSome (cell_at self.now n) }
+        ensures { IfSome (cell_at self.now n) (λ r. result ≡ r.bits) }
+    {
+        match self.rows[n] {
+            Some(row) => row.bits,
+            None => unreachable!(),
+        }
+    }
+
+    /// Writes all bits of an occupied cell.
+    pub fn set_bits(&mut self, n: usize, bits: [u64; 4])
+        requires { IsSome (cell_at self.old n) }
+        ensures { Writes self.old self.new n (SetsBits bits) }
+    {
+        if let Some(row) = self.rows[n] {
+            self.rows[n] = Some(with_bits(row, bits));
+        }
+    }
+
+    /// Puts off the bits of an occupied cell that are set in the mask.
+    pub fn clear(&mut self, n: usize, mask: [u64; 4])
+        requires { IsSome (cell_at self.old n) }
+        ensures { Writes self.old self.new n (ClearsBits mask) }
+    {
+        if let Some(row) = self.rows[n] {
+            self.rows[n] = Some(without_bits(row, mask));
+        }
+    }
+
+    /// Vacates the cell. Its number is used again.
+    pub fn give(&mut self, n: usize)
+        requires { n < length self.old }
+        ensures { self.new ≡ slice_set self.old n None }
+    {
+        if self.rows[n].is_some() {
+            let number = unlist(&self.rows, &mut self.order, n);
+            self.rows[n] = None;
+            // With no memory to note it, the number is not used again.
+            let _ = self.free.push(number);
+        }
+    }
+
+    /// Gives the element a cell with no bit, unless it has a cell. An `Err` says that memory ran out, or
+    /// that there are 2^32 cells, and nothing has changed.
+    pub fn add(&mut self, element: Element) -> Result<(), AllocError>
+        ensures grows { Grows self.old self.new }
+        ensures there { OnOk result (HasCell self.new element) }
+        ensures fresh { (n : ℕ) (r : Row) → cell_at self.old n ≡ None → cell_at self.new n ≡ Some r → r.element ≡ element }
+        ensures err { OnErr result (self.new ≡ self.old) }
+    {
+        add(
+            &mut self.rows,
+            &mut self.order,
+            &mut self.free,
+            START,
+            &element,
+        )?;
+        Ok(())
+    }
+
+    /// Gives each of the elements, which rise, a cell with no bit, unless it has a cell. An `Err` says
+    /// that memory ran out, or that there are 2^32 cells; some elements may have got a cell.
+    pub fn add_all(&mut self, items: &[Element]) -> Result<(), AllocError>
+        requires { IsSet items.now }
+        ensures grows { Grows self.old self.new }
+        ensures there { OnOk result (AllHave self.new items.now) }
+        ensures among { AreAmong self.old self.new items.now }
+    {
+        if items.len() > self.rows.len() / MANY {
+            merge(&mut self.rows, &mut self.order, &mut self.free, items)
+        } else {
+            add_each(&mut self.rows, &mut self.order, &mut self.free, items)
+        }
+    }
+
+    /// The number of the element's cell, as `find` gives it. It takes one step where the cell with the
+    /// number `hint` has the element.
+    pub fn find_near(&self, hint: u32, element: &Element) -> Option<usize>
+        ensures found { IfSome result (Holds self.now element.now) }
+        ensures lacks { IfNone result (Lacks self.now element.now) }
+    {
+        if has_element(&self.rows, hint as usize, element) {
+            Some(hint as usize)
+        } else {
+            self.find(element)
+        }
+    }
+
+    /// The elements of the occupied cells rise in their order, in which each occupied cell stands, and
+    /// nothing else. Does nothing.
+    pub fn order_facts(&self)
+        ensures rises { IsSet (ordered_elements self.now) }
+        ensures all { (n : ℕ) (r : Row) → cell_at self.now n ≡ Some r → (k : ℕ) × (slice_get (ordered self.now) k ≡ Some r) }
+        ensures only { (k : ℕ) (r : Row) → slice_get (ordered self.now) k ≡ Some r → (n : ℕ) × (cell_at self.now n ≡ Some r) }
+    {
+        let _ = &self.rows;
+    }
+
+    /// The cursor at the first of the occupied cells in the order of their elements.
+    pub fn first(&self) -> Cursor
+        ensures { cursor_place self.now result ≡ 0 }
+    {
+        cursors::first(&self.rows, &self.order)
+    }
+
+    /// The cursor at the first occupied cell whose element is not before this one. O(log n).
+    pub fn seek(&self, element: &Element) -> Cursor
+        ensures { IsLower element.now (ordered_elements self.now) (cursor_place self.now result) }
+    {
+        self.seek_near(self.first(), element)
+    }
+
+    /// The cursor that `seek` gives. It takes the fewer steps the less it is behind `near`, which may be
+    /// any cursor.
+    pub fn seek_near(&self, near: Cursor, element: &Element) -> Cursor
+        ensures { IsLower element.now (ordered_elements self.now) (cursor_place self.now result) }
+    {
+        cursors::seek_from(&self.rows, &self.order, near, element)
+    }
+
+    /// The number of the cell at which the cursor stands; none past the last occupied cell.
+    pub fn at(&self, cursor: Cursor) -> Option<usize>
+        ensures found { IfSome result (λ n. slice_get (ordered self.now) (cursor_place self.now cursor) ≡ cell_at self.now n) }
+        ensures there { IfSome result (λ n. IsSome (cell_at self.now n)) }
+        ensures number { IfSome result (λ n. cursor.cell ≡ Some n) }
+        ensures end { IfNone result (cursor_place self.now cursor ≡ length (ordered self.now)) }
+    {
+        cursors::at(&self.rows, &self.order, cursor)
+    }
+
+    /// The cursor at the next occupied cell in the order of the elements. O(1), unless cells came or went
+    /// since the cursor was made, and O(log n) then.
+    pub fn after(&self, cursor: Cursor) -> Cursor
+        ensures { cursor_place self.now result ≡ min (cursor_place self.now cursor + 1) (length (ordered self.now)) }
+    {
+        cursors::after(&self.rows, &self.order, cursor)
+    }
+}

@@ -1,0 +1,142 @@
+//! A walk over the occupied cells in the order of their elements.
+ghost use Rattle.std.specs.Prelude.{◌≡◌, ℕ, ◌+◌, ◌<◌, ◌≤◌, true, Option, Some, None, length, min, is_some, IfSome, IfNone, IsSome, slice_get, slice_index_or};
+ghost use Rattle.dg_cells.specs.Rows.{cell_at};
+ghost use Rattle.dg_cells.specs.Pieces.{strung, nth_piece, numbers_before, IsPlace};
+ghost use Rattle.dg_cells.specs.Order.{IsListed, IsLower};
+ghost use Rattle.dg_cells.specs.Cursors.{ordered, ordered_elements, cursor_place};
+
+use crate::pieces::Pieces;
+use crate::places::{Place, START, element, seek};
+use crate::row::Row;
+use dg_graph::Element;
+
+/// A place in the order of the occupied cells: at one of them, or past the last.
+#[derive(Clone, Copy)]
+pub struct Cursor {
+    /// The number of the cell; none past the last one.
+    pub cell: Option<usize>,
+    // Where the number was in the order.
+    place: Place,
+}
+
+// The cursor at a place.
+fn cursor_at(rows: &[Option<Row>], order: &Pieces, place: Place) -> Cursor
+    requires listed { IsListed rows.now (strung order.now) }
+    requires place { IsPlace order.now place.piece place.index }
+    ensures { cursor_place rows.now result ≡ numbers_before order.now place.piece + place.index }
+{
+    let _ = rows;
+    match order.number(place.piece, place.index) {
+        Some(n) => Cursor {
+            cell: Some(n as usize),
+            place,
+        },
+        None => Cursor { cell: None, place },
+    }
+}
+
+// Whether the number is at the place.
+fn is_number_at(order: &Pieces, place: Place, n: usize) -> bool
+    ensures piece { result ≡ true → place.piece < length order.now }
+    ensures index { result ≡ true → place.index < length (nth_piece order.now place.piece) }
+    ensures number { result ≡ true → slice_index_or (strung order.now) (numbers_before order.now place.piece + place.index) 0 ≡ n }
+{
+    if place.piece >= order.len() {
+        return false;
+    }
+    let piece = order.piece(place.piece);
+    place.index < piece.len() && piece[place.index] as usize == n
+}
+
+// The place of an occupied cell, which is looked for where it was.
+fn locate(rows: &[Option<Row>], order: &Pieces, n: usize, was: Place) -> Place
+    requires listed { IsListed rows.now (strung order.now) }
+    requires there { IsSome (cell_at rows.now n) }
+    ensures piece { result.piece < length order.now }
+    ensures index { result.index < length (nth_piece order.now result.piece) }
+    ensures number { slice_index_or (strung order.now) (numbers_before order.now result.piece + result.index) 0 ≡ n }
+{
+    if is_number_at(order, was, n) {
+        was
+    } else {
+        seek(rows, order, was, &element(rows, n))
+    }
+}
+
+// The place behind a number.
+fn next(order: &Pieces, place: Place) -> Place
+    requires piece { place.piece < length order.now }
+    requires index { place.index < length (nth_piece order.now place.piece) }
+    ensures place { IsPlace order.now result.piece result.index }
+    ensures next { numbers_before order.now result.piece + result.index ≡ numbers_before order.now place.piece + place.index + 1 }
+{
+    order.facts();
+    let _pieces = order.len();
+    if place.index + 1 < order.piece(place.piece).len() {
+        Place {
+            piece: place.piece,
+            index: place.index + 1,
+        }
+    } else {
+        Place {
+            piece: place.piece + 1,
+            index: 0,
+        }
+    }
+}
+
+fn is_occupied(rows: &[Option<Row>], n: usize) -> bool
+    ensures { result ≡ is_some (cell_at rows.now n) }
+{
+    n < rows.len() && rows[n].is_some()
+}
+
+/// The cursor at the first occupied cell.
+pub(crate) fn first(rows: &[Option<Row>], order: &Pieces) -> Cursor
+    requires { IsListed rows.now (strung order.now) }
+    ensures { cursor_place rows.now result ≡ 0 }
+{
+    order.facts();
+    cursor_at(rows, order, START)
+}
+
+/// The cursor at the first cell whose element is not before this one.
+pub(crate) fn seek_from(rows: &[Option<Row>], order: &Pieces, near: Cursor, x: &Element) -> Cursor
+    requires { IsListed rows.now (strung order.now) }
+    ensures { IsLower x.now (ordered_elements rows.now) (cursor_place rows.now result) }
+{
+    cursor_at(rows, order, seek(rows, order, near.place, x))
+}
+
+/// The number of the cell at which the cursor stands.
+pub(crate) fn at(rows: &[Option<Row>], order: &Pieces, cursor: Cursor) -> Option<usize>
+    requires { IsListed rows.now (strung order.now) }
+    ensures found { IfSome result (λ n. slice_get (ordered rows.now) (cursor_place rows.now cursor) ≡ cell_at rows.now n) }
+    ensures there { IfSome result (λ n. IsSome (cell_at rows.now n)) }
+    ensures number { IfSome result (λ n. cursor.cell ≡ Some n) }
+    ensures end { IfNone result (cursor_place rows.now cursor ≡ length (ordered rows.now)) }
+{
+    let _ = order;
+    match cursor.cell {
+        Some(n) => { if is_occupied(rows, n) { Some(n) } else { None } }
+        None => None,
+    }
+}
+
+/// The cursor at the next occupied cell.
+pub(crate) fn after(rows: &[Option<Row>], order: &Pieces, cursor: Cursor) -> Cursor
+    requires { IsListed rows.now (strung order.now) }
+    ensures { cursor_place rows.now result ≡ min (cursor_place rows.now cursor + 1) (length (ordered rows.now)) }
+{
+    match at(rows, order, cursor) {
+        Some(n) => cursor_at(
+            rows,
+            order,
+            next(order, locate(rows, order, n, cursor.place)),
+        ),
+        None => Cursor {
+            cell: None,
+            place: cursor.place,
+        },
+    }
+}

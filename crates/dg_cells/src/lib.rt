@@ -1,0 +1,16 @@
+//! The cells of a pool of graphs: numbered, each with an element of its own and 256 bits.
+#![tactic(auto)]
+
+mod cells;
+mod cursors;
+mod listing;
+mod merging;
+mod pieces;
+mod places;
+mod row;
+#[cfg(test)]
+mod tests;
+
+pub use cells::Cells;
+pub use cursors::Cursor;
+pub use row::{Row, is_current, pair};

@@ -1,0 +1,189 @@
+//! Where an element stands in the order of the cells, or belongs.
+ghost use Rattle.std.specs.Prelude.{◌≡◌, ℕ, ◌+◌, ◌-◌, ◌<◌, ◌≤◌, true, false, Some, IsSome, length, slice_index_or};
+ghost use Rattle.dg_cells.specs.Rows.{cell_at, Holds, HasCell};
+ghost use Rattle.dg_cells.specs.Pieces.{strung, nth_piece, numbers_before, IsPlace};
+ghost use Rattle.dg_cells.specs.Order.{cell_element, elements_in, AreCells, IsOrder, IsLower, is_cell_before, is_index_before, is_piece_before};
+
+use crate::pieces::Pieces;
+use crate::row::Row;
+use dg_event::compare;
+use dg_graph::Element;
+
+/// An index within a piece of the order, or the end of the order.
+#[derive(Clone, Copy)]
+pub(crate) struct Place {
+    pub(crate) piece: usize,
+    pub(crate) index: usize,
+}
+
+/// The first place, where nothing is known of the element.
+pub(crate) const START: Place = Place { piece: 0, index: 0 };
+
+/// The place to look at for an element behind the one at this place.
+pub(crate) fn behind(place: Place) -> Place {
+    Place {
+        piece: place.piece,
+        index: place.index.saturating_add(1),
+    }
+}
+
+/// The element of an occupied cell.
+pub(crate) fn element(rows: &[Option<Row>], n: usize) -> Element
+    requires { IsSome (cell_at rows.now n) }
+    ensures { cell_element (cell_at rows.now n) ≡ Some result }
+{
+    match rows[n] {
+        Some(row) => row.element,
+        None => unreachable!(),
+    }
+}
+
+/// Whether the cell has the element.
+pub(crate) fn has_element(rows: &[Option<Row>], n: usize, x: &Element) -> bool
+    ensures has { result ≡ true → Holds rows.now x.now n }
+    ensures has_not { result ≡ false → cell_element (cell_at rows.now n) ≡ Some x.now → ⊥ }
+{
+    if n < rows.len() {
+        match rows[n] {
+            Some(row) => compare(x, &row.element).is_eq(),
+            None => false,
+        }
+    } else {
+        false
+    }
+}
+
+/// Whether the cell with the number at this place has the element.
+pub(crate) fn stands_at(rows: &[Option<Row>], pieces: &Pieces, place: Place, x: &Element) -> bool
+    ensures { result ≡ true → HasCell rows.now x.now }
+{
+    if place.piece >= pieces.len() {
+        return false;
+    }
+    let piece = pieces.piece(place.piece);
+    place.index < piece.len() && has_element(rows, piece[place.index] as usize, x)
+}
+
+// Whether the cell's element is before this one.
+fn is_before(rows: &[Option<Row>], n: usize, x: &Element) -> bool
+    requires { IsSome (cell_at rows.now n) }
+    ensures { result ≡ is_cell_before x.now (cell_at rows.now n) }
+{
+    compare(&element(rows, n), x).is_lt()
+}
+
+// A place to look at: a step from the low end, or half way.
+fn probe(low: usize, high: usize, step: usize) -> usize
+    requires { low < high }
+    ensures on { low ≤ result }
+    ensures within { result < high }
+{
+    let half = (high - low) / 2;
+    if step < half { low + step } else { low + half }
+}
+
+// The first step of a search: none but halves where nothing is known to be before the element.
+fn first_step(low: usize) -> usize {
+    if low == 0 { usize::MAX } else { 1 }
+}
+
+// The place from which to look: the given one, if it is not too far on.
+fn start_within(rows: &[Option<Row>], order: &[u32], near: usize, x: &Element) -> usize
+    requires { AreCells rows.now order.now }
+    ensures within { result ≤ length order.now }
+    ensures low { 0 < result → is_index_before rows.now order.now x.now (result - 1) ≡ true }
+{
+    if 0 < near && near <= order.len() && is_before(rows, order[near - 1] as usize, x) {
+        near
+    } else {
+        0
+    }
+}
+
+/// Where the element stands or belongs among the cells of a piece.
+pub(crate) fn seek_within(rows: &[Option<Row>], order: &[u32], near: usize, x: &Element) -> usize
+    requires { AreCells rows.now order.now }
+    ensures within { result ≤ length order.now }
+    ensures low { 0 < result → is_index_before rows.now order.now x.now (result - 1) ≡ true }
+    ensures high { result < length order.now → is_index_before rows.now order.now x.now result ≡ false }
+{
+    let mut low = start_within(rows, order, near, x);
+    let mut high = order.len();
+    let mut step = first_step(low);
+    while low < high {
+        let at = probe(low, high, step);
+        if is_before(rows, order[at] as usize, x) {
+            step = step.saturating_mul(2);
+            low = at + 1;
+        } else {
+            high = at;
+        }
+    }
+    low
+}
+
+// Whether all elements of the piece are before this one.
+fn is_piece_before(rows: &[Option<Row>], pieces: &Pieces, n: usize, x: &Element) -> bool
+    requires cells { AreCells rows.now (strung pieces.now) }
+    requires within { n < length pieces.now }
+    ensures { result ≡ is_piece_before rows.now pieces.now x.now n }
+{
+    let piece = pieces.piece(n);
+    is_before(rows, piece[piece.len() - 1] as usize, x)
+}
+
+// The piece from which to look: the given one, if it is not too far on.
+fn start_piece(rows: &[Option<Row>], pieces: &Pieces, near: usize, x: &Element) -> usize
+    requires { AreCells rows.now (strung pieces.now) }
+    ensures within { result ≤ length pieces.now }
+    ensures low { 0 < result → is_piece_before rows.now pieces.now x.now (result - 1) ≡ true }
+{
+    if 0 < near && near <= pieces.len() && is_piece_before(rows, pieces, near - 1, x) {
+        near
+    } else {
+        0
+    }
+}
+
+// The piece where the element stands or belongs; the end where all are before it.
+fn seek_piece(rows: &[Option<Row>], pieces: &Pieces, near: usize, x: &Element) -> usize
+    requires { AreCells rows.now (strung pieces.now) }
+    ensures within { result ≤ length pieces.now }
+    ensures low { 0 < result → is_piece_before rows.now pieces.now x.now (result - 1) ≡ true }
+    ensures high { result < length pieces.now → is_piece_before rows.now pieces.now x.now result ≡ false }
+{
+    let mut low = start_piece(rows, pieces, near, x);
+    let mut high = pieces.len();
+    let mut step = first_step(low);
+    while low < high {
+        let at = probe(low, high, step);
+        if is_piece_before(rows, pieces, at, x) {
+            step = step.saturating_mul(2);
+            low = at + 1;
+        } else {
+            high = at;
+        }
+    }
+    low
+}
+
+// The index to look from in a piece.
+fn index_in(near: Place, piece: usize) -> usize {
+    if near.piece == piece { near.index } else { 0 }
+}
+
+/// Where the element stands in the order of the cells, or belongs. It takes the fewer steps the less
+/// it is behind `near`.
+pub(crate) fn seek(rows: &[Option<Row>], pieces: &Pieces, near: Place, x: &Element) -> Place
+    requires { IsOrder rows.now (strung pieces.now) }
+    ensures place { IsPlace pieces.now result.piece result.index }
+    ensures lower { IsLower x.now (elements_in rows.now (strung pieces.now)) (numbers_before pieces.now result.piece + result.index) }
+{
+    pieces.facts();
+    let piece = seek_piece(rows, pieces, near.piece, x);
+    if piece == pieces.len() {
+        return Place { piece, index: 0 };
+    }
+    let index = seek_within(rows, pieces.piece(piece), index_in(near, piece), x);
+    Place { piece, index }
+}

@@ -1,0 +1,99 @@
+//! A cell's element and its bits.
+ghost use Rattle.std.specs.Prelude.{◌≡◌, ℕ, ◌<◌, ◌≤◌, ◌==◌, Bool, true, false, cond};
+ghost use Rattle.dg_cells.specs.Rows.{has_bit, is_current, pair, SetsCurrent, SetsPair, SetsBits, ClearsBits, IsBare};
+
+use dg_graph::Element;
+
+/// An element, and 256 bits that say in which graphs it is.
+#[derive(Clone, Copy)]
+pub struct Row {
+    pub element: Element,
+    pub bits: [u64; 4],
+}
+
+fn has_bit(row: &Row, bit: u8) -> bool
+    ensures { result ≡ has_bit row.now bit }
+{
+    (row.bits[(bit / 64) as usize] >> (bit % 64)) & 1 == 1
+}
+
+fn with_bit(row: Row, bit: u8, on: bool) -> Row
+    ensures element { result.element ≡ row.element }
+    ensures bits { (c : ℕ) → has_bit result c ≡ cond (c == bit) on (has_bit row c) }
+{
+    let mut bits = row.bits;
+    let word = (bit / 64) as usize;
+    if on {
+        bits[word] |= 1 << (bit % 64);
+    } else {
+        bits[word] &= !(1 << (bit % 64));
+    }
+    Row {
+        element: row.element,
+        bits,
+    }
+}
+
+/// Whether the current graph has the element.
+pub fn is_current(row: &Row) -> bool
+    ensures { result ≡ is_current row.now }
+{
+    has_bit(row, 0)
+}
+
+/// The two bits of the slot.
+pub fn pair(row: &Row, slot: u8) -> (bool, bool)
+    requires { slot ≤ 127 }
+    ensures { result ≡ pair slot row.now }
+{
+    (has_bit(row, 2 * slot), has_bit(row, 2 * slot + 1))
+}
+
+pub fn with_current(row: Row, on: bool) -> Row
+    ensures { SetsCurrent on row result }
+{
+    with_bit(row, 0, on)
+}
+
+pub fn with_pair(row: Row, slot: u8, explicit: bool, own: bool) -> Row
+    requires low { 1 ≤ slot }
+    requires high { slot ≤ 127 }
+    ensures { SetsPair slot (explicit, own) row result }
+{
+    with_bit(with_bit(row, 2 * slot, explicit), 2 * slot + 1, own)
+}
+
+pub fn with_bits(row: Row, bits: [u64; 4]) -> Row
+    ensures { SetsBits bits row result }
+{
+    Row {
+        element: row.element,
+        bits,
+    }
+}
+
+/// The row without the bits of the mask.
+pub fn without_bits(row: Row, mask: [u64; 4]) -> Row
+    ensures { ClearsBits mask row result }
+{
+    Row {
+        element: row.element,
+        bits: [
+            row.bits[0] & !mask[0],
+            row.bits[1] & !mask[1],
+            row.bits[2] & !mask[2],
+            row.bits[3] & !mask[3],
+        ],
+    }
+}
+
+/// A cell with no bit.
+pub fn bare(element: Element) -> Row
+    ensures element { result.element ≡ element }
+    ensures bare { IsBare result }
+{
+    Row {
+        element,
+        bits: [0; 4],
+    }
+}

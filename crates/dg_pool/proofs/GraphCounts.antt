@@ -1,0 +1,96 @@
+-- The counts of a set that gains or loses one element.
+use Rattle.std.proofs.Common.{arith, ◌≡◌, ℕ, suc, ◌+◌, ◌-◌, ◌≤◌, Bool, true, false, cond, List, [], ◌∷◌, ◌++◌, Option, Some, None, length, refl}
+use Rattle.std.specs.declared.cmp.Ordering.TheVariants.{Less, Equal, Greater}
+use Rattle.std.specs.List.{count_by}
+use Rattle.std.proofs.lemmas.List.Sums.{count_by-le-length}
+use Rattle.dg_graph.specs.declared.element.Element.{Element}
+use Rattle.dg_graph.specs.declared.element.Element.TheVariants.{Node, Edge, NodeAttr, EdgeAttr}
+use Rattle.dg_graph.specs.Elements.{IsSet, has, put, take_out, with_one, element_cmp}
+use Rattle.dg_graph.proofs.Sets.{put_by}
+use Rattle.dg_cells.specs.declared.row.Row.{Row}
+use Rattle.dg_pool.specs.declared.counts.Counts.{Counts}
+use Rattle.dg_pool.specs.Graphs.{given, picked}
+use Rattle.dg_pool.specs.Counts.{is_a_node, is_an_edge, is_a_node_attr, is_an_edge_attr, counts_of, kind_count, one_more, one_less}
+use Rattle.dg_pool.proofs.KindCounts.{count-put, count-take_out, count-cons}
+
+counts_by : (n e a b n2 e2 a2 b2 : ℕ) → n ≡ n2 → e ≡ e2 → a ≡ a2 → b ≡ b2 → let c : Counts = record { nodes = n; edges = e; node_attrs = a; edge_attrs = b } in let d : Counts = record { nodes = n2; edges = e2; node_attrs = a2; edge_attrs = b2 } in c ≡ d
+counts_by n e a b n2 e2 a2 b2 p q r s = λ i. record { nodes = p i; edges = q i; node_attrs = r i; edge_attrs = s i }
+
+more : (n m : ℕ) → n ≡ 1 + m → n ≡ m + 1
+more n m e = omega arith
+
+less : (n m : ℕ) → n ≡ 1 + m → m ≡ n - 1
+less n m e = omega arith
+
+same : (n m : ℕ) → n ≡ 0 + m → m ≡ n
+same n m e = omega arith
+
+same_too : (n m : ℕ) → n ≡ 0 + m → n ≡ m
+same_too n m e = omega arith
+
+-- with its counts in a record of variables, one more
+more_by : (x : Element) (set after : List Element) → ((p : Element → Bool) → count_by p after ≡ cond (p x) 1 0 + count_by p set) → counts_of after ≡ one_more (counts_of set) x
+more_by (Node id) set after f = counts_by _ _ _ _ _ _ _ _ (more _ _ (f is_a_node)) (same_too _ _ (f is_an_edge)) (same_too _ _ (f is_a_node_attr)) (same_too _ _ (f is_an_edge_attr))
+more_by (Edge id src dst directed) set after f = counts_by _ _ _ _ _ _ _ _ (same_too _ _ (f is_a_node)) (more _ _ (f is_an_edge)) (same_too _ _ (f is_a_node_attr)) (same_too _ _ (f is_an_edge_attr))
+more_by (NodeAttr id key value) set after f = counts_by _ _ _ _ _ _ _ _ (same_too _ _ (f is_a_node)) (same_too _ _ (f is_an_edge)) (more _ _ (f is_a_node_attr)) (same_too _ _ (f is_an_edge_attr))
+more_by (EdgeAttr id key value) set after f = counts_by _ _ _ _ _ _ _ _ (same_too _ _ (f is_a_node)) (same_too _ _ (f is_an_edge)) (same_too _ _ (f is_a_node_attr)) (more _ _ (f is_an_edge_attr))
+
+less_by : (x : Element) (set after : List Element) → ((p : Element → Bool) → count_by p set ≡ cond (p x) 1 0 + count_by p after) → counts_of after ≡ one_less (counts_of set) x
+less_by (Node id) set after f = counts_by _ _ _ _ _ _ _ _ (less _ _ (f is_a_node)) (same _ _ (f is_an_edge)) (same _ _ (f is_a_node_attr)) (same _ _ (f is_an_edge_attr))
+less_by (Edge id src dst directed) set after f = counts_by _ _ _ _ _ _ _ _ (same _ _ (f is_a_node)) (less _ _ (f is_an_edge)) (same _ _ (f is_a_node_attr)) (same _ _ (f is_an_edge_attr))
+less_by (NodeAttr id key value) set after f = counts_by _ _ _ _ _ _ _ _ (same _ _ (f is_a_node)) (same _ _ (f is_an_edge)) (less _ _ (f is_a_node_attr)) (same _ _ (f is_an_edge_attr))
+less_by (EdgeAttr id key value) set after f = counts_by _ _ _ _ _ _ _ _ (same _ _ (f is_a_node)) (same _ _ (f is_an_edge)) (same _ _ (f is_a_node_attr)) (less _ _ (f is_an_edge_attr))
+
+pub counts-put : (x : Element) (set : List Element) → has set x ≡ false → counts_of (put x set) ≡ one_more (counts_of set) x
+counts-put x set e = more_by x set (put x set) (λ p. count-put p x set e)
+
+pub counts-take_out : (x : Element) (set : List Element) → IsSet set → has set x ≡ true → counts_of (take_out x set) ≡ one_less (counts_of set) x
+counts-take_out x set s e = less_by x set (take_out x set) (λ p. count-take_out p x set s e)
+
+count-push : (p : Element → Bool) (xs : List Element) (y : Element) → count_by p (xs ++ y ∷ []) ≡ cond (p y) 1 0 + count_by p xs
+count-push p [] y = count-cons p y []
+count-push p (x ∷ xs) y =
+    let rest = count-push p xs y in
+    let a = count-cons p x (xs ++ y ∷ []) in
+    let b = count-cons p x xs in
+    omega (arith, rest, a, b)
+
+pub counts-push : (xs : List Element) (y : Element) → counts_of (xs ++ y ∷ []) ≡ one_more (counts_of xs) y
+counts-push xs y = more_by y xs (xs ++ y ∷ []) (λ p. count-push p xs y)
+
+pub kind-one_more : (c : Counts) (x : Element) → kind_count (one_more c x) x ≡ kind_count c x + 1
+kind-one_more c (Node id) = refl
+kind-one_more c (Edge id src dst directed) = refl
+kind-one_more c (NodeAttr id key value) = refl
+kind-one_more c (EdgeAttr id key value) = refl
+
+pub kind-most : (set : List Element) (x : Element) → kind_count (counts_of set) x ≤ length set
+kind-most set (Node id) = count_by-le-length is_a_node set
+kind-most set (Edge id src dst directed) = count_by-le-length is_an_edge set
+kind-most set (NodeAttr id key value) = count_by-le-length is_a_node_attr set
+kind-most set (EdgeAttr id key value) = count_by-le-length is_an_edge_attr set
+
+-- a set with the element has one of its kind
+pub kind-least : (x : Element) (set : List Element) → IsSet set → has set x ≡ true → 1 ≤ kind_count (counts_of set) x
+kind-least (Node id) set s e = let f = count-take_out is_a_node (Node id) set s e in omega arith
+kind-least (Edge id src dst directed) set s e = let f = count-take_out is_an_edge (Edge id src dst directed) set s e in omega arith
+kind-least (NodeAttr id key value) set s e = let f = count-take_out is_a_node_attr (NodeAttr id key value) set s e in omega arith
+kind-least (EdgeAttr id key value) set s e = let f = count-take_out is_an_edge_attr (EdgeAttr id key value) set s e in omega arith
+
+put_most : (x : Element) (set : List Element) → length (put x set) ≤ length set + 1
+put_most x [] = omega arith
+put_most x (y ∷ set) =
+    elim (element_cmp x y) as (λ o. length (put_by o x y set) ≤ length (y ∷ set) + 1) [
+      | Less ↦ omega arith
+      | Equal ↦ omega arith
+      | Greater ↦ let rest = put_most x set in omega arith
+    ]
+
+-- no graph has more elements than there are cells
+pub picked_most : (test : Row → Bool) (rows : List (Option Row)) → length (picked test rows) ≤ length rows
+picked_most test [] = omega arith
+picked_most test (o ∷ rows) = at (given test o) (picked_most test rows)
+  where
+    at : (z : Option Element) → length (picked test rows) ≤ length rows → length (with_one (picked test rows) z) ≤ suc (length rows)
+    at None rest = omega arith
+    at (Some x) rest = let f = put_most x (picked test rows) in omega arith

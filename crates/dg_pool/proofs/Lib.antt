@@ -1,0 +1,16 @@
+pub mod Picked
+pub mod CurrentGraph
+pub mod SweptCells
+pub mod Unions
+pub mod PoolInvariant
+pub mod MarkedCells
+pub mod NewSlot
+pub mod GraphSizes
+pub mod KindCounts
+pub mod GraphCounts
+pub mod SlotCounts
+pub mod KeptCounts
+pub mod Repeated
+pub mod MaskBits
+pub mod OrderedCells
+pub mod CellSearch

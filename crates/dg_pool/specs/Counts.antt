@@ -1,0 +1,97 @@
+-- How many elements of each kind a graph has.
+use Rattle.std.specs.Prelude.{◌≡◌, ℕ, ◌+◌, ◌-◌, Bool, true, false, List, Some, count_by, length, slice_index_or, if◌then◌else◌}
+use Rattle.dg_graph.specs.declared.element.Columns.{Columns}
+use Rattle.dg_graph.specs.declared.element.Element.{Element}
+use Rattle.dg_graph.specs.declared.element.Element.TheVariants.{Node, Edge, NodeAttr, EdgeAttr}
+use Rattle.dg_pool.specs.declared.counts.Counts.{Counts}
+use Rattle.dg_pool.specs.declared.slots.Base.{Base}
+use Rattle.dg_pool.specs.declared.slots.Base.TheVariants as base
+use Rattle.dg_pool.specs.Graphs.{PoolState, IsPool, SlotGraph, slot_graph, graph_now}
+
+abbrev pub is_a_node : Element → Bool
+is_a_node (Node id) = true
+is_a_node (Edge id src dst directed) = false
+is_a_node (NodeAttr id key value) = false
+is_a_node (EdgeAttr id key value) = false
+
+abbrev pub is_an_edge : Element → Bool
+is_an_edge (Node id) = false
+is_an_edge (Edge id src dst directed) = true
+is_an_edge (NodeAttr id key value) = false
+is_an_edge (EdgeAttr id key value) = false
+
+abbrev pub is_a_node_attr : Element → Bool
+is_a_node_attr (Node id) = false
+is_a_node_attr (Edge id src dst directed) = false
+is_a_node_attr (NodeAttr id key value) = true
+is_a_node_attr (EdgeAttr id key value) = false
+
+abbrev pub is_an_edge_attr : Element → Bool
+is_an_edge_attr (Node id) = false
+is_an_edge_attr (Edge id src dst directed) = false
+is_an_edge_attr (NodeAttr id key value) = false
+is_an_edge_attr (EdgeAttr id key value) = true
+
+-- how many elements of each kind the set has
+abbrev pub counts_of : List Element → Counts
+counts_of set = record {
+  nodes = count_by is_a_node set;
+  edges = count_by is_an_edge set;
+  node_attrs = count_by is_a_node_attr set;
+  edge_attrs = count_by is_an_edge_attr set;
+}
+
+-- how many there are of the element's kind
+abbrev pub kind_count : Counts → Element → ℕ
+kind_count c (Node id) = c.nodes
+kind_count c (Edge id src dst directed) = c.edges
+kind_count c (NodeAttr id key value) = c.node_attrs
+kind_count c (EdgeAttr id key value) = c.edge_attrs
+
+-- one more of the element's kind
+abbrev pub one_more : Counts → Element → Counts
+one_more c (Node id) = record c { nodes = c.nodes + 1 }
+one_more c (Edge id src dst directed) = record c { edges = c.edges + 1 }
+one_more c (NodeAttr id key value) = record c { node_attrs = c.node_attrs + 1 }
+one_more c (EdgeAttr id key value) = record c { edge_attrs = c.edge_attrs + 1 }
+
+-- one less
+abbrev pub one_less : Counts → Element → Counts
+one_less c (Node id) = record c { nodes = c.nodes - 1 }
+one_less c (Edge id src dst directed) = record c { edges = c.edges - 1 }
+one_less c (NodeAttr id key value) = record c { node_attrs = c.node_attrs - 1 }
+one_less c (EdgeAttr id key value) = record c { edge_attrs = c.edge_attrs - 1 }
+
+abbrev pub no_elements : Counts
+no_elements = record { nodes = 0; edges = 0; node_attrs = 0; edge_attrs = 0 }
+
+-- The counts of a base that lost some elements and gained others, in the columns that are asked for.
+abbrev pub counts_after : Counts → Counts → Counts → Columns → Counts
+counts_after was lost gained cols = record {
+  nodes = was.nodes - lost.nodes + gained.nodes;
+  edges = was.edges - lost.edges + gained.edges;
+  node_attrs = if cols.nodes_attr then was.node_attrs - lost.node_attrs + gained.node_attrs else 0;
+  edge_attrs = if cols.edges_attr then was.edge_attrs - lost.edge_attrs + gained.edge_attrs else 0;
+}
+
+-- the counts with this number
+abbrev pub counts_at : List Counts → ℕ → Counts
+counts_at counts s = slice_index_or counts s no_elements
+
+-- the counts that are kept of a base
+abbrev pub base_counts : List Counts → Base → Counts
+base_counts counts base.Nothing = no_elements
+base_counts counts base.Now = counts_at counts 0
+base_counts counts (base.Slot b) = counts_at counts b.0
+
+-- The first counts are those of the current graph, and those with a live slot's number are those of its
+-- members.
+pub record AreCountsOf (p : PoolState) (counts : List Counts) : Type 0 where
+  pub len : length counts ≡ 128
+  pub now : counts_at counts 0 ≡ counts_of (graph_now p)
+  pub slots : (s : ℕ) (g : SlotGraph) → slot_graph p s ≡ Some g → counts_at counts s ≡ counts_of g.members
+
+-- what a pool keeps true
+pub record IsCountedPool (p : PoolState) (counts : List Counts) : Type 0 where
+  pub pool : IsPool p
+  pub counted : AreCountsOf p counts

@@ -1,0 +1,6 @@
+pub mod Graphs
+pub mod Sweeps
+pub mod Slots
+pub mod Counts
+pub mod Masks
+pub mod Listing

@@ -1,0 +1,26 @@
+-- Walks over the members of a slot, in the order of elements.
+use Rattle.std.specs.Prelude.{ℕ, Bool, not, List, [], Option, Some, None, drop, filter, map}
+use Rattle.dg_graph.specs.declared.element.Element.{Element}
+use Rattle.dg_graph.specs.Elements.{before}
+use Rattle.dg_cells.specs.declared.row.Row.{Row}
+use Rattle.dg_cells.specs.declared.cursors.Cursor.{Cursor}
+use Rattle.dg_cells.specs.Cursors.{ordered, cursor_place, row_at}
+use Rattle.dg_pool.specs.Graphs.{PoolState, slot_graph}
+use Rattle.dg_pool.specs.Sweeps.{element_of, members_as}
+
+-- the elements of the set that are not before this one; none where there is no element
+abbrev pub not_before : List Element → Option Element → List Element
+not_before set None = []
+not_before set (Some x) = filter (λ y. not (before y x)) set
+
+-- the element of the cell at which the cursor stands; none past the last cell
+abbrev pub element_under : PoolState → Cursor → Option Element
+element_under p c = element_of (row_at p.rows c.cell)
+
+-- the members of a slot from a cursor on
+abbrev pub members_from : PoolState → ℕ → Cursor → List Element
+members_from p s c = not_before (members_as (slot_graph p s)) (element_under p c)
+
+-- the elements of the cells from a cursor on that pass the test
+abbrev pub passing_from : (Row → Bool) → List (Option Row) → Cursor → List Element
+passing_from test rows c = map (λ (r : Row). r.element) (filter test (drop (cursor_place rows c) (ordered rows)))

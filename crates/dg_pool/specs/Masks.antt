@@ -1,0 +1,35 @@
+-- Masks over the 256 bits of a cell, which tell of all slots at once.
+use Rattle.std.specs.Prelude.{◌≡◌, ℕ, ◌+◌, ◌*◌, ◌<◌, Bool, false, List, length}
+use Rattle.dg_graph.specs.declared.element.Column.{Column}
+use Rattle.dg_graph.specs.declared.element.Column.TheVariants as column
+use Rattle.dg_graph.specs.Elements.{asks}
+use Rattle.dg_cells.specs.Rows.{word_bit}
+use Rattle.dg_pool.specs.declared.masks.Masks.{Masks}
+use Rattle.dg_pool.specs.declared.slots.SlotState.{SlotState}
+use Rattle.dg_pool.specs.declared.slots.SlotState.TheVariants as state
+use Rattle.dg_pool.specs.Graphs.{slot_at}
+use Rattle.dg_pool.specs.Sweeps.{is_swept}
+
+-- the slot is live, and asks for the column
+abbrev pub is_asking : Column → SlotState → Bool
+is_asking column state.Free = false
+is_asking column (state.Released swept) = false
+is_asking column (state.Live b cols) = asks cols column
+
+-- the explicit bits of the live slots that ask for the column
+pub record IsAskingMask (column : Column) (slots : List SlotState) (mask : List ℕ) : Type 0 where
+  pub explicit : (s : ℕ) → s < 128 → word_bit mask (2 * s) ≡ is_asking column (slot_at slots s)
+  pub own : (s : ℕ) → s < 128 → word_bit mask (2 * s + 1) ≡ false
+
+-- both bits of the slots that a sweep clears
+pub record IsSweptMask (slots : List SlotState) (mask : List ℕ) : Type 0 where
+  pub len : length mask ≡ 4
+  pub explicit : (s : ℕ) → s < 128 → word_bit mask (2 * s) ≡ is_swept (slot_at slots s)
+  pub own : (s : ℕ) → s < 128 → word_bit mask (2 * s + 1) ≡ is_swept (slot_at slots s)
+
+-- the masks by which a sweep passes a cell
+pub record AreMasks (slots : List SlotState) (masks : Masks) : Type 0 where
+  pub structure : IsAskingMask column.Structure slots masks.structure
+  pub node_attr : IsAskingMask column.NodeAttr slots masks.node_attr
+  pub edge_attr : IsAskingMask column.EdgeAttr slots masks.edge_attr
+  pub swept : IsSweptMask slots masks.swept

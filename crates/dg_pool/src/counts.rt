@@ -1,0 +1,116 @@
+//! How many elements graphs have of each kind.
+ghost use Rattle.std.specs.Prelude.{◌≡◌, ℕ, ◌+◌, ◌-◌, ◌≤◌, ◌<◌, ◌^◌, true, false, if◌then◌else◌, length};
+ghost use Rattle.dg_pool.specs.declared.slots.Base.TheVariants as bases;
+ghost use Rattle.dg_pool.specs.declared.slots.Slot.{Slot};
+ghost use Rattle.dg_pool.specs.Counts.{kind_count, one_more, one_less, no_elements, counts_at, counts_after, base_counts};
+
+use crate::slots::Base;
+use dg_graph::{Columns, Element};
+
+/// How many elements a graph has of each kind.
+#[derive(Clone, Copy, Debug, PartialEq, Eq)]
+pub struct Counts {
+    /// Nodes.
+    pub nodes: u64,
+    /// Edges.
+    pub edges: u64,
+    /// Values of keys at nodes.
+    pub node_attrs: u64,
+    /// Values of keys at edges.
+    pub edge_attrs: u64,
+}
+
+/// The counts of the empty graph.
+pub(crate) const NO_ELEMENTS: Counts = Counts {
+    nodes: 0,
+    edges: 0,
+    node_attrs: 0,
+    edge_attrs: 0,
+};
+
+/// The counts of slots that all have the empty graph.
+pub(crate) fn no_counts() -> [Counts; 128]
+    ensures len { length result ≡ 128 }
+    ensures none { (s : ℕ) → counts_at result s ≡ no_elements }
+{
+    [NO_ELEMENTS; 128]
+}
+
+/// One more of the element's kind.
+pub(crate) fn one_more(counts: Counts, element: &Element) -> Counts
+    requires { kind_count counts element.now + 1 < 2 ^ 64 }
+    ensures { result ≡ one_more counts element.now }
+{
+    let mut more = counts;
+    match element {
+        Element::Node { .. } => more.nodes += 1,
+        Element::Edge { .. } => more.edges += 1,
+        Element::NodeAttr { .. } => more.node_attrs += 1,
+        Element::EdgeAttr { .. } => more.edge_attrs += 1,
+    }
+    more
+}
+
+/// One less of the element's kind.
+pub(crate) fn one_less(counts: Counts, element: &Element) -> Counts
+    requires { 1 ≤ kind_count counts element.now }
+    ensures { result ≡ one_less counts element.now }
+{
+    let mut less = counts;
+    match element {
+        Element::Node { .. } => less.nodes -= 1,
+        Element::Edge { .. } => less.edges -= 1,
+        Element::NodeAttr { .. } => less.node_attrs -= 1,
+        Element::EdgeAttr { .. } => less.edge_attrs -= 1,
+    }
+    less
+}
+
+/// The counts of a graph after the element is put in or taken out.
+pub(crate) fn with_change(counts: Counts, element: &Element, on: bool) -> Counts
+    requires more { on ≡ true → kind_count counts element.now + 1 < 2 ^ 64 }
+    requires less { on ≡ false → 1 ≤ kind_count counts element.now }
+    ensures { result ≡ (if on then one_more counts element.now else one_less counts element.now) }
+{
+    if on {
+        one_more(counts, element)
+    } else {
+        one_less(counts, element)
+    }
+}
+
+/// The counts of a base that lost some elements and gained others, in the columns that are asked for.
+pub(crate) fn counts_after(was: Counts, lost: Counts, gained: Counts, cols: Columns) -> Counts
+    requires nodes { (lost.nodes ≤ was.nodes) × (was.nodes - lost.nodes + gained.nodes < 2 ^ 64) }
+    requires edges { (lost.edges ≤ was.edges) × (was.edges - lost.edges + gained.edges < 2 ^ 64) }
+    requires node_attrs { cols.nodes_attr ≡ true → (lost.node_attrs ≤ was.node_attrs) × (was.node_attrs - lost.node_attrs + gained.node_attrs < 2 ^ 64) }
+    requires edge_attrs { cols.edges_attr ≡ true → (lost.edge_attrs ≤ was.edge_attrs) × (was.edge_attrs - lost.edge_attrs + gained.edge_attrs < 2 ^ 64) }
+    ensures { result ≡ counts_after was lost gained cols }
+{
+    Counts {
+        nodes: was.nodes - lost.nodes + gained.nodes,
+        edges: was.edges - lost.edges + gained.edges,
+        node_attrs: if cols.nodes_attr {
+            was.node_attrs - lost.node_attrs + gained.node_attrs
+        } else {
+            0
+        },
+        edge_attrs: if cols.edges_attr {
+            was.edge_attrs - lost.edge_attrs + gained.edge_attrs
+        } else {
+            0
+        },
+    }
+}
+
+/// The counts that are kept of a base.
+pub(crate) fn base_counts(counts: &[Counts; 128], base: Base) -> Counts
+    requires { (b : Slot) → base ≡ bases.Slot b → b.0 ≤ 127 }
+    ensures { result ≡ base_counts counts.now base }
+{
+    match base {
+        Base::Nothing => NO_ELEMENTS,
+        Base::Now => counts[0],
+        Base::Slot(b) => counts[b.0 as usize],
+    }
+}

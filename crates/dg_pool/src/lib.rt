@@ -1,0 +1,21 @@
+//! The pool of graphs: the current graph and the retrieved ones, overlaid in one list of cells.
+#![tactic(auto)]
+
+mod counts;
+mod current;
+mod lengths;
+mod marks;
+mod masks;
+mod members;
+mod pool;
+mod room;
+mod search;
+mod slots;
+mod sweep;
+#[cfg(test)]
+mod tests;
+
+pub use counts::Counts;
+pub use dg_cells::Cursor;
+pub use pool::{AttachFault, InUse, Pool, Swept};
+pub use slots::{Base, Slot};

@@ -1,0 +1,365 @@
+//! The pool of graphs.
+ghost use Rattle.std.specs.Prelude.{◌≡◌, ◌<◌, ◌≤◌, ℕ, true, false, [], ◌∷◌, None, Some, IfSome, IfOk, IfErr, IfNone, OnErr, OnOk, IsErrOf, length};
+ghost use Rattle.dg_graph.specs.Replay.{replay_from};
+ghost use Rattle.dg_pool.specs.declared.slots.SlotState.TheVariants as state;
+ghost use Rattle.dg_pool.specs.declared.pool.AttachFault.TheVariants.{Memory};
+ghost use Rattle.dg_pool.specs.Graphs.{PoolState, IsPool, graph_now, slot_graph, HaveCells, SameGraphs, slot_at, is_live};
+ghost use Rattle.dg_pool.specs.Sweeps.{union_of, cells_of, IsSweep, members_as};
+ghost use Rattle.dg_cells.specs.Rows.{AllHave};
+ghost use Rattle.dg_pool.specs.Counts.{counts_of};
+ghost use Rattle.dg_pool.specs.Listing.{members_from, not_before};
+ghost use Rattle.dg_pool.specs.Slots.{IsLive, live_count, IsLeastOn, NoneOn, IsLeastFree, AllLive, BaseFits, base_members, is_free, NamesOnly};
+ghost use Rattle.dg_graph.specs.Elements.{shown, has};
+ghost use Rattle.dg_graph.specs.Composition.{applied};
+
+use crate::counts::{Counts, base_counts, counts_after, no_counts};
+use crate::current::{pass_all, put_all};
+use crate::lengths::{count_all, count_needed};
+use crate::marks::mark;
+use crate::members::{has_member, next_member};
+use crate::room::{make_all, make_rising};
+use crate::slots::{
+    Base, Slot, SlotState, all_free, begin, count_live, end, least_free, least_on, list_on_now,
+    start,
+};
+use crate::sweep::sweep;
+use dg_cells::{Cells, Cursor, is_current};
+use dg_delta::Delta;
+use dg_graph::{Columns, Element, Event};
+use dg_set::Set;
+use std::alloc::{AllocError, Global};
+use std::marker::Model;
+use thiserror::Error;
+
+/// The current graph and the graphs of the live slots, overlaid in one list of cells.
+#[derive(Drop)]
+pub struct Pool {
+    cells: Cells,
+    slots: [SlotState; 128],
+    // of each live slot, and first of the current graph
+    counts: [Counts; 128],
+    // the number of the next cell that a sweep passes; 0 is the beginning
+    place: usize,
+}
+
+/// Why a graph got no slot.
+#[derive(Clone, Copy, Debug, PartialEq, Eq, Error)]
+pub enum AttachFault {
+    /// 127 slots are live.
+    #[error("127 slots are live")]
+    PoolFull,
+    /// Memory ran out.
+    #[error("out of memory")]
+    Memory,
+}
+
+impl From<AllocError> for AttachFault {
+    ghost from_gives = { λ _ fault. fault ≡ Memory };
+
+    fn from(_error: AllocError) -> AttachFault {
+        AttachFault::Memory
+    }
+}
+
+/// Live slots rest on the slot that was to be released; this is the least of them.
+#[derive(Clone, Copy, Debug, PartialEq, Eq, Error)]
+#[error("a live slot rests on it")]
+pub struct InUse(pub Slot);
+
+/// How far a sweep has come.
+#[derive(Clone, Copy, Debug, PartialEq, Eq)]
+pub enum Swept {
+    /// It has passed all cells.
+    Done,
+    /// Cells are left.
+    More,
+}
+
+impl Model for Pool {
+    ghost use Rattle.dg_pool.specs.Graphs.{PoolState};
+    ghost use Rattle.dg_pool.specs.Counts.{IsCountedPool};
+
+    ghost Value = { PoolState };
+
+    ghost view = { λ p. record { rows = p.cells; slots = p.slots; place = p.place } };
+
+    ghost invariant = { λ p. IsCountedPool (record { rows = p.cells; slots = p.slots; place = p.place }) p.counts };
+}
+
+impl Pool {
+    /// An empty current graph and no live slot. Takes no memory yet.
+    pub fn new(alloc: Global) -> Pool
+        ensures now { graph_now result ≡ [] }
+        ensures slots { (s : ℕ) → slot_graph result s ≡ None }
+        ensures free { (s : ℕ) → slot_at result.slots s ≡ state.Free }
+        ensures cells { cells_of result ≡ [] }
+        ensures place { result.place ≡ 0 }
+    {
+        Pool {
+            cells: Cells::new(alloc),
+            slots: all_free(),
+            counts: no_counts(),
+            place: 0,
+        }
+    }
+
+    /// Takes the current graph past the events. No slot's members change. Takes no memory.
+    pub fn apply_now(&mut self, events: &[Event])
+        requires { HaveCells self.old.rows events.now }
+        ensures now { graph_now self.new ≡ replay_from (graph_now self.old) events.now }
+        ensures slots { (s : ℕ) → slot_graph self.new s ≡ slot_graph self.old s }
+    {
+        let (on_now, len) = list_on_now(&self.slots);
+        self.counts[0] = pass_all(
+            &mut self.cells,
+            &self.slots,
+            &on_now[..len],
+            self.counts[0],
+            events,
+        );
+        self.cells.facts();
+    }
+
+    /// Ends a slot. `Err` is the least slot that rests on it.
+    pub fn release(&mut self, slot: Slot) -> Result<(), InUse>
+        requires { IsLive self.old slot }
+        ensures free { IfOk result (λ _. NoneOn self.old.slots slot.0) }
+        ensures in_use { IfErr result (λ e. IsLeastOn self.old.slots slot.0 e.0.0) }
+        ensures err { OnErr result (self.new ≡ self.old) }
+        ensures released { IfOk result (λ _. slot_at self.new.slots slot.0 ≡ state.Released false) }
+        ensures now { graph_now self.new ≡ graph_now self.old }
+        ensures others { (s : ℕ) → (s ≡ slot.0 → ⊥) → slot_graph self.new s ≡ slot_graph self.old s }
+    {
+        if let Some(other) = least_on(&self.slots, slot.0) {
+            return Err(InUse(Slot(other)));
+        }
+        self.slots[slot.0 as usize] = SlotState::Released { swept: false };
+        Ok(())
+    }
+
+    /// Passes the next `cells` cells, or all that are left, by rising number from where the last sweep
+    /// stopped, and gives back those whose element is in no live graph. `Done` where no cell is left:
+    /// the slots that were released before this sweep began are free then, and the next sweep begins at
+    /// the first cell. No graph changes. Takes no memory.
+    pub fn clean(&mut self, cells: u32) -> Swept
+        requires { 1 ≤ cells }
+        ensures graphs { SameGraphs self.old self.new }
+        ensures sweep { IsSweep self.old self.new cells result }
+    {
+        start(&mut self.slots, self.place);
+        let place = sweep(&mut self.cells, &self.slots, self.place, u64::from(cells));
+        self.cells.facts();
+        if place < self.cells.len() {
+            self.place = place;
+            return Swept::More;
+        }
+        end(&mut self.slots);
+        self.place = 0;
+        Swept::Done
+    }
+
+    /// A whole sweep from the first cell on, wherever a sweep stood. The cells that are left are those
+    /// of the union of the live graphs, and each slot that is not live is free. No graph changes. Takes
+    /// no memory.
+    pub fn clean_all(&mut self)
+        ensures graphs { SameGraphs self.old self.new }
+        ensures cells { cells_of self.new ≡ union_of self.new }
+        ensures place { self.new.place ≡ 0 }
+        ensures free { (s : ℕ) → is_live (slot_at self.new.slots s) ≡ false → slot_at self.new.slots s ≡ state.Free }
+    {
+        begin(&mut self.slots);
+        let count = self.cells.len() as u64;
+        sweep(&mut self.cells, &self.slots, 0, count);
+        self.cells.facts();
+        end(&mut self.slots);
+        self.place = 0;
+    }
+
+    // The least free slot, after a whole sweep where none is free.
+    fn free_slot(&mut self) -> Option<u8>
+        ensures graphs { SameGraphs self.old self.new }
+        ensures some { IfSome result (IsLeastFree self.new.slots) }
+        ensures none { IfNone result (AllLive self.old) }
+    {
+        if let Some(slot) = least_free(&self.slots) {
+            return Some(slot);
+        }
+        self.clean_all();
+        least_free(&self.slots)
+    }
+
+    // Gives a free slot its graph.
+    fn attach_at(
+        &mut self,
+        slot: u8,
+        base: Base,
+        delta: &Delta,
+        cols: Columns,
+    ) -> Result<(), AllocError>
+        requires free { IsLeastFree self.old.slots slot }
+        requires base { BaseFits self.old base cols }
+        ensures slot { OnOk result (slot_graph self.new slot ≡ Some (record { base = base; cols = cols; members = shown (applied delta.now (base_members self.old base)) cols })) }
+        ensures others { (t : ℕ) → (t ≡ slot → ⊥) → slot_graph self.new t ≡ slot_graph self.old t }
+        ensures now { graph_now self.new ≡ graph_now self.old }
+        ensures err { OnErr result (slot_graph self.new slot ≡ slot_graph self.old slot) }
+        ensures states { (t : ℕ) → (t ≡ slot → ⊥) → slot_at self.new.slots t ≡ slot_at self.old.slots t }
+        ensures explicit { OnOk result (NamesOnly self.new slot delta.now) }
+    {
+        make_rising(&mut self.cells, delta.plus().items())?;
+        let lost = mark(&mut self.cells, slot, base, false, delta.minus().items());
+        let gained = mark(&mut self.cells, slot, base, true, delta.plus().items());
+        // no graph has more elements than there are cells, so the counts fit
+        let _most = self.cells.len();
+        let was = base_counts(&self.counts, base);
+        self.counts[slot as usize] = counts_after(was, lost, gained, cols);
+        self.slots[slot as usize] = SlotState::Live { base, cols };
+        Ok(())
+    }
+
+    /// Gives the least free slot the graph of the base, changed by the delta and cut to the columns. Where
+    /// no slot is free, all cells are swept first. `AttachFault::PoolFull` where 127 slots are live;
+    /// `AttachFault::Memory` for want of memory. After an `Err` no graph has changed.
+    pub fn attach(&mut self, base: Base, delta: &Delta, cols: Columns) -> Result<Slot, AttachFault>
+        requires { BaseFits self.old base cols }
+        ensures slot { IfOk result (λ s. slot_graph self.new s.0 ≡ Some (record { base = base; cols = cols; members = shown (applied delta.now (base_members self.old base)) cols })) }
+        ensures fresh { IfOk result (λ s. slot_graph self.old s.0 ≡ None) }
+        ensures others { IfOk result (λ s. (t : ℕ) → (t ≡ s.0 → ⊥) → slot_graph self.new t ≡ slot_graph self.old t) }
+        ensures now { graph_now self.new ≡ graph_now self.old }
+        ensures within { IfOk result (λ s. (1 ≤ s.0) × (s.0 ≤ 127)) }
+        ensures least { IfOk result (λ s. (t : ℕ) → 1 ≤ t → t < s.0 → is_free (slot_at self.new.slots t) ≡ false) }
+        ensures explicit { IfOk result (λ s. NamesOnly self.new s.0 delta.now) }
+        ensures full { IsErrOf result AttachFault.PoolFull → AllLive self.old }
+        ensures memory { IsErrOf result AttachFault.Memory → AllLive self.old → ⊥ }
+        ensures err { OnErr result (SameGraphs self.old self.new) }
+    {
+        let Some(slot) = self.free_slot() else {
+            return Err(AttachFault::PoolFull);
+        };
+        self.attach_at(slot, base, delta, cols)?;
+        Ok(Slot(slot))
+    }
+
+    /// Gives each of the elements a cell. No graph changes. An `Err` says that memory ran out; some may
+    /// have got one.
+    pub fn make_cells(&mut self, elements: &[Element]) -> Result<(), AllocError>
+        ensures graphs { SameGraphs self.old self.new }
+        ensures there { OnOk result (AllHave self.new.rows elements.now) }
+    {
+        make_all(&mut self.cells, elements)
+    }
+
+    /// Whether the current graph has the element.
+    pub fn member_now(&self, element: &Element) -> bool
+        ensures { result ≡ has (graph_now self.now) element.now }
+    {
+        self.cells.facts();
+        match self.cells.find(element) {
+            Some(n) => match self.cells.row(n) {
+                Some(row) => is_current(&row),
+                None => unreachable!(),
+            },
+            None => false,
+        }
+    }
+
+    /// Whether the slot's graph has the element.
+    pub fn member(&self, slot: Slot, element: &Element) -> bool
+        requires { IsLive self.now slot }
+        ensures { result ≡ has (members_as (slot_graph self.now slot.0)) element.now }
+    {
+        self.cells.facts();
+        match self.cells.find(element) {
+            Some(n) => match self.cells.row(n) {
+                Some(row) => has_member(&row, self.slots[slot.0 as usize], slot.0),
+                None => unreachable!(),
+            },
+            None => false,
+        }
+    }
+
+    /// The cursor at the first cell in the order of elements, from which `next_member` goes over a graph.
+    pub fn first(&self) -> Cursor
+        ensures { (s : ℕ) → members_from self.now s result ≡ members_as (slot_graph self.now s) }
+    {
+        self.cells.facts();
+        self.cells.order_facts();
+        self.cells.first()
+    }
+
+    /// The cursor from which `next_member` gives the elements that are not before this one.
+    pub fn seek(&self, element: &Element) -> Cursor
+        ensures { (s : ℕ) → members_from self.now s result ≡ not_before (members_as (slot_graph self.now s)) (Some element.now) }
+    {
+        self.cells.facts();
+        self.cells.order_facts();
+        self.cells.seek(element)
+    }
+
+    /// The first element of the slot's graph at the cursor or behind it, in the order of elements, and the
+    /// cursor from which the next one is to be asked for. `None` where the graph has no element left.
+    pub fn next_member(&self, slot: Slot, from: Cursor) -> Option<(Element, Cursor)>
+        requires { IsLive self.now slot }
+        ensures some { IfSome result (λ m. members_from self.now slot.0 from ≡ m.0 ∷ members_from self.now slot.0 m.1) }
+        ensures none { IfNone result (members_from self.now slot.0 from ≡ []) }
+    {
+        self.cells.facts();
+        self.cells.order_facts();
+        next_member(&self.cells, self.slots[slot.0 as usize], slot.0, from)
+    }
+
+    /// How many elements of each kind the slot's graph has.
+    pub fn counts(&self, slot: Slot) -> Counts
+        requires { IsLive self.now slot }
+        ensures { result ≡ counts_of (members_as (slot_graph self.now slot.0)) }
+    {
+        self.counts[slot.0 as usize]
+    }
+
+    /// How many elements of each kind the current graph has.
+    pub fn counts_now(&self) -> Counts
+        ensures { result ≡ counts_of (graph_now self.now) }
+    {
+        self.counts[0]
+    }
+
+    /// How many slots are live.
+    pub fn live(&self) -> u32
+        ensures { result ≡ live_count self.now }
+    {
+        count_live(&self.slots)
+    }
+
+    /// How many elements have a cell.
+    pub fn cell_len(&self) -> u64
+        ensures { result ≡ length (cells_of self.now) }
+    {
+        self.cells.facts();
+        count_all(&self.cells)
+    }
+
+    /// How many elements the live graphs have together.
+    pub fn union_len(&self) -> u64
+        ensures { result ≡ length (union_of self.now) }
+    {
+        self.cells.facts();
+        count_needed(&self.cells, &self.slots)
+    }
+
+    /// Makes the current graph, which is empty, this set. Takes no memory.
+    pub fn set_now(&mut self, set: &Set)
+        requires empty { graph_now self.old ≡ [] }
+        requires there { AllHave self.old.rows set.now }
+        ensures now { graph_now self.new ≡ set.now }
+        ensures slots { (s : ℕ) → slot_graph self.new s ≡ slot_graph self.old s }
+    {
+        let (on_now, len) = list_on_now(&self.slots);
+        self.counts[0] = put_all(
+            &mut self.cells,
+            &self.slots,
+            &on_now[..len],
+            self.counts[0],
+            set.items(),
+        );
+        self.cells.facts();
+    }
+}

@@ -1,0 +1,22 @@
+-- Worked rows.
+use Rattle.std.specs.Prelude.{◌≡◌, true, false, List, [], ◌∷◌, refl}
+use Rattle.dg_graph.specs.declared.element.Element.{Element}
+use Rattle.dg_graph.specs.declared.element.Element.TheVariants.{Node, Edge, NodeAttr}
+use Rattle.dg_view.specs.declared.answers.Side.TheVariants as side
+use Rattle.dg_pool.specs.Counts.{counts_of}
+use Rattle.dg_view.specs.Queries.{neighbours_of, values_of}
+
+graph : List Element
+graph = Node 1 ∷ Node 2 ∷ Edge 5 1 2 true ∷ Edge 6 2 2 true ∷ Edge 7 2 1 false ∷ NodeAttr 1 0 1 ∷ NodeAttr 2 0 1 ∷ []
+
+counted : counts_of graph ≡ record { nodes = 2; edges = 3; node_attrs = 2; edge_attrs = 0 }
+unfolding graph
+counted = refl
+
+beside : neighbours_of graph 2 ≡ record { edge = 5; node = 1; side = side.Inward } ∷ record { edge = 6; node = 2; side = side.Out } ∷ record { edge = 7; node = 1; side = side.Both } ∷ []
+unfolding graph
+beside = refl
+
+valued : values_of graph 1 ≡ record { key = 0; value = 1 } ∷ []
+unfolding graph
+valued = refl

@@ -1,0 +1,101 @@
+-- What a search by the order of elements leaves out, and where it may end.
+use Rattle.std.proofs.Common.{◌≡◌, ℕ, zero, suc, ◌+◌, ◌++◌, ◌≤◌, ◌<◌, ◌^◌, Bool, true, false, cond, ◌||◌, ◌&&◌, not, List, [], ◌∷◌, Option, Some, None, is_some, filter, filter_map, map, drop, length, refl, sym, ap, ◌∙◌, subst, IsTrue, arith, eqb, ltb}
+use Rattle.std.specs.List.{cons_option, count_by}
+use Rattle.std.proofs.lemmas.Bool.Decides.{nat_tests}
+use Rattle.std.proofs.lemmas.List.{append-nil}
+use Rattle.std.proofs.lemmas.List.Sums.{sum_by-cons}
+use Rattle.dg_graph.specs.declared.element.Element.{Element}
+use Rattle.dg_graph.specs.declared.element.Element.TheVariants.{Node, Edge, NodeAttr, EdgeAttr}
+use Rattle.dg_graph.specs.Elements.{IsSet, IsBelowFirst, has, same, before}
+use Rattle.dg_pool.specs.Counts.{is_an_edge}
+use Rattle.dg_view.specs.declared.answers.Neighbour.{Neighbour}
+use Rattle.dg_view.specs.declared.answers.Side.TheVariants as side
+use Rattle.dg_view.specs.declared.answers.KeyValue.{KeyValue}
+use Rattle.dg_view.specs.Queries.{side_as, edge_at, neighbours_of, value_at, values_of, first_value, attribute_of}
+use Rattle.dg_view.specs.Walk.{is_structure}
+
+-- those of the set that do not stand before the element
+abbrev pub later : Element → List Element → List Element
+later x set = filter (λ y. not (before y x)) set
+
+-- no edge comes before the first one
+none_before : (n : ℕ) (x : Element) → before x (Edge 0 0 0 false) ≡ true → edge_at n x ≡ None
+none_before n (Node id) e = refl
+none_before n (Edge id src dst directed) e = absurd (grind (arith, nat_tests))
+none_before n (NodeAttr id key value) e = refl
+none_before n (EdgeAttr id key value) e = refl
+
+-- what gives nothing before an element may be passed over
+pub passed_over : {B : Type 0} (f : Element → Option B) (x : Element) (set : List Element) → ((y : Element) → before y x ≡ true → f y ≡ None) → filter_map f (later x set) ≡ filter_map f set
+passed_over f x [] none = refl
+passed_over f x (y ∷ set) none = by (before y x) refl (passed_over f x set none)
+  where
+    by : (t : Bool) → before y x ≡ t → filter_map f (later x set) ≡ filter_map f set → filter_map f (cond (not (before y x)) (y ∷ later x set) (later x set)) ≡ cons_option (f y) (filter_map f set)
+    by true e rest = ap (λ b. filter_map f (cond (not b) (y ∷ later x set) (later x set))) e ∙ rest ∙ sym (ap (λ o. cons_option o (filter_map f set)) (none y e))
+    by false e rest = ap (λ b. filter_map f (cond (not b) (y ∷ later x set) (later x set))) e ∙ ap (cons_option (f y)) rest
+
+pub edges_from_first : (n : ℕ) (set : List Element) → filter_map (edge_at n) (later (Edge 0 0 0 false) set) ≡ neighbours_of set n
+edges_from_first n set = passed_over (edge_at n) (Edge 0 0 0 false) set (none_before n)
+
+-- behind an attribute there is no edge
+no_edge : (n : ℕ) (x : Element) → is_structure x ≡ false → edge_at n x ≡ None
+no_edge n (Node id) e = cc
+no_edge n (Edge id src dst directed) e = cc
+no_edge n (NodeAttr id key value) e = refl
+no_edge n (EdgeAttr id key value) e = refl
+
+behind_attribute : (x y : Element) → is_structure x ≡ false → IsTrue (before x y) → is_structure y ≡ false
+behind_attribute (Node id) y e h = cc
+behind_attribute (Edge id src dst directed) y e h = cc
+behind_attribute (NodeAttr id key value) (Node id2) e h = cc
+behind_attribute (NodeAttr id key value) (Edge id2 src dst directed) e h = cc
+behind_attribute (NodeAttr id key value) (NodeAttr id2 key2 value2) e h = refl
+behind_attribute (NodeAttr id key value) (EdgeAttr id2 key2 value2) e h = refl
+behind_attribute (EdgeAttr id key value) (Node id2) e h = cc
+behind_attribute (EdgeAttr id key value) (Edge id2 src dst directed) e h = cc
+behind_attribute (EdgeAttr id key value) (NodeAttr id2 key2 value2) e h = refl
+behind_attribute (EdgeAttr id key value) (EdgeAttr id2 key2 value2) e h = refl
+
+pub no_edges_behind : (n : ℕ) (x : Element) (set : List Element) → is_structure x ≡ false → IsSet (x ∷ set) → filter_map (edge_at n) (x ∷ set) ≡ []
+no_edges_behind n x [] e h = ap (λ o. cons_option o []) (no_edge n x e)
+no_edges_behind n x (y ∷ set) e h =
+    ap (λ o. cons_option o (filter_map (edge_at n) (y ∷ set))) (no_edge n x e)
+    ∙ no_edges_behind n y set (behind_attribute x y e h.0) h.1
+
+-- a node has no more edges than the graph
+one_edge : (n : ℕ) (x : Element) (list : List Neighbour) → length (cons_option (edge_at n x) list) ≤ cond (is_an_edge x) 1 0 + length list
+one_edge n (Node id) list = omega arith
+one_edge n (Edge id src dst directed) list = by (eqb src n) (eqb dst n)
+  where
+    by : (a b : Bool) → length (cons_option (cond a (Some (record { edge = id; node = dst; side = side_as directed side.Out })) (cond b (Some (record { edge = id; node = src; side = side_as directed side.Inward })) None)) list) ≤ 1 + length list
+    by true b = omega arith
+    by false true = omega arith
+    by false false = omega arith
+one_edge n (NodeAttr id key value) list = omega arith
+one_edge n (EdgeAttr id key value) list = omega arith
+
+pub most_edges : (n : ℕ) (set : List Element) → length (neighbours_of set n) ≤ count_by is_an_edge set
+most_edges n [] = omega arith
+most_edges n (x ∷ set) =
+    let rest = most_edges n set in
+    let one = one_edge n x (neighbours_of set n) in
+    let more = sum_by-cons (λ (y : Element). cond (is_an_edge y) 1 0) x set in
+    omega arith
+
+-- nothing is left
+pub nothing_left : {B : Type 0} (list rest all : List B) → rest ≡ [] → list ++ rest ≡ all → list ≡ all
+nothing_left list rest all e h = sym (append-nil list) ∙ ap (λ l. list ++ l) (sym e) ∙ h
+
+-- one more than were counted is no more than all
+pub one_counted : (n x : ℕ) (f : Element → Option Neighbour) (e : Element) (from behind : List Element) (all : ℕ) → from ≡ e ∷ behind → is_some (f e) ≡ true → n + length (filter_map f from) ≡ all → all ≤ x → n + 1 ≤ x
+one_counted n x f e from behind all is some sum most = by (f e) refl
+  where
+    by : (o : Option Neighbour) → f e ≡ o → n + 1 ≤ x
+    by None g = let none : false ≡ true = ap is_some (sym g) ∙ some in cc
+    by (Some v) g =
+        let long : length (filter_map f from) ≡ suc (length (filter_map f behind)) = ap (λ l. length (filter_map f l)) is ∙ ap (λ o. length (cons_option o (filter_map f behind))) g in
+        omega arith
+
+-- no more are left
+pub all_counted : (n rest all : ℕ) (list : List Neighbour) → rest ≡ length list → list ≡ [] → n + rest ≡ all → n ≡ all
+all_counted n rest all list is none sum = let e = ap length none in omega arith

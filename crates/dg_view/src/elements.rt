@@ -1,0 +1,87 @@
+//! What one element tells of a node.
+ghost use Rattle.std.specs.Prelude.{◌≡◌};
+ghost use Rattle.dg_view.specs.Queries.{side_as, edge_at, value_at};
+ghost use Rattle.dg_view.specs.Walk.{is_structure, value_of_key};
+
+use crate::answers::{KeyValue, Neighbour, Side};
+use dg_graph::Element;
+
+// The side on which an edge lies, by the side where it is directed.
+fn side(directed: bool, side: Side) -> Side
+    ensures { result ≡ side_as directed side }
+{
+    if directed { side } else { Side::Both }
+}
+
+/// The edge at the node, if the element is one.
+pub(crate) fn edge_at(node: u64, element: &Element) -> Option<Neighbour>
+    ensures { result ≡ edge_at node element.now }
+{
+    match *element {
+        Element::Edge {
+            id,
+            src,
+            dst,
+            directed,
+        } => {
+            if src == node {
+                Some(Neighbour {
+                    edge: id,
+                    node: dst,
+                    side: side(directed, Side::Out),
+                })
+            } else if dst == node {
+                Some(Neighbour {
+                    edge: id,
+                    node: src,
+                    side: side(directed, Side::Inward),
+                })
+            } else {
+                None
+            }
+        }
+        _ => None,
+    }
+}
+
+/// The key and the value, if the element is an attribute of the node.
+pub(crate) fn value_at(node: u64, element: &Element) -> Option<KeyValue>
+    ensures { result ≡ value_at node element.now }
+{
+    match *element {
+        Element::NodeAttr { id, key, value } => {
+            if id == node {
+                Some(KeyValue { key, value })
+            } else {
+                None
+            }
+        }
+        _ => None,
+    }
+}
+
+/// The value, if the element is a value of the key at the node.
+pub(crate) fn value_of_key(node: u64, wanted: u32, element: &Element) -> Option<u32>
+    ensures { result ≡ value_of_key node wanted element.now }
+{
+    match *element {
+        Element::NodeAttr { id, key, value } => {
+            if id == node && key == wanted {
+                Some(value)
+            } else {
+                None
+            }
+        }
+        _ => None,
+    }
+}
+
+/// Whether the element is no attribute.
+pub(crate) fn is_structure(element: &Element) -> bool
+    ensures { result ≡ is_structure element.now }
+{
+    match element {
+        Element::Node { .. } | Element::Edge { .. } => true,
+        _ => false,
+    }
+}
