@@ -1,0 +1,85 @@
+"""Runs the commands of docs/TUTORIAL.md and compares what they print.
+
+  python3 .ci/tutorial.py PROGRAM FOLDER            says where they differ
+  python3 .ci/tutorial.py PROGRAM FOLDER --write    puts what they print into the document
+
+In its blocks of ```console a line that begins with `$ ` is a command, and lines with `> ` go on with it; what follows
+is what it prints. All commands run in one shell, in an empty folder that has the folders of the repository in it.
+"""
+from __future__ import annotations
+
+import os
+import subprocess
+import sys
+from pathlib import Path
+from typing import Iterator, NamedTuple, Union
+
+ROOT = Path(__file__).resolve().parent.parent
+TUTORIAL = ROOT / "docs" / "TUTORIAL.md"
+MARK = "-- end of a command --"
+
+
+class Command(NamedTuple):
+    line: int  # of the document
+    lines: list[str]
+    printed: list[str]
+
+
+def parts(text: str) -> Iterator[Union[str, Command]]:
+    """The lines of the document in order, with its commands as such."""
+    inside, command = False, None
+    for number, line in enumerate(text.split("\n"), 1):
+        if line.startswith("$ ") and inside:
+            if command is not None:
+                yield command
+            command = Command(number, [line[2:]], [])
+        elif (line + " ").startswith("> ") and command is not None and not command.printed:
+            command.lines.append(line[2:])
+        elif command is not None and line != "```":
+            command.printed.append(line)
+        else:
+            if command is not None:
+                yield command
+            inside, command = line == "```console", None
+            yield line
+
+
+def printed_by(commands: list[Command], program: str, folder: str) -> list[list[str]]:
+    """What each command prints, on standard output and standard error."""
+    for name in ("tools", "examples", "docs"):
+        (Path(folder) / name).symlink_to(ROOT / name)
+    script = "exec 2>&1\n" + "".join("\n".join(c.lines) + f"\necho '{MARK}'\n" for c in commands)
+    path = os.path.dirname(os.path.abspath(program)) + os.pathsep + os.environ.get("PATH", "")
+    environment = {**os.environ, "PATH": path, "LC_ALL": "C.UTF-8", "TZ": "UTC", "PYTHONDONTWRITEBYTECODE": "1"}
+    environment.pop("DELTAGRAPH", None)
+    ran = subprocess.run(["bash"], input=script.encode(), stdout=subprocess.PIPE, cwd=folder, env=environment)
+    outputs = ran.stdout.decode("utf-8", "replace").split(MARK + "\n")
+    return [output.split("\n")[:-1] for output in outputs[: len(commands)]]
+
+
+def differences(program: str, folder: str, write: bool = False) -> list[str]:
+    """What is printed otherwise than the document says; none where it is written anew."""
+    found = list(parts(TUTORIAL.read_text(encoding="utf-8")))
+    commands = [part for part in found if isinstance(part, Command)]
+    printed = dict(zip((command.line for command in commands), printed_by(commands, program, folder)))
+    if write:
+        lines: list[str] = []
+        for part in found:
+            if isinstance(part, str):
+                lines.append(part)
+            else:
+                more = [("> " + line).rstrip() for line in part.lines[1:]]
+                lines += ["$ " + part.lines[0], *more, *printed.get(part.line, [])]
+        TUTORIAL.write_text("\n".join(lines), encoding="utf-8")
+        return []
+    return [
+        f"docs/TUTORIAL.md:{c.line}: `{c.lines[0]}` prints {printed.get(c.line)}"
+        for c in commands
+        if printed.get(c.line) != c.printed
+    ]
+
+
+if __name__ == "__main__":
+    told = differences(sys.argv[1], sys.argv[2], "--write" in sys.argv[3:])
+    print("\n".join(told) or "docs/TUTORIAL.md: as written")
+    sys.exit(1 if told else 0)
