@@ -3,15 +3,15 @@ use Rattle.std.proofs.Common.{arith, IfSome, ◌≡◌, ℕ, suc, zero, ◌+◌,
 use Rattle.std.specs.Option.{option_map}
 use Rattle.std.proofs.lemmas.List.Folds.{list_any-append}
 use Rattle.std.proofs.lemmas.Bool.{or_right, cases_eq, eq-eqb, ne_eqb, true≢false, false≢true}
-use Rattle.std.proofs.lemmas.List.{set-set, set-get_or}
+use Rattle.std.proofs.lemmas.List.{set-set, set-get_or, take_more}
 use Rattle.dg_graph.specs.declared.element.Element.{Element}
 use Rattle.dg_graph.specs.declared.element.Columns.{Columns}
 use Rattle.dg_graph.specs.declared.event.Event.{Event}
 use Rattle.dg_graph.specs.Effect.{added_by}
 use mathlib.Core.Bool.{beq}
 use Rattle.dg_graph.specs.Elements.{IsSet, has, put, take_out, asks, column_of, same}
-use Rattle.dg_graph.proofs.Sets.{take_out-put, take_out-absent, put-there, same_itself}
-use Rattle.dg_set.proofs.Indices.{put-past, before_at}
+use Rattle.dg_graph.specs.Sets.{unioned, without_all}
+use Rattle.dg_graph.proofs.Sets.{take_out-put, take_out-absent, put-there, same_itself, same_members, has-put, has-take_out, has-unioned, has-without_all, IsSet-put, IsSet-take_out, IsSet-unioned, IsSet-without_all}
 use Rattle.dg_delta.specs.Deltas.{is_in_after}
 use Rattle.dg_cells.specs.declared.row.Row.{Row}
 use Rattle.dg_pool.specs.declared.slots.Base.{Base}
@@ -20,7 +20,7 @@ use Rattle.dg_pool.specs.declared.slots.Base.TheVariants as base
 use Rattle.dg_pool.specs.declared.slots.SlotState.{SlotState}
 use Rattle.dg_pool.specs.declared.slots.SlotState.TheVariants as state
 use Rattle.dg_cells.specs.Rows.{HasCell, cell_at, AreApart, Writes, is_current, pair, SetsPair, SetsCurrent, Lacks}
-use Rattle.dg_pool.specs.Graphs.{slot_at, pair_at, is_on_now, is_live, is_listed, ListsOnNow, pinned, Pins, Keeps, AreSlots, IsBased, IsBaseFor, slot_says, pair_says, in_base, in_slot, given, picked, graph_as, HaveCells, changed}
+use Rattle.dg_pool.specs.Graphs.{slot_at, pair_at, is_on_now, is_live, is_listed, ListsOnNow, pinned, Pins, Keeps, AreSlots, IsBased, IsBaseFor, slot_says, pair_says, in_base, in_slot, given, picked, graph_as, HaveCells, changed, all_changed}
 use Rattle.dg_cells.proofs.Changed.{cell_past, cell_there}
 use Rattle.dg_pool.proofs.Picked.{picked_same, picked_more, picked_set, picked_decides, picked_nothing}
 use Rattle.dg_cells.proofs.Changed.{cell_written, comes_written, apart_by}
@@ -344,11 +344,64 @@ pub have_still : (slots : List SlotState) (old new : List (Option Row)) → Keep
 have_still slots old new k [] h = tt
 have_still slots old new k (e ∷ events) h = (if_still slots old new k (added_by e.body) h.0, have_still slots old new k events h.1)
 
--- the next element of a rising list comes behind those before it
-pub put_end : (xs : List Element) (i : ℕ) (d : Element) → IsSet xs → i < length xs → put (get_or xs i d) (take i xs) ≡ take (i + 1) xs
-put_end [] i d s h = absurd (omega arith)
-put_end (y ∷ xs) zero d s h = refl
-put_end (y ∷ xs) (suc i) d s h =
-    put-past (get_or xs i d) y (take i xs) (before_at y xs i d s.0 s.1 (omega arith))
-    ∙ ap (λ l. y ∷ l) (put_end xs i d s.1 (omega arith))
-    ∙ (let next : suc (i + 1) ≡ suc i + 1 = omega arith in ap (λ n. take n (y ∷ xs)) next)
+-- ---- the elements of a list, one after another
+
+or_end : (a b c : Bool) → (a || (b || (c || false))) ≡ (c || (a || b))
+or_end true true true = refl
+or_end true true false = refl
+or_end true false true = refl
+or_end true false false = refl
+or_end false true true = refl
+or_end false true false = refl
+or_end false false true = refl
+or_end false false false = refl
+
+and_end : (a b c : Bool) → (a && not (b || (c || false))) ≡ (not c && (a && not b))
+and_end true true true = refl
+and_end true true false = refl
+and_end true false true = refl
+and_end true false false = refl
+and_end false true true = refl
+and_end false true false = refl
+and_end false false true = refl
+and_end false false false = refl
+
+-- one more of the elements is put in, or taken out
+pub changed_more : (on : Bool) (set items : List Element) (i : ℕ) (d : Element) → IsSet set → i < length items
+    → changed on (get_or items i d) (all_changed on (take i items) set) ≡ all_changed on (take (i + 1) items) set
+changed_more true set items i d s h =
+    let x = get_or items i d in
+    let front = take i items in
+    same_members (put x (unioned set front)) (unioned set (take (i + 1) items))
+    (IsSet-put x (unioned set front) (IsSet-unioned set front s)) (IsSet-unioned set (take (i + 1) items) s)
+    (λ q. has-put x (unioned set front) q
+    ∙ ap (λ t. same q x || t) (has-unioned set front q)
+    ∙ sym (has-unioned set (take (i + 1) items) q
+    ∙ ap (λ l. has set q || has l q) (take_more items i d h)
+    ∙ ap (λ t. has set q || t) (list_any-append (same q) front (x ∷ []))
+    ∙ or_end (has set q) (has front q) (same q x)))
+changed_more false set items i d s h =
+    let x = get_or items i d in
+    let front = take i items in
+    same_members (take_out x (without_all set front)) (without_all set (take (i + 1) items))
+    (IsSet-take_out x (without_all set front) (IsSet-without_all set front s)) (IsSet-without_all set (take (i + 1) items) s)
+    (λ q. has-take_out x (without_all set front) q
+    ∙ ap (λ t. not (same q x) && t) (has-without_all set front q)
+    ∙ sym (has-without_all set (take (i + 1) items) q
+    ∙ ap (λ l. has set q && not (has l q)) (take_more items i d h)
+    ∙ ap (λ t. has set q && not t) (list_any-append (same q) front (x ∷ []))
+    ∙ and_end (has set q) (has front q) (same q x)))
+
+-- none of them changes nothing
+pub changed_none : (on : Bool) (set : List Element) → IsSet set → set ≡ all_changed on [] set
+changed_none true set s = refl
+changed_none false set s = same_members set (without_all set []) s (IsSet-without_all set [] s) (λ q. sym (has-without_all set [] q ∙ and_true (has set q)))
+  where
+    and_true : (a : Bool) → (a && true) ≡ a
+    and_true true = refl
+    and_true false = refl
+
+-- a set put into the empty graph is the graph then
+pub put_in_empty : (graph items : List Element) → IsSet items → graph ≡ [] → unioned graph items ≡ items
+put_in_empty graph items s empty =
+    ap (λ l. unioned l items) empty ∙ same_members (unioned [] items) items (IsSet-unioned [] items tt) s (has-unioned [] items)

@@ -3,12 +3,13 @@ use Rattle.std.proofs.Common.{arith, ◌≡◌, ℕ, ◌<◌, ◌≤◌, true, L
 use Rattle.std.proofs.lemmas.Bool.{cases_eq}
 use Rattle.std.proofs.lemmas.List.{get_or-set_same, get_or-set_other, length-set}
 use Rattle.dg_cells.specs.declared.row.Row.{Row}
-use Rattle.dg_pool.specs.declared.counts.Counts.{Counts}
+use Rattle.dg_query.specs.declared.answers.Counts.{Counts}
 use Rattle.dg_pool.specs.declared.slots.SlotState.{SlotState}
 use Rattle.dg_pool.specs.declared.slots.SlotState.TheVariants as state
 use Rattle.dg_pool.specs.Graphs.{PoolState, SlotGraph, AreSlots, SameGraphs, is_live, graph_as, slot_graph, graph_now}
 use Rattle.dg_pool.specs.Sweeps.{members_as}
-use Rattle.dg_pool.specs.Counts.{counts_of, counts_at, no_elements, AreCountsOf}
+use Rattle.dg_query.specs.Queries.{counts_of}
+use Rattle.dg_pool.specs.Counts.{counts_at, no_elements, AreCountsOf}
 
 -- ---- live slots
 

@@ -14,3 +14,4 @@ pub mod Repeated
 pub mod MaskBits
 pub mod OrderedCells
 pub mod CellSearch
+pub mod EventCells

@@ -9,7 +9,7 @@ use Rattle.dg_graph.specs.Composition.{Delta, IsDelta, applied}
 use Rattle.dg_delta.specs.Deltas.{is_in_after}
 use Rattle.dg_cells.specs.declared.row.Row.{Row}
 use Rattle.dg_cells.specs.Rows.{cell_at, AreApart, Lacks, is_current}
-use Rattle.dg_pool.specs.declared.counts.Counts.{Counts}
+use Rattle.dg_query.specs.declared.answers.Counts.{Counts}
 use Rattle.dg_pool.specs.declared.slots.Base.{Base}
 use Rattle.dg_pool.specs.declared.slots.Base.TheVariants as base
 use Rattle.dg_pool.specs.declared.slots.SlotState.{SlotState}
@@ -17,7 +17,8 @@ use Rattle.dg_pool.specs.declared.slots.SlotState.TheVariants as state
 use Rattle.dg_pool.specs.Graphs.{PoolState, SlotGraph, slot_at, slot_says, in_base, in_slot, picked, graph_as, slot_graph}
 use Rattle.dg_pool.specs.Sweeps.{members_as}
 use Rattle.dg_pool.specs.Slots.{BaseFits, IsBaseWith, base_members, moved_over}
-use Rattle.dg_pool.specs.Counts.{is_a_node, is_an_edge, is_a_node_attr, is_an_edge_attr, counts_of, counts_after, counts_at, base_counts, AreCountsOf}
+use Rattle.dg_query.specs.Queries.{is_a_node, is_an_edge, is_a_node_attr, is_an_edge_attr, counts_of}
+use Rattle.dg_pool.specs.Counts.{counts_after, counts_at, base_counts, AreCountsOf}
 use Rattle.dg_pool.proofs.Picked.{picked_set, picked_decides, picked_nothing, picked_lacks, gives}
 use Rattle.dg_pool.proofs.PoolInvariant.{row_or_none}
 use Rattle.dg_pool.proofs.KindCounts.{count-applied, count-without_all, count-filter_alike, count-filter_all, count-filter_none}

@@ -133,3 +133,8 @@ union_same old new count g =
 
 pub IsSet-union_of : (p : PoolState) → IsSet (union_of p)
 IsSet-union_of p = IsSet-unioned (graph_now p) (live_union p.rows 0 p.slots) (picked_set is_current p.rows)
+
+pub IsSet-members : (rows : List (Option Row)) (s : ℕ) (slot : SlotState) → IsSet (members_as (graph_as rows s slot))
+IsSet-members rows s state.Free = tt
+IsSet-members rows s (state.Released swept) = tt
+IsSet-members rows s (state.Live b cols) = picked_set (in_slot s b cols) rows

@@ -1,45 +1,13 @@
--- How many elements of each kind a graph has.
-use Rattle.std.specs.Prelude.{◌≡◌, ℕ, ◌+◌, ◌-◌, Bool, true, false, List, Some, count_by, length, slice_index_or, if◌then◌else◌}
+-- How counts of elements go on, and the counts that a pool keeps.
+use Rattle.std.specs.Prelude.{◌≡◌, ℕ, ◌+◌, ◌-◌, List, Some, length, slice_index_or, if◌then◌else◌}
 use Rattle.dg_graph.specs.declared.element.Columns.{Columns}
 use Rattle.dg_graph.specs.declared.element.Element.{Element}
 use Rattle.dg_graph.specs.declared.element.Element.TheVariants.{Node, Edge, NodeAttr, EdgeAttr}
-use Rattle.dg_pool.specs.declared.counts.Counts.{Counts}
+use Rattle.dg_query.specs.declared.answers.Counts.{Counts}
+use Rattle.dg_query.specs.Queries.{counts_of}
 use Rattle.dg_pool.specs.declared.slots.Base.{Base}
 use Rattle.dg_pool.specs.declared.slots.Base.TheVariants as base
 use Rattle.dg_pool.specs.Graphs.{PoolState, IsPool, SlotGraph, slot_graph, graph_now}
-
-abbrev pub is_a_node : Element → Bool
-is_a_node (Node id) = true
-is_a_node (Edge id src dst directed) = false
-is_a_node (NodeAttr id key value) = false
-is_a_node (EdgeAttr id key value) = false
-
-abbrev pub is_an_edge : Element → Bool
-is_an_edge (Node id) = false
-is_an_edge (Edge id src dst directed) = true
-is_an_edge (NodeAttr id key value) = false
-is_an_edge (EdgeAttr id key value) = false
-
-abbrev pub is_a_node_attr : Element → Bool
-is_a_node_attr (Node id) = false
-is_a_node_attr (Edge id src dst directed) = false
-is_a_node_attr (NodeAttr id key value) = true
-is_a_node_attr (EdgeAttr id key value) = false
-
-abbrev pub is_an_edge_attr : Element → Bool
-is_an_edge_attr (Node id) = false
-is_an_edge_attr (Edge id src dst directed) = false
-is_an_edge_attr (NodeAttr id key value) = false
-is_an_edge_attr (EdgeAttr id key value) = true
-
--- how many elements of each kind the set has
-abbrev pub counts_of : List Element → Counts
-counts_of set = record {
-  nodes = count_by is_a_node set;
-  edges = count_by is_an_edge set;
-  node_attrs = count_by is_a_node_attr set;
-  edge_attrs = count_by is_an_edge_attr set;
-}
 
 -- how many there are of the element's kind
 abbrev pub kind_count : Counts → Element → ℕ

@@ -7,6 +7,7 @@ use Rattle.dg_graph.specs.Effect.{added_by}
 use Rattle.dg_graph.specs.declared.element.Element.{Element}
 use Rattle.dg_graph.specs.declared.element.Columns.{Columns}
 use Rattle.dg_graph.specs.Elements.{put, take_out, with_one, asks, column_of}
+use Rattle.dg_graph.specs.Sets.{unioned, without_all}
 use Rattle.dg_graph.specs.Composition.{Says, In, Out, As_it_was}
 use Rattle.dg_delta.specs.Deltas.{is_in_after}
 use Rattle.dg_cells.specs.declared.row.Row.{Row}
@@ -167,3 +168,7 @@ HaveCells rows (e ∷ events) = IfSome (added_by e.body) (HasCell rows) × HaveC
 -- the set with the element, or without it
 abbrev pub changed : Bool → Element → List Element → List Element
 changed on x set = if on then put x set else take_out x set
+
+-- the set with each of the elements, or without them
+abbrev pub all_changed : Bool → List Element → List Element → List Element
+all_changed on items set = if on then unioned set items else without_all set items

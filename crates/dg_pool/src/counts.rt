@@ -6,19 +6,7 @@ ghost use Rattle.dg_pool.specs.Counts.{kind_count, one_more, one_less, no_elemen
 
 use crate::slots::Base;
 use dg_graph::{Columns, Element};
-
-/// How many elements a graph has of each kind.
-#[derive(Clone, Copy, Debug, PartialEq, Eq)]
-pub struct Counts {
-    /// Nodes.
-    pub nodes: u64,
-    /// Edges.
-    pub edges: u64,
-    /// Values of keys at nodes.
-    pub node_attrs: u64,
-    /// Values of keys at edges.
-    pub edge_attrs: u64,
-}
+use dg_query::Counts;
 
 /// The counts of the empty graph.
 pub(crate) const NO_ELEMENTS: Counts = Counts {

@@ -1,18 +1,20 @@
 //! How the current graph changes, and every other graph stays.
-ghost use Rattle.std.specs.Prelude.{◌≡◌, ◌≤◌, true, ◌&&◌, not, Some, IfSome, IfNone, []};
+ghost use Rattle.std.specs.Prelude.{◌≡◌, ◌≤◌, true, ◌&&◌, not, Some, IfSome, IfNone};
 ghost use Rattle.dg_graph.specs.Effect.{forwards, added_by};
 ghost use Rattle.dg_graph.specs.Replay.{replay_from};
-ghost use Rattle.dg_graph.specs.Elements.{IsSet};
+ghost use Rattle.dg_graph.specs.Composition.{applied};
 ghost use Rattle.dg_cells.specs.Rows.{AllHave, HasCell, Holds, Lacks, cell_at, pair, is_current, Writes};
-ghost use Rattle.dg_pool.specs.Graphs.{is_on_now, AreSlots, ListsOnNow, Pins, Keeps, HaveCells, picked, changed};
-ghost use Rattle.dg_pool.specs.Counts.{counts_of};
+ghost use Rattle.dg_pool.specs.Graphs.{is_on_now, AreSlots, ListsOnNow, Pins, Keeps, HaveCells, picked, changed, all_changed};
+ghost use Rattle.dg_query.specs.Queries.{counts_of};
 
-use crate::counts::{Counts, with_change};
+use crate::counts::with_change;
 use crate::search::find_from;
 use crate::slots::{SlotState, is_on_now};
 use dg_cells::{Cells, Row, is_current, pair};
+use dg_delta::Delta;
 use dg_event::effect;
 use dg_graph::{Element, Event};
+use dg_query::Counts;
 
 // Whether the slot rests on the current graph, and says nothing of the cell's element itself.
 fn needs_pin(row: &Row, state: SlotState, slot: u8) -> bool
@@ -127,22 +129,22 @@ pub(crate) fn pass_all(
     passed
 }
 
-/// Puts rising elements into the current graph, which is empty.
-pub(crate) fn put_all(
+/// Puts each of the elements into the current graph, or takes each out, and is quickest where they rise.
+/// `counts` are those of the current graph, and the result those that it has then.
+pub(crate) fn change_all(
     cells: &mut Cells,
     slots: &[SlotState; 128],
     on_now: &[u8],
     counts: Counts,
     items: &[Element],
+    on: bool,
 ) -> Counts
     requires slots { AreSlots slots.now }
     requires listed { ListsOnNow slots.now on_now.now }
     requires counted { counts ≡ counts_of (picked is_current cells.old) }
-    requires items { IsSet items.now }
-    requires there { AllHave cells.old items.now }
-    requires empty { picked is_current cells.old ≡ [] }
+    requires there { on ≡ true → AllHave cells.old items.now }
     ensures kept { Keeps slots.now cells.old cells.new }
-    ensures now { picked is_current cells.new ≡ items.now }
+    ensures now { picked is_current cells.new ≡ all_changed on items.now (picked is_current cells.old) }
     ensures counted { result ≡ counts_of (picked is_current cells.new) }
 {
     let mut passed = counts;
@@ -150,7 +152,27 @@ pub(crate) fn put_all(
     for element in items {
         let (found, cursor) = find_from(cells, near, element);
         near = cursor;
-        passed = change(cells, slots, on_now, passed, found, element, true);
+        passed = change(cells, slots, on_now, passed, found, element, on);
     }
     passed
+}
+
+/// Takes the current graph on by the delta.
+pub(crate) fn pass_delta(
+    cells: &mut Cells,
+    slots: &[SlotState; 128],
+    on_now: &[u8],
+    counts: Counts,
+    delta: &Delta,
+) -> Counts
+    requires slots { AreSlots slots.now }
+    requires listed { ListsOnNow slots.now on_now.now }
+    requires counted { counts ≡ counts_of (picked is_current cells.old) }
+    requires there { AllHave cells.old delta.now.plus }
+    ensures kept { Keeps slots.now cells.old cells.new }
+    ensures now { picked is_current cells.new ≡ applied delta.now (picked is_current cells.old) }
+    ensures counted { result ≡ counts_of (picked is_current cells.new) }
+{
+    let left = change_all(cells, slots, on_now, counts, delta.minus().items(), false);
+    change_all(cells, slots, on_now, left, delta.plus().items(), true)
 }

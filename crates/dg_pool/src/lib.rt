@@ -15,7 +15,7 @@ mod sweep;
 #[cfg(test)]
 mod tests;
 
-pub use counts::Counts;
 pub use dg_cells::Cursor;
+pub use dg_query::Counts;
 pub use pool::{AttachFault, InUse, Pool, Swept};
 pub use slots::{Base, Slot};

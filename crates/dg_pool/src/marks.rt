@@ -3,15 +3,16 @@ ghost use Rattle.std.specs.Prelude.{◌≡◌, ℕ, ◌≤◌, true, [], ◌∷�
 ghost use Rattle.dg_graph.specs.Elements.{has};
 ghost use Rattle.dg_cells.specs.Rows.{Marks, AreApart};
 ghost use Rattle.dg_pool.specs.Graphs.{picked, in_base};
-ghost use Rattle.dg_pool.specs.Counts.{counts_of};
+ghost use Rattle.dg_query.specs.Queries.{counts_of};
 ghost use Rattle.dg_pool.specs.Slots.{IsNoBase, moved_over};
 
-use crate::counts::{Counts, NO_ELEMENTS, one_more};
+use crate::counts::{NO_ELEMENTS, one_more};
 use crate::members::in_base;
 use crate::search::find_from;
 use crate::slots::Base;
 use dg_cells::{Cells, Cursor};
 use dg_graph::Element;
+use dg_query::Counts;
 
 // Sets the slot's pair in the cell of the element, if it has one. Answers whether the base has the
 // element, and from where to look for a later element.

@@ -6,18 +6,18 @@ ghost use Rattle.dg_pool.specs.declared.pool.AttachFault.TheVariants.{Memory};
 ghost use Rattle.dg_pool.specs.Graphs.{PoolState, IsPool, graph_now, slot_graph, HaveCells, SameGraphs, slot_at, is_live};
 ghost use Rattle.dg_pool.specs.Sweeps.{union_of, cells_of, IsSweep, members_as};
 ghost use Rattle.dg_cells.specs.Rows.{AllHave};
-ghost use Rattle.dg_pool.specs.Counts.{counts_of};
+ghost use Rattle.dg_query.specs.Queries.{counts_of};
 ghost use Rattle.dg_pool.specs.Listing.{members_from, not_before};
 ghost use Rattle.dg_pool.specs.Slots.{IsLive, live_count, IsLeastOn, NoneOn, IsLeastFree, AllLive, BaseFits, base_members, is_free, NamesOnly};
-ghost use Rattle.dg_graph.specs.Elements.{shown, has};
+ghost use Rattle.dg_graph.specs.Elements.{IsSet, shown, has};
 ghost use Rattle.dg_graph.specs.Composition.{applied};
 
-use crate::counts::{Counts, base_counts, counts_after, no_counts};
-use crate::current::{pass_all, put_all};
+use crate::counts::{base_counts, counts_after, no_counts};
+use crate::current::{change_all, pass_all, pass_delta};
 use crate::lengths::{count_all, count_needed};
 use crate::marks::mark;
 use crate::members::{has_member, next_member};
-use crate::room::{make_all, make_rising};
+use crate::room::{add_by_all, make_all, make_rising};
 use crate::slots::{
     Base, Slot, SlotState, all_free, begin, count_live, end, least_free, least_on, list_on_now,
     start,
@@ -26,6 +26,7 @@ use crate::sweep::sweep;
 use dg_cells::{Cells, Cursor, is_current};
 use dg_delta::Delta;
 use dg_graph::{Columns, Element, Event};
+use dg_query::Counts;
 use dg_set::Set;
 use std::alloc::{AllocError, Global};
 use std::marker::Model;
@@ -120,6 +121,23 @@ impl Pool {
         self.cells.facts();
     }
 
+    /// Takes the current graph on by a delta. No slot's members change. Takes no memory.
+    pub fn pass(&mut self, delta: &Delta)
+        requires { AllHave self.old.rows delta.now.plus }
+        ensures now { graph_now self.new ≡ applied delta.now (graph_now self.old) }
+        ensures slots { (s : ℕ) → slot_graph self.new s ≡ slot_graph self.old s }
+    {
+        let (on_now, len) = list_on_now(&self.slots);
+        self.counts[0] = pass_delta(
+            &mut self.cells,
+            &self.slots,
+            &on_now[..len],
+            self.counts[0],
+            delta,
+        );
+        self.cells.facts();
+    }
+
     /// Ends a slot. `Err` is the least slot that rests on it.
     pub fn release(&mut self, slot: Slot) -> Result<(), InUse>
         requires { IsLive self.old slot }
@@ -140,7 +158,8 @@ impl Pool {
     /// Passes the next `cells` cells, or all that are left, by rising number from where the last sweep
     /// stopped, and gives back those whose element is in no live graph. `Done` where no cell is left:
     /// the slots that were released before this sweep began are free then, and the next sweep begins at
-    /// the first cell. No graph changes. Takes no memory.
+    /// the first cell. No graph changes. The numbers of the cells given back are noted where memory is
+    /// there, and never used again otherwise.
     pub fn clean(&mut self, cells: u32) -> Swept
         requires { 1 ≤ cells }
         ensures graphs { SameGraphs self.old self.new }
@@ -159,8 +178,8 @@ impl Pool {
     }
 
     /// A whole sweep from the first cell on, wherever a sweep stood. The cells that are left are those
-    /// of the union of the live graphs, and each slot that is not live is free. No graph changes. Takes
-    /// no memory.
+    /// of the union of the live graphs, and each slot that is not live is free. No graph changes. Numbers
+    /// are noted as by `clean`.
     pub fn clean_all(&mut self)
         ensures graphs { SameGraphs self.old self.new }
         ensures cells { cells_of self.new ≡ union_of self.new }
@@ -246,6 +265,25 @@ impl Pool {
         ensures there { OnOk result (AllHave self.new.rows elements.now) }
     {
         make_all(&mut self.cells, elements)
+    }
+
+    /// Gives each element that the events add a cell, so that `apply_now` can take them. No graph changes. An `Err`
+    /// says that memory ran out; some may have got one.
+    pub fn make_room(&mut self, events: &[Event]) -> Result<(), AllocError>
+        ensures graphs { SameGraphs self.old self.new }
+        ensures room { OnOk result (HaveCells self.new.rows events.now) }
+    {
+        let made = add_by_all(&mut self.cells, events);
+        self.cells.facts();
+        made
+    }
+
+    /// The elements of each graph rise, so that it is a set. Does nothing.
+    pub fn facts(&self)
+        ensures sets { (s : ℕ) → IsSet (members_as (slot_graph self.now s)) }
+        ensures now { IsSet (graph_now self.now) }
+    {
+        let _ = &self.cells;
     }
 
     /// Whether the current graph has the element.
@@ -353,12 +391,13 @@ impl Pool {
         ensures slots { (s : ℕ) → slot_graph self.new s ≡ slot_graph self.old s }
     {
         let (on_now, len) = list_on_now(&self.slots);
-        self.counts[0] = put_all(
+        self.counts[0] = change_all(
             &mut self.cells,
             &self.slots,
             &on_now[..len],
             self.counts[0],
             set.items(),
+            true,
         );
         self.cells.facts();
     }

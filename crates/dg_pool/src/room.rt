@@ -1,11 +1,13 @@
 //! How elements get cells.
-ghost use Rattle.std.specs.Prelude.{◌≡◌, true, OnOk};
+ghost use Rattle.std.specs.Prelude.{◌≡◌, true, OnOk, IfSome};
+ghost use Rattle.dg_graph.specs.Effect.{added_by};
 ghost use Rattle.dg_graph.specs.Elements.{IsSet};
-ghost use Rattle.dg_cells.specs.Rows.{Grows, AllHave, AreApart};
+ghost use Rattle.dg_cells.specs.Rows.{Grows, HasCell, AllHave, AreApart};
+ghost use Rattle.dg_pool.specs.Graphs.{HaveCells};
 
 use dg_cells::Cells;
-use dg_event::compare;
-use dg_graph::Element;
+use dg_event::{compare, effect};
+use dg_graph::{Element, Event};
 use std::alloc::AllocError;
 
 // Whether the elements rise strictly.
@@ -57,4 +59,27 @@ pub(crate) fn make_all(cells: &mut Cells, items: &[Element]) -> Result<(), Alloc
     let made = add_each(cells, items);
     cells.facts();
     made
+}
+
+// Gives the element that the event adds, if it adds one, a cell.
+fn add_by(cells: &mut Cells, event: &Event) -> Result<(), AllocError>
+    ensures grows { Grows cells.old cells.new }
+    ensures there { OnOk result (IfSome (added_by event.now.body) (HasCell cells.new)) }
+{
+    match effect(event).1 {
+        Some(element) => cells.add(element),
+        None => Ok(()),
+    }
+}
+
+/// Gives each element that the events add a cell. An `Err` says that memory ran out; some may have got
+/// one.
+pub(crate) fn add_by_all(cells: &mut Cells, events: &[Event]) -> Result<(), AllocError>
+    ensures grows { Grows cells.old cells.new }
+    ensures there { OnOk result (HaveCells cells.new events.now) }
+{
+    for event in events {
+        add_by(cells, event)?;
+    }
+    Ok(())
 }

@@ -1,12 +1,12 @@
 -- Where the attributes of a node stand in the order of elements.
-use Rattle.std.proofs.Common.{◌≡◌, ℕ, ◌≤◌, ◌<◌, Bool, true, false, cond, ◌||◌, ◌&&◌, not, List, [], ◌∷◌, Option, Some, None, filter_map, refl, sym, ap, ◌∙◌, subst, IsTrue, arith, eqb, ltb}
+use Rattle.std.proofs.Common.{◌≡◌, ℕ, Bool, true, false, cond, ◌||◌, ◌&&◌, not, List, [], ◌∷◌, Option, Some, None, filter_map, refl, sym, ap, ◌∙◌, subst, IsTrue, arith, eqb, ltb}
 use Rattle.std.specs.List.{cons_option}
 use Rattle.std.proofs.lemmas.Bool.Decides.{nat_tests}
 use Rattle.dg_graph.specs.declared.element.Element.{Element}
 use Rattle.dg_graph.specs.declared.element.Element.TheVariants.{Node, Edge, NodeAttr, EdgeAttr}
-use Rattle.dg_graph.specs.Elements.{IsSet, IsBelowFirst, before}
-use Rattle.dg_view.specs.declared.answers.KeyValue.{KeyValue}
-use Rattle.dg_view.specs.Queries.{value_at, values_of, first_value, attribute_of}
+use Rattle.dg_graph.specs.Elements.{IsSet, before}
+use Rattle.dg_query.specs.declared.answers.KeyValue.{KeyValue}
+use Rattle.dg_query.specs.Queries.{value_at, values_of, first_value, attribute_of}
 use Rattle.dg_view.specs.Walk.{value_of_key, NoneBefore}
 use Rattle.dg_view.proofs.Searching.{later, passed_over}
 

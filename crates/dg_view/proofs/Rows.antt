@@ -2,9 +2,8 @@
 use Rattle.std.specs.Prelude.{◌≡◌, true, false, List, [], ◌∷◌, refl}
 use Rattle.dg_graph.specs.declared.element.Element.{Element}
 use Rattle.dg_graph.specs.declared.element.Element.TheVariants.{Node, Edge, NodeAttr}
-use Rattle.dg_view.specs.declared.answers.Side.TheVariants as side
-use Rattle.dg_pool.specs.Counts.{counts_of}
-use Rattle.dg_view.specs.Queries.{neighbours_of, values_of}
+use Rattle.dg_query.specs.declared.answers.Side.TheVariants as side
+use Rattle.dg_query.specs.Queries.{counts_of, neighbours_of, values_of}
 
 graph : List Element
 graph = Node 1 ∷ Node 2 ∷ Edge 5 1 2 true ∷ Edge 6 2 2 true ∷ Edge 7 2 1 false ∷ NodeAttr 1 0 1 ∷ NodeAttr 2 0 1 ∷ []

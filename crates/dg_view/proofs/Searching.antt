@@ -1,17 +1,15 @@
 -- What a search by the order of elements leaves out, and where it may end.
-use Rattle.std.proofs.Common.{◌≡◌, ℕ, zero, suc, ◌+◌, ◌++◌, ◌≤◌, ◌<◌, ◌^◌, Bool, true, false, cond, ◌||◌, ◌&&◌, not, List, [], ◌∷◌, Option, Some, None, is_some, filter, filter_map, map, drop, length, refl, sym, ap, ◌∙◌, subst, IsTrue, arith, eqb, ltb}
+use Rattle.std.proofs.Common.{◌≡◌, ℕ, suc, ◌+◌, ◌++◌, ◌≤◌, Bool, true, false, cond, not, List, [], ◌∷◌, Option, Some, None, is_some, filter, filter_map, length, refl, sym, ap, ◌∙◌, IsTrue, arith, eqb}
 use Rattle.std.specs.List.{cons_option, count_by}
 use Rattle.std.proofs.lemmas.Bool.Decides.{nat_tests}
 use Rattle.std.proofs.lemmas.List.{append-nil}
 use Rattle.std.proofs.lemmas.List.Sums.{sum_by-cons}
 use Rattle.dg_graph.specs.declared.element.Element.{Element}
 use Rattle.dg_graph.specs.declared.element.Element.TheVariants.{Node, Edge, NodeAttr, EdgeAttr}
-use Rattle.dg_graph.specs.Elements.{IsSet, IsBelowFirst, has, same, before}
-use Rattle.dg_pool.specs.Counts.{is_an_edge}
-use Rattle.dg_view.specs.declared.answers.Neighbour.{Neighbour}
-use Rattle.dg_view.specs.declared.answers.Side.TheVariants as side
-use Rattle.dg_view.specs.declared.answers.KeyValue.{KeyValue}
-use Rattle.dg_view.specs.Queries.{side_as, edge_at, neighbours_of, value_at, values_of, first_value, attribute_of}
+use Rattle.dg_graph.specs.Elements.{IsSet, before}
+use Rattle.dg_query.specs.declared.answers.Neighbour.{Neighbour}
+use Rattle.dg_query.specs.declared.answers.Side.TheVariants as side
+use Rattle.dg_query.specs.Queries.{is_an_edge, side_as, edge_at, neighbours_of}
 use Rattle.dg_view.specs.Walk.{is_structure}
 
 -- those of the set that do not stand before the element

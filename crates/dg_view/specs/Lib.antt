@@ -1,3 +1,2 @@
-pub mod Queries
-pub mod Tied
+pub mod NodeAnswer
 pub mod Walk

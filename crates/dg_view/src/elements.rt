@@ -1,10 +1,10 @@
 //! What one element tells of a node.
 ghost use Rattle.std.specs.Prelude.{◌≡◌};
-ghost use Rattle.dg_view.specs.Queries.{side_as, edge_at, value_at};
+ghost use Rattle.dg_query.specs.Queries.{side_as, edge_at, value_at};
 ghost use Rattle.dg_view.specs.Walk.{is_structure, value_of_key};
 
-use crate::answers::{KeyValue, Neighbour, Side};
 use dg_graph::Element;
+use dg_query::{KeyValue, Neighbour, Side};
 
 // The side on which an edge lies, by the side where it is directed.
 fn side(directed: bool, side: Side) -> Side

@@ -9,6 +9,6 @@ mod tests;
 mod view;
 mod walk;
 
-pub use answers::{KeyValue, Neighbour, NodeView, Side};
-pub use dg_pool::Counts;
+pub use answers::NodeView;
+pub use dg_query::{Counts, KeyValue, Neighbour, Side};
 pub use view::View;

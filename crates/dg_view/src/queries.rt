@@ -1,16 +1,15 @@
 //! Answers from the members of a slot.
 ghost use Rattle.std.specs.Prelude.{◌≡◌, IfOk, count_by};
-ghost use Rattle.dg_pool.specs.Counts.{is_an_edge};
 ghost use Rattle.dg_pool.specs.Graphs.{slot_graph};
 ghost use Rattle.dg_pool.specs.Slots.{IsLive};
 ghost use Rattle.dg_pool.specs.Sweeps.{members_as};
-ghost use Rattle.dg_view.specs.Queries.{neighbours_of, degree_of, values_of, attribute_of};
+ghost use Rattle.dg_query.specs.Queries.{is_an_edge, neighbours_of, degree_of, values_of, attribute_of};
 
-use crate::answers::{KeyValue, Neighbour};
 use crate::elements::{edge_at, is_structure, value_at, value_of_key};
 use crate::walk::seek;
 use dg_graph::Element;
-use dg_pool::{Counts, Pool, Slot};
+use dg_pool::{Pool, Slot};
+use dg_query::{Counts, KeyValue, Neighbour};
 use std::alloc::{AllocError, Global};
 
 /// The first of all edges.

@@ -3,13 +3,14 @@ ghost use Rattle.std.specs.Prelude.{◌≡◌, IfOk};
 ghost use Rattle.dg_pool.specs.Graphs.{slot_graph};
 ghost use Rattle.dg_pool.specs.Slots.{IsLive};
 ghost use Rattle.dg_pool.specs.Sweeps.{members_as};
-ghost use Rattle.dg_pool.specs.Counts.{counts_of};
-ghost use Rattle.dg_view.specs.Queries.{neighbours_of, degree_of, attribute_of, IsNodeOf};
+ghost use Rattle.dg_query.specs.Queries.{counts_of, neighbours_of, degree_of, attribute_of};
+ghost use Rattle.dg_view.specs.NodeAnswer.{IsNodeOf};
 
-use crate::answers::{Neighbour, NodeView};
+use crate::answers::NodeView;
 use crate::queries;
 use dg_graph::Element;
-use dg_pool::{Counts, Pool, Slot};
+use dg_pool::{Pool, Slot};
+use dg_query::{Counts, Neighbour};
 use std::alloc::{AllocError, Global};
 use std::marker::Model;
 

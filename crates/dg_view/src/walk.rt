@@ -16,5 +16,6 @@ pub(crate) fn seek(pool: &Pool, slot: Slot, element: &Element) -> Cursor
     ensures low { NoneBefore element.now (members_from pool.now slot.0 result) }
 {
     let _ = slot;
+    pool.facts();
     pool.seek(element)
 }

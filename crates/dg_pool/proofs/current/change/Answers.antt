@@ -4,7 +4,8 @@ use Rattle.dg_graph.specs.Elements.{IsSet, has, put}
 use Rattle.dg_cells.specs.declared.row.Row.{Row}
 use Rattle.dg_cells.specs.Rows.{cell_at, Writes, Holds, Lacks, is_current, SetsCurrent}
 use Rattle.dg_pool.specs.Graphs.{Pins, picked, changed}
-use Rattle.dg_pool.specs.Counts.{counts_of, kind_count, one_more, one_less}
+use Rattle.dg_query.specs.Queries.{counts_of}
+use Rattle.dg_pool.specs.Counts.{kind_count, one_more, one_less}
 use Rattle.dg_pool.proofs.Picked.{picked_set, picked_decides}
 use Rattle.dg_pool.proofs.GraphCounts.{counts-put, counts-take_out, kind-one_more, kind-most, kind-least, picked_most}
 use Rattle.dg_pool.proofs.CurrentGraph.{Changes, changes_join, changes_keep, changes_now, writes_join, unchanged, not_there, one_row, differs_from, same_as, apart_written}

@@ -2,7 +2,7 @@ use Rattle.std.proofs.Common.{◌≡◌, drop}
 use Rattle.dg_graph.specs.Replay.{replay_from}
 use Rattle.dg_cells.specs.Rows.{is_current}
 use Rattle.dg_pool.specs.Graphs.{Keeps, HaveCells, picked}
-use Rattle.dg_pool.specs.Counts.{counts_of}
+use Rattle.dg_query.specs.Queries.{counts_of}
 use Rattle.dg_pool.proofs.current.pass_all.Given as goal
 
 abbrev pub invariant-loop-event : goal.invariant-loop-event

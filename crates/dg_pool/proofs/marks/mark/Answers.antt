@@ -7,7 +7,8 @@ use Rattle.dg_graph.specs.declared.element.Element.{Element}
 use Rattle.dg_graph.specs.declared.element.Element.TheVariants as kind
 use Rattle.dg_graph.specs.Elements.{has}
 use Rattle.dg_pool.specs.Graphs.{picked, in_base}
-use Rattle.dg_pool.specs.Counts.{counts_of, kind_count, one_more}
+use Rattle.dg_query.specs.Queries.{counts_of}
+use Rattle.dg_pool.specs.Counts.{kind_count, one_more}
 use Rattle.dg_pool.proofs.GraphCounts.{counts-push, kind-most}
 use Rattle.dg_pool.proofs.MarkedCells.{marks_then, base_marked}
 use Rattle.dg_pool.proofs.marks.mark.Goals as goal

@@ -1,7 +1,7 @@
 use Rattle.std.proofs.Common.{◌≡◌, take, true}
 use Rattle.dg_cells.specs.Rows.{Marks}
 use Rattle.dg_pool.specs.Graphs.{picked, in_base}
-use Rattle.dg_pool.specs.Counts.{counts_of}
+use Rattle.dg_query.specs.Queries.{counts_of}
 use Rattle.dg_pool.specs.Slots.{moved_over}
 use Rattle.dg_pool.proofs.marks.mark.Given as goal
 

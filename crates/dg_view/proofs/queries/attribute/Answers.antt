@@ -1,4 +1,4 @@
-use Rattle.std.proofs.Common.{◌≡◌, ◌∷◌, sym, subst, ◌∙◌}
+use Rattle.std.proofs.Common.{sym, subst, ◌∙◌}
 use Rattle.dg_graph.specs.declared.element.Element.TheVariants.{NodeAttr}
 use Rattle.dg_graph.specs.Elements.{IsSet}
 use Rattle.dg_pool.specs.Graphs.{slot_graph}

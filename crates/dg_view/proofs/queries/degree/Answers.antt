@@ -1,10 +1,8 @@
-use Rattle.std.proofs.Common.{◌≡◌, ◌+◌, ◌≤◌, ◌∷◌, true, is_some, [], sym, ap, subst, ◌∙◌, length, filter_map, refl, arith}
-use Rattle.std.specs.List.{count_by}
+use Rattle.std.proofs.Common.{◌≡◌, ◌+◌, ◌≤◌, is_some, sym, ap, subst, ◌∙◌, length, filter_map, refl, arith}
 use Rattle.dg_graph.specs.Elements.{IsSet}
-use Rattle.dg_pool.specs.Counts.{is_an_edge}
 use Rattle.dg_pool.specs.Graphs.{slot_graph}
 use Rattle.dg_pool.specs.Sweeps.{members_as}
-use Rattle.dg_view.specs.Queries.{edge_at, degree_of}
+use Rattle.dg_query.specs.Queries.{edge_at, degree_of}
 use Rattle.dg_pool.specs.Listing.{members_from}
 use Rattle.dg_view.proofs.Searching.{edges_from_first, no_edges_behind, most_edges, one_counted, all_counted}
 use Rattle.dg_view.proofs.queries.degree.Goals as goal

@@ -2,7 +2,7 @@ use Rattle.std.proofs.Common.{◌≡◌, ◌+◌, length, filter_map}
 use Rattle.dg_graph.specs.Elements.{IsSet}
 use Rattle.dg_pool.specs.Graphs.{slot_graph}
 use Rattle.dg_pool.specs.Sweeps.{members_as}
-use Rattle.dg_view.specs.Queries.{edge_at, degree_of}
+use Rattle.dg_query.specs.Queries.{edge_at, degree_of}
 use Rattle.dg_pool.specs.Listing.{members_from}
 use Rattle.dg_view.proofs.queries.degree.Given as goal
 

@@ -3,7 +3,7 @@ use Rattle.dg_graph.specs.declared.element.Element.TheVariants.{NodeAttr}
 use Rattle.dg_graph.specs.Elements.{IsSet}
 use Rattle.dg_pool.specs.Graphs.{slot_graph}
 use Rattle.dg_pool.specs.Sweeps.{members_as}
-use Rattle.dg_view.specs.Queries.{value_at, values_of}
+use Rattle.dg_query.specs.Queries.{value_at, values_of}
 use Rattle.dg_pool.specs.Listing.{members_from}
 use Rattle.dg_view.specs.Walk.{NoneBefore}
 use Rattle.dg_view.proofs.queries.values.Given as goal

@@ -14,8 +14,9 @@ use Rattle.dg_pool.proofs.GraphCounts.{picked_most}
 use Rattle.dg_pool.proofs.SlotCounts.{base_counts_are, nodes_sum, edges_sum, node_attrs_sum, edge_attrs_sum, counts_sum, fits_in}
 use Rattle.std.specs.List.{count_by}
 use Rattle.std.proofs.lemmas.List.Sums.{count_by-le-length}
-use Rattle.dg_pool.specs.declared.counts.Counts.{Counts}
-use Rattle.dg_pool.specs.Counts.{counts_of, base_counts, counts_after, is_a_node, is_an_edge, is_a_node_attr, is_an_edge_attr}
+use Rattle.dg_query.specs.declared.answers.Counts.{Counts}
+use Rattle.dg_query.specs.Queries.{counts_of, is_a_node, is_an_edge, is_a_node_attr, is_an_edge_attr}
+use Rattle.dg_pool.specs.Counts.{base_counts, counts_after}
 use Rattle.dg_pool.proofs.pool.Pool.attach_at.Goals as goal
 use Rattle.dg_pool.proofs.pool.Pool.attach_at.Goals.{After-mark-gained}
 

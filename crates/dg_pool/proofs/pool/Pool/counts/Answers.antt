@@ -2,7 +2,7 @@ use Rattle.std.proofs.Common.{sym, ap, subst, ◌∙◌}
 use Rattle.dg_pool.specs.Graphs.{PoolState, slot_graph}
 use Rattle.dg_pool.specs.Sweeps.{members_as}
 use Rattle.dg_pool.specs.Slots.{IsLive}
-use Rattle.dg_pool.specs.Counts.{counts_of}
+use Rattle.dg_query.specs.Queries.{counts_of}
 use Rattle.dg_pool.proofs.KeptCounts.{counts_seen}
 use Rattle.dg_pool.proofs.pool.Pool.counts.Goals as goal
 

@@ -2,7 +2,7 @@ use Rattle.std.proofs.Common.{◌≡◌, [], List, Option, None, Some, sym, ap, 
 use Rattle.dg_cells.specs.declared.row.Row.{Row}
 use Rattle.dg_cells.specs.Rows.{AreApart, cell_at}
 use Rattle.dg_pool.specs.Graphs.{IsBased, IsClean, pair_at, graph_as, picked}
-use Rattle.dg_pool.specs.Counts.{counts_of}
+use Rattle.dg_query.specs.Queries.{counts_of}
 use Rattle.dg_cells.specs.Rows.{is_current}
 use Rattle.dg_pool.proofs.pool.Pool.new.Goals as goal
 

@@ -1,13 +1,49 @@
 -- What is asked of a graph, as functions of the set of its elements.
-use Rattle.std.specs.Prelude.{◌≡◌, ℕ, ◌==◌, Bool, true, false, if◌then◌else◌, List, [], ◌∷◌, Option, Some, None, length, filter_map}
+use Rattle.std.specs.Prelude.{ℕ, ◌==◌, Bool, true, false, if◌then◌else◌, List, [], ◌∷◌, Option, Some, None, count_by, length, filter_map}
 use Rattle.dg_graph.specs.declared.element.Element.{Element}
 use Rattle.dg_graph.specs.declared.element.Element.TheVariants.{Node, Edge, NodeAttr, EdgeAttr}
-use Rattle.dg_graph.specs.Elements.{has}
-use Rattle.dg_view.specs.declared.answers.KeyValue.{KeyValue}
-use Rattle.dg_view.specs.declared.answers.Neighbour.{Neighbour}
-use Rattle.dg_view.specs.declared.answers.NodeView.{NodeView}
-use Rattle.dg_view.specs.declared.answers.Side.{Side}
-use Rattle.dg_view.specs.declared.answers.Side.TheVariants as side
+use Rattle.dg_query.specs.declared.answers.Counts.{Counts}
+use Rattle.dg_query.specs.declared.answers.KeyValue.{KeyValue}
+use Rattle.dg_query.specs.declared.answers.Neighbour.{Neighbour}
+use Rattle.dg_query.specs.declared.answers.Side.{Side}
+use Rattle.dg_query.specs.declared.answers.Side.TheVariants as side
+
+-- ---- counts
+
+abbrev pub is_a_node : Element → Bool
+is_a_node (Node id) = true
+is_a_node (Edge id src dst directed) = false
+is_a_node (NodeAttr id key value) = false
+is_a_node (EdgeAttr id key value) = false
+
+abbrev pub is_an_edge : Element → Bool
+is_an_edge (Node id) = false
+is_an_edge (Edge id src dst directed) = true
+is_an_edge (NodeAttr id key value) = false
+is_an_edge (EdgeAttr id key value) = false
+
+abbrev pub is_a_node_attr : Element → Bool
+is_a_node_attr (Node id) = false
+is_a_node_attr (Edge id src dst directed) = false
+is_a_node_attr (NodeAttr id key value) = true
+is_a_node_attr (EdgeAttr id key value) = false
+
+abbrev pub is_an_edge_attr : Element → Bool
+is_an_edge_attr (Node id) = false
+is_an_edge_attr (Edge id src dst directed) = false
+is_an_edge_attr (NodeAttr id key value) = false
+is_an_edge_attr (EdgeAttr id key value) = true
+
+-- how many elements of each kind the set has
+abbrev pub counts_of : List Element → Counts
+counts_of set = record {
+  nodes = count_by is_a_node set;
+  edges = count_by is_an_edge set;
+  node_attrs = count_by is_a_node_attr set;
+  edge_attrs = count_by is_an_edge_attr set;
+}
+
+-- ---- edges at a node
 
 -- the side on which an edge lies, by the side where it is directed
 abbrev pub side_as : Bool → Side → Side
@@ -31,6 +67,8 @@ neighbours_of set n = filter_map (edge_at n) set
 abbrev pub degree_of : List Element → ℕ → ℕ
 degree_of set n = length (neighbours_of set n)
 
+-- ---- attributes of a node
+
 -- the key and the value, if the element is an attribute of the node
 abbrev pub value_at : ℕ → Element → Option KeyValue
 value_at n (Node id) = None
@@ -50,8 +88,3 @@ first_value key (v ∷ values) = if v.key == key then Some v.value else first_va
 -- the least value of the key at a node
 abbrev pub attribute_of : List Element → ℕ → ℕ → Option ℕ
 attribute_of set n key = first_value key (values_of set n)
-
--- the answer is this node of the graph, or none where the graph has no such node
-abbrev pub IsNodeOf : List Element → ℕ → Option NodeView → Type 0
-IsNodeOf set n None = has set (Node n) ≡ false
-IsNodeOf set n (Some view) = (has set (Node n) ≡ true) × (view.degree ≡ degree_of set n) × (view.attributes.items ≡ values_of set n)

@@ -1,0 +1,19 @@
+use Rattle.dg_graph.specs.declared.event.Event.{Event}
+use Rattle.dg_graph.specs.declared.event.Body.TheVariants as body
+use Rattle.dg_pool.proofs.MarkedCells.{grows_then}
+use Rattle.dg_pool.proofs.EventCells.{have_next}
+use Rattle.dg_pool.proofs.room.add_by_all.Goals as goal
+
+-- what a place past the list reads as
+abbrev past : Event
+past = record { time = 0; body = body.NodeAdded 0 }
+
+pub loop-event-preserved : goal.loop-event-preserved
+loop-event-preserved c =
+    let old = c.loop-event.cells in
+    let new = c.add_by.new.cells in
+    let inv = c.loop-event.invariant in
+    record {
+      grows = grows_then c.args.cells.now old new inv.grows c.add_by.ensures.grows;
+      there = have_next old new c.args.events.now c.loop-event.event-index past c.loop-event-test.true c.add_by.ensures.grows inv.there c.in_ok-add_by.ensures.there;
+    }
