@@ -34,10 +34,15 @@ output plans m [] = []
 output plans m (e ∷ entries) =
     let a = answered (first_plan plans) m e in text (names_in a.state.index) a.reply ++ output (more_plans plans) a.state entries
 
--- what the script is due over this index, with so many bytes for the file, by these plans
+-- what the script is due over this index, with this number for the first handle and so many bytes for the file, by
+-- these plans
+due_from : ℕ → ℕ → Option History → List Planned → List ℕ → List ℕ
+due_from first room index plans bytes =
+    output plans (machine_at (record { script_bytes = 1099511627776; events = 268435456; file_bytes = room; first_handle = first }) index) (script bytes)
+
+-- the same from handle 1 on
 due_in : ℕ → Option History → List Planned → List ℕ → List ℕ
-due_in room index plans bytes =
-    output plans (machine_at (record { script_bytes = 1099511627776; events = 268435456; file_bytes = room }) index) (script bytes)
+due_in room index plans bytes = due_from 1 room index plans bytes
 
 -- what the script is due from an empty history
 due : List Planned → List ℕ → List ℕ
@@ -68,38 +73,38 @@ graft from steps = record { from = from; steps = steps }
 -- of the walks of weight 42 to list 0 the one of a single edge is the least
 load_at_list : due (no_plan ∷ steps_are (1 ∷ []) ∷ []) (codes "load 2\n10 +node 1\n20 +node 2\nat 10 s\nlist 1\n")
     ≡ codes "ok load 2 2 20\nend\nok at 1 42\nend\nok list 1 1\nnode 1\nend\n"
-unfolding digits due due_in output answered
+unfolding digits due_from due due_in output answered
 load_at_list = refl
 
 -- List 1 is reached from leaf 2, for which nothing is read; leaf 1 is as cheap as leaf 2, and more edges away.
 edges : due (no_plan ∷ no_plan ∷ no_plan ∷ steps_are (0 ∷ 13 ∷ 15 ∷ 6 ∷ []) ∷ steps_are (0 ∷ []) ∷ []) (codes "# five changes\r\nload 4\n10 +node 1\n20 +node 2\n30 +edge 5 1 2 dir\n50 -edge 5\n\nat 9 s\nat 51 s\nat 30 sne\nat 50 s\nlist 1\nlist 2\nlist 3")
     ≡ codes "ok load 4 4 50\nend\nrefused 7 out-of-range 10 50\nend\nrefused 7 out-of-range 10 50\nend\nok at 1 76\nend\nok at 2 0\nend\nok list 1 3\nnode 1\nnode 2\nedge 5 1 2 dir\nend\nok list 2 2\nnode 1\nnode 2\nend\nrefused 8 unknown-handle 3\nend\n"
-unfolding digits due due_in output answered
+unfolding digits due_from due due_in output answered
 edges = refl
 
 refusals : due [] (codes "load 2\n5 +node 1\n4 +node 2\nload 2\n5 +node 1\n6 +node 1\nload 1\n5 -node 1\nload 3\n5 +node 1\n5 +edge 1 1 1 undir\n5 -node 1\nload 3\n5 +node 1\n5 +edge 1 1 1 undir\n5 +edge 1 2 2 dir\nload 1\n5 -edge 1\nload 2\n5 +node 1\n5 +edge 1 1 2 dir\nload 1\n05 +node 1\nlist 1\nfrob\nat 5 s\nload 1\n5 +node 7\nload 1\n6 +node 8\nload 2\n7 +node 9")
     ≡ codes "refused 6 bad-change 2 1\nend\nrefused 6 bad-change 2 2\nend\nrefused 6 bad-change 1 3\nend\nrefused 6 bad-change 3 4\nend\nrefused 6 bad-change 3 5\nend\nrefused 6 bad-change 1 6\nend\nrefused 6 bad-change 2 8\nend\nrefused 6 bad-change 1 10\nend\nrefused 8 unknown-handle 1\nend\nrefused 1 syntax 1\nend\nrefused 7 out-of-range empty\nend\nok load 1 1 5\nend\nrefused 20 already-loaded\nend\nrefused 5 short-batch 1 2\nend\n"
-unfolding digits due due_in output answered
+unfolding digits due_from due due_in output answered
 refusals = refl
 
 made_and_loaded : due_of_none (no_plan ∷ no_plan ∷ steps_are (0 ∷ []) ∷ []) (codes "create 2 2 intersection\nload 3\n10 +node 1\n20 +node 2\n30 +edge 5 1 2 dir\nat 30 s\nlist 1\n")
     ≡ codes "ok create\nend\nok load 3 3 30\nend\nok at 1 0\nend\nok list 1 3\nnode 1\nnode 2\nedge 5 1 2 dir\nend\n"
-unfolding digits due_of_none due_in output answered
+unfolding digits due_from due_of_none due_in output answered
 made_and_loaded = refl
 
 parameters : due_of_none [] (codes "create 1 2 union\ncreate 2 65 union\ncreate 2 2 union\ncreate 1 1 union\nlist 1\nat 5 s\n")
     ≡ codes "refused 4 parameters\nend\nrefused 4 parameters\nend\nok create\nend\nrefused 3 index-exists\nend\nrefused 8 unknown-handle 1\nend\nrefused 7 out-of-range empty\nend\n"
-unfolding digits due_of_none due_in output answered
+unfolding digits due_from due_of_none due_in output answered
 parameters = refl
 
 without_index : due_of_none [] (codes "at 5 s\nseveral s 5\nload 2\n10 +node 1\n9 +node 1\nload 2\n10 +node 1\n")
     ≡ codes "refused 2 no-index\nend\nrefused 2 no-index\nend\nrefused 2 no-index\nend\nrefused 5 short-batch 1 2\nend\n"
-unfolding digits due_of_none due_in output answered
+unfolding digits due_from due_of_none due_in output answered
 without_index = refl
 
 file_full : due_in 216 None [] (codes "create 2 2 intersection\nload 3\n10 +node 1\n20 +node 2\n30 +edge 5 1 2 dir\nat 30 s\n")
     ≡ codes "ok create\nend\nrefused 13 file-full 217 216\nend\nrefused 7 out-of-range empty\nend\n"
-unfolding digits due_in output answered
+unfolding digits due_from due_in output answered
 file_full = refl
 
 -- the history of five changes, with an attribute
@@ -117,19 +122,19 @@ over_five plans bytes = due_of_none (no_plan ∷ no_plan ∷ plans) (five ++ byt
 -- through list 2, where the interior node and the delta down to the leaf have 60.
 appended : over_five (steps_are (0 ∷ 13 ∷ 15 ∷ []) ∷ no_plan ∷ no_plan ∷ steps_are (0 ∷ []) ∷ no_plan ∷ steps_are (0 ∷ 17 ∷ 19 ∷ 10 ∷ 11 ∷ []) ∷ []) (codes "at 40 sn\nappend 2\n60 -node 2\n70 +node 3\nlist 1\nat 70 sn\nlist 2\nat 40 s\n")
     ≡ made_five ++ codes "ok at 1 0\nend\nok append 2 7 70\nend\nok list 1 4\nnode 1\nnode 2\nedge 5 1 2 dir\nnattr 1 name A\nend\nok at 2 0\nend\nok list 2 3\nnode 1\nnode 3\nnattr 1 name A\nend\nok at 3 59\nend\n"
-unfolding digits over_five due_of_none five made_five due_in output answered
+unfolding digits due_from over_five due_of_none five made_five due_in output answered
 appended = refl
 
 refused_batches : over_five [] (codes "append 2\n50 +node 7\n60 +node 8\nappend 1\n60 -node 1\nappend 1\n60 nset 1 name A\nappend 1\n70 +nod 1\n")
     ≡ made_five ++ codes "refused 6 bad-change 1 1\nend\nrefused 6 bad-change 1 4\nend\nok append 1 6 60\nend\nrefused 6 bad-change 1 10\nend\n"
-unfolding digits over_five due_of_none five made_five due_in output answered
+unfolding digits due_from over_five due_of_none five made_five due_in output answered
 refused_batches = refl
 
 -- Values with spaces and of no byte, a key that is taken away, and reasons 7 and 9. At 5 the point is list 2: 34 bytes
 -- for a value at a node and 34 for one at an edge.
 values : due_of_none (no_plan ∷ no_plan ∷ no_plan ∷ no_plan ∷ no_plan ∷ no_plan ∷ steps_are (0 ∷ 17 ∷ 19 ∷ 10 ∷ []) ∷ no_plan ∷ steps_are (0 ∷ []) ∷ []) (codes "create 2 2 union\nload 6\n1 +node 1\n2 nset 1 k  x \n3 nset 1 empty \n4 +edge 1 1 1 dir\n5 eset 1 w 7\n6 ndel 1 k\nappend 1\n7 -edge 1\nappend 1\n7 ndel 1 k\nappend 1\n7 edel 1 v\nappend 1\n7 ndel 1 k \nat 5 sne\nlist 1\nat 6 sn\nlist 2\n")
     ≡ codes "ok create\nend\nok load 6 6 6\nend\nrefused 6 bad-change 1 7\nend\nrefused 6 bad-change 1 9\nend\nrefused 6 bad-change 1 9\nend\nrefused 6 bad-change 1 10\nend\nok at 1 68\nend\nok list 1 5\nnode 1\nedge 1 1 1 dir\nnattr 1 k  x \nnattr 1 empty \neattr 1 w 7\nend\nok at 2 0\nend\nok list 2 3\nnode 1\nedge 1 1 1 dir\nnattr 1 empty \nend\n"
-unfolding digits due_of_none due_in output answered
+unfolding digits due_from due_of_none due_in output answered
 values = refl
 
 -- ---- plans, certificates and records
@@ -137,34 +142,34 @@ values = refl
 -- the potentials of root, now, recent, leaf 1 and 2, list 0 and 1, and inner 1 1
 plan_printed : over_five (with_potentials (1 ∷ 9 ∷ []) (0 ∷ 0 ∷ 0 ∷ 26 ∷ 0 ∷ 26 ∷ 26 ∷ 26 ∷ []) ∷ []) (codes "plan 20 s\n")
     ≡ made_five ++ codes "ok plan 26 2\nstep 1 inner 1 1 26\nstep 9 leaf 1 0\npotential root 0\npotential now 0\npotential recent 0\npotential leaf 2 0\nend\n"
-unfolding digits over_five due_of_none five made_five due_in output answered
+unfolding digits due_from over_five due_of_none five made_five due_in output answered
 plan_printed = refl
 
 certificates : over_five [] (codes "certify 20 s 6\nstep 1 inner 1 1 26\nstep 9 leaf 1 0\npotential root 0\npotential now 0\npotential recent 0\npotential leaf 2 0\ncertify 20 s 5\nstep 1 inner 1 1 26\nstep 9 leaf 1 0\npotential root 0\npotential now 0\npotential recent 0\ncertify 20 s 6\nstep 1 inner 1 1 26\nstep 9 leaf 1 1\npotential root 0\npotential now 0\npotential recent 0\npotential leaf 2 0\ncertify 20 s 9\nstep 2 list 0 42\nstep 4 leaf 1 0\npotential root 0\npotential now 0\npotential recent 0\npotential leaf 1 26\npotential leaf 2 0\npotential list 1 40\npotential inner 1 1 26\ncertify 20 s 1\nhello\n")
     ≡ made_five ++ codes "ok certify valid\nend\nok certify potential leaf 2\nend\nok certify step 2\nend\nok certify not-tight\nend\nok certify line 1\nend\n"
-unfolding digits over_five due_of_none five made_five due_in output answered
+unfolding digits due_from over_five due_of_none five made_five due_in output answered
 certificates = refl
 
 -- steps behind potentials, nodes that are not there, the bounds of a line, and refusals
 odd_certificates : over_five [] (codes "certify 20 s 0\ncertify 50 s 1\nstep 0 now 0\ncertify 20 s 2\npotential root 0\nstep 1 inner 1 1 26\ncertify 20 s 2\nstep 1 inner 1 1 26\npotential leaf 0 0\ncertify 20 s 1\nstep 1 leaf 0 26\ncertify 9 s 1\nhello\ncertify 20 s 2\nhello\n")
     ≡ made_five ++ codes "ok certify step 1\nend\nok certify valid\nend\nok certify line 1\nend\nok certify line 2\nend\nok certify step 1\nend\nrefused 7 out-of-range 10 50\nend\nrefused 5 short-batch 1 2\nend\n"
-unfolding digits over_five due_of_none five made_five due_in output answered
+unfolding digits due_from over_five due_of_none five made_five due_in output answered
 odd_certificates = refl
 
 records : over_five [] (codes "tree\n")
     ≡ made_five ++ codes "ok tree 2 2 intersection 5 2 5\nrecord list 0 42 0 0\nrecord list 1 40 34 0\nrecord top 1 26 0 0\nrecord down 1 1 0 0 0\nrecord down 1 2 34 24 0\nend\n"
-unfolding digits over_five due_of_none five made_five due_in output answered
+unfolding digits due_from over_five due_of_none five made_five due_in output answered
 records = refl
 
 -- no leaf but the root: the plan of the recent events
 recent_plan : due_of_none (no_plan ∷ no_plan ∷ with_potentials (3 ∷ []) (0 ∷ 0 ∷ 0 ∷ []) ∷ []) (codes "create 3 2 union\nload 2\n10 +node 1\n20 +node 2\nplan 10 s\ntree\n")
     ≡ codes "ok create\nend\nok load 2 2 20\nend\nok plan 0 1\nstep 3 recent 0\nend\nok tree 3 2 union 2 0 0\nend\n"
-unfolding digits due_of_none due_in output answered
+unfolding digits due_from due_of_none due_in output answered
 recent_plan = refl
 
 no_index_to_plan : due_of_none [] (codes "plan 5 s\ntree\ncertify 5 s 0\ncreate 2 2 union\nplan 5 s\ntree\n")
     ≡ codes "refused 2 no-index\nend\nrefused 2 no-index\nend\nrefused 2 no-index\nend\nok create\nend\nrefused 7 out-of-range empty\nend\nok tree 2 2 union 0 0 0\nend\n"
-unfolding digits due_of_none due_in output answered
+unfolding digits due_from due_of_none due_in output answered
 no_index_to_plan = refl
 
 -- ---- graphs as of instants
@@ -172,31 +177,68 @@ no_index_to_plan = refl
 -- Leaf 1 is read down from the interior node, and list 1 backwards from leaf 2.
 by_plans : over_five (steps_are (1 ∷ 9 ∷ []) ∷ no_plan ∷ steps_are (0 ∷ 13 ∷ 15 ∷ 6 ∷ []) ∷ []) (codes "at 20 s\nlist 1\nat 30 s\nlist 2\n")
     ≡ made_five ++ codes "ok at 1 26\nend\nok list 1 2\nnode 1\nnode 2\nend\nok at 2 40\nend\nok list 2 3\nnode 1\nnode 2\nedge 5 1 2 dir\nend\n"
-unfolding digits over_five due_of_none five made_five due_in output answered
+unfolding digits due_from over_five due_of_none five made_five due_in output answered
 by_plans = refl
 
 -- No walk to these two points weighs less: the potentials certify 40 for instant 30 of the five changes, and 59 for
 -- instant 40 with two more.
 least_weights : over_five [] (codes "certify 30 s 10\nstep 0 now 0\nstep 13 recent 0\nstep 15 leaf 2 0\nstep 6 list 1 40\npotential root 0\npotential now 0\npotential recent 0\npotential leaf 1 26\npotential leaf 2 0\npotential inner 1 1 26\nappend 2\n60 -node 2\n70 +node 3\ncertify 40 s 12\nstep 0 now 0\nstep 17 recent 0\nstep 19 leaf 3 0\nstep 10 list 2 59\nstep 11 leaf 2 0\npotential root 0\npotential now 0\npotential recent 0\npotential leaf 1 26\npotential leaf 3 0\npotential list 0 42\npotential inner 1 1 26\n")
     ≡ made_five ++ codes "ok certify valid\nend\nok append 2 7 70\nend\nok certify valid\nend\n"
-unfolding digits over_five due_of_none five made_five due_in output answered
+unfolding digits due_from over_five due_of_none five made_five due_in output answered
 least_weights = refl
 
 -- List 1 weighs 40 from leaf 1, which is in the tree by then, and 40 from the root by leaf 2: one edge is less than
 -- four. The last instant is the first again, so its graft has no step.
 graphs_by_a_tree : over_five (grafts_are (graft node.Root (1 ∷ 9 ∷ []) ∷ graft (node.Leaf 1) (5 ∷ []) ∷ graft (node.Leaf 1) [] ∷ []) (26 ∷ 40 ∷ 26 ∷ []) ∷ []) (codes "several s 20 30 20\nlist 2\nlist 3\nlist 4\n")
     ≡ made_five ++ codes "ok several 66 92\nhandle 1 20 26\nhandle 2 30 40\nhandle 3 20 26\nend\nok list 2 3\nnode 1\nnode 2\nedge 5 1 2 dir\nend\nok list 3 2\nnode 1\nnode 2\nend\nrefused 8 unknown-handle 4\nend\n"
-unfolding digits over_five due_of_none five made_five due_in output answered
+unfolding digits due_from over_five due_of_none five made_five due_in output answered
 graphs_by_a_tree = refl
 
 -- in the other order leaf 1 is grafted at list 1, whose events are read by then
 the_other_order : over_five (grafts_are (graft node.Root (0 ∷ 13 ∷ 15 ∷ 6 ∷ []) ∷ graft (node.List 1) (7 ∷ []) ∷ []) (40 ∷ 26 ∷ []) ∷ []) (codes "several s 30 20\n")
     ≡ made_five ++ codes "ok several 40 66\nhandle 1 30 40\nhandle 2 20 26\nend\n"
-unfolding digits over_five due_of_none five made_five due_in output answered
+unfolding digits due_from over_five due_of_none five made_five due_in output answered
 the_other_order = refl
 
 -- one instant is a tree of one plan; an instant that is not in the history refuses them all, and gives no handle
 one_or_none : over_five (no_plan ∷ no_plan ∷ grafts_are (graft node.Root (1 ∷ 9 ∷ []) ∷ []) (26 ∷ []) ∷ []) (codes "several s 20 9\nseveral s 51 20\nseveral s 20\n")
     ≡ made_five ++ codes "refused 7 out-of-range 10 50\nend\nrefused 7 out-of-range 10 50\nend\nok several 26 26\nhandle 1 20 26\nend\n"
-unfolding digits over_five due_of_none five made_five due_in output answered
+unfolding digits due_from over_five due_of_none five made_five due_in output answered
 one_or_none = refl
+
+-- ---- queries, releases and cleaning
+
+-- leaf 2, without and with the attributes of nodes, and list 1, in which the edge still is
+queries : over_five (steps_are (0 ∷ 13 ∷ 15 ∷ []) ∷ steps_are (0 ∷ 13 ∷ 15 ∷ []) ∷ steps_are (0 ∷ 13 ∷ 15 ∷ 6 ∷ []) ∷ []) (codes "at 40 s\nat 40 sn\nat 30 s\ncounts 1\ncounts 2\ncounts 4\nnode 3 1\nnode 3 9\nnode 2 1\nnode 4 1\nneighbours 3 2\nneighbours 3 1\nneighbours 3 9\nneighbours 4 1\n")
+    ≡ made_five ++ codes "ok at 1 0\nend\nok at 2 0\nend\nok at 3 40\nend\nok counts 1 2 1 0 0\nend\nok counts 2 2 1 1 0\nend\nrefused 8 unknown-handle 4\nend\nok node 3 1 yes 1\nend\nok node 3 9 no\nend\nok node 2 1 yes 1\nattr name A\nend\nrefused 8 unknown-handle 4\nend\nok neighbours 3 2 1\nin 5 1\nend\nok neighbours 3 1 1\nout 5 2\nend\nok neighbours 3 9 0\nend\nrefused 8 unknown-handle 4\nend\n"
+unfolding digits due_from over_five due_of_none five made_five due_in output answered
+queries = refl
+
+-- Loops, directed and not, count once; an edge that is not directed lies on both sides of both its ends.
+loops : due (no_plan ∷ steps_are (0 ∷ []) ∷ []) (codes "load 6\n1 +node 1\n1 +node 2\n1 +edge 9 1 1 dir\n1 +edge 8 1 1 undir\n1 +edge 7 2 1 undir\n1 +edge 6 2 1 dir\nat 1 s\nnode 1 1\nneighbours 1 1\nneighbours 1 2\n")
+    ≡ codes "ok load 6 6 1\nend\nok at 1 0\nend\nok node 1 1 yes 4\nend\nok neighbours 1 1 4\nin 6 2\nboth 7 2\nboth 8 1\nout 9 1\nend\nok neighbours 1 2 2\nout 6 1\nboth 7 1\nend\n"
+unfolding digits due_from due due_in output answered
+loops = refl
+
+-- The current graph has two nodes and an attribute; the graph as of 40 has the edge besides.
+cleaning : over_five (steps_are (1 ∷ 9 ∷ []) ∷ steps_are (0 ∷ 13 ∷ 15 ∷ []) ∷ no_plan ∷ no_plan ∷ no_plan ∷ steps_are (0 ∷ 13 ∷ 15 ∷ 6 ∷ []) ∷ []) (codes "at 20 s\nat 40 s\npool\nrelease 2\nclean 1\nat 30 s\nclean all\npool\nrelease 3\nrelease 1\nclean all\n")
+    ≡ made_five ++ codes "ok at 1 26\nend\nok at 2 0\nend\nok pool 2 4\nend\nok release 2\nend\nok clean\nend\nok at 3 40\nend\nok clean all 4\nend\nok pool 2 4\nend\nok release 3\nend\nok release 1\nend\nok clean all 3\nend\n"
+unfolding digits due_from over_five due_of_none five made_five due_in output answered
+cleaning = refl
+
+-- a number is not given again
+released : over_five (steps_are (0 ∷ []) ∷ steps_are (0 ∷ []) ∷ no_plan ∷ no_plan ∷ no_plan ∷ no_plan ∷ steps_are (0 ∷ []) ∷ []) (codes "at 50 s\nat 50 sn\nrelease 1\nlist 1\nrelease 1\nlist 2\nat 50 s\n")
+    ≡ made_five ++ codes "ok at 1 0\nend\nok at 2 0\nend\nok release 1\nend\nrefused 8 unknown-handle 1\nend\nrefused 8 unknown-handle 1\nend\nok list 2 3\nnode 1\nnode 2\nnattr 1 name A\nend\nok at 3 0\nend\n"
+unfolding digits due_from over_five due_of_none five made_five due_in output answered
+released = refl
+
+empty_pool : due_of_none [] (codes "list 1\nat 5 s\npool\nclean 3\nclean all\nrelease 1\n")
+    ≡ codes "refused 8 unknown-handle 1\nend\nrefused 2 no-index\nend\nok pool 0 0\nend\nok clean\nend\nok clean all 0\nend\nrefused 8 unknown-handle 1\nend\n"
+unfolding digits due_from due_of_none due_in output answered
+empty_pool = refl
+
+-- no handle is left, though one was given up
+handles_spent : due_from 4294967295 281474976710656 None (no_plan ∷ no_plan ∷ steps_are (0 ∷ []) ∷ []) (five ++ codes "at 50 s\nat 50 s\nseveral s 50\nrelease 4294967295\nat 50 s\n")
+    ≡ made_five ++ codes "ok at 4294967295 0\nend\nrefused 19 handles-spent\nend\nrefused 19 handles-spent\nend\nok release 4294967295\nend\nrefused 19 handles-spent\nend\n"
+unfolding digits due_from five made_five output answered
+handles_spent = refl

@@ -5,6 +5,8 @@ use Rattle.std.specs.List.{flat_map}
 use Rattle.dg_graph.specs.declared.element.Column.TheVariants as column
 use Rattle.dg_graph.specs.declared.element.Columns.{Columns}
 use Rattle.dg_graph.specs.declared.element.Element.{Element}
+use Rattle.dg_graph.specs.declared.element.Element.TheVariants as element
+use Rattle.dg_graph.specs.Elements.{has}
 use Rattle.dg_graph.specs.Lines.{ScriptLine}
 use Rattle.dg_history.specs.Batch.{batch_of}
 use Rattle.dg_index.specs.FileOfHistory.{size}
@@ -28,8 +30,9 @@ use Rattle.dg_machine.specs.declared.reply.Refusal.TheVariants as refusal
 use Rattle.dg_machine.specs.declared.reply.Reply.{Reply}
 use Rattle.dg_machine.specs.declared.stands.Stands.{Stands}
 use Rattle.dg_machine.specs.declared.stands.Stands.TheVariants.{Overlay}
-use Rattle.dg_machine.specs.MachineState.{MachineState, entry_at, elements, history_in}
+use Rattle.dg_machine.specs.MachineState.{MachineState, elements, elements_held, entry_at, history_in, without_handle}
 use Rattle.dg_machine.specs.CommandGrammar.{plan_line_in}
+use Rattle.dg_query.specs.Queries.{counts_of, degree_of, neighbours_of, values_of}
 use Rattle.dg_machine.specs.Needs.{needs, refused, is_followed}
 use Rattle.dg_machine.specs.Planning.{Planned, IsPlanned, edges_in, nodes_in, point_for}
 
@@ -94,6 +97,28 @@ abbrev pub handle_lines : ℕ → List ℕ → List ℕ → List BodyLine
 handle_lines next [] singles = []
 handle_lines next (t ∷ times) [] = []
 handle_lines next (t ∷ times) (single ∷ singles) = line.Handle next t single ∷ handle_lines (next + 1) times singles
+
+-- ---- what is asked of a handle's graph
+
+-- how many elements of each kind the set has
+abbrev pub counting : ℕ → List Element → Reply
+counting handle set = headed (head.Counts handle (counts_of set))
+
+-- the node of the set, with a line for each attribute; or that it is not in the set
+abbrev pub node_reply : ℕ → ℕ → List Element → Reply
+node_reply handle id set =
+    if has set (element.Node id)
+    then record { head = head.NodeThere handle id (degree_of set id); body = map (λ v. line.Attribute v) (values_of set id) }
+    else headed (head.NodeAbsent handle id)
+
+-- a line for each edge at the node
+abbrev pub neighbours_reply : ℕ → ℕ → List Element → Reply
+neighbours_reply handle id set = record {
+  head = head.Neighbours handle id (length (neighbours_of set id));
+  body = map (λ n. line.Neighbour n) (neighbours_of set id);
+}
+
+-- ---- new handles
 
 -- the reply of a tree that weighs so much, with the weights of the single plans, for handles from this number on
 abbrev pub several_reply : ℕ → ℕ → List ℕ → List ℕ → Reply
@@ -160,6 +185,16 @@ accepted m (command.Several cols times count) lines p = record {
   state = with_handles m (overlays cols (take count times));
 }
 accepted m (command.List handle) lines p = say m (listing handle (shown_by m handle))
+accepted m (command.Counts handle) lines p = say m (counting handle (shown_by m handle))
+accepted m (command.Node handle id) lines p = say m (node_reply handle id (shown_by m handle))
+accepted m (command.Neighbours handle id) lines p = say m (neighbours_reply handle id (shown_by m handle))
+accepted m (command.Release handle) lines p = record {
+  reply = headed (head.Released handle);
+  state = record m { table = without_handle handle m.table };
+}
+accepted m (command.Clean cells) lines p = say m (headed head.Cleaned)
+accepted m command.CleanAll lines p = say m (headed (head.CleanedAll (length (elements_held m))))
+accepted m command.Pool lines p = say m (headed (head.Pool (length m.table) (length (elements_held m))))
 accepted m (command.Plan t cols) lines p =
     say m (plan_reply (edges_in m cols) (nodes_in m cols) (weight_of (arcs_of (edges_in m cols)) p.steps) p.steps p.potentials)
 accepted m (command.Certify t cols count) lines p =
@@ -191,6 +226,14 @@ is_refusal (head.Appended events total last) = false
 is_refusal (head.At handle weight) = false
 is_refusal (head.Several weight sum) = false
 is_refusal (head.List handle lines) = false
+is_refusal (head.Counts handle counts) = false
+is_refusal (head.NodeThere handle id degree) = false
+is_refusal (head.NodeAbsent handle id) = false
+is_refusal (head.Neighbours handle id lines) = false
+is_refusal (head.Released handle) = false
+is_refusal head.Cleaned = false
+is_refusal (head.CleanedAll cells) = false
+is_refusal (head.Pool live size) = false
 is_refusal (head.Plan weight steps) = false
 is_refusal (head.Certified verdict) = false
 is_refusal (head.Tree l k function events leaves records) = false
@@ -220,6 +263,14 @@ weight_told (head.Appended events total last) = 0
 weight_told (head.At handle weight) = weight
 weight_told (head.Several weight sum) = weight
 weight_told (head.List handle lines) = 0
+weight_told (head.Counts handle counts) = 0
+weight_told (head.NodeThere handle id degree) = 0
+weight_told (head.NodeAbsent handle id) = 0
+weight_told (head.Neighbours handle id lines) = 0
+weight_told (head.Released handle) = 0
+weight_told head.Cleaned = 0
+weight_told (head.CleanedAll cells) = 0
+weight_told (head.Pool live size) = 0
 weight_told (head.Plan weight steps) = 0
 weight_told (head.Certified verdict) = 0
 weight_told (head.Tree l k function events leaves records) = 0

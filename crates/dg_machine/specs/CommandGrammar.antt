@@ -15,7 +15,7 @@ use Rattle.dg_history.specs.declared.node.NodeId.{NodeId}
 use Rattle.dg_history.specs.declared.node.NodeId.TheVariants as node
 use Rattle.dg_plan.specs.declared.certificate.PlanLine.{PlanLine}
 use Rattle.dg_plan.specs.declared.certificate.PlanLine.TheVariants as plan_line
-use Rattle.dg_history.specs.ChangeGrammar.{time_of}
+use Rattle.dg_history.specs.ChangeGrammar.{id_of, time_of}
 
 abbrev pub handle_of : List ℕ → Option ℕ
 handle_of word = number 1 4294967295 word
@@ -60,6 +60,10 @@ abbrev pub several_of : List (List ℕ) → Option Command
 several_of (cols ∷ word ∷ rest) = option_and_then (λ c. option_and_then (several_with c) (times_of (word ∷ rest))) (columns_of cols)
 several_of rest = None
 
+-- a number of cells, or all
+abbrev pub sweep_of : List ℕ → Option Command
+sweep_of word = if is_word word (codes "all") then Some command.CleanAll else option_map (λ n. command.Clean n) (number 1 4294967295 word)
+
 -- the commands, by their first word
 abbrev pub command_verbs : List (Verb Command)
 command_verbs =
@@ -69,6 +73,12 @@ command_verbs =
     ∷ verb (codes "at") (two time_of columns_of (λ t cols. command.At t cols))
     ∷ verb (codes "several") several_of
     ∷ verb (codes "list") (one handle_of (λ h. command.List h))
+    ∷ verb (codes "counts") (one handle_of (λ h. command.Counts h))
+    ∷ verb (codes "node") (two handle_of id_of (λ h id. command.Node h id))
+    ∷ verb (codes "neighbours") (two handle_of id_of (λ h id. command.Neighbours h id))
+    ∷ verb (codes "release") (one handle_of (λ h. command.Release h))
+    ∷ verb (codes "clean") (one sweep_of (λ c. c))
+    ∷ verb (codes "pool") (none_more command.Pool)
     ∷ verb (codes "plan") (two time_of columns_of (λ t cols. command.Plan t cols))
     ∷ verb (codes "certify") (three time_of columns_of count_from_0 (λ t cols n. command.Certify t cols n))
     ∷ verb (codes "tree") (none_more command.Tree)
@@ -127,10 +137,11 @@ plan_line_in Long = None
 -- ---- ranges
 
 -- The number of lines that follow is in its range: a batch has one at least, and no command has more than a
--- batch may have; and so is the number of instants. Every command that a line is is so.
+-- batch may have; and so is the number of instants, and that of cells. Every command that a line is is so.
 abbrev pub CountIsInRange : Command → Type 0
 CountIsInRange (command.Load count) = (1 ≤ count) × (count ≤ BATCH_LINES_MAX)
 CountIsInRange (command.Append count) = (1 ≤ count) × (count ≤ BATCH_LINES_MAX)
 CountIsInRange (command.Certify t cols count) = count ≤ BATCH_LINES_MAX
 CountIsInRange (command.Several cols times count) = (1 ≤ count) × (count ≤ TIMES_MAX)
+CountIsInRange (command.Clean cells) = 1 ≤ cells
 CountIsInRange c = Unit {0}

@@ -1,5 +1,5 @@
 -- The machine that keeps only the events and a table of handles.
-use Rattle.std.specs.Prelude.{ℕ, ◌≤◌, ◌==◌, List, [], ◌∷◌, Option, Some, None, if◌then◌else◌}
+use Rattle.std.specs.Prelude.{ℕ, ◌≤◌, ◌==◌, List, [], ◌∷◌, Option, Some, None, if◌then◌else◌, map}
 use Rattle.dg_graph.specs.declared.element.Element.{Element}
 use Rattle.dg_graph.specs.declared.event.Event.{Event}
 use Rattle.dg_graph.specs.declared.function.Function.TheVariants.{Intersection}
@@ -10,7 +10,8 @@ use Rattle.dg_machine.specs.declared.stands.Stands.{Stands}
 use Rattle.dg_machine.specs.declared.stands.Stands.TheVariants.{Overlay}
 use Rattle.dg_graph.specs.Elements.{shown}
 use Rattle.dg_history.specs.History.{History, empty_history, events_of, names_of}
-use Rattle.dg_graph.specs.Replay.{replay_at}
+use Rattle.dg_graph.specs.Replay.{replay, replay_at}
+use Rattle.dg_graph.specs.Sets.{unioned}
 
 -- The limits; an index or none, and its history; the live handles with what they stand for, in the
 -- order in which they were given; and the number of the next handle.
@@ -22,13 +23,14 @@ pub record MachineState : Type 0 where
 
 -- the machine before its first command
 abbrev pub machine_at : Limits → Option History → MachineState
-machine_at limits index = record { limits = limits; index = index; table = []; next = FIRST_HANDLE }
+machine_at limits index = record { limits = limits; index = index; table = []; next = limits.first_handle }
 
--- no limit is above its standard value
+-- no limit is above its standard value, and the first handle has the number of one
 pub record IsWithin (limits : Limits) : Type 0 where
   pub script : limits.script_bytes ≤ SCRIPT_BYTES_MAX
   pub events : limits.events ≤ EVENTS_MAX
   pub file : limits.file_bytes ≤ FILE_BYTES_MAX
+  pub first : FIRST_HANDLE ≤ limits.first_handle
 
 -- The history of the index. Without an index it has no event, and its parameters mean nothing.
 abbrev pub history_in : Option History → History
@@ -50,6 +52,24 @@ abbrev pub entry_at : ℕ → List (ℕ × Stands) → Option Stands
 entry_at handle [] = None
 entry_at handle (entry ∷ table) = if entry.0 == handle then Some entry.1 else entry_at handle table
 
+-- the table without the handle
+abbrev pub without_handle : ℕ → List (ℕ × Stands) → List (ℕ × Stands)
+without_handle handle [] = []
+without_handle handle (entry ∷ table) = if entry.0 == handle then table else entry ∷ without_handle handle table
+
 -- the elements of what a handle stands for
 abbrev pub elements : History → Stands → List Element
 elements z (Overlay t cols on) = shown (replay_at (events_of z) t) cols
+
+-- the elements of any of these sets
+abbrev pub union_of : List (List Element) → List Element
+union_of [] = []
+union_of (set ∷ sets) = unioned set (union_of sets)
+
+-- the elements that the live handles list, the oldest first
+abbrev pub graphs_of : MachineState → List (List Element)
+graphs_of m = map (λ (e : ℕ × Stands). elements (history_in m.index) e.1) m.table
+
+-- the elements of the current graph and of the live handles together
+abbrev pub elements_held : MachineState → List Element
+elements_held m = union_of (replay (events_in_index m.index) ∷ graphs_of m)

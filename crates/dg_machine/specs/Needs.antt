@@ -6,7 +6,7 @@ use Rattle.dg_graph.specs.Lines.{ScriptLine}
 use Rattle.dg_history.specs.History.{are_parameters, span_of, in_range}
 use Rattle.dg_machine.specs.declared.command.Command.{Command}
 use Rattle.dg_machine.specs.declared.command.Command.TheVariants as command
-use Rattle.dg_machine.specs.declared.limits.TheConstants.{LIVE_HANDLES_MAX}
+use Rattle.dg_machine.specs.declared.limits.TheConstants.{HANDLE_MAX, LIVE_HANDLES_MAX}
 use Rattle.dg_machine.specs.declared.reply.Refusal.{Refusal}
 use Rattle.dg_machine.specs.declared.reply.Refusal.TheVariants as refusal
 use Rattle.dg_machine.specs.MachineState.{MachineState, events_in_index, names_in, entry_at}
@@ -50,6 +50,13 @@ needs (command.Append count) = batch_needs count
 needs (command.At t cols) = record nothing_more { index = true; instants = t ∷ []; handles = 1; reads = true }
 needs (command.Several cols times count) = record nothing_more { index = true; instants = take count times; handles = count; reads = true }
 needs (command.List handle) = record nothing_more { handle = Some handle }
+needs (command.Counts handle) = record nothing_more { handle = Some handle; memory = false }
+needs (command.Node handle id) = record nothing_more { handle = Some handle }
+needs (command.Neighbours handle id) = record nothing_more { handle = Some handle }
+needs (command.Release handle) = record nothing_more { handle = Some handle; memory = false }
+needs (command.Clean cells) = record nothing_more { memory = false }
+needs command.CleanAll = record nothing_more { memory = false }
+needs command.Pool = record nothing_more { memory = false }
 needs (command.Plan t cols) = record nothing_more { index = true; instants = t ∷ [] }
 needs (command.Certify t cols count) = record nothing_more { lines = Some count; index = true; instants = t ∷ [] }
 needs command.Tree = record nothing_more { index = true }
@@ -101,7 +108,8 @@ refusals m lines n =
     ++ (when (nat_lt 0 n.changes && is_full m n.changes) (refusal.HistoryFull (length (events_in_index m.index)) n.changes)
     ++ (when (list_any (λ t. not (in_range (span_of (events_in_index m.index)) t)) n.instants) (refusal.OutOfRange (span_of (events_in_index m.index)))
     ++ (of n.handle (λ h. when (not (is_some (entry_at h m.table))) (refusal.UnknownHandle h))
-    ++ when (nat_lt 0 n.handles && nat_lt LIVE_HANDLES_MAX (length m.table + n.handles)) (refusal.PoolFull (length m.table) n.handles))))))))
+    ++ (when (nat_lt 0 n.handles && nat_lt LIVE_HANDLES_MAX (length m.table + n.handles)) (refusal.PoolFull (length m.table) n.handles)
+    ++ when (nat_lt 0 n.handles && nat_lt (HANDLE_MAX + 1) (m.next + n.handles)) refusal.HandlesSpent))))))))
 
 -- the first refusal that holds
 abbrev pub refused : MachineState → Command → List ScriptLine → Option Refusal

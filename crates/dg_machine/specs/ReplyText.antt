@@ -19,6 +19,8 @@ use Rattle.dg_history.specs.declared.node.Key.{Key}
 use Rattle.dg_history.specs.declared.node.Key.TheVariants as key
 use Rattle.dg_history.specs.declared.node.NodeId.{NodeId}
 use Rattle.dg_history.specs.declared.node.NodeId.TheVariants as node
+use Rattle.dg_query.specs.declared.answers.Side.{Side}
+use Rattle.dg_query.specs.declared.answers.Side.TheVariants as side
 use Rattle.dg_plan.specs.declared.certificate.Verdict.{Verdict}
 use Rattle.dg_plan.specs.declared.certificate.Verdict.TheVariants as verdict
 
@@ -65,9 +67,17 @@ verdict_words (verdict.Step i) = codes "step" ∷ decimal i ∷ []
 verdict_words (verdict.Potential at) = codes "potential" ∷ node_words at
 verdict_words verdict.NotTight = codes "not-tight" ∷ []
 
+-- the word of the side of a node on which an edge lies
+abbrev pub side_word : Side → List ℕ
+side_word side.Out = codes "out"
+side_word side.Inward = codes "in"
+side_word side.Both = codes "both"
+
 -- the words of a body line
 abbrev pub body_words : List (List ℕ) → BodyLine → List (List ℕ)
 body_words names (line.Element x) = element_words names x
+body_words names (line.Attribute v) = codes "attr" ∷ name_text names v.key ∷ name_text names v.value ∷ []
+body_words names (line.Neighbour n) = side_word n.side ∷ decimal n.edge ∷ decimal n.node ∷ []
 body_words names (line.Handle handle t single) = codes "handle" ∷ decimal handle ∷ decimal t ∷ decimal single ∷ []
 body_words names (line.Step edge into weight) = codes "step" ∷ decimal edge ∷ (node_words into ++ decimal weight ∷ [])
 body_words names (line.Potential at value) = codes "potential" ∷ (node_words at ++ decimal value ∷ [])
@@ -91,6 +101,7 @@ refusal_words refusal.StoreRead = codes "14" ∷ codes "store-read" ∷ []
 refusal_words (refusal.Damaged k col) = codes "15" ∷ codes "damaged" ∷ (key_words k ++ column_word col ∷ [])
 refusal_words refusal.OutOfMemory = codes "16" ∷ codes "out-of-memory" ∷ []
 refusal_words refusal.LineLong = codes "18" ∷ codes "line-long" ∷ []
+refusal_words refusal.HandlesSpent = codes "19" ∷ codes "handles-spent" ∷ []
 refusal_words refusal.AlreadyLoaded = codes "20" ∷ codes "already-loaded" ∷ []
 
 -- the words of a head line
@@ -101,6 +112,15 @@ head_words (head.Appended events total last) = codes "ok" ∷ codes "append" ∷
 head_words (head.At handle weight) = codes "ok" ∷ codes "at" ∷ decimal handle ∷ decimal weight ∷ []
 head_words (head.Several weight sum) = codes "ok" ∷ codes "several" ∷ decimal weight ∷ decimal sum ∷ []
 head_words (head.List handle lines) = codes "ok" ∷ codes "list" ∷ decimal handle ∷ decimal lines ∷ []
+head_words (head.Counts handle c) =
+    codes "ok" ∷ codes "counts" ∷ decimal handle ∷ decimal c.nodes ∷ decimal c.edges ∷ decimal c.node_attrs ∷ decimal c.edge_attrs ∷ []
+head_words (head.NodeThere handle id degree) = codes "ok" ∷ codes "node" ∷ decimal handle ∷ decimal id ∷ codes "yes" ∷ decimal degree ∷ []
+head_words (head.NodeAbsent handle id) = codes "ok" ∷ codes "node" ∷ decimal handle ∷ decimal id ∷ codes "no" ∷ []
+head_words (head.Neighbours handle id lines) = codes "ok" ∷ codes "neighbours" ∷ decimal handle ∷ decimal id ∷ decimal lines ∷ []
+head_words (head.Released handle) = codes "ok" ∷ codes "release" ∷ decimal handle ∷ []
+head_words head.Cleaned = codes "ok" ∷ codes "clean" ∷ []
+head_words (head.CleanedAll cells) = codes "ok" ∷ codes "clean" ∷ codes "all" ∷ decimal cells ∷ []
+head_words (head.Pool live size) = codes "ok" ∷ codes "pool" ∷ decimal live ∷ decimal size ∷ []
 head_words (head.Plan weight steps) = codes "ok" ∷ codes "plan" ∷ decimal weight ∷ decimal steps ∷ []
 head_words (head.Certified v) = codes "ok" ∷ codes "certify" ∷ verdict_words v
 head_words (head.Tree l k function events leaves records) =

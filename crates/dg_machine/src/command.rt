@@ -36,6 +36,32 @@ pub enum Command {
     List {
         handle: u32,
     },
+    /// Count the elements of a handle, by kind.
+    Counts {
+        handle: u32,
+    },
+    /// Print a node of a handle's graph: its degree and its attributes.
+    Node {
+        handle: u32,
+        id: u64,
+    },
+    /// Print the edges at a node of a handle's graph, with their other ends.
+    Neighbours {
+        handle: u32,
+        id: u64,
+    },
+    /// Give a handle up.
+    Release {
+        handle: u32,
+    },
+    /// Sweep so many cells of the pool of graphs.
+    Clean {
+        cells: u32,
+    },
+    /// Sweep all cells of the pool of graphs.
+    CleanAll,
+    /// Print how many handles live, and how many elements their graphs and the current one have together.
+    Pool,
     /// Print the least plan of the instant `t` in these columns, with the potentials that certify it.
     Plan {
         t: u64,

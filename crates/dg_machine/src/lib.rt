@@ -10,6 +10,8 @@ mod stands;
 
 pub use command::{Command, TIMES_MAX};
 pub use laws::law_machine_is_determined;
-pub use limits::{FIRST_HANDLE, LIVE_HANDLES_MAX, Limits, SCRIPT_BYTES_MAX, machine_limits};
+pub use limits::{
+    FIRST_HANDLE, HANDLE_MAX, LIVE_HANDLES_MAX, Limits, SCRIPT_BYTES_MAX, machine_limits,
+};
 pub use reply::{BodyLine, BodyLines, Head, Refusal, Reply};
 pub use stands::Stands;

@@ -1,4 +1,4 @@
-ghost use Rattle.std.specs.Prelude.{◌≡◌, ◌^◌};
+ghost use Rattle.std.specs.Prelude.{◌≡◌, ◌^◌, ◌-◌};
 ghost use Rattle.dg_history.specs.declared.limits.TheConstants.{EVENTS_MAX, FILE_BYTES_MAX};
 ghost use Rattle.dg_machine.specs.declared.command.TheConstants.{TIMES_MAX};
 
@@ -13,6 +13,8 @@ pub struct Limits {
     pub events: u64,
     /// How many bytes of the index file may be in use.
     pub file_bytes: u64,
+    /// The number of the first handle.
+    pub first_handle: u32,
 }
 
 /// The bytes of a script, at the standard limits: a script has fewer.
@@ -21,27 +23,33 @@ pub const SCRIPT_BYTES_MAX: u64 = 1_099_511_627_776;
 /// The most handles that live at one time.
 pub const LIVE_HANDLES_MAX: usize = 127;
 
-/// The number of the first handle.
+/// The number of the first handle, at the standard limits. No handle has a lower one.
 pub const FIRST_HANDLE: u32 = 1;
+
+/// The greatest number of a handle.
+pub const HANDLE_MAX: u32 = u32::MAX;
 
 impl Limits {
     /// The limits of the program.
     pub fn standard() -> Limits
-        ensures { result ≡ record { script_bytes = SCRIPT_BYTES_MAX; events = EVENTS_MAX; file_bytes = FILE_BYTES_MAX } }
+        ensures { result ≡ record { script_bytes = SCRIPT_BYTES_MAX; events = EVENTS_MAX; file_bytes = FILE_BYTES_MAX; first_handle = FIRST_HANDLE } }
     {
         Limits {
             script_bytes: SCRIPT_BYTES_MAX,
             events: EVENTS_MAX,
             file_bytes: FILE_BYTES_MAX,
+            first_handle: FIRST_HANDLE,
         }
     }
 }
 
-/// The limits as numbers: bytes of a script, handles that live, the first of them, and instants of one command.
+/// The limits as numbers: bytes of a script, handles that live, the first of them, the greatest number of one, and
+/// instants of one command.
 /// Does nothing.
 pub fn machine_limits()
     ensures script { SCRIPT_BYTES_MAX ≡ 2 ^ 40 }
     ensures live { LIVE_HANDLES_MAX ≡ 127 }
     ensures first { FIRST_HANDLE ≡ 1 }
+    ensures greatest { HANDLE_MAX ≡ 2 ^ 32 - 1 }
     ensures times { TIMES_MAX ≡ 32 }
 {}

@@ -3,6 +3,7 @@ ghost use Rattle.std.specs.Prelude.{◌≡◌, List, [], ◌∷◌, ◌++◌, le
 use dg_graph::{Column, Element, Function};
 use dg_history::{Key, NodeId};
 use dg_plan::Verdict;
+use dg_query::{Counts, KeyValue, Neighbour};
 use std::alloc::{AllocError, Global};
 use std::marker::Model;
 
@@ -47,6 +48,43 @@ pub enum Head {
     List {
         handle: u32,
         lines: u64,
+    },
+    /// How many elements of each kind a handle has.
+    Counts {
+        handle: u32,
+        counts: Counts,
+    },
+    /// The node is in the handle's graph, and has so many edges. A line for each attribute follows.
+    NodeThere {
+        handle: u32,
+        id: u64,
+        degree: u64,
+    },
+    /// The node is not in the handle's graph.
+    NodeAbsent {
+        handle: u32,
+        id: u64,
+    },
+    /// The edges at a node of a handle's graph: as many lines follow.
+    Neighbours {
+        handle: u32,
+        id: u64,
+        lines: u64,
+    },
+    /// A handle was given up.
+    Released {
+        handle: u32,
+    },
+    /// Cells of the pool were swept.
+    Cleaned,
+    /// All cells of the pool were swept, and so many are left.
+    CleanedAll {
+        cells: u64,
+    },
+    /// So many handles live, and their graphs and the current one have so many elements together.
+    Pool {
+        live: u32,
+        size: u64,
     },
     /// A plan of this weight: its steps, and behind them the potentials below the weight.
     Plan {
@@ -101,6 +139,8 @@ pub enum Refusal {
     OutOfMemory,
     /// 18: the line has more than `LINE_BYTES_MAX` bytes.
     LineLong,
+    /// 19: the last handle to be given would have a greater number than a handle may have.
+    HandlesSpent,
     /// 20: the history has an event already.
     AlreadyLoaded,
 }
@@ -110,6 +150,10 @@ pub enum Refusal {
 pub enum BodyLine {
     /// An element of a listing.
     Element(Element),
+    /// An attribute of a node.
+    Attribute(KeyValue),
+    /// An edge at a node.
+    Neighbour(Neighbour),
     /// A new handle with its instant, and the weight of the instant's single plan.
     Handle {
         handle: u32,
