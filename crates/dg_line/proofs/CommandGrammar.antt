@@ -7,16 +7,16 @@ use Rattle.dg_graph.specs.declared.limits.TheConstants.{TIME_MAX}
 use Rattle.dg_history.specs.declared.limits.TheConstants.{BATCH_LINES_MAX}
 use Rattle.dg_graph.specs.Verbs.{Verb, read_by}
 use Rattle.dg_graph.specs.Words.{words}
-use Rattle.dg_history.specs.ChangeGrammar.{time_of}
+use Rattle.dg_history.specs.ChangeGrammar.{id_of, time_of}
 use Rattle.dg_machine.specs.declared.command.Command.{Command}
 use Rattle.dg_machine.specs.declared.command.Command.TheVariants as command
-use Rattle.dg_machine.specs.CommandGrammar.{Begins, IsColumn, columns_of, command_verbs, count_from_0, count_of, function_of, handle_of, n32_of}
+use Rattle.dg_machine.specs.CommandGrammar.{Begins, IsColumn, columns_of, command_verbs, count_from_0, count_of, function_of, handle_of, n32_of, sweep_of}
 use Rattle.dg_line.specs.Prefixes.{IsLongestPrefix, IsPrefixOfOne}
 use Rattle.dg_line.specs.Symbols.{Terminal, One_of, Number, IsLineOfOne}
 use Rattle.dg_line.proofs.Numbers.{number_within}
 use Rattle.dg_line.proofs.Instants.{several_row, zero_text, zero_words}
 use Rattle.dg_line.proofs.Symbols.{lines_short}
-use Rattle.dg_line.proofs.Verbs.{AreWordsOf, ReadsWord, Rows, number_word, more_texts, no_text, no_words, one_row, two_row, three_row, row, filled_row, zeros, table, ◌▸◌}
+use Rattle.dg_line.proofs.Verbs.{AreWordsOf, ReadsWord, ReadsEither, Rows, number_word, more_texts, no_text, no_words, one_row, two_row, three_row, text_or, either_rows, row, filled_row, zeros, table, ◌▸◌}
 
 pub n32 : ReadsWord n32_of (Number 0 4294967295)
 n32 = number_word 0 4294967295
@@ -33,6 +33,12 @@ time = number_word 0 TIME_MAX
 pub handle : ReadsWord handle_of (Number 1 4294967295)
 handle = number_word 1 4294967295
 
+pub id : ReadsWord id_of (Number 0 18446744073709551615)
+id = number_word 0 18446744073709551615
+
+pub sweep : ReadsEither sweep_of (One_of (codes "all" ∷ [])) (Number 1 4294967295)
+sweep = text_or (codes "all") command.CleanAll (λ n. command.Clean n) (number_word 1 4294967295)
+
 pub function : ReadsWord function_of (One_of (codes "intersection" ∷ codes "union" ∷ codes "balanced" ∷ []))
 function = more_texts _ _ _ _ (more_texts _ _ _ _ (more_texts _ _ _ _ no_text))
 
@@ -48,6 +54,12 @@ each_command =
     ▸ row (two_row time columns _)
     ▸ filled_row (several_row columns time)
     ▸ row (one_row handle _)
+    ▸ row (one_row handle _)
+    ▸ row (two_row handle id _)
+    ▸ row (two_row handle id _)
+    ▸ row (one_row handle _)
+    ▸ either_rows sweep _
+    ▸ row (no_words _)
     ▸ row (two_row time columns _)
     ▸ row (three_row time columns from_0 _)
     ▸ row (no_words _)

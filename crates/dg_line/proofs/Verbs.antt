@@ -1,9 +1,11 @@
 -- Tables of verbs read the lines of some rows of symbols.
 --     number_terminal, more_texts, no_texts      what a reader of a word takes
 --     one_row, two_row, three_row, no_words      what a reader of some words takes
+--     text_or, either_rows      what a reader takes that has a row of its own for one text of its word
 --     table_rows      what a table of verbs takes
-use Rattle.std.proofs.Common.{◌≡◌, ℕ, inl, inr, IsTrue, Bool, true, false, cond, not, ◌&&◌, ◌||◌, is_some, Option, Some, None, List, [], ◌∷◌, ◌++◌, map, codes, replicate, option_and_then, refl, sym, subst}
+use Rattle.std.proofs.Common.{◌≡◌, ℕ, ◌⊎◌, inl, inr, IsTrue, Bool, true, false, cond, not, ◌&&◌, ◌||◌, is_some, Option, Some, None, List, [], ◌∷◌, ◌++◌, map, codes, replicate, option_and_then, refl, sym, subst}
 use Rattle.std.specs.List.{AllZip, AllByRecursion, Any, Contains, list_any}
+use Rattle.std.specs.Option.{option_map}
 use Rattle.std.proofs.lemmas.Bool.{false≢true}
 use Rattle.std.proofs.lemmas.List.{append-nil}
 use Rattle.std.proofs.lemmas.Slice.Eq.{bytes_eq-Decides}
@@ -146,6 +148,92 @@ row {r = r} reads = filled_row (record {
   gives = reads.gives;
 })
 
+first_word : (text w : List ℕ) → Contains (text ∷ []) w → text ≡ w
+first_word text w h = elim (contains_cases text w [] h) [
+  | inl same ↦ same
+  | inr none ↦ absurd (contains_none w none)
+]
+
+-- the reader of a word takes just the words of two symbols
+pub record ReadsEither {A : Type 0} (read : List ℕ → Option A) (t u : Terminal) : Type 0 where
+  pub takes : (word : List ℕ) → Is (read word) → IsWordOf t word ⊎ IsWordOf u word
+  pub gives : (word : List ℕ) → IsWordOf t word ⊎ IsWordOf u word → Is (read word)
+
+-- a test for one text, before another reader
+pub text_or : {A B : Type 0} (text : List ℕ) (x : B) (make : A → B) {a : List ℕ → Option A} {u : Terminal} → ReadsWord a u
+    → ReadsEither (λ word. cond (is_word word text) (Some x) (option_map make (a word))) (One_of (text ∷ [])) u
+text_or {A} {B} text x make {a} {u} r = record {
+  takes = λ word h. told word (is_word word text) refl h;
+  gives = λ word h. elim h [
+    | inl one ↦ here word (is_word word text) ((bytes_eq-Decides word text).1 (sym (first_word text word one)))
+    | inr other ↦ either word (is_word word text) (made (a word) (r.gives word other))
+  ];
+}
+  where
+    made : (o : Option A) → Is o → Is (option_map make o)
+    made None h = h
+    made (Some y) h = refl
+
+    unmade : (o : Option A) → Is (option_map make o) → Is o
+    unmade None h = h
+    unmade (Some y) h = refl
+
+    told : (word : List ℕ) (b : Bool) → is_word word text ≡ b → Is (cond b (Some x) (option_map make (a word)))
+        → Contains (text ∷ []) word ⊎ IsWordOf u word
+    told word true e h = inl (subst (Contains (text ∷ [])) (sym ((bytes_eq-Decides word text).0 e)) (contains_first text []))
+    told word false e h = inr (r.takes word (unmade (a word) h))
+
+    here : (word : List ℕ) (b : Bool) → b ≡ true → Is (cond b (Some x) (option_map make (a word)))
+    here word true e = refl
+    here word false e = absurd (false≢true e)
+
+    either : (word : List ℕ) (b : Bool) → Is (option_map make (a word)) → Is (cond b (Some x) (option_map make (a word)))
+    either word true h = refl
+    either word false h = h
+
+-- a row for each of two symbols
+abbrev pub each_alone : Terminal → Terminal → List (List Terminal)
+each_alone t u = (t ∷ []) ∷ (u ∷ []) ∷ []
+
+pub either_takes : {A B : Type 0} {a : List ℕ → Option A} {t u : Terminal} → ReadsEither a t u → (make : A → B) (ws : List (List ℕ))
+    → Is (one a make ws) → (n : ℕ) × Any (AreWordsOf (ws ++ zeros n)) (each_alone t u)
+either_takes r make [] h = absurd (false≢true h)
+either_takes {A} {B} {a} {t} {u} r make (w ∷ rest) h =
+    let parts = bound (λ v. none_more (make v) rest) (a w) h in (
+      0,
+      subst (λ (l : List (List ℕ)). Any (AreWordsOf (w ∷ l ++ zeros 0)) (each_alone t u)) (sym (none_left parts.1.0 rest parts.1.1))
+          (in_one (r.takes w parts.0)),
+    )
+  where
+    none_left : (v : A) (l : List (List ℕ)) → Is (none_more (make v) l) → l ≡ []
+    none_left v [] h = refl
+    none_left v (x ∷ l) h = absurd (false≢true h)
+
+    in_one : IsWordOf t w ⊎ IsWordOf u w → Any (AreWordsOf (w ∷ [])) (each_alone t u)
+    in_one h = elim h [
+      | inl here ↦ any_first (AreWordsOf (w ∷ [])) (t ∷ []) ((u ∷ []) ∷ []) (here, tt)
+      | inr later ↦ any_right (AreWordsOf (w ∷ [])) ((t ∷ []) ∷ []) ((u ∷ []) ∷ []) (any_first (AreWordsOf (w ∷ [])) (u ∷ []) [] (later, tt))
+    ]
+
+pub either_gives : {A B : Type 0} {a : List ℕ → Option A} {t u : Terminal} → ReadsEither a t u → (make : A → B) (ws : List (List ℕ))
+    → Any (AreWordsOf ws) (each_alone t u) → Is (one a make ws)
+either_gives {A} {B} {a} {t} {u} r make ws h = elim (any_cases (AreWordsOf ws) (t ∷ []) ((u ∷ []) ∷ []) h) [
+  | inl first ↦ by_row ws t (λ w is. r.gives w (inl is)) first
+  | inr later ↦ elim (any_cases (AreWordsOf ws) (u ∷ []) [] later) [
+    | inl second ↦ by_row ws u (λ w is. r.gives w (inr is)) second
+    | inr none ↦ absurd (any_none (AreWordsOf ws) none)
+  ]
+]
+  where
+    by_row : (l : List (List ℕ)) (v : Terminal) → ((w : List ℕ) → IsWordOf v w → Is (a w)) → AreWordsOf l (v ∷ []) → Is (one a make l)
+    by_row [] v read words = absurd words
+    by_row (w ∷ []) v read words = both (λ x. none_more (make x) []) (a w) (read w words.0) (λ x. refl)
+    by_row (w ∷ x ∷ l) v read words = absurd words.1
+
+-- one word, which has a row for each of its two symbols
+abbrev pub either_rows : {A B : Type 0} {a : List ℕ → Option A} {t u : Terminal} → ReadsEither a t u → (make : A → B) → Rows (one a make)
+either_rows {t = t} {u = u} r make = record { rows = each_alone t u; takes = either_takes r make; gives = either_gives r make }
+
 infixr 60 ◌▸◌
 -- the rows of a verb, and those of the verbs after it in the table
 abbrev pub ◌▸◌ : {A B : Type 0} → A → B → A × B
@@ -163,12 +251,6 @@ table_rows (v ∷ verbs) all = behind v.word all.0.rows ++ table_rows verbs all.
 abbrev pub are_distinct : {A : Type 0} → List (Verb A) → Bool
 are_distinct [] = true
 are_distinct (v ∷ verbs) = not (list_any (λ (u : Verb _). is_word u.word v.word) verbs) && are_distinct verbs
-
-first_word : (text w : List ℕ) → Contains (text ∷ []) w → text ≡ w
-first_word text w h = elim (contains_cases text w [] h) [
-  | inl same ↦ same
-  | inr none ↦ absurd (contains_none w none)
-]
 
 behind_takes : (word w : List ℕ) (ws : List (List ℕ)) (rows : List (List Terminal)) → word ≡ w → Any (AreWordsOf ws) rows
     → Any (AreWordsOf (w ∷ ws)) (behind word rows)

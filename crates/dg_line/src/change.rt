@@ -1,12 +1,12 @@
 ghost use Rattle.std.specs.Prelude.{◌≡◌, ◌+◌, ◌<◌, ◌≤◌, ◌⊎◌, List, ℕ, Some, None, IfOk, IsErrOf, OnOk, OnErr, length, take};
 ghost use Rattle.std.specs.Option.{option_map};
-ghost use Rattle.dg_history.specs.ChangeGrammar.{WhatByText, Plain, ChangeByText, what_by_text_of, change_with, direction_of, id_of, named, new_edge, one_id, change_by_text_of, set_of, unset_of, what_in};
+ghost use Rattle.dg_history.specs.ChangeGrammar.{WhatByText, Plain, ChangeByText, what_by_text_of, change_with, direction_of, named, new_edge, one_id, change_by_text_of, set_of, unset_of, what_in};
 ghost use Rattle.dg_graph.specs.Names.{added, number_in};
 ghost use Rattle.dg_line.specs.TextChange.{change_by_text, what_by_text, with_key};
 ghost use Rattle.dg_line.specs.declared.change.ChangeFault.TheVariants.{Memory};
 
 use crate::text_change::{TextAttribute, TextChange, TextKey, TextWhat};
-use crate::words::{Words, number, time};
+use crate::words::{Words, id, time};
 use dg_graph::{Change, What};
 use dg_names::{NAMES_MAX, Names, is_key, is_name};
 use std::alloc::AllocError;
@@ -239,13 +239,6 @@ fn parse_key(mut words: Words) -> Option<TextKey>
     } else {
         None
     }
-}
-
-// The id of a node or an edge.
-fn id(word: &[u8]) -> Option<u64>
-    ensures { result ≡ id_of word.now }
-{
-    number(word, 0, u64::MAX)
 }
 
 // Whether an edge is directed.

@@ -1,13 +1,13 @@
 ghost use Rattle.std.specs.Prelude.{◌≡◌, ◌≤◌, ◌∷◌, IfErr, IfOk, IfSome, List, option_and_then, ℕ};
 ghost use Rattle.std.specs.Result.{result_ok};
 ghost use Rattle.dg_graph.specs.Verbs.{none_more, one, two, three};
-ghost use Rattle.dg_history.specs.ChangeGrammar.{time_of};
-ghost use Rattle.dg_machine.specs.CommandGrammar.{IsColumn, CountIsInRange, columns_of, command_of, count_from_0, count_of, function_of, handle_of, n32_of, several_of, several_with, times_of};
+ghost use Rattle.dg_history.specs.ChangeGrammar.{id_of, time_of};
+ghost use Rattle.dg_machine.specs.CommandGrammar.{IsColumn, CountIsInRange, columns_of, command_of, count_from_0, count_of, function_of, handle_of, n32_of, several_of, several_with, sweep_of, times_of};
 
 use crate::grammar::{
-    COLUMNS, COUNT, COUNT_FROM_0, FUNCTION, HANDLE, N32, Symbol, TIME, longest_prefix,
+    CELLS, COLUMNS, COUNT, COUNT_FROM_0, FUNCTION, HANDLE, ID, N32, Symbol, TIME, longest_prefix,
 };
-use crate::words::{Words, n32, number, time};
+use crate::words::{Words, id, n32, number, time};
 use dg_graph::{Columns, Function};
 use dg_history::BATCH_LINES_MAX;
 use dg_machine::{Command, FIRST_HANDLE, TIMES_MAX};
@@ -16,8 +16,8 @@ use thiserror::Error;
 /// The word `several`, whose row has many symbols.
 const SEVERAL: Symbol = Symbol::OneOf(&[b"several"]);
 
-/// The commands, each as a row of symbols. One space parts two words. A command of fewer instants than
-/// `TIMES_MAX` is a prefix of one of so many.
+/// The commands as rows of symbols: one for each, and two for `clean`. One space parts two words. A command of
+/// fewer instants than `TIMES_MAX` is a prefix of one of so many.
 const COMMANDS: &[&[Symbol]] = &[
     &[Symbol::OneOf(&[b"create"]), N32, N32, FUNCTION],
     &[Symbol::OneOf(&[b"load"]), COUNT],
@@ -29,6 +29,13 @@ const COMMANDS: &[&[Symbol]] = &[
         TIME, TIME, TIME, TIME, TIME,
     ],
     &[Symbol::OneOf(&[b"list"]), HANDLE],
+    &[Symbol::OneOf(&[b"counts"]), HANDLE],
+    &[Symbol::OneOf(&[b"node"]), HANDLE, ID],
+    &[Symbol::OneOf(&[b"neighbours"]), HANDLE, ID],
+    &[Symbol::OneOf(&[b"release"]), HANDLE],
+    &[Symbol::OneOf(&[b"clean"]), Symbol::OneOf(&[b"all"])],
+    &[Symbol::OneOf(&[b"clean"]), CELLS],
+    &[Symbol::OneOf(&[b"pool"])],
     &[Symbol::OneOf(&[b"plan"]), TIME, COLUMNS],
     &[Symbol::OneOf(&[b"certify"]), TIME, COLUMNS, COUNT_FROM_0],
     &[Symbol::OneOf(&[b"tree"])],
@@ -41,7 +48,7 @@ pub struct Syntax(pub u32);
 
 /// The command that the line is, or the column at which it leaves the grammar of commands: it is 1
 /// more than the length of the longest prefix of the line that is a prefix of some command. The number
-/// of lines that follow a command, or of its instants, is in its range. It takes no memory.
+/// of lines that follow a command, of its instants, or of its cells, is in its range. It takes no memory.
 pub fn read_command(line: &[u8]) -> Result<Command, Syntax>
     ensures command { result_ok result ≡ command_of line.now }
     ensures ranges { IfOk result (λ c. CountIsInRange c) }
@@ -81,6 +88,18 @@ fn command(line: &[u8]) -> Option<Command>
         several(words)
     } else if verb == b"list".as_slice() {
         list(words)
+    } else if verb == b"counts".as_slice() {
+        counts(words)
+    } else if verb == b"node".as_slice() {
+        node(words)
+    } else if verb == b"neighbours".as_slice() {
+        neighbours(words)
+    } else if verb == b"release".as_slice() {
+        release(words)
+    } else if verb == b"clean".as_slice() {
+        clean(words)
+    } else if verb == b"pool".as_slice() {
+        pool(words)
     } else if verb == b"plan".as_slice() {
         plan(words)
     } else if verb == b"certify".as_slice() {
@@ -178,6 +197,67 @@ fn list(mut words: Words) -> Option<Command>
     Some(Command::List { handle })
 }
 
+// `counts HANDLE`, from the words after `counts`.
+fn counts(mut words: Words) -> Option<Command>
+    ensures command { result ≡ one handle_of (λ handle. Command.Counts handle) words.entry }
+    ensures range { IfSome result (λ c. CountIsInRange c) }
+{
+    let handle = handle(words.next()?)?;
+    words.end()?;
+    Some(Command::Counts { handle })
+}
+
+// `node HANDLE ID`, from the words after `node`.
+fn node(mut words: Words) -> Option<Command>
+    ensures command { result ≡ two handle_of id_of (λ handle id. Command.Node handle id) words.entry }
+    ensures range { IfSome result (λ c. CountIsInRange c) }
+{
+    let handle = handle(words.next()?)?;
+    let id = id(words.next()?)?;
+    words.end()?;
+    Some(Command::Node { handle, id })
+}
+
+// `neighbours HANDLE ID`, from the words after `neighbours`.
+fn neighbours(mut words: Words) -> Option<Command>
+    ensures command { result ≡ two handle_of id_of (λ handle id. Command.Neighbours handle id) words.entry }
+    ensures range { IfSome result (λ c. CountIsInRange c) }
+{
+    let handle = handle(words.next()?)?;
+    let id = id(words.next()?)?;
+    words.end()?;
+    Some(Command::Neighbours { handle, id })
+}
+
+// `release HANDLE`, from the words after `release`.
+fn release(mut words: Words) -> Option<Command>
+    ensures command { result ≡ one handle_of (λ handle. Command.Release handle) words.entry }
+    ensures range { IfSome result (λ c. CountIsInRange c) }
+{
+    let handle = handle(words.next()?)?;
+    words.end()?;
+    Some(Command::Release { handle })
+}
+
+// `clean SWEEP` or `clean all`, from the words after `clean`.
+fn clean(mut words: Words) -> Option<Command>
+    ensures command { result ≡ one sweep_of (λ sweep. sweep) words.entry }
+    ensures range { IfSome result (λ c. CountIsInRange c) }
+{
+    let sweep = sweep(words.next()?)?;
+    words.end()?;
+    Some(sweep)
+}
+
+// `pool`, from the words after it, of which there may be none.
+fn pool(words: Words) -> Option<Command>
+    ensures command { result ≡ none_more Command.Pool words.entry }
+    ensures range { IfSome result (λ c. CountIsInRange c) }
+{
+    words.end()?;
+    Some(Command::Pool)
+}
+
 // `plan TIME COLS`, from the words after `plan`.
 fn plan(mut words: Words) -> Option<Command>
     ensures command { result ≡ two time_of columns_of (λ t cols. Command.Plan t cols) words.entry }
@@ -234,6 +314,20 @@ fn handle(word: &[u8]) -> Option<u32>
 {
     let handle = number(word, u64::from(FIRST_HANDLE), u64::from(u32::MAX))?;
     Some(handle as u32)
+}
+
+// The sweep of so many cells, or of all.
+fn sweep(word: &[u8]) -> Option<Command>
+    ensures command { result ≡ sweep_of word.now }
+    ensures range { IfSome result (λ c. CountIsInRange c) }
+{
+    if word == b"all".as_slice() {
+        return Some(Command::CleanAll);
+    }
+    let cells = number(word, 1, u64::from(u32::MAX))?;
+    Some(Command::Clean {
+        cells: cells as u32,
+    })
 }
 
 // The differential function of this name.

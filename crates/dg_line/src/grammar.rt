@@ -47,6 +47,16 @@ pub(crate) const HANDLE: Symbol = Symbol::Number {
     greatest: u32::MAX as u64,
 };
 
+pub(crate) const ID: Symbol = Symbol::Number {
+    least: 0,
+    greatest: u64::MAX,
+};
+
+pub(crate) const CELLS: Symbol = Symbol::Number {
+    least: 1,
+    greatest: u32::MAX as u64,
+};
+
 pub(crate) const COLUMNS: Symbol = Symbol::OneOf(&[b"s", b"sn", b"se", b"sne"]);
 
 /// How many bytes are a prefix of a word that a symbol stands for, and whether they are all of it.

@@ -1,5 +1,5 @@
 ghost use Rattle.std.specs.Prelude.{◌≡◌, ◌≤◌, ◌++◌, [], ◌∷◌, map, take, codes, decimal, if◌then◌else◌, OnOk, OnErr};
-ghost use Rattle.dg_machine.specs.ReplyText.{text, body_text, column_word, head_words, element_words, body_words, function_word, key_words, node_words, refusal_words, verdict_words};
+ghost use Rattle.dg_machine.specs.ReplyText.{text, body_text, column_word, head_words, element_words, body_words, function_word, key_words, node_words, refusal_words, side_word, verdict_words};
 ghost use Rattle.dg_graph.specs.Names.{name_text};
 ghost use Rattle.dg_io.specs.Told.{grown, GrowsByPart, CountRose};
 ghost use Rattle.dg_line.specs.Buffered.{IsBuffered, word_bytes};
@@ -12,6 +12,7 @@ use dg_io::{Failed, Sink};
 use dg_machine::{BodyLine, Head, Refusal, Reply};
 use dg_names::Names;
 use dg_plan::Verdict;
+use dg_query::{Counts, Neighbour, Side};
 
 const OK: Word<'static> = Word::Text(b"ok");
 
@@ -71,6 +72,16 @@ fn head_line(head: &Head) -> ReplyLine<'static>
         Head::At { handle, weight } => numbers_line(b"at", u64::from(handle), weight),
         Head::Several { weight, sum } => numbers_line(b"several", weight, sum),
         Head::List { handle, lines } => numbers_line(b"list", u64::from(handle), lines),
+        Head::Counts { handle, counts } => counts_line(handle, counts),
+        Head::NodeThere { handle, id, degree } => node_there_line(handle, id, degree),
+        Head::NodeAbsent { handle, id } => node_absent_line(handle, id),
+        Head::Neighbours { handle, id, lines } => neighbours_line(handle, id, lines),
+        Head::Released { handle } => {
+            ReplyLine::of(&[OK, Word::Text(b"release"), Word::Number(u64::from(handle))])
+        }
+        Head::Cleaned => ReplyLine::of(&[OK, Word::Text(b"clean")]),
+        Head::CleanedAll { cells } => cleaned_all_line(cells),
+        Head::Pool { live, size } => numbers_line(b"pool", u64::from(live), size),
         Head::Plan { weight, steps } => numbers_line(b"plan", weight, steps),
         Head::Certified(verdict) => verdict_line(verdict),
         Head::Tree {
@@ -99,7 +110,7 @@ fn batch_line(verb: &'static [u8], events: u64, total: u64, last: u64) -> ReplyL
     ])
 }
 
-// The head line of a command with two numbers: a handle or a weight, and another.
+// The head line of a command with two numbers: a handle, a weight or how many handles live, and another.
 fn numbers_line(verb: &'static [u8], first: u64, second: u64) -> ReplyLine<'static>
     ensures words { map word_bytes (take result.len result.words) ≡ codes "ok" ∷ verb.now ∷ decimal first ∷ decimal second ∷ [] }
     ensures len { result.len ≤ WORDS_MAX }
@@ -109,6 +120,78 @@ fn numbers_line(verb: &'static [u8], first: u64, second: u64) -> ReplyLine<'stat
         Word::Text(verb),
         Word::Number(first),
         Word::Number(second),
+    ])
+}
+
+// The head line of how many elements of each kind a handle has.
+fn counts_line(handle: u32, counts: Counts) -> ReplyLine<'static>
+    ensures words { map word_bytes (take result.len result.words) ≡ codes "ok" ∷ codes "counts" ∷ decimal handle ∷ decimal counts.nodes ∷ decimal counts.edges ∷ decimal counts.node_attrs ∷ decimal counts.edge_attrs ∷ [] }
+    ensures len { result.len ≤ WORDS_MAX }
+{
+    ReplyLine::of(&[
+        OK,
+        Word::Text(b"counts"),
+        Word::Number(u64::from(handle)),
+        Word::Number(counts.nodes),
+        Word::Number(counts.edges),
+        Word::Number(counts.node_attrs),
+        Word::Number(counts.edge_attrs),
+    ])
+}
+
+// The head line of a node that is in a handle's graph: how many edges it has.
+fn node_there_line(handle: u32, id: u64, degree: u64) -> ReplyLine<'static>
+    ensures words { map word_bytes (take result.len result.words) ≡ codes "ok" ∷ codes "node" ∷ decimal handle ∷ decimal id ∷ codes "yes" ∷ decimal degree ∷ [] }
+    ensures len { result.len ≤ WORDS_MAX }
+{
+    ReplyLine::of(&[
+        OK,
+        Word::Text(b"node"),
+        Word::Number(u64::from(handle)),
+        Word::Number(id),
+        Word::Text(b"yes"),
+        Word::Number(degree),
+    ])
+}
+
+// The head line of a node that is not in a handle's graph.
+fn node_absent_line(handle: u32, id: u64) -> ReplyLine<'static>
+    ensures words { map word_bytes (take result.len result.words) ≡ codes "ok" ∷ codes "node" ∷ decimal handle ∷ decimal id ∷ codes "no" ∷ [] }
+    ensures len { result.len ≤ WORDS_MAX }
+{
+    ReplyLine::of(&[
+        OK,
+        Word::Text(b"node"),
+        Word::Number(u64::from(handle)),
+        Word::Number(id),
+        Word::Text(b"no"),
+    ])
+}
+
+// The head line of the edges at a node: how many lines follow.
+fn neighbours_line(handle: u32, id: u64, lines: u64) -> ReplyLine<'static>
+    ensures words { map word_bytes (take result.len result.words) ≡ codes "ok" ∷ codes "neighbours" ∷ decimal handle ∷ decimal id ∷ decimal lines ∷ [] }
+    ensures len { result.len ≤ WORDS_MAX }
+{
+    ReplyLine::of(&[
+        OK,
+        Word::Text(b"neighbours"),
+        Word::Number(u64::from(handle)),
+        Word::Number(id),
+        Word::Number(lines),
+    ])
+}
+
+// The head line of a sweep of all cells: how many are left.
+fn cleaned_all_line(cells: u64) -> ReplyLine<'static>
+    ensures words { map word_bytes (take result.len result.words) ≡ codes "ok" ∷ codes "clean" ∷ codes "all" ∷ decimal cells ∷ [] }
+    ensures len { result.len ≤ WORDS_MAX }
+{
+    ReplyLine::of(&[
+        OK,
+        Word::Text(b"clean"),
+        Word::Text(b"all"),
+        Word::Number(cells),
     ])
 }
 
@@ -213,6 +296,7 @@ fn refusal_line(refusal: Refusal) -> ReplyLine<'static>
         Refusal::Damaged(key, column) => damaged_line(key, column),
         Refusal::OutOfMemory => refused(b"16", b"out-of-memory"),
         Refusal::LineLong => refused(b"18", b"line-long"),
+        Refusal::HandlesSpent => refused(b"19", b"handles-spent"),
         Refusal::AlreadyLoaded => refused(b"20", b"already-loaded"),
     }
 }
@@ -285,10 +369,41 @@ fn body_line<'a>(names: &'a Names, line: &BodyLine) -> ReplyLine<'a>
 {
     match line {
         BodyLine::Element(element) => element_line(names, element),
+        BodyLine::Attribute(attribute) => {
+            ReplyLine::of(&[
+                Word::Text(b"attr"),
+                name(names, attribute.key),
+                name(names, attribute.value),
+            ])
+        }
+        BodyLine::Neighbour(neighbour) => neighbour_line(*neighbour),
         BodyLine::Handle { handle, t, single } => handle_line(*handle, *t, *single),
         BodyLine::Step { edge, head, weight } => step_line(*edge, *head, *weight),
         BodyLine::Potential { node, value } => potential_line(*node, *value),
         BodyLine::Sizes { key, lengths } => sizes_line(*key, *lengths),
+    }
+}
+
+// A line of an edge at a node: the side on which it lies, its id, and the node at its other end.
+fn neighbour_line(neighbour: Neighbour) -> ReplyLine<'static>
+    ensures words { map word_bytes (take result.len result.words) ≡ side_word neighbour.side ∷ decimal neighbour.edge ∷ decimal neighbour.node ∷ [] }
+    ensures len { result.len ≤ WORDS_MAX }
+{
+    ReplyLine::of(&[
+        Word::Text(side_name(neighbour.side)),
+        Word::Number(neighbour.edge),
+        Word::Number(neighbour.node),
+    ])
+}
+
+// The word of the side of a node on which an edge lies.
+fn side_name(side: Side) -> &'static [u8]
+    ensures { result.now ≡ side_word side }
+{
+    match side {
+        Side::Out => b"out".as_slice(),
+        Side::Inward => b"in".as_slice(),
+        Side::Both => b"both".as_slice(),
     }
 }
 

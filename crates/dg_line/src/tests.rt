@@ -4,7 +4,7 @@ use dg_names::{NAMES_MAX, Names};
 use std::test::Fail;
 
 // Lines of no command, and the column at which each leaves the grammar.
-const COLUMNS: [(&str, u32); 32] = [
+const COLUMNS: [(&str, u32); 55] = [
     ("", 1),
     ("frob", 1),
     ("c", 2),
@@ -32,6 +32,29 @@ const COLUMNS: [(&str, u32); 32] = [
     ),
     ("listen 1", 5),
     ("list 0", 6),
+    ("counts", 7),
+    ("counts 0", 8),
+    ("n", 2),
+    ("no", 3),
+    ("ne", 3),
+    ("nod", 4),
+    ("node 1", 7),
+    ("node 0 1", 6),
+    ("node 1 18446744073709551616", 27),
+    ("node 1 18446744073709551615 ", 28),
+    ("neighbours 1 ", 14),
+    ("neighbours 1 00", 15),
+    ("release 4294967296", 18),
+    ("release all", 9),
+    ("clean", 6),
+    ("clean 0", 7),
+    ("clean 4294967296", 16),
+    ("clean 1 1", 8),
+    ("clean al", 9),
+    ("clean a1", 8),
+    ("clean 1all", 8),
+    ("clean all ", 10),
+    ("pool x", 5),
     ("plan", 5),
     ("plan 5", 7),
     ("plan 5 x", 8),
@@ -54,7 +77,7 @@ const ALL: [u64; TIMES_MAX] = [
 ];
 
 // Lines of commands.
-const COMMANDS: [(&str, Command); 15] = [
+const COMMANDS: [(&str, Command); 23] = [
     (
         "create 2 3 intersection",
         Command::Create {
@@ -125,6 +148,20 @@ const COMMANDS: [(&str, Command); 15] = [
         },
     ),
     ("list 4294967295", Command::List { handle: u32::MAX }),
+    ("counts 1", Command::Counts { handle: 1 }),
+    (
+        "node 4294967295 18446744073709551615",
+        Command::Node {
+            handle: u32::MAX,
+            id: u64::MAX,
+        },
+    ),
+    ("neighbours 2 0", Command::Neighbours { handle: 2, id: 0 }),
+    ("release 3", Command::Release { handle: 3 }),
+    ("clean 1", Command::Clean { cells: 1 }),
+    ("clean 4294967295", Command::Clean { cells: u32::MAX }),
+    ("clean all", Command::CleanAll),
+    ("pool", Command::Pool),
     (
         "plan 5 sn",
         Command::Plan {
@@ -472,7 +509,7 @@ fn a_line_that_is_no_change_gives_no_names(rt: HostRuntime) -> Result<(), Fail> 
 }
 
 // Heads of replies, and their lines.
-const HEADS: [(Head, &str); 33] = [
+const HEADS: [(Head, &str); 42] = [
     (Head::Created, "ok create"),
     (
         Head::Loaded {
@@ -511,6 +548,39 @@ const HEADS: [(Head, &str); 33] = [
         },
         "ok list 12 0",
     ),
+    (
+        Head::Counts {
+            handle: 9,
+            counts: Counts {
+                nodes: 4,
+                edges: 3,
+                node_attrs: 2,
+                edge_attrs: 1,
+            },
+        },
+        "ok counts 9 4 3 2 1",
+    ),
+    (
+        Head::NodeThere {
+            handle: 1,
+            id: u64::MAX,
+            degree: 3,
+        },
+        "ok node 1 18446744073709551615 yes 3",
+    ),
+    (Head::NodeAbsent { handle: 2, id: 7 }, "ok node 2 7 no"),
+    (
+        Head::Neighbours {
+            handle: 1,
+            id: 5,
+            lines: 2,
+        },
+        "ok neighbours 1 5 2",
+    ),
+    (Head::Released { handle: u32::MAX }, "ok release 4294967295"),
+    (Head::Cleaned, "ok clean"),
+    (Head::CleanedAll { cells: 0 }, "ok clean all 0"),
+    (Head::Pool { live: 2, size: 30 }, "ok pool 2 30"),
     (
         Head::Plan {
             weight: 26,
@@ -612,6 +682,10 @@ const HEADS: [(Head, &str); 33] = [
         "refused 16 out-of-memory",
     ),
     (Head::Refused(Refusal::LineLong), "refused 18 line-long"),
+    (
+        Head::Refused(Refusal::HandlesSpent),
+        "refused 19 handles-spent",
+    ),
     (
         Head::Refused(Refusal::AlreadyLoaded),
         "refused 20 already-loaded",
@@ -718,8 +792,41 @@ fn a_listing_has_a_line_for_each_element(rt: HostRuntime) -> Result<(), Fail> {
     Ok(())
 }
 
-// Handles, steps, potentials and records, and their lines.
-const BODY_LINES: [(BodyLine, &str); 12] = [
+// Attributes and edges of nodes, handles, steps, potentials and records, and their lines with the names `color`
+// and `dark red`; there is no name 2.
+const BODY_LINES: [(BodyLine, &str); 17] = [
+    (
+        BodyLine::Attribute(KeyValue { key: 0, value: 1 }),
+        "attr color dark red\n",
+    ),
+    (
+        BodyLine::Attribute(KeyValue { key: 1, value: 2 }),
+        "attr dark red \n",
+    ),
+    (
+        BodyLine::Neighbour(Neighbour {
+            edge: 7,
+            node: 5,
+            side: Side::Out,
+        }),
+        "out 7 5\n",
+    ),
+    (
+        BodyLine::Neighbour(Neighbour {
+            edge: 8,
+            node: 6,
+            side: Side::Inward,
+        }),
+        "in 8 6\n",
+    ),
+    (
+        BodyLine::Neighbour(Neighbour {
+            edge: 9,
+            node: u64::MAX,
+            side: Side::Both,
+        }),
+        "both 9 18446744073709551615\n",
+    ),
     (
         BodyLine::Handle {
             handle: 3,
@@ -810,7 +917,7 @@ const BODY_LINES: [(BodyLine, &str); 12] = [
 ];
 
 #[test]
-fn a_body_has_a_line_for_each_handle_step_potential_and_record(
+fn a_body_has_a_line_for_each_attribute_neighbour_handle_step_potential_and_record(
     rt: HostRuntime,
 ) -> Result<(), Fail> {
     let alloc = rt.alloc();
@@ -821,6 +928,8 @@ fn a_body_has_a_line_for_each_handle_step_potential_and_record(
         text.extend_from_slice(row.as_bytes())?;
     }
     text.extend_from_slice(b"end\n")?;
+    let mut names = Names::new(alloc);
+    assert!(rt; change(&mut names, b"1 nset 1 color dark red")?.is_ok());
     let reply = Reply {
         head: Head::Plan {
             weight: 26,
@@ -828,8 +937,8 @@ fn a_body_has_a_line_for_each_handle_step_potential_and_record(
         },
         body: BodyLines::from_vec(lines),
     };
-    let mut sink = MemorySink::new(alloc, 400, &[1])?;
-    assert_eq!(rt; write_reply(&mut sink, &Names::new(alloc), &reply), Ok(()));
+    let mut sink = MemorySink::new(alloc, 500, &[1])?;
+    assert_eq!(rt; write_reply(&mut sink, &names, &reply), Ok(()));
     assert_eq!(rt; sink.written(), text.as_slice());
     Ok(())
 }

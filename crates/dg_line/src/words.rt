@@ -2,7 +2,7 @@ ghost use Rattle.std.specs.Prelude.{◌≡◌, ◌≢◌, ℕ, ◌+◌, ◌*◌,
 ghost use Rattle.std.specs.List.{position};
 ghost use Rattle.dg_graph.specs.Words.{words, number};
 ghost use Rattle.std.specs.Option.{option_map};
-ghost use Rattle.dg_history.specs.ChangeGrammar.{time_of};
+ghost use Rattle.dg_history.specs.ChangeGrammar.{id_of, time_of};
 ghost use Rattle.dg_machine.specs.CommandGrammar.{n32_of};
 ghost use Rattle.dg_line.specs.Space.{is_space, rest_of};
 
@@ -112,6 +112,13 @@ pub fn time(word: &[u8]) -> Option<u64>
     ensures { result ≡ time_of word.now }
 {
     number(word, 0, TIME_MAX)
+}
+
+/// The id of a node or an edge.
+pub fn id(word: &[u8]) -> Option<u64>
+    ensures { result ≡ id_of word.now }
+{
+    number(word, 0, u64::MAX)
 }
 
 // The number whose decimal text the word is, where it is at most `u64::MAX`.
