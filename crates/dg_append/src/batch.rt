@@ -1,12 +1,17 @@
 //! Adding the next batch to a history: in the file, and in memory.
 
-ghost use Rattle.std.specs.Prelude.{◌≡◌, ◌≤◌, ◌<◌, ◌^◌, true, IfOk, IfErr, IfSome, IsErrOf, is_some, length, take, OnOk};
+ghost use Rattle.std.specs.Prelude.{◌≡◌, ◌≤◌, ◌<◌, ◌^◌, List, true, IfOk, IfErr, IfSome, IsErrOf, is_some, length, take, OnErr, OnOk, ℕ};
 ghost use Rattle.dg_append.specs.AddedBatches.{AddsBatch, FailsBatch, IsBack, IsReady, LeavesHistory, ReadsNothing, TakesOlder};
 ghost use Rattle.dg_disk.specs.Counts.{Rose};
 ghost use Rattle.dg_disk.specs.Frame.{GoesOn};
+ghost use Rattle.dg_graph.specs.Composition.{applied};
+ghost use Rattle.dg_graph.specs.declared.element.Element.{Element};
+ghost use Rattle.dg_graph.specs.Elements.{IsSet};
+ghost use Rattle.dg_graph.specs.Replay.{replay_from};
 ghost use Rattle.dg_history.specs.declared.limits.TheConstants.{FILE_BYTES_MAX};
 ghost use Rattle.dg_index.specs.OpenedIndex.{earliest_in};
 ghost use Rattle.dg_now.specs.Now.{earliest_time_after};
+ghost use Rattle.dg_pool.specs.Graphs.{graph_now, slot_graph};
 ghost use Rattle.dg_start.specs.StoredHistory.{IsHeldBy, IsSoundHistory, index_opening};
 
 use crate::completed::prepare;
@@ -17,9 +22,11 @@ use crate::recent::recent_behind;
 use crate::segment::{keep_segment, last_instant};
 use dg_disk::Disk;
 use dg_file::Index;
-use dg_graph::Change;
+use dg_graph::{Change, Event};
+use dg_list::{Delta, merge_lists};
+use dg_pool::Pool;
 use dg_start::StoredHistory;
-use std::alloc::Global;
+use std::alloc::{AllocError, Global};
 use std::thread::Threads;
 
 /// What was added to a history.
@@ -42,8 +49,16 @@ fn last_of(index: &Index) -> Option<u64>
     index.last_time()
 }
 
-// The batch of the changes, in the file and in memory. After a fault only what is pending has changed; after
-// `BatchFault::Store` nothing is known of the index.
+// The net of the events, made of those of their two halves.
+fn net_of<R: Threads>(rt: &R, alloc: Global, events: &[Event]) -> Result<Delta, AllocError>
+    ensures { IfOk result (λ d. (set : List Element) → IsSet set → applied d set ≡ replay_from set events.now) }
+{
+    let (earlier, later) = events.split_at(events.len() / 2);
+    merge_lists(rt, alloc, earlier, later)
+}
+
+// The batch of the changes, in the file, in memory and in the pool. After a fault only what is pending has changed,
+// and no graph of the pool; after `BatchFault::Store` nothing is known of the index.
 fn try_batch<R: Threads, D: Disk>(
     rt: &R,
     alloc: Global,
@@ -52,12 +67,14 @@ fn try_batch<R: Threads, D: Disk>(
     front: Front,
     changes: &[Change],
     history: &mut StoredHistory,
+    pool: &mut Pool,
     disk: &mut D,
 ) -> Result<AddedBatch, BatchFault>
     requires index { is_some history.old.index ≡ true }
     requires ready { IfSome (index_opening history.old.index) (λ o. IsReady o known history.old front changes.now) }
     requires limit { limit ≤ FILE_BYTES_MAX }
     requires image { IfSome (D.image disk.old) (λ image. IsHeldBy (index_opening history.old.index) (take known history.old.names) image) }
+    requires pool { graph_now pool.old ≡ history.old.now.graph }
     // what is added, or why nothing is
     ensures adds { IfOk result (λ added. IfSome (index_opening history.old.index) (λ o.
         AddsBatch o limit known history.old history.new (D.image disk.old) (D.image disk.new) changes.now front added)) }
@@ -65,6 +82,10 @@ fn try_batch<R: Threads, D: Disk>(
     ensures fails { IfErr result (λ fault. IfSome (index_opening history.old.index) (λ o.
         FailsBatch o limit known history.old (D.image disk.old) (D.image disk.new) changes.now front fault)) }
     ensures leaves { IfErr result (λ fault. LeavesHistory fault history.old history.new) }
+    // the pool
+    ensures pool { OnOk result (graph_now pool.new ≡ history.new.now.graph) }
+    ensures pool_back { OnErr result (graph_now pool.new ≡ graph_now pool.old) }
+    ensures slots { (s : ℕ) → slot_graph pool.new s ≡ slot_graph pool.old s }
     // the bytes read
     ensures takes { IfSome (index_opening history.old.index) (λ o.
         TakesOlder (D.image disk.old) o known history.old (length changes.now) (D.taken disk.old) (D.taken disk.new)) }
@@ -83,6 +104,8 @@ fn try_batch<R: Threads, D: Disk>(
     history.now.facts();
     let last = last_of(index);
     let events = prepare(&mut history.now, last, front, changes)?;
+    let net = net_of(rt, alloc, &events)?;
+    pool.make_cells(net.plus().items())?;
     let left = recent_behind(alloc, index, &history.recent, &events)?;
     let segment = make_segment(
         rt,
@@ -100,6 +123,7 @@ fn try_batch<R: Threads, D: Disk>(
     let total = index.events_len();
     history.recent = left;
     history.now.commit();
+    pool.pass(&net);
     Ok(AddedBatch {
         events: events.len() as u64,
         total,
@@ -110,12 +134,13 @@ fn try_batch<R: Threads, D: Disk>(
 /// Adds the batch of the changes to the history, which had the first `known` of the names before them. The file
 /// may have `limit` bytes in use. Where the batch completes an interior node with older children, their sets are
 /// read first, in groups of 32, each by one tree over the records alone. All memory is taken before the first write.
+/// The current graph of the pool goes on with that of the history, and no other graph of the pool changes.
 ///
 /// `BatchFault::BadChange` for the least line that is refused, with nothing read; `BatchFault::FileFull` with the
 /// bytes that would be in use, where they are more than `limit`; `BatchFault::Damaged`, `BatchFault::Read` where the
 /// older children cannot be read; `BatchFault::Memory` for want of memory: then the history is as it was, with the
 /// names that it had. `BatchFault::Store` where a write or a sync failed: what the file holds is not known then, so
-/// nothing of it is kept.
+/// nothing of it is kept. After any fault the current graph of the pool is as it was.
 pub fn add_batch<R: Threads, D: Disk>(
     rt: &R,
     alloc: Global,
@@ -124,12 +149,14 @@ pub fn add_batch<R: Threads, D: Disk>(
     front: Front,
     changes: &[Change],
     history: &mut StoredHistory,
+    pool: &mut Pool,
     disk: &mut D,
 ) -> Result<AddedBatch, BatchFault>
     requires index { is_some history.old.index ≡ true }
     requires ready { IfSome (index_opening history.old.index) (λ o. IsReady o known history.old front changes.now) }
     requires limit { limit ≤ FILE_BYTES_MAX }
     requires image { IfSome (D.image disk.old) (λ image. IsHeldBy (index_opening history.old.index) (take known history.old.names) image) }
+    requires pool { graph_now pool.old ≡ history.old.now.graph }
     // what is added, or why nothing is
     ensures adds { IfOk result (λ added. IfSome (index_opening history.old.index) (λ o.
         AddsBatch o limit known history.old history.new (D.image disk.old) (D.image disk.new) changes.now front added)) }
@@ -137,6 +164,10 @@ pub fn add_batch<R: Threads, D: Disk>(
         FailsBatch o limit known history.old (D.image disk.old) (D.image disk.new) changes.now front fault)) }
     ensures back { IfErr result (λ fault. IsBack fault known history.old history.new) }
     ensures sound { IsSoundHistory (index_opening history.new.index) history.new.names history.new.now history.new.recent.items }
+    // the pool
+    ensures pool { OnOk result (graph_now pool.new ≡ history.new.now.graph) }
+    ensures pool_back { OnErr result (graph_now pool.new ≡ graph_now pool.old) }
+    ensures slots { (s : ℕ) → slot_graph pool.new s ≡ slot_graph pool.old s }
     // the bytes read
     ensures takes { IfSome (index_opening history.old.index) (λ o.
         TakesOlder (D.image disk.old) o known history.old (length changes.now) (D.taken disk.old) (D.taken disk.new)) }
@@ -148,7 +179,7 @@ pub fn add_batch<R: Threads, D: Disk>(
     // what it leaves
     ensures disk { GoesOn D.image D.faults D.write_faults disk.old disk.new }
 {
-    match try_batch(rt, alloc, limit, known, front, changes, history, disk) {
+    match try_batch(rt, alloc, limit, known, front, changes, history, pool, disk) {
         Ok(added) => Ok(added),
         Err(BatchFault::Store) => {
             *history = StoredHistory::empty(alloc);

@@ -1,4 +1,4 @@
-ghost use Rattle.std.specs.Prelude.{◌≡◌, ◌≤◌, ◌<◌, ◌+◌, [], true, length, take, drop, IfOk, IfSome, IsTrue, OnOk, is_some};
+ghost use Rattle.std.specs.Prelude.{◌≡◌, ◌≤◌, ◌<◌, ◌+◌, ℕ, [], true, length, take, drop, IfOk, IfSome, IsTrue, OnOk, is_some};
 ghost use Rattle.std.specs.List.{All};
 ghost use Rattle.dg_append.specs.AddedBatches.{WhatNamesFit};
 ghost use Rattle.dg_graph.specs.declared.event.Change.{Change};
@@ -7,18 +7,22 @@ ghost use Rattle.dg_history.specs.declared.limits.TheConstants.{BATCH_LINES_MAX,
 ghost use Rattle.dg_history.specs.History.{are_parameters};
 ghost use Rattle.dg_index.specs.ImageOfHistory.{is_blank};
 ghost use Rattle.dg_index.specs.OpenedIndex.{events_in, may_be_named};
+ghost use Rattle.dg_pool.specs.Graphs.{graph_now, slot_graph};
+ghost use Rattle.dg_pool.specs.Slots.{IsLive};
 ghost use Rattle.dg_start.specs.StoredHistory.{IsHeldBy, IsSoundHistory, index_opening};
 
 use crate::{AddedBatch, BatchFault, Front, add_batch};
+use dg_delta::Delta;
 use dg_disk::{Disk, FileDisk, MemoryDisk};
 use dg_file::Index;
 use dg_graph::{
-    Body, Change, Column, Event, Function, NAMES_MAX, REASON_FORM, REASON_NODE_EXISTS, TIME_MAX,
-    What,
+    Body, Change, Column, Columns, Element, Event, Function, NAMES_MAX, REASON_FORM,
+    REASON_NODE_EXISTS, TIME_MAX, What,
 };
 use dg_history::{BATCH_LINES_MAX, EVENTS_MAX, FILE_BYTES_MAX, Key, Params};
 use dg_names::Names;
 use dg_now::Now;
+use dg_pool::{Base, Counts, Pool, Slot};
 use dg_start::{StartFault, StoredHistory, open};
 use std::alloc::{AllocError, Global};
 use std::process::Abort;
@@ -28,6 +32,11 @@ use std::{env, fs, process};
 
 // More bytes and calls than any test needs.
 const MANY: usize = 1000;
+
+const ALL: Columns = Columns {
+    nodes_attr: true,
+    edges_attr: true,
+};
 
 const PARAMS: Params = Params {
     l: 2,
@@ -150,6 +159,7 @@ fn add<R: Threads, D: Disk>(
     front: Front,
     changes: &[Change],
     history: &mut StoredHistory,
+    pool: &mut Pool,
     disk: &mut D,
 ) -> Result<AddedBatch, BatchFault>
     requires index { is_some history.old.index ≡ true }
@@ -157,9 +167,12 @@ fn add<R: Threads, D: Disk>(
     requires within { known ≤ length history.old.names }
     requires named { may_be_named (take known history.old.names) (drop known history.old.names) ≡ true }
     requires image { IfSome (D.image disk.old) (λ image. IsHeldBy (index_opening history.old.index) (take known history.old.names) image) }
+    requires pool { graph_now pool.old ≡ history.old.now.graph }
     ensures index { OnOk result (is_some history.new.index ≡ true) }
     ensures sound { OnOk result (IsSoundHistory (index_opening history.new.index) history.new.names history.new.now history.new.recent.items) }
     ensures image { OnOk result (IfSome (D.image disk.new) (λ image. IsHeldBy (index_opening history.new.index) history.new.names image)) }
+    ensures pool { OnOk result (graph_now pool.new ≡ history.new.now.graph) }
+    ensures slots { (s : ℕ) → slot_graph pool.new s ≡ slot_graph pool.old s }
 {
     let Some(index) = &history.index else {
         unreachable!()
@@ -167,7 +180,7 @@ fn add<R: Threads, D: Disk>(
     if limit > FILE_BYTES_MAX || !has_room(index, changes.len()) || !are_fit(changes) {
         return Err(BatchFault::Memory);
     }
-    add_batch(rt, alloc, limit, known, front, changes, history, disk)
+    add_batch(rt, alloc, limit, known, front, changes, history, pool, disk)
 }
 
 // Adds the changes behind the history, with no new name.
@@ -178,15 +191,18 @@ fn add_more<R: Threads, D: Disk>(
     front: Front,
     changes: &[Change],
     history: &mut StoredHistory,
+    pool: &mut Pool,
     disk: &mut D,
 ) -> Result<AddedBatch, BatchFault>
     requires index { is_some history.old.index ≡ true }
     requires sound { IsSoundHistory (index_opening history.old.index) history.old.names history.old.now history.old.recent.items }
     requires image { IfSome (D.image disk.old) (λ image. IsHeldBy (index_opening history.old.index) history.old.names image) }
+    requires pool { graph_now pool.old ≡ history.old.now.graph }
+    ensures slots { (s : ℕ) → slot_graph pool.new s ≡ slot_graph pool.old s }
 {
     history.names.facts();
     let known = history.names.len();
-    add(rt, alloc, limit, known, front, changes, history, disk)
+    add(rt, alloc, limit, known, front, changes, history, pool, disk)
 }
 
 // The names of the first batch.
@@ -199,19 +215,22 @@ fn first_names(alloc: Global) -> Result<Names, AllocError>
     Ok(names)
 }
 
-// A history of these changes as its first batch, over a disk without an index.
+// A history of these changes as its first batch, over a disk without an index. The pool has its graph then.
 fn history_of<R: Threads, D: Disk>(
     rt: &R,
     alloc: Global,
     params: Params,
     changes: &[Change],
+    pool: &mut Pool,
     disk: &mut D,
 ) -> Result<StoredHistory, Fail>
     requires parameters { are_parameters params.l params.k ≡ true }
     requires blank { IfSome (D.image disk.old) (λ image. is_blank image ≡ true) }
+    requires pool { graph_now pool.old ≡ [] }
     ensures index { IfOk result (λ h. is_some h.index ≡ true) }
     ensures sound { IfOk result (λ h. IsSoundHistory (index_opening h.index) h.names h.now h.recent.items) }
     ensures image { IfOk result (λ h. IfSome (D.image disk.new) (λ image. IsHeldBy (index_opening h.index) h.names image)) }
+    ensures pool { IfOk result (λ h. graph_now pool.new ≡ h.now.graph) }
 {
     let index = match Index::create(alloc, disk, params) {
         Ok(index) => index,
@@ -231,6 +250,7 @@ fn history_of<R: Threads, D: Disk>(
         Front::Whole,
         changes,
         &mut history,
+        pool,
         disk,
     ) {
         Ok(_) => Ok(history),
@@ -242,14 +262,17 @@ fn history_of<R: Threads, D: Disk>(
 fn first_history<R: Threads, D: Disk>(
     rt: &R,
     alloc: Global,
+    pool: &mut Pool,
     disk: &mut D,
 ) -> Result<StoredHistory, Fail>
-    requires { IfSome (D.image disk.old) (λ image. is_blank image ≡ true) }
+    requires blank { IfSome (D.image disk.old) (λ image. is_blank image ≡ true) }
+    requires pool { graph_now pool.old ≡ [] }
     ensures index { IfOk result (λ h. is_some h.index ≡ true) }
     ensures sound { IfOk result (λ h. IsSoundHistory (index_opening h.index) h.names h.now h.recent.items) }
     ensures image { IfOk result (λ h. IfSome (D.image disk.new) (λ image. IsHeldBy (index_opening h.index) h.names image)) }
+    ensures pool { IfOk result (λ h. graph_now pool.new ≡ h.now.graph) }
 {
-    history_of(rt, alloc, PARAMS, &FIRST, disk)
+    history_of(rt, alloc, PARAMS, &FIRST, pool, disk)
 }
 
 // What is kept of the history of both batches.
@@ -298,7 +321,8 @@ fn has_first(rt: &impl Abort, history: &StoredHistory) {
 fn a_batch_completes_a_node_with_an_older_child(rt: HostRuntime) -> Result<(), Fail> {
     let alloc = rt.alloc();
     let mut disk = MemoryDisk::new(alloc, &[], MANY, MANY, &[])?;
-    let mut history = first_history(&rt, alloc, &mut disk)?;
+    let mut pool = Pool::new(alloc);
+    let mut history = first_history(&rt, alloc, &mut pool, &mut disk)?;
     has_first(&rt, &history);
     assert_eq!(rt; disk.image().len() as u64, FIRST_BYTES);
     assert_eq!(rt; disk.taken(), 0);
@@ -309,6 +333,7 @@ fn a_batch_completes_a_node_with_an_older_child(rt: HostRuntime) -> Result<(), F
         Front::Whole,
         &SECOND,
         &mut history,
+        &mut pool,
         &mut disk,
     );
     let wanted = AddedBatch {
@@ -320,6 +345,118 @@ fn a_batch_completes_a_node_with_an_older_child(rt: HostRuntime) -> Result<(), F
     has_both(&rt, &history);
     assert_eq!(rt; disk.image().len() as u64, BOTH_BYTES);
     assert_eq!(rt; disk.taken(), TOP_BYTES);
+    Ok(())
+}
+
+// The pool with this current graph and no live slot.
+fn pool_of(alloc: Global, now: &Now) -> Result<Pool, AllocError>
+    ensures { IfOk result (λ pool. graph_now pool ≡ now.now.graph) }
+{
+    let mut pool = Pool::new(alloc);
+    let set = now.to_set()?;
+    pool.make_cells(set.items())?;
+    pool.set_now(&set);
+    Ok(pool)
+}
+
+// So many nodes and values at nodes, and no edge.
+fn counts(nodes: u64, node_attrs: u64) -> Counts {
+    Counts {
+        nodes,
+        edges: 0,
+        node_attrs,
+        edge_attrs: 0,
+    }
+}
+
+// Adds the changes behind the history, while the slot is live.
+fn add_under<R: Threads, D: Disk>(
+    rt: &R,
+    alloc: Global,
+    slot: Slot,
+    changes: &[Change],
+    history: &mut StoredHistory,
+    pool: &mut Pool,
+    disk: &mut D,
+) -> Result<AddedBatch, BatchFault>
+    requires index { is_some history.old.index ≡ true }
+    requires sound { IsSoundHistory (index_opening history.old.index) history.old.names history.old.now history.old.recent.items }
+    requires image { IfSome (D.image disk.old) (λ image. IsHeldBy (index_opening history.old.index) history.old.names image) }
+    requires pool { graph_now pool.old ≡ history.old.now.graph }
+    requires live { IsLive pool.old slot }
+    ensures { IsLive pool.new slot }
+{
+    add_more(
+        rt,
+        alloc,
+        FILE_BYTES_MAX,
+        Front::Whole,
+        changes,
+        history,
+        pool,
+        disk,
+    )
+}
+
+// Node 1 loses its value, node 2 goes, and node 3 comes. An overlay on the current graph has what they change as it
+// was before.
+#[test]
+fn an_overlay_on_the_current_graph_stays_over_a_batch(rt: HostRuntime) -> Result<(), Fail> {
+    let alloc = rt.alloc();
+    let mut disk = MemoryDisk::new(alloc, &[], MANY, MANY, &[])?;
+    let mut pool = Pool::new(alloc);
+    let mut history = first_history(&rt, alloc, &mut pool, &mut disk)?;
+    let slot = pool.attach(Base::Now, &Delta::new(alloc), ALL)?;
+    let changes = [
+        Change {
+            time: 60,
+            what: What::UnsetNode { id: 1, key: 0 },
+        },
+        Change {
+            time: 60,
+            what: What::RemoveNode { id: 2 },
+        },
+        Change {
+            time: 70,
+            what: What::AddNode { id: 3 },
+        },
+    ];
+    let added = add_under(
+        &rt,
+        alloc,
+        slot,
+        &changes,
+        &mut history,
+        &mut pool,
+        &mut disk,
+    );
+    let wanted = AddedBatch {
+        events: 3,
+        total: 8,
+        last: 70,
+    };
+    assert_eq!(rt; added, Ok(wanted));
+    assert_eq!(rt; pool.counts(slot), counts(2, 1));
+    assert_eq!(rt; pool.counts_now(), counts(2, 0));
+    // of the elements, in the overlay and in the current graph
+    let rows = [
+        (Element::Node { id: 1 }, true, true),
+        (Element::Node { id: 2 }, true, false),
+        (Element::Node { id: 3 }, false, true),
+        (
+            Element::NodeAttr {
+                id: 1,
+                key: 0,
+                value: 1,
+            },
+            true,
+            false,
+        ),
+    ];
+    for (element, before, after) in rows {
+        assert_eq!(rt; pool.member(slot, &element), before);
+        assert_eq!(rt; pool.member_now(&element), after);
+    }
     Ok(())
 }
 
@@ -336,20 +473,34 @@ fn outcome<R: Threads + Sync + Abort>(
 ) -> Result<Result<AddedBatch, BatchFault>, Fail> {
     let mut disk = MemoryDisk::new(alloc, file, MANY, MANY, &[fails])?;
     let mut history = match open(rt, alloc, &mut disk) {
-        Ok(history) => history,
+        Ok(opened) => opened.history,
         Err(_) => return Err("not opened".into()),
     };
     if history.index.is_none() {
         return Err("no index".into());
     }
     let taken = disk.taken();
-    let added = add_more(rt, alloc, limit, front, changes, &mut history, &mut disk);
+    let mut pool = pool_of(alloc, &history.now)?;
+    let added = add_more(
+        rt,
+        alloc,
+        limit,
+        front,
+        changes,
+        &mut history,
+        &mut pool,
+        &mut disk,
+    );
     match added {
-        Ok(_) => has_both(rt, &history),
+        Ok(_) => {
+            has_both(rt, &history);
+            assert_eq!(rt; pool.counts_now(), counts(6, 1));
+        }
         // nothing is kept of the history
         Err(BatchFault::Store) => assert!(rt; history.index.is_none()),
         Err(_) => {
             has_first(rt, &history);
+            assert_eq!(rt; pool.counts_now(), counts(2, 1));
             assert_eq!(rt; disk.image(), file);
         }
     }
@@ -362,7 +513,7 @@ fn outcome<R: Threads + Sync + Abort>(
 // The file of the first batch.
 fn first_file<R: Threads>(rt: &R, alloc: Global) -> Result<Vec<u8>, Fail> {
     let mut disk = MemoryDisk::new(alloc, &[], MANY, MANY, &[])?;
-    first_history(rt, alloc, &mut disk)?;
+    first_history(rt, alloc, &mut Pool::new(alloc), &mut disk)?;
     Ok(Vec::from_slice(alloc, disk.image())?)
 }
 
@@ -450,7 +601,8 @@ fn a_damaged_record_of_an_older_child_is_named(rt: HostRuntime) -> Result<(), Fa
     // a run that was broken off may have left it
     let _ = fs::remove_file(&rt, path.as_path());
     let mut disk = FileDisk::new(&rt, path.as_str().to_string(alloc)?);
-    let mut history = first_history(&rt, alloc, &mut disk)?;
+    let mut pool = Pool::new(alloc);
+    let mut history = first_history(&rt, alloc, &mut pool, &mut disk)?;
     let mut other = FileDisk::new(&rt, path.as_str().to_string(alloc)?);
     // the kind of its first element
     assert_eq!(rt; other.write_at(TOP_OFFSET + 8, &[9]), Ok(()));
@@ -461,6 +613,7 @@ fn a_damaged_record_of_an_older_child_is_named(rt: HostRuntime) -> Result<(), Fa
         Front::Whole,
         &SECOND,
         &mut history,
+        &mut pool,
         &mut disk,
     );
     assert_eq!(rt;
@@ -498,7 +651,8 @@ fn older_children_are_read_in_groups(rt: HostRuntime) -> Result<(), Fail> {
     };
     let mut disk = MemoryDisk::new(alloc, &[], 20 * MANY, MANY, &[])?;
     let before = nodes_from(alloc, 1, 78)?;
-    let mut history = history_of(&rt, alloc, params, &before, &mut disk)?;
+    let mut pool = Pool::new(alloc);
+    let mut history = history_of(&rt, alloc, params, &before, &mut pool, &mut disk)?;
     let added = add_more(
         &rt,
         alloc,
@@ -506,6 +660,7 @@ fn older_children_are_read_in_groups(rt: HostRuntime) -> Result<(), Fail> {
         Front::Whole,
         &nodes_from(alloc, 79, 2)?,
         &mut history,
+        &mut pool,
         &mut disk,
     );
     let wanted = AddedBatch {

@@ -3,6 +3,7 @@ use Rattle.std.proofs.Common.{◌≡◌, ℕ, suc, Bool, true, false, List as Li
 use Rattle.std.specs.Prelude.{◌⊎◌, if◌then◌else◌, slice_get}
 use Rattle.std.specs.List.{All, Contains}
 use Rattle.std.proofs.lemmas.Bool.{false≢true}
+use Rattle.std.proofs.lemmas.List.Elements.{All-cons, All-nil}
 use Rattle.dg_fold.specs.declared.part.Part.{Part}
 use Rattle.dg_fold.specs.declared.tree.Branch.{Branch}
 use Rattle.dg_fold.specs.declared.tree.Lead.{Lead}
@@ -28,7 +29,7 @@ use Rattle.dg_plan.specs.InstantPoint.{point}
 use Rattle.dg_plan.specs.IndexGraph.{Ground, edges_of}
 use Rattle.dg_plan.specs.Walks.{Graft}
 use Rattle.dg_retrieval.specs.Branches.{AreBranches}
-use Rattle.dg_retrieval.specs.Graphs.{begun_from, led_from}
+use Rattle.dg_retrieval.specs.Graphs.{BeginsInMemory, begun_from, led_from}
 use Rattle.dg_retrieval.specs.Retrieval.{ArePoints, graphs_at}
 use Rattle.dg_retrieval.proofs.TreeRecords.{each_edge}
 
@@ -53,7 +54,7 @@ edges_enter g none = each_edge g EntersNow (record {
     nothing b there = (let h = there.1 in omega arith)
 
 -- the node is the root or the current graph
-abbrev pub IsBeginning : NodeId → Type 0
+abbrev IsBeginning : NodeId → Type 0
 IsBeginning n = (n ≡ Root) ⊎ (n ≡ Now)
 
 -- what holds of the edges holds of the edge of each of their steps
@@ -85,6 +86,18 @@ path_begins all enters v walk (Steps_on s before among path) = by before (path_b
     by : (before : ListOf Step) → IsBeginning (begun_at Root (map (λ (x : Step). x.0) before)) → IsBeginning (begun_at Root (map (λ (x : Step). x.0) (before ++ s ∷ [])))
     by [] begins = one (enters_held s.0.via) refl
     by (x ∷ before) begins = begins
+
+-- what leads along such edges begins in memory
+pub leads_begin : (names : ℕ) (recent : ListOf Event) (walk : ListOf Edge) (parts : ListOf Part) → All EntersNow walk → (branches : ListOf Branch) (times : ListOf ℕ) (leads : ListOf Lead)
+    → AreLedUntil names recent parts (paired walk parts) branches times leads → All BeginsInMemory leads
+leads_begin names recent walk parts enters [] times [] led = All-nil BeginsInMemory
+leads_begin names recent walk parts enters [] times (l ∷ leads) led = elim led [ ]
+leads_begin names recent walk parts enters (b ∷ branches) [] leads led = elim led [ ]
+leads_begin names recent walk parts enters (b ∷ branches) (t ∷ times) [] led = elim led [ ]
+leads_begin names recent walk parts enters (b ∷ branches) (t ∷ times) (l ∷ leads) led =
+    let path = led.0 in
+    let one : BeginsInMemory l = subst IsBeginning path.2 (path_begins (paired walk parts) (step_has EntersNow walk parts enters) b.to path.0 path.1) in
+    All-cons BeginsInMemory l leads one (leads_begin names recent walk parts enters branches times leads led.1)
 
 -- ---- what the paths of a tree lead to
 

@@ -32,10 +32,10 @@ singles_many g starts (v ∷ targets) [] are = elim are [ ]
 singles_many g starts (v ∷ targets) (x ∷ singles) are = ap (λ n. suc n) (singles_many g starts targets singles are.1)
 
 module _ (o : Opening) (cols : Columns) (edges : ListOf Edge) (is : AreIndexEdges o cols edges) (targets : ListOf NodeId) (grafts : ListOf (Graft NodeId)) (names : ℕ)
-    (now : ListOf Element) (recent : ListOf Event) (times : ListOf ℕ) (leads : ListOf Lead) where
-  gives : (im : ListOf ℕ) → AreTreeLeads names recent edges o cols targets grafts times leads im → (z : History) → IsOver z im o names now recent → ArePoints z targets times
+    (recent : ListOf Event) (times : ListOf ℕ) (leads : ListOf Lead) where
+  gives : (im : ListOf ℕ) → AreTreeLeads names recent edges o cols targets grafts times leads im → (z : History) (now : ListOf Element) → IsOver z im o names now recent → ArePoints z targets times
       → map (led_from now cols) leads ≡ graphs_at z times cols
-  gives im led z over points =
+  gives im led z now over points =
       let branches = led.0 in
       let are = led.1 in
       let parts = led.2 in
@@ -51,8 +51,7 @@ module _ (o : Opening) (cols : Columns) (edges : ListOf Edge) (is : AreIndexEdge
       ∙ graphs_are (length (names_of z)) z cols walk parts
       (walk_all o cols is.0 edges is.1 (steps_of grafts) walk along EntersNow (edges_enter (index_ground o cols is.0) refl)) law.1 edges targets grafts branches times leads are points led_so
 
-  -- over an image of a history, with its points as targets, they are the graphs as of the instants
-  pub graphs_of : (image : Option (ListOf ℕ)) → IfSome image (λ im. AreTreeLeads names recent edges o cols targets grafts times leads im)
-      → (graphs : ListOf (ListOf Element)) → graphs ≡ map (led_from now cols) leads
-      → IfSome image (λ im. (z : History) → IsOver z im o names now recent → ArePoints z targets times → graphs ≡ graphs_at z times cols)
-  graphs_of image led graphs come = IfSome_then image led (λ im there z over points. come ∙ gives im there z over points)
+  -- over an image of a history, with its points as targets, they lead to the graphs as of the instants
+  pub leads_come : (image : Option (ListOf ℕ)) → IfSome image (λ im. AreTreeLeads names recent edges o cols targets grafts times leads im)
+      → IfSome image (λ im. (z : History) (now : ListOf Element) → IsOver z im o names now recent → ArePoints z targets times → map (led_from now cols) leads ≡ graphs_at z times cols)
+  leads_come image led = IfSome_then image led (λ im there z now over points. gives im there z now over points)

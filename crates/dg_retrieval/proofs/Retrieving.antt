@@ -35,14 +35,16 @@ use Rattle.dg_planner.specs.declared.tree.Graft.{Graft as PlannedGraft}
 use Rattle.dg_planner.specs.Trees.{graft_of, grafts_of}
 use Rattle.dg_retrieval.specs.Branches.{AreBranches}
 use Rattle.dg_retrieval.specs.Faults.{of_fold}
+use Rattle.dg_retrieval.specs.Graphs.{BeginsInMemory}
 use Rattle.dg_retrieval.specs.KeptGraph.{index_ground}
 use Rattle.dg_retrieval.specs.NodeSets.{IsIndexOver, IsUndamaged}
 use Rattle.dg_retrieval.specs.Retrieval.{IsFirstDamage, IsNoDamage, TakesAtMostTree}
 use Rattle.dg_retrieval.specs.TreeLeads.{AreIndexEdges, AreTreeLeads}
 use Rattle.dg_retrieval.proofs.DamagedParts.{damage_is, none_damaged, parts_are_whole}
 use Rattle.dg_retrieval.proofs.HistoryLaws.{trees_reach}
-use Rattle.dg_retrieval.proofs.IndexWalks.{walk_among, walk_entered, walk_kept, walk_off_root, walk_records, walk_weighs}
+use Rattle.dg_retrieval.proofs.IndexWalks.{walk_all, walk_among, walk_entered, walk_kept, walk_off_root, walk_records, walk_weighs}
 use Rattle.dg_retrieval.proofs.NamedRecords.{graph_of_index}
+use Rattle.dg_retrieval.proofs.ReachedGraphs.{EntersNow, edges_enter, leads_begin}
 use Rattle.dg_retrieval.proofs.TreeBranches.{branches_hold}
 use Rattle.dg_retrieval.proofs.TreeWeights.{one_weight, tree_steps_weigh}
 
@@ -144,6 +146,13 @@ module _ (o : Opening) (cols : Columns) (edges : ListOf Edge) (is : AreIndexEdge
   -- no edge enters the root
   pub all_off_root : All (λ (e : Edge). e.to ≢ Root) walk
   all_off_root = walk_off_root o cols is.0 edges is.1 (steps_of grafts) walk in_steps
+
+  -- each lead begins in memory
+  pub all_begin : (names : ℕ) (recent : ListOf Event) (parts : ListOf Part) (times : ListOf ℕ) (leads : ListOf Lead)
+      → AreLedUntil names recent parts (paired (all_edges branches) parts) branches times leads → All BeginsInMemory leads
+  all_begin names recent parts times leads led =
+      let held = walk_all o cols is.0 edges is.1 (steps_of grafts) (all_edges branches) (branches_hold edges targets grafts branches are) EntersNow (edges_enter (index_ground o cols is.0) refl) in
+      leads_begin names recent (all_edges branches) parts held branches times leads led
 
   module _ (names : ℕ) (recent : ListOf Event) (parts : ListOf Part) (times : ListOf ℕ)
       (image : Option (ListOf ℕ)) (read : IfSome image (λ im. AreParts (kept_in im o) cols (named_along walk) parts)) where

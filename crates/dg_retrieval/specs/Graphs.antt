@@ -1,5 +1,5 @@
--- The graphs to which the leads of a tree come.
-use Rattle.std.specs.Prelude.{◌≡◌, List, []}
+-- The graphs with which the leads of a tree begin, and those to which they come.
+use Rattle.std.specs.Prelude.{◌≡◌, ◌⊎◌, List, []}
 use Rattle.dg_fold.specs.declared.tree.Lead.{Lead}
 use Rattle.dg_graph.specs.Composition.{applied}
 use Rattle.dg_graph.specs.declared.element.Columns.{Columns}
@@ -21,6 +21,6 @@ begun_from now (Inner h j) = []
 abbrev pub led_from : List Element → Columns → Lead → List Element
 led_from now cols lead = shown (applied lead.delta (begun_from now lead.begun)) cols
 
--- the set is the current graph, where the lead begins with it
-abbrev pub HoldsWhereBegun : List Element → List Element → Lead → Type 0
-HoldsWhereBegun now held lead = lead.begun ≡ Now → held ≡ now
+-- the lead begins with a graph that is in memory: the empty graph or the current graph
+abbrev pub BeginsInMemory : Lead → Type 0
+BeginsInMemory lead = (lead.begun ≡ Root) ⊎ (lead.begun ≡ Now)

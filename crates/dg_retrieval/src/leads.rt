@@ -11,6 +11,7 @@ ghost use Rattle.dg_history.specs.History.{History};
 ghost use Rattle.dg_plan.specs.IndexGraph.{arcs_of};
 ghost use Rattle.dg_plan.specs.Walks.{AreSingles, IsTree, tree_weight};
 ghost use Rattle.dg_planner.specs.Trees.{grafts_in};
+ghost use Rattle.dg_retrieval.specs.Graphs.{BeginsInMemory};
 ghost use Rattle.dg_retrieval.specs.NodeSets.{IsIndexOver, IsUndamaged};
 ghost use Rattle.dg_retrieval.specs.Retrieval.{IsFirstDamage, IsNoDamage, TakesAtMostTree};
 ghost use Rattle.dg_retrieval.specs.TreeLeads.{AreIndexEdges, AreTreeLeads};
@@ -64,6 +65,7 @@ pub fn lead_along_tree<R: Threads, D: Disk>(
     ensures singles { IfOk result (λ r. AreSingles (arcs_of planner.now.edges) (Root ∷ []) targets.now r.tree.singles.items) }
     ensures sum { IfOk result (λ r. r.tree.sum ≡ sum r.tree.singles.items) }
     ensures count { IfOk result (λ r. length r.leads.items ≡ length targets.now) }
+    ensures begun { IfOk result (λ r. All BeginsInMemory r.leads.items) }
     ensures leads { IfOk result (λ r. IfSome (D.image disk.old) (λ image. AreTreeLeads names recent.now planner.now.edges index.old.opening cols targets.now (grafts_in r.tree) times.now r.leads.items image)) }
     ensures whole { OnOk result (IfSome (D.image disk.old) (λ image. IsUndamaged names planner.now.edges index.old.opening cols targets.now image)) }
     // the bytes read, over an image of a history

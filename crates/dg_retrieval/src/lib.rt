@@ -1,14 +1,16 @@
-//! Retrieval by plans: the graphs as of several instants, by one tree through the index of a history, with
-//! the records that the tree enters, read once each. docs/MODEL.md has the definitions.
+//! Retrieval by plans: what leads to the graphs as of several instants, by one tree through the index of a history,
+//! with the records that the tree enters, read once each. docs/MODEL.md has the definitions.
 #![tactic(auto)]
 
 mod branches;
 mod fault;
-mod graphs;
 mod leads;
 mod record_sets;
 mod retrieval;
+#[cfg(test)]
+mod tests;
 
+pub use dg_fold::Lead;
 pub use fault::RetrievalFault;
 pub use record_sets::{ALL_COLUMNS, node_sets, plan_set};
 pub use retrieval::{Retrieved, retrieve};

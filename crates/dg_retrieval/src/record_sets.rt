@@ -108,7 +108,7 @@ fn sets_led(alloc: Global, leads: &[Lead]) -> Result<Vec<Set>, AllocError>
     Ok(sets)
 }
 
-/// The sets of several nodes, 1 to 32 of them, by one tree over the records of the index alone. Each record that
+/// The sets of several nodes, 32 of them at the most, by one tree over the records of the index alone. Each record that
 /// the tree enters is read once, with all its columns, and nothing else. The names of the history are so many.
 ///
 /// `Disk` where a read failed, `Damaged` with the first column that is in no spelling, in the order of the tree's
@@ -127,7 +127,6 @@ pub fn node_sets<R: Threads, D: Disk>(
     requires graph { planner.now.nodes ≡ record_nodes index.old.opening }
     requires nodes { All (Contains planner.now.nodes) nodes.now }
     requires leaves { All HasNoEvents nodes.now }
-    requires some { 1 ≤ length nodes.now }
     requires few { length nodes.now ≤ 32 }
     // the sets
     ensures count { IfOk result (λ sets. length sets.items ≡ length nodes.now) }

@@ -1,36 +1,38 @@
-ghost use Rattle.std.specs.Prelude.{◌≡◌, ℕ, ◌≤◌, List, ◌∷◌, [], length, IfErr, IfOk, IfSome, IsErrOf, OnOk};
+ghost use Rattle.std.specs.Prelude.{◌≡◌, ℕ, ◌≤◌, List, ◌∷◌, [], length, map, IfErr, IfOk, IfSome, IsErrOf, OnOk};
 ghost use Rattle.std.specs.List.{All, Contains, sum};
 ghost use Rattle.dg_disk.specs.Counts.{Rose};
 ghost use Rattle.dg_disk.specs.Frame.{OnlyReads};
 ghost use Rattle.dg_file.specs.Images.{IsOpenedAs};
 ghost use Rattle.dg_fold.specs.BytesRead.{Takes};
+ghost use Rattle.dg_graph.specs.declared.element.Element.{Element};
 ghost use Rattle.dg_history.specs.History.{History};
 ghost use Rattle.dg_history.specs.declared.node.NodeId.TheVariants.{Root};
 ghost use Rattle.dg_index.specs.OpenedIndex.{events_in};
 ghost use Rattle.dg_plan.specs.IndexGraph.{arcs_of};
 ghost use Rattle.dg_plan.specs.Walks.{AreSingles};
+ghost use Rattle.dg_retrieval.specs.Graphs.{BeginsInMemory, led_from};
 ghost use Rattle.dg_retrieval.specs.KeptGraph.{kept_edges, kept_nodes};
 ghost use Rattle.dg_retrieval.specs.NodeSets.{IsUndamaged};
 ghost use Rattle.dg_retrieval.specs.Retrieval.{ArePoints, IsFirstDamage, IsNoDamage, IsOver, IsTreeOf, TakesAtMostTree, graphs_at};
 
 use crate::fault::RetrievalFault;
-use crate::graphs::graphs_of;
 use crate::leads::{TreeLeads, lead_along_tree};
 use dg_disk::Disk;
 use dg_file::Index;
+use dg_fold::Lead;
 use dg_graph::{Columns, Event};
 use dg_history::NodeId;
-use dg_now::Now;
 use dg_planner::Planner;
-use dg_set::Set;
 use std::alloc::Global;
 use std::thread::Threads;
 
-/// The graphs as of several instants, and what the tree to them weighs.
+/// What leads to the graphs as of several instants, and what the tree to them weighs.
 #[derive(Drop)]
 pub struct Retrieved {
-    /// The graph as of each instant, in the asked columns.
-    pub graphs: Vec<Set>,
+    /// What leads to the graph as of each instant: the node with whose graph the path begins, `Root` with the
+    /// empty graph or `Now` with the current graph, and the delta from there. The graph is what comes, cut to the
+    /// asked columns.
+    pub leads: Vec<Lead>,
     /// The bytes of the records that the tree enters, in the asked columns.
     pub weight: u64,
     /// What the single plan of each instant weighs, in bytes.
@@ -39,10 +41,10 @@ pub struct Retrieved {
     pub sum: u64,
 }
 
-/// Retrieves the graphs as of the instants, 1 to 32 of them, in these columns, by one tree through the graph of
-/// the index to the targets: the node from which the graph as of each instant is reached. Each record that the
-/// tree enters is read once, and nothing else; the names of the history are so many, and its current graph and
-/// its recent events are in memory.
+/// Retrieves what leads to the graphs as of the instants, 32 of them at the most, in these columns, by one tree
+/// through the graph of the index to the targets: the node from which the graph as of each instant is reached. Each
+/// record that the tree enters is read once, and nothing else; the names of the history are so many, and its recent
+/// events are in memory. No graph is made.
 ///
 /// `Disk` where a read failed, `Damaged` with the first column that is in no spelling, in the order of the
 /// tree's steps and of structure, node attributes, edge attributes, and `Memory`.
@@ -52,7 +54,6 @@ pub fn retrieve<R: Threads, D: Disk>(
     index: &mut Index,
     disk: &mut D,
     names: u32,
-    current: &Now,
     recent: &[Event],
     planner: &Planner,
     targets: &[NodeId],
@@ -63,26 +64,26 @@ pub fn retrieve<R: Threads, D: Disk>(
     requires edges { planner.now.edges ≡ kept_edges index.old.opening (events_in index.old.opening.batches) cols }
     requires nodes { planner.now.nodes ≡ kept_nodes index.old.opening (events_in index.old.opening.batches) cols }
     requires targets { All (Contains planner.now.nodes) targets.now }
-    requires some { 1 ≤ length targets.now }
     requires few { length targets.now ≤ 32 }
     requires times { length times.now ≡ length targets.now }
-    // the graphs and the weights
-    ensures count { IfOk result (λ r. (length r.graphs.items ≡ length targets.now) × (length r.singles.items ≡ length targets.now)) }
+    // what leads to the graphs, and the weights
+    ensures count { IfOk result (λ r. (length r.leads.items ≡ length targets.now) × (length r.singles.items ≡ length targets.now)) }
     ensures tree { IfOk result (λ r. IsTreeOf planner.now.edges targets.now r.weight) }
     ensures singles { IfOk result (λ r. AreSingles (arcs_of planner.now.edges) (Root ∷ []) targets.now r.singles.items) }
     ensures sum { IfOk result (λ r. r.sum ≡ sum r.singles.items) }
-    ensures graphs { IfOk result (λ r. IfSome (D.image disk.old) (λ image. (z : History) → IsOver z image index.old.opening names current.now.graph recent.now
-        → ArePoints z targets.now times.now → r.graphs.items ≡ graphs_at z times.now cols)) }
+    ensures begun { IfOk result (λ r. All BeginsInMemory r.leads.items) }
+    ensures graphs { IfOk result (λ r. IfSome (D.image disk.old) (λ image. (z : History) (now : List Element) → IsOver z image index.old.opening names now recent.now
+        → ArePoints z targets.now times.now → map (led_from now cols) r.leads.items ≡ graphs_at z times.now cols)) }
     ensures whole { OnOk result (IfSome (D.image disk.old) (λ image. IsUndamaged names planner.now.edges index.old.opening cols targets.now image)) }
     // the bytes read, over an image of a history
-    ensures takes { IfOk result (λ r. IfSome (D.image disk.old) (λ image. (z : History) → IsOver z image index.old.opening names current.now.graph recent.now
+    ensures takes { IfOk result (λ r. IfSome (D.image disk.old) (λ image. (z : History) (now : List Element) → IsOver z image index.old.opening names now recent.now
         → Takes r.weight (D.taken disk.old) (D.taken disk.new))) }
-    ensures most { IfSome (D.image disk.old) (λ image. (z : History) → IsOver z image index.old.opening names current.now.graph recent.now
+    ensures most { IfSome (D.image disk.old) (λ image. (z : History) (now : List Element) → IsOver z image index.old.opening names now recent.now
         → TakesAtMostTree planner.now.edges targets.now (D.taken disk.old) (D.taken disk.new)) }
     // why nothing is retrieved
     ensures cause { IsErrOf result RetrievalFault.Disk → Rose (D.faults disk.old) (D.faults disk.new) }
     ensures damage { IfErr result (λ fault. IfSome (D.image disk.old) (λ image. IsFirstDamage names planner.now.edges index.old.opening cols targets.now image fault)) }
-    ensures never { IfErr result (λ fault. IfSome (D.image disk.old) (λ image. (z : History) → IsOver z image index.old.opening names current.now.graph recent.now
+    ensures never { IfErr result (λ fault. IfSome (D.image disk.old) (λ image. (z : History) (now : List Element) → IsOver z image index.old.opening names now recent.now
         → ArePoints z targets.now times.now → IsNoDamage fault)) }
     // what it leaves
     ensures same { index.new ≡ index.old }
@@ -91,9 +92,8 @@ pub fn retrieve<R: Threads, D: Disk>(
     let TreeLeads { tree, leads } = lead_along_tree(
         rt, alloc, index, disk, names, recent, planner, targets, times, cols,
     )?;
-    let graphs = graphs_of(alloc, current, &leads, cols)?;
     Ok(Retrieved {
-        graphs,
+        leads,
         weight: tree.weight,
         singles: tree.singles,
         sum: tree.sum,

@@ -17,5 +17,5 @@ mod tests;
 
 pub use fault::StartFault;
 pub use laws::{law_images_start_as_they_stand, law_starts_are_determined};
-pub use opening::open;
+pub use opening::{OpenedFile, open};
 pub use stored_history::StoredHistory;

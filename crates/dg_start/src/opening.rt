@@ -1,6 +1,6 @@
 //! Opening an index file.
 
-ghost use Rattle.std.specs.Prelude.{◌≡◌, ◌⊎◌, ◌+◌, ℕ, List, [], Ok, Option, Some, IfErr, IfOk, IfSome, IsErrOf, OnOk, length};
+ghost use Rattle.std.specs.Prelude.{◌≡◌, ◌⊎◌, ◌+◌, ℕ, List, [], Ok, Option, None, Some, IfErr, IfOk, IfSome, IsErrOf, OnOk, length};
 ghost use Rattle.std.specs.List.{All};
 ghost use Rattle.dg_columns.specs.NamesInRange.{NamesFit};
 ghost use Rattle.dg_disk.specs.Counts.{Rose};
@@ -9,6 +9,7 @@ ghost use Rattle.dg_fold.specs.BytesRead.{Takes};
 ghost use Rattle.dg_history.specs.History.{History};
 ghost use Rattle.dg_index.specs.ImageOfHistory.{IsImageOf, StandsAs};
 ghost use Rattle.dg_graph.specs.declared.event.Event.{Event};
+ghost use Rattle.dg_graph.specs.Replay.{replay_from};
 ghost use Rattle.dg_index.specs.OpenedIndex.{opened_of, opening};
 ghost use Rattle.dg_plan.specs.IndexGraph.{arcs_of};
 ghost use Rattle.dg_plan.specs.Walks.{weight_of};
@@ -29,13 +30,25 @@ use dg_file::{Index, ReopenFault};
 use dg_graph::Event;
 use dg_names::Names;
 use dg_now::Now;
+use dg_set::Set;
 use std::alloc::Global;
 use std::thread::Threads;
 
-// The current graph, and the recent events.
+/// An index file that was opened: its history, and the graph behind the last closed list, which the recent events lead
+/// on to the current graph.
+#[derive(Drop)]
+pub struct OpenedFile {
+    /// The history.
+    pub history: StoredHistory,
+    /// The graph behind its last closed list.
+    pub last_set: Set,
+}
+
+// The current graph, the recent events, and the graph behind the last closed list.
 struct Current {
     now: Now,
     recent: Vec<Event>,
+    set: Set,
 }
 
 // The current graph and the recent events of an index with these names.
@@ -50,6 +63,7 @@ fn read_current<R: Threads + Sync, D: Disk>(
     // the graph and the events
     ensures started { IfOk result (λ current. IfSome (D.image disk.old) (λ image.
         Starts image (Ok (started_with (Some index.old.opening) names.now current.now.graph current.recent.items)))) }
+    ensures led { IfOk result (λ current. current.now.graph ≡ replay_from current.set current.recent.items) }
     ensures none { IfOk result (λ current. current.now.pending ≡ []) }
     ensures many { IfOk result (λ current. length current.recent.items ≡ recent_count index.old.opening) }
     ensures fit { IfOk result (λ current. All (λ (e : Event). NamesFit e.body) current.recent.items) }
@@ -70,7 +84,22 @@ fn read_current<R: Threads + Sync, D: Disk>(
     let recent = read_sources(alloc, index, disk, names.len(), &sources)?;
     let set = last_set(rt, alloc, index, disk, names.len())?;
     let now = current_graph(alloc, names, &set, first_recent(index), &sources, &recent)?;
-    Ok(Current { now, recent })
+    Ok(Current { now, recent, set })
+}
+
+// No index. Takes no memory.
+fn blank(alloc: Global) -> OpenedFile
+    ensures index { result.history.index ≡ None }
+    ensures names { result.history.names ≡ [] }
+    ensures graph { result.history.now.graph ≡ [] }
+    ensures pending { result.history.now.pending ≡ [] }
+    ensures recent { result.history.recent.items ≡ [] }
+    ensures set { result.last_set ≡ [] }
+{
+    OpenedFile {
+        history: StoredHistory::empty(alloc),
+        last_set: Set::new(alloc),
+    }
 }
 
 /// Opens the index over the disk, if there is one: reads its recent events, composes the records along the plan of
@@ -86,14 +115,15 @@ pub fn open<R: Threads + Sync, D: Disk>(
     rt: &R,
     alloc: Global,
     disk: &mut D,
-) -> Result<StoredHistory, StartFault>
+) -> Result<OpenedFile, StartFault>
     // the history
     ensures started { IfOk result (λ opened. IfSome (D.image disk.old) (λ image.
-        Starts image (Ok (started_with (index_opening opened.index) opened.names opened.now.graph opened.recent.items)))) }
+        Starts image (Ok (started_with (index_opening opened.history.index) opened.history.names opened.history.now.graph opened.history.recent.items)))) }
     ensures stands { IfOk result (λ opened. IfSome (D.image disk.old) (λ image. (z : Option History) → StandsAs z image
-        → KeepsHistory z (index_opening opened.index) opened.names opened.now.graph opened.recent.items)) }
-    ensures sound { IfOk result (λ opened. IsSoundHistory (index_opening opened.index) opened.names opened.now opened.recent.items) }
-    ensures held { IfOk result (λ opened. IfSome (D.image disk.new) (λ image. IsHeldBy (index_opening opened.index) opened.names image)) }
+        → KeepsHistory z (index_opening opened.history.index) opened.history.names opened.history.now.graph opened.history.recent.items)) }
+    ensures led { IfOk result (λ opened. opened.history.now.graph ≡ replay_from opened.last_set opened.history.recent.items) }
+    ensures sound { IfOk result (λ opened. IsSoundHistory (index_opening opened.history.index) opened.history.names opened.history.now opened.history.recent.items) }
+    ensures held { IfOk result (λ opened. IfSome (D.image disk.new) (λ image. IsHeldBy (index_opening opened.history.index) opened.history.names image)) }
     // the bytes read, over an image of a history
     ensures takes { IfOk result (λ opened. IfSome (D.image disk.old) (λ image. (z : History) → IsImageOf z image
         → (steps : List ℕ) → PlansLastLeaf (opened_of z).index steps
@@ -110,17 +140,20 @@ pub fn open<R: Threads + Sync, D: Disk>(
     let mut names = Names::new(alloc);
     let mut index = match Index::reopen(alloc, disk, &mut names) {
         Ok(index) => index,
-        Err(ReopenFault::Blank) => return Ok(StoredHistory::empty(alloc)),
+        Err(ReopenFault::Blank) => return Ok(blank(alloc)),
         Err(ReopenFault::Foreign) => return Err(StartFault::Foreign),
         Err(ReopenFault::Damaged(offset)) => return Err(StartFault::Damaged(offset)),
         Err(ReopenFault::Disk) => return Err(StartFault::Disk),
         Err(ReopenFault::Memory) => return Err(StartFault::Memory),
     };
-    let Current { now, recent } = read_current(rt, alloc, &mut index, disk, &names)?;
-    Ok(StoredHistory {
-        index: Some(index),
-        names,
-        now,
-        recent,
+    let Current { now, recent, set } = read_current(rt, alloc, &mut index, disk, &names)?;
+    Ok(OpenedFile {
+        history: StoredHistory {
+            index: Some(index),
+            names,
+            now,
+            recent,
+        },
+        last_set: set,
     })
 }

@@ -1,4 +1,4 @@
-use crate::{StartFault, StoredHistory, open};
+use crate::{OpenedFile, StartFault, open};
 use dg_disk::MemoryDisk;
 use dg_graph::{Body, Column, Element, Event};
 use dg_history::Key;
@@ -58,10 +58,11 @@ const TAKEN: u64 = 18 + 237 + 1 + 40 + 84;
 const CALLS: u64 = 10;
 
 // The file is opened with its names, its graph and its recent events.
-fn holds_five(rt: &impl Abort, opened: &StoredHistory) -> Result<(), Fail> {
-    assert!(rt; opened.index.is_some());
-    assert_eq!(rt; opened.names.len(), 2);
-    let graph = opened.now.to_set()?;
+fn holds_five(rt: &impl Abort, opened: &OpenedFile) -> Result<(), Fail> {
+    let OpenedFile { history, last_set } = opened;
+    assert!(rt; history.index.is_some());
+    assert_eq!(rt; history.names.len(), 2);
+    let graph = history.now.to_set()?;
     let wanted = [
         Element::Node { id: 1 },
         Element::Node { id: 2 },
@@ -81,7 +82,9 @@ fn holds_five(rt: &impl Abort, opened: &StoredHistory) -> Result<(), Fail> {
             directed: true,
         },
     };
-    assert_eq!(rt; opened.recent.as_slice(), [last].as_slice());
+    assert_eq!(rt; history.recent.as_slice(), [last].as_slice());
+    // behind the last closed list the edge is still there
+    assert_eq!(rt; last_set.len(), 4);
     Ok(())
 }
 
@@ -103,11 +106,12 @@ fn a_blank_image_has_no_index(rt: HostRuntime) -> Result<(), Fail> {
     let alloc = rt.alloc();
     let mut disk = MemoryDisk::new(alloc, &[], MANY, MANY, &[])?;
     match open(&rt, alloc, &mut disk) {
-        Ok(opened) => {
-            assert!(rt; opened.index.is_none());
-            assert_eq!(rt; opened.names.len(), 0);
-            assert_eq!(rt; opened.now.to_set()?.len(), 0);
-            assert_eq!(rt; opened.recent.len(), 0);
+        Ok(OpenedFile { history, last_set }) => {
+            assert_eq!(rt; last_set.len(), 0);
+            assert!(rt; history.index.is_none());
+            assert_eq!(rt; history.names.len(), 0);
+            assert_eq!(rt; history.now.to_set()?.len(), 0);
+            assert_eq!(rt; history.recent.len(), 0);
         }
         Err(fault) => assert_eq!(rt; Some(fault), None),
     }
@@ -121,10 +125,11 @@ fn an_index_without_a_batch_is_empty(rt: HostRuntime) -> Result<(), Fail> {
     image.push(0)?;
     let mut disk = MemoryDisk::new(alloc, &image, MANY, MANY, &[])?;
     match open(&rt, alloc, &mut disk) {
-        Ok(opened) => {
-            assert!(rt; opened.index.is_some());
-            assert_eq!(rt; opened.now.to_set()?.len(), 0);
-            assert_eq!(rt; opened.recent.len(), 0);
+        Ok(OpenedFile { history, last_set }) => {
+            assert_eq!(rt; last_set.len(), 0);
+            assert!(rt; history.index.is_some());
+            assert_eq!(rt; history.now.to_set()?.len(), 0);
+            assert_eq!(rt; history.recent.len(), 0);
         }
         Err(fault) => assert_eq!(rt; Some(fault), None),
     }

@@ -13,7 +13,7 @@ use Rattle.dg_retrieval.specs.Branches.{AreBranches}
 use Rattle.dg_retrieval.specs.Faults.{of_fold}
 use Rattle.dg_retrieval.specs.NodeSets.{IsIndexOver}
 use Rattle.dg_retrieval.specs.Retrieval.{IsFirstDamage, IsNoDamage}
-use Rattle.dg_retrieval.proofs.Retrieving.{all_entered, all_kept, all_off_root, branches_as, damage_of, grafts_many, handed_out, leads_of, led_many, most_of, never_of, shared_of, takes_of, whole_of}
+use Rattle.dg_retrieval.proofs.Retrieving.{all_begin, all_entered, all_kept, all_off_root, branches_as, damage_of, grafts_many, handed_out, leads_of, led_many, most_of, never_of, shared_of, takes_of, whole_of}
 use Rattle.dg_retrieval.proofs.TreeBranches.{branches_grow, branches_lead, branches_many}
 use Rattle.dg_retrieval.proofs.leads.lead_along_tree.Goals as goal
 
@@ -145,6 +145,16 @@ returns-clause-count g c =
     (branches_as edges _ targets _ _ c.in_ok-branches.branches.items c.edges.ensures c.deref.ensures.value c.in_ok-branches.ensures) in
     led_many c.args.names c.args.recent.now c.deref-5.result.now _ branches c.args.times.now c.in_ok-leads.leads.items c.in_ok-leads.ensures.ok
     ∙ (branches_many edges targets (grafts_in c.in_ok-tree.tree) branches are).0
+
+pub returns-clause-begun : goal.returns-clause-begun
+returns-clause-begun g c =
+    let edges = c.args.planner.now.edges in
+    let targets = c.args.targets.now in
+    let branches = c.deref-4.result.now in
+    let are = subst (AreBranches edges targets (grafts_in c.in_ok-tree.tree)) (sym c.deref-4.ensures.value)
+    (branches_as edges _ targets _ _ c.in_ok-branches.branches.items c.edges.ensures c.deref.ensures.value c.in_ok-branches.ensures) in
+    all_begin c.args.index.now.opening c.args.cols edges c.requires.edges targets (grafts_in c.in_ok-tree.tree) branches are _ refl c.args.names c.args.recent.now c.deref-5.result.now c.args.times.now
+    c.in_ok-leads.leads.items c.in_ok-leads.ensures.ok
 
 pub returns-clause-leads : goal.returns-clause-leads
 returns-clause-leads g c =

@@ -1,25 +1,19 @@
-use Rattle.std.proofs.Common.{[], ◌∷◌, length, map, nat_lt, ap, ◌∙◌}
-use Rattle.std.proofs.lemmas.List.{length-map}
+use Rattle.std.proofs.Common.{[], ◌∷◌, nat_lt}
 use Rattle.dg_history.specs.declared.node.NodeId.TheVariants.{Root}
 use Rattle.dg_index.specs.OpenedIndex.{events_in}
 use Rattle.dg_plan.specs.IndexGraph.{arcs_of}
 use Rattle.dg_planner.specs.Trees.{grafts_in}
-use Rattle.dg_retrieval.specs.Graphs.{led_from}
-use Rattle.dg_retrieval.proofs.RetrievedGraphs.{graphs_of, singles_many}
+use Rattle.dg_retrieval.proofs.RetrievedGraphs.{leads_come, singles_many}
 use Rattle.dg_retrieval.proofs.retrieval.retrieve.Goals as goal
 
 pub returns-clause-count : goal.returns-clause-count
-returns-clause-count g c =
-    let led = led_from c.args.current.now.graph c.args.cols in
-    let come = c.in_ok-graphs.ensures ∙ ap (map led) c.deref.ensures.value in (
-      ap length come ∙ length-map c.in_ok-tree.field-0.leads.items led ∙ c.in_ok-tree.ensures.count,
-      singles_many (arcs_of c.args.planner.now.edges) (Root ∷ []) c.args.targets.now c.in_ok-tree.field-0.tree.singles.items c.in_ok-tree.ensures.singles,
-    )
+returns-clause-count g c = (
+  c.in_ok-tree.ensures.count,
+  singles_many (arcs_of c.args.planner.now.edges) (Root ∷ []) c.args.targets.now c.in_ok-tree.field-0.tree.singles.items c.in_ok-tree.ensures.singles,
+)
 
 pub returns-clause-graphs : goal.returns-clause-graphs
 returns-clause-graphs g c =
     let o = c.args.index.now.opening in
-    let led = led_from c.args.current.now.graph c.args.cols in
-    graphs_of o c.args.cols c.args.planner.now.edges (nat_lt 0 (events_in o.batches), c.requires.edges) c.args.targets.now (grafts_in c.in_ok-tree.field-0.tree) c.args.names c.args.current.now.graph
-    c.args.recent.now c.args.times.now c.in_ok-tree.field-0.leads.items (g.D.Disk.image c.args.disk.now) c.in_ok-tree.ensures.leads _
-    (c.in_ok-graphs.ensures ∙ ap (map led) c.deref.ensures.value)
+    leads_come o c.args.cols c.args.planner.now.edges (nat_lt 0 (events_in o.batches), c.requires.edges) c.args.targets.now (grafts_in c.in_ok-tree.field-0.tree) c.args.names
+    c.args.recent.now c.args.times.now c.in_ok-tree.field-0.leads.items (g.D.Disk.image c.args.disk.now) c.in_ok-tree.ensures.leads

@@ -19,8 +19,8 @@ use Rattle.dg_start.proofs.opening.open.Goals as goal
 
 pub returns-in-Err-Blank-clause-held : goal.returns-in-Err-Blank-clause-held
 returns-in-Err-Blank-clause-held g c =
-    let none : index_opening c.empty.result.index ≡ None = ap index_opening c.empty.ensures.index in
-    subst (λ (i : Option Opening). IfSome (g.D.Disk.image c.reopen.new.disk) (λ image. IsHeldBy i c.empty.result.names image)) (sym none)
+    let none : index_opening c.blank.result.history.index ≡ None = ap index_opening c.blank.ensures.index in
+    subst (λ (i : Option Opening). IfSome (g.D.Disk.image c.reopen.new.disk) (λ image. IsHeldBy i c.blank.result.history.names image)) (sym none)
     (told_weaker (g.D.Disk.image c.args.disk.now) (g.D.Disk.image c.reopen.new.disk) (λ image. opening image ≡ Err No_index) (λ image. is_blank image ≡ true)
     c.reopen.ensures.frame.same_image blank_is (rw c.in-Err-Blank.field-0-is at c.in-Err-Blank.ensures).refused)
 
@@ -31,12 +31,12 @@ returns-in-Err-Blank-clause-takes g c =
 pub returns-in-Err-Blank-clause-stands : goal.returns-in-Err-Blank-clause-stands
 returns-in-Err-Blank-clause-stands g c =
     let told = g.D.Disk.image c.args.disk.now in
-    let none : index_opening c.empty.result.index ≡ None = ap index_opening c.empty.ensures.index in
+    let none : index_opening c.blank.result.history.index ≡ None = ap index_opening c.blank.ensures.index in
     let blank : IfSome told (λ image. Starts image (Ok None)) =
     told_weaker told told (λ image. opening image ≡ Err No_index) (λ image. Starts image (Ok None)) refl blank_starts (rw c.in-Err-Blank.field-0-is at c.in-Err-Blank.ensures).refused in
-    keeps_history c.law_images_start_as_they_stand.ensures told (index_opening c.empty.result.index) c.empty.result.names c.empty.result.now.graph c.empty.result.recent.items
-    (subst (λ (i : Option Opening). IfSome told (λ image. Starts image (Ok (started_with i c.empty.result.names c.empty.result.now.graph c.empty.result.recent.items)))) (sym none) blank)
-    (λ e. (c.empty.ensures.names, c.empty.ensures.graph, c.empty.ensures.recent))
+    keeps_history c.law_images_start_as_they_stand.ensures told (index_opening c.blank.result.history.index) c.blank.result.history.names c.blank.result.history.now.graph c.blank.result.history.recent.items
+    (subst (λ (i : Option Opening). IfSome told (λ image. Starts image (Ok (started_with i c.blank.result.history.names c.blank.result.history.now.graph c.blank.result.history.recent.items)))) (sym none) blank)
+    (λ e. (c.blank.ensures.names, c.blank.ensures.graph, c.blank.ensures.recent))
 
 pub returns-in-Err-Foreign-clause-never : goal.returns-in-Err-Foreign-clause-never
 returns-in-Err-Foreign-clause-never g c =
