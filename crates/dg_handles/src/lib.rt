@@ -1,0 +1,12 @@
+//! The live handles of a session: what each stands for, and the slot of the pool that has its graph. docs/MODEL.md
+//! has the definitions.
+#![tactic(auto)]
+
+mod attach;
+mod handles;
+mod laws;
+#[cfg(test)]
+mod tests;
+
+pub use handles::Handles;
+pub use laws::{law_tie_is_kept, law_union_of_handles};

@@ -1,0 +1,174 @@
+//! The worked cases, and that handles are given where memory is there.
+ghost use Rattle.std.specs.Prelude.{◌≡◌, ℕ, None, IfOk, length};
+ghost use Rattle.dg_handles.specs.Handles.{IsTied};
+ghost use Rattle.dg_pool.specs.Graphs.{slot_graph};
+
+use crate::{Handles, law_tie_is_kept};
+use dg_delta::Delta;
+use dg_fold::Lead;
+use dg_graph::{Body, Columns, Element, Event};
+use dg_history::NodeId;
+use dg_pool::Pool;
+use dg_set::Set;
+use std::alloc::{AllocError, Global};
+use std::test::Fail;
+
+const A: Element = Element::Node { id: 1 };
+
+const B: Element = Element::Node { id: 2 };
+
+const C: Element = Element::Node { id: 3 };
+
+const VALUE: Element = Element::NodeAttr {
+    id: 2,
+    key: 0,
+    value: 5,
+};
+
+const STRUCTURE: Columns = Columns {
+    nodes_attr: false,
+    edges_attr: false,
+};
+
+// The current graph has nodes 1 and 2.
+fn pool(alloc: Global) -> Result<Pool, AllocError>
+    ensures { IfOk result (λ p. (s : ℕ) → slot_graph p s ≡ None) }
+{
+    let mut set = Set::new(alloc);
+    set.insert(A)?;
+    set.insert(B)?;
+    let mut pool = Pool::new(alloc);
+    pool.make_cells(set.items())?;
+    pool.set_now(&set);
+    Ok(pool)
+}
+
+fn set_of(alloc: Global, items: &[Element]) -> Result<Set, Fail> {
+    match Set::from_sorted(Vec::from_slice(alloc, items)?) {
+        Ok(set) => Ok(set),
+        Err(_) => Err("the elements do not rise".into()),
+    }
+}
+
+fn lead(alloc: Global, begun: NodeId, minus: &[Element], plus: &[Element]) -> Result<Lead, Fail> {
+    let minus = set_of(alloc, minus)?;
+    let plus = set_of(alloc, plus)?;
+    let delta = Delta::from_sets(minus, plus).ok_or("the sets share an element")?;
+    Ok(Lead { begun, delta })
+}
+
+// From the current graph node 2 goes, and node 3 comes; and from the empty graph node 2 comes, with a value.
+fn leads(alloc: Global) -> Result<Vec<Lead>, Fail>
+    ensures { IfOk result (λ leads. length leads.items ≡ 2) }
+{
+    let mut leads = Vec::new(alloc);
+    leads.push(lead(alloc, NodeId::Now, &[B], &[C])?)?;
+    leads.push(lead(alloc, NodeId::Root, &[], &[B, VALUE])?)?;
+    Ok(leads)
+}
+
+// The elements of a handle's graph.
+fn list(alloc: Global, handles: &Handles, pool: &Pool, handle: u32) -> Result<Vec<Element>, Fail>
+    requires { IsTied pool.now handles.now.slots }
+{
+    match handles.view(pool, handle) {
+        Some(view) => Ok(view.list(alloc)?),
+        None => Err("the handle is not live".into()),
+    }
+}
+
+#[test]
+fn handles_list_their_graphs_until_they_are_released(rt: HostRuntime) -> Result<(), Fail> {
+    let alloc = rt.alloc();
+    let mut pool = pool(alloc)?;
+    let mut handles = Handles::new(alloc, 1)?;
+    handles.add(&mut pool, STRUCTURE, &[10, 20], &leads(alloc)?)?;
+    assert_eq!(rt; (handles.live(), handles.next(), pool.live()), (2, 3, 2));
+    assert_eq!(rt;
+        list(alloc, &handles, &pool, 1)?.as_slice(),
+        [A, C].as_slice()
+    );
+    assert_eq!(rt; list(alloc, &handles, &pool, 2)?.as_slice(), [B].as_slice());
+    assert!(rt; handles.view(&pool, 0).is_none() && handles.view(&pool, 3).is_none());
+    assert_eq!(rt; pool.union_len(), 3);
+    assert!(rt; handles.release(&mut pool, 1));
+    assert!(rt; handles.view(&pool, 1).is_none());
+    assert_eq!(rt; list(alloc, &handles, &pool, 2)?.as_slice(), [B].as_slice());
+    assert_eq!(rt; pool.union_len(), 2);
+    assert!(rt; !handles.release(&mut pool, 1));
+    assert_eq!(rt; (handles.live(), handles.next(), pool.live()), (1, 3, 1));
+    Ok(())
+}
+
+#[test]
+fn handles_stay_while_the_current_graph_changes(rt: HostRuntime) -> Result<(), Fail> {
+    let alloc = rt.alloc();
+    let mut pool = pool(alloc)?;
+    let mut handles = Handles::new(alloc, u32::MAX - 1)?;
+    handles.add(&mut pool, STRUCTURE, &[10, 20], &leads(alloc)?)?;
+    assert_eq!(rt; handles.next(), 4_294_967_296);
+    pool.apply_now(&[Event {
+        time: 30,
+        body: Body::NodeRemoved { id: 1 },
+    }]);
+    law_tie_is_kept();
+    assert!(rt; !pool.member_now(&A));
+    assert_eq!(rt;
+        list(alloc, &handles, &pool, 4_294_967_294)?.as_slice(),
+        [A, C].as_slice()
+    );
+    assert_eq!(rt;
+        list(alloc, &handles, &pool, 4_294_967_295)?.as_slice(),
+        [B].as_slice()
+    );
+    handles.clear();
+    assert_eq!(rt; (handles.live(), handles.next()), (0, 4_294_967_296));
+    Ok(())
+}
+
+// So many leads to node 3 alone.
+fn many(alloc: Global, count: usize) -> Result<Vec<Lead>, Fail> {
+    let mut leads = Vec::new(alloc);
+    for _ in 0..count {
+        leads.push(lead(alloc, NodeId::Root, &[], &[C])?)?;
+    }
+    Ok(leads)
+}
+
+#[test]
+fn full_table_has_room_again_after_a_release(rt: HostRuntime) -> Result<(), Fail> {
+    let alloc = rt.alloc();
+    let mut pool = pool(alloc)?;
+    let mut handles = Handles::new(alloc, 1)?;
+    let first = many(alloc, 125)?;
+    assert!(rt; first.len() == 125);
+    handles.add(&mut pool, STRUCTURE, &[0; 125], &first)?;
+    handles.add(&mut pool, STRUCTURE, &[10, 20], &leads(alloc)?)?;
+    assert_eq!(rt;
+        (handles.live(), handles.next(), pool.live()),
+        (127, 128, 127)
+    );
+    assert!(rt; handles.release(&mut pool, 60));
+    let last = many(alloc, 1)?;
+    assert!(rt; last.len() == 1);
+    assert!(rt; handles.live() == 126);
+    handles.add(&mut pool, STRUCTURE, &[30], &last)?;
+    assert_eq!(rt;
+        (handles.live(), handles.next(), pool.live()),
+        (127, 129, 127)
+    );
+    assert_eq!(rt;
+        list(alloc, &handles, &pool, 61)?.as_slice(),
+        [C].as_slice()
+    );
+    assert_eq!(rt;
+        list(alloc, &handles, &pool, 126)?.as_slice(),
+        [A, C].as_slice()
+    );
+    assert_eq!(rt;
+        list(alloc, &handles, &pool, 128)?.as_slice(),
+        [C].as_slice()
+    );
+    assert!(rt; handles.view(&pool, 60).is_none());
+    Ok(())
+}
