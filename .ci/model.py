@@ -429,17 +429,38 @@ class Changes:
         return None
 
 
-def listing(graph, names, columns):
+def cut(graph, columns):
+    """The elements of a graph in these columns."""
+    return {x for x in graph if x[0] in (NODE, EDGE) or ("n" if x[0] == NODE_ATTR else "e") in columns}
+
+
+def listing(graph, names):
     lines = []
     for x in sorted(graph):
         if x[0] == NODE:
             lines.append(f"node {x[1]}")
         elif x[0] == EDGE:
             lines.append(f"edge {x[1]} {x[2]} {x[3]} {'dir' if x[4] else 'undir'}")
-        elif ("n" if x[0] == NODE_ATTR else "e") in columns:
+        else:
             word = "nattr" if x[0] == NODE_ATTR else "eattr"
             lines.append(f"{word} {x[1]} {names[x[2]].decode()} {names[x[3]].decode()}")
     return lines
+
+
+def neighbours(graph, node):
+    """The lines of the edges at a node, by their ids."""
+    lines = []
+    for _, edge, source, target, directed in sorted(x for x in graph if x[0] == EDGE):
+        if node in (source, target):
+            side = ("out" if node == source else "in") if directed else "both"
+            lines.append(f"{side} {edge} {target if node == source else source}")
+    return lines
+
+
+def attributes(graph, node, names):
+    """The lines of a node's attributes, by the number of their key."""
+    found = sorted(x for x in graph if x[:2] == (NODE_ATTR, node))
+    return [f"attr {names[key].decode()} {names[value].decode()}" for _, _, key, value in found]
 
 
 class Case:
@@ -448,7 +469,7 @@ class Case:
     def __init__(self, program, index, seed):
         self.program, self.index, self.seed = program, index, seed
         self.script, self.due = [], []
-        self.handles = []  # what each handle of this run lists, in order
+        self.handles, self.next = {}, 1  # the graphs of this run's live handles, and the number of the next one
 
     def reply(self, *lines):
         self.due += list(lines) + ["end"]
@@ -461,21 +482,33 @@ class Case:
             same = made.read() == file
         if ran.returncode != status or ran.stdout.decode() != due or not same:
             sys.exit(f"seed {self.seed}: status {ran.returncode}, replies {ran.stdout.decode() == due}, file {same}")
-        self.script, self.due, self.handles = [], [], []
+        self.script, self.due, self.handles, self.next = [], [], {}, 1
+
+    def give(self, graphs):
+        """Gives each of these graphs a handle."""
+        for graph in graphs:
+            self.handles[self.next] = graph
+            self.next += 1
+
+    def held(self, history):
+        """The elements that the current graph and the live handles have together."""
+        return set.union(replay(history.events), *self.handles.values())
 
 
 def ask_graphs(rng, history, changes, case):
-    """Retrieves graphs, one at a time or several at once, and lists handles of this run."""
+    """Retrieves graphs, one at a time or several at once."""
     for _ in range(rng.choice([0, 1, 1, 2])):
         columns = rng.choice(["s", "sn", "se", "sne"])
         graph = Graph(history, columns)
         first, last = history.events[0][0], history.events[-1][0]
         times = [rng.randrange(first, last + 1) for _ in range(rng.choice([1, 1, 2, 3, 7]))]
         if len(case.handles) + len(times) > 127:
+            case.script.append(f"several {columns} {' '.join(map(str, times))}")
+            case.reply(f"refused 9 pool-full {len(case.handles)} {len(times)}")
             return
         targets = [point(history, time) for time in times]
         singles = [graph.costs[target][0] for target in targets]
-        handle = len(case.handles) + 1
+        handle = case.next
         if len(times) == 1 and rng.random() < 0.7:
             case.script.append(f"at {times[0]} {columns}")
             case.reply(f"ok at {handle} {singles[0]}")
@@ -483,14 +516,44 @@ def ask_graphs(rng, history, changes, case):
             case.script.append(f"several {columns} {' '.join(map(str, times))}")
             lines = [f"handle {handle + i} {time} {single}" for i, (time, single) in enumerate(zip(times, singles))]
             case.reply(f"ok several {graph.tree_weight(targets)} {sum(singles)}", *lines)
-        for time in times:
-            shown = replay(e for e in history.events if e[0] <= time)
-            case.handles.append(listing(shown, changes.names, columns))
-    for _ in range(rng.choice([0, 1, 2])):
-        if case.handles:
-            handle = rng.randrange(len(case.handles))
-            case.script.append(f"list {handle + 1}")
-            case.reply(f"ok list {handle + 1} {len(case.handles[handle])}", *case.handles[handle])
+        case.give(cut(replay(e for e in history.events if e[0] <= time), columns) for time in times)
+
+
+def ask_handles(rng, history, changes, case):
+    """Asks for what handles of this run have, gives some up, and cleans."""
+    for _ in range(rng.choice([0, 1, 2, 5])):
+        handle, node = rng.randrange(1, case.next + 1), rng.randrange(31)
+        asked = rng.choice(["list", "list", "counts", "node", "node", "neighbours", "neighbours", "release", "pool", "clean", "all"])
+        graph = case.handles.get(handle)
+        if asked == "pool":
+            case.script.append("pool")
+            case.reply(f"ok pool {len(case.handles)} {len(case.held(history))}")
+        elif asked == "clean":
+            case.script.append(f"clean {rng.choice([1, 2, 7, 1000])}")
+            case.reply("ok clean")
+        elif asked == "all":
+            case.script.append("clean all")
+            case.reply(f"ok clean all {len(case.held(history))}")
+        else:
+            case.script.append(f"{asked} {handle}" + (f" {node}" if asked in ("node", "neighbours") else ""))
+            if graph is None:
+                case.reply(f"refused 8 unknown-handle {handle}")
+            elif asked == "list":
+                case.reply(f"ok list {handle} {len(graph)}", *listing(graph, changes.names))
+            elif asked == "counts":
+                counts = " ".join(str(sum(x[0] == kind for x in graph)) for kind in (NODE, EDGE, NODE_ATTR, EDGE_ATTR))
+                case.reply(f"ok counts {handle} {counts}")
+            elif asked == "neighbours":
+                lines = neighbours(graph, node)
+                case.reply(f"ok neighbours {handle} {node} {len(lines)}", *lines)
+            elif asked == "release":
+                case.reply(f"ok release {handle}")
+                del case.handles[handle]
+            elif (NODE, node) in graph:
+                lines = attributes(graph, node, changes.names)
+                case.reply(f"ok node {handle} {node} yes {len(neighbours(graph, node))}", *lines)
+            else:
+                case.reply(f"ok node {handle} {node} no")
 
 
 def ask_plans(rng, history, case):
@@ -540,6 +603,7 @@ def check(program, index, seed):
         case.reply(f"ok {word} {count} {len(history.events)} {events[-1][0]}")
         ask_plans(rng, history, case)
         ask_graphs(rng, history, changes, case)
+        ask_handles(rng, history, changes, case)
         if rng.random() < 0.5:
             case.run(history.file())
     case.run(history.file())
@@ -610,10 +674,10 @@ def check_damage(program, index, seed):
         if damaged in graph.entered(targets) and "sne"[column] in columns:
             case.reply(told)
             continue
-        handle, singles = len(case.handles) + 1, [graph.costs[target][0] for target in targets]
+        handle, singles = case.next, [graph.costs[target][0] for target in targets]
         listed = [f"handle {handle + i} {time} {single}" for i, (time, single) in enumerate(zip(times, singles))]
         case.reply(f"ok several {graph.tree_weight(targets)} {sum(singles)}", *listed)
-        case.handles += times
+        case.give(set() for _ in times)
     case.script += [f"append {len(lines)}"] + lines
     if damaged in met:
         case.reply(told)

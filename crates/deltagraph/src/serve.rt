@@ -12,7 +12,7 @@ use dg_disk::Disk;
 use dg_history::{EVENTS_MAX, FILE_BYTES_MAX};
 use dg_io::{Lines, Sink, Source};
 use dg_line::write_reply;
-use dg_machine::{Limits, SCRIPT_BYTES_MAX};
+use dg_machine::{FIRST_HANDLE, Limits, SCRIPT_BYTES_MAX};
 use dg_session::{Session, Stop};
 use dg_start::law_starts_are_determined;
 use std::alloc::Global;
@@ -29,7 +29,7 @@ pub fn serve<R: Threads + Sync, S: Source, K: Sink, D: Disk>(
     sink: &mut K,
     disk: &mut D,
 ) -> Status
-    ensures promise { Promised (record { script_bytes = SCRIPT_BYTES_MAX; events = EVENTS_MAX; file_bytes = FILE_BYTES_MAX })
+    ensures promise { Promised (record { script_bytes = SCRIPT_BYTES_MAX; events = EVENTS_MAX; file_bytes = FILE_BYTES_MAX; first_handle = FIRST_HANDLE })
         (is_written_form (map string_bytes words.now)) result
         (outside S.left S.faults K.written K.faults D.image D.faults D.write_faults D.taken source.old sink.old disk.old)
         (outside S.left S.faults K.written K.faults D.image D.faults D.write_faults D.taken source.new sink.new disk.new) }
@@ -98,8 +98,8 @@ fn answer_script<R: Threads, S: Source, K: Sink, D: Disk>(
     sink: &mut K,
     disk: &mut D,
 ) -> Status
-    requires { IfSome (D.image disk.old) (λ image. IsHeldBy session.old.index session.old.names image) }
-    ensures answered { ScriptAnswered limit session.old result
+    requires { IfSome (D.image disk.old) (λ image. IsHeldBy session.old.parts.index session.old.parts.names image) }
+    ensures answered { ScriptAnswered limit session.old.parts result
         (outside S.left S.faults K.written K.faults D.image D.faults D.write_faults D.taken source.old sink.old disk.old)
         (outside S.left S.faults K.written K.faults D.image D.faults D.write_faults D.taken source.new sink.new disk.new) }
 {

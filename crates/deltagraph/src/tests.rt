@@ -8,7 +8,7 @@ use dg_disk::MemoryDisk;
 use dg_graph::Column;
 use dg_history::{EVENTS_MAX, FILE_BYTES_MAX, Key};
 use dg_io::{MemorySink, MemorySource};
-use dg_machine::{Limits, SCRIPT_BYTES_MAX};
+use dg_machine::{FIRST_HANDLE, Limits, SCRIPT_BYTES_MAX};
 use dg_start::StartFault;
 use std::alloc::Global;
 use std::test::Fail;
@@ -77,6 +77,7 @@ fn within(script_bytes: u32, file_bytes: u32) -> Limits
         script_bytes: u64::from(script_bytes),
         events: EVENTS_MAX,
         file_bytes: u64::from(file_bytes),
+        first_handle: FIRST_HANDLE,
     }
 }
 
@@ -88,6 +89,7 @@ fn with_events(events: u16) -> Limits
         script_bytes: SCRIPT_BYTES_MAX,
         events: u64::from(events),
         file_bytes: FILE_BYTES_MAX,
+        first_handle: FIRST_HANDLE,
     }
 }
 

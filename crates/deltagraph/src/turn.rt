@@ -55,19 +55,19 @@ pub fn next_turn<R: Threads, S: Source, D: Disk>(
     source: &mut S,
     disk: &mut D,
 ) -> Result<Turn, Stop>
-    requires { IfSome (D.image disk.old) (λ image. IsHeldBy session.old.index session.old.names image) }
-    ensures turn { IfOk result (λ turn. Turns turn (asked lines.old (S.left source.old)) (asked lines.new (S.left source.new)) session.old (D.image disk.old) session.new (D.image disk.new)) }
-    ensures held { OnOk result (IfSome (D.image disk.new) (λ image. IsHeldBy session.new.index session.new.names image)) }
-    ensures no_index { OnOk result (session.new.index ≡ None → (session.old.index ≡ None) × (D.image disk.new ≡ D.image disk.old)) }
+    requires { IfSome (D.image disk.old) (λ image. IsHeldBy session.old.parts.index session.old.parts.names image) }
+    ensures turn { IfOk result (λ turn. Turns turn (asked lines.old (S.left source.old)) (asked lines.new (S.left source.new)) session.old.parts (D.image disk.old) session.new.parts (D.image disk.new)) }
+    ensures held { OnOk result (IfSome (D.image disk.new) (λ image. IsHeldBy session.new.parts.index session.new.parts.names image)) }
+    ensures no_index { OnOk result (session.new.parts.index ≡ None → (session.old.parts.index ≡ None) × (D.image disk.new ≡ D.image disk.old)) }
     ensures falls { IfOk result (λ turn. Falls turn (to_come lines.old) (to_come lines.new)) }
     ensures end { IfOk result (λ turn. EndsAt turn lines.new) }
     ensures store_read { IfOk result (λ turn. TellsFailedReads turn (D.faults disk.old) (D.faults disk.new)) }
     ensures unread { IfOk result (λ turn. ReadsToReply turn (D.taken disk.old) (D.taken disk.new)) }
 
     // why it stops
-    ensures stop { IsErrOf result Stop.Read → (session.new ≡ session.old) × (D.image disk.new ≡ D.image disk.old) }
-    ensures stop_limit { IsErrOf result Stop.Limit → (session.new ≡ session.old) × (D.image disk.new ≡ D.image disk.old) }
-    ensures store { IsErrOf result Stop.Store → Breaks (asked lines.old (S.left source.old)) (asked lines.new (S.left source.new)) session.old (D.image disk.old) (D.image disk.new) }
+    ensures stop { IsErrOf result Stop.Read → (session.new.parts ≡ session.old.parts) × (D.image disk.new ≡ D.image disk.old) }
+    ensures stop_limit { IsErrOf result Stop.Limit → (session.new.parts ≡ session.old.parts) × (D.image disk.new ≡ D.image disk.old) }
+    ensures store { IsErrOf result Stop.Store → Breaks (asked lines.old (S.left source.old)) (asked lines.new (S.left source.new)) session.old.parts (D.image disk.old) (D.image disk.new) }
     ensures read { IsErrOf result Stop.Read → CountRose (S.faults source.old) (S.faults source.new) }
     ensures limit { IsErrOf result Stop.Limit → (lines.new.taken ≡ lines.new.limit) × NeedsByte lines.new }
     ensures store_cause { IsErrOf result Stop.Store → DiskRose (D.write_faults disk.old) (D.write_faults disk.new) }
@@ -94,18 +94,18 @@ fn turn_of<R: Threads, S: Source, D: Disk>(
     source: &mut S,
     disk: &mut D,
 ) -> Result<Turn, Stop>
-    requires { IfSome (D.image disk.old) (λ image. IsHeldBy session.old.index session.old.names image) }
-    ensures turn { IfOk result (λ turn. TurnsAt turn lines.old.text (told lines.old (S.left source.old)) (told lines.new (S.left source.new)) session.old (D.image disk.old) session.new (D.image disk.new)) }
+    requires { IfSome (D.image disk.old) (λ image. IsHeldBy session.old.parts.index session.old.parts.names image) }
+    ensures turn { IfOk result (λ turn. TurnsAt turn lines.old.text (told lines.old (S.left source.old)) (told lines.new (S.left source.new)) session.old.parts (D.image disk.old) session.new.parts (D.image disk.new)) }
     ensures goes_on { IfOk result (λ turn. GoesOnward turn) }
     ensures store_read { IfOk result (λ turn. TellsFailedReads turn (D.faults disk.old) (D.faults disk.new)) }
     ensures unread { IfOk result (λ turn. ReadsToReply turn (D.taken disk.old) (D.taken disk.new)) }
-    ensures held { OnOk result (IfSome (D.image disk.new) (λ image. IsHeldBy session.new.index session.new.names image)) }
-    ensures no_index { OnOk result (session.new.index ≡ None → (session.old.index ≡ None) × (D.image disk.new ≡ D.image disk.old)) }
+    ensures held { OnOk result (IfSome (D.image disk.new) (λ image. IsHeldBy session.new.parts.index session.new.parts.names image)) }
+    ensures no_index { OnOk result (session.new.parts.index ≡ None → (session.old.parts.index ≡ None) × (D.image disk.new ≡ D.image disk.old)) }
 
     // why it stops
-    ensures stop { IsErrOf result Stop.Read → (session.new ≡ session.old) × (D.image disk.new ≡ D.image disk.old) }
-    ensures stop_limit { IsErrOf result Stop.Limit → (session.new ≡ session.old) × (D.image disk.new ≡ D.image disk.old) }
-    ensures store { IsErrOf result Stop.Store → BreaksAt lines.old.text (told lines.old (S.left source.old)) (told lines.new (S.left source.new)) session.old (D.image disk.old) (D.image disk.new) }
+    ensures stop { IsErrOf result Stop.Read → (session.new.parts ≡ session.old.parts) × (D.image disk.new ≡ D.image disk.old) }
+    ensures stop_limit { IsErrOf result Stop.Limit → (session.new.parts ≡ session.old.parts) × (D.image disk.new ≡ D.image disk.old) }
+    ensures store { IsErrOf result Stop.Store → BreaksAt lines.old.text (told lines.old (S.left source.old)) (told lines.new (S.left source.new)) session.old.parts (D.image disk.old) (D.image disk.new) }
     ensures read { IsErrOf result Stop.Read → CountRose (S.faults source.old) (S.faults source.new) }
     ensures limit { IsErrOf result Stop.Limit → (lines.new.taken ≡ lines.new.limit) × NeedsByte lines.new }
     ensures store_cause { IsErrOf result Stop.Store → DiskRose (D.write_faults disk.old) (D.write_faults disk.new) }

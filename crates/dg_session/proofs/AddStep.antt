@@ -57,7 +57,7 @@ use Rattle.dg_session.proofs.OpenedHistory.{behind}
 use Rattle.dg_session.proofs.NamesAfter.{Grows, changes_length, grown_new}
 use Rattle.dg_session.proofs.StandsFor.{IsOf, both_told, by_first, is_of, not_false, one_told, opening_of, passes, refused_is, stands}
 use Rattle.dg_session.proofs.Steps.{Comes, accepted_is, accepted_steps, denied, denied_at, failing_denies, is_accepted, lacking_denies, refused_denies}
-use Rattle.dg_session.specs.BatchCommand.{barred, command_with, head_of}
+use Rattle.dg_session.specs.BatchCommand.{HandlesStay, barred, command_with, head_of}
 use Rattle.dg_session.specs.BatchLines.{IsBarred, IsBatch, NamesGrow, ReadsBatch, first_refusal}
 use Rattle.dg_session.specs.declared.batch_command.BatchCommand.{BatchCommand}
 use Rattle.dg_session.specs.declared.batch_command.BatchCommand.TheVariants.{Load, Append}
@@ -67,6 +67,9 @@ use Rattle.dg_session.specs.declared.halt.Halt.TheVariants as halt
 use Rattle.dg_session.specs.declared.stop.Stop.TheVariants as stop
 use Rattle.dg_session.specs.Halt.{batch_halt}
 use Rattle.dg_session.specs.HeldIndex.{events_held, span_held}
+use Rattle.dg_handles.specs.Handles.{HandlesState, graphs_at}
+use Rattle.dg_pool.specs.Graphs.{PoolState, slot_graph}
+use Rattle.dg_session.proofs.PoolStep.{graphs_same}
 use Rattle.dg_session.specs.Parts.{Parts}
 use Rattle.dg_session.specs.Session.{Accepts, ComesTo, CutsOff, Denies, Moves, StandsFor, TakesLines, is_reached, is_too_full, refusals_by, refused_by}
 use Rattle.dg_start.specs.declared.stored_history.StoredHistory.{StoredHistory}
@@ -236,6 +239,25 @@ by_room m z which b full =
       reply = headed (head_of which (length b.events) (length (events_of z) + length b.events) (last_time_from 0 b.events));
       state = record m { index = Some (with_batch z b) };
     }
+
+-- after a fault the session keeps what it kept; after a failure of a write or sync nothing is said
+abbrev pub StaysAs : BatchFault → Parts → Parts → Type 0
+StaysAs (fault.BadChange line reason) p q = q ≡ p
+StaysAs (fault.FileFull needed limit) p q = q ≡ p
+StaysAs (fault.Damaged key col) p q = q ≡ p
+StaysAs fault.Read p q = q ≡ p
+StaysAs fault.Memory p q = q ≡ p
+StaysAs fault.Store p q = Unit {0}
+
+-- the session with these handles, whose graphs are in this pool
+abbrev pub with_handles : Parts → HandlesState → PoolState → Parts
+with_handles p h pool = record p { table = h.table; graphs = graphs_at pool h.slots; next = h.next }
+
+pub kept_handles : (x : Parts) (h h' : HandlesState) (pool pool' : PoolState) → h' ≡ h → ((s : ℕ) → slot_graph pool' s ≡ slot_graph pool s)
+    → with_handles x h' pool' ≡ with_handles x h pool
+kept_handles x h h' pool pool' same graphs =
+    ap (λ (y : HandlesState). with_handles x y pool') same
+    ∙ (λ i. let y : Parts = record x { table = h.table; graphs = graphs_same pool pool' graphs h.slots i; next = h.next } in y)
 
 -- the session with what the history holds
 abbrev pub with_history : Parts → StoredHistory → Parts
@@ -507,13 +529,28 @@ module _ (which : BatchCommand) (p : Parts) (count known limit : ℕ) (c : Store
   -- ---- what the command comes to
 
   module _ (new : StoredHistory) (before after : Option (List ℕ)) where
-    stays : IsAsKnown known c new → with_history p new ≡ p
+    pub stays : IsAsKnown known c new → with_history p new ≡ p
     stays s =
         let index : index_opening new.index ≡ p.index = s.index ∙ sym a.index in
         let names : new.names ≡ p.names = s.names ∙ names_kept in
         let graph : new.now.graph ≡ p.graph = s.graph ∙ a.graph in
         let recent : new.recent.items ≡ p.recent = s.recent ∙ a.recent in
         λ i. record p { index = index i; names = names i; graph = graph i; recent = recent i }
+
+    kept_as : (h h' : HandlesState) (pool pool' : PoolState) → IsAsKnown known c new → (h' ≡ h) × ((s : ℕ) → slot_graph pool' s ≡ slot_graph pool s)
+        → with_handles p h pool ≡ p → with_handles (with_history p new) h' pool' ≡ p
+    kept_as h h' pool pool' back hs same =
+        kept_handles (with_history p new) h h' pool pool' hs.0 hs.1 ∙ ap (λ (y : Parts). with_handles y h pool) (stays back) ∙ same
+
+    -- after a fault the session keeps what it kept, its handles and their graphs among it
+    pub failed_stays : (f : BatchFault) (h h' : HandlesState) (pool pool' : PoolState) → IsBack f known c new → HandlesStay f h h' pool pool'
+        → with_handles p h pool ≡ p → StaysAs f p (with_handles (with_history p new) h' pool')
+    failed_stays (fault.BadChange line reason) h h' pool pool' back hs same = kept_as h h' pool pool' back hs same
+    failed_stays (fault.FileFull n most) h h' pool pool' back hs same = kept_as h h' pool pool' back hs same
+    failed_stays (fault.Damaged key col) h h' pool pool' back hs same = kept_as h h' pool pool' back hs same
+    failed_stays fault.Read h h' pool pool' back hs same = kept_as h h' pool pool' back hs same
+    failed_stays fault.Memory h h' pool pool' back hs same = kept_as h h' pool pool' back hs same
+    failed_stays fault.Store h h' pool pool' back hs same = tt
 
     pub batch_added : (x : AddedBatch) → IfSome (index_opening c.index) (λ o. AddsBatch o limit known c new before after b.changes.items b.front x)
         → Accepts (command_with which count) Got p before (with_history p new) after (headed (head_of which x.events x.total x.last))
@@ -534,34 +571,34 @@ module _ (which : BatchCommand) (p : Parts) (count known limit : ℕ) (c : Store
           quiet = λ not_writing. let e : true ≡ false = sym (writes which count) ∙ not_writing in cc;
         }
 
-    pub batch_failed : (f : BatchFault) → IfSome (index_opening c.index) (λ o. FailsBatch o limit known c before after b.changes.items b.front f) → IsBack f known c new
-        → (q : Parts) → q ≡ with_history p new → ComesTo (command_with which count) Got p before q after (Err (batch_halt f))
-    batch_failed (fault.BadChange line reason) fails back q q_is =
+    pub batch_failed : (f : BatchFault) → IfSome (index_opening c.index) (λ o. FailsBatch o limit known c before after b.changes.items b.front f) → (q : Parts) → StaysAs f p q
+        → ComesTo (command_with which count) Got p before q after (Err (batch_halt f))
+    batch_failed (fault.BadChange line reason) fails q q_is =
         let f = of_here (index_opening c.index) free.index (λ o. FailsBatch o limit known c before after b.changes.items b.front (fault.BadChange line reason)) opening_there fails in
-        denied (command_with which count) Got p q before after (refusal.BadChange line reason) (q_is ∙ stays back) f.0
+        denied (command_with which count) Got p q before after (refusal.BadChange line reason) q_is f.0
         (λ m image s.
         let z = is_of p free.index image m free.there s in
         steps_as image m s (refuse m (refusal.BadChange line reason)) (answer_with image m z.0 (Err (line, reason)) s z.1 f.1)) (λ h. absurd (false≢true h))
-    batch_failed (fault.FileFull n most) fails back q q_is =
+    batch_failed (fault.FileFull n most) fails q q_is =
         let f = of_here (index_opening c.index) free.index (λ o. FailsBatch o limit known c before after b.changes.items b.front (fault.FileFull n most)) opening_there fails in
         let d : FillsFile free.index limit known c before b.changes.items b.front n = f.2 in
         subst (λ (k : ℕ). Denies (command_with which count) Got p before q after (refusal.FileFull n k)) (sym f.1)
-        (denied_at (command_with which count) Got p q before after (refusal.FileFull n limit) (q_is ∙ stays back) f.0
+        (denied_at (command_with which count) Got p q before after (refusal.FileFull n limit) q_is f.0
         (full_steps before d.events d.segment d.comes n d.needed_is d.over) (λ h. absurd (false≢true h)))
-    batch_failed (fault.Damaged key col) fails back q q_is =
+    batch_failed (fault.Damaged key col) fails q q_is =
         let f = of_here (index_opening c.index) free.index (λ o. FailsBatch o limit known c before after b.changes.items b.front (fault.Damaged key col)) opening_there fails in
-        denied_at (command_with which count) Got p q before after (refusal.Damaged key col) (q_is ∙ stays back) f.0
+        denied_at (command_with which count) Got p q before after (refusal.Damaged key col) q_is f.0
         (λ m image at s.
         let z = is_of p free.index image m free.there s in
         absurd (one_told before (λ x. (z : History) → IsOverHistory z x free.index known c → ⊥) image f.1.never at z.0 (over image m z.0 z.1)))
         (λ h. reads_records which count)
-    batch_failed fault.Read fails back q q_is =
+    batch_failed fault.Read fails q q_is =
         let f : after ≡ before = of_here (index_opening c.index) free.index (λ o. FailsBatch o limit known c before after b.changes.items b.front fault.Read) opening_there fails in
-        failing_denies (command_with which count) Got p q before after (q_is ∙ stays back) f (reads_records which count) not_refused
-    batch_failed fault.Memory fails back q q_is =
+        failing_denies (command_with which count) Got p q before after q_is f (reads_records which count) not_refused
+    batch_failed fault.Memory fails q q_is =
         let f : after ≡ before = of_here (index_opening c.index) free.index (λ o. FailsBatch o limit known c before after b.changes.items b.front fault.Memory) opening_there fails in
-        lacking_denies (command_with which count) Got p q before after (q_is ∙ stays back) f (lacks which count) not_refused
-    batch_failed fault.Store fails back q q_is =
+        lacking_denies (command_with which count) Got p q before after q_is f (lacks which count) not_refused
+    batch_failed fault.Store fails q q_is =
         let d : BreaksBatch free.index limit known c before after b.changes.items b.front =
         of_here (index_opening c.index) free.index (λ o. BreaksBatch o limit known c before after b.changes.items b.front) opening_there fails in (
           writes which count,

@@ -19,7 +19,7 @@ use Rattle.dg_retrieval.specs.Retrieval.{TakesAtMostTree}
 use Rattle.dg_session.proofs.Retrievals.{handles_stand, if_some, moved_with, reads_failed, retrieval_accepted}
 use Rattle.dg_session.proofs.StandsFor.{one_image, one_told}
 use Rattle.dg_session.specs.Parts.{Parts}
-use Rattle.dg_session.specs.Reads.{IsRetrieved, Reads, is_early, new_entries, with_entries}
+use Rattle.dg_session.specs.Reads.{IsRetrieved, Reads, is_early, with_new}
 use Rattle.dg_session.specs.Session.{Accepts, StandsFor, refused_by, retrieval_needs}
 
 -- a tree of one target is the plan of the target
@@ -41,10 +41,10 @@ tree_alone g starts v steps h = (
 pub at_answers : (p q : Parts) (t : ℕ) (cols : Columns) (before after : Option (List ℕ)) (weight : ℕ) (singles : List ℕ) (graphs : List (List Element)) (reply : Reply)
     → refused_by p 0 (retrieval_needs (t ∷ []) 1) ≡ None → after ≡ before
     → IfSome before (λ image. (m : MachineState) → StandsFor p image m → IsRetrieved m (t ∷ []) cols weight singles graphs)
-    → q ≡ with_entries p (new_entries p.next (overlays cols (t ∷ [])) graphs) → reply ≡ headed (head.At p.next weight)
+    → q ≡ with_new p (overlays cols (t ∷ [])) graphs → reply ≡ headed (head.At p.next weight)
     → Accepts (command.At t cols) [] p before q after reply
 at_answers p q t cols before after weight singles graphs reply none same got is reply_is =
-    retrieval_accepted (command.At t cols) p q before after (new_entries p.next (overlays cols (t ∷ [])) graphs) reply
+    retrieval_accepted (command.At t cols) p q before after (overlays cols (t ∷ [])) graphs reply
     (moved_with (command.At t cols) p q before after reply none
     (λ m x y a b s.
     let r = one_told before (λ image. (k : MachineState) → StandsFor p image k → IsRetrieved k (t ∷ []) cols weight singles graphs) x got a m s in

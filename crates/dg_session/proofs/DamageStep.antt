@@ -3,7 +3,6 @@ use Rattle.std.proofs.Common.{◌≡◌, ℕ, Bool, true, false, List, Option, S
 use Rattle.std.specs.Prelude.{IfErr, IfSome}
 use Rattle.std.proofs.lemmas.Bool.{false≢true}
 use Rattle.dg_graph.specs.declared.element.Columns.{Columns}
-use Rattle.dg_graph.specs.declared.element.Element.{Element}
 use Rattle.dg_graph.specs.declared.event.Event.{Event}
 use Rattle.dg_graph.specs.Lines.{ScriptLine}
 use Rattle.dg_index.specs.OpenedIndex.{Opening, events_in}
@@ -49,6 +48,7 @@ tells_no_damage c p image (refusal.FileFull needed limit) e = tt
 tells_no_damage c p image refusal.StoreRead e = tt
 tells_no_damage c p image refusal.OutOfMemory e = tt
 tells_no_damage c p image refusal.LineLong e = tt
+tells_no_damage c p image refusal.HandlesSpent e = tt
 tells_no_damage c p image refusal.AlreadyLoaded e = tt
 
 -- nor does a reply that is no refusal
@@ -60,6 +60,14 @@ accepted_tells_none c p image (head.Appended _ _ _) e = tt
 accepted_tells_none c p image (head.At _ _) e = tt
 accepted_tells_none c p image (head.Several _ _) e = tt
 accepted_tells_none c p image (head.List _ _) e = tt
+accepted_tells_none c p image (head.Counts _ _) e = tt
+accepted_tells_none c p image (head.NodeThere _ _ _) e = tt
+accepted_tells_none c p image (head.NodeAbsent _ _) e = tt
+accepted_tells_none c p image (head.Neighbours _ _ _) e = tt
+accepted_tells_none c p image (head.Released _) e = tt
+accepted_tells_none c p image head.Cleaned e = tt
+accepted_tells_none c p image (head.CleanedAll _) e = tt
+accepted_tells_none c p image (head.Pool _ _) e = tt
 accepted_tells_none c p image (head.Plan _ _) e = tt
 accepted_tells_none c p image (head.Certified _) e = tt
 accepted_tells_none c p image (head.Tree _ _ _ _ _ _) e = tt
@@ -86,12 +94,12 @@ never_for_damage c x got p before q after r is no_reads comes =
 -- ---- a damage
 
 -- the fault of a retrieval over what the session has in memory
-pub damage_over : (p : Parts) (o : Opening) (times : List ℕ) (cols : Columns) (told : Option (List ℕ)) (names : ℕ) (graph : List Element) (recent : List Event) (r : Result Retrieved RetrievalFault)
-    → IsSession p o names graph recent
+pub damage_over : (p : Parts) (o : Opening) (times : List ℕ) (cols : Columns) (told : Option (List ℕ)) (names : ℕ) (recent : List Event) (r : Result Retrieved RetrievalFault)
+    → IsSession p o names recent
     → IfErr r (λ f. IfSome told (λ image. IsFirstDamage names (kept_edges o (events_in o.batches) cols) o cols (points_over o recent times) image f))
     → IfErr r (λ f. NamesDamage p told (times, cols) f)
-damage_over p o times cols told names graph recent (Ok x) is damage = tt
-damage_over p o times cols told names graph recent (Err f) is damage = (
+damage_over p o times cols told names recent (Ok x) is damage = tt
+damage_over p o times cols told names recent (Err f) is damage = (
   o,
   is.there,
   subst (λ es. IfSome told (λ image. IsFirstDamage (length p.names) (kept_edges o (events_in o.batches) cols) o cols (points_over o es times) image f)) is.all

@@ -10,8 +10,11 @@ pub mod HeldHistory
 pub mod LegalHistory
 pub mod StandsFor
 pub mod Steps
-pub mod HandleEntries
-pub mod ListStep
+pub mod HandleLines
+pub mod AskStep
+pub mod AskedGraphs
+pub mod ReleaseStep
+pub mod PoolStep
 pub mod ShownPlans
 pub mod PlanReplies
 pub mod PointNodes

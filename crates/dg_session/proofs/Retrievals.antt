@@ -3,7 +3,7 @@ use Rattle.std.proofs.Common.{◌≡◌, ⊎_elim, ℕ, suc, ◌+◌, ◌≤◌,
 use Rattle.std.specs.Prelude.{IfErr, IfOk, IfSome, Result, Ok, is_some, ◌||◌, ◌&&◌}
 use Rattle.std.specs.List.{All, Contains, list_any}
 use Rattle.std.proofs.lemmas.Bool.{false≢true}
-use Rattle.std.proofs.lemmas.List.{append-nil, length-map}
+use Rattle.std.proofs.lemmas.List.{append-nil}
 use Rattle.std.proofs.lemmas.List.Elements.{All-cons, All-head, All-nil, All-tail}
 use borrow.Author.Tests.{le-ltb, lt-ltb, ltb-false}
 use Rattle.dg_fold.specs.BytesRead.{Takes, TakesAtMost}
@@ -12,13 +12,14 @@ use Rattle.dg_graph.specs.declared.element.Columns.{Columns}
 use Rattle.dg_graph.specs.declared.element.Element.{Element}
 use Rattle.dg_graph.specs.declared.event.Event.{Event}
 use Rattle.dg_graph.specs.Lines.{ScriptLine}
+use Rattle.dg_handles.specs.Handles.{numbered}
 use Rattle.dg_history.specs.declared.node.Key.{Key}
 use Rattle.dg_history.specs.declared.node.NodeId.{NodeId}
 use Rattle.dg_history.specs.declared.node.NodeId.TheVariants.{Root}
 use Rattle.dg_history.specs.History.{History, events_of, in_range, span_of}
 use Rattle.dg_index.specs.OpenedIndex.{Opening, events_in}
 use Rattle.dg_machine.specs.declared.command.Command.{Command}
-use Rattle.dg_machine.specs.declared.limits.TheConstants.{LIVE_HANDLES_MAX}
+use Rattle.dg_machine.specs.declared.limits.TheConstants.{HANDLE_MAX, LIVE_HANDLES_MAX}
 use Rattle.dg_machine.specs.declared.reply.Head.{Head}
 use Rattle.dg_machine.specs.declared.reply.Head.TheVariants as head
 use Rattle.dg_machine.specs.declared.reply.Refusal.{Refusal}
@@ -39,17 +40,18 @@ use Rattle.dg_retrieval.specs.declared.retrieval.Retrieved.{Retrieved}
 use Rattle.dg_retrieval.specs.declared.fault.RetrievalFault.{RetrievalFault}
 use Rattle.dg_retrieval.specs.declared.fault.RetrievalFault.TheVariants as retrieval_fault
 use Rattle.dg_retrieval.specs.KeptGraph.{kept_edges, kept_nodes}
+use Rattle.dg_retrieval.specs.Graphs.{led_from}
 use Rattle.dg_retrieval.specs.Retrieval.{ArePoints, IsNoDamage, IsOver, IsTreeOf, TakesAtMostTree, graphs_at}
 use Rattle.dg_session.proofs.PlanStep.{edges_are, point_here, point_is}
 use Rattle.dg_session.proofs.PointNodes.{IsSoundIndex, point_there}
-use Rattle.dg_session.proofs.StandsFor.{events_there, handle_taken, instants_are, miss, is_of, last_passes, not_false, one_told, passes, refused_is}
+use Rattle.dg_session.proofs.StandsFor.{events_there, handle_taken, hit, instants_are, miss, is_of, last_passes, not_false, one_told, passes, refused_is}
 use Rattle.dg_session.proofs.Steps.{accepted_is, accepted_steps, failing_denies, lacking_denies}
 use Rattle.dg_session.specs.Halt.{retrieval_halt}
 use Rattle.dg_session.specs.contracts.session.Session.{the_view}
 use Rattle.dg_session.specs.declared.session.Session.TheInside.{Inside}
 use Rattle.dg_session.specs.HeldIndex.{point_over, points_over, span_held}
 use Rattle.dg_session.specs.Parts.{Parts}
-use Rattle.dg_session.specs.Reads.{IsRetrieved, Reads, ReadsAsTold, ReadsBy, ReadsIn, is_early, new_entries, with_entries}
+use Rattle.dg_session.specs.Reads.{IsRetrieved, Reads, ReadsAsTold, ReadsBy, ReadsIn, is_early, with_new}
 use Rattle.dg_start.specs.StoredHistory.{IsHeldBy, index_opening}
 use Rattle.dg_session.specs.Session.{Accepts, ComesTo, Moves, StandsFor, WhereBothTold, is_reached, refused_by, retrieval_needs}
 
@@ -62,12 +64,20 @@ is_out span t = not (in_range span t)
 -- what a retrieval that is not refused finds: an index, instants that are in its history, and room for the handles
 pub retrieval_free : (p : Parts) (times : List ℕ) → 1 ≤ length times → refused_by p 0 (retrieval_needs times (length times)) ≡ None
     → (is_some p.index ≡ true) × (list_any (is_out (span_held p.index)) times ≡ false) × (length p.table + length times ≤ LIVE_HANDLES_MAX)
+    × (p.next + length times ≤ HANDLE_MAX + 1)
 retrieval_free p times some none =
+    let n : ℕ = length times in
     let a = passes (not (is_some p.index)) refusal.NoIndex _ none in
     let b = passes (list_any (is_out (span_held p.index)) times) (refusal.OutOfRange (span_held p.index)) _ a.1 in
-    let c = last_passes (nat_lt 0 (length times) && nat_lt LIVE_HANDLES_MAX (length p.table + length times)) (refusal.PoolFull (length p.table) (length times)) b.1 in
-    let d : nat_lt LIVE_HANDLES_MAX (length p.table + length times) ≡ false = ap (λ x. x && nat_lt LIVE_HANDLES_MAX (length p.table + length times)) (sym (lt-ltb 0 (length times) some)) ∙ c in
-    (not_false (is_some p.index) a.0, b.0, omega (arith, ltb-false LIVE_HANDLES_MAX (length p.table + length times) d))
+    let c = passes (nat_lt 0 n && nat_lt LIVE_HANDLES_MAX (length p.table + n)) (refusal.PoolFull (length p.table) n) _ b.1 in
+    let d = last_passes (nat_lt 0 n && nat_lt (HANDLE_MAX + 1) (p.next + n)) refusal.HandlesSpent c.1 in
+    let room : nat_lt LIVE_HANDLES_MAX (length p.table + n) ≡ false = ap (λ x. x && nat_lt LIVE_HANDLES_MAX (length p.table + n)) (sym (lt-ltb 0 n some)) ∙ c.0 in
+    let left : nat_lt (HANDLE_MAX + 1) (p.next + n) ≡ false = ap (λ x. x && nat_lt (HANDLE_MAX + 1) (p.next + n)) (sym (lt-ltb 0 n some)) ∙ d in (
+      not_false (is_some p.index) a.0,
+      b.0,
+      omega (arith, ltb-false LIVE_HANDLES_MAX (length p.table + n) room),
+      omega (arith, ltb-false (HANDLE_MAX + 1) (p.next + n) left),
+    )
 
 -- the first that holds of them is that the pool is full
 pub pool_refused : (p : Parts) (times : List ℕ) (live : ℕ) → is_some p.index ≡ true → list_any (is_out (span_held p.index)) times ≡ false → live ≡ length p.table → live ≤ LIVE_HANDLES_MAX
@@ -78,21 +88,34 @@ pool_refused p times live there out live_is most full =
     let some : nat_lt 0 n ≡ true = lt-ltb 0 n (omega (arith, most, full)) in
     miss (not (is_some p.index)) refusal.NoIndex _ (ap (λ b. not b) there)
     ∙ miss (list_any (is_out (span_held p.index)) times) (refusal.OutOfRange (span_held p.index)) _ out
-    ∙ ap (λ b. earliest (when (b && nat_lt LIVE_HANDLES_MAX (length p.table + n)) (refusal.PoolFull (length p.table) n))) some
-    ∙ ap (λ b. earliest (when b (refusal.PoolFull (length p.table) n))) many ∙ ap (λ k. Some (refusal.PoolFull k n)) (sym live_is)
+    ∙ hit (nat_lt 0 n && nat_lt LIVE_HANDLES_MAX (length p.table + n)) (refusal.PoolFull (length p.table) n) _ (λ i. some i && many i)
+    ∙ ap (λ k. Some (refusal.PoolFull k n)) (sym live_is)
+
+both_false : (a b : Bool) → b ≡ false → (a && b) ≡ false
+both_false true b h = h
+both_false false b h = refl
+
+-- there is room, and the first that holds is that no handle is left
+pub handles_refused : (p : Parts) (times : List ℕ) (next : ℕ) → is_some p.index ≡ true → list_any (is_out (span_held p.index)) times ≡ false → length p.table + length times ≤ LIVE_HANDLES_MAX
+    → next ≡ p.next → next ≤ HANDLE_MAX + 1 → HANDLE_MAX + 1 < next + length times → refused_by p 0 (retrieval_needs times (length times)) ≡ Some refusal.HandlesSpent
+handles_refused p times next there out room next_is most spent =
+    let n : ℕ = length times in
+    let some : nat_lt 0 n ≡ true = lt-ltb 0 n (omega (arith, most, spent)) in
+    let many : nat_lt (HANDLE_MAX + 1) (p.next + n) ≡ true = lt-ltb (HANDLE_MAX + 1) (p.next + n) (omega (arith, next_is, spent)) in
+    miss (not (is_some p.index)) refusal.NoIndex _ (ap (λ b. not b) there)
+    ∙ miss (list_any (is_out (span_held p.index)) times) (refusal.OutOfRange (span_held p.index)) _ out
+    ∙ miss (nat_lt 0 n && nat_lt LIVE_HANDLES_MAX (length p.table + n)) (refusal.PoolFull (length p.table) n) _ (both_false (nat_lt 0 n) _ (le-ltb LIVE_HANDLES_MAX (length p.table + n) room))
+    ∙ ap (λ b. earliest (when b refusal.HandlesSpent)) (λ i. some i && many i)
 
 -- none holds
 pub nothing_refused : (p : Parts) (times : List ℕ) → is_some p.index ≡ true → list_any (is_out (span_held p.index)) times ≡ false → length p.table + length times ≤ LIVE_HANDLES_MAX
-    → refused_by p 0 (retrieval_needs times (length times)) ≡ None
-nothing_refused p times there out room =
+    → p.next + length times ≤ HANDLE_MAX + 1 → refused_by p 0 (retrieval_needs times (length times)) ≡ None
+nothing_refused p times there out room left =
     let n : ℕ = length times in
     miss (not (is_some p.index)) refusal.NoIndex _ (ap (λ b. not b) there)
     ∙ miss (list_any (is_out (span_held p.index)) times) (refusal.OutOfRange (span_held p.index)) _ out
-    ∙ ap (λ b. earliest (when (nat_lt 0 n && b) (refusal.PoolFull (length p.table) n))) (le-ltb LIVE_HANDLES_MAX (length p.table + n) room) ∙ never (nat_lt 0 n)
-  where
-    never : (b : Bool) → earliest (when (b && false) (refusal.PoolFull (length p.table) (length times))) ≡ None
-    never true = refl
-    never false = refl
+    ∙ miss (nat_lt 0 n && nat_lt LIVE_HANDLES_MAX (length p.table + n)) (refusal.PoolFull (length p.table) n) _ (both_false (nat_lt 0 n) _ (le-ltb LIVE_HANDLES_MAX (length p.table + n) room))
+    ∙ ap (λ b. earliest (when b refusal.HandlesSpent)) (both_false (nat_lt 0 n) _ (le-ltb (HANDLE_MAX + 1) (p.next + n) left))
 
 pub there_is : (i : Option Opening) → is_some i ≡ true → (o : Opening) × (i ≡ Some o)
 there_is None h = absurd (false≢true h)
@@ -182,27 +205,15 @@ module _ (p : Parts) (o : Opening) (image : List ℕ) (m : MachineState) (there 
 
 -- ---- new handles
 
-pub few_entries : (next : ℕ) (stands : List Stands) (graphs : List (List Element)) → length (new_entries next stands graphs) ≤ length stands
-few_entries next [] graphs = omega arith
-few_entries next (x ∷ stands) [] = omega arith
-few_entries next (x ∷ stands) (g ∷ graphs) = let h = few_entries (next + 1) stands graphs in omega (arith, h)
-
--- there is an entry for each instant at most
-pub entry_count : (next : ℕ) (cols : Columns) (times : List ℕ) (graphs : List (List Element)) (entries : List ((ℕ × Stands) × List Element)) → entries ≡ new_entries next (overlays cols times) graphs → length entries ≤ length times
-entry_count next cols times graphs entries is =
-    let few = few_entries next (overlays cols times) graphs in
-    let count : length (overlays cols times) ≡ length times = length-map times (λ t. Overlay t cols None) in
-    omega (arith, few, count, ap length is)
-
 pub handles_taken : (p q : Parts) (image : List ℕ) (m : MachineState) (all : List Stands) → StandsFor p image m → is_some p.index ≡ true
-    → All (λ (x : Stands). is_reached (history_in m.index) x ≡ true) all → q ≡ with_entries p (new_entries p.next all (map (elements (history_in m.index)) all))
+    → All (λ (x : Stands). is_reached (history_in m.index) x ≡ true) all → q ≡ with_new p all (map (elements (history_in m.index)) all)
     → StandsFor q image (with_handles m all)
 handles_taken p q image m [] s there reached is = subst (λ (x : Parts). StandsFor x image m) (sym (is ∙ same)) s
   where
     no_more : p.next + 0 ≡ p.next
     no_more = omega arith
 
-    same : with_entries p [] ≡ p
+    same : with_new p [] [] ≡ p
     same = λ i. record p { table = append-nil p.table i; graphs = append-nil p.graphs i; next = no_more i }
 handles_taken p q image m (x ∷ all) s there reached is =
     handles_taken one q image (with_handle m x) all
@@ -218,16 +229,16 @@ handles_taken p q image m (x ∷ all) s there reached is =
     one : Parts
     one = record p { table = p.table ++ (p.next, x) ∷ []; graphs = p.graphs ++ graph ∷ []; next = p.next + 1 }
 
-    more : List ((ℕ × Stands) × List Element)
-    more = new_entries (p.next + 1) all (map (elements (history_in m.index)) all)
+    more : List (List Element)
+    more = map (elements (history_in m.index)) all
 
-    count : p.next + suc (length more) ≡ p.next + 1 + length more
+    count : p.next + suc (length all) ≡ p.next + 1 + length all
     count = omega arith
 
-    same : with_entries p (((p.next, x), graph) ∷ more) ≡ with_entries one more
+    same : with_new p (x ∷ all) (graph ∷ more) ≡ with_new one all more
     same = λ i. record p {
-      table = sym (append_assoc p.table ((p.next, x) ∷ []) (map (λ e. e.0) more)) i;
-      graphs = sym (append_assoc p.graphs (graph ∷ []) (map (λ e. e.1) more)) i;
+      table = sym (append_assoc p.table ((p.next, x) ∷ []) (numbered (p.next + 1) all)) i;
+      graphs = sym (append_assoc p.graphs (graph ∷ []) more) i;
       next = count i;
     }
 
@@ -243,11 +254,11 @@ instants_reached p image m times cols s =
 -- the state that the session stands for with the new handles
 pub handles_stand : (p q : Parts) (x y : List ℕ) (m : MachineState) (times : List ℕ) (cols : Columns) (weight : ℕ) (singles : List ℕ) (graphs : List (List Element))
     → StandsFor p x m → x ≡ y → 1 ≤ length times → refused_by p 0 (retrieval_needs times (length times)) ≡ None → IsRetrieved m times cols weight singles graphs
-    → q ≡ with_entries p (new_entries p.next (overlays cols times) graphs) → StandsFor q y (with_handles m (overlays cols times))
+    → q ≡ with_new p (overlays cols times) graphs → StandsFor q y (with_handles m (overlays cols times))
 handles_stand p q x y m times cols weight singles graphs s same some none r is =
     let free = retrieval_free p times some none in
     handles_taken p q y m (overlays cols times) (subst (λ image. StandsFor p image m) same s) free.0 (instants_reached p x m times cols s free.1)
-    (is ∙ ap (λ gs. with_entries p (new_entries p.next (overlays cols times) gs)) r.listed)
+    (is ∙ ap (λ gs. with_new p (overlays cols times) gs) r.listed)
 
 -- ---- the step
 
@@ -262,10 +273,10 @@ moved_with c old new before after reply none step x y a b m s =
     (k.1, accepted_steps m c [] k.0 (record { reply = reply; state = k.1 }) free k.2 (accepted_is m c [] k.0 (record { reply = reply; state = k.1 }) free k.3), k.4)
 
 -- a retrieval that gives new handles
-pub retrieval_accepted : (c : Command) (p q : Parts) (before after : Option (List ℕ)) (entries : List ((ℕ × Stands) × List Element)) (reply : Reply)
-    → WhereBothTold before after (λ x y. Moves c [] p x q y reply) → is_refusal reply.head ≡ false → after ≡ before → q ≡ with_entries p entries
+pub retrieval_accepted : (c : Command) (p q : Parts) (before after : Option (List ℕ)) (new : List Stands) (graphs : List (List Element)) (reply : Reply)
+    → WhereBothTold before after (λ x y. Moves c [] p x q y reply) → is_refusal reply.head ≡ false → after ≡ before → q ≡ with_new p new graphs
     → Accepts c [] p before q after reply
-retrieval_accepted c p q before after entries reply moves accepts same is = record {
+retrieval_accepted c p q before after new graphs reply moves accepts same is = record {
   moves = moves;
   accepted = accepts;
   held = λ h. subst (λ (x : Parts). IfSome after (λ image. IsHeldBy x.index x.names image)) (sym is) (subst (λ (o : Option (List ℕ)). IfSome o (λ image. IsHeldBy p.index p.names image)) (sym same) h);
@@ -325,29 +336,26 @@ reads_failing c p image (retrieval_fault.Damaged key col) before after each = ea
 
 -- ---- a retrieval over what the session has in memory
 
--- the index, the number of names, the current graph and the recent events are the session's
-pub record IsSession (p : Parts) (o : Opening) (names : ℕ) (graph : List Element) (recent : List Event) : Type 0 where
+-- the index, the number of names and the recent events are the session's
+pub record IsSession (p : Parts) (o : Opening) (names : ℕ) (recent : List Event) : Type 0 where
   pub there : p.index ≡ Some o
   pub count : names ≡ length p.names
-  pub current : graph ≡ p.graph
   pub all : recent ≡ p.recent
 
-pub is_session : (p : Parts) (s : Inside) (index : IndexState) (names : ℕ) (recent : List Event) → the_view s ≡ p → s.history.index ≡ Some index
-    → names ≡ length s.history.names → recent ≡ s.history.recent.items → IsSession p index.opening names s.history.now.graph recent
+pub is_session : (p : Parts) (s : Inside) (index : IndexState) (names : ℕ) (recent : List Event) → (the_view s).parts ≡ p → s.history.index ≡ Some index
+    → names ≡ length s.history.names → recent ≡ s.history.recent.items → IsSession p index.opening names recent
 is_session p s index names recent view there count all = record {
   there = sym (ap (λ (x : Parts). x.index) view) ∙ ap index_opening there;
   count = count ∙ ap (λ (x : Parts). length x.names) view;
-  current = ap (λ (x : Parts). x.graph) view;
   all = all ∙ ap (λ (x : Parts). x.recent) view;
 }
 
-module _ (p : Parts) (o : Opening) (times : List ℕ) (cols : Columns) (told : Option (List ℕ)) (names : ℕ) (graph : List Element) (recent : List Event) (is : IsSession p o names graph recent)
+module _ (p : Parts) (o : Opening) (times : List ℕ) (cols : Columns) (told : Option (List ℕ)) (names : ℕ) (recent : List Event) (is : IsSession p o names recent)
     (inside : list_any (is_out (span_held (Some o))) times ≡ false) where
-  over_session : (image : List ℕ) (m : MachineState) (s : StandsFor p image m) → IsOver (z_of p o image m is.there s) image o names graph recent
+  over_session : (image : List ℕ) (m : MachineState) (s : StandsFor p image m) → IsOver (z_of p o image m is.there s) image o names p.graph recent
   over_session image m s =
-      subst (λ es. IsOver (z_of p o image m is.there s) image o names graph es) (sym is.all)
-      (subst (λ g. IsOver (z_of p o image m is.there s) image o names g p.recent) (sym is.current)
-      (subst (λ n. IsOver (z_of p o image m is.there s) image o n p.graph p.recent) (sym is.count) (is_over p o image m is.there s)))
+      subst (λ es. IsOver (z_of p o image m is.there s) image o names p.graph es) (sym is.all)
+      (subst (λ n. IsOver (z_of p o image m is.there s) image o n p.graph p.recent) (sym is.count) (is_over p o image m is.there s))
 
   points_of_session : (image : List ℕ) (m : MachineState) (s : StandsFor p image m) → ArePoints (z_of p o image m is.there s) (points_over o recent times) times
   points_of_session image m s = ap (λ es. points_over o es times) is.all ∙ at_points p o image m is.there s times inside
@@ -355,43 +363,43 @@ module _ (p : Parts) (o : Opening) (times : List ℕ) (cols : Columns) (told : O
   pub retrieved_over : (r : Result Retrieved RetrievalFault)
       → IfOk r (λ x. IsTreeOf (kept_edges o (events_in o.batches) cols) (points_over o recent times) x.weight)
       → IfOk r (λ x. AreSingles (arcs_of (kept_edges o (events_in o.batches) cols)) (Root ∷ []) (points_over o recent times) x.singles.items)
-      → IfOk r (λ x. IfSome told (λ image. (z : History) → IsOver z image o names graph recent → ArePoints z (points_over o recent times) times → x.graphs.items ≡ graphs_at z times cols))
-      → IfOk r (λ x. IfSome told (λ image. (m : MachineState) → StandsFor p image m → IsRetrieved m times cols x.weight x.singles.items x.graphs.items))
+      → IfOk r (λ x. IfSome told (λ image. (z : History) (now : List Element) → IsOver z image o names now recent → ArePoints z (points_over o recent times) times → map (led_from now cols) x.leads.items ≡ graphs_at z times cols))
+      → IfOk r (λ x. IfSome told (λ image. (m : MachineState) → StandsFor p image m → IsRetrieved m times cols x.weight x.singles.items (map (led_from p.graph cols) x.leads.items)))
   retrieved_over (Err f) tree singles graphs = tt
   retrieved_over (Ok x) tree singles graphs =
-      if_some told (λ image. (z : History) → IsOver z image o names graph recent → ArePoints z (points_over o recent times) times → x.graphs.items ≡ graphs_at z times cols)
-      (λ image. (m : MachineState) → StandsFor p image m → IsRetrieved m times cols x.weight x.singles.items x.graphs.items)
+      if_some told (λ image. (z : History) (now : List Element) → IsOver z image o names now recent → ArePoints z (points_over o recent times) times → map (led_from now cols) x.leads.items ≡ graphs_at z times cols)
+      (λ image. (m : MachineState) → StandsFor p image m → IsRetrieved m times cols x.weight x.singles.items (map (led_from p.graph cols) x.leads.items))
       (λ image f m s.
-      is_retrieved p o image m is.there s times cols x.weight x.singles.items x.graphs.items inside
+      is_retrieved p o image m is.there s times cols x.weight x.singles.items (map (led_from p.graph cols) x.leads.items) inside
       (subst (λ es. IsTreeOf (kept_edges o (events_in o.batches) cols) (points_over o es times) x.weight) is.all tree)
       (subst (λ es. AreSingles (arcs_of (kept_edges o (events_in o.batches) cols)) (Root ∷ []) (points_over o es times) x.singles.items) is.all singles)
-      (f (z_of p o image m is.there s) (over_session image m s) (points_of_session image m s))) graphs
+      (f (z_of p o image m is.there s) p.graph (over_session image m s) (points_of_session image m s))) graphs
 
   pub taken_over : (r : Result Retrieved RetrievalFault) (before after : ℕ)
-      → IfOk r (λ x. IfSome told (λ image. (z : History) → IsOver z image o names graph recent → Takes x.weight before after))
+      → IfOk r (λ x. IfSome told (λ image. (z : History) (now : List Element) → IsOver z image o names now recent → Takes x.weight before after))
       → IfOk r (λ x. IfSome told (λ image. (m : MachineState) → StandsFor p image m → Takes x.weight before after))
   taken_over (Err f) before after takes = tt
   taken_over (Ok x) before after takes =
-      if_some told (λ image. (z : History) → IsOver z image o names graph recent → Takes x.weight before after)
+      if_some told (λ image. (z : History) (now : List Element) → IsOver z image o names now recent → Takes x.weight before after)
       (λ image. (m : MachineState) → StandsFor p image m → Takes x.weight before after)
-      (λ image f m s. f (z_of p o image m is.there s) (over_session image m s)) takes
+      (λ image f m s. f (z_of p o image m is.there s) p.graph (over_session image m s)) takes
 
   pub most_read : (before after : ℕ)
-      → IfSome told (λ image. (z : History) → IsOver z image o names graph recent → TakesAtMostTree (kept_edges o (events_in o.batches) cols) (points_over o recent times) before after)
+      → IfSome told (λ image. (z : History) (now : List Element) → IsOver z image o names now recent → TakesAtMostTree (kept_edges o (events_in o.batches) cols) (points_over o recent times) before after)
       → IfSome told (λ image. (m : MachineState) → StandsFor p image m → TakesAtMostTree (edges_in m cols) (points_for m times) before after)
   most_read before after most =
-      if_some told (λ image. (z : History) → IsOver z image o names graph recent → TakesAtMostTree (kept_edges o (events_in o.batches) cols) (points_over o recent times) before after)
+      if_some told (λ image. (z : History) (now : List Element) → IsOver z image o names now recent → TakesAtMostTree (kept_edges o (events_in o.batches) cols) (points_over o recent times) before after)
       (λ image. (m : MachineState) → StandsFor p image m → TakesAtMostTree (edges_in m cols) (points_for m times) before after)
       (λ image f m s.
       subst (λ (ns : List NodeId). TakesAtMostTree (edges_in m cols) ns before after) (points_are p o image m is.there s times inside)
       (subst (λ (es : List Edge). TakesAtMostTree es (points_over o p.recent times) before after) (edges_are p o image m is.there s cols)
-      (subst (λ es. TakesAtMostTree (kept_edges o (events_in o.batches) cols) (points_over o es times) before after) is.all (f (z_of p o image m is.there s) (over_session image m s))))) most
+      (subst (λ es. TakesAtMostTree (kept_edges o (events_in o.batches) cols) (points_over o es times) before after) is.all (f (z_of p o image m is.there s) p.graph (over_session image m s))))) most
 
   pub never_damaged : (r : Result Retrieved RetrievalFault)
-      → IfErr r (λ f. IfSome told (λ image. (z : History) → IsOver z image o names graph recent → ArePoints z (points_over o recent times) times → IsNoDamage f))
+      → IfErr r (λ f. IfSome told (λ image. (z : History) (now : List Element) → IsOver z image o names now recent → ArePoints z (points_over o recent times) times → IsNoDamage f))
       → IfErr r (λ f. IfSome told (λ image. (m : MachineState) → StandsFor p image m → IsNoDamage f))
   never_damaged (Ok x) never = tt
   never_damaged (Err f) never =
-      if_some told (λ image. (z : History) → IsOver z image o names graph recent → ArePoints z (points_over o recent times) times → IsNoDamage f)
+      if_some told (λ image. (z : History) (now : List Element) → IsOver z image o names now recent → ArePoints z (points_over o recent times) times → IsNoDamage f)
       (λ image. (m : MachineState) → StandsFor p image m → IsNoDamage f)
-      (λ image h m s. h (z_of p o image m is.there s) (over_session image m s) (points_of_session image m s)) never
+      (λ image h m s. h (z_of p o image m is.there s) p.graph (over_session image m s) (points_of_session image m s)) never

@@ -21,7 +21,7 @@ use Rattle.dg_retrieval.specs.Retrieval.{TakesAtMostTree}
 use Rattle.dg_session.proofs.Retrievals.{handles_stand, if_some, moved_with, reads_failed, retrieval_accepted}
 use Rattle.dg_session.proofs.StandsFor.{one_image, one_told}
 use Rattle.dg_session.specs.Parts.{Parts}
-use Rattle.dg_session.specs.Reads.{IsRetrieved, Reads, is_early, new_entries, with_entries}
+use Rattle.dg_session.specs.Reads.{IsRetrieved, Reads, is_early, with_new}
 use Rattle.dg_session.specs.Session.{Accepts, StandsFor, refused_by, retrieval_needs}
 
 module _ (p : Parts) (cols : Columns) (times : List ℕ) (count : ℕ) (number : length (take count times) ≡ count) (some : 1 ≤ count) where
@@ -32,11 +32,11 @@ module _ (p : Parts) (cols : Columns) (times : List ℕ) (count : ℕ) (number :
   module _ (free : refused_by p 0 (retrieval_needs (take count times) (length (take count times))) ≡ None) where
     pub several_answers : (q : Parts) (before after : Option (List ℕ)) (weight total : ℕ) (singles : List ℕ) (graphs : List (List Element)) (lines : List BodyLine) (reply : Reply) → after ≡ before
         → IfSome before (λ image. (m : MachineState) → StandsFor p image m → IsRetrieved m (take count times) cols weight singles graphs)
-        → q ≡ with_entries p (new_entries p.next (overlays cols (take count times)) graphs)
+        → q ≡ with_new p (overlays cols (take count times)) graphs
         → total ≡ sum singles → lines ≡ handle_lines p.next (take count times) singles → reply ≡ record { head = head.Several weight total; body = lines }
         → Accepts (command.Several cols times count) [] p before q after reply
     several_answers q before after weight total singles graphs lines reply same got is total_is lines_are reply_is =
-        retrieval_accepted (command.Several cols times count) p q before after (new_entries p.next (overlays cols (take count times)) graphs) reply
+        retrieval_accepted (command.Several cols times count) p q before after (overlays cols (take count times)) graphs reply
         (moved_with (command.Several cols times count) p q before after reply (needed ∙ free)
         (λ m x y a b s.
         let r = one_told before (λ image. (k : MachineState) → StandsFor p image k → IsRetrieved k (take count times) cols weight singles graphs) x got a m s in

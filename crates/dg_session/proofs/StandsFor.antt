@@ -17,17 +17,17 @@ use Rattle.dg_index.specs.IndexRecords.{recent_of}
 use Rattle.dg_index.specs.OpenedIndex.{Opening, opened_of}
 use Rattle.dg_machine.specs.declared.command.Command.{Command}
 use Rattle.dg_machine.specs.declared.limits.Limits.{Limits}
-use Rattle.dg_machine.specs.declared.limits.TheConstants.{LIVE_HANDLES_MAX}
+use Rattle.dg_machine.specs.declared.limits.TheConstants.{HANDLE_MAX, LIVE_HANDLES_MAX}
 use Rattle.dg_machine.specs.declared.reply.Refusal.{Refusal}
 use Rattle.dg_machine.specs.declared.reply.Refusal.TheVariants as refusal
 use Rattle.dg_machine.specs.declared.stands.Stands.{Stands}
 use Rattle.dg_machine.specs.Answer.{with_handle}
-use Rattle.dg_machine.specs.MachineState.{MachineState, elements, entry_at, events_in_index, history_in, names_in}
+use Rattle.dg_machine.specs.MachineState.{MachineState, elements, entry_at, events_in_index, graphs_of, history_in, names_in}
 use Rattle.dg_machine.specs.Needs.{Needs, needs, of, refused, when, earliest}
 use Rattle.dg_session.proofs.HeldHistory.{count_is, span_is}
 use Rattle.dg_session.specs.HeldIndex.{events_held, span_held}
 use Rattle.dg_session.specs.Parts.{Parts}
-use Rattle.dg_session.specs.Session.{StandsFor, WhereBothTold, graphs_of, is_reached, refused_by}
+use Rattle.dg_session.specs.Session.{StandsFor, WhereBothTold, is_reached, refused_by}
 use Rattle.dg_start.specs.StoredHistory.{KeepsHistory}
 
 -- what an image of the history is opened as, without the names
@@ -164,9 +164,9 @@ is_of p o image m there s =
 
 -- ---- refusals
 
--- the refusals, by how many events and names there are, and by the first and the last instant
-abbrev refusals_of : Bool → Limits → ℕ → Option (ℕ × ℕ) → ℕ → List (ℕ × Stands) → ℕ → Needs → List Refusal
-refusals_of there limits events span names table read n =
+-- the refusals, by how many events and names there are, by the first and the last instant, and by the handles
+abbrev refusals_of : Bool → Limits → ℕ → Option (ℕ × ℕ) → ℕ → List (ℕ × Stands) → ℕ → ℕ → Needs → List Refusal
+refusals_of there limits events span names table next read n =
     of n.lines (λ count. when (nat_lt read count) (refusal.ShortBatch read count))
     ++ (when (n.index && not there) refusal.NoIndex
     ++ (of n.parameters (λ p. when there refusal.IndexExists)
@@ -175,7 +175,8 @@ refusals_of there limits events span names table read n =
     ++ (when (nat_lt 0 n.changes && (nat_lt limits.events (events + n.changes) || nat_lt NAMES_MAX (names + 2 * n.changes))) (refusal.HistoryFull events n.changes)
     ++ (when (list_any (λ t. not (in_range span t)) n.instants) (refusal.OutOfRange span)
     ++ (of n.handle (λ h. when (not (is_some (entry_at h table))) (refusal.UnknownHandle h))
-    ++ when (nat_lt 0 n.handles && nat_lt LIVE_HANDLES_MAX (length table + n.handles)) (refusal.PoolFull (length table) n.handles))))))))
+    ++ (when (nat_lt 0 n.handles && nat_lt LIVE_HANDLES_MAX (length table + n.handles)) (refusal.PoolFull (length table) n.handles)
+    ++ when (nat_lt 0 n.handles && nat_lt (HANDLE_MAX + 1) (next + n.handles)) refusal.HandlesSpent))))))))
 
 held_events : (index : Option History) (image : List ℕ) → StandsAs index image → events_held (option_map opening_of index) ≡ length (events_in_index index)
 held_events None image h = refl
@@ -201,7 +202,7 @@ refused_is p image m c lines s =
     let events : events_held p.index ≡ length (events_in_index m.index) = events_are p image m s in
     let span : span_held p.index ≡ span_of (events_in_index m.index) = instants_are p image m s in
     let names : length p.names ≡ length (names_in m.index) = ap length (are_of m.index p s.kept).names_are in
-    λ i. earliest (refusals_of (there i) (s.limits i) (events i) (span i) (names i) (s.table i) (length lines) (needs c))
+    λ i. earliest (refusals_of (there i) (s.limits i) (events i) (span i) (names i) (s.table i) (s.next i) (length lines) (needs c))
 
 -- the first of these does not hold
 pub passes : (b : Bool) (r : Refusal) (rest : List Refusal) → earliest (when b r ++ rest) ≡ None → (b ≡ false) × (earliest rest ≡ None)

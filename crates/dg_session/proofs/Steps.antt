@@ -13,7 +13,7 @@ use Rattle.dg_machine.specs.Answer.{Answered, IsPlannedBy, accepted, answer, ans
 use Rattle.dg_machine.specs.CutImage.{IsAccepted}
 use Rattle.dg_machine.specs.MachineState.{MachineState, entry_at}
 use Rattle.dg_history.specs.History.{are_parameters, in_range}
-use Rattle.dg_machine.specs.declared.limits.TheConstants.{LIVE_HANDLES_MAX}
+use Rattle.dg_machine.specs.declared.limits.TheConstants.{HANDLE_MAX, LIVE_HANDLES_MAX}
 use Rattle.dg_machine.specs.Needs.{Needs, earliest, following, is_followed, needs, of, refused, when}
 use Rattle.dg_machine.specs.Planning.{Planned, IsPlanned, no_plan}
 use Rattle.dg_machine.specs.Run.{Step, Answers, Fails_to_read, Lacks_memory}
@@ -113,8 +113,9 @@ never_read p read n =
     (when_not_read (n.unloaded && is_some (span_held p.index)) refusal.AlreadyLoaded _ refl
     (when_not_read (nat_lt 0 n.changes && is_too_full p n.changes) (refusal.HistoryFull (events_held p.index) n.changes) _ refl
     (when_not_read (list_any (λ t. not (in_range (span_held p.index) t)) n.instants) (refusal.OutOfRange (span_held p.index)) _ refl
-    (of_not_read n.handle (λ h. not (is_some (entry_at h p.table))) (λ h. refusal.UnknownHandle h) (when (nat_lt 0 n.handles && nat_lt LIVE_HANDLES_MAX (length p.table + n.handles)) (refusal.PoolFull (length p.table) n.handles)) (λ h. refl)
-    (last_not_read (nat_lt 0 n.handles && nat_lt LIVE_HANDLES_MAX (length p.table + n.handles)) (refusal.PoolFull (length p.table) n.handles) refl))))))))
+    (of_not_read n.handle (λ h. not (is_some (entry_at h p.table))) (λ h. refusal.UnknownHandle h) _ (λ h. refl)
+    (when_not_read (nat_lt 0 n.handles && nat_lt LIVE_HANDLES_MAX (length p.table + n.handles)) (refusal.PoolFull (length p.table) n.handles) _ refl
+    (last_not_read (nat_lt 0 n.handles && nat_lt (HANDLE_MAX + 1) (p.next + n.handles)) refusal.HandlesSpent refl)))))))))
 
 pub refused_not_read : (p : Parts) (read : ℕ) (n : Needs) (r : Refusal) → refused_by p read n ≡ Some r → is_of_read r ≡ false
 refused_not_read p read n r is = subst IsNotOfRead is (never_read p read n)

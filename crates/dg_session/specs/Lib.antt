@@ -1,4 +1,6 @@
 pub mod Parts
+pub mod SessionState
+pub mod Sweeps
 pub mod HeldIndex
 pub mod BatchLines
 pub mod SessionStart

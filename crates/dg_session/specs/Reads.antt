@@ -5,6 +5,7 @@ use Rattle.dg_fold.specs.BytesRead.{Takes, TakesAtMost}
 use Rattle.dg_graph.specs.declared.element.Columns.{Columns}
 use Rattle.dg_graph.specs.declared.element.Element.{Element}
 use Rattle.dg_graph.specs.Lines.{ScriptLine}
+use Rattle.dg_handles.specs.Handles.{numbered}
 use Rattle.dg_history.specs.declared.node.NodeId.{NodeId}
 use Rattle.dg_history.specs.declared.node.NodeId.TheVariants.{Root}
 use Rattle.dg_history.specs.History.{events_of}
@@ -30,19 +31,12 @@ use Rattle.dg_session.specs.declared.halt.Halt.TheVariants as halt
 use Rattle.dg_session.specs.Parts.{Parts}
 use Rattle.dg_session.specs.Session.{StandsFor}
 
--- The entries of new handles from this number on: each with what it stands for, and the elements that it lists.
--- There is one for each of these that there is a set of elements for.
-abbrev pub new_entries : ℕ → List Stands → List (List Element) → List ((ℕ × Stands) × List Element)
-new_entries next [] graphs = []
-new_entries next (s ∷ more) [] = []
-new_entries next (s ∷ more) (g ∷ graphs) = ((next, s), g) ∷ new_entries (next + 1) more graphs
-
--- the session with these entries behind those of its handles
-abbrev pub with_entries : Parts → List ((ℕ × Stands) × List Element) → Parts
-with_entries p entries = record p {
-  table = p.table ++ map (λ e. e.0) entries;
-  graphs = p.graphs ++ map (λ e. e.1) entries;
-  next = p.next + length entries;
+-- the session with new handles for these behind those that it has, which list these graphs
+abbrev pub with_new : Parts → List Stands → List (List Element) → Parts
+with_new p new graphs = record p {
+  table = p.table ++ numbered p.next new;
+  graphs = p.graphs ++ graphs;
+  next = p.next + length new;
 }
 
 -- These graphs are those as of the instants, by a tree over the index of this state that weighs so much, beside

@@ -1,13 +1,12 @@
 -- How the steps of a session are steps of the machine.
-use Rattle.std.specs.Prelude.{◌≡◌, ℕ, ◌+◌, ◌*◌, Bool, true, false, ◌&&◌, ◌||◌, not, ◌==◌, List, [], ◌∷◌, ◌++◌, Option, Some, None, Result, Ok, Err, IfSome, if◌then◌else◌, is_some, length, map, nat_lt}
+use Rattle.std.specs.Prelude.{◌≡◌, ℕ, ◌+◌, ◌*◌, Bool, true, false, ◌&&◌, ◌||◌, not, List, [], ◌++◌, Option, Some, None, Result, Ok, Err, IfSome, is_some, length, nat_lt}
 use Rattle.std.specs.List.{All, list_any}
-use Rattle.dg_graph.specs.declared.element.Element.{Element}
 use Rattle.dg_graph.specs.declared.limits.TheConstants.{NAMES_MAX}
 use Rattle.dg_graph.specs.Lines.{ScriptLine}
 use Rattle.dg_history.specs.History.{History, are_parameters, events_of, span_of, in_range}
 use Rattle.dg_index.specs.ImageOfHistory.{StandsAs}
 use Rattle.dg_machine.specs.declared.command.Command.{Command}
-use Rattle.dg_machine.specs.declared.limits.TheConstants.{LIVE_HANDLES_MAX}
+use Rattle.dg_machine.specs.declared.limits.TheConstants.{HANDLE_MAX, LIVE_HANDLES_MAX}
 use Rattle.dg_machine.specs.declared.reply.Head.TheVariants as head
 use Rattle.dg_machine.specs.declared.reply.Refusal.{Refusal}
 use Rattle.dg_machine.specs.declared.reply.Refusal.TheVariants as refusal
@@ -16,7 +15,7 @@ use Rattle.dg_machine.specs.declared.stands.Stands.{Stands}
 use Rattle.dg_machine.specs.declared.stands.Stands.TheVariants.{Overlay}
 use Rattle.dg_machine.specs.Answer.{headed, is_refusal}
 use Rattle.dg_machine.specs.CutImage.{IsCut}
-use Rattle.dg_machine.specs.MachineState.{MachineState, elements, entry_at, history_in}
+use Rattle.dg_machine.specs.MachineState.{MachineState, entry_at, graphs_of, history_in}
 use Rattle.dg_machine.specs.Needs.{Needs, needs, nothing_more, following, is_writing, when, of, earliest}
 use Rattle.dg_machine.specs.Run.{Step}
 use Rattle.dg_machine.specs.Script.{Asked, Follows}
@@ -30,16 +29,6 @@ use Rattle.dg_start.specs.StoredHistory.{IsHeldBy, KeepsHistory}
 -- the instant of what a handle stands for is in the history, so that no later event changes it
 abbrev pub is_reached : History → Stands → Bool
 is_reached z (Overlay t cols on) = in_range (span_of (events_of z)) t
-
--- the elements that the live handles list, the oldest first
-abbrev pub graphs_of : MachineState → List (List Element)
-graphs_of m = map (λ (e : ℕ × Stands). elements (history_in m.index) e.1) m.table
-
--- the elements that a live handle lists
-abbrev pub graph_among : ℕ → List (ℕ × Stands) → List (List Element) → Option (List Element)
-graph_among handle [] graphs = None
-graph_among handle (entry ∷ table) [] = None
-graph_among handle (entry ∷ table) (graph ∷ graphs) = if entry.0 == handle then Some graph else graph_among handle table graphs
 
 -- the session stands for this state of the machine, over the image
 pub record StandsFor (session : Parts) (image : List ℕ) (m : MachineState) : Type 0 where
@@ -94,7 +83,8 @@ refusals_by there p read n =
     ++ (when (nat_lt 0 n.changes && is_too_full p n.changes) (refusal.HistoryFull (events_held p.index) n.changes)
     ++ (when (list_any (λ t. not (in_range (span_held p.index) t)) n.instants) (refusal.OutOfRange (span_held p.index))
     ++ (of n.handle (λ h. when (not (is_some (entry_at h p.table))) (refusal.UnknownHandle h))
-    ++ when (nat_lt 0 n.handles && nat_lt LIVE_HANDLES_MAX (length p.table + n.handles)) (refusal.PoolFull (length p.table) n.handles))))))))
+    ++ (when (nat_lt 0 n.handles && nat_lt LIVE_HANDLES_MAX (length p.table + n.handles)) (refusal.PoolFull (length p.table) n.handles)
+    ++ when (nat_lt 0 n.handles && nat_lt (HANDLE_MAX + 1) (p.next + n.handles)) refusal.HandlesSpent))))))))
 
 -- the first of them that holds
 abbrev pub refused_by : Parts → ℕ → Needs → Option Refusal

@@ -3,12 +3,13 @@
 //! docs/MODEL.md the machine that says what is due.
 #![tactic(auto)]
 
+mod adding;
 mod batch_command;
 mod batch_lines;
 mod halt;
-mod handle_table;
 mod plan_lines;
 mod planning;
+mod queries;
 mod record_listing;
 mod retrieving;
 mod session;

@@ -6,53 +6,61 @@ ghost use Rattle.dg_fold.specs.BytesRead.{Takes};
 ghost use Rattle.dg_io.specs.Frame.{Advances};
 ghost use Rattle.dg_io.specs.Told.{CountRose};
 ghost use Rattle.dg_io.specs.LinesState.{told, NeedsByte};
+ghost use Rattle.dg_handles.specs.Handles.{IsTied, graph_among, graphs_at};
 ghost use Rattle.dg_history.specs.declared.limits.TheConstants.{BATCH_LINES_MAX, EVENTS_MAX};
 ghost use Rattle.dg_graph.specs.Lines.{ScriptLine};
+ghost use Rattle.dg_graph.specs.Replay.{replay_from};
 ghost use Rattle.dg_machine.specs.declared.command.TheConstants.{TIMES_MAX};
-ghost use Rattle.dg_machine.specs.declared.limits.TheConstants.{LIVE_HANDLES_MAX};
+ghost use Rattle.dg_machine.specs.declared.limits.TheConstants.{HANDLE_MAX, LIVE_HANDLES_MAX};
 ghost use Rattle.dg_machine.specs.Answer.{headed, is_refusal, overlays};
 ghost use Rattle.dg_machine.specs.CommandGrammar.{CountIsInRange};
 ghost use Rattle.dg_machine.specs.Needs.{following, is_writing, needs};
 ghost use Rattle.dg_history.specs.History.{History, are_parameters, in_range};
 ghost use Rattle.dg_index.specs.ImageOfHistory.{IsImageOf, StandsAs};
 ghost use Rattle.dg_index.specs.OpenedIndex.{opened_of};
-ghost use Rattle.dg_machine.specs.MachineState.{IsWithin, MachineState, machine_at};
+ghost use Rattle.dg_machine.specs.MachineState.{IsWithin, MachineState, entry_at, machine_at};
 ghost use Rattle.dg_machine.specs.Planning.{edges_in, points_for};
 ghost use Rattle.dg_machine.specs.Run.{is_store_read};
+ghost use Rattle.dg_pool.specs.Graphs.{graph_now, slot_graph};
+ghost use Rattle.dg_retrieval.specs.Graphs.{led_from};
 ghost use Rattle.dg_retrieval.specs.Retrieval.{IsNoDamage, TakesAtMostTree};
 ghost use Rattle.dg_session.specs.BatchCommand.{barred, command_with};
 ghost use Rattle.dg_session.specs.HeldIndex.{events_held, span_held};
 ghost use Rattle.dg_session.specs.Damage.{DamageIn, DamageIs, NamesDamage};
-ghost use Rattle.dg_session.specs.Reads.{IsRetrieved, Reads, ReadsIn, new_entries, with_entries};
+ghost use Rattle.dg_session.specs.Reads.{IsRetrieved, Reads, ReadsIn, with_new};
 ghost use Rattle.dg_session.specs.Session.{ComesTo, StandsFor, Steps, Stops, TakesLines, is_too_full, refused_by, retrieval_needs};
 ghost use Rattle.dg_session.specs.SessionStart.{IsNew};
+ghost use Rattle.dg_session.specs.Sweeps.{SweepsNothing, SweepsPool};
 ghost use Rattle.dg_start.specs.SessionStart.{PlansLastLeaf, RefusesStart, Starts, start_bytes};
 ghost use Rattle.dg_start.specs.StoredHistory.{IsHeldBy, started_with};
 ghost use Rattle.dg_session.specs.declared.stop.Stop.TheVariants as stop;
 
+use crate::adding::add_changes;
 use crate::batch_command::BatchCommand;
 use crate::batch_lines::read_batch;
 use crate::halt::Halt;
-use crate::handle_table::{Entry, graph_at};
 use crate::plan_lines::read_plan_lines;
 use crate::planning::{judge, plan_reply};
+use crate::queries::{neighbours_reply, node_reply};
 use crate::record_listing::tree_reply;
-use crate::retrieving::{entries_of, graphs_at, handle_lines};
+use crate::retrieving::{handle_lines, leads_at};
 use crate::snapshot::{listing, span};
 use crate::stop::Stop;
-use dg_append::add_batch;
 use dg_disk::Disk;
 use dg_file::Index;
-use dg_graph::{Columns, NAMES_MAX};
+use dg_graph::{Columns, Event, NAMES_MAX};
+use dg_handles::{Handles, law_tie_is_kept, law_union_of_handles};
 use dg_history::{ARITY_MAX, ARITY_MIN, LEAF_MAX, LEAF_MIN, Params};
 use dg_io::{Lines, Source};
 use dg_machine::{
-    BodyLines, Command, FIRST_HANDLE, Head, LIVE_HANDLES_MAX, Limits, Refusal, Reply, TIMES_MAX,
+    BodyLines, Command, HANDLE_MAX, Head, LIVE_HANDLES_MAX, Limits, Refusal, Reply, TIMES_MAX,
 };
 use dg_names::Names;
-use dg_retrieval::{RetrievalFault, Retrieved};
+use dg_pool::Pool;
+use dg_retrieval::{Lead, RetrievalFault, Retrieved};
 use dg_set::Set;
-use dg_start::{StartFault, StoredHistory, open};
+use dg_start::{OpenedFile, StartFault, StoredHistory, open};
+use dg_view::View;
 use std::alloc::{AllocError, Global};
 use std::marker::Model;
 use std::thread::Threads;
@@ -65,35 +73,41 @@ const NAMES_OF_A_LINE: u32 = 2;
 pub struct Session {
     limits: Limits,
     history: StoredHistory,
-    table: Vec<Entry>,
-    next: u32,
+    pool: Pool,
+    handles: Handles,
     alloc: Global,
 }
 
 impl Model for Session {
-    ghost use Rattle.std.specs.Prelude.{◌≡◌, ◌+◌, ◌≤◌, map, vec_len};
-    ghost use Rattle.dg_history.specs.declared.limits.TheConstants.{EVENTS_MAX, FILE_BYTES_MAX};
-    ghost use Rattle.dg_machine.specs.declared.limits.TheConstants.{FIRST_HANDLE, LIVE_HANDLES_MAX, SCRIPT_BYTES_MAX};
-    ghost use Rattle.dg_session.specs.Parts.{Parts};
+    ghost use Rattle.std.specs.Prelude.{◌≡◌};
+    ghost use Rattle.dg_handles.specs.Handles.{IsTied, graphs_at};
+    ghost use Rattle.dg_machine.specs.MachineState.{IsWithin};
+    ghost use Rattle.dg_pool.specs.Graphs.{graph_now};
+    ghost use Rattle.dg_session.specs.SessionState.{SessionState};
     ghost use Rattle.dg_start.specs.StoredHistory.{IsSoundHistory, index_opening};
 
-    ghost Value = { Parts };
+    ghost Value = { SessionState };
 
     ghost view = { λ s. record {
-      limits = s.limits;
-      index = index_opening s.history.index;
-      names = s.history.names;
-      graph = s.history.now.graph;
-      recent = s.history.recent.items;
-      table = map (λ e. e.0) s.table.items;
-      graphs = map (λ e. e.1) s.table.items;
-      next = s.next;
+      parts = record {
+        limits = s.limits;
+        index = index_opening s.history.index;
+        names = s.history.names;
+        graph = s.history.now.graph;
+        recent = s.history.recent.items;
+        table = s.handles.table;
+        graphs = graphs_at s.pool s.handles.slots;
+        next = s.handles.next;
+      };
+      pool = s.pool;
+      slots = s.handles.slots;
     } };
 
     ghost invariant = { λ s.
-        (vec_len s.table ≤ LIVE_HANDLES_MAX) × (s.next ≡ FIRST_HANDLE + vec_len s.table)
-        × (s.limits.script_bytes ≤ SCRIPT_BYTES_MAX) × (s.limits.events ≤ EVENTS_MAX) × (s.limits.file_bytes ≤ FILE_BYTES_MAX)
-        × IsSoundHistory (index_opening s.history.index) s.history.names s.history.now s.history.recent.items };
+        IsWithin s.limits
+        × IsSoundHistory (index_opening s.history.index) s.history.names s.history.now s.history.recent.items
+        × (graph_now s.pool ≡ s.history.now.graph)
+        × IsTied s.pool s.handles.slots };
 }
 
 impl Session {
@@ -113,11 +127,11 @@ impl Session {
         requires limits { IsWithin limits }
         // the session
         ensures started { IfOk result (λ session. IfSome (D.image disk.old) (λ image.
-            Starts image (Ok (started_with session.index session.names session.graph session.recent)))) }
-        ensures new { IfOk result (λ session. IsNew limits session) }
+            Starts image (Ok (started_with session.parts.index session.parts.names session.parts.graph session.parts.recent)))) }
+        ensures new { IfOk result (λ session. IsNew limits session.parts) }
         ensures stands { IfOk result (λ session. IfSome (D.image disk.old) (λ image. (index : Option History)
-            → StandsAs index image → StandsFor session image (machine_at limits index))) }
-        ensures held { IfOk result (λ session. IfSome (D.image disk.new) (λ image. IsHeldBy session.index session.names image)) }
+            → StandsAs index image → StandsFor session.parts image (machine_at limits index))) }
+        ensures held { IfOk result (λ session. IfSome (D.image disk.new) (λ image. IsHeldBy session.parts.index session.parts.names image)) }
         // the bytes read, over an image of a history
         ensures takes { OnOk result (IfSome (D.image disk.old) (λ image. (z : History) → IsImageOf z image
             → (steps : List ℕ) → PlansLastLeaf (opened_of z).index steps
@@ -130,29 +144,39 @@ impl Session {
         // what it leaves
         ensures disk { ReadsAndSyncs D.image D.faults D.write_faults disk.old disk.new }
     {
-        let Ok(table) = Vec::with_capacity(alloc, LIVE_HANDLES_MAX) else {
-            return Err(StartFault::Memory);
-        };
-        let history = open(rt, alloc, disk)?;
+        let handles = Handles::new(alloc, limits.first_handle)?;
+        let OpenedFile { history, last_set } = open(rt, alloc, disk)?;
+        let pool = pool_of(alloc, &last_set, &history.recent)?;
         Ok(Session {
             limits,
             history,
-            table,
-            next: FIRST_HANDLE,
+            pool,
+            handles,
             alloc,
         })
     }
 
     /// The names of the history, by their numbers. Without an index there are none.
     pub fn names(&self) -> &Names
-        ensures { result.now ≡ self.now.names }
+        ensures { result.now ≡ self.now.parts.names }
     {
         &self.history.names
     }
 
+    /// The pool in which the current graph and the graphs of the live handles are overlaid. Each live handle has a slot
+    /// of its own, and no other slot is live.
+    pub fn pool(&self) -> &Pool
+        ensures pool { result.now ≡ self.now.pool }
+        ensures now { graph_now result.now ≡ self.now.parts.graph }
+        ensures graphs { graphs_at result.now self.now.slots ≡ self.now.parts.graphs }
+        ensures tied { IsTied result.now self.now.slots }
+    {
+        &self.pool
+    }
+
     /// Carries out the command, and answers it. A load and an append read the lines that follow them,
-    /// whatever the answer is. A reply that is a refusal leaves the session and the disk's image as
-    /// they were. Only a retrieval and a batch are refused for damage: a retrieval for the first column that its tree
+    /// whatever the answer is. A reply that is a refusal leaves what the session keeps, the graphs of its
+    /// handles among it, and the disk's image as they were. Only a retrieval and a batch are refused for damage: a retrieval for the first column that its tree
     /// enters and that is in no spelling, a batch for the first that the trees of the older children of the interior
     /// nodes that it completes enter.
     ///
@@ -170,31 +194,32 @@ impl Session {
         disk: &mut D,
     ) -> Result<Reply, Stop>
         requires command { CountIsInRange command.now }
-        requires image { IfSome (D.image disk.old) (λ image. IsHeldBy self.old.index self.old.names image) }
+        requires image { IfSome (D.image disk.old) (λ image. IsHeldBy self.old.parts.index self.old.parts.names image) }
         // the reply
         ensures step { IfOk result (λ reply. Steps command.now
             (told lines.old (S.left source.old)) (told lines.new (S.left source.new))
-            self.old (D.image disk.old) self.new (D.image disk.new) reply) }
-        ensures held { OnOk result (IfSome (D.image disk.new) (λ image. IsHeldBy self.new.index self.new.names image)) }
+            self.old.parts (D.image disk.old) self.new.parts (D.image disk.new) reply) }
+        ensures held { OnOk result (IfSome (D.image disk.new) (λ image. IsHeldBy self.new.parts.index self.new.parts.names image)) }
         ensures refused { IfOk result (λ reply. is_refusal reply.head ≡ true
-            → (self.new ≡ self.old) × (D.image disk.new ≡ D.image disk.old)) }
+            → (self.new.parts ≡ self.old.parts) × (D.image disk.new ≡ D.image disk.old)) }
         ensures quiet { is_writing command.now ≡ false → D.image disk.new ≡ D.image disk.old }
-        ensures no_index { OnOk result (self.new.index ≡ None → (self.old.index ≡ None) × (D.image disk.new ≡ D.image disk.old)) }
+        ensures no_index { OnOk result (self.new.parts.index ≡ None → (self.old.parts.index ≡ None) × (D.image disk.new ≡ D.image disk.old)) }
         // why it stops
-        ensures stop { IsErrOf result Stop.Read → (self.new ≡ self.old) × (D.image disk.new ≡ D.image disk.old) }
-        ensures stop_limit { IsErrOf result Stop.Limit → (self.new ≡ self.old) × (D.image disk.new ≡ D.image disk.old) }
+        ensures stop { IsErrOf result Stop.Read → (self.new.parts ≡ self.old.parts) × (D.image disk.new ≡ D.image disk.old) }
+        ensures stop_limit { IsErrOf result Stop.Limit → (self.new.parts ≡ self.old.parts) × (D.image disk.new ≡ D.image disk.old) }
         ensures store { IsErrOf result Stop.Store → Stops command.now
             (told lines.old (S.left source.old)) (told lines.new (S.left source.new))
-            self.old (D.image disk.old) (D.image disk.new) }
+            self.old.parts (D.image disk.old) (D.image disk.new) }
         ensures store_cause { IsErrOf result Stop.Store → DiskRose (D.write_faults disk.old) (D.write_faults disk.new) }
         ensures store_command { IsErrOf result Stop.Store → is_writing command.now ≡ true }
         ensures read { IsErrOf result Stop.Read → CountRose (S.faults source.old) (S.faults source.new) }
         ensures limit { IsErrOf result Stop.Limit → (lines.new.taken ≡ lines.new.limit) × NeedsByte lines.new }
         ensures store_read { IfOk result (λ reply. is_store_read reply.head ≡ true
             → DiskRose (D.faults disk.old) (D.faults disk.new) × (D.write_faults disk.new ≡ D.write_faults disk.old)) }
-        ensures damaged { IfOk result (λ reply. DamageIs command.now self.old (D.image disk.old) reply.head) }
+        ensures damaged { IfOk result (λ reply. DamageIs command.now self.old.parts (D.image disk.old) reply.head) }
+        ensures swept { IfOk result (λ reply. SweepsPool command.now self.old.pool self.new.pool reply.head) }
         // what it takes and leaves
-        ensures reads { IfOk result (λ reply. Reads command.now self.old (D.image disk.old) reply.head (D.taken disk.old) (D.taken disk.new)) }
+        ensures reads { IfOk result (λ reply. Reads command.now self.old.parts (D.image disk.old) reply.head (D.taken disk.old) (D.taken disk.new)) }
         ensures lines { Advances lines.old (S.left source.old) (S.faults source.old)
             lines.new (S.left source.new) (S.faults source.new) }
         ensures disk { GoesOn D.image D.faults D.write_faults disk.old disk.new }
@@ -216,20 +241,22 @@ impl Session {
         disk: &mut D,
     ) -> Result<Reply, Halt>
         requires command { CountIsInRange command.now }
-        requires image { IfSome (D.image disk.old) (λ image. IsHeldBy self.old.index self.old.names image) }
+        requires image { IfSome (D.image disk.old) (λ image. IsHeldBy self.old.parts.index self.old.parts.names image) }
         // what it comes to
         ensures comes { (got : List ScriptLine)
             × TakesLines (following command.now) (told lines.old (S.left source.old)) got (told lines.new (S.left source.new)) result
-            × ComesTo command.now got self.old (D.image disk.old) self.new (D.image disk.new) result }
+            × ComesTo command.now got self.old.parts (D.image disk.old) self.new.parts (D.image disk.new) result }
         // why it stops
         ensures store { IsErrOf result (Halt.Stop Stop.Store) → DiskRose (D.write_faults disk.old) (D.write_faults disk.new) }
         ensures read { IsErrOf result (Halt.Stop Stop.Read) → CountRose (S.faults source.old) (S.faults source.new) }
         ensures limit { IsErrOf result (Halt.Stop Stop.Limit) → (lines.new.taken ≡ lines.new.limit) × NeedsByte lines.new }
         ensures store_read { IsErrOf result (Halt.Refusal Refusal.StoreRead)
             → DiskRose (D.faults disk.old) (D.faults disk.new) × (D.write_faults disk.new ≡ D.write_faults disk.old) }
-        ensures damaged { DamageIn command.now self.old (D.image disk.old) result }
+        ensures damaged { DamageIn command.now self.old.parts (D.image disk.old) result }
+        ensures swept { IfOk result (λ reply. SweepsPool command.now self.old.pool self.new.pool reply.head) }
+        ensures unswept { IfErr result (λ halt. SweepsNothing command.now) }
         // what it takes and leaves
-        ensures reads { ReadsIn command.now self.old (D.image disk.old) result (D.taken disk.old) (D.taken disk.new) }
+        ensures reads { ReadsIn command.now self.old.parts (D.image disk.old) result (D.taken disk.old) (D.taken disk.new) }
         ensures lines { Advances lines.old (S.left source.old) (S.faults source.old)
             lines.new (S.left source.new) (S.faults source.new) }
         ensures disk { GoesOn D.image D.faults D.write_faults disk.old disk.new }
@@ -250,6 +277,13 @@ impl Session {
                 self.several(rt, cols, times, count, disk)
             }
             Command::List { handle } => self.list(handle),
+            Command::Counts { handle } => self.counts(handle),
+            Command::Node { handle, id } => self.node(handle, id),
+            Command::Neighbours { handle, id } => self.neighbours(handle, id),
+            Command::Release { handle } => self.release(handle),
+            Command::Clean { cells } => Ok(self.clean(cells)),
+            Command::CleanAll => Ok(self.clean_all()),
+            Command::Pool => Ok(self.pool_size()),
             Command::Plan { t, cols } => self.plan(t, cols),
             Command::Certify { t, cols, count } => self.certify(t, cols, count, lines, source),
             Command::Tree => self.tree(),
@@ -258,14 +292,14 @@ impl Session {
 
     // Whether there is an index.
     fn has_index(&self) -> bool
-        ensures { result ≡ is_some self.now.index }
+        ensures { result ≡ is_some self.now.parts.index }
     {
         self.history.index.is_some()
     }
 
     // How many events the history has.
     fn events_held(&self) -> u64
-        ensures held { result ≡ events_held self.now.index }
+        ensures held { result ≡ events_held self.now.parts.index }
         ensures few { result ≤ EVENTS_MAX }
     {
         match &self.history.index {
@@ -276,7 +310,7 @@ impl Session {
 
     // The first and the last instant of the history, where there is an event.
     fn span(&self) -> Option<(u64, u64)>
-        ensures { result ≡ span_held self.now.index }
+        ensures { result ≡ span_held self.now.parts.index }
     {
         match &self.history.index {
             Some(index) => span(index),
@@ -286,7 +320,7 @@ impl Session {
 
     // Why no index with these parameters is made.
     fn refused_creation(&self, params: Params) -> Option<Refusal>
-        ensures { result ≡ refused_by self.now 0 (needs (Command.Create params.l params.k params.function)) }
+        ensures { result ≡ refused_by self.now.parts 0 (needs (Command.Create params.l params.k params.function)) }
     {
         if self.has_index() {
             return Some(Refusal::IndexExists);
@@ -299,12 +333,12 @@ impl Session {
 
     // An empty index with these parameters.
     fn create<D: Disk>(&mut self, disk: &mut D, params: Params) -> Result<Reply, Halt>
-        requires image { IfSome (D.image disk.old) (λ image. IsHeldBy self.old.index self.old.names image) }
-        ensures comes { ComesTo (Command.Create params.l params.k params.function) [] self.old (D.image disk.old) self.new (D.image disk.new) result }
+        requires image { IfSome (D.image disk.old) (λ image. IsHeldBy self.old.parts.index self.old.parts.names image) }
+        ensures comes { ComesTo (Command.Create params.l params.k params.function) [] self.old.parts (D.image disk.old) self.new.parts (D.image disk.new) result }
         ensures store { IsErrOf result (Halt.Stop Stop.Store) → DiskRose (D.write_faults disk.old) (D.write_faults disk.new) }
         ensures no_read { IsErrOf result (Halt.Stop Stop.Read) → ⊥ }
         ensures no_limit { IsErrOf result (Halt.Stop Stop.Limit) → ⊥ }
-        ensures reads { ReadsIn (Command.Create params.l params.k params.function) self.old (D.image disk.old) result (D.taken disk.old) (D.taken disk.new) }
+        ensures reads { ReadsIn (Command.Create params.l params.k params.function) self.old.parts (D.image disk.old) result (D.taken disk.old) (D.taken disk.new) }
         ensures disk { GoesOn D.image D.faults D.write_faults disk.old disk.new }
     {
         if let Some(refusal) = self.refused_creation(params) {
@@ -319,7 +353,7 @@ impl Session {
     fn barred(&self, which: BatchCommand, count: u32) -> Option<Refusal>
         requires some { 1 ≤ count }
         requires few { count ≤ BATCH_LINES_MAX }
-        ensures { result ≡ barred which self.now count }
+        ensures { result ≡ barred which self.now.parts count }
     {
         if !self.has_index() {
             return Some(Refusal::NoIndex);
@@ -336,7 +370,7 @@ impl Session {
     // Whether so many more events, or the names that so many lines may bring, are too many.
     fn is_too_full(&self, count: u32) -> bool
         requires { count ≤ BATCH_LINES_MAX }
-        ensures { result ≡ is_too_full self.now count }
+        ensures { result ≡ is_too_full self.now.parts count }
     {
         let events = self.events_held() + u64::from(count);
         let names = self.history.names.len() + NAMES_OF_A_LINE * count;
@@ -355,20 +389,20 @@ impl Session {
     ) -> Result<Reply, Halt>
         requires some { 1 ≤ count }
         requires few { count ≤ BATCH_LINES_MAX }
-        requires image { IfSome (D.image disk.old) (λ image. IsHeldBy self.old.index self.old.names image) }
+        requires image { IfSome (D.image disk.old) (λ image. IsHeldBy self.old.parts.index self.old.parts.names image) }
         // what it comes to
         ensures comes { (got : List ScriptLine)
             × TakesLines count (told lines.old (S.left source.old)) got (told lines.new (S.left source.new)) result
-            × ComesTo (command_with which count) got self.old (D.image disk.old) self.new (D.image disk.new) result }
+            × ComesTo (command_with which count) got self.old.parts (D.image disk.old) self.new.parts (D.image disk.new) result }
         // why it stops
         ensures store { IsErrOf result (Halt.Stop Stop.Store) → DiskRose (D.write_faults disk.old) (D.write_faults disk.new) }
         ensures read { IsErrOf result (Halt.Stop Stop.Read) → CountRose (S.faults source.old) (S.faults source.new) }
         ensures limit { IsErrOf result (Halt.Stop Stop.Limit) → (lines.new.taken ≡ lines.new.limit) × NeedsByte lines.new }
         ensures store_read { IsErrOf result (Halt.Refusal Refusal.StoreRead)
             → DiskRose (D.faults disk.old) (D.faults disk.new) × (D.write_faults disk.new ≡ D.write_faults disk.old) }
-        ensures damaged { DamageIn (command_with which count) self.old (D.image disk.old) result }
+        ensures damaged { DamageIn (command_with which count) self.old.parts (D.image disk.old) result }
         // what it takes and leaves
-        ensures reads { ReadsIn (command_with which count) self.old (D.image disk.old) result (D.taken disk.old) (D.taken disk.new) }
+        ensures reads { ReadsIn (command_with which count) self.old.parts (D.image disk.old) result (D.taken disk.old) (D.taken disk.new) }
         ensures lines { Advances lines.old (S.left source.old) (S.faults source.old)
             lines.new (S.left source.new) (S.faults source.new) }
         ensures disk { GoesOn D.image D.faults D.write_faults disk.old disk.new }
@@ -383,14 +417,15 @@ impl Session {
             lines,
             source,
         )?;
-        let added = add_batch(
+        let added = add_changes(
             rt,
             self.alloc,
             self.limits.file_bytes,
             known,
-            batch.front,
-            &batch.changes,
+            &batch,
             &mut self.history,
+            &mut self.pool,
+            &mut self.handles,
             disk,
         )?;
         Ok(headed(self.alloc, which.head(added)))
@@ -398,8 +433,8 @@ impl Session {
 
     // The index, or why nothing is asked of it.
     fn index(&self) -> Result<&Index, Refusal>
-        ensures index { IfOk result (λ index. self.now.index ≡ Some index.now.opening) }
-        ensures none { IfErr result (λ refusal. (self.now.index ≡ None) × (refusal ≡ Refusal.NoIndex)) }
+        ensures index { IfOk result (λ index. self.now.parts.index ≡ Some index.now.opening) }
+        ensures none { IfErr result (λ refusal. (self.now.parts.index ≡ None) × (refusal ≡ Refusal.NoIndex)) }
     {
         match &self.history.index {
             Some(index) => Ok(index),
@@ -409,9 +444,9 @@ impl Session {
 
     // The index, where the instant `t` is in its history, or why nothing is asked of the instant.
     fn index_at(&self, t: u64) -> Result<&Index, Refusal>
-        ensures index { IfOk result (λ index. self.now.index ≡ Some index.now.opening) }
+        ensures index { IfOk result (λ index. self.now.parts.index ≡ Some index.now.opening) }
         ensures there { IfOk result (λ index. in_range (span_held (Some index.now.opening)) t ≡ true) }
-        ensures refused { IfErr result (λ refusal. (handles : ℕ) → refused_by self.now 0 (retrieval_needs (t ∷ []) handles) ≡ Some refusal) }
+        ensures refused { IfErr result (λ refusal. (handles : ℕ) → refused_by self.now.parts 0 (retrieval_needs (t ∷ []) handles) ≡ Some refusal) }
     {
         let index = self.index()?;
         let ends = span(index);
@@ -424,7 +459,7 @@ impl Session {
     // Why no graphs as of these instants are retrieved, each as a new handle.
     fn refused_retrieval(&self, times: &[u64]) -> Option<Refusal>
         requires few { length times.now ≤ TIMES_MAX }
-        ensures { result ≡ refused_by self.now 0 (retrieval_needs times.now (length times.now)) }
+        ensures { result ≡ refused_by self.now.parts 0 (retrieval_needs times.now (length times.now)) }
     {
         if !self.has_index() {
             return Some(Refusal::NoIndex);
@@ -433,14 +468,18 @@ impl Session {
         if is_any_out(ends, times) {
             return Some(Refusal::OutOfRange(ends));
         }
-        let live = self.table.len();
-        if live + times.len() > LIVE_HANDLES_MAX {
-            return Some(Refusal::PoolFull(live as u32, times.len() as u32));
+        let live = self.handles.live();
+        let asked = times.len() as u32;
+        if (live + asked) as usize > LIVE_HANDLES_MAX {
+            return Some(Refusal::PoolFull(live, asked));
+        }
+        if self.handles.next() + u64::from(asked) > u64::from(HANDLE_MAX) + 1 {
+            return Some(Refusal::HandlesSpent);
         }
         None
     }
 
-    // The graphs as of the instants in these columns, by one tree.
+    // What leads to the graphs as of the instants in these columns, by one tree.
     fn retrieve<R: Threads, D: Disk>(
         &mut self,
         rt: &R,
@@ -450,21 +489,22 @@ impl Session {
     ) -> Result<Retrieved, RetrievalFault>
         requires some { 1 ≤ length times.now }
         requires few { length times.now ≤ TIMES_MAX }
-        requires free { refused_by self.old 0 (retrieval_needs times.now (length times.now)) ≡ None }
-        requires image { IfSome (D.image disk.old) (λ image. IsHeldBy self.old.index self.old.names image) }
+        requires free { refused_by self.old.parts 0 (retrieval_needs times.now (length times.now)) ≡ None }
+        requires image { IfSome (D.image disk.old) (λ image. IsHeldBy self.old.parts.index self.old.parts.names image) }
         // what is retrieved
-        ensures retrieved { IfOk result (λ r. IfSome (D.image disk.old) (λ image. (m : MachineState) → StandsFor self.old image m
-            → IsRetrieved m times.now cols r.weight r.singles.items r.graphs.items)) }
+        ensures retrieved { IfOk result (λ r. IfSome (D.image disk.old) (λ image. (m : MachineState) → StandsFor self.old.parts image m
+            → IsRetrieved m times.now cols r.weight r.singles.items (map (led_from self.old.parts.graph cols) r.leads.items))) }
+        ensures count { IfOk result (λ r. length r.leads.items ≡ length times.now) }
         ensures sum { IfOk result (λ r. r.sum ≡ sum r.singles.items) }
         // the bytes read
-        ensures takes { IfOk result (λ r. IfSome (D.image disk.old) (λ image. (m : MachineState) → StandsFor self.old image m
+        ensures takes { IfOk result (λ r. IfSome (D.image disk.old) (λ image. (m : MachineState) → StandsFor self.old.parts image m
             → Takes r.weight (D.taken disk.old) (D.taken disk.new))) }
-        ensures most { IfSome (D.image disk.old) (λ image. (m : MachineState) → StandsFor self.old image m
+        ensures most { IfSome (D.image disk.old) (λ image. (m : MachineState) → StandsFor self.old.parts image m
             → TakesAtMostTree (edges_in m cols) (points_for m times.now) (D.taken disk.old) (D.taken disk.new)) }
         // why nothing is retrieved
         ensures cause { IsErrOf result RetrievalFault.Disk → DiskRose (D.faults disk.old) (D.faults disk.new) }
-        ensures damage { IfErr result (λ fault. NamesDamage self.old (D.image disk.old) (times.now, cols) fault) }
-        ensures never { IfErr result (λ fault. IfSome (D.image disk.old) (λ image. (m : MachineState) → StandsFor self.old image m → IsNoDamage fault)) }
+        ensures damage { IfErr result (λ fault. NamesDamage self.old.parts (D.image disk.old) (times.now, cols) fault) }
+        ensures never { IfErr result (λ fault. IfSome (D.image disk.old) (λ image. (m : MachineState) → StandsFor self.old.parts image m → IsNoDamage fault)) }
         // what it leaves
         ensures same { self.new ≡ self.old }
         ensures disk { OnlyReads D.image D.faults D.write_faults disk.old disk.new }
@@ -472,35 +512,32 @@ impl Session {
         let Some(index) = &mut self.history.index else {
             unreachable!()
         };
-        graphs_at(
+        leads_at(
             rt,
             self.alloc,
             index,
             disk,
             self.history.names.len(),
-            &self.history.now,
             &self.history.recent,
             times,
             cols,
         )
     }
 
-    // A new handle for each of these graphs, as of these instants in these columns.
+    // A new handle for the graph to which each lead comes, as of these instants in these columns.
     fn add_handles(
         &mut self,
         cols: Columns,
         times: &[u64],
-        graphs: Vec<Set>,
+        leads: &[Lead],
     ) -> Result<(), AllocError>
-        requires room { length self.old.table + length times.now ≤ LIVE_HANDLES_MAX }
-        ensures added { OnOk result (self.new ≡ with_entries self.old (new_entries self.old.next (overlays cols times.now) graphs.items)) }
-        ensures err { OnErr result (self.new ≡ self.old) }
+        requires room { length self.old.parts.table + length times.now ≤ LIVE_HANDLES_MAX }
+        requires numbers { self.old.parts.next + length times.now ≤ HANDLE_MAX + 1 }
+        requires leads { length leads.now ≡ length times.now }
+        ensures added { OnOk result (self.new.parts ≡ with_new self.old.parts (overlays cols times.now) (map (led_from self.old.parts.graph cols) leads.now)) }
+        ensures err { OnErr result (self.new.parts ≡ self.old.parts) }
     {
-        let mut entries = entries_of(self.alloc, self.next, cols, times, graphs)?;
-        let count = entries.len() as u32;
-        self.table.append(&mut entries)?;
-        self.next += count;
-        Ok(())
+        self.handles.add(&mut self.pool, cols, times, leads)
     }
 
     // A new handle for the graph as of `t` in these columns.
@@ -511,21 +548,21 @@ impl Session {
         cols: Columns,
         disk: &mut D,
     ) -> Result<Reply, Halt>
-        requires image { IfSome (D.image disk.old) (λ image. IsHeldBy self.old.index self.old.names image) }
-        ensures comes { ComesTo (Command.At t cols) [] self.old (D.image disk.old) self.new (D.image disk.new) result }
+        requires image { IfSome (D.image disk.old) (λ image. IsHeldBy self.old.parts.index self.old.parts.names image) }
+        ensures comes { ComesTo (Command.At t cols) [] self.old.parts (D.image disk.old) self.new.parts (D.image disk.new) result }
         ensures no_stop { (stop : Stop) → result ≡ Err (Halt.Stop stop) → ⊥ }
         ensures store_read { IsErrOf result (Halt.Refusal Refusal.StoreRead) → DiskRose (D.faults disk.old) (D.faults disk.new) }
-        ensures damaged { DamageIn (Command.At t cols) self.old (D.image disk.old) result }
-        ensures reads { ReadsIn (Command.At t cols) self.old (D.image disk.old) result (D.taken disk.old) (D.taken disk.new) }
+        ensures damaged { DamageIn (Command.At t cols) self.old.parts (D.image disk.old) result }
+        ensures reads { ReadsIn (Command.At t cols) self.old.parts (D.image disk.old) result (D.taken disk.old) (D.taken disk.new) }
         ensures disk { OnlyReads D.image D.faults D.write_faults disk.old disk.new }
     {
         let times = [t];
         if let Some(refusal) = self.refused_retrieval(&times) {
             return Err(Halt::Refusal(refusal));
         }
-        let Retrieved { graphs, weight, .. } = self.retrieve(rt, &times, cols, disk)?;
-        let handle = self.next;
-        self.add_handles(cols, &times, graphs)?;
+        let Retrieved { leads, weight, .. } = self.retrieve(rt, &times, cols, disk)?;
+        let handle = self.handles.next() as u32;
+        self.add_handles(cols, &times, &leads)?;
         Ok(headed(self.alloc, Head::At { handle, weight }))
     }
 
@@ -540,12 +577,12 @@ impl Session {
     ) -> Result<Reply, Halt>
         requires some { 1 ≤ count }
         requires few { count ≤ TIMES_MAX }
-        requires image { IfSome (D.image disk.old) (λ image. IsHeldBy self.old.index self.old.names image) }
-        ensures comes { ComesTo (Command.Several cols times count) [] self.old (D.image disk.old) self.new (D.image disk.new) result }
+        requires image { IfSome (D.image disk.old) (λ image. IsHeldBy self.old.parts.index self.old.parts.names image) }
+        ensures comes { ComesTo (Command.Several cols times count) [] self.old.parts (D.image disk.old) self.new.parts (D.image disk.new) result }
         ensures no_stop { (stop : Stop) → result ≡ Err (Halt.Stop stop) → ⊥ }
         ensures store_read { IsErrOf result (Halt.Refusal Refusal.StoreRead) → DiskRose (D.faults disk.old) (D.faults disk.new) }
-        ensures damaged { DamageIn (Command.Several cols times count) self.old (D.image disk.old) result }
-        ensures reads { ReadsIn (Command.Several cols times count) self.old (D.image disk.old) result (D.taken disk.old) (D.taken disk.new) }
+        ensures damaged { DamageIn (Command.Several cols times count) self.old.parts (D.image disk.old) result }
+        ensures reads { ReadsIn (Command.Several cols times count) self.old.parts (D.image disk.old) result (D.taken disk.old) (D.taken disk.new) }
         ensures disk { OnlyReads D.image D.faults D.write_faults disk.old disk.new }
     {
         let asked = first_of(&times, count);
@@ -553,29 +590,26 @@ impl Session {
             return Err(Halt::Refusal(refusal));
         }
         let retrieved = self.retrieve(rt, asked, cols, disk)?;
-        let lines = handle_lines(self.alloc, self.next, asked, &retrieved.singles)?;
-        let Retrieved {
-            graphs,
-            weight,
-            sum,
-            ..
-        } = retrieved;
-        self.add_handles(cols, asked, graphs)?;
+        let next = self.handles.next();
+        let lines = handle_lines(self.alloc, next, asked, &retrieved.singles)?;
+        self.add_handles(cols, asked, &retrieved.leads)?;
         Ok(Reply {
-            head: Head::Several { weight, sum },
+            head: Head::Several {
+                weight: retrieved.weight,
+                sum: retrieved.sum,
+            },
             body: BodyLines::from_vec(lines),
         })
     }
 
     // The elements of a handle.
     fn list(&self, handle: u32) -> Result<Reply, Halt>
-        ensures comes { (image : Option (List ℕ)) → ComesTo (Command.List handle) [] self.now image self.now image result }
+        ensures comes { (image : Option (List ℕ)) → ComesTo (Command.List handle) [] self.now.parts image self.now.parts image result }
         ensures no_stop { (stop : Stop) → result ≡ Err (Halt.Stop stop) → ⊥ }
     {
-        let Some(graph) = graph_at(&self.table, handle) else {
-            return Err(Halt::Refusal(Refusal::UnknownHandle(handle)));
-        };
-        let lines = listing(self.alloc, graph)?;
+        let graph = self.graph_of(handle)?;
+        let elements = graph.list(self.alloc)?;
+        let lines = listing(self.alloc, &elements)?;
         Ok(Reply {
             head: Head::List {
                 handle,
@@ -585,9 +619,92 @@ impl Session {
         })
     }
 
+    // The graph of a handle, or why nothing is asked of it.
+    fn graph_of(&self, handle: u32) -> Result<View<'_>, Refusal>
+        ensures graph { IfOk result (λ graph. graph_among handle self.now.parts.table self.now.parts.graphs ≡ Some graph) }
+        ensures live { OnOk result (is_some (entry_at handle self.now.parts.table) ≡ true) }
+        ensures none { IfErr result (λ refusal. (is_some (entry_at handle self.now.parts.table) ≡ false) × (refusal ≡ Refusal.UnknownHandle handle)) }
+    {
+        match self.handles.view(&self.pool, handle) {
+            Some(graph) => Ok(graph),
+            None => Err(Refusal::UnknownHandle(handle)),
+        }
+    }
+
+    // How many elements of each kind a handle has.
+    fn counts(&self, handle: u32) -> Result<Reply, Halt>
+        ensures comes { (image : Option (List ℕ)) → ComesTo (Command.Counts handle) [] self.now.parts image self.now.parts image result }
+        ensures no_stop { (stop : Stop) → result ≡ Err (Halt.Stop stop) → ⊥ }
+    {
+        let counts = self.graph_of(handle)?.counts();
+        Ok(headed(self.alloc, Head::Counts { handle, counts }))
+    }
+
+    // A node of a handle's graph, with its degree and its attributes.
+    fn node(&self, handle: u32, id: u64) -> Result<Reply, Halt>
+        ensures comes { (image : Option (List ℕ)) → ComesTo (Command.Node handle id) [] self.now.parts image self.now.parts image result }
+        ensures no_stop { (stop : Stop) → result ≡ Err (Halt.Stop stop) → ⊥ }
+    {
+        let node = self.graph_of(handle)?.node(self.alloc, id)?;
+        Ok(node_reply(self.alloc, handle, id, node)?)
+    }
+
+    // The edges at a node of a handle's graph.
+    fn neighbours(&self, handle: u32, id: u64) -> Result<Reply, Halt>
+        ensures comes { (image : Option (List ℕ)) → ComesTo (Command.Neighbours handle id) [] self.now.parts image self.now.parts image result }
+        ensures no_stop { (stop : Stop) → result ≡ Err (Halt.Stop stop) → ⊥ }
+    {
+        let neighbours = self.graph_of(handle)?.neighbours(self.alloc, id)?;
+        Ok(neighbours_reply(self.alloc, handle, id, &neighbours)?)
+    }
+
+    // Gives a handle up.
+    fn release(&mut self, handle: u32) -> Result<Reply, Halt>
+        ensures comes { (image : Option (List ℕ)) → ComesTo (Command.Release handle) [] self.old.parts image self.new.parts image result }
+        ensures no_stop { (stop : Stop) → result ≡ Err (Halt.Stop stop) → ⊥ }
+    {
+        if !self.handles.release(&mut self.pool, handle) {
+            return Err(Halt::Refusal(Refusal::UnknownHandle(handle)));
+        }
+        Ok(headed(self.alloc, Head::Released { handle }))
+    }
+
+    // Sweeps so many cells of the pool.
+    fn clean(&mut self, cells: u32) -> Reply
+        requires { 1 ≤ cells }
+        ensures comes { (image : Option (List ℕ)) → ComesTo (Command.Clean cells) [] self.old.parts image self.new.parts image (Ok result) }
+        ensures swept { SweepsPool (Command.Clean cells) self.old.pool self.new.pool result.head }
+    {
+        law_tie_is_kept();
+        self.pool.clean(cells);
+        headed(self.alloc, Head::Cleaned)
+    }
+
+    // Sweeps all cells of the pool.
+    fn clean_all(&mut self) -> Reply
+        ensures comes { (image : Option (List ℕ)) → ComesTo Command.CleanAll [] self.old.parts image self.new.parts image (Ok result) }
+        ensures swept { SweepsPool Command.CleanAll self.old.pool self.new.pool result.head }
+    {
+        law_tie_is_kept();
+        law_union_of_handles();
+        self.pool.clean_all();
+        let cells = self.pool.cell_len();
+        headed(self.alloc, Head::CleanedAll { cells })
+    }
+
+    // How many handles live, and how many elements their graphs and the current one have together.
+    fn pool_size(&self) -> Reply
+        ensures comes { (image : Option (List ℕ)) → ComesTo Command.Pool [] self.now.parts image self.now.parts image (Ok result) }
+    {
+        law_union_of_handles();
+        let live = self.handles.live();
+        let size = self.pool.union_len();
+        headed(self.alloc, Head::Pool { live, size })
+    }
+
     // The least plan of the instant `t` in these columns.
     fn plan(&self, t: u64, cols: Columns) -> Result<Reply, Halt>
-        ensures comes { (image : Option (List ℕ)) → ComesTo (Command.Plan t cols) [] self.now image self.now image result }
+        ensures comes { (image : Option (List ℕ)) → ComesTo (Command.Plan t cols) [] self.now.parts image self.now.parts image result }
         ensures no_stop { (stop : Stop) → result ≡ Err (Halt.Stop stop) → ⊥ }
     {
         let index = self.index_at(t)?;
@@ -609,7 +726,7 @@ impl Session {
         // what it comes to
         ensures comes { (image : Option (List ℕ)) → (got : List ScriptLine)
             × TakesLines count (told lines.old (S.left source.old)) got (told lines.new (S.left source.new)) result
-            × ComesTo (Command.Certify t cols count) got self.now image self.now image result }
+            × ComesTo (Command.Certify t cols count) got self.now.parts image self.now.parts image result }
         // why it stops
         ensures read { IsErrOf result (Halt.Stop Stop.Read) → CountRose (S.faults source.old) (S.faults source.new) }
         ensures limit { IsErrOf result (Halt.Stop Stop.Limit) → (lines.new.taken ≡ lines.new.limit) × NeedsByte lines.new }
@@ -634,7 +751,7 @@ impl Session {
 
     // The parameters of the index, and a line for each of its records.
     fn tree(&self) -> Result<Reply, Halt>
-        ensures comes { (image : Option (List ℕ)) → ComesTo Command.Tree [] self.now image self.now image result }
+        ensures comes { (image : Option (List ℕ)) → ComesTo Command.Tree [] self.now.parts image self.now.parts image result }
         ensures no_stop { (stop : Stop) → result ≡ Err (Halt.Stop stop) → ⊥ }
     {
         let index = self.index()?;
@@ -674,6 +791,19 @@ fn first_of<'a>(times: &'a [u64], count: u8) -> &'a [u64]
     ensures count { length result.now ≡ count }
 {
     &times[..usize::from(count)]
+}
+
+// A pool whose current graph is this set, past the events, and which has no other graph.
+fn pool_of(alloc: Global, set: &Set, events: &[Event]) -> Result<Pool, AllocError>
+    ensures now { IfOk result (λ pool. graph_now pool ≡ replay_from set.now events.now) }
+    ensures none { IfOk result (λ pool. (s : ℕ) → slot_graph pool s ≡ None) }
+{
+    let mut pool = Pool::new(alloc);
+    pool.make_cells(set.items())?;
+    pool.set_now(set);
+    pool.make_room(events)?;
+    pool.apply_now(events);
+    Ok(pool)
 }
 
 // A reply of a head line alone.

@@ -5,16 +5,15 @@ ghost use Rattle.dg_machine.specs.declared.reply.BodyLine.TheVariants as line;
 ghost use Rattle.dg_session.specs.HeldIndex.{span_held};
 
 use dg_file::Index;
+use dg_graph::Element;
 use dg_machine::BodyLine;
-use dg_set::Set;
 use std::alloc::{AllocError, Global};
 
-/// A line for each element of the graph, in element order.
-pub fn listing(alloc: Global, graph: &Set) -> Result<Vec<BodyLine>, AllocError>
-    ensures { IfOk result (λ lines. lines.items ≡ map (λ x. line.Element x) graph.now) }
+/// A line for each of the elements, in their order.
+pub fn listing(alloc: Global, elements: &[Element]) -> Result<Vec<BodyLine>, AllocError>
+    ensures { IfOk result (λ lines. lines.items ≡ map (λ x. line.Element x) elements.now) }
 {
-    graph
-        .items()
+    elements
         .iter()
         .map(|element| BodyLine::Element(*element))
         .collect(alloc)

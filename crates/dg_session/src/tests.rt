@@ -9,7 +9,7 @@ use dg_graph::{Column, Element};
 use dg_history::{EVENTS_MAX, FILE_BYTES_MAX, Key};
 use dg_io::{Lines, MemorySource};
 use dg_line::read_command;
-use dg_machine::{BodyLine, Head, Limits, Refusal, SCRIPT_BYTES_MAX};
+use dg_machine::{BodyLine, FIRST_HANDLE, HANDLE_MAX, Head, Limits, Refusal, SCRIPT_BYTES_MAX};
 use std::test::Fail;
 use std::thread::Threads;
 
@@ -21,9 +21,10 @@ type Case = (&'static [u8], Result<Head, Stop>, &'static [BodyLine]);
 
 // A run of commands over an empty file.
 struct Run {
-    // The events that the history may have, and the bytes of its file that may be in use.
+    // The events that the history may have, the bytes of its file that may be in use, and the first handle.
     events: u64,
     file_bytes: u64,
+    first_handle: u32,
     // The bytes for which the disk has room, and the reads of the source that fail, from 0.
     room: usize,
     failing_reads: &'static [u64],
@@ -44,11 +45,52 @@ const NODE_WITH_NAME: [BodyLine; 2] = [
     }),
 ];
 
-const RUNS: [Run; 10] = [
+const RUNS: [Run; 11] = [
+    // The last handle is given once, and no other after it, though it is given up.
+    Run {
+        events: 6,
+        file_bytes: 1000,
+        first_handle: HANDLE_MAX,
+        room: MANY,
+        failing_reads: &[],
+        following: b"10 +node 1\n",
+        script_bytes: 1000,
+        cases: &[
+            (b"create 2 2 union", Ok(Head::Created), &[]),
+            (
+                b"load 1",
+                Ok(Head::Loaded {
+                    events: 1,
+                    total: 1,
+                    last: 10,
+                }),
+                &[],
+            ),
+            (
+                b"at 10 s",
+                Ok(Head::At {
+                    handle: HANDLE_MAX,
+                    weight: 0,
+                }),
+                &[],
+            ),
+            (b"at 10 s", Ok(Head::Refused(Refusal::HandlesSpent)), &[]),
+            (b"pool", Ok(Head::Pool { live: 1, size: 1 }), &[]),
+            (
+                b"release 4294967295",
+                Ok(Head::Released { handle: HANDLE_MAX }),
+                &[],
+            ),
+            (b"at 10 s", Ok(Head::Refused(Refusal::HandlesSpent)), &[]),
+            (b"clean all", Ok(Head::CleanedAll { cells: 1 }), &[]),
+        ],
+        second_name: None,
+    },
     // The lines of a load and of an append are read, and the texts are numbered as they come.
     Run {
         events: 6,
         file_bytes: 1000,
+        first_handle: FIRST_HANDLE,
         room: MANY,
         failing_reads: &[],
         following: b"10 +node 1\n20 nset 1 name A\n30 +node 2\n40 -node 2\n",
@@ -96,6 +138,7 @@ const RUNS: [Run; 10] = [
     Run {
         events: 6,
         file_bytes: 1000,
+        first_handle: FIRST_HANDLE,
         room: MANY,
         failing_reads: &[],
         following: b"1 +node 1\n2 +node 2\n3 +node 3\n4 +node 4\n5 +node 5\n6 +node 6\n7 +node 7\n6 +node 6\n7 +node 7\n",
@@ -137,6 +180,7 @@ const RUNS: [Run; 10] = [
     Run {
         events: 1,
         file_bytes: 118,
+        first_handle: FIRST_HANDLE,
         room: MANY,
         failing_reads: &[],
         following: b"10 +node 1\n",
@@ -159,6 +203,7 @@ const RUNS: [Run; 10] = [
     Run {
         events: 1,
         file_bytes: 117,
+        first_handle: FIRST_HANDLE,
         room: MANY,
         failing_reads: &[],
         following: b"10 +node 1\n",
@@ -182,6 +227,7 @@ const RUNS: [Run; 10] = [
     Run {
         events: 6,
         file_bytes: 1000,
+        first_handle: FIRST_HANDLE,
         room: MANY,
         failing_reads: &[1],
         following: b"10 +node 1\n10 +node 2\n",
@@ -196,6 +242,7 @@ const RUNS: [Run; 10] = [
     Run {
         events: 6,
         file_bytes: 1000,
+        first_handle: FIRST_HANDLE,
         room: MANY,
         failing_reads: &[],
         following: b"10 +node 1\n20 +node 2\n",
@@ -219,6 +266,7 @@ const RUNS: [Run; 10] = [
     Run {
         events: 6,
         file_bytes: 1000,
+        first_handle: FIRST_HANDLE,
         room: 17,
         failing_reads: &[],
         following: b"",
@@ -237,6 +285,7 @@ const RUNS: [Run; 10] = [
     Run {
         events: 6,
         file_bytes: 1000,
+        first_handle: FIRST_HANDLE,
         room: 117,
         failing_reads: &[],
         following: b"10 +node 1\n",
@@ -251,6 +300,7 @@ const RUNS: [Run; 10] = [
     Run {
         events: 6,
         file_bytes: 1000,
+        first_handle: FIRST_HANDLE,
         room: MANY,
         failing_reads: &[1],
         following: b"step 0 now 0\n",
@@ -266,6 +316,7 @@ const RUNS: [Run; 10] = [
     Run {
         events: 6,
         file_bytes: 1000,
+        first_handle: FIRST_HANDLE,
         room: MANY,
         failing_reads: &[],
         following: b"step 0 now 0\nstep 0 now 0\n",
@@ -290,6 +341,7 @@ fn limits_of(run: &Run) -> Limits
         script_bytes: SCRIPT_BYTES_MAX,
         events: run.events.min(EVENTS_MAX),
         file_bytes: run.file_bytes.min(FILE_BYTES_MAX),
+        first_handle: run.first_handle.max(FIRST_HANDLE),
     }
 }
 
@@ -301,7 +353,7 @@ fn first_other<R: Threads>(
     source: &mut MemorySource,
     disk: &mut MemoryDisk,
 ) -> Option<usize>
-    requires { IsHeldBy session.old.index session.old.names (image_of disk.old) }
+    requires { IsHeldBy session.old.parts.index session.old.parts.names (image_of disk.old) }
 {
     let mut lines = Lines::new(run.script_bytes);
     for (number, case) in run.cases.iter().enumerate() {

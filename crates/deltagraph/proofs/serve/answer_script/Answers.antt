@@ -24,7 +24,7 @@ pub loop-reply-preserved-in-Ok-Skipped : goal.loop-reply-preserved-in-Ok-Skipped
 loop-reply-preserved-in-Ok-Skipped g c =
     let l = c.loop-reply in
     let turn = rw c.in-Ok-Skipped.field-0-is at c.in-Ok-Skipped.ensures.turn in record {
-      going = over_skip _ _ _ _ _ l.session c.next_turn.new.session _ _
+      going = over_skip _ _ _ _ _ l.session.parts c.next_turn.new.session.parts _ _
           (asked l.lines (g.S.Source.left l.source)) (asked c.next_turn.new.lines (g.S.Source.left c.next_turn.new.source)) _ _ _
           l.invariant.going turn.0 turn.1 turn.2 c.next_turn.ensures.disk.counted;
       told = c.next_turn.ensures.disk.told ∙ l.invariant.told;
@@ -42,7 +42,7 @@ loop-reply-preserved g c =
     let written = at_ok c.write_reply.result (g.K.Sink.written c.write_reply.new.sink ≡ grown (g.K.Sink.written l.sink) (text c.names.result.now c.in-Ok-Replied.reply))
     (sym c.is_err.ensures.value ∙ c.if-is_err.false) c.write_reply.ensures.ok
     ∙ ap (λ (names : List (List ℕ)). grown (g.K.Sink.written l.sink) (text names c.in-Ok-Replied.reply)) c.names.ensures in record {
-      going = over_on _ _ _ _ _ l.session c.next_turn.new.session _ _
+      going = over_on _ _ _ _ _ l.session.parts c.next_turn.new.session.parts _ _
           (asked l.lines (g.S.Source.left l.source)) (asked c.next_turn.new.lines (g.S.Source.left c.next_turn.new.source)) _ _ _ _ turn.0 c.in-Ok-Replied.reply
           l.invariant.going l.invariant.told turn.1 turn.2 c.in-Ok-Replied.ensures.no_index written
           (record { counted = c.next_turn.ensures.disk.counted; rose = rw c.in-Ok-Replied.field-0-is at c.in-Ok-Replied.ensures.store_read });
@@ -59,7 +59,7 @@ returns-then-is_err g c =
     let l = c.loop-reply in
     let turn = rw c.in-Ok-Replied.field-0-is at c.in-Ok-Replied.ensures.turn in record {
       answered = record {
-        served = over_part _ _ _ l.session c.next_turn.new.session _
+        served = over_part _ _ _ l.session.parts c.next_turn.new.session.parts _
             (asked l.lines (g.S.Source.left l.source)) (asked c.next_turn.new.lines (g.S.Source.left c.next_turn.new.source)) _ _ turn.0 c.in-Ok-Replied.reply
             l.invariant.going l.invariant.told c.next_turn.ensures.disk.told turn.1 turn.2 c.in-Ok-Replied.ensures.no_index
             (subst (λ (names : List (List ℕ)). GrowsByPart (g.K.Sink.written l.sink) (text names c.in-Ok-Replied.reply) (g.K.Sink.written c.write_reply.new.sink)) c.names.ensures
@@ -83,8 +83,8 @@ returns-in-Ok-End g c =
     let turn = rw c.in-Ok-End.field-0-is at c.in-Ok-End.ensures.turn in
     let lines = advances_both c.new-lines.result l.lines c.next_turn.new.lines _ _ _ _ _ _ l.invariant.lines c.next_turn.ensures.lines in record {
       answered = record {
-        served = over_cut status.Done _ _ _ c.next_turn.new.session _
-            (over_skip _ _ _ _ _ l.session c.next_turn.new.session _ _ (asked l.lines (g.S.Source.left l.source)) _ _ _ _ l.invariant.going refl turn.2 turn.3 c.next_turn.ensures.disk.counted)
+        served = over_cut status.Done _ _ _ c.next_turn.new.session.parts _
+            (over_skip _ _ _ _ _ l.session.parts c.next_turn.new.session.parts _ _ (asked l.lines (g.S.Source.left l.source)) _ _ _ _ l.invariant.going refl turn.2 turn.3 c.next_turn.ensures.disk.counted)
             (c.next_turn.ensures.disk.told ∙ l.invariant.told) (λ done. turn.0) (λ due is. is);
         told = c.next_turn.ensures.disk.told ∙ l.invariant.told;
         begun = tt;
@@ -103,8 +103,8 @@ returns-in-Err-Read g c =
     let is = c.in-Err-Read.is ∙ ap (λ e. Err e) c.in-Err-Read.field-0-is in
     let stop = c.next_turn.ensures.stop is in record {
       answered = record {
-        served = over_cut status.SourceFault _ _ _ c.next_turn.new.session _
-            (over_skip _ _ _ _ _ l.session c.next_turn.new.session _ _ (asked l.lines (g.S.Source.left l.source)) _ _ _ _ l.invariant.going refl stop.0 stop.1 c.next_turn.ensures.disk.counted)
+        served = over_cut status.SourceFault _ _ _ c.next_turn.new.session.parts _
+            (over_skip _ _ _ _ _ l.session.parts c.next_turn.new.session.parts _ _ (asked l.lines (g.S.Source.left l.source)) _ _ _ _ l.invariant.going refl stop.0 stop.1 c.next_turn.ensures.disk.counted)
             (c.next_turn.ensures.disk.told ∙ l.invariant.told) (λ done. cc) (λ due is. is);
         told = c.next_turn.ensures.disk.told ∙ l.invariant.told;
         begun = tt;
@@ -125,8 +125,8 @@ returns-in-Err-Limit g c =
     let limit = c.next_turn.ensures.limit is in
     let lines = advances_both c.new-lines.result l.lines c.next_turn.new.lines _ _ _ _ _ _ l.invariant.lines c.next_turn.ensures.lines in record {
       answered = record {
-        served = over_cut status.ScriptLimit _ _ _ c.next_turn.new.session _
-            (over_skip _ _ _ _ _ l.session c.next_turn.new.session _ _ (asked l.lines (g.S.Source.left l.source)) _ _ _ _ l.invariant.going refl stop.0 stop.1 c.next_turn.ensures.disk.counted)
+        served = over_cut status.ScriptLimit _ _ _ c.next_turn.new.session.parts _
+            (over_skip _ _ _ _ _ l.session.parts c.next_turn.new.session.parts _ _ (asked l.lines (g.S.Source.left l.source)) _ _ _ _ l.invariant.going refl stop.0 stop.1 c.next_turn.ensures.disk.counted)
             (c.next_turn.ensures.disk.told ∙ l.invariant.told) (λ done. cc) (λ due is. is);
         told = c.next_turn.ensures.disk.told ∙ l.invariant.told;
         begun = tt;
@@ -144,7 +144,7 @@ returns-in-Err-Store g c =
     let l = c.loop-reply in
     let is = c.in-Err-Store.is ∙ ap (λ e. Err e) c.in-Err-Store.field-0-is in record {
       answered = record {
-        served = over_broken _ _ _ l.session _ _ _ _ l.invariant.going l.invariant.told c.next_turn.ensures.disk.told (c.next_turn.ensures.store is) c.next_turn.ensures.disk.counted;
+        served = over_broken _ _ _ l.session.parts _ _ _ _ l.invariant.going l.invariant.told c.next_turn.ensures.disk.told (c.next_turn.ensures.store is) c.next_turn.ensures.disk.counted;
         told = c.next_turn.ensures.disk.told ∙ l.invariant.told;
         begun = tt;
         done = λ e. cc;

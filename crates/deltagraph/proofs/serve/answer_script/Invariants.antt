@@ -12,9 +12,9 @@ use Rattle.deltagraph.proofs.serve.answer_script.Given as goal
 abbrev pub invariant-loop-reply : goal.invariant-loop-reply
 invariant-loop-reply g l = record {
   going : GoingOver (g.D.Disk.image l.fn.disk) (g.S.Source.left l.fn.source) (g.K.Sink.written l.fn.sink) (g.D.Disk.faults l.fn.disk)
-      l.fn.session l.session (g.D.Disk.image l.disk) (asked l.lines (g.S.Source.left l.source)) (g.K.Sink.written l.sink) (g.D.Disk.faults l.disk);
+      l.fn.session.parts l.session.parts (g.D.Disk.image l.disk) (asked l.lines (g.S.Source.left l.source)) (g.K.Sink.written l.sink) (g.D.Disk.faults l.disk);
   told : is_some (g.D.Disk.image l.disk) ≡ is_some (g.D.Disk.image l.fn.disk);
-  held : IfSome (g.D.Disk.image l.disk) (λ image. IsHeldBy l.session.index l.session.names image);
+  held : IfSome (g.D.Disk.image l.disk) (λ image. IsHeldBy l.session.parts.index l.session.parts.names image);
   lines : Advances l.initial.lines (g.S.Source.left l.fn.source) (g.S.Source.faults l.fn.source) l.lines (g.S.Source.left l.source) (g.S.Source.faults l.source);
   sink_counted : g.K.Sink.faults l.fn.sink ≤ g.K.Sink.faults l.sink;
   disk_counted : g.D.Disk.write_faults l.fn.disk ≤ g.D.Disk.write_faults l.disk;

@@ -11,6 +11,6 @@ returns-in-Err g c = record {
 
 pub returns-in-Ok : goal.returns-in-Ok
 returns-in-Ok g c = record {
-  promise = session_promise c.law_starts_are_determined.ensures c.args.limits c.in-Ok.session c.answer_script.result _ _ _ refl refl refl refl c.start.ensures.disk.same_image
+  promise = session_promise c.law_starts_are_determined.ensures c.args.limits c.in-Ok.session.parts c.answer_script.result _ _ _ refl refl refl refl c.start.ensures.disk.same_image
       (λ rose. omega (arith, rose, c.start.ensures.disk.writes_counted)) (omega (arith, c.start.ensures.disk.counted)) c.in-Ok.ensures.started c.in-Ok.ensures.stands c.in-Ok.ensures.takes c.answer_script.ensures.answered;
 }

@@ -3,4 +3,4 @@ use Rattle.dg_start.specs.StoredHistory.{IsHeldBy}
 use Rattle.dg_session.proofs.tests.first_other.Given as goal
 
 abbrev pub invariant-loop-number : goal.invariant-loop-number
-invariant-loop-number g l = IsHeldBy l.session.index l.session.names (image_of l.disk)
+invariant-loop-number g l = IsHeldBy l.session.parts.index l.session.parts.names (image_of l.disk)

@@ -1,11 +1,9 @@
-use Rattle.std.proofs.Common.{◌≡◌, ℕ, List, Option, Err, length, refl, sym, ◌∙◌, ap, subst}
-use Rattle.std.specs.Prelude.{IfSome}
-use Rattle.dg_append.specs.AddedBatches.{AddsBatch, FailsBatch, IsReady, TakesOlder}
-use Rattle.dg_graph.specs.declared.event.Change.{Change}
+use Rattle.std.proofs.Common.{◌≡◌, ℕ, List, Option, Err, refl, sym, ◌∙◌, ap, subst}
 use Rattle.dg_graph.specs.Lines.{ScriptLine}
 use Rattle.dg_io.specs.LinesState.{told}
 use Rattle.dg_machine.specs.declared.reply.Reply.{Reply}
 use Rattle.dg_machine.specs.Answer.{headed}
+use Rattle.dg_session.specs.SessionState.{SessionState}
 use Rattle.dg_session.specs.BatchCommand.{command_with, head_of}
 use Rattle.dg_session.specs.Damage.{DamageIn}
 use Rattle.dg_session.specs.Halt.{batch_halt}
@@ -14,144 +12,143 @@ use Rattle.dg_session.specs.Reads.{Reads, ReadsIn}
 use Rattle.dg_session.specs.Session.{Accepts, ComesTo}
 use Rattle.dg_session.specs.contracts.session.Session.{the_view}
 use Rattle.dg_session.proofs.AddReads.{ReadsNoMore, added_reads, failed_damage, failed_reads, reads_no_more, unread_damage, unread_reads}
-use Rattle.dg_session.proofs.AddStep.{IsAsked, batch_added, batch_failed, is_asked, is_ready, takes_failed, unread_comes, with_history}
+use Rattle.dg_session.proofs.AddStep.{IsAsked, batch_added, batch_failed, failed_stays, is_asked, is_ready, kept_handles, takes_failed, unread_comes, with_handles, with_history}
 use Rattle.dg_session.proofs.Steps.{Comes, handed_out}
 use Rattle.dg_start.specs.declared.stored_history.StoredHistory.{StoredHistory}
-use Rattle.dg_start.specs.StoredHistory.{index_opening}
 use Rattle.dg_session.proofs.session.Session.add.Goals as goal
 
 pub returns-in_err-batch-clause-comes : goal.returns-in_err-batch-clause-comes
 returns-in_err-batch-clause-comes g c =
-    let p : Parts = the_view c.self.inside in
+    let p : Parts = (the_view c.self.inside).parts in
     let q : Parts = record p { names = c.read_batch.new.names } in
     let before : Option (List ScriptLine) = told c.args.lines.now (g.S.Source.left c.args.source.now) in
     let after : Option (List ScriptLine) = told c.read_batch.new.lines (g.S.Source.left c.read_batch.new.source) in
     let image : Option (List ℕ) = g.D.Disk.image c.args.disk.now in
-    handed_out c.from_residual.result c.in_err-batch.field-0.0 (Comes (command_with c.args.which c.args.count) c.args.count before after c.args.self.now image q image) c.from_residual.ensures
-    (unread_comes c.args.which c.args.count c.args.self.now q c.self.inside.history.names c.read_batch.new.names before after image c.in_err-batch.field-0.0 c.barred-barred.result
-    (λ same. ap (λ ns. let x : Parts = record p { names = ns } in x) same ∙ c.self.view_is) c.barred-barred.ensures c.in_err-batch.ensures.reads
+    handed_out c.from_residual.result c.in_err-batch.field-0.0 (Comes (command_with c.args.which c.args.count) c.args.count before after c.args.self.now.parts image q image) c.from_residual.ensures
+    (unread_comes c.args.which c.args.count c.args.self.now.parts q c.self.inside.history.names c.read_batch.new.names before after image c.in_err-batch.field-0.0 c.barred-barred.result
+    (λ same. ap (λ ns. let x : Parts = record p { names = ns } in x) same ∙ (ap (λ (x : SessionState). x.parts) c.self.view_is)) c.barred-barred.ensures c.in_err-batch.ensures.reads
     (λ h. c.read_batch.ensures.no_store (c.in_err-batch.was ∙ ap (λ x. Err x) h)))
 
 pub returns-in_err-batch-clause-damaged : goal.returns-in_err-batch-clause-damaged
 returns-in_err-batch-clause-damaged g c =
     let before : Option (List ScriptLine) = told c.args.lines.now (g.S.Source.left c.args.source.now) in
     let after : Option (List ScriptLine) = told c.read_batch.new.lines (g.S.Source.left c.read_batch.new.source) in
-    handed_out c.from_residual.result c.in_err-batch.field-0.0 (λ r. DamageIn (command_with c.args.which c.args.count) c.args.self.now (g.D.Disk.image c.args.disk.now) r) c.from_residual.ensures
-    (unread_damage c.args.which c.args.count c.args.self.now c.self.inside.history.names c.read_batch.new.names before after c.barred-barred.result (g.D.Disk.image c.args.disk.now) c.in_err-batch.field-0.0
+    handed_out c.from_residual.result c.in_err-batch.field-0.0 (λ r. DamageIn (command_with c.args.which c.args.count) c.args.self.now.parts (g.D.Disk.image c.args.disk.now) r) c.from_residual.ensures
+    (unread_damage c.args.which c.args.count c.args.self.now.parts c.self.inside.history.names c.read_batch.new.names before after c.barred-barred.result (g.D.Disk.image c.args.disk.now) c.in_err-batch.field-0.0
     c.barred-barred.ensures c.in_err-batch.ensures.reads)
 
 pub returns-in_err-batch-clause-reads : goal.returns-in_err-batch-clause-reads
 returns-in_err-batch-clause-reads g c =
-    handed_out c.from_residual.result c.in_err-batch.field-0.0 (λ r. ReadsIn (command_with c.args.which c.args.count) c.args.self.now (g.D.Disk.image c.args.disk.now) r (g.D.Disk.taken c.args.disk.now) (g.D.Disk.taken c.args.disk.now)) c.from_residual.ensures
-    (unread_reads c.args.which c.args.count c.args.self.now (g.D.Disk.image c.args.disk.now) c.in_err-batch.field-0.0 (g.D.Disk.taken c.args.disk.now))
+    handed_out c.from_residual.result c.in_err-batch.field-0.0 (λ r. ReadsIn (command_with c.args.which c.args.count) c.args.self.now.parts (g.D.Disk.image c.args.disk.now) r (g.D.Disk.taken c.args.disk.now) (g.D.Disk.taken c.args.disk.now)) c.from_residual.ensures
+    (unread_reads c.args.which c.args.count c.args.self.now.parts (g.D.Disk.image c.args.disk.now) c.in_err-batch.field-0.0 (g.D.Disk.taken c.args.disk.now))
 
-pub add_batch-requires-clause-ready : goal.add_batch-requires-clause-ready
-add_batch-requires-clause-ready g c =
-    let p : Parts = the_view c.self.inside in
+pub add_changes-requires-clause-ready : goal.add_changes-requires-clause-ready
+add_changes-requires-clause-ready g c =
+    let p : Parts = (the_view c.self.inside).parts in
     let old : StoredHistory = record { index = c.self.inside.history.index; names = c.read_batch.new.names; now = c.self.inside.history.now; recent = c.self.inside.history.recent } in
     let before : Option (List ScriptLine) = told c.args.lines.now (g.S.Source.left c.args.source.now) in
     let after : Option (List ScriptLine) = told c.read_batch.new.lines (g.S.Source.left c.read_batch.new.source) in
     let asked : IsAsked c.args.which p c.args.count c.len-known.result c.self.inside.limits.file_bytes old c.in_ok-batch.batch before after =
-    is_asked c.args.which p c.args.self.now c.args.count c.len-known.result old c.in_ok-batch.batch before after c.barred-barred.result c.self.view_is c.barred-barred.ensures
-    refl c.len-known.ensures.len refl refl c.self.invariant.3 c.requires.some c.requires.few c.in_ok-batch.ensures.reads in
-    subst (λ (xs : List Change). IfSome (index_opening old.index) (λ o. IsReady o c.len-known.result old c.in_ok-batch.batch.front xs)) (sym c.deref.ensures.value)
-    (is_ready c.args.which p c.args.count c.len-known.result c.self.inside.limits.file_bytes old c.in_ok-batch.batch before after asked c.self.invariant.5)
+    is_asked c.args.which p c.args.self.now.parts c.args.count c.len-known.result old c.in_ok-batch.batch before after c.barred-barred.result (ap (λ (x : SessionState). x.parts) c.self.view_is) c.barred-barred.ensures
+    refl c.len-known.ensures.len refl refl c.self.invariant.0.events c.requires.some c.requires.few c.in_ok-batch.ensures.reads in
+    (is_ready c.args.which p c.args.count c.len-known.result c.self.inside.limits.file_bytes old c.in_ok-batch.batch before after asked c.self.invariant.1)
 
 pub returns-in_err-added-clause-comes : goal.returns-in_err-added-clause-comes
 returns-in_err-added-clause-comes g c =
-    let p : Parts = the_view c.self.inside in
+    let p : Parts = (the_view c.self.inside).parts in
     let old : StoredHistory = record { index = c.self.inside.history.index; names = c.read_batch.new.names; now = c.self.inside.history.now; recent = c.self.inside.history.recent } in
     let before : Option (List ScriptLine) = told c.args.lines.now (g.S.Source.left c.args.source.now) in
     let after : Option (List ScriptLine) = told c.read_batch.new.lines (g.S.Source.left c.read_batch.new.source) in
     let asked : IsAsked c.args.which p c.args.count c.len-known.result c.self.inside.limits.file_bytes old c.in_ok-batch.batch before after =
-    is_asked c.args.which p c.args.self.now c.args.count c.len-known.result old c.in_ok-batch.batch before after c.barred-barred.result c.self.view_is c.barred-barred.ensures
-    refl c.len-known.ensures.len refl refl c.self.invariant.3 c.requires.some c.requires.few c.in_ok-batch.ensures.reads in
+    is_asked c.args.which p c.args.self.now.parts c.args.count c.len-known.result old c.in_ok-batch.batch before after c.barred-barred.result (ap (λ (x : SessionState). x.parts) c.self.view_is) c.barred-barred.ensures
+    refl c.len-known.ensures.len refl refl c.self.invariant.0.events c.requires.some c.requires.few c.in_ok-batch.ensures.reads in
     let image : Option (List ℕ) = g.D.Disk.image c.args.disk.now in
-    let then_image : Option (List ℕ) = g.D.Disk.image c.add_batch.new.disk in
-    let q : Parts = with_history p c.add_batch.new.history in
-    handed_out c.from_residual-in_err-added.result (batch_halt c.in_err-added.field-0.0) (Comes (command_with c.args.which c.args.count) c.args.count before after c.args.self.now image q then_image) c.from_residual-in_err-added.ensures (
+    let then_image : Option (List ℕ) = g.D.Disk.image c.add_changes.new.disk in
+    let q : Parts = with_handles (with_history p c.add_changes.new.history) c.add_changes.new.handles c.add_changes.new.pool in
+    handed_out c.from_residual-in_err-added.result (batch_halt c.in_err-added.field-0.0) (Comes (command_with c.args.which c.args.count) c.args.count before after c.args.self.now.parts image q then_image) c.from_residual-in_err-added.ensures (
       asked.batch.got,
       takes_failed c.args.count before asked.batch.got after c.in_err-added.field-0.0 asked.batch.follows,
-      subst (λ (x : Parts). ComesTo (command_with c.args.which c.args.count) asked.batch.got x image q then_image (Err (batch_halt c.in_err-added.field-0.0))) c.self.view_is
-          (batch_failed c.args.which p c.args.count c.len-known.result c.self.inside.limits.file_bytes old c.in_ok-batch.batch before after asked c.add_batch.new.history image then_image
-          c.in_err-added.field-0.0
-          (subst (λ (xs : List Change). IfSome (index_opening old.index) (λ o. FailsBatch o c.self.inside.limits.file_bytes c.len-known.result old image then_image xs c.in_ok-batch.batch.front c.in_err-added.field-0.0)) c.deref.ensures.value c.in_err-added.ensures.fails)
-          c.in_err-added.ensures.back q refl),
+      subst (λ (x : Parts). ComesTo (command_with c.args.which c.args.count) asked.batch.got x image q then_image (Err (batch_halt c.in_err-added.field-0.0))) (ap (λ (x : SessionState). x.parts) c.self.view_is)
+          (batch_failed c.args.which p c.args.count c.len-known.result c.self.inside.limits.file_bytes old c.in_ok-batch.batch before after asked c.add_changes.new.history image then_image
+          c.in_err-added.field-0.0 c.in_err-added.ensures.fails q
+          (failed_stays c.args.which p c.args.count c.len-known.result c.self.inside.limits.file_bytes old c.in_ok-batch.batch before after asked c.add_changes.new.history image then_image
+          c.in_err-added.field-0.0 c.self.inside.handles c.add_changes.new.handles c.self.inside.pool c.add_changes.new.pool c.in_err-added.ensures.back c.in_err-added.ensures.handles_back refl)),
     )
 
 pub returns-in_err-added-clause-damaged : goal.returns-in_err-added-clause-damaged
 returns-in_err-added-clause-damaged g c =
-    let p : Parts = the_view c.self.inside in
+    let p : Parts = (the_view c.self.inside).parts in
     let old : StoredHistory = record { index = c.self.inside.history.index; names = c.read_batch.new.names; now = c.self.inside.history.now; recent = c.self.inside.history.recent } in
     let before : Option (List ScriptLine) = told c.args.lines.now (g.S.Source.left c.args.source.now) in
     let after : Option (List ScriptLine) = told c.read_batch.new.lines (g.S.Source.left c.read_batch.new.source) in
     let asked : IsAsked c.args.which p c.args.count c.len-known.result c.self.inside.limits.file_bytes old c.in_ok-batch.batch before after =
-    is_asked c.args.which p c.args.self.now c.args.count c.len-known.result old c.in_ok-batch.batch before after c.barred-barred.result c.self.view_is c.barred-barred.ensures
-    refl c.len-known.ensures.len refl refl c.self.invariant.3 c.requires.some c.requires.few c.in_ok-batch.ensures.reads in
+    is_asked c.args.which p c.args.self.now.parts c.args.count c.len-known.result old c.in_ok-batch.batch before after c.barred-barred.result (ap (λ (x : SessionState). x.parts) c.self.view_is) c.barred-barred.ensures
+    refl c.len-known.ensures.len refl refl c.self.invariant.0.events c.requires.some c.requires.few c.in_ok-batch.ensures.reads in
     let image : Option (List ℕ) = g.D.Disk.image c.args.disk.now in
-    let then_image : Option (List ℕ) = g.D.Disk.image c.add_batch.new.disk in
-    handed_out c.from_residual-in_err-added.result (batch_halt c.in_err-added.field-0.0) (λ r. DamageIn (command_with c.args.which c.args.count) c.args.self.now image r) c.from_residual-in_err-added.ensures
-    (subst (λ (x : Parts). DamageIn (command_with c.args.which c.args.count) x image (Err (batch_halt c.in_err-added.field-0.0))) c.self.view_is
+    let then_image : Option (List ℕ) = g.D.Disk.image c.add_changes.new.disk in
+    handed_out c.from_residual-in_err-added.result (batch_halt c.in_err-added.field-0.0) (λ r. DamageIn (command_with c.args.which c.args.count) c.args.self.now.parts image r) c.from_residual-in_err-added.ensures
+    (subst (λ (x : Parts). DamageIn (command_with c.args.which c.args.count) x image (Err (batch_halt c.in_err-added.field-0.0))) (ap (λ (x : SessionState). x.parts) c.self.view_is)
     (failed_damage c.args.which p c.args.count c.len-known.result c.self.inside.limits.file_bytes old c.in_ok-batch.batch before after asked image then_image c.in_err-added.field-0.0
-    (subst (λ (xs : List Change). IfSome (index_opening old.index) (λ o. FailsBatch o c.self.inside.limits.file_bytes c.len-known.result old image then_image xs c.in_ok-batch.batch.front c.in_err-added.field-0.0)) c.deref.ensures.value c.in_err-added.ensures.fails)))
+    c.in_err-added.ensures.fails))
 
 pub returns-in_err-added-clause-reads : goal.returns-in_err-added-clause-reads
 returns-in_err-added-clause-reads g c =
-    let p : Parts = the_view c.self.inside in
+    let p : Parts = (the_view c.self.inside).parts in
     let old : StoredHistory = record { index = c.self.inside.history.index; names = c.read_batch.new.names; now = c.self.inside.history.now; recent = c.self.inside.history.recent } in
     let before : Option (List ScriptLine) = told c.args.lines.now (g.S.Source.left c.args.source.now) in
     let after : Option (List ScriptLine) = told c.read_batch.new.lines (g.S.Source.left c.read_batch.new.source) in
     let asked : IsAsked c.args.which p c.args.count c.len-known.result c.self.inside.limits.file_bytes old c.in_ok-batch.batch before after =
-    is_asked c.args.which p c.args.self.now c.args.count c.len-known.result old c.in_ok-batch.batch before after c.barred-barred.result c.self.view_is c.barred-barred.ensures
-    refl c.len-known.ensures.len refl refl c.self.invariant.3 c.requires.some c.requires.few c.in_ok-batch.ensures.reads in
+    is_asked c.args.which p c.args.self.now.parts c.args.count c.len-known.result old c.in_ok-batch.batch before after c.barred-barred.result (ap (λ (x : SessionState). x.parts) c.self.view_is) c.barred-barred.ensures
+    refl c.len-known.ensures.len refl refl c.self.invariant.0.events c.requires.some c.requires.few c.in_ok-batch.ensures.reads in
     let image : Option (List ℕ) = g.D.Disk.image c.args.disk.now in
-    let then_image : Option (List ℕ) = g.D.Disk.image c.add_batch.new.disk in
+    let then_image : Option (List ℕ) = g.D.Disk.image c.add_changes.new.disk in
     let taken : ℕ = g.D.Disk.taken c.args.disk.now in
-    let then_taken : ℕ = g.D.Disk.taken c.add_batch.new.disk in
+    let then_taken : ℕ = g.D.Disk.taken c.add_changes.new.disk in
     let older : ReadsNoMore p image c.args.count taken then_taken =
     reads_no_more c.args.which p c.args.count c.len-known.result c.self.inside.limits.file_bytes old c.in_ok-batch.batch before after asked image taken then_taken
-    (subst (λ (xs : List Change). IfSome (index_opening old.index) (λ o. TakesOlder image o c.len-known.result old (length xs) taken then_taken)) c.deref.ensures.value c.add_batch.ensures.takes) c.add_batch.ensures.unread in
-    handed_out c.from_residual-in_err-added.result (batch_halt c.in_err-added.field-0.0) (λ r. ReadsIn (command_with c.args.which c.args.count) c.args.self.now image r taken then_taken) c.from_residual-in_err-added.ensures
-    (failed_reads c.args.which c.args.count c.args.self.now image c.in_err-added.field-0.0 taken then_taken (subst (λ (x : Parts). ReadsNoMore x image c.args.count taken then_taken) c.self.view_is older) c.in_err-added.ensures.nothing)
+    c.add_changes.ensures.takes c.add_changes.ensures.unread in
+    handed_out c.from_residual-in_err-added.result (batch_halt c.in_err-added.field-0.0) (λ r. ReadsIn (command_with c.args.which c.args.count) c.args.self.now.parts image r taken then_taken) c.from_residual-in_err-added.ensures
+    (failed_reads c.args.which c.args.count c.args.self.now.parts image c.in_err-added.field-0.0 taken then_taken (subst (λ (x : Parts). ReadsNoMore x image c.args.count taken then_taken) (ap (λ (x : SessionState). x.parts) c.self.view_is) older) c.in_err-added.ensures.nothing)
 
 pub returns-clause-comes : goal.returns-clause-comes
 returns-clause-comes g c =
-    let p : Parts = the_view c.self.inside in
+    let p : Parts = (the_view c.self.inside).parts in
     let old : StoredHistory = record { index = c.self.inside.history.index; names = c.read_batch.new.names; now = c.self.inside.history.now; recent = c.self.inside.history.recent } in
     let before : Option (List ScriptLine) = told c.args.lines.now (g.S.Source.left c.args.source.now) in
     let after : Option (List ScriptLine) = told c.read_batch.new.lines (g.S.Source.left c.read_batch.new.source) in
     let asked : IsAsked c.args.which p c.args.count c.len-known.result c.self.inside.limits.file_bytes old c.in_ok-batch.batch before after =
-    is_asked c.args.which p c.args.self.now c.args.count c.len-known.result old c.in_ok-batch.batch before after c.barred-barred.result c.self.view_is c.barred-barred.ensures
-    refl c.len-known.ensures.len refl refl c.self.invariant.3 c.requires.some c.requires.few c.in_ok-batch.ensures.reads in
+    is_asked c.args.which p c.args.self.now.parts c.args.count c.len-known.result old c.in_ok-batch.batch before after c.barred-barred.result (ap (λ (x : SessionState). x.parts) c.self.view_is) c.barred-barred.ensures
+    refl c.len-known.ensures.len refl refl c.self.invariant.0.events c.requires.some c.requires.few c.in_ok-batch.ensures.reads in
     let image : Option (List ℕ) = g.D.Disk.image c.args.disk.now in
-    let then_image : Option (List ℕ) = g.D.Disk.image c.add_batch.new.disk in
-    let q : Parts = with_history p c.add_batch.new.history in
+    let then_image : Option (List ℕ) = g.D.Disk.image c.add_changes.new.disk in
+    let q : Parts = with_handles (with_history p c.add_changes.new.history) c.add_changes.new.handles c.add_changes.new.pool in
     let reply : headed (head_of c.args.which c.in_ok-added.added.events c.in_ok-added.added.total c.in_ok-added.added.last) ≡ c.headed.result = sym (c.headed.ensures ∙ ap headed c.head.ensures) in (
       asked.batch.got,
       asked.batch.follows,
-      subst (λ (r : Reply). Accepts (command_with c.args.which c.args.count) asked.batch.got c.args.self.now image q then_image r) reply
-          (subst (λ (x : Parts). Accepts (command_with c.args.which c.args.count) asked.batch.got x image q then_image (headed (head_of c.args.which c.in_ok-added.added.events c.in_ok-added.added.total c.in_ok-added.added.last))) c.self.view_is
-          (batch_added c.args.which p c.args.count c.len-known.result c.self.inside.limits.file_bytes old c.in_ok-batch.batch before after asked c.add_batch.new.history image then_image
-          c.in_ok-added.added
-          (subst (λ (xs : List Change). IfSome (index_opening old.index) (λ o. AddsBatch o c.self.inside.limits.file_bytes c.len-known.result old c.add_batch.new.history image then_image xs c.in_ok-batch.batch.front c.in_ok-added.added)) c.deref.ensures.value c.in_ok-added.ensures.adds))),
+      subst (λ (r : Reply). Accepts (command_with c.args.which c.args.count) asked.batch.got c.args.self.now.parts image q then_image r) reply
+          (subst (λ (x : Parts). Accepts (command_with c.args.which c.args.count) asked.batch.got x image q then_image (headed (head_of c.args.which c.in_ok-added.added.events c.in_ok-added.added.total c.in_ok-added.added.last))) (ap (λ (x : SessionState). x.parts) c.self.view_is)
+          (subst (λ (y : Parts). Accepts (command_with c.args.which c.args.count) asked.batch.got p image y then_image (headed (head_of c.args.which c.in_ok-added.added.events c.in_ok-added.added.total c.in_ok-added.added.last)))
+          (sym (kept_handles (with_history p c.add_changes.new.history) c.self.inside.handles c.add_changes.new.handles c.self.inside.pool c.add_changes.new.pool c.in_ok-added.ensures.handles c.in_ok-added.ensures.graphs))
+          (batch_added c.args.which p c.args.count c.len-known.result c.self.inside.limits.file_bytes old c.in_ok-batch.batch before after asked c.add_changes.new.history image then_image
+          c.in_ok-added.added c.in_ok-added.ensures.adds))),
     )
 
 pub returns-clause-reads : goal.returns-clause-reads
 returns-clause-reads g c =
-    let p : Parts = the_view c.self.inside in
+    let p : Parts = (the_view c.self.inside).parts in
     let old : StoredHistory = record { index = c.self.inside.history.index; names = c.read_batch.new.names; now = c.self.inside.history.now; recent = c.self.inside.history.recent } in
     let before : Option (List ScriptLine) = told c.args.lines.now (g.S.Source.left c.args.source.now) in
     let after : Option (List ScriptLine) = told c.read_batch.new.lines (g.S.Source.left c.read_batch.new.source) in
     let asked : IsAsked c.args.which p c.args.count c.len-known.result c.self.inside.limits.file_bytes old c.in_ok-batch.batch before after =
-    is_asked c.args.which p c.args.self.now c.args.count c.len-known.result old c.in_ok-batch.batch before after c.barred-barred.result c.self.view_is c.barred-barred.ensures
-    refl c.len-known.ensures.len refl refl c.self.invariant.3 c.requires.some c.requires.few c.in_ok-batch.ensures.reads in
+    is_asked c.args.which p c.args.self.now.parts c.args.count c.len-known.result old c.in_ok-batch.batch before after c.barred-barred.result (ap (λ (x : SessionState). x.parts) c.self.view_is) c.barred-barred.ensures
+    refl c.len-known.ensures.len refl refl c.self.invariant.0.events c.requires.some c.requires.few c.in_ok-batch.ensures.reads in
     let image : Option (List ℕ) = g.D.Disk.image c.args.disk.now in
-    let then_image : Option (List ℕ) = g.D.Disk.image c.add_batch.new.disk in
+    let then_image : Option (List ℕ) = g.D.Disk.image c.add_changes.new.disk in
     let taken : ℕ = g.D.Disk.taken c.args.disk.now in
-    let then_taken : ℕ = g.D.Disk.taken c.add_batch.new.disk in
+    let then_taken : ℕ = g.D.Disk.taken c.add_changes.new.disk in
     let older : ReadsNoMore p image c.args.count taken then_taken =
     reads_no_more c.args.which p c.args.count c.len-known.result c.self.inside.limits.file_bytes old c.in_ok-batch.batch before after asked image taken then_taken
-    (subst (λ (xs : List Change). IfSome (index_opening old.index) (λ o. TakesOlder image o c.len-known.result old (length xs) taken then_taken)) c.deref.ensures.value c.add_batch.ensures.takes) c.add_batch.ensures.unread in
-    subst (λ (r : Reply). Reads (command_with c.args.which c.args.count) c.args.self.now image r.head taken then_taken) (sym (c.headed.ensures ∙ ap headed c.head.ensures))
-    (added_reads c.args.which c.args.count c.args.self.now image c.in_ok-added.added.events c.in_ok-added.added.total c.in_ok-added.added.last taken then_taken
-    (subst (λ (x : Parts). ReadsNoMore x image c.args.count taken then_taken) c.self.view_is older))
+    c.add_changes.ensures.takes c.add_changes.ensures.unread in
+    subst (λ (r : Reply). Reads (command_with c.args.which c.args.count) c.args.self.now.parts image r.head taken then_taken) (sym (c.headed.ensures ∙ ap headed c.head.ensures))
+    (added_reads c.args.which c.args.count c.args.self.now.parts image c.in_ok-added.added.events c.in_ok-added.added.total c.in_ok-added.added.last taken then_taken
+    (subst (λ (x : Parts). ReadsNoMore x image c.args.count taken then_taken) (ap (λ (x : SessionState). x.parts) c.self.view_is) older))

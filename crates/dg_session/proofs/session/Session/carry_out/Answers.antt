@@ -33,131 +33,203 @@ several-requires-clause-few g c = (subst CountIsInRange c.in-Several.is c.requir
 
 pub returns-in-At-clause-comes : goal.returns-in-At-clause-comes
 returns-in-At-clause-comes g c =
-    alone c.args.command.now (command.At c.in-At.t c.in-At.cols) (told c.args.lines.now (g.S.Source.left c.args.source.now)) c.args.self.now (g.D.Disk.image c.args.disk.now) c.at.new.self (g.D.Disk.image c.at.new.disk) c.at.result
+    alone c.args.command.now (command.At c.in-At.t c.in-At.cols) (told c.args.lines.now (g.S.Source.left c.args.source.now)) c.args.self.now.parts (g.D.Disk.image c.args.disk.now) c.at.new.self.parts (g.D.Disk.image c.at.new.disk) c.at.result
     c.in-At.is refl c.at.ensures.comes
 
 pub returns-in-Several-clause-comes : goal.returns-in-Several-clause-comes
 returns-in-Several-clause-comes g c =
-    alone c.args.command.now (command.Several c.in-Several.cols c.in-Several.times c.in-Several.count) (told c.args.lines.now (g.S.Source.left c.args.source.now)) c.args.self.now (g.D.Disk.image c.args.disk.now) c.several.new.self (g.D.Disk.image c.several.new.disk) c.several.result
+    alone c.args.command.now (command.Several c.in-Several.cols c.in-Several.times c.in-Several.count) (told c.args.lines.now (g.S.Source.left c.args.source.now)) c.args.self.now.parts (g.D.Disk.image c.args.disk.now) c.several.new.self.parts (g.D.Disk.image c.several.new.disk) c.several.result
     c.in-Several.is refl c.several.ensures.comes
 
 pub returns-in-At-clause-reads : goal.returns-in-At-clause-reads
 returns-in-At-clause-reads g c =
-    subst (λ x. ReadsIn x c.args.self.now (g.D.Disk.image c.args.disk.now) c.at.result (g.D.Disk.taken c.args.disk.now) (g.D.Disk.taken c.at.new.disk)) (sym c.in-At.is) c.at.ensures.reads
+    subst (λ x. ReadsIn x c.args.self.now.parts (g.D.Disk.image c.args.disk.now) c.at.result (g.D.Disk.taken c.args.disk.now) (g.D.Disk.taken c.at.new.disk)) (sym c.in-At.is) c.at.ensures.reads
 
 pub returns-in-Several-clause-reads : goal.returns-in-Several-clause-reads
 returns-in-Several-clause-reads g c =
-    subst (λ x. ReadsIn x c.args.self.now (g.D.Disk.image c.args.disk.now) c.several.result (g.D.Disk.taken c.args.disk.now) (g.D.Disk.taken c.several.new.disk)) (sym c.in-Several.is) c.several.ensures.reads
+    subst (λ x. ReadsIn x c.args.self.now.parts (g.D.Disk.image c.args.disk.now) c.several.result (g.D.Disk.taken c.args.disk.now) (g.D.Disk.taken c.several.new.disk)) (sym c.in-Several.is) c.several.ensures.reads
 
 pub returns-in-List-clause-reads : goal.returns-in-List-clause-reads
 returns-in-List-clause-reads g c =
-    subst (λ x. ReadsIn x c.args.self.now (g.D.Disk.image c.args.disk.now) c.list.result (g.D.Disk.taken c.args.disk.now) (g.D.Disk.taken c.args.disk.now)) (sym c.in-List.is)
-    (reads_nothing (command.List c.in-List.handle) c.args.self.now (g.D.Disk.image c.args.disk.now) c.list.result (g.D.Disk.taken c.args.disk.now) refl)
+    subst (λ x. ReadsIn x c.args.self.now.parts (g.D.Disk.image c.args.disk.now) c.list.result (g.D.Disk.taken c.args.disk.now) (g.D.Disk.taken c.args.disk.now)) (sym c.in-List.is)
+    (reads_nothing (command.List c.in-List.handle) c.args.self.now.parts (g.D.Disk.image c.args.disk.now) c.list.result (g.D.Disk.taken c.args.disk.now) refl)
 
 pub returns-in-List-clause-store_read : goal.returns-in-List-clause-store_read
 returns-in-List-clause-store_read g c h =
-    absurd (fails_no_read (command.List c.in-List.handle) [] c.args.self.now (g.D.Disk.image c.args.disk.now) c.args.self.now (g.D.Disk.image c.args.disk.now) c.list.result refl (c.list.ensures.comes (g.D.Disk.image c.args.disk.now)) h)
+    absurd (fails_no_read (command.List c.in-List.handle) [] c.args.self.now.parts (g.D.Disk.image c.args.disk.now) c.args.self.now.parts (g.D.Disk.image c.args.disk.now) c.list.result refl (c.list.ensures.comes (g.D.Disk.image c.args.disk.now)) h)
 
 pub returns-in-Plan-clause-reads : goal.returns-in-Plan-clause-reads
 returns-in-Plan-clause-reads g c =
-    subst (λ x. ReadsIn x c.args.self.now (g.D.Disk.image c.args.disk.now) c.plan.result (g.D.Disk.taken c.args.disk.now) (g.D.Disk.taken c.args.disk.now)) (sym c.in-Plan.is)
-    (reads_nothing (command.Plan c.in-Plan.t c.in-Plan.cols) c.args.self.now (g.D.Disk.image c.args.disk.now) c.plan.result (g.D.Disk.taken c.args.disk.now) refl)
+    subst (λ x. ReadsIn x c.args.self.now.parts (g.D.Disk.image c.args.disk.now) c.plan.result (g.D.Disk.taken c.args.disk.now) (g.D.Disk.taken c.args.disk.now)) (sym c.in-Plan.is)
+    (reads_nothing (command.Plan c.in-Plan.t c.in-Plan.cols) c.args.self.now.parts (g.D.Disk.image c.args.disk.now) c.plan.result (g.D.Disk.taken c.args.disk.now) refl)
 
 pub returns-in-Plan-clause-store_read : goal.returns-in-Plan-clause-store_read
 returns-in-Plan-clause-store_read g c h =
-    absurd (fails_no_read (command.Plan c.in-Plan.t c.in-Plan.cols) [] c.args.self.now (g.D.Disk.image c.args.disk.now) c.args.self.now (g.D.Disk.image c.args.disk.now) c.plan.result refl (c.plan.ensures.comes (g.D.Disk.image c.args.disk.now)) h)
+    absurd (fails_no_read (command.Plan c.in-Plan.t c.in-Plan.cols) [] c.args.self.now.parts (g.D.Disk.image c.args.disk.now) c.args.self.now.parts (g.D.Disk.image c.args.disk.now) c.plan.result refl (c.plan.ensures.comes (g.D.Disk.image c.args.disk.now)) h)
 
 pub returns-in-Tree-clause-reads : goal.returns-in-Tree-clause-reads
 returns-in-Tree-clause-reads g c =
-    subst (λ x. ReadsIn x c.args.self.now (g.D.Disk.image c.args.disk.now) c.tree.result (g.D.Disk.taken c.args.disk.now) (g.D.Disk.taken c.args.disk.now)) (sym c.in-Tree.is)
-    (reads_nothing command.Tree c.args.self.now (g.D.Disk.image c.args.disk.now) c.tree.result (g.D.Disk.taken c.args.disk.now) refl)
+    subst (λ x. ReadsIn x c.args.self.now.parts (g.D.Disk.image c.args.disk.now) c.tree.result (g.D.Disk.taken c.args.disk.now) (g.D.Disk.taken c.args.disk.now)) (sym c.in-Tree.is)
+    (reads_nothing command.Tree c.args.self.now.parts (g.D.Disk.image c.args.disk.now) c.tree.result (g.D.Disk.taken c.args.disk.now) refl)
 
 pub returns-in-Tree-clause-store_read : goal.returns-in-Tree-clause-store_read
 returns-in-Tree-clause-store_read g c h =
-    absurd (fails_no_read command.Tree [] c.args.self.now (g.D.Disk.image c.args.disk.now) c.args.self.now (g.D.Disk.image c.args.disk.now) c.tree.result refl (c.tree.ensures.comes (g.D.Disk.image c.args.disk.now)) h)
+    absurd (fails_no_read command.Tree [] c.args.self.now.parts (g.D.Disk.image c.args.disk.now) c.args.self.now.parts (g.D.Disk.image c.args.disk.now) c.tree.result refl (c.tree.ensures.comes (g.D.Disk.image c.args.disk.now)) h)
 
 pub returns-in-Certify-clause-reads : goal.returns-in-Certify-clause-reads
 returns-in-Certify-clause-reads g c =
-    subst (λ x. ReadsIn x c.args.self.now (g.D.Disk.image c.args.disk.now) c.certify.result (g.D.Disk.taken c.args.disk.now) (g.D.Disk.taken c.args.disk.now)) (sym c.in-Certify.is)
-    (reads_nothing (command.Certify c.in-Certify.t c.in-Certify.cols c.in-Certify.count) c.args.self.now (g.D.Disk.image c.args.disk.now) c.certify.result (g.D.Disk.taken c.args.disk.now) refl)
+    subst (λ x. ReadsIn x c.args.self.now.parts (g.D.Disk.image c.args.disk.now) c.certify.result (g.D.Disk.taken c.args.disk.now) (g.D.Disk.taken c.args.disk.now)) (sym c.in-Certify.is)
+    (reads_nothing (command.Certify c.in-Certify.t c.in-Certify.cols c.in-Certify.count) c.args.self.now.parts (g.D.Disk.image c.args.disk.now) c.certify.result (g.D.Disk.taken c.args.disk.now) refl)
 
 pub returns-in-Certify-clause-store_read : goal.returns-in-Certify-clause-store_read
 returns-in-Certify-clause-store_read g c h =
     let comes = c.certify.ensures.comes (g.D.Disk.image c.args.disk.now) in
-    absurd (fails_no_read (command.Certify c.in-Certify.t c.in-Certify.cols c.in-Certify.count) comes.0 c.args.self.now (g.D.Disk.image c.args.disk.now) c.args.self.now (g.D.Disk.image c.args.disk.now) c.certify.result refl comes.2 h)
+    absurd (fails_no_read (command.Certify c.in-Certify.t c.in-Certify.cols c.in-Certify.count) comes.0 c.args.self.now.parts (g.D.Disk.image c.args.disk.now) c.args.self.now.parts (g.D.Disk.image c.args.disk.now) c.certify.result refl comes.2 h)
 
 pub returns-in-Create-clause-reads : goal.returns-in-Create-clause-reads
 returns-in-Create-clause-reads g c =
-    subst (λ x. ReadsIn x c.args.self.now (g.D.Disk.image c.args.disk.now) c.create.result (g.D.Disk.taken c.args.disk.now) (g.D.Disk.taken c.create.new.disk)) (sym c.in-Create.is) c.create.ensures.reads
+    subst (λ x. ReadsIn x c.args.self.now.parts (g.D.Disk.image c.args.disk.now) c.create.result (g.D.Disk.taken c.args.disk.now) (g.D.Disk.taken c.create.new.disk)) (sym c.in-Create.is) c.create.ensures.reads
 
 pub returns-in-Create-clause-store_read : goal.returns-in-Create-clause-store_read
 returns-in-Create-clause-store_read g c h =
-    absurd (fails_no_read (command.Create c.in-Create.l c.in-Create.k c.in-Create.function) [] c.args.self.now (g.D.Disk.image c.args.disk.now) c.create.new.self (g.D.Disk.image c.create.new.disk) c.create.result refl c.create.ensures.comes h)
+    absurd (fails_no_read (command.Create c.in-Create.l c.in-Create.k c.in-Create.function) [] c.args.self.now.parts (g.D.Disk.image c.args.disk.now) c.create.new.self.parts (g.D.Disk.image c.create.new.disk) c.create.result refl c.create.ensures.comes h)
 
 pub returns-in-Load-clause-reads : goal.returns-in-Load-clause-reads
 returns-in-Load-clause-reads g c =
-    subst (λ x. ReadsIn x c.args.self.now (g.D.Disk.image c.args.disk.now) c.add.result (g.D.Disk.taken c.args.disk.now) (g.D.Disk.taken c.add.new.disk)) (sym c.in-Load.is) c.add.ensures.reads
+    subst (λ x. ReadsIn x c.args.self.now.parts (g.D.Disk.image c.args.disk.now) c.add.result (g.D.Disk.taken c.args.disk.now) (g.D.Disk.taken c.add.new.disk)) (sym c.in-Load.is) c.add.ensures.reads
 
 pub returns-in-Append-clause-reads : goal.returns-in-Append-clause-reads
 returns-in-Append-clause-reads g c =
     let r = c.add-in-Append in
-    subst (λ x. ReadsIn x c.args.self.now (g.D.Disk.image c.args.disk.now) r.result (g.D.Disk.taken c.args.disk.now) (g.D.Disk.taken r.new.disk)) (sym c.in-Append.is) r.ensures.reads
+    subst (λ x. ReadsIn x c.args.self.now.parts (g.D.Disk.image c.args.disk.now) r.result (g.D.Disk.taken c.args.disk.now) (g.D.Disk.taken r.new.disk)) (sym c.in-Append.is) r.ensures.reads
 
 pub returns-in-List-clause-comes : goal.returns-in-List-clause-comes
 returns-in-List-clause-comes g c =
-    alone c.args.command.now (command.List c.in-List.handle) (told c.args.lines.now (g.S.Source.left c.args.source.now)) c.args.self.now (g.D.Disk.image c.args.disk.now) c.args.self.now (g.D.Disk.image c.args.disk.now) c.list.result
+    alone c.args.command.now (command.List c.in-List.handle) (told c.args.lines.now (g.S.Source.left c.args.source.now)) c.args.self.now.parts (g.D.Disk.image c.args.disk.now) c.args.self.now.parts (g.D.Disk.image c.args.disk.now) c.list.result
     c.in-List.is refl (c.list.ensures.comes (g.D.Disk.image c.args.disk.now))
 
 pub returns-in-Plan-clause-comes : goal.returns-in-Plan-clause-comes
 returns-in-Plan-clause-comes g c =
-    alone c.args.command.now (command.Plan c.in-Plan.t c.in-Plan.cols) (told c.args.lines.now (g.S.Source.left c.args.source.now)) c.args.self.now (g.D.Disk.image c.args.disk.now) c.args.self.now (g.D.Disk.image c.args.disk.now) c.plan.result
+    alone c.args.command.now (command.Plan c.in-Plan.t c.in-Plan.cols) (told c.args.lines.now (g.S.Source.left c.args.source.now)) c.args.self.now.parts (g.D.Disk.image c.args.disk.now) c.args.self.now.parts (g.D.Disk.image c.args.disk.now) c.plan.result
     c.in-Plan.is refl (c.plan.ensures.comes (g.D.Disk.image c.args.disk.now))
 
 pub returns-in-Tree-clause-comes : goal.returns-in-Tree-clause-comes
 returns-in-Tree-clause-comes g c =
-    alone c.args.command.now command.Tree (told c.args.lines.now (g.S.Source.left c.args.source.now)) c.args.self.now (g.D.Disk.image c.args.disk.now) c.args.self.now (g.D.Disk.image c.args.disk.now) c.tree.result
+    alone c.args.command.now command.Tree (told c.args.lines.now (g.S.Source.left c.args.source.now)) c.args.self.now.parts (g.D.Disk.image c.args.disk.now) c.args.self.now.parts (g.D.Disk.image c.args.disk.now) c.tree.result
     c.in-Tree.is refl (c.tree.ensures.comes (g.D.Disk.image c.args.disk.now))
 
 pub returns-in-Certify-clause-comes : goal.returns-in-Certify-clause-comes
 returns-in-Certify-clause-comes g c =
     let image = g.D.Disk.image c.args.disk.now in
-    subst (λ x. Comes x (following x) (told c.args.lines.now (g.S.Source.left c.args.source.now)) (told c.certify.new.lines (g.S.Source.left c.certify.new.source)) c.args.self.now image c.args.self.now image c.certify.result)
+    subst (λ x. Comes x (following x) (told c.args.lines.now (g.S.Source.left c.args.source.now)) (told c.certify.new.lines (g.S.Source.left c.certify.new.source)) c.args.self.now.parts image c.args.self.now.parts image c.certify.result)
     (sym c.in-Certify.is) (c.certify.ensures.comes image)
 
 pub returns-in-At-clause-damaged : goal.returns-in-At-clause-damaged
 returns-in-At-clause-damaged g c =
-    subst (λ x. DamageIn x c.args.self.now (g.D.Disk.image c.args.disk.now) c.at.result) (sym c.in-At.is) c.at.ensures.damaged
+    subst (λ x. DamageIn x c.args.self.now.parts (g.D.Disk.image c.args.disk.now) c.at.result) (sym c.in-At.is) c.at.ensures.damaged
 
 pub returns-in-Several-clause-damaged : goal.returns-in-Several-clause-damaged
 returns-in-Several-clause-damaged g c =
-    subst (λ x. DamageIn x c.args.self.now (g.D.Disk.image c.args.disk.now) c.several.result) (sym c.in-Several.is) c.several.ensures.damaged
+    subst (λ x. DamageIn x c.args.self.now.parts (g.D.Disk.image c.args.disk.now) c.several.result) (sym c.in-Several.is) c.several.ensures.damaged
 
 pub returns-in-List-clause-damaged : goal.returns-in-List-clause-damaged
 returns-in-List-clause-damaged g c =
-    never_for_damage c.args.command.now (command.List c.in-List.handle) [] c.args.self.now (g.D.Disk.image c.args.disk.now) c.args.self.now (g.D.Disk.image c.args.disk.now) c.list.result c.in-List.is refl (c.list.ensures.comes (g.D.Disk.image c.args.disk.now))
+    never_for_damage c.args.command.now (command.List c.in-List.handle) [] c.args.self.now.parts (g.D.Disk.image c.args.disk.now) c.args.self.now.parts (g.D.Disk.image c.args.disk.now) c.list.result c.in-List.is refl (c.list.ensures.comes (g.D.Disk.image c.args.disk.now))
 
 pub returns-in-Plan-clause-damaged : goal.returns-in-Plan-clause-damaged
 returns-in-Plan-clause-damaged g c =
-    never_for_damage c.args.command.now (command.Plan c.in-Plan.t c.in-Plan.cols) [] c.args.self.now (g.D.Disk.image c.args.disk.now) c.args.self.now (g.D.Disk.image c.args.disk.now) c.plan.result c.in-Plan.is refl (c.plan.ensures.comes (g.D.Disk.image c.args.disk.now))
+    never_for_damage c.args.command.now (command.Plan c.in-Plan.t c.in-Plan.cols) [] c.args.self.now.parts (g.D.Disk.image c.args.disk.now) c.args.self.now.parts (g.D.Disk.image c.args.disk.now) c.plan.result c.in-Plan.is refl (c.plan.ensures.comes (g.D.Disk.image c.args.disk.now))
 
 pub returns-in-Tree-clause-damaged : goal.returns-in-Tree-clause-damaged
 returns-in-Tree-clause-damaged g c =
-    never_for_damage c.args.command.now command.Tree [] c.args.self.now (g.D.Disk.image c.args.disk.now) c.args.self.now (g.D.Disk.image c.args.disk.now) c.tree.result c.in-Tree.is refl (c.tree.ensures.comes (g.D.Disk.image c.args.disk.now))
+    never_for_damage c.args.command.now command.Tree [] c.args.self.now.parts (g.D.Disk.image c.args.disk.now) c.args.self.now.parts (g.D.Disk.image c.args.disk.now) c.tree.result c.in-Tree.is refl (c.tree.ensures.comes (g.D.Disk.image c.args.disk.now))
 
 pub returns-in-Certify-clause-damaged : goal.returns-in-Certify-clause-damaged
 returns-in-Certify-clause-damaged g c =
     let comes = c.certify.ensures.comes (g.D.Disk.image c.args.disk.now) in
-    never_for_damage c.args.command.now (command.Certify c.in-Certify.t c.in-Certify.cols c.in-Certify.count) comes.0 c.args.self.now (g.D.Disk.image c.args.disk.now) c.args.self.now (g.D.Disk.image c.args.disk.now) c.certify.result c.in-Certify.is refl comes.2
+    never_for_damage c.args.command.now (command.Certify c.in-Certify.t c.in-Certify.cols c.in-Certify.count) comes.0 c.args.self.now.parts (g.D.Disk.image c.args.disk.now) c.args.self.now.parts (g.D.Disk.image c.args.disk.now) c.certify.result c.in-Certify.is refl comes.2
 
 pub returns-in-Create-clause-damaged : goal.returns-in-Create-clause-damaged
 returns-in-Create-clause-damaged g c =
-    never_for_damage c.args.command.now (command.Create c.in-Create.l c.in-Create.k c.in-Create.function) [] c.args.self.now (g.D.Disk.image c.args.disk.now) c.create.new.self (g.D.Disk.image c.create.new.disk) c.create.result c.in-Create.is refl c.create.ensures.comes
+    never_for_damage c.args.command.now (command.Create c.in-Create.l c.in-Create.k c.in-Create.function) [] c.args.self.now.parts (g.D.Disk.image c.args.disk.now) c.create.new.self.parts (g.D.Disk.image c.create.new.disk) c.create.result c.in-Create.is refl c.create.ensures.comes
 
 pub returns-in-Load-clause-damaged : goal.returns-in-Load-clause-damaged
 returns-in-Load-clause-damaged g c =
-    subst (λ x. DamageIn x c.args.self.now (g.D.Disk.image c.args.disk.now) c.add.result) (sym c.in-Load.is) c.add.ensures.damaged
+    subst (λ x. DamageIn x c.args.self.now.parts (g.D.Disk.image c.args.disk.now) c.add.result) (sym c.in-Load.is) c.add.ensures.damaged
 
 pub returns-in-Append-clause-damaged : goal.returns-in-Append-clause-damaged
 returns-in-Append-clause-damaged g c =
     let r = c.add-in-Append in
-    subst (λ x. DamageIn x c.args.self.now (g.D.Disk.image c.args.disk.now) r.result) (sym c.in-Append.is) r.ensures.damaged
+    subst (λ x. DamageIn x c.args.self.now.parts (g.D.Disk.image c.args.disk.now) r.result) (sym c.in-Append.is) r.ensures.damaged
+
+pub returns-in-Counts-clause-comes : goal.returns-in-Counts-clause-comes
+returns-in-Counts-clause-comes g c =
+    alone c.args.command.now (command.Counts c.in-Counts.handle) (told c.args.lines.now (g.S.Source.left c.args.source.now)) c.args.self.now.parts (g.D.Disk.image c.args.disk.now) c.args.self.now.parts (g.D.Disk.image c.args.disk.now) c.counts.result
+    c.in-Counts.is refl (c.counts.ensures.comes (g.D.Disk.image c.args.disk.now))
+
+pub returns-in-Counts-clause-store_read : goal.returns-in-Counts-clause-store_read
+returns-in-Counts-clause-store_read g c h =
+    absurd (fails_no_read (command.Counts c.in-Counts.handle) [] c.args.self.now.parts (g.D.Disk.image c.args.disk.now) c.args.self.now.parts (g.D.Disk.image c.args.disk.now) c.counts.result refl (c.counts.ensures.comes (g.D.Disk.image c.args.disk.now)) h)
+
+pub returns-in-Counts-clause-damaged : goal.returns-in-Counts-clause-damaged
+returns-in-Counts-clause-damaged g c =
+    never_for_damage c.args.command.now (command.Counts c.in-Counts.handle) [] c.args.self.now.parts (g.D.Disk.image c.args.disk.now) c.args.self.now.parts (g.D.Disk.image c.args.disk.now) c.counts.result c.in-Counts.is refl (c.counts.ensures.comes (g.D.Disk.image c.args.disk.now))
+
+pub returns-in-Counts-clause-reads : goal.returns-in-Counts-clause-reads
+returns-in-Counts-clause-reads g c =
+    subst (λ x. ReadsIn x c.args.self.now.parts (g.D.Disk.image c.args.disk.now) c.counts.result (g.D.Disk.taken c.args.disk.now) (g.D.Disk.taken c.args.disk.now)) (sym c.in-Counts.is)
+    (reads_nothing (command.Counts c.in-Counts.handle) c.args.self.now.parts (g.D.Disk.image c.args.disk.now) c.counts.result (g.D.Disk.taken c.args.disk.now) refl)
+
+pub returns-in-Node-clause-comes : goal.returns-in-Node-clause-comes
+returns-in-Node-clause-comes g c =
+    alone c.args.command.now (command.Node c.in-Node.handle c.in-Node.id) (told c.args.lines.now (g.S.Source.left c.args.source.now)) c.args.self.now.parts (g.D.Disk.image c.args.disk.now) c.args.self.now.parts (g.D.Disk.image c.args.disk.now) c.node.result
+    c.in-Node.is refl (c.node.ensures.comes (g.D.Disk.image c.args.disk.now))
+
+pub returns-in-Node-clause-store_read : goal.returns-in-Node-clause-store_read
+returns-in-Node-clause-store_read g c h =
+    absurd (fails_no_read (command.Node c.in-Node.handle c.in-Node.id) [] c.args.self.now.parts (g.D.Disk.image c.args.disk.now) c.args.self.now.parts (g.D.Disk.image c.args.disk.now) c.node.result refl (c.node.ensures.comes (g.D.Disk.image c.args.disk.now)) h)
+
+pub returns-in-Node-clause-damaged : goal.returns-in-Node-clause-damaged
+returns-in-Node-clause-damaged g c =
+    never_for_damage c.args.command.now (command.Node c.in-Node.handle c.in-Node.id) [] c.args.self.now.parts (g.D.Disk.image c.args.disk.now) c.args.self.now.parts (g.D.Disk.image c.args.disk.now) c.node.result c.in-Node.is refl (c.node.ensures.comes (g.D.Disk.image c.args.disk.now))
+
+pub returns-in-Node-clause-reads : goal.returns-in-Node-clause-reads
+returns-in-Node-clause-reads g c =
+    subst (λ x. ReadsIn x c.args.self.now.parts (g.D.Disk.image c.args.disk.now) c.node.result (g.D.Disk.taken c.args.disk.now) (g.D.Disk.taken c.args.disk.now)) (sym c.in-Node.is)
+    (reads_nothing (command.Node c.in-Node.handle c.in-Node.id) c.args.self.now.parts (g.D.Disk.image c.args.disk.now) c.node.result (g.D.Disk.taken c.args.disk.now) refl)
+
+pub returns-in-Neighbours-clause-comes : goal.returns-in-Neighbours-clause-comes
+returns-in-Neighbours-clause-comes g c =
+    alone c.args.command.now (command.Neighbours c.in-Neighbours.handle c.in-Neighbours.id) (told c.args.lines.now (g.S.Source.left c.args.source.now)) c.args.self.now.parts (g.D.Disk.image c.args.disk.now) c.args.self.now.parts (g.D.Disk.image c.args.disk.now) c.neighbours.result
+    c.in-Neighbours.is refl (c.neighbours.ensures.comes (g.D.Disk.image c.args.disk.now))
+
+pub returns-in-Neighbours-clause-store_read : goal.returns-in-Neighbours-clause-store_read
+returns-in-Neighbours-clause-store_read g c h =
+    absurd (fails_no_read (command.Neighbours c.in-Neighbours.handle c.in-Neighbours.id) [] c.args.self.now.parts (g.D.Disk.image c.args.disk.now) c.args.self.now.parts (g.D.Disk.image c.args.disk.now) c.neighbours.result refl (c.neighbours.ensures.comes (g.D.Disk.image c.args.disk.now)) h)
+
+pub returns-in-Neighbours-clause-damaged : goal.returns-in-Neighbours-clause-damaged
+returns-in-Neighbours-clause-damaged g c =
+    never_for_damage c.args.command.now (command.Neighbours c.in-Neighbours.handle c.in-Neighbours.id) [] c.args.self.now.parts (g.D.Disk.image c.args.disk.now) c.args.self.now.parts (g.D.Disk.image c.args.disk.now) c.neighbours.result c.in-Neighbours.is refl (c.neighbours.ensures.comes (g.D.Disk.image c.args.disk.now))
+
+pub returns-in-Neighbours-clause-reads : goal.returns-in-Neighbours-clause-reads
+returns-in-Neighbours-clause-reads g c =
+    subst (λ x. ReadsIn x c.args.self.now.parts (g.D.Disk.image c.args.disk.now) c.neighbours.result (g.D.Disk.taken c.args.disk.now) (g.D.Disk.taken c.args.disk.now)) (sym c.in-Neighbours.is)
+    (reads_nothing (command.Neighbours c.in-Neighbours.handle c.in-Neighbours.id) c.args.self.now.parts (g.D.Disk.image c.args.disk.now) c.neighbours.result (g.D.Disk.taken c.args.disk.now) refl)
+
+pub returns-in-Release-clause-comes : goal.returns-in-Release-clause-comes
+returns-in-Release-clause-comes g c =
+    alone c.args.command.now (command.Release c.in-Release.handle) (told c.args.lines.now (g.S.Source.left c.args.source.now)) c.args.self.now.parts (g.D.Disk.image c.args.disk.now) c.release.new.self.parts (g.D.Disk.image c.args.disk.now) c.release.result
+    c.in-Release.is refl (c.release.ensures.comes (g.D.Disk.image c.args.disk.now))
+
+pub returns-in-Release-clause-store_read : goal.returns-in-Release-clause-store_read
+returns-in-Release-clause-store_read g c h =
+    absurd (fails_no_read (command.Release c.in-Release.handle) [] c.args.self.now.parts (g.D.Disk.image c.args.disk.now) c.release.new.self.parts (g.D.Disk.image c.args.disk.now) c.release.result refl (c.release.ensures.comes (g.D.Disk.image c.args.disk.now)) h)
+
+pub returns-in-Release-clause-damaged : goal.returns-in-Release-clause-damaged
+returns-in-Release-clause-damaged g c =
+    never_for_damage c.args.command.now (command.Release c.in-Release.handle) [] c.args.self.now.parts (g.D.Disk.image c.args.disk.now) c.release.new.self.parts (g.D.Disk.image c.args.disk.now) c.release.result c.in-Release.is refl (c.release.ensures.comes (g.D.Disk.image c.args.disk.now))
+
+pub returns-in-Release-clause-reads : goal.returns-in-Release-clause-reads
+returns-in-Release-clause-reads g c =
+    subst (λ x. ReadsIn x c.args.self.now.parts (g.D.Disk.image c.args.disk.now) c.release.result (g.D.Disk.taken c.args.disk.now) (g.D.Disk.taken c.args.disk.now)) (sym c.in-Release.is)
+    (reads_nothing (command.Release c.in-Release.handle) c.args.self.now.parts (g.D.Disk.image c.args.disk.now) c.release.result (g.D.Disk.taken c.args.disk.now) refl)

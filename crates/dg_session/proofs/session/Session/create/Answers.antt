@@ -1,6 +1,7 @@
 use Rattle.std.proofs.Common.{◌≡◌, true, [], Some, None, Ok, Err, refl, sym, ◌∙◌, ap, subst}
 use Rattle.std.proofs.lemmas.Bool.{false≢true}
 use Rattle.dg_machine.specs.declared.reply.Reply.{Reply}
+use Rattle.dg_session.specs.SessionState.{SessionState}
 use Rattle.dg_session.specs.declared.halt.Halt.TheVariants as halt
 use Rattle.dg_session.specs.Reads.{ReadsIn, is_early}
 use Rattle.std.specs.Prelude.{is_some}
@@ -17,38 +18,38 @@ use Rattle.dg_session.proofs.session.Session.create.Goals as goal
 
 pub returns-in-Some-clause-comes : goal.returns-in-Some-clause-comes
 returns-in-Some-clause-comes g c =
-    refused_denies (making c.args.params) [] c.args.self.now c.args.self.now (g.D.Disk.image c.args.disk.now) (g.D.Disk.image c.args.disk.now) c.in-Some.refusal refl refl
+    refused_denies (making c.args.params) [] c.args.self.now.parts c.args.self.now.parts (g.D.Disk.image c.args.disk.now) (g.D.Disk.image c.args.disk.now) c.in-Some.refusal refl refl
     (sym c.refused_creation.ensures ∙ c.in-Some.is)
 
 pub returns-in_err-index-clause-comes : goal.returns-in_err-index-clause-comes
 returns-in_err-index-clause-comes g c =
-    handed_out c.from_residual.result (creation_halt c.in_err-index.field-0.0) (ComesTo (making c.args.params) [] c.args.self.now (g.D.Disk.image c.args.disk.now) c.args.self.now (g.D.Disk.image c.create.new.disk)) c.from_residual.ensures
-    (create_fails c.args.self.now c.args.self.now c.args.params (g.D.Disk.image c.args.disk.now) (g.D.Disk.image c.create.new.disk) c.in_err-index.field-0.0
+    handed_out c.from_residual.result (creation_halt c.in_err-index.field-0.0) (ComesTo (making c.args.params) [] c.args.self.now.parts (g.D.Disk.image c.args.disk.now) c.args.self.now.parts (g.D.Disk.image c.create.new.disk)) c.from_residual.ensures
+    (create_fails c.args.self.now.parts c.args.self.now.parts c.args.params (g.D.Disk.image c.args.disk.now) (g.D.Disk.image c.create.new.disk) c.in_err-index.field-0.0
     (sym c.refused_creation.ensures ∙ c.in_default.is) refl
     (λ h. (c.create.ensures.memory (c.in_err-index.was ∙ ap (λ f. Err f) h)).0) (λ h. c.create.ensures.part (c.in_err-index.was ∙ ap (λ f. Err f) h)))
 
 pub returns-clause-comes : goal.returns-clause-comes
 returns-clause-comes g c =
-    let view : Parts = the_view c.self.inside in
+    let view : Parts = (the_view c.self.inside).parts in
     let new : Parts = record view { index = Some c.in_ok-index.index.opening } in
-    let none : refused_by c.args.self.now 0 (needs (making c.args.params)) ≡ None = sym c.refused_creation.ensures ∙ c.in_default.is in
-    let names : c.args.self.now.names ≡ [] =
-    ap (λ (p : Parts). p.names) (sym c.self.view_is)
-    ∙ no_names (index_opening c.self.inside.history.index) c.self.inside.history.names c.self.inside.history.now.graph c.self.inside.history.recent.items c.self.invariant.5.counted
-    (ap (λ (p : Parts). is_some p.index) c.self.view_is ∙ (creation_free c.args.self.now c.args.params none).0) in
-    create_answers c.args.self.now new c.args.params (g.D.Disk.image c.args.disk.now) (g.D.Disk.image c.create.new.disk) c.in_ok-index.index.opening c.headed.result none
-    c.in_ok-index.ensures.image c.in_ok-index.ensures.opened c.in_ok-index.ensures.made names (ap (λ (p : Parts). let x : Parts = record p { index = Some c.in_ok-index.index.opening } in x) c.self.view_is) c.headed.ensures
+    let none : refused_by c.args.self.now.parts 0 (needs (making c.args.params)) ≡ None = sym c.refused_creation.ensures ∙ c.in_default.is in
+    let names : c.args.self.now.parts.names ≡ [] =
+    ap (λ (p : Parts). p.names) (sym (ap (λ (x : SessionState). x.parts) c.self.view_is))
+    ∙ no_names (index_opening c.self.inside.history.index) c.self.inside.history.names c.self.inside.history.now.graph c.self.inside.history.recent.items c.self.invariant.1.counted
+    (ap (λ (p : Parts). is_some p.index) (ap (λ (x : SessionState). x.parts) c.self.view_is) ∙ (creation_free c.args.self.now.parts c.args.params none).0) in
+    create_answers c.args.self.now.parts new c.args.params (g.D.Disk.image c.args.disk.now) (g.D.Disk.image c.create.new.disk) c.in_ok-index.index.opening c.headed.result none
+    c.in_ok-index.ensures.image c.in_ok-index.ensures.opened c.in_ok-index.ensures.made names (ap (λ (p : Parts). let x : Parts = record p { index = Some c.in_ok-index.index.opening } in x) (ap (λ (x : SessionState). x.parts) c.self.view_is)) c.headed.ensures
 
 pub returns-in-Some-clause-reads : goal.returns-in-Some-clause-reads
 returns-in-Some-clause-reads g c =
-    reads_nothing (making c.args.params) c.args.self.now (g.D.Disk.image c.args.disk.now) (Err (halt.Refusal c.in-Some.refusal)) (g.D.Disk.taken c.args.disk.now) refl
+    reads_nothing (making c.args.params) c.args.self.now.parts (g.D.Disk.image c.args.disk.now) (Err (halt.Refusal c.in-Some.refusal)) (g.D.Disk.taken c.args.disk.now) refl
 
 pub returns-in_err-index-clause-reads : goal.returns-in_err-index-clause-reads
 returns-in_err-index-clause-reads g c =
-    handed_out c.from_residual.result (creation_halt c.in_err-index.field-0.0) (λ r. ReadsIn (making c.args.params) c.args.self.now (g.D.Disk.image c.args.disk.now) r (g.D.Disk.taken c.args.disk.now) (g.D.Disk.taken c.create.new.disk)) c.from_residual.ensures
-    (create_reads c.args.params c.args.self.now (g.D.Disk.image c.args.disk.now) c.in_err-index.field-0.0 (g.D.Disk.taken c.args.disk.now) (g.D.Disk.taken c.create.new.disk))
+    handed_out c.from_residual.result (creation_halt c.in_err-index.field-0.0) (λ r. ReadsIn (making c.args.params) c.args.self.now.parts (g.D.Disk.image c.args.disk.now) r (g.D.Disk.taken c.args.disk.now) (g.D.Disk.taken c.create.new.disk)) c.from_residual.ensures
+    (create_reads c.args.params c.args.self.now.parts (g.D.Disk.image c.args.disk.now) c.in_err-index.field-0.0 (g.D.Disk.taken c.args.disk.now) (g.D.Disk.taken c.create.new.disk))
 
 pub returns-clause-reads : goal.returns-clause-reads
 returns-clause-reads g c =
-    reads_freely (making c.args.params) c.args.self.now (g.D.Disk.image c.args.disk.now) (Ok c.headed.result) (g.D.Disk.taken c.args.disk.now) (g.D.Disk.taken c.create.new.disk) refl refl
+    reads_freely (making c.args.params) c.args.self.now.parts (g.D.Disk.image c.args.disk.now) (Ok c.headed.result) (g.D.Disk.taken c.args.disk.now) (g.D.Disk.taken c.create.new.disk) refl refl
     (subst (λ (r : Reply). is_early r.head ≡ true → g.D.Disk.taken c.create.new.disk ≡ g.D.Disk.taken c.args.disk.now) (sym c.headed.ensures) (λ e. absurd (false≢true e)))

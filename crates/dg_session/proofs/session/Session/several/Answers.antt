@@ -1,4 +1,4 @@
-use Rattle.std.proofs.Common.{◌≡◌, [], None, length, take, refl, sym, ◌∙◌, ap, subst}
+use Rattle.std.proofs.Common.{◌≡◌, [], None, length, map, take, refl, sym, ◌∙◌, ap, subst}
 use Rattle.std.specs.Prelude.{IfSome}
 use Rattle.dg_machine.specs.declared.command.Command.TheVariants as command
 use Rattle.dg_machine.specs.declared.reply.Head.TheVariants as head
@@ -8,11 +8,13 @@ use Rattle.dg_machine.specs.MachineState.{MachineState}
 use Rattle.dg_machine.specs.Needs.{needs}
 use Rattle.dg_machine.specs.Planning.{edges_in, points_for}
 use Rattle.dg_retrieval.specs.Retrieval.{TakesAtMostTree}
+use Rattle.dg_retrieval.specs.Graphs.{led_from}
+use Rattle.dg_session.specs.SessionState.{SessionState}
 use Rattle.dg_session.specs.declared.halt.Halt.TheVariants as halt
 use Rattle.dg_session.specs.Damage.{DamageIn, NamesDamage}
 use Rattle.dg_session.specs.Halt.{retrieval_halt}
 use Rattle.dg_session.specs.Parts.{Parts}
-use Rattle.dg_session.specs.Reads.{IsRetrieved, ReadsIn, new_entries, with_entries}
+use Rattle.dg_session.specs.Reads.{IsRetrieved, ReadsIn, with_new}
 use Rattle.dg_session.specs.Session.{ComesTo, StandsFor, refused_by, retrieval_needs}
 use Rattle.dg_session.proofs.SeveralStep.{needed, several_answers, several_fails}
 use Rattle.dg_session.proofs.DamageStep.{damage_in, tells_no_damage}
@@ -22,7 +24,7 @@ use Rattle.dg_session.proofs.session.Session.several.Goals as goal
 
 pub returns-in-Some-clause-comes : goal.returns-in-Some-clause-comes
 returns-in-Some-clause-comes g c =
-    let p : Parts = c.args.self.now in
+    let p : Parts = c.args.self.now.parts in
     let asked : c.first_of-asked.result.now ≡ take c.args.count c.args.times = c.first_of-asked.ensures.times in
     let number : length (take c.args.count c.args.times) ≡ c.args.count = sym (ap length asked) ∙ c.first_of-asked.ensures.count in
     refused_denies (command.Several c.args.cols c.args.times c.args.count) [] p p (g.D.Disk.image c.args.disk.now) (g.D.Disk.image c.args.disk.now) c.in-Some.refusal refl refl
@@ -30,18 +32,18 @@ returns-in-Some-clause-comes g c =
 
 pub returns-in_err-retrieved-clause-comes : goal.returns-in_err-retrieved-clause-comes
 returns-in_err-retrieved-clause-comes g c =
-    let p : Parts = c.args.self.now in
+    let p : Parts = c.args.self.now.parts in
     let asked : c.first_of-asked.result.now ≡ take c.args.count c.args.times = c.first_of-asked.ensures.times in
     let number : length (take c.args.count c.args.times) ≡ c.args.count = sym (ap length asked) ∙ c.first_of-asked.ensures.count in
     let none : refused_by p 0 (retrieval_needs (take c.args.count c.args.times) (length (take c.args.count c.args.times))) ≡ None = ap (λ ts. refused_by p 0 (retrieval_needs ts (length ts))) (sym asked) ∙ sym c.refused_retrieval.ensures ∙ c.in_default.is in
     handed_out c.from_residual.result (retrieval_halt c.in_err-retrieved.field-0.0)
-    (ComesTo (command.Several c.args.cols c.args.times c.args.count) [] p (g.D.Disk.image c.args.disk.now) c.retrieve.new.self (g.D.Disk.image c.retrieve.new.disk)) c.from_residual.ensures
-    (retrieval_failed (command.Several c.args.cols c.args.times c.args.count) p c.retrieve.new.self (g.D.Disk.image c.args.disk.now) (g.D.Disk.image c.retrieve.new.disk) c.in_err-retrieved.field-0.0 refl refl
-    (needed p c.args.cols c.args.times c.args.count number c.requires.some ∙ none) c.retrieve.ensures.same c.retrieve.ensures.disk.same_image c.in_err-retrieved.ensures.never)
+    (ComesTo (command.Several c.args.cols c.args.times c.args.count) [] p (g.D.Disk.image c.args.disk.now) c.retrieve.new.self.parts (g.D.Disk.image c.retrieve.new.disk)) c.from_residual.ensures
+    (retrieval_failed (command.Several c.args.cols c.args.times c.args.count) p c.retrieve.new.self.parts (g.D.Disk.image c.args.disk.now) (g.D.Disk.image c.retrieve.new.disk) c.in_err-retrieved.field-0.0 refl refl
+    (needed p c.args.cols c.args.times c.args.count number c.requires.some ∙ none) (ap (λ (x : SessionState). x.parts) c.retrieve.ensures.same) c.retrieve.ensures.disk.same_image c.in_err-retrieved.ensures.never)
 
 pub returns-in_err-retrieved-clause-reads : goal.returns-in_err-retrieved-clause-reads
 returns-in_err-retrieved-clause-reads g c =
-    let p : Parts = c.args.self.now in
+    let p : Parts = c.args.self.now.parts in
     let asked : c.first_of-asked.result.now ≡ take c.args.count c.args.times = c.first_of-asked.ensures.times in
     let number : length (take c.args.count c.args.times) ≡ c.args.count = sym (ap length asked) ∙ c.first_of-asked.ensures.count in
     let none : refused_by p 0 (retrieval_needs (take c.args.count c.args.times) (length (take c.args.count c.args.times))) ≡ None = ap (λ ts. refused_by p 0 (retrieval_needs ts (length ts))) (sym asked) ∙ sym c.refused_retrieval.ensures ∙ c.in_default.is in
@@ -53,18 +55,18 @@ returns-in_err-retrieved-clause-reads g c =
 
 pub returns-in_err-lines-clause-comes : goal.returns-in_err-lines-clause-comes
 returns-in_err-lines-clause-comes g c =
-    let p : Parts = c.args.self.now in
+    let p : Parts = c.args.self.now.parts in
     let asked : c.first_of-asked.result.now ≡ take c.args.count c.args.times = c.first_of-asked.ensures.times in
     let number : length (take c.args.count c.args.times) ≡ c.args.count = sym (ap length asked) ∙ c.first_of-asked.ensures.count in
     let none : refused_by p 0 (retrieval_needs (take c.args.count c.args.times) (length (take c.args.count c.args.times))) ≡ None = ap (λ ts. refused_by p 0 (retrieval_needs ts (length ts))) (sym asked) ∙ sym c.refused_retrieval.ensures ∙ c.in_default.is in
     handed_out c.from_residual-in_err-lines.result (halt.Refusal refusal.OutOfMemory)
-    (ComesTo (command.Several c.args.cols c.args.times c.args.count) [] p (g.D.Disk.image c.args.disk.now) c.retrieve.new.self (g.D.Disk.image c.retrieve.new.disk)) c.from_residual-in_err-lines.ensures
-    (lacking_denies (command.Several c.args.cols c.args.times c.args.count) [] p c.retrieve.new.self (g.D.Disk.image c.args.disk.now) (g.D.Disk.image c.retrieve.new.disk)
-    c.retrieve.ensures.same c.retrieve.ensures.disk.same_image refl (needed p c.args.cols c.args.times c.args.count number c.requires.some ∙ none))
+    (ComesTo (command.Several c.args.cols c.args.times c.args.count) [] p (g.D.Disk.image c.args.disk.now) c.retrieve.new.self.parts (g.D.Disk.image c.retrieve.new.disk)) c.from_residual-in_err-lines.ensures
+    (lacking_denies (command.Several c.args.cols c.args.times c.args.count) [] p c.retrieve.new.self.parts (g.D.Disk.image c.args.disk.now) (g.D.Disk.image c.retrieve.new.disk)
+    (ap (λ (x : SessionState). x.parts) c.retrieve.ensures.same) c.retrieve.ensures.disk.same_image refl (needed p c.args.cols c.args.times c.args.count number c.requires.some ∙ none))
 
 pub returns-in_err-lines-clause-reads : goal.returns-in_err-lines-clause-reads
 returns-in_err-lines-clause-reads g c =
-    let p : Parts = c.args.self.now in
+    let p : Parts = c.args.self.now.parts in
     let asked : c.first_of-asked.result.now ≡ take c.args.count c.args.times = c.first_of-asked.ensures.times in
     let number : length (take c.args.count c.args.times) ≡ c.args.count = sym (ap length asked) ∙ c.first_of-asked.ensures.count in
     let none : refused_by p 0 (retrieval_needs (take c.args.count c.args.times) (length (take c.args.count c.args.times))) ≡ None = ap (λ ts. refused_by p 0 (retrieval_needs ts (length ts))) (sym asked) ∙ sym c.refused_retrieval.ensures ∙ c.in_default.is in
@@ -75,18 +77,18 @@ returns-in_err-lines-clause-reads g c =
 
 pub returns-in_err-add_handles-clause-comes : goal.returns-in_err-add_handles-clause-comes
 returns-in_err-add_handles-clause-comes g c =
-    let p : Parts = c.args.self.now in
+    let p : Parts = c.args.self.now.parts in
     let asked : c.first_of-asked.result.now ≡ take c.args.count c.args.times = c.first_of-asked.ensures.times in
     let number : length (take c.args.count c.args.times) ≡ c.args.count = sym (ap length asked) ∙ c.first_of-asked.ensures.count in
     let none : refused_by p 0 (retrieval_needs (take c.args.count c.args.times) (length (take c.args.count c.args.times))) ≡ None = ap (λ ts. refused_by p 0 (retrieval_needs ts (length ts))) (sym asked) ∙ sym c.refused_retrieval.ensures ∙ c.in_default.is in
     handed_out c.from_residual-in_err-add_handles.result (halt.Refusal refusal.OutOfMemory)
-    (ComesTo (command.Several c.args.cols c.args.times c.args.count) [] p (g.D.Disk.image c.args.disk.now) c.add_handles.new.self (g.D.Disk.image c.retrieve.new.disk)) c.from_residual-in_err-add_handles.ensures
-    (lacking_denies (command.Several c.args.cols c.args.times c.args.count) [] p c.add_handles.new.self (g.D.Disk.image c.args.disk.now) (g.D.Disk.image c.retrieve.new.disk)
-    (c.in_err-add_handles.ensures.err ∙ c.retrieve.ensures.same) c.retrieve.ensures.disk.same_image refl (needed p c.args.cols c.args.times c.args.count number c.requires.some ∙ none))
+    (ComesTo (command.Several c.args.cols c.args.times c.args.count) [] p (g.D.Disk.image c.args.disk.now) c.add_handles.new.self.parts (g.D.Disk.image c.retrieve.new.disk)) c.from_residual-in_err-add_handles.ensures
+    (lacking_denies (command.Several c.args.cols c.args.times c.args.count) [] p c.add_handles.new.self.parts (g.D.Disk.image c.args.disk.now) (g.D.Disk.image c.retrieve.new.disk)
+    (c.in_err-add_handles.ensures.err ∙ (ap (λ (x : SessionState). x.parts) c.retrieve.ensures.same)) c.retrieve.ensures.disk.same_image refl (needed p c.args.cols c.args.times c.args.count number c.requires.some ∙ none))
 
 pub returns-in_err-add_handles-clause-reads : goal.returns-in_err-add_handles-clause-reads
 returns-in_err-add_handles-clause-reads g c =
-    let p : Parts = c.args.self.now in
+    let p : Parts = c.args.self.now.parts in
     let asked : c.first_of-asked.result.now ≡ take c.args.count c.args.times = c.first_of-asked.ensures.times in
     let number : length (take c.args.count c.args.times) ≡ c.args.count = sym (ap length asked) ∙ c.first_of-asked.ensures.count in
     let none : refused_by p 0 (retrieval_needs (take c.args.count c.args.times) (length (take c.args.count c.args.times))) ≡ None = ap (λ ts. refused_by p 0 (retrieval_needs ts (length ts))) (sym asked) ∙ sym c.refused_retrieval.ensures ∙ c.in_default.is in
@@ -97,24 +99,25 @@ returns-in_err-add_handles-clause-reads g c =
 
 pub returns-clause-comes : goal.returns-clause-comes
 returns-clause-comes g c =
-    let p : Parts = c.args.self.now in
+    let p : Parts = c.args.self.now.parts in
     let r = c.in_ok-retrieved.retrieved in
     let asked : c.first_of-asked.result.now ≡ take c.args.count c.args.times = c.first_of-asked.ensures.times in
     let number : length (take c.args.count c.args.times) ≡ c.args.count = sym (ap length asked) ∙ c.first_of-asked.ensures.count in
     let none : refused_by p 0 (retrieval_needs (take c.args.count c.args.times) (length (take c.args.count c.args.times))) ≡ None = ap (λ ts. refused_by p 0 (retrieval_needs ts (length ts))) (sym asked) ∙ sym c.refused_retrieval.ensures ∙ c.in_default.is in
-    let next : c.self.inside.next ≡ p.next = ap (λ (x : Parts). x.next) (c.self.view_is ∙ c.retrieve.ensures.same) in
-    let same = c.retrieve.ensures.same in
-    several_answers p c.args.cols c.args.times c.args.count number c.requires.some none c.add_handles.new.self (g.D.Disk.image c.args.disk.now) (g.D.Disk.image c.retrieve.new.disk) r.weight r.sum r.singles.items r.graphs.items c.in_ok-lines.lines.items _
+    let next : c.next-next.result ≡ p.next = c.next-next.ensures.next ∙ ap (λ (x : SessionState). x.parts.next) (c.self.view_is ∙ c.retrieve.ensures.same) in
+    let same : c.retrieve.new.self.parts ≡ p = ap (λ (x : SessionState). x.parts) c.retrieve.ensures.same in
+    let cols = c.args.cols in
+    several_answers p c.args.cols c.args.times c.args.count number c.requires.some none c.add_handles.new.self.parts (g.D.Disk.image c.args.disk.now) (g.D.Disk.image c.retrieve.new.disk) r.weight r.sum r.singles.items (map (led_from p.graph cols) r.leads.items) c.in_ok-lines.lines.items _
     c.retrieve.ensures.disk.same_image
-    (subst (λ ts. IfSome (g.D.Disk.image c.args.disk.now) (λ image. (m : MachineState) → StandsFor p image m → IsRetrieved m ts c.args.cols r.weight r.singles.items r.graphs.items)) asked c.in_ok-retrieved.ensures.retrieved)
-    (c.in_ok-add_handles.ensures.added ∙ (λ i. with_entries (same i) (new_entries (same i).next (overlays c.args.cols (asked i)) r.graphs.items)))
+    (subst (λ ts. IfSome (g.D.Disk.image c.args.disk.now) (λ image. (m : MachineState) → StandsFor p image m → IsRetrieved m ts c.args.cols r.weight r.singles.items (map (led_from p.graph cols) r.leads.items))) asked c.in_ok-retrieved.ensures.retrieved)
+    (c.in_ok-add_handles.ensures.added ∙ (λ i. with_new (same i) (overlays cols (asked i)) (map (led_from (same i).graph cols) (c.deref-2.ensures.value i))))
     c.in_ok-retrieved.ensures.sum
     (c.in_ok-lines.ensures ∙ (let singles : c.deref.result.now ≡ r.singles.items = c.deref.ensures.value in λ i. handle_lines (next i) (asked i) (singles i)))
     (let body = c.from_vec.ensures in λ i. record { head = head.Several r.weight r.sum; body = body i })
 
 pub returns-in-Some-clause-damaged : goal.returns-in-Some-clause-damaged
 returns-in-Some-clause-damaged g c =
-    let p : Parts = c.args.self.now in
+    let p : Parts = c.args.self.now.parts in
     let asked : c.first_of-asked.result.now ≡ take c.args.count c.args.times = c.first_of-asked.ensures.times in
     let number : length (take c.args.count c.args.times) ≡ c.args.count = sym (ap length asked) ∙ c.first_of-asked.ensures.count in
     tells_no_damage (command.Several c.args.cols c.args.times c.args.count) p (g.D.Disk.image c.args.disk.now) c.in-Some.refusal
@@ -123,7 +126,7 @@ returns-in-Some-clause-damaged g c =
 
 pub returns-in_err-retrieved-clause-damaged : goal.returns-in_err-retrieved-clause-damaged
 returns-in_err-retrieved-clause-damaged g c =
-    let p : Parts = c.args.self.now in
+    let p : Parts = c.args.self.now.parts in
     let image = g.D.Disk.image c.args.disk.now in
     let asked : c.first_of-asked.result.now ≡ take c.args.count c.args.times = c.first_of-asked.ensures.times in
     handed_out c.from_residual.result (retrieval_halt c.in_err-retrieved.field-0.0) (λ r. DamageIn (command.Several c.args.cols c.args.times c.args.count) p image r) c.from_residual.ensures
@@ -132,8 +135,8 @@ returns-in_err-retrieved-clause-damaged g c =
 
 pub returns-in_err-lines-clause-damaged : goal.returns-in_err-lines-clause-damaged
 returns-in_err-lines-clause-damaged g c =
-    handed_out c.from_residual-in_err-lines.result (halt.Refusal refusal.OutOfMemory) (λ r. DamageIn (command.Several c.args.cols c.args.times c.args.count) c.args.self.now (g.D.Disk.image c.args.disk.now) r) c.from_residual-in_err-lines.ensures tt
+    handed_out c.from_residual-in_err-lines.result (halt.Refusal refusal.OutOfMemory) (λ r. DamageIn (command.Several c.args.cols c.args.times c.args.count) c.args.self.now.parts (g.D.Disk.image c.args.disk.now) r) c.from_residual-in_err-lines.ensures tt
 
 pub returns-in_err-add_handles-clause-damaged : goal.returns-in_err-add_handles-clause-damaged
 returns-in_err-add_handles-clause-damaged g c =
-    handed_out c.from_residual-in_err-add_handles.result (halt.Refusal refusal.OutOfMemory) (λ r. DamageIn (command.Several c.args.cols c.args.times c.args.count) c.args.self.now (g.D.Disk.image c.args.disk.now) r) c.from_residual-in_err-add_handles.ensures tt
+    handed_out c.from_residual-in_err-add_handles.result (halt.Refusal refusal.OutOfMemory) (λ r. DamageIn (command.Several c.args.cols c.args.times c.args.count) c.args.self.now.parts (g.D.Disk.image c.args.disk.now) r) c.from_residual-in_err-add_handles.ensures tt

@@ -17,16 +17,16 @@ returns-clause-step g c =
     elim c.match-carry_out.branch [
       | in-Ok w ↦ rw w.result-is
           (answered c.args.command.now (told c.args.lines.now (g.S.Source.left c.args.source.now)) (told c.carry_out.new.lines (g.S.Source.left c.carry_out.new.source))
-          c.args.self.now (g.D.Disk.image c.args.disk.now) c.carry_out.new.self (g.D.Disk.image c.carry_out.new.disk) c.carry_out.result w.in-Ok.reply c.carry_out.ensures.comes w.in-Ok.is)
+          c.args.self.now.parts (g.D.Disk.image c.args.disk.now) c.carry_out.new.self.parts (g.D.Disk.image c.carry_out.new.disk) c.carry_out.result w.in-Ok.reply c.carry_out.ensures.comes w.in-Ok.is)
       | in-Err-Refusal w ↦ rw w.result-is
           (refused_so c.args.command.now (told c.args.lines.now (g.S.Source.left c.args.source.now)) (told c.carry_out.new.lines (g.S.Source.left c.carry_out.new.source))
-          c.args.self.now (g.D.Disk.image c.args.disk.now) c.carry_out.new.self (g.D.Disk.image c.carry_out.new.disk) c.carry_out.result w.in-Err-Refusal.refusal w.headed.result c.carry_out.ensures.comes (w.in-Err-Refusal.is ∙ ap (λ h. Err h) w.in-Err-Refusal.field-0-is) w.headed.ensures)
+          c.args.self.now.parts (g.D.Disk.image c.args.disk.now) c.carry_out.new.self.parts (g.D.Disk.image c.carry_out.new.disk) c.carry_out.result w.in-Err-Refusal.refusal w.headed.result c.carry_out.ensures.comes (w.in-Err-Refusal.is ∙ ap (λ h. Err h) w.in-Err-Refusal.field-0-is) w.headed.ensures)
       | in-Err-Stop w ↦ rw w.result-is tt
     ]
 
 pub returns-clause-reads : goal.returns-clause-reads
 returns-clause-reads g c =
-    let p = c.args.self.now in
+    let p = c.args.self.now.parts in
     let image = g.D.Disk.image c.args.disk.now in
     let before = g.D.Disk.taken c.args.disk.now in
     let after = g.D.Disk.taken c.carry_out.new.disk in
@@ -40,11 +40,11 @@ returns-clause-reads g c =
 
 pub returns-clause-store_read : goal.returns-clause-store_read
 returns-clause-store_read g c =
-    let p = c.args.self.now in
+    let p = c.args.self.now.parts in
     let comes = c.carry_out.ensures.comes in
     elim c.match-carry_out.branch [
       | in-Ok w ↦ rw w.result-is
-          (λ e. absurd (accepted_reads c.args.command.now comes.0 p (g.D.Disk.image c.args.disk.now) c.carry_out.new.self (g.D.Disk.image c.carry_out.new.disk) c.carry_out.result w.in-Ok.reply comes.2 w.in-Ok.is e))
+          (λ e. absurd (accepted_reads c.args.command.now comes.0 p (g.D.Disk.image c.args.disk.now) c.carry_out.new.self.parts (g.D.Disk.image c.carry_out.new.disk) c.carry_out.result w.in-Ok.reply comes.2 w.in-Ok.is e))
       | in-Err-Refusal w ↦ rw w.result-is
           (λ e. c.carry_out.ensures.store_read
           (w.in-Err-Refusal.is ∙ ap (λ h. Err h) w.in-Err-Refusal.field-0-is
@@ -54,7 +54,7 @@ returns-clause-store_read g c =
 
 pub returns-clause-damaged : goal.returns-clause-damaged
 returns-clause-damaged g c =
-    let p = c.args.self.now in
+    let p = c.args.self.now.parts in
     let image = g.D.Disk.image c.args.disk.now in
     elim c.match-carry_out.branch [
       | in-Ok w ↦ rw w.result-is (damage_in_reply c.args.command.now p image c.carry_out.result w.in-Ok.reply.head (ap head_of w.in-Ok.is) c.carry_out.ensures.damaged)

@@ -10,15 +10,15 @@ use Rattle.dg_session.proofs.session.Session.tree.Goals as goal
 
 pub returns-in_err-index-clause-comes : goal.returns-in_err-index-clause-comes
 returns-in_err-index-clause-comes c image =
-    handed_out c.from_residual.result (halt.Refusal refusal.NoIndex) (ComesTo command.Tree [] c.args.self.now image c.args.self.now image)
+    handed_out c.from_residual.result (halt.Refusal refusal.NoIndex) (ComesTo command.Tree [] c.args.self.now.parts image c.args.self.now.parts image)
     (c.from_residual.ensures.0, subst (λ r. IsErrAnd c.from_residual.result (λ y. y ≡ halt.Refusal r)) c.in_err-index.ensures.none.1 c.from_residual.ensures.1)
-    (refused_denies command.Tree [] c.args.self.now c.args.self.now image image refusal.NoIndex refl refl (tree_refused c.args.self.now c.in_err-index.ensures.none.0))
+    (refused_denies command.Tree [] c.args.self.now.parts c.args.self.now.parts image image refusal.NoIndex refl refl (tree_refused c.args.self.now.parts c.in_err-index.ensures.none.0))
 
 pub returns-in_err-reply-clause-comes : goal.returns-in_err-reply-clause-comes
 returns-in_err-reply-clause-comes c image =
-    handed_out c.from_residual-in_err-reply.result (halt.Refusal refusal.OutOfMemory) (ComesTo command.Tree [] c.args.self.now image c.args.self.now image) c.from_residual-in_err-reply.ensures
-    (lacking_denies command.Tree [] c.args.self.now c.args.self.now image image refl refl refl (tree_free c.args.self.now c.in_ok-index.index.now.opening c.in_ok-index.ensures.index))
+    handed_out c.from_residual-in_err-reply.result (halt.Refusal refusal.OutOfMemory) (ComesTo command.Tree [] c.args.self.now.parts image c.args.self.now.parts image) c.from_residual-in_err-reply.ensures
+    (lacking_denies command.Tree [] c.args.self.now.parts c.args.self.now.parts image image refl refl refl (tree_free c.args.self.now.parts c.in_ok-index.index.now.opening c.in_ok-index.ensures.index))
 
 pub returns-clause-comes : goal.returns-clause-comes
 returns-clause-comes c image =
-    tree_answers c.args.self.now image c.in_ok-index.index.now.opening c.in_ok-reply.reply c.in_ok-index.ensures.index c.in_ok-reply.ensures
+    tree_answers c.args.self.now.parts image c.in_ok-index.index.now.opening c.in_ok-reply.reply c.in_ok-index.ensures.index c.in_ok-reply.ensures

@@ -1,0 +1,21 @@
+use Rattle.std.proofs.Common.{◌∷◌, length, ◌∙◌, ap}
+use Rattle.dg_machine.specs.MachineState.{union_of}
+use Rattle.dg_session.specs.contracts.session.Session.{the_view}
+use Rattle.dg_session.specs.Parts.{Parts}
+use Rattle.dg_session.specs.SessionState.{SessionState}
+use Rattle.dg_session.proofs.PoolStep.{clean_all_answers, graphs_same}
+use Rattle.dg_session.proofs.session.Session.clean_all.Goals as goal
+
+pub returns-clause-comes : goal.returns-clause-comes
+returns-clause-comes c image =
+    let view : Parts = (the_view c.self.inside).parts in
+    let old = c.self.inside.pool in
+    let new = c.clean_all.new.self in
+    let slots = c.self.inside.handles.slots in
+    let same = graphs_same old new c.clean_all.ensures.graphs.slots slots in
+    let tied = c.law_tie_is_kept.ensures old new slots c.clean_all.ensures.graphs.slots c.self.invariant.3 in
+    let size = c.cell_len-cells.ensures ∙ ap length (c.clean_all.ensures.cells ∙ c.law_union_of_handles.ensures new slots tied)
+    ∙ (λ i. length (union_of ((c.clean_all.ensures.graphs.now ∙ c.self.invariant.2) i ∷ same i)))
+    ∙ ap (λ (x : SessionState). length (union_of (x.parts.graph ∷ x.parts.graphs))) c.self.view_is in
+    clean_all_answers c.args.self.now.parts _ c.cell_len-cells.result image c.headed.result
+    ((λ i. let x : Parts = record view { graphs = same i } in x) ∙ ap (λ (x : SessionState). x.parts) c.self.view_is) size c.headed.ensures

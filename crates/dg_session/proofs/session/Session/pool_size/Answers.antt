@@ -1,0 +1,18 @@
+use Rattle.std.proofs.Common.{◌∷◌, length, ◌∙◌, ap}
+use Rattle.dg_machine.specs.MachineState.{union_of}
+use Rattle.dg_handles.specs.Handles.{graphs_at}
+use Rattle.dg_session.specs.SessionState.{SessionState}
+use Rattle.dg_session.proofs.PoolStep.{pool_answers}
+use Rattle.dg_session.proofs.session.Session.pool_size.Goals as goal
+
+pub returns : goal.returns
+returns c = record {
+  comes = λ image.
+      let pool = c.self.inside.pool in
+      let slots = c.self.inside.handles.slots in
+      let live = c.live-live.ensures.live ∙ ap (λ (x : SessionState). length x.parts.table) c.self.view_is in
+      let size = c.union_len-size.ensures ∙ ap length (c.law_union_of_handles.ensures pool slots c.self.invariant.3)
+      ∙ ap (λ g. length (union_of (g ∷ graphs_at pool slots))) c.self.invariant.2
+      ∙ ap (λ (x : SessionState). length (union_of (x.parts.graph ∷ x.parts.graphs))) c.self.view_is in
+      pool_answers c.args.self.now.parts c.live-live.result c.union_len-size.result image c.headed.result live size c.headed.ensures;
+}
