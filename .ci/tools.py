@@ -125,6 +125,18 @@ def read_edges(graph: program.Graph) -> Counter[Any]:
     )
 
 
+def due_queries(graph: program.Graph, node: int) -> tuple[program.Counts, list[tuple[str, int, int]]]:
+    """The counts of a listed graph, and the edges at a node."""
+    values = [sum(len(of_node) for of_node in graph.nodes.values())]
+    values.append(sum(len(edge.values) for edge in graph.edges.values()))
+    found = []
+    for number, edge in graph.edges.items():
+        if node in (edge.source, edge.target):
+            side = "both" if not edge.directed else "out" if edge.source == node else "in"
+            found.append((side, number, edge.target if edge.source == node else edge.source))
+    return program.Counts(len(graph.nodes), len(graph.edges), *values), found
+
+
 def random_rows(rng: random.Random, ends: bool, weights: bool) -> list[Row]:
     names = ["a", "b", "Ada", "x y" if rng.random() < 0.5 else "z", "é"]
     rows = []
@@ -173,11 +185,14 @@ def convert_random(tests: Tests, seed: int) -> None:
     with tests.reader("index") as reader:
         first, last = reader.range()
         for time in range(first, last + 1):
-            graph = reader.graph(reader.at(time, "sne"))
+            handle = reader.at(time, "sne")
+            graph = reader.graph(handle)
+            asked = rng.choice(sorted(graph.nodes))
             found = read_edges(graph), {graph.name(node, "name") for node in graph.nodes}
             due = due_edges(rows, time, repeat, undirected), due_nodes(rows, time)
-            if found != due:
-                tests.same(f"{name}, instant {time}", found, due)
+            queried = reader.counts(handle), reader.neighbours(handle, asked)
+            if (found, queried) != (due, due_queries(graph, asked)):
+                tests.same(f"{name}, instant {time}", (found, queried), (due, due_queries(graph, asked)))
                 return
         directions = {edge.directed for edge in graph.edges.values()}
         tests.check(f"{name}, direction", directions <= {not undirected}, directions)
@@ -565,6 +580,9 @@ def growth(tests: Tests) -> None:
     chart = tests.run("tools/growth", "index", "--text", "--points", "9").stdout.decode()
     letters = Counter(letter for line in chart.split("\n")[3:21] for letter in line.split("+")[-1].split("|")[-1])
     tests.check("a chart has its letters", letters["e"] >= 5 and letters["n"] >= 5, chart)
+    with tests.reader("index") as reader:
+        handles = [reader.at(100, "s") for _ in range(130)]
+        tests.same("handles are given up", (handles[-1], reader.session.ask("pool").head[2]), (130, "1"))
     at_two = tests.run("tools/growth", "index", "--at", "first", "400").stdout.decode().split("\n")[1:3]
     tests.same("instants that are named", [line.split(",")[0] for line in at_two], ["100", "400"])
     tests.same("33 instants", tests.run("tools/growth", "index", "--at", *map(str, range(100, 133))).returncode, 2)
@@ -605,18 +623,27 @@ def tutorial_as_written(tests: Tests) -> None:
 # The benchmark.
 
 LIAR = """#!/bin/sh
-exec "{program}" "$1" | sed -u -e 's/^node 3$/edge 3 1 1 dir/' -e 's/^ok counts \\([0-9]*\\) [0-9]*/ok counts \\1 0/'
+exec "{program}" "$1" | sed -u 's/^ok {word} \\(.*\\) [0-9]*$/ok {word} \\1 99/'
 """
+
+
+BENCH_MEASURES = ["build", "cold retrieval", "100 retrievals", "100 releases and a sweep", "32 instants at once"]
+BENCH_MEASURES += ["counts", "neighbours of a hub", "listing", "20 appends of 50", "20 appends of 50 over 20 graphs"]
 
 
 def bench(tests: Tests) -> None:
     ran = tests.run("bench/run", "--events", "2000", "--appends", "20", "--folder", ".")
     text = ran.stdout.decode()
     tests.same("the benchmark ends well", (ran.returncode, text.count("none differs")), (0, 2))
-    for measure in ("build", "cold retrieval", "100 retrievals", "32 instants at once", "20 appends of 50"):
+    for measure in BENCH_MEASURES:
         cells = re.findall(rf"^\| {measure} \|(.*)\|$", text, re.M)
         tests.same(f"the benchmark has times and memory: {measure}", len(cells), 4)
-    liar = tests.file("liar", LIAR.format(program=tests.built))
+    for word in ("counts", "neighbours"):
+        bench_of_a_liar(tests, word)
+
+
+def bench_of_a_liar(tests: Tests, word: str) -> None:
+    liar = tests.file("liar", LIAR.format(program=tests.built, word=word))
     os.chmod(liar, 0o755)
     words = [
         "--program",
@@ -631,7 +658,8 @@ def bench(tests: Tests) -> None:
         "deltagraph,log",
     ]
     ran = tests.run("bench/run", *words, "--folder", ".")
-    tests.check("a difference ends the benchmark", ran.returncode == 1 and b"counts at instant" in ran.stderr, ran)
+    told = re.search(rf"{word}.* at instant [0-9]+: deltagraph has", program.text_of(ran.stderr))
+    tests.check(f"a difference of {word} ends the benchmark", ran.returncode == 1 and told is not None, ran)
 
 
 def main() -> int:

@@ -5,8 +5,9 @@
   rivals.py copies:N FOLDER    the log in parts of N changes, with a copy of the graph behind each
   rivals.py sqlite FOLDER      SQLite, with the interval of each element's validity
 
-They take `create`, `load`, `append`, `at`, `several`, `counts`, `list` and `release` on standard input and answer as
-docs/SCRIPT.md has it, and further `ready`, which does nothing, and `open` and `close` of the files.
+They take `create`, `load`, `append`, `at`, `several`, `counts`, `neighbours`, `list` and `release` on standard input
+and answer as docs/SCRIPT.md has it, `clean all` too, which has nothing to do: what is released is given back at once.
+Further `ready`, which does nothing, and `open` and `close` of the files.
 They check no change and refuse nothing. As with `deltagraph`, a batch is in the files for good when it is answered.
 """
 from __future__ import annotations
@@ -41,6 +42,9 @@ class Snapshot(Protocol):
     """A graph in memory."""
 
     def counts(self) -> list[int]:
+        ...
+
+    def neighbours(self, node: int) -> Iterator[str]:
         ...
 
     def lines(self) -> Iterator[str]:
@@ -97,6 +101,13 @@ def element_lines(nodes: Iterable[int], edges: Iterable[Any], values: Sequence[I
             yield f"{word} {owner} {key} {value}"
 
 
+def neighbour_lines(node: int, edges: Iterable[Any]) -> Iterator[str]:
+    """The lines of the edges at a node, as (id, source, target, directed) in any order."""
+    for edge, source, target, directed in sorted(edges):
+        side = "both" if not directed else "out" if source == node else "in"
+        yield f"{side} {edge} {target if source == node else source}"
+
+
 def written(file: IO[bytes], data: bytes) -> None:
     """Writes, and returns when the data would outlive a crash."""
     file.write(data)
@@ -115,6 +126,10 @@ class Replayed:
 
     def counts(self) -> list[int]:
         return [len(table) for table in self.tables]
+
+    def neighbours(self, node: int) -> Iterator[str]:
+        edges = self.tables[EDGES].items()
+        return neighbour_lines(node, ((e, *ends) for e, ends in edges if ends[0] == node or ends[1] == node))
 
     def lines(self) -> Iterator[str]:
         nodes, edges, *values = self.tables
@@ -310,6 +325,9 @@ class Rows:
     def counts(self) -> list[int]:
         return [len(of_table) for of_table in self.rows]
 
+    def neighbours(self, node: int) -> Iterator[str]:
+        return neighbour_lines(node, (row for row in self.rows[EDGES] if row[1] == node or row[2] == node))
+
     def lines(self) -> Iterator[str]:
         nodes, edges, *values = self.rows
         return element_lines(
@@ -497,7 +515,7 @@ class Run:
             self.close()
         elif word == "release":
             del self.graphs[int(words[1])]
-        elif word != "ready":
+        elif word not in ("ready", "clean"):
             assert self.store is not None
             yield from self.answer_of(self.store, words, script)
             return
@@ -519,6 +537,10 @@ class Run:
                 yield f"handle {self.hold(graph)} {time} 0"
         elif word == "counts":
             yield f"ok counts {words[1]} {' '.join(map(str, self.graphs[int(words[1])].counts()))}"
+        elif word == "neighbours":
+            found = list(self.graphs[int(words[1])].neighbours(int(words[2])))
+            yield f"ok neighbours {words[1]} {words[2]} {len(found)}"
+            yield from found
         else:
             listed = list(self.graphs[int(words[1])].lines())
             yield f"ok list {words[1]} {len(listed)}"

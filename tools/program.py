@@ -20,7 +20,6 @@ LONGEST_KEY = 64  # bytes
 LONGEST_VALUE = 1024  # bytes
 LARGEST_BATCH = 1 << 20  # lines
 MOST_INSTANTS = 32  # of one `several`
-MOST_HANDLES = 127  # live ones, of one run
 
 STATUS_FAILED = 1
 STATUS_WRONG_INPUT = 2
@@ -184,41 +183,23 @@ OfReader = TypeVar("OfReader", bound="Reader")
 
 
 class Reader:
-    """Graphs of one index file. The program is started again where too many of its handles are in use.
+    """Graphs of one index file. A handle is good until the next call of `at` or `several`."""
 
-    A handle is good until the next call of `at` or `several`.
-    """
-
-    def __init__(self, program: Sequence[str], index: str, most: int = MOST_HANDLES) -> None:
+    def __init__(self, program: Sequence[str], index: str) -> None:
         if not os.path.exists(index):
             raise ProgramFailed(f"{index}: no such file")
-        self.program, self.index, self.most = program, index, most
-        self.lacks: set[str] = set()  # the commands that this program does not have
+        self.program, self.index = program, index
         self.live: list[int] = []
         self.session = self.start()
 
     def start(self) -> Session:
         return Session(self.program, self.index)
 
-    def knows(self, command: str) -> Optional[Reply]:
-        """The reply to a command, or nothing where the program has no such command."""
-        word = command.split(" ")[0]
-        if word not in self.lacks:
-            try:
-                return self.session.ask(command)
-            except Refused as refused:
-                if refused.name != "syntax":
-                    raise
-                self.lacks.add(word)
-        return None
-
-    def make_room(self, handles: int) -> None:
-        """Gives up all handles, by `release` or by a new run."""
-        while self.live and self.knows(f"release {self.live[-1]}") is not None:
+    def release(self) -> None:
+        """Gives up all handles."""
+        while self.live:
+            self.session.ask(f"release {self.live[-1]}")
             self.live.pop()
-        if len(self.live) + handles > self.most:
-            self.close()
-            self.session, self.live = self.start(), []
 
     def instant(self, text: str) -> int:
         """An instant as it is written on a command line: a number, `first` or `last`."""
@@ -244,24 +225,28 @@ class Reader:
 
     def at(self, time: int, columns: str) -> int:
         """The handle of the graph as of an instant."""
-        self.make_room(1)
-        self.live.append(int(self.session.ask(f"at {time} {columns}").head[2]))
-        return self.live[-1]
+        self.release()
+        self.live = [int(self.session.ask(f"at {time} {columns}").head[2])]
+        return self.live[0]
 
     def several(self, times: Sequence[int], columns: str) -> list[int]:
         """The handles of the graphs as of up to 32 instants, which are read together."""
-        self.make_room(len(times))
+        self.release()
         reply = self.session.ask(f"several {columns} {' '.join(map(str, times))}")
-        self.live += [int(line.split(" ")[1]) for line in reply.lines()]
-        return self.live[-len(times) :]
+        self.live = [int(line.split(" ")[1]) for line in reply.lines()]
+        return self.live[:]
 
     def counts(self, handle: int) -> Counts:
-        """How many elements of each kind the graph has, by `counts`, or by its listing where there is none."""
-        reply = self.knows(f"counts {handle}")
-        if reply is not None:
-            return Counts(*map(int, reply.head[3:]))
-        lines = b"\n" + self.session.ask(f"list {handle}").body
-        return Counts(*(lines.count(b"\n" + word) for word in (b"node ", b"edge ", b"nattr ", b"eattr ")))
+        """How many elements of each kind the graph has."""
+        return Counts(*map(int, self.session.ask(f"counts {handle}").head[3:]))
+
+    def neighbours(self, handle: int, node: int) -> list[tuple[str, int, int]]:
+        """The edges at a node: the side of each, its id, and the node at its other end."""
+        found = []
+        for line in self.session.ask(f"neighbours {handle} {node}").lines():
+            side, edge, other = line.split(" ")
+            found.append((side, int(edge), int(other)))
+        return found
 
     def graph(self, handle: int) -> Graph:
         """The listed graph."""
