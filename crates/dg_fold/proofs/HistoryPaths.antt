@@ -22,7 +22,8 @@ use Rattle.dg_fold.specs.declared.part.Part.{Part}
 use Rattle.dg_fold.specs.BytesRead.{ColumnBytes, IsPartOf, AreParts, named_along, named_by}
 use Rattle.dg_fold.specs.HistoryPaths.{HistoryPathsLead}
 use Rattle.dg_fold.specs.Parts.{is_events, are_events, RecordFits}
-use Rattle.dg_fold.specs.PathIndependence.{begun_at, contents, edges_at, IsSound, IsWalk}
+use Rattle.dg_fold.specs.PathIndependence.{begun_at, contents, IsSound, IsWalk}
+use Rattle.dg_plan.specs.TreePaths.{edges_at}
 use Rattle.dg_fold.specs.Steps.{Step, names_record, paired, StepHolds, PartHolds}
 use Rattle.dg_fold.proofs.Fittings.{records_fit}
 use Rattle.dg_fold.proofs.Parted.{plans_lead}

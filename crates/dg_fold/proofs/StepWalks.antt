@@ -5,7 +5,8 @@ use Rattle.std.specs.List.{All}
 use Rattle.std.proofs.lemmas.List.Elements.{All-nil, All-cons, All-head, All-tail}
 use Rattle.dg_history.specs.declared.node.NodeId.{NodeId}
 use Rattle.dg_plan.specs.declared.edge.Edge.{Edge}
-use Rattle.dg_fold.specs.PathIndependence.{IsSound, IsWalk, edges_at, StepsAreWalks}
+use Rattle.dg_fold.specs.PathIndependence.{IsSound, IsWalk, StepsAreWalks}
+use Rattle.dg_plan.specs.TreePaths.{edges_at}
 use Rattle.dg_plan.specs.Walks.{Arc}
 use Rattle.dg_plan.specs.IndexGraph.{arc_of, arcs_of}
 

@@ -14,7 +14,8 @@ use Rattle.dg_plan.specs.IndexGraph.{Ground, arcs_of, edges_of}
 use Rattle.dg_plan.specs.Walks.{Leads}
 use Rattle.dg_fold.specs.declared.part.Part.{Part}
 use Rattle.dg_fold.specs.BytesRead.{AreParts, named_along}
-use Rattle.dg_fold.specs.PathIndependence.{begun_at, edges_at}
+use Rattle.dg_fold.specs.PathIndependence.{begun_at}
+use Rattle.dg_plan.specs.TreePaths.{edges_at}
 use Rattle.dg_fold.specs.Steps.{paired, steps_in}
 
 -- A history whose events are changes, one after another, and can be spelled with so many names, with its index.

@@ -1,7 +1,6 @@
 -- Path independence: whatever the walk through an index, the records along it lead to the set where it ends.
-use Rattle.std.specs.Prelude.{◌≡◌, ◌≢◌, ◌<◌, ◌≤◌, ◌+◌, ℕ, Bool, true, false, List, [], ◌∷◌, ◌++◌, map, filter, reverse, length, take, drop, nat_le, slice_get, Option, Some, None, if◌then◌else◌}
+use Rattle.std.specs.Prelude.{◌≡◌, ◌≢◌, ◌<◌, ◌≤◌, ◌+◌, ℕ, Bool, true, false, List, [], ◌∷◌, ◌++◌, map, filter, reverse, length, take, drop, nat_le, Option, Some, None, if◌then◌else◌}
 use Rattle.std.specs.List.{All, flat_map}
-use Rattle.std.specs.Option.{option_to_list}
 use Rattle.dg_graph.specs.declared.element.Element.{Element}
 use Rattle.dg_graph.specs.declared.element.Columns.{Columns}
 use Rattle.dg_graph.specs.declared.event.Event.{Event}
@@ -24,6 +23,7 @@ use Rattle.dg_plan.specs.declared.edge.Via.TheVariants as via
 use Rattle.dg_plan.specs.declared.edge.Way.{Way}
 use Rattle.dg_plan.specs.declared.edge.Way.TheVariants.{Same, Forward, Back}
 use Rattle.dg_plan.specs.IndexGraph.{Ground, arcs_of, edges_of}
+use Rattle.dg_plan.specs.TreePaths.{edges_at}
 use Rattle.dg_plan.specs.Walks.{Leads}
 
 -- ---- what a record does
@@ -106,11 +106,6 @@ IsWalk u (e ∷ walk) v = (e.from ≡ u) × IsWalk e.to walk v
 abbrev pub begun_at : NodeId → List Edge → NodeId
 begun_at u [] = u
 begun_at u (e ∷ walk) = if enters_held e.via then e.to else u
-
--- the edges of these numbers
-abbrev pub edges_at : List Edge → List ℕ → List Edge
-edges_at edges [] = []
-edges_at edges (i ∷ steps) = option_to_list (slice_get edges i) ++ edges_at edges steps
 
 -- ---- the laws, as they are proved
 

@@ -4,4 +4,5 @@ pub mod EnteredRecords
 pub mod InstantPoint
 pub mod CertificateLines
 pub mod HistoryGraph
+pub mod TreePaths
 pub mod PlanLaws

@@ -7,7 +7,8 @@ use Rattle.dg_fold.specs.declared.part.Part.{Part}
 use Rattle.dg_fold.specs.BytesRead.{AreParts, ColumnBytes, named_along, named_by}
 use Rattle.dg_fold.specs.HistoryPaths.{IsGraphOf}
 use Rattle.dg_fold.specs.Parts.{beside, part_in, parts_in}
-use Rattle.dg_fold.specs.PathIndependence.{begun_at, edges_at, enters_held}
+use Rattle.dg_fold.specs.PathIndependence.{begun_at, enters_held}
+use Rattle.dg_plan.specs.TreePaths.{edges_at}
 use Rattle.dg_fold.specs.Steps.{names_record, paired, steps_in}
 use Rattle.dg_fold.proofs.HistoryPaths.{history_paths_lead}
 use Rattle.dg_fold.proofs.LegalHistories.{legal_is_indexed}

@@ -12,7 +12,7 @@ use Rattle.dg_fold.specs.declared.tree.Lead.{Lead}
 use Rattle.dg_fold.specs.BytesRead.{AreParts, HoldsWhatIsEntered, IsKept, Takes, TakesAtMost, entered_length, kept_in, named_along}
 use Rattle.dg_fold.specs.Ends.{AreLedUntil, FailsIn, lasts_in}
 use Rattle.dg_fold.specs.Parts.{beside, parts_in}
-use Rattle.dg_fold.specs.PathIndependence.{edges_at}
+use Rattle.dg_plan.specs.TreePaths.{edges_at}
 use Rattle.dg_fold.specs.Steps.{Step, paired, steps_in}
 use Rattle.dg_fold.specs.Trees.{all_edges}
 use Rattle.dg_graph.specs.declared.element.Column.{Column}

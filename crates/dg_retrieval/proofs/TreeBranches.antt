@@ -15,7 +15,8 @@ use Rattle.dg_plan.specs.declared.edge.Edge.{Edge}
 use Rattle.dg_plan.specs.IndexGraph.{Ground, arc_of, arcs_of, edges_of, first_edges, is_root, level_edges, list_edges, recent_edges}
 use Rattle.dg_plan.specs.Walks.{Arc, Graft, IsTree, Leads, entered, steps_of}
 use Rattle.dg_fold.specs.declared.tree.Branch.{Branch}
-use Rattle.dg_fold.specs.PathIndependence.{IsWalk, edges_at}
+use Rattle.dg_fold.specs.PathIndependence.{IsWalk}
+use Rattle.dg_plan.specs.TreePaths.{edges_at}
 use Rattle.dg_fold.specs.Trees.{Grow, IsAmong, LeadsToTarget, all_edges}
 use Rattle.dg_retrieval.specs.Branches.{AreBranches, IsBranch}
 

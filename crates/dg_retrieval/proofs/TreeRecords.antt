@@ -30,7 +30,7 @@ use Rattle.dg_plan.specs.Walks.{Arc, Graft, Grows, IsTree, steps_of}
 use Rattle.dg_plan.proofs.EnteredOnce.{all_flat, number_of}
 use Rattle.dg_plan.proofs.Trees.{tree_grows}
 use Rattle.dg_fold.specs.BytesRead.{HoldsWhatIsEntered, IsEntered, IsKept, entered_by}
-use Rattle.dg_fold.specs.PathIndependence.{edges_at}
+use Rattle.dg_plan.specs.TreePaths.{edges_at}
 use Rattle.dg_retrieval.specs.KeptGraph.{index_edges, index_ground}
 use Rattle.dg_retrieval.proofs.TreeBranches.{at_place}
 

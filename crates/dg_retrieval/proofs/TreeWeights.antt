@@ -35,7 +35,7 @@ use Rattle.dg_plan.specs.Walks.{Arc, Graft, IsTree, entered, steps_of, tree_weig
 use Rattle.dg_plan.proofs.Plans.{one_plan}
 use Rattle.dg_planner.proofs.HistoryGraph.{lengths_are}
 use Rattle.dg_fold.specs.BytesRead.{ColumnBytes, asked_length, entered_along, entered_by, entered_length, kept_in}
-use Rattle.dg_fold.specs.PathIndependence.{edges_at}
+use Rattle.dg_plan.specs.TreePaths.{edges_at}
 use Rattle.dg_retrieval.specs.KeptGraph.{holding, index_edges, index_ground}
 use Rattle.dg_retrieval.proofs.TreeBranches.{at_place}
 use Rattle.dg_retrieval.proofs.TreeRecords.{IsPaid, paid_edges}

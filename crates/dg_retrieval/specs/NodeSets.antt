@@ -4,7 +4,7 @@ use Rattle.dg_delta.specs.Deltas.{applied_in_turn}
 use Rattle.dg_fold.specs.BytesRead.{AreParts, kept_in, named_along}
 use Rattle.dg_fold.specs.declared.part.Part.{Part}
 use Rattle.dg_fold.specs.Parts.{parts_in}
-use Rattle.dg_fold.specs.PathIndependence.{edges_at}
+use Rattle.dg_plan.specs.TreePaths.{edges_at}
 use Rattle.dg_graph.specs.Composition.{Delta}
 use Rattle.dg_graph.specs.declared.element.Column.{Column}
 use Rattle.dg_graph.specs.declared.element.Columns.{Columns}

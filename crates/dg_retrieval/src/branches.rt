@@ -1,7 +1,7 @@
 //! The branches of a tree, and the walk along all of them.
 
 ghost use Rattle.std.specs.Prelude.{◌≡◌, length, slice_get, IfOk};
-ghost use Rattle.dg_fold.specs.PathIndependence.{edges_at};
+ghost use Rattle.dg_plan.specs.TreePaths.{edges_at};
 ghost use Rattle.dg_fold.specs.Trees.{all_edges};
 ghost use Rattle.dg_planner.specs.Trees.{grafts_of};
 ghost use Rattle.dg_retrieval.specs.Branches.{AreBranches};

@@ -3,7 +3,8 @@ use Rattle.std.proofs.Common.{◌≡◌, ℕ, List as ListOf, [], ◌∷◌, Opt
 use Rattle.dg_fold.specs.BytesRead.{AreParts, ColumnBytes, IsPartOf, asked_column, kept_in, named_along}
 use Rattle.dg_fold.specs.declared.part.Part.{Part}
 use Rattle.dg_fold.specs.Parts.{and_then, beside, is_events, named, part_column_in, part_in, parts_in, record_in}
-use Rattle.dg_fold.specs.PathIndependence.{edges_at, taken}
+use Rattle.dg_fold.specs.PathIndependence.{taken}
+use Rattle.dg_plan.specs.TreePaths.{edges_at}
 use Rattle.dg_graph.specs.declared.element.Column.{Column}
 use Rattle.dg_graph.specs.declared.element.Column.TheVariants.{Structure, NodeAttr, EdgeAttr}
 use Rattle.dg_graph.specs.declared.element.Columns.{Columns}

@@ -10,7 +10,8 @@ use Rattle.dg_fold.specs.declared.part.Part.{Part}
 use Rattle.dg_fold.specs.HistoryPaths.{IsGraphOf}
 use Rattle.dg_fold.specs.HistoryTrees.{KeepsKey}
 use Rattle.dg_fold.specs.Parts.{beside, part_in, parts_in}
-use Rattle.dg_fold.specs.PathIndependence.{begun_at, edges_at, enters_held}
+use Rattle.dg_fold.specs.PathIndependence.{begun_at, enters_held}
+use Rattle.dg_plan.specs.TreePaths.{edges_at}
 use Rattle.dg_fold.specs.Steps.{paired, steps_in}
 use Rattle.dg_fold.proofs.HistoryPaths.{history_paths_lead}
 use Rattle.dg_fold.proofs.ImageParts.{kept_parts_are_the_records}

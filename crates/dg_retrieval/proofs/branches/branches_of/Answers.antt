@@ -1,5 +1,5 @@
 use Rattle.std.proofs.Common.{ap, refl, sym, ◌∙◌}
-use Rattle.dg_fold.specs.PathIndependence.{edges_at}
+use Rattle.dg_plan.specs.TreePaths.{edges_at}
 use Rattle.dg_retrieval.proofs.BranchSteps.{branches_step}
 use Rattle.dg_retrieval.proofs.branches.branches_of.Goals as goal
 

@@ -1,5 +1,5 @@
 use Rattle.std.proofs.Common.{◌≡◌, take}
-use Rattle.dg_fold.specs.PathIndependence.{edges_at}
+use Rattle.dg_plan.specs.TreePaths.{edges_at}
 use Rattle.dg_retrieval.proofs.branches.edges_at.Given as goal
 
 abbrev pub invariant-loop-step : goal.invariant-loop-step

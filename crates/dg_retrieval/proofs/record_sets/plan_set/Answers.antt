@@ -2,7 +2,7 @@ use Rattle.std.proofs.Common.{List, IfErr, IfSome, ap, sym, subst, ◌∙◌}
 use Rattle.dg_fold.specs.BytesRead.{AreParts, kept_in, named_along}
 use Rattle.dg_fold.specs.declared.part.Part.{Part}
 use Rattle.dg_graph.specs.Composition.{applied}
-use Rattle.dg_fold.specs.PathIndependence.{edges_at}
+use Rattle.dg_plan.specs.TreePaths.{edges_at}
 use Rattle.dg_history.specs.History.{History}
 use Rattle.dg_plan.specs.HistoryGraph.{all_columns}
 use Rattle.dg_retrieval.specs.Faults.{of_fold}
