@@ -19,7 +19,7 @@ use Rattle.dg_machine.specs.CommandGrammar.{IsColumn}
 use Rattle.dg_machine.specs.MachineLaws.{IsDetermined}
 use Rattle.dg_machine.specs.MachineState.{MachineState}
 use Rattle.dg_machine.specs.Needs.{refused}
-use Rattle.dg_machine.specs.Planning.{Planned, IsPlanned, no_plan, edges_in, nodes_in, point_for, points_for}
+use Rattle.dg_machine.specs.Planning.{Planned, IsPlanned, no_plan, edges_in, nodes_in, point_for, points_for, record_edges_in}
 use Rattle.dg_machine.specs.Run.{Answers, Lacks_memory, Fails_to_read, Leaves_grammar, Too_long}
 
 -- a line leaves the grammar at one column
@@ -79,6 +79,8 @@ one_answer m (command.Several cols times count) lines p q x y =
     let grafts : p.grafts ≡ q.grafts = one_tree g (Root ∷ []) targets p.grafts q.grafts x.0 y.0 in
     let singles : p.singles ≡ q.singles = one_singles g (Root ∷ []) targets p.singles q.singles x.1 y.1 in
     λ i. accepted m (command.Several cols times count) lines (record no_plan { grafts = grafts i; singles = singles i })
+one_answer m (command.Materialise node cols) lines p q x y =
+    ap (λ steps. accepted m (command.Materialise node cols) lines (record no_plan { steps = steps })) (one_plan (arcs_of (record_edges_in m cols)) (Root ∷ []) node p.steps q.steps x y)
 one_answer m (command.Plan t cols) lines p q x y =
     let g = arcs_of (edges_in m cols) in
     let steps : p.steps ≡ q.steps = one_plan g (Root ∷ []) (point_for m t) p.steps q.steps x.0 y.0 in

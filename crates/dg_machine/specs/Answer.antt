@@ -20,7 +20,8 @@ use Rattle.dg_index.specs.IndexRecords.{column_in, keys_of}
 use Rattle.dg_plan.specs.declared.edge.Edge.{Edge}
 use Rattle.dg_plan.specs.CertificateLines.{judged}
 use Rattle.dg_plan.specs.IndexGraph.{arcs_of}
-use Rattle.dg_plan.specs.Walks.{tree_weight, weight_of}
+use Rattle.dg_plan.specs.TreePaths.{base_under}
+use Rattle.dg_plan.specs.Walks.{steps_of, tree_weight, weight_of}
 use Rattle.dg_machine.specs.declared.reply.BodyLine.{BodyLine}
 use Rattle.dg_machine.specs.declared.reply.BodyLine.TheVariants as line
 use Rattle.dg_machine.specs.declared.reply.Head.{Head}
@@ -29,12 +30,12 @@ use Rattle.dg_machine.specs.declared.reply.Refusal.{Refusal}
 use Rattle.dg_machine.specs.declared.reply.Refusal.TheVariants as refusal
 use Rattle.dg_machine.specs.declared.reply.Reply.{Reply}
 use Rattle.dg_machine.specs.declared.stands.Stands.{Stands}
-use Rattle.dg_machine.specs.declared.stands.Stands.TheVariants.{Overlay}
+use Rattle.dg_machine.specs.declared.stands.Stands.TheVariants.{Overlay, Base}
 use Rattle.dg_machine.specs.MachineState.{MachineState, elements, elements_held, entry_at, history_in, without_handle}
 use Rattle.dg_machine.specs.CommandGrammar.{plan_line_in}
 use Rattle.dg_query.specs.Queries.{counts_of, degree_of, neighbours_of, values_of}
 use Rattle.dg_machine.specs.Needs.{needs, refused, is_followed}
-use Rattle.dg_machine.specs.Planning.{Planned, IsPlanned, edges_in, nodes_in, point_for}
+use Rattle.dg_machine.specs.Planning.{Planned, IsPlanned, edges_in, nodes_in, point_for, record_edges_in}
 
 pub record Answered : Type 0 where
   pub reply : Reply
@@ -80,9 +81,13 @@ abbrev pub with_handles : MachineState → List Stands → MachineState
 with_handles m [] = m
 with_handles m (stands ∷ more) = with_handles (with_handle m stands) more
 
--- the graphs as of these instants
-abbrev pub overlays : Columns → List ℕ → List Stands
-overlays cols times = map (λ t. Overlay t cols None) times
+-- the graphs as of these instants, each on the base that the function gives for it
+abbrev pub overlays : Columns → (ℕ → Option ℕ) → List ℕ → List Stands
+overlays cols base times = map (λ t. Overlay t cols (base t)) times
+
+-- the base with which the path to the graph as of an instant begins, within the tree of these steps
+abbrev pub base_for : MachineState → Columns → List ℕ → ℕ → Option ℕ
+base_for m cols steps t = base_under (edges_in m cols) steps (point_for m t)
 
 -- the elements of a handle
 abbrev pub shown_by : MachineState → ℕ → List Element
@@ -178,11 +183,15 @@ accepted m (command.Load count) lines p = with_lines m (λ events total last. he
 accepted m (command.Append count) lines p = with_lines m (λ events total last. head.Appended events total last) lines
 accepted m (command.At t cols) lines p = record {
   reply = headed (head.At m.next (weight_of (arcs_of (edges_in m cols)) p.steps));
-  state = with_handle m (Overlay t cols None);
+  state = with_handle m (Overlay t cols (base_for m cols p.steps t));
 }
 accepted m (command.Several cols times count) lines p = record {
   reply = several_reply m.next (tree_weight (arcs_of (edges_in m cols)) p.grafts) (take count times) p.singles;
-  state = with_handles m (overlays cols (take count times));
+  state = with_handles m (overlays cols (base_for m cols (steps_of p.grafts)) (take count times));
+}
+accepted m (command.Materialise node cols) lines p = record {
+  reply = headed (head.Materialised m.next (weight_of (arcs_of (record_edges_in m cols)) p.steps));
+  state = with_handle m (Base node cols);
 }
 accepted m (command.List handle) lines p = say m (listing handle (shown_by m handle))
 accepted m (command.Counts handle) lines p = say m (counting handle (shown_by m handle))
@@ -225,6 +234,7 @@ is_refusal (head.Loaded events total last) = false
 is_refusal (head.Appended events total last) = false
 is_refusal (head.At handle weight) = false
 is_refusal (head.Several weight sum) = false
+is_refusal (head.Materialised handle weight) = false
 is_refusal (head.List handle lines) = false
 is_refusal (head.Counts handle counts) = false
 is_refusal (head.NodeThere handle id degree) = false
@@ -262,6 +272,7 @@ weight_told (head.Loaded events total last) = 0
 weight_told (head.Appended events total last) = 0
 weight_told (head.At handle weight) = weight
 weight_told (head.Several weight sum) = weight
+weight_told (head.Materialised handle weight) = weight
 weight_told (head.List handle lines) = 0
 weight_told (head.Counts handle counts) = 0
 weight_told (head.NodeThere handle id degree) = 0

@@ -64,6 +64,13 @@ several_of rest = None
 abbrev pub sweep_of : List ℕ → Option Command
 sweep_of word = if is_word word (codes "all") then Some command.CleanAll else option_map (λ n. command.Clean n) (number 1 4294967295 word)
 
+-- a leaf or an interior node of the index, and columns
+abbrev pub held_node_verbs : List (Verb Command)
+held_node_verbs =
+    verb (codes "leaf") (two n32_of columns_of (λ j cols. command.Materialise (node.Leaf j) cols))
+    ∷ verb (codes "inner") (three n32_of n32_of columns_of (λ h j cols. command.Materialise (node.Inner h j) cols))
+    ∷ []
+
 -- the commands, by their first word
 abbrev pub command_verbs : List (Verb Command)
 command_verbs =
@@ -72,6 +79,7 @@ command_verbs =
     ∷ verb (codes "append") (one count_of (λ n. command.Append n))
     ∷ verb (codes "at") (two time_of columns_of (λ t cols. command.At t cols))
     ∷ verb (codes "several") several_of
+    ∷ verb (codes "materialise") (read_by held_node_verbs)
     ∷ verb (codes "list") (one handle_of (λ h. command.List h))
     ∷ verb (codes "counts") (one handle_of (λ h. command.Counts h))
     ∷ verb (codes "node") (two handle_of id_of (λ h id. command.Node h id))

@@ -1,5 +1,5 @@
 -- The machine that keeps only the events and a table of handles.
-use Rattle.std.specs.Prelude.{ℕ, ◌≤◌, ◌==◌, List, [], ◌∷◌, Option, Some, None, if◌then◌else◌, map}
+use Rattle.std.specs.Prelude.{ℕ, ◌≤◌, ◌==◌, Bool, false, List, [], ◌∷◌, Option, Some, None, if◌then◌else◌, map}
 use Rattle.dg_graph.specs.declared.element.Element.{Element}
 use Rattle.dg_graph.specs.declared.event.Event.{Event}
 use Rattle.dg_graph.specs.declared.function.Function.TheVariants.{Intersection}
@@ -7,11 +7,12 @@ use Rattle.dg_machine.specs.declared.limits.Limits.{Limits}
 use Rattle.dg_history.specs.declared.limits.TheConstants.{EVENTS_MAX, FILE_BYTES_MAX}
 use Rattle.dg_machine.specs.declared.limits.TheConstants.{FIRST_HANDLE, SCRIPT_BYTES_MAX}
 use Rattle.dg_machine.specs.declared.stands.Stands.{Stands}
-use Rattle.dg_machine.specs.declared.stands.Stands.TheVariants.{Overlay}
+use Rattle.dg_machine.specs.declared.stands.Stands.TheVariants.{Overlay, Base}
 use Rattle.dg_graph.specs.Elements.{shown}
 use Rattle.dg_history.specs.History.{History, empty_history, events_of, names_of}
 use Rattle.dg_graph.specs.Replay.{replay, replay_at}
 use Rattle.dg_graph.specs.Sets.{unioned}
+use Rattle.dg_index.specs.Hierarchy.{set_of}
 
 -- The limits; an index or none, and its history; the live handles with what they stand for, in the
 -- order in which they were given; and the number of the next handle.
@@ -57,9 +58,21 @@ abbrev pub without_handle : ℕ → List (ℕ × Stands) → List (ℕ × Stands
 without_handle handle [] = []
 without_handle handle (entry ∷ table) = if entry.0 == handle then table else entry ∷ without_handle handle table
 
--- the elements of what a handle stands for
+-- it stands for an overlay that rests on this handle
+abbrev pub rests_on : ℕ → Stands → Bool
+rests_on handle (Overlay t cols None) = false
+rests_on handle (Overlay t cols (Some base)) = base == handle
+rests_on handle (Base node cols) = false
+
+-- the first live handle that rests on this one, and so the least
+abbrev pub dependent_on : ℕ → List (ℕ × Stands) → Option ℕ
+dependent_on handle [] = None
+dependent_on handle (entry ∷ table) = if rests_on handle entry.1 then Some entry.0 else dependent_on handle table
+
+-- the elements of what a handle stands for: the graph as of the instant, or the set of the node, in its columns
 abbrev pub elements : History → Stands → List Element
 elements z (Overlay t cols on) = shown (replay_at (events_of z) t) cols
+elements z (Base node cols) = shown (set_of z.params (events_of z) node) cols
 
 -- the elements of any of these sets
 abbrev pub union_of : List (List Element) → List Element

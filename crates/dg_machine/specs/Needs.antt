@@ -3,13 +3,17 @@ use Rattle.std.specs.Prelude.{ℕ, ◌+◌, ◌*◌, Bool, true, false, ◌&&◌
 use Rattle.std.specs.List.{list_any}
 use Rattle.dg_graph.specs.declared.limits.TheConstants.{NAMES_MAX}
 use Rattle.dg_graph.specs.Lines.{ScriptLine}
+use Rattle.dg_history.specs.declared.node.NodeId.{NodeId}
 use Rattle.dg_history.specs.History.{are_parameters, span_of, in_range}
+use Rattle.dg_index.specs.Hierarchy.{exists}
 use Rattle.dg_machine.specs.declared.command.Command.{Command}
 use Rattle.dg_machine.specs.declared.command.Command.TheVariants as command
 use Rattle.dg_machine.specs.declared.limits.TheConstants.{HANDLE_MAX, LIVE_HANDLES_MAX}
 use Rattle.dg_machine.specs.declared.reply.Refusal.{Refusal}
 use Rattle.dg_machine.specs.declared.reply.Refusal.TheVariants as refusal
-use Rattle.dg_machine.specs.MachineState.{MachineState, events_in_index, names_in, entry_at}
+use Rattle.dg_machine.specs.declared.stands.Stands.{Stands}
+use Rattle.dg_machine.specs.declared.stands.Stands.TheVariants.{Overlay, Base}
+use Rattle.dg_machine.specs.MachineState.{MachineState, dependent_on, events_in_index, history_in, names_in, entry_at}
 
 pub record Needs : Type 0 where
   pub lines : Option ℕ  -- so many lines that follow it, where any may
@@ -19,6 +23,9 @@ pub record Needs : Type 0 where
   pub changes : ℕ  -- room for so many changes
   pub instants : List ℕ  -- that these are in the history
   pub handle : Option ℕ  -- that this one is live
+  pub overlay : Bool  -- and stands for a graph as of an instant
+  pub unused : Option ℕ  -- that no live handle rests on this one
+  pub node : Option NodeId  -- that the index has this leaf or interior node
   pub handles : ℕ  -- so many new handles
   pub memory : Bool  -- memory
   pub reads : Bool  -- records of the file
@@ -33,6 +40,9 @@ nothing_more = record {
   changes = 0;
   instants = [];
   handle = None;
+  overlay = false;
+  unused = None;
+  node = None;
   handles = 0;
   memory = true;
   reads = false;
@@ -49,11 +59,12 @@ needs (command.Load count) = record (batch_needs count) { unloaded = true }
 needs (command.Append count) = batch_needs count
 needs (command.At t cols) = record nothing_more { index = true; instants = t ∷ []; handles = 1; reads = true }
 needs (command.Several cols times count) = record nothing_more { index = true; instants = take count times; handles = count; reads = true }
+needs (command.Materialise node cols) = record nothing_more { index = true; node = Some node; handles = 1; reads = true }
 needs (command.List handle) = record nothing_more { handle = Some handle }
 needs (command.Counts handle) = record nothing_more { handle = Some handle; memory = false }
-needs (command.Node handle id) = record nothing_more { handle = Some handle }
-needs (command.Neighbours handle id) = record nothing_more { handle = Some handle }
-needs (command.Release handle) = record nothing_more { handle = Some handle; memory = false }
+needs (command.Node handle id) = record nothing_more { handle = Some handle; overlay = true }
+needs (command.Neighbours handle id) = record nothing_more { handle = Some handle; overlay = true }
+needs (command.Release handle) = record nothing_more { handle = Some handle; unused = Some handle; memory = false }
 needs (command.Clean cells) = record nothing_more { memory = false }
 needs command.CleanAll = record nothing_more { memory = false }
 needs command.Pool = record nothing_more { memory = false }
@@ -91,6 +102,16 @@ abbrev pub earliest : List Refusal → Option Refusal
 earliest [] = None
 earliest (r ∷ rest) = Some r
 
+-- the handle is live, and stands for a node of the index
+abbrev pub is_base : Option Stands → Bool
+is_base None = false
+is_base (Some (Overlay t cols on)) = false
+is_base (Some (Base node cols)) = true
+
+-- the index has this leaf or interior node
+abbrev pub has_node : MachineState → NodeId → Bool
+has_node m node = exists (history_in m.index).params (length (events_in_index m.index)) node
+
 -- so many more events, or the names that so many lines may bring, are too many
 abbrev pub is_full : MachineState → ℕ → Bool
 is_full m count =
@@ -108,8 +129,11 @@ refusals m lines n =
     ++ (when (nat_lt 0 n.changes && is_full m n.changes) (refusal.HistoryFull (length (events_in_index m.index)) n.changes)
     ++ (when (list_any (λ t. not (in_range (span_of (events_in_index m.index)) t)) n.instants) (refusal.OutOfRange (span_of (events_in_index m.index)))
     ++ (of n.handle (λ h. when (not (is_some (entry_at h m.table))) (refusal.UnknownHandle h))
+    ++ (of n.handle (λ h. when (n.overlay && is_base (entry_at h m.table)) (refusal.NotAnOverlay h))
+    ++ (of n.unused (λ h. of (dependent_on h m.table) (λ d. refusal.InUse d ∷ []))
+    ++ (of n.node (λ node. when (not (has_node m node)) refusal.UnknownNode)
     ++ (when (nat_lt 0 n.handles && nat_lt LIVE_HANDLES_MAX (length m.table + n.handles)) (refusal.PoolFull (length m.table) n.handles)
-    ++ when (nat_lt 0 n.handles && nat_lt (HANDLE_MAX + 1) (m.next + n.handles)) refusal.HandlesSpent))))))))
+    ++ when (nat_lt 0 n.handles && nat_lt (HANDLE_MAX + 1) (m.next + n.handles)) refusal.HandlesSpent)))))))))))
 
 -- the first refusal that holds
 abbrev pub refused : MachineState → Command → List ScriptLine → Option Refusal

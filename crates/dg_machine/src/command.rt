@@ -1,4 +1,5 @@
 use dg_graph::{Columns, Function};
+use dg_history::NodeId;
 
 /// The most instants of one command.
 pub const TIMES_MAX: usize = 32;
@@ -31,6 +32,11 @@ pub enum Command {
         cols: Columns,
         times: [u64; TIMES_MAX],
         count: u8,
+    },
+    /// Hold the set of a leaf or of an interior node of the index, in these columns, as a new handle.
+    Materialise {
+        node: NodeId,
+        cols: Columns,
     },
     /// List the elements of a handle.
     List {

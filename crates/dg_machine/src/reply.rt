@@ -44,6 +44,11 @@ pub enum Head {
         weight: u64,
         sum: u64,
     },
+    /// The set of a node of the index is held as this handle, by a plan of this weight.
+    Materialised {
+        handle: u32,
+        weight: u64,
+    },
     /// The elements of a handle: as many lines follow.
     List {
         handle: u32,
@@ -127,6 +132,10 @@ pub enum Refusal {
     UnknownHandle(u32),
     /// 9: too many handles; those that live and those asked for.
     PoolFull(u32, u32),
+    /// 10: a live handle rests on this one; the least that does.
+    InUse(u32),
+    /// 11: the index has no such leaf or interior node.
+    UnknownNode,
     /// 12: the history has no room for the batch; the events held, and the events of the batch.
     HistoryFull(u64, u64),
     /// 13: the file has no room for the batch; the bytes that it would take, and the limit.
@@ -137,6 +146,8 @@ pub enum Refusal {
     Damaged(Key, Column),
     /// 16: want of memory.
     OutOfMemory,
+    /// 17: the handle stands for a node of the index, and not for a graph as of an instant.
+    NotAnOverlay(u32),
     /// 18: the line has more than `LINE_BYTES_MAX` bytes.
     LineLong,
     /// 19: the last handle to be given would have a greater number than a handle may have.

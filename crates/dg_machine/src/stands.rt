@@ -1,4 +1,5 @@
 use dg_graph::Columns;
+use dg_history::NodeId;
 
 /// What a live handle stands for.
 #[derive(Clone, Copy, Debug, PartialEq, Eq, Hash)]
@@ -8,5 +9,10 @@ pub enum Stands {
         t: u64,
         cols: Columns,
         on: Option<u32>,
+    },
+    /// The set of a leaf or of an interior node of the index, in these columns. It rests on nothing.
+    Base {
+        node: NodeId,
+        cols: Columns,
     },
 }
