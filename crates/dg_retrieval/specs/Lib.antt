@@ -5,3 +5,4 @@ pub mod Graphs
 pub mod Faults
 pub mod NodeSets
 pub mod TreeLeads
+pub mod Beginnings

@@ -4,6 +4,7 @@
 
 mod branches;
 mod fault;
+mod graph_lead;
 mod leads;
 mod record_sets;
 mod retrieval;
@@ -12,5 +13,6 @@ mod tests;
 
 pub use dg_fold::Lead;
 pub use fault::RetrievalFault;
+pub use graph_lead::{Beginning, GraphLead};
 pub use record_sets::{ALL_COLUMNS, node_sets, plan_set};
 pub use retrieval::{Retrieved, retrieve};

@@ -1,0 +1,20 @@
+use dg_delta::Delta;
+
+/// What a graph that is retrieved begins with, all of it held in memory.
+#[derive(Clone, Copy, Debug, PartialEq, Eq, Hash)]
+pub enum Beginning {
+    /// Nothing: the empty graph.
+    Nothing,
+    /// The current graph.
+    Now,
+    /// The set of a node, which the handle of this number holds.
+    Base(u32),
+}
+
+/// What leads to a graph: what it begins with, and the delta from there. The graph is what comes, cut to the columns
+/// that were asked for.
+#[derive(Drop)]
+pub struct GraphLead {
+    pub begins: Beginning,
+    pub delta: Delta,
+}
