@@ -242,3 +242,31 @@ handles_spent : due_from 4294967295 281474976710656 None (no_plan ∷ no_plan �
     ≡ made_five ++ codes "ok at 4294967295 0\nend\nrefused 19 handles-spent\nend\nrefused 19 handles-spent\nend\nok release 4294967295\nend\nrefused 19 handles-spent\nend\n"
 unfolding digits due_from five made_five output answered
 handles_spent = refl
+
+-- ---- nodes that are held
+
+-- The base has the edge of number 1, and all edges behind it stand one further. It has no attributes, so it cannot
+-- serve a retrieval that asks for them.
+held_node : over_five (steps_are (0 ∷ []) ∷ steps_are (1 ∷ 10 ∷ []) ∷ steps_are (1 ∷ 9 ∷ []) ∷ []) (codes "materialise inner 1 1 s\nat 20 s\nat 20 sn\nrelease 1\nnode 1 1\nneighbours 1 1\nrelease 2\nrelease 1\nlist 1\n")
+    ≡ made_five ++ codes "ok materialise 1 26\nend\nok at 2 0\nend\nok at 3 26\nend\nrefused 10 in-use 2\nend\nrefused 17 not-an-overlay 1\nend\nrefused 17 not-an-overlay 1\nend\nok release 2\nend\nok release 1\nend\nrefused 8 unknown-handle 1\nend\n"
+unfolding digits due_from over_five due_of_none five made_five due_in output answered
+held_node = refl
+
+-- without what is in memory leaf 2 weighs 60 through the interior node, whose edges are those from 8 on
+unknown_nodes : over_five (no_plan ∷ no_plan ∷ no_plan ∷ steps_are (0 ∷ 10 ∷ []) ∷ []) (codes "materialise inner 2 1 s\nmaterialise leaf 3 s\nmaterialise leaf 0 s\nmaterialise leaf 2 s\nlist 1\ncounts 1\n")
+    ≡ made_five ++ codes "refused 11 unknown-node\nend\nrefused 11 unknown-node\nend\nrefused 11 unknown-node\nend\nok materialise 1 60\nend\nok list 1 3\nnode 1\nnode 2\nedge 5 1 2 dir\nend\nok counts 1 2 1 0 0\nend\n"
+unfolding digits due_from over_five due_of_none five made_five due_in output answered
+unknown_nodes = refl
+
+-- The set of a node need be no graph: this one has two values of one key.
+no_graph : due_of_none (no_plan ∷ no_plan ∷ steps_are (0 ∷ []) ∷ no_plan ∷ steps_are (1 ∷ 10 ∷ []) ∷ []) (codes "create 2 2 union\nload 4\n1 +node 1\n2 nset 1 c red\n3 nset 1 c blue\n4 +node 2\nmaterialise inner 1 1 sn\nlist 1\nat 2 sn\nlist 2\n")
+    ≡ codes "ok create\nend\nok load 4 4 4\nend\nok materialise 1 66\nend\nok list 1 4\nnode 1\nnode 2\nnattr 1 c red\nnattr 1 c blue\nend\nok at 2 41\nend\nok list 2 2\nnode 1\nnattr 1 c red\nend\n"
+unfolding digits due_from due_of_none due_in output answered
+no_graph = refl
+
+-- Two graphs of a tree rest on the base, and the least of them is named: list 1 is grafted at leaf 1, and the path to it
+-- begins with the base. The third rests on the current graph.
+resting : over_five (steps_are (0 ∷ []) ∷ grafts_are (graft node.Root (1 ∷ 10 ∷ []) ∷ graft (node.Leaf 1) (6 ∷ []) ∷ graft node.Root (0 ∷ 14 ∷ 16 ∷ []) ∷ []) (0 ∷ 40 ∷ 0 ∷ []) ∷ []) (codes "materialise inner 1 1 s\nseveral s 20 30 40\nrelease 1\nrelease 2\nrelease 1\nrelease 4\nrelease 1\nrelease 3\nrelease 1\n")
+    ≡ made_five ++ codes "ok materialise 1 26\nend\nok several 40 40\nhandle 2 20 0\nhandle 3 30 40\nhandle 4 40 0\nend\nrefused 10 in-use 2\nend\nok release 2\nend\nrefused 10 in-use 3\nend\nok release 4\nend\nrefused 10 in-use 3\nend\nok release 3\nend\nok release 1\nend\n"
+unfolding digits due_from over_five due_of_none five made_five due_in output answered
+resting = refl
