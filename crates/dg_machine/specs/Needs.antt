@@ -4,6 +4,8 @@ use Rattle.std.specs.List.{list_any}
 use Rattle.dg_graph.specs.declared.limits.TheConstants.{NAMES_MAX}
 use Rattle.dg_graph.specs.Lines.{ScriptLine}
 use Rattle.dg_history.specs.declared.node.NodeId.{NodeId}
+use Rattle.dg_history.specs.declared.node.NodeId.TheVariants as node
+use Rattle.dg_history.specs.declared.params.Params.{Params}
 use Rattle.dg_history.specs.History.{are_parameters, span_of, in_range}
 use Rattle.dg_index.specs.Hierarchy.{exists}
 use Rattle.dg_machine.specs.declared.command.Command.{Command}
@@ -108,9 +110,18 @@ is_base None = false
 is_base (Some (Overlay t cols on)) = false
 is_base (Some (Base node cols)) = true
 
+-- the node is a leaf or an interior node that exists where so many events are there
+abbrev pub can_be_held : Params → ℕ → NodeId → Bool
+can_be_held p n node.Root = false
+can_be_held p n node.Now = false
+can_be_held p n node.Recent = false
+can_be_held p n (node.Leaf j) = exists p n (node.Leaf j)
+can_be_held p n (node.List i) = false
+can_be_held p n (node.Inner h j) = exists p n (node.Inner h j)
+
 -- the index has this leaf or interior node
 abbrev pub has_node : MachineState → NodeId → Bool
-has_node m node = exists (history_in m.index).params (length (events_in_index m.index)) node
+has_node m node = can_be_held (history_in m.index).params (length (events_in_index m.index)) node
 
 -- so many more events, or the names that so many lines may bring, are too many
 abbrev pub is_full : MachineState → ℕ → Bool
@@ -131,7 +142,7 @@ refusals m lines n =
     ++ (of n.handle (λ h. when (not (is_some (entry_at h m.table))) (refusal.UnknownHandle h))
     ++ (of n.handle (λ h. when (n.overlay && is_base (entry_at h m.table)) (refusal.NotAnOverlay h))
     ++ (of n.unused (λ h. of (dependent_on h m.table) (λ d. refusal.InUse d ∷ []))
-    ++ (of n.node (λ node. when (not (has_node m node)) refusal.UnknownNode)
+    ++ (of n.node (λ v. when (not (has_node m v)) refusal.UnknownNode)
     ++ (when (nat_lt 0 n.handles && nat_lt LIVE_HANDLES_MAX (length m.table + n.handles)) (refusal.PoolFull (length m.table) n.handles)
     ++ when (nat_lt 0 n.handles && nat_lt (HANDLE_MAX + 1) (m.next + n.handles)) refusal.HandlesSpent)))))))))))
 
