@@ -182,9 +182,10 @@ def is_number(word, most):
 
 
 class Graph:
-    """The graph of an index, for the asked columns: nodes in their order, and edges (from, to, weight)."""
+    """The graph of an index, for the asked columns: nodes in their order, and edges (from, to, weight). The bases are
+    nodes that handles hold, each with its handle."""
 
-    def __init__(self, history, columns, memory=True):
+    def __init__(self, history, columns, memory=True, bases=()):
         leaves, arity = len(history.events) // history.size, history.arity
 
         def leaf(j):
@@ -201,6 +202,8 @@ class Graph:
         self.nodes += [f"inner {h} {j + 1}" for h in heights for j in range(leaves // arity**h)]
         # Each edge with the record that it enters, or None.
         edges = [("root", "now", 0, None)] if memory else []
+        self.handles = {len(edges) + i: handle for i, (handle, node) in enumerate(bases)}
+        edges += [("root", node, 0, None) for handle, node in bases]
         edges += [("root", f"inner {h} 1", weight(f"top {h}"), f"top {h}") for h in heights]
         for i in range(leaves):
             record = f"list {i}"
@@ -259,6 +262,14 @@ class Graph:
             tree += [self.edges[i][1] for i in walk]
             steps += walk
         return steps
+
+    def rests(self, targets):
+        """For each target the handle with whose node its path within the tree begins, or None."""
+        on = {"root": None}
+        for i in self.tree(targets):
+            tail, head, _ = self.edges[i]
+            on[head] = self.handles.get(i) if tail == "root" else on[tail]
+        return [on[target] for target in targets]
 
     def tree_weight(self, targets):
         return sum(self.edges[i][2] for i in self.tree(targets))
@@ -470,6 +481,7 @@ class Case:
         self.program, self.index, self.seed = program, index, seed
         self.script, self.due = [], []
         self.handles, self.next = {}, 1  # the graphs of this run's live handles, and the number of the next one
+        self.bases, self.rests = {}, {}  # the nodes that handles hold, with their columns; and what each handle rests on
 
     def reply(self, *lines):
         self.due += list(lines) + ["end"]
@@ -482,13 +494,21 @@ class Case:
             same = made.read() == file
         if ran.returncode != status or ran.stdout.decode() != due or not same:
             sys.exit(f"seed {self.seed}: status {ran.returncode}, replies {ran.stdout.decode() == due}, file {same}")
-        self.script, self.due, self.handles, self.next = [], [], {}, 1
+        self.script, self.due, self.handles, self.next, self.bases, self.rests = [], [], {}, 1, {}, {}
 
-    def give(self, graphs):
-        """Gives each of these graphs a handle."""
-        for graph in graphs:
-            self.handles[self.next] = graph
+    def give(self, graphs, rests):
+        """Gives each of these graphs a handle, which rests on what stands beside it."""
+        for graph, on in zip(graphs, rests):
+            self.handles[self.next], self.rests[self.next] = graph, on
             self.next += 1
+
+    def usable(self, columns):
+        """The handles that hold a node in all of these columns, with their nodes."""
+        return [(handle, node) for handle, (node, held) in sorted(self.bases.items()) if set(columns) <= set(held)]
+
+    def graph(self, history, columns):
+        """The graph of the index with the handles that can serve."""
+        return Graph(history, columns, bases=self.usable(columns))
 
     def held(self, history):
         """The elements that the current graph and the live handles have together."""
@@ -499,7 +519,7 @@ def ask_graphs(rng, history, changes, case):
     """Retrieves graphs, one at a time or several at once."""
     for _ in range(rng.choice([0, 1, 1, 2])):
         columns = rng.choice(["s", "sn", "se", "sne"])
-        graph = Graph(history, columns)
+        graph = case.graph(history, columns)
         first, last = history.events[0][0], history.events[-1][0]
         times = [rng.randrange(first, last + 1) for _ in range(rng.choice([1, 1, 2, 3, 7]))]
         if len(case.handles) + len(times) > 127:
@@ -516,7 +536,26 @@ def ask_graphs(rng, history, changes, case):
             case.script.append(f"several {columns} {' '.join(map(str, times))}")
             lines = [f"handle {handle + i} {time} {single}" for i, (time, single) in enumerate(zip(times, singles))]
             case.reply(f"ok several {graph.tree_weight(targets)} {sum(singles)}", *lines)
-        case.give(cut(replay(e for e in history.events if e[0] <= time), columns) for time in times)
+        case.give([cut(replay(e for e in history.events if e[0] <= time), columns) for time in times], graph.rests(targets))
+
+
+def hold_nodes(rng, history, case):
+    """Holds leaves and interior nodes, some of which the index does not have."""
+    for _ in range(rng.choice([0, 0, 1, 2])):
+        columns, handle = rng.choice(["s", "sn", "se", "sne"]), case.next
+        leaves = len(history.events) // history.size
+        height = rng.choice([0, 0, 1, 1, 2, 40])
+        index = rng.randrange(leaves // history.arity**height + 2)
+        node = f"inner {height} {index}" if height else f"leaf {index}"
+        case.script.append(f"materialise {node} {columns}")
+        if index < 1 or index * history.arity**height > leaves:
+            case.reply("refused 11 unknown-node")
+        elif len(case.handles) == 127:
+            case.reply("refused 9 pool-full 127 1")
+        else:
+            case.reply(f"ok materialise {handle} {Graph(history, columns, memory=False).costs[node][0]}")
+            case.bases[handle] = node, columns
+            case.give([cut(history.node(height, index, {}), columns)], [None])
 
 
 def ask_handles(rng, history, changes, case):
@@ -536,8 +575,13 @@ def ask_handles(rng, history, changes, case):
             case.reply(f"ok clean all {len(case.held(history))}")
         else:
             case.script.append(f"{asked} {handle}" + (f" {node}" if asked in ("node", "neighbours") else ""))
+            resting = sorted(other for other, on in case.rests.items() if on == handle)
             if graph is None:
                 case.reply(f"refused 8 unknown-handle {handle}")
+            elif handle in case.bases and asked in ("node", "neighbours"):
+                case.reply(f"refused 17 not-an-overlay {handle}")
+            elif asked == "release" and resting:
+                case.reply(f"refused 10 in-use {resting[0]}")
             elif asked == "list":
                 case.reply(f"ok list {handle} {len(graph)}", *listing(graph, changes.names))
             elif asked == "counts":
@@ -548,7 +592,8 @@ def ask_handles(rng, history, changes, case):
                 case.reply(f"ok neighbours {handle} {node} {len(lines)}", *lines)
             elif asked == "release":
                 case.reply(f"ok release {handle}")
-                del case.handles[handle]
+                del case.handles[handle], case.rests[handle]
+                case.bases.pop(handle, None)
             elif (NODE, node) in graph:
                 lines = attributes(graph, node, changes.names)
                 case.reply(f"ok node {handle} {node} yes {len(neighbours(graph, node))}", *lines)
@@ -567,7 +612,7 @@ def ask_plans(rng, history, case):
     for _ in range(rng.choice([0, 0, 1, 2])):
         time = rng.randrange(history.events[0][0], history.events[-1][0] + 1)
         columns = rng.choice(["s", "sn", "se", "sne"])
-        graph, target = Graph(history, columns), point(history, time)
+        graph, target = case.graph(history, columns), point(history, time)
         lines, weight, steps = graph.plan(target)
         case.script.append(f"plan {time} {columns}")
         case.reply(f"ok plan {weight} {steps}", *lines)
@@ -601,6 +646,7 @@ def check(program, index, seed):
         history.add(events, names)
         case.script += [f"{word} {count}"] + lines
         case.reply(f"ok {word} {count} {len(history.events)} {events[-1][0]}")
+        hold_nodes(rng, history, case)
         ask_plans(rng, history, case)
         ask_graphs(rng, history, changes, case)
         ask_handles(rng, history, changes, case)
@@ -665,8 +711,17 @@ def check_damage(program, index, seed):
         return
     told = f"refused 15 damaged {damaged} {'sne'[column]}"
     for _ in range(rng.randrange(1, 5)):
-        columns = rng.choice(["s", "sn", "se", "sne"])
-        graph = Graph(history, columns)
+        columns, leaves = rng.choice(["s", "sn", "se", "sne"]), len(history.events) // history.size
+        if leaves and rng.random() < 0.3:
+            node, graph = f"leaf {rng.randrange(1, leaves + 1)}", Graph(history, columns, memory=False)
+            case.script.append(f"materialise {node} {columns}")
+            if damaged in graph.entered([node]) and "sne"[column] in columns:
+                case.reply(told)
+            else:
+                case.reply(f"ok materialise {case.next} {graph.costs[node][0]}")
+                case.bases[case.next] = node, columns
+                case.give([set()], [None])
+        graph = case.graph(history, columns)
         first, last = history.events[0][0], history.events[-1][0]
         times = [rng.randrange(first, last + 1) for _ in range(rng.choice([1, 2, 3]))]
         targets = [point(history, time) for time in times]
@@ -677,7 +732,7 @@ def check_damage(program, index, seed):
         handle, singles = case.next, [graph.costs[target][0] for target in targets]
         listed = [f"handle {handle + i} {time} {single}" for i, (time, single) in enumerate(zip(times, singles))]
         case.reply(f"ok several {graph.tree_weight(targets)} {sum(singles)}", *listed)
-        case.give(set() for _ in times)
+        case.give([set() for _ in times], [None for _ in times])
     case.script += [f"append {len(lines)}"] + lines
     if damaged in met:
         case.reply(told)
