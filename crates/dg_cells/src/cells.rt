@@ -58,7 +58,7 @@ impl Cells {
     }
 
     /// A cell for each of the elements, which rise, in their order. The current graph has them all, or no
-    /// graph has any. An `Err` says that memory ran out, or that the elements are more than 2^32 - 1.
+    /// graph has any. An `Err` says that memory ran out, or that there are more than 2^32 - 1 elements.
     pub fn from_rising(alloc: Global, items: &[Element], current: bool) -> Result<Cells, AllocError>
         requires { IsSet items.now }
         ensures { IfOk result (λ cells. cells ≡ new_rows current items.now) }

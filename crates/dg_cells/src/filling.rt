@@ -34,8 +34,8 @@ fn numbers_below(alloc: Global, count: u32) -> Result<Vec<u32>, AllocError>
 }
 
 /// A cell for each of the elements, which rise, and the order of their numbers. The current graph has
-/// them all or none of them, and no slot has any. An `Err` says that memory ran out, or that the elements
-/// are more than all numbers of 32 bits.
+/// them all or none of them, and no slot has any. An `Err` says that memory ran out, or that there are more
+/// than 2^32 - 1 elements.
 pub(crate) fn fill(
     alloc: Global,
     items: &[Element],
