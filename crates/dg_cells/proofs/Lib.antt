@@ -1,6 +1,7 @@
 pub mod Bits
 pub mod Changed
 pub mod Exits
+pub mod Filled
 pub mod Growing
 pub mod Listed
 pub mod Merged

@@ -109,7 +109,7 @@ numbers_before_all ps = ap (λ l. length (strung l)) (take_all (length ps) ps (o
 
 -- what the search over the pieces and then in a piece has found
 module _ (rows : List (Option Row)) (ps : List (List ℕ)) (x : Element) (p i : ℕ) (ordered : IsOrder rows (strung ps)) (pieces : All IsPiece ps) (place : IsPlace ps p i)
-    (low_piece : 0 < p → is_piece_before rows ps x (p - 1) ≡ true) (low_in : 0 < i → is_index_before rows (nth_piece ps p) x (i - 1) ≡ true) (high_in : p < length ps → is_index_before rows (nth_piece ps p) x i ≡ false) where
+    (low_piece : i ≡ 0 → 0 < p → is_piece_before rows ps x (p - 1) ≡ true) (low_in : 0 < i → is_index_before rows (nth_piece ps p) x (i - 1) ≡ true) (high_in : p < length ps → is_index_before rows (nth_piece ps p) x i ≡ false) where
   flat : ℕ
   flat = numbers_before ps p + i
 
@@ -156,7 +156,7 @@ module _ (rows : List (Option Row)) (ps : List (List ℕ)) (x : Element) (p i : 
               let back : p - 1 + 1 ≡ p = omega arith in
               let same = ap (numbers_before ps) back in
               let is : numbers_before ps (p - 1) + (length (nth_piece ps (p - 1)) - 1) ≡ numbers_before ps p + i - 1 = omega arith in
-              subst (λ (k : ℕ). is_index_before rows (strung ps) x k ≡ true) is (in_whole (p - 1) (length (nth_piece ps (p - 1)) - 1) true inside (omega arith) (low_piece later))
+              subst (λ (k : ℕ). is_index_before rows (strung ps) x k ≡ true) is (in_whole (p - 1) (length (nth_piece ps (p - 1)) - 1) true inside (omega arith) (low_piece (omega arith) later))
           by (inr none) = let zero_before = first (omega arith) in absurd (omega arith)
 
   high_all : numbers_before ps p + i < length (strung ps) → is_index_before rows (strung ps) x (numbers_before ps p + i) ≡ false

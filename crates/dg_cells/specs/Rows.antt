@@ -1,8 +1,8 @@
 -- Cells, and the bits of a cell.
-use Rattle.std.specs.Prelude.{◌≡◌, ℕ, ◌+◌, ◌*◌, ◌/◌, ◌%◌, ◌≤◌, ◌==◌, Bool, true, false, ◌&&◌, not, cond, if◌then◌else◌, List, Option, Some, None, slice_index_or, slice_set}
+use Rattle.std.specs.Prelude.{◌≡◌, ℕ, ◌+◌, ◌*◌, ◌/◌, ◌%◌, ◌≤◌, ◌==◌, Bool, true, false, ◌&&◌, not, cond, if◌then◌else◌, List, [], ◌∷◌, map, Option, Some, None, slice_index_or, slice_set}
 use Rattle.std.specs.Int.{bit_at}
 use Rattle.dg_graph.specs.declared.element.Element.{Element}
-use Rattle.dg_graph.specs.Elements.{same, has}
+use Rattle.dg_graph.specs.Elements.{same, has, bit}
 use Rattle.dg_cells.specs.declared.row.Row.{Row}
 
 -- the cell has the bit
@@ -17,11 +17,13 @@ is_current r = has_bit r 0
 abbrev pub pair : ℕ → Row → Bool × Bool
 pair s r = (has_bit r (2 * s), has_bit r (2 * s + 1))
 
+-- the current graph has the element or not, as is said, and all slots are as they were
 pub record SetsCurrent (on : Bool) (old new : Row) : Type 0 where
   pub element : new.element ≡ old.element
   pub current : is_current new ≡ on
   pub pairs : (u : ℕ) → 1 ≤ u → pair u new ≡ pair u old
 
+-- the slot has this pair, and all else is as it was
 pub record SetsPair (s : ℕ) (p : Bool × Bool) (old new : Row) : Type 0 where
   pub element : new.element ≡ old.element
   pub current : is_current new ≡ is_current old
@@ -31,6 +33,7 @@ pub record SetsPair (s : ℕ) (p : Bool × Bool) (old new : Row) : Type 0 where
 abbrev pub word_bit : List ℕ → ℕ → Bool
 word_bit words b = bit_at (slice_index_or words (b / 64) 0) (b % 64) == 1
 
+-- the cell has these bits
 pub record SetsBits (words : List ℕ) (old new : Row) : Type 0 where
   pub element : new.element ≡ old.element
   pub bits : new.bits ≡ words
@@ -102,3 +105,11 @@ AllHave rows items = (x : Element) → has items x ≡ true → HasCell rows x
 -- the elements of the new cells are among these
 abbrev pub AreAmong : List (Option Row) → List (Option Row) → List Element → Type 0
 AreAmong old new items = (n : ℕ) (r : Row) → cell_at old n ≡ None → cell_at new n ≡ Some r → has items r.element ≡ true
+
+-- a cell of the element that the current graph has, or no graph
+abbrev pub new_row : Bool → Element → Row
+new_row current x = record { element = x; bits = bit current ∷ 0 ∷ 0 ∷ 0 ∷ [] }
+
+-- a cell for each of the elements, in their order
+abbrev pub new_rows : Bool → List Element → List (Option Row)
+new_rows current items = map (λ x. Some (new_row current x)) items

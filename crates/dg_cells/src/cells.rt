@@ -1,7 +1,7 @@
 //! The cells of the pool.
 ghost use Rattle.std.specs.Prelude.{◌≡◌, ℕ, ◌<◌, ◌≤◌, ◌==◌, Bool, true, false, List, Option, Some, None, [], ◌∷◌, ◌++◌, length, IfSome, IfNone, IsSome, IfOk, OnErr, OnOk, slice_set};
 ghost use Rattle.dg_cells.specs.declared.row.Row.{Row};
-ghost use Rattle.dg_cells.specs.Rows.{cell_at, is_current, pair, Writes, SetsCurrent, SetsPair, SetsBits, ClearsBits, Holds, Lacks, AreApart, Grows, HasCell, AllHave, AreAmong};
+ghost use Rattle.dg_cells.specs.Rows.{cell_at, is_current, pair, Writes, SetsCurrent, SetsPair, SetsBits, ClearsBits, Holds, Lacks, AreApart, Grows, HasCell, AllHave, AreAmong, new_rows};
 ghost use Rattle.std.specs.Prelude.{◌+◌, min, slice_get};
 ghost use Rattle.dg_graph.specs.Elements.{IsSet};
 ghost use Rattle.dg_cells.specs.Order.{IsLower};
@@ -9,6 +9,7 @@ ghost use Rattle.dg_cells.specs.Cursors.{ordered, ordered_elements, cursor_place
 ghost use Rattle.std.specs.Option.{option_map};
 
 use crate::cursors::{self, Cursor};
+use crate::filling::fill;
 use crate::listing::{add, add_each, number_at, unlist};
 use crate::merging::merge;
 use crate::pieces::Pieces;
@@ -56,6 +57,20 @@ impl Cells {
         }
     }
 
+    /// A cell for each of the elements, which rise, in their order. The current graph has them all, or no
+    /// graph has any. An `Err` says that memory ran out, or that there are more than 2^32 - 1 elements.
+    pub fn from_rising(alloc: Global, items: &[Element], current: bool) -> Result<Cells, AllocError>
+        requires { IsSet items.now }
+        ensures { IfOk result (λ cells. cells ≡ new_rows current items.now) }
+    {
+        let (rows, order) = fill(alloc, items, current)?;
+        Ok(Cells {
+            rows,
+            order,
+            free: Vec::new(alloc),
+        })
+    }
+
     /// No element has two cells. Does nothing.
     pub fn facts(&self)
         ensures { AreApart self.now }
@@ -93,6 +108,7 @@ impl Cells {
         }
     }
 
+    /// Writes whether the current graph has the element of an occupied cell.
     pub fn set_current(&mut self, n: usize, on: bool)
         requires { IsSome (cell_at self.old n) }
         ensures { Writes self.old self.new n (SetsCurrent on) }
@@ -102,6 +118,7 @@ impl Cells {
         }
     }
 
+    /// Writes the two bits of a slot in an occupied cell.
     pub fn set_pair(&mut self, n: usize, slot: u8, explicit: bool, own: bool)
         requires there { IsSome (cell_at self.old n) }
         requires low { 1 ≤ slot }

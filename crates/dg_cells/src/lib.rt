@@ -3,6 +3,7 @@
 
 mod cells;
 mod cursors;
+mod filling;
 mod listing;
 mod merging;
 mod pieces;

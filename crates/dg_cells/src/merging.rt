@@ -87,6 +87,8 @@ fn merge_numbers(
             let number = cell_for(rows, free, taken, x)?;
             out.push(number)?;
             i = near;
+        } else {
+            near += 1;
         }
     }
     out.extend_from_slice(&order[i..])?;

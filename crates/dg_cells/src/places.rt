@@ -1,5 +1,5 @@
 //! Where an element stands in the order of the cells, or belongs.
-ghost use Rattle.std.specs.Prelude.{◌≡◌, ℕ, ◌+◌, ◌-◌, ◌<◌, ◌≤◌, true, false, Some, IsSome, length, slice_index_or};
+ghost use Rattle.std.specs.Prelude.{◌≡◌, ℕ, ◌+◌, ◌-◌, ◌<◌, ◌≤◌, true, false, Some, IsSome, IfSome, length, slice_index_or};
 ghost use Rattle.dg_cells.specs.Rows.{cell_at, Holds, HasCell};
 ghost use Rattle.dg_cells.specs.Pieces.{strung, nth_piece, numbers_before, IsPlace};
 ghost use Rattle.dg_cells.specs.Order.{cell_element, elements_in, AreCells, IsOrder, IsLower, is_cell_before, is_index_before, is_piece_before};
@@ -72,7 +72,7 @@ fn is_before(rows: &[Option<Row>], n: usize, x: &Element) -> bool
     compare(&element(rows, n), x).is_lt()
 }
 
-// A place to look at: a step from the low end, or half way.
+// A place to look at: so many steps from the low end, or half way.
 fn probe(low: usize, high: usize, step: usize) -> usize
     requires { low < high }
     ensures on { low ≤ result }
@@ -82,9 +82,15 @@ fn probe(low: usize, high: usize, step: usize) -> usize
     if step < half { low + step } else { low + half }
 }
 
-// The first step of a search: none but halves where nothing is known to be before the element.
+// The first step of a search: to the low end itself, where something is known to be before the element, and
+// half way otherwise.
 fn first_step(low: usize) -> usize {
-    if low == 0 { usize::MAX } else { 1 }
+    if low == 0 { usize::MAX } else { 0 }
+}
+
+// The step behind one that came to nothing.
+fn next_step(step: usize) -> usize {
+    step.saturating_mul(2).saturating_add(1)
 }
 
 // The place from which to look: the given one, if it is not too far on.
@@ -113,7 +119,7 @@ pub(crate) fn seek_within(rows: &[Option<Row>], order: &[u32], near: usize, x: &
     while low < high {
         let at = probe(low, high, step);
         if is_before(rows, order[at] as usize, x) {
-            step = step.saturating_mul(2);
+            step = next_step(step);
             low = at + 1;
         } else {
             high = at;
@@ -158,13 +164,37 @@ fn seek_piece(rows: &[Option<Row>], pieces: &Pieces, near: usize, x: &Element) -
     while low < high {
         let at = probe(low, high, step);
         if is_piece_before(rows, pieces, at, x) {
-            step = step.saturating_mul(2);
+            step = next_step(step);
             low = at + 1;
         } else {
             high = at;
         }
     }
     low
+}
+
+// The index in the piece of `near` where the element stands or belongs, if it is behind the first number
+// of the piece and not behind the last.
+fn seek_beside(rows: &[Option<Row>], pieces: &Pieces, near: Place, x: &Element) -> Option<usize>
+    requires { AreCells rows.now (strung pieces.now) }
+    ensures piece { IsSome result → near.piece < length pieces.now }
+    ensures within { IfSome result (λ i. (0 < i) × (i < length (nth_piece pieces.now near.piece))) }
+    ensures low { IfSome result (λ i. is_index_before rows.now (nth_piece pieces.now near.piece) x.now (i - 1) ≡ true) }
+    ensures high { IfSome result (λ i. is_index_before rows.now (nth_piece pieces.now near.piece) x.now i ≡ false) }
+{
+    if near.index == 0 || near.piece >= pieces.len() {
+        return None;
+    }
+    if is_piece_before(rows, pieces, near.piece, x) {
+        return None;
+    }
+    let piece = pieces.piece(near.piece);
+    let index = seek_within(rows, piece, near.index, x);
+    if 0 < index && index < piece.len() {
+        Some(index)
+    } else {
+        None
+    }
 }
 
 // The index to look from in a piece.
@@ -180,6 +210,12 @@ pub(crate) fn seek(rows: &[Option<Row>], pieces: &Pieces, near: Place, x: &Eleme
     ensures lower { IsLower x.now (elements_in rows.now (strung pieces.now)) (numbers_before pieces.now result.piece + result.index) }
 {
     pieces.facts();
+    if let Some(index) = seek_beside(rows, pieces, near, x) {
+        return Place {
+            piece: near.piece,
+            index,
+        };
+    }
     let piece = seek_piece(rows, pieces, near.piece, x);
     if piece == pieces.len() {
         return Place { piece, index: 0 };

@@ -1,6 +1,6 @@
 //! A cell's element and its bits.
 ghost use Rattle.std.specs.Prelude.{◌≡◌, ℕ, ◌<◌, ◌≤◌, ◌==◌, Bool, true, false, cond};
-ghost use Rattle.dg_cells.specs.Rows.{has_bit, is_current, pair, SetsCurrent, SetsPair, SetsBits, ClearsBits, IsBare};
+ghost use Rattle.dg_cells.specs.Rows.{has_bit, is_current, pair, SetsCurrent, SetsPair, SetsBits, ClearsBits, IsBare, new_row};
 
 use dg_graph::Element;
 
@@ -11,12 +11,14 @@ pub struct Row {
     pub bits: [u64; 4],
 }
 
+// Whether the bit is set.
 fn has_bit(row: &Row, bit: u8) -> bool
     ensures { result ≡ has_bit row.now bit }
 {
     (row.bits[(bit / 64) as usize] >> (bit % 64)) & 1 == 1
 }
 
+// The row with the bit set or not.
 fn with_bit(row: Row, bit: u8, on: bool) -> Row
     ensures element { result.element ≡ row.element }
     ensures bits { (c : ℕ) → has_bit result c ≡ cond (c == bit) on (has_bit row c) }
@@ -49,12 +51,14 @@ pub fn pair(row: &Row, slot: u8) -> (bool, bool)
     (has_bit(row, 2 * slot), has_bit(row, 2 * slot + 1))
 }
 
+/// The row with or without the bit of the current graph.
 pub fn with_current(row: Row, on: bool) -> Row
     ensures { SetsCurrent on row result }
 {
     with_bit(row, 0, on)
 }
 
+/// The row with these two bits of the slot.
 pub fn with_pair(row: Row, slot: u8, explicit: bool, own: bool) -> Row
     requires low { 1 ≤ slot }
     requires high { slot ≤ 127 }
@@ -63,6 +67,7 @@ pub fn with_pair(row: Row, slot: u8, explicit: bool, own: bool) -> Row
     with_bit(with_bit(row, 2 * slot, explicit), 2 * slot + 1, own)
 }
 
+/// The row with these bits in place of its own.
 pub fn with_bits(row: Row, bits: [u64; 4]) -> Row
     ensures { SetsBits bits row result }
 {
@@ -95,5 +100,15 @@ pub fn bare(element: Element) -> Row
     Row {
         element,
         bits: [0; 4],
+    }
+}
+
+/// A cell that the current graph has, or no graph.
+pub fn new_row(element: Element, current: bool) -> Row
+    ensures { result ≡ new_row current element }
+{
+    Row {
+        element,
+        bits: [u64::from(current), 0, 0, 0],
     }
 }

@@ -15,3 +15,4 @@ pub mod MaskBits
 pub mod OrderedCells
 pub mod CellSearch
 pub mod EventCells
+pub mod WholeSet

@@ -1,5 +1,5 @@
 -- The sets that the cells give, by the cells in the order of their elements.
-use Rattle.std.proofs.Common.{arith, zero-add, ◌≡◌, ℕ, suc, zero, min, ◌+◌, Bool, true, false, cond, not, ◌||◌, ◌&&◌, IsTrue, List, [], ◌∷◌, Option, Some, None, IfSome, IfNone, length, map, drop, filter, refl, sym, ap, ◌∙◌, ◌⊎◌, inl, inr}
+use Rattle.std.proofs.Common.{arith, zero-add, ◌≡◌, ℕ, suc, zero, min, ◌+◌, ◌<◌, Bool, true, false, cond, not, ◌||◌, ◌&&◌, IsTrue, List, [], ◌∷◌, Option, Some, None, IfSome, IfNone, IsSome, length, map, drop, filter, refl, sym, ap, ◌∙◌, ◌⊎◌, inl, inr}
 use Rattle.std.specs.Prelude.{slice_get}
 use Rattle.std.specs.List.{list_any, count_by}
 use Rattle.std.proofs.lemmas.Bool.{true≢false, or_left, or_right, or_from}
@@ -179,6 +179,11 @@ passing_is rows apart rises all only test c = at (row_at rows c.cell)
     at : (o : Option Row) → not_before (picked test rows) (element_of o) ≡ map el (filter test (drop (place_of_row rows o) (ordered rows)))
     at None = sym (ap (λ l. map el (filter test l)) (drop_all (length (ordered rows)) (ordered rows) (omega arith)))
     at (Some r) = ap (filter (λ y. not (before y r.element))) (picked_in_order rows apart rises all only test) ∙ rest_by_place r.element test (ordered rows) rises
+
+-- a place where some row stands
+pub some_within : (rows : List Row) (k : ℕ) (o : Option Row) → slice_get rows k ≡ o → IsSome o → k < length rows
+some_within rows k None e i = cc
+some_within rows k (Some r) e i = slice_get_within rows k r e
 
 -- a cell more
 pub passing_step : (test : Row → Bool) (rows : List (Option Row)) (c d : Cursor) (r : Row) → slice_get (ordered rows) (cursor_place rows c) ≡ Some r → cursor_place rows d ≡ min (cursor_place rows c + 1) (length (ordered rows))

@@ -3,6 +3,7 @@ ghost use Rattle.std.specs.Prelude.{◌≡◌, ℕ, ◌+◌, ◌-◌, ◌≤◌,
 ghost use Rattle.dg_pool.specs.declared.slots.Base.TheVariants as bases;
 ghost use Rattle.dg_pool.specs.declared.slots.Slot.{Slot};
 ghost use Rattle.dg_pool.specs.Counts.{kind_count, one_more, one_less, no_elements, counts_at, counts_after, base_counts};
+ghost use Rattle.dg_query.specs.Queries.{counts_of};
 
 use crate::slots::Base;
 use dg_graph::{Columns, Element};
@@ -101,4 +102,22 @@ pub(crate) fn base_counts(counts: &[Counts; 128], base: Base) -> Counts
         Base::Now => counts[0],
         Base::Slot(b) => counts[b.0 as usize],
     }
+}
+
+/// How many of the elements there are of each kind.
+pub(crate) fn count_kinds(items: &[Element]) -> Counts
+    ensures { result ≡ counts_of items.now }
+{
+    let mut counts = NO_ELEMENTS;
+    for element in items {
+        counts = one_more(counts, element);
+    }
+    counts
+}
+
+/// The room for as many elements as are counted.
+pub(crate) fn room_for(counts: Counts) -> usize {
+    let structure = counts.nodes.saturating_add(counts.edges);
+    let attributes = counts.node_attrs.saturating_add(counts.edge_attrs);
+    structure.saturating_add(attributes) as usize
 }

@@ -4,8 +4,8 @@ ghost use Rattle.dg_graph.specs.Effect.{forwards, added_by};
 ghost use Rattle.dg_graph.specs.Replay.{replay_from};
 ghost use Rattle.dg_graph.specs.Composition.{applied};
 ghost use Rattle.dg_cells.specs.Rows.{AllHave, HasCell, Holds, Lacks, cell_at, pair, is_current, Writes};
-ghost use Rattle.dg_pool.specs.Graphs.{is_on_now, AreSlots, ListsOnNow, Pins, Keeps, HaveCells, picked, changed, all_changed};
-ghost use Rattle.dg_query.specs.Queries.{counts_of};
+ghost use Rattle.dg_pool.specs.Graphs.{is_on_now, ListsOnNow, Pins, HaveCells, picked, changed, all_changed};
+ghost use Rattle.dg_pool.specs.Current.{IsKnown, TakesTo};
 
 use crate::counts::with_change;
 use crate::search::find_from;
@@ -50,15 +50,11 @@ fn change(
     element: &Element,
     on: bool,
 ) -> Counts
-    requires slots { AreSlots slots.now }
-    requires listed { ListsOnNow slots.now on_now.now }
-    requires counted { counts ≡ counts_of (picked is_current cells.old) }
+    requires known { IsKnown slots.now on_now.now counts cells.old }
     requires found { IfSome found (Holds cells.old element.now) }
     requires lacks { IfNone found (Lacks cells.old element.now) }
     requires there { on ≡ true → HasCell cells.old element.now }
-    ensures kept { Keeps slots.now cells.old cells.new }
-    ensures now { picked is_current cells.new ≡ changed on element.now (picked is_current cells.old) }
-    ensures counted { result ≡ counts_of (picked is_current cells.new) }
+    ensures { TakesTo (changed on element.now (picked is_current cells.old)) slots.now cells.old cells.new result }
 {
     cells.facts();
     let Some(n) = found else {
@@ -85,13 +81,9 @@ fn pass(
     counts: Counts,
     event: &Event,
 ) -> Counts
-    requires slots { AreSlots slots.now }
-    requires listed { ListsOnNow slots.now on_now.now }
-    requires counted { counts ≡ counts_of (picked is_current cells.old) }
+    requires known { IsKnown slots.now on_now.now counts cells.old }
     requires there { IfSome (added_by event.now.body) (HasCell cells.old) }
-    ensures kept { Keeps slots.now cells.old cells.new }
-    ensures now { picked is_current cells.new ≡ forwards (picked is_current cells.old) event.now }
-    ensures counted { result ≡ counts_of (picked is_current cells.new) }
+    ensures { TakesTo (forwards (picked is_current cells.old) event.now) slots.now cells.old cells.new result }
 {
     let (removed, added) = effect(event);
     let mut passed = counts;
@@ -114,13 +106,9 @@ pub(crate) fn pass_all(
     counts: Counts,
     events: &[Event],
 ) -> Counts
-    requires slots { AreSlots slots.now }
-    requires listed { ListsOnNow slots.now on_now.now }
-    requires counted { counts ≡ counts_of (picked is_current cells.old) }
+    requires known { IsKnown slots.now on_now.now counts cells.old }
     requires there { HaveCells cells.old events.now }
-    ensures kept { Keeps slots.now cells.old cells.new }
-    ensures now { picked is_current cells.new ≡ replay_from (picked is_current cells.old) events.now }
-    ensures counted { result ≡ counts_of (picked is_current cells.new) }
+    ensures { TakesTo (replay_from (picked is_current cells.old) events.now) slots.now cells.old cells.new result }
 {
     let mut passed = counts;
     for event in events {
@@ -139,13 +127,9 @@ pub(crate) fn change_all(
     items: &[Element],
     on: bool,
 ) -> Counts
-    requires slots { AreSlots slots.now }
-    requires listed { ListsOnNow slots.now on_now.now }
-    requires counted { counts ≡ counts_of (picked is_current cells.old) }
+    requires known { IsKnown slots.now on_now.now counts cells.old }
     requires there { on ≡ true → AllHave cells.old items.now }
-    ensures kept { Keeps slots.now cells.old cells.new }
-    ensures now { picked is_current cells.new ≡ all_changed on items.now (picked is_current cells.old) }
-    ensures counted { result ≡ counts_of (picked is_current cells.new) }
+    ensures { TakesTo (all_changed on items.now (picked is_current cells.old)) slots.now cells.old cells.new result }
 {
     let mut passed = counts;
     let mut near = cells.first();
@@ -165,13 +149,9 @@ pub(crate) fn pass_delta(
     counts: Counts,
     delta: &Delta,
 ) -> Counts
-    requires slots { AreSlots slots.now }
-    requires listed { ListsOnNow slots.now on_now.now }
-    requires counted { counts ≡ counts_of (picked is_current cells.old) }
+    requires known { IsKnown slots.now on_now.now counts cells.old }
     requires there { AllHave cells.old delta.now.plus }
-    ensures kept { Keeps slots.now cells.old cells.new }
-    ensures now { picked is_current cells.new ≡ applied delta.now (picked is_current cells.old) }
-    ensures counted { result ≡ counts_of (picked is_current cells.new) }
+    ensures { TakesTo (applied delta.now (picked is_current cells.old)) slots.now cells.old cells.new result }
 {
     let left = change_all(cells, slots, on_now, counts, delta.minus().items(), false);
     change_all(cells, slots, on_now, left, delta.plus().items(), true)

@@ -1,10 +1,11 @@
-//! Which graphs have the element of a cell, and walks over the cells of a graph.
-ghost use Rattle.std.specs.Prelude.{◌≡◌, ◌≤◌, [], ◌∷◌, IfSome, IfNone};
+//! Which graphs have the element of a cell, and walks over the cells of a graph in the order of elements.
+ghost use Rattle.std.specs.Prelude.{◌≡◌, ◌≤◌, [], ◌∷◌, IfSome, IfNone, IfOk};
 ghost use Rattle.dg_graph.specs.declared.element.Columns.{Columns};
 ghost use Rattle.dg_pool.specs.declared.slots.Base.TheVariants as bases;
 ghost use Rattle.dg_pool.specs.declared.slots.Slot.{Slot};
 ghost use Rattle.dg_pool.specs.declared.slots.SlotState.TheVariants as states;
-ghost use Rattle.dg_pool.specs.Graphs.{in_base};
+ghost use Rattle.dg_pool.specs.Graphs.{in_base, picked};
+ghost use Rattle.dg_cells.specs.Rows.{is_current};
 ghost use Rattle.dg_pool.specs.Sweeps.{in_state};
 ghost use Rattle.dg_pool.specs.Listing.{passing_from};
 
@@ -12,6 +13,7 @@ use crate::slots::{Base, SlotState};
 use dg_cells::{Cells, Cursor, Row, is_current, pair};
 use dg_event::{asks, column_of};
 use dg_graph::Element;
+use std::alloc::{AllocError, Global};
 
 /// Whether the base has the cell's element, by the bits alone.
 pub(crate) fn in_base(row: &Row, base: Base) -> bool
@@ -69,4 +71,28 @@ pub(crate) fn next_member(
         cursor = behind;
     }
     None
+}
+
+/// The elements of the current graph, in their order. There is room for so many of them before the walk.
+/// An `Err` says that memory ran out.
+pub(crate) fn list_now(
+    alloc: Global,
+    cells: &Cells,
+    room: usize,
+) -> Result<Vec<Element>, AllocError>
+    ensures { IfOk result (λ list. list.items ≡ picked is_current cells.now) }
+{
+    cells.facts();
+    cells.order_facts();
+    let mut list = Vec::with_capacity(alloc, room)?;
+    let mut cursor = cells.first();
+    while let Some(n) = cells.at(cursor) {
+        if let Some(row) = cells.row(n) {
+            if is_current(&row) {
+                list.push(row.element)?;
+            }
+        }
+        cursor = cells.after(cursor);
+    }
+    Ok(list)
 }

@@ -12,11 +12,11 @@ ghost use Rattle.dg_pool.specs.Slots.{IsLive, live_count, IsLeastOn, NoneOn, IsL
 ghost use Rattle.dg_graph.specs.Elements.{IsSet, shown, has};
 ghost use Rattle.dg_graph.specs.Composition.{applied};
 
-use crate::counts::{base_counts, counts_after, no_counts};
+use crate::counts::{base_counts, count_kinds, counts_after, no_counts, room_for};
 use crate::current::{change_all, pass_all, pass_delta};
 use crate::lengths::{count_all, count_needed};
 use crate::marks::mark;
-use crate::members::{has_member, next_member};
+use crate::members::{has_member, list_now, next_member};
 use crate::room::{add_by_all, make_all, make_rising};
 use crate::slots::{
     Base, Slot, SlotState, all_free, begin, count_live, end, least_free, least_on, list_on_now,
@@ -102,6 +102,27 @@ impl Pool {
             counts: no_counts(),
             place: 0,
         }
+    }
+
+    /// The pool whose current graph is the set, and which has no live slot. An `Err` says that memory ran
+    /// out, or that the set has more than 2^32 - 1 elements.
+    pub fn from_set(alloc: Global, set: &Set) -> Result<Pool, AllocError>
+        ensures now { IfOk result (λ p. graph_now p ≡ set.now) }
+        ensures slots { IfOk result (λ p. (s : ℕ) → slot_graph p s ≡ None) }
+        ensures free { IfOk result (λ p. (s : ℕ) → slot_at p.slots s ≡ state.Free) }
+        ensures cells { IfOk result (λ p. cells_of p ≡ set.now) }
+        ensures place { IfOk result (λ p. p.place ≡ 0) }
+    {
+        let cells = Cells::from_rising(alloc, set.items(), true)?;
+        cells.facts();
+        let mut counts = no_counts();
+        counts[0] = count_kinds(set.items());
+        Ok(Pool {
+            cells,
+            slots: all_free(),
+            counts,
+            place: 0,
+        })
     }
 
     /// Takes the current graph past the events. No slot's members change. Takes no memory.
@@ -358,6 +379,15 @@ impl Pool {
         ensures { result ≡ counts_of (graph_now self.now) }
     {
         self.counts[0]
+    }
+
+    /// The current graph. An `Err` says that memory ran out.
+    pub fn now_set(&self, alloc: Global) -> Result<Set, AllocError>
+        ensures { IfOk result (λ set. set ≡ graph_now self.now) }
+    {
+        let room = room_for(self.counts[0]);
+        let items = list_now(alloc, &self.cells, room)?;
+        Ok(Set::from_rising(items))
     }
 
     /// How many slots are live.

@@ -71,14 +71,27 @@ fn adding(alloc: Global, items: &[Element]) -> Result<Delta, AllocError> {
 
 // The current graph has nodes 1 and 2, and node 1 a value.
 fn pool(alloc: Global) -> Result<Pool, AllocError> {
-    let mut set = Set::new(alloc);
-    set.insert(A)?;
-    set.insert(B)?;
-    set.insert(VALUE)?;
+    let set = set(alloc, &[A, B, VALUE])?;
     let mut pool = Pool::new(alloc);
     pool.make_cells(set.items())?;
     pool.set_now(&set);
     Ok(pool)
+}
+
+#[test]
+fn pool_of_a_set_has_it_as_its_current_graph(rt: HostRuntime) -> Result<(), Fail> {
+    let alloc = rt.alloc();
+    let pool = Pool::from_set(alloc, &set(alloc, &[EDGE, VALUE, C, A])?)?;
+    assert_eq!(rt; (pool.cell_len(), pool.live()), (4, 0));
+    let counts = Counts {
+        nodes: 2,
+        edges: 1,
+        node_attrs: 1,
+        edge_attrs: 0,
+    };
+    assert_eq!(rt; pool.counts_now(), counts);
+    assert!(rt; pool.member_now(&A) && pool.member_now(&EDGE) && !pool.member_now(&B));
+    Ok(())
 }
 
 #[test]
@@ -262,6 +275,19 @@ fn walk_lists_the_members_of_a_slot_in_order(rt: HostRuntime) -> Result<(), Fail
     assert_eq!(rt; all.as_slice(), [A, C].as_slice());
     let rest = walk(alloc, &pool, slot, pool.seek(&B))?;
     assert_eq!(rt; rest.as_slice(), [C].as_slice());
+    Ok(())
+}
+
+#[test]
+fn current_graph_is_listed_in_order(rt: HostRuntime) -> Result<(), Fail> {
+    let alloc = rt.alloc();
+    let mut pool = pool(alloc)?;
+    pool.make_cells(&[C])?;
+    let net = delta(alloc, &[B], &[EDGE])?;
+    pool.make_cells(net.plus().items())?;
+    pool.pass(&net);
+    let now = pool.now_set(alloc)?;
+    assert_eq!(rt; now.items(), [A, EDGE, VALUE].as_slice());
     Ok(())
 }
 

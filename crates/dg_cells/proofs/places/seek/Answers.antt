@@ -18,7 +18,7 @@ returns-then-piece-len-clause-lower c =
     let end : p ≡ length c.args.pieces.now = omega arith in
     place_lower c.args.rows.now c.args.pieces.now c.args.x.now p 0 c.requires c.facts.ensures
     (record { within = c.seek_piece-piece.ensures.within; inside = λ h. absurd (omega arith); end = λ _. refl })
-    c.seek_piece-piece.ensures.low (λ h. absurd (omega arith)) (λ h. absurd (omega arith))
+    (λ _. c.seek_piece-piece.ensures.low) (λ h. absurd (omega arith)) (λ h. absurd (omega arith))
 
 pub seek_within-index-requires : goal.seek_within-index-requires
 seek_within-index-requires c =
@@ -47,5 +47,14 @@ returns-clause-lower c =
     let index : i < length (nth_piece ps p) = inside_by (is_index_before rows (nth_piece ps p) x) i (length (nth_piece ps p)) most low some last (cases_lt i (length (nth_piece ps p))) in
     place_lower rows ps x p i c.requires c.facts.ensures
     (record { within = within; inside = λ _. index; end = λ e. absurd (omega arith) })
-    c.seek_piece-piece.ensures.low low
+    (λ _. c.seek_piece-piece.ensures.low) low
     (λ _. ap (λ (l : List ℕ). is_index_before rows l x i) (sym piece) ∙ c.seek_within-index.ensures.high (omega arith))
+
+pub returns-in-Some-clause-lower : goal.returns-in-Some-clause-lower
+returns-in-Some-clause-lower c =
+    let i = c.in-Some.index in
+    let within = c.in-Some.ensures.within in
+    let inside = c.in-Some.ensures.piece refl in
+    place_lower c.args.rows.now c.args.pieces.now c.args.x.now c.args.near.piece i c.requires c.facts.ensures
+    (record { within = omega arith; inside = λ _. within.1; end = λ e. absurd (omega arith) })
+    (λ none. absurd (let some = within.0 in omega arith)) (λ _. c.in-Some.ensures.low) (λ _. c.in-Some.ensures.high)

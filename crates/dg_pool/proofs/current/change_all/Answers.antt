@@ -15,7 +15,7 @@ pub loop-element-init : goal.loop-element-init
 loop-element-init c = record {
   kept = keeps_itself c.args.slots.now c.args.cells.now;
   now = changed_none c.args.on (picked is_current c.args.cells.now) (picked_set is_current c.args.cells.now);
-  counted = c.requires.counted;
+  counted = c.requires.known.counted;
 }
 
 pub change-passed-requires-clause-there : goal.change-passed-requires-clause-there
@@ -38,7 +38,10 @@ loop-element-preserved c =
           ∙ changed_more c.args.on (picked is_current old) items i (kind.Node 0) (picked_set is_current old) c.loop-element-test.true;
     }
 
-pub returns-clause-now : goal.returns-clause-now
-returns-clause-now c =
-    c.loop-element.invariant.now
-    ∙ ap (λ (l : List Element). all_changed c.args.on l (picked is_current c.args.cells.now)) (take_all c.loop-element.element-index c.args.items.now c.loop-element-test.false)
+pub returns : goal.returns
+returns c = record {
+  now = c.loop-element.invariant.now
+      ∙ ap (λ (l : List Element). all_changed c.args.on l (picked is_current c.args.cells.now)) (take_all c.loop-element.element-index c.args.items.now c.loop-element-test.false);
+  counted = c.loop-element.invariant.counted;
+  kept = c.loop-element.invariant.kept;
+}
