@@ -10,7 +10,7 @@ use Rattle.dg_graph.specs.Words.{words}
 use Rattle.dg_history.specs.ChangeGrammar.{id_of, time_of}
 use Rattle.dg_machine.specs.declared.command.Command.{Command}
 use Rattle.dg_machine.specs.declared.command.Command.TheVariants as command
-use Rattle.dg_machine.specs.CommandGrammar.{Begins, IsColumn, columns_of, command_verbs, count_from_0, count_of, function_of, handle_of, n32_of, sweep_of}
+use Rattle.dg_machine.specs.CommandGrammar.{Begins, IsColumn, columns_of, command_verbs, count_from_0, count_of, function_of, handle_of, held_node_verbs, n32_of, sweep_of}
 use Rattle.dg_line.specs.Prefixes.{IsLongestPrefix, IsPrefixOfOne}
 use Rattle.dg_line.specs.Symbols.{Terminal, One_of, Number, IsLineOfOne}
 use Rattle.dg_line.proofs.Numbers.{number_within}
@@ -45,6 +45,13 @@ function = more_texts _ _ _ _ (more_texts _ _ _ _ (more_texts _ _ _ _ no_text))
 pub columns : ReadsWord columns_of (One_of (codes "s" ∷ codes "sn" ∷ codes "se" ∷ codes "sne" ∷ []))
 columns = more_texts _ _ _ _ (more_texts _ _ _ _ (more_texts _ _ _ _ (more_texts _ _ _ _ no_text)))
 
+-- what `materialise` takes for each kind of node, in the order of the table
+abbrev pub each_held : AllByRecursion (λ (v : Verb Command). Rows v.read) held_node_verbs
+each_held = row (two_row n32 columns _) ▸ row (three_row n32 n32 columns _) ▸ tt
+
+abbrev pub held_nodes : Rows (read_by held_node_verbs)
+held_nodes = table held_node_verbs each_held refl
+
 -- what each command takes, in the order of the table
 abbrev pub each_command : AllByRecursion (λ (v : Verb Command). Rows v.read) command_verbs
 each_command =
@@ -53,6 +60,7 @@ each_command =
     ▸ row (one_row count _)
     ▸ row (two_row time columns _)
     ▸ filled_row (several_row columns time)
+    ▸ held_nodes
     ▸ row (one_row handle _)
     ▸ row (one_row handle _)
     ▸ row (two_row handle id _)

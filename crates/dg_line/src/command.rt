@@ -1,23 +1,23 @@
 ghost use Rattle.std.specs.Prelude.{◌≡◌, ◌≤◌, ◌∷◌, IfErr, IfOk, IfSome, List, option_and_then, ℕ};
 ghost use Rattle.std.specs.Result.{result_ok};
-ghost use Rattle.dg_graph.specs.Verbs.{none_more, one, two, three};
+ghost use Rattle.dg_graph.specs.Verbs.{none_more, one, read_by, two, three};
 ghost use Rattle.dg_history.specs.ChangeGrammar.{id_of, time_of};
-ghost use Rattle.dg_machine.specs.CommandGrammar.{IsColumn, CountIsInRange, columns_of, command_of, count_from_0, count_of, function_of, handle_of, n32_of, several_of, several_with, sweep_of, times_of};
+ghost use Rattle.dg_machine.specs.CommandGrammar.{IsColumn, CountIsInRange, columns_of, command_of, count_from_0, count_of, function_of, handle_of, held_node_verbs, n32_of, several_of, several_with, sweep_of, times_of};
 
 use crate::grammar::{
     CELLS, COLUMNS, COUNT, COUNT_FROM_0, FUNCTION, HANDLE, ID, N32, Symbol, TIME, longest_prefix,
 };
 use crate::words::{Words, id, n32, number, time};
 use dg_graph::{Columns, Function};
-use dg_history::BATCH_LINES_MAX;
+use dg_history::{BATCH_LINES_MAX, NodeId};
 use dg_machine::{Command, FIRST_HANDLE, TIMES_MAX};
 use thiserror::Error;
 
 /// The word `several`, whose row has many symbols.
 const SEVERAL: Symbol = Symbol::OneOf(&[b"several"]);
 
-/// The commands as rows of symbols: one for each, and two for `clean`. One space parts two words. A command of
-/// fewer instants than `TIMES_MAX` is a prefix of one of so many.
+/// The commands as rows of symbols: one for each, and two for `materialise` and for `clean`. One space parts two
+/// words. A command of fewer instants than `TIMES_MAX` is a prefix of one of so many.
 const COMMANDS: &[&[Symbol]] = &[
     &[Symbol::OneOf(&[b"create"]), N32, N32, FUNCTION],
     &[Symbol::OneOf(&[b"load"]), COUNT],
@@ -27,6 +27,19 @@ const COMMANDS: &[&[Symbol]] = &[
         SEVERAL, COLUMNS, TIME, TIME, TIME, TIME, TIME, TIME, TIME, TIME, TIME, TIME, TIME, TIME,
         TIME, TIME, TIME, TIME, TIME, TIME, TIME, TIME, TIME, TIME, TIME, TIME, TIME, TIME, TIME,
         TIME, TIME, TIME, TIME, TIME,
+    ],
+    &[
+        Symbol::OneOf(&[b"materialise"]),
+        Symbol::OneOf(&[b"leaf"]),
+        N32,
+        COLUMNS,
+    ],
+    &[
+        Symbol::OneOf(&[b"materialise"]),
+        Symbol::OneOf(&[b"inner"]),
+        N32,
+        N32,
+        COLUMNS,
     ],
     &[Symbol::OneOf(&[b"list"]), HANDLE],
     &[Symbol::OneOf(&[b"counts"]), HANDLE],
@@ -86,6 +99,8 @@ fn command(line: &[u8]) -> Option<Command>
         at(words)
     } else if verb == b"several".as_slice() {
         several(words)
+    } else if verb == b"materialise".as_slice() {
+        materialise(words)
     } else if verb == b"list".as_slice() {
         list(words)
     } else if verb == b"counts".as_slice() {
@@ -184,6 +199,50 @@ fn several_from(cols: Columns, first: u64, mut words: Words) -> Option<Command>
         cols,
         times,
         count: count as u8,
+    })
+}
+
+// `materialise leaf N32 COLS` or `materialise inner N32 N32 COLS`, from the words after `materialise`.
+fn materialise(mut words: Words) -> Option<Command>
+    ensures command { result ≡ read_by held_node_verbs words.entry }
+    ensures range { IfSome result (λ c. CountIsInRange c) }
+{
+    let kind = words.next()?;
+    if kind == b"leaf".as_slice() {
+        leaf(words)
+    } else if kind == b"inner".as_slice() {
+        inner(words)
+    } else {
+        None
+    }
+}
+
+// `materialise` with a leaf, from the words after `leaf`: its number and the columns.
+fn leaf(mut words: Words) -> Option<Command>
+    ensures command { result ≡ two n32_of columns_of (λ number cols. Command.Materialise (NodeId.Leaf number) cols) words.entry }
+    ensures range { IfSome result (λ c. CountIsInRange c) }
+{
+    let number = n32(words.next()?)?;
+    let cols = columns(words.next()?)?;
+    words.end()?;
+    Some(Command::Materialise {
+        node: NodeId::Leaf(number),
+        cols,
+    })
+}
+
+// `materialise` with an interior node, from the words after `inner`: its height, its number and the columns.
+fn inner(mut words: Words) -> Option<Command>
+    ensures command { result ≡ three n32_of n32_of columns_of (λ height number cols. Command.Materialise (NodeId.Inner height number) cols) words.entry }
+    ensures range { IfSome result (λ c. CountIsInRange c) }
+{
+    let height = n32(words.next()?)?;
+    let number = n32(words.next()?)?;
+    let cols = columns(words.next()?)?;
+    words.end()?;
+    Some(Command::Materialise {
+        node: NodeId::Inner(height, number),
+        cols,
     })
 }
 

@@ -71,6 +71,9 @@ fn head_line(head: &Head) -> ReplyLine<'static>
         } => batch_line(b"append", events, total, last),
         Head::At { handle, weight } => numbers_line(b"at", u64::from(handle), weight),
         Head::Several { weight, sum } => numbers_line(b"several", weight, sum),
+        Head::Materialised { handle, weight } => {
+            numbers_line(b"materialise", u64::from(handle), weight)
+        }
         Head::List { handle, lines } => numbers_line(b"list", u64::from(handle), lines),
         Head::Counts { handle, counts } => counts_line(handle, counts),
         Head::NodeThere { handle, id, degree } => node_there_line(handle, id, degree),
@@ -254,7 +257,7 @@ fn refusal_line(refusal: Refusal) -> ReplyLine<'static>
     ensures len { result.len ≤ WORDS_MAX }
 {
     match refusal {
-        Refusal::Syntax(column) => refused_with(b"1", b"syntax", Word::Number(u64::from(column))),
+        Refusal::Syntax(column) => refused_with_number(b"1", b"syntax", column),
         Refusal::NoIndex => refused(b"2", b"no-index"),
         Refusal::IndexExists => refused(b"3", b"index-exists"),
         Refusal::Parameters => refused(b"4", b"parameters"),
@@ -270,24 +273,16 @@ fn refusal_line(refusal: Refusal) -> ReplyLine<'static>
             u64::from(number),
             u64::from(reason),
         ),
-        Refusal::OutOfRange(None) => refused_with(b"7", b"out-of-range", Word::Text(b"empty")),
-        Refusal::OutOfRange(Some((first, last))) => refused_with_both(
-            b"7",
-            b"out-of-range",
-            first,
-            last,
-        ),
-        Refusal::UnknownHandle(handle) => refused_with(
-            b"8",
-            b"unknown-handle",
-            Word::Number(u64::from(handle)),
-        ),
+        Refusal::OutOfRange(ends) => out_of_range_line(ends),
+        Refusal::UnknownHandle(handle) => refused_with_number(b"8", b"unknown-handle", handle),
         Refusal::PoolFull(live, asked) => refused_with_both(
             b"9",
             b"pool-full",
             u64::from(live),
             u64::from(asked),
         ),
+        Refusal::InUse(handle) => refused_with_number(b"10", b"in-use", handle),
+        Refusal::UnknownNode => refused(b"11", b"unknown-node"),
         Refusal::HistoryFull(held, asked) => {
             refused_with_both(b"12", b"history-full", held, asked)
         }
@@ -295,6 +290,7 @@ fn refusal_line(refusal: Refusal) -> ReplyLine<'static>
         Refusal::StoreRead => refused(b"14", b"store-read"),
         Refusal::Damaged(key, column) => damaged_line(key, column),
         Refusal::OutOfMemory => refused(b"16", b"out-of-memory"),
+        Refusal::NotAnOverlay(handle) => refused_with_number(b"17", b"not-an-overlay", handle),
         Refusal::LineLong => refused(b"18", b"line-long"),
         Refusal::HandlesSpent => refused(b"19", b"handles-spent"),
         Refusal::AlreadyLoaded => refused(b"20", b"already-loaded"),
@@ -321,6 +317,14 @@ fn refused_with(
     ReplyLine::of(&[REFUSED, Word::Text(number), Word::Text(name), kept])
 }
 
+// A refusal that keeps one number.
+fn refused_with_number(number: &'static [u8], name: &'static [u8], kept: u32) -> ReplyLine<'static>
+    ensures words { map word_bytes (take result.len result.words) ≡ codes "refused" ∷ number.now ∷ name.now ∷ decimal kept ∷ [] }
+    ensures len { result.len ≤ WORDS_MAX }
+{
+    refused_with(number, name, Word::Number(u64::from(kept)))
+}
+
 // A refusal that keeps two numbers.
 fn refused_with_both(
     number: &'static [u8],
@@ -338,6 +342,17 @@ fn refused_with_both(
         Word::Number(first),
         Word::Number(second),
     ])
+}
+
+// The refusal of an instant that is not in the history: the first and the last instant, where there are any.
+fn out_of_range_line(ends: Option<(u64, u64)>) -> ReplyLine<'static>
+    ensures words { map word_bytes (take result.len result.words) ≡ codes "refused" ∷ refusal_words (Refusal.OutOfRange ends) }
+    ensures len { result.len ≤ WORDS_MAX }
+{
+    match ends {
+        None => refused_with(b"7", b"out-of-range", Word::Text(b"empty")),
+        Some((first, last)) => refused_with_both(b"7", b"out-of-range", first, last),
+    }
 }
 
 // The refusal of a column of a record that is in no spelling.

@@ -4,7 +4,7 @@ use dg_names::{NAMES_MAX, Names};
 use std::test::Fail;
 
 // Lines of no command, and the column at which each leaves the grammar.
-const COLUMNS: [(&str, u32); 55] = [
+const COLUMNS: [(&str, u32); 68] = [
     ("", 1),
     ("frob", 1),
     ("c", 2),
@@ -30,6 +30,19 @@ const COLUMNS: [(&str, u32); 55] = [
         "several s 1 1 1 1 1 1 1 1 1 1 1 1 1 1 1 1 1 1 1 1 1 1 1 1 1 1 1 1 1 1 1 1 1",
         74,
     ),
+    ("m", 2),
+    ("materialise", 12),
+    ("materialised", 12),
+    ("materialise root 1 s", 13),
+    ("materialise lean 1 s", 16),
+    ("materialise leaf", 17),
+    ("materialise leaf x s", 18),
+    ("materialise leaf 4294967296 s", 27),
+    ("materialise leaf 1 1 s", 20),
+    ("materialise inner 1 s", 21),
+    ("materialise inner 01 1 s", 20),
+    ("materialise inner 1 4294967296 s", 30),
+    ("materialise inner 1 1 s ", 24),
     ("listen 1", 5),
     ("list 0", 6),
     ("counts", 7),
@@ -77,7 +90,7 @@ const ALL: [u64; TIMES_MAX] = [
 ];
 
 // Lines of commands.
-const COMMANDS: [(&str, Command); 23] = [
+const COMMANDS: [(&str, Command); 26] = [
     (
         "create 2 3 intersection",
         Command::Create {
@@ -145,6 +158,36 @@ const COMMANDS: [(&str, Command); 23] = [
             },
             times: ALL,
             count: 32,
+        },
+    ),
+    (
+        "materialise inner 1 1 s",
+        Command::Materialise {
+            node: NodeId::Inner(1, 1),
+            cols: Columns {
+                nodes_attr: false,
+                edges_attr: false,
+            },
+        },
+    ),
+    (
+        "materialise leaf 2 sne",
+        Command::Materialise {
+            node: NodeId::Leaf(2),
+            cols: Columns {
+                nodes_attr: true,
+                edges_attr: true,
+            },
+        },
+    ),
+    (
+        "materialise inner 0 4294967295 sn",
+        Command::Materialise {
+            node: NodeId::Inner(0, u32::MAX),
+            cols: Columns {
+                nodes_attr: true,
+                edges_attr: false,
+            },
         },
     ),
     ("list 4294967295", Command::List { handle: u32::MAX }),
@@ -509,7 +552,7 @@ fn a_line_that_is_no_change_gives_no_names(rt: HostRuntime) -> Result<(), Fail> 
 }
 
 // Heads of replies, and their lines.
-const HEADS: [(Head, &str); 42] = [
+const HEADS: [(Head, &str); 46] = [
     (Head::Created, "ok create"),
     (
         Head::Loaded {
@@ -540,6 +583,13 @@ const HEADS: [(Head, &str); 42] = [
             sum: 92,
         },
         "ok several 66 92",
+    ),
+    (
+        Head::Materialised {
+            handle: 4,
+            weight: 52,
+        },
+        "ok materialise 4 52",
     ),
     (
         Head::List {
@@ -664,6 +714,11 @@ const HEADS: [(Head, &str); 42] = [
         Head::Refused(Refusal::PoolFull(127, 1)),
         "refused 9 pool-full 127 1",
     ),
+    (Head::Refused(Refusal::InUse(5)), "refused 10 in-use 5"),
+    (
+        Head::Refused(Refusal::UnknownNode),
+        "refused 11 unknown-node",
+    ),
     (
         Head::Refused(Refusal::HistoryFull(3, 2)),
         "refused 12 history-full 3 2",
@@ -680,6 +735,10 @@ const HEADS: [(Head, &str); 42] = [
     (
         Head::Refused(Refusal::OutOfMemory),
         "refused 16 out-of-memory",
+    ),
+    (
+        Head::Refused(Refusal::NotAnOverlay(6)),
+        "refused 17 not-an-overlay 6",
     ),
     (Head::Refused(Refusal::LineLong), "refused 18 line-long"),
     (
