@@ -45,7 +45,7 @@ module _ (g : Ground) (low : 2 ≤ g.arity) (bases_in : All (λ (b : ℕ × Node
   in_memory : (x : NodeId) → Contains (cond g.memory (Now ∷ Recent ∷ []) []) x → Contains (nodes_of g) x
   in_memory x c = let d = Contains-append_left (cond g.memory (Now ∷ Recent ∷ []) []) (map (λ j. Leaf j) (numbers 1 g.leaves) ++ (map (λ i. List i) (numbers 0 g.leaves) ++ inner_nodes g)) x c in (suc d.0, (let h = d.1 in omega arith), d.2)
 
-  in_Leaf : (j : ℕ) → 1 ≤ j → j ≤ g.leaves → Contains (nodes_of g) (Leaf j)
+  pub in_Leaf : (j : ℕ) → 1 ≤ j → j ≤ g.leaves → Contains (nodes_of g) (Leaf j)
   in_Leaf j one within = later (Leaf j) (Contains-append_left (map (λ j. Leaf j) (numbers 1 g.leaves)) _ (Leaf j)
       (contains_mapped (λ j. Leaf j) (numbers 1 g.leaves) j (subst (Contains (numbers 1 g.leaves)) (let h : 1 + (j - 1) ≡ j = omega arith in h) (contains_number 1 g.leaves (j - 1) (omega arith)))))
 
@@ -57,7 +57,7 @@ module _ (g : Ground) (low : 2 ≤ g.arity) (bases_in : All (λ (b : ℕ × Node
   in_List i within = later (List i) (Contains-append_right (map (λ j. Leaf j) (numbers 1 g.leaves)) _ (List i) (Contains-append_left (map (λ i. List i) (numbers 0 g.leaves)) (inner_nodes g) (List i)
       (contains_mapped (λ i. List i) (numbers 0 g.leaves) i (subst (Contains (numbers 0 g.leaves)) (let h : 0 + i ≡ i = omega arith in h) (contains_number 0 g.leaves i within)))))
 
-  in_Inner : (h j : ℕ) → 1 ≤ h → 1 ≤ j → j * g.arity ^ h ≤ g.leaves → Contains (nodes_of g) (Inner h j)
+  pub in_Inner : (h j : ℕ) → 1 ≤ h → 1 ≤ j → j * g.arity ^ h ≤ g.leaves → Contains (nodes_of g) (Inner h j)
   in_Inner h j h_low j_low within =
       let positive : 0 < g.arity ^ h = one-le-pow h g.arity (omega arith) in
       let power : g.arity ^ h ≤ g.leaves = (let m : 1 * g.arity ^ h ≤ j * g.arity ^ h = mul-le-mul_right (g.arity ^ h) j_low in let o : 1 * g.arity ^ h ≡ g.arity ^ h = one-mul (g.arity ^ h) in omega arith) in

@@ -11,6 +11,7 @@ use Rattle.dg_graph.specs.declared.element.Column.TheVariants as column
 use Rattle.dg_graph.specs.declared.element.Columns.{Columns}
 use Rattle.dg_history.specs.declared.node.Key.{Key}
 use Rattle.dg_history.specs.declared.node.Key.TheVariants as key
+use Rattle.dg_history.specs.declared.node.NodeId.{NodeId}
 use Rattle.dg_history.specs.declared.params.Params.{Params}
 use Rattle.dg_history.specs.Keys.{same_key}
 use Rattle.dg_history.specs.History.{History, events_of}
@@ -27,8 +28,7 @@ use Rattle.dg_plan.specs.IndexGraph.{edges_of, inners_at}
 use Rattle.dg_plan.proofs.AlikeGraphs.{same_edges}
 use Rattle.dg_plan.proofs.EnteredOnce.{all_flat, number_of}
 use Rattle.dg_shape.specs.Entries.{Holdings, column_length_in}
-use Rattle.dg_planner.specs.declared.build.Base.{Base}
-use Rattle.dg_planner.specs.Bases.{base_of, ground_of}
+use Rattle.dg_planner.specs.Bases.{ground_of}
 use Rattle.dg_planner.specs.AskedLengths.{asked_length}
 use Rattle.dg_planner.specs.HistoryLaws.{shape_of, HoldsRecordsOf, GraphOfHistory}
 
@@ -116,13 +116,13 @@ module _ (z : History) (legal : IsLegal z) where
             ∙ (λ i. told column.Structure i + ((if cols.nodes_attr then told column.NodeAttr i else 0) + (if cols.edges_attr then told column.EdgeAttr i else 0)))
 
     -- with any bases, the edges are those that the history's records give
-    pub edges_are : (bases : ListOf Base) (memory : Bool) → edges_of (ground_of (shape_of z) catalogue cols bases memory)
-        ≡ edges_of (record { leaves = leaves z.params (length (events_of z)); arity = z.params.k; bases = map base_of bases; memory = memory; weight = λ k. length_in_history z k cols })
+    pub edges_are : (bases : ListOf (ℕ × NodeId)) (memory : Bool) → edges_of (record (ground_of (shape_of z) catalogue cols [] memory) { bases = bases })
+        ≡ edges_of (record { leaves = leaves z.params (length (events_of z)); arity = z.params.k; bases = bases; memory = memory; weight = λ k. length_in_history z k cols })
     edges_are bases memory =
         let p : Params = z.params in
         let n : ℕ = length (events_of z) in
         let m : ℕ = leaves p n in
-        same_edges m p.k (map base_of bases) memory (asked_length catalogue cols) (λ k. length_in_history z k cols)
+        same_edges m p.k bases memory (asked_length catalogue cols) (λ k. length_in_history z k cols)
         (λ i lt. lengths_are (key.List i) (list_exists p n i lt))
         (λ h c. let height = height_of p.k m h c in lengths_are (key.Top h) (top_exists p n h height.0 height.1))
         (λ h j c hc jc cc'.
@@ -141,4 +141,4 @@ module _ (z : History) (legal : IsLegal z) where
         lengths_are (key.Down (h - 1 + 1) c) (ap (λ g. key_exists p n (key.Down g c)) e ∙ down_exists p n h c low (omega (arith, b_is)) (subst (λ g. g * p.k ^ h ≤ m) (sym above) within)))
 
 pub graph_of_history : GraphOfHistory
-graph_of_history z legal catalogue holds cols = (edges_are z legal catalogue holds cols [] (nat_lt 0 (length (events_of z))), refl)
+graph_of_history z legal catalogue holds cols bases = (edges_are z legal catalogue holds cols bases (nat_lt 0 (length (events_of z))), refl)

@@ -11,3 +11,4 @@ pub mod Grown
 pub mod HistoryGraph
 pub mod InstantCounts
 pub mod HistoryPoints
+pub mod ExistingNodes

@@ -2,6 +2,7 @@
 use Rattle.std.specs.Prelude.{◌≡◌, ℕ, true, false, List, [], ◌∷◌, Option, Some, None, length, nat_lt}
 use Rattle.dg_graph.specs.declared.element.Columns.{Columns}
 use Rattle.dg_graph.specs.declared.event.Event.{Event}
+use Rattle.dg_history.specs.declared.node.NodeId.{NodeId}
 use Rattle.dg_history.specs.History.{History, events_of, span_of, in_range}
 use Rattle.dg_history.specs.LegalHistory.{IsLegal}
 use Rattle.dg_index.specs.declared.entry.Ends.{Ends}
@@ -23,11 +24,11 @@ shape_of z = record { l = z.params.l; k = z.params.k; events = length (events_of
 abbrev pub HoldsRecordsOf : History → Holdings → Type 0
 HoldsRecordsOf z catalogue = catalogue.entries ≡ (opened_of z).index.records
 
--- a catalogue that holds the records of a history gives the graph of the history
+-- a catalogue that holds the records of a history gives the graph of the history, with whatever bases
 abbrev pub GraphOfHistory : Type 0
 GraphOfHistory =
-    (z : History) → IsLegal z → (catalogue : Holdings) → HoldsRecordsOf z catalogue → (cols : Columns)
-    → (edges_of (ground_of (shape_of z) catalogue cols [] (nat_lt 0 (length (events_of z)))) ≡ edges_of (ground_of_history z cols))
+    (z : History) → IsLegal z → (catalogue : Holdings) → HoldsRecordsOf z catalogue → (cols : Columns) → (bases : List (ℕ × NodeId))
+    → (edges_of (record (ground_of (shape_of z) catalogue cols [] (nat_lt 0 (length (events_of z)))) { bases = bases }) ≡ edges_of (record (ground_of_history z cols) { bases = bases }))
     × (nodes_of (ground_of (shape_of z) catalogue cols [] (nat_lt 0 (length (events_of z)))) ≡ nodes_of (ground_of_history z cols))
 
 -- the first and the last time, as a catalogue keeps them

@@ -5,3 +5,4 @@ pub mod Links
 pub mod Whole
 pub mod Trees
 pub mod HistoryLaws
+pub mod IndexNodes
