@@ -2,6 +2,7 @@
 //! with the records that the tree enters, read once each. docs/MODEL.md has the definitions.
 #![tactic(auto)]
 
+mod beginnings;
 mod branches;
 mod fault;
 mod graph_lead;
@@ -11,8 +12,7 @@ mod retrieval;
 #[cfg(test)]
 mod tests;
 
-pub use dg_fold::Lead;
 pub use fault::RetrievalFault;
 pub use graph_lead::{Beginning, GraphLead};
-pub use record_sets::{ALL_COLUMNS, node_sets, plan_set};
+pub use record_sets::{ALL_COLUMNS, NodeLead, node_sets, plan_set, retrieve_node};
 pub use retrieval::{Retrieved, retrieve};
