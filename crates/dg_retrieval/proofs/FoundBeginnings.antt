@@ -1,7 +1,6 @@
 -- The beginnings of paths as they are found, edge by edge from the last one, and the leads that are made with them.
 use Rattle.std.proofs.Common.{◌≡◌, ℕ, ◌+◌, ◌<◌, Bool, List as ListOf, [], ◌∷◌, ◌++◌, drop, get_or, length, map, take, sym, ap, ◌∙◌}
 use Rattle.std.specs.Prelude.{if◌then◌else◌}
-use Rattle.std.specs.List.{zip}
 use Rattle.std.proofs.lemmas.List.{drop_more, map-append, take_more}
 use Rattle.dg_fold.specs.declared.tree.Lead.{Lead}
 use Rattle.dg_history.specs.declared.node.NodeId.{NodeId}

@@ -1,12 +1,12 @@
 -- What the path to a node begins with, within the edges of a tree: the tree enters each node once, so the last edge into
 -- a node is that of its path.
-use Rattle.std.proofs.Common.{◌≡◌, ℕ, zero, suc, ◌+◌, ◌<◌, Bool, true, false, List as ListOf, [], ◌∷◌, ◌++◌, map, Option, Some, None, append-nil, drop, get_or, length, length-append, reverse, take, inl, inr, refl, sym, ap, subst, ◌∙◌, arith, append_assoc}
+use Rattle.std.proofs.Common.{◌≡◌, ℕ, suc, ◌+◌, Bool, true, false, List as ListOf, [], ◌∷◌, ◌++◌, map, Option, Some, None, append-nil, drop, length, length-append, reverse, take, inl, inr, refl, sym, ap, subst, ◌∙◌, arith, append_assoc}
 use Rattle.std.specs.Prelude.{◌≢◌, ◌==◌, if◌then◌else◌, slice_get}
 use Rattle.std.specs.List.{All, Contains}
 use Rattle.std.specs.Option.{option_map, option_to_list}
 use Rattle.std.proofs.lemmas.Bool.{and_from, and_parts, eq-eqb, eqb-true, false≢true}
 use Rattle.std.proofs.lemmas.List.{drop_more, reverse-append, take-append-drop}
-use Rattle.std.proofs.lemmas.List.Elements.{All-append, All-cons, All-contains, All-contains_itself, All-head, All-nil, All-tail, All-weaker, Contains-append_left, Contains-push, Contains-push_cases}
+use Rattle.std.proofs.lemmas.List.Elements.{All-append, All-cons, All-contains_itself, All-head, All-nil, All-tail, All-weaker, Contains-append_left, Contains-push}
 use Rattle.std.proofs.lemmas.Option.{same_Some, slice_get-map}
 use Rattle.dg_fold.specs.declared.part.Part.{Part}
 use Rattle.dg_fold.specs.PathIndependence.{begun_at, enters_held}
@@ -20,10 +20,8 @@ use Rattle.dg_plan.specs.declared.edge.Via.{Via}
 use Rattle.dg_plan.specs.declared.edge.Via.TheVariants as via
 use Rattle.dg_plan.specs.IndexGraph.{Ground, arc_of, arcs_of, edges_of, is_root}
 use Rattle.dg_plan.specs.InstantPoint.{same_node}
-use Rattle.dg_plan.specs.TreePaths.{base_behind, base_of_via, base_under, edges_at}
+use Rattle.dg_plan.specs.TreePaths.{base_behind, base_of_via, edges_at}
 use Rattle.dg_plan.specs.Walks.{Arc, Grows}
-use Rattle.dg_retrieval.specs.declared.graph_lead.Beginning.{Beginning}
-use Rattle.dg_retrieval.specs.declared.graph_lead.Beginning.TheVariants as begins
 use Rattle.dg_retrieval.specs.Beginnings.{StandsFor, base_of, begun_behind, begun_by, begun_within}
 use Rattle.dg_retrieval.proofs.TreeRecords.{each_edge}
 

@@ -7,6 +7,7 @@ mod branches;
 mod fault;
 mod graph_lead;
 mod leads;
+mod node_lead;
 mod record_sets;
 mod retrieval;
 #[cfg(test)]
@@ -14,5 +15,6 @@ mod tests;
 
 pub use fault::RetrievalFault;
 pub use graph_lead::{Beginning, GraphLead};
-pub use record_sets::{ALL_COLUMNS, NodeLead, node_sets, plan_set, retrieve_node};
+pub use node_lead::{NodeLead, retrieve_node};
+pub use record_sets::{ALL_COLUMNS, node_sets, plan_set};
 pub use retrieval::{Retrieved, retrieve};

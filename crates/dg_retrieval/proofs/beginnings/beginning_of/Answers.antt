@@ -1,4 +1,4 @@
-use Rattle.std.proofs.Common.{List, ap, drop, length, refl, reverse, sym, true, false, ◌∙◌}
+use Rattle.std.proofs.Common.{ap, drop, length, refl, reverse, sym, true, false, ◌∙◌}
 use Rattle.std.proofs.lemmas.Iterator.Adapters.{YieldsList-from_rev_slice}
 use Rattle.std.proofs.lemmas.Iterator.Consumers.{YieldsList-turn}
 use Rattle.std.proofs.lemmas.List.{length_push}

@@ -8,7 +8,7 @@ use Rattle.dg_retrieval.specs.NodeSets.{IsIndexOver}
 use Rattle.dg_retrieval.specs.Retrieval.{IsFirstDamage, IsNoDamage}
 use Rattle.dg_retrieval.proofs.PlannedSets.{plan_damaged, plan_entered, plan_kept, plan_led, plan_most, plan_never, plan_set_is, plan_takes, plan_whole}
 use Rattle.dg_retrieval.proofs.Retrieving.{handed_out}
-use Rattle.dg_retrieval.proofs.record_sets.retrieve_node.Goals as goal
+use Rattle.dg_retrieval.proofs.node_lead.retrieve_node.Goals as goal
 
 pub fetch_walk-requires-clause-kept : goal.fetch_walk-requires-clause-kept
 fetch_walk-requires-clause-kept g c =
