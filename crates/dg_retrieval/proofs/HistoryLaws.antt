@@ -1,9 +1,8 @@
 -- The law of path independence over the index of a history, as a retrieval uses it.
-use Rattle.std.proofs.Common.{◌≡◌, ℕ, List as ListOf, [], Ok, length, subst, sym}
-use Rattle.std.specs.Prelude.{◌≢◌}
-use Rattle.std.proofs.lemmas.List.Elements.{All-contains, All-nil, All-weaker}
+use Rattle.std.proofs.Common.{◌≡◌, ℕ, List as ListOf, Ok, length, subst, sym}
+use Rattle.std.proofs.lemmas.List.Elements.{All-contains, All-weaker}
 use Rattle.dg_history.specs.declared.node.Key.{Key}
-use Rattle.dg_history.specs.declared.node.NodeId.TheVariants.{List, Root}
+use Rattle.dg_history.specs.declared.node.NodeId.TheVariants.{Root}
 use Rattle.dg_fold.proofs.Fittings.{records_fit}
 use Rattle.dg_fold.proofs.HistoryPaths.{edges_paired, node_set, parts_hold}
 use Rattle.dg_fold.proofs.HistoryTrees.{history_trees_reach}
@@ -15,6 +14,7 @@ use Rattle.dg_fold.specs.declared.part.Part.{Part}
 use Rattle.dg_fold.specs.BytesRead.{AreParts, named_along}
 use Rattle.dg_fold.specs.Ends.{LeadsUntil}
 use Rattle.dg_fold.specs.HistoryPaths.{IsGraphOf}
+use Rattle.dg_fold.specs.HistoryTrees.{HoldsNoList}
 use Rattle.dg_fold.specs.Parts.{RecordFits}
 use Rattle.dg_fold.specs.PathIndependence.{IsSound, contents}
 use Rattle.dg_fold.specs.Steps.{BeginsWith, paired, steps_in}
@@ -49,16 +49,14 @@ ReachesNodes names z cols walk parts =
     (v : NodeId) (d : Delta) (led : LeadsTo names (recent_of z.params (events_of z)) (paired walk parts) v d) (set : ListOf Element) → BeginsWith cols (contents z) Root led.0 set
     → shown (applied d set) cols ≡ shown (set_of z.params (events_of z) v) cols
 
--- So it is over the graph of a legal history that is on no base.
-pub trees_reach : (z : History) → IsLegal z → (g : Ground) → IsGraphOf z g → g.bases ≡ [] → (cols : Columns) (walk : ListOf Edge) → All (Contains (edges_of g)) walk
+-- So it is over the graph of a legal history, where no base holds the graph of a list.
+pub trees_reach : (z : History) → IsLegal z → (g : Ground) → IsGraphOf z g → HoldsNoList g → (cols : Columns) (walk : ListOf Edge) → All (Contains (edges_of g)) walk
     → (parts : ListOf Part) → AreParts (λ key col. column_in z key col) cols (named_along walk) parts
     → IsWholeAlong (length (names_of z)) z walk parts × ReachesInstants (length (names_of z)) z cols walk parts
 trees_reach z legal g graph none cols walk among parts are =
     let indexed = legal_is_indexed z legal in
-    let reaches = history_trees_reach (length (names_of z)) z indexed.0 indexed.1 g graph cols walk among parts are in (
-      reaches.whole,
-      reaches.reached (subst (λ (bs : ListOf (ℕ × NodeId)). All (λ (b : ℕ × NodeId). (i : ℕ) → b.1 ≢ List i) bs) (sym none) (All-nil (λ (b : ℕ × NodeId). (i : ℕ) → b.1 ≢ List i))),
-    )
+    let reaches = history_trees_reach (length (names_of z)) z indexed.0 indexed.1 g graph cols walk among parts are in
+    (reaches.whole, reaches.reached none)
 
 -- And with whatever bases the paths lead to the nodes.
 pub nodes_reach : (z : History) → IsLegal z → (g : Ground) → IsGraphOf z g → (cols : Columns) (walk : ListOf Edge) → All (Contains (edges_of g)) walk

@@ -27,43 +27,43 @@ use Rattle.dg_plan.specs.declared.edge.Way.{Way}
 use Rattle.dg_plan.specs.IndexGraph.{arcs_of}
 use Rattle.dg_plan.specs.Walks.{Graft, IsTree, steps_of, weight_of}
 use Rattle.dg_plan.proofs.EnteredOnce.{all_flat}
-use Rattle.dg_retrieval.specs.KeptGraph.{index_edges, index_ground}
+use Rattle.dg_retrieval.specs.KeptGraph.{HoldNoList, index_edges, index_ground}
 use Rattle.dg_retrieval.proofs.NamedRecords.{NamesWhatExists, named_edges}
 use Rattle.dg_retrieval.proofs.TreeBranches.{all_at, steps_off_root}
 use Rattle.dg_retrieval.proofs.TreeRecords.{edges_kept, tree_holds}
 use Rattle.dg_retrieval.proofs.TreeWeights.{has_columns, opened_events, opened_params, steps_weigh}
 
-module _ (o : Opening) (cols : Columns) (memory : Bool) (edges : ListOf Edge) (is : edges ≡ index_edges o cols memory) (steps : ListOf ℕ) (walk : ListOf Edge) (along : walk ≡ edges_at edges steps) where
-  in_graph : walk ≡ edges_at (index_edges o cols memory) steps
+module _ (o : Opening) (cols : Columns) (memory : Bool) (bases : ListOf (ℕ × NodeId)) (edges : ListOf Edge) (is : edges ≡ index_edges o cols memory bases) (steps : ListOf ℕ) (walk : ListOf Edge) (along : walk ≡ edges_at edges steps) where
+  in_graph : walk ≡ edges_at (index_edges o cols memory bases) steps
   in_graph = along ∙ ap (λ (es : ListOf Edge). edges_at es steps) is
 
   -- what holds of each edge of the graph holds of those of the walk
-  pub walk_all : (P : Edge → Type 0) → All P (index_edges o cols memory) → All P walk
-  walk_all P all = subst (λ (es : ListOf Edge). All P es) (sym in_graph) (all_at P (index_edges o cols memory) steps all)
+  pub walk_all : (P : Edge → Type 0) → All P (index_edges o cols memory bases) → All P walk
+  walk_all P all = subst (λ (es : ListOf Edge). All P es) (sym in_graph) (all_at P (index_edges o cols memory bases) steps all)
 
   -- they are edges of the graph
-  pub walk_among : All (Contains (index_edges o cols memory)) walk
-  walk_among = walk_all (Contains (index_edges o cols memory)) (All-contains_itself (index_edges o cols memory))
+  pub walk_among : All (Contains (index_edges o cols memory bases)) walk
+  walk_among = walk_all (Contains (index_edges o cols memory bases)) (All-contains_itself (index_edges o cols memory bases))
 
   -- no edge enters the root
   pub walk_off_root : All (λ (e : Edge). e.to ≢ Root) walk
-  walk_off_root = subst (λ (es : ListOf Edge). All (λ (e : Edge). e.to ≢ Root) es) (sym in_graph) (steps_off_root (index_ground o cols memory) steps)
+  walk_off_root = subst (λ (es : ListOf Edge). All (λ (e : Edge). e.to ≢ Root) es) (sym in_graph) (steps_off_root (index_ground o cols memory bases) steps)
 
   -- the index keeps each record that is entered
   pub walk_kept : are_parameters o.params.l o.params.k ≡ true → AreKept o → All (λ (e : Edge). IsKept o e.via) walk
-  walk_kept right kept = walk_all (λ (e : Edge). IsKept o e.via) (edges_kept o right kept cols memory)
+  walk_kept right kept = walk_all (λ (e : Edge). IsKept o e.via) (edges_kept o right kept cols memory bases)
 
   -- each record of a tree is entered before it is held
-  pub walk_entered : (targets : ListOf NodeId) (grafts : ListOf (Graft NodeId)) → IsTree (arcs_of edges) (Root ∷ []) targets grafts → steps_of grafts ≡ steps → HoldsWhatIsEntered [] walk
-  walk_entered targets grafts tree all =
-      subst (HoldsWhatIsEntered []) (sym (in_graph ∙ ap (edges_at (index_edges o cols memory)) (sym all)))
-      (tree_holds (index_ground o cols memory) refl targets grafts (subst (λ (es : ListOf Edge). IsTree (arcs_of es) (Root ∷ []) targets grafts) is tree))
+  pub walk_entered : HoldNoList bases → (targets : ListOf NodeId) (grafts : ListOf (Graft NodeId)) → IsTree (arcs_of edges) (Root ∷ []) targets grafts → steps_of grafts ≡ steps → HoldsWhatIsEntered [] walk
+  walk_entered none targets grafts tree all =
+      subst (HoldsWhatIsEntered []) (sym (in_graph ∙ ap (edges_at (index_edges o cols memory bases)) (sym all)))
+      (tree_holds (index_ground o cols memory bases) none targets grafts (subst (λ (es : ListOf Edge). IsTree (arcs_of es) (Root ∷ []) targets grafts) is tree))
 
   module _ (z : History) (image : ListOf ℕ) (stands : IsImageOf z image) (opened : o ≡ (opened_of z).index) where
     -- over an image of a history, the asked bytes of the records are what the steps weigh
     pub walk_weighs : entered_length (kept_in image o) cols walk ≡ weight_of (arcs_of edges) steps
     walk_weighs =
-        ap (entered_length (kept_in image o) cols) in_graph ∙ steps_weigh z image stands o opened (has_columns z image stands o opened) cols memory steps
+        ap (entered_length (kept_in image o) cols) in_graph ∙ steps_weigh z image stands o opened (has_columns z image stands o opened) cols memory bases steps
         ∙ ap (λ (es : ListOf Edge). weight_of (arcs_of es) steps) (sym is)
 
     -- the index keeps each record that is named
@@ -73,7 +73,7 @@ module _ (o : Opening) (cols : Columns) (memory : Bool) (edges : ListOf Edge) (i
         let count : events_in o.batches ≡ length (events_of z) = ap (λ (x : Opening). events_in x.batches) opened ∙ opened_events z in
         let large = large_parameters z.params.l z.params.k stands.legal.parameters in
         let wide : 0 < o.params.k = subst (λ (p : Params). 0 < p.k) (sym params) (let two = large.1 in omega arith) in
-        let exist = walk_all (λ (e : Edge). NamesWhatExists o.params (events_in o.batches) e.via) (named_edges o.params (events_in o.batches) wide (index_ground o cols memory) refl refl) in
+        let exist = walk_all (λ (e : Edge). NamesWhatExists o.params (events_in o.batches) e.via) (named_edges o.params (events_in o.batches) wide (index_ground o cols memory bases) refl refl) in
         all_flat (λ (named : Key × Way). is_some (lookup (same_key named.0) o.records) ≡ true) (λ (e : Edge). named_by e.via) walk (λ e among i d within.
         let key : Key = (get_or (named_by e.via) i d).0 in
         let there : key_exists o.params (events_in o.batches) key ≡ true = All-contains (λ (e : Edge). NamesWhatExists o.params (events_in o.batches) e.via) walk e exist among i d within in

@@ -1,6 +1,6 @@
 -- The sets of nodes, by what leads to them along a tree over the records of an index.
 use Rattle.std.proofs.Common.{◌≡◌, ℕ, true, false, List as ListOf, [], ◌∷◌, Option, Result, Ok, Err, IfSome, append-nil, length, map, refl, sym, ap, subst, ◌∙◌}
-use Rattle.std.specs.List.{All}
+use Rattle.std.specs.List.{All, AllZip}
 use Rattle.std.proofs.lemmas.Bool.{false≢true}
 use Rattle.std.proofs.lemmas.List.Elements.{All-head, All-map, All-nil, All-push, All-tail}
 use Rattle.std.proofs.lemmas.Option.{IfSome_then}
@@ -30,14 +30,17 @@ use Rattle.dg_plan.specs.declared.edge.Via.{Via}
 use Rattle.dg_plan.specs.declared.edge.Via.TheVariants as via
 use Rattle.dg_plan.specs.HistoryGraph.{all_columns}
 use Rattle.dg_plan.specs.Walks.{Graft, steps_of}
+use Rattle.dg_retrieval.specs.declared.graph_lead.GraphLead.{GraphLead}
+use Rattle.dg_retrieval.specs.Beginnings.{LeadsAs}
 use Rattle.dg_retrieval.specs.KeptGraph.{record_edges, record_ground}
 use Rattle.dg_retrieval.specs.NodeSets.{HasNoEvents, IsIndexOver, sets_of}
 use Rattle.dg_retrieval.specs.TreeLeads.{AreTreeLeads}
 use Rattle.dg_retrieval.proofs.HistoryLaws.{ReachesNodes, nodes_reach}
 use Rattle.dg_retrieval.proofs.IndexWalks.{walk_all, walk_among, walk_records}
 use Rattle.dg_retrieval.proofs.NamedRecords.{graph_of_index}
-use Rattle.dg_retrieval.proofs.ReachedGraphs.{ends_are, step_has}
+use Rattle.dg_retrieval.proofs.ReachedGraphs.{ends_are}
 use Rattle.dg_retrieval.proofs.RecordWalks.{TakesRecord, all_shown, begins_there, edges_take}
+use Rattle.dg_retrieval.proofs.TreeBases.{step_has}
 use Rattle.dg_retrieval.proofs.TreeBranches.{branches_hold}
 
 -- ---- without recent events
@@ -88,7 +91,7 @@ tail_of : {A : Type 0} {x y : A} {xs ys : ListOf A} → x ∷ xs ≡ y ∷ ys �
 tail_of is = cc
 
 -- a delta, applied to the empty graph
-abbrev pub from_nothing : Lead → ListOf Element
+abbrev pub from_nothing : GraphLead → ListOf Element
 from_nothing l = applied l.delta []
 
 module _ (names : ℕ) (z : History) (walk : ListOf Edge) (parts : ListOf Part) (take : All TakesRecord walk) (reaches : ReachesNodes names z all_columns walk parts) where
@@ -104,23 +107,26 @@ module _ (names : ℕ) (z : History) (walk : ListOf Edge) (parts : ListOf Part) 
       ap (λ n. shown (set_of z.params (events_of z) n) all_columns) (sym (begins_there node.Root (map (λ (s : Step). s.0) led.0) (All-map TakesRecord (λ (s : Step). s.0) led.0 takes))) in
       sym (all_shown (applied d [])) ∙ reaches v d leads [] (tt, begins) ∙ all_shown (set_of z.params (events_of z) v)
 
-  all_led : (branches : ListOf Branch) (times : ListOf ℕ) (targets : ListOf NodeId) (leads : ListOf Lead) → map (λ (b : Branch). b.to) branches ≡ targets → All HasNoEvents targets
-      → AreLedUntil names [] parts (paired walk parts) branches times leads → map from_nothing leads ≡ sets_of z targets
-  all_led [] times [] [] ends bare led = refl
-  all_led [] times [] (l ∷ leads) ends bare led = elim led [ ]
-  all_led [] times (v ∷ targets) leads ends bare led = absurd cc
-  all_led (b ∷ branches) [] targets leads ends bare led = elim led [ ]
-  all_led (b ∷ branches) (t ∷ times) targets [] ends bare led = elim led [ ]
-  all_led (b ∷ branches) (t ∷ times) [] (l ∷ leads) ends bare led = absurd cc
-  all_led (b ∷ branches) (t ∷ times) (v ∷ targets) (l ∷ leads) ends bare led =
+  all_led : (edges : ListOf Edge) (branches : ListOf Branch) (times : ListOf ℕ) (targets : ListOf NodeId) (paths : ListOf Lead) (leads : ListOf GraphLead) → map (λ (b : Branch). b.to) branches ≡ targets
+      → All HasNoEvents targets → AreLedUntil names [] parts (paired walk parts) branches times paths → AllZip (LeadsAs edges) paths leads → map from_nothing leads ≡ sets_of z targets
+  all_led edges [] times [] [] [] ends bare led alike = refl
+  all_led edges [] times [] [] (g ∷ leads) ends bare led alike = elim alike [ ]
+  all_led edges [] times [] (l ∷ paths) leads ends bare led alike = elim led [ ]
+  all_led edges [] times (v ∷ targets) paths leads ends bare led alike = absurd cc
+  all_led edges (b ∷ branches) [] targets paths leads ends bare led alike = elim led [ ]
+  all_led edges (b ∷ branches) (t ∷ times) targets [] leads ends bare led alike = elim led [ ]
+  all_led edges (b ∷ branches) (t ∷ times) [] (l ∷ paths) leads ends bare led alike = absurd cc
+  all_led edges (b ∷ branches) (t ∷ times) (v ∷ targets) (l ∷ paths) [] ends bare led alike = elim alike [ ]
+  all_led edges (b ∷ branches) (t ∷ times) (v ∷ targets) (l ∷ paths) (g ∷ leads) ends bare led alike =
       let here : b.to ≡ v = head_of ends in
-      let one : from_nothing l ≡ set_of z.params (events_of z) v =
-      one_led v t l.begun l.delta (All-head HasNoEvents v targets bare) (subst (λ (n : NodeId). LeadsUntil names [] parts (paired walk parts) n t l.begun l.delta) here led.0) in
-      let rest = all_led branches times targets leads (tail_of ends) (All-tail HasNoEvents v targets bare) led.1 in
+      let one : from_nothing g ≡ set_of z.params (events_of z) v =
+      ap (λ (d : Delta). applied d []) alike.0.delta
+      ∙ one_led v t l.begun l.delta (All-head HasNoEvents v targets bare) (subst (λ (n : NodeId). LeadsUntil names [] parts (paired walk parts) n t l.begun l.delta) here led.0) in
+      let rest = all_led edges branches times targets paths leads (tail_of ends) (All-tail HasNoEvents v targets bare) led.1 alike.1 in
       λ i. one i ∷ rest i
 
 module _ (o : Opening) (edges : ListOf Edge) (is : edges ≡ record_edges o) (targets : ListOf NodeId) (bare : All HasNoEvents targets) (grafts : ListOf (Graft NodeId)) (names : ℕ)
-    (times : ListOf ℕ) (leads : ListOf Lead) where
+    (times : ListOf ℕ) (leads : ListOf GraphLead) where
   gives : (im : ListOf ℕ) → AreTreeLeads names [] edges o all_columns targets grafts times leads im → (z : History) → IsIndexOver z im o names → map from_nothing leads ≡ sets_of z targets
   gives im led z over =
       let branches = led.0 in
@@ -129,11 +135,11 @@ module _ (o : Opening) (edges : ListOf Edge) (is : edges ≡ record_edges o) (ta
       let walk : ListOf Edge = all_edges branches in
       let along = branches_hold edges targets grafts branches are in
       let reaches =
-      nodes_reach z over.stands.legal (record_ground o) (graph_of_index z o over.opened all_columns false) all_columns walk
-      (walk_among o all_columns false edges is (steps_of grafts) walk along) parts (walk_records o all_columns false edges is (steps_of grafts) walk along z im over.stands over.opened parts led.3) in
-      all_led (length (names_of z)) z walk parts (walk_all o all_columns false edges is (steps_of grafts) walk along TakesRecord (edges_take (record_ground o) refl refl)) reaches
-      branches times targets leads (ends_are edges targets grafts branches are) bare
-      (subst (λ n. AreLedUntil n [] parts (paired walk parts) branches times leads) over.names led.4)
+      nodes_reach z over.stands.legal (record_ground o) (graph_of_index z o over.opened all_columns false []) all_columns walk
+      (walk_among o all_columns false [] edges is (steps_of grafts) walk along) parts (walk_records o all_columns false [] edges is (steps_of grafts) walk along z im over.stands over.opened parts led.3) in
+      all_led (length (names_of z)) z walk parts (walk_all o all_columns false [] edges is (steps_of grafts) walk along TakesRecord (edges_take (record_ground o) refl refl)) reaches
+      edges branches times targets led.4 leads (ends_are edges targets grafts branches are) bare
+      (subst (λ n. AreLedUntil n [] parts (paired walk parts) branches times led.4) over.names led.5) led.6
 
   -- over an image of a history, they are the sets of the nodes
   pub sets_are : (image : Option (ListOf ℕ)) → IfSome image (λ im. AreTreeLeads names [] edges o all_columns targets grafts times leads im)

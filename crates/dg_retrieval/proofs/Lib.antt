@@ -1,14 +1,16 @@
 pub mod TreeBranches
 pub mod TreeRecords
+pub mod TreeBases
 pub mod TreeWeights
 pub mod NamedRecords
 pub mod IndexWalks
 pub mod RecordWalks
 pub mod PlannedSets
 pub mod BranchSteps
+pub mod FoundBeginnings
 pub mod DamagedParts
-pub mod ReachedGraphs
 pub mod HistoryLaws
+pub mod ReachedGraphs
 pub mod RetrievedGraphs
 pub mod LedSets
 pub mod Retrieving

@@ -1,11 +1,12 @@
 -- The records that the edges of an index name: they are among those of the index's history.
-use Rattle.std.proofs.Common.{◌≡◌, ℕ, ◌/◌, ◌<◌, Bool, true, [], ◌∷◌, length, ap, subst, ◌∙◌}
+use Rattle.std.proofs.Common.{◌≡◌, ℕ, ◌/◌, ◌<◌, Bool, true, List as ListOf, [], ◌∷◌, length, ap, subst, ◌∙◌}
 use Rattle.std.specs.List.{All}
 use Rattle.std.proofs.lemmas.Bool.{lt-ltb}
 use Rattle.std.proofs.lemmas.List.Elements.{All-from_recursion, All-nil}
 use Rattle.dg_graph.specs.declared.element.Columns.{Columns}
 use Rattle.dg_history.specs.declared.node.Key.{Key}
 use Rattle.dg_history.specs.declared.node.Key.TheVariants as key
+use Rattle.dg_history.specs.declared.node.NodeId.{NodeId}
 use Rattle.dg_history.specs.declared.params.Params.{Params}
 use Rattle.dg_history.specs.History.{History, events_of}
 use Rattle.dg_index.specs.Hierarchy.{leaves}
@@ -64,8 +65,8 @@ named_edges p n wide g many arity =
     by (via.Recent way) w paid held = All-nil (λ (named : Key × Way). key_exists p n named.0 ≡ true)
 
 -- the graph of the records that an index of a history keeps is one of the history
-pub graph_of_index : (z : History) (o : Opening) → o ≡ (opened_of z).index → (cols : Columns) (memory : Bool) → IsGraphOf z (index_ground o cols memory)
-graph_of_index z o opened cols memory =
+pub graph_of_index : (z : History) (o : Opening) → o ≡ (opened_of z).index → (cols : Columns) (memory : Bool) (bases : ListOf (ℕ × NodeId)) → IsGraphOf z (index_ground o cols memory bases)
+graph_of_index z o opened cols memory bases =
     let params : o.params ≡ z.params = ap (λ (x : Opening). x.params) opened ∙ opened_params z in
     let count : events_in o.batches ≡ length (events_of z) = ap (λ (x : Opening). events_in x.batches) opened ∙ opened_events z in
     record { leaves = λ i. count i / (params i).l; arity = ap (λ (p : Params). p.k) params }

@@ -98,21 +98,18 @@ steps_are_parts names recent bytes cols (e ∷ walk) parts all are =
 -- ---- over a history
 
 -- With the columns of the history's records as parts nothing along a walk from the root is damaged, and what they
--- compose to leads from the empty graph to the set of the walk's last node.
-pub records_lead : (z : History) → IsLegal z → (g : Ground) → IsGraphOf z g → g.bases ≡ [] → g.memory ≡ false
+-- compose to leads from the empty graph to what is shown of the set of the walk's last node.
+pub records_lead : (z : History) → IsLegal z → (g : Ground) → IsGraphOf z g → g.bases ≡ [] → g.memory ≡ false → (cols : Columns)
     → (steps : ListOf ℕ) (node : NodeId) → Leads (arcs_of (edges_of g)) Root steps node
-    → (parts : ListOf Part) → AreParts (λ key col. column_in z key col) all_columns (named_along (edges_at (edges_of g) steps)) parts
-    → (list : ListOf Delta) × (parts_in (length (names_of z)) parts ≡ Ok list) × ((d : Delta) → Composes d list → applied d [] ≡ set_of z.params (events_of z) node)
-records_lead z legal g graph none alone steps node leads parts are =
+    → (parts : ListOf Part) → AreParts (λ key col. column_in z key col) cols (named_along (edges_at (edges_of g) steps)) parts
+    → (list : ListOf Delta) × (parts_in (length (names_of z)) parts ≡ Ok list) × ((d : Delta) → Composes d list → shown (applied d []) cols ≡ shown (set_of z.params (events_of z) node) cols)
+records_lead z legal g graph none alone cols steps node leads parts are =
     let names : ℕ = length (names_of z) in
     let walk : ListOf Edge = edges_at (edges_of g) steps in
     let all : All TakesRecord walk = all_at TakesRecord (edges_of g) steps (edges_take g none alone) in
-    let led = history_paths_lead names z (legal_is_indexed z legal).0 g graph all_columns Root node steps leads parts are in
+    let led = history_paths_lead names z (legal_is_indexed z legal).0 g graph cols Root node steps leads parts are in
     let same : steps_in names (recent_of z.params (events_of z)) (paired walk parts) ≡ parts_in names parts =
-    steps_are_parts names (recent_of z.params (events_of z)) (λ key col. column_in z key col) all_columns walk parts all are in
-    let begins : shown [] all_columns ≡ shown (set_of z.params (events_of z) (begun_at Root walk)) all_columns =
-    ap (λ n. shown (set_of z.params (events_of z) n) all_columns) (sym (begins_there Root walk all)) in (
-      led.0,
-      sym same ∙ led.1,
-      λ d composes. sym (all_shown (applied d [])) ∙ led.2 d composes [] tt begins ∙ all_shown (set_of z.params (events_of z) node),
-    )
+    steps_are_parts names (recent_of z.params (events_of z)) (λ key col. column_in z key col) cols walk parts all are in
+    let begins : shown [] cols ≡ shown (set_of z.params (events_of z) (begun_at Root walk)) cols =
+    ap (λ n. shown (set_of z.params (events_of z) n) cols) (sym (begins_there Root walk all)) in
+    (led.0, sym same ∙ led.1, λ d composes. led.2 d composes [] tt begins)

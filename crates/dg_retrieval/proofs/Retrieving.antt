@@ -1,8 +1,9 @@
 -- What is read and composed along a tree, by the tree that is planned and the records that it enters.
-use Rattle.std.proofs.Common.{◌≡◌, ℕ, suc, ◌≤◌, true, List as ListOf, [], ◌∷◌, ◌++◌, Option, Result, Ok, Err, IfSome, inr, arith, length, refl, sym, ap, subst, ◌∙◌}
+use Rattle.std.proofs.Common.{◌≡◌, ℕ, suc, ◌≤◌, true, List as ListOf, [], ◌∷◌, ◌++◌, Option, Result, Ok, Err, IfSome, inr, arith, length, map, reverse, refl, sym, ap, subst, ◌∙◌}
 use Rattle.std.specs.Prelude.{◌≢◌, IsErr, IsErrAnd}
-use Rattle.std.specs.List.{All, sum}
+use Rattle.std.specs.List.{All, AllZip, Contains, sum, zip}
 use Rattle.std.proofs.lemmas.List.{length-map}
+use Rattle.std.proofs.lemmas.List.Elements.{All-cons, All-contains_itself, All-nil}
 use Rattle.std.proofs.lemmas.Option.{IfSome_then}
 use Rattle.dg_fold.specs.declared.fault.FoldFault.{FoldFault}
 use Rattle.dg_fold.specs.declared.fault.FoldFault.TheVariants as fold_fault
@@ -12,7 +13,7 @@ use Rattle.dg_fold.specs.declared.tree.Lead.{Lead}
 use Rattle.dg_fold.specs.BytesRead.{AreParts, HoldsWhatIsEntered, IsKept, Takes, TakesAtMost, entered_length, kept_in, named_along}
 use Rattle.dg_fold.specs.Ends.{AreLedUntil, FailsIn, lasts_in}
 use Rattle.dg_fold.specs.Parts.{beside, parts_in}
-use Rattle.dg_plan.specs.TreePaths.{edges_at}
+use Rattle.dg_plan.specs.TreePaths.{base_behind, base_under, edges_at}
 use Rattle.dg_fold.specs.Steps.{Step, paired, steps_in}
 use Rattle.dg_fold.specs.Trees.{all_edges}
 use Rattle.dg_graph.specs.declared.element.Column.{Column}
@@ -31,21 +32,24 @@ use Rattle.dg_plan.specs.declared.edge.Edge.{Edge}
 use Rattle.dg_plan.specs.IndexGraph.{arcs_of}
 use Rattle.dg_plan.specs.Walks.{AreSingles, Arc, Graft, IsTree, entered, steps_of, tree_weight, weight_of}
 use Rattle.dg_plan.proofs.Plans.{one_plan}
+use Rattle.dg_plan.proofs.Trees.{tree_grows}
 use Rattle.dg_planner.specs.declared.tree.Graft.{Graft as PlannedGraft}
 use Rattle.dg_planner.specs.Trees.{graft_of, grafts_of}
 use Rattle.dg_retrieval.specs.Branches.{AreBranches}
 use Rattle.dg_retrieval.specs.Faults.{of_fold}
-use Rattle.dg_retrieval.specs.Graphs.{BeginsInMemory}
+use Rattle.dg_retrieval.specs.declared.graph_lead.GraphLead.{GraphLead}
+use Rattle.dg_retrieval.specs.Beginnings.{IsOffered, LeadsAs, StandsFor, base_of, begun_within, lead_by}
 use Rattle.dg_retrieval.specs.KeptGraph.{index_ground}
 use Rattle.dg_retrieval.specs.NodeSets.{IsIndexOver, IsUndamaged}
 use Rattle.dg_retrieval.specs.Retrieval.{IsFirstDamage, IsNoDamage, TakesAtMostTree}
 use Rattle.dg_retrieval.specs.TreeLeads.{AreIndexEdges, AreTreeLeads}
 use Rattle.dg_retrieval.proofs.DamagedParts.{damage_is, none_damaged, parts_are_whole}
 use Rattle.dg_retrieval.proofs.HistoryLaws.{trees_reach}
-use Rattle.dg_retrieval.proofs.IndexWalks.{walk_all, walk_among, walk_entered, walk_kept, walk_off_root, walk_records, walk_weighs}
+use Rattle.dg_retrieval.proofs.IndexWalks.{walk_among, walk_entered, walk_kept, walk_off_root, walk_records, walk_weighs}
 use Rattle.dg_retrieval.proofs.NamedRecords.{graph_of_index}
-use Rattle.dg_retrieval.proofs.ReachedGraphs.{EntersNow, edges_enter, leads_begin}
-use Rattle.dg_retrieval.proofs.TreeBranches.{branches_hold}
+use Rattle.dg_retrieval.proofs.ReachedGraphs.{ends_are}
+use Rattle.dg_retrieval.proofs.TreeBases.{EdgesGrow, EntersNow, all_back, base_found, base_offered, edges_enter, edges_grow, path_stands}
+use Rattle.dg_retrieval.proofs.TreeBranches.{all_at, branches_hold, branches_many}
 use Rattle.dg_retrieval.proofs.TreeWeights.{one_weight, tree_steps_weigh}
 
 -- ---- what was planned
@@ -89,11 +93,58 @@ led_many names recent parts all (b ∷ branches) [] leads led = elim led [ ]
 led_many names recent parts all (b ∷ branches) (t ∷ times) [] led = elim led [ ]
 led_many names recent parts all (b ∷ branches) (t ∷ times) (l ∷ leads) led = ap (λ n. suc n) (led_many names recent parts all branches times leads led.1)
 
+-- the leads by the paths to the targets
+
+pub leads_many : (walk : ListOf Edge) (paths : ListOf Lead) (targets : ListOf NodeId) → length paths ≡ length targets → length (map (lead_by walk) (zip paths targets)) ≡ length targets
+leads_many walk [] [] many = refl
+leads_many walk [] (v ∷ targets) many = absurd (omega arith)
+leads_many walk (l ∷ paths) [] many = absurd (omega arith)
+leads_many walk (l ∷ paths) (v ∷ targets) many = ap (λ n. suc n) (leads_many walk paths targets (omega arith))
+
+-- their bases are those that are found behind the targets
+bases_are : (walk : ListOf Edge) (paths : ListOf Lead) (targets : ListOf NodeId) → length paths ≡ length targets
+    → map (λ (l : GraphLead). base_of l.begins) (map (lead_by walk) (zip paths targets)) ≡ map (base_behind (reverse walk)) targets
+bases_are walk [] [] many = refl
+bases_are walk [] (v ∷ targets) many = absurd (omega arith)
+bases_are walk (l ∷ paths) [] many = absurd (omega arith)
+bases_are walk (l ∷ paths) (v ∷ targets) many = λ i. base_found (reverse walk) v i ∷ bases_are walk paths targets (omega arith) i
+
+-- and are offered
+leads_offered : (edges walk : ListOf Edge) → All (Contains edges) walk → (pairs : ListOf (Lead × NodeId)) → All (IsOffered edges) (map (lead_by walk) pairs)
+leads_offered edges walk among [] = All-nil (IsOffered edges)
+leads_offered edges walk among (p ∷ pairs) =
+    All-cons (IsOffered edges) (lead_by walk p) (map (lead_by walk) pairs)
+    (λ handle found. base_offered edges (reverse walk) (all_back (Contains edges) walk among) p.1 handle found) (leads_offered edges walk among pairs)
+
+-- each begins as the tree's path to its target
+leads_stand : (edges walk : ListOf Edge) (parts : ListOf Part) → EdgesGrow (Root ∷ []) walk → All (Contains edges) walk → All EntersNow walk
+    → (names : ℕ) (recent : ListOf Event) (branches : ListOf Branch) (times : ListOf ℕ) (targets : ListOf NodeId) (paths : ListOf Lead) → map (λ (b : Branch). b.to) branches ≡ targets
+    → AreLedUntil names recent parts (paired walk parts) branches times paths → AllZip (LeadsAs edges) paths (map (lead_by walk) (zip paths targets))
+leads_stand edges walk parts grow among enter names recent [] times targets [] ends led = tt
+leads_stand edges walk parts grow among enter names recent [] times targets (l ∷ paths) ends led = elim led [ ]
+leads_stand edges walk parts grow among enter names recent (b ∷ branches) [] targets paths ends led = elim led [ ]
+leads_stand edges walk parts grow among enter names recent (b ∷ branches) (t ∷ times) targets [] ends led = elim led [ ]
+leads_stand edges walk parts grow among enter names recent (b ∷ branches) (t ∷ times) [] (l ∷ paths) ends led = absurd cc
+leads_stand edges walk parts grow among enter names recent (b ∷ branches) (t ∷ times) (v ∷ targets) (l ∷ paths) ends led =
+    let path = led.0 in
+    let here : b.to ≡ v = cc in
+    let rest : map (λ (x : Branch). x.to) branches ≡ targets = cc in
+    let stands : StandsFor edges l.begun (begun_within walk b.to) =
+    subst (λ (n : NodeId). StandsFor edges n (begun_within walk b.to)) path.2 (path_stands edges walk parts grow among enter b.to path.0 path.1) in (
+      record { delta = refl; begins = subst (λ (n : NodeId). StandsFor edges l.begun (begun_within walk n)) here stands },
+      leads_stand edges walk parts grow among enter names recent branches times targets paths rest led.1,
+    )
+
 -- ---- why nothing does
 
 pub handed_out : {A E : Type 0} (r : Result A E) (x : E) (P : Result A E → Type 0) → IsErr r × IsErrAnd r (λ y. y ≡ x) → P (Err x) → P r
 handed_out (Ok a) x P h p = cc
 handed_out (Err e) x P h p = subst (λ y. P (Err y)) (sym h.1) p
+
+-- the fault that is handed out is that one
+pub fault_handed : {A F : Type 0} (r : Result A F) (x : F) → IsErr r × IsErrAnd r (λ y. y ≡ x) → {f : F} → r ≡ Err f → x ≡ f
+fault_handed (Ok a) x h is = cc
+fault_handed (Err y) x h is = sym h.1 ∙ cc
 
 module _ (o : Opening) (cols : Columns) (edges : ListOf Edge) (targets : ListOf NodeId) (grafts : ListOf (Graft NodeId)) (branches : ListOf Branch)
     (tree : IsTree (arcs_of edges) (Root ∷ []) targets grafts) (are : AreBranches edges targets grafts branches) (walk : ListOf Edge) (along : walk ≡ all_edges branches)
@@ -125,9 +176,46 @@ module _ (o : Opening) (cols : Columns) (edges : ListOf Edge) (targets : ListOf 
       let whole = parts_are_whole names recent (kept_in im o) cols (all_edges branches) parts list (of_branches im there) ok in
       (grafts, tree, parts, of_steps im there, whole.0, whole.1))
 
-  pub leads_of : (leads : ListOf Lead) → AreLedUntil names recent parts (paired (all_edges branches) parts) branches times leads
-      → IfSome image (λ im. AreTreeLeads names recent edges o cols targets grafts times leads im)
-  leads_of leads led = IfSome_then image read (λ im there. (branches, are, parts, of_branches im there, led))
+  -- what leads to the targets leads there as its path does
+  module _ (is : AreIndexEdges o cols edges) (paths : ListOf Lead) (led : AreLedUntil names recent parts (paired (all_edges branches) parts) branches times paths)
+      (leads : ListOf GraphLead) (made : leads ≡ map (lead_by walk) (zip paths targets)) where
+    in_tree : walk ≡ edges_at edges (steps_of grafts)
+    in_tree = along ∙ branches_hold edges targets grafts branches are
+
+    among : All (Contains edges) walk
+    among = subst (λ (es : ListOf Edge). All (Contains edges) es) (sym in_tree) (all_at (Contains edges) edges (steps_of grafts) (All-contains_itself edges))
+
+    paths_many : length paths ≡ length targets
+    paths_many = led_many names recent parts (paired (all_edges branches) parts) branches times paths led ∙ (branches_many edges targets grafts branches are).0
+
+    pub count_of : length leads ≡ length targets
+    count_of = ap length made ∙ leads_many walk paths targets paths_many
+
+    pub bases_of : map (λ (l : GraphLead). base_of l.begins) leads ≡ map (base_under edges (steps_of grafts)) targets
+    bases_of =
+        ap (map (λ (l : GraphLead). base_of l.begins)) made ∙ bases_are walk paths targets paths_many
+        ∙ ap (λ (es : ListOf Edge). map (base_behind (reverse es)) targets) in_tree
+
+    pub offered_of : All (IsOffered edges) leads
+    offered_of = subst (λ (gs : ListOf GraphLead). All (IsOffered edges) gs) (sym made) (leads_offered edges walk among (zip paths targets))
+
+    pub leads_of : IfSome image (λ im. AreTreeLeads names recent edges o cols targets grafts times leads im)
+    leads_of = IfSome_then image read (λ im there. (branches, are, parts, of_branches im there, paths, led, stand))
+      where
+        grow : EdgesGrow (Root ∷ []) (all_edges branches)
+        grow =
+            subst (EdgesGrow (Root ∷ [])) (sym (branches_hold edges targets grafts branches are))
+            (edges_grow edges (Root ∷ []) (steps_of grafts) (tree_grows (arcs_of edges) (Root ∷ []) targets grafts tree))
+
+        enter : All EntersNow edges
+        enter = subst (λ (es : ListOf Edge). All EntersNow es) (sym is.3) (edges_enter (index_ground o cols is.0 is.1))
+
+        stand : AllZip (LeadsAs edges) paths leads
+        stand =
+            subst (λ (gs : ListOf GraphLead). AllZip (LeadsAs edges) paths gs) (sym (made ∙ ap (λ (w : ListOf Edge). map (lead_by w) (zip paths targets)) along))
+            (leads_stand edges (all_edges branches) parts grow (subst (λ (w : ListOf Edge). All (Contains edges) w) along among)
+            (subst (λ (w : ListOf Edge). All EntersNow w) (sym (branches_hold edges targets grafts branches are)) (all_at EntersNow edges (steps_of grafts) enter))
+            names recent branches times targets paths (ends_are edges targets grafts branches are) led)
 
 -- ---- what is read
 
@@ -141,18 +229,11 @@ module _ (o : Opening) (cols : Columns) (edges : ListOf Edge) (is : AreIndexEdge
 
   -- the index keeps each record
   pub all_kept : are_parameters o.params.l o.params.k ≡ true → AreKept o → All (λ (e : Edge). IsKept o e.via) walk
-  all_kept = walk_kept o cols is.0 edges is.1 (steps_of grafts) walk in_steps
+  all_kept = walk_kept o cols is.0 is.1 edges is.3 (steps_of grafts) walk in_steps
 
   -- no edge enters the root
   pub all_off_root : All (λ (e : Edge). e.to ≢ Root) walk
-  all_off_root = walk_off_root o cols is.0 edges is.1 (steps_of grafts) walk in_steps
-
-  -- each lead begins in memory
-  pub all_begin : (names : ℕ) (recent : ListOf Event) (parts : ListOf Part) (times : ListOf ℕ) (leads : ListOf Lead)
-      → AreLedUntil names recent parts (paired (all_edges branches) parts) branches times leads → All BeginsInMemory leads
-  all_begin names recent parts times leads led =
-      let held = walk_all o cols is.0 edges is.1 (steps_of grafts) (all_edges branches) (branches_hold edges targets grafts branches are) EntersNow (edges_enter (index_ground o cols is.0) refl) in
-      leads_begin names recent (all_edges branches) parts held branches times leads led
+  all_off_root = walk_off_root o cols is.0 is.1 edges is.3 (steps_of grafts) walk in_steps
 
   module _ (names : ℕ) (recent : ListOf Event) (parts : ListOf Part) (times : ListOf ℕ)
       (image : Option (ListOf ℕ)) (read : IfSome image (λ im. AreParts (kept_in im o) cols (named_along walk) parts)) where
@@ -161,9 +242,9 @@ module _ (o : Opening) (cols : Columns) (edges : ListOf Edge) (is : AreIndexEdge
         → beside (steps_in names recent (paired (all_edges branches) parts)) (lasts_in names recent parts branches times) ≡ Err x → ⊥
     no_damage im there z over x damaged =
         let whole =
-        (trees_reach z over.stands.legal (index_ground o cols is.0) (graph_of_index z o over.opened cols is.0) refl cols walk
-        (walk_among o cols is.0 edges is.1 (steps_of grafts) walk in_steps) parts
-        (walk_records o cols is.0 edges is.1 (steps_of grafts) walk in_steps z im over.stands over.opened parts there)).0 in
+        (trees_reach z over.stands.legal (index_ground o cols is.0 is.1) (graph_of_index z o over.opened cols is.0 is.1) is.2 cols walk
+        (walk_among o cols is.0 is.1 edges is.3 (steps_of grafts) walk in_steps) parts
+        (walk_records o cols is.0 is.1 edges is.3 (steps_of grafts) walk in_steps z im over.stands over.opened parts there)).0 in
         let first : parts_in names parts ≡ Err x =
         damage_is names recent (kept_in im o) cols (all_edges branches) parts branches times x (subst (λ (w : ListOf Edge). AreParts (kept_in im o) cols (named_along w) parts) along there) damaged in
         none_damaged (length (names_of z)) (recent_of z.params (events_of z)) (kept_in im o) cols walk parts whole.0 x there whole.1 (subst (λ n. parts_in n parts ≡ Err x) over.names first)
@@ -176,12 +257,12 @@ module _ (o : Opening) (cols : Columns) (edges : ListOf Edge) (is : AreIndexEdge
   module _ (tree : IsTree (arcs_of edges) (Root ∷ []) targets grafts) where
     -- each record is entered before it is held
     pub all_entered : HoldsWhatIsEntered [] walk
-    all_entered = walk_entered o cols is.0 edges is.1 (steps_of grafts) walk in_steps targets grafts tree refl
+    all_entered = walk_entered o cols is.0 is.1 edges is.3 (steps_of grafts) walk in_steps is.2 targets grafts tree refl
 
     -- over an image of a history, the asked bytes of the records are what the tree weighs
     all_weigh : (z : History) (im : ListOf ℕ) → IsImageOf z im → o ≡ (opened_of z).index → entered_length (kept_in im o) cols walk ≡ tree_weight (arcs_of edges) grafts
     all_weigh z im stands opened =
-        walk_weighs o cols is.0 edges is.1 (steps_of grafts) walk in_steps z im stands opened ∙ sym (tree_steps_weigh (arcs_of edges) grafts)
+        walk_weighs o cols is.0 is.1 edges is.3 (steps_of grafts) walk in_steps z im stands opened ∙ sym (tree_steps_weigh (arcs_of edges) grafts)
 
     module _ (names : ℕ) (image : Option (ListOf ℕ)) (before after : ℕ) where
       -- where all is read, just as much

@@ -1,6 +1,6 @@
 -- The records that a tree of plans enters: a list is held after it is entered, and an index keeps each of them.
 use Rattle.std.proofs.Common.{◌≡◌, ℕ, zero, suc, ◌+◌, ◌-◌, ◌*◌, ◌/◌, ◌^◌, ◌<◌, ◌≤◌, Bool, true, false, cond, List as ListOf, [], ◌∷◌, ◌++◌, map, Option, Some, None, refl, sym, ap, subst, ◌∙◌, arith, ⊎_elim, le-div_iff_mul-le}
-use Rattle.std.specs.Prelude.{not, nat_le, get_or, slice_get}
+use Rattle.std.specs.Prelude.{◌≢◌, not, nat_le, get_or, slice_get}
 use Rattle.std.specs.Option.{option_map, option_to_list}
 use Rattle.std.specs.List.{All, AllByRecursion, Contains, flat_map}
 use Rattle.std.proofs.lemmas.Bool.{and_from, le-leb, lt-ltb, leb-true}
@@ -30,6 +30,7 @@ use Rattle.dg_plan.specs.Walks.{Arc, Graft, Grows, IsTree, steps_of}
 use Rattle.dg_plan.proofs.EnteredOnce.{all_flat, number_of}
 use Rattle.dg_plan.proofs.Trees.{tree_grows}
 use Rattle.dg_fold.specs.BytesRead.{HoldsWhatIsEntered, IsEntered, IsKept, entered_by}
+use Rattle.dg_fold.specs.HistoryTrees.{HoldsNoList}
 use Rattle.dg_plan.specs.TreePaths.{edges_at}
 use Rattle.dg_retrieval.specs.KeptGraph.{index_edges, index_ground}
 use Rattle.dg_retrieval.proofs.TreeBranches.{at_place}
@@ -145,10 +146,10 @@ into_list from i weight way = record {
   enters = λ k is. (way, ap (λ n. via.Paid (key.List (number_in n)) way) is);
 }
 
-by_lists : (g : Ground) → g.bases ≡ [] → OfEachForm g IsByLists
+by_lists : (g : Ground) → HoldsNoList g → OfEachForm g IsByLists
 by_lists g none = record {
   now = λ there. no_list (edge Root Now 0 via.Now) refl (λ i is. absurd cc);
-  base = λ b there. absurd (nothing b (subst (λ (bs : ListOf (ℕ × NodeId)). Contains bs b) none there));
+  base = λ b there. no_list (base_edge b) refl (λ i is. All-contains (λ (b : ℕ × NodeId). (i : ℕ) → b.1 ≢ List i) g.bases b none there i is);
   top = λ h low within. no_list (top_edge g.weight h) refl (λ i is. absurd cc);
   list = λ i within. (
     into_list (leaf i) i (g.weight (key.List i)) Same,
@@ -169,9 +170,6 @@ by_lists g none = record {
     ),
   );
 }
-  where
-    nothing : (b : ℕ × NodeId) → Contains [] b → ⊥
-    nothing b there = (let h = there.1 in omega arith)
 
 -- the record of each list of the tree is entered
 abbrev AreEntered : ListOf NodeId → ListOf Key → Type 0
@@ -211,8 +209,8 @@ holds_from edges all tree entered (i ∷ steps) are grows = by (λ e more on. ho
         let on : Grows (arcs_of edges) (tree ++ e.to ∷ []) steps = subst (λ n. Grows (arcs_of edges) (tree ++ n ∷ []) steps) (sym (ap (λ (x : Arc NodeId). x.to) same)) grows.4 in
         (is_entered tree entered are e lists from, rest e (more e lists) on)
 
--- Along the steps of a tree, each edge that holds a record comes after one that enters it, where the graph is on no base.
-pub tree_holds : (g : Ground) → g.bases ≡ [] → (targets : ListOf NodeId) (grafts : ListOf (Graft NodeId)) → IsTree (arcs_of (edges_of g)) (Root ∷ []) targets grafts
+-- Along the steps of a tree, each edge that holds a record comes after one that enters it, where no base holds the graph of a list.
+pub tree_holds : (g : Ground) → HoldsNoList g → (targets : ListOf NodeId) (grafts : ListOf (Graft NodeId)) → IsTree (arcs_of (edges_of g)) (Root ∷ []) targets grafts
     → HoldsWhatIsEntered [] (edges_at (edges_of g) (steps_of grafts))
 tree_holds g none targets grafts t =
     holds_from (edges_of g) (each_edge g IsByLists (by_lists g none)) (Root ∷ []) [] (steps_of grafts) first (tree_grows (arcs_of (edges_of g)) (Root ∷ []) targets grafts t)
@@ -258,14 +256,14 @@ paid_edges p n wide g many arity = each_edge g (λ (e : Edge). IsPaid p n g.weig
         (and_from (nat_le 1 c) _ (le-leb 1 c (omega (arith, least))) (le-leb (parent p.k c * p.k ^ (h + 1)) (leaves p n) (subst (λ x. x * p.k ^ (h + 1) ≤ leaves p n) (sym above) within)))
 
 -- An index keeps the record of each edge of its graph.
-pub edges_kept : (o : Opening) → are_parameters o.params.l o.params.k ≡ true → AreKept o → (cols : Columns) (memory : Bool) → All (λ (e : Edge). IsKept o e.via) (index_edges o cols memory)
-edges_kept o right kept cols memory =
+pub edges_kept : (o : Opening) → are_parameters o.params.l o.params.k ≡ true → AreKept o → (cols : Columns) (memory : Bool) (bases : ListOf (ℕ × NodeId)) → All (λ (e : Edge). IsKept o e.via) (index_edges o cols memory bases)
+edges_kept o right kept cols memory bases =
     let large = large_parameters o.params.l o.params.k right in
-    All-weaker (λ (e : Edge). IsPaid o.params (events_in o.batches) (index_ground o cols memory).weight e.weight e.via) (λ (e : Edge). IsKept o e.via)
-    (λ e paid. by e.via e.weight paid) (index_edges o cols memory)
-    (paid_edges o.params (events_in o.batches) (omega (arith, large.1)) (index_ground o cols memory) refl refl)
+    All-weaker (λ (e : Edge). IsPaid o.params (events_in o.batches) (index_ground o cols memory bases).weight e.weight e.via) (λ (e : Edge). IsKept o e.via)
+    (λ e paid. by e.via e.weight paid) (index_edges o cols memory bases)
+    (paid_edges o.params (events_in o.batches) (omega (arith, large.1)) (index_ground o cols memory bases) refl refl)
   where
-    by : (v : Via) (w : ℕ) → IsPaid o.params (events_in o.batches) (index_ground o cols memory).weight w v → IsKept o v
+    by : (v : Via) (w : ℕ) → IsPaid o.params (events_in o.batches) (index_ground o cols memory bases).weight w v → IsKept o v
     by via.Now w paid = tt
     by (via.Base handle) w paid = tt
     by (via.Paid k way) w paid =

@@ -13,6 +13,7 @@ use Rattle.dg_graph.specs.declared.element.Column.TheVariants.{Structure, NodeAt
 use Rattle.dg_graph.specs.declared.element.Columns.{Columns}
 use Rattle.dg_graph.specs.declared.event.Event.{Event}
 use Rattle.dg_history.specs.declared.node.Key.{Key}
+use Rattle.dg_history.specs.declared.node.NodeId.{NodeId}
 use Rattle.dg_history.specs.declared.params.Params.{Params}
 use Rattle.dg_history.specs.History.{Batch, History, events_of}
 use Rattle.dg_history.specs.Keys.{same_key}
@@ -129,7 +130,7 @@ asked_is z bytes cols k same = by cols.nodes_attr cols.edges_attr
     by false true = omega (arith, ap length (same Structure), ap length (same EdgeAttr))
     by false false = omega (arith, ap length (same Structure))
 
-module _ (z : History) (image : ListOf ℕ) (stands : IsImageOf z image) (o : Opening) (opened : o ≡ (opened_of z).index) (has : HasColumns z image o) (cols : Columns) (memory : Bool) where
+module _ (z : History) (image : ListOf ℕ) (stands : IsImageOf z image) (o : Opening) (opened : o ≡ (opened_of z).index) (has : HasColumns z image o) (cols : Columns) (memory : Bool) (bases : ListOf (ℕ × NodeId)) where
   abbrev n : ℕ
   n = events_in o.batches
 
@@ -139,30 +140,30 @@ module _ (z : History) (image : ListOf ℕ) (stands : IsImageOf z image) (o : Op
   count : n ≡ length (events_of z)
   count = ap (λ (x : Opening). events_in x.batches) opened ∙ opened_events z
 
-  weighs : (e : Edge) → IsPaid o.params n (index_ground o cols memory).weight e.weight e.via → WeighsWhatItEnters (kept_in image o) cols e
+  weighs : (e : Edge) → IsPaid o.params n (index_ground o cols memory bases).weight e.weight e.via → WeighsWhatItEnters (kept_in image o) cols e
   weighs e = by e.via e.weight
     where
-      by : (v : Via) (w : ℕ) → IsPaid o.params n (index_ground o cols memory).weight w v → w ≡ sum_by (asked_length (kept_in image o) cols) (entered_by v)
+      by : (v : Via) (w : ℕ) → IsPaid o.params n (index_ground o cols memory bases).weight w v → w ≡ sum_by (asked_length (kept_in image o) cols) (entered_by v)
       by via.Now w paid = paid
       by (via.Base handle) w paid = paid
       by (via.Paid k way) w paid =
           let there : key_exists z.params (length (events_of z)) k ≡ true = (λ i. key_exists (sym params i) (sym count i) k) ∙ paid.0 in
           let held : is_some (lookup (same_key k) o.records) ≡ true = ap (λ (x : Opening). is_some (lookup (same_key k) x.records)) opened ∙ record_held z stands.legal k there in
-          let weight : (index_ground o cols memory).weight k ≡ length_in z k cols = lengths_are z stands.legal (holding o.records) (ap (λ (x : Opening). x.records) opened) cols k there in
+          let weight : (index_ground o cols memory bases).weight k ≡ length_in z k cols = lengths_are z stands.legal (holding o.records) (ap (λ (x : Opening). x.records) opened) cols k there in
           let bytes : asked_length (kept_in image o) cols k ≡ length_in z k cols = asked_is z (kept_in image o) cols k (has k held) in
           omega (arith, paid.1, weight, bytes)
       by (via.Held k way) w paid = paid
       by (via.Recent way) w paid = paid
 
   -- each edge of the graph weighs the asked bytes of the record that it enters
-  pub edges_weigh : All (WeighsWhatItEnters (kept_in image o) cols) (index_edges o cols memory)
+  pub edges_weigh : All (WeighsWhatItEnters (kept_in image o) cols) (index_edges o cols memory bases)
   edges_weigh =
       let large = large_parameters z.params.l z.params.k stands.legal.parameters in
       let wide : 0 < o.params.k = subst (λ (p : Params). 0 < p.k) (sym params) (let two = large.1 in omega arith) in
-      All-weaker (λ (e : Edge). IsPaid o.params n (index_ground o cols memory).weight e.weight e.via) (WeighsWhatItEnters (kept_in image o) cols) weighs (index_edges o cols memory)
-      (paid_edges o.params n wide (index_ground o cols memory) refl refl)
+      All-weaker (λ (e : Edge). IsPaid o.params n (index_ground o cols memory bases).weight e.weight e.via) (WeighsWhatItEnters (kept_in image o) cols) weighs (index_edges o cols memory bases)
+      (paid_edges o.params n wide (index_ground o cols memory bases) refl refl)
 
   -- steps weigh the asked bytes of the records that they enter
   pub steps_weigh : (steps : ListOf ℕ)
-      → entered_length (kept_in image o) cols (edges_at (index_edges o cols memory) steps) ≡ weight_of (arcs_of (index_edges o cols memory)) steps
-  steps_weigh steps = weigh_all (index_edges o cols memory) (kept_in image o) cols edges_weigh steps
+      → entered_length (kept_in image o) cols (edges_at (index_edges o cols memory bases) steps) ≡ weight_of (arcs_of (index_edges o cols memory bases)) steps
+  steps_weigh steps = weigh_all (index_edges o cols memory bases) (kept_in image o) cols edges_weigh steps

@@ -1,12 +1,23 @@
 -- What retrieved graphs begin with, and the graphs to which leads come.
-use Rattle.std.specs.Prelude.{ℕ, List, [], Option, Some, None}
+use Rattle.std.specs.Prelude.{◌≡◌, ℕ, List, [], ◌∷◌, Option, Some, None, if◌then◌else◌, reverse}
+use Rattle.std.specs.List.{Contains}
+use Rattle.dg_fold.specs.declared.tree.Lead.{Lead}
 use Rattle.dg_graph.specs.Composition.{applied}
 use Rattle.dg_graph.specs.declared.element.Columns.{Columns}
 use Rattle.dg_graph.specs.declared.element.Element.{Element}
 use Rattle.dg_graph.specs.Elements.{shown}
+use Rattle.dg_history.specs.declared.node.NodeId.{NodeId}
+use Rattle.dg_history.specs.declared.node.NodeId.TheVariants as node
+use Rattle.dg_plan.specs.declared.edge.Edge.{Edge}
+use Rattle.dg_plan.specs.declared.edge.Via.{Via}
+use Rattle.dg_plan.specs.declared.edge.Via.TheVariants as via
+use Rattle.dg_plan.specs.IndexGraph.{is_root}
+use Rattle.dg_plan.specs.InstantPoint.{same_node}
 use Rattle.dg_retrieval.specs.declared.graph_lead.Beginning.{Beginning}
 use Rattle.dg_retrieval.specs.declared.graph_lead.Beginning.TheVariants.{Nothing, Now, Base}
 use Rattle.dg_retrieval.specs.declared.graph_lead.GraphLead.{GraphLead}
+
+-- ---- the sets with which graphs begin
 
 -- the set with which a graph begins, where this is the current graph, and these are the sets that handles hold
 abbrev pub begun_with : List Element → (ℕ → List Element) → Beginning → List Element
@@ -23,3 +34,45 @@ abbrev pub base_of : Beginning → Option ℕ
 base_of Nothing = None
 base_of Now = None
 base_of (Base handle) = Some handle
+
+-- where the lead begins with a base, one of the edges leads on by it
+abbrev pub IsOffered : List Edge → GraphLead → Type 0
+IsOffered edges lead = (handle : ℕ) → base_of lead.begins ≡ Some handle → (e : Edge) × Contains edges e × (e.via ≡ via.Base handle)
+
+-- ---- what a path begins with
+
+-- what a path begins with whose first edge leads on by this
+abbrev pub begun_by : Via → Beginning
+begun_by via.Now = Now
+begun_by (via.Base handle) = Base handle
+begun_by (via.Paid key way) = Nothing
+begun_by (via.Held key way) = Nothing
+begun_by (via.Recent way) = Nothing
+
+-- What the path to a node begins with, where the edges so far are these, the last first: the last edge into the node
+-- decides, by itself where it leaves the root, and else by the path to the node that it leaves.
+abbrev pub begun_behind : List Edge → NodeId → Beginning
+begun_behind [] node = Nothing
+begun_behind (e ∷ before) node =
+    if same_node node e.to then (if is_root e.from then begun_by e.via else begun_behind before e.from)
+    else begun_behind before node
+
+-- what the path to a node begins with, within the tree of these edges
+abbrev pub begun_within : List Edge → NodeId → Beginning
+begun_within walk node = begun_behind (reverse walk) node
+
+-- the lead to the node, with what its path begins with
+abbrev pub lead_by : List Edge → Lead × NodeId → GraphLead
+lead_by walk p = record { begins = begun_within walk p.1; delta = p.0.delta }
+
+-- The beginning stands for the node with whose set a path begins: nothing for the root, the current graph for its node,
+-- and a base for the node that one of the edges enters by it.
+abbrev pub StandsFor : List Edge → NodeId → Beginning → Type 0
+StandsFor edges begun Nothing = begun ≡ node.Root
+StandsFor edges begun Now = begun ≡ node.Now
+StandsFor edges begun (Base handle) = (e : Edge) × Contains edges e × (e.via ≡ via.Base handle) × (e.to ≡ begun)
+
+-- what leads to a node has the same delta, and begins as the path does
+pub record LeadsAs (edges : List Edge) (path : Lead) (lead : GraphLead) : Type 0 where
+  pub delta : lead.delta ≡ path.delta
+  pub begins : StandsFor edges path.begun lead.begins

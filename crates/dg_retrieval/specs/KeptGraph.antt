@@ -1,8 +1,10 @@
 -- The graph of the records that an index keeps.
-use Rattle.std.specs.Prelude.{ℕ, Bool, false, List as ListOf, [], None, nat_lt}
+use Rattle.std.specs.Prelude.{◌≡◌, ◌≢◌, ℕ, Bool, false, List as ListOf, [], None, nat_lt}
+use Rattle.std.specs.List.{All}
 use Rattle.dg_graph.specs.declared.element.Columns.{Columns}
 use Rattle.dg_history.specs.declared.node.Key.{Key}
 use Rattle.dg_history.specs.declared.node.NodeId.{NodeId}
+use Rattle.dg_history.specs.declared.node.NodeId.TheVariants.{List}
 use Rattle.dg_history.specs.declared.params.Params.{Params}
 use Rattle.dg_index.specs.declared.entry.Entry.{Entry}
 use Rattle.dg_index.specs.OpenedIndex.{Opening, events_in}
@@ -21,22 +23,32 @@ shape_with params n = record { l = params.l; k = params.k; events = n }
 abbrev pub holding : ListOf (Key × Entry) → Holdings
 holding records = record { entries = records; span = None; spare = 0 }
 
--- the graph of an index with so many events, with the current graph where there is an event, and on no base
-abbrev pub kept_ground : Opening → ℕ → Columns → Ground
-kept_ground o n cols = ground_of (shape_with o.params n) (holding o.records) cols [] (nat_lt 0 n)
+-- no base holds the graph of a list
+abbrev pub HoldNoList : ListOf (ℕ × NodeId) → Type 0
+HoldNoList bases = All (λ (b : ℕ × NodeId). (i : ℕ) → b.1 ≢ List i) bases
 
-abbrev pub kept_edges : Opening → ℕ → Columns → ListOf Edge
-kept_edges o n cols = edges_of (kept_ground o n cols)
+-- the graph of an index with so many events and with these bases, and with the current graph where there is an event
+abbrev pub kept_ground : Opening → ℕ → Columns → ListOf (ℕ × NodeId) → Ground
+kept_ground o n cols bases = record (ground_of (shape_with o.params n) (holding o.records) cols [] (nat_lt 0 n)) { bases = bases }
 
+abbrev pub kept_edges : Opening → ℕ → Columns → ListOf (ℕ × NodeId) → ListOf Edge
+kept_edges o n cols bases = edges_of (kept_ground o n cols bases)
+
+-- its nodes, which are the same whatever the bases
 abbrev pub kept_nodes : Opening → ℕ → Columns → ListOf NodeId
-kept_nodes o n cols = nodes_of (kept_ground o n cols)
+kept_nodes o n cols = nodes_of (kept_ground o n cols [])
 
--- the graph of the records of an index in these columns, on no base: with the current graph, or without
-abbrev pub index_ground : Opening → Columns → Bool → Ground
-index_ground o cols memory = ground_of (shape_with o.params (events_in o.batches)) (holding o.records) cols [] memory
+-- these are the edges of the index in these columns, with bases of which none holds the graph of a list, and with the
+-- current graph where there is an event
+abbrev pub IsKeptGraph : Opening → Columns → ListOf Edge → Type 0
+IsKeptGraph o cols edges = (bases : ListOf (ℕ × NodeId)) × HoldNoList bases × (edges ≡ kept_edges o (events_in o.batches) cols bases)
 
-abbrev pub index_edges : Opening → Columns → Bool → ListOf Edge
-index_edges o cols memory = edges_of (index_ground o cols memory)
+-- the graph of the records of an index in these columns, with these bases: with the current graph, or without
+abbrev pub index_ground : Opening → Columns → Bool → ListOf (ℕ × NodeId) → Ground
+index_ground o cols memory bases = record (ground_of (shape_with o.params (events_in o.batches)) (holding o.records) cols [] memory) { bases = bases }
+
+abbrev pub index_edges : Opening → Columns → Bool → ListOf (ℕ × NodeId) → ListOf Edge
+index_edges o cols memory bases = edges_of (index_ground o cols memory bases)
 
 -- the graph of the records of an index alone, which have all their columns
 abbrev pub record_ground : Opening → Ground

@@ -5,7 +5,7 @@ use Rattle.dg_fold.specs.BytesRead.{AreParts, kept_in, named_along}
 use Rattle.dg_fold.specs.declared.part.Part.{Part}
 use Rattle.dg_fold.specs.Parts.{parts_in}
 use Rattle.dg_plan.specs.TreePaths.{edges_at}
-use Rattle.dg_graph.specs.Composition.{Delta}
+use Rattle.dg_graph.specs.Composition.{Composes, Delta}
 use Rattle.dg_graph.specs.declared.element.Column.{Column}
 use Rattle.dg_graph.specs.declared.element.Columns.{Columns}
 use Rattle.dg_graph.specs.declared.element.Element.{Element}
@@ -21,6 +21,13 @@ use Rattle.dg_plan.specs.HistoryGraph.{all_columns}
 use Rattle.dg_plan.specs.IndexGraph.{arcs_of}
 use Rattle.dg_plan.specs.Walks.{Graft, IsPlan, IsTree, steps_of}
 use Rattle.dg_retrieval.specs.KeptGraph.{record_edges}
+
+-- In this image the delta is what the records along the least plan of the node compose to, in these columns.
+abbrev pub IsLedAlong : ℕ → ListOf ℕ → Opening → Columns → ListOf Edge → NodeId → Delta → Type 0
+IsLedAlong names image o cols edges node delta =
+    (steps : ListOf ℕ) × IsPlan (arcs_of edges) (Root ∷ []) node steps
+    × (parts : ListOf Part) × AreParts (kept_in image o) cols (named_along (edges_at edges steps)) parts
+    × (list : ListOf Delta) × (parts_in names parts ≡ Ok list) × Composes delta list
 
 -- what deltas come to from the empty set, one after another; or the damage in their place
 abbrev pub set_after : Result (ListOf Delta) (Key × Column) → Result (ListOf Element) (Key × Column)

@@ -1,21 +1,24 @@
 -- What a retrieval of several instants gives.
-use Rattle.std.specs.Prelude.{◌≡◌, ◌⊎◌, ℕ, List, [], ◌∷◌, Err, length, map}
+use Rattle.std.specs.Prelude.{◌≡◌, ◌⊎◌, ℕ, List, [], ◌∷◌, Err, Option, length, map}
+use Rattle.std.specs.List.{Contains}
 use Rattle.dg_fold.specs.BytesRead.{AreParts, TakesAtMost, kept_in, named_along}
 use Rattle.dg_fold.specs.declared.part.Part.{Part}
 use Rattle.dg_fold.specs.Parts.{parts_in}
-use Rattle.dg_plan.specs.TreePaths.{edges_at}
+use Rattle.dg_plan.specs.TreePaths.{base_under, edges_at}
 use Rattle.dg_graph.specs.declared.element.Columns.{Columns}
 use Rattle.dg_graph.specs.declared.element.Element.{Element}
 use Rattle.dg_graph.specs.declared.event.Event.{Event}
-use Rattle.dg_graph.specs.Elements.{shown}
+use Rattle.dg_graph.specs.Elements.{IsSet, shown}
 use Rattle.dg_graph.specs.Replay.{replay, replay_at}
 use Rattle.dg_history.specs.declared.node.NodeId.{NodeId}
 use Rattle.dg_history.specs.declared.node.NodeId.TheVariants.{Root}
 use Rattle.dg_history.specs.History.{History, events_of, names_of}
+use Rattle.dg_index.specs.Hierarchy.{set_of}
 use Rattle.dg_index.specs.ImageOfHistory.{IsImageOf}
 use Rattle.dg_index.specs.IndexRecords.{recent_of}
 use Rattle.dg_index.specs.OpenedIndex.{Opening, opened_of}
 use Rattle.dg_plan.specs.declared.edge.Edge.{Edge}
+use Rattle.dg_plan.specs.declared.edge.Via.TheVariants as via
 use Rattle.dg_plan.specs.IndexGraph.{arcs_of}
 use Rattle.dg_plan.specs.InstantPoint.{point}
 use Rattle.dg_plan.specs.Walks.{Graft, IsTree, steps_of, tree_weight}
@@ -39,10 +42,18 @@ ArePoints z targets times = targets ≡ map (λ t. point z.params (events_of z) 
 abbrev pub graphs_at : History → List ℕ → Columns → List (List Element)
 graphs_at z times cols = map (λ t. shown (replay_at (events_of z) t) cols) times
 
--- a tree of the targets over these edges, which weighs so much
-abbrev pub IsTreeOf : List Edge → List NodeId → ℕ → Type 0
-IsTreeOf edges targets weight =
+-- a tree of the targets over these edges, which weighs so much, and the bases with which its paths to them begin
+abbrev pub IsTreeOf : List Edge → List NodeId → ℕ → List (Option ℕ) → Type 0
+IsTreeOf edges targets weight bases =
     (grafts : List (Graft NodeId)) × IsTree (arcs_of edges) (Root ∷ []) targets grafts × (weight ≡ tree_weight (arcs_of edges) grafts)
+    × (bases ≡ map (base_under edges (steps_of grafts)) targets)
+
+-- Each base of the graph, the node that an edge enters by it, is a handle that holds the node's set as shown in these
+-- columns.
+abbrev pub AreHeld : History → List Edge → Columns → (ℕ → List Element) → Type 0
+AreHeld z edges cols held =
+    (e : Edge) (handle : ℕ) → Contains edges e → e.via ≡ via.Base handle
+    → IsSet (held handle) × (shown (held handle) cols ≡ shown (set_of z.params (events_of z) e.to) cols)
 
 -- the bytes read are at most what the tree of the targets weighs
 abbrev pub TakesAtMostTree : List Edge → List NodeId → ℕ → ℕ → Type 0

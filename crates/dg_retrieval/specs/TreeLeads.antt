@@ -1,5 +1,6 @@
 -- What leads to the targets of a tree.
 use Rattle.std.specs.Prelude.{◌≡◌, ℕ, Bool, List}
+use Rattle.std.specs.List.{AllZip}
 use Rattle.dg_fold.specs.BytesRead.{AreParts, kept_in, named_along}
 use Rattle.dg_fold.specs.declared.part.Part.{Part}
 use Rattle.dg_fold.specs.declared.tree.Branch.{Branch}
@@ -14,16 +15,20 @@ use Rattle.dg_index.specs.OpenedIndex.{Opening}
 use Rattle.dg_plan.specs.declared.edge.Edge.{Edge}
 use Rattle.dg_plan.specs.Walks.{Graft}
 use Rattle.dg_retrieval.specs.Branches.{AreBranches}
-use Rattle.dg_retrieval.specs.KeptGraph.{index_edges}
+use Rattle.dg_retrieval.specs.declared.graph_lead.GraphLead.{GraphLead}
+use Rattle.dg_retrieval.specs.Beginnings.{LeadsAs}
+use Rattle.dg_retrieval.specs.KeptGraph.{HoldNoList, index_edges}
 
--- these are the edges of the index in these columns, with the current graph or without
+-- these are the edges of the index in these columns, with the current graph or without, and with bases of which none
+-- holds the graph of a list
 abbrev pub AreIndexEdges : Opening → Columns → List Edge → Type 0
-AreIndexEdges o cols edges = (memory : Bool) × (edges ≡ index_edges o cols memory)
+AreIndexEdges o cols edges = (memory : Bool) × (bases : List (ℕ × NodeId)) × HoldNoList bases × (edges ≡ index_edges o cols memory bases)
 
 -- In this image the records of a tree lead to each target: along the tree's path to it, and on with the target's
--- own events up to its instant.
-abbrev pub AreTreeLeads : ℕ → List Event → List Edge → Opening → Columns → List NodeId → List (Graft NodeId) → List ℕ → List Lead → List ℕ → Type 0
+-- own events up to its instant. Each lead begins as its path does.
+abbrev pub AreTreeLeads : ℕ → List Event → List Edge → Opening → Columns → List NodeId → List (Graft NodeId) → List ℕ → List GraphLead → List ℕ → Type 0
 AreTreeLeads names recent edges o cols targets grafts times leads image =
     (branches : List Branch) × AreBranches edges targets grafts branches
     × (parts : List Part) × AreParts (kept_in image o) cols (named_along (all_edges branches)) parts
-    × AreLedUntil names recent parts (paired (all_edges branches) parts) branches times leads
+    × (paths : List Lead) × AreLedUntil names recent parts (paired (all_edges branches) parts) branches times paths
+    × AllZip (LeadsAs edges) paths leads

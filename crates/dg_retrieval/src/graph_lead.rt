@@ -15,6 +15,8 @@ pub enum Beginning {
 /// that were asked for.
 #[derive(Drop)]
 pub struct GraphLead {
+    /// What the graph begins with.
     pub begins: Beginning,
+    /// What is taken out and put in from there.
     pub delta: Delta,
 }

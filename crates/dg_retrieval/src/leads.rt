@@ -1,6 +1,6 @@
 //! What leads to several targets, by one tree.
 
-ghost use Rattle.std.specs.Prelude.{◌≡◌, ℕ, ◌≤◌, List, ◌∷◌, [], length, IfErr, IfOk, IfSome, IsErrOf, OnOk};
+ghost use Rattle.std.specs.Prelude.{◌≡◌, ℕ, ◌≤◌, List, ◌∷◌, [], length, map, IfErr, IfOk, IfSome, IsErrOf, OnOk};
 ghost use Rattle.std.specs.List.{All, Contains, sum};
 ghost use Rattle.dg_disk.specs.Counts.{Rose};
 ghost use Rattle.dg_disk.specs.Frame.{OnlyReads};
@@ -9,18 +9,22 @@ ghost use Rattle.dg_fold.specs.BytesRead.{Takes, TakesAtMost};
 ghost use Rattle.dg_history.specs.declared.node.NodeId.TheVariants.{Root};
 ghost use Rattle.dg_history.specs.History.{History};
 ghost use Rattle.dg_plan.specs.IndexGraph.{arcs_of};
-ghost use Rattle.dg_plan.specs.Walks.{AreSingles, IsTree, tree_weight};
+ghost use Rattle.dg_plan.specs.TreePaths.{base_under};
+ghost use Rattle.dg_plan.specs.Walks.{AreSingles, IsTree, steps_of, tree_weight};
 ghost use Rattle.dg_planner.specs.Trees.{grafts_in};
-ghost use Rattle.dg_retrieval.specs.Graphs.{BeginsInMemory};
+ghost use Rattle.dg_retrieval.specs.declared.graph_lead.GraphLead.{GraphLead};
+ghost use Rattle.dg_retrieval.specs.Beginnings.{IsOffered, base_of};
 ghost use Rattle.dg_retrieval.specs.NodeSets.{IsIndexOver, IsUndamaged};
 ghost use Rattle.dg_retrieval.specs.Retrieval.{IsFirstDamage, IsNoDamage, TakesAtMostTree};
 ghost use Rattle.dg_retrieval.specs.TreeLeads.{AreIndexEdges, AreTreeLeads};
 
+use crate::beginnings::graph_leads;
 use crate::branches::{branches_of, walk_along};
 use crate::fault::RetrievalFault;
+use crate::graph_lead::GraphLead;
 use dg_disk::Disk;
 use dg_file::Index;
-use dg_fold::{Lead, compose_tree, fetch_walk};
+use dg_fold::{compose_tree, fetch_walk};
 use dg_graph::{Columns, Event};
 use dg_history::NodeId;
 use dg_planner::{Planner, Tree};
@@ -33,12 +37,13 @@ pub struct TreeLeads {
     /// The tree, and what it weighs.
     pub tree: Tree,
     /// What leads to each target, in the order of targets.
-    pub leads: Vec<Lead>,
+    pub leads: Vec<GraphLead>,
 }
 
 /// Plans the tree of the targets, 32 of them at the most, through the graph of the index, with the current graph
-/// or without. Reads the records that it enters, each once, and composes them along the tree's path to each
-/// target, and on with the target's own events up to its instant. The names of the history are so many.
+/// or without, and with bases of which none holds the graph of a list. Reads the records that it enters, each once,
+/// and composes them along the tree's path to each target, and on with the target's own events up to its instant.
+/// The names of the history are so many.
 ///
 /// `Disk` where a read failed, `Damaged` with the first column that is in no spelling, in the order of the tree's
 /// steps and of structure, node attributes, edge attributes, and `Memory`.
@@ -65,7 +70,8 @@ pub fn lead_along_tree<R: Threads, D: Disk>(
     ensures singles { IfOk result (λ r. AreSingles (arcs_of planner.now.edges) (Root ∷ []) targets.now r.tree.singles.items) }
     ensures sum { IfOk result (λ r. r.tree.sum ≡ sum r.tree.singles.items) }
     ensures count { IfOk result (λ r. length r.leads.items ≡ length targets.now) }
-    ensures begun { IfOk result (λ r. All BeginsInMemory r.leads.items) }
+    ensures bases { IfOk result (λ r. map (λ (l : GraphLead). base_of l.begins) r.leads.items ≡ map (base_under planner.now.edges (steps_of (grafts_in r.tree))) targets.now) }
+    ensures offered { IfOk result (λ r. All (IsOffered planner.now.edges) r.leads.items) }
     ensures leads { IfOk result (λ r. IfSome (D.image disk.old) (λ image. AreTreeLeads names recent.now planner.now.edges index.old.opening cols targets.now (grafts_in r.tree) times.now r.leads.items image)) }
     ensures whole { OnOk result (IfSome (D.image disk.old) (λ image. IsUndamaged names planner.now.edges index.old.opening cols targets.now image)) }
     // the bytes read, over an image of a history
@@ -91,6 +97,7 @@ pub fn lead_along_tree<R: Threads, D: Disk>(
     let branches = branches_of(alloc, planner.edges(), targets, &tree.grafts)?;
     let walk = walk_along(alloc, &branches)?;
     let parts = fetch_walk(alloc, index, disk, &walk, cols)?;
-    let leads = compose_tree(rt, alloc, names, &branches, &parts, recent, times)?;
+    let paths = compose_tree(rt, alloc, names, &branches, &parts, recent, times)?;
+    let leads = graph_leads(alloc, &walk, targets, paths)?;
     Ok(TreeLeads { tree, leads })
 }

@@ -2,17 +2,19 @@
 //! with the records that the tree enters, read once each. docs/MODEL.md has the definitions.
 #![tactic(auto)]
 
+mod beginnings;
 mod branches;
 mod fault;
 mod graph_lead;
 mod leads;
+mod node_lead;
 mod record_sets;
 mod retrieval;
 #[cfg(test)]
 mod tests;
 
-pub use dg_fold::Lead;
 pub use fault::RetrievalFault;
 pub use graph_lead::{Beginning, GraphLead};
+pub use node_lead::{NodeLead, retrieve_node};
 pub use record_sets::{ALL_COLUMNS, node_sets, plan_set};
 pub use retrieval::{Retrieved, retrieve};

@@ -6,7 +6,6 @@ ghost use Rattle.dg_disk.specs.Counts.{Rose};
 ghost use Rattle.dg_disk.specs.Frame.{OnlyReads};
 ghost use Rattle.dg_file.specs.Images.{IsOpenedAs};
 ghost use Rattle.dg_fold.specs.BytesRead.{Takes, TakesAtMost};
-ghost use Rattle.dg_fold.specs.declared.tree.Lead.{Lead};
 ghost use Rattle.dg_graph.specs.Composition.{applied};
 ghost use Rattle.dg_graph.specs.declared.element.Column.{Column};
 ghost use Rattle.dg_history.specs.declared.node.Key.{Key};
@@ -16,16 +15,17 @@ ghost use Rattle.dg_index.specs.Hierarchy.{set_of};
 ghost use Rattle.dg_plan.specs.HistoryGraph.{all_columns};
 ghost use Rattle.dg_plan.specs.IndexGraph.{arcs_of};
 ghost use Rattle.dg_plan.specs.Walks.{AreSingles, IsPlan, weight_of};
+ghost use Rattle.dg_retrieval.specs.declared.graph_lead.GraphLead.{GraphLead};
 ghost use Rattle.dg_retrieval.specs.KeptGraph.{record_edges, record_nodes};
 ghost use Rattle.dg_retrieval.specs.NodeSets.{HasNoEvents, IsIndexOver, IsLedByPlan, IsUndamaged, sets_of};
 ghost use Rattle.dg_retrieval.specs.Retrieval.{IsFirstDamage, IsNoDamage};
 
-use crate::branches::edges_at;
 use crate::fault::RetrievalFault;
+use crate::graph_lead::GraphLead;
 use crate::leads::{TreeLeads, lead_along_tree};
+use crate::node_lead::retrieve_node;
 use dg_disk::Disk;
 use dg_file::Index;
-use dg_fold::{Lead, Open, compose_plan, fetch_walk};
 use dg_graph::Columns;
 use dg_history::NodeId;
 use dg_planner::Planner;
@@ -79,13 +79,8 @@ pub fn plan_set<R: Threads + Sync, D: Disk>(
     ensures same { index.new ≡ index.old }
     ensures disk { OnlyReads D.image D.faults D.write_faults disk.old disk.new }
 {
-    // Its clauses say which records the index keeps.
-    index.facts();
-    let route = planner.plan(alloc, node)?;
-    let walk = edges_at(alloc, planner.edges(), &route.steps)?;
-    let parts = fetch_walk(alloc, index, disk, &walk, ALL_COLUMNS)?;
-    let delta = compose_plan(rt, alloc, &Open, names, &parts)?;
-    Ok(delta.apply(&Set::new(alloc))?)
+    let lead = retrieve_node(rt, alloc, index, disk, names, planner, node, ALL_COLUMNS)?;
+    Ok(lead.delta.apply(&Set::new(alloc))?)
 }
 
 // An instant for each of the nodes: it is not looked at, since they are no lists.
@@ -96,8 +91,8 @@ fn no_instants(alloc: Global, nodes: &[NodeId]) -> Result<Vec<u64>, AllocError>
 }
 
 // The set to which each lead comes from the empty set.
-fn sets_led(alloc: Global, leads: &[Lead]) -> Result<Vec<Set>, AllocError>
-    ensures { IfOk result (λ sets. sets.items ≡ map (λ (l : Lead). applied l.delta []) leads.now) }
+fn sets_led(alloc: Global, leads: &[GraphLead]) -> Result<Vec<Set>, AllocError>
+    ensures { IfOk result (λ sets. sets.items ≡ map (λ (l : GraphLead). applied l.delta []) leads.now) }
 {
     let empty = Set::new(alloc);
     let mut sets = Vec::with_capacity(alloc, leads.len())?;

@@ -1,83 +1,25 @@
-use Rattle.std.proofs.Common.{List, IfErr, IfSome, ap, sym, subst, ◌∙◌}
-use Rattle.dg_fold.specs.BytesRead.{AreParts, kept_in, named_along}
-use Rattle.dg_fold.specs.declared.part.Part.{Part}
+use Rattle.std.proofs.Common.{ap, ◌∙◌}
 use Rattle.dg_graph.specs.Composition.{applied}
-use Rattle.dg_plan.specs.TreePaths.{edges_at}
-use Rattle.dg_history.specs.History.{History}
-use Rattle.dg_plan.specs.HistoryGraph.{all_columns}
-use Rattle.dg_retrieval.specs.Faults.{of_fold}
-use Rattle.dg_retrieval.specs.NodeSets.{IsIndexOver}
-use Rattle.dg_retrieval.specs.Retrieval.{IsNoDamage}
-use Rattle.dg_retrieval.proofs.PlannedSets.{plan_entered, plan_kept, plan_led, plan_most, plan_never, plan_set_is, plan_takes}
-use Rattle.dg_retrieval.proofs.Retrieving.{handed_out}
+use Rattle.dg_retrieval.proofs.PlannedSets.{set_damaged, set_is, set_led, set_takes}
+use Rattle.dg_retrieval.proofs.Retrieving.{fault_handed}
 use Rattle.dg_retrieval.proofs.record_sets.plan_set.Goals as goal
 
-pub fetch_walk-requires-clause-kept : goal.fetch_walk-requires-clause-kept
-fetch_walk-requires-clause-kept g c =
-    let along = c.deref-2.ensures.value ∙ c.in_ok-walk.ensures ∙ (λ i. edges_at (c.edges.ensures i) (c.deref.ensures.value i)) in
-    plan_kept c.args.index.now.opening c.args.planner.now.edges c.requires.edges c.args.node c.in_ok-route.route.steps.items c.in_ok-route.ensures.plan _ along
-    c.facts.ensures.parameters c.facts.ensures.kept
-
-pub fetch_walk-requires-clause-entered : goal.fetch_walk-requires-clause-entered
-fetch_walk-requires-clause-entered g c =
-    let along = c.deref-2.ensures.value ∙ c.in_ok-walk.ensures ∙ (λ i. edges_at (c.edges.ensures i) (c.deref.ensures.value i)) in
-    plan_entered c.args.index.now.opening c.args.planner.now.edges c.requires.edges c.args.node c.in_ok-route.route.steps.items c.in_ok-route.ensures.plan _ along
-
-pub returns-in_err-parts-clause-most : goal.returns-in_err-parts-clause-most
-returns-in_err-parts-clause-most g c =
-    let along = c.deref-2.ensures.value ∙ c.in_ok-walk.ensures ∙ (λ i. edges_at (c.edges.ensures i) (c.deref.ensures.value i)) in
-    plan_most c.args.index.now.opening c.args.planner.now.edges c.requires.edges c.args.node c.in_ok-route.route.steps.items c.in_ok-route.ensures.plan _ along c.args.names
-    _ _ _ c.fetch_walk.ensures.most
-
-pub returns-in_err-delta-clause-most : goal.returns-in_err-delta-clause-most
-returns-in_err-delta-clause-most g c =
-    let along = c.deref-2.ensures.value ∙ c.in_ok-walk.ensures ∙ (λ i. edges_at (c.edges.ensures i) (c.deref.ensures.value i)) in
-    plan_most c.args.index.now.opening c.args.planner.now.edges c.requires.edges c.args.node c.in_ok-route.route.steps.items c.in_ok-route.ensures.plan _ along c.args.names
-    _ _ _ c.fetch_walk.ensures.most
-
-pub returns-in_err-delta-clause-never : goal.returns-in_err-delta-clause-never
-returns-in_err-delta-clause-never g c =
-    let o = c.args.index.now.opening in
-    let along = c.deref-2.ensures.value ∙ c.in_ok-walk.ensures ∙ (λ i. edges_at (c.edges.ensures i) (c.deref.ensures.value i)) in
-    let image = g.D.Disk.image c.args.disk.now in
-    let read = subst (λ (parts : List Part). IfSome image (λ im. AreParts (kept_in im o) all_columns (named_along c.deref-2.result.now) parts)) (sym c.deref-3.ensures.value) c.in_ok-parts.ensures.parts in
-    handed_out c.from_residual-in_err-delta.result (of_fold c.in_err-delta.field-0.0)
-    (λ r. IfErr r (λ fault. IfSome image (λ im. (z : History) → IsIndexOver z im o c.args.names → IsNoDamage fault))) c.from_residual-in_err-delta.ensures
-    (plan_never o c.args.planner.now.edges c.requires.edges c.args.node c.in_ok-route.route.steps.items c.in_ok-route.ensures.plan _ along c.args.names image _ read
-    c.in_err-delta.field-0.0 c.in_err-delta.ensures)
-
-pub returns-in_err-apply-clause-most : goal.returns-in_err-apply-clause-most
-returns-in_err-apply-clause-most g c =
-    let along = c.deref-2.ensures.value ∙ c.in_ok-walk.ensures ∙ (λ i. edges_at (c.edges.ensures i) (c.deref.ensures.value i)) in
-    plan_most c.args.index.now.opening c.args.planner.now.edges c.requires.edges c.args.node c.in_ok-route.route.steps.items c.in_ok-route.ensures.plan _ along c.args.names
-    _ _ _ c.fetch_walk.ensures.most
+pub returns-in_err-lead-clause-damage : goal.returns-in_err-lead-clause-damage
+returns-in_err-lead-clause-damage g c key col is =
+    set_damaged c.args.names (g.D.Disk.image c.args.disk.now) c.args.index.now.opening c.args.planner.now.edges c.requires.edges c.args.node c.in_err-lead.field-0.0 key col
+    (fault_handed c.from_residual.result c.in_err-lead.field-0.0 c.from_residual.ensures is) c.in_err-lead.ensures.damage
 
 pub returns-clause-led : goal.returns-clause-led
 returns-clause-led g c =
-    let o = c.args.index.now.opening in
-    let along = c.deref-2.ensures.value ∙ c.in_ok-walk.ensures ∙ (λ i. edges_at (c.edges.ensures i) (c.deref.ensures.value i)) in
-    let image = g.D.Disk.image c.args.disk.now in
-    let read = subst (λ (parts : List Part). IfSome image (λ im. AreParts (kept_in im o) all_columns (named_along c.deref-2.result.now) parts)) (sym c.deref-3.ensures.value) c.in_ok-parts.ensures.parts in
-    plan_led o c.args.planner.now.edges c.requires.edges c.args.node c.in_ok-route.route.steps.items c.in_ok-route.ensures.plan _ along c.args.names image _ read
-    c.in_ok-delta.delta c.in_ok-delta.ensures _ (c.in_ok-apply.ensures ∙ ap (applied c.in_ok-delta.delta) c.new.ensures)
+    set_led c.args.names (g.D.Disk.image c.args.disk.now) c.args.index.now.opening c.args.planner.now.edges c.requires.edges c.args.node c.in_ok-lead.lead.delta c.in_ok-lead.ensures.led _
+    (c.in_ok-apply.ensures ∙ ap (applied c.in_ok-lead.lead.delta) c.new.ensures)
 
 pub returns-clause-set : goal.returns-clause-set
 returns-clause-set g c =
-    let o = c.args.index.now.opening in
-    let along = c.deref-2.ensures.value ∙ c.in_ok-walk.ensures ∙ (λ i. edges_at (c.edges.ensures i) (c.deref.ensures.value i)) in
-    let image = g.D.Disk.image c.args.disk.now in
-    let read = subst (λ (parts : List Part). IfSome image (λ im. AreParts (kept_in im o) all_columns (named_along c.deref-2.result.now) parts)) (sym c.deref-3.ensures.value) c.in_ok-parts.ensures.parts in
-    plan_set_is o c.args.planner.now.edges c.requires.edges c.args.node c.in_ok-route.route.steps.items c.in_ok-route.ensures.plan _ along c.args.names image _ read
-    c.in_ok-delta.delta c.in_ok-delta.ensures _ (c.in_ok-apply.ensures ∙ ap (applied c.in_ok-delta.delta) c.new.ensures)
+    set_is c.args.names (g.D.Disk.image c.args.disk.now) c.args.index.now.opening c.args.planner.now.edges c.requires.edges c.args.node c.in_ok-lead.lead.delta c.in_ok-lead.ensures.set _
+    (c.in_ok-apply.ensures ∙ ap (applied c.in_ok-lead.lead.delta) c.new.ensures)
 
 pub returns-clause-takes : goal.returns-clause-takes
 returns-clause-takes g c =
-    let along = c.deref-2.ensures.value ∙ c.in_ok-walk.ensures ∙ (λ i. edges_at (c.edges.ensures i) (c.deref.ensures.value i)) in
-    plan_takes c.args.index.now.opening c.args.planner.now.edges c.requires.edges c.args.node c.in_ok-route.route.steps.items c.in_ok-route.ensures.plan _ along c.args.names
-    _ _ _ c.in_ok-parts.ensures.takes
-
-pub returns-clause-most : goal.returns-clause-most
-returns-clause-most g c =
-    let along = c.deref-2.ensures.value ∙ c.in_ok-walk.ensures ∙ (λ i. edges_at (c.edges.ensures i) (c.deref.ensures.value i)) in
-    plan_most c.args.index.now.opening c.args.planner.now.edges c.requires.edges c.args.node c.in_ok-route.route.steps.items c.in_ok-route.ensures.plan _ along c.args.names
-    _ _ _ c.fetch_walk.ensures.most
+    set_takes c.args.names (g.D.Disk.image c.args.disk.now) c.args.index.now.opening c.args.planner.now.edges c.requires.edges c.args.node c.in_ok-lead.lead.weight _ _ c.in_ok-lead.ensures.plan
+    c.in_ok-lead.ensures.takes

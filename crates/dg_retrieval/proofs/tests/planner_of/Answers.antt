@@ -1,23 +1,16 @@
-use Rattle.std.proofs.Common.{◌≡◌, [], List, nat_lt, subst}
-use Rattle.std.specs.Prelude.{IfOk}
+use Rattle.std.proofs.Common.{ℕ, [], ◌∷◌, nat_lt, ap, ◌∙◌}
+use Rattle.std.specs.Prelude.{◌≢◌}
+use Rattle.std.proofs.lemmas.List.Elements.{All-cons, All-nil}
 use Rattle.dg_history.specs.declared.node.NodeId.{NodeId}
-use Rattle.dg_index.specs.OpenedIndex.{events_in}
-use Rattle.dg_plan.specs.declared.edge.Edge.{Edge}
-use Rattle.dg_plan.specs.IndexGraph.{edges_of, nodes_of}
-use Rattle.dg_planner.specs.Bases.{ground_of}
-use Rattle.dg_retrieval.specs.KeptGraph.{holding, shape_with}
+use Rattle.dg_history.specs.declared.node.NodeId.TheVariants.{List}
+use Rattle.dg_planner.specs.Bases.{base_of}
+use Rattle.dg_retrieval.specs.KeptGraph.{index_edges}
 use Rattle.dg_retrieval.proofs.tests.planner_of.Goals as goal
 
 pub returns-clause-edges : goal.returns-clause-edges
 returns-clause-edges c =
-    let many : c.events_len-events.result ≡ events_in c.args.index.now.opening.batches = c.events_len-events.ensures.events in
-    subst (λ (es : List Edge). IfOk c.new.result (λ p. p.edges ≡ es))
-    (λ i. edges_of (ground_of (shape_with (c.params-l.ensures i) (many i)) (holding (c.catalogue.ensures.entries i)) c.args.cols [] (nat_lt 0 (many i))))
-    c.new.ensures.edges
-
-pub returns-clause-nodes : goal.returns-clause-nodes
-returns-clause-nodes c =
-    let many : c.events_len-events.result ≡ events_in c.args.index.now.opening.batches = c.events_len-events.ensures.events in
-    subst (λ (ns : List NodeId). IfOk c.new.result (λ p. p.nodes ≡ ns))
-    (λ i. nodes_of (ground_of (shape_with (c.params-l.ensures i) (many i)) (holding (c.catalogue.ensures.entries i)) c.args.cols [] (nat_lt 0 (many i))))
-    c.new.ensures.nodes
+    let base = base_of c.in_ok-base.base in (
+      base ∷ [],
+      All-cons (λ (b : ℕ × NodeId). (i : ℕ) → b.1 ≢ List i) base [] c.in_ok-base.ensures.apart (All-nil (λ (b : ℕ × NodeId). (i : ℕ) → b.1 ≢ List i)),
+      c.in_ok-planner_with.ensures.edges ∙ ap (λ n. index_edges c.args.index.now.opening c.args.cols (nat_lt 0 n) (base ∷ [])) c.events_len-memory.ensures.events,
+    )

@@ -1,0 +1,72 @@
+//! What the paths of a tree begin with.
+
+ghost use Rattle.std.specs.Prelude.{◌≡◌, length, map, reverse, IfOk};
+ghost use Rattle.std.specs.List.{zip};
+ghost use Rattle.dg_plan.specs.IndexGraph.{is_root};
+ghost use Rattle.dg_plan.specs.InstantPoint.{same_node};
+ghost use Rattle.dg_retrieval.specs.Beginnings.{begun_by, begun_within, lead_by};
+
+use crate::graph_lead::{Beginning, GraphLead};
+use dg_fold::Lead;
+use dg_history::NodeId;
+use dg_plan::{Edge, Via};
+use std::alloc::{AllocError, Global};
+
+// Whether the two are one node.
+fn is_same(node: NodeId, other: NodeId) -> bool
+    ensures { result ≡ same_node node other }
+{
+    node == other
+}
+
+// Whether the node is the root.
+fn is_root(node: NodeId) -> bool
+    ensures { result ≡ is_root node }
+{
+    node == NodeId::Root
+}
+
+// What a path begins with whose first edge leads on by this.
+fn begun_by(via: Via) -> Beginning
+    ensures { result ≡ begun_by via }
+{
+    match via {
+        Via::Now => Beginning::Now,
+        Via::Base(handle) => Beginning::Base(handle),
+        Via::Paid(_, _) | Via::Held(_, _) | Via::Recent(_) => Beginning::Nothing,
+    }
+}
+
+// What the path to a node begins with, within the tree of these edges. The last edge into a node is that of its path.
+fn beginning_of(walk: &[Edge], target: NodeId) -> Beginning
+    ensures { result ≡ begun_within walk.now target }
+{
+    let mut node = target;
+    for edge in walk.iter().rev() {
+        if is_same(node, edge.to) {
+            if is_root(edge.from) {
+                return begun_by(edge.via);
+            }
+            node = edge.from;
+        }
+    }
+    Beginning::Nothing
+}
+
+/// The leads to the targets of the tree of these edges, with what the path to each begins with.
+pub(crate) fn graph_leads(
+    alloc: Global,
+    walk: &[Edge],
+    targets: &[NodeId],
+    leads: Vec<Lead>,
+) -> Result<Vec<GraphLead>, AllocError>
+    ensures { IfOk result (λ graphs. graphs.items ≡ map (lead_by walk.now) (zip leads.items targets.now)) }
+{
+    let mut graphs = Vec::with_capacity(alloc, leads.len())?;
+    for (lead, target) in leads.into_iter().zip(targets) {
+        let begins = beginning_of(walk, *target);
+        let Lead { delta, .. } = lead;
+        graphs.push(GraphLead { begins, delta })?;
+    }
+    Ok(graphs)
+}
