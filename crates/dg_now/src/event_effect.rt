@@ -14,8 +14,41 @@ use crate::completion::event_of;
 use crate::fault::PrepareFault;
 use crate::held_graph::HeldGraph;
 use dg_event::effect;
-use dg_graph::{Change, Element, Event};
-use std::alloc::AllocError;
+use dg_graph::{Body, Change, Element, Event, What};
+use std::alloc::{AllocError, Global};
+
+// Whether the change is to remove a node.
+fn removes_node(change: &Change) -> bool {
+    matches!(change.what, What::RemoveNode { .. })
+}
+
+/// Makes the graph ready for the removals of nodes among the changes. An `Err` says that memory ran out.
+pub(crate) fn ready_for_changes(
+    graph: &mut HeldGraph,
+    alloc: Global,
+    changes: &[Change],
+) -> Result<(), AllocError>
+    ensures { graph.new ≡ graph.old }
+{
+    if changes.iter().any(removes_node) {
+        return graph.sort_ends(alloc);
+    }
+    Ok(())
+}
+
+/// Makes the graph ready for the event. An `Err` says that memory ran out.
+pub(crate) fn ready_for_event(
+    graph: &mut HeldGraph,
+    alloc: Global,
+    event: &Event,
+) -> Result<(), AllocError>
+    ensures { graph.new ≡ graph.old }
+{
+    match event.body {
+        Body::NodeRemoved { .. } => graph.sort_ends(alloc),
+        _ => Ok(()),
+    }
+}
 
 // Takes the element out, if there is one.
 fn take_out(graph: &mut HeldGraph, out: Option<Element>)

@@ -9,10 +9,10 @@ ghost use Rattle.dg_now.specs.Now.{NowState, earliest_time_after, completed_batc
 use crate::completion::{is_change_of, value_in};
 use crate::element_id::{ElementId, element_before};
 use crate::element_list::{before_pending, first_changes, in_order, push};
-use crate::event_effect::{apply, complete_all, undo};
+use crate::event_effect::{apply, complete_all, ready_for_changes, ready_for_event, undo};
 use crate::fault::{FromFault, PrepareFault};
 use crate::held_graph::HeldGraph;
-use dg_graph::{Body, Change, Element, Event, What};
+use dg_graph::{Change, Element, Event};
 use dg_set::Set;
 use std::alloc::{AllocError, Global};
 use std::marker::Model;
@@ -103,9 +103,7 @@ impl Now {
     {
         let earliest = earliest_time_after(last);
         let alloc = *self.pending.allocator();
-        if changes.iter().any(removes_node) {
-            self.held.sort_ends(alloc)?;
-        }
+        ready_for_changes(&mut self.held, alloc, changes)?;
         self.held.reserve(changes.len())?;
         self.pending.reserve(changes.len())?;
         if let Err(fault) = complete_all(&mut self.held, &mut self.pending, earliest, changes) {
@@ -150,9 +148,7 @@ impl Now {
         ensures none { self.new.pending ≡ [] }
         ensures err { OnErr result (self.new ≡ self.old) }
     {
-        if let Body::NodeRemoved { .. } = event.body {
-            self.held.sort_ends(*self.pending.allocator())?;
-        }
+        ready_for_event(&mut self.held, *self.pending.allocator(), event)?;
         if !is_change_of(&self.held, &event.body) {
             return Ok(false);
         }
@@ -216,21 +212,21 @@ impl Now {
     pub fn to_set(&self) -> Result<Set, AllocError>
         ensures { IfOk result (λ set. set ≡ self.now.graph) }
     {
-        // The ids that have an entry are distinct, and nothing else changed.
+        // The ids that have an entry are distinct, and those with none are as at the start.
         self.held.facts();
         let alloc = *self.pending.allocator();
+        let base = self.held.base();
         let first = first_changes(alloc, &self.pending)?;
         let mut lost = Vec::with_capacity(alloc, self.held.len())?;
         let mut gained = Vec::with_capacity(alloc, self.held.len())?;
         for index in 0..self.held.len() {
             let id = self.held.id(index);
-            push(&mut lost, self.held.base().element_at(id))?;
+            push(&mut lost, base.element_at(id))?;
             push(&mut gained, before_pending(&first, &self.held, id))?;
         }
-        self.held
-            .base()
-            .elements()
-            .replaced(&in_order(lost), &in_order(gained))
+        let lost = in_order(lost);
+        let gained = in_order(gained);
+        base.elements().replaced(&lost, &gained)
     }
 }
 
@@ -243,9 +239,4 @@ fn earliest_time_after(last: Option<u64>) -> u64
         None => 0,
         Some(last) => last + 1,
     }
-}
-
-// Whether the change is to remove a node.
-fn removes_node(change: &Change) -> bool {
-    matches!(change.what, What::RemoveNode { .. })
 }
