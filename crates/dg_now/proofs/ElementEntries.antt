@@ -1,5 +1,5 @@
 -- What the writes of single entries leave.
-use Rattle.std.proofs.Common.{◌≡◌, ℕ, ◌+◌, ◌<◌, ◌≤◌, Bool, true, false, cond, ◌||◌, ltb, List, [], Option, Some, None, is_some, length, map, Result, Ok, refl, sym, ap, subst, ◌∙◌, arith, length-append}
+use Rattle.std.proofs.Common.{◌≡◌, ℕ, ◌+◌, ◌≤◌, Bool, true, false, cond, ◌||◌, ltb, List, [], Option, Some, None, is_some, length, map, Result, Ok, refl, sym, ap, subst, ◌∙◌, arith, length-append}
 use Rattle.std.proofs.lemmas.Bool.{true≢false}
 use Rattle.std.proofs.lemmas.Map.Made.{is_some-lookup}
 use Rattle.std.proofs.lemmas.List.{length-map}
@@ -9,7 +9,7 @@ use Rattle.std.specs.Map.{keys_of, lookup}
 use Rattle.std.specs.Option.{option_map_or}
 use Rattle.std.specs.Result.{OnOk}
 use Rattle.dg_graph.specs.declared.element.Element.{Element}
-use Rattle.dg_graph.specs.Elements.{bit, has}
+use Rattle.dg_graph.specs.Elements.{bit}
 use Rattle.dg_graph.specs.Graph.{has_needs}
 use Rattle.dg_now.specs.declared.element_entry.ElementEntry.{ElementEntry}
 use Rattle.dg_now.specs.declared.element_id.ElementId.{ElementId}

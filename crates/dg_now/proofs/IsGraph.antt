@@ -1,5 +1,5 @@
 -- Whether a rising list is a graph, by what walks over it find.
-use Rattle.std.proofs.Common.{◌≡◌, ℕ, ◌+◌, ◌-◌, ◌<◌, ◌≤◌, zero, suc, Bool, true, false, cond, ltb, leb, eqb, ◌&&◌, ◌||◌, List, [], ◌∷◌, ◌++◌, Option, Some, None, is_some, length, take, map, get_or, IsTrue, refl, sym, ap, subst, ◌∙◌, arith, ◌⊎◌, inl, inr}
+use Rattle.std.proofs.Common.{◌≡◌, ℕ, ◌+◌, ◌-◌, ◌<◌, ◌≤◌, Bool, true, false, ltb, eqb, ◌&&◌, ◌||◌, List, [], ◌∷◌, ◌++◌, Option, Some, None, is_some, length, take, map, get_or, IsTrue, refl, sym, ap, subst, ◌∙◌, arith, ◌⊎◌, inl, inr}
 use Rattle.std.proofs.lemmas.Bool.{true≢false, false≢true, ltb-true, ltb-false, eqb-true, eq-eqb, or_left}
 use Rattle.std.proofs.lemmas.List.{get_or-take, get_or-map, get_or_default, length-take-le, length-map, map-append, take_more}
 use Rattle.std.proofs.lemmas.List.Folds.{Any-from_list_any, list_any_at, list_all_more}
@@ -14,12 +14,12 @@ use Rattle.dg_graph.specs.declared.element.Element.TheVariants as element
 use Rattle.dg_graph.specs.Completion.{has_node}
 use Rattle.dg_graph.specs.Elements.{IsSet, element_cmp, before, same, has}
 use Rattle.dg_graph.specs.Graph.{IsGraph, has_needs}
-use Rattle.dg_graph.proofs.Sets.{element_total, element_exact, tied_exact, same_itself, before_trans, before_from_Greater}
+use Rattle.dg_graph.proofs.Sets.{element_exact, tied_exact, same_itself, before_trans, before_from_Greater}
 use Rattle.dg_now.specs.declared.element_id.ElementId.{ElementId}
 use Rattle.dg_now.specs.declared.element_id.ElementId.TheVariants.{Node, Edge}
 use Rattle.dg_now.specs.ElementIds.{element_id_of, at, same_id}
 use Rattle.dg_now.specs.Sorted.{AreNodesOf, OneOfEachId, has_ends, holder_of, is_held, least}
-use Rattle.dg_now.proofs.ElementIds.{both, either, has_node_is, graph_from, one_of_each_id}
+use Rattle.dg_now.proofs.ElementIds.{both, either, has_node_is, graph_from}
 use Rattle.dg_now.proofs.HeldGraph.{same_id_from}
 use Rattle.dg_now.proofs.ToSet.{bool_is}
 use Rattle.dg_now.proofs.Order.{nodes_rise, edges_rise, node_values_rise, edge_values_rise, nodes_above, rises_far, rises_on, index_of, item_there, id_between, not_itself}
@@ -246,13 +246,13 @@ pub all_needs : (set : List Element) → (list_all (is_held set) set && list_all
 all_needs set =
     bool_is (list_all (is_held set) set && list_all (has_ends set) set) (list_all (has_needs set) set)
     (λ e.
-        let parts = both (list_all (is_held set) set) (list_all (has_ends set) set) e in
-        of_all (has_needs set) set (λ x h. needs_both set x ∙ (λ i. all_of (has_ends set) set parts.1 x h i && all_of (is_held set) set parts.0 x h i)))
+    let parts = both (list_all (is_held set) set) (list_all (has_ends set) set) e in
+    of_all (has_needs set) set (λ x h. needs_both set x ∙ (λ i. all_of (has_ends set) set parts.1 x h i && all_of (is_held set) set parts.0 x h i)))
     (λ e.
-        let one : (x : Element) → has set x ≡ true → (has_ends set x ≡ true) × (is_held set x ≡ true) = λ x h. both (has_ends set x) (is_held set x) (sym (needs_both set x) ∙ all_of (has_needs set) set e x h) in
-        let held = of_all (is_held set) set (λ x h. (one x h).1) in
-        let ends = of_all (has_ends set) set (λ x h. (one x h).0) in
-        λ i. held i && ends i)
+    let one : (x : Element) → has set x ≡ true → (has_ends set x ≡ true) × (is_held set x ≡ true) = λ x h. both (has_ends set x) (is_held set x) (sym (needs_both set x) ∙ all_of (has_needs set) set e x h) in
+    let held = of_all (is_held set) set (λ x h. (one x h).1) in
+    let ends = of_all (has_ends set) set (λ x h. (one x h).0) in
+    λ i. held i && ends i)
 
 -- a set whose elements have ids of their own and what they need is a graph, and the other way round
 pub graph_passes : (set : List Element) → IsSet set → OneOfEachId set → list_all (has_needs set) set ≡ true → IsGraph set

@@ -1,6 +1,6 @@
 -- What searches in a rising list find, and how many of its elements pass a test.
-use Rattle.std.proofs.Common.{◌≡◌, ℕ, ◌+◌, ◌-◌, ◌<◌, ◌≤◌, zero, suc, Bool, true, false, cond, ltb, leb, eqb, not, ◌||◌, ◌&&◌, List, [], ◌∷◌, ◌++◌, Option, Some, None, Result, Ok, Err, is_ok, is_some, find, length, take, drop, map, get_or, IsTrue, refl, sym, ap, subst, ◌∙◌, arith, add-one, drop-cons, ◌⊎◌, inl, inr}
-use Rattle.std.proofs.lemmas.Bool.{true≢false, false≢true, ltb-true, ltb-false, lt-ltb, le-ltb, eqb-true, eq-eqb, ne_eqb}
+use Rattle.std.proofs.Common.{◌≡◌, ℕ, ◌+◌, ◌-◌, ◌<◌, ◌≤◌, zero, suc, Bool, true, false, cond, ltb, leb, eqb, ◌||◌, List, [], ◌∷◌, ◌++◌, Some, None, Result, Ok, Err, is_ok, find, length, take, drop, get_or, IsTrue, refl, sym, ap, subst, ◌∙◌, arith, add-one, drop-cons}
+use Rattle.std.proofs.lemmas.Bool.{true≢false, false≢true, ltb-true, ltb-false, eq-eqb, ne_eqb}
 use Rattle.std.proofs.lemmas.List.{get_or_default, take_more, get_or-drop, length-drop}
 use Rattle.std.proofs.lemmas.List.Folds.{list_any_at, list_any_none}
 use Rattle.std.proofs.lemmas.List.Sorted.{searchable_from_sorted, searched}
@@ -13,14 +13,14 @@ use Rattle.std.specs.declared.cmp.Ordering.TheVariants.{Less, Equal, Greater}
 use Rattle.dg_graph.specs.declared.element.Element.{Element}
 use Rattle.dg_graph.specs.declared.element.Element.TheVariants as element
 use Rattle.dg_graph.specs.contracts.element.ElementOrd.TheImpl as of_elements
-use Rattle.dg_graph.specs.Elements.{bit, element_cmp, before, has, IsSet}
+use Rattle.dg_graph.specs.Elements.{bit, element_cmp, before, IsSet}
 use Rattle.dg_graph.proofs.Sets.{element_total, tied_exact, before_trans}
 use Rattle.dg_now.specs.declared.element_id.ElementId.{ElementId}
-use Rattle.dg_now.specs.declared.element_id.ElementId.TheVariants.{Node, Edge, NodeValue, EdgeValue}
+use Rattle.dg_now.specs.declared.element_id.ElementId.TheVariants.{Node, Edge}
 use Rattle.dg_now.specs.ElementIds.{element_id_of, has_id, at, needs_id}
 use Rattle.dg_now.specs.Sorted.{IsFirstFrom, least, first_value, is_value_at, has_end}
 use Rattle.dg_now.proofs.ElementIds.{has_id_is, has_id_itself}
-use Rattle.dg_now.proofs.Order.{compares_by, rises_far, rises_on, id_between, id_of_least, below_least, value_between, below_value, not_itself}
+use Rattle.dg_now.proofs.Order.{compares_by, rises_far, rises_on, id_between, id_of_least, below_least, value_between, below_value}
 
 -- ---- the first item that is not before an element
 

@@ -1,5 +1,5 @@
 -- A graph as the set at the start with what changed since.
-use Rattle.std.proofs.Common.{◌≡◌, ℕ, ◌+◌, ◌<◌, zero, suc, Bool, true, false, cond, not, ◌||◌, ◌&&◌, List, [], ◌∷◌, ◌++◌, Option, Some, None, is_some, length, take, get_or, slice_get, IsTrue, refl, sym, ap, subst, ◌∙◌, arith, ◌⊎◌, inl, inr}
+use Rattle.std.proofs.Common.{◌≡◌, ℕ, ◌+◌, ◌<◌, suc, Bool, true, false, not, ◌||◌, ◌&&◌, List, [], ◌∷◌, ◌++◌, Option, Some, None, length, take, get_or, slice_get, refl, sym, ap, subst, ◌∙◌, arith, ◌⊎◌, inl, inr}
 use Rattle.std.proofs.lemmas.Bool.{true≢false, false≢true, or_left, or_right}
 use Rattle.std.proofs.lemmas.List.{take_more}
 use Rattle.std.proofs.lemmas.List.Elements.{filter_map-append}
@@ -100,8 +100,8 @@ module _ (graph base : List Element) (ids : List ElementId) (g : IsGraph graph) 
   lost_where x h =
       bool_is (has lost x) (list_any (same_id (element_id_of x)) ids)
       (λ l.
-          let got = listed_from (at base) ids x (sym (lost_is x) ∙ l) in
-          ap (λ q. list_any (same_id q) ids) (at_has base got.0 x got.1.0).1 ∙ got.1.1)
+      let got = listed_from (at base) ids x (sym (lost_is x) ∙ l) in
+      ap (λ q. list_any (same_id q) ids) (at_has base got.0 x got.1.0).1 ∙ got.1.1)
       (λ there. lost_is x ∙ listed_to (at base) ids (element_id_of x) x (at_from base (one_of_each_id base start) x h) there)
 
   from_set : (set : List Element) → Members set → (x : Element) → has set x ≡ true → has graph x ≡ true

@@ -1,6 +1,6 @@
 use Rattle.std.proofs.Common.{◌&&◌, ◌∙◌, sym}
 use Rattle.std.specs.List.{list_all}
-use Rattle.dg_now.specs.Sorted.{has_ends, is_held}
+use Rattle.dg_now.specs.Sorted.{has_ends}
 use Rattle.dg_now.proofs.IsGraph.{all_needs}
 use Rattle.dg_now.proofs.graph_test.are_fed.Goals as goal
 

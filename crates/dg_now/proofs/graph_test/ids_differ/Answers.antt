@@ -1,4 +1,4 @@
-use Rattle.std.proofs.Common.{false, refl, sym, ap, ◌∙◌, arith}
+use Rattle.std.proofs.Common.{refl, sym, ◌∙◌, arith}
 use Rattle.std.proofs.lemmas.Bool.{false≢true}
 use Rattle.dg_now.specs.ElementIds.{same_id}
 use Rattle.dg_now.proofs.HeldGraph.{equal_ids, unequal_ids}
@@ -10,11 +10,10 @@ returns-then-eq c =
     let xs = c.args.items.now in
     let i = c.loop-index.index in
     let first = c.of.result in
-    let second = c.of-in-loop-index.result in
-    (
+    let second = c.of-in-loop-index.result in (
       λ e. absurd (false≢true e),
       λ one. absurd (index_meets xs i c.loop-index.auto.index c.loop-index-test.true c.requires
-      (sym c.of.ensures ∙ equal_ids first second c.eq.result c.eq.ensures c.if-eq.true ∙ c.of-in-loop-index.ensures) one),
+          (sym c.of.ensures ∙ equal_ids first second c.eq.result c.eq.ensures c.if-eq.true ∙ c.of-in-loop-index.ensures) one),
     )
 
 pub returns : goal.returns

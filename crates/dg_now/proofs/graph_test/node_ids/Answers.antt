@@ -11,10 +11,10 @@ returns c =
     let i = c.loop-element.element-index in
     are_nodes xs c.requires c.loop-element.nodes.items i c.loop-element.auto.element-index-end c.loop-element.invariant
     (λ k d n from end is.
-        elim c.loop-element-test.branch [
-          | else-loop-element-test w ↦ let over = w.loop-element-test.false in absurd (omega arith)
-          | then-loop-element-test+in_default w ↦ no_later_node xs c.requires i k d n from end is (λ m read. w.in_default.not-Node m (get_or_default xs i past d w.loop-element-test.true ∙ read))
-        ])
+    elim c.loop-element-test.branch [
+      | else-loop-element-test w ↦ let over = w.loop-element-test.false in absurd (omega arith)
+      | then-loop-element-test+in_default w ↦ no_later_node xs c.requires i k d n from end is (λ m read. w.in_default.not-Node m (get_or_default xs i past d w.loop-element-test.true ∙ read))
+    ])
 
 pub loop-element-preserved : goal.loop-element-preserved
 loop-element-preserved c =

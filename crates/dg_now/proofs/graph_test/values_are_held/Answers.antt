@@ -1,8 +1,7 @@
-use Rattle.std.proofs.Common.{◌≡◌, ◌+◌, ◌≤◌, Some, None, not, is_some, length, slice_index_or, subst, sym, ap, ◌∙◌, arith}
+use Rattle.std.proofs.Common.{◌≡◌, ◌+◌, ◌≤◌, Some, None, not, is_some, length, slice_index_or, subst, sym, ap, ◌∙◌}
 use Rattle.std.proofs.lemmas.List.{take_all}
 use Rattle.std.proofs.lemmas.List.Folds.{list_all_at}
 use Rattle.std.specs.List.{list_all}
-use Rattle.dg_graph.specs.declared.element.Element.{Element}
 use Rattle.dg_now.specs.Sorted.{IsFirstFrom, is_held, holder_of, least}
 use Rattle.dg_now.proofs.IsGraph.{HoldersPast, all_more, held_is, holders_next, holders_still, past}
 use Rattle.dg_now.proofs.graph_test.values_are_held.Goals as goal

@@ -1,4 +1,4 @@
-use Rattle.std.proofs.Common.{true, ap, sym, ◌∙◌, arith}
+use Rattle.std.proofs.Common.{ap, sym, ◌∙◌, arith}
 use Rattle.std.proofs.lemmas.Bool.{true≢false}
 use Rattle.std.proofs.lemmas.List.{get_or_default}
 use Rattle.dg_graph.specs.declared.element.Element.{Element}
@@ -24,10 +24,10 @@ returns-else-index-items c =
     let i = c.args.index in
     sym (found_none xs c.requires.set c.args.id i c.requires.first
     (λ d less is.
-        elim c.else-index-items.branch [
-          | else-index-items-via-then-index-items+else-eq w ↦
-              true≢false
-              (sym (same_id_from w.of.result c.args.id (w.of.ensures ∙ ap element_id_of (get_or_default xs i past d less) ∙ is))
-              ∙ unequal_ids w.of.result c.args.id w.eq.result w.eq.ensures w.if-eq.false)
-          | else-index-items-via-else-index-items w ↦ let past_end = w.if-index-items.false in absurd (omega arith)
-        ]))
+    elim c.else-index-items.branch [
+      | else-index-items-via-then-index-items+else-eq w ↦
+          true≢false
+          (sym (same_id_from w.of.result c.args.id (w.of.ensures ∙ ap element_id_of (get_or_default xs i past d less) ∙ is))
+          ∙ unequal_ids w.of.result c.args.id w.eq.result w.eq.ensures w.if-eq.false)
+      | else-index-items-via-else-index-items w ↦ let past_end = w.if-index-items.false in absurd (omega arith)
+    ]))

@@ -1,4 +1,4 @@
-use Rattle.std.proofs.Common.{ℕ, ◌<◌, ◌≤◌, length, slice_index_or, IsTrue}
+use Rattle.std.proofs.Common.{ℕ, ◌<◌, slice_index_or, IsTrue}
 use Rattle.dg_graph.specs.declared.element.Element.{Element}
 use Rattle.dg_graph.specs.Elements.{before}
 use Rattle.dg_now.proofs.search.next_from.Given as goal

@@ -1,5 +1,4 @@
 use Rattle.std.proofs.Common.{◌≡◌, ◌+◌, true, cond, Some, None, sym, ap, subst, ◌∙◌, arith}
-use Rattle.dg_graph.specs.declared.element.Element.{Element}
 use Rattle.dg_graph.specs.Elements.{bit, put}
 use Rattle.dg_graph.specs.Graph.{has_needs}
 use Rattle.dg_now.specs.declared.element_id.ElementId.{ElementId}

@@ -1,4 +1,4 @@
-use Rattle.std.proofs.Common.{Some, IfSome, ap, subst, sym, ◌==◌, ◌∙◌}
+use Rattle.std.proofs.Common.{IfSome, ap, subst, ◌==◌, ◌∙◌}
 use Rattle.std.specs.List.{count_by}
 use Rattle.dg_now.specs.Sorted.{AreEndsOf, has_end}
 use Rattle.dg_now.proofs.sorted_graph.SortedGraph.edges_at.Goals as goal
