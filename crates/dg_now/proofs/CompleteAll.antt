@@ -1,5 +1,5 @@
 -- How the events of a batch follow, one change at a time, and the elements before them.
-use Rattle.std.proofs.Common.{◌≡◌, ℕ, ◌+◌, ◌<◌, ◌≤◌, Bool, true, false, cond, List, [], ◌∷◌, ◌++◌, Option, Some, None, Result, Ok, Err, is_some, length, take, drop, get_or, map, refl, sym, ap, subst, ◌∙◌, append_assoc, add-one, drop-cons, ◌⊎◌, inl, inr}
+use Rattle.std.proofs.Common.{◌≡◌, ℕ, ◌+◌, ◌<◌, ◌≤◌, Bool, true, false, cond, List, [], ◌∷◌, ◌++◌, Option, Some, None, Result, Ok, Err, IfSome, length, take, drop, get_or, map, refl, sym, ap, subst, ◌∙◌, append_assoc, add-one, drop-cons, ◌⊎◌, inl, inr}
 use Rattle.std.proofs.lemmas.List.{append-nil, drop_all, take_more}
 use Rattle.std.proofs.lemmas.Bool.{true≢false}
 use Rattle.std.specs.Map.{lookup}
@@ -14,8 +14,8 @@ use Rattle.dg_graph.specs.Graph.{IsGraph}
 use Rattle.dg_graph.specs.Replay.{replay_from}
 use Rattle.dg_graph.proofs.Sets.{element_exact}
 use Rattle.dg_now.specs.declared.element_id.ElementId.{ElementId}
-use Rattle.dg_now.specs.HeldGraph.{HeldGraphState, knows, KeepsIds}
-use Rattle.dg_now.specs.EventEffect.{changed_id, element_before, CanHappen, CameBy, AllHappen, AllKnown, Led, element_before_all}
+use Rattle.dg_now.specs.HeldGraph.{HeldGraphState, knows, IsKnown, KeepsIds}
+use Rattle.dg_now.specs.EventEffect.{changed_id, element_before, CanHappen, CameBy, AllHappen, KnowsEvent, AllKnown, Led, element_before_all}
 use Rattle.dg_now.specs.ElementIds.{element_id_of, at, same_id}
 use Rattle.dg_now.proofs.EventEffect.{graph_forwards, led_graph, undone, came, removed_has_id, added_has_id, known_still}
 use Rattle.dg_now.proofs.HeldGraph.{same_id_exact, same_id_from}
@@ -86,19 +86,27 @@ replay_more : (set : List Element) (events : List Event) (e : Event)
 replay_more set [] e = refl
 replay_more set (x ∷ events) e = replay_more (forwards set x) events e
 
-known_more : (h : HeldGraphState) (events : List Event) (e : Event) → AllKnown h events
-    → (is_some (element_before e.body) ≡ true → knows h (changed_id e.body) ≡ true) → AllKnown h (events ++ e ∷ [])
+known_more : (h : HeldGraphState) (events : List Event) (e : Event) → AllKnown h events → KnowsEvent h e → AllKnown h (events ++ e ∷ [])
 known_more h [] e k here = (here, tt)
 known_more h (x ∷ events) e k here = (k.0, known_more h events e k.1 here)
 
 pub led_more : (start : List Element) (events : List Event) (old new : HeldGraphState) (e : Event) → Led start events old → CanHappen old.set e.body
-    → new.set ≡ forwards old.set e → KeepsIds old new → (is_some (element_before e.body) ≡ true → knows new (changed_id e.body) ≡ true)
+    → new.set ≡ forwards old.set e → KeepsIds old new → KnowsEvent new e
     → Led start (events ++ e ∷ []) new
 led_more start events old new e led happens is keeps known = record {
   graph = led.graph;
   happen = happen_more start events e led.happen (subst (λ s. CanHappen s e.body) led.comes happens);
   comes = is ∙ ap (λ s. forwards s e) led.comes ∙ sym (replay_more start events e);
   known = known_more new events e (known_still old new events keeps led.known) known;
+}
+
+-- the same graph, with more entries
+pub led_still : (start : List Element) (events : List Event) (old new : HeldGraphState) → Led start events old → new.set ≡ old.set → KeepsIds old new → Led start events new
+led_still start events old new led is keeps = record {
+  graph = led.graph;
+  happen = led.happen;
+  comes = is ∙ led.comes;
+  known = known_still old new events keeps led.known;
 }
 
 -- ---- one event less
@@ -108,8 +116,7 @@ happen_less : (set : List Element) (events : List Event) (e : Event) → AllHapp
 happen_less set [] e h = (tt, h.0)
 happen_less set (x ∷ events) e h = let rest = happen_less (forwards set x) events e h.1 in ((h.0, rest.0), rest.1)
 
-known_less : (h : HeldGraphState) (events : List Event) (e : Event) → AllKnown h (events ++ e ∷ [])
-    → AllKnown h events × (is_some (element_before e.body) ≡ true → knows h (changed_id e.body) ≡ true)
+known_less : (h : HeldGraphState) (events : List Event) (e : Event) → AllKnown h (events ++ e ∷ []) → AllKnown h events × KnowsEvent h e
 known_less h [] e k = (tt, k.0)
 known_less h (x ∷ events) e k = let rest = known_less h events e k.1 in ((k.0, rest.0), rest.1)
 
@@ -126,7 +133,7 @@ module _ (start : List Element) (events : List Event) (old : HeldGraphState) (e 
   pub last_came : CameBy old.set e
   last_came = subst (λ s. CameBy s e) (sym set_is) (came (replay_from start events) e before_graph happened)
 
-  pub last_known : is_some (element_before e.body) ≡ true → knows old (changed_id e.body) ≡ true
+  pub last_known : KnowsEvent old e
   last_known = (known_less old events e led.known).1
 
   pub led_less : (new : HeldGraphState) → new.set ≡ backwards old.set e → KeepsIds old new → Led start events new
@@ -139,11 +146,9 @@ module _ (start : List Element) (events : List Event) (old : HeldGraphState) (e 
 
 -- ---- the element with an id before the events
 
--- an event changes no element with another id
-module _ (set : List Element) (e : Event) (g : IsGraph set) (p : ElementId) (apart : same_id (changed_id e.body) p ≡ false) where
-  not_there : (x : Element) → element_id_of x ≡ p → element_id_of x ≡ changed_id e.body → ⊥
-  not_there x is at = true≢false (sym (same_id_from (changed_id e.body) p (sym at ∙ is)) ∙ apart)
-
+-- an event changes no element with an id that what it takes away and what it adds do not have
+module _ (set : List Element) (e : Event) (g : IsGraph set) (p : ElementId) (not_out : (x : Element) → removed_by e.body ≡ Some x → element_id_of x ≡ p → ⊥)
+    (not_in : (x : Element) → added_by e.body ≡ Some x → element_id_of x ≡ p → ⊥) where
   still : (x : Element) → element_id_of x ≡ p → has set x ≡ true → has (forwards set e) x ≡ true
   still x is there = more (added_by e.body) (less (removed_by e.body) refl)
     where
@@ -153,7 +158,7 @@ module _ (set : List Element) (e : Event) (g : IsGraph set) (p : ElementId) (apa
         where
           differs : (b : Bool) → same x y ≡ b → same x y ≡ false
           differs false k = k
-          differs true k = absurd (not_there x is (ap element_id_of (element_exact x y k) ∙ removed_has_id e.body y f))
+          differs true k = absurd (not_out y f (ap element_id_of (sym (element_exact x y k)) ∙ is))
 
       more : (o : Option Element) → has (without set (removed_by e.body)) x ≡ true → has (with_one (without set (removed_by e.body)) o) x ≡ true
       more None k = k
@@ -167,14 +172,14 @@ module _ (set : List Element) (e : Event) (g : IsGraph set) (p : ElementId) (apa
       less (Some y) f k = which (put_from y (without set (removed_by e.body)) x k)
         where
           which : (x ≡ y) ⊎ (has (without set (removed_by e.body)) x ≡ true) → has (without set (removed_by e.body)) x ≡ true
-          which (inl q) = absurd (not_there x is (ap element_id_of q ∙ added_has_id e.body y f))
+          which (inl q) = absurd (not_in y f (ap element_id_of (sym q) ∙ is))
           which (inr q) = q
 
       out : (o : Option Element) → has (without set o) x ≡ true → has set x ≡ true
       out None k = k
       out (Some y) k = (out_from y set x k).1
 
-  elsewhere : at (forwards set e) p ≡ at set p
+  pub elsewhere : at (forwards set e) p ≡ at set p
   elsewhere =
       at_is (forwards set e) p (at set p)
       (λ x f. let got = at_has set p x f in (still x got.1 got.0, got.1))
@@ -189,7 +194,11 @@ first_is set (e ∷ events) p g h =
     by : (b : Bool) → same_id (changed_id e.body) p ≡ b → at (forwards set e) p ≡ element_before_all events p (at (replay_from (forwards set e) events) p)
         → at set p ≡ cond b (element_before e.body) (element_before_all events p (at (replay_from (forwards set e) events) p))
     by true s later = ap (at set) (sym (same_id_exact (changed_id e.body) p s)) ∙ h.0.before
-    by false s later = sym (elsewhere set e g p s) ∙ later
+    by false s later =
+        sym (elsewhere set e g p (λ x f is. apart x is (removed_has_id e.body x f) s) (λ x f is. apart x is (added_has_id e.body x f) s)) ∙ later
+      where
+        apart : (x : Element) → element_id_of x ≡ p → element_id_of x ≡ changed_id e.body → same_id (changed_id e.body) p ≡ false → ⊥
+        apart x is changed s = true≢false (sym (same_id_from (changed_id e.body) p (sym changed ∙ is)) ∙ s)
 
 -- the first event of a list that changes the element with the id
 pub first_here : (events : List Event) (p : ElementId) (last : Option Element) (i : ℕ) (d : Event) → i < length events
@@ -224,3 +233,23 @@ noted old new id before none is p last = ap (λ o. unwrap_or o last) (is p) ∙ 
         → unwrap_or (cond b (Some before) (lookup (same_id p) old)) last ≡ unwrap_or (lookup (same_id p) old) (cond b before last)
     by true s = sym (ap (λ o. unwrap_or o before) (ap (λ q. lookup (same_id q) old) (sym (same_id_exact id p s)) ∙ none))
     by false s = refl
+
+-- ---- ids that no event touched
+
+if_knows : (h : HeldGraphState) (o : Option Element) (x : Element) → IfSome o (IsKnown h) → o ≡ Some x → knows h (element_id_of x) ≡ true
+if_knows h o x known is = let here : IsKnown h x = subst (λ (q : Option Element). IfSome q (IsKnown h)) is known in here.itself
+
+untouched : (h : HeldGraphState) (set : List Element) (events : List Event) (p : ElementId) → IsGraph set → AllHappen set events → AllKnown h events → knows h p ≡ false
+    → at (replay_from set events) p ≡ at set p
+untouched h set [] p g happen known none = refl
+untouched h set (e ∷ events) p g happen known none =
+    untouched h (forwards set e) events p (graph_forwards set e.body g happen.0) happen.1 known.1 none
+    ∙ elsewhere set e g p (λ x f is. apart x is (if_knows h (removed_by e.body) x known.0.removed f)) (λ x f is. apart x is (if_knows h (added_by e.body) x known.0.added f))
+  where
+    apart : (x : Element) → element_id_of x ≡ p → knows h (element_id_of x) ≡ true → ⊥
+    apart x is there = true≢false (sym there ∙ ap (knows h) is ∙ none)
+
+-- what an id that is not known has is as before the events
+pub led_untouched : (start : List Element) (events : List Event) (h : HeldGraphState) → Led start events h → (p : ElementId) → knows h p ≡ false → at start p ≡ at h.set p
+led_untouched start events h led p none =
+    sym (untouched h start events p led.graph led.happen led.known none) ∙ ap (λ s. at s p) (sym led.comes)

@@ -11,6 +11,7 @@ use Rattle.dg_graph.proofs.Sets.{element_exact, same_itself, has-put, has-take_o
 use Rattle.dg_now.specs.declared.element_id.ElementId.{ElementId}
 use Rattle.dg_now.specs.declared.element_id.ElementId.TheVariants.{Node, Edge, NodeValue, EdgeValue}
 use Rattle.dg_now.specs.ElementIds.{element_id_of, has_id, at, needs_id}
+use Rattle.dg_now.specs.Sorted.{OneOfEachId}
 
 pub both : (a b : Bool) → (a && b) ≡ true → (a ≡ true) × (b ≡ true)
 both true b e = (refl, e)
@@ -80,10 +81,6 @@ found_none t (y ∷ ys) e x h = by (t y) refl e (either (same x y) (has ys x) h)
     by false ty none (inr there) rest = rest none there
 
 -- ---- the element with an id
-
--- one element at the most has an id
-abbrev pub OneOfEachId : List Element → Type 0
-OneOfEachId set = (x y : Element) → has set x ≡ true → has set y ≡ true → element_id_of x ≡ element_id_of y → x ≡ y
 
 pub at_has : (set : List Element) (p : ElementId) (x : Element) → at set p ≡ Some x → (has set x ≡ true) × (element_id_of x ≡ p)
 at_has set p x e =

@@ -1,20 +1,22 @@
 -- What an event that can happen leaves of a graph, and that it can be undone.
-use Rattle.std.proofs.Common.{◌≡◌, ℕ, Bool, true, false, cond, List, [], ◌∷◌, Option, Some, None, IfSome, refl, sym, ap, subst, ◌∙◌, eqb, ◌⊎◌, inl, inr}
-use Rattle.std.proofs.lemmas.Bool.{true≢false, false≢true, eqb-true, eq-eqb}
+use Rattle.std.proofs.Common.{◌≡◌, ℕ, Bool, true, false, cond, List, [], ◌∷◌, Option, Some, None, IfSome, nat_eq, nat_lt, refl, sym, ap, subst, ◌∙◌, eqb, ◌⊎◌, inl, inr}
+use Rattle.std.proofs.lemmas.Bool.{true≢false, false≢true, eqb-true, eq-eqb, or_left}
 use Rattle.std.specs.List.{list_any}
+use Rattle.std.specs.Option.{option_map, option_eq, option_or}
 use Rattle.dg_graph.specs.declared.element.Element.{Element}
 use Rattle.dg_graph.specs.declared.element.Element.TheVariants as element
 use Rattle.dg_graph.specs.declared.event.Body.{Body}
 use Rattle.dg_graph.specs.declared.event.Body.TheVariants as body
 use Rattle.dg_graph.specs.declared.event.Event.{Event}
-use Rattle.dg_graph.specs.Effect.{removed_by, added_by, forwards, backwards}
+use Rattle.dg_graph.specs.Effect.{moved, removed_by, added_by, forwards, backwards}
 use Rattle.dg_graph.specs.Elements.{has, same, put, take_out, without, with_one}
 use Rattle.dg_graph.specs.Graph.{IsGraph, has_needs}
 use Rattle.dg_graph.specs.Replay.{replay_from}
 use Rattle.dg_graph.proofs.Sets.{same_itself, element_exact, take_out-put, put-take_out}
 use Rattle.dg_now.specs.declared.element_id.ElementId.{ElementId}
-use Rattle.dg_now.specs.HeldGraph.{HeldGraphState, KeepsIds}
-use Rattle.dg_now.specs.EventEffect.{changed_id, element_before, element_after, CanHappen, CameBy, AllHappen, AllKnown, rewound, Led}
+use Rattle.dg_now.specs.declared.element_id.ElementId.TheVariants.{Node, Edge, NodeValue, EdgeValue}
+use Rattle.dg_now.specs.HeldGraph.{HeldGraphState, knows, HasRoom, IsKnown, KeepsIds}
+use Rattle.dg_now.specs.EventEffect.{changed_id, element_before, element_after, CanHappen, CameBy, AllHappen, KnowsEvent, AllKnown, rewound, Led}
 use Rattle.dg_now.specs.ElementIds.{element_id_of, at, needs_id}
 use Rattle.dg_now.proofs.ElementIds.{at_has, at_lacks, one_of_each_id, needs_live, live_needs, put_graph, out_graph, out_from, out_keeps, put_itself, put_from, any_to, Lives}
 
@@ -320,10 +322,107 @@ came set e g h =
       comes = ap (λ s. forwards s e) (sym back);
     }
 
+-- ---- entries
+
+pub needs_still : (old new : HeldGraphState) → KeepsIds old new → (x : Element) → IsKnown old x → IsKnown new x
+needs_still old new keeps x k = record { itself = keeps (element_id_of x) k.itself; needs = λ p n. keeps p (k.needs p n) }
+
+pub if_still : (old new : HeldGraphState) → KeepsIds old new → (o : Option Element) → IfSome o (IsKnown old) → IfSome o (IsKnown new)
+if_still old new keeps None k = tt
+if_still old new keeps (Some x) k = needs_still old new keeps x k
+
+pub event_still : (old new : HeldGraphState) → KeepsIds old new → (e : Event) → KnowsEvent old e → KnowsEvent new e
+event_still old new keeps e k = record {
+  removed = if_still old new keeps (removed_by e.body) k.removed;
+  added = if_still old new keeps (added_by e.body) k.added;
+}
+
 pub known_still : (old new : HeldGraphState) (events : List Event) → KeepsIds old new → AllKnown old events → AllKnown new events
 known_still old new [] keeps k = tt
-known_still old new (e ∷ events) keeps k =
-    (λ some. keeps (changed_id e.body) (k.0 some), known_still old new events keeps k.1)
+known_still old new (e ∷ events) keeps k = (event_still old new keeps e k.0, known_still old new events keeps k.1)
+
+-- what is known takes no memory
+pub room_of_known : (h : HeldGraphState) (x : Element) → IsKnown h x → HasRoom h x
+room_of_known h x k = record { itself = or_left (knows h (element_id_of x)) (nat_lt 0 h.spare) k.itself; needs = k.needs }
+
+pub room_if_known : (h : HeldGraphState) (o : Option Element) → IfSome o (IsKnown h) → IfSome o (HasRoom h)
+room_if_known h None k = tt
+room_if_known h (Some x) k = room_of_known h x k
+
+-- two elements with one id that need the same
+record Alike (x y : Element) : Type 0 where
+  ids : element_id_of x ≡ element_id_of y
+  needs : (p : ElementId) → needs_id p x ≡ needs_id p y
+
+known_alike : (h : HeldGraphState) (x y : Element) → Alike x y → IsKnown h x → IsKnown h y
+known_alike h x y a k = record {
+  itself = ap (knows h) (sym a.ids) ∙ k.itself;
+  needs = λ p n. k.needs p (a.needs p ∙ n);
+}
+
+node_values_alike : (id key v w : ℕ) → Alike (element.NodeAttr id key v) (element.NodeAttr id key w)
+node_values_alike id key v w = record { ids = refl; needs = same_needs }
+  where
+    same_needs : (p : ElementId) → needs_id p (element.NodeAttr id key v) ≡ needs_id p (element.NodeAttr id key w)
+    same_needs (Node n) = refl
+    same_needs (Edge n) = refl
+    same_needs (NodeValue n k) = refl
+    same_needs (EdgeValue n k) = refl
+
+edge_values_alike : (id key v w : ℕ) → Alike (element.EdgeAttr id key v) (element.EdgeAttr id key w)
+edge_values_alike id key v w = record { ids = refl; needs = same_needs }
+  where
+    same_needs : (p : ElementId) → needs_id p (element.EdgeAttr id key v) ≡ needs_id p (element.EdgeAttr id key w)
+    same_needs (Node n) = refl
+    same_needs (Edge n) = refl
+    same_needs (NodeValue n k) = refl
+    same_needs (EdgeValue n k) = refl
+
+moved_from : (make : ℕ → Element) (value other : Option ℕ) (x : Element) → moved make value other ≡ Some x → (v : ℕ) × (x ≡ make v)
+moved_from make value other x e = by (option_eq nat_eq value other) value e
+  where
+    by : (b : Bool) (o : Option ℕ) → cond b None (option_map make o) ≡ Some x → (v : ℕ) × (x ≡ make v)
+    by true o f = absurd (some_none (sym f))
+    by false None f = absurd (some_none (sym f))
+    by false (Some v) f = (v, sym (some_is (make v) x f))
+
+-- the element that an event takes away and the one that it adds
+alike : (b : Body) (x y : Element) → removed_by b ≡ Some x → added_by b ≡ Some y → Alike x y
+alike (body.NodeAdded id) x y e f = absurd (some_none (sym e))
+alike (body.NodeRemoved id) x y e f = absurd (some_none (sym f))
+alike (body.EdgeAdded id s d b) x y e f = absurd (some_none (sym e))
+alike (body.EdgeRemoved id s d b) x y e f = absurd (some_none (sym f))
+alike (body.NodeAttr id key old new) x y e f =
+    let out = moved_from (element.NodeAttr id key) old new x e in
+    let into = moved_from (element.NodeAttr id key) new old y f in
+    subst (λ q. Alike q y) (sym out.1) (subst (λ q. Alike (element.NodeAttr id key out.0) q) (sym into.1) (node_values_alike id key out.0 into.0))
+alike (body.EdgeAttr id key old new) x y e f =
+    let out = moved_from (element.EdgeAttr id key) old new x e in
+    let into = moved_from (element.EdgeAttr id key) new old y f in
+    subst (λ q. Alike q y) (sym out.1) (subst (λ q. Alike (element.EdgeAttr id key out.0) q) (sym into.1) (edge_values_alike id key out.0 into.0))
+
+-- room for the first of the two is room for what is taken away, and then for what is added
+pub room_out : (h : HeldGraphState) (removed added : Option Element) → IfSome (option_or removed added) (HasRoom h) → IfSome removed (HasRoom h)
+room_out h None added room = tt
+room_out h (Some x) added room = room
+
+pub room_in : (b : Body) (old new : HeldGraphState) (removed added : Option Element) → removed ≡ removed_by b → added ≡ added_by b
+    → IfSome (option_or removed added) (HasRoom old) → IfSome removed (IsKnown new) → (removed ≡ None → new ≡ old) → IfSome added (HasRoom new)
+room_in b old new None None e f room known same = tt
+room_in b old new None (Some y) e f room known same = subst (λ h. HasRoom h y) (sym (same refl)) room
+room_in b old new (Some x) None e f room known same = tt
+room_in b old new (Some x) (Some y) e f room known same = room_of_known new y (known_alike new x y (alike b x y (sym e) (sym f)) known)
+
+-- what the first of the two needs is in the graph
+pub fed_first : (set : List Element) (b : Body) → IsGraph set → CanHappen set b → (removed added : Option Element) → removed ≡ removed_by b → added ≡ added_by b
+    → IfSome (option_or removed added) (λ x. has_needs set x ≡ true)
+fed_first set b g h None None e f = tt
+fed_first set b g h None (Some y) e f = by (shape b)
+  where
+    by : Swaps b ⊎ Stays b → has_needs set y ≡ true
+    by (inl s) = subst (λ o. IfSome o (λ x. has_needs set x ≡ true)) (sym (f ∙ s.added)) h.fed
+    by (inr s) = absurd (some_none (f ∙ s.added))
+fed_first set b g h (Some x) added e f = g.needs x (loose_forwards set b g h x (sym e)).0
 
 pub led_is_graph : (start : List Element) (events : List Event) (h : HeldGraphState) → Led start events h → IsGraph h.set
 led_is_graph start events h led = subst IsGraph (sym led.comes) (led_graph start events led.graph led.happen)

@@ -1,10 +1,11 @@
 -- That the entries keep a graph: what a look-up finds in them, and what a write leaves of them.
-use Rattle.std.proofs.Common.{◌≡◌, ◌+◌, ◌≤◌, Bool, true, false, cond, ◌||◌, ◌&&◌, List, [], ◌∷◌, Option, Some, None, is_some, refl, sym, ap, subst, ◌∙◌, arith, eqb, ◌⊎◌, inl, inr}
+use Rattle.std.proofs.Common.{◌≡◌, ◌+◌, ◌<◌, Bool, true, false, cond, ◌||◌, ◌&&◌, List, [], ◌∷◌, Option, Some, None, is_some, map, refl, sym, ap, subst, ◌∙◌, arith, eqb, ◌⊎◌, inl, inr}
 use Rattle.std.proofs.lemmas.Bool.{true≢false, false≢true, eqb-true, eq-eqb, or_left, or_right}
+use Rattle.std.proofs.lemmas.List.Folds.{list_any-append}
 use Rattle.std.proofs.lemmas.Map.Made.{is_some-lookup}
 use Rattle.std.specs.List.{list_any, count_by}
 use Rattle.std.specs.Map.{keys_of, lookup}
-use Rattle.std.specs.Option.{option_and_then}
+use Rattle.std.specs.Option.{option_map_or}
 use Rattle.dg_graph.specs.declared.element.Element.{Element}
 use Rattle.dg_graph.specs.Elements.{bit, IsSet, has, same, put, take_out, with_one}
 use Rattle.dg_graph.specs.Graph.{IsGraph, has_needs}
@@ -13,10 +14,10 @@ use Rattle.dg_now.specs.declared.element_entry.ElementEntry.{ElementEntry}
 use Rattle.dg_now.specs.declared.element_id.ElementId.{ElementId}
 use Rattle.dg_now.specs.declared.element_id.ElementId.TheVariants.{Node, Edge, NodeValue, EdgeValue}
 use Rattle.dg_now.specs.contracts.element_id.ElementIdPartialEq.TheImpl as of_ids
-use Rattle.dg_now.specs.HeldGraph.{element_entry_at, held_at, uses_at, has_entry, collected, elements_of, HeldGraphIsSound}
+use Rattle.dg_now.specs.HeldGraph.{element_entry_at, held_at, more_at, fewer_at, has_entry, collected, ids_of, elements_of, KeepsHeld, KeepsUses, HeldGraphIsSound}
 use Rattle.dg_now.specs.ElementIds.{element_id_of, at, needs_id, same_id}
 use Rattle.dg_now.proofs.UsesAt.{count_put, count_out, any_count, count_any}
-use Rattle.dg_now.proofs.ElementIds.{both, at_is, at_lacks, one_of_each_id, put_graph, out_graph, put_itself, put_keeps, put_from, out_from, out_keeps}
+use Rattle.dg_now.proofs.ElementIds.{both, either, at_has, at_is, at_from, at_lacks, one_of_each_id, put_graph, out_graph, put_itself, put_keeps, put_from, out_from, out_keeps}
 
 -- ---- ids
 
@@ -69,6 +70,12 @@ derived_is (EdgeValue m c) (Node n) = refl
 derived_is (EdgeValue m c) (Edge n) = refl
 derived_is (EdgeValue m c) (NodeValue n d) = refl
 derived_is (EdgeValue m c) (EdgeValue n d) = refl
+
+pub equal_ids : (p q : ElementId) (b : Bool) → b ≡ (of_ids.ghosts).eq p q → b ≡ true → p ≡ q
+equal_ids p q b is e = same_id_exact p q (sym (derived_is p q) ∙ sym is ∙ e)
+
+pub unequal_ids : (p q : ElementId) (b : Bool) → b ≡ (of_ids.ghosts).eq p q → b ≡ false → same_id p q ≡ false
+unequal_ids p q b is e = sym (derived_is p q) ∙ sym is ∙ e
 
 -- a look-up by the derived comparison is the one of the definitions
 pub derived_look : {X : Type 0} → (entries : List (ElementId × X)) (p : ElementId) → lookup ((of_ids.ghosts).eq p) entries ≡ lookup (same_id p) entries
@@ -130,55 +137,129 @@ collected_from f (r ∷ ids) x h = by (f r) refl h (collected_from f ids x)
 
 -- ---- what the entries keep
 
-pub element_has_entry : (entries : List (ElementId × ElementEntry)) (p : ElementId) (x : Element) → held_at entries p ≡ Some x → has_entry entries p ≡ true
-element_has_entry entries p x e = sym (is_some-lookup (same_id p) entries) ∙ by (element_entry_at entries p) e
+bool_is : (a b : Bool) → (a ≡ true → b ≡ true) → (b ≡ true → a ≡ true) → a ≡ b
+bool_is true b f g = sym (f refl)
+bool_is false true f g = g refl
+bool_is false false f g = refl
+
+abbrev pub AllHaveTheirIds : List Element → List (ElementId × ElementEntry) → Type 0
+AllHaveTheirIds base entries = (p : ElementId) (x : Element) → held_at base entries p ≡ Some x → element_id_of x ≡ p
+
+-- the id of an element is among the ids of a list of elements
+pub id_listed : (base : List Element) (p : ElementId) (x : Element) → has base x ≡ true → element_id_of x ≡ p → list_any (same_id p) (map element_id_of base) ≡ true
+id_listed [] p x h is = absurd (false≢true h)
+id_listed (y ∷ ys) p x h is = by (either (same x y) (has ys x) h) (λ k. id_listed ys p x k is)
   where
-    by : (o : Option ElementEntry) → option_and_then (λ (c : ElementEntry). c.element) o ≡ Some x → is_some o ≡ true
-    by None f = absurd (some_none (sym f))
-    by (Some c) f = refl
+    by : (same x y ≡ true) ⊎ (has ys x ≡ true) → (has ys x ≡ true → list_any (same_id p) (map element_id_of ys) ≡ true)
+        → list_any (same_id p) (map element_id_of (y ∷ ys)) ≡ true
+    by (inl s) rest =
+        or_left (same_id p (element_id_of y)) (list_any (same_id p) (map element_id_of ys))
+        (same_id_from p (element_id_of y) (sym is ∙ ap element_id_of (element_exact x y s)))
+    by (inr k) rest = or_right (same_id p (element_id_of y)) (list_any (same_id p) (map element_id_of ys)) (rest k)
 
--- the element in an entry is in the set, and each element of the set is in the entry of its id
-pub kept_to : (entries : List (ElementId × ElementEntry)) (p : ElementId) (x : Element) → held_at entries p ≡ Some x → has (elements_of entries) x ≡ true
-kept_to entries p x e = collected_to (held_at entries) (keys_of entries) p x e (element_has_entry entries p x e)
+module _ (base : List Element) (entries : List (ElementId × ElementEntry)) where
+  -- an id with no entry has its element at the start
+  pub held_at_base : (p : ElementId) → has_entry entries p ≡ false → held_at base entries p ≡ at base p
+  held_at_base p none = by (element_entry_at entries p) (is_some-lookup (same_id p) entries ∙ none)
+    where
+      by : (o : Option ElementEntry) → is_some o ≡ false → option_map_or (λ (c : ElementEntry). c.element) o (at base p) ≡ at base p
+      by None f = refl
+      by (Some c) f = absurd (true≢false f)
 
-abbrev pub AllHaveTheirIds : List (ElementId × ElementEntry) → Type 0
-AllHaveTheirIds entries = (p : ElementId) (x : Element) → held_at entries p ≡ Some x → element_id_of x ≡ p
+  pub is_listed : (p : ElementId) (x : Element) → held_at base entries p ≡ Some x → list_any (same_id p) (ids_of base entries) ≡ true
+  is_listed p x e = list_any-append (same_id p) (map element_id_of base) (keys_of entries) ∙ by (has_entry entries p) refl
+    where
+      by : (b : Bool) → has_entry entries p ≡ b → (list_any (same_id p) (map element_id_of base) || has_entry entries p) ≡ true
+      by true is = or_right (list_any (same_id p) (map element_id_of base)) (has_entry entries p) is
+      by false is =
+          let got = at_has base p x (sym (held_at_base p is) ∙ e) in
+          or_left (list_any (same_id p) (map element_id_of base)) (has_entry entries p) (id_listed base p x got.0 got.1)
 
-pub kept_from : (entries : List (ElementId × ElementEntry)) → AllHaveTheirIds entries → (x : Element) → has (elements_of entries) x ≡ true → held_at entries (element_id_of x) ≡ Some x
-kept_from entries own_ids x h =
-    let got = collected_from (held_at entries) (keys_of entries) x h in
-    ap (held_at entries) (own_ids got.0 x got.1.0) ∙ got.1.0
+  -- the element that is held is in the set, and each element of the set is held with its id
+  pub kept_to : (p : ElementId) (x : Element) → held_at base entries p ≡ Some x → has (elements_of base entries) x ≡ true
+  kept_to p x e = collected_to (held_at base entries) (ids_of base entries) p x e (is_listed p x e)
 
-pub kept_at : (entries : List (ElementId × ElementEntry)) → AllHaveTheirIds entries → (p : ElementId) → at (elements_of entries) p ≡ held_at entries p
-kept_at entries own_ids p =
-    at_is (elements_of entries) p (held_at entries p) (λ x e. (kept_to entries p x e, own_ids p x e))
-    (λ x h is. ap (held_at entries) (sym is) ∙ kept_from entries own_ids x h)
+  module _ (own_ids : AllHaveTheirIds base entries) where
+    pub kept_from : (x : Element) → has (elements_of base entries) x ≡ true → held_at base entries (element_id_of x) ≡ Some x
+    kept_from x h =
+        let got = collected_from (held_at base entries) (ids_of base entries) x h in
+        ap (held_at base entries) (own_ids got.0 x got.1.0) ∙ got.1.0
 
-pub kept_known : (entries : List (ElementId × ElementEntry)) → AllHaveTheirIds entries → (p : ElementId) → is_some (at (elements_of entries) p) ≡ true → has_entry entries p ≡ true
-kept_known entries own_ids p e = by (held_at entries p) refl (ap is_some (sym (kept_at entries own_ids p)) ∙ e)
+    pub kept_at : (p : ElementId) → at (elements_of base entries) p ≡ held_at base entries p
+    kept_at p =
+        at_is (elements_of base entries) p (held_at base entries p) (λ x e. (kept_to p x e, own_ids p x e))
+        (λ x h is. ap (held_at base entries) (sym is) ∙ kept_from x h)
+
+    -- what an id with no entry has is as at the start
+    pub kept_unknown : (p : ElementId) → has_entry entries p ≡ false → at (elements_of base entries) p ≡ at base p
+    kept_unknown p none = kept_at p ∙ held_at_base p none
+
+  -- an element is needed where the counts do not take all of its uses at the start away
+  pub needed_is : HeldGraphIsSound base entries → (p : ElementId) (b : Bool)
+      → (b ≡ true → fewer_at entries p < count_by (needs_id p) base + more_at entries p)
+      → (fewer_at entries p < count_by (needs_id p) base + more_at entries p → b ≡ true)
+      → b ≡ list_any (needs_id p) (elements_of base entries)
+  needed_is sound p b to from = by b refl (list_any (needs_id p) (elements_of base entries)) refl
+    where
+      by : (a : Bool) → b ≡ a → (d : Bool) → list_any (needs_id p) (elements_of base entries) ≡ d → a ≡ d
+      by true e true f = refl
+      by true e false f =
+          let counts = sound.uses p in
+          let less = to e in
+          absurd (false≢true (sym f ∙ count_any (needs_id p) (elements_of base entries) (omega arith)))
+      by false e true f =
+          let counts = sound.uses p in
+          let some = any_count (needs_id p) (elements_of base entries) f in
+          absurd (false≢true (sym e ∙ from (omega arith)))
+      by false e false f = refl
+
+-- with no entries, what is held is the start
+pub elements_at_start : (base : List Element) → IsGraph base → elements_of base [] ≡ base
+elements_at_start base g =
+    same_members (elements_of base []) base (IsSet-collected (at base) (ids_of base [])) g.rises
+    (λ q. bool_is (has (elements_of base []) q) (has base q) (to q) (λ h. kept_to base [] (element_id_of q) q (at_from base (one_of_each_id base g) q h)))
   where
-    by : (o : Option Element) → held_at entries p ≡ o → is_some (held_at entries p) ≡ true → has_entry entries p ≡ true
-    by None is f = absurd (false≢true (sym (ap is_some is) ∙ f))
-    by (Some x) is f = element_has_entry entries p x is
+    to : (q : Element) → has (elements_of base []) q ≡ true → has base q ≡ true
+    to q h =
+        let got = collected_from (at base) (ids_of base []) q h in
+        (at_has base got.0 q got.1.0).0
 
--- an element is needed where its count is not 0
-pub needed_is : (entries : List (ElementId × ElementEntry)) → HeldGraphIsSound entries → (p : ElementId) (b : Bool)
-    → (b ≡ true → 1 ≤ uses_at entries p) → (1 ≤ uses_at entries p → b ≡ true) → b ≡ list_any (needs_id p) (elements_of entries)
-needed_is entries sound p b to from = by b refl (list_any (needs_id p) (elements_of entries)) refl
-  where
-    by : (a : Bool) → b ≡ a → (d : Bool) → list_any (needs_id p) (elements_of entries) ≡ d → a ≡ d
-    by true e true f = refl
-    by true e false f =
-        absurd (false≢true (sym f ∙ count_any (needs_id p) (elements_of entries) (subst (λ n. 1 ≤ n) (sound.uses p) (to e))))
-    by false e true f =
-        absurd (false≢true (sym e ∙ from (subst (λ n. 1 ≤ n) (sym (sound.uses p)) (any_count (needs_id p) (elements_of entries) f))))
-    by false e false f = refl
+pub start_sound : (base : List Element) → IsGraph base → HeldGraphIsSound base []
+start_sound base g = record {
+  own_ids = λ p x e. (at_has base p x e).1;
+  graph = subst IsGraph (sym (elements_at_start base g)) g;
+  uses = λ p. ap (λ set. count_by (needs_id p) set + 0) (sym (elements_at_start base g));
+}
+
+-- where the element with each id stays, so does the set
+module _ (base : List Element) (old new : List (ElementId × ElementEntry)) (sound : HeldGraphIsSound base old) (held : KeepsHeld base old new) where
+  same_own_ids : AllHaveTheirIds base new
+  same_own_ids p x e = sound.own_ids p x (sym (held p) ∙ e)
+
+  pub same_elements : elements_of base new ≡ elements_of base old
+  same_elements =
+      same_members (elements_of base new) (elements_of base old) (IsSet-collected (held_at base new) (ids_of base new)) (IsSet-collected (held_at base old) (ids_of base old))
+      (λ q. bool_is (has (elements_of base new) q) (has (elements_of base old) q)
+      (λ h. kept_to base old (element_id_of q) q (sym (held (element_id_of q)) ∙ kept_from base new same_own_ids q h))
+      (λ h. kept_to base new (element_id_of q) q (held (element_id_of q) ∙ kept_from base old sound.own_ids q h)))
+
+  pub same_sound : KeepsUses old new → HeldGraphIsSound base new
+  same_sound uses = record {
+    own_ids = same_own_ids;
+    graph = subst IsGraph (sym same_elements) sound.graph;
+    uses = λ p.
+        let counts = sound.uses p in
+        let more = uses.more p in
+        let fewer = uses.fewer p in
+        let total : count_by (needs_id p) base + more_at new p ≡ count_by (needs_id p) (elements_of base old) + fewer_at new p = omega arith in
+        total ∙ ap (λ s. count_by (needs_id p) s + fewer_at new p) (sym same_elements);
+  }
 
 -- ---- writes
 
 -- the element of one id is another, and the others stay
-abbrev pub Changes : List (ElementId × ElementEntry) → List (ElementId × ElementEntry) → ElementId → Option Element → Type 0
-Changes old new id o = (p : ElementId) → held_at new p ≡ cond (same_id id p) o (held_at old p)
+abbrev pub Changes : List Element → List (ElementId × ElementEntry) → List (ElementId × ElementEntry) → ElementId → Option Element → Type 0
+Changes base old new id o = (p : ElementId) → held_at base new p ≡ cond (same_id id p) o (held_at base old p)
 
 either_id : (id p : ElementId) (o a b : Option Element) → b ≡ cond (same_id id p) o a
     → ((same_id id p ≡ true) × (b ≡ o)) ⊎ ((same_id id p ≡ false) × (b ≡ a))
@@ -188,55 +269,50 @@ either_id id p o a b e = by (same_id id p) e
     by true f = inl (refl, f)
     by false f = inr (refl, f)
 
-bool_is : (a b : Bool) → (a ≡ true → b ≡ true) → (b ≡ true → a ≡ true) → a ≡ b
-bool_is true b f g = sym (f refl)
-bool_is false true f g = g refl
-bool_is false false f g = refl
-
 -- an element that is put in where none has its id
-module _ (entries new : List (ElementId × ElementEntry)) (x : Element) (sound : HeldGraphIsSound entries) (free : at (elements_of entries) (element_id_of x) ≡ None)
-    (fed : has_needs (elements_of entries) x ≡ true) (changes : Changes entries new (element_id_of x) (Some x))
-    (uses : (p : ElementId) → uses_at new p ≡ uses_at entries p + bit (needs_id p x)) where
+module _ (base : List Element) (entries new : List (ElementId × ElementEntry)) (x : Element) (sound : HeldGraphIsSound base entries) (free : at (elements_of base entries) (element_id_of x) ≡ None)
+    (fed : has_needs (elements_of base entries) x ≡ true) (changes : Changes base entries new (element_id_of x) (Some x))
+    (uses : (p : ElementId) → more_at new p + fewer_at entries p ≡ more_at entries p + fewer_at new p + bit (needs_id p x)) where
   abbrev set : List Element
-  set = elements_of entries
+  set = elements_of base entries
 
-  put_has_ids : AllHaveTheirIds new
-  put_has_ids p y e = by (either_id (element_id_of x) p (Some x) (held_at entries p) (held_at new p) (changes p))
+  put_has_ids : AllHaveTheirIds base new
+  put_has_ids p y e = by (either_id (element_id_of x) p (Some x) (held_at base entries p) (held_at base new p) (changes p))
     where
-      by : ((same_id (element_id_of x) p ≡ true) × (held_at new p ≡ Some x)) ⊎ ((same_id (element_id_of x) p ≡ false) × (held_at new p ≡ held_at entries p)) → element_id_of y ≡ p
+      by : ((same_id (element_id_of x) p ≡ true) × (held_at base new p ≡ Some x)) ⊎ ((same_id (element_id_of x) p ≡ false) × (held_at base new p ≡ held_at base entries p)) → element_id_of y ≡ p
       by (inl (s, is)) = ap element_id_of (some_is y x (sym e ∙ is)) ∙ same_id_exact (element_id_of x) p s
       by (inr (s, is)) = sound.own_ids p y (sym is ∙ e)
 
-  put_here : held_at new (element_id_of x) ≡ Some x
-  put_here = changes (element_id_of x) ∙ ap (λ b. cond b (Some x) (held_at entries (element_id_of x))) (same_id_itself (element_id_of x))
+  put_here : held_at base new (element_id_of x) ≡ Some x
+  put_here = changes (element_id_of x) ∙ ap (λ b. cond b (Some x) (held_at base entries (element_id_of x))) (same_id_itself (element_id_of x))
 
-  put_to : (q : Element) → has (elements_of new) q ≡ true → has (put x set) q ≡ true
+  put_to : (q : Element) → has (elements_of base new) q ≡ true → has (put x set) q ≡ true
   put_to q h =
-      let got = kept_from new put_has_ids q h in
-      by got (either_id (element_id_of x) (element_id_of q) (Some x) (held_at entries (element_id_of q)) (held_at new (element_id_of q)) (changes (element_id_of q)))
+      let got = kept_from base new put_has_ids q h in
+      by got (either_id (element_id_of x) (element_id_of q) (Some x) (held_at base entries (element_id_of q)) (held_at base new (element_id_of q)) (changes (element_id_of q)))
     where
-      by : held_at new (element_id_of q) ≡ Some q → ((same_id (element_id_of x) (element_id_of q) ≡ true) × (held_at new (element_id_of q) ≡ Some x)) ⊎ ((same_id (element_id_of x) (element_id_of q) ≡ false) × (held_at new (element_id_of q) ≡ held_at entries (element_id_of q))) → has (put x set) q ≡ true
+      by : held_at base new (element_id_of q) ≡ Some q → ((same_id (element_id_of x) (element_id_of q) ≡ true) × (held_at base new (element_id_of q) ≡ Some x)) ⊎ ((same_id (element_id_of x) (element_id_of q) ≡ false) × (held_at base new (element_id_of q) ≡ held_at base entries (element_id_of q))) → has (put x set) q ≡ true
       by got (inl (s, is)) = subst (λ z. has (put x set) z ≡ true) (some_is x q (sym is ∙ got)) (put_itself x set)
-      by got (inr (s, is)) = put_keeps x set q (kept_to entries (element_id_of q) q (sym is ∙ got))
+      by got (inr (s, is)) = put_keeps x set q (kept_to base entries (element_id_of q) q (sym is ∙ got))
 
-  put_back : (q : Element) → has (put x set) q ≡ true → has (elements_of new) q ≡ true
+  put_back : (q : Element) → has (put x set) q ≡ true → has (elements_of base new) q ≡ true
   put_back q h = by (put_from x set q h)
     where
-      stay : has set q ≡ true → (b : Bool) → same_id (element_id_of x) (element_id_of q) ≡ b → has (elements_of new) q ≡ true
+      stay : has set q ≡ true → (b : Bool) → same_id (element_id_of x) (element_id_of q) ≡ b → has (elements_of base new) q ≡ true
       stay there true e = absurd (at_lacks set (element_id_of x) free q there (sym (same_id_exact (element_id_of x) (element_id_of q) e)))
       stay there false e =
-          kept_to new (element_id_of q) q
-          (changes (element_id_of q) ∙ ap (λ b. cond b (Some x) (held_at entries (element_id_of q))) e ∙ kept_from entries sound.own_ids q there)
+          kept_to base new (element_id_of q) q
+          (changes (element_id_of q) ∙ ap (λ b. cond b (Some x) (held_at base entries (element_id_of q))) e ∙ kept_from base entries sound.own_ids q there)
 
-      by : (q ≡ x) ⊎ (has set q ≡ true) → has (elements_of new) q ≡ true
-      by (inl is) = subst (λ z. has (elements_of new) z ≡ true) (sym is) (kept_to new (element_id_of x) x put_here)
+      by : (q ≡ x) ⊎ (has set q ≡ true) → has (elements_of base new) q ≡ true
+      by (inl is) = subst (λ z. has (elements_of base new) z ≡ true) (sym is) (kept_to base new (element_id_of x) x put_here)
       by (inr there) = stay there (same_id (element_id_of x) (element_id_of q)) refl
 
-  pub put_elements : elements_of new ≡ put x set
+  pub put_elements : elements_of base new ≡ put x set
   put_elements =
-      same_members (elements_of new) (put x set) (IsSet-collected (held_at new) (keys_of new))
-      (IsSet-put x set (IsSet-collected (held_at entries) (keys_of entries)))
-      (λ q. bool_is (has (elements_of new) q) (has (put x set) q) (put_to q) (put_back q))
+      same_members (elements_of base new) (put x set) (IsSet-collected (held_at base new) (ids_of base new))
+      (IsSet-put x set (IsSet-collected (held_at base entries) (ids_of base entries)))
+      (λ q. bool_is (has (elements_of base new) q) (has (put x set) q) (put_to q) (put_back q))
 
   lacking : has set x ≡ false
   lacking = by (has set x) refl
@@ -245,69 +321,70 @@ module _ (entries new : List (ElementId × ElementEntry)) (x : Element) (sound :
       by true e = absurd (at_lacks set (element_id_of x) free x e refl)
       by false e = e
 
-  pub put_sound : HeldGraphIsSound new
+  pub put_sound : HeldGraphIsSound base new
   put_sound = record {
     own_ids = put_has_ids;
     graph = subst IsGraph (sym put_elements) (put_graph x set sound.graph free fed);
     uses = λ p.
         let counts = sound.uses p in
         let more = count_put (needs_id p) x set lacking in
-        let total : uses_at entries p + bit (needs_id p x) ≡ count_by (needs_id p) (put x set) = omega arith in
-        uses p ∙ total ∙ ap (count_by (needs_id p)) (sym put_elements);
+        let moved = uses p in
+        let total : count_by (needs_id p) base + more_at new p ≡ count_by (needs_id p) (put x set) + fewer_at new p = omega arith in
+        total ∙ ap (λ s. count_by (needs_id p) s + fewer_at new p) (sym put_elements);
   }
 
 -- an element that is taken out, which no other needs
-module _ (entries new : List (ElementId × ElementEntry)) (x : Element) (sound : HeldGraphIsSound entries) (there : has (elements_of entries) x ≡ true)
-    (free : list_any (needs_id (element_id_of x)) (elements_of entries) ≡ false) (changes : Changes entries new (element_id_of x) None)
-    (uses : (p : ElementId) → uses_at entries p ≡ uses_at new p + bit (needs_id p x)) where
+module _ (base : List Element) (entries new : List (ElementId × ElementEntry)) (x : Element) (sound : HeldGraphIsSound base entries) (there : has (elements_of base entries) x ≡ true)
+    (free : list_any (needs_id (element_id_of x)) (elements_of base entries) ≡ false) (changes : Changes base entries new (element_id_of x) None)
+    (uses : (p : ElementId) → more_at entries p + fewer_at new p ≡ more_at new p + fewer_at entries p + bit (needs_id p x)) where
   abbrev held : List Element
-  held = elements_of entries
+  held = elements_of base entries
 
-  out_has_ids : AllHaveTheirIds new
-  out_has_ids p y e = by (either_id (element_id_of x) p None (held_at entries p) (held_at new p) (changes p))
+  out_has_ids : AllHaveTheirIds base new
+  out_has_ids p y e = by (either_id (element_id_of x) p None (held_at base entries p) (held_at base new p) (changes p))
     where
-      by : ((same_id (element_id_of x) p ≡ true) × (held_at new p ≡ None)) ⊎ ((same_id (element_id_of x) p ≡ false) × (held_at new p ≡ held_at entries p)) → element_id_of y ≡ p
+      by : ((same_id (element_id_of x) p ≡ true) × (held_at base new p ≡ None)) ⊎ ((same_id (element_id_of x) p ≡ false) × (held_at base new p ≡ held_at base entries p)) → element_id_of y ≡ p
       by (inl (s, is)) = absurd (some_none (sym e ∙ is))
       by (inr (s, is)) = sound.own_ids p y (sym is ∙ e)
 
-  out_to : (q : Element) → has (elements_of new) q ≡ true → has (take_out x held) q ≡ true
+  out_to : (q : Element) → has (elements_of base new) q ≡ true → has (take_out x held) q ≡ true
   out_to q h =
-      let got = kept_from new out_has_ids q h in
-      by got (either_id (element_id_of x) (element_id_of q) None (held_at entries (element_id_of q)) (held_at new (element_id_of q)) (changes (element_id_of q)))
+      let got = kept_from base new out_has_ids q h in
+      by got (either_id (element_id_of x) (element_id_of q) None (held_at base entries (element_id_of q)) (held_at base new (element_id_of q)) (changes (element_id_of q)))
     where
       apart : (b : Bool) → same q x ≡ b → same_id (element_id_of x) (element_id_of q) ≡ false → same q x ≡ false
       apart true e s = absurd (true≢false (sym (same_id_from (element_id_of x) (element_id_of q) (ap element_id_of (sym (element_exact q x e)))) ∙ s))
       apart false e s = e
 
-      by : held_at new (element_id_of q) ≡ Some q → ((same_id (element_id_of x) (element_id_of q) ≡ true) × (held_at new (element_id_of q) ≡ None)) ⊎ ((same_id (element_id_of x) (element_id_of q) ≡ false) × (held_at new (element_id_of q) ≡ held_at entries (element_id_of q))) → has (take_out x held) q ≡ true
+      by : held_at base new (element_id_of q) ≡ Some q → ((same_id (element_id_of x) (element_id_of q) ≡ true) × (held_at base new (element_id_of q) ≡ None)) ⊎ ((same_id (element_id_of x) (element_id_of q) ≡ false) × (held_at base new (element_id_of q) ≡ held_at base entries (element_id_of q))) → has (take_out x held) q ≡ true
       by got (inl (s, is)) = absurd (some_none (sym got ∙ is))
-      by got (inr (s, is)) = out_keeps x held q (apart (same q x) refl s) (kept_to entries (element_id_of q) q (sym is ∙ got))
+      by got (inr (s, is)) = out_keeps x held q (apart (same q x) refl s) (kept_to base entries (element_id_of q) q (sym is ∙ got))
 
-  out_back : (q : Element) → has (take_out x held) q ≡ true → has (elements_of new) q ≡ true
+  out_back : (q : Element) → has (take_out x held) q ≡ true → has (elements_of base new) q ≡ true
   out_back q h = let got = out_from x held q h in stay got.0 got.1 (same_id (element_id_of x) (element_id_of q)) refl
     where
-      stay : same q x ≡ false → has held q ≡ true → (b : Bool) → same_id (element_id_of x) (element_id_of q) ≡ b → has (elements_of new) q ≡ true
+      stay : same q x ≡ false → has held q ≡ true → (b : Bool) → same_id (element_id_of x) (element_id_of q) ≡ b → has (elements_of base new) q ≡ true
       stay apart k true e =
           let is = one_of_each_id held sound.graph q x k there (sym (same_id_exact (element_id_of x) (element_id_of q) e)) in
           absurd (true≢false (sym (same_itself x) ∙ ap (λ z. same z x) (sym is) ∙ apart))
       stay apart k false e =
-          kept_to new (element_id_of q) q
-          (changes (element_id_of q) ∙ ap (λ b. cond b None (held_at entries (element_id_of q))) e ∙ kept_from entries sound.own_ids q k)
+          kept_to base new (element_id_of q) q
+          (changes (element_id_of q) ∙ ap (λ b. cond b None (held_at base entries (element_id_of q))) e ∙ kept_from base entries sound.own_ids q k)
 
-  pub out_elements : elements_of new ≡ take_out x held
+  pub out_elements : elements_of base new ≡ take_out x held
   out_elements =
-      same_members (elements_of new) (take_out x held) (IsSet-collected (held_at new) (keys_of new))
-      (IsSet-take_out x held (IsSet-collected (held_at entries) (keys_of entries)))
-      (λ q. bool_is (has (elements_of new) q) (has (take_out x held) q) (out_to q) (out_back q))
+      same_members (elements_of base new) (take_out x held) (IsSet-collected (held_at base new) (ids_of base new))
+      (IsSet-take_out x held (IsSet-collected (held_at base entries) (ids_of base entries)))
+      (λ q. bool_is (has (elements_of base new) q) (has (take_out x held) q) (out_to q) (out_back q))
 
-  pub out_sound : HeldGraphIsSound new
+  pub out_sound : HeldGraphIsSound base new
   out_sound = record {
     own_ids = out_has_ids;
     graph = subst IsGraph (sym out_elements) (out_graph x held sound.graph free);
     uses = λ p.
         let counts = sound.uses p in
         let less = count_out (needs_id p) x held sound.graph.rises there in
-        let before = uses p in
-        let total : uses_at new p ≡ count_by (needs_id p) (take_out x held) = omega arith in
-        total ∙ ap (count_by (needs_id p)) (sym out_elements);
+        let moved = uses p in
+        let total : count_by (needs_id p) base + more_at new p ≡ count_by (needs_id p) (take_out x held) + fewer_at new p = omega arith in
+        total ∙ ap (λ s. count_by (needs_id p) s + fewer_at new p) (sym out_elements);
   }

@@ -1,4 +1,6 @@
 pub mod ElementIds
+pub mod Order
+pub mod Searches
 pub mod UsesAt
 pub mod HeldGraph
 pub mod ElementEntries
@@ -7,3 +9,4 @@ pub mod EventOf
 pub mod CompleteAll
 pub mod NowState
 pub mod ToSet
+pub mod IsGraph

@@ -1,5 +1,5 @@
 -- Which events can happen in a graph, and how they are undone.
-use Rattle.std.specs.Prelude.{◌≡◌, true, false, List, [], ◌∷◌, Option, Some, None, cond, is_some, IfSome}
+use Rattle.std.specs.Prelude.{◌≡◌, true, false, List, [], ◌∷◌, Option, Some, None, cond, IfSome}
 use Rattle.std.specs.List.{list_any}
 use Rattle.std.specs.Option.{option_map, IsNone}
 use Rattle.dg_graph.specs.declared.element.Element.{Element}
@@ -7,13 +7,13 @@ use Rattle.dg_graph.specs.declared.element.Element.TheVariants as element
 use Rattle.dg_graph.specs.declared.event.Body.{Body}
 use Rattle.dg_graph.specs.declared.event.Body.TheVariants as body
 use Rattle.dg_graph.specs.declared.event.Event.{Event}
-use Rattle.dg_graph.specs.Effect.{forwards, backwards}
+use Rattle.dg_graph.specs.Effect.{removed_by, added_by, forwards, backwards}
 use Rattle.dg_graph.specs.Graph.{IsGraph, has_needs}
 use Rattle.dg_graph.specs.Replay.{replay_from}
 use Rattle.dg_now.specs.declared.element_id.ElementId.{ElementId}
 use Rattle.dg_now.specs.declared.element_id.ElementId.TheVariants as element_id
 use Rattle.dg_now.specs.ElementIds.{at, needs_id, same_id}
-use Rattle.dg_now.specs.HeldGraph.{HeldGraphState, knows}
+use Rattle.dg_now.specs.HeldGraph.{HeldGraphState, IsKnown}
 
 -- the id of the element that the event changes
 abbrev pub changed_id : Body → ElementId
@@ -70,12 +70,16 @@ abbrev pub element_before_all : List Event → ElementId → Option Element → 
 element_before_all [] p last = last
 element_before_all (e ∷ events) p last = cond (same_id (changed_id e.body) p) (element_before e.body) (element_before_all events p last)
 
--- the id that an event changes has an entry, if there was an element with it
+-- what the event takes away and what it adds is known, so that it can be undone without memory
+pub record KnowsEvent (h : HeldGraphState) (e : Event) : Type 0 where
+  pub removed : IfSome (removed_by e.body) (IsKnown h)
+  pub added : IfSome (added_by e.body) (IsKnown h)
+
 abbrev pub AllKnown : HeldGraphState → List Event → Type 0
 AllKnown h [] = Unit {0}
-AllKnown h (e ∷ events) = (is_some (element_before e.body) ≡ true → knows h (changed_id e.body) ≡ true) × AllKnown h events
+AllKnown h (e ∷ events) = KnowsEvent h e × AllKnown h events
 
--- The events led from the graph at the start to what is held.
+-- The events led from the graph before them to what is held.
 pub record Led (start : List Element) (events : List Event) (h : HeldGraphState) : Type 0 where
   pub graph : IsGraph start
   pub happen : AllHappen start events

@@ -1,9 +1,10 @@
-//! The elements before the pending events, for the list of the graph.
+//! The elements before the pending events, for the set of the graph.
 ghost use Rattle.std.specs.Prelude.{◌≡◌, ◌++◌, Option, List, [], cond, IfOk, OnOk};
-ghost use Rattle.std.specs.List.{cons_option};
+ghost use Rattle.std.specs.List.{cons_option, IsDistinct};
 ghost use Rattle.std.specs.Map.{lookup};
 ghost use Rattle.std.specs.Option.{unwrap_or};
 ghost use Rattle.dg_graph.specs.declared.element.Element.{Element};
+ghost use Rattle.dg_graph.specs.Elements.{has, same};
 ghost use Rattle.dg_now.specs.declared.element_id.ElementId.{ElementId};
 ghost use Rattle.dg_now.specs.EventEffect.{changed_id, element_before, element_before_all};
 ghost use Rattle.dg_now.specs.ElementIds.{at, same_id};
@@ -11,6 +12,7 @@ ghost use Rattle.dg_now.specs.ElementIds.{at, same_id};
 use crate::element_id::{ElementId, element_before};
 use crate::held_graph::HeldGraph;
 use dg_graph::{Element, Event};
+use dg_set::Set;
 use indexmap::IndexMap;
 use std::alloc::{AllocError, AllocFailed, Global};
 
@@ -67,4 +69,14 @@ pub(crate) fn push(
         Some(element) => elements.push(element),
         None => Ok(()),
     }
+}
+
+/// The set of the elements of the list.
+pub(crate) fn in_order(elements: Vec<Element>) -> Set
+    requires { IsDistinct same elements.items }
+    ensures { (x : Element) → has result x ≡ has elements.items x }
+{
+    let mut elements = elements;
+    elements.sort_unstable();
+    Set::from_rising(elements)
 }

@@ -1,26 +1,63 @@
-ghost use Rattle.std.specs.Prelude.{◌≡◌, ◌+◌, ◌≤◌, true, false, IfOk, IfErr, IfSome, is_some, length, vec_capacity, [], map, None, Ok, Err};
+ghost use Rattle.std.specs.Prelude.{◌≡◌, ◌≤◌, true, false, IfOk, IfErr, IfSome, OnOk, OnErr, length, vec_capacity, [], map, None, Some, Ok};
 ghost use Rattle.std.specs.List.{list_any};
 ghost use Rattle.dg_graph.specs.declared.event.Change.{Change};
 ghost use Rattle.dg_graph.specs.CompletedChanges.{completed};
 ghost use Rattle.dg_graph.specs.Effect.{forwards, backwards};
 ghost use Rattle.dg_graph.specs.Elements.{has, without, with_one};
 ghost use Rattle.dg_graph.specs.Graph.{IsGraph, has_needs};
-ghost use Rattle.dg_now.specs.EventEffect.{CanHappen, CameBy, Led, rewound};
-ghost use Rattle.dg_now.specs.HeldGraph.{knows, has_room, KeepsIds};
+ghost use Rattle.dg_now.specs.EventEffect.{CanHappen, CameBy, KnowsEvent, Led, rewound};
+ghost use Rattle.dg_now.specs.HeldGraph.{HasRoom, IsKnown, KeepsIds};
 ghost use Rattle.dg_now.specs.ElementIds.{element_id_of, at, needs_id};
-ghost use Rattle.dg_now.specs.EventEffect.{changed_id, element_before};
+ghost use Rattle.dg_now.specs.Now.{FaultOf};
 
 use crate::completion::event_of;
+use crate::fault::PrepareFault;
 use crate::held_graph::HeldGraph;
 use dg_event::effect;
-use dg_graph::{Change, Element, Event};
+use dg_graph::{Body, Change, Element, Event, What};
+use std::alloc::{AllocError, Global};
+
+// Whether the change is to remove a node.
+fn removes_node(change: &Change) -> bool {
+    matches!(change.what, What::RemoveNode { .. })
+}
+
+/// Makes the graph ready for the removals of nodes among the changes. An `Err` says that memory ran out.
+pub(crate) fn ready_for_changes(
+    graph: &mut HeldGraph,
+    alloc: Global,
+    changes: &[Change],
+) -> Result<(), AllocError>
+    ensures { graph.new ≡ graph.old }
+{
+    if changes.iter().any(removes_node) {
+        return graph.sort_ends(alloc);
+    }
+    Ok(())
+}
+
+/// Makes the graph ready for the event. An `Err` says that memory ran out.
+pub(crate) fn ready_for_event(
+    graph: &mut HeldGraph,
+    alloc: Global,
+    event: &Event,
+) -> Result<(), AllocError>
+    ensures { graph.new ≡ graph.old }
+{
+    match event.body {
+        Body::NodeRemoved { .. } => graph.sort_ends(alloc),
+        _ => Ok(()),
+    }
+}
 
 // Takes the element out, if there is one.
 fn take_out(graph: &mut HeldGraph, out: Option<Element>)
-    requires { IfSome out (λ x. (has graph.old.set x ≡ true) × (list_any (needs_id (element_id_of x)) graph.old.set ≡ false)) }
+    requires loose { IfSome out (λ x. (has graph.old.set x ≡ true) × (list_any (needs_id (element_id_of x)) graph.old.set ≡ false)) }
+    requires room { IfSome out (HasRoom graph.old) }
     ensures set { graph.new.set ≡ without graph.old.set out }
     ensures keeps { KeepsIds graph.old graph.new }
-    ensures spare { graph.old.spare ≤ graph.new.spare }
+    ensures known { IfSome out (IsKnown graph.new) }
+    ensures none { out ≡ None → graph.new ≡ graph.old }
 {
     if let Some(element) = out {
         graph.take_out(&element);
@@ -30,37 +67,51 @@ fn take_out(graph: &mut HeldGraph, out: Option<Element>)
 // Puts the element in, if there is one.
 fn put(graph: &mut HeldGraph, into: Option<Element>)
     requires fits { IfSome into (λ x. (at graph.old.set (element_id_of x) ≡ None) × (has_needs graph.old.set x ≡ true)) }
-    requires room { IfSome into (λ x. has_room graph.old (element_id_of x) ≡ true) }
+    requires room { IfSome into (HasRoom graph.old) }
     ensures set { graph.new.set ≡ with_one graph.old.set into }
     ensures keeps { KeepsIds graph.old graph.new }
-    ensures spare { graph.old.spare ≤ graph.new.spare + 1 }
+    ensures known { IfSome into (IsKnown graph.new) }
 {
     if let Some(element) = into {
         graph.put(element);
     }
 }
 
-/// Takes the graph past an event that can happen in it. There is room for one more id.
-pub(crate) fn apply(graph: &mut HeldGraph, event: &Event)
+// Makes room for the element, if there is one.
+fn make_room(graph: &mut HeldGraph, element: Option<Element>) -> Result<(), AllocError>
+    requires { IfSome element (λ x. has_needs graph.old.set x ≡ true) }
+    ensures set { graph.new.set ≡ graph.old.set }
+    ensures keeps { KeepsIds graph.old graph.new }
+    ensures room { OnOk result (IfSome element (HasRoom graph.new)) }
+{
+    match element {
+        Some(element) => graph.make_room(&element),
+        None => Ok(()),
+    }
+}
+
+/// Takes the graph past an event that can happen in it. An `Err` says that memory ran out, and the graph
+/// is as before.
+pub(crate) fn apply(graph: &mut HeldGraph, event: &Event) -> Result<(), AllocError>
     requires graph { IsGraph graph.old.set }
     requires happens { CanHappen graph.old.set event.now.body }
-    requires room { 1 ≤ graph.old.spare }
-    ensures set { graph.new.set ≡ forwards graph.old.set event.now }
+    ensures set { OnOk result (graph.new.set ≡ forwards graph.old.set event.now) }
+    ensures known { OnOk result (KnowsEvent graph.new event.now) }
     ensures keeps { KeepsIds graph.old graph.new }
-    ensures known { is_some (element_before event.now.body) ≡ true → knows graph.new (changed_id event.now.body) ≡ true }
-    ensures spare { graph.old.spare ≤ graph.new.spare + 1 }
+    ensures err { OnErr result (graph.new.set ≡ graph.old.set) }
 {
-    // The id of each element has an entry.
-    graph.facts();
     let (removed, added) = effect(event);
+    // Where there are both, they need the same, and have one id.
+    make_room(graph, removed.or(added))?;
     take_out(graph, removed);
     put(graph, added);
+    Ok(())
 }
 
 // Takes the graph back before an event that led to it.
 fn undo_one(graph: &mut HeldGraph, event: &Event)
     requires came { CameBy graph.old.set event.now }
-    requires known { is_some (element_before event.now.body) ≡ true → knows graph.old (changed_id event.now.body) ≡ true }
+    requires known { KnowsEvent graph.old event.now }
     ensures set { graph.new.set ≡ backwards graph.old.set event.now }
     ensures keeps { KeepsIds graph.old graph.new }
 {
@@ -81,22 +132,21 @@ pub(crate) fn undo(graph: &mut HeldGraph, events: &mut Vec<Event>)
 }
 
 /// Completes the changes, one after another, and takes the graph past each event. The events are put
-/// into an empty list that has room for all of them, as the graph has. `Err` is the first line that is
-/// refused, from 1, and the first reason against it; the list then has the events before it.
+/// into an empty list that has room for all of them. An `Err` is the first line that is refused, from 1,
+/// with the first reason against it, or want of memory; the list then has the events before it.
 pub(crate) fn complete_all(
     graph: &mut HeldGraph,
     events: &mut Vec<Event>,
     earliest: u64,
     changes: &[Change],
-) -> Result<(), (u32, u8)>
+) -> Result<(), PrepareFault>
     requires empty { events.old.items ≡ [] }
     requires graph { IsGraph graph.old.set }
     requires few { length changes.now ≤ u32.MAX }
-    requires room { length changes.now ≤ graph.old.spare }
     requires capacity { length changes.now ≤ vec_capacity events.old }
     ensures led { Led graph.old.set events.new.items graph.new }
     ensures done { IfOk result (λ _. completed 1 earliest graph.old.set (map (λ (c : Change). Some c) changes.now) ≡ Ok events.new.items) }
-    ensures refused { IfErr result (λ at. completed 1 earliest graph.old.set (map (λ (c : Change). Some c) changes.now) ≡ Err at) }
+    ensures refused { IfErr result (FaultOf (completed 1 earliest graph.old.set (map (λ (c : Change). Some c) changes.now))) }
 {
     let mut from = earliest;
     let mut line: u32 = 0;
@@ -104,9 +154,9 @@ pub(crate) fn complete_all(
         line += 1;
         let event = match event_of(from, graph, change) {
             Ok(event) => event,
-            Err(reason) => return Err((line, reason)),
+            Err(reason) => return Err(PrepareFault::BadChange { line, reason }),
         };
-        apply(graph, &event);
+        apply(graph, &event)?;
         // There is room, so this cannot fail.
         events.push(event).unwrap();
         from = event.time;

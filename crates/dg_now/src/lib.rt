@@ -1,4 +1,5 @@
-//! The current graph of a history, kept by element id, and the events of a batch that are not in it yet.
+//! The current graph of a history, as its elements at the start and what changed since, and the events of
+//! a batch that are not in it yet.
 //! docs/MODEL.md has the definitions.
 #![tactic(auto)]
 
@@ -6,10 +7,14 @@ mod completion;
 mod element_entry;
 mod element_id;
 mod element_list;
+mod ends;
 mod event_effect;
 mod fault;
+mod graph_test;
 mod held_graph;
 mod now;
+mod search;
+mod sorted_graph;
 #[cfg(test)]
 mod tests;
 

@@ -1,16 +1,15 @@
-ghost use Rattle.std.specs.Prelude.{◌≡◌, ◌<◌, ◌≤◌, ◌^◌, ◌&&◌, not, is_some, [], Ok, length, IfOk, IfErr, IfSome, OnErr, IsErrOf, if◌then◌else◌};
+ghost use Rattle.std.specs.Prelude.{◌≡◌, ◌<◌, ◌≤◌, ◌^◌, [], Ok, length, IfOk, IfErr, IfSome, OnErr, IsErrOf, if◌then◌else◌};
 ghost use Rattle.dg_graph.specs.Completion.{has_node, edge_of, node_value, edge_value, is_change_of};
 ghost use Rattle.dg_graph.specs.Effect.{forwards};
-ghost use Rattle.dg_graph.specs.Graph.{IsGraph, has_needs};
-ghost use Rattle.dg_graph.specs.Elements.{IsSet};
+ghost use Rattle.dg_graph.specs.Graph.{IsGraph};
 ghost use Rattle.dg_graph.specs.Replay.{replay_from};
-ghost use Rattle.dg_now.specs.ElementIds.{element_id_of, at};
+ghost use Rattle.dg_now.specs.ElementIds.{at};
 ghost use Rattle.dg_now.specs.Now.{NowState, earliest_time_after, completed_batch, FaultOf, ends_in};
 
-use crate::completion::{edge_of, has_node, has_nodes, is_change_of, value_in};
+use crate::completion::{is_change_of, value_in};
 use crate::element_id::{ElementId, element_before};
-use crate::element_list::{before_pending, first_changes, push};
-use crate::event_effect::{apply, complete_all, undo};
+use crate::element_list::{before_pending, first_changes, in_order, push};
+use crate::event_effect::{apply, complete_all, ready_for_changes, ready_for_event, undo};
 use crate::fault::{FromFault, PrepareFault};
 use crate::held_graph::HeldGraph;
 use dg_graph::{Change, Element, Event};
@@ -22,7 +21,7 @@ use std::marker::Model;
 ///
 /// What is held is the graph with the pending events, so `commit` only forgets them, and `abandon`
 /// undoes them. A look-up passes over the pending events first, one after another, and then takes one
-/// hash: it is meant for when nothing is pending.
+/// hash and a binary search: it is meant for when nothing is pending.
 #[derive(Drop)]
 pub struct Now {
     held: HeldGraph,
@@ -59,7 +58,9 @@ impl Now {
         ensures ok { IfOk result (λ now. (now.graph ≡ set.now) × (now.pending ≡ []) × IsGraph set.now) }
         ensures not_graph { IsErrOf result FromFault.NotGraph → IsGraph set.now → ⊥ }
     {
-        let held = hold(alloc, set.items())?;
+        let held = HeldGraph::from_set(alloc, set)?;
+        // What is held is a graph.
+        held.facts();
         Ok(Now {
             held,
             pending: Vec::new(alloc),
@@ -101,18 +102,15 @@ impl Now {
         ensures same_graph { self.new.graph ≡ self.old.graph }
     {
         let earliest = earliest_time_after(last);
+        let alloc = *self.pending.allocator();
+        ready_for_changes(&mut self.held, alloc, changes)?;
         self.held.reserve(changes.len())?;
         self.pending.reserve(changes.len())?;
-        if let Err((line, reason)) = complete_all(
-            &mut self.held,
-            &mut self.pending,
-            earliest,
-            changes,
-        ) {
+        if let Err(fault) = complete_all(&mut self.held, &mut self.pending, earliest, changes) {
             self.abandon();
-            return Err(PrepareFault::BadChange { line, reason });
+            return Err(fault);
         }
-        match Vec::from_slice(*self.pending.allocator(), &self.pending) {
+        match Vec::from_slice(alloc, &self.pending) {
             Ok(events) => Ok(events),
             Err(_) => {
                 self.abandon();
@@ -150,11 +148,11 @@ impl Now {
         ensures none { self.new.pending ≡ [] }
         ensures err { OnErr result (self.new ≡ self.old) }
     {
+        ready_for_event(&mut self.held, *self.pending.allocator(), event)?;
         if !is_change_of(&self.held, &event.body) {
             return Ok(false);
         }
-        self.held.reserve(1)?;
-        apply(&mut self.held, event);
+        apply(&mut self.held, event)?;
         Ok(true)
     }
 
@@ -214,17 +212,21 @@ impl Now {
     pub fn to_set(&self) -> Result<Set, AllocError>
         ensures { IfOk result (λ set. set ≡ self.now.graph) }
     {
-        // The ids are distinct, and that of each element has an entry.
+        // The ids that have an entry are distinct, and those with none are as at the start.
         self.held.facts();
         let alloc = *self.pending.allocator();
+        let base = self.held.base();
         let first = first_changes(alloc, &self.pending)?;
-        let mut elements = Vec::with_capacity(alloc, self.held.len())?;
+        let mut lost = Vec::with_capacity(alloc, self.held.len())?;
+        let mut gained = Vec::with_capacity(alloc, self.held.len())?;
         for index in 0..self.held.len() {
-            let element = before_pending(&first, &self.held, self.held.id(index));
-            push(&mut elements, element)?;
+            let id = self.held.id(index);
+            push(&mut lost, base.element_at(id))?;
+            push(&mut gained, before_pending(&first, &self.held, id))?;
         }
-        elements.sort_unstable();
-        Ok(Set::from_rising(elements))
+        let lost = in_order(lost);
+        let gained = in_order(gained);
+        base.elements().replaced(&lost, &gained)
     }
 }
 
@@ -237,43 +239,4 @@ fn earliest_time_after(last: Option<u64>) -> u64
         None => 0,
         Some(last) => last + 1,
     }
-}
-
-// Whether what the element needs is held.
-fn is_fed(held: &HeldGraph, element: &Element) -> bool
-    ensures { result ≡ has_needs held.now.set element.now }
-{
-    match *element {
-        Element::Node { .. } => true,
-        Element::Edge { src, dst, .. } => has_nodes(held, src, dst),
-        Element::NodeAttr { id, .. } => has_node(held, id),
-        Element::EdgeAttr { id, .. } => edge_of(held, id).is_some(),
-    }
-}
-
-// Whether no element has the id of this one, and what it needs is held.
-fn has_room_for(held: &HeldGraph, element: &Element) -> bool
-    ensures { result ≡ (not (is_some (at held.now.set (element_id_of element.now))) && has_needs held.now.set element.now) }
-{
-    held.element_at(ElementId::of(element)).is_none() && is_fed(held, element)
-}
-
-// The graph of these elements, which rise strictly. What an element needs stands before it in their
-// order, so it is held already.
-fn hold(alloc: Global, elements: &[Element]) -> Result<HeldGraph, FromFault>
-    requires { IsSet elements.now }
-    ensures ok { IfOk result (λ held. (held.set ≡ elements.now) × IsGraph elements.now) }
-    ensures not_graph { IsErrOf result FromFault.NotGraph → IsGraph elements.now → ⊥ }
-{
-    let mut held = HeldGraph::new(alloc);
-    held.reserve(elements.len())?;
-    for element in elements {
-        if !has_room_for(&held, element) {
-            return Err(FromFault::NotGraph);
-        }
-        held.put(*element);
-    }
-    // What is held is a graph.
-    held.facts();
-    Ok(held)
 }

@@ -6,7 +6,7 @@ use Rattle.dg_graph.specs.CompletedChanges.{completed}
 use Rattle.dg_now.specs.EventEffect.{Led}
 use Rattle.dg_now.proofs.EventOf.{event_happens}
 use Rattle.dg_now.proofs.EventEffect.{led_is_graph}
-use Rattle.dg_now.proofs.CompleteAll.{onto, all_changes, goes_on_at, led_more}
+use Rattle.dg_now.proofs.CompleteAll.{onto, all_changes, goes_on_at, led_more, led_still}
 use Rattle.dg_now.proofs.event_effect.complete_all.Goals as goal
 
 -- what an index past the list reads as
@@ -38,9 +38,12 @@ loop-change-preserved c =
     record {
       line = omega arith;
       led = subst (λ (es : List Event). Led start es c.apply.new.graph) (sym pushed)
-          (led_more start events old.graph c.apply.new.graph e old.invariant.led happens c.apply.ensures.set c.apply.ensures.keeps c.apply.ensures.known);
-      due = due ∙ (λ i. onto (sym pushed i) (completed (old.line + 1 + 1) e.time (sym c.apply.ensures.set i) (all_changes (drop (old.change-index + 1) changes))));
-      room = omega arith;
+          (led_more start events old.graph c.apply.new.graph e old.invariant.led happens c.in_ok-apply.ensures.set c.in_ok-apply.ensures.keeps c.in_ok-apply.ensures.known);
+      due = due ∙ (λ i. onto (sym pushed i) (completed (old.line + 1 + 1) e.time (sym c.in_ok-apply.ensures.set i) (all_changes (drop (old.change-index + 1) changes))));
       count = omega arith;
       capacity = search rules;
     }
+
+pub returns-in_err-apply-clause-led : goal.returns-in_err-apply-clause-led
+returns-in_err-apply-clause-led c =
+    led_still c.args.graph.now.set c.loop-change.events.items c.loop-change.graph c.apply.new.graph c.loop-change.invariant.led c.in_err-apply.ensures.err c.in_err-apply.ensures.keeps

@@ -11,7 +11,6 @@ invariant-loop-change l = record {
   led : Led l.initial.graph.set l.events.items l.graph;
   due : completed 1 l.fn.earliest l.initial.graph.set (all_changes l.changes)
       ≡ onto l.events.items (completed (l.line + 1) l.from l.graph.set (all_changes (drop l.change-index l.changes)));
-  room : length l.changes ≤ l.graph.spare + l.change-index;
   count : length l.events.items ≡ l.change-index;
   capacity : length l.changes ≤ vec_capacity l.events;
 }

@@ -1,5 +1,6 @@
 use Rattle.std.proofs.Common.{◌≡◌, sym, ap, ◌∙◌}
 use Rattle.dg_now.specs.EventEffect.{Led, rewound}
+use Rattle.dg_now.specs.HeldGraph.{HeldGraphState}
 use Rattle.dg_now.specs.Now.{NowState}
 use Rattle.dg_now.proofs.NowState.{led_back, led_again, held_alone, same_state}
 use Rattle.dg_now.proofs.now.Now.prepare.Goals as goal
@@ -8,7 +9,7 @@ use Rattle.dg_now.proofs.now.Now.prepare.Goals.{After-complete_all}
 -- what was held is the graph, since nothing was pending
 start : (c : After-complete_all) → c.reserve.new.self.set ≡ c.args.self.now.graph
 start c =
-    c.in_ok-reserve.ensures.set
+    c.in_ok-reserve.ensures.set ∙ ap (λ (h : HeldGraphState). h.set) c.in_ok-ready_for_changes.ensures
     ∙ held_alone c.self.inside.held.set c.args.self.now.graph c.self.inside.pending.items c.args.self.now.pending
     (ap (λ (s : NowState). s.graph) c.self.view_is) (ap (λ (s : NowState). s.pending) c.self.view_is) c.requires.none_pending
 
