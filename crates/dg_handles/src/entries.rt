@@ -82,7 +82,11 @@ fn usable(entry: &Entry, cols: Columns) -> Option<Base>
 }
 
 /// The handles that hold bases for these columns, with their nodes. An `Err` says that memory ran out.
-pub(crate) fn bases(alloc: Global, entries: &[Entry], cols: Columns) -> Result<Vec<Base>, AllocError>
+pub(crate) fn bases(
+    alloc: Global,
+    entries: &[Entry],
+    cols: Columns,
+) -> Result<Vec<Base>, AllocError>
     ensures { IfOk result (λ v. map node_of v.items ≡ bases_in cols (map (λ e. (e.handle, e.stands)) entries.now)) }
 {
     let mut bases = Vec::new(alloc);

@@ -58,8 +58,9 @@ invariant_of-self c =
     let stands : List Stands = overlays_on c.args.cols c.args.times.now (map (λ (l : GraphLead). base_of l.begins) c.args.leads.now) in
     let many : length c.args.self.now.table ≡ length entries.items = ap (λ (s : HandlesState). length s.table) (sym c.self.view_is) ∙ length-map entries.items entry_of in
     let last : c.self.inside.next ≡ c.args.self.now.next = ap (λ (s : HandlesState). s.next) c.self.view_is in
-    let new = overlays_many c.args.cols c.args.times.now c.args.leads.now c.requires.leads in
-    (omega (arith, c.enter.ensures.len, c.requires.room, many, entries.ok.0),
-    omega (arith, c.enter.ensures.capacity, c.self.invariant.1),
-    omega (arith, c.requires.numbers, last),
-    rise_more entries.items c.enter.new.entries.items c.self.inside.next (c.self.inside.next + length c.args.times.now) stands c.self.invariant.3 c.enter.ensures.table (ap (λ n. c.self.inside.next + n) (sym new)))
+    let new = overlays_many c.args.cols c.args.times.now c.args.leads.now c.requires.leads in (
+      omega (arith, c.enter.ensures.len, c.requires.room, many, entries.ok.0),
+      omega (arith, c.enter.ensures.capacity, c.self.invariant.1),
+      omega (arith, c.requires.numbers, last),
+      rise_more entries.items c.enter.new.entries.items c.self.inside.next (c.self.inside.next + length c.args.times.now) stands c.self.invariant.3 c.enter.ensures.table (ap (λ n. c.self.inside.next + n) (sym new)),
+    )

@@ -60,8 +60,9 @@ pub invariant_of-self : goal.invariant_of-self
 invariant_of-self c =
     let entries = c.self.inside.entries in
     let many : length c.args.self.now.table ≡ length entries.items = ap (λ (s : HandlesState). length s.table) (sym c.self.view_is) ∙ length-map entries.items entry_of in
-    let last : c.self.inside.next ≡ c.args.self.now.next = ap (λ (s : HandlesState). s.next) c.self.view_is in
-    (omega (arith, c.push_reserved.ensures.len, c.requires.room, many, entries.ok.0),
-    omega (arith, c.push_reserved.ensures.capacity, c.self.invariant.1),
-    omega (arith, c.requires.numbers, last),
-    rise_more entries.items c.push_reserved.new.self.items c.self.inside.next (c.self.inside.next + 1) (stands.Base c.args.node c.args.cols ∷ []) c.self.invariant.3 (table_is c) refl)
+    let last : c.self.inside.next ≡ c.args.self.now.next = ap (λ (s : HandlesState). s.next) c.self.view_is in (
+      omega (arith, c.push_reserved.ensures.len, c.requires.room, many, entries.ok.0),
+      omega (arith, c.push_reserved.ensures.capacity, c.self.invariant.1),
+      omega (arith, c.requires.numbers, last),
+      rise_more entries.items c.push_reserved.new.self.items c.self.inside.next (c.self.inside.next + 1) (stands.Base c.args.node c.args.cols ∷ []) c.self.invariant.3 (table_is c) refl,
+    )

@@ -99,8 +99,9 @@ invariant_of-self c =
     let place = c.in-Some.place in
     let e = c.remove-entry.ensures in
     let numbers : map (λ (x : Entry). x.handle) c.remove-entry.new.self.items ≡ remove (map (λ (x : Entry). x.handle) c.self.inside.entries.items) place =
-    ap (map (λ (x : Entry). x.handle)) e.items ∙ map-remove (λ (x : Entry). x.handle) c.self.inside.entries.items place in
-    (omega (arith, e.len, c.self.invariant.0),
-    omega (arith, e.capacity, c.self.invariant.1),
-    c.self.invariant.2,
-    subst (RiseWithin 0 c.self.inside.next) (sym numbers) (rise_remove 0 c.self.inside.next (map (λ (x : Entry). x.handle) c.self.inside.entries.items) place c.self.invariant.3))
+    ap (map (λ (x : Entry). x.handle)) e.items ∙ map-remove (λ (x : Entry). x.handle) c.self.inside.entries.items place in (
+      omega (arith, e.len, c.self.invariant.0),
+      omega (arith, e.capacity, c.self.invariant.1),
+      c.self.invariant.2,
+      subst (RiseWithin 0 c.self.inside.next) (sym numbers) (rise_remove 0 c.self.inside.next (map (λ (x : Entry). x.handle) c.self.inside.entries.items) place c.self.invariant.3),
+    )
