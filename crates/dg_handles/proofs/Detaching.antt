@@ -1,9 +1,9 @@
 -- Slots that are ended one after another.
-use Rattle.std.proofs.Common.{arith, ◌≡◌, ℕ, ◌+◌, ◌<◌, Bool, true, false, ◌||◌, eqb, List, Option, None, IsSome, length, take, get_or, refl, sym, ap, ◌∙◌, subst, ◌⊎◌, inl, inr}
+use Rattle.std.proofs.Common.{arith, ◌≡◌, ℕ, ◌+◌, ◌<◌, Bool, true, false, ◌||◌, eqb, List, Option, Some, None, IsSome, length, take, get_or, refl, sym, ap, ◌∙◌, subst, ◌⊎◌, inl, inr}
 use Rattle.std.proofs.lemmas.Bool.{cases_Bool, both_ways, eq-eqb, eqb-true, or_parts}
 use Rattle.std.proofs.lemmas.List.{get_or-map, take_more}
 use Rattle.std.proofs.Math.ListN.{length-map}
-use Rattle.dg_handles.specs.Attached.{numbers_of}
+use Rattle.dg_handles.specs.Attached.{NoneRestsOn, numbers_of}
 use Rattle.dg_handles.specs.Handles.{AreDistinct}
 use Rattle.dg_handles.proofs.Listed.{distinct_before, listed_at, listed_push}
 use Rattle.dg_pool.specs.declared.slots.Slot.{Slot}
@@ -29,6 +29,15 @@ module _ (old mid : PoolState) (slots : List Slot) (i : ℕ) where
         let k : ℕ = get_or (numbers_of slots) i 0 in
         subst (λ (n : ℕ). IsSome (slot_graph mid n)) number
         (subst (λ (o : Option SlotGraph). IsSome o) (sym (kept k (distinct_before (numbers_of slots) i 0 apart inside))) (live k (listed_at (numbers_of slots) i 0 inside)))
+
+    pub still_unused : ((s : ℕ) → is_listed (numbers_of slots) s ≡ true → NoneRestsOn old s) → AreGone → AreKept → NoneRestsOn mid (get_or slots i d).0
+    still_unused unused gone kept = λ t g b is rests same.
+        unused (get_or slots i d).0 (sym (ap (is_listed (numbers_of slots)) number) ∙ listed_at (numbers_of slots) i 0 inside) t g b
+        (at t g is (cases_Bool (is_listed (take i (numbers_of slots)) t))) rests same
+      where
+        at : (t : ℕ) (g : SlotGraph) → slot_graph mid t ≡ Some g → (is_listed (take i (numbers_of slots)) t ≡ true) ⊎ (is_listed (take i (numbers_of slots)) t ≡ false) → slot_graph old t ≡ Some g
+        at t g is (inl e) = let none = gone t e in cc
+        at t g is (inr e) = sym (kept t e) ∙ is
 
     listed_more : (s : ℕ) → is_listed (take (i + 1) (numbers_of slots)) s ≡ (is_listed (take i (numbers_of slots)) s || eqb (get_or slots i d).0 s)
     listed_more s =

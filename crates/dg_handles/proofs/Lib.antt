@@ -1,7 +1,9 @@
 mod Attaching
+mod Beside
 mod Detaching
 mod Entering
 mod Listed
 mod Placing
+mod Serving
 mod Tying
 mod Unions

@@ -1,18 +1,21 @@
 -- What the place of a handle says of the table and of the graphs.
-use Rattle.std.proofs.Common.{arith, ◌≡◌, ℕ, zero, suc, ◌+◌, ◌<◌, true, false, cond, List, [], ◌∷◌, ◌++◌, Some, None, IsSome, is_some, length, map, take, drop, get_or, refl, sym, ap, ◌∙◌, subst}
-use Rattle.std.specs.List.{remove}
-use Rattle.std.proofs.lemmas.Bool.{eq-eqb, ne_eqb}
+use Rattle.std.proofs.Common.{arith, ◌≡◌, ℕ, zero, suc, ◌+◌, ◌<◌, true, false, cond, eqb, List, [], ◌∷◌, ◌++◌, Option, Some, None, IsSome, length, map, take, drop, get_or, remove, refl, sym, ap, ◌∙◌, subst}
+use Rattle.std.specs.List.{AllZip}
+use Rattle.std.proofs.lemmas.Bool.{both_ways, eq-eqb, ne_eqb}
 use Rattle.std.proofs.lemmas.List.{drop_more, get_or-map}
 use Rattle.std.proofs.Math.ListN.{length-map, take-append-drop}
 use Rattle.dg_graph.specs.declared.element.Element.{Element}
-use Rattle.dg_handles.specs.declared.handles.Entry.{Entry}
-use Rattle.dg_handles.specs.Handles.{HandlesState, IsTied, graph_among, graphs_at, graphs_without, members_at}
+use Rattle.dg_handles.specs.declared.entries.Entry.{Entry}
+use Rattle.dg_handles.specs.Handles.{AreDistinct, HandlesState, Holds, IsTied, graph_among, graphs_at, graphs_without, members_at, slot_of}
 use Rattle.dg_handles.specs.Places.{IsFirst, NoneIs}
-use Rattle.dg_handles.proofs.Entering.{entry_of, number_of}
-use Rattle.dg_handles.proofs.Tying.{kept_released, some_from_rests, tied_released}
+use Rattle.dg_handles.proofs.Beside.{Entries, entry_remove, handles_in, none_dependent, slot_remove, zip-each, zip-remove}
+use Rattle.dg_handles.proofs.Entering.{entry_of, number_of, numbers_are}
+use Rattle.dg_handles.proofs.Listed.{distinct_middle, listed_past, map_same}
+use Rattle.dg_handles.proofs.Tying.{Stays, holds_still, many, some_nowhere}
 use Rattle.dg_machine.specs.declared.stands.Stands.{Stands}
-use Rattle.dg_machine.specs.MachineState.{entry_at, without_handle}
-use Rattle.dg_pool.specs.Graphs.{PoolState, slot_graph}
+use Rattle.dg_machine.specs.MachineState.{dependent_on, entry_at, rests_on, without_handle}
+use Rattle.dg_pool.specs.Graphs.{PoolState, SlotGraph, is_listed, slot_graph}
+use Rattle.dg_pool.specs.Sweeps.{members_as}
 
 pub map-remove : {X Y : Type 0} (f : X → Y) (xs : List X) (i : ℕ) → map f (remove xs i) ≡ remove (map f xs) i
 map-remove f [] zero = refl
@@ -20,64 +23,86 @@ map-remove f [] (suc i) = refl
 map-remove f (x ∷ xs) zero = refl
 map-remove f (x ∷ xs) (suc i) = ap (λ l. f x ∷ l) (map-remove f xs i)
 
-pub numbers_are : (entries : List Entry) → map (λ (e : Entry). e.handle) entries ≡ map (λ (e : ℕ × Stands). e.0) (map entry_of entries)
-numbers_are [] = refl
-numbers_are (e ∷ entries) = ap (λ l. e.handle ∷ l) (numbers_are entries)
-
-abbrev pub handles_in : List (ℕ × Stands) → List ℕ
-handles_in table = map (λ (e : ℕ × Stands). e.0) table
-
 -- ---- where the handle is live
 
--- what a place says of the table, and of graphs that are as many
-pub record Found (handle : ℕ) (table : List (ℕ × Stands)) (graphs : List (List Element)) (place : ℕ) : Type 0 where
-  pub there : is_some (entry_at handle table) ≡ true
+-- what a place says of the table, of the slots, and of graphs that are as many
+pub record Found (handle : ℕ) (table : Entries) (slots : List ℕ) (place : ℕ) : Type 0 where
+  pub entry : (d : ℕ × Stands) → entry_at handle table ≡ Some (get_or table place d).1
+  pub slot : slot_of handle table slots ≡ Some (get_or slots place 0)
   pub without : without_handle handle table ≡ remove table place
-  pub graph : graph_among handle table graphs ≡ Some (get_or graphs place [])
-  pub rest : graphs_without handle table graphs ≡ remove graphs place
+  pub graphs : (graphs : List (List Element)) → length graphs ≡ length table → graphs_without handle table graphs ≡ remove graphs place
 
-pub found : (handle : ℕ) (table : List (ℕ × Stands)) (graphs : List (List Element)) (place : ℕ) → length graphs ≡ length table → IsFirst handle (handles_in table) place → Found handle table graphs place
-found handle [] graphs place many f = absurd (omega (arith, f.within))
-found handle (e ∷ table) [] place many f = absurd (omega (arith, many))
-found handle (e ∷ table) (g ∷ graphs) zero many f =
-    let same = eq-eqb e.0 handle f.here in
+pub found : (handle : ℕ) (table : Entries) (slots : List ℕ) (place : ℕ) → length slots ≡ length table → IsFirst handle (handles_in table) place → Found handle table slots place
+found handle [] slots place same f = absurd (omega (arith, f.within))
+found handle (e ∷ table) [] place same f = absurd (omega (arith, same))
+found handle (e ∷ table) (s ∷ slots) zero same f = record {
+  entry = λ d. ap (λ b. cond b (Some e.1) (entry_at handle table)) here;
+  slot = ap (λ b. cond b (Some s) (slot_of handle table slots)) here;
+  without = ap (λ b. cond b table (e ∷ without_handle handle table)) here;
+  graphs = at;
+}
+  where
+    here : eqb e.0 handle ≡ true
+    here = eq-eqb e.0 handle f.here
+
+    at : (graphs : List (List Element)) → length graphs ≡ length (e ∷ table) → graphs_without handle (e ∷ table) graphs ≡ remove graphs zero
+    at [] many' = refl
+    at (g ∷ graphs) many' = ap (λ b. cond b graphs (g ∷ graphs_without handle table graphs)) here
+found handle (e ∷ table) (s ∷ slots) (suc place) same f =
+    let next = found handle table slots place (omega (arith, same)) (record { within = omega (arith, f.within); here = f.here; before = λ k lt is. f.before (suc k) (omega (arith, lt)) is }) in
     record {
-      there = ap (λ b. is_some (cond b (Some e.1) (entry_at handle table))) same;
-      without = ap (λ b. cond b table (e ∷ without_handle handle table)) same;
-      graph = ap (λ b. cond b (Some g) (graph_among handle table graphs)) same;
-      rest = ap (λ b. cond b graphs (g ∷ graphs_without handle table graphs)) same;
-    }
-found handle (e ∷ table) (g ∷ graphs) (suc place) many f =
-    let differ = ne_eqb e.0 handle (f.before 0 (omega arith)) in
-    let next = found handle table graphs place (omega (arith, many)) (record { within = omega (arith, f.within); here = f.here; before = λ k lt is. f.before (suc k) (omega (arith, lt)) is }) in
-    record {
-      there = ap (λ b. is_some (cond b (Some e.1) (entry_at handle table))) differ ∙ next.there;
+      entry = λ d. ap (λ b. cond b (Some e.1) (entry_at handle table)) differ ∙ next.entry d;
+      slot = ap (λ b. cond b (Some s) (slot_of handle table slots)) differ ∙ next.slot;
       without = ap (λ b. cond b table (e ∷ without_handle handle table)) differ ∙ ap (λ l. e ∷ l) next.without;
-      graph = ap (λ b. cond b (Some g) (graph_among handle table graphs)) differ ∙ next.graph;
-      rest = ap (λ b. cond b graphs (g ∷ graphs_without handle table graphs)) differ ∙ ap (λ l. g ∷ l) next.rest;
+      graphs = at next.graphs;
     }
+  where
+    differ : eqb e.0 handle ≡ false
+    differ = ne_eqb e.0 handle (f.before 0 (omega arith))
+
+    at : ((graphs : List (List Element)) → length graphs ≡ length table → graphs_without handle table graphs ≡ remove graphs place)
+        → (graphs : List (List Element)) → length graphs ≡ length (e ∷ table) → graphs_without handle (e ∷ table) graphs ≡ remove graphs (suc place)
+    at rest [] many' = absurd (omega (arith, many'))
+    at rest (g ∷ graphs) many' = ap (λ b. cond b graphs (g ∷ graphs_without handle table graphs)) differ ∙ ap (λ l. g ∷ l) (rest graphs (omega (arith, many')))
 
 -- ---- where it is not
 
-pub record Missed (handle : ℕ) (table : List (ℕ × Stands)) (graphs : List (List Element)) : Type 0 where
-  pub absent : is_some (entry_at handle table) ≡ false
+pub record Missed (handle : ℕ) (table : Entries) (slots : List ℕ) : Type 0 where
+  pub entry : entry_at handle table ≡ None
+  pub slot : slot_of handle table slots ≡ None
   pub without : without_handle handle table ≡ table
-  pub graph : graph_among handle table graphs ≡ None
-  pub rest : graphs_without handle table graphs ≡ graphs
+  pub graph : (graphs : List (List Element)) → length graphs ≡ length table → graph_among handle table graphs ≡ None
+  pub graphs : (graphs : List (List Element)) → length graphs ≡ length table → graphs_without handle table graphs ≡ graphs
 
-pub missed : (handle : ℕ) (table : List (ℕ × Stands)) (graphs : List (List Element)) → length graphs ≡ length table → NoneIs handle (handles_in table) → Missed handle table graphs
-missed handle [] [] many none = record { absent = refl; without = refl; graph = refl; rest = refl }
-missed handle [] (g ∷ graphs) many none = absurd (omega (arith, many))
-missed handle (e ∷ table) [] many none = absurd (omega (arith, many))
-missed handle (e ∷ table) (g ∷ graphs) many none =
-    let differ = ne_eqb e.0 handle (none 0 (omega arith)) in
-    let next = missed handle table graphs (omega (arith, many)) (λ k lt is. none (suc k) (omega (arith, lt)) is) in
+pub missed : (handle : ℕ) (table : Entries) (slots : List ℕ) → length slots ≡ length table → NoneIs handle (handles_in table) → Missed handle table slots
+missed handle [] slots same none = record { entry = refl; slot = refl; without = refl; graph = λ graphs many'. refl; graphs = at }
+  where
+    at : (graphs : List (List Element)) → length graphs ≡ 0 → graphs_without handle [] graphs ≡ graphs
+    at [] many' = refl
+    at (g ∷ graphs) many' = absurd (omega (arith, many'))
+missed handle (e ∷ table) [] same none = absurd (omega (arith, same))
+missed handle (e ∷ table) (s ∷ slots) same none =
+    let next = missed handle table slots (omega (arith, same)) (λ k lt is. none (suc k) (omega (arith, lt)) is) in
     record {
-      absent = ap (λ b. is_some (cond b (Some e.1) (entry_at handle table))) differ ∙ next.absent;
+      entry = ap (λ b. cond b (Some e.1) (entry_at handle table)) differ ∙ next.entry;
+      slot = ap (λ b. cond b (Some s) (slot_of handle table slots)) differ ∙ next.slot;
       without = ap (λ b. cond b table (e ∷ without_handle handle table)) differ ∙ ap (λ l. e ∷ l) next.without;
-      graph = ap (λ b. cond b (Some g) (graph_among handle table graphs)) differ ∙ next.graph;
-      rest = ap (λ b. cond b graphs (g ∷ graphs_without handle table graphs)) differ ∙ ap (λ l. g ∷ l) next.rest;
+      graph = at_graph next.graph;
+      graphs = at next.graphs;
     }
+  where
+    differ : eqb e.0 handle ≡ false
+    differ = ne_eqb e.0 handle (none 0 (omega arith))
+
+    at_graph : ((graphs : List (List Element)) → length graphs ≡ length table → graph_among handle table graphs ≡ None)
+        → (graphs : List (List Element)) → length graphs ≡ length (e ∷ table) → graph_among handle (e ∷ table) graphs ≡ None
+    at_graph rest [] many' = refl
+    at_graph rest (g ∷ graphs) many' = ap (λ b. cond b (Some g) (graph_among handle table graphs)) differ ∙ rest graphs (omega (arith, many'))
+
+    at : ((graphs : List (List Element)) → length graphs ≡ length table → graphs_without handle table graphs ≡ graphs)
+        → (graphs : List (List Element)) → length graphs ≡ length (e ∷ table) → graphs_without handle (e ∷ table) graphs ≡ graphs
+    at rest [] many' = refl
+    at rest (g ∷ graphs) many' = ap (λ b. cond b graphs (g ∷ graphs_without handle table graphs)) differ ∙ ap (λ l. g ∷ l) (rest graphs (omega (arith, many')))
 
 -- ---- by the entries
 
@@ -85,57 +110,102 @@ abbrev pub state_of : List Entry → ℕ → HandlesState
 state_of entries next = record { table = map entry_of entries; slots = map number_of entries; next = next }
 
 -- the state of these entries, which a search has seen
-module _ (handle : ℕ) (p : PoolState) (s : HandlesState) (entries seen : List Entry) (next : ℕ) (is_state : state_of entries next ≡ s) (is_seen : seen ≡ entries) where
-  many : length (graphs_at p (map number_of entries)) ≡ length (map entry_of entries)
-  many = length-map (map number_of entries) (members_at p) ∙ length-map entries number_of ∙ sym (length-map entries entry_of)
+module _ (handle : ℕ) (s : HandlesState) (entries seen : List Entry) (next : ℕ) (is_state : state_of entries next ≡ s) (is_seen : seen ≡ entries) where
+  alike : length (map number_of entries) ≡ length (map entry_of entries)
+  alike = length-map entries number_of ∙ sym (length-map entries entry_of)
 
   numbers : map (λ (e : Entry). e.handle) seen ≡ handles_in (map entry_of entries)
   numbers = ap (map (λ (e : Entry). e.handle)) is_seen ∙ numbers_are entries
 
-  pub missed_in : NoneIs handle (map (λ (e : Entry). e.handle) seen) → Missed handle s.table (graphs_at p s.slots)
+  pub as_many : length s.slots ≡ length s.table
+  as_many = subst (λ (v : HandlesState). length v.slots ≡ length v.table) is_state alike
+
+  pub graphs_many : (p : PoolState) → length (graphs_at p s.slots) ≡ length s.table
+  graphs_many p = length-map s.slots (members_at p) ∙ as_many
+
+  pub missed_in : NoneIs handle (map (λ (e : Entry). e.handle) seen) → Missed handle s.table s.slots
   missed_in none =
-      subst (λ (v : HandlesState). Missed handle v.table (graphs_at p v.slots)) is_state
-      (missed handle (map entry_of entries) (graphs_at p (map number_of entries)) many (subst (λ (l : List ℕ). NoneIs handle l) numbers none))
+      subst (λ (v : HandlesState). Missed handle v.table v.slots) is_state
+      (missed handle (map entry_of entries) (map number_of entries) alike (subst (λ (l : List ℕ). NoneIs handle l) numbers none))
 
   module _ (place : ℕ) (first : IsFirst handle (map (λ (e : Entry). e.handle) seen) place) where
-    pub found_in : Found handle s.table (graphs_at p s.slots) place
+    first_in : IsFirst handle (handles_in (map entry_of entries)) place
+    first_in = subst (λ (l : List ℕ). IsFirst handle l place) numbers first
+
+    pub found_in : Found handle s.table s.slots place
     found_in =
-        subst (λ (v : HandlesState). Found handle v.table (graphs_at p v.slots) place) is_state
-        (found handle (map entry_of entries) (graphs_at p (map number_of entries)) place many (subst (λ (l : List ℕ). IsFirst handle l place) numbers first))
+        subst (λ (v : HandlesState). Found handle v.table v.slots place) is_state
+        (found handle (map entry_of entries) (map number_of entries) place alike first_in)
 
-    pub within_in : place < length entries
-    within_in = omega (arith, first.within, length-map seen (λ (e : Entry). e.handle), ap length is_seen)
+    pub within_in : place < length s.table
+    within_in =
+        let within : place < length (map entry_of entries) = omega (arith, first_in.within, length-map (map entry_of entries) (λ (e : ℕ × Stands). e.0)) in
+        subst (λ (v : HandlesState). place < length v.table) is_state within
 
--- ---- the entry at a place
+    pub here_in : get_or (handles_in s.table) place 0 ≡ handle
+    here_in = subst (λ (v : HandlesState). get_or (handles_in v.table) place 0 ≡ handle) is_state first_in.here
 
-module _ (entries : List Entry) (place : ℕ) (e : Entry) (within : place < length entries) (e_is : e ≡ get_or entries place e) where
-  number : get_or (map number_of entries) place 0 ≡ e.slot.0
-  number = get_or-map number_of entries place e 0 within ∙ ap number_of (sym e_is)
+    module _ (e : Entry) (e_is : e ≡ get_or entries place e) where
+      inside : place < length entries
+      inside = omega (arith, first_in.within, length-map (map entry_of entries) (λ (x : ℕ × Stands). x.0), length-map entries entry_of)
 
-  inside : place < length (map number_of entries)
-  inside = omega (arith, length-map entries number_of, within)
+      -- the slot of the entry at the place
+      pub number_in : get_or s.slots place 0 ≡ e.slot.0
+      number_in = subst (λ (v : HandlesState). get_or v.slots place 0 ≡ e.slot.0) is_state (get_or-map number_of entries place e 0 inside ∙ ap number_of (sym e_is))
 
-  pub live_at : (p : PoolState) → IsTied p (map number_of entries) → IsSome (slot_graph p e.slot.0)
-  live_at p t = subst (λ (n : ℕ). IsSome (slot_graph p n)) number (some_from_rests (slot_graph p (get_or (map number_of entries) place 0)) (t.held place 0 inside))
+      pub slot_in : slot_of handle s.table s.slots ≡ Some e.slot.0
+      slot_in = found_in.slot ∙ ap (λ n. Some n) number_in
 
-  pub members_here : (p : PoolState) → members_at p e.slot.0 ≡ get_or (graphs_at p (map number_of entries)) place []
-  members_here p = ap (members_at p) (sym number) ∙ sym (get_or-map (members_at p) (map number_of entries) place 0 [] inside)
+      pub entry_in : entry_at handle s.table ≡ Some e.stands
+      entry_in =
+          let at : get_or s.table place (entry_of e) ≡ entry_of e = subst (λ (v : HandlesState). get_or v.table place (entry_of e) ≡ entry_of e) is_state (get_or-map entry_of entries place e (entry_of e) inside ∙ ap entry_of (sym e_is)) in
+          found_in.entry (entry_of e) ∙ ap (λ (x : ℕ × Stands). Some x.1) at
 
-  module _ (old new : PoolState) (t : IsTied old (map number_of entries)) (gone : slot_graph new e.slot.0 ≡ None) (others : (s : ℕ) → (s ≡ e.slot.0 → ⊥) → slot_graph new s ≡ slot_graph old s) where
-    whole : map number_of entries ≡ take place (map number_of entries) ++ e.slot.0 ∷ drop (suc place) (map number_of entries)
-    whole =
-        let numbers : List ℕ = map number_of entries in
-        sym (take-append-drop place numbers) ∙ ap (λ l. take place numbers ++ l) (drop_more numbers place 0 inside)
-        ∙ ap (λ k. take place numbers ++ k ∷ drop (place + 1) numbers) number
-        ∙ ap (λ n. take place numbers ++ e.slot.0 ∷ drop n numbers) (let same : place + 1 ≡ suc place = omega arith in same)
+-- ---- a handle less
 
-    pub tied_removed : IsTied new (map number_of (remove entries place))
-    tied_removed =
-        subst (IsTied new) (sym (map-remove number_of entries place))
-        (tied_released old new (take place (map number_of entries)) e.slot.0 (drop (suc place) (map number_of entries)) (subst (IsTied old) whole t) gone others)
+module _ (old new : PoolState) (h : HandlesState) (t : IsTied old h) (handle place next : ℕ) (within : place < length h.table) (here : get_or (handles_in h.table) place 0 ≡ handle) (none : dependent_on handle h.table ≡ None)
+    (gone : slot_graph new (get_or h.slots place 0) ≡ None) (others : (s : ℕ) → (s ≡ get_or h.slots place 0 → ⊥) → slot_graph new s ≡ slot_graph old s) where
+  -- the slot that was ended
+  abbrev ended : ℕ
+  ended = get_or h.slots place 0
 
-    pub graphs_removed : graphs_at new (map number_of (remove entries place)) ≡ remove (graphs_at old (map number_of entries)) place
-    graphs_removed =
-        ap (graphs_at new) (map-remove number_of entries place)
-        ∙ kept_released old new (take place (map number_of entries)) e.slot.0 (drop (suc place) (map number_of entries)) (subst (IsTied old) whole t) gone others
-        ∙ map-remove (members_at old) (map number_of entries) place
+  abbrev left : List ℕ
+  left = remove h.slots place
+
+  abbrev pub without_place : HandlesState
+  without_place = record { table = remove h.table place; slots = remove h.slots place; next = next }
+
+  whole : h.slots ≡ take place h.slots ++ ended ∷ drop (suc place) h.slots
+  whole =
+      let inside : place < length h.slots = omega (arith, within, many old h t) in
+      sym (take-append-drop place h.slots) ∙ ap (λ l. take place h.slots ++ l) (drop_more h.slots place 0 inside)
+      ∙ ap (λ n. take place h.slots ++ ended ∷ drop n h.slots) (let same : place + 1 ≡ suc place = omega arith in same)
+
+  middle : (is_listed left ended ≡ false) × AreDistinct left
+  middle = distinct_middle (take place h.slots) ended (drop (suc place) h.slots) (subst AreDistinct whole t.apart)
+
+  differs : (s : ℕ) → is_listed left s ≡ true → s ≡ ended → ⊥
+  differs s in' same = both_ways (is_listed left ended) middle.0 (ap (is_listed left) (sym same) ∙ in')
+
+  stays_by : (stands : Stands) → rests_on handle stands ≡ false → (n : ℕ) → rests_on n stands ≡ true → Stays h without_place n
+  stays_by stands free n on =
+      let other : get_or (handles_in h.table) place 0 ≡ n → ⊥ = λ same. both_ways (rests_on handle stands) free (ap (λ k. rests_on k stands) (sym here ∙ same) ∙ on) in
+      record {
+        entry = λ e is. entry_remove n h.table place within other ∙ is;
+        slot = λ s is. slot_remove n h.table h.slots place (many old h t) within other ∙ is;
+      }
+
+  pub tied_removed : IsTied new without_place
+  tied_removed = record {
+    held = zip-each (λ (entry : ℕ × Stands) (s : ℕ). Holds h entry.1 (slot_graph old s) × (rests_on handle entry.1 ≡ false)) (λ (entry : ℕ × Stands) (s : ℕ). Holds without_place entry.1 (slot_graph new s))
+        (remove h.table place) left
+        (zip-remove (λ (entry : ℕ × Stands) (s : ℕ). Holds h entry.1 (slot_graph old s) × (rests_on handle entry.1 ≡ false)) h.table h.slots place
+        (none_dependent (λ (entry : ℕ × Stands) (s : ℕ). Holds h entry.1 (slot_graph old s)) handle h.table h.slots none t.held))
+        (λ entry s in' r. subst (Holds without_place entry.1) (sym (others s (differs s in'))) (holds_still old h without_place t entry.1 (slot_graph old s) (stays_by entry.1 r.1) r.0));
+    apart = middle.1;
+    only = λ s live. let d : s ≡ ended → ⊥ = λ same. some_nowhere (slot_graph new s) (ap (slot_graph new) same ∙ gone) live in
+        sym (listed_past (take place h.slots) ended (drop (suc place) h.slots) s d) ∙ ap (λ l. is_listed l s) (sym whole) ∙ t.only s (subst (λ (o : Option SlotGraph). IsSome o) (others s d) live);
+  }
+
+  pub graphs_removed : graphs_at new left ≡ remove (graphs_at old h.slots) place
+  graphs_removed = map_same (members_at new) (members_at old) left (λ s in'. ap members_as (others s (differs s in'))) ∙ map-remove (members_at old) h.slots place

@@ -1,87 +1,151 @@
--- How the tie of handles to slots is kept.
-use Rattle.std.proofs.Common.{arith, ◌≡◌, ℕ, ◌≤◌, Bool, true, false, ◌||◌, List, ◌∷◌, ◌++◌, Option, Some, None, IsSome, length, refl, sym, ap, ◌∙◌, subst, ◌⊎◌, inl, inr}
-use Rattle.std.proofs.lemmas.Bool.{cases_Bool, both_ways, false_from_ne_true, or_left, or_right}
+-- What the tie says of handles and slots, and how it is kept.
+use Rattle.std.proofs.Common.{arith, ◌≡◌, ℕ, ◌+◌, ◌≤◌, ◌<◌, Bool, true, false, ◌&&◌, ◌||◌, not, cond, eqb, List, [], ◌∷◌, ◌++◌, Option, Some, None, IsSome, length, map, get_or, remove, unwrap_or, refl, sym, ap, ◌∙◌, subst, ◌⊎◌, inl, inr}
+use Rattle.std.specs.List.{AllZip}
+use Rattle.std.proofs.lemmas.Bool.{both_ways, eq-eqb, false_from_ne_true}
+use Rattle.dg_graph.specs.declared.element.Column.{Column}
+use Rattle.dg_graph.specs.declared.element.Column.TheVariants.{Structure, NodeAttr, EdgeAttr}
+use Rattle.dg_graph.specs.declared.element.Columns.{Columns}
 use Rattle.dg_graph.specs.declared.element.Element.{Element}
-use Rattle.dg_handles.specs.Attached.{AreAttached, HasRoom, NoneRests}
-use Rattle.dg_handles.specs.Handles.{AreDistinct, IsTied, RestsOnNoSlot, graphs_at, members_at}
-use Rattle.dg_handles.proofs.Listed.{all_listed, distinct-append, distinct_middle, each_listed, listed-append, listed_past, many_listed, map_same}
-use Rattle.dg_pool.specs.Graphs.{PoolState, SlotGraph, is_listed, slot_graph}
-use Rattle.dg_pool.specs.Slots.{AllLive}
-use Rattle.dg_pool.specs.Sweeps.{members_as}
-
-pub some_from_rests : (o : Option SlotGraph) → RestsOnNoSlot o → IsSome o
-some_from_rests None h = absurd h
-some_from_rests (Some g) h = refl
-
-rests_nowhere : (o : Option SlotGraph) → o ≡ None → RestsOnNoSlot o → ⊥
-rests_nowhere o e h = subst RestsOnNoSlot e h
+use Rattle.dg_graph.specs.Elements.{asks, column_of}
+use Rattle.dg_handles.specs.Attached.{NoneRestsOn}
+use Rattle.dg_handles.specs.Handles.{AreDistinct, HandlesState, Holds, IsBaseFor, IsGraphIn, IsNoSlot, IsTied, RestsOn, TieIsKept, at_slot, graphs_at, held_by, members_at, slot_of}
+use Rattle.dg_handles.proofs.Beside.{Entries, beside, graph_beside, handles_in, none_dependent, slot_apart, slot_beside, slot_listed, zip-each, zip-length}
+use Rattle.dg_machine.specs.declared.stands.Stands.{Stands}
+use Rattle.dg_machine.specs.declared.stands.Stands.TheVariants.{Overlay, Base}
+use Rattle.dg_machine.specs.MachineState.{dependent_on, entry_at, rests_on}
+use Rattle.dg_machine.specs.Planning.{includes}
+use Rattle.dg_pool.specs.declared.slots.Base.{Base as PoolBase}
+use Rattle.dg_pool.specs.declared.slots.Base.TheVariants as base
+use Rattle.dg_pool.specs.declared.slots.Slot.{Slot}
+use Rattle.dg_pool.specs.Graphs.{Includes, PoolState, SlotGraph, is_listed, slot_graph}
+use Rattle.dg_pool.specs.Slots.{IsBaseWith}
 
 pub some_nowhere : (o : Option SlotGraph) → o ≡ None → IsSome o → ⊥
 some_nowhere None e h = cc
 some_nowhere (Some g) e h = cc
 
-module _ (p : PoolState) (slots : List ℕ) where
-  pub held_by : IsTied p slots → (s : ℕ) → is_listed slots s ≡ true → RestsOnNoSlot (slot_graph p s)
-  held_by t = each_listed (λ s. RestsOnNoSlot (slot_graph p s)) slots t.held
+pub some_by : (o : Option SlotGraph) (g : SlotGraph) → o ≡ Some g → IsSome o
+some_by None g e = cc
+some_by (Some f) g e = refl
 
-  pub tied_by : ((s : ℕ) → is_listed slots s ≡ true → RestsOnNoSlot (slot_graph p s)) → AreDistinct slots → ((s : ℕ) → IsSome (slot_graph p s) → is_listed slots s ≡ true) → IsTied p slots
-  tied_by held apart only = record {
-    held = all_listed (λ s. RestsOnNoSlot (slot_graph p s)) slots held;
-    apart = apart;
-    only = only;
-  }
+some_in : (cols : Columns) (allowed : PoolBase → Type 0) (o : Option SlotGraph) → IsGraphIn cols allowed o → IsSome o
+some_in cols allowed None h = absurd h
+some_in cols allowed (Some g) h = refl
 
-pub none_rests : (p : PoolState) (slots : List ℕ) → IsTied p slots → NoneRests p
-none_rests p slots t = λ s h. held_by p slots t s (t.only s h)
+some_held : (h : HandlesState) (stands : Stands) (o : Option SlotGraph) → Holds h stands o → IsSome o
+some_held h (Overlay t cols on) o held = some_in cols (RestsOn h cols on) o held
+some_held h (Base node cols) o held = some_in cols (λ b. b ≡ base.Nothing) o held
 
--- there is room for no slot more where all are live
-pub full_has_none : (p : PoolState) → HasRoom p 1 → AllLive p → ⊥
-full_has_none p room all =
-    let most : 127 ≤ length room.0 = many_listed 127 room.0 (λ s low high. room.1.only s (all s low (omega (arith, high)))) in
-    omega (arith, most, room.2)
+included : (all cols : Columns) → includes all cols ≡ true → Includes all cols
+included all cols is = λ x. at (column_of x) is
+  where
+    first : (a b c d : Bool) → ((a || not b) && (c || not d)) ≡ true → b ≡ true → a ≡ true
+    first true b c d e f = refl
+    first false true c d e f = cc
+    first false false c d e f = cc
 
--- ---- slots more
+    second : (a b c d : Bool) → ((a || not b) && (c || not d)) ≡ true → d ≡ true → c ≡ true
+    second a b true d e f = refl
+    second true b false true e f = cc
+    second true b false false e f = cc
+    second false true false true e f = cc
+    second false false false true e f = cc
+    second false true false false e f = cc
+    second false false false false e f = cc
 
-module _ (old new : PoolState) (held slots : List ℕ) (graphs : List (List Element)) (t : IsTied old held) (a : AreAttached old new slots graphs) where
-  apart : (s : ℕ) → is_listed held s ≡ true → is_listed slots s ≡ false
-  apart s in' = false_from_ne_true (is_listed slots s) (λ e. rests_nowhere (slot_graph old s) (a.fresh s e) (held_by old held t s in'))
+    at : (column : Column) → includes all cols ≡ true → asks cols column ≡ true → asks all column ≡ true
+    at Structure e f = refl
+    at NodeAttr e f = first all.nodes_attr cols.nodes_attr all.edges_attr cols.edges_attr e f
+    at EdgeAttr e f = second all.nodes_attr cols.nodes_attr all.edges_attr cols.edges_attr e f
 
-  pub tied_attached : IsTied new (held ++ slots)
-  tied_attached =
-      tied_by new (held ++ slots)
-      (λ s in'. at_held s (cases_Bool (is_listed slots s)) (sym (listed-append held slots s) ∙ in'))
-      (distinct-append held slots t.apart a.apart apart)
-      (λ s h. listed-append held slots s ∙ at_only s (cases_Bool (is_listed slots s)) h)
+abbrev slot_number : PoolBase → ℕ
+slot_number base.Nothing = 0
+slot_number base.Now = 0
+slot_number (base.Slot b) = b.0
+
+-- ---- what the tie says
+
+module _ (p : PoolState) (h : HandlesState) (t : IsTied p h) where
+  pub many : length h.slots ≡ length h.table
+  many = zip-length (λ (entry : ℕ × Stands) (s : ℕ). Holds h entry.1 (slot_graph p s)) h.table h.slots t.held
+
+  pub live_slot : (s : ℕ) → is_listed h.slots s ≡ true → IsSome (slot_graph p s)
+  live_slot s in' =
+      let r = beside (λ (entry : ℕ × Stands) (k : ℕ). Holds h entry.1 (slot_graph p k)) h.table h.slots t.held s in' in
+      some_held h r.0.1 (slot_graph p s) r.1
+
+  -- the slot of a handle that holds a base
+  pub base_slot : (handle : ℕ) (cols : Columns) → IsBaseFor handle cols h.table → (s : ℕ) × (slot_of handle h.table h.slots ≡ Some s) × IsBaseWith cols (slot_graph p s)
+  base_slot handle cols b =
+      let r = slot_beside (λ (stands : Stands) (k : ℕ). Holds h stands (slot_graph p k)) handle h.table h.slots t.held (Base b.0 b.1) b.2 in
+      (r.0, r.1, at (slot_graph p r.0) r.2)
     where
-      at_held : (s : ℕ) → (is_listed slots s ≡ true) ⊎ (is_listed slots s ≡ false) → (is_listed held s || is_listed slots s) ≡ true → RestsOnNoSlot (slot_graph new s)
-      at_held s (inl e) in' = a.rests s e
-      at_held s (inr e) in' =
-          subst RestsOnNoSlot (sym (a.others s e)) (held_by old held t s (sym (end (is_listed held s)) ∙ ap (λ b. is_listed held s || b) (sym e) ∙ in'))
-        where
-          end : (b : Bool) → (b || false) ≡ b
-          end true = refl
-          end false = refl
+      at : (o : Option SlotGraph) → IsGraphIn b.1 (λ x. x ≡ base.Nothing) o → IsBaseWith cols o
+      at None g = absurd g
+      at (Some g) e = (e.1, subst (λ (all : Columns). Includes all cols) (sym e.0) (included b.1 cols b.3))
 
-      at_only : (s : ℕ) → (is_listed slots s ≡ true) ⊎ (is_listed slots s ≡ false) → IsSome (slot_graph new s) → (is_listed held s || is_listed slots s) ≡ true
-      at_only s (inl e) h = or_right (is_listed held s) (is_listed slots s) e
-      at_only s (inr e) h = or_left (is_listed held s) (is_listed slots s) (t.only s (subst (λ (o : Option SlotGraph). IsSome o) (a.others s e) h))
+  -- the graph of a handle is that of its slot
+  pub held_at : (handle s : ℕ) → slot_of handle h.table h.slots ≡ Some s → held_by h.table (graphs_at p h.slots) handle ≡ members_at p s
+  held_at handle s is = ap (λ o. unwrap_or o []) (graph_beside (members_at p) handle h.table h.slots s is)
 
-  pub kept_attached : graphs_at new held ≡ graphs_at old held
-  kept_attached = map_same (members_at new) (members_at old) held (λ s in'. ap members_as (a.others s (apart s in')))
+  -- what stands for a graph that rests on a slot rests on the handle of that slot
+  pub rests_by : (stands : Stands) (g : SlotGraph) (b : Slot) → Holds h stands (Some g) → g.base ≡ base.Slot b
+      → (handle : ℕ) × (rests_on handle stands ≡ true) × (slot_of handle h.table h.slots ≡ Some b.0)
+  rests_by (Overlay t' cols None) g b held is = absurd (subst IsNoSlot is held.1)
+  rests_by (Overlay t' cols (Some handle)) g b held is =
+      let r = base_slot handle cols held.1.0 in
+      let same : b.0 ≡ r.0 = ap slot_number (sym is ∙ held.1.1 ∙ ap at_slot r.1) in
+      (handle, eq-eqb handle handle refl, r.1 ∙ ap (λ n. Some n) (sym same))
+  rests_by (Base node cols) g b held is = absurd (subst IsNoSlot (sym held.1 ∙ is) tt)
 
--- ---- a slot less
+  -- a slot on which a live one rests is one of the handles'
+  pub rests_among : (s : ℕ) (g : SlotGraph) (b : Slot) → slot_graph p s ≡ Some g → g.base ≡ base.Slot b → is_listed h.slots b.0 ≡ true
+  rests_among s g b is on =
+      let in' = t.only s (some_by (slot_graph p s) g is) in
+      let r = beside (λ (entry : ℕ × Stands) (k : ℕ). Holds h entry.1 (slot_graph p k)) h.table h.slots t.held s in' in
+      let on' = rests_by r.0.1 g b (subst (Holds h r.0.1) is r.1) on in
+      slot_listed on'.0 h.table h.slots b.0 on'.2
 
-module _ (old new : PoolState) (front : List ℕ) (k : ℕ) (back : List ℕ) (t : IsTied old (front ++ k ∷ back)) (gone : slot_graph new k ≡ None) (others : (s : ℕ) → (s ≡ k → ⊥) → slot_graph new s ≡ slot_graph old s) where
-  differs : (s : ℕ) → is_listed (front ++ back) s ≡ true → s ≡ k → ⊥
-  differs s in' same = both_ways (is_listed (front ++ back) k) (distinct_middle front k back t.apart).0 (ap (is_listed (front ++ back)) (sym same) ∙ in')
+  -- none rests on the slot of a handle on which none depends
+  pub none_rests : (handle place : ℕ) → dependent_on handle h.table ≡ None → place < length h.table → get_or (handles_in h.table) place 0 ≡ handle → NoneRestsOn p (get_or h.slots place 0)
+  none_rests handle place none within here = λ s g b is on same.
+      let in' = t.only s (some_by (slot_graph p s) g is) in
+      let R : ℕ × Stands → ℕ → Type 0 = λ (entry : ℕ × Stands) (k : ℕ). Holds h entry.1 (slot_graph p k) in
+      let r = beside (λ (entry : ℕ × Stands) (k : ℕ). R entry k × (rests_on handle entry.1 ≡ false)) h.table h.slots (none_dependent R handle h.table h.slots none t.held) s in' in
+      let on' = rests_by r.0.1 g b (subst (Holds h r.0.1) is r.1.0) on in
+      let there : slot_of on'.0 h.table h.slots ≡ Some (get_or h.slots place 0) = on'.2 ∙ ap (λ n. Some n) same in
+      let it : handle ≡ on'.0 = sym here ∙ slot_apart on'.0 h.table h.slots place t.apart many within there in
+      both_ways (rests_on handle r.0.1) r.1.1 (ap (λ n. rests_on n r.0.1) it ∙ on'.1)
 
-  pub tied_released : IsTied new (front ++ back)
-  tied_released =
-      tied_by new (front ++ back)
-      (λ s in'. let d = differs s in' in subst RestsOnNoSlot (sym (others s d)) (held_by old (front ++ k ∷ back) t s (listed_past front k back s d ∙ in')))
-      (distinct_middle front k back t.apart).1
-      (λ s h. let d : s ≡ k → ⊥ = λ same. some_nowhere (slot_graph new s) (ap (slot_graph new) same ∙ gone) h in
-      sym (listed_past front k back s d) ∙ t.only s (subst (λ (o : Option SlotGraph). IsSome o) (others s d) h))
+-- ---- the tie to other handles
 
-  pub kept_released : graphs_at new (front ++ back) ≡ graphs_at old (front ++ back)
-  kept_released = map_same (members_at new) (members_at old) (front ++ back) (λ s in'. ap members_as (others s (differs s in')))
+-- the handle has the entry and the slot that it had
+pub record Stays (h k : HandlesState) (handle : ℕ) : Type 0 where
+  pub entry : (e : Stands) → entry_at handle h.table ≡ Some e → entry_at handle k.table ≡ Some e
+  pub slot : (s : ℕ) → slot_of handle h.table h.slots ≡ Some s → slot_of handle k.table k.slots ≡ Some s
+
+module _ (p : PoolState) (h k : HandlesState) (t : IsTied p h) where
+  pub rests_still : (cols : Columns) (on : Option ℕ) (b : PoolBase) → ((handle : ℕ) → on ≡ Some handle → Stays h k handle) → RestsOn h cols on b → RestsOn k cols on b
+  rests_still cols None b stays r = r
+  rests_still cols (Some handle) b stays r =
+      let s = stays handle refl in
+      let at = base_slot p h t handle cols r.0 in
+      ((r.0.0, r.0.1, s.entry (Base r.0.0 r.0.1) r.0.2, r.0.3), r.1 ∙ ap at_slot at.1 ∙ sym (ap at_slot (s.slot at.0 at.1)))
+
+  pub holds_still : (stands : Stands) (o : Option SlotGraph) → ((handle : ℕ) → rests_on handle stands ≡ true → Stays h k handle) → Holds h stands o → Holds k stands o
+  holds_still (Overlay t' cols on) None stays held = absurd held
+  holds_still (Overlay t' cols None) (Some g) stays held = held
+  holds_still (Overlay t' cols (Some handle)) (Some g) stays held =
+      (held.0, rests_still cols (Some handle) g.base (λ n e. stays n (eq-eqb handle n (of_handle n e))) held.1)
+    where
+      of_handle : (n : ℕ) → Some handle ≡ Some n → handle ≡ n
+      of_handle n e = ap (λ o. unwrap_or o handle) e
+  holds_still (Base node cols) o stays held = held
+
+pub tie_is_kept : TieIsKept
+tie_is_kept = λ old new h same t. record {
+  held = zip-each (λ (entry : ℕ × Stands) (s : ℕ). Holds h entry.1 (slot_graph old s)) (λ (entry : ℕ × Stands) (s : ℕ). Holds h entry.1 (slot_graph new s)) h.table h.slots t.held
+      (λ entry s in' held. subst (Holds h entry.1) (sym (same s)) held);
+  apart = t.apart;
+  only = λ s live. t.only s (subst (λ (o : Option SlotGraph). IsSome o) (same s) live);
+}

@@ -8,7 +8,7 @@ use Rattle.dg_graph.specs.Sets.{unioned}
 use Rattle.dg_graph.proofs.Sets.{IsSet-put, IsSet-unioned, has-unioned, same_members}
 use Rattle.dg_cells.specs.declared.row.Row.{Row}
 use Rattle.dg_cells.specs.Rows.{is_current}
-use Rattle.dg_handles.specs.Handles.{IsTied, UnionOfHandles, graphs_at, members_at}
+use Rattle.dg_handles.specs.Handles.{HandlesState, IsTied, UnionOfHandles, graphs_at, members_at}
 use Rattle.dg_handles.proofs.Tying.{some_nowhere}
 use Rattle.dg_machine.specs.MachineState.{union_of}
 use Rattle.dg_pool.specs.declared.slots.SlotState.{SlotState}
@@ -86,18 +86,18 @@ module _ (p : PoolState) (x : Element) where
       at (inl lt) = lt
       at (inr past) = absurd (some_nowhere (slot_graph p s) (ap (graph_as p.rows s) (get_or_past p.slots s state.Free past)) h)
 
-  has_alike : (slots : List ℕ) → IsTied p slots → has (live_union p.rows 0 p.slots) x ≡ has (union_of (graphs_at p slots)) x
-  has_alike slots t = alike (has (live_union p.rows 0 p.slots) x) (has (union_of (graphs_at p slots)) x) forth back
+  has_alike : (h : HandlesState) → IsTied p h → has (live_union p.rows 0 p.slots) x ≡ has (union_of (graphs_at p h.slots)) x
+  has_alike h t = alike (has (live_union p.rows 0 p.slots) x) (has (union_of (graphs_at p h.slots)) x) forth back
     where
-      forth : has (live_union p.rows 0 p.slots) x ≡ true → has (union_of (graphs_at p slots)) x ≡ true
+      forth : has (live_union p.rows 0 p.slots) x ≡ true → has (union_of (graphs_at p h.slots)) x ≡ true
       forth e =
           let r = from_union p.rows x 0 p.slots e in
           let at : has (members_at p r.0) x ≡ true = ap (λ n. has (members_as (graph_as p.rows n (slot_at p.slots r.0))) x) (let same : r.0 ≡ 0 + r.0 = omega arith in same) ∙ r.1 in
-          to_handles slots r.0 (t.only r.0 (some_if (slot_graph p r.0) at)) at
+          to_handles h.slots r.0 (t.only r.0 (some_if (slot_graph p r.0) at)) at
 
-      back : has (union_of (graphs_at p slots)) x ≡ true → has (live_union p.rows 0 p.slots) x ≡ true
+      back : has (union_of (graphs_at p h.slots)) x ≡ true → has (live_union p.rows 0 p.slots) x ≡ true
       back e =
-          let r = from_handles slots e in
+          let r = from_handles h.slots e in
           to_union p.rows x 0 p.slots r.0 (within r.0 (some_if (slot_graph p r.0) r.1))
           (ap (λ n. has (members_as (graph_as p.rows n (slot_at p.slots r.0))) x) (let same : 0 + r.0 ≡ r.0 = omega arith in same) ∙ r.1)
 
@@ -110,9 +110,9 @@ IsSet-picked test [] = tt
 IsSet-picked test (o ∷ rows) = IsSet-with_one (picked test rows) (given test o) (IsSet-picked test rows)
 
 pub union_of_handles : UnionOfHandles
-union_of_handles = λ p slots t.
+union_of_handles = λ p h t.
     let now = graph_now p in
     let set = IsSet-picked is_current p.rows in
-    same_members (unioned now (live_union p.rows 0 p.slots)) (unioned now (union_of (graphs_at p slots)))
-    (IsSet-unioned now (live_union p.rows 0 p.slots) set) (IsSet-unioned now (union_of (graphs_at p slots)) set)
-    (λ x. has-unioned now (live_union p.rows 0 p.slots) x ∙ ap (λ b. has now x || b) (has_alike p x slots t) ∙ sym (has-unioned now (union_of (graphs_at p slots)) x))
+    same_members (unioned now (live_union p.rows 0 p.slots)) (unioned now (union_of (graphs_at p h.slots)))
+    (IsSet-unioned now (live_union p.rows 0 p.slots) set) (IsSet-unioned now (union_of (graphs_at p h.slots)) set)
+    (λ x. has-unioned now (live_union p.rows 0 p.slots) x ∙ ap (λ b. has now x || b) (has_alike p x h t) ∙ sym (has-unioned now (union_of (graphs_at p h.slots)) x))

@@ -1,14 +1,21 @@
 -- The table of live handles, and how it is tied to the slots of a pool.
-use Rattle.std.specs.Prelude.{◌≡◌, ℕ, ◌+◌, ◌==◌, true, false, List, [], ◌∷◌, Option, Some, None, IsSome, if◌then◌else◌, map}
-use Rattle.std.specs.List.{All}
+use Rattle.std.specs.Prelude.{◌≡◌, ℕ, ◌+◌, ◌<◌, ◌≤◌, ◌==◌, Bool, true, false, List, [], ◌∷◌, Option, Some, None, IsSome, if◌then◌else◌, map}
+use Rattle.std.specs.List.{All, AllZip}
+use Rattle.std.specs.Option.{unwrap_or}
+use Rattle.dg_graph.specs.declared.element.Columns.{Columns}
 use Rattle.dg_graph.specs.declared.element.Element.{Element}
+use Rattle.dg_history.specs.declared.node.NodeId.{NodeId}
 use Rattle.dg_machine.specs.declared.stands.Stands.{Stands}
-use Rattle.dg_pool.specs.declared.slots.Base.{Base}
+use Rattle.dg_machine.specs.declared.stands.Stands.TheVariants.{Overlay, Base}
+use Rattle.dg_machine.specs.MachineState.{entry_at, union_of}
+use Rattle.dg_machine.specs.Planning.{bases_in, includes}
+use Rattle.dg_pool.specs.declared.slots.Base.{Base as PoolBase}
 use Rattle.dg_pool.specs.declared.slots.Base.TheVariants as base
 use Rattle.dg_pool.specs.declared.slots.SlotState.TheVariants as state
 use Rattle.dg_pool.specs.Graphs.{PoolState, SlotGraph, graph_now, is_listed, is_live, slot_at, slot_graph}
 use Rattle.dg_pool.specs.Sweeps.{cells_of, members_as, union_of as pool_union}
-use Rattle.dg_machine.specs.MachineState.{union_of}
+use Rattle.dg_retrieval.specs.Beginnings.{base_of}
+use Rattle.dg_retrieval.specs.declared.graph_lead.GraphLead.{GraphLead}
 
 -- The live handles with what each stands for, the oldest first; the slot of each; and the number of the next handle.
 pub record HandlesState : Type 0 where
@@ -20,6 +27,17 @@ pub record HandlesState : Type 0 where
 abbrev pub numbered : ℕ → List Stands → List (ℕ × Stands)
 numbered next [] = []
 numbered next (stands ∷ more) = (next, stands) ∷ numbered (next + 1) more
+
+-- the graphs as of these instants, each on the handle beside it, if there is one
+abbrev pub overlays_on : Columns → List ℕ → List (Option ℕ) → List Stands
+overlays_on cols [] handles = []
+overlays_on cols (t ∷ times) [] = []
+overlays_on cols (t ∷ times) (on ∷ handles) = Overlay t cols on ∷ overlays_on cols times handles
+
+-- the numbers rise, none is below the first bound, and all are below the second
+abbrev pub RiseWithin : ℕ → ℕ → List ℕ → Type 0
+RiseWithin low high [] = low ≤ high
+RiseWithin low high (n ∷ numbers) = (low ≤ n) × RiseWithin (n + 1) high numbers
 
 -- ---- the graphs of the handles
 
@@ -37,35 +55,77 @@ graph_among handle [] graphs = None
 graph_among handle (entry ∷ table) [] = None
 graph_among handle (entry ∷ table) (graph ∷ graphs) = if entry.0 == handle then Some graph else graph_among handle table graphs
 
+-- the graph of a handle, and the empty graph where it is not live
+abbrev pub held_by : List (ℕ × Stands) → List (List Element) → ℕ → List Element
+held_by table graphs handle = unwrap_or (graph_among handle table graphs) []
+
 -- the graphs without that of the handle
 abbrev pub graphs_without : ℕ → List (ℕ × Stands) → List (List Element) → List (List Element)
 graphs_without handle [] graphs = []
 graphs_without handle (entry ∷ table) [] = []
 graphs_without handle (entry ∷ table) (graph ∷ graphs) = if entry.0 == handle then graphs else graph ∷ graphs_without handle table graphs
 
+-- ---- the handles that hold bases
+
+-- the handle holds the set of this node, in columns that have all of these
+abbrev pub HoldsNode : List (ℕ × Stands) → Columns → ℕ × NodeId → Type 0
+HoldsNode table cols (handle, node) = (all : Columns) × (entry_at handle table ≡ Some (Base node all)) × (includes all cols ≡ true)
+
+-- the handle holds the set of some node, in columns that have all of these
+abbrev pub IsBaseFor : ℕ → Columns → List (ℕ × Stands) → Type 0
+IsBaseFor handle cols table = (node : NodeId) × (all : Columns) × (entry_at handle table ≡ Some (Base node all)) × (includes all cols ≡ true)
+
+-- where the lead begins with the set of a handle, the handle holds a base for these columns
+abbrev pub BeginsOn : List (ℕ × Stands) → Columns → GraphLead → Type 0
+BeginsOn table cols lead = (handle : ℕ) → base_of lead.begins ≡ Some handle → IsBaseFor handle cols table
+
 -- ---- the tie
 
+-- the slot of a live handle
+abbrev pub slot_of : ℕ → List (ℕ × Stands) → List ℕ → Option ℕ
+slot_of handle [] slots = None
+slot_of handle (entry ∷ table) [] = None
+slot_of handle (entry ∷ table) (slot ∷ slots) = if entry.0 == handle then Some slot else slot_of handle table slots
+
+-- this slot as a base, and nothing where there is none
+abbrev pub at_slot : Option ℕ → PoolBase
+at_slot None = base.Nothing
+at_slot (Some s) = base.Slot (record { 0 = s })
+
 -- the base is no slot
-abbrev pub IsNoSlot : Base → Type 0
+abbrev pub IsNoSlot : PoolBase → Type 0
 IsNoSlot base.Nothing = Unit {0}
 IsNoSlot base.Now = Unit {0}
 IsNoSlot (base.Slot b) = ⊥
 
--- a graph is there, and rests on no slot
-abbrev pub RestsOnNoSlot : Option SlotGraph → Type 0
-RestsOnNoSlot None = ⊥
-RestsOnNoSlot (Some g) = IsNoSlot g.base
+-- An overlay in these columns, on this handle, rests on this base: on the slot of the handle, which holds a base for
+-- the columns; or on no slot, where it is on no handle.
+abbrev pub RestsOn : HandlesState → Columns → Option ℕ → PoolBase → Type 0
+RestsOn h cols None b = IsNoSlot b
+RestsOn h cols (Some handle) b = IsBaseFor handle cols h.table × (b ≡ at_slot (slot_of handle h.table h.slots))
+
+-- a graph is there, it has these columns, and what it rests on is allowed
+abbrev pub IsGraphIn : Columns → (PoolBase → Type 0) → Option SlotGraph → Type 0
+IsGraphIn cols allowed None = ⊥
+IsGraphIn cols allowed (Some g) = (g.cols ≡ cols) × allowed g.base
+
+-- A slot has a graph in the columns of what a handle stands for: an overlay rests as it is entered, and the set of a
+-- node rests on nothing.
+abbrev pub Holds : HandlesState → Stands → Option SlotGraph → Type 0
+Holds h (Overlay t cols on) o = IsGraphIn cols (RestsOn h cols on) o
+Holds h (Base node cols) o = IsGraphIn cols (λ b. b ≡ base.Nothing) o
 
 -- no number stands twice
 abbrev pub AreDistinct : List ℕ → Type 0
 AreDistinct [] = Unit {0}
 AreDistinct (s ∷ slots) = (is_listed slots s ≡ false) × AreDistinct slots
 
--- Each handle has a slot of its own, which is live and rests on no other, and no other slot is live.
-pub record IsTied (p : PoolState) (slots : List ℕ) : Type 0 where
-  pub held : All (λ s. RestsOnNoSlot (slot_graph p s)) slots
-  pub apart : AreDistinct slots
-  pub only : (s : ℕ) → IsSome (slot_graph p s) → is_listed slots s ≡ true
+-- There are as many slots as handles. Each handle has a slot of its own, whose graph rests as the handle's entry says,
+-- and no other slot is live.
+pub record IsTied (p : PoolState) (h : HandlesState) : Type 0 where
+  pub held : AllZip (λ (entry : ℕ × Stands) (s : ℕ). Holds h entry.1 (slot_graph p s)) h.table h.slots
+  pub apart : AreDistinct h.slots
+  pub only : (s : ℕ) → IsSome (slot_graph p s) → is_listed h.slots s ≡ true
 
 -- ---- whole sweeps
 
@@ -78,10 +138,10 @@ pub record IsSweptWhole (p : PoolState) : Type 0 where
 
 -- ---- laws
 
--- a pool whose slots have the same graphs is tied to the same slots
+-- a pool whose slots have the same graphs is tied to the same handles
 abbrev pub TieIsKept : Type 0
-TieIsKept = (old new : PoolState) (slots : List ℕ) → ((s : ℕ) → slot_graph new s ≡ slot_graph old s) → IsTied old slots → IsTied new slots
+TieIsKept = (old new : PoolState) (h : HandlesState) → ((s : ℕ) → slot_graph new s ≡ slot_graph old s) → IsTied old h → IsTied new h
 
 -- the union of a pool is that of the current graph and the graphs of the handles
 abbrev pub UnionOfHandles : Type 0
-UnionOfHandles = (p : PoolState) (slots : List ℕ) → IsTied p slots → pool_union p ≡ union_of (graph_now p ∷ graphs_at p slots)
+UnionOfHandles = (p : PoolState) (h : HandlesState) → IsTied p h → pool_union p ≡ union_of (graph_now p ∷ graphs_at p h.slots)

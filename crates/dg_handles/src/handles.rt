@@ -1,31 +1,31 @@
-//! The table of live handles.
+//! The live handles, over the pool that has their graphs.
 
-ghost use Rattle.std.specs.Prelude.{◌≡◌, ℕ, ◌+◌, ◌≤◌, [], ◌++◌, false, None, IfNone, IfOk, IfSome, OnErr, OnOk, is_some, length, map, vec_capacity, vec_len};
-ghost use Rattle.dg_handles.specs.Attached.{numbers_of};
-ghost use Rattle.dg_handles.specs.Handles.{IsTied, graph_among, graphs_at, graphs_without, numbered};
-ghost use Rattle.dg_handles.specs.Places.{IsFirst, NoneIs};
-ghost use Rattle.dg_machine.specs.Answer.{overlays};
-ghost use Rattle.dg_machine.specs.MachineState.{entry_at, without_handle};
+ghost use Rattle.std.specs.Prelude.{◌≡◌, ℕ, ◌+◌, ◌≤◌, [], ◌∷◌, ◌++◌, false, None, IfOk, OnErr, OnOk, is_some, length, map};
+ghost use Rattle.std.specs.List.{All};
+ghost use Rattle.std.specs.Option.{option_map};
+ghost use Rattle.dg_graph.specs.Composition.{applied};
+ghost use Rattle.dg_graph.specs.Elements.{shown};
+ghost use Rattle.dg_handles.specs.Attached.{AreAttached, graph_led, numbers_of, resting};
+ghost use Rattle.dg_handles.specs.Handles.{BeginsOn, HoldsNode, IsTied, graph_among, graphs_at, graphs_without, held_by, numbered, overlays_on, slot_of};
+ghost use Rattle.dg_machine.specs.MachineState.{dependent_on, entry_at, without_handle};
+ghost use Rattle.dg_machine.specs.Planning.{bases_in};
 ghost use Rattle.dg_machine.specs.declared.limits.TheConstants.{HANDLE_MAX, LIVE_HANDLES_MAX};
+ghost use Rattle.dg_machine.specs.declared.stands.Stands.TheVariants as stands;
+ghost use Rattle.dg_planner.specs.Bases.{base_of as node_of};
 ghost use Rattle.dg_pool.specs.Graphs.{PoolState, SameGraphs, graph_now, slot_graph};
-ghost use Rattle.dg_retrieval.specs.Graphs.{led_from};
+ghost use Rattle.dg_retrieval.specs.Beginnings.{base_of, led_to};
 
-use crate::attach::{attach_all, detach};
-use dg_fold::Lead;
+use crate::attach::{attach, detach, detach_all};
+use crate::entries::{Entry, bases, dependent, enter, place_of};
+use dg_delta::Delta;
 use dg_graph::Columns;
+use dg_history::NodeId;
 use dg_machine::{LIVE_HANDLES_MAX, Stands};
-use dg_pool::{Pool, Slot};
+use dg_pool::{Base, Pool, Slot};
+use dg_retrieval::{Beginning, GraphLead};
 use dg_view::View;
 use std::alloc::{AllocError, Global};
 use std::marker::Model;
-
-/// A live handle, with what it stands for and the slot that has its graph.
-#[derive(Clone, Copy, Debug)]
-struct Entry {
-    handle: u32,
-    stands: Stands,
-    slot: Slot,
-}
 
 /// The live handles over a pool, the oldest first, and the number of the next one. Each call that takes the pool asks
 /// that it is tied to the handles, and leaves it so.
@@ -38,7 +38,7 @@ pub struct Handles {
 
 impl Model for Handles {
     ghost use Rattle.std.specs.Prelude.{◌+◌, ◌≤◌, map, vec_capacity, vec_len};
-    ghost use Rattle.dg_handles.specs.Handles.{HandlesState};
+    ghost use Rattle.dg_handles.specs.Handles.{HandlesState, RiseWithin};
     ghost use Rattle.dg_machine.specs.declared.limits.TheConstants.{HANDLE_MAX, LIVE_HANDLES_MAX};
 
     ghost Value = { HandlesState };
@@ -49,43 +49,8 @@ impl Model for Handles {
       next = h.next;
     } };
 
-    ghost invariant = { λ h. (vec_len h.entries ≤ LIVE_HANDLES_MAX) × (LIVE_HANDLES_MAX ≤ vec_capacity h.entries) × (h.next ≤ HANDLE_MAX + 1) };
-}
-
-// The place of the first entry with this handle.
-fn place_of(entries: &[Entry], handle: u32) -> Option<usize>
-    ensures some { IfSome result (IsFirst handle (map (λ e. e.handle) entries.now)) }
-    ensures none { IfNone result (NoneIs handle (map (λ e. e.handle) entries.now)) }
-{
-    for (place, entry) in entries.iter().enumerate() {
-        if entry.handle == handle {
-            return Some(place);
-        }
-    }
-    None
-}
-
-// Adds an entry for each instant, with the numbers from this one on. There is room for them.
-fn enter(entries: &mut Vec<Entry>, next: u64, cols: Columns, times: &[u64], slots: &[Slot])
-    requires slots { length slots.now ≡ length times.now }
-    requires room { vec_len entries.old + length times.now ≤ vec_capacity entries.old }
-    requires numbers { next + length times.now ≤ HANDLE_MAX + 1 }
-    ensures table { map (λ e. (e.handle, e.stands)) entries.new.items ≡ map (λ e. (e.handle, e.stands)) entries.old.items ++ numbered next (overlays cols times.now) }
-    ensures slots { map (λ e. e.slot.0) entries.new.items ≡ map (λ e. e.slot.0) entries.old.items ++ numbers_of slots.now }
-    ensures len { vec_len entries.new ≡ vec_len entries.old + length times.now }
-    ensures capacity { vec_capacity entries.new ≡ vec_capacity entries.old }
-{
-    for i in 0..times.len() {
-        entries.push_reserved(Entry {
-            handle: (next + i as u64) as u32,
-            stands: Stands::Overlay {
-                t: times[i],
-                cols,
-                on: None,
-            },
-            slot: slots[i],
-        });
-    }
+    ghost invariant = { λ h. (vec_len h.entries ≤ LIVE_HANDLES_MAX) × (LIVE_HANDLES_MAX ≤ vec_capacity h.entries) × (h.next ≤ HANDLE_MAX + 1)
+        × RiseWithin 0 h.next (map (λ e. e.handle) h.entries.items) };
 }
 
 impl Handles {
@@ -94,7 +59,7 @@ impl Handles {
         ensures table { IfOk result (λ h. h.table ≡ []) }
         ensures slots { IfOk result (λ h. h.slots ≡ []) }
         ensures next { IfOk result (λ h. h.next ≡ first) }
-        ensures tied { IfOk result (λ h. (p : PoolState) → ((s : ℕ) → slot_graph p s ≡ None) → IsTied p h.slots) }
+        ensures tied { IfOk result (λ h. (p : PoolState) → ((s : ℕ) → slot_graph p s ≡ None) → IsTied p h) }
     {
         Ok(Handles {
             entries: Vec::with_capacity(alloc, LIVE_HANDLES_MAX)?,
@@ -119,39 +84,148 @@ impl Handles {
         self.next
     }
 
+    /// What the handle stands for, where it is live.
+    pub fn stands(&self, handle: u32) -> Option<Stands>
+        ensures { result ≡ entry_at handle self.now.table }
+    {
+        let place = place_of(&self.entries, handle)?;
+        Some(self.entries[place].stands)
+    }
+
+    /// The first live handle that stands for an overlay on this one. Takes no memory.
+    pub fn dependent(&self, handle: u32) -> Option<u32>
+        ensures { result ≡ dependent_on handle self.now.table }
+    {
+        dependent(&self.entries, handle)
+    }
+
+    /// The handles whose nodes can serve a retrieval in these columns, the oldest first. An `Err` says that memory ran
+    /// out.
+    pub fn bases(&self, alloc: Global, cols: Columns) -> Result<Vec<dg_planner::Base>, AllocError>
+        ensures bases { IfOk result (λ v. map node_of v.items ≡ bases_in cols self.now.table) }
+        ensures held { All (HoldsNode self.now.table cols) (bases_in cols self.now.table) }
+    {
+        bases(alloc, &self.entries, cols)
+    }
+
+    // The slot of a live handle.
+    fn slot(&self, handle: u32) -> Option<Slot>
+        ensures { option_map (λ s. s.0) result ≡ slot_of handle self.now.table self.now.slots }
+    {
+        let place = place_of(&self.entries, handle)?;
+        Some(self.entries[place].slot)
+    }
+
+    // What a graph rests on in the pool that begins so. Nothing for a handle that is not live.
+    fn base_under(&self, begins: Beginning) -> Base
+        ensures { result ≡ resting self.now begins }
+    {
+        match begins {
+            Beginning::Nothing => Base::Nothing,
+            Beginning::Now => Base::Now,
+            Beginning::Base(handle) => match self.slot(handle) {
+                Some(slot) => Base::Slot(slot),
+                None => Base::Nothing,
+            },
+        }
+    }
+
+    // A slot for the graph to which each lead comes, in these columns. An `Err` says that memory ran out; then all
+    // graphs are as before.
+    fn attach_all(
+        &self,
+        pool: &mut Pool,
+        cols: Columns,
+        leads: &[GraphLead],
+    ) -> Result<Vec<Slot>, AllocError>
+        requires tied { IsTied pool.old self.now }
+        requires room { length self.now.table + length leads.now ≤ LIVE_HANDLES_MAX }
+        requires bases { All (BeginsOn self.now.table cols) leads.now }
+        ensures slots { IfOk result (λ slots. AreAttached pool.old pool.new (numbers_of slots.items) (map (graph_led self.now pool.old cols) leads.now)) }
+        ensures err { OnErr result (SameGraphs pool.old pool.new) }
+    {
+        let mut slots = Vec::with_capacity(self.alloc, leads.len())?;
+        for lead in leads {
+            match attach(pool, self.base_under(lead.begins), &lead.delta, cols) {
+                Ok(slot) => slots.push_reserved(slot),
+                Err(error) => {
+                    detach_all(pool, &slots);
+                    return Err(error);
+                }
+            }
+        }
+        Ok(slots)
+    }
+
     /// A handle for the graph to which each lead comes, as of these instants in these columns: each graph gets a slot
-    /// of the pool. An `Err` says that memory ran out; then all handles and all graphs are as before.
+    /// of the pool, which rests on what the lead begins with. An `Err` says that memory ran out; then all handles and
+    /// all graphs are as before.
     pub fn add(
         &mut self,
         pool: &mut Pool,
         cols: Columns,
         times: &[u64],
-        leads: &[Lead],
+        leads: &[GraphLead],
     ) -> Result<(), AllocError>
-        requires tied { IsTied pool.old self.old.slots }
+        requires tied { IsTied pool.old self.old }
         requires room { length self.old.table + length times.now ≤ LIVE_HANDLES_MAX }
         requires numbers { self.old.next + length times.now ≤ HANDLE_MAX + 1 }
         requires leads { length leads.now ≡ length times.now }
+        requires bases { All (BeginsOn self.old.table cols) leads.now }
         // the handles and their graphs
-        ensures table { OnOk result (self.new.table ≡ self.old.table ++ numbered self.old.next (overlays cols times.now)) }
+        ensures table { OnOk result (self.new.table ≡ self.old.table ++ numbered self.old.next (overlays_on cols times.now (map (λ l. base_of l.begins) leads.now))) }
         ensures next { OnOk result (self.new.next ≡ self.old.next + length times.now) }
         ensures graphs { OnOk result (graphs_at pool.new self.new.slots
-            ≡ graphs_at pool.old self.old.slots ++ map (led_from (graph_now pool.old) cols) leads.now) }
-        ensures tied { IsTied pool.new self.new.slots }
+            ≡ graphs_at pool.old self.old.slots ++ map (led_to (graph_now pool.old) (held_by self.old.table (graphs_at pool.old self.old.slots)) cols) leads.now) }
+        ensures tied { IsTied pool.new self.new }
         ensures now { graph_now pool.new ≡ graph_now pool.old }
         // what is left where there is none
         ensures err { OnErr result (self.new ≡ self.old) }
         ensures graphs_err { OnErr result (SameGraphs pool.old pool.new) }
     {
-        let slots = attach_all(self.alloc, pool, cols, leads)?;
-        enter(&mut self.entries, self.next, cols, times, &slots);
+        let slots = self.attach_all(pool, cols, leads)?;
+        enter(&mut self.entries, self.next, cols, times, leads, &slots);
         self.next += times.len() as u64;
+        Ok(())
+    }
+
+    /// A handle for the set of a node in these columns, to which the delta leads from the empty graph. The set gets a
+    /// slot of the pool, which rests on nothing. An `Err` says that memory ran out; then all handles and all graphs are
+    /// as before.
+    pub fn add_base(
+        &mut self,
+        pool: &mut Pool,
+        node: NodeId,
+        cols: Columns,
+        delta: &Delta,
+    ) -> Result<(), AllocError>
+        requires tied { IsTied pool.old self.old }
+        requires room { length self.old.table + 1 ≤ LIVE_HANDLES_MAX }
+        requires numbers { self.old.next + 1 ≤ HANDLE_MAX + 1 }
+        // the handle and its graph
+        ensures table { OnOk result (self.new.table ≡ self.old.table ++ (self.old.next, stands.Base node cols) ∷ []) }
+        ensures next { OnOk result (self.new.next ≡ self.old.next + 1) }
+        ensures graphs { OnOk result (graphs_at pool.new self.new.slots
+            ≡ graphs_at pool.old self.old.slots ++ shown (applied delta.now []) cols ∷ []) }
+        ensures tied { IsTied pool.new self.new }
+        ensures now { graph_now pool.new ≡ graph_now pool.old }
+        // what is left where there is none
+        ensures err { OnErr result (self.new ≡ self.old) }
+        ensures graphs_err { OnErr result (SameGraphs pool.old pool.new) }
+    {
+        let slot = attach(pool, Base::Nothing, delta, cols)?;
+        self.entries.push_reserved(Entry {
+            handle: self.next as u32,
+            stands: Stands::Base { node, cols },
+            slot,
+        });
+        self.next += 1;
         Ok(())
     }
 
     /// The graph of a handle, where it is live.
     pub fn view<'a>(&self, pool: &'a Pool, handle: u32) -> Option<View<'a>>
-        requires tied { IsTied pool.now self.now.slots }
+        requires tied { IsTied pool.now self.now }
         ensures graph { result ≡ graph_among handle self.now.table (graphs_at pool.now self.now.slots) }
         ensures there { is_some result ≡ is_some (entry_at handle self.now.table) }
     {
@@ -159,15 +233,17 @@ impl Handles {
         Some(View::of(pool, self.entries[place].slot))
     }
 
-    /// Gives the handle up, and ends its slot. Answers whether it was live; otherwise nothing changes. Takes no memory.
+    /// Gives the handle up, on which no live one rests, and ends its slot. Answers whether it was live; otherwise
+    /// nothing changes. Takes no memory.
     pub fn release(&mut self, pool: &mut Pool, handle: u32) -> bool
-        requires tied { IsTied pool.old self.old.slots }
+        requires tied { IsTied pool.old self.old }
+        requires unused { dependent_on handle self.old.table ≡ None }
         ensures there { result ≡ is_some (entry_at handle self.old.table) }
         ensures same { result ≡ false → (self.new ≡ self.old) × (pool.new ≡ pool.old) }
         ensures table { self.new.table ≡ without_handle handle self.old.table }
         ensures next { self.new.next ≡ self.old.next }
         ensures graphs { graphs_at pool.new self.new.slots ≡ graphs_without handle self.old.table (graphs_at pool.old self.old.slots) }
-        ensures tied { IsTied pool.new self.new.slots }
+        ensures tied { IsTied pool.new self.new }
         ensures now { graph_now pool.new ≡ graph_now pool.old }
     {
         let Some(place) = place_of(&self.entries, handle) else {
@@ -183,7 +259,7 @@ impl Handles {
         ensures table { self.new.table ≡ [] }
         ensures slots { self.new.slots ≡ [] }
         ensures next { self.new.next ≡ self.old.next }
-        ensures tied { (p : PoolState) → ((s : ℕ) → slot_graph p s ≡ None) → IsTied p self.new.slots }
+        ensures tied { (p : PoolState) → ((s : ℕ) → slot_graph p s ≡ None) → IsTied p self.new }
     {
         self.entries.clear();
     }

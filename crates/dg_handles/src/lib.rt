@@ -3,6 +3,7 @@
 #![tactic(auto)]
 
 mod attach;
+mod entries;
 mod handles;
 mod laws;
 #[cfg(test)]

@@ -1,14 +1,17 @@
 //! The worked cases, and that handles are given where memory is there.
-ghost use Rattle.std.specs.Prelude.{◌≡◌, ℕ, None, IfOk, length};
-ghost use Rattle.dg_handles.specs.Handles.{IsTied};
+ghost use Rattle.std.specs.Prelude.{◌≡◌, ℕ, List, None, IfOk, length};
+ghost use Rattle.std.specs.List.{All};
+ghost use Rattle.dg_handles.specs.Handles.{BeginsOn, IsTied};
 ghost use Rattle.dg_pool.specs.Graphs.{slot_graph};
+ghost use Rattle.dg_retrieval.specs.Beginnings.{base_of};
 
 use crate::{Handles, law_tie_is_kept};
 use dg_delta::Delta;
-use dg_fold::Lead;
 use dg_graph::{Body, Columns, Element, Event};
 use dg_history::NodeId;
+use dg_machine::Stands;
 use dg_pool::Pool;
+use dg_retrieval::{Beginning, GraphLead};
 use dg_set::Set;
 use std::alloc::{AllocError, Global};
 use std::test::Fail;
@@ -28,6 +31,11 @@ const VALUE: Element = Element::NodeAttr {
 const STRUCTURE: Columns = Columns {
     nodes_attr: false,
     edges_attr: false,
+};
+
+const ALL: Columns = Columns {
+    nodes_attr: true,
+    edges_attr: true,
 };
 
 // The current graph has nodes 1 and 2.
@@ -50,31 +58,46 @@ fn set_of(alloc: Global, items: &[Element]) -> Result<Set, Fail> {
     }
 }
 
-fn lead(alloc: Global, begun: NodeId, minus: &[Element], plus: &[Element]) -> Result<Lead, Fail> {
+fn delta(alloc: Global, minus: &[Element], plus: &[Element]) -> Result<Delta, Fail> {
     let minus = set_of(alloc, minus)?;
     let plus = set_of(alloc, plus)?;
-    let delta = Delta::from_sets(minus, plus).ok_or("the sets share an element")?;
-    Ok(Lead { begun, delta })
+    Ok(Delta::from_sets(minus, plus).ok_or("the sets share an element")?)
 }
 
 // From the current graph node 2 goes, and node 3 comes; and from the empty graph node 2 comes, with a value.
-fn leads(alloc: Global) -> Result<Vec<Lead>, Fail>
-    ensures { IfOk result (λ leads. length leads.items ≡ 2) }
+fn leads(alloc: Global) -> Result<Vec<GraphLead>, Fail>
+    ensures many { IfOk result (λ leads. length leads.items ≡ 2) }
+    ensures bases { IfOk result (λ leads. All (λ l. base_of l.begins ≡ None) leads.items) }
 {
     let mut leads = Vec::new(alloc);
-    leads.push(lead(alloc, NodeId::Now, &[B], &[C])?)?;
-    leads.push(lead(alloc, NodeId::Root, &[], &[B, VALUE])?)?;
+    leads.push(GraphLead {
+        begins: Beginning::Now,
+        delta: delta(alloc, &[B], &[C])?,
+    })?;
+    leads.push(GraphLead {
+        begins: Beginning::Nothing,
+        delta: delta(alloc, &[], &[B, VALUE])?,
+    })?;
     Ok(leads)
 }
 
 // The elements of a handle's graph.
 fn list(alloc: Global, handles: &Handles, pool: &Pool, handle: u32) -> Result<Vec<Element>, Fail>
-    requires { IsTied pool.now handles.now.slots }
+    requires { IsTied pool.now handles.now }
 {
     match handles.view(pool, handle) {
         Some(view) => Ok(view.list(alloc)?),
         None => Err("the handle is not live".into()),
     }
+}
+
+// Releases a handle on which none depends. Answers whether it was one.
+fn release(handles: &mut Handles, pool: &mut Pool, handle: u32) -> bool
+    requires { IsTied pool.old handles.old }
+    ensures tied { IsTied pool.new handles.new }
+    ensures next { handles.new.next ≡ handles.old.next }
+{
+    handles.dependent(handle).is_none() && handles.release(pool, handle)
 }
 
 #[test]
@@ -91,11 +114,11 @@ fn handles_list_their_graphs_until_they_are_released(rt: HostRuntime) -> Result<
     assert_eq!(rt; list(alloc, &handles, &pool, 2)?.as_slice(), [B].as_slice());
     assert!(rt; handles.view(&pool, 0).is_none() && handles.view(&pool, 3).is_none());
     assert_eq!(rt; pool.union_len(), 3);
-    assert!(rt; handles.release(&mut pool, 1));
+    assert!(rt; release(&mut handles, &mut pool, 1));
     assert!(rt; handles.view(&pool, 1).is_none());
     assert_eq!(rt; list(alloc, &handles, &pool, 2)?.as_slice(), [B].as_slice());
     assert_eq!(rt; pool.union_len(), 2);
-    assert!(rt; !handles.release(&mut pool, 1));
+    assert!(rt; !release(&mut handles, &mut pool, 1));
     assert_eq!(rt; (handles.live(), handles.next(), pool.live()), (1, 3, 1));
     Ok(())
 }
@@ -126,11 +149,57 @@ fn handles_stay_while_the_current_graph_changes(rt: HostRuntime) -> Result<(), F
     Ok(())
 }
 
+#[test]
+fn base_stays_while_an_overlay_rests_on_it(rt: HostRuntime) -> Result<(), Fail> {
+    let alloc = rt.alloc();
+    let mut pool = pool(alloc)?;
+    let mut handles = Handles::new(alloc, 1)?;
+    // leaf 1 has nodes 2 and 3, and a value; from there node 3 goes, and node 1 comes
+    let leaf = delta(alloc, &[], &[B, C, VALUE])?;
+    let mut leads = Vec::new(alloc);
+    leads.push(GraphLead {
+        begins: Beginning::Base(1),
+        delta: delta(alloc, &[C], &[A])?,
+    })?;
+    handles.add_base(&mut pool, NodeId::Leaf(1), ALL, &leaf)?;
+    handles.add(&mut pool, STRUCTURE, &[10], &leads)?;
+    assert_eq!(rt;
+        list(alloc, &handles, &pool, 1)?.as_slice(),
+        [B, C, VALUE].as_slice()
+    );
+    assert_eq!(rt;
+        list(alloc, &handles, &pool, 2)?.as_slice(),
+        [A, B].as_slice()
+    );
+    assert_eq!(rt;
+        (handles.dependent(1), handles.dependent(2)),
+        (Some(2), None)
+    );
+    assert_eq!(rt;
+        handles.stands(1),
+        Some(Stands::Base {
+            node: NodeId::Leaf(1),
+            cols: ALL
+        })
+    );
+    assert_eq!(rt; handles.bases(alloc, STRUCTURE)?.len(), 1);
+    assert!(rt; !release(&mut handles, &mut pool, 1));
+    assert!(rt; release(&mut handles, &mut pool, 2));
+    assert!(rt; release(&mut handles, &mut pool, 1));
+    assert_eq!(rt; (handles.live(), handles.next(), pool.live()), (0, 3, 0));
+    Ok(())
+}
+
 // So many leads to node 3 alone.
-fn many(alloc: Global, count: usize) -> Result<Vec<Lead>, Fail> {
+fn many(alloc: Global, count: usize) -> Result<Vec<GraphLead>, Fail>
+    ensures { IfOk result (λ leads. All (λ l. base_of l.begins ≡ None) leads.items) }
+{
     let mut leads = Vec::new(alloc);
     for _ in 0..count {
-        leads.push(lead(alloc, NodeId::Root, &[], &[C])?)?;
+        leads.push(GraphLead {
+            begins: Beginning::Nothing,
+            delta: delta(alloc, &[], &[C])?,
+        })?;
     }
     Ok(leads)
 }
@@ -148,7 +217,7 @@ fn full_table_has_room_again_after_a_release(rt: HostRuntime) -> Result<(), Fail
         (handles.live(), handles.next(), pool.live()),
         (127, 128, 127)
     );
-    assert!(rt; handles.release(&mut pool, 60));
+    assert!(rt; release(&mut handles, &mut pool, 60));
     let last = many(alloc, 1)?;
     assert!(rt; last.len() == 1);
     assert!(rt; handles.live() == 126);

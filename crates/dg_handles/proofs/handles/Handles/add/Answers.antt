@@ -1,16 +1,24 @@
-use Rattle.std.proofs.Common.{◌≡◌, ℕ, ◌++◌, List, map, sym, ap, ◌∙◌, subst}
+use Rattle.std.proofs.Common.{arith, ◌≡◌, ℕ, ◌+◌, ◌++◌, List, Option, length, map, sym, ap, ◌∙◌, subst}
 use Rattle.std.proofs.lemmas.List.{map-append}
+use Rattle.std.proofs.lemmas.List.Elements.{recursion_from_All}
+use Rattle.std.proofs.Math.ListN.{length-map}
 use Rattle.dg_graph.specs.declared.element.Element.{Element}
-use Rattle.dg_handles.specs.Attached.{AreAttached, numbers_of}
-use Rattle.dg_handles.specs.Handles.{HandlesState, IsTied, graphs_at, members_at}
-use Rattle.dg_handles.proofs.Entering.{number_of}
-use Rattle.dg_handles.proofs.Tying.{kept_attached, tied_attached}
+use Rattle.dg_handles.specs.Attached.{AreAttached, graph_led, numbers_of}
+use Rattle.dg_handles.specs.Handles.{BeginsOn, HandlesState, IsTied, graphs_at, members_at, numbered, overlays_on}
+use Rattle.dg_handles.proofs.Attaching.{held_kept, members_led, overlays_held, stays, tied_more, with_more}
+use Rattle.dg_handles.proofs.Beside.{Entries}
+use Rattle.dg_handles.proofs.Entering.{entry_of, number_of, overlays_many, rise_more}
+use Rattle.dg_handles.proofs.Tying.{tie_is_kept}
+use Rattle.dg_machine.specs.declared.stands.Stands.{Stands}
 use Rattle.dg_pool.specs.declared.slots.Slot.{Slot}
-use Rattle.dg_pool.specs.Graphs.{graph_now}
-use Rattle.dg_retrieval.specs.Graphs.{led_from}
+use Rattle.dg_retrieval.specs.Beginnings.{base_of}
+use Rattle.dg_retrieval.specs.declared.graph_lead.GraphLead.{GraphLead}
 use Rattle.dg_handles.proofs.handles.Handles.add.Goals as goal
 
-attached : (c : goal.After-drop-slots) → AreAttached c.args.pool.now c.attach_all.new.pool (numbers_of c.in_ok-slots.slots.items) (map (led_from (graph_now c.args.pool.now) c.args.cols) c.args.leads.now)
+pub returns-in_err-slots-clause-tied : goal.returns-in_err-slots-clause-tied
+returns-in_err-slots-clause-tied c = tie_is_kept c.args.pool.now c.attach_all.new.pool c.args.self.now c.in_err-slots.ensures.err.slots c.requires.tied
+
+attached : (c : goal.After-drop-slots) → AreAttached c.args.pool.now c.attach_all.new.pool (numbers_of c.in_ok-slots.slots.items) (map (graph_led c.args.self.now c.args.pool.now c.args.cols) c.args.leads.now)
 attached c = c.in_ok-slots.ensures.slots
 
 slots_are : (c : goal.After-drop-slots) → map number_of c.enter.new.entries.items ≡ c.args.self.now.slots ++ numbers_of c.in_ok-slots.slots.items
@@ -20,16 +28,39 @@ slots_are c =
 
 pub returns-clause-graphs : goal.returns-clause-graphs
 returns-clause-graphs c =
-    let held = c.args.self.now.slots in
+    let h = c.args.self.now in
     let old = c.args.pool.now in
     let new = c.attach_all.new.pool in
     let slots = numbers_of c.in_ok-slots.slots.items in
-    let graphs : List (List Element) = map (led_from (graph_now old) c.args.cols) c.args.leads.now in
-    ap (graphs_at new) (slots_are c) ∙ map-append (members_at new) held slots
-    ∙ ap (λ (l : List (List Element)). l ++ graphs_at new slots) (kept_attached old new held slots graphs c.requires.tied (attached c))
-    ∙ ap (λ (l : List (List Element)). graphs_at old held ++ l) (attached c).members
+    let leads = c.args.leads.now in
+    ap (graphs_at new) (slots_are c) ∙ map-append (members_at new) h.slots slots
+    ∙ ap (λ (l : List (List Element)). l ++ graphs_at new slots) (held_kept old new h c.requires.tied slots (map (graph_led h old c.args.cols) leads) (attached c))
+    ∙ ap (λ (l : List (List Element)). graphs_at old h.slots ++ l) (members_led h old new c.args.cols slots leads (attached c).hold)
 
 pub returns-clause-tied : goal.returns-clause-tied
 returns-clause-tied c =
-    subst (IsTied c.attach_all.new.pool) (sym (slots_are c))
-    (tied_attached c.args.pool.now c.attach_all.new.pool c.args.self.now.slots (numbers_of c.in_ok-slots.slots.items) _ c.requires.tied (attached c))
+    let h = c.args.self.now in
+    let old = c.args.pool.now in
+    let leads = c.args.leads.now in
+    let slots = numbers_of c.in_ok-slots.slots.items in
+    let last = c.self.inside.next + length c.args.times.now in
+    let stands : List Stands = overlays_on c.args.cols c.args.times.now (map (λ (l : GraphLead). base_of l.begins) leads) in
+    let more : Entries = numbered c.self.inside.next stands in
+    let table_is : map entry_of c.enter.new.entries.items ≡ h.table ++ more = c.enter.ensures.table ∙ ap (λ (s : HandlesState). s.table ++ more) c.self.view_is in
+    subst (IsTied c.attach_all.new.pool) (λ k. record { table = sym table_is k; slots = sym (slots_are c) k; next = last })
+    (tied_more old c.attach_all.new.pool h c.requires.tied more slots last (map (graph_led h old c.args.cols) leads) (attached c)
+    (overlays_held old h (with_more h more slots last) c.requires.tied (λ handle. stays h more slots last handle) c.args.cols c.self.inside.next c.args.times.now leads c.requires.leads
+    (recursion_from_All (BeginsOn h.table c.args.cols) leads c.requires.bases)))
+
+pub invariant_of-self : goal.invariant_of-self
+invariant_of-self c =
+    let entries = c.self.inside.entries in
+    let stands : List Stands = overlays_on c.args.cols c.args.times.now (map (λ (l : GraphLead). base_of l.begins) c.args.leads.now) in
+    let many : length c.args.self.now.table ≡ length entries.items = ap (λ (s : HandlesState). length s.table) (sym c.self.view_is) ∙ length-map entries.items entry_of in
+    let last : c.self.inside.next ≡ c.args.self.now.next = ap (λ (s : HandlesState). s.next) c.self.view_is in
+    let new = overlays_many c.args.cols c.args.times.now c.args.leads.now c.requires.leads in (
+      omega (arith, c.enter.ensures.len, c.requires.room, many, entries.ok.0),
+      omega (arith, c.enter.ensures.capacity, c.self.invariant.1),
+      omega (arith, c.requires.numbers, last),
+      rise_more entries.items c.enter.new.entries.items c.self.inside.next (c.self.inside.next + length c.args.times.now) stands c.self.invariant.3 c.enter.ensures.table (ap (λ n. c.self.inside.next + n) (sym new)),
+    )

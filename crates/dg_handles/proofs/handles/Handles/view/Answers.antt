@@ -1,37 +1,34 @@
-use Rattle.std.proofs.Common.{is_some, Some, [], get_or, sym, ap, ◌∙◌, subst}
-use Rattle.dg_handles.specs.Handles.{HandlesState, IsTied, graphs_at}
-use Rattle.dg_handles.proofs.Placing.{found_in, live_at, members_here, missed_in, within_in}
+use Rattle.std.proofs.Common.{IsSome, Some, is_some, sym, ap, ◌∙◌}
+use Rattle.dg_handles.specs.Handles.{members_at}
+use Rattle.dg_handles.proofs.Beside.{graph_beside, slot_listed}
+use Rattle.dg_handles.proofs.Placing.{entry_in, graphs_many, missed_in, slot_in}
+use Rattle.dg_handles.proofs.Tying.{live_slot}
 use Rattle.dg_handles.proofs.handles.Handles.view.Goals as goal
 
 pub returns-in_err-place-clause-graph : goal.returns-in_err-place-clause-graph
 returns-in_err-place-clause-graph c =
-    let missed = missed_in c.args.handle c.args.pool.now c.args.self.now c.self.inside.entries.items c.deref.result.now c.self.inside.next c.self.view_is c.deref.ensures.value c.in_err-place.ensures.none in
-    c.from_residual.ensures ∙ sym missed.graph
+    let s = c.args.self.now in
+    let entries = c.self.inside.entries.items in
+    let missed = missed_in c.args.handle s entries c.deref.result.now c.self.inside.next c.self.view_is c.deref.ensures.value c.in_err-place.ensures.none in
+    c.from_residual.ensures ∙ sym (missed.graph _ (graphs_many c.args.handle s entries c.deref.result.now c.self.inside.next c.self.view_is c.deref.ensures.value c.args.pool.now))
 
 pub returns-in_err-place-clause-there : goal.returns-in_err-place-clause-there
 returns-in_err-place-clause-there c =
-    let missed = missed_in c.args.handle c.args.pool.now c.args.self.now c.self.inside.entries.items c.deref.result.now c.self.inside.next c.self.view_is c.deref.ensures.value c.in_err-place.ensures.none in
-    ap is_some c.from_residual.ensures ∙ sym missed.absent
+    let missed = missed_in c.args.handle c.args.self.now c.self.inside.entries.items c.deref.result.now c.self.inside.next c.self.view_is c.deref.ensures.value c.in_err-place.ensures.none in
+    ap is_some c.from_residual.ensures ∙ sym (ap is_some missed.entry)
 
 pub of-requires : goal.of-requires
 of-requires c =
-    let entries = c.self.inside.entries.items in
-    let place = c.in_ok-place.place in
-    let within = within_in c.args.handle c.args.pool.now c.args.self.now entries c.deref.result.now c.self.inside.next c.self.view_is c.deref.ensures.value place c.in_ok-place.ensures.some in
-    let tied = subst (λ (s : HandlesState). IsTied c.args.pool.now s.slots) (sym c.self.view_is) c.requires.tied in
-    live_at entries place c.index.result.now within c.index.ensures c.args.pool.now tied
+    let s = c.args.self.now in
+    let slot = slot_in c.args.handle s c.self.inside.entries.items c.deref.result.now c.self.inside.next c.self.view_is c.deref.ensures.value c.in_ok-place.place c.in_ok-place.ensures.some c.index.result.now c.index.ensures in
+    live_slot c.args.pool.now s c.requires.tied c.index.result.now.slot.0 (slot_listed c.args.handle s.table s.slots c.index.result.now.slot.0 slot)
 
 pub returns-clause-graph : goal.returns-clause-graph
 returns-clause-graph c =
-    let entries = c.self.inside.entries.items in
-    let p = c.args.pool.now in
-    let place = c.in_ok-place.place in
-    let within = within_in c.args.handle p c.args.self.now entries c.deref.result.now c.self.inside.next c.self.view_is c.deref.ensures.value place c.in_ok-place.ensures.some in
-    let found = found_in c.args.handle p c.args.self.now entries c.deref.result.now c.self.inside.next c.self.view_is c.deref.ensures.value place c.in_ok-place.ensures.some in
-    ap Some (c.of.ensures ∙ members_here entries place c.index.result.now within c.index.ensures p ∙ ap (λ (s : HandlesState). get_or (graphs_at p s.slots) place []) c.self.view_is)
-    ∙ sym found.graph
+    let s = c.args.self.now in
+    let slot = slot_in c.args.handle s c.self.inside.entries.items c.deref.result.now c.self.inside.next c.self.view_is c.deref.ensures.value c.in_ok-place.place c.in_ok-place.ensures.some c.index.result.now c.index.ensures in
+    ap Some c.of.ensures ∙ sym (graph_beside (members_at c.args.pool.now) c.args.handle s.table s.slots c.index.result.now.slot.0 slot)
 
 pub returns-clause-there : goal.returns-clause-there
 returns-clause-there c =
-    let found = found_in c.args.handle c.args.pool.now c.args.self.now c.self.inside.entries.items c.deref.result.now c.self.inside.next c.self.view_is c.deref.ensures.value c.in_ok-place.place c.in_ok-place.ensures.some in
-    sym found.there
+    sym (ap is_some (entry_in c.args.handle c.args.self.now c.self.inside.entries.items c.deref.result.now c.self.inside.next c.self.view_is c.deref.ensures.value c.in_ok-place.place c.in_ok-place.ensures.some c.index.result.now c.index.ensures))

@@ -1,7 +1,7 @@
 use Rattle.std.proofs.Common.{below_more, sym, ◌∙◌}
 use Rattle.std.proofs.lemmas.List.{get_or-map}
-use Rattle.dg_handles.specs.declared.handles.Entry.{Entry}
-use Rattle.dg_handles.proofs.handles.place_of.Goals as goal
+use Rattle.dg_handles.specs.declared.entries.Entry.{Entry}
+use Rattle.dg_handles.proofs.entries.place_of.Goals as goal
 
 pub loop-place-preserved : goal.loop-place-preserved
 loop-place-preserved c =

@@ -1,0 +1,68 @@
+use Rattle.std.proofs.Common.{arith, ◌≡◌, ℕ, ◌+◌, ◌<◌, ◌++◌, [], ◌∷◌, List, length, map, refl, sym, ap, ◌∙◌, subst}
+use Rattle.std.proofs.lemmas.List.{map-append, map_push}
+use Rattle.std.proofs.Math.ListN.{length-map}
+use Rattle.dg_graph.specs.Composition.{applied}
+use Rattle.dg_graph.specs.declared.element.Element.{Element}
+use Rattle.dg_graph.specs.Elements.{shown}
+use Rattle.dg_handles.specs.Attached.{AreAttached}
+use Rattle.dg_handles.specs.Handles.{HandlesState, IsTied, graphs_at, members_at}
+use Rattle.dg_handles.proofs.Attaching.{attached_more, attached_none, held_kept, some_free, tied_more}
+use Rattle.dg_handles.proofs.Beside.{Entries}
+use Rattle.dg_handles.proofs.Entering.{entry_of, number_of, rise_more}
+use Rattle.dg_handles.proofs.Tying.{tie_is_kept}
+use Rattle.dg_machine.specs.declared.stands.Stands.TheVariants as stands
+use Rattle.dg_pool.specs.declared.slots.Base.TheVariants as base
+use Rattle.dg_pool.specs.Graphs.{SlotGraph}
+use Rattle.dg_pool.specs.Sweeps.{members_as}
+use Rattle.dg_handles.proofs.handles.Handles.add_base.Goals as goal
+
+pub attach-requires-clause-room : goal.attach-requires-clause-room
+attach-requires-clause-room c =
+    let few : length c.args.self.now.table + length {A = ℕ} [] < 127 = omega (arith, c.requires.room) in
+    some_free c.args.pool.now c.args.pool.now c.args.self.now c.requires.tied [] [] (attached_none c.args.pool.now) few
+
+pub returns-in_err-slot-clause-tied : goal.returns-in_err-slot-clause-tied
+returns-in_err-slot-clause-tied c = tie_is_kept c.args.pool.now c.attach.new.pool c.args.self.now c.in_err-slot.ensures.err.slots c.requires.tied
+
+-- the graph of the new handle
+attached : (c : goal.After-self-1) → AreAttached c.args.pool.now c.attach.new.pool (c.in_ok-slot.slot.0 ∷ [])
+    (record { base = base.Nothing; cols = c.args.cols; members = shown (applied c.args.delta.now []) c.args.cols } ∷ [])
+attached c = attached_more c.args.pool.now c.args.pool.now [] [] (attached_none c.args.pool.now) c.attach.new.pool c.in_ok-slot.slot.0 _ c.in_ok-slot.ensures.slot
+
+slots_are : (c : goal.After-self-1) → map number_of c.push_reserved.new.self.items ≡ c.args.self.now.slots ++ c.in_ok-slot.slot.0 ∷ []
+slots_are c =
+    ap (map number_of) c.push_reserved.ensures.items ∙ map_push number_of c.self.inside.entries.items _
+    ∙ ap (λ (s : HandlesState). s.slots ++ c.in_ok-slot.slot.0 ∷ []) c.self.view_is
+
+table_is : (c : goal.After-self-1) → map entry_of c.push_reserved.new.self.items ≡ map entry_of c.self.inside.entries.items ++ (c.self.inside.next, stands.Base c.args.node c.args.cols) ∷ []
+table_is c = ap (map entry_of) c.push_reserved.ensures.items ∙ map_push entry_of c.self.inside.entries.items _
+
+pub returns-clause-graphs : goal.returns-clause-graphs
+returns-clause-graphs c =
+    let h = c.args.self.now in
+    let old = c.args.pool.now in
+    let new = c.attach.new.pool in
+    let slots : List ℕ = c.in_ok-slot.slot.0 ∷ [] in
+    ap (graphs_at new) (slots_are c) ∙ map-append (members_at new) h.slots slots
+    ∙ ap (λ (l : List (List Element)). l ++ graphs_at new slots) (held_kept old new h c.requires.tied slots _ (attached c))
+    ∙ ap (λ o. graphs_at old h.slots ++ members_as o ∷ []) c.in_ok-slot.ensures.slot.holds
+
+pub returns-clause-tied : goal.returns-clause-tied
+returns-clause-tied c =
+    let h = c.args.self.now in
+    let last = c.self.inside.next + 1 in
+    let more : Entries = (c.self.inside.next, stands.Base c.args.node c.args.cols) ∷ [] in
+    let table : map entry_of c.push_reserved.new.self.items ≡ h.table ++ more = table_is c ∙ ap (λ (s : HandlesState). s.table ++ more) c.self.view_is in
+    subst (IsTied c.attach.new.pool) (λ k. record { table = sym table k; slots = sym (slots_are c) k; next = last })
+    (tied_more c.args.pool.now c.attach.new.pool h c.requires.tied more (c.in_ok-slot.slot.0 ∷ []) last _ (attached c) ((refl, refl), tt))
+
+pub invariant_of-self : goal.invariant_of-self
+invariant_of-self c =
+    let entries = c.self.inside.entries in
+    let many : length c.args.self.now.table ≡ length entries.items = ap (λ (s : HandlesState). length s.table) (sym c.self.view_is) ∙ length-map entries.items entry_of in
+    let last : c.self.inside.next ≡ c.args.self.now.next = ap (λ (s : HandlesState). s.next) c.self.view_is in (
+      omega (arith, c.push_reserved.ensures.len, c.requires.room, many, entries.ok.0),
+      omega (arith, c.push_reserved.ensures.capacity, c.self.invariant.1),
+      omega (arith, c.requires.numbers, last),
+      rise_more entries.items c.push_reserved.new.self.items c.self.inside.next (c.self.inside.next + 1) (stands.Base c.args.node c.args.cols ∷ []) c.self.invariant.3 (table_is c) refl,
+    )

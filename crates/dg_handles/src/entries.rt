@@ -1,0 +1,142 @@
+//! The entries of the table of live handles.
+
+ghost use Rattle.std.specs.Prelude.{◌≡◌, ◌+◌, ◌≤◌, [], ◌∷◌, ◌++◌, IfNone, IfOk, IfSome, length, map, vec_capacity, vec_len};
+ghost use Rattle.dg_handles.specs.Attached.{numbers_of};
+ghost use Rattle.dg_handles.specs.Handles.{numbered, overlays_on};
+ghost use Rattle.dg_handles.specs.Places.{IsFirst, NoneIs};
+ghost use Rattle.dg_machine.specs.MachineState.{dependent_on, rests_on};
+ghost use Rattle.dg_machine.specs.Planning.{bases_in, includes, usable};
+ghost use Rattle.dg_machine.specs.declared.limits.TheConstants.{HANDLE_MAX};
+ghost use Rattle.dg_planner.specs.Bases.{base_of as node_of};
+ghost use Rattle.dg_retrieval.specs.Beginnings.{base_of};
+
+use dg_graph::Columns;
+use dg_machine::Stands;
+use dg_planner::Base;
+use dg_pool::Slot;
+use dg_retrieval::{Beginning, GraphLead};
+use std::alloc::{AllocError, Global};
+
+/// A live handle, with what it stands for and the slot that has its graph.
+#[derive(Clone, Copy, Debug)]
+pub(crate) struct Entry {
+    pub(crate) handle: u32,
+    pub(crate) stands: Stands,
+    pub(crate) slot: Slot,
+}
+
+/// The place of the first entry with this handle.
+pub(crate) fn place_of(entries: &[Entry], handle: u32) -> Option<usize>
+    ensures some { IfSome result (IsFirst handle (map (λ e. e.handle) entries.now)) }
+    ensures none { IfNone result (NoneIs handle (map (λ e. e.handle) entries.now)) }
+{
+    for (place, entry) in entries.iter().enumerate() {
+        if entry.handle == handle {
+            return Some(place);
+        }
+    }
+    None
+}
+
+// Whether it stands for an overlay on this handle.
+fn rests_on(stands: Stands, handle: u32) -> bool
+    ensures { result ≡ rests_on handle stands }
+{
+    match stands {
+        Stands::Overlay { on: Some(base), .. } => base == handle,
+        _ => false,
+    }
+}
+
+/// The first handle that stands for an overlay on this one.
+pub(crate) fn dependent(entries: &[Entry], handle: u32) -> Option<u32>
+    ensures { result ≡ dependent_on handle (map (λ e. (e.handle, e.stands)) entries.now) }
+{
+    for entry in entries {
+        if rests_on(entry.stands, handle) {
+            return Some(entry.handle);
+        }
+    }
+    None
+}
+
+// Whether the first columns have all of the second.
+fn includes(all: Columns, cols: Columns) -> bool
+    ensures { result ≡ includes all cols }
+{
+    (all.nodes_attr || !cols.nodes_attr) && (all.edges_attr || !cols.edges_attr)
+}
+
+// The handle with its node, where it holds the set of one in columns that have all of these.
+fn usable(entry: &Entry, cols: Columns) -> Option<Base>
+    ensures some { IfSome result (λ base. usable cols (entry.now.handle, entry.now.stands) ≡ node_of base ∷ []) }
+    ensures none { IfNone result (usable cols (entry.now.handle, entry.now.stands) ≡ []) }
+{
+    match entry.stands {
+        Stands::Base { node, cols: all } if includes(all, cols) => Some(Base {
+            handle: entry.handle,
+            node,
+        }),
+        _ => None,
+    }
+}
+
+/// The handles that hold bases for these columns, with their nodes. An `Err` says that memory ran out.
+pub(crate) fn bases(
+    alloc: Global,
+    entries: &[Entry],
+    cols: Columns,
+) -> Result<Vec<Base>, AllocError>
+    ensures { IfOk result (λ v. map node_of v.items ≡ bases_in cols (map (λ e. (e.handle, e.stands)) entries.now)) }
+{
+    let mut bases = Vec::new(alloc);
+    for entry in entries {
+        if let Some(base) = usable(entry, cols) {
+            bases.push(base)?;
+        }
+    }
+    Ok(bases)
+}
+
+// The handle whose set a graph begins with, if with that of any.
+fn base_of(begins: Beginning) -> Option<u32>
+    ensures { result ≡ base_of begins }
+{
+    match begins {
+        Beginning::Base(handle) => Some(handle),
+        _ => None,
+    }
+}
+
+/// Adds an entry for each instant, with the numbers from this one on, on what its lead begins with. There is room for
+/// them.
+pub(crate) fn enter(
+    entries: &mut Vec<Entry>,
+    next: u64,
+    cols: Columns,
+    times: &[u64],
+    leads: &[GraphLead],
+    slots: &[Slot],
+)
+    requires leads { length leads.now ≡ length times.now }
+    requires slots { length slots.now ≡ length times.now }
+    requires room { vec_len entries.old + length times.now ≤ vec_capacity entries.old }
+    requires numbers { next + length times.now ≤ HANDLE_MAX + 1 }
+    ensures table { map (λ e. (e.handle, e.stands)) entries.new.items
+        ≡ map (λ e. (e.handle, e.stands)) entries.old.items ++ numbered next (overlays_on cols times.now (map (λ l. base_of l.begins) leads.now)) }
+    ensures slots { map (λ e. e.slot.0) entries.new.items ≡ map (λ e. e.slot.0) entries.old.items ++ numbers_of slots.now }
+    ensures len { vec_len entries.new ≡ vec_len entries.old + length times.now }
+    ensures capacity { vec_capacity entries.new ≡ vec_capacity entries.old }
+{
+    for i in 0..times.len() {
+        entries.push_reserved(Entry {
+            handle: (next + i as u64) as u32,
+            stands: Stands::Overlay {
+                t: times[i],
+                cols,
+                on: base_of(leads[i].begins),
+            },
+            slot: slots[i],
+        });
+    }
+}
