@@ -115,7 +115,7 @@ fn try_batch<R: Threads, D: Disk>(
         &history.names,
         known,
         &history.recent,
-        &history.now,
+        pool,
         &events,
         &left,
     )?;

@@ -19,6 +19,7 @@ ghost use Rattle.dg_index.specs.FileOfHistory.{segment_of};
 ghost use Rattle.dg_index.specs.OpenedIndex.{events_in};
 ghost use Rattle.dg_plan.specs.IndexGraph.{arcs_of};
 ghost use Rattle.dg_plan.specs.Walks.{AreSingles};
+ghost use Rattle.dg_pool.specs.Graphs.{graph_now};
 ghost use Rattle.dg_retrieval.specs.KeptGraph.{record_edges};
 ghost use Rattle.dg_start.specs.StoredHistory.{floor_of, recent_count};
 
@@ -30,14 +31,15 @@ use dg_disk::Disk;
 use dg_file::Index;
 use dg_graph::Event;
 use dg_names::Names;
-use dg_now::Now;
+use dg_pool::Pool;
 use dg_segment::Segment;
 use std::alloc::Global;
 use std::thread::Threads;
 
 /// The segment of a batch of these events behind those of the index, which brings the names from number `known` on.
-/// `now` holds the graph before the batch, `recent` the events behind the last closed list, and `left` those behind it
-/// once the batch is there. The sets of the older children of the interior nodes that the batch completes are read.
+/// The current graph of `pool` is that before the batch, `recent` has the events behind the last closed list, and
+/// `left` those behind it once the batch is there. The sets of the older children of the interior nodes that the batch
+/// completes are read.
 ///
 /// `Damaged` and `Read` where the older children cannot be read, or a due delta cannot be written; `Memory` for want
 /// of memory.
@@ -49,7 +51,7 @@ pub(crate) fn make_segment<R: Threads, D: Disk>(
     names: &Names,
     known: u32,
     recent: &[Event],
-    now: &Now,
+    pool: &Pool,
     events: &[Event],
     left: &[Event],
 ) -> Result<Segment, BatchFault>
@@ -60,18 +62,18 @@ pub(crate) fn make_segment<R: Threads, D: Disk>(
     requires counted { length recent.now ≡ recent_count index.old.opening }
     requires recent_fit { All (λ e. NamesFit e.body) recent.now }
     requires rises { RisesFrom (floor_of index.old.opening (first_time_of events.now)) (recent.now ++ events.now) }
-    requires changes { AreChangesOf now.now.graph events.now }
+    requires changes { AreChangesOf (graph_now pool.now) events.now }
     requires left { left.now ≡ recent_behind index.old.opening.params (events_in index.old.opening.batches) recent.now events.now }
     ensures behind { IfOk result (λ s. IsSegmentBehind index.old.opening (drop known names.now) recent.now events.now s) }
     ensures fit { OnOk result (All (λ e. NamesFit e.body) events.now) }
-    ensures is { IfOk result (λ s. IfSome (D.image disk.old) (λ image. (z : History) → StandsForKept z image index.old.opening known names.now now.now.graph recent.now
+    ensures is { IfOk result (λ s. IfSome (D.image disk.old) (λ image. (z : History) → StandsForKept z image index.old.opening known names.now (graph_now pool.now) recent.now
         → s ≡ segment_of z.params (events_of z) (batch_with known names.now events.now))) }
     // the bytes read, over an image of a history: at most those of the single plans
-    ensures most { IfSome (D.image disk.old) (λ image. (z : History) → StandsForKept z image index.old.opening known names.now now.now.graph recent.now
+    ensures most { IfSome (D.image disk.old) (λ image. (z : History) → StandsForKept z image index.old.opening known names.now (graph_now pool.now) recent.now
         → (singles : List ℕ) → AreSingles (arcs_of (record_edges index.old.opening)) (Root ∷ []) (older_children index.old.opening (length events.now)) singles
         → TakesAtMost (sum singles) (D.taken disk.old) (D.taken disk.new)) }
     // why it is not made
-    ensures fails { IfErr result (λ fault. StopsSegment (D.image disk.old) index.old.opening known names.now now.now.graph recent.now (length events.now) fault) }
+    ensures fails { IfErr result (λ fault. StopsSegment (D.image disk.old) index.old.opening known names.now (graph_now pool.now) recent.now (length events.now) fault) }
     ensures cause { IsErrOf result BatchFault.Read → Rose (D.faults disk.old) (D.faults disk.new) }
     // what it leaves
     ensures same { index.new ≡ index.old }
@@ -83,6 +85,6 @@ pub(crate) fn make_segment<R: Threads, D: Disk>(
     }
     let older = older_sets(rt, alloc, index, disk, known, events.len() as u64)?;
     segment_of(
-        alloc, index, names, known, recent, now, events, left, &older,
+        alloc, index, names, known, recent, pool, events, left, &older,
     )
 }

@@ -17,6 +17,7 @@ ghost use Rattle.dg_index.specs.FileOfHistory.{segment_of};
 ghost use Rattle.dg_index.specs.IndexGrowth.{IsDue, index_with, needed_for};
 ghost use Rattle.dg_index.specs.IndexRecords.{deltas_due};
 ghost use Rattle.dg_index.specs.OpenedIndex.{events_in};
+ghost use Rattle.dg_pool.specs.Graphs.{graph_now};
 ghost use Rattle.dg_start.specs.StoredHistory.{floor_of, recent_count};
 
 use crate::fault::BatchFault;
@@ -27,7 +28,7 @@ use dg_graph::{Column, Event};
 use dg_history::Key;
 use dg_index::Row;
 use dg_names::Names;
-use dg_now::Now;
+use dg_pool::Pool;
 use dg_segment::Segment;
 use dg_set::Set;
 use dg_shape::{keys_due, leaves};
@@ -66,19 +67,19 @@ fn add_names(segment: &mut Segment, names: &Names, known: u32) -> Result<(), All
     Ok(())
 }
 
-// The current graph, where so many leaves complete an interior node behind so many; else any set.
+// The current graph of the pool, where so many leaves complete an interior node behind so many; else any set.
 fn completed_set(
     alloc: Global,
-    now: &Now,
+    pool: &Pool,
     arity: u32,
     before: u32,
     after: u32,
 ) -> Result<Set, AllocError>
     requires { 1 ≤ arity }
-    ensures { IfOk result (λ set. before / arity < after / arity → set ≡ now.now.graph) }
+    ensures { IfOk result (λ set. before / arity < after / arity → set ≡ graph_now pool.now) }
 {
     if before / arity < after / arity {
-        now.to_set()
+        pool.now_set(alloc)
     } else {
         Ok(Set::new(alloc))
     }
@@ -133,8 +134,9 @@ fn begun(alloc: Global, names: &Names, known: u32, events: &[Event]) -> Result<S
 }
 
 /// The segment of a batch of these events behind those of the index, which brings the names from number `known` on.
-/// `now` holds the graph before the batch, `recent` the events behind the last closed list, and `left` those behind it
-/// once the batch is there. `older` has the sets of the older children of the interior nodes that the batch completes.
+/// The current graph of `pool` is that before the batch, `recent` has the events behind the last closed list, and
+/// `left` those behind it once the batch is there. `older` has the sets of the older children of the interior nodes
+/// that the batch completes.
 ///
 /// `Damaged` names a due delta that has more elements than its column can count, and its structure; `Memory` says that
 /// memory ran out.
@@ -144,7 +146,7 @@ pub(crate) fn segment_of(
     names: &Names,
     known: u32,
     recent: &[Event],
-    now: &Now,
+    pool: &Pool,
     events: &[Event],
     left: &[Event],
     older: &[Set],
@@ -158,10 +160,10 @@ pub(crate) fn segment_of(
     requires left { left.now ≡ recent_behind index.now.opening.params (events_in index.now.opening.batches) recent.now events.now }
     requires older { length older.now ≡ length (older_children index.now.opening (length events.now)) }
     ensures behind { IfOk result (λ s. IsSegmentBehind index.now.opening (drop known names.now) recent.now events.now s) }
-    ensures is { IfOk result (λ s. (past : List Event) → IsPast index.now.opening past recent.now now.now.graph events.now older.now
+    ensures is { IfOk result (λ s. (past : List Event) → IsPast index.now.opening past recent.now (graph_now pool.now) events.now older.now
         → s ≡ segment_of index.now.opening.params past (batch_with known names.now events.now)) }
     ensures fails { IfErr result (λ fault. IsUnmade index.now.opening (length events.now) fault) }
-    ensures never { IfErr result (λ fault. (past : List Event) → IsPast index.now.opening past recent.now now.now.graph events.now older.now
+    ensures never { IfErr result (λ fault. (past : List Event) → IsPast index.now.opening past recent.now (graph_now pool.now) events.now older.now
         → fault ≡ BatchFault.Memory) }
 {
     index.facts();
@@ -171,7 +173,7 @@ pub(crate) fn segment_of(
     let segment = begun(alloc, names, known, events)?;
     let graph = completed_set(
         alloc,
-        now,
+        pool,
         params.k,
         leaves(params, before),
         leaves(params, before + count),

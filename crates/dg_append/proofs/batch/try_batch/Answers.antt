@@ -19,6 +19,7 @@ use Rattle.dg_history.specs.History.{first_time_of, last_time_from}
 use Rattle.dg_index.specs.FileOfHistory.{Segment}
 use Rattle.dg_index.specs.IndexGrowth.{IsDue, index_with, needed_for}
 use Rattle.dg_index.specs.OpenedIndex.{Opening, events_in}
+use Rattle.dg_pool.specs.Graphs.{graph_now}
 use Rattle.dg_start.specs.declared.stored_history.StoredHistory.{StoredHistory}
 use Rattle.dg_start.specs.StoredHistory.{floor_of, index_opening}
 
@@ -76,7 +77,7 @@ make_segment-requires-clause-changes g c =
     let ready : IsReady o c.args.known h c.args.front c.args.changes.now = of_here (index_opening h.index) o (λ o. IsReady o c.args.known h c.args.front c.args.changes.now) is c.requires.ready in
     let p : IsPrepared o c.args.known h c.args.front c.args.changes.now events =
     is_prepared o c.args.known h c.args.front c.args.changes.now events c.last_of-last.result c.facts.ensures.parameters ready c.facts-2.ensures c.in_ok-events.ensures.whole c.last_of-last.ensures.last c.in_ok-events.ensures.done in
-    subst (λ (x : List Element × List Event). AreChangesOf x.0 x.1) (let e : (h.now.graph, events) ≡ (c.prepare.new.now.graph, c.deref-5.result.now) = λ i. (sym c.prepare.ensures.same_graph i, sym c.deref-5.ensures.value i) in e) p.changes_are
+    subst (λ (x : List Element × List Event). AreChangesOf x.0 x.1) (let e : (h.now.graph, events) ≡ (graph_now c.make_cells.new.self, c.deref-5.result.now) = λ i. (sym (c.make_cells.ensures.graphs.now ∙ c.requires.pool) i, sym c.deref-5.ensures.value i) in e) p.changes_are
 
 pub returns-in_err-segment-clause-fails : goal.returns-in_err-segment-clause-fails
 returns-in_err-segment-clause-fails g c =
@@ -89,7 +90,7 @@ returns-in_err-segment-clause-fails g c =
     is_prepared o c.args.known h c.args.front c.args.changes.now events c.last_of-last.result c.facts.ensures.parameters ready c.facts-2.ensures c.in_ok-events.ensures.whole c.last_of-last.ensures.last c.in_ok-events.ensures.done in
     err_is c.from_residual-in_err-segment.result c.in_err-segment.field-0.0 _ c.from_residual-in_err-segment.ensures
     (here (index_opening h.index) o _ is
-    (not_made o c.args.known h c.prepare.new.now.graph c.deref-4.result.now c.deref-5.result.now events c.prepare.ensures.same_graph c.deref-4.ensures.value c.deref-5.ensures.value
+    (not_made o c.args.known h (graph_now c.make_cells.new.self) c.deref-4.result.now c.deref-5.result.now events (c.make_cells.ensures.graphs.now ∙ c.requires.pool) c.deref-4.ensures.value c.deref-5.ensures.value
     c.args.limit (g.D.Disk.image c.args.disk.now) _ c.args.front c.args.changes.now c.in_err-segment.field-0.0 p c.make_segment.ensures.disk.same_image c.in_err-segment.ensures.fails))
 
 pub returns-in_err-segment-clause-takes : goal.returns-in_err-segment-clause-takes
@@ -102,7 +103,7 @@ returns-in_err-segment-clause-takes g c =
     let p : IsPrepared o c.args.known h c.args.front c.args.changes.now events =
     is_prepared o c.args.known h c.args.front c.args.changes.now events c.last_of-last.result c.facts.ensures.parameters ready c.facts-2.ensures c.in_ok-events.ensures.whole c.last_of-last.ensures.last c.in_ok-events.ensures.done in
     here (index_opening h.index) o _ is
-    (takes_over o c.args.known h c.prepare.new.now.graph c.deref-4.result.now c.deref-5.result.now events c.prepare.ensures.same_graph c.deref-4.ensures.value c.deref-5.ensures.value
+    (takes_over o c.args.known h (graph_now c.make_cells.new.self) c.deref-4.result.now c.deref-5.result.now events (c.make_cells.ensures.graphs.now ∙ c.requires.pool) c.deref-4.ensures.value c.deref-5.ensures.value
     (g.D.Disk.image c.args.disk.now) (length c.args.changes.now) (g.D.Disk.taken c.args.disk.now) _ p.many c.make_segment.ensures.most)
 
 pub keep_segment-requires-clause-due : goal.keep_segment-requires-clause-due
@@ -130,7 +131,7 @@ returns-in_err-keep_segment-clause-fails g c =
     is_prepared o c.args.known h c.args.front c.args.changes.now events c.last_of-last.result c.facts.ensures.parameters ready c.facts-2.ensures c.in_ok-events.ensures.whole c.last_of-last.ensures.last c.in_ok-events.ensures.done in
     let comes : ComesToSegment o c.args.known h (g.D.Disk.image c.args.disk.now) c.args.changes.now c.args.front events c.in_ok-segment.segment =
     comes_to_segment o c.args.known h (g.D.Disk.image c.args.disk.now) c.args.front c.args.changes.now events c.in_ok-segment.segment p
-    (built_over o c.args.known h c.prepare.new.now.graph c.deref-4.result.now c.deref-5.result.now events c.prepare.ensures.same_graph c.deref-4.ensures.value c.deref-5.ensures.value
+    (built_over o c.args.known h (graph_now c.make_cells.new.self) c.deref-4.result.now c.deref-5.result.now events (c.make_cells.ensures.graphs.now ∙ c.requires.pool) c.deref-4.ensures.value c.deref-5.ensures.value
     (g.D.Disk.image c.args.disk.now) c.in_ok-segment.segment c.in_ok-segment.ensures.is) in
     err_is c.from_residual-in_err-keep_segment.result c.in_err-keep_segment.field-0.0 _ c.from_residual-in_err-keep_segment.ensures
     (here (index_opening h.index) o _ is
@@ -149,7 +150,7 @@ returns-in_err-keep_segment-clause-takes g c =
     is_prepared o c.args.known h c.args.front c.args.changes.now events c.last_of-last.result c.facts.ensures.parameters ready c.facts-2.ensures c.in_ok-events.ensures.whole c.last_of-last.ensures.last c.in_ok-events.ensures.done in
     here (index_opening h.index) o _ is
     (subst (λ n. TakesOlder (g.D.Disk.image c.args.disk.now) o c.args.known h (length c.args.changes.now) (g.D.Disk.taken c.args.disk.now) n) (sym c.keep_segment.ensures.disk.nothing_read)
-    (takes_over o c.args.known h c.prepare.new.now.graph c.deref-4.result.now c.deref-5.result.now events c.prepare.ensures.same_graph c.deref-4.ensures.value c.deref-5.ensures.value
+    (takes_over o c.args.known h (graph_now c.make_cells.new.self) c.deref-4.result.now c.deref-5.result.now events (c.make_cells.ensures.graphs.now ∙ c.requires.pool) c.deref-4.ensures.value c.deref-5.ensures.value
     (g.D.Disk.image c.args.disk.now) (length c.args.changes.now) (g.D.Disk.taken c.args.disk.now) (g.D.Disk.taken c.make_segment.new.disk) p.many c.make_segment.ensures.most))
 
 pub returns-clause-takes : goal.returns-clause-takes
@@ -163,7 +164,7 @@ returns-clause-takes g c =
     is_prepared o c.args.known h c.args.front c.args.changes.now events c.last_of-last.result c.facts.ensures.parameters ready c.facts-2.ensures c.in_ok-events.ensures.whole c.last_of-last.ensures.last c.in_ok-events.ensures.done in
     here (index_opening h.index) o _ is
     (subst (λ n. TakesOlder (g.D.Disk.image c.args.disk.now) o c.args.known h (length c.args.changes.now) (g.D.Disk.taken c.args.disk.now) n) (sym c.keep_segment.ensures.disk.nothing_read)
-    (takes_over o c.args.known h c.prepare.new.now.graph c.deref-4.result.now c.deref-5.result.now events c.prepare.ensures.same_graph c.deref-4.ensures.value c.deref-5.ensures.value
+    (takes_over o c.args.known h (graph_now c.make_cells.new.self) c.deref-4.result.now c.deref-5.result.now events (c.make_cells.ensures.graphs.now ∙ c.requires.pool) c.deref-4.ensures.value c.deref-5.ensures.value
     (g.D.Disk.image c.args.disk.now) (length c.args.changes.now) (g.D.Disk.taken c.args.disk.now) (g.D.Disk.taken c.make_segment.new.disk) p.many c.make_segment.ensures.most))
 
 pub returns-clause-sound : goal.returns-clause-sound
@@ -221,7 +222,7 @@ returns-clause-adds g c =
     } in
     let comes : ComesToSegment o c.args.known h (g.D.Disk.image c.args.disk.now) c.args.changes.now c.args.front events s =
     comes_to_segment o c.args.known h (g.D.Disk.image c.args.disk.now) c.args.front c.args.changes.now events s p
-    (built_over o c.args.known h c.prepare.new.now.graph c.deref-4.result.now c.deref-5.result.now events c.prepare.ensures.same_graph c.deref-4.ensures.value c.deref-5.ensures.value
+    (built_over o c.args.known h (graph_now c.make_cells.new.self) c.deref-4.result.now c.deref-5.result.now events (c.make_cells.ensures.graphs.now ∙ c.requires.pool) c.deref-4.ensures.value c.deref-5.ensures.value
     (g.D.Disk.image c.args.disk.now) s c.in_ok-segment.ensures.is) in
     let many : c.len.result ≡ length events = search rules in
     let total : c.events_len-total.result ≡ events_in o.batches + length events =

@@ -8,6 +8,7 @@ use Rattle.dg_history.specs.declared.params.Params.{Params}
 use Rattle.dg_history.specs.History.{first_time_of}
 use Rattle.dg_index.specs.FileOfHistory.{segment_of}
 use Rattle.dg_index.specs.OpenedIndex.{Opening, events_in, list_row}
+use Rattle.dg_pool.specs.Graphs.{graph_now}
 use Rattle.dg_start.specs.StoredHistory.{floor_of}
 
 pub returns-then-begins_behind-clause-behind : goal.returns-then-begins_behind-clause-behind
@@ -34,12 +35,12 @@ returns-then-begins_behind-clause-is c past is =
     let n : ℕ = c.events_len-before.result in
     let parts = c.in_ok-segment.ensures.parts in
     c.in-Ok.ensures.is past
-    (past_long o p n c.params-params.ensures c.events_len-before.ensures.events past c.args.recent.now c.args.now.now.graph c.args.events.now c.args.older.now is)
-    (past_recent o p n c.params-params.ensures c.events_len-before.ensures.events past c.args.recent.now c.args.now.now.graph c.args.events.now c.args.older.now is)
-    (past_graph o p n c.params-params.ensures c.events_len-before.ensures.events past c.args.recent.now c.args.now.now.graph c.args.events.now c.args.older.now is
+    (past_long o p n c.params-params.ensures c.events_len-before.ensures.events past c.args.recent.now (graph_now c.args.pool.now) c.args.events.now c.args.older.now is)
+    (past_recent o p n c.params-params.ensures c.events_len-before.ensures.events past c.args.recent.now (graph_now c.args.pool.now) c.args.events.now c.args.older.now is)
+    (past_graph o p n c.params-params.ensures c.events_len-before.ensures.events past c.args.recent.now (graph_now c.args.pool.now) c.args.events.now c.args.older.now is
     c.leaves.result c.leaves-2.result c.in_ok-graph.graph c.leaves.ensures.leaves c.leaves-2.ensures.leaves c.in_ok-graph.ensures)
     is.changes
-    (past_sets o p n c.params-params.ensures c.events_len-before.ensures.events past c.args.recent.now c.args.now.now.graph c.args.events.now c.args.older.now is)
+    (past_sets o p n c.params-params.ensures c.events_len-before.ensures.events past c.args.recent.now (graph_now c.args.pool.now) c.args.events.now c.args.older.now is)
     parts.0 parts.1 parts.2
     ∙ (λ i. segment_of (c.params-params.ensures i) past (record { names = parts.3 i; events = c.args.events.now }))
 
@@ -50,10 +51,10 @@ returns-clause-never c past is =
     let n : ℕ = c.events_len-before.result in
     let parts = c.in_ok-segment.ensures.parts in
     let none = c.in-Err-Wide.ensures.fault past
-    (past_long o p n c.params-params.ensures c.events_len-before.ensures.events past c.args.recent.now c.args.now.now.graph c.args.events.now c.args.older.now is)
-    (past_recent o p n c.params-params.ensures c.events_len-before.ensures.events past c.args.recent.now c.args.now.now.graph c.args.events.now c.args.older.now is)
-    (past_graph o p n c.params-params.ensures c.events_len-before.ensures.events past c.args.recent.now c.args.now.now.graph c.args.events.now c.args.older.now is
+    (past_long o p n c.params-params.ensures c.events_len-before.ensures.events past c.args.recent.now (graph_now c.args.pool.now) c.args.events.now c.args.older.now is)
+    (past_recent o p n c.params-params.ensures c.events_len-before.ensures.events past c.args.recent.now (graph_now c.args.pool.now) c.args.events.now c.args.older.now is)
+    (past_graph o p n c.params-params.ensures c.events_len-before.ensures.events past c.args.recent.now (graph_now c.args.pool.now) c.args.events.now c.args.older.now is
     c.leaves.result c.leaves-2.result c.in_ok-graph.graph c.leaves.ensures.leaves c.leaves-2.ensures.leaves c.in_ok-graph.ensures)
     is.changes
-    (past_sets o p n c.params-params.ensures c.events_len-before.ensures.events past c.args.recent.now c.args.now.now.graph c.args.events.now c.args.older.now is)
+    (past_sets o p n c.params-params.ensures c.events_len-before.ensures.events past c.args.recent.now (graph_now c.args.pool.now) c.args.events.now c.args.older.now is)
     in cc (none, c.in-Err-Wide.field-0-is)
