@@ -495,17 +495,19 @@ module _ (which : BatchCommand) (p : Parts) (count known limit : ℕ) (c : Store
         let h : IsOf p free.index before m z = found.1 in
         let is : IsAdded m z = is_added fits before at m z s h in
         let k : MachineState = record m { index = Some (with_batch z New) } in
+        let large = large_parameters z.params.l z.params.k h.stands.legal.parameters in
+        let pos : 0 < z.params.l = omega (arith, large.0) in
         let index : Some (index_with free.index segment) ≡ Some (opening_of (with_batch z New)) =
         (λ i. Some (index_with (h.opened i) (segment_is before at m z h i))) ∙ ap (λ (x : Opened). Some x.index) (sym (opened_more z New)) in
         let reached : All (λ (e : ℕ × Stands). is_reached z e.1 ≡ true) m.table =
         subst (λ (i : Option History). All (λ (e : ℕ × Stands). is_reached (history_in i) e.1 ≡ true) m.table) h.index s.reached in
         let graphs : p.graphs ≡ map (λ (e : ℕ × Stands). elements (with_batch z New) e.1) m.table =
-        s.graphs ∙ ap (λ (i : Option History). map (λ (e : ℕ × Stands). elements (history_in i) e.1) m.table) h.index ∙ graphs_more z New is.rises m.table reached in (
+        s.graphs ∙ ap (λ (i : Option History). map (λ (e : ℕ × Stands). elements (history_in i) e.1) m.table) h.index ∙ graphs_more z pos New is.rises m.table reached in (
           k,
           subst (λ (r : Reply). Step m (Asked (command_with which count) Got) r k) (sym reply_is) (steps_as before m s (record { reply = said; state = k }) is.answered),
           stands q after k
               (q_is ∙ (λ i. record { limits = s.limits i; index = index i; names = is.names i; graph = is.graph i; recent = is.recent i; table = s.table i; graphs = graphs i; next = s.next i }))
-              (gains z New h.stands is.legal (segment_is before at m z h)) (all_reached_more z New is.rises m.table reached) (λ none. cc),
+              (gains z New h.stands is.legal (segment_is before at m z h)) (all_reached_more z pos New is.rises m.table reached) (λ none. cc),
         )
 
     -- the disk failed

@@ -1,6 +1,6 @@
 -- The answer to what is asked of a handle's graph.
 use Rattle.std.proofs.Common.{◌≡◌, ℕ, Bool, true, false, ◌==◌, not, List, [], ◌∷◌, ◌++◌, Option, Some, None, if◌then◌else◌, map, refl, sym, ◌∙◌, ap, subst}
-use Rattle.std.specs.Prelude.{IsErr, IsErrAnd, Result, is_some}
+use Rattle.std.specs.Prelude.{◌&&◌, IsErr, IsErrAnd, Result, is_some}
 use Rattle.std.proofs.lemmas.Option.{none-some}
 use Rattle.dg_graph.specs.declared.element.Element.{Element}
 use Rattle.dg_handles.specs.Handles.{graph_among}
@@ -12,7 +12,7 @@ use Rattle.dg_machine.specs.declared.reply.Reply.{Reply}
 use Rattle.dg_machine.specs.declared.stands.Stands.{Stands}
 use Rattle.dg_machine.specs.Answer.{accepted, elements_if, is_refusal, say, shown_by}
 use Rattle.dg_machine.specs.MachineState.{MachineState, elements, entry_at, history_in}
-use Rattle.dg_machine.specs.Needs.{earliest, needs, when}
+use Rattle.dg_machine.specs.Needs.{earliest, is_base, needs, when}
 use Rattle.dg_machine.specs.Planning.{no_plan}
 use Rattle.dg_session.proofs.StandsFor.{hit, miss, one_image, stands_on}
 use Rattle.dg_session.proofs.Steps.{IsUnplanned, handed_out, lacking_denies, moved, refused_denies}
@@ -46,25 +46,34 @@ shown_are p image m handle graph s is =
 abbrev pub is_unknown : ℕ → Parts → Bool
 is_unknown handle p = not (is_some (entry_at handle p.table))
 
--- The command asks something of the handle's graph: it needs the handle alone, and this is its answer.
-pub record Asks (c : Command) (handle : ℕ) (answer : List Element → Reply) : Type 0 where
+-- The command asks something of the handle's graph: it needs the handle alone, or, where `overlay`, that it stands for
+-- an instant, and this is its answer.
+pub record Asks (c : Command) (handle : ℕ) (overlay : Bool) (answer : List Element → Reply) : Type 0 where
   pub unplanned : IsUnplanned c
-  pub needed : (p : Parts) → refused_by p 0 (needs c) ≡ earliest (when (is_unknown handle p) (refusal.UnknownHandle handle) ++ [])
+  pub needed : (p : Parts) → refused_by p 0 (needs c) ≡ earliest (when (is_unknown handle p) (refusal.UnknownHandle handle) ++ (when (overlay && is_base (entry_at handle p.table)) (refusal.NotAnOverlay handle) ++ []))
   pub due : (m : MachineState) → accepted m c [] no_plan ≡ say m (answer (shown_by m handle))
   pub accepts : (graph : List Element) → is_refusal (answer graph).head ≡ false
 
-module _ (c : Command) (handle : ℕ) (answer : List Element → Reply) (asks : Asks c handle answer) (p : Parts) where
+module _ (c : Command) (handle : ℕ) (overlay : Bool) (answer : List Element → Reply) (asks : Asks c handle overlay answer) (p : Parts) where
   pub ask_refused : is_some (entry_at handle p.table) ≡ false → refused_by p 0 (needs c) ≡ Some (refusal.UnknownHandle handle)
-  ask_refused none = asks.needed p ∙ hit (is_unknown handle p) (refusal.UnknownHandle handle) [] (ap not none)
+  ask_refused none = asks.needed p ∙ hit (is_unknown handle p) (refusal.UnknownHandle handle) _ (ap not none)
 
-  pub ask_free : is_some (entry_at handle p.table) ≡ true → refused_by p 0 (needs c) ≡ None
-  ask_free some = asks.needed p ∙ miss (is_unknown handle p) (refusal.UnknownHandle handle) [] (ap not some)
+  -- the handle is live, and stands for a node of the index
+  pub ask_base : is_some (entry_at handle p.table) ≡ true → (overlay && is_base (entry_at handle p.table)) ≡ true → refused_by p 0 (needs c) ≡ Some (refusal.NotAnOverlay handle)
+  ask_base some base =
+      asks.needed p ∙ miss (is_unknown handle p) (refusal.UnknownHandle handle) _ (ap not some)
+      ∙ hit (overlay && is_base (entry_at handle p.table)) (refusal.NotAnOverlay handle) [] base
 
-  pub ask_answers : (graph : List Element) (image : Option (List ℕ)) (reply : Reply) → is_some (entry_at handle p.table) ≡ true
+  pub ask_free : is_some (entry_at handle p.table) ≡ true → (overlay && is_base (entry_at handle p.table)) ≡ false → refused_by p 0 (needs c) ≡ None
+  ask_free some served =
+      asks.needed p ∙ miss (is_unknown handle p) (refusal.UnknownHandle handle) _ (ap not some)
+      ∙ miss (overlay && is_base (entry_at handle p.table)) (refusal.NotAnOverlay handle) [] served
+
+  pub ask_answers : (graph : List Element) (image : Option (List ℕ)) (reply : Reply) → is_some (entry_at handle p.table) ≡ true → (overlay && is_base (entry_at handle p.table)) ≡ false
       → graph_among handle p.table p.graphs ≡ Some graph → reply ≡ answer graph → Accepts c [] p image p image reply
-  ask_answers graph image reply live found reply_is = record {
+  ask_answers graph image reply live served found reply_is = record {
     moves =
-        moved c [] p p image image reply asks.unplanned (ask_free live)
+        moved c [] p p image image reply asks.unplanned (ask_free live served)
         (λ m x y a b s free. (
           m,
           asks.due m ∙ ap (λ g. say m (answer g)) (shown_are p x m handle graph s found) ∙ ap (say m) (sym reply_is),
@@ -86,6 +95,6 @@ module _ (c : Command) (handle : ℕ) (answer : List Element → Reply) (asks : 
 
   -- memory lacks
   pub ask_lacks : (r : Result Reply Halt) (image : Option (List ℕ)) → (needs c).memory ≡ true → IsErr r × IsErrAnd r (λ y. y ≡ halt.Refusal refusal.OutOfMemory)
-      → is_some (entry_at handle p.table) ≡ true → ComesTo c [] p image p image r
-  ask_lacks r image memory err live =
-      handed_out r (halt.Refusal refusal.OutOfMemory) (ComesTo c [] p image p image) err (lacking_denies c [] p p image image refl refl memory (ask_free live))
+      → is_some (entry_at handle p.table) ≡ true → (overlay && is_base (entry_at handle p.table)) ≡ false → ComesTo c [] p image p image r
+  ask_lacks r image memory err live served =
+      handed_out r (halt.Refusal refusal.OutOfMemory) (ComesTo c [] p image p image) err (lacking_denies c [] p p image image refl refl memory (ask_free live served))

@@ -1,5 +1,5 @@
 -- Which reply tells of a damage, and which damage it is.
-use Rattle.std.proofs.Common.{◌≡◌, ℕ, Bool, true, false, List, Option, Some, Result, Ok, Err, length, refl, sym, ◌∙◌, subst}
+use Rattle.std.proofs.Common.{◌≡◌, ℕ, Bool, true, false, List, [], ◌∷◌, Option, Some, Result, Ok, Err, length, refl, sym, ◌∙◌, subst}
 use Rattle.std.specs.Prelude.{IfErr, IfSome}
 use Rattle.std.proofs.lemmas.Bool.{false≢true}
 use Rattle.dg_graph.specs.declared.element.Columns.{Columns}
@@ -17,12 +17,16 @@ use Rattle.dg_machine.specs.Needs.{needs}
 use Rattle.dg_retrieval.specs.declared.fault.RetrievalFault.{RetrievalFault}
 use Rattle.dg_retrieval.specs.declared.fault.RetrievalFault.TheVariants as retrieval_fault
 use Rattle.dg_retrieval.specs.declared.retrieval.Retrieved.{Retrieved}
-use Rattle.dg_retrieval.specs.KeptGraph.{kept_edges}
+use Rattle.dg_history.specs.declared.node.NodeId.{NodeId}
+use Rattle.dg_machine.specs.Planning.{bases_in}
+use Rattle.dg_plan.specs.declared.edge.Edge.{Edge}
+use Rattle.dg_retrieval.specs.declared.record_sets.NodeLead.{NodeLead}
+use Rattle.dg_retrieval.specs.KeptGraph.{index_edges, kept_edges}
 use Rattle.dg_retrieval.specs.Retrieval.{IsFirstDamage}
 use Rattle.dg_session.proofs.Retrievals.{IsSession}
 use Rattle.dg_session.specs.declared.halt.Halt.{Halt}
 use Rattle.dg_session.specs.declared.halt.Halt.TheVariants as halt
-use Rattle.dg_session.specs.Damage.{DamageIn, DamageIs, Graphs, IsMetBy, NamesDamage, ReadsFor, reads_for}
+use Rattle.dg_session.specs.Damage.{DamageIn, DamageIs, Graphs, IsMetBy, NamesDamage, NamesNodeDamage, Node_set, ReadsFor, reads_for}
 use Rattle.dg_session.specs.Halt.{retrieval_halt}
 use Rattle.dg_session.specs.Parts.{Parts}
 use Rattle.dg_session.specs.HeldIndex.{points_over}
@@ -48,6 +52,9 @@ tells_no_damage c p image (refusal.FileFull needed limit) e = tt
 tells_no_damage c p image refusal.StoreRead e = tt
 tells_no_damage c p image refusal.OutOfMemory e = tt
 tells_no_damage c p image refusal.LineLong e = tt
+tells_no_damage c p image (refusal.InUse handle) e = tt
+tells_no_damage c p image refusal.UnknownNode e = tt
+tells_no_damage c p image (refusal.NotAnOverlay handle) e = tt
 tells_no_damage c p image refusal.HandlesSpent e = tt
 tells_no_damage c p image refusal.AlreadyLoaded e = tt
 
@@ -59,6 +66,7 @@ accepted_tells_none c p image (head.Loaded _ _ _) e = tt
 accepted_tells_none c p image (head.Appended _ _ _) e = tt
 accepted_tells_none c p image (head.At _ _) e = tt
 accepted_tells_none c p image (head.Several _ _) e = tt
+accepted_tells_none c p image (head.Materialised _ _) e = tt
 accepted_tells_none c p image (head.List _ _) e = tt
 accepted_tells_none c p image (head.Counts _ _) e = tt
 accepted_tells_none c p image (head.NodeThere _ _ _) e = tt
@@ -95,15 +103,16 @@ never_for_damage c x got p before q after r is no_reads comes =
 
 -- the fault of a retrieval over what the session has in memory
 pub damage_over : (p : Parts) (o : Opening) (times : List ℕ) (cols : Columns) (told : Option (List ℕ)) (names : ℕ) (recent : List Event) (r : Result Retrieved RetrievalFault)
-    → IsSession p o names recent
-    → IfErr r (λ f. IfSome told (λ image. IsFirstDamage names (kept_edges o (events_in o.batches) cols) o cols (points_over o recent times) image f))
+    → IsSession p o names recent → (edges : List Edge) → edges ≡ kept_edges o (events_in o.batches) cols (bases_in cols p.table)
+    → IfErr r (λ f. IfSome told (λ image. IsFirstDamage names edges o cols (points_over o recent times) image f))
     → IfErr r (λ f. NamesDamage p told (times, cols) f)
-damage_over p o times cols told names recent (Ok x) is damage = tt
-damage_over p o times cols told names recent (Err f) is damage = (
+damage_over p o times cols told names recent (Ok x) is edges edges_is damage = tt
+damage_over p o times cols told names recent (Err f) is edges edges_is damage = (
   o,
   is.there,
-  subst (λ es. IfSome told (λ image. IsFirstDamage (length p.names) (kept_edges o (events_in o.batches) cols) o cols (points_over o es times) image f)) is.all
-      (subst (λ n. IfSome told (λ image. IsFirstDamage n (kept_edges o (events_in o.batches) cols) o cols (points_over o recent times) image f)) is.count damage),
+  subst (λ gs. IfSome told (λ image. IsFirstDamage (length p.names) gs o cols (points_over o p.recent times) image f)) edges_is
+      (subst (λ es. IfSome told (λ image. IsFirstDamage (length p.names) edges o cols (points_over o es times) image f)) is.all
+      (subst (λ n. IfSome told (λ image. IsFirstDamage n edges o cols (points_over o recent times) image f)) is.count damage)),
 )
 
 -- what the command that reads for it comes to by the fault
@@ -112,6 +121,24 @@ pub damage_in : (c : Command) (p : Parts) (image : Option (List ℕ)) (times : L
 damage_in c p image times cols retrieval_fault.Disk is damage = tt
 damage_in c p image times cols retrieval_fault.Memory is damage = tt
 damage_in c p image times cols (retrieval_fault.Damaged key col) is damage = subst (λ (x : ReadsFor). IsMetBy x p image key col) (sym is) damage
+
+-- the fault of a node that is to be held, over what the session has in memory
+pub node_damage_over : (p : Parts) (o : Opening) (node : NodeId) (cols : Columns) (told : Option (List ℕ)) (names : ℕ) (r : Result NodeLead RetrievalFault)
+    → p.index ≡ Some o → names ≡ length p.names
+    → IfErr r (λ f. IfSome told (λ image. IsFirstDamage names (index_edges o cols false []) o cols (node ∷ []) image f))
+    → IfErr r (λ f. NamesNodeDamage p told (node, cols) f)
+node_damage_over p o node cols told names (Ok x) there count damage = tt
+node_damage_over p o node cols told names (Err f) there count damage = (
+  o,
+  there,
+  subst (λ n. IfSome told (λ image. IsFirstDamage n (index_edges o cols false []) o cols (node ∷ []) image f)) count damage,
+)
+
+pub node_damage_in : (c : Command) (p : Parts) (image : Option (List ℕ)) (node : NodeId) (cols : Columns) (f : RetrievalFault) → reads_for c ≡ Node_set node cols → NamesNodeDamage p image (node, cols) f
+    → DamageIn c p image (Err (retrieval_halt f))
+node_damage_in c p image node cols retrieval_fault.Disk is damage = tt
+node_damage_in c p image node cols retrieval_fault.Memory is damage = tt
+node_damage_in c p image node cols (retrieval_fault.Damaged key col) is damage = subst (λ (x : ReadsFor). IsMetBy x p image key col) (sym is) damage
 
 -- the reply, where there is one
 pub damage_in_reply : (c : Command) (p : Parts) (image : Option (List ℕ)) (r : Result Reply Halt) (h : Head) → head_of r ≡ Some h → DamageIn c p image r → DamageIs c p image h

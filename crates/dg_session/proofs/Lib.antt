@@ -27,5 +27,11 @@ pub mod DamageStep
 pub mod TreeStep
 pub mod CreateStep
 pub mod KeptGraphs
+pub mod NewHandles
+pub mod PlannedGraphs
+pub mod HeldNodes
+pub mod IndexNodes
+pub mod MaterialiseStep
+pub mod HeldBases
 pub mod AddStep
 pub mod AddReads

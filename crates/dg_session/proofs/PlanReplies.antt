@@ -18,18 +18,18 @@ use Rattle.dg_retrieval.specs.KeptGraph.{kept_edges, kept_nodes}
 use Rattle.dg_session.specs.HeldIndex.{point_over}
 use Rattle.dg_session.specs.Plans.{IsPlanReply}
 
-pub reply_is : (o : Opening) (recent : List Event) (t : ℕ) (cols : Columns) (edges : List Edge) (nodes : List NodeId) (target : NodeId) (steps potentials : List ℕ) (weight count : ℕ) (lines : List BodyLine)
-    → edges ≡ kept_edges o (events_in o.batches) cols → nodes ≡ kept_nodes o (events_in o.batches) cols → target ≡ point_over o recent t
+pub reply_is : (o : Opening) (recent : List Event) (bases : List (ℕ × NodeId)) (t : ℕ) (cols : Columns) (edges : List Edge) (nodes : List NodeId) (target : NodeId) (steps potentials : List ℕ) (weight count : ℕ) (lines : List BodyLine)
+    → edges ≡ kept_edges o (events_in o.batches) cols bases → nodes ≡ kept_nodes o (events_in o.batches) cols → target ≡ point_over o recent t
     → IsPlan (arcs_of edges) (Root ∷ []) target steps → weight ≡ weight_of (arcs_of edges) steps → AllZip (IsPotential (arcs_of edges) (Root ∷ []) weight) nodes potentials
     → lines ≡ step_lines edges steps ++ potential_lines weight nodes potentials → count ≡ length steps
-    → IsPlanReply o recent t cols (record { head = head.Plan weight count; body = lines })
-reply_is o recent t cols edges nodes target steps potentials weight count lines e n at plan w zip l c = record {
+    → IsPlanReply o recent bases t cols (record { head = head.Plan weight count; body = lines })
+reply_is o recent bases t cols edges nodes target steps potentials weight count lines e n at plan w zip l c = record {
   plan = record no_plan { steps = steps; potentials = potentials };
   least =
       subst (λ (es : List Edge). IsPlan (arcs_of es) (Root ∷ []) (point_over o recent t) steps) e
       (subst (λ (a : NodeId). IsPlan (arcs_of edges) (Root ∷ []) a steps) at plan);
   certified =
-      subst (λ (ns : List NodeId). AllZip (IsPotential (arcs_of (kept_edges o (events_in o.batches) cols)) (Root ∷ []) (weight_of (arcs_of (kept_edges o (events_in o.batches) cols)) steps)) ns potentials) n
+      subst (λ (ns : List NodeId). AllZip (IsPotential (arcs_of (kept_edges o (events_in o.batches) cols bases)) (Root ∷ []) (weight_of (arcs_of (kept_edges o (events_in o.batches) cols bases)) steps)) ns potentials) n
       (subst (λ (es : List Edge). AllZip (IsPotential (arcs_of es) (Root ∷ []) (weight_of (arcs_of es) steps)) nodes potentials) e
       (subst (λ (x : ℕ). AllZip (IsPotential (arcs_of edges) (Root ∷ []) x) nodes potentials) w zip));
   says =

@@ -5,7 +5,10 @@ use Rattle.std.specs.List.{AllZip}
 use borrow.Author.Tests.{le-ltb, lt-ltb}
 use Rattle.dg_graph.specs.declared.element.Columns.{Columns}
 use Rattle.dg_graph.specs.Lines.{ScriptLine}
+use Rattle.dg_history.specs.declared.node.Key.{Key}
 use Rattle.dg_history.specs.declared.node.NodeId.{NodeId}
+use Rattle.dg_history.specs.declared.params.Params.{Params}
+use Rattle.dg_index.specs.declared.entry.Entry.{Entry}
 use Rattle.dg_history.specs.declared.node.NodeId.TheVariants.{Root}
 use Rattle.dg_history.specs.History.{History, events_of, in_range, span_of}
 use Rattle.dg_append.specs.OlderGroups.{older_children}
@@ -21,12 +24,12 @@ use Rattle.dg_machine.specs.Answer.{headed, is_refusal, plan_reply}
 use Rattle.dg_machine.specs.CommandGrammar.{plan_line_in}
 use Rattle.dg_machine.specs.MachineState.{MachineState, history_in}
 use Rattle.dg_machine.specs.Needs.{needs}
-use Rattle.dg_machine.specs.Planning.{IsPlanned, edges_in, nodes_in, point_for, record_edges_in}
+use Rattle.dg_machine.specs.Planning.{IsPlanned, bases_in, edges_in, nodes_in, point_for, record_edges_in}
 use Rattle.dg_plan.specs.declared.certificate.Verdict.{Verdict}
 use Rattle.dg_plan.specs.declared.edge.Edge.{Edge}
 use Rattle.dg_plan.specs.CertificateLines.{judged}
 use Rattle.dg_plan.specs.HistoryGraph.{all_columns, ground_of_history, ground_of_records}
-use Rattle.dg_plan.specs.IndexGraph.{arcs_of, edges_of, nodes_of}
+use Rattle.dg_plan.specs.IndexGraph.{Ground, arcs_of, edges_of, nodes_of}
 use Rattle.dg_plan.specs.InstantPoint.{point}
 use Rattle.dg_plan.specs.Walks.{IsPlan, IsPotential, weight_of}
 use Rattle.dg_planner.specs.Bases.{ground_of}
@@ -43,7 +46,7 @@ use Rattle.dg_session.specs.declared.stop.Stop.TheVariants as stop
 use Rattle.dg_session.proofs.Steps.{Comes, lacking_denies, moved, moved_by, refused_denies}
 use Rattle.dg_session.specs.BatchLines.{first_refusal}
 use Rattle.dg_session.specs.Parts.{Parts}
-use Rattle.dg_retrieval.specs.KeptGraph.{holding, kept_edges, kept_nodes, record_edges, shape_with}
+use Rattle.dg_retrieval.specs.KeptGraph.{holding, index_edges, kept_edges, kept_nodes, record_edges, shape_with}
 use Rattle.dg_session.specs.HeldIndex.{catalogue_of, point_over, span_held}
 use Rattle.dg_session.specs.Plans.{IsPlanReply}
 use Rattle.dg_session.specs.Reads.{older_for}
@@ -77,6 +80,10 @@ enough_refused p t cols count read enough =
 
 -- ---- the graph
 
+-- the edges of the graph of an index with these parameters, so many events and these records
+abbrev kept_edges_over : Params → ℕ → List (Key × Entry) → Columns → List (ℕ × NodeId) → List Edge
+kept_edges_over params n records cols bases = edges_of (let g : Ground = record (ground_of (shape_with params n) (holding records) cols [] (nat_lt 0 n)) { bases = bases } in g)
+
 -- what the index has, it has of the history that the session stands for
 module _ (p : Parts) (o : Opening) (image : List ℕ) (m : MachineState) (there : p.index ≡ Some o) (s : StandsFor p image m) where
   abbrev z : History
@@ -97,16 +104,16 @@ module _ (p : Parts) (o : Opening) (image : List ℕ) (m : MachineState) (there 
   pub span_there : span_held (Some o) ≡ span_of (events_of z)
   span_there = ap (λ (x : Opening). span_held (Some x)) of_z.opened ∙ span_is z of_z.stands.legal
 
-  pub edges_are : (cols : Columns) → kept_edges o (events_in o.batches) cols ≡ edges_in m cols
+  pub edges_are : (cols : Columns) → kept_edges o (events_in o.batches) cols (bases_in cols p.table) ≡ edges_in m cols
   edges_are cols =
-      (λ i. edges_of (ground_of (shape_with (params_are i) (many_are i)) (holding (records_are i)) cols [] (nat_lt 0 (many_are i))))
-      ∙ (graph_of_history z of_z.stands.legal (holding (opened_of z).index.records) refl cols).0
-      ∙ sym (ap (λ (i : Option History). edges_of (ground_of_history (history_in i) cols)) of_z.index)
+      (λ i. kept_edges_over (params_are i) (many_are i) (records_are i) cols (bases_in cols (s.table i)))
+      ∙ (graph_of_history z of_z.stands.legal (holding (opened_of z).index.records) refl cols (bases_in cols m.table)).0
+      ∙ sym (ap (λ (i : Option History). edges_of (let g : Ground = record (ground_of_history (history_in i) cols) { bases = bases_in cols m.table } in g)) of_z.index)
 
   pub nodes_are : (cols : Columns) → kept_nodes o (events_in o.batches) cols ≡ nodes_in m cols
   nodes_are cols =
       (λ i. nodes_of (ground_of (shape_with (params_are i) (many_are i)) (holding (records_are i)) cols [] (nat_lt 0 (many_are i))))
-      ∙ (graph_of_history z of_z.stands.legal (holding (opened_of z).index.records) refl cols).1
+      ∙ (graph_of_history z of_z.stands.legal (holding (opened_of z).index.records) refl cols []).1
       ∙ sym (ap (λ (i : Option History). nodes_of (ground_of_history (history_in i) cols)) of_z.index)
 
   -- the same of the records alone
@@ -115,6 +122,13 @@ module _ (p : Parts) (o : Opening) (image : List ℕ) (m : MachineState) (there 
       (λ i. edges_of (ground_of (shape_with (params_are i) (many_are i)) (holding (records_are i)) all_columns [] false))
       ∙ edges_of_records z of_z.stands.legal (holding (opened_of z).index.records) refl all_columns [] false
       ∙ sym (ap (λ (i : Option History). edges_of (ground_of_records (history_in i) all_columns)) of_z.index)
+
+  -- the same in any columns
+  pub records_edges_in : (cols : Columns) → index_edges o cols false [] ≡ record_edges_in m cols
+  records_edges_in cols =
+      (λ i. edges_of (let g : Ground = record (ground_of (shape_with (params_are i) (many_are i)) (holding (records_are i)) cols [] false) { bases = [] } in g))
+      ∙ edges_of_records z of_z.stands.legal (holding (opened_of z).index.records) refl cols [] false
+      ∙ sym (ap (λ (i : Option History). edges_of (ground_of_records (history_in i) cols)) of_z.index)
 
   -- the older children of the interior nodes that a batch of so many lines completes
   pub older_are : (count : ℕ) → older_children o count ≡ older_for m count
@@ -133,27 +147,27 @@ module _ (p : Parts) (o : Opening) (image : List ℕ) (m : MachineState) (there 
       point_here t inside ∙ sym (ap (λ (i : Option History). point (history_in i).params (events_of (history_in i)) t) of_z.index)
 
   -- what is planned over the index is planned for the machine
-  pub is_planned : (t : ℕ) (cols : Columns) (reply : Reply) → in_range (span_held (Some o)) t ≡ true → (r : IsPlanReply o p.recent t cols reply) → IsPlanned m (command.Plan t cols) r.plan
+  pub is_planned : (t : ℕ) (cols : Columns) (reply : Reply) → in_range (span_held (Some o)) t ≡ true → (r : IsPlanReply o p.recent (bases_in cols p.table) t cols reply) → IsPlanned m (command.Plan t cols) r.plan
   is_planned t cols reply inside r = (
     subst (λ (es : List Edge). IsPlan (arcs_of es) (Root ∷ []) (point_for m t) r.plan.steps) (edges_are cols)
-        (subst (λ (a : NodeId). IsPlan (arcs_of (kept_edges o (events_in o.batches) cols)) (Root ∷ []) a r.plan.steps) (point_is t inside) r.least),
+        (subst (λ (a : NodeId). IsPlan (arcs_of (kept_edges o (events_in o.batches) cols (bases_in cols p.table))) (Root ∷ []) a r.plan.steps) (point_is t inside) r.least),
     subst (λ (ns : List NodeId). AllZip (IsPotential (arcs_of (edges_in m cols)) (Root ∷ []) (weight_of (arcs_of (edges_in m cols)) r.plan.steps)) ns r.plan.potentials) (nodes_are cols)
         (subst (λ (es : List Edge). AllZip (IsPotential (arcs_of es) (Root ∷ []) (weight_of (arcs_of es) r.plan.steps)) (kept_nodes o (events_in o.batches) cols) r.plan.potentials) (edges_are cols) r.certified),
   )
 
-  pub plan_due : (t : ℕ) (cols : Columns) (reply : Reply) (r : IsPlanReply o p.recent t cols reply)
+  pub plan_due : (t : ℕ) (cols : Columns) (reply : Reply) (r : IsPlanReply o p.recent (bases_in cols p.table) t cols reply)
       → plan_reply (edges_in m cols) (nodes_in m cols) (weight_of (arcs_of (edges_in m cols)) r.plan.steps) r.plan.steps r.plan.potentials ≡ reply
   plan_due t cols reply r =
       sym (r.says ∙ (λ i. plan_reply (edges_are cols i) (nodes_are cols i) (weight_of (arcs_of (edges_are cols i)) r.plan.steps) r.plan.steps r.plan.potentials))
 
   pub verdict_due : (t : ℕ) (cols : Columns) (got : List ScriptLine) → in_range (span_held (Some o)) t ≡ true
-      → judged (kept_edges o (events_in o.batches) cols) (kept_nodes o (events_in o.batches) cols) (point_over o p.recent t) (map plan_line_in got)
+      → judged (kept_edges o (events_in o.batches) cols (bases_in cols p.table)) (kept_nodes o (events_in o.batches) cols) (point_over o p.recent t) (map plan_line_in got)
       ≡ judged (edges_in m cols) (nodes_in m cols) (point_for m t) (map plan_line_in got)
   verdict_due t cols got inside = λ i. judged (edges_are cols i) (nodes_are cols i) (point_is t inside i) (map plan_line_in got)
 
 -- ---- the answers
 
-pub plan_answers : (p : Parts) (t : ℕ) (cols : Columns) (image : Option (List ℕ)) (o : Opening) (reply : Reply) → p.index ≡ Some o → in_range (span_held (Some o)) t ≡ true → IsPlanReply o p.recent t cols reply
+pub plan_answers : (p : Parts) (t : ℕ) (cols : Columns) (image : Option (List ℕ)) (o : Opening) (reply : Reply) → p.index ≡ Some o → in_range (span_held (Some o)) t ≡ true → IsPlanReply o p.recent (bases_in cols p.table) t cols reply
     → Accepts (command.Plan t cols) [] p image p image reply
 plan_answers p t cols image o reply there inside r = record {
   moves =
@@ -172,7 +186,7 @@ plan_answers p t cols image o reply there inside r = record {
 
 pub certificate_answers : (p : Parts) (t : ℕ) (cols : Columns) (count : ℕ) (got : List ScriptLine) (image : Option (List ℕ)) (o : Opening) (verdict : Verdict) (reply : Reply)
     → p.index ≡ Some o → in_range (span_held (Some o)) t ≡ true → nat_lt (length got) count ≡ false
-    → verdict ≡ judged (kept_edges o (events_in o.batches) cols) (kept_nodes o (events_in o.batches) cols) (point_over o p.recent t) (map plan_line_in got) → reply ≡ headed (head.Certified verdict)
+    → verdict ≡ judged (kept_edges o (events_in o.batches) cols (bases_in cols p.table)) (kept_nodes o (events_in o.batches) cols) (point_over o p.recent t) (map plan_line_in got) → reply ≡ headed (head.Certified verdict)
     → Accepts (command.Certify t cols count) got p image p image reply
 certificate_answers p t cols count got image o verdict reply there inside enough is reply_is = record {
   moves =

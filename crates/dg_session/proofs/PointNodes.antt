@@ -110,7 +110,7 @@ module _ (o : Opening) (n : ℕ) (cols : Columns) (some : 0 < n) where
   leaves_here = n / o.params.l
 
   abbrev others : ListOf NodeId
-  others = map (λ j. Leaf j) (numbers 1 leaves_here) ++ (map (λ i. List i) (numbers 0 leaves_here) ++ inner_nodes (kept_ground o n cols))
+  others = map (λ j. Leaf j) (numbers 1 leaves_here) ++ (map (λ i. List i) (numbers 0 leaves_here) ++ inner_nodes (kept_ground o n cols []))
 
   nodes_are : kept_nodes o n cols ≡ Root ∷ Now ∷ Recent ∷ others
   nodes_are = ap (λ b. Root ∷ (cond b (Now ∷ Recent ∷ []) [] ++ others)) (lt-ltb 0 n some)
@@ -130,15 +130,15 @@ module _ (o : Opening) (n : ℕ) (cols : Columns) (some : 0 < n) where
   in_leaf : (j : ℕ) → 1 ≤ j → j ≤ leaves_here → Contains (kept_nodes o n cols) (Leaf j)
   in_leaf j low high =
       later (Leaf j)
-      (Contains-append_left (map (λ j. Leaf j) (numbers 1 leaves_here)) (map (λ i. List i) (numbers 0 leaves_here) ++ inner_nodes (kept_ground o n cols)) (Leaf j)
+      (Contains-append_left (map (λ j. Leaf j) (numbers 1 leaves_here)) (map (λ i. List i) (numbers 0 leaves_here) ++ inner_nodes (kept_ground o n cols [])) (Leaf j)
       (contains_mapped (λ j. Leaf j) (numbers 1 leaves_here) j
       (subst (Contains (numbers 1 leaves_here)) (let h : 1 + (j - 1) ≡ j = omega arith in h) (contains_number 1 leaves_here (j - 1) (omega arith)))))
 
   in_list : (i : ℕ) → i < leaves_here → Contains (kept_nodes o n cols) (List i)
   in_list i within =
       later (List i)
-      (Contains-append_right (map (λ j. Leaf j) (numbers 1 leaves_here)) (map (λ i. List i) (numbers 0 leaves_here) ++ inner_nodes (kept_ground o n cols)) (List i)
-      (Contains-append_left (map (λ i. List i) (numbers 0 leaves_here)) (inner_nodes (kept_ground o n cols)) (List i)
+      (Contains-append_right (map (λ j. Leaf j) (numbers 1 leaves_here)) (map (λ i. List i) (numbers 0 leaves_here) ++ inner_nodes (kept_ground o n cols [])) (List i)
+      (Contains-append_left (map (λ i. List i) (numbers 0 leaves_here)) (inner_nodes (kept_ground o n cols [])) (List i)
       (contains_mapped (λ i. List i) (numbers 0 leaves_here) i
       (subst (Contains (numbers 0 leaves_here)) (let h : 0 + i ≡ i = omega arith in h) (contains_number 0 leaves_here i within)))))
 

@@ -3,7 +3,7 @@ use Rattle.std.proofs.Common.{◌≡◌, ⊎_elim, ℕ, suc, ◌+◌, ◌≤◌,
 use Rattle.std.specs.Prelude.{IfErr, IfOk, IfSome, Result, Ok, is_some, ◌||◌, ◌&&◌}
 use Rattle.std.specs.List.{All, Contains, list_any}
 use Rattle.std.proofs.lemmas.Bool.{false≢true}
-use Rattle.std.proofs.lemmas.List.{append-nil}
+use Rattle.std.proofs.lemmas.List.{append-nil, length-map}
 use Rattle.std.proofs.lemmas.List.Elements.{All-cons, All-head, All-nil, All-tail}
 use borrow.Author.Tests.{le-ltb, lt-ltb, ltb-false}
 use Rattle.dg_fold.specs.BytesRead.{Takes, TakesAtMost}
@@ -12,7 +12,7 @@ use Rattle.dg_graph.specs.declared.element.Columns.{Columns}
 use Rattle.dg_graph.specs.declared.element.Element.{Element}
 use Rattle.dg_graph.specs.declared.event.Event.{Event}
 use Rattle.dg_graph.specs.Lines.{ScriptLine}
-use Rattle.dg_handles.specs.Handles.{numbered}
+use Rattle.dg_handles.specs.Handles.{HoldsNode, held_by, numbered, overlays_on}
 use Rattle.dg_history.specs.declared.node.Key.{Key}
 use Rattle.dg_history.specs.declared.node.NodeId.{NodeId}
 use Rattle.dg_history.specs.declared.node.NodeId.TheVariants.{Root}
@@ -30,7 +30,7 @@ use Rattle.dg_machine.specs.declared.stands.Stands.TheVariants.{Overlay}
 use Rattle.dg_machine.specs.Answer.{Answered, IsPlannedBy, accepted, is_refusal, overlays, weight_told, with_handle, with_handles}
 use Rattle.dg_machine.specs.MachineState.{MachineState, elements, history_in}
 use Rattle.dg_machine.specs.Needs.{earliest, needs, refused, when}
-use Rattle.dg_machine.specs.Planning.{IsPlanned, Planned, edges_in, point_for, points_for}
+use Rattle.dg_machine.specs.Planning.{IsPlanned, Planned, bases_in, edges_in, point_for, points_for}
 use Rattle.dg_plan.specs.declared.edge.Edge.{Edge}
 use Rattle.dg_plan.specs.IndexGraph.{arcs_of}
 use Rattle.dg_plan.specs.InstantPoint.{point}
@@ -39,9 +39,11 @@ use Rattle.dg_file.specs.Index.{IndexState}
 use Rattle.dg_retrieval.specs.declared.retrieval.Retrieved.{Retrieved}
 use Rattle.dg_retrieval.specs.declared.fault.RetrievalFault.{RetrievalFault}
 use Rattle.dg_retrieval.specs.declared.fault.RetrievalFault.TheVariants as retrieval_fault
-use Rattle.dg_retrieval.specs.KeptGraph.{kept_edges, kept_nodes}
-use Rattle.dg_retrieval.specs.Graphs.{led_from}
-use Rattle.dg_retrieval.specs.Retrieval.{ArePoints, IsNoDamage, IsOver, IsTreeOf, TakesAtMostTree, graphs_at}
+use Rattle.dg_retrieval.specs.declared.graph_lead.GraphLead.{GraphLead}
+use Rattle.dg_retrieval.specs.KeptGraph.{kept_edges, kept_ground, kept_nodes}
+use Rattle.dg_retrieval.specs.Beginnings.{base_of, led_to}
+use Rattle.dg_retrieval.specs.Retrieval.{AreHeld, ArePoints, IsNoDamage, IsOver, IsTreeOf, TakesAtMostTree, graphs_at}
+use Rattle.dg_session.proofs.HeldBases.{bases_are_held}
 use Rattle.dg_session.proofs.PlanStep.{edges_are, point_here, point_is}
 use Rattle.dg_session.proofs.PointNodes.{IsSoundIndex, point_there}
 use Rattle.dg_session.proofs.StandsFor.{events_there, handle_taken, hit, instants_are, miss, is_of, last_passes, not_false, one_told, passes, refused_is}
@@ -51,7 +53,7 @@ use Rattle.dg_session.specs.contracts.session.Session.{the_view}
 use Rattle.dg_session.specs.declared.session.Session.TheInside.{Inside}
 use Rattle.dg_session.specs.HeldIndex.{point_over, points_over, span_held}
 use Rattle.dg_session.specs.Parts.{Parts}
-use Rattle.dg_session.specs.Reads.{IsRetrieved, Reads, ReadsAsTold, ReadsBy, ReadsIn, is_early, with_new}
+use Rattle.dg_session.specs.Reads.{IsRetrieved, Reads, ReadsAsTold, ReadsBy, ReadsIn, bases_of, is_early, listed_by, with_new}
 use Rattle.dg_start.specs.StoredHistory.{IsHeldBy, index_opening}
 use Rattle.dg_session.specs.Session.{Accepts, ComesTo, Moves, StandsFor, WhereBothTold, is_reached, refused_by, retrieval_needs}
 
@@ -91,7 +93,7 @@ pool_refused p times live there out live_is most full =
     ∙ hit (nat_lt 0 n && nat_lt LIVE_HANDLES_MAX (length p.table + n)) (refusal.PoolFull (length p.table) n) _ (λ i. some i && many i)
     ∙ ap (λ k. Some (refusal.PoolFull k n)) (sym live_is)
 
-both_false : (a b : Bool) → b ≡ false → (a && b) ≡ false
+pub both_false : (a b : Bool) → b ≡ false → (a && b) ≡ false
 both_false true b h = h
 both_false false b h = refl
 
@@ -182,25 +184,26 @@ module _ (p : Parts) (o : Opening) (image : List ℕ) (m : MachineState) (there 
       each_same (is_out (span_held (Some o))) (point_over o p.recent) (point z_of.params (events_of z_of)) times
       (λ t h. point_here p o image m there s t (not_false (in_range (span_held (Some o)) t) h))
 
-  mapped : (times : List ℕ) (cols : Columns) → graphs_at z_of times cols ≡ map (elements z_of) (overlays cols times)
-  mapped [] cols = refl
-  mapped (t ∷ times) cols = λ i. elements z_of (Overlay t cols None) ∷ mapped times cols i
+  mapped : (times : List ℕ) (bases : List (Option ℕ)) (cols : Columns) → length bases ≡ length times → graphs_at z_of times cols ≡ map (elements z_of) (overlays_on cols times bases)
+  mapped [] bases cols many = refl
+  mapped (t ∷ times) [] cols many = absurd (omega arith)
+  mapped (t ∷ times) (b ∷ bases) cols many = λ i. elements z_of (Overlay t cols b) ∷ mapped times bases cols (omega arith) i
 
   -- the graphs as of the instants are those that new handles list
-  listed : (times : List ℕ) (cols : Columns) → graphs_at z_of times cols ≡ map (elements (history_in m.index)) (overlays cols times)
-  listed times cols =
-      mapped times cols ∙ sym (ap (λ (i : Option History). map (elements (history_in i)) (overlays cols times)) (is_of p o image m there s).1.index)
+  listed : (times : List ℕ) (bases : List (Option ℕ)) (cols : Columns) → length bases ≡ length times → graphs_at z_of times cols ≡ map (elements (history_in m.index)) (overlays_on cols times bases)
+  listed times bases cols many =
+      mapped times bases cols many ∙ sym (ap (λ (i : Option History). map (elements (history_in i)) (overlays_on cols times bases)) (is_of p o image m there s).1.index)
 
-  pub is_retrieved : (times : List ℕ) (cols : Columns) (weight : ℕ) (singles : List ℕ) (graphs : List (List Element)) → list_any (is_out (span_held (Some o))) times ≡ false
-      → IsTreeOf (kept_edges o (events_in o.batches) cols) (points_over o p.recent times) weight
-      → AreSingles (arcs_of (kept_edges o (events_in o.batches) cols)) (Root ∷ []) (points_over o p.recent times) singles
-      → graphs ≡ graphs_at z_of times cols → IsRetrieved m times cols weight singles graphs
-  is_retrieved times cols weight singles graphs inside tree plans graphs_are = record {
-    tree = subst (λ (ns : List NodeId). IsTreeOf (edges_in m cols) ns weight) (points_are times inside) (subst (λ (es : List Edge). IsTreeOf es (points_over o p.recent times) weight) (edges_are p o image m there s cols) tree);
+  pub is_retrieved : (times : List ℕ) (cols : Columns) (weight : ℕ) (singles : List ℕ) (bases : List (Option ℕ)) (graphs : List (List Element)) → list_any (is_out (span_held (Some o))) times ≡ false
+      → IsTreeOf (kept_edges o (events_in o.batches) cols (bases_in cols p.table)) (points_over o p.recent times) weight bases
+      → AreSingles (arcs_of (kept_edges o (events_in o.batches) cols (bases_in cols p.table))) (Root ∷ []) (points_over o p.recent times) singles
+      → length bases ≡ length times → graphs ≡ graphs_at z_of times cols → IsRetrieved m times cols weight singles bases graphs
+  is_retrieved times cols weight singles bases graphs inside tree plans many graphs_are = record {
+    tree = subst (λ (ns : List NodeId). IsTreeOf (edges_in m cols) ns weight bases) (points_are times inside) (subst (λ (es : List Edge). IsTreeOf es (points_over o p.recent times) weight bases) (edges_are p o image m there s cols) tree);
     single_plans =
         subst (λ (ns : List NodeId). AreSingles (arcs_of (edges_in m cols)) (Root ∷ []) ns singles) (points_are times inside)
         (subst (λ (es : List Edge). AreSingles (arcs_of es) (Root ∷ []) (points_over o p.recent times) singles) (edges_are p o image m there s cols) plans);
-    listed = graphs_are ∙ listed times cols;
+    listed = graphs_are ∙ listed times bases cols many;
   }
 
 -- ---- new handles
@@ -243,22 +246,30 @@ handles_taken p q image m (x ∷ all) s there reached is =
     }
 
 -- the instants of a retrieval that is not refused are in the history
-pub instants_reached : (p : Parts) (image : List ℕ) (m : MachineState) (times : List ℕ) (cols : Columns) → StandsFor p image m → list_any (is_out (span_held p.index)) times ≡ false
-    → All (λ (x : Stands). is_reached (history_in m.index) x ≡ true) (overlays cols times)
-instants_reached p image m times cols s =
-    each_in (is_out (span_held p.index)) (λ (x : Stands). is_reached (history_in m.index) x ≡ true) (λ t. Overlay t cols None) times
-    (λ t h.
-    ap (λ (es : List Event). in_range (span_of es) t) (events_there m.index) ∙ ap (λ (ends : Option (ℕ × ℕ)). in_range ends t) (sym (instants_are p image m s))
-    ∙ not_false (in_range (span_held p.index) t) h)
+pub instants_reached : (p : Parts) (image : List ℕ) (m : MachineState) (times : List ℕ) (bases : List (Option ℕ)) (cols : Columns) → StandsFor p image m → list_any (is_out (span_held p.index)) times ≡ false
+    → All (λ (x : Stands). is_reached (history_in m.index) x ≡ true) (overlays_on cols times bases)
+instants_reached p image m [] bases cols s h = All-nil (λ (x : Stands). is_reached (history_in m.index) x ≡ true)
+instants_reached p image m (t ∷ times) [] cols s h = All-nil (λ (x : Stands). is_reached (history_in m.index) x ≡ true)
+instants_reached p image m (t ∷ times) (b ∷ bases) cols s h =
+    All-cons (λ (x : Stands). is_reached (history_in m.index) x ≡ true) (Overlay t cols b) (overlays_on cols times bases)
+    (ap (λ (es : List Event). in_range (span_of es) t) (events_there m.index) ∙ ap (λ (ends : Option (ℕ × ℕ)). in_range ends t) (sym (instants_are p image m s))
+    ∙ not_false (in_range (span_held p.index) t) (or_left (is_out (span_held p.index) t) (list_any (is_out (span_held p.index)) times) h))
+    (instants_reached p image m times bases cols s (or_right (is_out (span_held p.index) t) (list_any (is_out (span_held p.index)) times) h))
+
+-- the overlays on the bases that a function gives for the points of the instants
+pub overlays_same : (cols : Columns) (point : ℕ → NodeId) (base : NodeId → Option ℕ) (times : List ℕ)
+    → overlays_on cols times (map base (map point times)) ≡ overlays cols (λ t. base (point t)) times
+overlays_same cols point base [] = refl
+overlays_same cols point base (t ∷ times) = λ i. Overlay t cols (base (point t)) ∷ overlays_same cols point base times i
 
 -- the state that the session stands for with the new handles
-pub handles_stand : (p q : Parts) (x y : List ℕ) (m : MachineState) (times : List ℕ) (cols : Columns) (weight : ℕ) (singles : List ℕ) (graphs : List (List Element))
-    → StandsFor p x m → x ≡ y → 1 ≤ length times → refused_by p 0 (retrieval_needs times (length times)) ≡ None → IsRetrieved m times cols weight singles graphs
-    → q ≡ with_new p (overlays cols times) graphs → StandsFor q y (with_handles m (overlays cols times))
-handles_stand p q x y m times cols weight singles graphs s same some none r is =
+pub handles_stand : (p q : Parts) (x y : List ℕ) (m : MachineState) (times : List ℕ) (cols : Columns) (weight : ℕ) (singles : List ℕ) (bases : List (Option ℕ)) (graphs : List (List Element))
+    → StandsFor p x m → x ≡ y → 1 ≤ length times → refused_by p 0 (retrieval_needs times (length times)) ≡ None → IsRetrieved m times cols weight singles bases graphs
+    → q ≡ with_new p (overlays_on cols times bases) graphs → StandsFor q y (with_handles m (overlays_on cols times bases))
+handles_stand p q x y m times cols weight singles bases graphs s same some none r is =
     let free = retrieval_free p times some none in
-    handles_taken p q y m (overlays cols times) (subst (λ image. StandsFor p image m) same s) free.0 (instants_reached p x m times cols s free.1)
-    (is ∙ ap (λ gs. with_new p (overlays cols times) gs) r.listed)
+    handles_taken p q y m (overlays_on cols times bases) (subst (λ image. StandsFor p image m) same s) free.0 (instants_reached p x m times bases cols s free.1)
+    (is ∙ ap (λ gs. with_new p (overlays_on cols times bases) gs) r.listed)
 
 -- ---- the step
 
@@ -351,7 +362,8 @@ is_session p s index names recent view there count all = record {
 }
 
 module _ (p : Parts) (o : Opening) (times : List ℕ) (cols : Columns) (told : Option (List ℕ)) (names : ℕ) (recent : List Event) (is : IsSession p o names recent)
-    (inside : list_any (is_out (span_held (Some o))) times ≡ false) where
+    (inside : list_any (is_out (span_held (Some o))) times ≡ false)
+    (edges : List Edge) (edges_is : edges ≡ kept_edges o (events_in o.batches) cols (bases_in cols p.table)) (hold : All (HoldsNode p.table cols) (bases_in cols p.table)) where
   over_session : (image : List ℕ) (m : MachineState) (s : StandsFor p image m) → IsOver (z_of p o image m is.there s) image o names p.graph recent
   over_session image m s =
       subst (λ es. IsOver (z_of p o image m is.there s) image o names p.graph es) (sym is.all)
@@ -360,20 +372,34 @@ module _ (p : Parts) (o : Opening) (times : List ℕ) (cols : Columns) (told : O
   points_of_session : (image : List ℕ) (m : MachineState) (s : StandsFor p image m) → ArePoints (z_of p o image m is.there s) (points_over o recent times) times
   points_of_session image m s = ap (λ es. points_over o es times) is.all ∙ at_points p o image m is.there s times inside
 
+  -- the handles that can serve list what is shown of their nodes
+  held_there : (image : List ℕ) (m : MachineState) (s : StandsFor p image m) → AreHeld (z_of p o image m is.there s) edges cols (listed_by p)
+  held_there image m s =
+      let z : History = z_of p o image m is.there s in
+      let graphs : p.graphs ≡ map (λ (e : ℕ × Stands). elements z e.1) p.table =
+      s.graphs ∙ (λ i. map (λ (e : ℕ × Stands). elements (history_in ((is_of p o image m is.there s).1.index i)) e.1) (sym s.table i)) in
+      subst (λ (gs : List (List Element)). AreHeld z edges cols (held_by p.table gs)) (sym graphs)
+      (subst (λ (es : List Edge). AreHeld z es cols (held_by p.table (map (λ (e : ℕ × Stands). elements z e.1) p.table))) (sym edges_is)
+      (bases_are_held z p.table cols (kept_ground o (events_in o.batches) cols (bases_in cols p.table)) hold))
+
   pub retrieved_over : (r : Result Retrieved RetrievalFault)
-      → IfOk r (λ x. IsTreeOf (kept_edges o (events_in o.batches) cols) (points_over o recent times) x.weight)
-      → IfOk r (λ x. AreSingles (arcs_of (kept_edges o (events_in o.batches) cols)) (Root ∷ []) (points_over o recent times) x.singles.items)
-      → IfOk r (λ x. IfSome told (λ image. (z : History) (now : List Element) → IsOver z image o names now recent → ArePoints z (points_over o recent times) times → map (led_from now cols) x.leads.items ≡ graphs_at z times cols))
-      → IfOk r (λ x. IfSome told (λ image. (m : MachineState) → StandsFor p image m → IsRetrieved m times cols x.weight x.singles.items (map (led_from p.graph cols) x.leads.items)))
-  retrieved_over (Err f) tree singles graphs = tt
-  retrieved_over (Ok x) tree singles graphs =
-      if_some told (λ image. (z : History) (now : List Element) → IsOver z image o names now recent → ArePoints z (points_over o recent times) times → map (led_from now cols) x.leads.items ≡ graphs_at z times cols)
-      (λ image. (m : MachineState) → StandsFor p image m → IsRetrieved m times cols x.weight x.singles.items (map (led_from p.graph cols) x.leads.items))
+      → IfOk r (λ x. length x.leads.items ≡ length times)
+      → IfOk r (λ x. IsTreeOf edges (points_over o recent times) x.weight (bases_of x.leads.items))
+      → IfOk r (λ x. AreSingles (arcs_of edges) (Root ∷ []) (points_over o recent times) x.singles.items)
+      → IfOk r (λ x. IfSome told (λ image. (z : History) (now : List Element) (held : ℕ → List Element) → IsOver z image o names now recent → AreHeld z edges cols held
+      → ArePoints z (points_over o recent times) times → map (led_to now held cols) x.leads.items ≡ graphs_at z times cols))
+      → IfOk r (λ x. IfSome told (λ image. (m : MachineState) → StandsFor p image m → IsRetrieved m times cols x.weight x.singles.items (bases_of x.leads.items) (map (led_to p.graph (listed_by p) cols) x.leads.items)))
+  retrieved_over (Err f) count tree singles graphs = tt
+  retrieved_over (Ok x) count tree singles graphs =
+      if_some told (λ image. (z : History) (now : List Element) (held : ℕ → List Element) → IsOver z image o names now recent → AreHeld z edges cols held
+      → ArePoints z (points_over o recent times) times → map (led_to now held cols) x.leads.items ≡ graphs_at z times cols)
+      (λ image. (m : MachineState) → StandsFor p image m → IsRetrieved m times cols x.weight x.singles.items (bases_of x.leads.items) (map (led_to p.graph (listed_by p) cols) x.leads.items))
       (λ image f m s.
-      is_retrieved p o image m is.there s times cols x.weight x.singles.items (map (led_from p.graph cols) x.leads.items) inside
-      (subst (λ es. IsTreeOf (kept_edges o (events_in o.batches) cols) (points_over o es times) x.weight) is.all tree)
-      (subst (λ es. AreSingles (arcs_of (kept_edges o (events_in o.batches) cols)) (Root ∷ []) (points_over o es times) x.singles.items) is.all singles)
-      (f (z_of p o image m is.there s) p.graph (over_session image m s) (points_of_session image m s))) graphs
+      is_retrieved p o image m is.there s times cols x.weight x.singles.items (bases_of x.leads.items) (map (led_to p.graph (listed_by p) cols) x.leads.items) inside
+      (subst (λ es. IsTreeOf es (points_over o p.recent times) x.weight (bases_of x.leads.items)) edges_is (subst (λ es. IsTreeOf edges (points_over o es times) x.weight (bases_of x.leads.items)) is.all tree))
+      (subst (λ es. AreSingles (arcs_of es) (Root ∷ []) (points_over o p.recent times) x.singles.items) edges_is (subst (λ es. AreSingles (arcs_of edges) (Root ∷ []) (points_over o es times) x.singles.items) is.all singles))
+      (length-map x.leads.items (λ (l : GraphLead). base_of l.begins) ∙ count)
+      (f (z_of p o image m is.there s) p.graph (listed_by p) (over_session image m s) (held_there image m s) (points_of_session image m s))) graphs
 
   pub taken_over : (r : Result Retrieved RetrievalFault) (before after : ℕ)
       → IfOk r (λ x. IfSome told (λ image. (z : History) (now : List Element) → IsOver z image o names now recent → Takes x.weight before after))
@@ -385,15 +411,15 @@ module _ (p : Parts) (o : Opening) (times : List ℕ) (cols : Columns) (told : O
       (λ image f m s. f (z_of p o image m is.there s) p.graph (over_session image m s)) takes
 
   pub most_read : (before after : ℕ)
-      → IfSome told (λ image. (z : History) (now : List Element) → IsOver z image o names now recent → TakesAtMostTree (kept_edges o (events_in o.batches) cols) (points_over o recent times) before after)
+      → IfSome told (λ image. (z : History) (now : List Element) → IsOver z image o names now recent → TakesAtMostTree edges (points_over o recent times) before after)
       → IfSome told (λ image. (m : MachineState) → StandsFor p image m → TakesAtMostTree (edges_in m cols) (points_for m times) before after)
   most_read before after most =
-      if_some told (λ image. (z : History) (now : List Element) → IsOver z image o names now recent → TakesAtMostTree (kept_edges o (events_in o.batches) cols) (points_over o recent times) before after)
+      if_some told (λ image. (z : History) (now : List Element) → IsOver z image o names now recent → TakesAtMostTree edges (points_over o recent times) before after)
       (λ image. (m : MachineState) → StandsFor p image m → TakesAtMostTree (edges_in m cols) (points_for m times) before after)
       (λ image f m s.
       subst (λ (ns : List NodeId). TakesAtMostTree (edges_in m cols) ns before after) (points_are p o image m is.there s times inside)
-      (subst (λ (es : List Edge). TakesAtMostTree es (points_over o p.recent times) before after) (edges_are p o image m is.there s cols)
-      (subst (λ es. TakesAtMostTree (kept_edges o (events_in o.batches) cols) (points_over o es times) before after) is.all (f (z_of p o image m is.there s) p.graph (over_session image m s))))) most
+      (subst (λ (es : List Edge). TakesAtMostTree es (points_over o p.recent times) before after) (edges_is ∙ edges_are p o image m is.there s cols)
+      (subst (λ es. TakesAtMostTree edges (points_over o es times) before after) is.all (f (z_of p o image m is.there s) p.graph (over_session image m s))))) most
 
   pub never_damaged : (r : Result Retrieved RetrievalFault)
       → IfErr r (λ f. IfSome told (λ image. (z : History) (now : List Element) → IsOver z image o names now recent → ArePoints z (points_over o recent times) times → IsNoDamage f))

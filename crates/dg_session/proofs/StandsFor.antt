@@ -11,6 +11,7 @@ use Rattle.dg_graph.specs.declared.event.Event.{Event}
 use Rattle.dg_graph.specs.declared.limits.TheConstants.{NAMES_MAX}
 use Rattle.dg_graph.specs.Lines.{ScriptLine}
 use Rattle.dg_graph.specs.Replay.{replay}
+use Rattle.dg_history.specs.declared.params.Params.{Params}
 use Rattle.dg_history.specs.History.{History, are_parameters, events_of, in_range, names_of, span_of}
 use Rattle.dg_index.specs.ImageOfHistory.{IsImageOf, StandsAs}
 use Rattle.dg_index.specs.IndexRecords.{recent_of}
@@ -22,10 +23,11 @@ use Rattle.dg_machine.specs.declared.reply.Refusal.{Refusal}
 use Rattle.dg_machine.specs.declared.reply.Refusal.TheVariants as refusal
 use Rattle.dg_machine.specs.declared.stands.Stands.{Stands}
 use Rattle.dg_machine.specs.Answer.{with_handle}
-use Rattle.dg_machine.specs.MachineState.{MachineState, elements, entry_at, events_in_index, graphs_of, history_in, names_in}
-use Rattle.dg_machine.specs.Needs.{Needs, needs, of, refused, when, earliest}
+use Rattle.dg_machine.specs.MachineState.{MachineState, dependent_on, elements, entry_at, events_in_index, graphs_of, history_in, names_in}
+use Rattle.dg_machine.specs.Needs.{Needs, can_be_held, earliest, is_base, needs, of, refused, when}
 use Rattle.dg_session.proofs.HeldHistory.{count_is, span_is}
-use Rattle.dg_session.specs.HeldIndex.{events_held, span_held}
+use Rattle.dg_session.proofs.OpenedHistory.{behind}
+use Rattle.dg_session.specs.HeldIndex.{events_held, params_held, span_held}
 use Rattle.dg_session.specs.Parts.{Parts}
 use Rattle.dg_session.specs.Session.{StandsFor, WhereBothTold, is_reached, refused_by}
 use Rattle.dg_start.specs.StoredHistory.{KeepsHistory}
@@ -164,9 +166,10 @@ is_of p o image m there s =
 
 -- ---- refusals
 
--- the refusals, by how many events and names there are, by the first and the last instant, and by the handles
-abbrev refusals_of : Bool → Limits → ℕ → Option (ℕ × ℕ) → ℕ → List (ℕ × Stands) → ℕ → ℕ → Needs → List Refusal
-refusals_of there limits events span names table next read n =
+-- the refusals, by the parameters, by how many events and names there are, by the first and the last instant, and by
+-- the handles
+abbrev refusals_of : Bool → Limits → Params → ℕ → Option (ℕ × ℕ) → ℕ → List (ℕ × Stands) → ℕ → ℕ → Needs → List Refusal
+refusals_of there limits params events span names table next read n =
     of n.lines (λ count. when (nat_lt read count) (refusal.ShortBatch read count))
     ++ (when (n.index && not there) refusal.NoIndex
     ++ (of n.parameters (λ p. when there refusal.IndexExists)
@@ -175,8 +178,15 @@ refusals_of there limits events span names table next read n =
     ++ (when (nat_lt 0 n.changes && (nat_lt limits.events (events + n.changes) || nat_lt NAMES_MAX (names + 2 * n.changes))) (refusal.HistoryFull events n.changes)
     ++ (when (list_any (λ t. not (in_range span t)) n.instants) (refusal.OutOfRange span)
     ++ (of n.handle (λ h. when (not (is_some (entry_at h table))) (refusal.UnknownHandle h))
+    ++ (of n.handle (λ h. when (n.overlay && is_base (entry_at h table)) (refusal.NotAnOverlay h))
+    ++ (of n.unused (λ h. of (dependent_on h table) (λ d. refusal.InUse d ∷ []))
+    ++ (of n.node (λ v. when (not (can_be_held params events v)) refusal.UnknownNode)
     ++ (when (nat_lt 0 n.handles && nat_lt LIVE_HANDLES_MAX (length table + n.handles)) (refusal.PoolFull (length table) n.handles)
-    ++ when (nat_lt 0 n.handles && nat_lt (HANDLE_MAX + 1) (next + n.handles)) refusal.HandlesSpent))))))))
+    ++ when (nat_lt 0 n.handles && nat_lt (HANDLE_MAX + 1) (next + n.handles)) refusal.HandlesSpent)))))))))))
+
+held_params : (index : Option History) (image : List ℕ) → StandsAs index image → params_held (option_map opening_of index) ≡ (history_in index).params
+held_params None image h = refl
+held_params (Some z) image h = (behind z h.legal).params
 
 held_events : (index : Option History) (image : List ℕ) → StandsAs index image → events_held (option_map opening_of index) ≡ length (events_in_index index)
 held_events None image h = refl
@@ -192,6 +202,9 @@ there_is p image m s = ap is_some (are_of m.index p s.kept).index_is ∙ is_ther
 pub events_are : (p : Parts) (image : List ℕ) (m : MachineState) → StandsFor p image m → events_held p.index ≡ length (events_in_index m.index)
 events_are p image m s = ap events_held (are_of m.index p s.kept).index_is ∙ held_events m.index image s.image_stands
 
+pub params_are : (p : Parts) (image : List ℕ) (m : MachineState) → StandsFor p image m → params_held p.index ≡ (history_in m.index).params
+params_are p image m s = ap params_held (are_of m.index p s.kept).index_is ∙ held_params m.index image s.image_stands
+
 pub instants_are : (p : Parts) (image : List ℕ) (m : MachineState) → StandsFor p image m → span_held p.index ≡ span_of (events_in_index m.index)
 instants_are p image m s = ap span_held (are_of m.index p s.kept).index_is ∙ held_span m.index image s.image_stands
 
@@ -199,10 +212,11 @@ pub refused_is : (p : Parts) (image : List ℕ) (m : MachineState) (c : Command)
     → refused_by p (length lines) (needs c) ≡ refused m c lines
 refused_is p image m c lines s =
     let there : is_some p.index ≡ is_some m.index = there_is p image m s in
+    let params : params_held p.index ≡ (history_in m.index).params = params_are p image m s in
     let events : events_held p.index ≡ length (events_in_index m.index) = events_are p image m s in
     let span : span_held p.index ≡ span_of (events_in_index m.index) = instants_are p image m s in
     let names : length p.names ≡ length (names_in m.index) = ap length (are_of m.index p s.kept).names_are in
-    λ i. earliest (refusals_of (there i) (s.limits i) (events i) (span i) (names i) (s.table i) (s.next i) (length lines) (needs c))
+    λ i. earliest (refusals_of (there i) (s.limits i) (params i) (events i) (span i) (names i) (s.table i) (s.next i) (length lines) (needs c))
 
 -- the first of these does not hold
 pub passes : (b : Bool) (r : Refusal) (rest : List Refusal) → earliest (when b r ++ rest) ≡ None → (b ≡ false) × (earliest rest ≡ None)

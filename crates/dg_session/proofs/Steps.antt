@@ -1,5 +1,5 @@
 -- How a step comes from what is refused, for every command alike.
-use Rattle.std.proofs.Common.{◌≡◌, ℕ, ◌+◌, ◌++◌, nat_lt, Bool, true, false, List, [], Option, Some, None, Result, Ok, Err, length, refl, sym, ◌∙◌, ap, subst}
+use Rattle.std.proofs.Common.{◌≡◌, ℕ, ◌+◌, ◌++◌, nat_lt, Bool, true, false, List, [], Option, Some, None, Result, Ok, Err, length, refl, sym, ◌∙◌, ap, subst, ◌∷◌}
 use Rattle.std.specs.Prelude.{IfSome, not, is_some, ◌||◌, ◌&&◌, IsErr, IsErrAnd}
 use Rattle.std.specs.List.{list_any}
 use Rattle.std.proofs.lemmas.Bool.{false≢true}
@@ -11,16 +11,16 @@ use Rattle.dg_machine.specs.declared.reply.Refusal.TheVariants as refusal
 use Rattle.dg_machine.specs.declared.reply.Reply.{Reply}
 use Rattle.dg_machine.specs.Answer.{Answered, IsPlannedBy, accepted, answer, answer_by, headed, is_begun, no_memory, is_refusal, store_read}
 use Rattle.dg_machine.specs.CutImage.{IsAccepted}
-use Rattle.dg_machine.specs.MachineState.{MachineState, entry_at}
+use Rattle.dg_machine.specs.MachineState.{MachineState, entry_at, dependent_on}
 use Rattle.dg_history.specs.History.{are_parameters, in_range}
 use Rattle.dg_machine.specs.declared.limits.TheConstants.{HANDLE_MAX, LIVE_HANDLES_MAX}
-use Rattle.dg_machine.specs.Needs.{Needs, earliest, following, is_followed, needs, of, refused, when}
+use Rattle.dg_machine.specs.Needs.{Needs, earliest, following, is_followed, needs, of, refused, when, is_base}
 use Rattle.dg_machine.specs.Planning.{Planned, IsPlanned, no_plan}
 use Rattle.dg_machine.specs.Run.{Step, Answers, Fails_to_read, Lacks_memory}
 use Rattle.dg_machine.specs.Script.{Asked}
 use Rattle.dg_session.proofs.ReadLines.{follows_none}
 use Rattle.dg_session.proofs.StandsFor.{one_image, refused_is, stands_on}
-use Rattle.dg_session.specs.HeldIndex.{events_held, span_held}
+use Rattle.dg_session.specs.HeldIndex.{events_held, span_held, has_node_held}
 use Rattle.dg_session.specs.Parts.{Parts}
 use Rattle.dg_session.specs.declared.halt.Halt.{Halt}
 use Rattle.dg_session.specs.declared.halt.Halt.TheVariants as halt
@@ -99,6 +99,14 @@ of_not_read : {A : Type 0} (x : Option A) (f : A → Bool) (r : A → Refusal) (
 of_not_read None f r rest other more = more
 of_not_read (Some a) f r rest other more = when_not_read (f a) (r a) rest (other a) more
 
+used_not_read : (x : Option ℕ) (f : ℕ → Option ℕ) (rest : List Refusal) → IsNotOfRead (earliest rest) → IsNotOfRead (earliest (of x (λ h. of (f h) (λ d. refusal.InUse d ∷ [])) ++ rest))
+used_not_read None f rest more = more
+used_not_read (Some h) f rest more = by (f h)
+  where
+    by : (d : Option ℕ) → IsNotOfRead (earliest (of d (λ h. refusal.InUse h ∷ []) ++ rest))
+    by None = more
+    by (Some d) = refl
+
 last_not_read : (b : Bool) (r : Refusal) → is_of_read r ≡ false → IsNotOfRead (earliest (when b r))
 last_not_read true r other = other
 last_not_read false r other = tt
@@ -114,8 +122,11 @@ never_read p read n =
     (when_not_read (nat_lt 0 n.changes && is_too_full p n.changes) (refusal.HistoryFull (events_held p.index) n.changes) _ refl
     (when_not_read (list_any (λ t. not (in_range (span_held p.index) t)) n.instants) (refusal.OutOfRange (span_held p.index)) _ refl
     (of_not_read n.handle (λ h. not (is_some (entry_at h p.table))) (λ h. refusal.UnknownHandle h) _ (λ h. refl)
+    (of_not_read n.handle (λ h. n.overlay && is_base (entry_at h p.table)) (λ h. refusal.NotAnOverlay h) _ (λ h. refl)
+    (used_not_read n.unused (λ h. dependent_on h p.table) _
+    (of_not_read n.node (λ v. not (has_node_held p.index v)) (λ v. refusal.UnknownNode) _ (λ v. refl)
     (when_not_read (nat_lt 0 n.handles && nat_lt LIVE_HANDLES_MAX (length p.table + n.handles)) (refusal.PoolFull (length p.table) n.handles) _ refl
-    (last_not_read (nat_lt 0 n.handles && nat_lt (HANDLE_MAX + 1) (p.next + n.handles)) refusal.HandlesSpent refl)))))))))
+    (last_not_read (nat_lt 0 n.handles && nat_lt (HANDLE_MAX + 1) (p.next + n.handles)) refusal.HandlesSpent refl))))))))))))
 
 pub refused_not_read : (p : Parts) (read : ℕ) (n : Needs) (r : Refusal) → refused_by p read n ≡ Some r → is_of_read r ≡ false
 refused_not_read p read n r is = subst IsNotOfRead is (never_read p read n)

@@ -1,5 +1,5 @@
 -- Which damage a refusal names.
-use Rattle.std.specs.Prelude.{◌≡◌, ℕ, List, [], ◌∷◌, Option, Some, Result, IfSome, length, take}
+use Rattle.std.specs.Prelude.{◌≡◌, ℕ, false, List, [], ◌∷◌, Option, Some, Result, IfSome, length, take}
 use Rattle.dg_append.specs.OlderGroups.{IsBatchDamage}
 use Rattle.dg_graph.specs.declared.element.Column.{Column}
 use Rattle.dg_graph.specs.declared.element.Columns.{Columns}
@@ -7,29 +7,33 @@ use Rattle.dg_history.specs.declared.node.Key.{Key}
 use Rattle.dg_index.specs.OpenedIndex.{Opening, events_in}
 use Rattle.dg_machine.specs.declared.command.Command.{Command}
 use Rattle.dg_machine.specs.declared.command.Command.TheVariants as command
+use Rattle.dg_history.specs.declared.node.NodeId.{NodeId}
+use Rattle.dg_machine.specs.Planning.{bases_in}
 use Rattle.dg_machine.specs.declared.reply.Head.{Head}
 use Rattle.dg_machine.specs.declared.reply.Head.TheVariants as head
 use Rattle.dg_machine.specs.declared.reply.Refusal.TheVariants as refusal
 use Rattle.dg_machine.specs.declared.reply.Reply.{Reply}
 use Rattle.dg_retrieval.specs.declared.fault.RetrievalFault.{RetrievalFault}
 use Rattle.dg_retrieval.specs.declared.fault.RetrievalFault.TheVariants as fault
-use Rattle.dg_retrieval.specs.KeptGraph.{kept_edges}
+use Rattle.dg_retrieval.specs.KeptGraph.{index_edges, kept_edges}
 use Rattle.dg_retrieval.specs.Retrieval.{IsFirstDamage}
 use Rattle.dg_session.specs.declared.halt.Halt.{Halt}
 use Rattle.dg_session.specs.HeldIndex.{points_over}
 use Rattle.dg_session.specs.Parts.{Parts}
 use Rattle.dg_session.specs.Reads.{head_of}
 
--- what a command reads records for: the graphs as of instants, in columns; the older children of a batch of so
--- many lines; or nothing
+-- what a command reads records for: the graphs as of instants, in columns; the set of a node, in columns; the older
+-- children of a batch of so many lines; or nothing
 pub data ReadsFor : Type 0 where
   Graphs : List ℕ → Columns → ReadsFor
+  Node_set : NodeId → Columns → ReadsFor
   Batch_of : ℕ → ReadsFor
   Nothing_read : ReadsFor
 
 abbrev pub reads_for : Command → ReadsFor
 reads_for (command.At t cols) = Graphs (t ∷ []) cols
 reads_for (command.Several cols times count) = Graphs (take count times) cols
+reads_for (command.Materialise node cols) = Node_set node cols
 reads_for (command.Load count) = Batch_of count
 reads_for (command.Append count) = Batch_of count
 reads_for c = Nothing_read
@@ -39,7 +43,14 @@ reads_for c = Nothing_read
 abbrev pub NamesDamage : Parts → Option (List ℕ) → List ℕ × Columns → RetrievalFault → Type 0
 NamesDamage old image asked f =
     (o : Opening) × (old.index ≡ Some o)
-    × IfSome image (λ bytes. IsFirstDamage (length old.names) (kept_edges o (events_in o.batches) asked.1) o asked.1 (points_over o old.recent asked.0) bytes f)
+    × IfSome image (λ bytes. IsFirstDamage (length old.names) (kept_edges o (events_in o.batches) asked.1 (bases_in asked.1 old.table)) o asked.1 (points_over o old.recent asked.0) bytes f)
+
+-- Of the set of a node that is not read so: the first damage among the columns that its plan enters, over the records
+-- alone.
+abbrev pub NamesNodeDamage : Parts → Option (List ℕ) → NodeId × Columns → RetrievalFault → Type 0
+NamesNodeDamage old image asked f =
+    (o : Opening) × (old.index ≡ Some o)
+    × IfSome image (λ bytes. IsFirstDamage (length old.names) (index_edges o asked.1 false []) o asked.1 (asked.0 ∷ []) bytes f)
 
 -- Of a batch of so many lines: the damage is the first that the trees of the older children enter, or a delta that
 -- is due is too large.
@@ -50,6 +61,7 @@ NamesBatchDamage old image count key col =
 -- the damage is one that what is read for it meets
 abbrev pub IsMetBy : ReadsFor → Parts → Option (List ℕ) → Key → Column → Type 0
 IsMetBy (Graphs times cols) old image key col = NamesDamage old image (times, cols) (fault.Damaged key col)
+IsMetBy (Node_set node cols) old image key col = NamesNodeDamage old image (node, cols) (fault.Damaged key col)
 IsMetBy (Batch_of count) old image key col = NamesBatchDamage old image count key col
 IsMetBy Nothing_read old image key col = ⊥
 

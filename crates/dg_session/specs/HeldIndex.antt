@@ -1,10 +1,16 @@
 -- What the index that a session keeps tells of its history.
-use Rattle.std.specs.Prelude.{ℕ, List as ListOf, Option, Some, None, map, unwrap_or}
+use Rattle.std.specs.Prelude.{◌≡◌, ℕ, Bool, true, List as ListOf, Option, Some, None, map, unwrap_or}
+use Rattle.std.specs.List.{All}
+use Rattle.dg_graph.specs.declared.function.Function.TheVariants.{Intersection}
 use Rattle.dg_graph.specs.declared.event.Event.{Event}
 use Rattle.dg_history.specs.declared.node.NodeId.{NodeId}
 use Rattle.dg_history.specs.declared.node.NodeId.TheVariants.{Root}
+use Rattle.dg_history.specs.declared.params.Params.{Params}
 use Rattle.dg_index.specs.declared.entry.Ends.{Ends}
 use Rattle.dg_index.specs.OpenedIndex.{Opening, events_in, span_in}
+use Rattle.dg_machine.specs.declared.stands.Stands.{Stands}
+use Rattle.dg_machine.specs.declared.stands.Stands.TheVariants.{Overlay, Base}
+use Rattle.dg_machine.specs.Needs.{can_be_held}
 use Rattle.dg_planner.specs.HistoryLaws.{first_time_in}
 use Rattle.dg_shape.specs.Entries.{Holdings}
 use Rattle.dg_shape.specs.Points.{point_of}
@@ -35,3 +41,24 @@ point_over o recent t = unwrap_or (point_of (catalogue_of o) t (first_time_in re
 -- the nodes of several instants
 abbrev pub points_over : Opening → ListOf Event → ListOf ℕ → ListOf NodeId
 points_over o recent times = map (point_over o recent) times
+
+-- ---- nodes that are held
+
+-- the parameters of the index; without one they mean nothing
+abbrev pub params_held : Option Opening → Params
+params_held None = record { l = 0; k = 0; function = Intersection }
+params_held (Some o) = o.params
+
+-- the index has this leaf or interior node
+abbrev pub has_node_held : Option Opening → NodeId → Bool
+has_node_held index node = can_be_held (params_held index) (events_held index) node
+
+-- there is an index, and it has the node that the handle holds, where it holds one
+abbrev pub HasNodeOf : Option Opening → Stands → Type 0
+HasNodeOf index (Overlay t cols on) = Unit {0}
+HasNodeOf None (Base node cols) = ⊥
+HasNodeOf (Some o) (Base node cols) = has_node_held (Some o) node ≡ true
+
+-- the index has the node of each handle that holds one
+abbrev pub HasNodes : Option Opening → ListOf (ℕ × Stands) → Type 0
+HasNodes index table = All (λ (e : ℕ × Stands). HasNodeOf index e.1) table

@@ -5,7 +5,7 @@ use Rattle.dg_fold.specs.BytesRead.{Takes, TakesAtMost}
 use Rattle.dg_graph.specs.declared.element.Columns.{Columns}
 use Rattle.dg_graph.specs.declared.element.Element.{Element}
 use Rattle.dg_graph.specs.Lines.{ScriptLine}
-use Rattle.dg_handles.specs.Handles.{numbered}
+use Rattle.dg_handles.specs.Handles.{held_by, numbered, overlays_on}
 use Rattle.dg_history.specs.declared.node.NodeId.{NodeId}
 use Rattle.dg_history.specs.declared.node.NodeId.TheVariants.{Root}
 use Rattle.dg_history.specs.History.{events_of}
@@ -18,13 +18,16 @@ use Rattle.dg_machine.specs.declared.reply.Head.TheVariants as head
 use Rattle.dg_machine.specs.declared.reply.Refusal.TheVariants as refusal
 use Rattle.dg_machine.specs.declared.reply.Reply.{Reply}
 use Rattle.dg_machine.specs.declared.stands.Stands.{Stands}
-use Rattle.dg_machine.specs.Answer.{IsPlannedBy, answer, is_refusal, overlays, weight_told}
+use Rattle.dg_machine.specs.declared.stands.Stands.TheVariants.{Base}
+use Rattle.dg_machine.specs.Answer.{IsPlannedBy, answer, is_refusal, weight_told}
 use Rattle.dg_machine.specs.MachineState.{MachineState, elements, history_in}
 use Rattle.dg_machine.specs.Needs.{needs, refused}
 use Rattle.dg_machine.specs.Planning.{Planned, edges_in, points_for, record_edges_in}
 use Rattle.dg_plan.specs.HistoryGraph.{all_columns}
 use Rattle.dg_plan.specs.IndexGraph.{arcs_of}
-use Rattle.dg_plan.specs.Walks.{AreSingles}
+use Rattle.dg_plan.specs.Walks.{AreSingles, IsPlan, weight_of}
+use Rattle.dg_retrieval.specs.declared.graph_lead.GraphLead.{GraphLead}
+use Rattle.dg_retrieval.specs.Beginnings.{base_of}
 use Rattle.dg_retrieval.specs.Retrieval.{IsTreeOf}
 use Rattle.dg_session.specs.declared.halt.Halt.{Halt}
 use Rattle.dg_session.specs.declared.halt.Halt.TheVariants as halt
@@ -39,12 +42,26 @@ with_new p new graphs = record p {
   next = p.next + length new;
 }
 
--- These graphs are those as of the instants, by a tree over the index of this state that weighs so much, beside
--- the weights of the single plans.
-pub record IsRetrieved (m : MachineState) (times : List ℕ) (cols : Columns) (weight : ℕ) (singles : List ℕ) (graphs : List (List Element)) : Type 0 where
-  pub tree : IsTreeOf (edges_in m cols) (points_for m times) weight
+-- the handles on which new graphs rest, where they rest on one
+abbrev pub bases_of : List GraphLead → List (Option ℕ)
+bases_of leads = map (λ (l : GraphLead). base_of l.begins) leads
+
+-- the graph that a handle lists
+abbrev pub listed_by : Parts → ℕ → List Element
+listed_by p handle = held_by p.table p.graphs handle
+
+-- These graphs are those as of the instants, on these bases, by a tree over the index of this state that weighs so
+-- much, beside the weights of the single plans.
+pub record IsRetrieved (m : MachineState) (times : List ℕ) (cols : Columns) (weight : ℕ) (singles : List ℕ) (bases : List (Option ℕ)) (graphs : List (List Element)) : Type 0 where
+  pub tree : IsTreeOf (edges_in m cols) (points_for m times) weight bases
   pub single_plans : AreSingles (arcs_of (edges_in m cols)) (Root ∷ []) (points_for m times) singles
-  pub listed : graphs ≡ map (elements (history_in m.index)) (overlays cols times)
+  pub listed : graphs ≡ map (elements (history_in m.index)) (overlays_on cols times bases)
+
+-- This is what the node has in these columns, by its least plan over the records of the index of this state, which
+-- weighs so much.
+pub record IsNodeHeld (m : MachineState) (node : NodeId) (cols : Columns) (weight : ℕ) (graph : List Element) : Type 0 where
+  pub plan : (steps : List ℕ) × IsPlan (arcs_of (record_edges_in m cols)) (Root ∷ []) node steps × (weight ≡ weight_of (arcs_of (record_edges_in m cols)) steps)
+  pub listed : graph ≡ elements (history_in m.index) (Base node cols)
 
 -- ---- the bytes read
 

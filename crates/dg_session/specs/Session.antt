@@ -1,8 +1,9 @@
 -- How the steps of a session are steps of the machine.
-use Rattle.std.specs.Prelude.{◌≡◌, ℕ, ◌+◌, ◌*◌, Bool, true, false, ◌&&◌, ◌||◌, not, List, [], ◌++◌, Option, Some, None, Result, Ok, Err, IfSome, is_some, length, nat_lt}
+use Rattle.std.specs.Prelude.{◌≡◌, ℕ, ◌+◌, ◌*◌, Bool, true, false, ◌&&◌, ◌||◌, not, List, [], ◌∷◌, ◌++◌, Option, Some, None, Result, Ok, Err, IfSome, is_some, length, nat_lt}
 use Rattle.std.specs.List.{All, list_any}
 use Rattle.dg_graph.specs.declared.limits.TheConstants.{NAMES_MAX}
 use Rattle.dg_graph.specs.Lines.{ScriptLine}
+use Rattle.dg_history.specs.declared.node.NodeId.{NodeId}
 use Rattle.dg_history.specs.History.{History, are_parameters, events_of, span_of, in_range}
 use Rattle.dg_index.specs.ImageOfHistory.{StandsAs}
 use Rattle.dg_machine.specs.declared.command.Command.{Command}
@@ -12,23 +13,25 @@ use Rattle.dg_machine.specs.declared.reply.Refusal.{Refusal}
 use Rattle.dg_machine.specs.declared.reply.Refusal.TheVariants as refusal
 use Rattle.dg_machine.specs.declared.reply.Reply.{Reply}
 use Rattle.dg_machine.specs.declared.stands.Stands.{Stands}
-use Rattle.dg_machine.specs.declared.stands.Stands.TheVariants.{Overlay}
+use Rattle.dg_machine.specs.declared.stands.Stands.TheVariants.{Overlay, Base}
 use Rattle.dg_machine.specs.Answer.{headed, is_refusal}
 use Rattle.dg_machine.specs.CutImage.{IsCut}
-use Rattle.dg_machine.specs.MachineState.{MachineState, entry_at, graphs_of, history_in}
-use Rattle.dg_machine.specs.Needs.{Needs, needs, nothing_more, following, is_writing, when, of, earliest}
+use Rattle.dg_machine.specs.MachineState.{MachineState, dependent_on, entry_at, graphs_of, history_in}
+use Rattle.dg_machine.specs.Needs.{Needs, can_be_held, earliest, following, is_base, is_writing, needs, nothing_more, of, when}
 use Rattle.dg_machine.specs.Run.{Step}
 use Rattle.dg_machine.specs.Script.{Asked, Follows}
 use Rattle.dg_session.specs.declared.halt.Halt.{Halt}
 use Rattle.dg_session.specs.declared.halt.Halt.TheVariants as halt
 use Rattle.dg_session.specs.declared.stop.Stop.TheVariants as stop
 use Rattle.dg_session.specs.Parts.{Parts}
-use Rattle.dg_session.specs.HeldIndex.{events_held, span_held}
+use Rattle.dg_session.specs.HeldIndex.{events_held, has_node_held, span_held}
 use Rattle.dg_start.specs.StoredHistory.{IsHeldBy, KeepsHistory}
 
--- the instant of what a handle stands for is in the history, so that no later event changes it
+-- the instant of what a handle stands for is in the history, or its index has the node, so that no later event
+-- changes it
 abbrev pub is_reached : History → Stands → Bool
 is_reached z (Overlay t cols on) = in_range (span_of (events_of z)) t
+is_reached z (Base node cols) = can_be_held z.params (length (events_of z)) node
 
 -- the session stands for this state of the machine, over the image
 pub record StandsFor (session : Parts) (image : List ℕ) (m : MachineState) : Type 0 where
@@ -83,8 +86,11 @@ refusals_by there p read n =
     ++ (when (nat_lt 0 n.changes && is_too_full p n.changes) (refusal.HistoryFull (events_held p.index) n.changes)
     ++ (when (list_any (λ t. not (in_range (span_held p.index) t)) n.instants) (refusal.OutOfRange (span_held p.index))
     ++ (of n.handle (λ h. when (not (is_some (entry_at h p.table))) (refusal.UnknownHandle h))
+    ++ (of n.handle (λ h. when (n.overlay && is_base (entry_at h p.table)) (refusal.NotAnOverlay h))
+    ++ (of n.unused (λ h. of (dependent_on h p.table) (λ d. refusal.InUse d ∷ []))
+    ++ (of n.node (λ v. when (not (has_node_held p.index v)) refusal.UnknownNode)
     ++ (when (nat_lt 0 n.handles && nat_lt LIVE_HANDLES_MAX (length p.table + n.handles)) (refusal.PoolFull (length p.table) n.handles)
-    ++ when (nat_lt 0 n.handles && nat_lt (HANDLE_MAX + 1) (p.next + n.handles)) refusal.HandlesSpent))))))))
+    ++ when (nat_lt 0 n.handles && nat_lt (HANDLE_MAX + 1) (p.next + n.handles)) refusal.HandlesSpent)))))))))))
 
 -- the first of them that holds
 abbrev pub refused_by : Parts → ℕ → Needs → Option Refusal
@@ -93,6 +99,10 @@ refused_by p read n = earliest (refusals_by (is_some p.index) p read n)
 -- what a retrieval of these instants needs, as so many handles
 abbrev pub retrieval_needs : List ℕ → ℕ → Needs
 retrieval_needs instants handles = record nothing_more { index = true; instants = instants; handles = handles }
+
+-- what the holding of a node needs, as one handle
+abbrev pub node_needs : NodeId → Needs
+node_needs node = record nothing_more { index = true; node = Some node; handles = 1 }
 
 -- The command and these lines are answered so, by no refusal.
 pub record Accepts (command : Command) (got : List ScriptLine) (old : Parts) (before : Option (List ℕ)) (new : Parts) (after : Option (List ℕ)) (reply : Reply) : Type 0 where

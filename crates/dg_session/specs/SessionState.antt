@@ -1,5 +1,6 @@
 -- What a session is seen as.
 use Rattle.std.specs.Prelude.{ℕ, List}
+use Rattle.dg_handles.specs.Handles.{HandlesState}
 use Rattle.dg_pool.specs.Graphs.{PoolState}
 use Rattle.dg_session.specs.Parts.{Parts}
 
@@ -9,3 +10,7 @@ pub record SessionState : Type 0 where
   pub parts : Parts
   pub pool : PoolState
   pub slots : List ℕ
+
+-- the live handles with their slots
+abbrev pub handles_of : SessionState → HandlesState
+handles_of s = record { table = s.parts.table; slots = s.slots; next = s.parts.next }

@@ -1,6 +1,6 @@
 //! Adding a batch to the history of a session, under the graphs of its handles.
 
-ghost use Rattle.std.specs.Prelude.{◌≡◌, ◌≤◌, ℕ, true, IfErr, IfOk, IfSome, IsErrOf, OnOk, is_some, length, take};
+ghost use Rattle.std.specs.Prelude.{◌≡◌, ◌≤◌, ◌<◌, ℕ, true, IfErr, IfOk, IfSome, IsErrOf, OnOk, is_some, length, take};
 ghost use Rattle.dg_append.specs.AddedBatches.{AddsBatch, FailsBatch, IsBack, IsReady, ReadsNothing, TakesOlder};
 ghost use Rattle.dg_disk.specs.Counts.{Rose};
 ghost use Rattle.dg_disk.specs.Frame.{GoesOn};
@@ -8,6 +8,7 @@ ghost use Rattle.dg_handles.specs.Handles.{IsTied};
 ghost use Rattle.dg_history.specs.declared.limits.TheConstants.{FILE_BYTES_MAX};
 ghost use Rattle.dg_pool.specs.Graphs.{graph_now, slot_graph};
 ghost use Rattle.dg_session.specs.BatchCommand.{HandlesStay};
+ghost use Rattle.dg_session.specs.HeldIndex.{HasNodes};
 ghost use Rattle.dg_start.specs.StoredHistory.{IsHeldBy, IsSoundHistory, index_opening};
 
 use crate::batch_lines::BatchLines;
@@ -40,7 +41,8 @@ pub fn add_changes<R: Threads, D: Disk>(
     requires limit { limit ≤ FILE_BYTES_MAX }
     requires image { IfSome (D.image disk.old) (λ image. IsHeldBy (index_opening history.old.index) (take known history.old.names) image) }
     requires pool { graph_now pool.old ≡ history.old.now.graph }
-    requires tied { IsTied pool.old handles.old.slots }
+    requires tied { IsTied pool.old handles.old }
+    requires nodes { HasNodes (index_opening history.old.index) handles.old.table }
     // what is added, or why nothing is
     ensures adds { IfOk result (λ added. IfSome (index_opening history.old.index) (λ o.
         AddsBatch o limit known history.old history.new (D.image disk.old) (D.image disk.new) batch.now.changes.items batch.now.front added)) }
@@ -50,7 +52,8 @@ pub fn add_changes<R: Threads, D: Disk>(
     ensures sound { IsSoundHistory (index_opening history.new.index) history.new.names history.new.now history.new.recent.items }
     // the pool and the handles
     ensures pool { graph_now pool.new ≡ history.new.now.graph }
-    ensures tied { IsTied pool.new handles.new.slots }
+    ensures tied { IsTied pool.new handles.new }
+    ensures nodes { HasNodes (index_opening history.new.index) handles.new.table }
     ensures handles { OnOk result (handles.new ≡ handles.old) }
     ensures graphs { OnOk result ((s : ℕ) → slot_graph pool.new s ≡ slot_graph pool.old s) }
     ensures handles_back { IfErr result (λ fault. HandlesStay fault handles.old handles.new pool.old pool.new) }
@@ -66,6 +69,7 @@ pub fn add_changes<R: Threads, D: Disk>(
     ensures disk { GoesOn D.image D.faults D.write_faults disk.old disk.new }
 {
     law_tie_is_kept();
+    have_lists(history);
     let BatchLines { front, changes, .. } = batch;
     match add_batch(
         rt, alloc, limit, known, *front, changes, history, pool, disk,
@@ -78,5 +82,14 @@ pub fn add_changes<R: Threads, D: Disk>(
             Err(BatchFault::Store)
         }
         Err(fault) => Err(fault),
+    }
+}
+
+// The lists of an index have events. Does nothing.
+fn have_lists(history: &StoredHistory)
+    ensures { IfSome (index_opening history.entry.now.index) (λ o. 0 < o.params.l) }
+{
+    if let Some(index) = &history.index {
+        index.facts();
     }
 }

@@ -1,25 +1,29 @@
 //! The plans over the index of a session: the graph in which they are made, the node of an instant, and
 //! what is said of them.
 
-ghost use Rattle.std.specs.Prelude.{◌≡◌, ◌≤◌, true, ◌++◌, Some, length, slice_get, IfOk, OnOk};
+ghost use Rattle.std.specs.Prelude.{◌≡◌, ℕ, ◌≤◌, ◌<◌, ◌*◌, ◌^◌, true, false, List, [], ◌++◌, Some, length, nat_le, slice_get, IfOk, OnOk};
 ghost use Rattle.dg_history.specs.declared.limits.TheConstants.{BATCH_LINES_MAX};
 ghost use Rattle.dg_history.specs.History.{in_range};
 ghost use Rattle.dg_index.specs.OpenedIndex.{events_in};
 ghost use Rattle.dg_machine.specs.Answer.{potential_lines, step_lines};
 ghost use Rattle.dg_plan.specs.CertificateLines.{judged};
 ghost use Rattle.dg_planner.specs.HistoryLaws.{first_time_in};
-ghost use Rattle.dg_retrieval.specs.KeptGraph.{kept_edges, kept_nodes, shape_with};
-ghost use Rattle.dg_session.specs.HeldIndex.{point_over, span_held};
+ghost use Rattle.dg_history.specs.declared.node.NodeId.{NodeId};
+ghost use Rattle.dg_plan.specs.IndexGraph.{nodes_of};
+ghost use Rattle.dg_retrieval.specs.KeptGraph.{index_edges, index_ground, kept_edges, kept_nodes, shape_with};
+ghost use Rattle.dg_session.specs.HeldIndex.{HasNodes, has_node_held, point_over, span_held};
+ghost use Rattle.dg_session.specs.KeptPlanner.{IsGraphFor};
 ghost use Rattle.dg_session.specs.Plans.{IsPlanReply};
 
 use dg_certify::certify;
 use dg_file::Index;
 use dg_graph::{Columns, Event};
+use dg_handles::Handles;
 use dg_history::{NodeId, Params};
 use dg_machine::{BodyLine, BodyLines, Head, Reply};
 use dg_path::Route;
 use dg_plan::{Edge, PlanLine, Verdict};
-use dg_planner::Planner;
+use dg_planner::{Planner, law_nodes_are_listed};
 use dg_shape::Shape;
 use std::alloc::{AllocError, Global};
 
@@ -31,15 +35,64 @@ pub fn shape_of(index: &Index, events: u64) -> Shape
     Shape { l, k, events }
 }
 
-/// The graph of an index, for the asked columns.
-pub fn planner_of(alloc: Global, index: &Index, cols: Columns) -> Result<Planner, AllocError>
-    ensures nodes { IfOk result (λ p. p.nodes ≡ kept_nodes index.now.opening (events_in index.now.opening.batches) cols) }
-    ensures edges { IfOk result (λ p. p.edges ≡ kept_edges index.now.opening (events_in index.now.opening.batches) cols) }
+// Whether so many nodes of the height, of this arity, have no more than so many leaves below them.
+fn have_leaves(arity: u64, leaves: u64, height: u32, count: u32) -> bool
+    requires arity { (2 ≤ arity) × (arity ≤ 64) }
+    requires leaves { leaves < 2 ^ 32 }
+    requires some { 1 ≤ count }
+    ensures { result ≡ nat_le (count * arity ^ height) leaves }
+{
+    let mut width = u64::from(count);
+    for _ in 0..height {
+        if width > leaves {
+            return false;
+        }
+        width *= arity;
+    }
+    width <= leaves
+}
+
+/// Whether the index has this node, and it is a leaf or an interior node. Takes no memory.
+pub fn has_node(index: &Index, node: NodeId) -> bool
+    ensures { result ≡ has_node_held (Some index.now.opening) node }
 {
     index.facts();
+    let Params { l, k, .. } = index.params();
+    let leaves = index.events_len() / u64::from(l);
+    match node {
+        NodeId::Leaf(j) => 1 <= j && u64::from(j) <= leaves,
+        NodeId::Inner(h, j) => 1 <= h && 1 <= j && have_leaves(u64::from(k), leaves, h, j),
+        NodeId::Root | NodeId::Now | NodeId::Recent | NodeId::List(_) => false,
+    }
+}
+
+/// The graph of an index, for the asked columns, with the handles that can serve. The index has the nodes that
+/// handles hold.
+pub fn planner_of(
+    alloc: Global,
+    index: &Index,
+    handles: &Handles,
+    cols: Columns,
+) -> Result<Planner, AllocError>
+    requires nodes { HasNodes (Some index.now.opening) handles.now.table }
+    ensures graph { IfOk result (λ p. IsGraphFor index.now.opening handles.now.table cols p) }
+{
+    index.facts();
+    law_nodes_are_listed();
     let events = index.events_len();
     let shape = shape_of(index, events);
-    Planner::new(alloc, shape, index.catalogue(), cols, &[], events > 0)
+    let bases = handles.bases(alloc, cols)?;
+    Planner::new(alloc, shape, index.catalogue(), cols, &bases, events > 0)
+}
+
+/// The graph of the records of an index alone, for the asked columns.
+pub fn record_planner(alloc: Global, index: &Index, cols: Columns) -> Result<Planner, AllocError>
+    ensures nodes { IfOk result (λ p. p.nodes ≡ nodes_of (index_ground index.now.opening cols false [])) }
+    ensures edges { IfOk result (λ p. p.edges ≡ index_edges index.now.opening cols false []) }
+{
+    index.facts();
+    let shape = shape_of(index, index.events_len());
+    Planner::new(alloc, shape, index.catalogue(), cols, &[], false)
 }
 
 // The instant of the first of the events, where there is one.
@@ -122,19 +175,21 @@ fn plan_lines(
 }
 
 /// The reply with the least plan of the instant `t`, which is in the history, for the asked columns, over the index
-/// and its recent events.
+/// and its recent events, by a planner with these bases.
 pub fn plan_reply(
     alloc: Global,
+    planner: &Planner,
     index: &Index,
     recent: &[Event],
     t: u64,
     cols: Columns,
 ) -> Result<Reply, AllocError>
     requires there { in_range (span_held (Some index.now.opening)) t ≡ true }
-    ensures { IfOk result (λ reply. IsPlanReply index.now.opening recent.now t cols reply) }
+    requires nodes { planner.now.nodes ≡ kept_nodes index.now.opening (events_in index.now.opening.batches) cols }
+    ensures { IfOk result (λ reply. (bases : List (ℕ × NodeId)) → planner.now.edges ≡ kept_edges index.now.opening (events_in index.now.opening.batches) cols bases
+        → IsPlanReply index.now.opening recent.now bases t cols reply) }
 {
     index.facts();
-    let planner = planner_of(alloc, index, cols)?;
     let nodes = planner.nodes(alloc)?;
     let route = planner.plan(alloc, point_of(index, recent, t))?;
     let lines = plan_lines(alloc, planner.edges(), &nodes, &route)?;
@@ -147,24 +202,20 @@ pub fn plan_reply(
     })
 }
 
-/// What is said of the certificate that the lines write for the instant `t`, for the asked columns, over the index
-/// and its recent events. `None` is a line in no form.
+/// What is said of the certificate that the lines write for the instant `t`, in the graph of the planner, over the
+/// index and its recent events. `None` is a line in no form.
 pub fn judge(
     alloc: Global,
+    planner: &Planner,
     index: &Index,
     recent: &[Event],
     t: u64,
-    cols: Columns,
     lines: &[Option<PlanLine>],
 ) -> Result<Verdict, AllocError>
     requires there { in_range (span_held (Some index.now.opening)) t ≡ true }
     requires few_lines { length lines.now ≤ BATCH_LINES_MAX }
-    ensures { IfOk result (λ verdict. verdict ≡ judged
-        (kept_edges index.now.opening (events_in index.now.opening.batches) cols)
-        (kept_nodes index.now.opening (events_in index.now.opening.batches) cols)
-        (point_over index.now.opening recent.now t) lines.now) }
+    ensures { IfOk result (λ verdict. verdict ≡ judged planner.now.edges planner.now.nodes (point_over index.now.opening recent.now t) lines.now) }
 {
-    let planner = planner_of(alloc, index, cols)?;
     let nodes = planner.nodes(alloc)?;
     let target = point_of(index, recent, t);
     certify(alloc, planner.edges(), &nodes, target, lines)

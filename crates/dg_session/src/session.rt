@@ -1,63 +1,74 @@
 ghost use Rattle.std.specs.Prelude.{◌≡◌, ◌⊎◌, ℕ, ◌+◌, ◌<◌, ◌≤◌, IfErr, IfSome, IsErrOf, OnErr, OnOk, List, [], ◌∷◌, ◌++◌, Ok, Option, None, Some, is_some, true, false, not, length, map, take, IfOk};
-ghost use Rattle.std.specs.List.{list_any, sum};
+ghost use Rattle.std.specs.List.{All, list_any, sum};
 ghost use Rattle.dg_disk.specs.Counts.{Rose as DiskRose};
 ghost use Rattle.dg_disk.specs.Frame.{GoesOn, OnlyReads, ReadsAndSyncs};
-ghost use Rattle.dg_fold.specs.BytesRead.{Takes};
+ghost use Rattle.dg_fold.specs.BytesRead.{Takes, TakesAtMost};
 ghost use Rattle.dg_io.specs.Frame.{Advances};
 ghost use Rattle.dg_io.specs.Told.{CountRose};
 ghost use Rattle.dg_io.specs.LinesState.{told, NeedsByte};
-ghost use Rattle.dg_handles.specs.Handles.{IsTied, graph_among, graphs_at};
+ghost use Rattle.dg_handles.specs.Handles.{BeginsOn, IsTied, graph_among, graphs_at, overlays_on};
 ghost use Rattle.dg_history.specs.declared.limits.TheConstants.{BATCH_LINES_MAX, EVENTS_MAX};
+ghost use Rattle.dg_graph.specs.Composition.{applied};
+ghost use Rattle.dg_graph.specs.Elements.{shown};
 ghost use Rattle.dg_graph.specs.Lines.{ScriptLine};
 ghost use Rattle.dg_graph.specs.Replay.{replay_from};
 ghost use Rattle.dg_machine.specs.declared.command.TheConstants.{TIMES_MAX};
 ghost use Rattle.dg_machine.specs.declared.limits.TheConstants.{HANDLE_MAX, LIVE_HANDLES_MAX};
-ghost use Rattle.dg_machine.specs.Answer.{headed, is_refusal, overlays};
+ghost use Rattle.dg_machine.specs.Answer.{headed, is_refusal};
 ghost use Rattle.dg_machine.specs.CommandGrammar.{CountIsInRange};
-ghost use Rattle.dg_machine.specs.Needs.{following, is_writing, needs};
+ghost use Rattle.dg_machine.specs.declared.stands.Stands.TheVariants as Stands;
+ghost use Rattle.dg_machine.specs.Needs.{following, is_base, is_writing, needs};
 ghost use Rattle.dg_history.specs.History.{History, are_parameters, in_range};
 ghost use Rattle.dg_index.specs.ImageOfHistory.{IsImageOf, StandsAs};
 ghost use Rattle.dg_index.specs.OpenedIndex.{opened_of};
 ghost use Rattle.dg_machine.specs.MachineState.{IsWithin, MachineState, entry_at, machine_at};
-ghost use Rattle.dg_machine.specs.Planning.{edges_in, points_for};
+ghost use Rattle.dg_history.specs.declared.node.NodeId.TheVariants.{Root};
+ghost use Rattle.dg_plan.specs.IndexGraph.{arcs_of};
+ghost use Rattle.dg_plan.specs.Walks.{IsPlan, weight_of};
+ghost use Rattle.dg_machine.specs.Planning.{edges_in, points_for, record_edges_in};
 ghost use Rattle.dg_machine.specs.Run.{is_store_read};
 ghost use Rattle.dg_pool.specs.Graphs.{graph_now, slot_graph};
-ghost use Rattle.dg_retrieval.specs.Graphs.{led_from};
+ghost use Rattle.dg_retrieval.specs.Beginnings.{led_to};
 ghost use Rattle.dg_retrieval.specs.Retrieval.{IsNoDamage, TakesAtMostTree};
 ghost use Rattle.dg_session.specs.BatchCommand.{barred, command_with};
 ghost use Rattle.dg_session.specs.HeldIndex.{events_held, span_held};
-ghost use Rattle.dg_session.specs.Damage.{DamageIn, DamageIs, NamesDamage};
-ghost use Rattle.dg_session.specs.Reads.{IsRetrieved, Reads, ReadsIn, with_new};
-ghost use Rattle.dg_session.specs.Session.{ComesTo, StandsFor, Steps, Stops, TakesLines, is_too_full, refused_by, retrieval_needs};
+ghost use Rattle.dg_session.specs.Damage.{DamageIn, DamageIs, NamesDamage, NamesNodeDamage};
+ghost use Rattle.dg_session.specs.Parts.{Parts};
+ghost use Rattle.dg_session.specs.Reads.{IsNodeHeld, IsRetrieved, Reads, ReadsIn, bases_of, listed_by, with_new};
+ghost use Rattle.dg_session.specs.Session.{ComesTo, StandsFor, Steps, Stops, TakesLines, is_too_full, node_needs, refused_by, retrieval_needs};
+ghost use Rattle.dg_session.specs.SessionState.{handles_of};
 ghost use Rattle.dg_session.specs.SessionStart.{IsNew};
 ghost use Rattle.dg_session.specs.Sweeps.{SweepsNothing, SweepsPool};
 ghost use Rattle.dg_start.specs.SessionStart.{PlansLastLeaf, RefusesStart, Starts, start_bytes};
-ghost use Rattle.dg_start.specs.StoredHistory.{IsHeldBy, started_with};
+ghost use Rattle.dg_start.specs.StoredHistory.{IsHeldBy, index_opening, started_with};
 ghost use Rattle.dg_session.specs.declared.stop.Stop.TheVariants as stop;
 
 use crate::adding::add_changes;
 use crate::batch_command::BatchCommand;
 use crate::batch_lines::read_batch;
 use crate::halt::Halt;
+use crate::kept_planner::KeptPlanner;
 use crate::plan_lines::read_plan_lines;
-use crate::planning::{judge, plan_reply};
+use crate::planning::{has_node, judge, plan_reply};
 use crate::queries::{neighbours_reply, node_reply};
 use crate::record_listing::tree_reply;
-use crate::retrieving::{handle_lines, leads_at};
+use crate::retrieving::{handle_lines, leads_at, node_lead};
 use crate::snapshot::{listing, span};
 use crate::stop::Stop;
+use dg_delta::Delta;
 use dg_disk::Disk;
 use dg_file::Index;
 use dg_graph::{Columns, Event, NAMES_MAX};
 use dg_handles::{Handles, law_tie_is_kept, law_union_of_handles};
-use dg_history::{ARITY_MAX, ARITY_MIN, LEAF_MAX, LEAF_MIN, Params};
+use dg_history::{ARITY_MAX, ARITY_MIN, LEAF_MAX, LEAF_MIN, NodeId, Params};
 use dg_io::{Lines, Source};
 use dg_machine::{
-    BodyLines, Command, HANDLE_MAX, Head, LIVE_HANDLES_MAX, Limits, Refusal, Reply, TIMES_MAX,
+    BodyLines, Command, HANDLE_MAX, Head, LIVE_HANDLES_MAX, Limits, Refusal, Reply, Stands,
+    TIMES_MAX,
 };
 use dg_names::Names;
 use dg_pool::Pool;
-use dg_retrieval::{Lead, RetrievalFault, Retrieved};
+use dg_retrieval::{GraphLead, NodeLead, RetrievalFault, Retrieved};
 use dg_set::Set;
 use dg_start::{OpenedFile, StartFault, StoredHistory, open};
 use dg_view::View;
@@ -75,6 +86,7 @@ pub struct Session {
     history: StoredHistory,
     pool: Pool,
     handles: Handles,
+    planner: KeptPlanner,
     alloc: Global,
 }
 
@@ -83,6 +95,8 @@ impl Model for Session {
     ghost use Rattle.dg_handles.specs.Handles.{IsTied, graphs_at};
     ghost use Rattle.dg_machine.specs.MachineState.{IsWithin};
     ghost use Rattle.dg_pool.specs.Graphs.{graph_now};
+    ghost use Rattle.dg_session.specs.HeldIndex.{HasNodes};
+    ghost use Rattle.dg_session.specs.KeptPlanner.{IsKeptFor};
     ghost use Rattle.dg_session.specs.SessionState.{SessionState};
     ghost use Rattle.dg_start.specs.StoredHistory.{IsSoundHistory, index_opening};
 
@@ -107,7 +121,9 @@ impl Model for Session {
         IsWithin s.limits
         × IsSoundHistory (index_opening s.history.index) s.history.names s.history.now s.history.recent.items
         × (graph_now s.pool ≡ s.history.now.graph)
-        × IsTied s.pool s.handles.slots };
+        × IsTied s.pool s.handles
+        × HasNodes (index_opening s.history.index) s.handles.table
+        × IsKeptFor (index_opening s.history.index) s.handles.table s.planner };
 }
 
 impl Session {
@@ -152,6 +168,7 @@ impl Session {
             history,
             pool,
             handles,
+            planner: KeptPlanner::new(),
             alloc,
         })
     }
@@ -169,23 +186,24 @@ impl Session {
         ensures pool { result.now ≡ self.now.pool }
         ensures now { graph_now result.now ≡ self.now.parts.graph }
         ensures graphs { graphs_at result.now self.now.slots ≡ self.now.parts.graphs }
-        ensures tied { IsTied result.now self.now.slots }
+        ensures tied { IsTied result.now (handles_of self.now) }
     {
         &self.pool
     }
 
     /// Carries out the command, and answers it. A load and an append read the lines that follow them,
     /// whatever the answer is. A reply that is a refusal leaves what the session keeps, the graphs of its
-    /// handles among it, and the disk's image as they were. Only a retrieval and a batch are refused for damage: a retrieval for the first column that its tree
-    /// enters and that is in no spelling, a batch for the first that the trees of the older children of the interior
-    /// nodes that it completes enter.
+    /// handles among it, and the disk's image as they were. Only what reads records is refused for damage: a retrieval
+    /// for the first column that its tree enters and that is in no spelling, a node that is to be held for the first that
+    /// its plan enters, a batch for the first that the trees of the older children of the interior nodes that it completes
+    /// enter.
     ///
     /// `Stop::Read` where a read of the source failed, `Stop::Limit` where another byte is needed and
     /// as many as the limit allows were taken: the session is then as it was. `Stop::Store` where the
     /// disk failed while an index was made or a batch was added, which a command that is refused does
     /// not come to: the image is then as before the command or as after it, and the session may have no
     /// index.
-    pub fn step<R: Threads, S: Source, D: Disk>(
+    pub fn step<R: Threads + Sync, S: Source, D: Disk>(
         &mut self,
         rt: &R,
         command: &Command,
@@ -232,7 +250,7 @@ impl Session {
     }
 
     // Carries out the command.
-    fn carry_out<R: Threads, S: Source, D: Disk>(
+    fn carry_out<R: Threads + Sync, S: Source, D: Disk>(
         &mut self,
         rt: &R,
         command: &Command,
@@ -276,6 +294,7 @@ impl Session {
             Command::Several { cols, times, count } => {
                 self.several(rt, cols, times, count, disk)
             }
+            Command::Materialise { node, cols } => self.materialise(rt, node, cols, disk),
             Command::List { handle } => self.list(handle),
             Command::Counts { handle } => self.counts(handle),
             Command::Node { handle, id } => self.node(handle, id),
@@ -345,6 +364,7 @@ impl Session {
             return Err(Halt::Refusal(refusal));
         }
         let index = Index::create(self.alloc, disk, params)?;
+        self.planner.forget();
         self.history.index = Some(index);
         Ok(headed(self.alloc, Head::Created))
     }
@@ -417,6 +437,7 @@ impl Session {
             lines,
             source,
         )?;
+        self.planner.forget();
         let added = add_changes(
             rt,
             self.alloc,
@@ -440,20 +461,6 @@ impl Session {
             Some(index) => Ok(index),
             None => Err(Refusal::NoIndex),
         }
-    }
-
-    // The index, where the instant `t` is in its history, or why nothing is asked of the instant.
-    fn index_at(&self, t: u64) -> Result<&Index, Refusal>
-        ensures index { IfOk result (λ index. self.now.parts.index ≡ Some index.now.opening) }
-        ensures there { IfOk result (λ index. in_range (span_held (Some index.now.opening)) t ≡ true) }
-        ensures refused { IfErr result (λ refusal. (handles : ℕ) → refused_by self.now.parts 0 (retrieval_needs (t ∷ []) handles) ≡ Some refusal) }
-    {
-        let index = self.index()?;
-        let ends = span(index);
-        if !in_range(ends, t) {
-            return Err(Refusal::OutOfRange(ends));
-        }
-        Ok(index)
     }
 
     // Why no graphs as of these instants are retrieved, each as a new handle.
@@ -493,7 +500,8 @@ impl Session {
         requires image { IfSome (D.image disk.old) (λ image. IsHeldBy self.old.parts.index self.old.parts.names image) }
         // what is retrieved
         ensures retrieved { IfOk result (λ r. IfSome (D.image disk.old) (λ image. (m : MachineState) → StandsFor self.old.parts image m
-            → IsRetrieved m times.now cols r.weight r.singles.items (map (led_from self.old.parts.graph cols) r.leads.items))) }
+            → IsRetrieved m times.now cols r.weight r.singles.items (bases_of r.leads.items) (map (led_to self.old.parts.graph (listed_by self.old.parts) cols) r.leads.items))) }
+        ensures bases { IfOk result (λ r. All (BeginsOn self.old.parts.table cols) r.leads.items) }
         ensures count { IfOk result (λ r. length r.leads.items ≡ length times.now) }
         ensures sum { IfOk result (λ r. r.sum ≡ sum r.singles.items) }
         // the bytes read
@@ -512,6 +520,9 @@ impl Session {
         let Some(index) = &mut self.history.index else {
             unreachable!()
         };
+        // Its clause says what the handles hold that can serve.
+        self.handles.facts();
+        self.planner.keep(self.alloc, index, &self.handles, cols)?;
         leads_at(
             rt,
             self.alloc,
@@ -519,6 +530,7 @@ impl Session {
             disk,
             self.history.names.len(),
             &self.history.recent,
+            self.planner.planner(cols),
             times,
             cols,
         )
@@ -529,12 +541,13 @@ impl Session {
         &mut self,
         cols: Columns,
         times: &[u64],
-        leads: &[Lead],
+        leads: &[GraphLead],
     ) -> Result<(), AllocError>
+        requires bases { All (BeginsOn self.old.parts.table cols) leads.now }
         requires room { length self.old.parts.table + length times.now ≤ LIVE_HANDLES_MAX }
         requires numbers { self.old.parts.next + length times.now ≤ HANDLE_MAX + 1 }
         requires leads { length leads.now ≡ length times.now }
-        ensures added { OnOk result (self.new.parts ≡ with_new self.old.parts (overlays cols times.now) (map (led_from self.old.parts.graph cols) leads.now)) }
+        ensures added { OnOk result (self.new.parts ≡ with_new self.old.parts (overlays_on cols times.now (bases_of leads.now)) (map (led_to self.old.parts.graph (listed_by self.old.parts) cols) leads.now)) }
         ensures err { OnErr result (self.new.parts ≡ self.old.parts) }
     {
         self.handles.add(&mut self.pool, cols, times, leads)
@@ -602,6 +615,102 @@ impl Session {
         })
     }
 
+    // Why no node is held as a new handle.
+    fn refused_node(&self, node: NodeId) -> Option<Refusal>
+        ensures { result ≡ refused_by self.now.parts 0 (node_needs node) }
+    {
+        let Some(index) = &self.history.index else {
+            return Some(Refusal::NoIndex);
+        };
+        if !has_node(index, node) {
+            return Some(Refusal::UnknownNode);
+        }
+        let live = self.handles.live();
+        if (live + 1) as usize > LIVE_HANDLES_MAX {
+            return Some(Refusal::PoolFull(live, 1));
+        }
+        if self.handles.next() + 1 > u64::from(HANDLE_MAX) + 1 {
+            return Some(Refusal::HandlesSpent);
+        }
+        None
+    }
+
+    // What leads to the set of a node in these columns, by the records alone.
+    fn lead_to_node<R: Threads + Sync, D: Disk>(
+        &mut self,
+        rt: &R,
+        node: NodeId,
+        cols: Columns,
+        disk: &mut D,
+    ) -> Result<NodeLead, RetrievalFault>
+        requires free { refused_by self.old.parts 0 (node_needs node) ≡ None }
+        requires image { IfSome (D.image disk.old) (λ image. IsHeldBy self.old.parts.index self.old.parts.names image) }
+        // what is led to
+        ensures held { IfOk result (λ r. IfSome (D.image disk.old) (λ image. (m : MachineState) → StandsFor self.old.parts image m
+            → IsNodeHeld m node cols r.weight (shown (applied r.delta []) cols))) }
+        // the bytes read
+        ensures takes { IfOk result (λ r. IfSome (D.image disk.old) (λ image. (m : MachineState) → StandsFor self.old.parts image m
+            → Takes r.weight (D.taken disk.old) (D.taken disk.new))) }
+        ensures most { IfSome (D.image disk.old) (λ image. (m : MachineState) → StandsFor self.old.parts image m
+            → (steps : List ℕ) → IsPlan (arcs_of (record_edges_in m cols)) (Root ∷ []) node steps
+            → TakesAtMost (weight_of (arcs_of (record_edges_in m cols)) steps) (D.taken disk.old) (D.taken disk.new)) }
+        // why nothing is
+        ensures cause { IsErrOf result RetrievalFault.Disk → DiskRose (D.faults disk.old) (D.faults disk.new) }
+        ensures damage { IfErr result (λ fault. NamesNodeDamage self.old.parts (D.image disk.old) (node, cols) fault) }
+        ensures never { IfErr result (λ fault. IfSome (D.image disk.old) (λ image. (m : MachineState) → StandsFor self.old.parts image m → IsNoDamage fault)) }
+        // what it leaves
+        ensures same { self.new ≡ self.old }
+        ensures disk { OnlyReads D.image D.faults D.write_faults disk.old disk.new }
+    {
+        let Some(index) = &mut self.history.index else {
+            unreachable!()
+        };
+        node_lead(
+            rt,
+            self.alloc,
+            index,
+            disk,
+            self.history.names.len(),
+            node,
+            cols,
+        )
+    }
+
+    // A new handle that holds what the delta leads to from nothing: the set of the node in these columns.
+    fn add_base(&mut self, node: NodeId, cols: Columns, delta: &Delta) -> Result<(), AllocError>
+        requires free { refused_by self.old.parts 0 (node_needs node) ≡ None }
+        ensures added { OnOk result (self.new.parts ≡ with_new self.old.parts (Stands.Base node cols ∷ []) (shown (applied delta.now []) cols ∷ [])) }
+        ensures err { OnErr result (self.new.parts ≡ self.old.parts) }
+    {
+        self.planner.forget();
+        self.handles.add_base(&mut self.pool, node, cols, delta)
+    }
+
+    // A new handle that holds the set of a leaf or an interior node in these columns.
+    fn materialise<R: Threads + Sync, D: Disk>(
+        &mut self,
+        rt: &R,
+        node: NodeId,
+        cols: Columns,
+        disk: &mut D,
+    ) -> Result<Reply, Halt>
+        requires image { IfSome (D.image disk.old) (λ image. IsHeldBy self.old.parts.index self.old.parts.names image) }
+        ensures comes { ComesTo (Command.Materialise node cols) [] self.old.parts (D.image disk.old) self.new.parts (D.image disk.new) result }
+        ensures no_stop { (stop : Stop) → result ≡ Err (Halt.Stop stop) → ⊥ }
+        ensures store_read { IsErrOf result (Halt.Refusal Refusal.StoreRead) → DiskRose (D.faults disk.old) (D.faults disk.new) }
+        ensures damaged { DamageIn (Command.Materialise node cols) self.old.parts (D.image disk.old) result }
+        ensures reads { ReadsIn (Command.Materialise node cols) self.old.parts (D.image disk.old) result (D.taken disk.old) (D.taken disk.new) }
+        ensures disk { OnlyReads D.image D.faults D.write_faults disk.old disk.new }
+    {
+        if let Some(refusal) = self.refused_node(node) {
+            return Err(Halt::Refusal(refusal));
+        }
+        let NodeLead { delta, weight } = self.lead_to_node(rt, node, cols, disk)?;
+        let handle = self.handles.next() as u32;
+        self.add_base(node, cols, &delta)?;
+        Ok(headed(self.alloc, Head::Materialised { handle, weight }))
+    }
+
     // The elements of a handle.
     fn list(&self, handle: u32) -> Result<Reply, Halt>
         ensures comes { (image : Option (List ℕ)) → ComesTo (Command.List handle) [] self.now.parts image self.now.parts image result }
@@ -640,12 +749,26 @@ impl Session {
         Ok(headed(self.alloc, Head::Counts { handle, counts }))
     }
 
+    // The graph of a handle that stands for an instant, or why no node of it is asked for.
+    fn overlay_of(&self, handle: u32) -> Result<View<'_>, Refusal>
+        ensures graph { IfOk result (λ graph. graph_among handle self.now.parts.table self.now.parts.graphs ≡ Some graph) }
+        ensures live { OnOk result (is_some (entry_at handle self.now.parts.table) ≡ true) }
+        ensures overlay { OnOk result (is_base (entry_at handle self.now.parts.table) ≡ false) }
+        ensures refused { IfErr result (λ refusal. (id : ℕ) → refused_by self.now.parts 0 (needs (Command.Node handle id)) ≡ Some refusal) }
+    {
+        let graph = self.graph_of(handle)?;
+        if matches!(self.handles.stands(handle), Some(Stands::Base { .. })) {
+            return Err(Refusal::NotAnOverlay(handle));
+        }
+        Ok(graph)
+    }
+
     // A node of a handle's graph, with its degree and its attributes.
     fn node(&self, handle: u32, id: u64) -> Result<Reply, Halt>
         ensures comes { (image : Option (List ℕ)) → ComesTo (Command.Node handle id) [] self.now.parts image self.now.parts image result }
         ensures no_stop { (stop : Stop) → result ≡ Err (Halt.Stop stop) → ⊥ }
     {
-        let node = self.graph_of(handle)?.node(self.alloc, id)?;
+        let node = self.overlay_of(handle)?.node(self.alloc, id)?;
         Ok(node_reply(self.alloc, handle, id, node)?)
     }
 
@@ -654,7 +777,7 @@ impl Session {
         ensures comes { (image : Option (List ℕ)) → ComesTo (Command.Neighbours handle id) [] self.now.parts image self.now.parts image result }
         ensures no_stop { (stop : Stop) → result ≡ Err (Halt.Stop stop) → ⊥ }
     {
-        let neighbours = self.graph_of(handle)?.neighbours(self.alloc, id)?;
+        let neighbours = self.overlay_of(handle)?.neighbours(self.alloc, id)?;
         Ok(neighbours_reply(self.alloc, handle, id, &neighbours)?)
     }
 
@@ -663,9 +786,14 @@ impl Session {
         ensures comes { (image : Option (List ℕ)) → ComesTo (Command.Release handle) [] self.old.parts image self.new.parts image result }
         ensures no_stop { (stop : Stop) → result ≡ Err (Halt.Stop stop) → ⊥ }
     {
-        if !self.handles.release(&mut self.pool, handle) {
+        let Some(stands) = self.handles.stands(handle) else {
             return Err(Halt::Refusal(Refusal::UnknownHandle(handle)));
+        };
+        if let Some(dependent) = self.handles.dependent(handle) {
+            return Err(Halt::Refusal(Refusal::InUse(dependent)));
         }
+        forget_base(&mut self.planner, stands);
+        self.handles.release(&mut self.pool, handle);
         Ok(headed(self.alloc, Head::Released { handle }))
     }
 
@@ -703,19 +831,21 @@ impl Session {
     }
 
     // The least plan of the instant `t` in these columns.
-    fn plan(&self, t: u64, cols: Columns) -> Result<Reply, Halt>
-        ensures comes { (image : Option (List ℕ)) → ComesTo (Command.Plan t cols) [] self.now.parts image self.now.parts image result }
+    fn plan(&mut self, t: u64, cols: Columns) -> Result<Reply, Halt>
+        ensures comes { (image : Option (List ℕ)) → ComesTo (Command.Plan t cols) [] self.old.parts image self.new.parts image result }
         ensures no_stop { (stop : Stop) → result ≡ Err (Halt.Stop stop) → ⊥ }
     {
-        let index = self.index_at(t)?;
-        let reply = plan_reply(self.alloc, index, &self.history.recent, t, cols)?;
-        Ok(reply)
+        let index = index_at(&self.history.index, t)?;
+        self.planner.keep(self.alloc, index, &self.handles, cols)?;
+        let planner = self.planner.planner(cols);
+        let recent = &self.history.recent;
+        Ok(plan_reply(self.alloc, planner, index, recent, t, cols)?)
     }
 
     // What is said of the certificate for the instant `t` in these columns that the lines that follow
     // write. They are all read.
     fn certify<S: Source>(
-        &self,
+        &mut self,
         t: u64,
         cols: Columns,
         count: u32,
@@ -726,7 +856,7 @@ impl Session {
         // what it comes to
         ensures comes { (image : Option (List ℕ)) → (got : List ScriptLine)
             × TakesLines count (told lines.old (S.left source.old)) got (told lines.new (S.left source.new)) result
-            × ComesTo (Command.Certify t cols count) got self.now.parts image self.now.parts image result }
+            × ComesTo (Command.Certify t cols count) got self.old.parts image self.new.parts image result }
         // why it stops
         ensures read { IsErrOf result (Halt.Stop Stop.Read) → CountRose (S.faults source.old) (S.faults source.new) }
         ensures limit { IsErrOf result (Halt.Stop Stop.Limit) → (lines.new.taken ≡ lines.new.limit) × NeedsByte lines.new }
@@ -735,7 +865,7 @@ impl Session {
         ensures lines { Advances lines.old (S.left source.old) (S.faults source.old)
             lines.new (S.left source.new) (S.faults source.new) }
     {
-        let index = self.index_at(t);
+        let index = index_at(&self.history.index, t);
         let written = read_plan_lines(self.alloc, count, index.is_ok(), lines, source)?;
         if written.read < count {
             return Err(Halt::Refusal(Refusal::ShortBatch(written.read, count)));
@@ -744,8 +874,10 @@ impl Session {
         if !written.is_whole {
             return Err(Halt::Refusal(Refusal::OutOfMemory));
         }
+        self.planner.keep(self.alloc, index, &self.handles, cols)?;
+        let planner = self.planner.planner(cols);
         let recent = &self.history.recent;
-        let verdict = judge(self.alloc, index, recent, t, cols, &written.said)?;
+        let verdict = judge(self.alloc, planner, index, recent, t, &written.said)?;
         Ok(headed(self.alloc, Head::Certified(verdict)))
     }
 
@@ -765,6 +897,33 @@ fn are_parameters(params: Params) -> bool
     ensures { result ≡ are_parameters params.l params.k }
 {
     LEAF_MIN <= params.l && params.l <= LEAF_MAX && ARITY_MIN <= params.k && params.k <= ARITY_MAX
+}
+
+// Forgets the planner, where this is among the bases that serve in it.
+fn forget_base(planner: &mut KeptPlanner, stands: Stands)
+    ensures base { is_base (Some stands) ≡ true → planner.new ≡ None }
+    ensures overlay { is_base (Some stands) ≡ false → planner.new ≡ planner.old }
+{
+    if matches!(stands, Stands::Base { .. }) {
+        planner.forget();
+    }
+}
+
+// The index, where the instant `t` is in its history, or why nothing is asked of the instant.
+fn index_at(index: &Option<Index>, t: u64) -> Result<&Index, Refusal>
+    ensures index { IfOk result (λ there. index_opening index.now ≡ Some there.now.opening) }
+    ensures there { IfOk result (λ there. in_range (span_held (Some there.now.opening)) t ≡ true) }
+    ensures refused { IfErr result (λ refusal. (p : Parts) → p.index ≡ index_opening index.now
+        → (handles : ℕ) → refused_by p 0 (retrieval_needs (t ∷ []) handles) ≡ Some refusal) }
+{
+    let Some(index) = index else {
+        return Err(Refusal::NoIndex);
+    };
+    let ends = span(index);
+    if !in_range(ends, t) {
+        return Err(Refusal::OutOfRange(ends));
+    }
+    Ok(index)
 }
 
 // Whether the instant lies between the ends.
@@ -798,9 +957,7 @@ fn pool_of(alloc: Global, set: &Set, events: &[Event]) -> Result<Pool, AllocErro
     ensures now { IfOk result (λ pool. graph_now pool ≡ replay_from set.now events.now) }
     ensures none { IfOk result (λ pool. (s : ℕ) → slot_graph pool s ≡ None) }
 {
-    let mut pool = Pool::new(alloc);
-    pool.make_cells(set.items())?;
-    pool.set_now(set);
+    let mut pool = Pool::from_set(alloc, set)?;
     pool.make_room(events)?;
     pool.apply_now(events);
     Ok(pool)

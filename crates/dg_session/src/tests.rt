@@ -346,7 +346,7 @@ fn limits_of(run: &Run) -> Limits
 }
 
 // The number of the first case that comes to something else, if there is one.
-fn first_other<R: Threads>(
+fn first_other<R: Threads + Sync>(
     rt: &R,
     session: &mut Session,
     run: &Run,

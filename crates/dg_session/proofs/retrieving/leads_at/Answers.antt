@@ -5,34 +5,30 @@ use Rattle.dg_graph.specs.declared.element.Element.{Element}
 use Rattle.dg_history.specs.declared.node.NodeId.{NodeId}
 use Rattle.dg_history.specs.History.{History}
 use Rattle.dg_index.specs.OpenedIndex.{Opening, events_in}
-use Rattle.dg_plan.specs.declared.edge.Edge.{Edge}
 use Rattle.dg_retrieval.specs.KeptGraph.{kept_nodes}
 use Rattle.dg_retrieval.specs.Retrieval.{ArePoints, IsFirstDamage, IsNoDamage, IsOver, TakesAtMostTree}
 use Rattle.dg_session.proofs.Retrievals.{points_there}
-use Rattle.dg_session.specs.HeldIndex.{points_over}
 use Rattle.dg_session.proofs.retrieving.leads_at.Goals as goal
 
 pub retrieve-requires-clause-targets : goal.retrieve-requires-clause-targets
 retrieve-requires-clause-targets g c =
     let o : Opening = c.args.index.now.opening in
-    subst (λ (ns : List NodeId). All (Contains ns) c.deref.result.now) (sym c.in_ok-planner.ensures.nodes)
+    subst (λ (ns : List NodeId). All (Contains ns) c.deref.result.now) (sym c.requires.nodes)
     (subst (λ (ts : List NodeId). All (Contains (kept_nodes o (events_in o.batches) c.args.cols)) ts) (sym (c.deref.ensures.value ∙ c.in_ok-targets.ensures))
     (points_there o c.args.recent.now c.args.cols c.args.times.now (record { parameters = c.facts.ensures.parameters; kept = c.facts.ensures.kept; few = c.facts.ensures.few }) c.requires.there))
 
 pub returns-clause-most : goal.returns-clause-most
 returns-clause-most g c =
     let o : Opening = c.args.index.now.opening in
-    let Most : List Edge → List NodeId → Type 0 = λ edges targets. IfSome (g.D.Disk.image c.args.disk.now) (λ image. (z : History) (now : List Element)
-    → IsOver z image o c.args.names now c.args.recent.now → TakesAtMostTree edges targets (g.D.Disk.taken c.args.disk.now) (g.D.Disk.taken c.retrieve.new.disk)) in
-    subst (λ es. Most es (points_over o c.args.recent.now c.args.times.now)) c.in_ok-planner.ensures.edges
-    (subst (λ ts. Most c.in_ok-planner.planner.edges ts) (c.deref.ensures.value ∙ c.in_ok-targets.ensures) c.retrieve.ensures.most)
+    let Most : List NodeId → Type 0 = λ targets. IfSome (g.D.Disk.image c.args.disk.now) (λ image. (z : History) (now : List Element)
+    → IsOver z image o c.args.names now c.args.recent.now → TakesAtMostTree c.args.planner.now.edges targets (g.D.Disk.taken c.args.disk.now) (g.D.Disk.taken c.retrieve.new.disk)) in
+    subst Most (c.deref.ensures.value ∙ c.in_ok-targets.ensures) c.retrieve.ensures.most
 
 pub returns-clause-damage : goal.returns-clause-damage
 returns-clause-damage g c =
     let o : Opening = c.args.index.now.opening in
-    let Damage : List Edge → List NodeId → Type 0 = λ edges targets. IfErr c.retrieve.result (λ f. IfSome (g.D.Disk.image c.args.disk.now) (λ image. IsFirstDamage c.args.names edges o c.args.cols targets image f)) in
-    subst (λ es. Damage es (points_over o c.args.recent.now c.args.times.now)) c.in_ok-planner.ensures.edges
-    (subst (λ ts. Damage c.in_ok-planner.planner.edges ts) (c.deref.ensures.value ∙ c.in_ok-targets.ensures) c.retrieve.ensures.damage)
+    let Damage : List NodeId → Type 0 = λ targets. IfErr c.retrieve.result (λ f. IfSome (g.D.Disk.image c.args.disk.now) (λ image. IsFirstDamage c.args.names c.args.planner.now.edges o c.args.cols targets image f)) in
+    subst Damage (c.deref.ensures.value ∙ c.in_ok-targets.ensures) c.retrieve.ensures.damage
 
 pub returns-clause-never : goal.returns-clause-never
 returns-clause-never g c =

@@ -65,7 +65,7 @@ returns-in-Plan-clause-reads g c =
 
 pub returns-in-Plan-clause-store_read : goal.returns-in-Plan-clause-store_read
 returns-in-Plan-clause-store_read g c h =
-    absurd (fails_no_read (command.Plan c.in-Plan.t c.in-Plan.cols) [] c.args.self.now.parts (g.D.Disk.image c.args.disk.now) c.args.self.now.parts (g.D.Disk.image c.args.disk.now) c.plan.result refl (c.plan.ensures.comes (g.D.Disk.image c.args.disk.now)) h)
+    absurd (fails_no_read (command.Plan c.in-Plan.t c.in-Plan.cols) [] c.args.self.now.parts (g.D.Disk.image c.args.disk.now) c.plan.new.self.parts (g.D.Disk.image c.args.disk.now) c.plan.result refl (c.plan.ensures.comes (g.D.Disk.image c.args.disk.now)) h)
 
 pub returns-in-Tree-clause-reads : goal.returns-in-Tree-clause-reads
 returns-in-Tree-clause-reads g c =
@@ -84,7 +84,7 @@ returns-in-Certify-clause-reads g c =
 pub returns-in-Certify-clause-store_read : goal.returns-in-Certify-clause-store_read
 returns-in-Certify-clause-store_read g c h =
     let comes = c.certify.ensures.comes (g.D.Disk.image c.args.disk.now) in
-    absurd (fails_no_read (command.Certify c.in-Certify.t c.in-Certify.cols c.in-Certify.count) comes.0 c.args.self.now.parts (g.D.Disk.image c.args.disk.now) c.args.self.now.parts (g.D.Disk.image c.args.disk.now) c.certify.result refl comes.2 h)
+    absurd (fails_no_read (command.Certify c.in-Certify.t c.in-Certify.cols c.in-Certify.count) comes.0 c.args.self.now.parts (g.D.Disk.image c.args.disk.now) c.certify.new.self.parts (g.D.Disk.image c.args.disk.now) c.certify.result refl comes.2 h)
 
 pub returns-in-Create-clause-reads : goal.returns-in-Create-clause-reads
 returns-in-Create-clause-reads g c =
@@ -110,7 +110,7 @@ returns-in-List-clause-comes g c =
 
 pub returns-in-Plan-clause-comes : goal.returns-in-Plan-clause-comes
 returns-in-Plan-clause-comes g c =
-    alone c.args.command.now (command.Plan c.in-Plan.t c.in-Plan.cols) (told c.args.lines.now (g.S.Source.left c.args.source.now)) c.args.self.now.parts (g.D.Disk.image c.args.disk.now) c.args.self.now.parts (g.D.Disk.image c.args.disk.now) c.plan.result
+    alone c.args.command.now (command.Plan c.in-Plan.t c.in-Plan.cols) (told c.args.lines.now (g.S.Source.left c.args.source.now)) c.args.self.now.parts (g.D.Disk.image c.args.disk.now) c.plan.new.self.parts (g.D.Disk.image c.args.disk.now) c.plan.result
     c.in-Plan.is refl (c.plan.ensures.comes (g.D.Disk.image c.args.disk.now))
 
 pub returns-in-Tree-clause-comes : goal.returns-in-Tree-clause-comes
@@ -121,7 +121,7 @@ returns-in-Tree-clause-comes g c =
 pub returns-in-Certify-clause-comes : goal.returns-in-Certify-clause-comes
 returns-in-Certify-clause-comes g c =
     let image = g.D.Disk.image c.args.disk.now in
-    subst (λ x. Comes x (following x) (told c.args.lines.now (g.S.Source.left c.args.source.now)) (told c.certify.new.lines (g.S.Source.left c.certify.new.source)) c.args.self.now.parts image c.args.self.now.parts image c.certify.result)
+    subst (λ x. Comes x (following x) (told c.args.lines.now (g.S.Source.left c.args.source.now)) (told c.certify.new.lines (g.S.Source.left c.certify.new.source)) c.args.self.now.parts image c.certify.new.self.parts image c.certify.result)
     (sym c.in-Certify.is) (c.certify.ensures.comes image)
 
 pub returns-in-At-clause-damaged : goal.returns-in-At-clause-damaged
@@ -138,7 +138,7 @@ returns-in-List-clause-damaged g c =
 
 pub returns-in-Plan-clause-damaged : goal.returns-in-Plan-clause-damaged
 returns-in-Plan-clause-damaged g c =
-    never_for_damage c.args.command.now (command.Plan c.in-Plan.t c.in-Plan.cols) [] c.args.self.now.parts (g.D.Disk.image c.args.disk.now) c.args.self.now.parts (g.D.Disk.image c.args.disk.now) c.plan.result c.in-Plan.is refl (c.plan.ensures.comes (g.D.Disk.image c.args.disk.now))
+    never_for_damage c.args.command.now (command.Plan c.in-Plan.t c.in-Plan.cols) [] c.args.self.now.parts (g.D.Disk.image c.args.disk.now) c.plan.new.self.parts (g.D.Disk.image c.args.disk.now) c.plan.result c.in-Plan.is refl (c.plan.ensures.comes (g.D.Disk.image c.args.disk.now))
 
 pub returns-in-Tree-clause-damaged : goal.returns-in-Tree-clause-damaged
 returns-in-Tree-clause-damaged g c =
@@ -147,7 +147,7 @@ returns-in-Tree-clause-damaged g c =
 pub returns-in-Certify-clause-damaged : goal.returns-in-Certify-clause-damaged
 returns-in-Certify-clause-damaged g c =
     let comes = c.certify.ensures.comes (g.D.Disk.image c.args.disk.now) in
-    never_for_damage c.args.command.now (command.Certify c.in-Certify.t c.in-Certify.cols c.in-Certify.count) comes.0 c.args.self.now.parts (g.D.Disk.image c.args.disk.now) c.args.self.now.parts (g.D.Disk.image c.args.disk.now) c.certify.result c.in-Certify.is refl comes.2
+    never_for_damage c.args.command.now (command.Certify c.in-Certify.t c.in-Certify.cols c.in-Certify.count) comes.0 c.args.self.now.parts (g.D.Disk.image c.args.disk.now) c.certify.new.self.parts (g.D.Disk.image c.args.disk.now) c.certify.result c.in-Certify.is refl comes.2
 
 pub returns-in-Create-clause-damaged : goal.returns-in-Create-clause-damaged
 returns-in-Create-clause-damaged g c =
@@ -233,3 +233,16 @@ pub returns-in-Release-clause-reads : goal.returns-in-Release-clause-reads
 returns-in-Release-clause-reads g c =
     subst (λ x. ReadsIn x c.args.self.now.parts (g.D.Disk.image c.args.disk.now) c.release.result (g.D.Disk.taken c.args.disk.now) (g.D.Disk.taken c.args.disk.now)) (sym c.in-Release.is)
     (reads_nothing (command.Release c.in-Release.handle) c.args.self.now.parts (g.D.Disk.image c.args.disk.now) c.release.result (g.D.Disk.taken c.args.disk.now) refl)
+
+pub returns-in-Materialise-clause-comes : goal.returns-in-Materialise-clause-comes
+returns-in-Materialise-clause-comes g c =
+    alone c.args.command.now (command.Materialise c.in-Materialise.node c.in-Materialise.cols) (told c.args.lines.now (g.S.Source.left c.args.source.now)) c.args.self.now.parts (g.D.Disk.image c.args.disk.now) c.materialise.new.self.parts (g.D.Disk.image c.materialise.new.disk) c.materialise.result
+    c.in-Materialise.is refl c.materialise.ensures.comes
+
+pub returns-in-Materialise-clause-reads : goal.returns-in-Materialise-clause-reads
+returns-in-Materialise-clause-reads g c =
+    subst (λ x. ReadsIn x c.args.self.now.parts (g.D.Disk.image c.args.disk.now) c.materialise.result (g.D.Disk.taken c.args.disk.now) (g.D.Disk.taken c.materialise.new.disk)) (sym c.in-Materialise.is) c.materialise.ensures.reads
+
+pub returns-in-Materialise-clause-damaged : goal.returns-in-Materialise-clause-damaged
+returns-in-Materialise-clause-damaged g c =
+    subst (λ x. DamageIn x c.args.self.now.parts (g.D.Disk.image c.args.disk.now) c.materialise.result) (sym c.in-Materialise.is) c.materialise.ensures.damaged

@@ -2,9 +2,12 @@ use Rattle.std.specs.Prelude.{IfErr, IfOk}
 use Rattle.dg_history.specs.History.{in_range}
 use Rattle.dg_index.specs.OpenedIndex.{events_in}
 use Rattle.dg_session.specs.SessionState.{SessionState}
+use Rattle.dg_machine.specs.Planning.{bases_in}
 use Rattle.dg_session.specs.HeldIndex.{point_over, span_held}
-use Rattle.dg_session.specs.Session.{refused_by, retrieval_needs}
-use Rattle.std.proofs.Common.{◌≡◌, ℕ, true, [], ◌∷◌, Some, Err, List, Option, map, ◌∙◌, ap, subst, arith}
+use Rattle.dg_session.specs.KeptPlanner.{IsGraphFor, IsKeptFor}
+use Rattle.dg_session.specs.Session.{Accepts, Denies, refused_by, retrieval_needs}
+use Rattle.dg_start.specs.StoredHistory.{index_opening}
+use Rattle.std.proofs.Common.{◌≡◌, ℕ, true, [], ◌∷◌, Some, Err, List, Option, map, sym, ◌∙◌, ap, subst, arith}
 use Rattle.dg_graph.specs.Lines.{ScriptLine}
 use Rattle.dg_io.specs.LinesState.{told}
 use Rattle.dg_machine.specs.declared.command.Command.TheVariants as command
@@ -13,7 +16,7 @@ use Rattle.dg_machine.specs.CommandGrammar.{plan_line_in}
 use Rattle.dg_plan.specs.CertificateLines.{judged}
 use Rattle.dg_session.specs.declared.halt.Halt.TheVariants as halt
 use Rattle.dg_session.specs.Parts.{Parts}
-use Rattle.dg_retrieval.specs.KeptGraph.{kept_edges, kept_nodes}
+use Rattle.dg_retrieval.specs.KeptGraph.{kept_edges}
 use Rattle.dg_session.proofs.PlanStep.{certificate_answers, certificate_lacks, certificate_out, certificate_short, certificate_stopped, enough_read}
 use Rattle.dg_session.proofs.Steps.{Comes, handed_out}
 use Rattle.dg_session.proofs.session.Session.certify.Goals as goal
@@ -35,16 +38,40 @@ returns-in_err-index-clause-comes g c image =
     let before : Option (List ScriptLine) = told c.args.lines.now (g.S.Source.left c.args.source.now) in
     let after : Option (List ScriptLine) = told c.read_plan_lines.new.lines (g.S.Source.left c.read_plan_lines.new.source) in
     let w = c.in_ok-written.ensures.reads in
-    handed_out c.from_residual-in_err-index.result (halt.Refusal c.in_err-index.field-0.0) (Comes (command.Certify c.args.t c.args.cols c.args.count) c.args.count before after c.args.self.now.parts image c.args.self.now.parts image) c.from_residual-in_err-index.ensures
-    (w.0, w.1, certificate_out c.args.self.now.parts c.args.t c.args.cols c.args.count c.in_ok-written.written.read w.0 image c.in_err-index.field-0.0 w.2.read_is (omega (arith, c.if-written-count.false)) (subst (λ r. IfErr r (λ refusal. (handles : ℕ) → refused_by c.args.self.now.parts 0 (retrieval_needs (c.args.t ∷ []) handles) ≡ Some refusal)) c.in_err-index.was c.index_at-index.ensures.refused 0))
+    let p : Parts = c.args.self.now.parts in
+    let same = ap (λ (x : SessionState). x.parts) c.self.view_is in
+    let refused =
+    subst (λ r. IfErr r (λ refusal. (q : Parts) → q.index ≡ index_opening c.self.inside.history.index → (handles : ℕ) → refused_by q 0 (retrieval_needs (c.args.t ∷ []) handles) ≡ Some refusal)) c.in_err-index.was c.index_at-index.ensures.refused in
+    handed_out c.from_residual-in_err-index.result (halt.Refusal c.in_err-index.field-0.0) (Comes (command.Certify c.args.t c.args.cols c.args.count) c.args.count before after p image p image) c.from_residual-in_err-index.ensures
+    (w.0, w.1, certificate_out p c.args.t c.args.cols c.args.count c.in_ok-written.written.read w.0 image c.in_err-index.field-0.0 w.2.read_is (omega (arith, c.if-written-count.false)) (refused p (ap (λ (x : Parts). x.index) (sym same)) 0))
 
 pub returns-then-not-written-clause-comes : goal.returns-then-not-written-clause-comes
 returns-then-not-written-clause-comes g c image =
-    let w = c.in_ok-written.ensures.reads in (
+    let w = c.in_ok-written.ensures.reads in
+    let p : Parts = c.args.self.now.parts in
+    let same = ap (λ (x : SessionState). x.parts) c.self.view_is in
+    let o = c.in_ok-index.index.now.opening in
+    let there : p.index ≡ Some o = ap (λ (x : Parts). x.index) (sym same) ∙ subst (λ r. IfOk r (λ x. index_opening c.self.inside.history.index ≡ Some x.now.opening)) c.in_ok-index.was c.index_at-index.ensures.index in
+    let inside : in_range (span_held (Some o)) c.args.t ≡ true = subst (λ r. IfOk r (λ x. in_range (span_held (Some x.now.opening)) c.args.t ≡ true)) c.in_ok-index.was c.index_at-index.ensures.there in
+    let enough = enough_read w.0 c.in_ok-written.written.read c.args.count w.2.read_is (omega (arith, c.if-written-count.false)) in
+    (w.0, w.1, certificate_lacks p c.args.t c.args.cols c.args.count w.0 image o there inside enough)
+
+pub returns-in_err-keep-clause-comes : goal.returns-in_err-keep-clause-comes
+returns-in_err-keep-clause-comes g c image =
+    let before : Option (List ScriptLine) = told c.args.lines.now (g.S.Source.left c.args.source.now) in
+    let after : Option (List ScriptLine) = told c.read_plan_lines.new.lines (g.S.Source.left c.read_plan_lines.new.source) in
+    let w = c.in_ok-written.ensures.reads in
+    let p : Parts = c.args.self.now.parts in
+    let same = ap (λ (x : SessionState). x.parts) c.self.view_is in
+    let o = c.in_ok-index.index.now.opening in
+    let there : p.index ≡ Some o = ap (λ (x : Parts). x.index) (sym same) ∙ subst (λ r. IfOk r (λ x. index_opening c.self.inside.history.index ≡ Some x.now.opening)) c.in_ok-index.was c.index_at-index.ensures.index in
+    let inside : in_range (span_held (Some o)) c.args.t ≡ true = subst (λ r. IfOk r (λ x. in_range (span_held (Some x.now.opening)) c.args.t ≡ true)) c.in_ok-index.was c.index_at-index.ensures.there in
+    let enough = enough_read w.0 c.in_ok-written.written.read c.args.count w.2.read_is (omega (arith, c.if-written-count.false)) in
+    handed_out c.from_residual-in_err-keep.result (halt.Refusal refusal.OutOfMemory) (Comes (command.Certify c.args.t c.args.cols c.args.count) c.args.count before after p image _ image) c.from_residual-in_err-keep.ensures (
       w.0,
       w.1,
-      certificate_lacks c.args.self.now.parts c.args.t c.args.cols c.args.count w.0 image c.in_ok-index.index.now.opening (subst (λ r. IfOk r (λ x. c.args.self.now.parts.index ≡ Some x.now.opening)) c.in_ok-index.was c.index_at-index.ensures.index) (subst (λ r. IfOk r (λ x. in_range (span_held (Some x.now.opening)) c.args.t ≡ true)) c.in_ok-index.was c.index_at-index.ensures.there)
-          (enough_read w.0 c.in_ok-written.written.read c.args.count w.2.read_is (omega (arith, c.if-written-count.false))),
+      subst (λ (x : Parts). Denies (command.Certify c.args.t c.args.cols c.args.count) w.0 p image x image refusal.OutOfMemory) (sym same)
+          (certificate_lacks p c.args.t c.args.cols c.args.count w.0 image o there inside enough),
     )
 
 pub returns-in_err-verdict-clause-comes : goal.returns-in_err-verdict-clause-comes
@@ -52,23 +79,39 @@ returns-in_err-verdict-clause-comes g c image =
     let before : Option (List ScriptLine) = told c.args.lines.now (g.S.Source.left c.args.source.now) in
     let after : Option (List ScriptLine) = told c.read_plan_lines.new.lines (g.S.Source.left c.read_plan_lines.new.source) in
     let w = c.in_ok-written.ensures.reads in
-    handed_out c.from_residual-in_err-verdict.result (halt.Refusal refusal.OutOfMemory) (Comes (command.Certify c.args.t c.args.cols c.args.count) c.args.count before after c.args.self.now.parts image c.args.self.now.parts image) c.from_residual-in_err-verdict.ensures (
+    let p : Parts = c.args.self.now.parts in
+    let same = ap (λ (x : SessionState). x.parts) c.self.view_is in
+    let o = c.in_ok-index.index.now.opening in
+    let there : p.index ≡ Some o = ap (λ (x : Parts). x.index) (sym same) ∙ subst (λ r. IfOk r (λ x. index_opening c.self.inside.history.index ≡ Some x.now.opening)) c.in_ok-index.was c.index_at-index.ensures.index in
+    let inside : in_range (span_held (Some o)) c.args.t ≡ true = subst (λ r. IfOk r (λ x. in_range (span_held (Some x.now.opening)) c.args.t ≡ true)) c.in_ok-index.was c.index_at-index.ensures.there in
+    let enough = enough_read w.0 c.in_ok-written.written.read c.args.count w.2.read_is (omega (arith, c.if-written-count.false)) in
+    handed_out c.from_residual-in_err-verdict.result (halt.Refusal refusal.OutOfMemory) (Comes (command.Certify c.args.t c.args.cols c.args.count) c.args.count before after p image _ image) c.from_residual-in_err-verdict.ensures (
       w.0,
       w.1,
-      certificate_lacks c.args.self.now.parts c.args.t c.args.cols c.args.count w.0 image c.in_ok-index.index.now.opening (subst (λ r. IfOk r (λ x. c.args.self.now.parts.index ≡ Some x.now.opening)) c.in_ok-index.was c.index_at-index.ensures.index) (subst (λ r. IfOk r (λ x. in_range (span_held (Some x.now.opening)) c.args.t ≡ true)) c.in_ok-index.was c.index_at-index.ensures.there)
-          (enough_read w.0 c.in_ok-written.written.read c.args.count w.2.read_is (omega (arith, c.if-written-count.false))),
+      subst (λ (x : Parts). Denies (command.Certify c.args.t c.args.cols c.args.count) w.0 p image x image refusal.OutOfMemory) (sym same)
+          (certificate_lacks p c.args.t c.args.cols c.args.count w.0 image o there inside enough),
     )
 
 pub returns-clause-comes : goal.returns-clause-comes
 returns-clause-comes g c image =
     let w = c.in_ok-written.ensures.reads in
+    let p : Parts = c.args.self.now.parts in
+    let same = ap (λ (x : SessionState). x.parts) c.self.view_is in
     let o = c.in_ok-index.index.now.opening in
-    let recent : c.deref.result.now ≡ c.args.self.now.parts.recent = c.deref.ensures.value ∙ ap (λ (x : Parts). x.recent) (ap (λ (x : SessionState). x.parts) c.self.view_is) in
+    let there : p.index ≡ Some o = ap (λ (x : Parts). x.index) (sym same) ∙ subst (λ r. IfOk r (λ x. index_opening c.self.inside.history.index ≡ Some x.now.opening)) c.in_ok-index.was c.index_at-index.ensures.index in
+    let inside : in_range (span_held (Some o)) c.args.t ≡ true = subst (λ r. IfOk r (λ x. in_range (span_held (Some x.now.opening)) c.args.t ≡ true)) c.in_ok-index.was c.index_at-index.ensures.there in
+    let enough = enough_read w.0 c.in_ok-written.written.read c.args.count w.2.read_is (omega (arith, c.if-written-count.false)) in
+    let cols = c.args.cols in
+    let graph : IsGraphFor o c.self.inside.handles.table cols c.planner-planner.result.now =
+    subst (λ k. IsKeptFor (Some o) c.self.inside.handles.table k) c.planner-planner.ensures.planner c.keep.ensures.kept in
+    let edges : c.planner-planner.result.now.edges ≡ kept_edges o (events_in o.batches) cols (bases_in cols p.table) =
+    graph.edges ∙ ap (λ (x : Parts). kept_edges o (events_in o.batches) cols (bases_in cols x.table)) same in
+    let recent : c.deref.result.now ≡ p.recent = c.deref.ensures.value ∙ ap (λ (x : Parts). x.recent) same in
     let said : c.deref-2.result.now ≡ map plan_line_in w.0 = c.deref-2.ensures.value ∙ w.2.said_is c.if-not-written.false in (
       w.0,
       w.1,
-      certificate_answers c.args.self.now.parts c.args.t c.args.cols c.args.count w.0 image o c.in_ok-verdict.verdict c.headed.result (subst (λ r. IfOk r (λ x. c.args.self.now.parts.index ≡ Some x.now.opening)) c.in_ok-index.was c.index_at-index.ensures.index) (subst (λ r. IfOk r (λ x. in_range (span_held (Some x.now.opening)) c.args.t ≡ true)) c.in_ok-index.was c.index_at-index.ensures.there)
-          (enough_read w.0 c.in_ok-written.written.read c.args.count w.2.read_is (omega (arith, c.if-written-count.false)))
-          (c.in_ok-verdict.ensures ∙ (λ i. judged (kept_edges o (events_in o.batches) c.args.cols) (kept_nodes o (events_in o.batches) c.args.cols) (point_over o (recent i) c.args.t) (said i)))
-          c.headed.ensures,
+      subst (λ (x : Parts). Accepts (command.Certify c.args.t cols c.args.count) w.0 p image x image c.headed.result) (sym same)
+          (certificate_answers p c.args.t cols c.args.count w.0 image o c.in_ok-verdict.verdict c.headed.result there inside enough
+          (c.in_ok-verdict.ensures ∙ (λ i. judged (edges i) (graph.nodes i) (point_over o (recent i) c.args.t) (said i)))
+          c.headed.ensures),
     )

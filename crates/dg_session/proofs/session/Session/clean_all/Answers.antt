@@ -13,8 +13,8 @@ returns-clause-comes c image =
     let new = c.clean_all.new.self in
     let slots = c.self.inside.handles.slots in
     let same = graphs_same old new c.clean_all.ensures.graphs.slots slots in
-    let tied = c.law_tie_is_kept.ensures old new slots c.clean_all.ensures.graphs.slots c.self.invariant.3 in
-    let size = c.cell_len-cells.ensures ∙ ap length (c.clean_all.ensures.cells ∙ c.law_union_of_handles.ensures new slots tied)
+    let tied = c.law_tie_is_kept.ensures old new c.self.inside.handles c.clean_all.ensures.graphs.slots c.self.invariant.3 in
+    let size = c.cell_len-cells.ensures ∙ ap length (c.clean_all.ensures.cells ∙ c.law_union_of_handles.ensures new c.self.inside.handles tied)
     ∙ (λ i. length (union_of ((c.clean_all.ensures.graphs.now ∙ c.self.invariant.2) i ∷ same i)))
     ∙ ap (λ (x : SessionState). length (union_of (x.parts.graph ∷ x.parts.graphs))) c.self.view_is in
     clean_all_answers c.args.self.now.parts _ c.cell_len-cells.result image c.headed.result

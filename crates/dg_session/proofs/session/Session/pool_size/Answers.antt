@@ -11,7 +11,7 @@ returns c = record {
       let pool = c.self.inside.pool in
       let slots = c.self.inside.handles.slots in
       let live = c.live-live.ensures.live ∙ ap (λ (x : SessionState). length x.parts.table) c.self.view_is in
-      let size = c.union_len-size.ensures ∙ ap length (c.law_union_of_handles.ensures pool slots c.self.invariant.3)
+      let size = c.union_len-size.ensures ∙ ap length (c.law_union_of_handles.ensures pool c.self.inside.handles c.self.invariant.3)
       ∙ ap (λ g. length (union_of (g ∷ graphs_at pool slots))) c.self.invariant.2
       ∙ ap (λ (x : SessionState). length (union_of (x.parts.graph ∷ x.parts.graphs))) c.self.view_is in
       pool_answers c.args.self.now.parts c.live-live.result c.union_len-size.result image c.headed.result live size c.headed.ensures;

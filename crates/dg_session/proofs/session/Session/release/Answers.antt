@@ -1,31 +1,56 @@
-use Rattle.std.proofs.Common.{[], refl, sym, ◌∙◌, ap}
+use Rattle.std.proofs.Common.{[], false, true, List, Option, Some, None, refl, sym, ◌∙◌, ap, subst}
 use Rattle.std.specs.Prelude.{is_some}
 use Rattle.dg_handles.specs.Handles.{graphs_at}
 use Rattle.dg_machine.specs.declared.command.Command.TheVariants as command
 use Rattle.dg_machine.specs.declared.reply.Refusal.TheVariants as refusal
-use Rattle.dg_machine.specs.MachineState.{entry_at}
+use Rattle.dg_machine.specs.declared.stands.Stands.{Stands}
+use Rattle.dg_machine.specs.MachineState.{dependent_on, entry_at}
 use Rattle.dg_session.specs.contracts.session.Session.{the_view}
+use Rattle.dg_session.specs.HeldIndex.{HasNodeOf, HasNodes}
+use Rattle.dg_session.specs.KeptPlanner.{IsKeptFor}
 use Rattle.dg_session.specs.Parts.{Parts}
 use Rattle.dg_session.specs.SessionState.{SessionState}
-use Rattle.dg_session.proofs.ReleaseStep.{parts_without, release_answers, release_refused}
+use Rattle.dg_session.proofs.ReleaseStep.{all_without, kept_without, parts_without, release_answers, release_refused, release_used}
 use Rattle.dg_session.proofs.Steps.{refused_denies}
+use Rattle.dg_start.specs.StoredHistory.{index_opening}
 use Rattle.dg_session.proofs.session.Session.release.Goals as goal
 
-pub returns-then-not-release-clause-comes : goal.returns-then-not-release-clause-comes
-returns-then-not-release-clause-comes c image =
+pub returns-in_default-clause-comes : goal.returns-in_default-clause-comes
+returns-in_default-clause-comes c image =
     let h = c.args.handle in
     let p : Parts = c.args.self.now.parts in
-    let there = ap (λ (x : SessionState). is_some (entry_at h x.parts.table)) (sym c.self.view_is) ∙ sym c.release.ensures.there ∙ c.if-not-release.true in
-    let view : Parts = (the_view c.self.inside).parts in
-    let same = c.release.ensures.same c.if-not-release.true in
-    let q_is = (λ i. let x : Parts = record view { table = (same.0 i).table; graphs = graphs_at (same.1 i) (same.0 i).slots; next = (same.0 i).next } in x) ∙ ap (λ (x : SessionState). x.parts) c.self.view_is in
-    refused_denies (command.Release h) [] p _ image image (refusal.UnknownHandle h) q_is refl (release_refused p h there)
+    let there = ap (λ (x : SessionState). is_some (entry_at h x.parts.table)) (sym c.self.view_is) ∙ ap is_some (sym c.stands.ensures ∙ c.in_default.is) in
+    refused_denies (command.Release h) [] p p image image (refusal.UnknownHandle h) refl refl (release_refused p h there)
+
+pub returns-in-Some-dependent-clause-comes : goal.returns-in-Some-dependent-clause-comes
+returns-in-Some-dependent-clause-comes c image =
+    let h = c.args.handle in
+    let p : Parts = c.args.self.now.parts in
+    let d = c.in-Some-dependent.dependent in
+    let there = ap (λ (x : SessionState). is_some (entry_at h x.parts.table)) (sym c.self.view_is) ∙ ap is_some (sym c.stands.ensures ∙ c.in-Some.is) in
+    let used = ap (λ (x : SessionState). dependent_on h x.parts.table) (sym c.self.view_is) ∙ sym c.dependent.ensures ∙ c.in-Some-dependent.is in
+    refused_denies (command.Release h) [] p p image image (refusal.InUse d) refl refl (release_used p h d there used)
 
 pub returns-clause-comes : goal.returns-clause-comes
 returns-clause-comes c image =
     let h = c.args.handle in
     let p : Parts = c.args.self.now.parts in
     let view : Parts = (the_view c.self.inside).parts in
-    let there = ap (λ (x : SessionState). is_some (entry_at h x.parts.table)) (sym c.self.view_is) ∙ sym c.release.ensures.there ∙ c.if-not-release.false in
+    let there = ap (λ (x : SessionState). is_some (entry_at h x.parts.table)) (sym c.self.view_is) ∙ ap is_some (sym c.stands.ensures ∙ c.in-Some.is) in
+    let unused = ap (λ (x : SessionState). dependent_on h x.parts.table) (sym c.self.view_is) ∙ sym c.dependent.ensures ∙ c.in_default-dependent.is in
     let q_is = (λ i. let x : Parts = record view { table = c.release.ensures.table i; graphs = c.release.ensures.graphs i; next = c.release.ensures.next i } in x) ∙ ap (λ (x : SessionState). parts_without h x.parts) c.self.view_is in
-    release_answers p _ h image c.headed.result there q_is c.headed.ensures
+    release_answers p _ h image c.headed.result there unused q_is c.headed.ensures
+
+pub invariant_of-self : goal.invariant_of-self
+invariant_of-self c =
+    let s = c.self.inside in
+    let h = c.args.handle in
+    let index = index_opening s.history.index in (
+      c.self.invariant.0,
+      c.self.invariant.1,
+      c.release.ensures.now ∙ c.self.invariant.2,
+      c.release.ensures.tied,
+      subst (HasNodes index) (sym c.release.ensures.table) (all_without (λ e. HasNodeOf index e.1) h s.handles.table c.self.invariant.4),
+      subst (λ t. IsKeptFor index t c.forget_base.new.planner) (sym c.release.ensures.table)
+          (kept_without index h s.handles.table c.in-Some.stands s.planner c.forget_base.new.planner (sym c.stands.ensures ∙ c.in-Some.is) c.forget_base.ensures.base c.forget_base.ensures.overlay c.self.invariant.5),
+    )

@@ -1,0 +1,63 @@
+-- The graph in which a session plans, by the planner that it keeps.
+use Rattle.std.proofs.Common.{◌≡◌, ◌≢◌, ℕ, Bool, true, false, cond, List as ListOf, [], ◌∷◌, ◌++◌, Option, Some, refl, sym, ◌∙◌, ap, subst}
+use Rattle.std.specs.List.{All}
+use Rattle.std.proofs.lemmas.Bool.{false≢true}
+use Rattle.std.proofs.lemmas.List.Elements.{All-cons, All-head, All-nil, All-tail}
+use Rattle.dg_file.specs.Index.{IndexState}
+use Rattle.dg_graph.specs.declared.element.Columns.{Columns}
+use Rattle.dg_handles.specs.Handles.{HoldsNode}
+use Rattle.dg_history.specs.declared.node.NodeId.{NodeId}
+use Rattle.dg_history.specs.declared.node.NodeId.TheVariants.{List}
+use Rattle.dg_index.specs.OpenedIndex.{Opening, events_in}
+use Rattle.dg_machine.specs.declared.stands.Stands.{Stands}
+use Rattle.dg_machine.specs.declared.stands.Stands.TheVariants.{Overlay, Base}
+use Rattle.dg_machine.specs.Planning.{bases_in, includes}
+use Rattle.dg_planner.specs.Whole.{PlannerGraph}
+use Rattle.dg_retrieval.specs.KeptGraph.{HoldNoList, kept_edges, kept_nodes}
+use Rattle.dg_session.specs.contracts.session.Session.{the_view}
+use Rattle.dg_session.specs.declared.session.Session.TheInside.{Inside}
+use Rattle.dg_session.specs.HeldIndex.{HasNodeOf, HasNodes, has_node_held}
+use Rattle.dg_session.specs.KeptPlanner.{IsGraphFor, IsKeptFor}
+use Rattle.dg_session.specs.Parts.{Parts}
+use Rattle.dg_start.specs.StoredHistory.{index_opening}
+
+-- no handle holds a list
+no_list : (o : Opening) (v : NodeId) → has_node_held (Some o) v ≡ true → (i : ℕ) → v ≢ List i
+no_list o v has i e = false≢true (subst (λ x. has_node_held (Some o) x ≡ true) e has)
+
+pub no_lists : (o : Opening) (cols : Columns) (table : ListOf (ℕ × Stands)) → HasNodes (Some o) table → HoldNoList (bases_in cols table)
+no_lists o cols [] h = All-nil (λ (b : ℕ × NodeId). (i : ℕ) → b.1 ≢ List i)
+no_lists o cols ((handle, Overlay t others on) ∷ table) h =
+    no_lists o cols table (All-tail (λ (e : ℕ × Stands). HasNodeOf (Some o) e.1) (handle, Overlay t others on) table h)
+no_lists o cols ((handle, Base node all) ∷ table) h =
+    by (includes all cols) (no_lists o cols table (All-tail (λ (e : ℕ × Stands). HasNodeOf (Some o) e.1) (handle, Base node all) table h))
+  where
+    by : (b : Bool) → HoldNoList (bases_in cols table) → HoldNoList (cond b ((handle, node) ∷ []) [] ++ bases_in cols table)
+    by true rest =
+        All-cons (λ (b : ℕ × NodeId). (i : ℕ) → b.1 ≢ List i) (handle, node) (bases_in cols table)
+        (no_list o node (All-head (λ (e : ℕ × Stands). HasNodeOf (Some o) e.1) (handle, Base node all) table h)) rest
+    by false rest = rest
+
+-- The graph is that of the session's index, with the handles that can serve.
+pub record IsPlanningIn (p : Parts) (o : Opening) (cols : Columns) (g : PlannerGraph) : Type 0 where
+  pub edges : g.edges ≡ kept_edges o (events_in o.batches) cols (bases_in cols p.table)
+  pub nodes : g.nodes ≡ kept_nodes o (events_in o.batches) cols
+  pub none : HoldNoList (bases_in cols p.table)
+
+pub planning_in : (p : Parts) (s : Inside) (index : IndexState) (cols : Columns) (kept : Option (Columns × PlannerGraph)) (g : PlannerGraph)
+    → (the_view s).parts ≡ p → s.history.index ≡ Some index → HasNodes (index_opening s.history.index) s.handles.table
+    → IsKeptFor (Some index.opening) s.handles.table kept → kept ≡ Some (cols, g) → IsPlanningIn p index.opening cols g
+planning_in p s index cols kept g view there nodes is kept_is =
+    let graph : IsGraphFor index.opening s.handles.table cols g = subst (IsKeptFor (Some index.opening) s.handles.table) kept_is is in
+    let table : s.handles.table ≡ p.table = ap (λ (x : Parts). x.table) view in
+    let has : HasNodes (Some index.opening) s.handles.table = subst (λ i. HasNodes i s.handles.table) (ap index_opening there) nodes in
+    record {
+      edges = graph.edges ∙ ap (λ t. kept_edges index.opening (events_in index.opening.batches) cols (bases_in cols t)) table;
+      nodes = graph.nodes;
+      none = subst (λ t. HoldNoList (bases_in cols t)) table (no_lists index.opening cols s.handles.table has);
+    }
+
+-- what the handles hold that can serve, by what the session keeps
+pub holds_in : (p : Parts) (s : Inside) (cols : Columns) → (the_view s).parts ≡ p → All (HoldsNode s.handles.table cols) (bases_in cols s.handles.table)
+    → All (HoldsNode p.table cols) (bases_in cols p.table)
+holds_in p s cols view h = subst (λ t. All (HoldsNode t cols) (bases_in cols t)) (ap (λ (x : Parts). x.table) view) h

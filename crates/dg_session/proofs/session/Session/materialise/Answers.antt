@@ -1,0 +1,85 @@
+use Rattle.std.proofs.Common.{◌≡◌, [], ◌∷◌, refl, sym, ◌∙◌, ap, subst}
+use Rattle.dg_graph.specs.Composition.{applied}
+use Rattle.dg_graph.specs.Elements.{shown}
+use Rattle.dg_machine.specs.declared.command.Command.TheVariants as command
+use Rattle.dg_machine.specs.declared.reply.Head.TheVariants as head
+use Rattle.dg_machine.specs.declared.reply.Refusal.TheVariants as refusal
+use Rattle.dg_machine.specs.declared.reply.Reply.{Reply}
+use Rattle.dg_machine.specs.declared.stands.Stands.TheVariants.{Base}
+use Rattle.dg_machine.specs.Answer.{headed}
+use Rattle.dg_machine.specs.Needs.{needs}
+use Rattle.dg_session.specs.SessionState.{SessionState}
+use Rattle.dg_session.specs.declared.halt.Halt.TheVariants as halt
+use Rattle.dg_session.specs.Damage.{DamageIn, DamageIs}
+use Rattle.dg_session.specs.Halt.{retrieval_halt}
+use Rattle.dg_session.specs.Parts.{Parts}
+use Rattle.dg_session.specs.Reads.{ReadsIn, with_new}
+use Rattle.dg_session.specs.Session.{ComesTo}
+use Rattle.dg_session.proofs.DamageStep.{node_damage_in, tells_no_damage}
+use Rattle.dg_session.proofs.MaterialiseStep.{node_answers, node_fails}
+use Rattle.dg_session.proofs.Retrievals.{reads_failing, retrieval_failed}
+use Rattle.dg_session.proofs.Steps.{handed_out, lacking_denies, refused_denies, refused_not_read}
+use Rattle.dg_session.proofs.session.Session.materialise.Goals as goal
+
+pub returns-in-Some-clause-comes : goal.returns-in-Some-clause-comes
+returns-in-Some-clause-comes g c =
+    refused_denies (command.Materialise c.args.node c.args.cols) [] c.args.self.now.parts c.args.self.now.parts (g.D.Disk.image c.args.disk.now) (g.D.Disk.image c.args.disk.now) c.in-Some.refusal refl refl (sym c.refused_node.ensures ∙ c.in-Some.is)
+
+pub returns-in-Some-clause-damaged : goal.returns-in-Some-clause-damaged
+returns-in-Some-clause-damaged g c =
+    tells_no_damage (command.Materialise c.args.node c.args.cols) c.args.self.now.parts (g.D.Disk.image c.args.disk.now) c.in-Some.refusal
+    (refused_not_read c.args.self.now.parts 0 (needs (command.Materialise c.args.node c.args.cols)) c.in-Some.refusal (sym c.refused_node.ensures ∙ c.in-Some.is))
+
+pub returns-in_err-delta-clause-comes : goal.returns-in_err-delta-clause-comes
+returns-in_err-delta-clause-comes g c =
+    handed_out c.from_residual.result (retrieval_halt c.in_err-delta.field-0.0)
+    (ComesTo (command.Materialise c.args.node c.args.cols) [] c.args.self.now.parts (g.D.Disk.image c.args.disk.now) c.lead_to_node.new.self.parts (g.D.Disk.image c.lead_to_node.new.disk)) c.from_residual.ensures
+    (retrieval_failed (command.Materialise c.args.node c.args.cols) c.args.self.now.parts c.lead_to_node.new.self.parts (g.D.Disk.image c.args.disk.now) (g.D.Disk.image c.lead_to_node.new.disk) c.in_err-delta.field-0.0 refl refl (sym c.refused_node.ensures ∙ c.in_default.is)
+    (ap (λ (x : SessionState). x.parts) c.lead_to_node.ensures.same) c.lead_to_node.ensures.disk.same_image c.in_err-delta.ensures.never)
+
+pub returns-in_err-delta-clause-reads : goal.returns-in_err-delta-clause-reads
+returns-in_err-delta-clause-reads g c =
+    handed_out c.from_residual.result (retrieval_halt c.in_err-delta.field-0.0)
+    (λ r. ReadsIn (command.Materialise c.args.node c.args.cols) c.args.self.now.parts (g.D.Disk.image c.args.disk.now) r (g.D.Disk.taken c.args.disk.now) (g.D.Disk.taken c.lead_to_node.new.disk)) c.from_residual.ensures
+    (reads_failing (command.Materialise c.args.node c.args.cols) c.args.self.now.parts (g.D.Disk.image c.args.disk.now) c.in_err-delta.field-0.0 (g.D.Disk.taken c.args.disk.now) (g.D.Disk.taken c.lead_to_node.new.disk)
+    (λ h refuses late. node_fails c.args.self.now.parts c.args.node c.args.cols (g.D.Disk.image c.args.disk.now) h (g.D.Disk.taken c.args.disk.now) (g.D.Disk.taken c.lead_to_node.new.disk) refuses late (sym c.refused_node.ensures ∙ c.in_default.is) c.lead_to_node.ensures.most))
+
+pub returns-in_err-delta-clause-damaged : goal.returns-in_err-delta-clause-damaged
+returns-in_err-delta-clause-damaged g c =
+    handed_out c.from_residual.result (retrieval_halt c.in_err-delta.field-0.0)
+    (λ r. DamageIn (command.Materialise c.args.node c.args.cols) c.args.self.now.parts (g.D.Disk.image c.args.disk.now) r) c.from_residual.ensures
+    (node_damage_in (command.Materialise c.args.node c.args.cols) c.args.self.now.parts (g.D.Disk.image c.args.disk.now) c.args.node c.args.cols c.in_err-delta.field-0.0 refl c.in_err-delta.ensures.damage)
+
+pub returns-in_err-add_base-clause-comes : goal.returns-in_err-add_base-clause-comes
+returns-in_err-add_base-clause-comes g c =
+    handed_out c.from_residual-in_err-add_base.result (halt.Refusal refusal.OutOfMemory)
+    (ComesTo (command.Materialise c.args.node c.args.cols) [] c.args.self.now.parts (g.D.Disk.image c.args.disk.now) c.add_base.new.self.parts (g.D.Disk.image c.lead_to_node.new.disk)) c.from_residual-in_err-add_base.ensures
+    (lacking_denies (command.Materialise c.args.node c.args.cols) [] c.args.self.now.parts c.add_base.new.self.parts (g.D.Disk.image c.args.disk.now) (g.D.Disk.image c.lead_to_node.new.disk)
+    (c.in_err-add_base.ensures.err ∙ (ap (λ (x : SessionState). x.parts) c.lead_to_node.ensures.same)) c.lead_to_node.ensures.disk.same_image refl (sym c.refused_node.ensures ∙ c.in_default.is))
+
+pub returns-in_err-add_base-clause-reads : goal.returns-in_err-add_base-clause-reads
+returns-in_err-add_base-clause-reads g c =
+    handed_out c.from_residual-in_err-add_base.result (halt.Refusal refusal.OutOfMemory)
+    (λ r. ReadsIn (command.Materialise c.args.node c.args.cols) c.args.self.now.parts (g.D.Disk.image c.args.disk.now) r (g.D.Disk.taken c.args.disk.now) (g.D.Disk.taken c.lead_to_node.new.disk)) c.from_residual-in_err-add_base.ensures
+    (node_fails c.args.self.now.parts c.args.node c.args.cols (g.D.Disk.image c.args.disk.now) (head.Refused refusal.OutOfMemory) (g.D.Disk.taken c.args.disk.now) (g.D.Disk.taken c.lead_to_node.new.disk) refl refl (sym c.refused_node.ensures ∙ c.in_default.is) c.lead_to_node.ensures.most)
+
+pub returns-in_err-add_base-clause-damaged : goal.returns-in_err-add_base-clause-damaged
+returns-in_err-add_base-clause-damaged g c =
+    handed_out c.from_residual-in_err-add_base.result (halt.Refusal refusal.OutOfMemory)
+    (λ r. DamageIn (command.Materialise c.args.node c.args.cols) c.args.self.now.parts (g.D.Disk.image c.args.disk.now) r) c.from_residual-in_err-add_base.ensures tt
+
+pub returns-clause-comes : goal.returns-clause-comes
+returns-clause-comes g c =
+    let p : Parts = c.args.self.now.parts in
+    let r = c.in_ok-delta.field-0 in
+    let cols = c.args.cols in
+    let same : c.lead_to_node.new.self.parts ≡ p = (ap (λ (x : SessionState). x.parts) c.lead_to_node.ensures.same) in
+    let number : c.next-handle.result ≡ p.next = c.next-handle.ensures.next ∙ ap (λ (x : SessionState). x.parts.next) (c.self.view_is ∙ c.lead_to_node.ensures.same) in
+    node_answers p c.add_base.new.self.parts c.args.node cols (g.D.Disk.image c.args.disk.now) (g.D.Disk.image c.lead_to_node.new.disk) r.weight (shown (applied r.delta []) cols) c.headed.result
+    (sym c.refused_node.ensures ∙ c.in_default.is) c.lead_to_node.ensures.disk.same_image c.in_ok-delta.ensures.held
+    (c.in_ok-add_base.ensures.added ∙ (λ i. with_new (same i) (Base c.args.node cols ∷ []) (shown (applied r.delta []) cols ∷ [])))
+    (c.headed.ensures ∙ ap (λ n. headed (head.Materialised n r.weight)) number)
+
+pub returns-clause-damaged : goal.returns-clause-damaged
+returns-clause-damaged g c =
+    subst (λ (x : Reply). DamageIs (command.Materialise c.args.node c.args.cols) c.args.self.now.parts (g.D.Disk.image c.args.disk.now) x.head) (sym c.headed.ensures) tt
