@@ -89,7 +89,7 @@ fn carry_out<R: Threads + Sync, S: Source, K: Sink, D: Disk>(
 }
 
 // Answers the script by the session, of which at most so many bytes may be taken.
-fn answer_script<R: Threads, S: Source, K: Sink, D: Disk>(
+fn answer_script<R: Threads + Sync, S: Source, K: Sink, D: Disk>(
     rt: &R,
     alloc: Global,
     limit: u64,

@@ -47,7 +47,7 @@ pub enum Meaning {
 /// `Stop::Read` where a read of the source failed, `Stop::Limit` where another byte is needed and as
 /// many as the limit were taken: the session and its image are then as before. `Stop::Store` where a
 /// write or a sync of the disk failed.
-pub fn next_turn<R: Threads, S: Source, D: Disk>(
+pub fn next_turn<R: Threads + Sync, S: Source, D: Disk>(
     rt: &R,
     alloc: Global,
     session: &mut Session,
@@ -86,7 +86,7 @@ pub fn next_turn<R: Threads, S: Source, D: Disk>(
 }
 
 // The turn at a line of the script, which was just taken.
-fn turn_of<R: Threads, S: Source, D: Disk>(
+fn turn_of<R: Threads + Sync, S: Source, D: Disk>(
     rt: &R,
     alloc: Global,
     session: &mut Session,

@@ -1,15 +1,13 @@
 //! The worked cases, and that handles are given where memory is there.
-ghost use Rattle.std.specs.Prelude.{◌≡◌, ℕ, List, None, IfOk, length};
+ghost use Rattle.std.specs.Prelude.{◌≡◌, ℕ, None, IfOk, length};
 ghost use Rattle.std.specs.List.{All};
-ghost use Rattle.dg_handles.specs.Handles.{BeginsOn, IsTied};
+ghost use Rattle.dg_handles.specs.Handles.{IsTied};
 ghost use Rattle.dg_pool.specs.Graphs.{slot_graph};
 ghost use Rattle.dg_retrieval.specs.Beginnings.{base_of};
 
 use crate::{Handles, law_tie_is_kept};
 use dg_delta::Delta;
 use dg_graph::{Body, Columns, Element, Event};
-use dg_history::NodeId;
-use dg_machine::Stands;
 use dg_pool::Pool;
 use dg_retrieval::{Beginning, GraphLead};
 use dg_set::Set;
@@ -31,11 +29,6 @@ const VALUE: Element = Element::NodeAttr {
 const STRUCTURE: Columns = Columns {
     nodes_attr: false,
     edges_attr: false,
-};
-
-const ALL: Columns = Columns {
-    nodes_attr: true,
-    edges_attr: true,
 };
 
 // The current graph has nodes 1 and 2.
@@ -146,47 +139,6 @@ fn handles_stay_while_the_current_graph_changes(rt: HostRuntime) -> Result<(), F
     );
     handles.clear();
     assert_eq!(rt; (handles.live(), handles.next()), (0, 4_294_967_296));
-    Ok(())
-}
-
-#[test]
-fn base_stays_while_an_overlay_rests_on_it(rt: HostRuntime) -> Result<(), Fail> {
-    let alloc = rt.alloc();
-    let mut pool = pool(alloc)?;
-    let mut handles = Handles::new(alloc, 1)?;
-    // leaf 1 has nodes 2 and 3, and a value; from there node 3 goes, and node 1 comes
-    let leaf = delta(alloc, &[], &[B, C, VALUE])?;
-    let mut leads = Vec::new(alloc);
-    leads.push(GraphLead {
-        begins: Beginning::Base(1),
-        delta: delta(alloc, &[C], &[A])?,
-    })?;
-    handles.add_base(&mut pool, NodeId::Leaf(1), ALL, &leaf)?;
-    handles.add(&mut pool, STRUCTURE, &[10], &leads)?;
-    assert_eq!(rt;
-        list(alloc, &handles, &pool, 1)?.as_slice(),
-        [B, C, VALUE].as_slice()
-    );
-    assert_eq!(rt;
-        list(alloc, &handles, &pool, 2)?.as_slice(),
-        [A, B].as_slice()
-    );
-    assert_eq!(rt;
-        (handles.dependent(1), handles.dependent(2)),
-        (Some(2), None)
-    );
-    assert_eq!(rt;
-        handles.stands(1),
-        Some(Stands::Base {
-            node: NodeId::Leaf(1),
-            cols: ALL
-        })
-    );
-    assert_eq!(rt; handles.bases(alloc, STRUCTURE)?.len(), 1);
-    assert!(rt; !release(&mut handles, &mut pool, 1));
-    assert!(rt; release(&mut handles, &mut pool, 2));
-    assert!(rt; release(&mut handles, &mut pool, 1));
-    assert_eq!(rt; (handles.live(), handles.next(), pool.live()), (0, 3, 0));
     Ok(())
 }
 
