@@ -20,7 +20,7 @@ use Rattle.dg_retrieval.specs.declared.retrieval.Retrieved.{Retrieved}
 use Rattle.dg_history.specs.declared.node.NodeId.{NodeId}
 use Rattle.dg_machine.specs.Planning.{bases_in}
 use Rattle.dg_plan.specs.declared.edge.Edge.{Edge}
-use Rattle.dg_retrieval.specs.declared.record_sets.NodeLead.{NodeLead}
+use Rattle.dg_retrieval.specs.declared.node_lead.NodeLead.{NodeLead}
 use Rattle.dg_retrieval.specs.KeptGraph.{index_edges, kept_edges}
 use Rattle.dg_retrieval.specs.Retrieval.{IsFirstDamage}
 use Rattle.dg_session.proofs.Retrievals.{IsSession}

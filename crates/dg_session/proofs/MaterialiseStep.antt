@@ -30,7 +30,7 @@ use Rattle.dg_index.specs.Hierarchy.{set_of}
 use Rattle.dg_index.specs.OpenedIndex.{Opening}
 use Rattle.dg_plan.specs.declared.edge.Edge.{Edge}
 use Rattle.dg_retrieval.specs.declared.fault.RetrievalFault.{RetrievalFault}
-use Rattle.dg_retrieval.specs.declared.record_sets.NodeLead.{NodeLead}
+use Rattle.dg_retrieval.specs.declared.node_lead.NodeLead.{NodeLead}
 use Rattle.dg_retrieval.specs.KeptGraph.{index_edges}
 use Rattle.dg_retrieval.specs.NodeSets.{IsIndexOver}
 use Rattle.dg_retrieval.specs.Retrieval.{IsNoDamage}
