@@ -1,9 +1,8 @@
 ghost use Rattle.std.specs.Prelude.{◌<◌};
 ghost use Rattle.dg_machine.specs.MachineState.{IsWithin};
 
-use crate::serve::{serve, serve_with};
+use crate::serve::serve_with;
 use crate::status::Status;
-use crate::words::index_word;
 use dg_disk::MemoryDisk;
 use dg_graph::Column;
 use dg_history::{EVENTS_MAX, FILE_BYTES_MAX, Key};
@@ -190,35 +189,13 @@ const FIRST: &[u8] =
 
 const FIRST_REPLIES: &[u8] = b"ok create\nend\nok load 3 3 30\nend\n";
 
-// The index file that the first script makes.
-fn first_image<R: Threads + Sync>(rt: &R, alloc: Global) -> Result<Vec<u8>, Fail> {
-    let ran = run(rt, alloc, NO_FILE, FIRST, WHOLE, within(NO_LIMIT, NO_LIMIT))?;
-    Ok(ran.image)
-}
-
 #[test]
-fn an_index_file_is_found_again(rt: HostRuntime) -> Result<(), Fail> {
+fn an_index_file_has_as_many_bytes_as_the_limit(rt: HostRuntime) -> Result<(), Fail> {
     let alloc = rt.alloc();
-    let limits = within(NO_LIMIT, 217);
-    let ran = run(&rt, alloc, NO_FILE, FIRST, WHOLE, limits)?;
+    let ran = run(&rt, alloc, NO_FILE, FIRST, WHOLE, within(NO_LIMIT, 217))?;
     assert_eq!(rt; ran.status, Status::Done);
     assert_eq!(rt; ran.written.as_slice(), FIRST_REPLIES);
     assert_eq!(rt; ran.image.len(), 217);
-
-    let again = run(
-        &rt,
-        alloc,
-        ran.image.as_slice(),
-        b"at 30 s\nlist 1\n",
-        WHOLE,
-        limits,
-    )?;
-    assert_eq!(rt; again.status, Status::Done);
-    assert_eq!(rt;
-        again.written.as_slice(),
-        b"ok at 1 0\nend\nok list 1 3\nnode 1\nnode 2\nedge 5 1 2 dir\nend\n".as_slice()
-    );
-    assert_eq!(rt; again.image.as_slice(), ran.image.as_slice());
 
     let full = run(&rt, alloc, NO_FILE, FIRST, WHOLE, within(NO_LIMIT, 216))?;
     assert_eq!(rt; full.status, Status::Done);
@@ -226,84 +203,6 @@ fn an_index_file_is_found_again(rt: HostRuntime) -> Result<(), Fail> {
         full.written.as_slice(),
         b"ok create\nend\nrefused 13 file-full 217 216\nend\n".as_slice()
     );
-    Ok(())
-}
-
-// The first script's index file with one byte changed or its end cut off; then a script over it, what
-// is written, and the status.
-struct Change {
-    shows: &'static str,
-    at: usize,
-    byte: u8,
-    len: usize,
-    script: &'static str,
-    replies: &'static str,
-    status: Status,
-}
-
-const CHANGES: [Change; 4] = [
-    Change {
-        shows: "what stands behind a closed gate does not count",
-        at: 17,
-        byte: 7,
-        len: 217,
-        script: "at 20 s\n",
-        replies: "refused 7 out-of-range empty\nend\n",
-        status: Status::Done,
-    },
-    Change {
-        shows: "a file that begins otherwise is no index",
-        at: 0,
-        byte: 68,
-        len: 217,
-        script: "at 20 s\n",
-        replies: "",
-        status: Status::Refused(StartFault::Foreign),
-    },
-    Change {
-        shows: "a segment that is cut off is damaged",
-        at: 0,
-        byte: 1,
-        len: 100,
-        script: "at 20 s\n",
-        replies: "",
-        status: Status::Refused(StartFault::Damaged(18)),
-    },
-    Change {
-        shows: "a file of fewer bytes than a header is written anew",
-        at: 0,
-        byte: 1,
-        len: 10,
-        script: "create 2 2 union\n",
-        replies: "ok create\nend\n",
-        status: Status::Done,
-    },
-];
-
-#[test]
-fn other_index_files_are_refused_or_stand_for_less(rt: HostRuntime) -> Result<(), Fail> {
-    let alloc = rt.alloc();
-    for case in CHANGES.iter() {
-        let mut image = first_image(&rt, alloc)?;
-        assert_eq!(rt; image.len(), 217, "{}", case.shows);
-        assert!(rt; case.at < 217 && case.len <= 217);
-        image[case.at] = case.byte;
-        let ran = run(
-            &rt,
-            alloc,
-            &image.as_slice()[..case.len],
-            case.script.as_bytes(),
-            WHOLE,
-            within(NO_LIMIT, NO_LIMIT),
-        )?;
-        assert_eq!(rt; ran.status, case.status, "{}", case.shows);
-        assert_eq!(rt;
-            ran.written.as_slice(),
-            case.replies.as_bytes(),
-            "{}",
-            case.shows
-        );
-    }
     Ok(())
 }
 
@@ -426,53 +325,6 @@ fn a_failed_write_ends_a_run_with_a_front_of_the_replies(rt: HostRuntime) -> Res
         assert_eq!(rt; status, Status::SinkFault);
         assert_eq!(rt; Some(sink.written()), REPLIES.as_bytes().get(..room));
     }
-    Ok(())
-}
-
-// The words of a command line, parted by spaces.
-fn words_of(alloc: Global, text: &str) -> Result<Vec<String>, Fail> {
-    let mut words = Vec::new(alloc);
-    for word in text.split_whitespace() {
-        words.push(word.to_string(alloc)?)?;
-    }
-    Ok(words)
-}
-
-// Words that are not of the written form.
-const OTHER_WORDS: [&str; 4] = ["", "a b", "-x", "-"];
-
-#[test]
-fn other_words_than_one_index_touch_nothing(rt: HostRuntime) -> Result<(), Fail> {
-    let alloc = rt.alloc();
-    for text in OTHER_WORDS {
-        let words = words_of(alloc, text)?;
-        let mut source = MemorySource::new(alloc, SCRIPT.as_bytes(), WHOLE, &[])?;
-        let mut sink = MemorySink::new(alloc, WHOLE, &[])?;
-        let mut disk = MemoryDisk::new(alloc, NO_FILE, ROOM, CALLS_MAX, &[])?;
-        let status = serve(
-            &rt,
-            alloc,
-            words.as_slice(),
-            &mut source,
-            &mut sink,
-            &mut disk,
-        );
-        assert_eq!(rt; status, Status::Words);
-        assert_eq!(rt; source.left(), SCRIPT.as_bytes());
-        assert_eq!(rt; sink.written().len(), 0);
-        assert_eq!(rt; disk.image().len(), 0);
-        assert!(rt; index_word(alloc, words.as_slice())?.is_none());
-    }
-    Ok(())
-}
-
-#[test]
-fn one_word_is_the_path_of_the_index(rt: HostRuntime) -> Result<(), Fail> {
-    let alloc = rt.alloc();
-    let words = words_of(alloc, "graphs/first.dg")?;
-    let index = index_word(alloc, words.as_slice())?;
-    let path = index.ok_or("the words are of the written form")?;
-    assert_eq!(rt; path.as_str(), "graphs/first.dg");
     Ok(())
 }
 

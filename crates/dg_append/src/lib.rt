@@ -13,8 +13,6 @@ mod older_sets;
 mod recent;
 mod segment;
 mod spelled;
-#[cfg(test)]
-mod tests;
 
 pub use batch::{AddedBatch, add_batch};
 pub use fault::BatchFault;

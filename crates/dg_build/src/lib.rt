@@ -10,8 +10,6 @@ mod heights;
 mod leaves;
 mod records;
 mod row;
-#[cfg(test)]
-mod tests;
 
 pub use batch::build;
 pub use dg_segment::Segment;

@@ -9,8 +9,6 @@ mod merging;
 mod pieces;
 mod places;
 mod row;
-#[cfg(test)]
-mod tests;
 
 pub use cells::Cells;
 pub use cursors::Cursor;

@@ -6,8 +6,6 @@
 mod claim;
 mod potentials;
 mod same_node;
-#[cfg(test)]
-mod tests;
 mod verdict;
 mod walk;
 

@@ -16,8 +16,6 @@ mod laws;
 mod layout;
 mod numbers;
 mod sound_elements;
-#[cfg(test)]
-mod tests;
 
 pub use column_join::join;
 pub use column_merge::{MergeFault, merge};

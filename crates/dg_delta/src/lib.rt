@@ -5,8 +5,6 @@
 
 mod delta;
 mod laws;
-#[cfg(test)]
-mod tests;
 
 pub use delta::Delta;
 pub use dg_set::{Element, Set};

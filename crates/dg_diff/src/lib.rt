@@ -5,8 +5,6 @@
 mod differential;
 mod hash;
 mod interior;
-#[cfg(test)]
-mod tests;
 
 pub use dg_graph::Function;
 pub use differential::combine;

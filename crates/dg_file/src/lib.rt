@@ -16,8 +16,6 @@ mod making;
 mod numbers;
 mod prepared_segment;
 mod reading;
-#[cfg(test)]
-mod tests;
 
 pub use fault::{CommitFault, CreateFault, FetchFault, ReopenFault};
 pub use index::Index;

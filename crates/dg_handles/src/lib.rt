@@ -6,8 +6,6 @@ mod attach;
 mod entries;
 mod handles;
 mod laws;
-#[cfg(test)]
-mod tests;
 
 pub use handles::Handles;
 pub use laws::{law_tie_is_kept, law_union_of_handles};

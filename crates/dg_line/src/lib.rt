@@ -9,8 +9,6 @@ mod plan_line;
 mod reply;
 mod reply_buffer;
 mod reply_line;
-#[cfg(test)]
-mod tests;
 mod text_change;
 mod words;
 

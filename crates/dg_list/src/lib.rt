@@ -6,8 +6,6 @@ mod exact;
 mod laws;
 mod marks;
 mod net;
-#[cfg(test)]
-mod tests;
 
 pub use dg_delta::Delta;
 pub use dg_event::Event;

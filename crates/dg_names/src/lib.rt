@@ -4,8 +4,6 @@
 #![tactic(auto)]
 
 mod names;
-#[cfg(test)]
-mod tests;
 mod text_rules;
 
 pub use dg_graph::{KEY_BYTES_MAX, NAME_BYTES_MAX, NAMES_MAX};

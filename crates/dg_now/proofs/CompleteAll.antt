@@ -1,9 +1,7 @@
 -- How the events of a batch follow, one change at a time, and the elements before them.
-use Rattle.std.proofs.Common.{◌≡◌, ℕ, ◌+◌, ◌<◌, ◌≤◌, Bool, true, false, cond, List, [], ◌∷◌, ◌++◌, Option, Some, None, Result, Ok, Err, IfSome, length, take, drop, get_or, map, refl, sym, ap, subst, ◌∙◌, append_assoc, add-one, drop-cons, ◌⊎◌, inl, inr}
-use Rattle.std.proofs.lemmas.List.{append-nil, drop_all, take_more}
+use Rattle.std.proofs.Common.{◌≡◌, ℕ, ◌+◌, ◌<◌, ◌≤◌, Bool, true, false, cond, List, [], ◌∷◌, ◌++◌, Option, Some, None, Result, Ok, Err, length, drop, get_or, map, refl, sym, ap, subst, ◌∙◌, append_assoc, add-one, drop-cons, ◌⊎◌, inl, inr}
+use Rattle.std.proofs.lemmas.List.{append-nil, drop_all}
 use Rattle.std.proofs.lemmas.Bool.{true≢false}
-use Rattle.std.specs.Map.{lookup}
-use Rattle.std.specs.Option.{unwrap_or}
 use Rattle.dg_graph.specs.declared.element.Element.{Element}
 use Rattle.dg_graph.specs.declared.event.Change.{Change}
 use Rattle.dg_graph.specs.declared.event.Event.{Event}
@@ -14,7 +12,7 @@ use Rattle.dg_graph.specs.Graph.{IsGraph}
 use Rattle.dg_graph.specs.Replay.{replay_from}
 use Rattle.dg_graph.proofs.Sets.{element_exact}
 use Rattle.dg_now.specs.declared.element_id.ElementId.{ElementId}
-use Rattle.dg_now.specs.HeldGraph.{HeldGraphState, knows, IsKnown, KeepsIds}
+use Rattle.dg_now.specs.HeldGraph.{HeldGraphState, KeepsIds}
 use Rattle.dg_now.specs.EventEffect.{changed_id, element_before, CanHappen, CameBy, AllHappen, KnowsEvent, AllKnown, Led, element_before_all}
 use Rattle.dg_now.specs.ElementIds.{element_id_of, at, same_id}
 use Rattle.dg_now.proofs.EventEffect.{graph_forwards, led_graph, undone, came, removed_has_id, added_has_id, known_still}
@@ -210,46 +208,3 @@ first_here events p last i d less s =
 
 pub first_none : (events : List Event) (p : ElementId) (last : Option Element) (i : ℕ) → length events ≤ i → element_before_all (drop i events) p last ≡ last
 first_none events p last i all = ap (λ es. element_before_all es p last) (drop_all i events all)
-
--- one event more, which is asked last
-first_push : (events : List Event) (e : Event) (p : ElementId) (last : Option Element)
-    → element_before_all (events ++ e ∷ []) p last ≡ element_before_all events p (cond (same_id (changed_id e.body) p) (element_before e.body) last)
-first_push [] e p last = refl
-first_push (x ∷ events) e p last = ap (λ o. cond (same_id (changed_id x.body) p) (element_before x.body) o) (first_push events e p last)
-
-pub first_more : (events : List Event) (i : ℕ) (d : Event) → i < length events → (p : ElementId) (last : Option Element)
-    → element_before_all (take (i + 1) events) p last
-    ≡ element_before_all (take i events) p (cond (same_id (changed_id (get_or events i d).body) p) (element_before (get_or events i d).body) last)
-first_more events i d less p last = ap (λ es. element_before_all es p last) (take_more events i d less) ∙ first_push (take i events) (get_or events i d) p last
-
--- what is noted of an id of which nothing was noted yet
-pub noted : (old new : List (ElementId × Option Element)) (id : ElementId) (before : Option Element) → lookup (same_id id) old ≡ None
-    → ((p : ElementId) → lookup (same_id p) new ≡ cond (same_id id p) (Some before) (lookup (same_id p) old))
-    → (p : ElementId) (last : Option Element)
-    → unwrap_or (lookup (same_id p) new) last ≡ unwrap_or (lookup (same_id p) old) (cond (same_id id p) before last)
-noted old new id before none is p last = ap (λ o. unwrap_or o last) (is p) ∙ by (same_id id p) refl
-  where
-    by : (b : Bool) → same_id id p ≡ b
-        → unwrap_or (cond b (Some before) (lookup (same_id p) old)) last ≡ unwrap_or (lookup (same_id p) old) (cond b before last)
-    by true s = sym (ap (λ o. unwrap_or o before) (ap (λ q. lookup (same_id q) old) (sym (same_id_exact id p s)) ∙ none))
-    by false s = refl
-
--- ---- ids that no event touched
-
-if_knows : (h : HeldGraphState) (o : Option Element) (x : Element) → IfSome o (IsKnown h) → o ≡ Some x → knows h (element_id_of x) ≡ true
-if_knows h o x known is = let here : IsKnown h x = subst (λ (q : Option Element). IfSome q (IsKnown h)) is known in here.itself
-
-untouched : (h : HeldGraphState) (set : List Element) (events : List Event) (p : ElementId) → IsGraph set → AllHappen set events → AllKnown h events → knows h p ≡ false
-    → at (replay_from set events) p ≡ at set p
-untouched h set [] p g happen known none = refl
-untouched h set (e ∷ events) p g happen known none =
-    untouched h (forwards set e) events p (graph_forwards set e.body g happen.0) happen.1 known.1 none
-    ∙ elsewhere set e g p (λ x f is. apart x is (if_knows h (removed_by e.body) x known.0.removed f)) (λ x f is. apart x is (if_knows h (added_by e.body) x known.0.added f))
-  where
-    apart : (x : Element) → element_id_of x ≡ p → knows h (element_id_of x) ≡ true → ⊥
-    apart x is there = true≢false (sym there ∙ ap (knows h) is ∙ none)
-
--- what an id that is not known has is as before the events
-pub led_untouched : (start : List Element) (events : List Event) (h : HeldGraphState) → Led start events h → (p : ElementId) → knows h p ≡ false → at start p ≡ at h.set p
-led_untouched start events h led p none =
-    sym (untouched h start events p led.graph led.happen led.known none) ∙ ap (λ s. at s p) (sym led.comes)

@@ -21,8 +21,12 @@ use Rattle.dg_now.specs.ElementIds.{element_id_of, at, same_id}
 use Rattle.dg_now.specs.Sorted.{AreNodesOf, OneOfEachId, has_ends, holder_of, is_held, least}
 use Rattle.dg_now.proofs.ElementIds.{both, either, has_node_is, graph_from}
 use Rattle.dg_now.proofs.HeldGraph.{same_id_from}
-use Rattle.dg_now.proofs.ToSet.{bool_is}
 use Rattle.dg_now.proofs.Order.{nodes_rise, edges_rise, node_values_rise, edge_values_rise, nodes_above, rises_far, rises_on, index_of, item_there, id_between, not_itself}
+
+bool_is : (a b : Bool) → (a ≡ true → b ≡ true) → (b ≡ true → a ≡ true) → a ≡ b
+bool_is true b f g = sym (f refl)
+bool_is false true f g = g refl
+bool_is false false f g = refl
 
 node_exact : (m n : ℕ) → element.Node m ≡ element.Node n → m ≡ n
 node_exact m n e = cc

@@ -8,5 +8,4 @@ pub mod EventEffect
 pub mod EventOf
 pub mod CompleteAll
 pub mod NowState
-pub mod ToSet
 pub mod IsGraph

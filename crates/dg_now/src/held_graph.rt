@@ -1,4 +1,4 @@
-ghost use Rattle.std.specs.Prelude.{◌≡◌, ◌≤◌, ◌<◌, true, false, [], None, length, slice_get, Some, IfOk, IsErrOf, OnOk};
+ghost use Rattle.std.specs.Prelude.{◌≡◌, ◌≤◌, ◌<◌, true, false, [], None, Some, IfOk, IsErrOf, OnOk};
 ghost use Rattle.std.specs.List.{list_any, IsDistinct};
 ghost use Rattle.dg_graph.specs.Elements.{has, put, take_out};
 ghost use Rattle.dg_graph.specs.Graph.{IsGraph, has_needs};
@@ -87,31 +87,6 @@ impl HeldGraph {
         self.base.facts();
         // Its clauses tell that the ids are distinct.
         self.elements.len();
-    }
-
-    /// The graph at the start.
-    pub(crate) fn base(&self) -> &SortedGraph
-        ensures { result.now ≡ self.now.base }
-    {
-        &self.base
-    }
-
-    /// How many ids have an entry.
-    pub(crate) fn len(&self) -> usize
-        ensures { result ≡ length self.now.ids }
-    {
-        self.elements.len()
-    }
-
-    /// The id with this number, in the order in which they were first touched.
-    pub(crate) fn id(&self, index: usize) -> ElementId
-        requires { index < length self.now.ids }
-        ensures { slice_get self.now.ids index ≡ Some result }
-    {
-        match self.elements.get_index(index) {
-            Some((id, _)) => *id,
-            None => unreachable!(),
-        }
     }
 
     /// The element with the id, if there is one.

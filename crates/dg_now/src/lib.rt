@@ -6,7 +6,6 @@
 mod completion;
 mod element_entry;
 mod element_id;
-mod element_list;
 mod ends;
 mod event_effect;
 mod fault;
@@ -15,8 +14,6 @@ mod held_graph;
 mod now;
 mod search;
 mod sorted_graph;
-#[cfg(test)]
-mod tests;
 
 pub use fault::{FromFault, PrepareFault};
 pub use now::Now;

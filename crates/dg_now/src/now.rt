@@ -8,7 +8,6 @@ ghost use Rattle.dg_now.specs.Now.{NowState, earliest_time_after, completed_batc
 
 use crate::completion::{is_change_of, value_in};
 use crate::element_id::{ElementId, element_before};
-use crate::element_list::{before_pending, first_changes, in_order, push};
 use crate::event_effect::{apply, complete_all, ready_for_changes, ready_for_event, undo};
 use crate::fault::{FromFault, PrepareFault};
 use crate::held_graph::HeldGraph;
@@ -206,27 +205,6 @@ impl Now {
         ensures { result ≡ edge_value self.now.graph id key }
     {
         value_in(self.element_at(ElementId::EdgeValue(id, key)))
-    }
-
-    /// The elements of the graph. An `Err` says that memory ran out.
-    pub fn to_set(&self) -> Result<Set, AllocError>
-        ensures { IfOk result (λ set. set ≡ self.now.graph) }
-    {
-        // The ids that have an entry are distinct, and those with none are as at the start.
-        self.held.facts();
-        let alloc = *self.pending.allocator();
-        let base = self.held.base();
-        let first = first_changes(alloc, &self.pending)?;
-        let mut lost = Vec::with_capacity(alloc, self.held.len())?;
-        let mut gained = Vec::with_capacity(alloc, self.held.len())?;
-        for index in 0..self.held.len() {
-            let id = self.held.id(index);
-            push(&mut lost, base.element_at(id))?;
-            push(&mut gained, before_pending(&first, &self.held, id))?;
-        }
-        let lost = in_order(lost);
-        let gained = in_order(gained);
-        base.elements().replaced(&lost, &gained)
     }
 }
 

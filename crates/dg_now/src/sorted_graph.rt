@@ -75,13 +75,6 @@ impl SortedGraph {
         self.elements.items().len()
     }
 
-    /// The elements.
-    pub(crate) fn elements(&self) -> &Set
-        ensures { result.now ≡ self.now }
-    {
-        &self.elements
-    }
-
     /// The element with the id, if there is one.
     pub(crate) fn element_at(&self, id: ElementId) -> Option<Element>
         ensures { result ≡ at self.now id }

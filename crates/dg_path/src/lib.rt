@@ -11,8 +11,6 @@ mod plan;
 mod route;
 mod search;
 mod table;
-#[cfg(test)]
-mod tests;
 mod tree;
 
 pub use adjacency::{Adjacency, thread};

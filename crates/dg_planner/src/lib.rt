@@ -10,8 +10,6 @@ mod links;
 mod nodes;
 mod places;
 mod planner;
-#[cfg(test)]
-mod tests;
 mod tree;
 
 pub use build::Base;

@@ -12,8 +12,6 @@ mod room;
 mod search;
 mod slots;
 mod sweep;
-#[cfg(test)]
-mod tests;
 
 pub use dg_cells::Cursor;
 pub use dg_query::Counts;

@@ -3,7 +3,7 @@ ghost use Rattle.std.specs.Prelude.{◌≡◌, ◌<◌, ◌≤◌, ℕ, true, fa
 ghost use Rattle.dg_graph.specs.Replay.{replay_from};
 ghost use Rattle.dg_pool.specs.declared.slots.SlotState.TheVariants as state;
 ghost use Rattle.dg_pool.specs.declared.pool.AttachFault.TheVariants.{Memory};
-ghost use Rattle.dg_pool.specs.Graphs.{PoolState, IsPool, graph_now, slot_graph, HaveCells, SameGraphs, slot_at, is_live};
+ghost use Rattle.dg_pool.specs.Graphs.{PoolState, graph_now, slot_graph, HaveCells, SameGraphs, slot_at, is_live};
 ghost use Rattle.dg_pool.specs.Sweeps.{union_of, cells_of, IsSweep, members_as};
 ghost use Rattle.dg_cells.specs.Rows.{AllHave};
 ghost use Rattle.dg_query.specs.Queries.{counts_of};
@@ -13,7 +13,7 @@ ghost use Rattle.dg_graph.specs.Elements.{IsSet, shown, has};
 ghost use Rattle.dg_graph.specs.Composition.{applied};
 
 use crate::counts::{base_counts, count_kinds, counts_after, no_counts, room_for};
-use crate::current::{change_all, pass_all, pass_delta};
+use crate::current::{pass_all, pass_delta};
 use crate::lengths::{count_all, count_needed};
 use crate::marks::mark;
 use crate::members::{has_member, list_now, next_member};
@@ -411,24 +411,5 @@ impl Pool {
     {
         self.cells.facts();
         count_needed(&self.cells, &self.slots)
-    }
-
-    /// Makes the current graph, which is empty, this set. Takes no memory.
-    pub fn set_now(&mut self, set: &Set)
-        requires empty { graph_now self.old ≡ [] }
-        requires there { AllHave self.old.rows set.now }
-        ensures now { graph_now self.new ≡ set.now }
-        ensures slots { (s : ℕ) → slot_graph self.new s ≡ slot_graph self.old s }
-    {
-        let (on_now, len) = list_on_now(&self.slots);
-        self.counts[0] = change_all(
-            &mut self.cells,
-            &self.slots,
-            &on_now[..len],
-            self.counts[0],
-            set.items(),
-            true,
-        );
-        self.cells.facts();
     }
 }

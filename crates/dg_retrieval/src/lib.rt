@@ -10,8 +10,6 @@ mod leads;
 mod node_lead;
 mod record_sets;
 mod retrieval;
-#[cfg(test)]
-mod tests;
 
 pub use fault::RetrievalFault;
 pub use graph_lead::{Beginning, GraphLead};

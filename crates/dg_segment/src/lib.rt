@@ -7,7 +7,5 @@ mod names;
 mod piece;
 mod records;
 mod segment;
-#[cfg(test)]
-mod tests;
 
 pub use segment::Segment;

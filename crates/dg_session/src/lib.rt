@@ -16,8 +16,6 @@ mod retrieving;
 mod session;
 mod snapshot;
 mod stop;
-#[cfg(test)]
-mod tests;
 
 pub use dg_start::StartFault;
 pub use session::Session;

@@ -6,8 +6,6 @@ mod merge;
 mod replace;
 mod search;
 mod set;
-#[cfg(test)]
-mod tests;
 
 pub use dg_graph::Element;
 pub use set::Set;

@@ -7,8 +7,6 @@ mod catalogue;
 mod point;
 mod segment_keys;
 mod shape;
-#[cfg(test)]
-mod tests;
 
 pub use catalogue::{
     BYTES_MAX, Catalogue, LISTS_MAX, catalogue_limits, column_length, column_offset,

@@ -12,8 +12,6 @@ mod reading;
 mod record;
 mod stored_history;
 mod testing;
-#[cfg(test)]
-mod tests;
 
 pub use fault::StartFault;
 pub use laws::{law_images_start_as_they_stand, law_starts_are_determined};

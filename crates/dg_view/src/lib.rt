@@ -4,8 +4,6 @@
 mod answers;
 mod elements;
 mod queries;
-#[cfg(test)]
-mod tests;
 mod view;
 mod walk;
 
