@@ -1,0 +1,3 @@
+pub mod OwnEvents
+pub mod Soundness
+pub mod SoundFiles
