@@ -1,3 +1,4 @@
 pub mod Rows
 pub mod Searching
 pub mod Attributes
+pub mod EdgeEnds

@@ -4,6 +4,8 @@ use Rattle.dg_graph.specs.declared.element.Element.{Element}
 use Rattle.dg_graph.specs.declared.element.Element.TheVariants.{Node, Edge, NodeAttr}
 use Rattle.dg_query.specs.declared.answers.Side.TheVariants as side
 use Rattle.dg_query.specs.Queries.{counts_of, neighbours_of, values_of}
+use Rattle.dg_view.specs.declared.ends.EdgeEnd.{EdgeEnd}
+use Rattle.dg_view.specs.EdgeEnds.{edges_at}
 
 graph : List Element
 graph = Node 1 ∷ Node 2 ∷ Edge 5 1 2 true ∷ Edge 6 2 2 true ∷ Edge 7 2 1 false ∷ NodeAttr 1 0 1 ∷ NodeAttr 2 0 1 ∷ []
@@ -19,3 +21,22 @@ beside = refl
 valued : values_of graph 1 ≡ record { key = 0; value = 1 } ∷ []
 unfolding graph
 valued = refl
+
+-- the edges of the graph by their ends
+ends : List EdgeEnd
+ends =
+    record { node = 1; edge = record { edge = 5; node = 2; side = side.Out } } ∷ record { node = 1; edge = record { edge = 7; node = 2; side = side.Both } }
+    ∷ record { node = 2; edge = record { edge = 5; node = 1; side = side.Inward } } ∷ record { node = 2; edge = record { edge = 6; node = 2; side = side.Out } }
+    ∷ record { node = 2; edge = record { edge = 7; node = 1; side = side.Both } } ∷ []
+
+at_1 : edges_at ends 1 ≡ neighbours_of graph 1
+unfolding graph ends
+at_1 = refl
+
+at_2 : edges_at ends 2 ≡ neighbours_of graph 2
+unfolding graph ends
+at_2 = refl
+
+at_3 : edges_at ends 3 ≡ neighbours_of graph 3
+unfolding graph ends
+at_3 = refl

@@ -1,2 +1,3 @@
+pub mod EdgeEnds
 pub mod NodeAnswer
 pub mod Walk

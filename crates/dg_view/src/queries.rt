@@ -4,8 +4,10 @@ ghost use Rattle.dg_pool.specs.Graphs.{slot_graph};
 ghost use Rattle.dg_pool.specs.Slots.{IsLive};
 ghost use Rattle.dg_pool.specs.Sweeps.{members_as};
 ghost use Rattle.dg_query.specs.Queries.{is_an_edge, neighbours_of, degree_of, values_of, attribute_of};
+ghost use Rattle.dg_view.specs.EdgeEnds.{IsAdjacencyOf};
 
 use crate::elements::{edge_at, is_structure, value_at, value_of_key};
+use crate::ends::{EdgeEnd, push_ends};
 use crate::walk::seek;
 use dg_graph::Element;
 use dg_pool::{Pool, Slot};
@@ -94,6 +96,23 @@ pub(crate) fn degree(pool: &Pool, slot: Slot, node: u64) -> u64
         at = behind;
     }
     degree
+}
+
+/// The edges at their ends, in their order.
+pub(crate) fn ends(alloc: Global, pool: &Pool, slot: Slot) -> Result<Vec<EdgeEnd>, AllocError>
+    requires { IsLive pool.now slot }
+    ensures { IfOk result (λ ends. IsAdjacencyOf (members_as (slot_graph pool.now slot.0)) ends.items) }
+{
+    let mut ends = Vec::with_capacity(alloc, edges(pool, slot).saturating_mul(2) as usize)?;
+    let mut at = seek(pool, slot, &FIRST_EDGE);
+    while let Some((element, behind)) = pool.next_member(slot, at) {
+        if !is_structure(&element) {
+            break;
+        }
+        push_ends(&mut ends, &element)?;
+        at = behind;
+    }
+    Ok(ends)
 }
 
 /// The attributes of a node.

@@ -4,8 +4,10 @@ ghost use Rattle.dg_pool.specs.Graphs.{slot_graph};
 ghost use Rattle.dg_pool.specs.Slots.{IsLive};
 ghost use Rattle.dg_pool.specs.Sweeps.{members_as};
 ghost use Rattle.dg_query.specs.Queries.{counts_of, neighbours_of, degree_of, attribute_of};
+ghost use Rattle.dg_view.specs.EdgeEnds.{IsAdjacencyOf};
 ghost use Rattle.dg_view.specs.NodeAnswer.{IsNodeOf};
 
+use crate::adjacency::Adjacency;
 use crate::answers::NodeView;
 use crate::queries;
 use dg_graph::Element;
@@ -90,5 +92,33 @@ impl<'a> View<'a> {
         ensures { IfOk result (λ list. list.items ≡ neighbours_of self.now id) }
     {
         queries::neighbours(alloc, self.pool, self.slot, id)
+    }
+
+    /// The edges of the graph by their ends, for many queries of this graph. A walk over the cells of all edges,
+    /// and O(E log E). An `Err` says that memory ran out.
+    pub fn adjacency(&self, alloc: Global) -> Result<Adjacency, AllocError>
+        ensures { IfOk result (λ adjacency. IsAdjacencyOf self.now adjacency) }
+    {
+        Adjacency::sorted(queries::ends(alloc, self.pool, self.slot)?)
+    }
+
+    /// As `node`, with the degree from the adjacency of the graph: three searches, and a walk over the node's
+    /// attributes. An `Err` says that memory ran out.
+    pub fn node_with(
+        &self,
+        alloc: Global,
+        adjacency: &Adjacency,
+        id: u64,
+    ) -> Result<Option<NodeView>, AllocError>
+        requires { IsAdjacencyOf self.now adjacency.now }
+        ensures { IfOk result (λ node. IsNodeOf self.now id node) }
+    {
+        let node = Element::Node { id };
+        if !self.pool.member(self.slot, &node) {
+            return Ok(None);
+        }
+        let degree = adjacency.degree(id);
+        let attributes = queries::values(alloc, self.pool, self.slot, id)?;
+        Ok(Some(NodeView { degree, attributes }))
     }
 }
