@@ -1,0 +1,46 @@
+ghost use Rattle.std.specs.Prelude.{◌≡◌, IfOk, false};
+ghost use Rattle.clap.specs.Words.{app_of, rule_of};
+ghost use Rattle.dg_words.specs.WrittenForm.{checked_rule, form, index_rule};
+
+use clap::{Arg, ArgAction, Command, value_parser};
+use std::alloc::{AllocError, Global};
+
+/// The index file, by which its value is read back.
+pub const INDEX: &str = "INDEX";
+
+/// The flag `--checked`, by which it is read back.
+pub const CHECKED: &str = "checked";
+
+// The program, as clap names it.
+const PROGRAM: &str = "deltagraph";
+
+/// `deltagraph [--checked] INDEX`, over the words after the program's name. It asks for no help and for
+/// no version.
+pub fn command<'a>(alloc: Global) -> Result<Command<'a>, AllocError>
+    ensures shape { IfOk result (λ command. app_of command ≡ form) }
+{
+    let bare = Command::new(alloc, PROGRAM)
+        .no_binary_name(true)
+        .disable_help_flag(true)
+        .disable_version_flag(true);
+    bare.arg(index(alloc))?.arg(checked(alloc))
+}
+
+// `INDEX`, one word that has to be there.
+fn index<'a>(alloc: Global) -> Arg<'a>
+    ensures rule { rule_of result ≡ index_rule }
+    ensures local { result.global ≡ false }
+{
+    Arg::new(alloc, INDEX).required(true).action(ArgAction::Set)
+}
+
+// `--checked`, which takes no value.
+fn checked<'a>(alloc: Global) -> Arg<'a>
+    ensures rule { rule_of result ≡ checked_rule }
+    ensures local { result.global ≡ false }
+{
+    Arg::new(alloc, CHECKED)
+        .long(CHECKED)
+        .action(ArgAction::SetTrue)
+        .value_parser(value_parser!(bool))
+}
