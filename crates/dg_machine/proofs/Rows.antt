@@ -290,7 +290,7 @@ two_groups : generated 7 16
 unfolding digits asked_by
 two_groups = refl
 
--- the greatest seed: its numbers come to the edge and the value of node 1 again
+-- of the greatest seed, whose fifth change sets the kind of node 1 once more
 greatest_seed : generated 18446744073709551615 8
     ≡ asked_by (codes "1000 +node 1\n1000 +node 2\n1001 +edge 1 1 2 undir\n1001 nset 1 kind v2\n1002 nset 1 kind v4\n1002 eset 1 w 87\n1003 ndel 1 kind\n1003 nset 2 name n0\n")
 unfolding digits asked_by
