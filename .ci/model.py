@@ -650,6 +650,9 @@ def check(program, index, seed):
         ask_plans(rng, history, case)
         ask_graphs(rng, history, changes, case)
         ask_handles(rng, history, changes, case)
+        if (seed + batch) % 2:
+            case.script.append("verify")
+            case.reply(f"ok verify sound {len(history.sizes)}")
         if rng.random() < 0.5:
             case.run(history.file())
     case.run(history.file())
@@ -733,6 +736,8 @@ def check_damage(program, index, seed):
         listed = [f"handle {handle + i} {time} {single}" for i, (time, single) in enumerate(zip(times, singles))]
         case.reply(f"ok several {graph.tree_weight(targets)} {sum(singles)}", *listed)
         case.give([set() for _ in times], [None for _ in times])
+    case.script.append("verify")
+    case.reply(f"ok verify unsound {damaged} {'sne'[column]}")
     case.script += [f"append {len(lines)}"] + lines
     if damaged in met:
         case.reply(told)

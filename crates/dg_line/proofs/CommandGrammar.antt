@@ -71,6 +71,8 @@ each_command =
     ▸ row (two_row time columns _)
     ▸ row (three_row time columns from_0 _)
     ▸ row (no_words _)
+    ▸ row (no_words _)
+    ▸ row (two_row id count _)
     ▸ tt
 
 abbrev pub commands : Rows (read_by command_verbs)

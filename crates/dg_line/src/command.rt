@@ -51,7 +51,9 @@ const COMMANDS: &[&[Symbol]] = &[
     &[Symbol::OneOf(&[b"pool"])],
     &[Symbol::OneOf(&[b"plan"]), TIME, COLUMNS],
     &[Symbol::OneOf(&[b"certify"]), TIME, COLUMNS, COUNT_FROM_0],
+    &[Symbol::OneOf(&[b"verify"])],
     &[Symbol::OneOf(&[b"tree"])],
+    &[Symbol::OneOf(&[b"workload"]), ID, COUNT],
 ];
 
 /// The line is in no command; the column, from 1, at which it leaves the grammar.
@@ -61,7 +63,8 @@ pub struct Syntax(pub u32);
 
 /// The command that the line is, or the column at which it leaves the grammar of commands: it is 1
 /// more than the length of the longest prefix of the line that is a prefix of some command. The number
-/// of lines that follow a command, of its instants, or of its cells, is in its range. It takes no memory.
+/// of lines that follow a command, of its generated changes, of its instants, or of its cells, is in its
+/// range. It takes no memory.
 pub fn read_command(line: &[u8]) -> Result<Command, Syntax>
     ensures command { result_ok result ≡ command_of line.now }
     ensures ranges { IfOk result (λ c. CountIsInRange c) }
@@ -119,8 +122,12 @@ fn command(line: &[u8]) -> Option<Command>
         plan(words)
     } else if verb == b"certify".as_slice() {
         certify(words)
+    } else if verb == b"verify".as_slice() {
+        verify(words)
     } else if verb == b"tree".as_slice() {
         tree(words)
+    } else if verb == b"workload".as_slice() {
+        workload(words)
     } else {
         None
     }
@@ -340,6 +347,15 @@ fn certify(mut words: Words) -> Option<Command>
     Some(Command::Certify { t, cols, count })
 }
 
+// `verify`, from the words after it, of which there may be none.
+fn verify(words: Words) -> Option<Command>
+    ensures command { result ≡ none_more Command.Verify words.entry }
+    ensures range { IfSome result (λ c. CountIsInRange c) }
+{
+    words.end()?;
+    Some(Command::Verify)
+}
+
 // `tree`, from the words after it, of which there may be none.
 fn tree(words: Words) -> Option<Command>
     ensures command { result ≡ none_more Command.Tree words.entry }
@@ -349,7 +365,21 @@ fn tree(words: Words) -> Option<Command>
     Some(Command::Tree)
 }
 
-// The number of lines of a batch.
+// `workload ID COUNT`, from the words after `workload`: the seed and the number of changes.
+fn workload(mut words: Words) -> Option<Command>
+    ensures command { result ≡ two id_of count_of (λ seed count. Command.Workload seed count) words.entry }
+    ensures range { IfSome result (λ c. CountIsInRange c) }
+{
+    let seed = id(words.next()?)?;
+    let changes = count(words.next()?)?;
+    words.end()?;
+    Some(Command::Workload {
+        seed,
+        count: changes,
+    })
+}
+
+// The number of lines or of generated changes of a batch.
 fn count(word: &[u8]) -> Option<u32>
     ensures count { result ≡ count_of word.now }
     ensures range { IfSome result (λ n. (1 ≤ n) × (n ≤ BATCH_LINES_MAX)) }

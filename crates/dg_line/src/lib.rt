@@ -19,5 +19,6 @@ pub use dg_history::{Key, NodeId};
 pub use dg_machine::{BodyLine, BodyLines, Command, Head, Refusal, Reply, TIMES_MAX};
 pub use dg_plan::{PlanLine, Verdict};
 pub use dg_query::{Counts, KeyValue, Neighbour, Side};
+pub use dg_sound::Soundness;
 pub use plan_line::read_plan_line;
 pub use reply::write_reply;

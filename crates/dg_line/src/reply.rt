@@ -1,5 +1,5 @@
 ghost use Rattle.std.specs.Prelude.{◌≡◌, ◌≤◌, ◌++◌, [], ◌∷◌, map, take, codes, decimal, if◌then◌else◌, OnOk, OnErr};
-ghost use Rattle.dg_machine.specs.ReplyText.{text, body_text, column_word, head_words, element_words, body_words, function_word, key_words, node_words, refusal_words, side_word, verdict_words};
+ghost use Rattle.dg_machine.specs.ReplyText.{text, body_text, column_word, head_words, element_words, body_words, function_word, key_words, node_words, refusal_words, side_word, soundness_words, verdict_words};
 ghost use Rattle.dg_graph.specs.Names.{name_text};
 ghost use Rattle.dg_io.specs.Told.{grown, GrowsByPart, CountRose};
 ghost use Rattle.dg_line.specs.Buffered.{IsBuffered, word_bytes};
@@ -13,6 +13,7 @@ use dg_machine::{BodyLine, Head, Refusal, Reply};
 use dg_names::Names;
 use dg_plan::Verdict;
 use dg_query::{Counts, Neighbour, Side};
+use dg_sound::Soundness;
 
 const OK: Word<'static> = Word::Text(b"ok");
 
@@ -95,6 +96,13 @@ fn head_line(head: &Head) -> ReplyLine<'static>
             leaves,
             records,
         } => tree_line(l, k, function, events, leaves, records),
+        Head::Verified(soundness) => soundness_line(soundness),
+        Head::Generated {
+            events,
+            last,
+            nodes,
+            edges,
+        } => generated_line(events, last, nodes, edges),
         Head::Refused(refusal) => refusal_line(refusal),
     }
 }
@@ -215,6 +223,41 @@ fn verdict_line(verdict: Verdict) -> ReplyLine<'static>
         Verdict::NotTight => line.put(Word::Text(b"not-tight")),
     }
     line
+}
+
+// The head line of what is said of the file.
+fn soundness_line(soundness: Soundness) -> ReplyLine<'static>
+    ensures words { map word_bytes (take result.len result.words) ≡ codes "ok" ∷ codes "verify" ∷ soundness_words soundness }
+    ensures len { result.len ≤ WORDS_MAX }
+{
+    let mut line = ReplyLine::of(&[OK, Word::Text(b"verify")]);
+    match soundness {
+        Soundness::Sound(records) => {
+            line.put(Word::Text(b"sound"));
+            line.put(Word::Number(records));
+        }
+        Soundness::Unsound(key, column) => {
+            line.put(Word::Text(b"unsound"));
+            line.put_key(key);
+            line.put(Word::Text(column_letter(column)));
+        }
+    }
+    line
+}
+
+// The head line of a generated batch: its events, the last instant, and the nodes and edges of the graph behind it.
+fn generated_line(events: u64, last: u64, nodes: u64, edges: u64) -> ReplyLine<'static>
+    ensures words { map word_bytes (take result.len result.words) ≡ codes "ok" ∷ codes "workload" ∷ decimal events ∷ decimal last ∷ decimal nodes ∷ decimal edges ∷ [] }
+    ensures len { result.len ≤ WORDS_MAX }
+{
+    ReplyLine::of(&[
+        OK,
+        Word::Text(b"workload"),
+        Word::Number(events),
+        Word::Number(last),
+        Word::Number(nodes),
+        Word::Number(edges),
+    ])
 }
 
 // The head line of the parameters of the index, its events, leaves and records.

@@ -1,10 +1,13 @@
 -- Worked examples, computed by the definitions: each script with the text that is due.
-use Rattle.std.specs.Prelude.{◌≡◌, ℕ, List, [], ◌∷◌, ◌++◌, Option, Some, None, codes, refl}
+use Rattle.std.specs.Prelude.{◌≡◌, ℕ, List, [], ◌∷◌, ◌++◌, Option, Some, None, codes, map, refl}
 use Rattle.std.specs.Fmt.{digits}
 use Rattle.dg_graph.specs.declared.function.Function.TheVariants.{Intersection}
+use Rattle.dg_graph.specs.Lines.{lines_of}
 use Rattle.dg_machine.specs.declared.reply.Refusal.TheVariants as refusal
 use Rattle.dg_machine.specs.Answer.{Answered, answer, refuse}
+use Rattle.dg_history.specs.ChangeGrammar.{ChangeByText, change_by_text_in}
 use Rattle.dg_history.specs.History.{History, empty_history}
+use Rattle.dg_machine.specs.GeneratedChanges.{generated, next_number}
 use Rattle.dg_machine.specs.MachineState.{MachineState, machine_at, names_in}
 use Rattle.dg_history.specs.declared.node.NodeId.{NodeId}
 use Rattle.dg_history.specs.declared.node.NodeId.TheVariants as node
@@ -270,3 +273,48 @@ resting : over_five (steps_are (0 ∷ []) ∷ grafts_are (graft node.Root (1 ∷
     ≡ made_five ++ codes "ok materialise 1 26\nend\nok several 40 40\nhandle 2 20 0\nhandle 3 30 40\nhandle 4 40 0\nend\nrefused 10 in-use 2\nend\nok release 2\nend\nrefused 10 in-use 3\nend\nok release 4\nend\nrefused 10 in-use 3\nend\nok release 3\nend\nok release 1\nend\n"
 unfolding digits due_from over_five due_of_none five made_five due_in output answered
 resting = refl
+
+-- ---- generated changes, and the file
+
+-- the number behind the seed 7
+number_behind : next_number 7 ≡ 9098160460397411210
+number_behind = refl
+
+-- what the lines of a batch ask for
+asked_by : List ℕ → List (Option ChangeByText)
+asked_by bytes = map change_by_text_in (lines_of bytes)
+
+-- an even and an odd group of changes, as the lines that ask for the same
+two_groups : generated 7 16
+    ≡ asked_by (codes "1000 +node 1\n1000 +node 2\n1001 +edge 1 1 2 undir\n1001 nset 1 kind v3\n1002 nset 2 kind v0\n1002 eset 1 w 19\n1003 ndel 1 kind\n1003 nset 2 name n0\n1004 +node 3\n1004 +node 4\n1005 +edge 2 3 4 undir\n1005 nset 3 kind v0\n1006 nset 1 kind v2\n1006 eset 2 w 80\n1007 edel 2 w\n1007 -edge 2\n")
+unfolding digits asked_by
+two_groups = refl
+
+-- of the greatest seed, whose fifth change sets the kind of node 1 once more
+greatest_seed : generated 18446744073709551615 8
+    ≡ asked_by (codes "1000 +node 1\n1000 +node 2\n1001 +edge 1 1 2 undir\n1001 nset 1 kind v2\n1002 nset 1 kind v4\n1002 eset 1 w 87\n1003 ndel 1 kind\n1003 nset 2 name n0\n")
+unfolding digits asked_by
+greatest_seed = refl
+
+-- The kind of node 1 is there as of 1002, and is taken away at 1003; the edge of an even group stays.
+workload : due_of_none (no_plan ∷ no_plan ∷ steps_are (0 ∷ []) ∷ no_plan ∷ steps_are (3 ∷ []) ∷ []) (codes "create 256 4 balanced\nworkload 7 8\nat 1003 sne\nlist 1\nat 1002 sne\nlist 2\n")
+    ≡ codes "ok create\nend\nok workload 8 1003 2 1\nend\nok at 1 0\nend\nok list 1 6\nnode 1\nnode 2\nedge 1 1 2 undir\nnattr 2 kind v0\nnattr 2 name n0\neattr 1 w 19\nend\nok at 2 0\nend\nok list 2 6\nnode 1\nnode 2\nedge 1 1 2 undir\nnattr 1 kind v3\nnattr 2 kind v0\neattr 1 w 19\nend\n"
+unfolding digits due_from due_of_none due_in output answered
+workload = refl
+
+-- the edge of an odd group goes again
+odd_group : due_of_none (no_plan ∷ no_plan ∷ steps_are (0 ∷ []) ∷ []) (codes "create 256 4 balanced\nworkload 7 16\nat 1007 sne\nlist 1\n")
+    ≡ codes "ok create\nend\nok workload 16 1007 4 1\nend\nok at 1 0\nend\nok list 1 10\nnode 1\nnode 2\nnode 3\nnode 4\nedge 1 1 2 undir\nnattr 1 kind v2\nnattr 2 kind v0\nnattr 2 name n0\nnattr 3 kind v0\neattr 1 w 19\nend\n"
+unfolding digits due_from due_of_none due_in output answered
+odd_group = refl
+
+-- without an index, after an event, and with a seed or a number of changes outside its range
+refused_workloads : due_of_none [] (codes "workload 7 8\nverify\ncreate 256 4 balanced\nworkload 7 0\nworkload 7 1048577\nworkload 18446744073709551616 1\nworkload 7\nworkload 7 1 1\nverify 1\nverify\nworkload 5 2\nworkload 7 1048576\nload 1\n1000 +node 3\nverify\n")
+    ≡ codes "refused 2 no-index\nend\nrefused 2 no-index\nend\nok create\nend\nrefused 1 syntax 1\nend\nrefused 1 syntax 1\nend\nrefused 1 syntax 1\nend\nrefused 1 syntax 1\nend\nrefused 1 syntax 1\nend\nrefused 1 syntax 1\nend\nok verify sound 0\nend\nok workload 2 1000 2 0\nend\nrefused 20 already-loaded\nend\nrefused 20 already-loaded\nend\nok verify sound 0\nend\n"
+unfolding digits due_from due_of_none due_in output answered
+refused_workloads = refl
+
+-- the lists, the top and the downs that `tree` prints
+verified : over_five [] (codes "verify\n") ≡ made_five ++ codes "ok verify sound 5\nend\n"
+unfolding digits due_from over_five due_of_none five made_five due_in output answered
+verified = refl

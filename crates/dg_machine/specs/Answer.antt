@@ -8,6 +8,7 @@ use Rattle.dg_graph.specs.declared.element.Element.{Element}
 use Rattle.dg_graph.specs.declared.element.Element.TheVariants as element
 use Rattle.dg_graph.specs.Elements.{has}
 use Rattle.dg_graph.specs.Lines.{ScriptLine}
+use Rattle.dg_graph.specs.Replay.{replay}
 use Rattle.dg_history.specs.Batch.{batch_of}
 use Rattle.dg_index.specs.FileOfHistory.{size}
 use Rattle.dg_history.specs.History.{History, Batch, empty_history, with_batch, events_of, last_time_from}
@@ -33,7 +34,10 @@ use Rattle.dg_machine.specs.declared.stands.Stands.{Stands}
 use Rattle.dg_machine.specs.declared.stands.Stands.TheVariants.{Overlay, Base}
 use Rattle.dg_machine.specs.MachineState.{MachineState, elements, elements_held, entry_at, history_in, without_handle}
 use Rattle.dg_machine.specs.CommandGrammar.{plan_line_in}
+use Rattle.dg_machine.specs.GeneratedChanges.{batch_of_changes, generated}
 use Rattle.dg_query.specs.Queries.{counts_of, degree_of, neighbours_of, values_of}
+use Rattle.dg_sound.specs.declared.soundness.Soundness.TheVariants.{Sound}
+use Rattle.dg_sound.specs.Soundness.{record_total}
 use Rattle.dg_machine.specs.Needs.{needs, refused, is_followed}
 use Rattle.dg_machine.specs.Planning.{Planned, IsPlanned, edges_in, nodes_in, point_for, record_edges_in}
 
@@ -66,6 +70,18 @@ with_new m z make (Ok b) =
 -- the next batch, with this head
 abbrev pub with_lines : MachineState → (ℕ → ℕ → ℕ → Head) → List ScriptLine → Answered
 with_lines m make lines = with_new m (history_in m.index) make (batch_of (history_in m.index) lines)
+
+-- the graph of the history with the next batch
+abbrev pub graph_with : History → Result Batch (ℕ × ℕ) → List Element
+graph_with z (Err fault) = []
+graph_with z (Ok b) = replay (events_of z ++ b.events)
+
+-- the generated batch, with the nodes and the edges of the graph behind it
+abbrev pub with_workload : MachineState → Result Batch (ℕ × ℕ) → Answered
+with_workload m made =
+    let graph = graph_with (history_in m.index) made in
+    with_new m (history_in m.index)
+    (λ events total last. head.Generated events last (counts_of graph).nodes (counts_of graph).edges) made
 
 -- the state with a new handle for this
 abbrev pub with_handle : MachineState → Stands → MachineState
@@ -171,6 +187,12 @@ tree_reply z = record {
   body = map (record_line z) (keys_of z.params (length (events_of z)));
 }
 
+-- ---- the file
+
+-- The file of a history is what its events determine: so many lists, tops and downs.
+abbrev pub verify_reply : History → Reply
+verify_reply z = headed (head.Verified (Sound (record_total z.params (length (events_of z)))))
+
 -- ---- the answer
 
 -- the answer to a command that is not refused by what it needs, with what is planned for it
@@ -208,7 +230,9 @@ accepted m (command.Plan t cols) lines p =
     say m (plan_reply (edges_in m cols) (nodes_in m cols) (weight_of (arcs_of (edges_in m cols)) p.steps) p.steps p.potentials)
 accepted m (command.Certify t cols count) lines p =
     say m (headed (head.Certified (judged (edges_in m cols) (nodes_in m cols) (point_for m t) (map plan_line_in lines))))
+accepted m command.Verify lines p = say m (verify_reply (history_in m.index))
 accepted m command.Tree lines p = say m (tree_reply (history_in m.index))
+accepted m (command.Workload seed count) lines p = with_workload m (batch_of_changes (history_in m.index) (generated seed count))
 
 -- the refusal, or else the answer of an accepted command
 abbrev pub answer_by : Option Refusal → MachineState → Command → List ScriptLine → Planned → Answered
@@ -246,6 +270,8 @@ is_refusal (head.CleanedAll cells) = false
 is_refusal (head.Pool live size) = false
 is_refusal (head.Plan weight steps) = false
 is_refusal (head.Certified verdict) = false
+is_refusal (head.Verified s) = false
+is_refusal (head.Generated events last nodes edges) = false
 is_refusal (head.Tree l k function events leaves records) = false
 
 -- a failed read of the index file
@@ -284,5 +310,7 @@ weight_told (head.CleanedAll cells) = 0
 weight_told (head.Pool live size) = 0
 weight_told (head.Plan weight steps) = 0
 weight_told (head.Certified verdict) = 0
+weight_told (head.Verified s) = 0
+weight_told (head.Generated events last nodes edges) = 0
 weight_told (head.Tree l k function events leaves records) = 0
 weight_told (head.Refused r) = 0

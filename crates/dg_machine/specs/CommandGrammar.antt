@@ -89,7 +89,9 @@ command_verbs =
     ∷ verb (codes "pool") (none_more command.Pool)
     ∷ verb (codes "plan") (two time_of columns_of (λ t cols. command.Plan t cols))
     ∷ verb (codes "certify") (three time_of columns_of count_from_0 (λ t cols n. command.Certify t cols n))
+    ∷ verb (codes "verify") (none_more command.Verify)
     ∷ verb (codes "tree") (none_more command.Tree)
+    ∷ verb (codes "workload") (two id_of count_of (λ seed n. command.Workload seed n))
     ∷ []
 
 -- the command that the line is
@@ -149,6 +151,7 @@ plan_line_in Long = None
 abbrev pub CountIsInRange : Command → Type 0
 CountIsInRange (command.Load count) = (1 ≤ count) × (count ≤ BATCH_LINES_MAX)
 CountIsInRange (command.Append count) = (1 ≤ count) × (count ≤ BATCH_LINES_MAX)
+CountIsInRange (command.Workload seed count) = (1 ≤ count) × (count ≤ BATCH_LINES_MAX)
 CountIsInRange (command.Certify t cols count) = count ≤ BATCH_LINES_MAX
 CountIsInRange (command.Several cols times count) = (1 ≤ count) × (count ≤ TIMES_MAX)
 CountIsInRange (command.Clean cells) = 1 ≤ cells

@@ -3,6 +3,7 @@ pub mod ReplyText
 pub mod MachineState
 pub mod Needs
 pub mod Planning
+pub mod GeneratedChanges
 pub mod Answer
 pub mod Script
 pub mod Run

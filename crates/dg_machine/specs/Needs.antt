@@ -72,7 +72,10 @@ needs command.CleanAll = record nothing_more { memory = false }
 needs command.Pool = record nothing_more { memory = false }
 needs (command.Plan t cols) = record nothing_more { index = true; instants = t ∷ [] }
 needs (command.Certify t cols count) = record nothing_more { lines = Some count; index = true; instants = t ∷ [] }
+needs command.Verify = record nothing_more { index = true; reads = true }
 needs command.Tree = record nothing_more { index = true }
+needs (command.Workload seed count) =
+    record nothing_more { index = true; unloaded = true; changes = count; reads = true; writes = true }
 
 abbrev pub or_none : Option ℕ → ℕ
 or_none None = 0

@@ -22,6 +22,8 @@ use Rattle.dg_history.specs.declared.node.NodeId.TheVariants as node
 use Rattle.dg_query.specs.declared.answers.Side.{Side}
 use Rattle.dg_query.specs.declared.answers.Side.TheVariants as side
 use Rattle.dg_plan.specs.declared.certificate.Verdict.{Verdict}
+use Rattle.dg_sound.specs.declared.soundness.Soundness.{Soundness}
+use Rattle.dg_sound.specs.declared.soundness.Soundness.TheVariants.{Sound, Unsound}
 use Rattle.dg_plan.specs.declared.certificate.Verdict.TheVariants as verdict
 
 -- the words of an element's line
@@ -66,6 +68,11 @@ verdict_words (verdict.Line i) = codes "line" ∷ decimal i ∷ []
 verdict_words (verdict.Step i) = codes "step" ∷ decimal i ∷ []
 verdict_words (verdict.Potential at) = codes "potential" ∷ node_words at
 verdict_words verdict.NotTight = codes "not-tight" ∷ []
+
+-- the words of what is said of the file
+abbrev pub soundness_words : Soundness → List (List ℕ)
+soundness_words (Sound records) = codes "sound" ∷ decimal records ∷ []
+soundness_words (Unsound k col) = codes "unsound" ∷ (key_words k ++ column_word col ∷ [])
 
 -- the word of the side of a node on which an edge lies
 abbrev pub side_word : Side → List ℕ
@@ -127,6 +134,9 @@ head_words (head.CleanedAll cells) = codes "ok" ∷ codes "clean" ∷ codes "all
 head_words (head.Pool live size) = codes "ok" ∷ codes "pool" ∷ decimal live ∷ decimal size ∷ []
 head_words (head.Plan weight steps) = codes "ok" ∷ codes "plan" ∷ decimal weight ∷ decimal steps ∷ []
 head_words (head.Certified v) = codes "ok" ∷ codes "certify" ∷ verdict_words v
+head_words (head.Verified s) = codes "ok" ∷ codes "verify" ∷ soundness_words s
+head_words (head.Generated events last nodes edges) =
+    codes "ok" ∷ codes "workload" ∷ decimal events ∷ decimal last ∷ decimal nodes ∷ decimal edges ∷ []
 head_words (head.Tree l k function events leaves records) =
     codes "ok" ∷ codes "tree" ∷ decimal l ∷ decimal k ∷ function_word function ∷ decimal events ∷ decimal leaves ∷ decimal records ∷ []
 head_words (head.Refused r) = codes "refused" ∷ refusal_words r

@@ -79,6 +79,13 @@ pub enum Command {
         cols: Columns,
         count: u32,
     },
+    /// Say whether the file is exactly what its own events determine.
+    Verify,
     /// Print the parameters of the index and its records.
     Tree,
+    /// Add the first `count` generated changes of this seed to the empty history as one batch.
+    Workload {
+        seed: u64,
+        count: u32,
+    },
 }

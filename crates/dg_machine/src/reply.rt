@@ -4,6 +4,7 @@ use dg_graph::{Column, Element, Function};
 use dg_history::{Key, NodeId};
 use dg_plan::Verdict;
 use dg_query::{Counts, KeyValue, Neighbour};
+use dg_sound::Soundness;
 use std::alloc::{AllocError, Global};
 use std::marker::Model;
 
@@ -106,6 +107,15 @@ pub enum Head {
         events: u64,
         leaves: u32,
         records: u64,
+    },
+    /// Whether the file is what its own events determine.
+    Verified(Soundness),
+    /// A generated batch was loaded: its events, the last instant, and the nodes and edges of the graph behind it.
+    Generated {
+        events: u64,
+        last: u64,
+        nodes: u64,
+        edges: u64,
     },
     /// The command was refused, and nothing has changed.
     Refused(Refusal),

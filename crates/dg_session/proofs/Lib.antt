@@ -15,6 +15,7 @@ pub mod AskStep
 pub mod AskedGraphs
 pub mod ReleaseStep
 pub mod PoolStep
+pub mod KeptAdjacencies
 pub mod ShownPlans
 pub mod PlanReplies
 pub mod PointNodes

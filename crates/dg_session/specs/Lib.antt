@@ -2,6 +2,7 @@ pub mod Parts
 pub mod SessionState
 pub mod Sweeps
 pub mod HeldIndex
+pub mod KeptAdjacency
 pub mod KeptPlanner
 pub mod BatchLines
 pub mod SessionStart

@@ -4,14 +4,16 @@ ghost use Rattle.std.specs.Prelude.{◌≡◌, ◌≤◌, ◌<◌, ℕ, true, If
 ghost use Rattle.dg_append.specs.AddedBatches.{AddsBatch, FailsBatch, IsBack, IsReady, ReadsNothing, TakesOlder};
 ghost use Rattle.dg_disk.specs.Counts.{Rose};
 ghost use Rattle.dg_disk.specs.Frame.{GoesOn};
-ghost use Rattle.dg_handles.specs.Handles.{IsTied};
+ghost use Rattle.dg_handles.specs.Handles.{IsTied, graphs_at};
 ghost use Rattle.dg_history.specs.declared.limits.TheConstants.{FILE_BYTES_MAX};
 ghost use Rattle.dg_pool.specs.Graphs.{graph_now, slot_graph};
 ghost use Rattle.dg_session.specs.BatchCommand.{HandlesStay};
 ghost use Rattle.dg_session.specs.HeldIndex.{HasNodes};
+ghost use Rattle.dg_session.specs.KeptAdjacency.{KeepsAdjacency};
 ghost use Rattle.dg_start.specs.StoredHistory.{IsHeldBy, IsSoundHistory, index_opening};
 
 use crate::batch_lines::BatchLines;
+use crate::kept_adjacency::KeptAdjacency;
 use dg_append::{AddedBatch, BatchFault, Front, add_batch};
 use dg_disk::Disk;
 use dg_handles::{Handles, law_tie_is_kept};
@@ -22,7 +24,7 @@ use std::thread::Threads;
 
 /// Adds the batch of these lines to the history, and takes the current graph of the pool past its events. No handle's
 /// graph changes. Where the disk failed while the batch was added, what the file holds is not known, so the history,
-/// the handles and their graphs are forgotten.
+/// the handles and their graphs are forgotten, and with them the adjacency that is kept of one.
 ///
 /// The faults are those of `add_batch`.
 pub fn add_changes<R: Threads, D: Disk>(
@@ -34,6 +36,7 @@ pub fn add_changes<R: Threads, D: Disk>(
     history: &mut StoredHistory,
     pool: &mut Pool,
     handles: &mut Handles,
+    adjacency: &mut KeptAdjacency,
     disk: &mut D,
 ) -> Result<AddedBatch, BatchFault>
     requires index { is_some history.old.index ≡ true }
@@ -43,6 +46,7 @@ pub fn add_changes<R: Threads, D: Disk>(
     requires pool { graph_now pool.old ≡ history.old.now.graph }
     requires tied { IsTied pool.old handles.old }
     requires nodes { HasNodes (index_opening history.old.index) handles.old.table }
+    requires adjacency { KeepsAdjacency handles.old.table (graphs_at pool.old handles.old.slots) adjacency.old }
     // what is added, or why nothing is
     ensures adds { IfOk result (λ added. IfSome (index_opening history.old.index) (λ o.
         AddsBatch o limit known history.old history.new (D.image disk.old) (D.image disk.new) batch.now.changes.items batch.now.front added)) }
@@ -54,6 +58,7 @@ pub fn add_changes<R: Threads, D: Disk>(
     ensures pool { graph_now pool.new ≡ history.new.now.graph }
     ensures tied { IsTied pool.new handles.new }
     ensures nodes { HasNodes (index_opening history.new.index) handles.new.table }
+    ensures adjacency { KeepsAdjacency handles.new.table (graphs_at pool.new handles.new.slots) adjacency.new }
     ensures handles { OnOk result (handles.new ≡ handles.old) }
     ensures graphs { OnOk result ((s : ℕ) → slot_graph pool.new s ≡ slot_graph pool.old s) }
     ensures handles_back { IfErr result (λ fault. HandlesStay fault handles.old handles.new pool.old pool.new) }
@@ -79,6 +84,7 @@ pub fn add_changes<R: Threads, D: Disk>(
             *history = StoredHistory::empty(alloc);
             *pool = Pool::new(alloc);
             handles.clear();
+            adjacency.forget();
             Err(BatchFault::Store)
         }
         Err(fault) => Err(fault),

@@ -7,6 +7,7 @@ mod adding;
 mod batch_command;
 mod batch_lines;
 mod halt;
+mod kept_adjacency;
 mod kept_planner;
 mod plan_lines;
 mod planning;

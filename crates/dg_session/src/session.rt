@@ -47,6 +47,7 @@ use crate::adding::add_changes;
 use crate::batch_command::BatchCommand;
 use crate::batch_lines::read_batch;
 use crate::halt::Halt;
+use crate::kept_adjacency::KeptAdjacency;
 use crate::kept_planner::KeptPlanner;
 use crate::plan_lines::read_plan_lines;
 use crate::planning::{has_node, judge, plan_reply};
@@ -87,6 +88,7 @@ pub struct Session {
     pool: Pool,
     handles: Handles,
     planner: KeptPlanner,
+    adjacency: KeptAdjacency,
     alloc: Global,
 }
 
@@ -96,6 +98,7 @@ impl Model for Session {
     ghost use Rattle.dg_machine.specs.MachineState.{IsWithin};
     ghost use Rattle.dg_pool.specs.Graphs.{graph_now};
     ghost use Rattle.dg_session.specs.HeldIndex.{HasNodes};
+    ghost use Rattle.dg_session.specs.KeptAdjacency.{KeepsAdjacency};
     ghost use Rattle.dg_session.specs.KeptPlanner.{IsKeptFor};
     ghost use Rattle.dg_session.specs.SessionState.{SessionState};
     ghost use Rattle.dg_start.specs.StoredHistory.{IsSoundHistory, index_opening};
@@ -123,7 +126,8 @@ impl Model for Session {
         × (graph_now s.pool ≡ s.history.now.graph)
         × IsTied s.pool s.handles
         × HasNodes (index_opening s.history.index) s.handles.table
-        × IsKeptFor (index_opening s.history.index) s.handles.table s.planner };
+        × IsKeptFor (index_opening s.history.index) s.handles.table s.planner
+        × KeepsAdjacency s.handles.table (graphs_at s.pool s.handles.slots) s.adjacency };
 }
 
 impl Session {
@@ -169,6 +173,7 @@ impl Session {
             pool,
             handles,
             planner: KeptPlanner::new(),
+            adjacency: KeptAdjacency::new(),
             alloc,
         })
     }
@@ -447,6 +452,7 @@ impl Session {
             &mut self.history,
             &mut self.pool,
             &mut self.handles,
+            &mut self.adjacency,
             disk,
         )?;
         Ok(headed(self.alloc, which.head(added)))
@@ -749,35 +755,23 @@ impl Session {
         Ok(headed(self.alloc, Head::Counts { handle, counts }))
     }
 
-    // The graph of a handle that stands for an instant, or why no node of it is asked for.
-    fn overlay_of(&self, handle: u32) -> Result<View<'_>, Refusal>
-        ensures graph { IfOk result (λ graph. graph_among handle self.now.parts.table self.now.parts.graphs ≡ Some graph) }
-        ensures live { OnOk result (is_some (entry_at handle self.now.parts.table) ≡ true) }
-        ensures overlay { OnOk result (is_base (entry_at handle self.now.parts.table) ≡ false) }
-        ensures refused { IfErr result (λ refusal. (id : ℕ) → refused_by self.now.parts 0 (needs (Command.Node handle id)) ≡ Some refusal) }
-    {
-        let graph = self.graph_of(handle)?;
-        if matches!(self.handles.stands(handle), Some(Stands::Base { .. })) {
-            return Err(Refusal::NotAnOverlay(handle));
-        }
-        Ok(graph)
-    }
-
     // A node of a handle's graph, with its degree and its attributes.
-    fn node(&self, handle: u32, id: u64) -> Result<Reply, Halt>
-        ensures comes { (image : Option (List ℕ)) → ComesTo (Command.Node handle id) [] self.now.parts image self.now.parts image result }
+    fn node(&mut self, handle: u32, id: u64) -> Result<Reply, Halt>
+        ensures comes { (image : Option (List ℕ)) → ComesTo (Command.Node handle id) [] self.old.parts image self.new.parts image result }
         ensures no_stop { (stop : Stop) → result ≡ Err (Halt.Stop stop) → ⊥ }
     {
-        let node = self.overlay_of(handle)?.node(self.alloc, id)?;
+        let graph = overlay_of(&self.handles, &self.pool, handle)?;
+        let node = self.adjacency.node(self.alloc, handle, &graph, id)?;
         Ok(node_reply(self.alloc, handle, id, node)?)
     }
 
     // The edges at a node of a handle's graph.
-    fn neighbours(&self, handle: u32, id: u64) -> Result<Reply, Halt>
-        ensures comes { (image : Option (List ℕ)) → ComesTo (Command.Neighbours handle id) [] self.now.parts image self.now.parts image result }
+    fn neighbours(&mut self, handle: u32, id: u64) -> Result<Reply, Halt>
+        ensures comes { (image : Option (List ℕ)) → ComesTo (Command.Neighbours handle id) [] self.old.parts image self.new.parts image result }
         ensures no_stop { (stop : Stop) → result ≡ Err (Halt.Stop stop) → ⊥ }
     {
-        let neighbours = self.overlay_of(handle)?.neighbours(self.alloc, id)?;
+        let graph = overlay_of(&self.handles, &self.pool, handle)?;
+        let neighbours = self.adjacency.neighbours(self.alloc, handle, &graph, id)?;
         Ok(neighbours_reply(self.alloc, handle, id, &neighbours)?)
     }
 
@@ -793,6 +787,7 @@ impl Session {
             return Err(Halt::Refusal(Refusal::InUse(dependent)));
         }
         forget_base(&mut self.planner, stands);
+        self.adjacency.forget_handle(handle);
         self.handles.release(&mut self.pool, handle);
         Ok(headed(self.alloc, Head::Released { handle }))
     }
@@ -897,6 +892,24 @@ fn are_parameters(params: Params) -> bool
     ensures { result ≡ are_parameters params.l params.k }
 {
     LEAF_MIN <= params.l && params.l <= LEAF_MAX && ARITY_MIN <= params.k && params.k <= ARITY_MAX
+}
+
+// The graph of a handle that stands for an instant, or why no node of it is asked for.
+fn overlay_of<'a>(handles: &Handles, pool: &'a Pool, handle: u32) -> Result<View<'a>, Refusal>
+    requires tied { IsTied pool.now handles.now }
+    ensures graph { IfOk result (λ graph. graph_among handle handles.now.table (graphs_at pool.now handles.now.slots) ≡ Some graph) }
+    ensures live { OnOk result (is_some (entry_at handle handles.now.table) ≡ true) }
+    ensures overlay { OnOk result (is_base (entry_at handle handles.now.table) ≡ false) }
+    ensures refused { IfErr result (λ refusal. (p : Parts) → p.table ≡ handles.now.table
+        → (id : ℕ) → refused_by p 0 (needs (Command.Node handle id)) ≡ Some refusal) }
+{
+    let Some(graph) = handles.view(pool, handle) else {
+        return Err(Refusal::UnknownHandle(handle));
+    };
+    if matches!(handles.stands(handle), Some(Stands::Base { .. })) {
+        return Err(Refusal::NotAnOverlay(handle));
+    }
+    Ok(graph)
 }
 
 // Forgets the planner, where this is among the bases that serve in it.

@@ -1,3 +1,2 @@
 pub mod OwnEvents
 pub mod Soundness
-pub mod SoundFiles

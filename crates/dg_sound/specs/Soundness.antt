@@ -10,7 +10,7 @@ use Rattle.dg_history.specs.declared.params.Params.{Params}
 use Rattle.dg_history.specs.History.{History, Batch}
 use Rattle.dg_index.specs.Hierarchy.{leaves, numbers}
 use Rattle.dg_index.specs.IndexRecords.{column_of_record, heights, lists_due, record_among}
-use Rattle.dg_index.specs.OpenedIndex.{Opened, Opening, column_at, entry_at, events_in}
+use Rattle.dg_index.specs.OpenedIndex.{Opened, column_at, entry_at, events_in}
 use Rattle.dg_index.specs.declared.entry.BatchEntry.{BatchEntry}
 use Rattle.dg_sound.specs.declared.soundness.Soundness.{Soundness}
 use Rattle.dg_sound.specs.declared.soundness.Soundness.TheVariants.{Sound, Unsound}

@@ -1,14 +1,16 @@
 use Rattle.std.proofs.Common.{◌≡◌, ℕ, ◌+◌, ◌++◌, List, Option, length, map, refl, sym, ◌∙◌, ap}
 use Rattle.std.proofs.lemmas.List.{length-map}
 use Rattle.dg_graph.specs.declared.element.Element.{Element}
-use Rattle.dg_handles.specs.Handles.{graphs_at, numbered, overlays_on}
+use Rattle.dg_handles.specs.Handles.{graphs_at, held_by, numbered, overlays_on}
 use Rattle.dg_machine.specs.declared.stands.Stands.{Stands}
+use Rattle.dg_pool.specs.Graphs.{graph_now}
 use Rattle.dg_retrieval.specs.declared.graph_lead.GraphLead.{GraphLead}
 use Rattle.dg_retrieval.specs.Beginnings.{base_of, led_to}
 use Rattle.dg_session.specs.contracts.session.Session.{the_view}
 use Rattle.dg_session.specs.Parts.{Parts}
 use Rattle.dg_session.specs.Reads.{bases_of, listed_by, with_new}
 use Rattle.dg_session.specs.SessionState.{SessionState}
+use Rattle.dg_session.proofs.KeptAdjacencies.{kept_after as adjacency_after}
 use Rattle.dg_session.proofs.NewHandles.{kept_after, nodes_after, on_three, overlays_length}
 use Rattle.dg_session.proofs.session.Session.add_handles.Goals as goal
 
@@ -35,6 +37,7 @@ pub invariant_of-self : goal.invariant_of-self
 invariant_of-self c =
     let index = (the_view c.self.inside).parts.index in
     let old = c.self.inside.handles in
+    let pool = c.self.inside.pool in
     let bases : List (Option ℕ) = bases_of c.args.leads.now in (
       c.self.invariant.0,
       c.self.invariant.1,
@@ -42,4 +45,7 @@ invariant_of-self c =
       c.add.ensures.tied,
       nodes_after c.add.result index old c.add.new.self c.args.cols c.args.times.now bases c.add.ensures.table c.add.ensures.err c.self.invariant.4,
       kept_after c.add.result index old c.add.new.self c.self.inside.planner c.args.cols c.args.times.now bases c.add.ensures.table c.add.ensures.err c.self.invariant.5,
+      adjacency_after c.add.result old c.add.new.self pool c.add.new.pool (numbered old.next (overlays_on c.args.cols c.args.times.now bases))
+          (map (led_to (graph_now pool) (held_by old.table (graphs_at pool old.slots)) c.args.cols) c.args.leads.now) c.self.inside.adjacency
+          c.add.ensures.table c.add.ensures.graphs c.add.ensures.err c.add.ensures.graphs_err c.self.invariant.6,
     )

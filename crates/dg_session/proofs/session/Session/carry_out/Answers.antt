@@ -182,16 +182,16 @@ returns-in-Counts-clause-reads g c =
 
 pub returns-in-Node-clause-comes : goal.returns-in-Node-clause-comes
 returns-in-Node-clause-comes g c =
-    alone c.args.command.now (command.Node c.in-Node.handle c.in-Node.id) (told c.args.lines.now (g.S.Source.left c.args.source.now)) c.args.self.now.parts (g.D.Disk.image c.args.disk.now) c.args.self.now.parts (g.D.Disk.image c.args.disk.now) c.node.result
+    alone c.args.command.now (command.Node c.in-Node.handle c.in-Node.id) (told c.args.lines.now (g.S.Source.left c.args.source.now)) c.args.self.now.parts (g.D.Disk.image c.args.disk.now) c.node.new.self.parts (g.D.Disk.image c.args.disk.now) c.node.result
     c.in-Node.is refl (c.node.ensures.comes (g.D.Disk.image c.args.disk.now))
 
 pub returns-in-Node-clause-store_read : goal.returns-in-Node-clause-store_read
 returns-in-Node-clause-store_read g c h =
-    absurd (fails_no_read (command.Node c.in-Node.handle c.in-Node.id) [] c.args.self.now.parts (g.D.Disk.image c.args.disk.now) c.args.self.now.parts (g.D.Disk.image c.args.disk.now) c.node.result refl (c.node.ensures.comes (g.D.Disk.image c.args.disk.now)) h)
+    absurd (fails_no_read (command.Node c.in-Node.handle c.in-Node.id) [] c.args.self.now.parts (g.D.Disk.image c.args.disk.now) c.node.new.self.parts (g.D.Disk.image c.args.disk.now) c.node.result refl (c.node.ensures.comes (g.D.Disk.image c.args.disk.now)) h)
 
 pub returns-in-Node-clause-damaged : goal.returns-in-Node-clause-damaged
 returns-in-Node-clause-damaged g c =
-    never_for_damage c.args.command.now (command.Node c.in-Node.handle c.in-Node.id) [] c.args.self.now.parts (g.D.Disk.image c.args.disk.now) c.args.self.now.parts (g.D.Disk.image c.args.disk.now) c.node.result c.in-Node.is refl (c.node.ensures.comes (g.D.Disk.image c.args.disk.now))
+    never_for_damage c.args.command.now (command.Node c.in-Node.handle c.in-Node.id) [] c.args.self.now.parts (g.D.Disk.image c.args.disk.now) c.node.new.self.parts (g.D.Disk.image c.args.disk.now) c.node.result c.in-Node.is refl (c.node.ensures.comes (g.D.Disk.image c.args.disk.now))
 
 pub returns-in-Node-clause-reads : goal.returns-in-Node-clause-reads
 returns-in-Node-clause-reads g c =
@@ -200,16 +200,16 @@ returns-in-Node-clause-reads g c =
 
 pub returns-in-Neighbours-clause-comes : goal.returns-in-Neighbours-clause-comes
 returns-in-Neighbours-clause-comes g c =
-    alone c.args.command.now (command.Neighbours c.in-Neighbours.handle c.in-Neighbours.id) (told c.args.lines.now (g.S.Source.left c.args.source.now)) c.args.self.now.parts (g.D.Disk.image c.args.disk.now) c.args.self.now.parts (g.D.Disk.image c.args.disk.now) c.neighbours.result
+    alone c.args.command.now (command.Neighbours c.in-Neighbours.handle c.in-Neighbours.id) (told c.args.lines.now (g.S.Source.left c.args.source.now)) c.args.self.now.parts (g.D.Disk.image c.args.disk.now) c.neighbours.new.self.parts (g.D.Disk.image c.args.disk.now) c.neighbours.result
     c.in-Neighbours.is refl (c.neighbours.ensures.comes (g.D.Disk.image c.args.disk.now))
 
 pub returns-in-Neighbours-clause-store_read : goal.returns-in-Neighbours-clause-store_read
 returns-in-Neighbours-clause-store_read g c h =
-    absurd (fails_no_read (command.Neighbours c.in-Neighbours.handle c.in-Neighbours.id) [] c.args.self.now.parts (g.D.Disk.image c.args.disk.now) c.args.self.now.parts (g.D.Disk.image c.args.disk.now) c.neighbours.result refl (c.neighbours.ensures.comes (g.D.Disk.image c.args.disk.now)) h)
+    absurd (fails_no_read (command.Neighbours c.in-Neighbours.handle c.in-Neighbours.id) [] c.args.self.now.parts (g.D.Disk.image c.args.disk.now) c.neighbours.new.self.parts (g.D.Disk.image c.args.disk.now) c.neighbours.result refl (c.neighbours.ensures.comes (g.D.Disk.image c.args.disk.now)) h)
 
 pub returns-in-Neighbours-clause-damaged : goal.returns-in-Neighbours-clause-damaged
 returns-in-Neighbours-clause-damaged g c =
-    never_for_damage c.args.command.now (command.Neighbours c.in-Neighbours.handle c.in-Neighbours.id) [] c.args.self.now.parts (g.D.Disk.image c.args.disk.now) c.args.self.now.parts (g.D.Disk.image c.args.disk.now) c.neighbours.result c.in-Neighbours.is refl (c.neighbours.ensures.comes (g.D.Disk.image c.args.disk.now))
+    never_for_damage c.args.command.now (command.Neighbours c.in-Neighbours.handle c.in-Neighbours.id) [] c.args.self.now.parts (g.D.Disk.image c.args.disk.now) c.neighbours.new.self.parts (g.D.Disk.image c.args.disk.now) c.neighbours.result c.in-Neighbours.is refl (c.neighbours.ensures.comes (g.D.Disk.image c.args.disk.now))
 
 pub returns-in-Neighbours-clause-reads : goal.returns-in-Neighbours-clause-reads
 returns-in-Neighbours-clause-reads g c =

@@ -3,6 +3,7 @@ use Rattle.dg_machine.specs.MachineState.{union_of}
 use Rattle.dg_session.specs.contracts.session.Session.{the_view}
 use Rattle.dg_session.specs.Parts.{Parts}
 use Rattle.dg_session.specs.SessionState.{SessionState}
+use Rattle.dg_session.proofs.KeptAdjacencies.{kept_on}
 use Rattle.dg_session.proofs.PoolStep.{clean_all_answers, graphs_same}
 use Rattle.dg_session.proofs.session.Session.clean_all.Goals as goal
 
@@ -19,3 +20,16 @@ returns-clause-comes c image =
     ∙ ap (λ (x : SessionState). length (union_of (x.parts.graph ∷ x.parts.graphs))) c.self.view_is in
     clean_all_answers c.args.self.now.parts _ c.cell_len-cells.result image c.headed.result
     ((λ i. let x : Parts = record view { graphs = same i } in x) ∙ ap (λ (x : SessionState). x.parts) c.self.view_is) size c.headed.ensures
+
+pub invariant_of-self : goal.invariant_of-self
+invariant_of-self c =
+    let s = c.self.inside in
+    let same = c.clean_all.ensures.graphs in (
+      c.self.invariant.0,
+      c.self.invariant.1,
+      same.now ∙ c.self.invariant.2,
+      c.law_tie_is_kept.ensures s.pool c.clean_all.new.self s.handles same.slots c.self.invariant.3,
+      c.self.invariant.4,
+      c.self.invariant.5,
+      kept_on s.pool c.clean_all.new.self s.handles s.adjacency same.slots c.self.invariant.6,
+    )

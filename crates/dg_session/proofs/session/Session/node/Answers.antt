@@ -1,35 +1,78 @@
-use Rattle.std.proofs.Common.{refl, true, []}
+use Rattle.std.proofs.Common.{[], true, refl, sym, ◌∙◌, ap, subst}
+use Rattle.std.specs.Prelude.{is_some}
+use Rattle.dg_handles.specs.Handles.{graph_among, graphs_at}
 use Rattle.dg_machine.specs.declared.command.Command.TheVariants as command
 use Rattle.dg_machine.specs.Answer.{node_reply}
+use Rattle.dg_machine.specs.MachineState.{entry_at}
+use Rattle.dg_machine.specs.Needs.{is_base}
 use Rattle.dg_session.specs.declared.halt.Halt.TheVariants as halt
-use Rattle.dg_session.specs.Session.{ComesTo}
-use Rattle.dg_session.proofs.Steps.{handed_out, refused_denies}
+use Rattle.dg_session.specs.Parts.{Parts}
+use Rattle.dg_session.specs.Session.{Accepts, ComesTo}
+use Rattle.dg_session.specs.SessionState.{SessionState}
 use Rattle.dg_session.proofs.AskedGraphs.{node_asks}
-use Rattle.dg_session.proofs.AskStep.{ask_answers, ask_lacks, ask_unknown}
+use Rattle.dg_session.proofs.AskStep.{ask_answers, ask_lacks}
+use Rattle.dg_session.proofs.KeptAdjacencies.{kept_alone, serves}
+use Rattle.dg_session.proofs.Steps.{handed_out, refused_denies}
 use Rattle.dg_session.proofs.session.Session.node.Goals as goal
 
-pub returns-in_err-overlay_of-clause-comes : goal.returns-in_err-overlay_of-clause-comes
-returns-in_err-overlay_of-clause-comes c image =
+pub returns-in_err-graph-clause-comes : goal.returns-in_err-graph-clause-comes
+returns-in_err-graph-clause-comes c image =
     let h = c.args.handle in
     let id = c.args.id in
-    handed_out c.from_residual.result (halt.Refusal c.in_err-overlay_of.field-0.0) (ComesTo (command.Node h id) [] c.args.self.now.parts image c.args.self.now.parts image) c.from_residual.ensures
-    (refused_denies (command.Node h id) [] c.args.self.now.parts c.args.self.now.parts image image c.in_err-overlay_of.field-0.0 refl refl (c.in_err-overlay_of.ensures.refused id))
+    let p : Parts = c.args.self.now.parts in
+    let table = ap (λ (x : SessionState). x.parts.table) (sym c.self.view_is) in
+    handed_out c.from_residual.result (halt.Refusal c.in_err-graph.field-0.0) (ComesTo (command.Node h id) [] p image p image) c.from_residual.ensures
+    (refused_denies (command.Node h id) [] p p image image c.in_err-graph.field-0.0 refl refl (c.in_err-graph.ensures.refused p table id))
+
+pub node-requires-clause-kept : goal.node-requires-clause-kept
+node-requires-clause-kept c =
+    let s = c.self.inside in
+    serves c.args.handle s.handles.table (graphs_at s.pool s.handles.slots) c.in_ok-graph.graph s.adjacency c.in_ok-graph.ensures.graph c.self.invariant.6
 
 pub returns-in_err-node-clause-comes : goal.returns-in_err-node-clause-comes
 returns-in_err-node-clause-comes c image =
     let h = c.args.handle in
     let id = c.args.id in
-    ask_lacks (command.Node h id) h true (node_reply h id) (node_asks h id) c.args.self.now.parts c.from_residual-in_err-node.result image refl c.from_residual-in_err-node.ensures c.in_ok-overlay_of.ensures.live c.in_ok-overlay_of.ensures.overlay
+    let p : Parts = c.args.self.now.parts in
+    let r = c.from_residual-in_err-node in
+    let live = ap (λ (x : SessionState). is_some (entry_at h x.parts.table)) (sym c.self.view_is) ∙ c.in_ok-graph.ensures.live in
+    let overlay = ap (λ (x : SessionState). is_base (entry_at h x.parts.table)) (sym c.self.view_is) ∙ c.in_ok-graph.ensures.overlay in
+    subst (λ (x : Parts). ComesTo (command.Node h id) [] p image x image r.result) (sym (ap (λ (x : SessionState). x.parts) c.self.view_is))
+    (ask_lacks (command.Node h id) h true (node_reply h id) (node_asks h id) p r.result image refl r.ensures live overlay)
 
 pub returns-in_err-node_reply-clause-comes : goal.returns-in_err-node_reply-clause-comes
 returns-in_err-node_reply-clause-comes c image =
     let h = c.args.handle in
     let id = c.args.id in
-    ask_lacks (command.Node h id) h true (node_reply h id) (node_asks h id) c.args.self.now.parts c.from_residual-in_err-node_reply.result image refl c.from_residual-in_err-node_reply.ensures c.in_ok-overlay_of.ensures.live c.in_ok-overlay_of.ensures.overlay
+    let p : Parts = c.args.self.now.parts in
+    let r = c.from_residual-in_err-node_reply in
+    let live = ap (λ (x : SessionState). is_some (entry_at h x.parts.table)) (sym c.self.view_is) ∙ c.in_ok-graph.ensures.live in
+    let overlay = ap (λ (x : SessionState). is_base (entry_at h x.parts.table)) (sym c.self.view_is) ∙ c.in_ok-graph.ensures.overlay in
+    subst (λ (x : Parts). ComesTo (command.Node h id) [] p image x image r.result) (sym (ap (λ (x : SessionState). x.parts) c.self.view_is))
+    (ask_lacks (command.Node h id) h true (node_reply h id) (node_asks h id) p r.result image refl r.ensures live overlay)
 
 pub returns-clause-comes : goal.returns-clause-comes
 returns-clause-comes c image =
     let h = c.args.handle in
     let id = c.args.id in
-    ask_answers (command.Node h id) h true (node_reply h id) (node_asks h id) c.args.self.now.parts c.in_ok-overlay_of.field-0 image c.in_ok-node_reply.field-0 c.in_ok-overlay_of.ensures.live c.in_ok-overlay_of.ensures.overlay c.in_ok-overlay_of.ensures.graph
-    (c.in_ok-node_reply.ensures c.in_ok-overlay_of.field-0 c.in_ok-node.ensures)
+    let p : Parts = c.args.self.now.parts in
+    let graph = c.in_ok-graph.graph in
+    let reply = c.in_ok-node_reply.field-0 in
+    let live = ap (λ (x : SessionState). is_some (entry_at h x.parts.table)) (sym c.self.view_is) ∙ c.in_ok-graph.ensures.live in
+    let overlay = ap (λ (x : SessionState). is_base (entry_at h x.parts.table)) (sym c.self.view_is) ∙ c.in_ok-graph.ensures.overlay in
+    let found = ap (λ (x : SessionState). graph_among h x.parts.table x.parts.graphs) (sym c.self.view_is) ∙ c.in_ok-graph.ensures.graph in
+    subst (λ (x : Parts). Accepts (command.Node h id) [] p image x image reply) (sym (ap (λ (x : SessionState). x.parts) c.self.view_is))
+    (ask_answers (command.Node h id) h true (node_reply h id) (node_asks h id) p graph image reply live overlay found
+    (c.in_ok-node_reply.ensures graph c.in_ok-node.ensures.node))
+
+pub invariant_of-self : goal.invariant_of-self
+invariant_of-self c =
+    let s = c.self.inside in (
+      c.self.invariant.0,
+      c.self.invariant.1,
+      c.self.invariant.2,
+      c.self.invariant.3,
+      c.self.invariant.4,
+      c.self.invariant.5,
+      kept_alone c.args.handle s.handles.table (graphs_at s.pool s.handles.slots) c.in_ok-graph.graph c.node.new.self c.in_ok-graph.ensures.graph c.node.ensures.kept,
+    )

@@ -4,12 +4,14 @@ use Rattle.dg_handles.specs.Handles.{graphs_at}
 use Rattle.dg_machine.specs.declared.command.Command.TheVariants as command
 use Rattle.dg_machine.specs.declared.reply.Refusal.TheVariants as refusal
 use Rattle.dg_machine.specs.declared.stands.Stands.{Stands}
-use Rattle.dg_machine.specs.MachineState.{dependent_on, entry_at}
+use Rattle.dg_machine.specs.MachineState.{dependent_on, entry_at, without_handle}
 use Rattle.dg_session.specs.contracts.session.Session.{the_view}
 use Rattle.dg_session.specs.HeldIndex.{HasNodeOf, HasNodes}
+use Rattle.dg_session.specs.KeptAdjacency.{KeepsAdjacency, kept_but}
 use Rattle.dg_session.specs.KeptPlanner.{IsKeptFor}
 use Rattle.dg_session.specs.Parts.{Parts}
 use Rattle.dg_session.specs.SessionState.{SessionState}
+use Rattle.dg_session.proofs.KeptAdjacencies.{kept_without as adjacency_without}
 use Rattle.dg_session.proofs.ReleaseStep.{all_without, kept_without, parts_without, release_answers, release_refused, release_used}
 use Rattle.dg_session.proofs.Steps.{refused_denies}
 use Rattle.dg_start.specs.StoredHistory.{index_opening}
@@ -45,6 +47,7 @@ pub invariant_of-self : goal.invariant_of-self
 invariant_of-self c =
     let s = c.self.inside in
     let h = c.args.handle in
+    let left = kept_but h s.adjacency in
     let index = index_opening s.history.index in (
       c.self.invariant.0,
       c.self.invariant.1,
@@ -53,4 +56,8 @@ invariant_of-self c =
       subst (HasNodes index) (sym c.release.ensures.table) (all_without (λ e. HasNodeOf index e.1) h s.handles.table c.self.invariant.4),
       subst (λ t. IsKeptFor index t c.forget_base.new.planner) (sym c.release.ensures.table)
           (kept_without index h s.handles.table c.in-Some.stands s.planner c.forget_base.new.planner (sym c.stands.ensures ∙ c.in-Some.is) c.forget_base.ensures.base c.forget_base.ensures.overlay c.self.invariant.5),
+      subst (λ k. KeepsAdjacency c.release.new.self.table (graphs_at c.release.new.pool c.release.new.self.slots) k) (sym c.forget_handle.ensures)
+          (subst (λ t. KeepsAdjacency t (graphs_at c.release.new.pool c.release.new.self.slots) left) (sym c.release.ensures.table)
+          (subst (λ gs. KeepsAdjacency (without_handle h s.handles.table) gs left) (sym c.release.ensures.graphs)
+          (adjacency_without h s.handles.table (graphs_at s.pool s.handles.slots) s.adjacency c.self.invariant.6))),
     )
