@@ -5,6 +5,7 @@ pub mod HeldIndex
 pub mod KeptAdjacency
 pub mod KeptPlanner
 pub mod BatchLines
+pub mod GeneratedBatch
 pub mod SessionStart
 pub mod Halt
 pub mod Session

@@ -46,6 +46,7 @@ ghost use Rattle.dg_session.specs.declared.stop.Stop.TheVariants as stop;
 use crate::adding::add_changes;
 use crate::batch_command::BatchCommand;
 use crate::batch_lines::read_batch;
+use crate::generated_batch::generated_batch;
 use crate::halt::Halt;
 use crate::kept_adjacency::KeptAdjacency;
 use crate::kept_planner::KeptPlanner;
@@ -311,6 +312,8 @@ impl Session {
             Command::Plan { t, cols } => self.plan(t, cols),
             Command::Certify { t, cols, count } => self.certify(t, cols, count, lines, source),
             Command::Tree => self.tree(),
+            Command::Verify => self.verify(disk),
+            Command::Workload { seed, count } => self.workload(rt, seed, count, disk),
         }
     }
 
@@ -456,6 +459,75 @@ impl Session {
             disk,
         )?;
         Ok(headed(self.alloc, which.head(added)))
+    }
+
+    // The batch that a seed leads to, as the history's first one.
+    fn workload<R: Threads, D: Disk>(
+        &mut self,
+        rt: &R,
+        seed: u64,
+        count: u32,
+        disk: &mut D,
+    ) -> Result<Reply, Halt>
+        requires some { 1 ≤ count }
+        requires few { count ≤ BATCH_LINES_MAX }
+        requires image { IfSome (D.image disk.old) (λ image. IsHeldBy self.old.parts.index self.old.parts.names image) }
+        // what it comes to
+        ensures comes { ComesTo (Command.Workload seed count) [] self.old.parts (D.image disk.old) self.new.parts (D.image disk.new) result }
+        // why it stops
+        ensures store { IsErrOf result (Halt.Stop Stop.Store) → DiskRose (D.write_faults disk.old) (D.write_faults disk.new) }
+        ensures no_read { IsErrOf result (Halt.Stop Stop.Read) → ⊥ }
+        ensures no_limit { IsErrOf result (Halt.Stop Stop.Limit) → ⊥ }
+        ensures store_read { IsErrOf result (Halt.Refusal Refusal.StoreRead)
+            → DiskRose (D.faults disk.old) (D.faults disk.new) × (D.write_faults disk.new ≡ D.write_faults disk.old) }
+        ensures damaged { DamageIn (Command.Workload seed count) self.old.parts (D.image disk.old) result }
+        // what it takes and leaves
+        ensures reads { ReadsIn (Command.Workload seed count) self.old.parts (D.image disk.old) result (D.taken disk.old) (D.taken disk.new) }
+        ensures disk { GoesOn D.image D.faults D.write_faults disk.old disk.new }
+    {
+        // It is barred by what bars a load.
+        if let Some(refusal) = self.barred(BatchCommand::Load, count) {
+            return Err(Halt::Refusal(refusal));
+        }
+        let known = self.history.names.len();
+        let batch = generated_batch(self.alloc, seed, count, &mut self.history.names)?;
+        self.planner.forget();
+        let added = add_changes(
+            rt,
+            self.alloc,
+            self.limits.file_bytes,
+            known,
+            &batch,
+            &mut self.history,
+            &mut self.pool,
+            &mut self.handles,
+            &mut self.adjacency,
+            disk,
+        )?;
+        let counts = self.pool.counts_now();
+        Ok(headed(
+            self.alloc,
+            Head::Generated {
+                events: added.events,
+                last: added.last,
+                nodes: counts.nodes,
+                edges: counts.edges,
+            },
+        ))
+    }
+
+    // What is said of the file: whether its parts are what its own events determine.
+    fn verify<D: Disk>(&mut self, disk: &mut D) -> Result<Reply, Halt>
+        requires image { IfSome (D.image disk.old) (λ image. IsHeldBy self.old.parts.index self.old.parts.names image) }
+        ensures comes { ComesTo Command.Verify [] self.old.parts (D.image disk.old) self.new.parts (D.image disk.new) result }
+        ensures no_stop { (stop : Stop) → result ≡ Err (Halt.Stop stop) → ⊥ }
+        ensures store_read { IsErrOf result (Halt.Refusal Refusal.StoreRead) → DiskRose (D.faults disk.old) (D.faults disk.new) }
+        ensures damaged { DamageIn Command.Verify self.old.parts (D.image disk.old) result }
+        ensures reads { ReadsIn Command.Verify self.old.parts (D.image disk.old) result (D.taken disk.old) (D.taken disk.new) }
+        ensures disk { OnlyReads D.image D.faults D.write_faults disk.old disk.new }
+    {
+        let _ = self.index()?;
+        Err(Halt::Refusal(Refusal::OutOfMemory))
     }
 
     // The index, or why nothing is asked of it.

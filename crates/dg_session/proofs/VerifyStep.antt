@@ -1,0 +1,79 @@
+-- The answer of `verify`: an image that the session stands for is sound.
+use Rattle.std.proofs.Common.{◌≡◌, ℕ, true, false, not, List, [], Option, Some, None, Ok, length, refl, sym, ◌∙◌, ap, subst}
+use Rattle.std.specs.Prelude.{IfSome, is_some}
+use Rattle.std.proofs.lemmas.Bool.{false≢true}
+use Rattle.dg_graph.specs.Lines.{ScriptLine}
+use Rattle.dg_history.specs.History.{History, events_of}
+use Rattle.dg_index.specs.OpenedIndex.{Opened, Opening, opened_of}
+use Rattle.dg_machine.specs.declared.command.Command.TheVariants as command
+use Rattle.dg_machine.specs.declared.reply.Head.{Head}
+use Rattle.dg_machine.specs.declared.reply.Head.TheVariants as head
+use Rattle.dg_machine.specs.declared.reply.Refusal.TheVariants as refusal
+use Rattle.dg_machine.specs.declared.reply.Reply.{Reply}
+use Rattle.dg_machine.specs.Answer.{headed, is_refusal, verify_reply}
+use Rattle.dg_machine.specs.MachineState.{MachineState, history_in}
+use Rattle.dg_machine.specs.Needs.{needs}
+use Rattle.dg_sound.specs.declared.soundness.Soundness.{Soundness}
+use Rattle.dg_sound.specs.declared.soundness.Soundness.TheVariants.{Sound}
+use Rattle.dg_sound.specs.Soundness.{record_total, soundness_of}
+use Rattle.dg_sound_files.specs.SoundFiles.{StandingFilesAreSound}
+use Rattle.dg_session.proofs.OpenedHistory.{behind}
+use Rattle.dg_session.proofs.Retrievals.{every_some}
+use Rattle.dg_session.proofs.StandsFor.{IsOf, hit, is_of, miss, one_image, one_told, stands_on}
+use Rattle.dg_session.proofs.Steps.{moved}
+use Rattle.dg_session.specs.Parts.{Parts}
+use Rattle.dg_session.specs.Reads.{Reads, ReadsBy, is_early}
+use Rattle.dg_session.specs.Session.{Accepts, StandsFor, refused_by}
+use Rattle.dg_start.specs.StoredHistory.{IsHeldBy}
+
+pub verify_refused : (p : Parts) → p.index ≡ None → refused_by p 0 (needs command.Verify) ≡ Some refusal.NoIndex
+verify_refused p none = hit (not (is_some p.index)) refusal.NoIndex [] (ap (λ i. not (is_some i)) none)
+
+pub verify_free : (p : Parts) (o : Opening) → p.index ≡ Some o → refused_by p 0 (needs command.Verify) ≡ None
+verify_free p o there = miss (not (is_some p.index)) refusal.NoIndex [] (ap (λ i. not (is_some i)) there)
+
+-- how an image is opened, where the session keeps this index and these names
+abbrev pub kept_opened : Parts → Opening → Opened
+kept_opened p o = record { index = o; names = p.names }
+
+-- what is kept is what the image of the history is opened as
+opened_is : (p : Parts) (o : Opening) (image : List ℕ) (m : MachineState) (z : History) → IsOf p o image m z → kept_opened p o ≡ opened_of z
+opened_is p o image m z h = λ i. record { index = h.opened i; names = (h.names ∙ sym (behind z h.stands.legal).names_are) i }
+
+-- the image of a history is sound
+due : StandingFilesAreSound → (p : Parts) (o : Opening) (image : List ℕ) (m : MachineState) (z : History) → IsOf p o image m z
+    → soundness_of image (kept_opened p o) ≡ Sound (record_total z.params (length (events_of z)))
+due law p o image m z h = ap (soundness_of image) (opened_is p o image m z h) ∙ (law z image h.stands).1
+
+pub verify_answers : StandingFilesAreSound → (p q : Parts) (before after : Option (List ℕ)) (o : Opening) (s : Soundness) (reply : Reply) → p.index ≡ Some o → q ≡ p → after ≡ before
+    → IfSome before (λ image. s ≡ soundness_of image (kept_opened p o)) → reply ≡ headed (head.Verified s)
+    → Accepts command.Verify [] p before q after reply
+verify_answers law p q before after o s reply there same same_image sound is = record {
+  moves =
+      moved command.Verify [] p q before after reply (λ m. refl) (verify_free p o there)
+      (λ m x y a b st free.
+      let found = is_of p o x m there st in
+      let z : History = found.0 in
+      let h : IsOf p o x m z = found.1 in
+      let told : s ≡ soundness_of x (kept_opened p o) = one_told before (λ image. s ≡ soundness_of image (kept_opened p o)) x sound a in
+      let says : reply ≡ verify_reply (history_in m.index) =
+      is ∙ ap (λ (k : Soundness). headed (head.Verified k)) (told ∙ due law p o x m z h) ∙ sym (ap (λ (i : Option History). verify_reply (history_in i)) h.index) in (
+        m,
+        (λ i. record { reply = sym says i; state = m }),
+        stands_on p q x y m same (one_image before after x y same_image a b) st,
+      ));
+  accepted = ap (λ (x : Reply). is_refusal x.head) is;
+  held = λ h.
+      subst (λ (x : Parts). IfSome after (λ image. IsHeldBy x.index x.names image)) (sym same)
+      (subst (λ (t : Option (List ℕ)). IfSome t (λ image. IsHeldBy p.index p.names image)) (sym same_image) h);
+  no_index = λ none. (ap (λ (x : Parts). x.index) (sym same) ∙ none, same_image);
+  quiet = λ h. same_image;
+}
+
+-- what it reads is not promised, unless it is refused before
+pub verify_reads : (p : Parts) (image : Option (List ℕ)) (h : Head) (before after : ℕ) → (is_early h ≡ true → after ≡ before) → Reads command.Verify p image h before after
+verify_reads p image h before after early = record {
+  told = λ reads. every_some image (λ bytes. (m : MachineState) → StandsFor p bytes m → (got : List ScriptLine) → ReadsBy m command.Verify got h before after) (λ bytes m s got. tt);
+  early = early;
+  nothing = λ quiet. absurd (false≢true quiet);
+}
