@@ -13,7 +13,10 @@ mod record;
 mod stored_history;
 mod testing;
 
+pub use event_source::EventSource;
 pub use fault::StartFault;
+pub use keys::has_key;
 pub use laws::{law_images_start_as_they_stand, law_starts_are_determined};
 pub use opening::{OpenedFile, open};
+pub use record::read_record;
 pub use stored_history::StoredHistory;
