@@ -1,6 +1,6 @@
 -- How the deltas of an index are compared with those that are due, one after another.
-use Rattle.std.proofs.Common.{◌≡◌, ℕ, zero, suc, ◌+◌, ◌<◌, ◌≤◌, List, [], ◌∷◌, ◌++◌, Option, Some, None, length, drop, take, map, get_or, slice_index_or, refl, sym, ◌∙◌, ap, subst, arith, add-one, append_assoc, length-append}
-use Rattle.std.proofs.lemmas.List.{drop_all, drop_more, length-map}
+use Rattle.std.proofs.Common.{◌≡◌, ℕ, zero, suc, ◌+◌, ◌<◌, ◌≤◌, List, [], ◌∷◌, ◌++◌, Option, Some, None, length, drop, take, map, get_or, slice_index_or, refl, sym, ◌∙◌, ap, subst, arith, append_assoc, length-append}
+use Rattle.std.proofs.lemmas.List.{drop_more, length-map}
 use Rattle.dg_graph.specs.declared.element.Column.{Column}
 use Rattle.dg_history.specs.declared.node.Key.{Key}
 use Rattle.dg_index.specs.declared.entry.Row.{Row}
@@ -133,7 +133,3 @@ module _ (told : Option (List ℕ)) (o : Opening) (kind : DeltaKind) (keys : Lis
       goes_first (stop.Wrong key col) k (Some c) later h = h
       goes_first stop.Disk k u later h = tt
       goes_first stop.Memory k u later h = tt
-
-pub all_compared : (told : Option (List ℕ)) (o : Opening) (kind : DeltaKind) (keys : List Key) (due : List Stored) (i : ℕ) → length keys ≤ i → DeltasGoOn told o kind keys due i
-    → WhereTold told (λ image. first_unlike image o kind keys due ≡ None)
-all_compared told o kind keys due i past so_far image h = so_far image h ∙ ap (λ (ks : List Key). first_unlike image o kind ks (drop i due)) (drop_all i keys past)

@@ -4,7 +4,7 @@ use Rattle.std.specs.Prelude.{nat_le}
 use Rattle.std.specs.List.{All}
 use Rattle.std.proofs.Math.Seq.{drop-cons}
 use Rattle.std.proofs.lemmas.Bool.{false≢true}
-use Rattle.std.proofs.lemmas.List.Elements.{All-append, All-nil}
+use Rattle.std.proofs.lemmas.List.Elements.{All-append}
 use Rattle.dg_columns.specs.NamesInRange.{NamesFit}
 use Rattle.dg_graph.specs.declared.element.Element.{Element}
 use Rattle.dg_graph.specs.declared.event.Event.{Event}
@@ -14,7 +14,7 @@ use Rattle.dg_graph.specs.Replay.{replay, replay_from}
 use Rattle.dg_history.specs.History.{last_time_from}
 use Rattle.dg_list.specs.NetLaws.{AreMadeByChanges}
 use Rattle.dg_now.specs.Now.{NowState}
-use Rattle.dg_sound.specs.OwnEvents.{are_completions, may_follow}
+use Rattle.dg_sound.specs.OwnEvents.{are_completions}
 use Rattle.dg_verify.specs.Verifying.{IsLed}
 
 pub both : (a b : Bool) → (a && b) ≡ true → (a ≡ true) × (b ≡ true)
@@ -77,12 +77,3 @@ led_more names before events after now then_now earliest led time fit right on n
       made = made_more [] before events led.made (made_so names (replay before) earliest events (ap (λ (s : List Element). are_completions names s earliest events) (sym led.graph) ∙ right));
       fit = All-append (λ (e : Event). NamesFit e.body) before events led.fit fit;
     })
-
-pub followed : (names : List (List ℕ)) (before events : List Event) (now : NowState) (earliest : ℕ) (may : Bool) → IsLed before now → earliest ≡ last_time_from 0 before
-    → may ≡ are_completions names now.graph earliest events → may ≡ may_follow names before events
-followed names before events now earliest may led time is = is ∙ (λ i. are_completions names (led.graph i) (time i) events)
-
--- no event
-pub none_led : (events : List Event) (now : NowState) → events ≡ [] → now.graph ≡ [] → now.pending ≡ [] → IsLed events now
-none_led events now none graph pending =
-    subst (λ (es : List Event). IsLed es now) (sym none) (record { graph = graph; pending = pending; made = tt; fit = All-nil (λ (e : Event). NamesFit e.body) })

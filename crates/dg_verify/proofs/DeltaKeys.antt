@@ -1,5 +1,5 @@
 -- The tops and downs of an index, kind by kind, are those in the order of keys.
-use Rattle.std.proofs.Common.{◌≡◌, ℕ, zero, suc, ◌+◌, ◌-◌, ◌*◌, ◌/◌, ◌^◌, ◌<◌, ◌≤◌, Bool, true, false, cond, ◌==◌, List, [], ◌∷◌, ◌++◌, Option, Some, None, length, map, filter, nat_le, refl, sym, ◌∙◌, ap, subst, arith, length-append, div-lt_iff_lt-mul, le-div_iff_mul-le}
+use Rattle.std.proofs.Common.{◌≡◌, ℕ, zero, suc, ◌+◌, ◌-◌, ◌*◌, ◌/◌, ◌^◌, ◌<◌, ◌≤◌, Bool, true, false, cond, ◌==◌, List, [], ◌∷◌, ◌++◌, Option, Some, None, length, map, filter, nat_le, refl, sym, ◌∙◌, ap, arith, length-append, div-lt_iff_lt-mul, le-div_iff_mul-le}
 use Rattle.std.specs.List.{flat_map}
 use Rattle.std.proofs.lemmas.Bool.{ne_eqb, leb-true, leb-false, le-leb, lt-leb}
 use Rattle.std.proofs.lemmas.List.{length-map, map-append}
@@ -9,17 +9,16 @@ use Rattle.dg_graph.specs.declared.event.Event.{Event}
 use Rattle.dg_history.specs.declared.node.Key.{Key}
 use Rattle.dg_history.specs.declared.node.Key.TheVariants as key
 use Rattle.dg_history.specs.declared.params.Params.{Params}
-use Rattle.dg_index.specs.FileOfHistory.{Stored, stored}
+use Rattle.dg_index.specs.FileOfHistory.{stored}
 use Rattle.dg_index.specs.Hierarchy.{children, leaves, numbers}
 use Rattle.dg_index.specs.IndexRecords.{deltas_due, deltas_due_at, deltas_of, heights, inner_due, lists_due, record_among}
-use Rattle.dg_index.specs.OpenedIndex.{Opened, Opening}
+use Rattle.dg_index.specs.OpenedIndex.{Opened}
 use Rattle.dg_index.proofs.DueNodes.{children_follow, numbers_length}
 use Rattle.dg_index.proofs.KeptColumns.{power_some}
 use Rattle.dg_sound.specs.Soundness.{delta_keys, first_wrong, or_later, record_total, wrong_column}
 use Rattle.dg_verify.specs.declared.deltas.DeltaKind.{DeltaKind}
 use Rattle.dg_verify.specs.declared.deltas.DeltaKind.TheVariants as delta
-use Rattle.dg_verify.specs.Deltas.{first_unlike, has_kind, unlike_of}
-use Rattle.dg_verify.specs.Verifying.{unlike}
+use Rattle.dg_verify.specs.Deltas.{first_unlike, has_kind}
 
 filter_flat : (t : Key → Bool) (f : ℕ → List Key) (xs : List ℕ) → filter t (flat_map f xs) ≡ flat_map (λ x. filter t (f x)) xs
 filter_flat t f [] = refl

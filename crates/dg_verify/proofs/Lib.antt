@@ -2,7 +2,6 @@ pub mod Outcomes
 pub mod LastTime
 pub mod Completions
 pub mod RecordsRead
-pub mod ComparedRecords
 pub mod ReadLists
 pub mod ReadPieces
 pub mod Parameters

@@ -1,19 +1,16 @@
 -- The ranges of an index's parameters, and how many lists some events give.
-use Rattle.std.proofs.Common.{◌≡◌, ℕ, ◌+◌, ◌-◌, ◌*◌, ◌/◌, ◌<◌, ◌≤◌, Bool, true, false, ◌&&◌, ◌==◌, nat_le, max, refl, sym, ◌∙◌, ap, subst, arith, add-mul, div-lt_iff_lt-mul, le-div_iff_mul-le, div-mul-le_self}
-use Rattle.std.proofs.lemmas.Bool.{eqb-true, eqb-false, leb-true}
-use Rattle.dg_history.specs.declared.params.Params.{Params}
+use Rattle.std.proofs.Common.{◌≡◌, ℕ, ◌+◌, ◌*◌, ◌/◌, ◌<◌, ◌≤◌, true, false, nat_le, max, arith, div-lt_iff_lt-mul, le-div_iff_mul-le, div-mul-le_self}
+use Rattle.std.proofs.lemmas.Bool.{eqb-false, leb-true}
 use Rattle.dg_history.specs.declared.params.TheConstants.{LEAF_MIN, LEAF_MAX, ARITY_MIN, ARITY_MAX}
 use Rattle.dg_history.specs.History.{are_parameters}
-use Rattle.dg_index.specs.Hierarchy.{leaves}
 use Rattle.dg_index.specs.OpenedIndex.{Opening, events_in}
 use Rattle.dg_index.specs.declared.entry.BatchEntry.{BatchEntry}
-use Rattle.dg_sound.specs.OwnEvents.{is_recent, list_total, piece_length}
+use Rattle.dg_sound.specs.OwnEvents.{is_recent, list_total}
 use Rattle.dg_verify.proofs.Completions.{both}
 
 -- the list size and the arity are in their ranges
 pub record InRange (l k : ℕ) : Type 0 where
   pub some : 0 < l
-  pub short : l ≤ 65536
   pub two : 2 ≤ k
   pub wide : 0 < k
 
@@ -24,7 +21,7 @@ in_range l k h =
     let c = both (nat_le ARITY_MIN k) (nat_le k ARITY_MAX) b.1 in
     let least = leb-true LEAF_MIN l a.0 in
     let two = leb-true ARITY_MIN k c.0 in
-    record { some = omega (arith, least); short = leb-true l LEAF_MAX b.0; two = two; wide = omega (arith, two) }
+    record { some = omega (arith, least); two = two; wide = omega (arith, two) }
 
 -- ---- the events of closed lists
 
@@ -32,29 +29,9 @@ module _ (n l : ℕ) (some : 0 < l) where
   pub closed_under : n / l * l ≤ n
   closed_under = div-mul-le_self n l
 
-  pub closed_over : n < n / l * l + l
-  closed_over =
-      let over : n < (n / l + 1) * l = (div-lt_iff_lt-mul some).0 (let z : n / l < n / l + 1 = omega arith in z) in
-      omega (arith, over, add-mul (n / l) 1 l)
-
--- the events behind the last closed list are fewer than a list has
-pub short_piece : (o : Opening) (before : ℕ) (b : BatchEntry) → 0 < o.params.l → o.params.l ≤ 65536 → piece_length o before b ≤ 65536
-short_piece o before b some short =
-    let n : ℕ = before + b.events in
-    omega (arith, closed_under n o.params.l some, closed_over n o.params.l some, short)
-
 -- ---- how many events there are behind a batch
 
 module _ (o : Opening) (before : ℕ) (b : BatchEntry) (some : 0 < o.params.l) (within : before + b.events ≤ events_in o.batches) where
-  -- a batch that is recent
-  pub recent_count : (old new : ℕ) → is_recent o before b ≡ true → old ≡ max (list_total o * o.params.l) before → new ≡ old + piece_length o before b
-      → new ≡ max (list_total o * o.params.l) (before + b.events)
-  recent_count old new recent was is =
-      let n : ℕ = before + b.events in
-      let same : n / o.params.l ≡ list_total o = eqb-true (n / o.params.l) (list_total o) recent in
-      let closed : n / o.params.l * o.params.l ≡ list_total o * o.params.l = ap (λ m. m * o.params.l) same in
-      omega (arith, was, is, closed, closed_under n o.params.l some)
-
   -- a batch that is older
   pub older_count : is_recent o before b ≡ false → max (list_total o * o.params.l) before ≡ max (list_total o * o.params.l) (before + b.events)
   older_count older =

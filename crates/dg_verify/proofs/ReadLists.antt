@@ -1,23 +1,21 @@
 -- How the lists of an index are read, one after another.
-use Rattle.std.proofs.Common.{◌≡◌, ℕ, zero, suc, ◌+◌, ◌-◌, ◌*◌, ◌<◌, ◌≤◌, Bool, true, false, ◌&&◌, List, [], ◌∷◌, ◌++◌, Option, Some, None, Result, Ok, Err, is_some, length, refl, sym, ◌∙◌, ap, subst, arith, add-mul}
-use Rattle.std.specs.Prelude.{nat_lt}
+use Rattle.std.proofs.Common.{◌≡◌, ℕ, suc, ◌+◌, ◌-◌, ◌*◌, ◌<◌, ◌≤◌, true, List, ◌∷◌, Option, Some, Result, Ok, is_some, sym, ◌∙◌, ap, subst, arith, add-mul}
 use Rattle.std.specs.Map.{lookup}
 use Rattle.std.proofs.lemmas.Bool.{lt-ltb}
 use Rattle.dg_graph.specs.declared.element.Column.{Column}
 use Rattle.dg_graph.specs.declared.event.Event.{Event}
 use Rattle.dg_history.specs.declared.node.Key.{Key}
 use Rattle.dg_history.specs.declared.node.Key.TheVariants as key
-use Rattle.dg_history.specs.History.{are_parameters}
 use Rattle.dg_history.specs.Keys.{same_key}
-use Rattle.dg_index.specs.Hierarchy.{leaves, numbers}
-use Rattle.dg_index.specs.IndexKeys.{AreKept, among, keys_among}
-use Rattle.dg_index.specs.OpenedIndex.{Opened, Opening, events_in}
+use Rattle.dg_index.specs.Hierarchy.{numbers}
+use Rattle.dg_index.specs.IndexKeys.{AreKept, among}
+use Rattle.dg_index.specs.OpenedIndex.{Opened, Opening}
 use Rattle.dg_index.proofs.HeldKeys.{exists_held, found}
 use Rattle.dg_sound.specs.OwnEvents.{and_then, list_total, listed_events, with_list, with_lists}
 use Rattle.dg_start.specs.Reading.{WhereTold}
 use Rattle.dg_verify.specs.declared.stop.Stop.{Stop}
 use Rattle.dg_verify.specs.declared.stop.Stop.TheVariants as stop
-use Rattle.dg_verify.specs.Verifying.{IsStop, opened_with}
+use Rattle.dg_verify.specs.Verifying.{IsStop}
 
 -- what stops the first stops all
 pub then_stops : {A B : Type 0} (x : Stop) (r : Result A (Key × Column)) (next : A → Result B (Key × Column)) → IsStop x r → IsStop x (and_then r next)
@@ -42,10 +40,6 @@ numbers_next i total lt = ap (numbers i) (let e : total - i ≡ suc (total - (i 
 -- all lists are read as these events with the lists from this one on
 abbrev pub ListsGoOn : Option (List ℕ) → Opened → ℕ → ℕ → List Event → Type 0
 ListsGoOn told x total i events = WhereTold told (λ image. listed_events image x ≡ with_lists image x events (numbers i (total - i)))
-
-pub none_listed : (told : Option (List ℕ)) (x : Opened) (total : ℕ) (events : List Event) → total ≡ list_total x.index → events ≡ [] → ListsGoOn told x total 0 events
-none_listed told x total events is none image h =
-    λ j. with_lists image x (sym none j) (numbers 0 ((sym is ∙ (let e : total ≡ total - 0 = omega arith in e)) j))
 
 module _ (told : Option (List ℕ)) (x : Opened) (total i : ℕ) (lt : i < total) (before : List Event) (so_far : ListsGoOn told x total i before) where
   next_list : (image : List ℕ) → told ≡ Some image → listed_events image x ≡ and_then (with_list image x before i) (λ events. with_lists image x events (numbers (i + 1) (total - (i + 1))))

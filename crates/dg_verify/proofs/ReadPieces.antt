@@ -1,5 +1,5 @@
 -- How the pieces of an index are read or compared, one after another.
-use Rattle.std.proofs.Common.{◌≡◌, ℕ, zero, suc, ◌+◌, ◌-◌, ◌*◌, ◌/◌, ◌<◌, ◌≤◌, Bool, true, false, ◌&&◌, ◌==◌, List, [], ◌∷◌, ◌++◌, Option, Some, None, Result, Ok, Err, if◌then◌else◌, length, drop, take, max, slice_get, refl, sym, ◌∙◌, ap, subst, arith}
+use Rattle.std.proofs.Common.{◌≡◌, ℕ, zero, suc, ◌+◌, ◌≤◌, Bool, true, false, ◌&&◌, List, [], ◌∷◌, Option, Some, None, Result, Ok, Err, if◌then◌else◌, length, drop, take, slice_get, refl, sym, ◌∙◌, ap, arith}
 use Rattle.std.proofs.lemmas.List.{drop_all}
 use Rattle.std.proofs.lemmas.List.Sums.{sum_by-cons}
 use Rattle.dg_graph.specs.declared.element.Column.{Column}
@@ -8,12 +8,10 @@ use Rattle.dg_graph.specs.declared.event.Event.{Event}
 use Rattle.dg_graph.specs.Columns.{events_column}
 use Rattle.dg_history.specs.declared.node.Key.{Key}
 use Rattle.dg_history.specs.declared.node.Key.TheVariants as key
-use Rattle.dg_index.specs.Hierarchy.{leaves}
 use Rattle.dg_index.specs.OpenedIndex.{Opened, Opening, events_in}
 use Rattle.dg_index.specs.declared.entry.BatchEntry.{BatchEntry}
 use Rattle.dg_sound.specs.OwnEvents.{and_then, has_batch_ends, if_columns, is_column_of, piece_length, piece_start, with_older, with_piece, with_pieces}
 use Rattle.dg_start.specs.Reading.{WhereTold}
-use Rattle.dg_start.proofs.EventSources.{batch_within}
 use Rattle.dg_verify.specs.declared.stop.Stop.{Stop}
 use Rattle.dg_verify.specs.declared.stop.Stop.TheVariants as stop
 use Rattle.dg_verify.specs.Verifying.{IsStop, IsWrong, keyed_column, opened_with, unlike}
@@ -29,9 +27,6 @@ from_here (x ∷ batches) (suc n) b there =
 pub record PiecesGoOn (told : Option (List ℕ)) (x : Opened) (listed : List Event) (number before : ℕ) (events : List Event) : Type 0 where
   pub goes_on : WhereTold told (λ image. with_pieces image x listed 0 0 x.index.batches ≡ with_pieces image x events number before (drop number x.index.batches))
   pub counted : before + events_in (drop number x.index.batches) ≡ events_in x.index.batches
-
-pub none_pieced : (told : Option (List ℕ)) (x : Opened) (listed : List Event) → PiecesGoOn told x listed 0 0 listed
-none_pieced told x listed = record { goes_on = λ image h. refl; counted = omega arith }
 
 module _ (told : Option (List ℕ)) (x : Opened) (listed : List Event) (number before : ℕ) (events : List Event) (b : BatchEntry)
     (there : slice_get x.index.batches number ≡ Some b) (so_far : PiecesGoOn told x listed number before events) where

@@ -1,5 +1,5 @@
 -- What is read of a record, and why nothing is, as the definitions of sound files have it.
-use Rattle.std.proofs.Common.{◌≡◌, ℕ, Bool, true, false, ◌&&◌, List, [], ◌∷◌, ◌++◌, Option, Some, None, Result, Ok, Err, length, refl, sym, ◌∙◌, ap, subst}
+use Rattle.std.proofs.Common.{◌≡◌, ℕ, Bool, List, Option, Some, None, Result, Ok, Err, length, refl, ◌∙◌, ap, subst}
 use Rattle.dg_graph.specs.declared.element.Column.{Column}
 use Rattle.dg_graph.specs.declared.element.Column.TheVariants as column
 use Rattle.dg_graph.specs.declared.event.Event.{Event}
@@ -8,7 +8,7 @@ use Rattle.dg_graph.specs.ColumnGrammar.{events_in as read_as_events}
 use Rattle.dg_graph.specs.ColumnMerge.{merged}
 use Rattle.dg_history.specs.declared.node.Key.{Key}
 use Rattle.dg_index.specs.OpenedIndex.{Opening, column_at, entry_at}
-use Rattle.dg_sound.specs.OwnEvents.{and_then, events_at, if_right, may_follow, merged_or, spelled_or, with_record}
+use Rattle.dg_sound.specs.OwnEvents.{and_then, events_at, merged_or, spelled_or, with_record}
 use Rattle.dg_start.specs.declared.fault.StartFault.{StartFault}
 use Rattle.dg_start.specs.declared.fault.StartFault.TheVariants as fault
 use Rattle.dg_start.specs.RecentReading.{Source, and_start, events_in_source, merged_or as merged_or_fault, spelled_or as spelled_or_fault}
@@ -41,10 +41,6 @@ same_events image names o s =
     then_read s.key column.EdgeAttr (read_as_events column.EdgeAttr (length names) (column_at image (entry_at o s.key) column.EdgeAttr)) _ _ (λ c.
     then_merged s.key (merged a b c s.count))))
 
-from_ok : (k : Key) (r : Result (List Event) Column) (events : List Event) → as_started k r ≡ Ok events → r ≡ Ok events
-from_ok k (Ok x) events h = cc
-from_ok k (Err col) events h = absurd cc
-
 from_err : (f : StartFault) (k : Key) (r : Result (List Event) Column) → IsReason f (as_started k r) → IsStop (of_read f) (keyed k r)
 from_err (fault.BadRecord key col) k (Ok x) h = absurd cc
 from_err (fault.BadRecord key col) k (Err c) h = cc
@@ -59,9 +55,6 @@ module _ (image : List ℕ) (names : List (List ℕ)) (o : Opening) (s : Source)
   as_events : events_in_source image n o s ≡ as_started s.key (events_at image (opened_with o names) s.key s.count)
   as_events = ap (λ (m : ℕ). events_in_source image m o s) counted ∙ same_events image names o s
 
-  pub events_read : (events : List Event) → events_in_source image n o s ≡ Ok events → events_at image (opened_with o names) s.key s.count ≡ Ok events
-  events_read events h = from_ok s.key (events_at image (opened_with o names) s.key s.count) events (sym as_events ∙ h)
-
   pub events_refused : (f : StartFault) → IsReason f (events_in_source image n o s) → IsStop (of_read f) (keyed s.key (events_at image (opened_with o names) s.key s.count))
   events_refused f h = from_err f s.key (events_at image (opened_with o names) s.key s.count) (subst (λ (r : Result (List Event) StartFault). IsReason f r) as_events h)
 
@@ -74,12 +67,3 @@ record_stops (stop.Wrong k' col) names k right before (Ok events) h = absurd cc
 record_stops (stop.Wrong k' col) names k right before (Err c) h = h
 record_stops stop.Disk names k right before r h = tt
 record_stops stop.Memory names k right before r h = tt
-
-module _ (names : List (List ℕ)) (k : Key) (right : List Event → Bool) (before events : List Event) (r : Result (List Event) Column) (read : r ≡ Ok events) where
-  pub record_stands : right events ≡ true → may_follow names before events ≡ true → with_record names k right before r ≡ Ok (before ++ events)
-  record_stands is_right may =
-      ap (with_record names k right before) read ∙ (λ i. if_right (is_right i && may i) k (before ++ events))
-
-  pub record_wrong : (right events && may_follow names before events) ≡ false → with_record names k right before r ≡ Err (k, column.Structure)
-  record_wrong wrong = ap (with_record names k right before) read ∙ ap (λ (b : Bool). if_right b k (before ++ events)) wrong
-

@@ -1,17 +1,15 @@
 -- What an index file is, by what was read and compared.
-use Rattle.std.proofs.Common.{◌≡◌, ℕ, ◌+◌, ◌<◌, List, [], Option, Some, None, Result, Ok, Err, length, map, filter, refl, sym, ◌∙◌, ap, subst}
+use Rattle.std.proofs.Common.{◌≡◌, ℕ, ◌+◌, ◌<◌, List, [], Option, Some, None, Result, Ok, length, map, filter, sym, ◌∙◌, ap, subst}
 use Rattle.dg_graph.specs.declared.element.Column.{Column}
 use Rattle.dg_graph.specs.declared.event.Event.{Event}
-use Rattle.dg_graph.specs.Graph.{IsGraph}
 use Rattle.dg_history.specs.declared.node.Key.{Key}
 use Rattle.dg_index.specs.FileOfHistory.{Stored, stored}
 use Rattle.dg_index.specs.Hierarchy.{leaves}
 use Rattle.dg_index.specs.IndexRecords.{deltas_due, record_among}
 use Rattle.dg_index.specs.OpenedIndex.{Opened, events_in}
-use Rattle.dg_sound.specs.declared.soundness.Soundness.{Soundness}
-use Rattle.dg_sound.specs.declared.soundness.Soundness.TheVariants.{Sound, Unsound}
+use Rattle.dg_sound.specs.declared.soundness.Soundness.TheVariants.{Sound}
 use Rattle.dg_sound.specs.OwnEvents.{and_then, listed_events, own_events, with_pieces}
-use Rattle.dg_sound.specs.Soundness.{delta_keys, first_wrong, judged, record_total, sound_unless, soundness_of}
+use Rattle.dg_sound.specs.Soundness.{first_wrong, judged, record_total, sound_unless, soundness_of}
 use Rattle.dg_verify.specs.declared.deltas.DeltaKind.{DeltaKind}
 use Rattle.dg_verify.specs.declared.deltas.DeltaKind.TheVariants as delta
 use Rattle.dg_verify.specs.declared.stop.Stop.{Stop}
@@ -19,17 +17,6 @@ use Rattle.dg_verify.specs.declared.stop.Stop.TheVariants as stop
 use Rattle.dg_verify.specs.Deltas.{first_unlike, has_kind}
 use Rattle.dg_verify.specs.Verifying.{IsStop, IsUnsound, IsWrong}
 use Rattle.dg_verify.proofs.DeltaKeys.{or_behind, total_is, wrong_by_kinds, wrong_of_kind}
-use Rattle.dg_verify.proofs.ReadLists.{then_stops}
-
--- the empty set is a graph
-pub empty_graph : IsGraph []
-empty_graph = record {
-  rises = tt;
-  needs = λ x e. cc;
-  one_edge = λ id src dst s t d f e g. cc;
-  one_node_value = λ id key v o e g. cc;
-  one_edge_value = λ id key v o e g. cc;
-}
 
 unsound_so : (image : List ℕ) (x : Opened) (s : Stop) (r : Result (List Event) (Key × Column)) → IsStop s r → IsUnsound s (judged image x r)
 unsound_so image x (stop.Wrong k col) r h = ap (judged image x) h
@@ -48,16 +35,9 @@ first_or_behind stop.Disk first later h = tt
 first_or_behind stop.Memory first later h = tt
 
 module _ (image : List ℕ) (x : Opened) where
-  pub lists_unsound : (s : Stop) → IsStop s (listed_events image x) → IsUnsound s (soundness_of image x)
-  lists_unsound s h =
-      unsound_so image x s (own_events image x) (then_stops s (listed_events image x) (λ listed. with_pieces image x listed 0 0 x.index.batches) h)
-
   module _ (listed : List Event) (is_listed : listed_events image x ≡ Ok listed) where
     pieced : own_events image x ≡ with_pieces image x listed 0 0 x.index.batches
     pieced = ap (λ r. and_then r (λ listed. with_pieces image x listed 0 0 x.index.batches)) is_listed
-
-    pub pieces_unsound : (s : Stop) → IsStop s (with_pieces image x listed 0 0 x.index.batches) → IsUnsound s (soundness_of image x)
-    pieces_unsound s h = unsound_so image x s (own_events image x) (subst (λ r. IsStop s r) (sym pieced) h)
 
     module _ (events : List Event) (is_pieced : with_pieces image x listed 0 0 x.index.batches ≡ Ok events) (wide : 0 < x.index.params.k)
         (keys : List Key) (due : List Stored) (many : length events ≡ events_in x.index.batches)

@@ -1,6 +1,6 @@
 -- How an index file is verified: what is known of the events that were read, what a comparison finds, and what a stop
 -- says.
-use Rattle.std.specs.Prelude.{◌≡◌, ℕ, ◌+◌, ◌*◌, ◌≤◌, Bool, true, false, List, [], ◌∷◌, Option, Some, None, Result, Ok, Err, bytes_eq, length, max, if◌then◌else◌}
+use Rattle.std.specs.Prelude.{◌≡◌, ℕ, ◌*◌, List, [], Option, Some, None, Result, Ok, Err, bytes_eq, length, max, if◌then◌else◌}
 use Rattle.std.specs.List.{All}
 use Rattle.dg_columns.specs.NamesInRange.{NamesFit}
 use Rattle.dg_graph.specs.declared.element.Column.{Column}
@@ -8,7 +8,6 @@ use Rattle.dg_graph.specs.declared.element.Column.TheVariants as column
 use Rattle.dg_graph.specs.declared.event.Event.{Event}
 use Rattle.dg_graph.specs.Replay.{replay}
 use Rattle.dg_history.specs.declared.node.Key.{Key}
-use Rattle.dg_index.specs.FileOfHistory.{Stored}
 use Rattle.dg_index.specs.OpenedIndex.{Opened, Opening, column_at, entry_at}
 use Rattle.dg_list.specs.NetLaws.{AreMadeByChanges}
 use Rattle.dg_now.specs.Now.{NowState}

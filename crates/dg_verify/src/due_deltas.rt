@@ -49,11 +49,7 @@ fn delta_keys(alloc: Global, params: Params, events: u64) -> Result<Vec<Key>, Al
 }
 
 /// The tops and downs that the events determine. `AllocError` for want of memory.
-pub fn due_deltas(
-    alloc: Global,
-    params: Params,
-    events: &[Event],
-) -> Result<DueDeltas, AllocError>
+pub fn due_deltas(alloc: Global, params: Params, events: &[Event]) -> Result<DueDeltas, AllocError>
     requires parameters { are_parameters params.l params.k ≡ true }
     requires few { length events.now ≤ EVENTS_MAX }
     requires fit { All (λ (e : Event). NamesFit e.body) events.now }
@@ -64,16 +60,7 @@ pub fn due_deltas(
     let count = events.len() as u64;
     let keys = delta_keys(alloc, params, count)?;
     let bare = Segment::new(alloc, count, first_time(events), last_time(events));
-    match build(
-        alloc,
-        params,
-        0,
-        &[],
-        events,
-        &Set::new(alloc),
-        &[],
-        bare,
-    ) {
+    match build(alloc, params, 0, &[], events, &Set::new(alloc), &[], bare) {
         Ok(segment) => Ok(DueDeltas { keys, segment }),
         Err(BuildFault::Memory) => Err(AllocError),
         // Such events lead to no delta that is too wide.

@@ -1,6 +1,5 @@
 //! Why an index file was not verified.
 
-
 use thiserror::Error;
 
 /// Why an index file was not verified.

@@ -28,12 +28,7 @@ pub struct OwnEvents {
 
 // Takes the graph past the event, where some change comes to it there. Answers whether one does and the event is
 // not earlier than the time.
-fn follow(
-    graph: &mut Now,
-    names: &Names,
-    earliest: u64,
-    event: &Event,
-) -> Result<bool, AllocError>
+fn follow(graph: &mut Now, names: &Names, earliest: u64, event: &Event) -> Result<bool, AllocError>
     requires { graph.old.pending ≡ [] }
     ensures right { IfOk result (λ right. right ≡ (completes names.now graph.old.graph event.now.body && nat_le earliest event.now.time)) }
     ensures on { IfOk result (λ right. right ≡ true → graph.new.graph ≡ forwards graph.old.graph event.now) }

@@ -1,5 +1,4 @@
-use Rattle.std.proofs.Common.{◌≡◌, ℕ, ◌+◌, ◌-◌, ◌≤◌, List, length, drop, take, subst, ap, sym, ◌∙◌, arith}
-use Rattle.dg_history.specs.declared.node.Key.{Key}
+use Rattle.std.proofs.Common.{◌≡◌, ◌-◌, length, drop, take, ap, ◌∙◌, arith}
 use Rattle.dg_index.specs.Hierarchy.{leaves}
 use Rattle.dg_index.specs.IndexRecords.{deltas_due}
 use Rattle.dg_verify.proofs.MadeDeltas.{between, lists_within, some_keys}
@@ -8,8 +7,13 @@ use Rattle.dg_verify.proofs.due_deltas.delta_keys.Goals as goal
 
 pub between-requires : goal.between-requires
 between-requires c =
-    omega (arith, c.deref.ensures.len, ap length c.deref.ensures.value, some_keys c.args.params c.args.events c.leaves-lists.result c.in_ok-keys.keys.items c.leaves-lists.ensures.leaves c.in_ok-keys.ensures,
-    lists_within c.args.params c.args.events c.leaves-lists.result c.in_ok-keys.keys.items c.leaves-lists.ensures.leaves c.in_ok-keys.ensures)
+    omega (
+      arith,
+      c.deref.ensures.len,
+      ap length c.deref.ensures.value,
+      some_keys c.args.params c.args.events c.leaves-lists.result c.in_ok-keys.keys.items c.leaves-lists.ensures.leaves c.in_ok-keys.ensures,
+      lists_within c.args.params c.args.events c.leaves-lists.result c.in_ok-keys.keys.items c.leaves-lists.ensures.leaves c.in_ok-keys.ensures,
+    )
 
 pub returns : goal.returns
 returns c =

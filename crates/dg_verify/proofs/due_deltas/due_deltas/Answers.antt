@@ -1,5 +1,4 @@
-use Rattle.std.proofs.Common.{◌≡◌, ◌<◌, ◌/◌, ◌+◌, List, [], length, map, refl, sym, ◌∙◌, ap, arith}
-use Rattle.dg_build.specs.declared.fault.BuildFault.{BuildFault}
+use Rattle.std.proofs.Common.{◌≡◌, ◌+◌, [], length, map, refl, sym, ◌∙◌, ap}
 use Rattle.dg_build.specs.declared.fault.BuildFault.TheVariants.{Memory, Wide}
 use Rattle.dg_index.specs.FileOfHistory.{Segment}
 use Rattle.dg_index.specs.Hierarchy.{leaves, set_of}

@@ -1,4 +1,4 @@
-use Rattle.std.proofs.Common.{◌≡◌, ℕ, ◌+◌, length, refl, sym, ◌∙◌, ap, arith}
+use Rattle.std.proofs.Common.{◌≡◌, ◌+◌, length, ◌∙◌, ap, arith}
 use Rattle.std.specs.Prelude.{Ok}
 use Rattle.dg_file.specs.Index.{IndexState}
 use Rattle.dg_index.specs.OpenedIndex.{Opening}

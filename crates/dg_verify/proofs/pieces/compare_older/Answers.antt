@@ -1,7 +1,6 @@
-use Rattle.std.proofs.Common.{◌≡◌, List, [], Ok, None, drop, take, sym, ◌∙◌}
-use Rattle.dg_graph.specs.declared.event.Event.{Event}
+use Rattle.std.proofs.Common.{◌≡◌, [], Ok, None, drop, take, sym, ◌∙◌}
 use Rattle.dg_history.specs.declared.node.Key.TheVariants as key
-use Rattle.dg_sound.specs.OwnEvents.{has_batch_ends, piece_length, piece_start, with_older}
+use Rattle.dg_sound.specs.OwnEvents.{piece_length, piece_start, with_older}
 use Rattle.dg_start.specs.Reading.{WhereTold}
 use Rattle.dg_verify.specs.declared.stop.Stop.{Stop}
 use Rattle.dg_verify.specs.Verifying.{IsStop, IsWrong, keyed_column, opened_with, unlike}
