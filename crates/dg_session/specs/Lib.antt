@@ -1,6 +1,7 @@
 pub mod Parts
 pub mod SessionState
 pub mod Sweeps
+pub mod Verified
 pub mod HeldIndex
 pub mod KeptAdjacency
 pub mod KeptPlanner

@@ -39,6 +39,7 @@ ghost use Rattle.dg_session.specs.Session.{ComesTo, StandsFor, Steps, Stops, Tak
 ghost use Rattle.dg_session.specs.SessionState.{handles_of};
 ghost use Rattle.dg_session.specs.SessionStart.{IsNew};
 ghost use Rattle.dg_session.specs.Sweeps.{SweepsNothing, SweepsPool};
+ghost use Rattle.dg_session.specs.Verified.{IsOfFile, VerifiesFile};
 ghost use Rattle.dg_start.specs.SessionStart.{PlansLastLeaf, RefusesStart, Starts, start_bytes};
 ghost use Rattle.dg_start.specs.StoredHistory.{IsHeldBy, index_opening, started_with};
 ghost use Rattle.dg_session.specs.declared.stop.Stop.TheVariants as stop;
@@ -72,7 +73,10 @@ use dg_names::Names;
 use dg_pool::Pool;
 use dg_retrieval::{GraphLead, NodeLead, RetrievalFault, Retrieved};
 use dg_set::Set;
+use dg_sound::Soundness;
+use dg_sound_files::law_standing_files_are_sound;
 use dg_start::{OpenedFile, StartFault, StoredHistory, open};
+use dg_verify::{VerifyFault, verify};
 use dg_view::View;
 use std::alloc::{AllocError, Global};
 use std::marker::Model;
@@ -241,6 +245,7 @@ impl Session {
         ensures store_read { IfOk result (λ reply. is_store_read reply.head ≡ true
             → DiskRose (D.faults disk.old) (D.faults disk.new) × (D.write_faults disk.new ≡ D.write_faults disk.old)) }
         ensures damaged { IfOk result (λ reply. DamageIs command.now self.old.parts (D.image disk.old) reply.head) }
+        ensures verified { IfOk result (λ reply. VerifiesFile command.now self.old.parts (D.image disk.old) reply.head) }
         ensures swept { IfOk result (λ reply. SweepsPool command.now self.old.pool self.new.pool reply.head) }
         // what it takes and leaves
         ensures reads { IfOk result (λ reply. Reads command.now self.old.parts (D.image disk.old) reply.head (D.taken disk.old) (D.taken disk.new)) }
@@ -277,6 +282,7 @@ impl Session {
         ensures store_read { IsErrOf result (Halt.Refusal Refusal.StoreRead)
             → DiskRose (D.faults disk.old) (D.faults disk.new) × (D.write_faults disk.new ≡ D.write_faults disk.old) }
         ensures damaged { DamageIn command.now self.old.parts (D.image disk.old) result }
+        ensures verified { IfOk result (λ reply. VerifiesFile command.now self.old.parts (D.image disk.old) reply.head) }
         ensures swept { IfOk result (λ reply. SweepsPool command.now self.old.pool self.new.pool reply.head) }
         ensures unswept { IfErr result (λ halt. SweepsNothing command.now) }
         // what it takes and leaves
@@ -516,18 +522,37 @@ impl Session {
         ))
     }
 
-    // What is said of the file: whether its parts are what its own events determine.
+    // Whether the file is what its own events determine, as the reply.
     fn verify<D: Disk>(&mut self, disk: &mut D) -> Result<Reply, Halt>
         requires image { IfSome (D.image disk.old) (λ image. IsHeldBy self.old.parts.index self.old.parts.names image) }
         ensures comes { ComesTo Command.Verify [] self.old.parts (D.image disk.old) self.new.parts (D.image disk.new) result }
         ensures no_stop { (stop : Stop) → result ≡ Err (Halt.Stop stop) → ⊥ }
         ensures store_read { IsErrOf result (Halt.Refusal Refusal.StoreRead) → DiskRose (D.faults disk.old) (D.faults disk.new) }
         ensures damaged { DamageIn Command.Verify self.old.parts (D.image disk.old) result }
+        ensures verified { IfOk result (λ reply. VerifiesFile Command.Verify self.old.parts (D.image disk.old) reply.head) }
         ensures reads { ReadsIn Command.Verify self.old.parts (D.image disk.old) result (D.taken disk.old) (D.taken disk.new) }
         ensures disk { OnlyReads D.image D.faults D.write_faults disk.old disk.new }
     {
+        law_standing_files_are_sound();
         let _ = self.index()?;
-        Err(Halt::Refusal(Refusal::OutOfMemory))
+        let soundness = self.soundness(disk)?;
+        Ok(headed(self.alloc, Head::Verified(soundness)))
+    }
+
+    // Whether the file is what its own events determine.
+    fn soundness<D: Disk>(&mut self, disk: &mut D) -> Result<Soundness, VerifyFault>
+        requires there { is_some self.old.parts.index ≡ true }
+        requires image { IfSome (D.image disk.old) (λ image. IsHeldBy self.old.parts.index self.old.parts.names image) }
+        ensures sound { IfOk result (λ soundness. IsOfFile self.old.parts (D.image disk.old) soundness) }
+        ensures cause { IsErrOf result VerifyFault.Disk → DiskRose (D.faults disk.old) (D.faults disk.new) }
+        // what it leaves
+        ensures same { self.new ≡ self.old }
+        ensures disk { OnlyReads D.image D.faults D.write_faults disk.old disk.new }
+    {
+        let Some(index) = &mut self.history.index else {
+            unreachable!()
+        };
+        verify(self.alloc, index, disk, &self.history.names)
     }
 
     // The index, or why nothing is asked of it.

@@ -1,10 +1,13 @@
 use Rattle.std.proofs.Common.{[], refl, sym, subst}
+use Rattle.std.specs.Prelude.{IfOk}
 use Rattle.dg_io.specs.LinesState.{told}
 use Rattle.dg_machine.specs.declared.command.Command.TheVariants as command
+use Rattle.dg_machine.specs.declared.reply.Reply.{Reply}
 use Rattle.dg_machine.specs.CommandGrammar.{CountIsInRange}
 use Rattle.dg_machine.specs.Needs.{following}
 use Rattle.dg_session.specs.Damage.{DamageIn}
 use Rattle.dg_session.specs.Reads.{ReadsIn}
+use Rattle.dg_session.specs.Verified.{VerifiesFile}
 use Rattle.dg_session.proofs.DamageStep.{never_for_damage}
 use Rattle.dg_session.proofs.ReadsStep.{fails_no_read, reads_nothing}
 use Rattle.dg_session.proofs.Steps.{Comes, alone}
@@ -278,3 +281,7 @@ workload-requires-clause-some g c = (subst CountIsInRange c.in-Workload.is c.req
 
 pub workload-requires-clause-few : goal.workload-requires-clause-few
 workload-requires-clause-few g c = (subst CountIsInRange c.in-Workload.is c.requires.command).1
+
+pub returns-in-Verify-clause-verified : goal.returns-in-Verify-clause-verified
+returns-in-Verify-clause-verified g c =
+    subst (λ x. IfOk c.verify.result (λ (reply : Reply). VerifiesFile x c.args.self.now.parts (g.D.Disk.image c.args.disk.now) reply.head)) (sym c.in-Verify.is) c.verify.ensures.verified
