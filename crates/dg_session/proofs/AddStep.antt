@@ -23,8 +23,8 @@ use Rattle.dg_history.specs.declared.params.Params.{Params}
 use Rattle.dg_graph.specs.CompletedChanges.{completed, on_value}
 use Rattle.dg_graph.specs.Lines.{ScriptLine}
 use Rattle.dg_graph.specs.Replay.{replay, replay_from}
-use Rattle.dg_history.specs.Batch.{batch_of, changes_after, names_after}
-use Rattle.dg_history.specs.ChangeGrammar.{change_by_text_in}
+use Rattle.dg_history.specs.Batch.{changes_after, names_after}
+use Rattle.dg_history.specs.ChangeGrammar.{ChangeByText, change_by_text_in}
 use Rattle.dg_index.specs.FileOfHistory.{Segment, segment_of, size}
 use Rattle.dg_index.specs.Hierarchy.{leaves}
 use Rattle.dg_index.specs.IndexGrowth.{index_with, needed_for}
@@ -42,22 +42,25 @@ use Rattle.dg_machine.specs.declared.reply.Head.TheVariants as head
 use Rattle.dg_machine.specs.declared.reply.Refusal.{Refusal}
 use Rattle.dg_machine.specs.declared.reply.Refusal.TheVariants as refusal
 use Rattle.dg_machine.specs.declared.reply.Reply.{Reply}
-use Rattle.dg_machine.specs.Answer.{Answered, accepted, answer, headed, is_refusal, refuse, with_new}
+use Rattle.dg_machine.specs.Answer.{Answered, answer, headed, refuse}
 use Rattle.dg_machine.specs.CutImage.{IsCut, As_before, As_after}
 use Rattle.dg_machine.specs.MachineState.{MachineState, elements, history_in}
-use Rattle.dg_machine.specs.Needs.{is_writing, needs, refused}
-use Rattle.dg_machine.specs.Planning.{IsPlanned, no_plan}
+use Rattle.dg_machine.specs.GeneratedChanges.{batch_of_changes, generated}
+use Rattle.dg_machine.specs.Needs.{needs, refused}
+use Rattle.dg_machine.specs.Planning.{no_plan}
 use Rattle.dg_machine.specs.Run.{Step}
 use Rattle.dg_machine.specs.Script.{Asked, Follows}
+use Rattle.dg_session.proofs.Additions.{Lines_of, Origin, Seed, accepted_made, adding, asked_fit, asked_from, head_over, lacks, ok_head, reads_records, unplanned, with_made, writes}
 use Rattle.dg_session.proofs.EventRanges.{ChangeFits, what_spelled}
+use Rattle.dg_session.proofs.GeneratedRanges.{generated_length}
 use Rattle.dg_session.proofs.HeldHistory.{count_is}
 use Rattle.dg_session.proofs.KeptGraphs.{all_reached_more, graphs_more}
-use Rattle.dg_session.proofs.LegalHistory.{IsNext, batch_next, events_with, fitting_next, grown_next, legal_next, names_grown}
+use Rattle.dg_session.proofs.LegalHistory.{AskedFit, IsNext, batch_next, events_with, fitting_next, grown_next, legal_next, names_grown}
 use Rattle.dg_session.proofs.OpenedHistory.{behind}
 use Rattle.dg_session.proofs.NamesAfter.{Grows, changes_length, grown_new}
 use Rattle.dg_session.proofs.StandsFor.{IsOf, both_told, by_first, is_of, not_false, one_told, opening_of, passes, refused_is, stands}
 use Rattle.dg_session.proofs.Steps.{Comes, accepted_is, accepted_steps, denied, denied_at, failing_denies, is_accepted, lacking_denies, refused_denies}
-use Rattle.dg_session.specs.BatchCommand.{HandlesStay, barred, command_with, head_of}
+use Rattle.dg_session.specs.BatchCommand.{HandlesStay, barred, command_with}
 use Rattle.dg_session.specs.BatchLines.{IsBarred, IsBatch, NamesGrow, ReadsBatch, first_refusal}
 use Rattle.dg_session.specs.declared.batch_command.BatchCommand.{BatchCommand}
 use Rattle.dg_session.specs.declared.batch_command.BatchCommand.TheVariants.{Load, Append}
@@ -66,6 +69,7 @@ use Rattle.dg_session.specs.declared.halt.Halt.{Halt}
 use Rattle.dg_session.specs.declared.halt.Halt.TheVariants as halt
 use Rattle.dg_session.specs.declared.stop.Stop.TheVariants as stop
 use Rattle.dg_session.specs.Halt.{batch_halt}
+use Rattle.dg_session.specs.GeneratedBatch.{IsGenerated}
 use Rattle.dg_session.specs.HeldIndex.{events_held, span_held}
 use Rattle.dg_handles.specs.Handles.{HandlesState, graphs_at}
 use Rattle.dg_pool.specs.Graphs.{PoolState, slot_graph}
@@ -163,33 +167,6 @@ takes_failed count before got after fault.Read h = h
 takes_failed count before got after fault.Memory h = h
 takes_failed count before got after fault.Store h = h
 
-writes : (which : BatchCommand) (count : ℕ) → is_writing (command_with which count) ≡ true
-writes Load count = refl
-writes Append count = refl
-
-lacks : (which : BatchCommand) (count : ℕ) → (needs (command_with which count)).memory ≡ true
-lacks Load count = refl
-lacks Append count = refl
-
-reads_records : (which : BatchCommand) (count : ℕ) → (needs (command_with which count)).reads ≡ true
-reads_records Load count = refl
-reads_records Append count = refl
-
-pub ok_head : (which : BatchCommand) (events total last : ℕ) → is_refusal (head_of which events total last) ≡ false
-ok_head Load events total last = refl
-ok_head Append events total last = refl
-
--- what the machine answers to the lines
-accepted_new : (which : BatchCommand) (m : MachineState) (count : ℕ) (got : List ScriptLine)
-    → accepted m (command_with which count) got no_plan ≡ with_new m (history_in m.index) (head_of which) (batch_of (history_in m.index) got)
-accepted_new Load m count got = refl
-accepted_new Append m count got = refl
-
--- a batch has no plan
-unplanned : (which : BatchCommand) (m : MachineState) (count : ℕ) → IsPlanned m (command_with which count) no_plan
-unplanned Load m count = refl
-unplanned Append m count = refl
-
 -- ---- what was read, and the history that it is to be added to
 
 -- what is told is this
@@ -200,7 +177,7 @@ pub of_here : (told : Option Opening) (o : Opening) (P : Opening → Type 0) →
 of_here told o P is p = subst (λ (i : Option Opening). IfSome i P) is p
 
 -- The session keeps a history, in which the names have grown by those of a batch that nothing refuses yet.
-pub record IsAsked (which : BatchCommand) (p : Parts) (count known limit : ℕ) (c : StoredHistory) (b : BatchLines) (before after : Option (List ScriptLine)) : Type 0 where
+pub record IsAsked (from : Origin) (got : List ScriptLine) (p : Parts) (count known limit : ℕ) (c : StoredHistory) (b : BatchLines) : Type 0 where
   pub index : p.index ≡ index_opening c.index
   pub known_is : known ≡ length p.names
   pub graph : c.now.graph ≡ p.graph
@@ -209,34 +186,78 @@ pub record IsAsked (which : BatchCommand) (p : Parts) (count known limit : ℕ) 
   pub few_events : p.limits.events ≤ EVENTS_MAX
   pub some : 1 ≤ count
   pub few : count ≤ BATCH_LINES_MAX
-  pub batch : IsBatch count (barred which p count) before after p.names c.names b
+  pub free : IsFree p count
+  pub not_refused : refused_by p (length got) (needs (adding from count)) ≡ None
+  pub changes_are : IsFront b.front b.changes.items (changes_after p.names (asked_from from count got))
+  pub names_are : b.front ≡ Whole → c.names ≡ names_after p.names (asked_from from count got)
+  pub many : length (asked_from from count got) ≡ count
+  pub within : length b.changes.items ≤ count
+  pub kept : take (length p.names) c.names ≡ p.names
+  pub few_names : b.front ≡ Whole → length c.names ≤ NAMES_MAX
 
--- it is so, where the session's parts are those that it was called with
+-- it is so of lines that were read, where the session's parts are those that it was called with
 pub is_asked : (which : BatchCommand) (p called : Parts) (count known : ℕ) (c : StoredHistory) (b : BatchLines) (before after : Option (List ScriptLine)) (bar : Option Refusal)
     → p ≡ called → bar ≡ barred which called count → p.index ≡ index_opening c.index → known ≡ length p.names → c.now.graph ≡ p.graph → c.recent.items ≡ p.recent → p.limits.events ≤ EVENTS_MAX → 1 ≤ count → count ≤ BATCH_LINES_MAX
-    → IsBatch count bar before after p.names c.names b → IsAsked which p count known p.limits.file_bytes c b before after
-is_asked which p called count known c b before after bar same bar_is index known_is graph recent few_events some few batch = record {
-  index = index;
-  known_is = known_is;
-  graph = graph;
-  recent = recent;
-  limit_is = refl;
-  few_events = few_events;
-  some = some;
-  few = few;
-  batch = subst (λ (r : Option Refusal). IsBatch count r before after p.names c.names b) (bar_is ∙ ap (λ (x : Parts). barred which x count) (sym same)) batch;
-}
+    → (r : IsBatch count bar before after p.names c.names b) → IsAsked (Lines_of which) r.got p count known p.limits.file_bytes c b
+is_asked which p called count known c b before after bar same bar_is index known_is graph recent few_events some few r =
+    let bar_here : bar ≡ barred which p count = bar_is ∙ ap (λ (x : Parts). barred which x count) (sym same) in
+    let first : first_refusal b.read count (barred which p count) ≡ None = ap (first_refusal b.read count) (sym bar_here) ∙ r.free in
+    let none = none_first b.read count (barred which p count) first in
+    let all : length (map change_by_text_in r.got) ≡ count = omega (arith, length-map r.got change_by_text_in, r.reads.read_is, r.most, none.0) in
+    record {
+      index = index;
+      known_is = known_is;
+      graph = graph;
+      recent = recent;
+      limit_is = refl;
+      few_events = few_events;
+      some = some;
+      few = few;
+      free = none_bars which p count some none.1;
+      not_refused = ap (λ (n : ℕ). refused_by p n (needs (command_with which count))) r.reads.read_is ∙ refused_first which p count b.read ∙ first;
+      changes_are = r.reads.changes_are;
+      names_are = λ whole. subst (λ (x : Front). NamesGrow x p.names c.names r.got) whole r.reads.names_are;
+      many = all;
+      within = omega (arith, r.within, r.most);
+      kept = r.kept;
+      few_names = r.few;
+    }
 
--- the batch of the lines, in the names with their texts
-abbrev batch_in : History → List ScriptLine → List Event → Batch
-batch_in z got events = record { names = drop (length (names_of z)) (names_after (names_of z) (map change_by_text_in got)); events = events }
+-- it is so of the changes of a seed, which are barred as a load is
+pub is_generated : (seed : ℕ) (p called : Parts) (count known : ℕ) (c : StoredHistory) (b : BatchLines) (bar : Option Refusal)
+    → p ≡ called → bar ≡ barred Load called count → bar ≡ None → p.index ≡ index_opening c.index → known ≡ length p.names → c.now.graph ≡ p.graph → c.recent.items ≡ p.recent → p.limits.events ≤ EVENTS_MAX → 1 ≤ count → count ≤ BATCH_LINES_MAX
+    → IsGenerated seed count p.names c.names b → IsAsked (Seed seed) [] p count known p.limits.file_bytes c b
+is_generated seed p called count known c b bar same bar_is free index known_is graph recent few_events some few r =
+    let none : barred Load p count ≡ None = ap (λ (x : Parts). barred Load x count) same ∙ sym bar_is ∙ free in
+    record {
+      index = index;
+      known_is = known_is;
+      graph = graph;
+      recent = recent;
+      limit_is = refl;
+      few_events = few_events;
+      some = some;
+      few = few;
+      free = none_bars Load p count some none;
+      not_refused = none;
+      changes_are = subst (λ (x : Front). IsFront x b.changes.items (changes_after p.names (generated seed count))) (sym r.whole) r.changes_are;
+      names_are = λ whole. r.names_are;
+      many = generated_length seed count;
+      within = omega (arith, r.many);
+      kept = r.kept;
+      few_names = λ whole. r.few;
+    }
+
+-- the batch that is asked for, in the names with its texts
+abbrev batch_in : History → List (Option ChangeByText) → List Event → Batch
+batch_in z asked events = record { names = drop (length (names_of z)) (names_after (names_of z) asked); events = events }
 
 -- the answer, by its test
-abbrev by_room : MachineState → History → BatchCommand → Batch → Bool → Answered
-by_room m z which b full =
+abbrev by_room : MachineState → History → Origin → Batch → Bool → Answered
+by_room m z from b full =
     if full then refuse m (refusal.FileFull (size (with_batch z b)) m.limits.file_bytes)
     else record {
-      reply = headed (head_of which (length b.events) (length (events_of z) + length b.events) (last_time_from 0 b.events));
+      reply = headed (head_over from (replay (events_of z ++ b.events)) (length b.events) (length (events_of z) + length b.events) (last_time_from 0 b.events));
       state = record m { index = Some (with_batch z b) };
     }
 
@@ -274,12 +295,13 @@ recent_with p pos before events =
     ∙ drop-drop (after * p.l - m * p.l) (m * p.l) (before ++ events)
     ∙ ap (λ n. drop n (before ++ events)) (whole ∙ ap (λ n. leaves p n * p.l) (sym (length-append before events)))
 
-module _ (which : BatchCommand) (p : Parts) (count known limit : ℕ) (c : StoredHistory) (b : BatchLines) (lines_before lines_after : Option (List ScriptLine)) (a : IsAsked which p count known limit c b lines_before lines_after) where
-  abbrev pub Got : List ScriptLine
-  Got = a.batch.got
+module _ (from : Origin) (got : List ScriptLine) (p : Parts) (count known limit : ℕ) (c : StoredHistory) (b : BatchLines) (a : IsAsked from got p count known limit c b) where
+  -- what is asked for
+  abbrev pub Due : List (Option ChangeByText)
+  Due = asked_from from count got
 
-  pub free : IsFree p count
-  free = none_bars which p count a.some (none_first b.read count (barred which p count) a.batch.free).1
+  abbrev pub free : IsFree p count
+  free = a.free
 
   pub opening_there : index_opening c.index ≡ Some free.index
   opening_there = sym a.index ∙ free.there
@@ -287,36 +309,27 @@ module _ (which : BatchCommand) (p : Parts) (count known limit : ℕ) (c : Store
   held_here : events_held p.index ≡ events_in free.index.batches
   held_here = ap events_held free.there
 
-  all_read : count ≤ b.read
-  all_read = (none_first b.read count (barred which p count) a.batch.free).0
-
   names_kept : take known c.names ≡ p.names
-  names_kept = ap (λ (k : ℕ). take k c.names) a.known_is ∙ a.batch.kept
+  names_kept = ap (λ (k : ℕ). take k c.names) a.known_is ∙ a.kept
 
-  not_refused : refused_by p (length Got) (needs (command_with which count)) ≡ None
-  not_refused =
-      ap (λ (n : ℕ). refused_by p n (needs (command_with which count))) a.batch.reads.read_is ∙ refused_first which p count b.read ∙ a.batch.free
+  fit : AskedFit Due
+  fit = asked_fit from count got a.few
 
-  free_of : (image : List ℕ) (m : MachineState) → StandsFor p image m → refused m (command_with which count) Got ≡ None
-  free_of image m s = sym (refused_is p image m (command_with which count) Got s) ∙ not_refused
+  free_of : (image : List ℕ) (m : MachineState) → StandsFor p image m → refused m (adding from count) got ≡ None
+  free_of image m s = sym (refused_is p image m (adding from count) got s) ∙ a.not_refused
 
-  steps_as : (image : List ℕ) (m : MachineState) → StandsFor p image m → (x : Answered) → answer m (command_with which count) Got no_plan ≡ x → Step m (Asked (command_with which count) Got) x.reply x.state
-  steps_as image m s x is = accepted_steps m (command_with which count) Got no_plan x (free_of image m s) (unplanned which m count) is
+  steps_as : (image : List ℕ) (m : MachineState) → StandsFor p image m → (x : Answered) → answer m (adding from count) got no_plan ≡ x → Step m (Asked (adding from count) got) x.reply x.state
+  steps_as image m s x is = accepted_steps m (adding from count) got no_plan x (free_of image m s) (unplanned from m count) is
 
   -- ---- the batch may be added
 
-  changes_are : b.front ≡ Whole → changes_after p.names (map change_by_text_in Got) ≡ lines b.changes.items
-  changes_are whole = subst (λ (x : Front). IsFront x b.changes.items (changes_after p.names (map change_by_text_in Got))) whole a.batch.reads.changes_are
-
-  names_are : b.front ≡ Whole → c.names ≡ names_after p.names (map change_by_text_in Got)
-  names_are whole = subst (λ (x : Front). NamesGrow x p.names c.names Got) whole a.batch.reads.names_are
+  changes_are : b.front ≡ Whole → changes_after p.names Due ≡ lines b.changes.items
+  changes_are whole = subst (λ (x : Front). IsFront x b.changes.items (changes_after p.names Due)) whole a.changes_are
 
   -- as many as were asked for
   pub many_changes : b.front ≡ Whole → length b.changes.items ≡ count
   many_changes whole =
-      let many : length b.changes.items ≡ length Got =
-      sym (length-map b.changes.items (λ (x : Change). Some x)) ∙ ap length (sym (changes_are whole)) ∙ changes_length p.names (map change_by_text_in Got) ∙ length-map Got change_by_text_in in
-      omega (arith, many, a.batch.reads.read_is, all_read, a.batch.most)
+      sym (length-map b.changes.items (λ (x : Change). Some x)) ∙ ap length (sym (changes_are whole)) ∙ changes_length p.names Due ∙ a.many
 
   long : length p.names + length (drop known c.names) ≡ length c.names
   long =
@@ -325,17 +338,17 @@ module _ (which : BatchCommand) (p : Parts) (count known limit : ℕ) (c : Store
 
   named : b.front ≡ Whole → may_be_named (take known c.names) (drop known c.names) ≡ true
   named whole =
-      let g : Grows p.names c.names = grown_next p.names c.names Got (names_are whole) in
+      let g : Grows p.names c.names = grown_next p.names c.names Due fit (a.names_are whole) in
       let new : List (List ℕ) = drop (length p.names) c.names in
       let many : length p.names + length new ≡ length c.names = ap (λ (k : ℕ). length p.names + length (drop k c.names)) (sym a.known_is) ∙ long in
       ap (λ (k : ℕ). may_be_named (take k c.names) (drop k c.names)) a.known_is
-      ∙ ap (λ (ns : List (List ℕ)). may_be_named ns new) a.batch.kept
+      ∙ ap (λ (ns : List (List ℕ)). may_be_named ns new) a.kept
       ∙ ap (λ (t : Bool). t && nat_le (length p.names + length new) NAMES_MAX) (grown_new p.names c.names g)
-      ∙ le-leb (length p.names + length new) NAMES_MAX (omega (arith, many, a.batch.few whole))
+      ∙ le-leb (length p.names + length new) NAMES_MAX (omega (arith, many, a.few_names whole))
 
   change_fits : b.front ≡ Whole → (k : ℕ) (d : Change) → k < length b.changes.items → ChangeFits c.names (get_or b.changes.items k d)
   change_fits whole k d lt =
-      let fit : All (λ x. IfSome x (ChangeFits c.names)) (lines b.changes.items) = fitting_next p.names c.names Got b.changes.items (changes_are whole) (names_are whole) in
+      let fit : All (λ x. IfSome x (ChangeFits c.names)) (lines b.changes.items) = fitting_next p.names c.names Due b.changes.items fit (changes_are whole) (a.names_are whole) in
       subst (λ (o : Option Change). IfSome o (ChangeFits c.names)) (get_or-map (λ (x : Change). Some x) b.changes.items k d)
       (fit k (Some d) (omega (arith, lt, length-map b.changes.items (λ (x : Change). Some x))))
 
@@ -345,10 +358,10 @@ module _ (which : BatchCommand) (p : Parts) (count known limit : ℕ) (c : Store
         (subst (λ (i : Option Opening). IsSoundHistory i p.names c.now c.recent.items) free.there sound);
     within = omega (arith, long, a.known_is);
     some = λ whole. omega (arith, many_changes whole, a.some);
-    few = omega (arith, a.batch.within, a.batch.most, a.few);
-    room = omega (arith, free.room, held_here, a.few_events, a.batch.within, a.batch.most);
+    few = omega (arith, a.within, a.few);
+    room = omega (arith, free.room, held_here, a.few_events, a.within);
     named = named;
-    fit = λ whole k d lt. what_spelled (length c.names) (get_or b.changes.items k d).what (omega (arith, a.batch.few whole)) (change_fits whole k d lt).numbers;
+    fit = λ whole k d lt. what_spelled (length c.names) (get_or b.changes.items k d).what (omega (arith, a.few_names whole)) (change_fits whole k d lt).numbers;
     timed = λ whole k d lt. (change_fits whole k d lt).time;
   })
 
@@ -374,23 +387,23 @@ module _ (which : BatchCommand) (p : Parts) (count known limit : ℕ) (c : Store
   many_of image m z h = ap (λ (x : Opening). events_in x.batches) h.opened ∙ count_is z h.stands.legal
 
   completed_is : (image : List ℕ) (m : MachineState) (z : History) (due : Result (List Event) (ℕ × ℕ)) → IsOf p free.index image m z → ComeTo free.index c.now.graph b.front b.changes.items due
-      → completed 1 (earliest_next (span_of (events_of z))) (replay (events_of z)) (changes_after (names_of z) (map change_by_text_in Got)) ≡ due
+      → completed 1 (earliest_next (span_of (events_of z))) (replay (events_of z)) (changes_after (names_of z) Due) ≡ due
   completed_is image m z due h come =
       let time : earliest_in 0 free.index.batches ≡ earliest_next (span_of (events_of z)) =
       ap (λ (x : Opening). earliest_in 0 x.batches) h.opened ∙ (behind z h.stands.legal).earliest in
-      ap (λ (t : ℕ). completed 1 t (replay (events_of z)) (changes_after (names_of z) (map change_by_text_in Got))) (sym time)
-      ∙ ap (λ (set : List Element). completed 1 (earliest_in 0 free.index.batches) set (changes_after (names_of z) (map change_by_text_in Got))) (sym (a.graph ∙ h.graph))
-      ∙ ap (λ (ns : List (List ℕ)). completed 1 (earliest_in 0 free.index.batches) c.now.graph (changes_after ns (map change_by_text_in Got))) (sym h.names)
-      ∙ come (changes_after p.names (map change_by_text_in Got)) a.batch.reads.changes_are
+      ap (λ (t : ℕ). completed 1 t (replay (events_of z)) (changes_after (names_of z) Due)) (sym time)
+      ∙ ap (λ (set : List Element). completed 1 (earliest_in 0 free.index.batches) set (changes_after (names_of z) Due)) (sym (a.graph ∙ h.graph))
+      ∙ ap (λ (ns : List (List ℕ)). completed 1 (earliest_in 0 free.index.batches) c.now.graph (changes_after ns Due)) (sym h.names)
+      ∙ come (changes_after p.names Due) a.changes_are
 
   -- the answer, by what the lines come to
   answer_with : (image : List ℕ) (m : MachineState) (z : History) (due : Result (List Event) (ℕ × ℕ)) → StandsFor p image m → IsOf p free.index image m z → ComeTo free.index c.now.graph b.front b.changes.items due
-      → answer m (command_with which count) Got no_plan ≡ with_new m z (head_of which) (on_value (batch_in z Got) due)
+      → answer m (adding from count) got no_plan ≡ with_made m z from (on_value (batch_in z Due) due)
   answer_with image m z due s h come =
-      accepted_is m (command_with which count) Got no_plan (with_new m z (head_of which) (on_value (batch_in z Got) due)) (free_of image m s)
-      (accepted_new which m count Got
-      ∙ ap (λ (i : Option History). with_new m (history_in i) (head_of which) (batch_of (history_in i) Got)) h.index
-      ∙ ap (λ r. with_new m z (head_of which) (on_value (batch_in z Got) r)) (completed_is image m z due h come))
+      accepted_is m (adding from count) got no_plan (with_made m z from (on_value (batch_in z Due) due)) (free_of image m s)
+      (accepted_made from m count got
+      ∙ ap (λ (i : Option History). with_made m (history_in i) from (batch_of_changes (history_in i) Due)) h.index
+      ∙ ap (λ r. with_made m z from (on_value (batch_in z Due) r)) (completed_is image m z due h come))
 
   -- ---- where every line is a change
 
@@ -398,18 +411,19 @@ module _ (which : BatchCommand) (p : Parts) (count known limit : ℕ) (c : Store
     abbrev pub New : Batch
     New = batch_with known c.names events
 
-    is_next : (image : List ℕ) (m : MachineState) (z : History) → IsOf p free.index image m z → IsNext z Got b.changes.items c.names events
+    is_next : (image : List ℕ) (m : MachineState) (z : History) → IsOf p free.index image m z → IsNext z Due b.changes.items c.names events
     is_next image m z h =
-        let are : changes_after (names_of z) (map change_by_text_in Got) ≡ lines b.changes.items =
-        ap (λ (ns : List (List ℕ)). changes_after ns (map change_by_text_in Got)) (sym h.names) ∙ changes_are comes.whole in
+        let are : changes_after (names_of z) Due ≡ lines b.changes.items =
+        ap (λ (ns : List (List ℕ)). changes_after ns Due) (sym h.names) ∙ changes_are comes.whole in
         record {
+          fit = fit;
           changes_are = are;
-          names_are = names_are comes.whole ∙ ap (λ (ns : List (List ℕ)). names_after ns (map change_by_text_in Got)) h.names;
+          names_are = a.names_are comes.whole ∙ ap (λ (ns : List (List ℕ)). names_after ns Due) h.names;
           comes = ap (completed 1 (earliest_next (span_of (events_of z))) (replay (events_of z))) (sym are) ∙ completed_is image m z (Ok events) h comes.come;
-          some = omega (arith, a.batch.reads.read_is, all_read, a.some);
-          few = omega (arith, a.batch.reads.read_is, a.batch.most, a.few);
-          room = omega (arith, free.room, held_here, a.few_events, a.batch.reads.read_is, a.batch.most, many_of image m z h);
-          few_names = a.batch.few comes.whole;
+          some = omega (arith, a.many, a.some);
+          few = omega (arith, a.many, a.few);
+          room = omega (arith, free.room, held_here, a.few_events, a.many, many_of image m z h);
+          few_names = a.few_names comes.whole;
         }
 
     known_of : (image : List ℕ) (m : MachineState) (z : History) → IsOf p free.index image m z → known ≡ length (names_of z)
@@ -417,12 +431,12 @@ module _ (which : BatchCommand) (p : Parts) (count known limit : ℕ) (c : Store
 
     -- the batch of the lines, as the file gets it
     answer_new : (image : List ℕ) (m : MachineState) (z : History) → StandsFor p image m → IsOf p free.index image m z
-        → answer m (command_with which count) Got no_plan ≡ by_room m z which New (nat_lt m.limits.file_bytes (size (with_batch z New)))
+        → answer m (adding from count) got no_plan ≡ by_room m z from New (nat_lt m.limits.file_bytes (size (with_batch z New)))
     answer_new image m z s h =
-        let next : IsNext z Got b.changes.items c.names events = is_next image m z h in
+        let next : IsNext z Due b.changes.items c.names events = is_next image m z h in
         answer_with image m z (Ok events) s h comes.come
-        ∙ ap (λ (ns : List (List ℕ)). let x : Batch = record { names = drop (length (names_of z)) ns; events = events } in with_new m z (head_of which) (Ok x)) (sym next.names_are)
-        ∙ ap (λ (k : ℕ). with_new m z (head_of which) (Ok (batch_with k c.names events))) (sym (known_of image m z h))
+        ∙ ap (λ (ns : List (List ℕ)). let x : Batch = record { names = drop (length (names_of z)) ns; events = events } in with_made m z from (Ok x)) (sym next.names_are)
+        ∙ ap (λ (k : ℕ). with_made m z from (Ok (batch_with k c.names events))) (sym (known_of image m z h))
 
     -- the segment is that of the batch behind the history
     segment_is : (image : List ℕ) → told ≡ Some image → (m : MachineState) (z : History) → IsOf p free.index image m z → segment ≡ segment_of z.params (events_of z) New
@@ -434,7 +448,7 @@ module _ (which : BatchCommand) (p : Parts) (count known limit : ℕ) (c : Store
 
     -- the file has too little room
     full_steps : (n : ℕ) → n ≡ needed_for free.index segment → limit < n → (m : MachineState) (image : List ℕ) → told ≡ Some image → StandsFor p image m
-        → Step m (Asked (command_with which count) Got) (headed (head.Refused (refusal.FileFull n limit))) m
+        → Step m (Asked (adding from count) got) (headed (head.Refused (refusal.FileFull n limit))) m
     full_steps n n_is over m image at s =
         let found = is_of p free.index image m free.there s in
         let z : History = found.0 in
@@ -442,16 +456,16 @@ module _ (which : BatchCommand) (p : Parts) (count known limit : ℕ) (c : Store
         let limits : limit ≡ m.limits.file_bytes = a.limit_is ∙ ap (λ (x : Limits). x.file_bytes) s.limits in
         let full : nat_lt m.limits.file_bytes (size (with_batch z New)) ≡ true = lt-ltb m.limits.file_bytes (size (with_batch z New)) (omega (arith, over, needed, limits)) in
         steps_as image m s (refuse m (refusal.FileFull n limit))
-        (answer_new image m z s found.1 ∙ ap (by_room m z which New) full
+        (answer_new image m z s found.1 ∙ ap (by_room m z from New) full
         ∙ ap (λ (k : ℕ). refuse m (refusal.FileFull k m.limits.file_bytes)) (sym needed) ∙ ap (λ (k : ℕ). refuse m (refusal.FileFull n k)) (sym limits))
 
     -- the first line of the reply
     abbrev said : Reply
-    said = headed (head_of which (length events) (events_in free.index.batches + length events) (last_time_from 0 events))
+    said = headed (head_over from (replay_from c.now.graph events) (length events) (events_in free.index.batches + length events) (last_time_from 0 events))
 
     -- there is room: the answer, and the legal history with the batch
     record IsAdded (m : MachineState) (z : History) : Type 0 where
-      answered : answer m (command_with which count) Got no_plan ≡ record { reply = said; state = record m { index = Some (with_batch z New) } }
+      answered : answer m (adding from count) got no_plan ≡ record { reply = said; state = record m { index = Some (with_batch z New) } }
       legal : IsLegal (with_batch z New)
       names : c.names ≡ names_of (with_batch z New)
       graph : replay_from c.now.graph events ≡ replay (events_of (with_batch z New))
@@ -460,7 +474,7 @@ module _ (which : BatchCommand) (p : Parts) (count known limit : ℕ) (c : Store
 
     is_added : needed_for free.index segment ≤ limit → (image : List ℕ) → told ≡ Some image → (m : MachineState) (z : History) → StandsFor p image m → IsOf p free.index image m z → IsAdded m z
     is_added fits image at m z s h =
-        let next : IsNext z Got b.changes.items c.names events = is_next image m z h in
+        let next : IsNext z Due b.changes.items c.names events = is_next image m z h in
         let same : batch_next z c.names events ≡ New = ap (λ (k : ℕ). batch_with k c.names events) (sym (known_of image m z h)) in
         let room : nat_lt m.limits.file_bytes (size (with_batch z New)) ≡ false =
         le-ltb m.limits.file_bytes (size (with_batch z New)) (omega (arith, fits, needed_is image at m z h, a.limit_is, ap (λ (x : Limits). x.file_bytes) s.limits)) in
@@ -468,12 +482,14 @@ module _ (which : BatchCommand) (p : Parts) (count known limit : ℕ) (c : Store
         let params : free.index.params ≡ z.params = ap (λ (x : Opening). x.params) h.opened ∙ (behind z h.stands.legal).params in
         let large = large_parameters z.params.l z.params.k h.stands.legal.parameters in
         let held : c.recent.items ≡ recent_of z.params (events_of z) = a.recent ∙ h.recent in
+        let graph : replay_from c.now.graph events ≡ replay (events_of z ++ events) =
+        ap (λ (set : List Element). replay_from set events) (a.graph ∙ h.graph) ∙ sym (replay_append [] (events_of z) events) in
         record {
-          answered = answer_new image m z s h ∙ ap (by_room m z which New) room
-              ∙ ap (λ (n : ℕ). let x : Answered = record { reply = headed (head_of which (length events) (n + length events) (last_time_from 0 events)); state = record m { index = Some (with_batch z New) } } in x) many;
-          legal = subst (λ (x : Batch). IsLegal (with_batch z x)) same (legal_next z Got b.changes.items c.names events h.stands.legal next);
-          names = sym (ap (λ (x : Batch). names_of (with_batch z x)) (sym same) ∙ names_grown z c.names events (grown_next (names_of z) c.names Got next.names_are));
-          graph = ap (λ (set : List Element). replay_from set events) (a.graph ∙ h.graph) ∙ sym (replay_append [] (events_of z) events) ∙ ap replay (sym (events_with z New));
+          answered = answer_new image m z s h ∙ ap (by_room m z from New) room
+              ∙ (λ i. let x : Answered = record { reply = headed (head_over from (sym graph i) (length events) (many i + length events) (last_time_from 0 events)); state = record m { index = Some (with_batch z New) } } in x);
+          legal = subst (λ (x : Batch). IsLegal (with_batch z x)) same (legal_next z Due b.changes.items c.names events h.stands.legal next);
+          names = sym (ap (λ (x : Batch). names_of (with_batch z x)) (sym same) ∙ names_grown z c.names events (grown_next (names_of z) c.names Due fit next.names_are));
+          graph = graph ∙ ap replay (sym (events_with z New));
           recent = (λ i. recent_behind (params i) (sym many i) (held i) events) ∙ recent_with z.params (omega (arith, large.0)) (events_of z) events ∙ ap (recent_of z.params) (sym (events_with z New));
           rises = completed_rises b.changes.items 1 (earliest_next (span_of (events_of z))) (replay (events_of z)) events next.comes;
         }
@@ -488,7 +504,7 @@ module _ (which : BatchCommand) (p : Parts) (count known limit : ℕ) (c : Store
     }
 
     add_moves : (q : Parts) (before after : List ℕ) (reply : Reply) → told ≡ Some before → needed_for free.index segment ≤ limit → GainsBatch segment before after → q ≡ added_to → reply ≡ said
-        → Moves (command_with which count) Got p before q after reply
+        → Moves (adding from count) got p before q after reply
     add_moves q before after reply at fits gains q_is reply_is m s =
         let found = is_of p free.index before m free.there s in
         let z : History = found.0 in
@@ -504,28 +520,28 @@ module _ (which : BatchCommand) (p : Parts) (count known limit : ℕ) (c : Store
         let graphs : p.graphs ≡ map (λ (e : ℕ × Stands). elements (with_batch z New) e.1) m.table =
         s.graphs ∙ ap (λ (i : Option History). map (λ (e : ℕ × Stands). elements (history_in i) e.1) m.table) h.index ∙ graphs_more z pos New is.rises m.table reached in (
           k,
-          subst (λ (r : Reply). Step m (Asked (command_with which count) Got) r k) (sym reply_is) (steps_as before m s (record { reply = said; state = k }) is.answered),
+          subst (λ (r : Reply). Step m (Asked (adding from count) got) r k) (sym reply_is) (steps_as before m s (record { reply = said; state = k }) is.answered),
           stands q after k
               (q_is ∙ (λ i. record { limits = s.limits i; index = index i; names = is.names i; graph = is.graph i; recent = is.recent i; table = s.table i; graphs = graphs i; next = s.next i }))
               (gains z New h.stands is.legal (segment_is before at m z h)) (all_reached_more z pos New is.rises m.table reached) (λ none. cc),
         )
 
     -- the disk failed
-    add_cuts : (before after : List ℕ) → told ≡ Some before → needed_for free.index segment ≤ limit → GainsBatchOrNot segment before after → CutsOff (command_with which count) Got p before after
+    add_cuts : (before after : List ℕ) → told ≡ Some before → needed_for free.index segment ≤ limit → GainsBatchOrNot segment before after → CutsOff (adding from count) got p before after
     add_cuts before after at fits gains m s = by_case found.0 found.1 (is_added fits before at m found.0 s found.1)
       where
         found : (z : History) × IsOf p free.index before m z
         found = is_of p free.index before m free.there s
 
-        by_case : (z : History) → IsOf p free.index before m z → IsAdded m z → IsCut m (Asked (command_with which count) Got) before after
+        by_case : (z : History) → IsOf p free.index before m z → IsAdded m z → IsCut m (Asked (adding from count) got) before after
         by_case z h is = by_image (gains z New h.stands is.legal (segment_is before at m z h))
           where
-            by_image : IsImageOf z after ⊎ IsImageOf (with_batch z New) after → IsCut m (Asked (command_with which count) Got) before after
+            by_image : IsImageOf z after ⊎ IsImageOf (with_batch z New) after → IsCut m (Asked (adding from count) got) before after
             by_image (inl same) =
-                As_before (is_accepted m (command_with which count) Got _ is.answered (ok_head which (length events) (events_in free.index.batches + length events) (last_time_from 0 events)))
+                As_before (is_accepted m (adding from count) got _ is.answered (ok_head from (replay_from c.now.graph events) (length events) (events_in free.index.batches + length events) (last_time_from 0 events)))
                 (subst (λ (i : Option History). StandsAs i after) (sym h.index) same)
             by_image (inr more) =
-                As_after (is_accepted m (command_with which count) Got _ is.answered (ok_head which (length events) (events_in free.index.batches + length events) (last_time_from 0 events)))
+                As_after (is_accepted m (adding from count) got _ is.answered (ok_head from (replay_from c.now.graph events) (length events) (events_in free.index.batches + length events) (last_time_from 0 events)))
                 said (record m { index = Some (with_batch z New) }) (steps_as before m s _ is.answered) more
 
   -- ---- what the command comes to
@@ -555,54 +571,56 @@ module _ (which : BatchCommand) (p : Parts) (count known limit : ℕ) (c : Store
     failed_stays fault.Store h h' pool pool' back hs same = tt
 
     pub batch_added : (x : AddedBatch) → IfSome (index_opening c.index) (λ o. AddsBatch o limit known c new before after b.changes.items b.front x)
-        → Accepts (command_with which count) Got p before (with_history p new) after (headed (head_of which x.events x.total x.last))
+        → Accepts (adding from count) got p before (with_history p new) after (headed (head_over from new.now.graph x.events x.total x.last))
     batch_added x adds =
         let d : AddsBatch free.index limit known c new before after b.changes.items b.front x =
         of_here (index_opening c.index) free.index (λ o. AddsBatch o limit known c new before after b.changes.items b.front x) opening_there adds in
         let index : index_opening new.index ≡ Some (index_with free.index d.segment) = d.index in
         let names : new.names ≡ c.names = d.names in
         let q_is : with_history p new ≡ added_to before d.events d.segment d.comes = λ i. record p { index = index i; names = names i; graph = d.graph i; recent = d.recent i } in
-        let told : headed (head_of which x.events x.total x.last) ≡ said before d.events d.segment d.comes = ap (λ (t : AddedBatch). headed (head_of which t.events t.total t.last)) d.told in
+        let told : headed (head_over from new.now.graph x.events x.total x.last) ≡ said before d.events d.segment d.comes =
+        ap (λ (t : AddedBatch). headed (head_over from new.now.graph t.events t.total t.last)) d.told
+        ∙ ap (λ (set : List Element). headed (head_over from set (length d.events) (events_in free.index.batches + length d.events) (last_time_from 0 d.events))) d.graph in
         record {
           moves = λ y z ey ez.
-              add_moves before d.events d.segment d.comes (with_history p new) y z (headed (head_of which x.events x.total x.last)) ey d.fits
+              add_moves before d.events d.segment d.comes (with_history p new) y z (headed (head_over from new.now.graph x.events x.total x.last)) ey d.fits
               (both_told before after (GainsBatch d.segment) d.gains y z ey ez) q_is told;
-          accepted = ok_head which x.events x.total x.last;
+          accepted = ok_head from new.now.graph x.events x.total x.last;
           held = λ h. d.held;
           no_index = λ none. absurd (let e : Some (index_with free.index d.segment) ≡ None = sym index ∙ none in cc);
-          quiet = λ not_writing. let e : true ≡ false = sym (writes which count) ∙ not_writing in cc;
+          quiet = λ not_writing. let e : true ≡ false = sym (writes from count) ∙ not_writing in cc;
         }
 
     pub batch_failed : (f : BatchFault) → IfSome (index_opening c.index) (λ o. FailsBatch o limit known c before after b.changes.items b.front f) → (q : Parts) → StaysAs f p q
-        → ComesTo (command_with which count) Got p before q after (Err (batch_halt f))
+        → ComesTo (adding from count) got p before q after (Err (batch_halt f))
     batch_failed (fault.BadChange line reason) fails q q_is =
         let f = of_here (index_opening c.index) free.index (λ o. FailsBatch o limit known c before after b.changes.items b.front (fault.BadChange line reason)) opening_there fails in
-        denied (command_with which count) Got p q before after (refusal.BadChange line reason) q_is f.0
+        denied (adding from count) got p q before after (refusal.BadChange line reason) q_is f.0
         (λ m image s.
         let z = is_of p free.index image m free.there s in
         steps_as image m s (refuse m (refusal.BadChange line reason)) (answer_with image m z.0 (Err (line, reason)) s z.1 f.1)) (λ h. absurd (false≢true h))
     batch_failed (fault.FileFull n most) fails q q_is =
         let f = of_here (index_opening c.index) free.index (λ o. FailsBatch o limit known c before after b.changes.items b.front (fault.FileFull n most)) opening_there fails in
         let d : FillsFile free.index limit known c before b.changes.items b.front n = f.2 in
-        subst (λ (k : ℕ). Denies (command_with which count) Got p before q after (refusal.FileFull n k)) (sym f.1)
-        (denied_at (command_with which count) Got p q before after (refusal.FileFull n limit) q_is f.0
+        subst (λ (k : ℕ). Denies (adding from count) got p before q after (refusal.FileFull n k)) (sym f.1)
+        (denied_at (adding from count) got p q before after (refusal.FileFull n limit) q_is f.0
         (full_steps before d.events d.segment d.comes n d.needed_is d.over) (λ h. absurd (false≢true h)))
     batch_failed (fault.Damaged key col) fails q q_is =
         let f = of_here (index_opening c.index) free.index (λ o. FailsBatch o limit known c before after b.changes.items b.front (fault.Damaged key col)) opening_there fails in
-        denied_at (command_with which count) Got p q before after (refusal.Damaged key col) q_is f.0
+        denied_at (adding from count) got p q before after (refusal.Damaged key col) q_is f.0
         (λ m image at s.
         let z = is_of p free.index image m free.there s in
         absurd (one_told before (λ x. (z : History) → IsOverHistory z x free.index known c → ⊥) image f.1.never at z.0 (over image m z.0 z.1)))
-        (λ h. reads_records which count)
+        (λ h. reads_records from count)
     batch_failed fault.Read fails q q_is =
         let f : after ≡ before = of_here (index_opening c.index) free.index (λ o. FailsBatch o limit known c before after b.changes.items b.front fault.Read) opening_there fails in
-        failing_denies (command_with which count) Got p q before after q_is f (reads_records which count) not_refused
+        failing_denies (adding from count) got p q before after q_is f (reads_records from count) a.not_refused
     batch_failed fault.Memory fails q q_is =
         let f : after ≡ before = of_here (index_opening c.index) free.index (λ o. FailsBatch o limit known c before after b.changes.items b.front fault.Memory) opening_there fails in
-        lacking_denies (command_with which count) Got p q before after q_is f (lacks which count) not_refused
+        lacking_denies (adding from count) got p q before after q_is f (lacks from count) a.not_refused
     batch_failed fault.Store fails q q_is =
         let d : BreaksBatch free.index limit known c before after b.changes.items b.front =
         of_here (index_opening c.index) free.index (λ o. BreaksBatch o limit known c before after b.changes.items b.front) opening_there fails in (
-          writes which count,
+          writes from count,
           λ y z ey ez. add_cuts before d.events d.segment d.comes y z ey d.fits (both_told before after (GainsBatchOrNot d.segment) d.gains y z ey ez),
         )

@@ -78,6 +78,8 @@ accepted_tells_none c p image (head.CleanedAll _) e = tt
 accepted_tells_none c p image (head.Pool _ _) e = tt
 accepted_tells_none c p image (head.Plan _ _) e = tt
 accepted_tells_none c p image (head.Certified _) e = tt
+accepted_tells_none c p image (head.Verified _) e = tt
+accepted_tells_none c p image (head.Generated _ _ _ _) e = tt
 accepted_tells_none c p image (head.Tree _ _ _ _ _ _) e = tt
 
 not_true : (b : Bool) → (b ≡ true → ⊥) → b ≡ false

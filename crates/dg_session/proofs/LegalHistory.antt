@@ -1,9 +1,9 @@
 -- A legal history with the next batch is legal.
-use Rattle.std.proofs.Common.{◌≡◌, ℕ, ◌+◌, ◌<◌, ◌≤◌, ◌^◌, List, [], ◌∷◌, ◌++◌, Option, Some, None, Ok, length, map, drop, get_or, sym, ◌∙◌, ap, subst, arith, append_assoc, length-append}
+use Rattle.std.proofs.Common.{◌≡◌, ℕ, ◌+◌, ◌<◌, ◌≤◌, ◌^◌, List, [], ◌∷◌, ◌++◌, Option, Some, None, Ok, length, drop, get_or, sym, ◌∙◌, ap, subst, arith, append_assoc, length-append}
 use Rattle.std.specs.Prelude.{IfSome}
 use Rattle.std.specs.List.{All, flat_map}
 use Rattle.std.proofs.lemmas.Grind.{flat_map-append}
-use Rattle.std.proofs.lemmas.List.{append-nil, length-map}
+use Rattle.std.proofs.lemmas.List.{append-nil}
 use Rattle.std.proofs.lemmas.List.Elements.{All-nil, All-append}
 use Rattle.dg_graph.specs.declared.element.Element.{Element}
 use Rattle.dg_graph.specs.declared.event.Change.{Change}
@@ -12,16 +12,15 @@ use Rattle.dg_graph.specs.declared.limits.TheConstants.{NAMES_MAX, TIME_MAX}
 use Rattle.dg_history.specs.declared.limits.TheConstants.{BATCH_LINES_MAX, EVENTS_MAX}
 use Rattle.dg_graph.specs.CompletedChanges.{completed}
 use Rattle.dg_history.specs.Batch.{changes_after, names_after}
-use Rattle.dg_history.specs.ChangeGrammar.{change_by_text_in}
+use Rattle.dg_history.specs.ChangeGrammar.{ChangeByText}
 use Rattle.dg_history.specs.History.{History, Batch, events_of, names_of, with_batch, span_of, earliest_next}
 use Rattle.dg_history.specs.LegalHistory.{FitsEvent, IsLegal, IsLegalBatch, AreLegalAfter}
-use Rattle.dg_graph.specs.Lines.{ScriptLine}
 use Rattle.dg_graph.specs.Names.{are_new}
 use Rattle.dg_graph.specs.Replay.{replay}
 use Rattle.dg_session.proofs.CompletedChanges.{AllCome, all_come, as_many}
 use Rattle.dg_session.proofs.EventRanges.{BodyFits, ChangeFits, ElementFits, HasKey, WhatFits, body_more, changes_fit, events_fit, events_keys, from_legal, has_key_more, legal_body, lines_grow, replay_fits, times_fit}
 use Rattle.dg_session.proofs.NamesAfter.{Grows, changes_length, grown_drop, grown_long, grows_none, new_joined}
-use Rattle.dg_session.proofs.ChangeRanges.{lines_fit}
+use Rattle.dg_session.proofs.ChangeRanges.{SaidFits}
 use Rattle.dg_append.specs.Fronts.{lines}
 
 -- ---- batches, with more names
@@ -55,29 +54,32 @@ events_all names before (b ∷ batches) l =
 
 -- ---- the history with the next batch
 
--- these lines come to these events as the next batch, and the names with theirs are these
-pub record IsNext (z : History) (got : List ScriptLine) (changes : List Change) (grown : List (List ℕ)) (events : List Event) : Type 0 where
-  pub changes_are : changes_after (names_of z) (map change_by_text_in got) ≡ lines changes
-  pub names_are : grown ≡ names_after (names_of z) (map change_by_text_in got)
+-- what these ask for fits its ranges
+abbrev pub AskedFit : List (Option ChangeByText) → Type 0
+AskedFit asked = All (λ s. IfSome s SaidFits) asked
+
+-- what is asked for comes to these events as the next batch, and the names with its texts are these
+pub record IsNext (z : History) (asked : List (Option ChangeByText)) (changes : List Change) (grown : List (List ℕ)) (events : List Event) : Type 0 where
+  pub fit : AskedFit asked
+  pub changes_are : changes_after (names_of z) asked ≡ lines changes
+  pub names_are : grown ≡ names_after (names_of z) asked
   pub comes : completed 1 (earliest_next (span_of (events_of z))) (replay (events_of z)) (lines changes) ≡ Ok events
-  pub some : 1 ≤ length got
-  pub few : length got ≤ BATCH_LINES_MAX
-  pub room : length (events_of z) + length got ≤ EVENTS_MAX
+  pub some : 1 ≤ length asked
+  pub few : length asked ≤ BATCH_LINES_MAX
+  pub room : length (events_of z) + length asked ≤ EVENTS_MAX
   pub few_names : length grown ≤ NAMES_MAX
 
 abbrev pub batch_next : History → List (List ℕ) → List Event → Batch
 batch_next z grown events = record { names = drop (length (names_of z)) grown; events = events }
 
-pub grown_next : (names grown : List (List ℕ)) (got : List ScriptLine) → grown ≡ names_after names (map change_by_text_in got) → Grows names grown
-grown_next names grown got is = subst (λ (ns : List (List ℕ)). Grows names ns) (sym is) (lines_grow names (map change_by_text_in got) (lines_fit got))
+pub grown_next : (names grown : List (List ℕ)) (asked : List (Option ChangeByText)) → AskedFit asked → grown ≡ names_after names asked → Grows names grown
+grown_next names grown asked fit is = subst (λ (ns : List (List ℕ)). Grows names ns) (sym is) (lines_grow names asked fit)
 
-pub fitting_next : (names grown : List (List ℕ)) (got : List ScriptLine) (changes : List Change)
-    → changes_after names (map change_by_text_in got) ≡ lines changes → grown ≡ names_after names (map change_by_text_in got)
-    → All (λ c. IfSome c (ChangeFits grown)) (lines changes)
-fitting_next names grown got changes are is =
+pub fitting_next : (names grown : List (List ℕ)) (asked : List (Option ChangeByText)) (changes : List Change) → AskedFit asked
+    → changes_after names asked ≡ lines changes → grown ≡ names_after names asked → All (λ c. IfSome c (ChangeFits grown)) (lines changes)
+fitting_next names grown asked changes fit are is =
     subst (λ (cs : List (Option Change)). All (λ c. IfSome c (ChangeFits grown)) cs) are
-    (changes_fit names grown (map change_by_text_in got) (lines_fit got)
-    (subst (λ (ns : List (List ℕ)). Grows (names_after names (map change_by_text_in got)) ns) (sym is) (grows_none (names_after names (map change_by_text_in got)))))
+    (changes_fit names grown asked fit (subst (λ (ns : List (List ℕ)). Grows (names_after names asked) ns) (sym is) (grows_none (names_after names asked))))
 
 numbers_of : (names : List (List ℕ)) (c : Option Change) → IfSome c (ChangeFits names) → IfSome c (λ (x : Change). WhatFits (λ n. n < 2 ^ 64) (length names) x.what)
 numbers_of names None h = tt
@@ -91,21 +93,21 @@ keys_of : (names : List (List ℕ)) (c : Option Change) → IfSome c (ChangeFits
 keys_of names None h = tt
 keys_of names (Some c) h = h.key
 
-pub many_next : (z : History) (got : List ScriptLine) (changes : List Change) (grown : List (List ℕ)) (events : List Event) → IsNext z got changes grown events
-    → length events ≡ length got
-many_next z got changes grown events n =
+pub many_next : (z : History) (asked : List (Option ChangeByText)) (changes : List Change) (grown : List (List ℕ)) (events : List Event) → IsNext z asked changes grown events
+    → length events ≡ length asked
+many_next z asked changes grown events n =
     as_many (earliest_next (span_of (events_of z))) (replay (events_of z)) (lines changes) events
     (all_come 1 (earliest_next (span_of (events_of z))) (replay (events_of z)) (lines changes) events n.comes)
-    ∙ ap length (sym n.changes_are) ∙ changes_length (names_of z) (map change_by_text_in got) ∙ length-map got change_by_text_in
+    ∙ ap length (sym n.changes_are) ∙ changes_length (names_of z) asked
 
-next_legal : (z : History) (got : List ScriptLine) (changes : List Change) (grown : List (List ℕ)) (events : List Event) → IsLegal z → IsNext z got changes grown events
+next_legal : (z : History) (asked : List (Option ChangeByText)) (changes : List Change) (grown : List (List ℕ)) (events : List Event) → IsLegal z → IsNext z asked changes grown events
     → IsLegalBatch grown (events_of z) (batch_next z grown events)
-next_legal z got changes grown events legal n =
+next_legal z asked changes grown events legal n =
     let earliest : ℕ = earliest_next (span_of (events_of z)) in
     let set : List Element = replay (events_of z) in
     let come : AllCome earliest set (lines changes) events = all_come 1 earliest set (lines changes) events n.comes in
-    let fit : All (λ c. IfSome c (ChangeFits grown)) (lines changes) = fitting_next (names_of z) grown got changes n.changes_are n.names_are in
-    let long : length (names_of z) ≤ length grown = grown_long (names_of z) grown (grown_next (names_of z) grown got n.names_are) in
+    let fit : All (λ c. IfSome c (ChangeFits grown)) (lines changes) = fitting_next (names_of z) grown asked changes n.fit n.changes_are n.names_are in
+    let long : length (names_of z) ≤ length grown = grown_long (names_of z) grown (grown_next (names_of z) grown asked n.fit n.names_are) in
     let old : All (FitsEvent (length (names_of z))) (events_of z) = events_all (names_of z) [] z.batches legal.batches in
     let set_fit : All (ElementFits (λ n. n < 2 ^ 64) (length grown)) set =
     replay_fits (λ n. n < 2 ^ 64) (length grown) [] (events_of z)
@@ -115,7 +117,7 @@ next_legal z got changes grown events legal n =
     events_fit (λ n. n < 2 ^ 64) (length grown) earliest set (lines changes) events come (λ k d lt. numbers_of grown (get_or (lines changes) k d) (fit k d lt)) set_fit in
     let times : All (λ (e : Event). e.time ≤ TIME_MAX) events =
     times_fit earliest set (lines changes) events come (λ k d lt. times_of grown (get_or (lines changes) k d) (fit k d lt)) in
-    let many : length events ≡ length got = many_next z got changes grown events n in
+    let many : length events ≡ length asked = many_next z asked changes grown events n in
     record {
       some = omega (arith, many, n.some);
       few = omega (arith, many, n.few);
@@ -138,19 +140,19 @@ pub names_grown : (z : History) (grown : List (List ℕ)) (events : List Event) 
 names_grown z grown events g =
     names_with z (batch_next z grown events) ∙ ap (λ (ns : List (List ℕ)). names_of z ++ ns) (grown_drop (names_of z) grown g) ∙ sym g.is
 
-pub legal_next : (z : History) (got : List ScriptLine) (changes : List Change) (grown : List (List ℕ)) (events : List Event) → IsLegal z → IsNext z got changes grown events
+pub legal_next : (z : History) (asked : List (Option ChangeByText)) (changes : List Change) (grown : List (List ℕ)) (events : List Event) → IsLegal z → IsNext z asked changes grown events
     → IsLegal (with_batch z (batch_next z grown events))
-legal_next z got changes grown events legal n =
+legal_next z asked changes grown events legal n =
     let b : Batch = batch_next z grown events in
-    let g : Grows (names_of z) grown = grown_next (names_of z) grown got n.names_are in
+    let g : Grows (names_of z) grown = grown_next (names_of z) grown asked n.fit n.names_are in
     let all : names_of (with_batch z b) ≡ grown = names_grown z grown events g in
     let is : grown ≡ names_of z ++ g.more = g.is in
     let batch : IsLegalBatch (names_of z ++ g.more) (events_of z) b =
-    subst (λ (ns : List (List ℕ)). IsLegalBatch ns (events_of z) b) is (next_legal z got changes grown events legal n) in
+    subst (λ (ns : List (List ℕ)). IsLegalBatch ns (events_of z) b) is (next_legal z asked changes grown events legal n) in
     record {
       parameters = legal.parameters;
       batches = subst (λ (ns : List (List ℕ)). AreLegalAfter ns [] (z.batches ++ b ∷ [])) (sym (all ∙ is)) (batches_more (names_of z) g.more [] z.batches b legal.batches batch);
       names = ap (are_new []) (all ∙ is) ∙ new_joined [] (names_of z) g.more legal.names g.right;
       few_names = omega (arith, ap length all, n.few_names);
-      few = omega (arith, ap length (events_with z b), length-append (events_of z) events, many_next z got changes grown events n, n.room);
+      few = omega (arith, ap length (events_with z b), length-append (events_of z) events, many_next z asked changes grown events n, n.room);
     }

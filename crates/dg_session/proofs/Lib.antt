@@ -26,6 +26,7 @@ pub mod SeveralStep
 pub mod ReadsStep
 pub mod DamageStep
 pub mod TreeStep
+pub mod VerifyStep
 pub mod CreateStep
 pub mod KeptGraphs
 pub mod NewHandles
@@ -34,5 +35,7 @@ pub mod HeldNodes
 pub mod IndexNodes
 pub mod MaterialiseStep
 pub mod HeldBases
+pub mod GeneratedRanges
+pub mod Additions
 pub mod AddStep
 pub mod AddReads

@@ -88,7 +88,7 @@ added_grows names text right = by (number_of names text) refl
     }
 
 -- a key is a name
-no_end : (b : ℕ) → nat_lt 32 b ≡ true → (b == 10 || b == 13) ≡ false
+pub no_end : (b : ℕ) → nat_lt 32 b ≡ true → (b == 10 || b == 13) ≡ false
 no_end b h = by_ten (b == 10) refl
   where
     by_thirteen : (t : Bool) → (b == 13) ≡ t → t ≡ false

@@ -1,7 +1,8 @@
 -- New handles: how many they are, and what they leave of the nodes that are held.
-use Rattle.std.proofs.Common.{◌≡◌, ℕ, ◌+◌, List, [], ◌∷◌, ◌++◌, Option, Some, None, length, refl, sym, ◌∙◌, ap, subst, arith, append_assoc}
-use Rattle.std.specs.Prelude.{Result, Ok, Err, OnOk, OnErr}
+use Rattle.std.proofs.Common.{◌≡◌, ℕ, ◌+◌, true, List, [], ◌∷◌, ◌++◌, Option, Some, None, length, refl, sym, ◌∙◌, ap, subst, arith, append_assoc}
+use Rattle.std.specs.Prelude.{Result, Ok, Err, OnOk, OnErr, is_some}
 use Rattle.std.specs.List.{All}
+use Rattle.std.proofs.lemmas.Bool.{false≢true}
 use Rattle.std.proofs.lemmas.List.{append-nil}
 use Rattle.std.proofs.lemmas.List.Elements.{All-append, All-cons, All-nil}
 use Rattle.dg_graph.specs.declared.element.Columns.{Columns}
@@ -13,7 +14,7 @@ use Rattle.dg_machine.specs.declared.stands.Stands.TheVariants.{Overlay, Base}
 use Rattle.dg_machine.specs.Planning.{bases_in, usable}
 use Rattle.dg_planner.specs.Whole.{PlannerGraph}
 use Rattle.dg_retrieval.specs.KeptGraph.{kept_edges}
-use Rattle.dg_session.specs.HeldIndex.{HasNodeOf, HasNodes}
+use Rattle.dg_session.specs.HeldIndex.{HasNodeOf, HasNodes, has_node_held}
 use Rattle.dg_session.specs.KeptPlanner.{IsKeptFor}
 
 pub overlays_length : (cols : Columns) (times : List ℕ) (bases : List (Option ℕ)) → length bases ≡ length times → length (overlays_on cols times bases) ≡ length times
@@ -72,6 +73,16 @@ pub nodes_after : {A E : Type 0} (r : Result A E) (index : Option Opening) (old 
 nodes_after (Ok x) index old new cols times bases added same h =
     subst (HasNodes index) (sym added) (nodes_with_overlays index old.table old.next cols times bases h)
 nodes_after (Err e) index old new cols times bases added same h = subst (λ (s : HandlesState). HasNodes index s.table) (sym same) h
+
+-- whether the handle of a node that the index has was added or not
+pub node_after : {A E : Type 0} (r : Result A E) (index : Option Opening) (old new : HandlesState) (node : NodeId) (cols : Columns)
+    → OnOk r (new.table ≡ old.table ++ (old.next, Base node cols) ∷ []) → OnErr r (new ≡ old) → is_some index ≡ true → has_node_held index node ≡ true
+    → HasNodes index old.table → HasNodes index new.table
+node_after (Ok x) None old new node cols added same there has h = absurd (false≢true there)
+node_after (Ok x) (Some o) old new node cols added same there has h =
+    let Has : ℕ × Stands → Type 0 = λ e. HasNodeOf (Some o) e.1 in
+    subst (HasNodes (Some o)) (sym added) (All-append Has old.table ((old.next, Base node cols) ∷ []) h (All-cons Has (old.next, Base node cols) [] has (All-nil Has)))
+node_after (Err e) index old new node cols added same there has h = subst (λ (s : HandlesState). HasNodes index s.table) (sym same) h
 
 pub kept_after : {A E : Type 0} (r : Result A E) (index : Option Opening) (old new : HandlesState) (kept : Option (Columns × PlannerGraph)) (cols : Columns) (times : List ℕ) (bases : List (Option ℕ))
     → OnOk r (new.table ≡ old.table ++ numbered old.next (overlays_on cols times bases)) → OnErr r (new ≡ old) → IsKeptFor index old.table kept → IsKeptFor index new.table kept

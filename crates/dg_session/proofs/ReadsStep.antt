@@ -65,6 +65,8 @@ store_read_refuses (head.CleanedAll _) accepts e = false≢true e
 store_read_refuses (head.Pool _ _) accepts e = false≢true e
 store_read_refuses (head.Plan _ _) accepts e = false≢true e
 store_read_refuses (head.Certified _) accepts e = false≢true e
+store_read_refuses (head.Verified _) accepts e = false≢true e
+store_read_refuses (head.Generated _ _ _ _) accepts e = false≢true e
 store_read_refuses (head.Tree _ _ _ _ _ _) accepts e = false≢true e
 
 -- a reply that is no refusal does not say that a read failed

@@ -36,6 +36,7 @@ reads_for (command.Several cols times count) = Graphs (take count times) cols
 reads_for (command.Materialise node cols) = Node_set node cols
 reads_for (command.Load count) = Batch_of count
 reads_for (command.Append count) = Batch_of count
+reads_for (command.Workload seed count) = Batch_of count
 reads_for c = Nothing_read
 
 -- Of a retrieval that fails so: a damage that the fault names is the first among the columns that the tree of its

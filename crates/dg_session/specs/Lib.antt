@@ -1,10 +1,12 @@
 pub mod Parts
 pub mod SessionState
 pub mod Sweeps
+pub mod Verified
 pub mod HeldIndex
 pub mod KeptAdjacency
 pub mod KeptPlanner
 pub mod BatchLines
+pub mod GeneratedBatch
 pub mod SessionStart
 pub mod Halt
 pub mod Session

@@ -93,10 +93,13 @@ is_early (head.Refused (refusal.HistoryFull held asked)) = true
 is_early (head.Refused (refusal.BadChange number reason)) = true
 is_early h = false
 
--- what a command that adds a batch, or a retrieval, reads over an image that stands for the state
+-- what a command that adds a batch, or a retrieval, reads over an image that stands for the state; what `verify`
+-- reads is not promised
 abbrev pub ReadsBy : MachineState → Command → List ScriptLine → Head → ℕ → ℕ → Type 0
 ReadsBy m (command.Load count) got h before after = ReadsOlder m count before after
 ReadsBy m (command.Append count) got h before after = ReadsOlder m count before after
+ReadsBy m command.Verify got h before after = Unit {0}
+ReadsBy m (command.Workload seed count) got h before after = ReadsOlder m count before after
 ReadsBy m c got h before after = ReadsAsTold (is_refusal h) m c got h before after
 
 -- commands of this kind neither read nor write

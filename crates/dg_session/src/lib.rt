@@ -6,6 +6,7 @@
 mod adding;
 mod batch_command;
 mod batch_lines;
+mod generated_batch;
 mod halt;
 mod kept_adjacency;
 mod kept_planner;

@@ -39,6 +39,7 @@ ghost use Rattle.dg_session.specs.Session.{ComesTo, StandsFor, Steps, Stops, Tak
 ghost use Rattle.dg_session.specs.SessionState.{handles_of};
 ghost use Rattle.dg_session.specs.SessionStart.{IsNew};
 ghost use Rattle.dg_session.specs.Sweeps.{SweepsNothing, SweepsPool};
+ghost use Rattle.dg_session.specs.Verified.{IsOfFile, VerifiesFile};
 ghost use Rattle.dg_start.specs.SessionStart.{PlansLastLeaf, RefusesStart, Starts, start_bytes};
 ghost use Rattle.dg_start.specs.StoredHistory.{IsHeldBy, index_opening, started_with};
 ghost use Rattle.dg_session.specs.declared.stop.Stop.TheVariants as stop;
@@ -46,6 +47,7 @@ ghost use Rattle.dg_session.specs.declared.stop.Stop.TheVariants as stop;
 use crate::adding::add_changes;
 use crate::batch_command::BatchCommand;
 use crate::batch_lines::read_batch;
+use crate::generated_batch::generated_batch;
 use crate::halt::Halt;
 use crate::kept_adjacency::KeptAdjacency;
 use crate::kept_planner::KeptPlanner;
@@ -71,7 +73,10 @@ use dg_names::Names;
 use dg_pool::Pool;
 use dg_retrieval::{GraphLead, NodeLead, RetrievalFault, Retrieved};
 use dg_set::Set;
+use dg_sound::Soundness;
+use dg_sound_files::law_standing_files_are_sound;
 use dg_start::{OpenedFile, StartFault, StoredHistory, open};
+use dg_verify::{VerifyFault, verify};
 use dg_view::View;
 use std::alloc::{AllocError, Global};
 use std::marker::Model;
@@ -240,6 +245,7 @@ impl Session {
         ensures store_read { IfOk result (λ reply. is_store_read reply.head ≡ true
             → DiskRose (D.faults disk.old) (D.faults disk.new) × (D.write_faults disk.new ≡ D.write_faults disk.old)) }
         ensures damaged { IfOk result (λ reply. DamageIs command.now self.old.parts (D.image disk.old) reply.head) }
+        ensures verified { IfOk result (λ reply. VerifiesFile command.now self.old.parts (D.image disk.old) reply.head) }
         ensures swept { IfOk result (λ reply. SweepsPool command.now self.old.pool self.new.pool reply.head) }
         // what it takes and leaves
         ensures reads { IfOk result (λ reply. Reads command.now self.old.parts (D.image disk.old) reply.head (D.taken disk.old) (D.taken disk.new)) }
@@ -276,6 +282,7 @@ impl Session {
         ensures store_read { IsErrOf result (Halt.Refusal Refusal.StoreRead)
             → DiskRose (D.faults disk.old) (D.faults disk.new) × (D.write_faults disk.new ≡ D.write_faults disk.old) }
         ensures damaged { DamageIn command.now self.old.parts (D.image disk.old) result }
+        ensures verified { IfOk result (λ reply. VerifiesFile command.now self.old.parts (D.image disk.old) reply.head) }
         ensures swept { IfOk result (λ reply. SweepsPool command.now self.old.pool self.new.pool reply.head) }
         ensures unswept { IfErr result (λ halt. SweepsNothing command.now) }
         // what it takes and leaves
@@ -311,6 +318,8 @@ impl Session {
             Command::Plan { t, cols } => self.plan(t, cols),
             Command::Certify { t, cols, count } => self.certify(t, cols, count, lines, source),
             Command::Tree => self.tree(),
+            Command::Verify => self.verify(disk),
+            Command::Workload { seed, count } => self.workload(rt, seed, count, disk),
         }
     }
 
@@ -456,6 +465,94 @@ impl Session {
             disk,
         )?;
         Ok(headed(self.alloc, which.head(added)))
+    }
+
+    // The batch that a seed leads to, as the history's first one.
+    fn workload<R: Threads, D: Disk>(
+        &mut self,
+        rt: &R,
+        seed: u64,
+        count: u32,
+        disk: &mut D,
+    ) -> Result<Reply, Halt>
+        requires some { 1 ≤ count }
+        requires few { count ≤ BATCH_LINES_MAX }
+        requires image { IfSome (D.image disk.old) (λ image. IsHeldBy self.old.parts.index self.old.parts.names image) }
+        // what it comes to
+        ensures comes { ComesTo (Command.Workload seed count) [] self.old.parts (D.image disk.old) self.new.parts (D.image disk.new) result }
+        // why it stops
+        ensures store { IsErrOf result (Halt.Stop Stop.Store) → DiskRose (D.write_faults disk.old) (D.write_faults disk.new) }
+        ensures no_read { IsErrOf result (Halt.Stop Stop.Read) → ⊥ }
+        ensures no_limit { IsErrOf result (Halt.Stop Stop.Limit) → ⊥ }
+        ensures store_read { IsErrOf result (Halt.Refusal Refusal.StoreRead)
+            → DiskRose (D.faults disk.old) (D.faults disk.new) × (D.write_faults disk.new ≡ D.write_faults disk.old) }
+        ensures damaged { DamageIn (Command.Workload seed count) self.old.parts (D.image disk.old) result }
+        // what it takes and leaves
+        ensures reads { ReadsIn (Command.Workload seed count) self.old.parts (D.image disk.old) result (D.taken disk.old) (D.taken disk.new) }
+        ensures disk { GoesOn D.image D.faults D.write_faults disk.old disk.new }
+    {
+        // It is barred by what bars a load.
+        if let Some(refusal) = self.barred(BatchCommand::Load, count) {
+            return Err(Halt::Refusal(refusal));
+        }
+        let known = self.history.names.len();
+        let batch = generated_batch(self.alloc, seed, count, &mut self.history.names)?;
+        self.planner.forget();
+        let added = add_changes(
+            rt,
+            self.alloc,
+            self.limits.file_bytes,
+            known,
+            &batch,
+            &mut self.history,
+            &mut self.pool,
+            &mut self.handles,
+            &mut self.adjacency,
+            disk,
+        )?;
+        let counts = self.pool.counts_now();
+        Ok(headed(
+            self.alloc,
+            Head::Generated {
+                events: added.events,
+                last: added.last,
+                nodes: counts.nodes,
+                edges: counts.edges,
+            },
+        ))
+    }
+
+    // Whether the file is what its own events determine, as the reply.
+    fn verify<D: Disk>(&mut self, disk: &mut D) -> Result<Reply, Halt>
+        requires image { IfSome (D.image disk.old) (λ image. IsHeldBy self.old.parts.index self.old.parts.names image) }
+        ensures comes { ComesTo Command.Verify [] self.old.parts (D.image disk.old) self.new.parts (D.image disk.new) result }
+        ensures no_stop { (stop : Stop) → result ≡ Err (Halt.Stop stop) → ⊥ }
+        ensures store_read { IsErrOf result (Halt.Refusal Refusal.StoreRead) → DiskRose (D.faults disk.old) (D.faults disk.new) }
+        ensures damaged { DamageIn Command.Verify self.old.parts (D.image disk.old) result }
+        ensures verified { IfOk result (λ reply. VerifiesFile Command.Verify self.old.parts (D.image disk.old) reply.head) }
+        ensures reads { ReadsIn Command.Verify self.old.parts (D.image disk.old) result (D.taken disk.old) (D.taken disk.new) }
+        ensures disk { OnlyReads D.image D.faults D.write_faults disk.old disk.new }
+    {
+        law_standing_files_are_sound();
+        let _ = self.index()?;
+        let soundness = self.soundness(disk)?;
+        Ok(headed(self.alloc, Head::Verified(soundness)))
+    }
+
+    // Whether the file is what its own events determine.
+    fn soundness<D: Disk>(&mut self, disk: &mut D) -> Result<Soundness, VerifyFault>
+        requires there { is_some self.old.parts.index ≡ true }
+        requires image { IfSome (D.image disk.old) (λ image. IsHeldBy self.old.parts.index self.old.parts.names image) }
+        ensures sound { IfOk result (λ soundness. IsOfFile self.old.parts (D.image disk.old) soundness) }
+        ensures cause { IsErrOf result VerifyFault.Disk → DiskRose (D.faults disk.old) (D.faults disk.new) }
+        // what it leaves
+        ensures same { self.new ≡ self.old }
+        ensures disk { OnlyReads D.image D.faults D.write_faults disk.old disk.new }
+    {
+        let Some(index) = &mut self.history.index else {
+            unreachable!()
+        };
+        verify(self.alloc, index, disk, &self.history.names)
     }
 
     // The index, or why nothing is asked of it.

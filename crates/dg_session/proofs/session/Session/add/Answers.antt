@@ -12,6 +12,7 @@ use Rattle.dg_session.specs.Reads.{Reads, ReadsIn}
 use Rattle.dg_session.specs.Session.{Accepts, ComesTo}
 use Rattle.dg_session.specs.contracts.session.Session.{the_view}
 use Rattle.dg_session.proofs.AddReads.{ReadsNoMore, added_reads, failed_damage, failed_reads, reads_no_more, unread_damage, unread_reads}
+use Rattle.dg_session.proofs.Additions.{Lines_of}
 use Rattle.dg_session.proofs.AddStep.{IsAsked, batch_added, batch_failed, failed_stays, is_asked, is_ready, kept_handles, takes_failed, unread_comes, with_handles, with_history}
 use Rattle.dg_session.proofs.Steps.{Comes, handed_out}
 use Rattle.dg_start.specs.declared.stored_history.StoredHistory.{StoredHistory}
@@ -40,7 +41,7 @@ returns-in_err-batch-clause-damaged g c =
 pub returns-in_err-batch-clause-reads : goal.returns-in_err-batch-clause-reads
 returns-in_err-batch-clause-reads g c =
     handed_out c.from_residual.result c.in_err-batch.field-0.0 (λ r. ReadsIn (command_with c.args.which c.args.count) c.args.self.now.parts (g.D.Disk.image c.args.disk.now) r (g.D.Disk.taken c.args.disk.now) (g.D.Disk.taken c.args.disk.now)) c.from_residual.ensures
-    (unread_reads c.args.which c.args.count c.args.self.now.parts (g.D.Disk.image c.args.disk.now) c.in_err-batch.field-0.0 (g.D.Disk.taken c.args.disk.now))
+    (unread_reads (Lines_of c.args.which) c.args.count c.args.self.now.parts (g.D.Disk.image c.args.disk.now) c.in_err-batch.field-0.0 (g.D.Disk.taken c.args.disk.now))
 
 pub add_changes-requires-clause-ready : goal.add_changes-requires-clause-ready
 add_changes-requires-clause-ready g c =
@@ -48,10 +49,11 @@ add_changes-requires-clause-ready g c =
     let old : StoredHistory = record { index = c.self.inside.history.index; names = c.read_batch.new.names; now = c.self.inside.history.now; recent = c.self.inside.history.recent } in
     let before : Option (List ScriptLine) = told c.args.lines.now (g.S.Source.left c.args.source.now) in
     let after : Option (List ScriptLine) = told c.read_batch.new.lines (g.S.Source.left c.read_batch.new.source) in
-    let asked : IsAsked c.args.which p c.args.count c.len-known.result c.self.inside.limits.file_bytes old c.in_ok-batch.batch before after =
+    let got : List ScriptLine = c.in_ok-batch.ensures.reads.got in
+    let asked : IsAsked (Lines_of c.args.which) got p c.args.count c.len-known.result c.self.inside.limits.file_bytes old c.in_ok-batch.batch =
     is_asked c.args.which p c.args.self.now.parts c.args.count c.len-known.result old c.in_ok-batch.batch before after c.barred-barred.result (ap (λ (x : SessionState). x.parts) c.self.view_is) c.barred-barred.ensures
     refl c.len-known.ensures.len refl refl c.self.invariant.0.events c.requires.some c.requires.few c.in_ok-batch.ensures.reads in
-    (is_ready c.args.which p c.args.count c.len-known.result c.self.inside.limits.file_bytes old c.in_ok-batch.batch before after asked c.self.invariant.1)
+    (is_ready (Lines_of c.args.which) got p c.args.count c.len-known.result c.self.inside.limits.file_bytes old c.in_ok-batch.batch asked c.self.invariant.1)
 
 pub returns-in_err-added-clause-comes : goal.returns-in_err-added-clause-comes
 returns-in_err-added-clause-comes g c =
@@ -59,19 +61,20 @@ returns-in_err-added-clause-comes g c =
     let old : StoredHistory = record { index = c.self.inside.history.index; names = c.read_batch.new.names; now = c.self.inside.history.now; recent = c.self.inside.history.recent } in
     let before : Option (List ScriptLine) = told c.args.lines.now (g.S.Source.left c.args.source.now) in
     let after : Option (List ScriptLine) = told c.read_batch.new.lines (g.S.Source.left c.read_batch.new.source) in
-    let asked : IsAsked c.args.which p c.args.count c.len-known.result c.self.inside.limits.file_bytes old c.in_ok-batch.batch before after =
+    let got : List ScriptLine = c.in_ok-batch.ensures.reads.got in
+    let asked : IsAsked (Lines_of c.args.which) got p c.args.count c.len-known.result c.self.inside.limits.file_bytes old c.in_ok-batch.batch =
     is_asked c.args.which p c.args.self.now.parts c.args.count c.len-known.result old c.in_ok-batch.batch before after c.barred-barred.result (ap (λ (x : SessionState). x.parts) c.self.view_is) c.barred-barred.ensures
     refl c.len-known.ensures.len refl refl c.self.invariant.0.events c.requires.some c.requires.few c.in_ok-batch.ensures.reads in
     let image : Option (List ℕ) = g.D.Disk.image c.args.disk.now in
     let then_image : Option (List ℕ) = g.D.Disk.image c.add_changes.new.disk in
     let q : Parts = with_handles (with_history p c.add_changes.new.history) c.add_changes.new.handles c.add_changes.new.pool in
     handed_out c.from_residual-in_err-added.result (batch_halt c.in_err-added.field-0.0) (Comes (command_with c.args.which c.args.count) c.args.count before after c.args.self.now.parts image q then_image) c.from_residual-in_err-added.ensures (
-      asked.batch.got,
-      takes_failed c.args.count before asked.batch.got after c.in_err-added.field-0.0 asked.batch.follows,
-      subst (λ (x : Parts). ComesTo (command_with c.args.which c.args.count) asked.batch.got x image q then_image (Err (batch_halt c.in_err-added.field-0.0))) (ap (λ (x : SessionState). x.parts) c.self.view_is)
-          (batch_failed c.args.which p c.args.count c.len-known.result c.self.inside.limits.file_bytes old c.in_ok-batch.batch before after asked c.add_changes.new.history image then_image
+      got,
+      takes_failed c.args.count before got after c.in_err-added.field-0.0 c.in_ok-batch.ensures.reads.follows,
+      subst (λ (x : Parts). ComesTo (command_with c.args.which c.args.count) got x image q then_image (Err (batch_halt c.in_err-added.field-0.0))) (ap (λ (x : SessionState). x.parts) c.self.view_is)
+          (batch_failed (Lines_of c.args.which) got p c.args.count c.len-known.result c.self.inside.limits.file_bytes old c.in_ok-batch.batch asked c.add_changes.new.history image then_image
           c.in_err-added.field-0.0 c.in_err-added.ensures.fails q
-          (failed_stays c.args.which p c.args.count c.len-known.result c.self.inside.limits.file_bytes old c.in_ok-batch.batch before after asked c.add_changes.new.history image then_image
+          (failed_stays (Lines_of c.args.which) got p c.args.count c.len-known.result c.self.inside.limits.file_bytes old c.in_ok-batch.batch asked c.add_changes.new.history image then_image
           c.in_err-added.field-0.0 c.self.inside.handles c.add_changes.new.handles c.self.inside.pool c.add_changes.new.pool c.in_err-added.ensures.back c.in_err-added.ensures.handles_back refl)),
     )
 
@@ -81,14 +84,15 @@ returns-in_err-added-clause-damaged g c =
     let old : StoredHistory = record { index = c.self.inside.history.index; names = c.read_batch.new.names; now = c.self.inside.history.now; recent = c.self.inside.history.recent } in
     let before : Option (List ScriptLine) = told c.args.lines.now (g.S.Source.left c.args.source.now) in
     let after : Option (List ScriptLine) = told c.read_batch.new.lines (g.S.Source.left c.read_batch.new.source) in
-    let asked : IsAsked c.args.which p c.args.count c.len-known.result c.self.inside.limits.file_bytes old c.in_ok-batch.batch before after =
+    let got : List ScriptLine = c.in_ok-batch.ensures.reads.got in
+    let asked : IsAsked (Lines_of c.args.which) got p c.args.count c.len-known.result c.self.inside.limits.file_bytes old c.in_ok-batch.batch =
     is_asked c.args.which p c.args.self.now.parts c.args.count c.len-known.result old c.in_ok-batch.batch before after c.barred-barred.result (ap (λ (x : SessionState). x.parts) c.self.view_is) c.barred-barred.ensures
     refl c.len-known.ensures.len refl refl c.self.invariant.0.events c.requires.some c.requires.few c.in_ok-batch.ensures.reads in
     let image : Option (List ℕ) = g.D.Disk.image c.args.disk.now in
     let then_image : Option (List ℕ) = g.D.Disk.image c.add_changes.new.disk in
     handed_out c.from_residual-in_err-added.result (batch_halt c.in_err-added.field-0.0) (λ r. DamageIn (command_with c.args.which c.args.count) c.args.self.now.parts image r) c.from_residual-in_err-added.ensures
     (subst (λ (x : Parts). DamageIn (command_with c.args.which c.args.count) x image (Err (batch_halt c.in_err-added.field-0.0))) (ap (λ (x : SessionState). x.parts) c.self.view_is)
-    (failed_damage c.args.which p c.args.count c.len-known.result c.self.inside.limits.file_bytes old c.in_ok-batch.batch before after asked image then_image c.in_err-added.field-0.0
+    (failed_damage (Lines_of c.args.which) got p c.args.count c.len-known.result c.self.inside.limits.file_bytes old c.in_ok-batch.batch asked image then_image c.in_err-added.field-0.0
     c.in_err-added.ensures.fails))
 
 pub returns-in_err-added-clause-reads : goal.returns-in_err-added-clause-reads
@@ -97,7 +101,8 @@ returns-in_err-added-clause-reads g c =
     let old : StoredHistory = record { index = c.self.inside.history.index; names = c.read_batch.new.names; now = c.self.inside.history.now; recent = c.self.inside.history.recent } in
     let before : Option (List ScriptLine) = told c.args.lines.now (g.S.Source.left c.args.source.now) in
     let after : Option (List ScriptLine) = told c.read_batch.new.lines (g.S.Source.left c.read_batch.new.source) in
-    let asked : IsAsked c.args.which p c.args.count c.len-known.result c.self.inside.limits.file_bytes old c.in_ok-batch.batch before after =
+    let got : List ScriptLine = c.in_ok-batch.ensures.reads.got in
+    let asked : IsAsked (Lines_of c.args.which) got p c.args.count c.len-known.result c.self.inside.limits.file_bytes old c.in_ok-batch.batch =
     is_asked c.args.which p c.args.self.now.parts c.args.count c.len-known.result old c.in_ok-batch.batch before after c.barred-barred.result (ap (λ (x : SessionState). x.parts) c.self.view_is) c.barred-barred.ensures
     refl c.len-known.ensures.len refl refl c.self.invariant.0.events c.requires.some c.requires.few c.in_ok-batch.ensures.reads in
     let image : Option (List ℕ) = g.D.Disk.image c.args.disk.now in
@@ -105,10 +110,10 @@ returns-in_err-added-clause-reads g c =
     let taken : ℕ = g.D.Disk.taken c.args.disk.now in
     let then_taken : ℕ = g.D.Disk.taken c.add_changes.new.disk in
     let older : ReadsNoMore p image c.args.count taken then_taken =
-    reads_no_more c.args.which p c.args.count c.len-known.result c.self.inside.limits.file_bytes old c.in_ok-batch.batch before after asked image taken then_taken
+    reads_no_more (Lines_of c.args.which) got p c.args.count c.len-known.result c.self.inside.limits.file_bytes old c.in_ok-batch.batch asked image taken then_taken
     c.add_changes.ensures.takes c.add_changes.ensures.unread in
     handed_out c.from_residual-in_err-added.result (batch_halt c.in_err-added.field-0.0) (λ r. ReadsIn (command_with c.args.which c.args.count) c.args.self.now.parts image r taken then_taken) c.from_residual-in_err-added.ensures
-    (failed_reads c.args.which c.args.count c.args.self.now.parts image c.in_err-added.field-0.0 taken then_taken (subst (λ (x : Parts). ReadsNoMore x image c.args.count taken then_taken) (ap (λ (x : SessionState). x.parts) c.self.view_is) older) c.in_err-added.ensures.nothing)
+    (failed_reads (Lines_of c.args.which) c.args.count c.args.self.now.parts image c.in_err-added.field-0.0 taken then_taken (subst (λ (x : Parts). ReadsNoMore x image c.args.count taken then_taken) (ap (λ (x : SessionState). x.parts) c.self.view_is) older) c.in_err-added.ensures.nothing)
 
 pub returns-clause-comes : goal.returns-clause-comes
 returns-clause-comes g c =
@@ -116,20 +121,21 @@ returns-clause-comes g c =
     let old : StoredHistory = record { index = c.self.inside.history.index; names = c.read_batch.new.names; now = c.self.inside.history.now; recent = c.self.inside.history.recent } in
     let before : Option (List ScriptLine) = told c.args.lines.now (g.S.Source.left c.args.source.now) in
     let after : Option (List ScriptLine) = told c.read_batch.new.lines (g.S.Source.left c.read_batch.new.source) in
-    let asked : IsAsked c.args.which p c.args.count c.len-known.result c.self.inside.limits.file_bytes old c.in_ok-batch.batch before after =
+    let got : List ScriptLine = c.in_ok-batch.ensures.reads.got in
+    let asked : IsAsked (Lines_of c.args.which) got p c.args.count c.len-known.result c.self.inside.limits.file_bytes old c.in_ok-batch.batch =
     is_asked c.args.which p c.args.self.now.parts c.args.count c.len-known.result old c.in_ok-batch.batch before after c.barred-barred.result (ap (λ (x : SessionState). x.parts) c.self.view_is) c.barred-barred.ensures
     refl c.len-known.ensures.len refl refl c.self.invariant.0.events c.requires.some c.requires.few c.in_ok-batch.ensures.reads in
     let image : Option (List ℕ) = g.D.Disk.image c.args.disk.now in
     let then_image : Option (List ℕ) = g.D.Disk.image c.add_changes.new.disk in
     let q : Parts = with_handles (with_history p c.add_changes.new.history) c.add_changes.new.handles c.add_changes.new.pool in
     let reply : headed (head_of c.args.which c.in_ok-added.added.events c.in_ok-added.added.total c.in_ok-added.added.last) ≡ c.headed.result = sym (c.headed.ensures ∙ ap headed c.head.ensures) in (
-      asked.batch.got,
-      asked.batch.follows,
-      subst (λ (r : Reply). Accepts (command_with c.args.which c.args.count) asked.batch.got c.args.self.now.parts image q then_image r) reply
-          (subst (λ (x : Parts). Accepts (command_with c.args.which c.args.count) asked.batch.got x image q then_image (headed (head_of c.args.which c.in_ok-added.added.events c.in_ok-added.added.total c.in_ok-added.added.last))) (ap (λ (x : SessionState). x.parts) c.self.view_is)
-          (subst (λ (y : Parts). Accepts (command_with c.args.which c.args.count) asked.batch.got p image y then_image (headed (head_of c.args.which c.in_ok-added.added.events c.in_ok-added.added.total c.in_ok-added.added.last)))
+      got,
+      c.in_ok-batch.ensures.reads.follows,
+      subst (λ (r : Reply). Accepts (command_with c.args.which c.args.count) got c.args.self.now.parts image q then_image r) reply
+          (subst (λ (x : Parts). Accepts (command_with c.args.which c.args.count) got x image q then_image (headed (head_of c.args.which c.in_ok-added.added.events c.in_ok-added.added.total c.in_ok-added.added.last))) (ap (λ (x : SessionState). x.parts) c.self.view_is)
+          (subst (λ (y : Parts). Accepts (command_with c.args.which c.args.count) got p image y then_image (headed (head_of c.args.which c.in_ok-added.added.events c.in_ok-added.added.total c.in_ok-added.added.last)))
           (sym (kept_handles (with_history p c.add_changes.new.history) c.self.inside.handles c.add_changes.new.handles c.self.inside.pool c.add_changes.new.pool c.in_ok-added.ensures.handles c.in_ok-added.ensures.graphs))
-          (batch_added c.args.which p c.args.count c.len-known.result c.self.inside.limits.file_bytes old c.in_ok-batch.batch before after asked c.add_changes.new.history image then_image
+          (batch_added (Lines_of c.args.which) got p c.args.count c.len-known.result c.self.inside.limits.file_bytes old c.in_ok-batch.batch asked c.add_changes.new.history image then_image
           c.in_ok-added.added c.in_ok-added.ensures.adds))),
     )
 
@@ -139,7 +145,8 @@ returns-clause-reads g c =
     let old : StoredHistory = record { index = c.self.inside.history.index; names = c.read_batch.new.names; now = c.self.inside.history.now; recent = c.self.inside.history.recent } in
     let before : Option (List ScriptLine) = told c.args.lines.now (g.S.Source.left c.args.source.now) in
     let after : Option (List ScriptLine) = told c.read_batch.new.lines (g.S.Source.left c.read_batch.new.source) in
-    let asked : IsAsked c.args.which p c.args.count c.len-known.result c.self.inside.limits.file_bytes old c.in_ok-batch.batch before after =
+    let got : List ScriptLine = c.in_ok-batch.ensures.reads.got in
+    let asked : IsAsked (Lines_of c.args.which) got p c.args.count c.len-known.result c.self.inside.limits.file_bytes old c.in_ok-batch.batch =
     is_asked c.args.which p c.args.self.now.parts c.args.count c.len-known.result old c.in_ok-batch.batch before after c.barred-barred.result (ap (λ (x : SessionState). x.parts) c.self.view_is) c.barred-barred.ensures
     refl c.len-known.ensures.len refl refl c.self.invariant.0.events c.requires.some c.requires.few c.in_ok-batch.ensures.reads in
     let image : Option (List ℕ) = g.D.Disk.image c.args.disk.now in
@@ -147,8 +154,8 @@ returns-clause-reads g c =
     let taken : ℕ = g.D.Disk.taken c.args.disk.now in
     let then_taken : ℕ = g.D.Disk.taken c.add_changes.new.disk in
     let older : ReadsNoMore p image c.args.count taken then_taken =
-    reads_no_more c.args.which p c.args.count c.len-known.result c.self.inside.limits.file_bytes old c.in_ok-batch.batch before after asked image taken then_taken
+    reads_no_more (Lines_of c.args.which) got p c.args.count c.len-known.result c.self.inside.limits.file_bytes old c.in_ok-batch.batch asked image taken then_taken
     c.add_changes.ensures.takes c.add_changes.ensures.unread in
     subst (λ (r : Reply). Reads (command_with c.args.which c.args.count) c.args.self.now.parts image r.head taken then_taken) (sym (c.headed.ensures ∙ ap headed c.head.ensures))
-    (added_reads c.args.which c.args.count c.args.self.now.parts image c.in_ok-added.added.events c.in_ok-added.added.total c.in_ok-added.added.last taken then_taken
+    (added_reads (Lines_of c.args.which) c.args.count c.args.self.now.parts image c.add_changes.new.history.now.graph c.in_ok-added.added.events c.in_ok-added.added.total c.in_ok-added.added.last taken then_taken
     (subst (λ (x : Parts). ReadsNoMore x image c.args.count taken then_taken) (ap (λ (x : SessionState). x.parts) c.self.view_is) older))

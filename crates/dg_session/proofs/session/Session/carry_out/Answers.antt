@@ -1,10 +1,13 @@
 use Rattle.std.proofs.Common.{[], refl, sym, subst}
+use Rattle.std.specs.Prelude.{IfOk}
 use Rattle.dg_io.specs.LinesState.{told}
 use Rattle.dg_machine.specs.declared.command.Command.TheVariants as command
+use Rattle.dg_machine.specs.declared.reply.Reply.{Reply}
 use Rattle.dg_machine.specs.CommandGrammar.{CountIsInRange}
 use Rattle.dg_machine.specs.Needs.{following}
 use Rattle.dg_session.specs.Damage.{DamageIn}
 use Rattle.dg_session.specs.Reads.{ReadsIn}
+use Rattle.dg_session.specs.Verified.{VerifiesFile}
 use Rattle.dg_session.proofs.DamageStep.{never_for_damage}
 use Rattle.dg_session.proofs.ReadsStep.{fails_no_read, reads_nothing}
 use Rattle.dg_session.proofs.Steps.{Comes, alone}
@@ -246,3 +249,39 @@ returns-in-Materialise-clause-reads g c =
 pub returns-in-Materialise-clause-damaged : goal.returns-in-Materialise-clause-damaged
 returns-in-Materialise-clause-damaged g c =
     subst (λ x. DamageIn x c.args.self.now.parts (g.D.Disk.image c.args.disk.now) c.materialise.result) (sym c.in-Materialise.is) c.materialise.ensures.damaged
+
+pub returns-in-Verify-clause-comes : goal.returns-in-Verify-clause-comes
+returns-in-Verify-clause-comes g c =
+    alone c.args.command.now command.Verify (told c.args.lines.now (g.S.Source.left c.args.source.now)) c.args.self.now.parts (g.D.Disk.image c.args.disk.now) c.verify.new.self.parts (g.D.Disk.image c.verify.new.disk) c.verify.result
+    c.in-Verify.is refl c.verify.ensures.comes
+
+pub returns-in-Verify-clause-reads : goal.returns-in-Verify-clause-reads
+returns-in-Verify-clause-reads g c =
+    subst (λ x. ReadsIn x c.args.self.now.parts (g.D.Disk.image c.args.disk.now) c.verify.result (g.D.Disk.taken c.args.disk.now) (g.D.Disk.taken c.verify.new.disk)) (sym c.in-Verify.is) c.verify.ensures.reads
+
+pub returns-in-Verify-clause-damaged : goal.returns-in-Verify-clause-damaged
+returns-in-Verify-clause-damaged g c =
+    subst (λ x. DamageIn x c.args.self.now.parts (g.D.Disk.image c.args.disk.now) c.verify.result) (sym c.in-Verify.is) c.verify.ensures.damaged
+
+pub returns-in-Workload-clause-comes : goal.returns-in-Workload-clause-comes
+returns-in-Workload-clause-comes g c =
+    alone c.args.command.now (command.Workload c.in-Workload.seed c.in-Workload.count) (told c.args.lines.now (g.S.Source.left c.args.source.now)) c.args.self.now.parts (g.D.Disk.image c.args.disk.now) c.workload.new.self.parts (g.D.Disk.image c.workload.new.disk) c.workload.result
+    c.in-Workload.is refl c.workload.ensures.comes
+
+pub returns-in-Workload-clause-reads : goal.returns-in-Workload-clause-reads
+returns-in-Workload-clause-reads g c =
+    subst (λ x. ReadsIn x c.args.self.now.parts (g.D.Disk.image c.args.disk.now) c.workload.result (g.D.Disk.taken c.args.disk.now) (g.D.Disk.taken c.workload.new.disk)) (sym c.in-Workload.is) c.workload.ensures.reads
+
+pub returns-in-Workload-clause-damaged : goal.returns-in-Workload-clause-damaged
+returns-in-Workload-clause-damaged g c =
+    subst (λ x. DamageIn x c.args.self.now.parts (g.D.Disk.image c.args.disk.now) c.workload.result) (sym c.in-Workload.is) c.workload.ensures.damaged
+
+pub workload-requires-clause-some : goal.workload-requires-clause-some
+workload-requires-clause-some g c = (subst CountIsInRange c.in-Workload.is c.requires.command).0
+
+pub workload-requires-clause-few : goal.workload-requires-clause-few
+workload-requires-clause-few g c = (subst CountIsInRange c.in-Workload.is c.requires.command).1
+
+pub returns-in-Verify-clause-verified : goal.returns-in-Verify-clause-verified
+returns-in-Verify-clause-verified g c =
+    subst (λ x. IfOk c.verify.result (λ (reply : Reply). VerifiesFile x c.args.self.now.parts (g.D.Disk.image c.args.disk.now) reply.head)) (sym c.in-Verify.is) c.verify.ensures.verified

@@ -24,10 +24,10 @@ returns-in_err-graph-clause-comes c image =
     handed_out c.from_residual.result (halt.Refusal c.in_err-graph.field-0.0) (ComesTo (command.Node h id) [] p image p image) c.from_residual.ensures
     (refused_denies (command.Node h id) [] p p image image c.in_err-graph.field-0.0 refl refl (c.in_err-graph.ensures.refused p table id))
 
-pub node-requires-clause-kept : goal.node-requires-clause-kept
-node-requires-clause-kept c =
+pub node-requires : goal.node-requires
+node-requires c =
     let s = c.self.inside in
-    serves c.args.handle s.handles.table (graphs_at s.pool s.handles.slots) c.in_ok-graph.graph s.adjacency c.in_ok-graph.ensures.graph c.self.invariant.6
+    record { kept = serves c.args.handle s.handles.table (graphs_at s.pool s.handles.slots) c.in_ok-graph.graph s.adjacency c.in_ok-graph.ensures.graph c.self.invariant.6 }
 
 pub returns-in_err-node-clause-comes : goal.returns-in_err-node-clause-comes
 returns-in_err-node-clause-comes c image =

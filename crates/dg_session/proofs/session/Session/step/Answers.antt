@@ -9,6 +9,8 @@ use Rattle.dg_session.specs.Reads.{Reads, head_of}
 use Rattle.dg_session.proofs.DamageStep.{damage_in_reply}
 use Rattle.dg_session.proofs.ReadsStep.{accepted_reads, reads_in_reply, store_read_is}
 use Rattle.dg_session.proofs.Steps.{answered, refused_so}
+use Rattle.dg_session.proofs.VerifyStep.{refused_verifies, verified_reply}
+use Rattle.dg_session.specs.Verified.{VerifiesFile}
 use Rattle.dg_session.proofs.session.Session.step.Goals as goal
 use Rattle.dg_session.proofs.session.Session.step.Goals.{in-Ok, in-Err-Refusal, in-Err-Stop}
 
@@ -61,5 +63,16 @@ returns-clause-damaged g c =
       | in-Err-Refusal w ↦ rw w.result-is
           (subst (λ (x : Reply). DamageIs c.args.command.now p image x.head) (sym w.headed.ensures)
           (damage_in_reply c.args.command.now p image c.carry_out.result (head.Refused w.in-Err-Refusal.refusal) (ap head_of (w.in-Err-Refusal.is ∙ ap (λ h. Err h) w.in-Err-Refusal.field-0-is)) c.carry_out.ensures.damaged))
+      | in-Err-Stop w ↦ rw w.result-is tt
+    ]
+
+pub returns-clause-verified : goal.returns-clause-verified
+returns-clause-verified g c =
+    let p = c.args.self.now.parts in
+    let image = g.D.Disk.image c.args.disk.now in
+    elim c.match-carry_out.branch [
+      | in-Ok w ↦ rw w.result-is (verified_reply c.args.command.now p image c.carry_out.result w.in-Ok.reply w.in-Ok.is c.carry_out.ensures.verified)
+      | in-Err-Refusal w ↦ rw w.result-is
+          (subst (λ (x : Reply). VerifiesFile c.args.command.now p image x.head) (sym w.headed.ensures) (refused_verifies c.args.command.now p image w.in-Err-Refusal.refusal))
       | in-Err-Stop w ↦ rw w.result-is tt
     ]

@@ -1,0 +1,31 @@
+use Rattle.std.proofs.Common.{[], ◌∷◌, sym, ◌∙◌, ap, subst}
+use Rattle.dg_graph.specs.Composition.{applied}
+use Rattle.dg_graph.specs.Elements.{shown}
+use Rattle.dg_machine.specs.declared.stands.Stands.TheVariants.{Base}
+use Rattle.dg_session.specs.contracts.session.Session.{the_view}
+use Rattle.dg_session.specs.KeptPlanner.{IsKeptFor}
+use Rattle.dg_session.specs.Parts.{Parts}
+use Rattle.dg_session.specs.Session.{node_needs, refused_by}
+use Rattle.dg_session.specs.SessionState.{SessionState}
+use Rattle.dg_session.proofs.KeptAdjacencies.{kept_after as adjacency_after}
+use Rattle.dg_session.proofs.MaterialiseStep.{found_free}
+use Rattle.dg_session.proofs.NewHandles.{node_after}
+use Rattle.dg_session.proofs.session.Session.add_base.Goals as goal
+
+pub invariant_of-self : goal.invariant_of-self
+invariant_of-self c =
+    let s = c.self.inside in
+    let r = c.add_base in
+    let view : Parts = (the_view s).parts in
+    let node = c.args.node in
+    let cols = c.args.cols in
+    let free = found_free view node (ap (λ (x : SessionState). refused_by x.parts 0 (node_needs node)) c.self.view_is ∙ c.requires.free) in (
+      c.self.invariant.0,
+      c.self.invariant.1,
+      r.ensures.now ∙ c.self.invariant.2,
+      r.ensures.tied,
+      node_after r.result view.index s.handles r.new.self node cols r.ensures.table r.ensures.err free.0 free.1 c.self.invariant.4,
+      subst (λ k. IsKeptFor view.index r.new.self.table k) (sym c.forget.ensures) tt,
+      adjacency_after r.result s.handles r.new.self s.pool r.new.pool ((s.handles.next, Base node cols) ∷ []) (shown (applied c.args.delta.now []) cols ∷ []) s.adjacency
+          r.ensures.table r.ensures.graphs r.ensures.err r.ensures.graphs_err c.self.invariant.6,
+    )

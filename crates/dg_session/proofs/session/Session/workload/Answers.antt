@@ -1,0 +1,161 @@
+use Rattle.std.proofs.Common.{◌≡◌, ℕ, List, [], Option, None, Err, refl, sym, ◌∙◌, ap, subst}
+use Rattle.dg_graph.specs.declared.element.Element.{Element}
+use Rattle.dg_machine.specs.declared.command.Command.TheVariants as command
+use Rattle.dg_machine.specs.declared.reply.Head.TheVariants as head
+use Rattle.dg_machine.specs.declared.reply.Refusal.TheVariants as refusal
+use Rattle.dg_machine.specs.declared.reply.Reply.{Reply}
+use Rattle.dg_machine.specs.Answer.{headed}
+use Rattle.dg_machine.specs.Needs.{needs}
+use Rattle.dg_pool.specs.Graphs.{graph_now}
+use Rattle.dg_query.specs.Queries.{counts_of}
+use Rattle.dg_query.specs.declared.answers.Counts.{Counts}
+use Rattle.dg_session.specs.BatchCommand.{barred}
+use Rattle.dg_session.specs.declared.batch_command.BatchCommand.TheVariants.{Load}
+use Rattle.dg_session.specs.declared.batch_lines.BatchLines.{BatchLines}
+use Rattle.dg_session.specs.declared.halt.Halt.TheVariants as halt
+use Rattle.dg_session.specs.Damage.{DamageIn}
+use Rattle.dg_session.specs.Halt.{batch_halt}
+use Rattle.dg_session.specs.Parts.{Parts}
+use Rattle.dg_session.specs.Reads.{Reads, ReadsIn}
+use Rattle.dg_session.specs.Session.{Accepts, ComesTo}
+use Rattle.dg_session.specs.SessionState.{SessionState}
+use Rattle.dg_session.specs.contracts.session.Session.{the_view}
+use Rattle.dg_session.proofs.Additions.{Seed, head_over}
+use Rattle.dg_session.proofs.AddReads.{ReadsNoMore, added_reads, failed_damage, failed_reads, reads_no_more, unread_reads}
+use Rattle.dg_session.proofs.AddStep.{IsAsked, batch_added, batch_failed, failed_stays, is_generated, is_ready, kept_handles, none_bars, with_handles, with_history}
+use Rattle.dg_session.proofs.DamageStep.{tells_no_damage}
+use Rattle.dg_session.proofs.Steps.{handed_out, lacking_denies, refused_denies, refused_not_read}
+use Rattle.dg_start.specs.declared.stored_history.StoredHistory.{StoredHistory}
+use Rattle.dg_session.proofs.session.Session.workload.Goals as goal
+
+pub returns-in-Some-clause-comes : goal.returns-in-Some-clause-comes
+returns-in-Some-clause-comes g c =
+    refused_denies (command.Workload c.args.seed c.args.count) [] c.args.self.now.parts c.args.self.now.parts (g.D.Disk.image c.args.disk.now) (g.D.Disk.image c.args.disk.now) c.in-Some.refusal refl refl (sym c.barred.ensures ∙ c.in-Some.is)
+
+pub returns-in-Some-clause-damaged : goal.returns-in-Some-clause-damaged
+returns-in-Some-clause-damaged g c =
+    tells_no_damage (command.Workload c.args.seed c.args.count) c.args.self.now.parts (g.D.Disk.image c.args.disk.now) c.in-Some.refusal
+    (refused_not_read c.args.self.now.parts 0 (needs (command.Workload c.args.seed c.args.count)) c.in-Some.refusal (sym c.barred.ensures ∙ c.in-Some.is))
+
+pub returns-in-Some-clause-reads : goal.returns-in-Some-clause-reads
+returns-in-Some-clause-reads g c = unread_reads (Seed c.args.seed) c.args.count c.args.self.now.parts (g.D.Disk.image c.args.disk.now) (halt.Refusal c.in-Some.refusal) (g.D.Disk.taken c.args.disk.now)
+
+pub generated_batch-requires-clause-room : goal.generated_batch-requires-clause-room
+generated_batch-requires-clause-room g c =
+    let p : Parts = (the_view c.self.inside).parts in
+    (none_bars Load p c.args.count c.requires.some (ap (λ (x : Parts). barred Load x c.args.count) (ap (λ (x : SessionState). x.parts) c.self.view_is) ∙ sym c.barred.ensures ∙ c.in_default.is)).few_names
+
+pub returns-in_err-batch-clause-comes : goal.returns-in_err-batch-clause-comes
+returns-in_err-batch-clause-comes g c =
+    let p : Parts = (the_view c.self.inside).parts in
+    let q : Parts = record p { names = c.generated_batch.new.names } in
+    handed_out c.from_residual.result (halt.Refusal refusal.OutOfMemory) (ComesTo (command.Workload c.args.seed c.args.count) [] c.args.self.now.parts (g.D.Disk.image c.args.disk.now) q (g.D.Disk.image c.args.disk.now)) c.from_residual.ensures
+    (lacking_denies (command.Workload c.args.seed c.args.count) [] c.args.self.now.parts q (g.D.Disk.image c.args.disk.now) (g.D.Disk.image c.args.disk.now) (ap (λ ns. let x : Parts = record p { names = ns } in x) c.in_err-batch.ensures.same ∙ (ap (λ (x : SessionState). x.parts) c.self.view_is)) refl refl (sym c.barred.ensures ∙ c.in_default.is))
+
+pub returns-in_err-batch-clause-damaged : goal.returns-in_err-batch-clause-damaged
+returns-in_err-batch-clause-damaged g c =
+    handed_out c.from_residual.result (halt.Refusal refusal.OutOfMemory) (λ r. DamageIn (command.Workload c.args.seed c.args.count) c.args.self.now.parts (g.D.Disk.image c.args.disk.now) r) c.from_residual.ensures tt
+
+pub returns-in_err-batch-clause-reads : goal.returns-in_err-batch-clause-reads
+returns-in_err-batch-clause-reads g c =
+    handed_out c.from_residual.result (halt.Refusal refusal.OutOfMemory) (λ r. ReadsIn (command.Workload c.args.seed c.args.count) c.args.self.now.parts (g.D.Disk.image c.args.disk.now) r (g.D.Disk.taken c.args.disk.now) (g.D.Disk.taken c.args.disk.now)) c.from_residual.ensures
+    (unread_reads (Seed c.args.seed) c.args.count c.args.self.now.parts (g.D.Disk.image c.args.disk.now) (halt.Refusal refusal.OutOfMemory) (g.D.Disk.taken c.args.disk.now))
+
+pub add_changes-requires-clause-ready : goal.add_changes-requires-clause-ready
+add_changes-requires-clause-ready g c =
+    let p : Parts = (the_view c.self.inside).parts in
+    let old : StoredHistory = record { index = c.self.inside.history.index; names = c.generated_batch.new.names; now = c.self.inside.history.now; recent = c.self.inside.history.recent } in
+    let b : BatchLines = c.in_ok-batch.batch in
+    let asked : IsAsked (Seed c.args.seed) [] p c.args.count c.len-known.result c.self.inside.limits.file_bytes old b =
+    is_generated c.args.seed p c.args.self.now.parts c.args.count c.len-known.result old b c.barred.result (ap (λ (x : SessionState). x.parts) c.self.view_is) c.barred.ensures c.in_default.is
+    refl c.len-known.ensures.len refl refl c.self.invariant.0.events c.requires.some c.requires.few c.in_ok-batch.ensures.generated in
+    is_ready (Seed c.args.seed) [] p c.args.count c.len-known.result c.self.inside.limits.file_bytes old b asked c.self.invariant.1
+
+pub returns-in_err-added-clause-comes : goal.returns-in_err-added-clause-comes
+returns-in_err-added-clause-comes g c =
+    let p : Parts = (the_view c.self.inside).parts in
+    let old : StoredHistory = record { index = c.self.inside.history.index; names = c.generated_batch.new.names; now = c.self.inside.history.now; recent = c.self.inside.history.recent } in
+    let b : BatchLines = c.in_ok-batch.batch in
+    let asked : IsAsked (Seed c.args.seed) [] p c.args.count c.len-known.result c.self.inside.limits.file_bytes old b =
+    is_generated c.args.seed p c.args.self.now.parts c.args.count c.len-known.result old b c.barred.result (ap (λ (x : SessionState). x.parts) c.self.view_is) c.barred.ensures c.in_default.is
+    refl c.len-known.ensures.len refl refl c.self.invariant.0.events c.requires.some c.requires.few c.in_ok-batch.ensures.generated in
+    let image : Option (List ℕ) = g.D.Disk.image c.args.disk.now in
+    let then_image : Option (List ℕ) = g.D.Disk.image c.add_changes.new.disk in
+    let q : Parts = with_handles (with_history p c.add_changes.new.history) c.add_changes.new.handles c.add_changes.new.pool in
+    handed_out c.from_residual-in_err-added.result (batch_halt c.in_err-added.field-0.0) (ComesTo (command.Workload c.args.seed c.args.count) [] c.args.self.now.parts image q then_image) c.from_residual-in_err-added.ensures
+    (subst (λ (x : Parts). ComesTo (command.Workload c.args.seed c.args.count) [] x image q then_image (Err (batch_halt c.in_err-added.field-0.0))) (ap (λ (x : SessionState). x.parts) c.self.view_is)
+    (batch_failed (Seed c.args.seed) [] p c.args.count c.len-known.result c.self.inside.limits.file_bytes old b asked c.add_changes.new.history image then_image c.in_err-added.field-0.0 c.in_err-added.ensures.fails q
+    (failed_stays (Seed c.args.seed) [] p c.args.count c.len-known.result c.self.inside.limits.file_bytes old b asked c.add_changes.new.history image then_image c.in_err-added.field-0.0 c.self.inside.handles c.add_changes.new.handles c.self.inside.pool c.add_changes.new.pool
+    c.in_err-added.ensures.back c.in_err-added.ensures.handles_back refl)))
+
+pub returns-in_err-added-clause-damaged : goal.returns-in_err-added-clause-damaged
+returns-in_err-added-clause-damaged g c =
+    let p : Parts = (the_view c.self.inside).parts in
+    let old : StoredHistory = record { index = c.self.inside.history.index; names = c.generated_batch.new.names; now = c.self.inside.history.now; recent = c.self.inside.history.recent } in
+    let b : BatchLines = c.in_ok-batch.batch in
+    let asked : IsAsked (Seed c.args.seed) [] p c.args.count c.len-known.result c.self.inside.limits.file_bytes old b =
+    is_generated c.args.seed p c.args.self.now.parts c.args.count c.len-known.result old b c.barred.result (ap (λ (x : SessionState). x.parts) c.self.view_is) c.barred.ensures c.in_default.is
+    refl c.len-known.ensures.len refl refl c.self.invariant.0.events c.requires.some c.requires.few c.in_ok-batch.ensures.generated in
+    let image : Option (List ℕ) = g.D.Disk.image c.args.disk.now in
+    let then_image : Option (List ℕ) = g.D.Disk.image c.add_changes.new.disk in
+    handed_out c.from_residual-in_err-added.result (batch_halt c.in_err-added.field-0.0) (λ r. DamageIn (command.Workload c.args.seed c.args.count) c.args.self.now.parts image r) c.from_residual-in_err-added.ensures
+    (subst (λ (x : Parts). DamageIn (command.Workload c.args.seed c.args.count) x image (Err (batch_halt c.in_err-added.field-0.0))) (ap (λ (x : SessionState). x.parts) c.self.view_is)
+    (failed_damage (Seed c.args.seed) [] p c.args.count c.len-known.result c.self.inside.limits.file_bytes old b asked image then_image c.in_err-added.field-0.0 c.in_err-added.ensures.fails))
+
+pub returns-in_err-added-clause-reads : goal.returns-in_err-added-clause-reads
+returns-in_err-added-clause-reads g c =
+    let p : Parts = (the_view c.self.inside).parts in
+    let old : StoredHistory = record { index = c.self.inside.history.index; names = c.generated_batch.new.names; now = c.self.inside.history.now; recent = c.self.inside.history.recent } in
+    let b : BatchLines = c.in_ok-batch.batch in
+    let asked : IsAsked (Seed c.args.seed) [] p c.args.count c.len-known.result c.self.inside.limits.file_bytes old b =
+    is_generated c.args.seed p c.args.self.now.parts c.args.count c.len-known.result old b c.barred.result (ap (λ (x : SessionState). x.parts) c.self.view_is) c.barred.ensures c.in_default.is
+    refl c.len-known.ensures.len refl refl c.self.invariant.0.events c.requires.some c.requires.few c.in_ok-batch.ensures.generated in
+    let image : Option (List ℕ) = g.D.Disk.image c.args.disk.now in
+    let taken : ℕ = g.D.Disk.taken c.args.disk.now in
+    let then_taken : ℕ = g.D.Disk.taken c.add_changes.new.disk in
+    let older : ReadsNoMore p image c.args.count taken then_taken =
+    reads_no_more (Seed c.args.seed) [] p c.args.count c.len-known.result c.self.inside.limits.file_bytes old b asked image taken then_taken c.add_changes.ensures.takes c.add_changes.ensures.unread in
+    handed_out c.from_residual-in_err-added.result (batch_halt c.in_err-added.field-0.0) (λ r. ReadsIn (command.Workload c.args.seed c.args.count) c.args.self.now.parts image r taken then_taken) c.from_residual-in_err-added.ensures
+    (failed_reads (Seed c.args.seed) c.args.count c.args.self.now.parts image c.in_err-added.field-0.0 taken then_taken (subst (λ (x : Parts). ReadsNoMore x image c.args.count taken then_taken) (ap (λ (x : SessionState). x.parts) c.self.view_is) older) c.in_err-added.ensures.nothing)
+
+pub returns-clause-comes : goal.returns-clause-comes
+returns-clause-comes g c =
+    let p : Parts = (the_view c.self.inside).parts in
+    let old : StoredHistory = record { index = c.self.inside.history.index; names = c.generated_batch.new.names; now = c.self.inside.history.now; recent = c.self.inside.history.recent } in
+    let b : BatchLines = c.in_ok-batch.batch in
+    let asked : IsAsked (Seed c.args.seed) [] p c.args.count c.len-known.result c.self.inside.limits.file_bytes old b =
+    is_generated c.args.seed p c.args.self.now.parts c.args.count c.len-known.result old b c.barred.result (ap (λ (x : SessionState). x.parts) c.self.view_is) c.barred.ensures c.in_default.is
+    refl c.len-known.ensures.len refl refl c.self.invariant.0.events c.requires.some c.requires.few c.in_ok-batch.ensures.generated in
+    let image : Option (List ℕ) = g.D.Disk.image c.args.disk.now in
+    let then_image : Option (List ℕ) = g.D.Disk.image c.add_changes.new.disk in
+    let q : Parts = with_handles (with_history p c.add_changes.new.history) c.add_changes.new.handles c.add_changes.new.pool in
+    let added = c.in_ok-added.added in
+    let graph : List Element = c.add_changes.new.history.now.graph in
+    let counts : c.counts_now-counts.result ≡ counts_of graph = c.counts_now-counts.ensures ∙ ap counts_of c.add_changes.ensures.pool in
+    let said : Reply = headed (head_over (Seed c.args.seed) graph added.events added.total added.last) in
+    let reply : said ≡ c.headed.result = sym (c.headed.ensures ∙ ap (λ (n : Counts). headed (head.Generated added.events added.last n.nodes n.edges)) counts) in
+    subst (λ (r : Reply). Accepts (command.Workload c.args.seed c.args.count) [] c.args.self.now.parts image q then_image r) reply
+    (subst (λ (x : Parts). Accepts (command.Workload c.args.seed c.args.count) [] x image q then_image said) (ap (λ (x : SessionState). x.parts) c.self.view_is)
+    (subst (λ (y : Parts). Accepts (command.Workload c.args.seed c.args.count) [] p image y then_image said)
+    (sym (kept_handles (with_history p c.add_changes.new.history) c.self.inside.handles c.add_changes.new.handles c.self.inside.pool c.add_changes.new.pool c.in_ok-added.ensures.handles c.in_ok-added.ensures.graphs))
+    (batch_added (Seed c.args.seed) [] p c.args.count c.len-known.result c.self.inside.limits.file_bytes old b asked c.add_changes.new.history image then_image added c.in_ok-added.ensures.adds)))
+
+pub returns-clause-reads : goal.returns-clause-reads
+returns-clause-reads g c =
+    let p : Parts = (the_view c.self.inside).parts in
+    let old : StoredHistory = record { index = c.self.inside.history.index; names = c.generated_batch.new.names; now = c.self.inside.history.now; recent = c.self.inside.history.recent } in
+    let b : BatchLines = c.in_ok-batch.batch in
+    let asked : IsAsked (Seed c.args.seed) [] p c.args.count c.len-known.result c.self.inside.limits.file_bytes old b =
+    is_generated c.args.seed p c.args.self.now.parts c.args.count c.len-known.result old b c.barred.result (ap (λ (x : SessionState). x.parts) c.self.view_is) c.barred.ensures c.in_default.is
+    refl c.len-known.ensures.len refl refl c.self.invariant.0.events c.requires.some c.requires.few c.in_ok-batch.ensures.generated in
+    let image : Option (List ℕ) = g.D.Disk.image c.args.disk.now in
+    let taken : ℕ = g.D.Disk.taken c.args.disk.now in
+    let then_taken : ℕ = g.D.Disk.taken c.add_changes.new.disk in
+    let added = c.in_ok-added.added in
+    let graph : List Element = c.add_changes.new.history.now.graph in
+    let counts : c.counts_now-counts.result ≡ counts_of graph = c.counts_now-counts.ensures ∙ ap counts_of c.add_changes.ensures.pool in
+    let older : ReadsNoMore p image c.args.count taken then_taken =
+    reads_no_more (Seed c.args.seed) [] p c.args.count c.len-known.result c.self.inside.limits.file_bytes old b asked image taken then_taken c.add_changes.ensures.takes c.add_changes.ensures.unread in
+    subst (λ (r : Reply). Reads (command.Workload c.args.seed c.args.count) c.args.self.now.parts image r.head taken then_taken) (sym (c.headed.ensures ∙ ap (λ (n : Counts). headed (head.Generated added.events added.last n.nodes n.edges)) counts))
+    (added_reads (Seed c.args.seed) c.args.count c.args.self.now.parts image graph added.events added.total added.last taken then_taken
+    (subst (λ (x : Parts). ReadsNoMore x image c.args.count taken then_taken) (ap (λ (x : SessionState). x.parts) c.self.view_is) older))

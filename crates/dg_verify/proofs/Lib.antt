@@ -1,0 +1,11 @@
+pub mod Outcomes
+pub mod LastTime
+pub mod Completions
+pub mod RecordsRead
+pub mod ReadLists
+pub mod ReadPieces
+pub mod Parameters
+pub mod DeltaKeys
+pub mod MadeDeltas
+pub mod ComparedDeltas
+pub mod Verified

@@ -1,0 +1,91 @@
+use Rattle.std.proofs.Common.{◌≡◌, ◌+◌, ◌-◌, ◌<◌, ◌≤◌, Some, Ok, length, slice_get, sym, ◌∙◌, ap, subst, arith}
+use Rattle.dg_file.specs.Index.{IndexState}
+use Rattle.dg_index.specs.OpenedIndex.{Opening, events_in}
+use Rattle.dg_sound.specs.OwnEvents.{with_piece, with_pieces}
+use Rattle.dg_start.specs.Reading.{WhereTold}
+use Rattle.dg_start.proofs.EventSources.{batch_there, batch_within, none_left}
+use Rattle.dg_start.proofs.Told.{err_is, said_before}
+use Rattle.dg_verify.specs.declared.stop.Stop.{Stop}
+use Rattle.dg_verify.specs.Verifying.{AreSoFar, IsStop, opened_with}
+use Rattle.dg_verify.proofs.Parameters.{all_count, in_range}
+use Rattle.dg_verify.proofs.ReadPieces.{all_counted, all_pieced, one_pieced, piece_stops}
+use Rattle.dg_verify.proofs.pieces.add_pieces.Goals as goal
+
+pub add_piece-requires-clause-few : goal.add_piece-requires-clause-few
+add_piece-requires-clause-few g c =
+    let o : Opening = c.args.index.now.opening in
+    let same : c.loop-batch.index.opening ≡ o = ap (λ (i : IndexState). i.opening) c.loop-batch.invariant.same in
+    let there : slice_get o.batches c.loop-batch.number ≡ Some c.in-Some.batch = ap (λ (p : Opening). slice_get p.batches c.loop-batch.number) (sym same) ∙ sym c.batch.ensures ∙ c.in-Some.is in
+    subst (λ (p : Opening). c.loop-batch.before + c.in-Some.batch.events ≤ events_in p.batches) (sym same)
+    (batch_within o c.loop-batch.number c.loop-batch.before c.in-Some.batch there c.loop-batch.invariant.so_far.counted)
+
+pub returns-in_err-add_piece-clause-stopped : goal.returns-in_err-add_piece-clause-stopped
+returns-in_err-add_piece-clause-stopped g c =
+    let o : Opening = c.args.index.now.opening in
+    let told = g.D.Disk.image c.args.disk.now in
+    let x = opened_with o c.args.names.now in
+    let s : Stop = c.in_err-add_piece.field-0.0 in
+    let same : c.loop-batch.index.opening ≡ o = ap (λ (i : IndexState). i.opening) c.loop-batch.invariant.same in
+    let there : slice_get o.batches c.loop-batch.number ≡ Some c.in-Some.batch = ap (λ (p : Opening). slice_get p.batches c.loop-batch.number) (sym same) ∙ sym c.batch.ensures ∙ c.in-Some.is in
+    err_is c.from_residual.result s (λ (s : Stop). WhereTold told (λ image. IsStop s (with_pieces image x c.args.own.now.events.items 0 0 o.batches))) c.from_residual.ensures
+    (piece_stops told x c.args.own.now.events.items c.loop-batch.number c.loop-batch.before c.loop-batch.own.events.items c.in-Some.batch there c.loop-batch.invariant.so_far s
+    (said_before (g.D.Disk.image c.loop-batch.disk) told c.loop-batch.index.opening o
+    (λ image p. IsStop s (with_piece image (opened_with p c.args.names.now) c.loop-batch.own.events.items c.loop-batch.number c.loop-batch.before c.in-Some.batch))
+    c.loop-batch.invariant.frame.same_image same c.in_err-add_piece.ensures.stopped))
+
+pub overflow_add-number : goal.overflow_add-number
+overflow_add-number g c =
+    let o : Opening = c.args.index.now.opening in
+    let same : c.loop-batch.index.opening ≡ o = ap (λ (i : IndexState). i.opening) c.loop-batch.invariant.same in
+    let there : slice_get o.batches c.loop-batch.number ≡ Some c.in-Some.batch = ap (λ (p : Opening). slice_get p.batches c.loop-batch.number) (sym same) ∙ sym c.batch.ensures ∙ c.in-Some.is in
+    let lt = batch_there o.batches c.loop-batch.number c.in-Some.batch there in
+    omega (arith, lt, c.facts.ensures.few, c.facts.ensures.events)
+
+pub loop-batch-smaller : goal.loop-batch-smaller
+loop-batch-smaller g c =
+    let o : Opening = c.args.index.now.opening in
+    let same : c.loop-batch.index.opening ≡ o = ap (λ (i : IndexState). i.opening) c.loop-batch.invariant.same in
+    let there : slice_get o.batches c.loop-batch.number ≡ Some c.in-Some.batch = ap (λ (p : Opening). slice_get p.batches c.loop-batch.number) (sym same) ∙ sym c.batch.ensures ∙ c.in-Some.is in
+    let lt = batch_there o.batches c.loop-batch.number c.in-Some.batch there in
+    let fewer : length o.batches - (c.loop-batch.number + 1) < length o.batches - c.loop-batch.number = omega (arith, lt) in
+    fewer
+
+pub loop-batch-preserved : goal.loop-batch-preserved
+loop-batch-preserved g c =
+    let o : Opening = c.args.index.now.opening in
+    let told = g.D.Disk.image c.args.disk.now in
+    let x = opened_with o c.args.names.now in
+    let same : c.loop-batch.index.opening ≡ o = ap (λ (i : IndexState). i.opening) c.loop-batch.invariant.same in
+    let there : slice_get o.batches c.loop-batch.number ≡ Some c.in-Some.batch = ap (λ (p : Opening). slice_get p.batches c.loop-batch.number) (sym same) ∙ sym c.batch.ensures ∙ c.in-Some.is in
+    record {
+      same = c.add_piece.ensures.same ∙ c.loop-batch.invariant.same;
+      frame = record {
+        same_image = c.add_piece.ensures.disk.same_image ∙ c.loop-batch.invariant.frame.same_image;
+        counted = omega (arith, c.add_piece.ensures.disk.counted, c.loop-batch.invariant.frame.counted);
+        no_write_failed = c.add_piece.ensures.disk.no_write_failed ∙ c.loop-batch.invariant.frame.no_write_failed;
+      };
+      led = c.in_ok-add_piece.ensures.led;
+      many = subst (λ (p : Opening). AreSoFar p (c.loop-batch.before + c.in-Some.batch.events) c.add_piece.new.own.events.items) same c.in_ok-add_piece.ensures.so_far;
+      so_far =
+          one_pieced told x c.args.own.now.events.items c.loop-batch.number c.loop-batch.before c.loop-batch.own.events.items c.in-Some.batch there c.loop-batch.invariant.so_far c.add_piece.new.own.events.items
+          (said_before (g.D.Disk.image c.loop-batch.disk) told c.loop-batch.index.opening o
+          (λ image p. with_piece image (opened_with p c.args.names.now) c.loop-batch.own.events.items c.loop-batch.number c.loop-batch.before c.in-Some.batch ≡ Ok c.add_piece.new.own.events.items)
+          c.loop-batch.invariant.frame.same_image same c.in_ok-add_piece.ensures.read);
+    }
+
+pub returns-clause-read : goal.returns-clause-read
+returns-clause-read g c =
+    let o : Opening = c.args.index.now.opening in
+    let same : c.loop-batch.index.opening ≡ o = ap (λ (i : IndexState). i.opening) c.loop-batch.invariant.same in
+    all_pieced (g.D.Disk.image c.args.disk.now) (opened_with o c.args.names.now) c.args.own.now.events.items c.loop-batch.number c.loop-batch.before c.loop-batch.own.events.items
+    (none_left o.batches c.loop-batch.number (ap (λ (p : Opening). slice_get p.batches c.loop-batch.number) (sym same) ∙ sym c.batch.ensures ∙ c.in_default.is)) c.loop-batch.invariant.so_far
+
+pub returns-clause-many : goal.returns-clause-many
+returns-clause-many g c =
+    let o : Opening = c.args.index.now.opening in
+    let range = in_range o.params.l o.params.k c.facts.ensures.parameters in
+    let same : c.loop-batch.index.opening ≡ o = ap (λ (i : IndexState). i.opening) c.loop-batch.invariant.same in
+    all_count o c.loop-batch.before (length c.loop-batch.own.events.items) range.some
+    (all_counted (g.D.Disk.image c.args.disk.now) (opened_with o c.args.names.now) c.args.own.now.events.items c.loop-batch.number c.loop-batch.before c.loop-batch.own.events.items
+    (none_left o.batches c.loop-batch.number (ap (λ (p : Opening). slice_get p.batches c.loop-batch.number) (sym same) ∙ sym c.batch.ensures ∙ c.in_default.is)) c.loop-batch.invariant.so_far)
+    c.loop-batch.invariant.many

@@ -1,0 +1,29 @@
+use Rattle.std.proofs.Common.{ℕ, List, subst, ◌++◌}
+use Rattle.dg_graph.specs.declared.event.Event.{Event}
+use Rattle.dg_history.specs.declared.node.Key.TheVariants as key
+use Rattle.dg_sound.specs.OwnEvents.{events_at, has_batch_ends, piece_length, with_recent}
+use Rattle.dg_start.specs.Reading.{WhereTold}
+use Rattle.dg_start.proofs.EventSources.{batch_there, piece_held}
+use Rattle.dg_start.proofs.Told.{err_is}
+use Rattle.dg_verify.specs.declared.stop.Stop.{Stop}
+use Rattle.dg_verify.specs.Verifying.{IsStop, keyed, opened_with}
+use Rattle.dg_verify.proofs.RecordsRead.{record_stops}
+use Rattle.dg_verify.proofs.pieces.add_recent.Goals as goal
+
+pub read_events-requires-clause-held : goal.read_events-requires-clause-held
+read_events-requires-clause-held g c =
+    let o = c.args.index.now.opening in
+    piece_held o c.args.number c.facts.ensures.kept (batch_there o.batches c.args.number c.args.batch c.requires.there)
+
+pub returns-in_err-events-clause-stopped : goal.returns-in_err-events-clause-stopped
+returns-in_err-events-clause-stopped g c =
+    let o = c.args.index.now.opening in
+    let x = opened_with o c.args.names.now in
+    let k = key.Piece c.args.number in
+    let s : Stop = c.in_err-events.field-0.0 in
+    let own : List Event = c.args.own.now.events.items in
+    err_is c.from_residual.result s
+    (λ (s : Stop). WhereTold (g.D.Disk.image c.args.disk.now) (λ image. IsStop s (with_recent image x own c.args.number c.args.before c.args.batch)))
+    c.from_residual.ensures
+    (λ image h. record_stops s c.args.names.now k (λ events. has_batch_ends c.args.before c.args.batch (own ++ events)) own (events_at image x k (piece_length o c.args.before c.args.batch))
+    (subst (λ (n : ℕ). IsStop s (keyed k (events_at image x k n))) c.span_of-count.ensures.count (c.in_err-events.ensures.stopped image h)))

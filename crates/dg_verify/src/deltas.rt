@@ -1,0 +1,95 @@
+//! Comparing the tops and downs of an index with those that its events determine.
+
+ghost use Rattle.std.specs.Prelude.{◌≡◌, IfErr, IfSome, IsErrOf, None, OnOk, length};
+ghost use Rattle.dg_disk.specs.Counts.{Rose};
+ghost use Rattle.dg_disk.specs.Frame.{OnlyReads};
+ghost use Rattle.dg_file.specs.Images.{IsOpenedAs};
+ghost use Rattle.dg_start.specs.Reading.{WhereTold};
+ghost use Rattle.dg_verify.specs.Deltas.{first_unlike, has_kind, unlike_of};
+ghost use Rattle.dg_verify.specs.Verifying.{IsWrong, keyed_column};
+
+use crate::due_deltas::DueDeltas;
+use crate::records::compare_columns;
+use crate::stop::Stop;
+use dg_disk::Disk;
+use dg_file::Index;
+use dg_history::Key;
+
+/// What a delta leads from.
+#[derive(Clone, Copy, Debug, PartialEq, Eq)]
+pub enum DeltaKind {
+    /// From the root to the first interior node of a height.
+    Top,
+    /// From an interior node to a child.
+    Down,
+}
+
+// Whether the key is that of such a delta.
+fn has_kind(kind: DeltaKind, key: Key) -> bool
+    ensures { result ≡ has_kind kind key }
+{
+    match kind {
+        DeltaKind::Top => matches!(key, Key::Top(_)),
+        DeltaKind::Down => matches!(key, Key::Down(_, _)),
+    }
+}
+
+// Compares the columns of the record with these, where it is such a delta.
+fn compare_delta<D: Disk>(
+    index: &mut Index,
+    disk: &mut D,
+    kind: DeltaKind,
+    key: Key,
+    structure: &[u8],
+    node_attrs: &[u8],
+    edge_attrs: &[u8],
+) -> Result<(), Stop>
+    requires image { IfSome (D.image disk.old) (λ image. IsOpenedAs image index.old.opening) }
+    ensures alike { OnOk result (WhereTold (D.image disk.old)
+        (λ image. unlike_of image index.old.opening kind key structure.now node_attrs.now edge_attrs.now ≡ None)) }
+    ensures stopped { IfErr result (λ stop. WhereTold (D.image disk.old)
+        (λ image. IsWrong stop (keyed_column key (unlike_of image index.old.opening kind key structure.now node_attrs.now edge_attrs.now)))) }
+    ensures cause { IsErrOf result Stop.Disk → Rose (D.faults disk.old) (D.faults disk.new) }
+    // what it leaves
+    ensures same { index.new ≡ index.old }
+    ensures disk { OnlyReads D.image D.faults D.write_faults disk.old disk.new }
+{
+    if has_kind(kind, key) {
+        compare_columns(index, disk, key, structure, node_attrs, edge_attrs)
+    } else {
+        Ok(())
+    }
+}
+
+/// Compares the deltas of this kind with those that are due, in the order of their keys. `Stop::Wrong` for the first
+/// that is another, and its first such column; `Stop::Disk` where the disk failed, `Stop::Memory` for want of memory.
+pub fn compare_deltas<D: Disk>(
+    index: &mut Index,
+    disk: &mut D,
+    due: &DueDeltas,
+    kind: DeltaKind,
+) -> Result<(), Stop>
+    requires many { length due.now.keys.items ≡ length due.now.segment.deltas }
+    requires image { IfSome (D.image disk.old) (λ image. IsOpenedAs image index.old.opening) }
+    ensures alike { OnOk result (WhereTold (D.image disk.old)
+        (λ image. first_unlike image index.old.opening kind due.now.keys.items due.now.segment.deltas ≡ None)) }
+    ensures stopped { IfErr result (λ stop. WhereTold (D.image disk.old)
+        (λ image. IsWrong stop (first_unlike image index.old.opening kind due.now.keys.items due.now.segment.deltas))) }
+    ensures cause { IsErrOf result Stop.Disk → Rose (D.faults disk.old) (D.faults disk.new) }
+    // what it leaves
+    ensures same { index.new ≡ index.old }
+    ensures disk { OnlyReads D.image D.faults D.write_faults disk.old disk.new }
+{
+    let rows = due.segment.delta_rows();
+    let mut columns = due.segment.delta_columns();
+    for (number, row) in rows.iter().enumerate() {
+        let [structure_len, node_len, edge_len] = row.lengths;
+        let (structure, after_structure) = columns.split_at(structure_len as usize);
+        let (node_attrs, after_nodes) = after_structure.split_at(node_len as usize);
+        let (edge_attrs, after_record) = after_nodes.split_at(edge_len as usize);
+        let key = due.keys[number];
+        compare_delta(index, disk, kind, key, structure, node_attrs, edge_attrs)?;
+        columns = after_record;
+    }
+    Ok(())
+}

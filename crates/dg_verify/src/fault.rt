@@ -1,0 +1,14 @@
+//! Why an index file was not verified.
+
+use thiserror::Error;
+
+/// Why an index file was not verified.
+#[derive(Clone, Copy, Debug, PartialEq, Eq, Hash, Error)]
+pub enum VerifyFault {
+    /// The disk failed.
+    #[error("the disk failed")]
+    Disk,
+    /// Want of memory.
+    #[error("out of memory")]
+    Memory,
+}

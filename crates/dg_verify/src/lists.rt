@@ -1,0 +1,109 @@
+//! Reading the lists of an index, one behind another.
+
+ghost use Rattle.std.specs.Prelude.{◌≡◌, ◌+◌, ◌*◌, ◌<◌, [], IfErr, IfOk, IfSome, IsErrOf, Ok, OnOk, length};
+ghost use Rattle.dg_disk.specs.Counts.{Rose};
+ghost use Rattle.dg_disk.specs.Frame.{OnlyReads};
+ghost use Rattle.dg_history.specs.declared.node.Key.TheVariants as key;
+ghost use Rattle.dg_index.specs.OpenedIndex.{entry_at, opening};
+ghost use Rattle.dg_sound.specs.OwnEvents.{have_ends, list_total, listed_events, with_list};
+ghost use Rattle.dg_start.specs.Reading.{WhereTold};
+ghost use Rattle.dg_verify.specs.Verifying.{IsLed, IsStop, opened_with};
+
+use crate::own_events::OwnEvents;
+use crate::records::read_events;
+use crate::stop::Stop;
+use crate::times::are_ends;
+use dg_disk::Disk;
+use dg_file::Index;
+use dg_graph::{Column, Event};
+use dg_history::Key;
+use dg_names::Names;
+use dg_shape::leaves;
+use std::alloc::Global;
+
+// Whether the index tells of the list the times of the first and of the last of these events.
+fn have_ends(index: &Index, number: u32, events: &[Event]) -> bool
+    ensures { result ≡ have_ends (entry_at index.now.opening (key.List number)).ends events.now }
+{
+    let Some(entry) = index.entry(Key::List(number)) else {
+        return false;
+    };
+    match entry.ends {
+        Some(ends) => are_ends(ends, events),
+        None => false,
+    }
+}
+
+// Reads the list of this number behind the events that were read.
+fn add_list<D: Disk>(
+    alloc: Global,
+    index: &mut Index,
+    disk: &mut D,
+    names: &Names,
+    own: &mut OwnEvents,
+    number: u32,
+) -> Result<(), Stop>
+    requires closed { number < list_total index.old.opening }
+    requires image { IfSome (D.image disk.old) (λ image. opening image ≡ Ok (opened_with index.old.opening names.now)) }
+    requires led { IsLed own.old.events.items own.old.graph }
+    // the events
+    ensures read { OnOk result (WhereTold (D.image disk.old)
+        (λ image. with_list image (opened_with index.old.opening names.now) own.old.events.items number ≡ Ok own.new.events.items)) }
+    ensures led { OnOk result (IsLed own.new.events.items own.new.graph) }
+    ensures many { OnOk result (length own.new.events.items ≡ length own.old.events.items + index.old.opening.params.l) }
+    // why there are none
+    ensures stopped { IfErr result (λ stop. WhereTold (D.image disk.old)
+        (λ image. IsStop stop (with_list image (opened_with index.old.opening names.now) own.old.events.items number))) }
+    ensures cause { IsErrOf result Stop.Disk → Rose (D.faults disk.old) (D.faults disk.new) }
+    // what it leaves
+    ensures same { index.new ≡ index.old }
+    ensures disk { OnlyReads D.image D.faults D.write_faults disk.old disk.new }
+{
+    index.facts();
+    let key = Key::List(number);
+    let size = u64::from(index.params().l);
+    let events = read_events(alloc, index, disk, names, key, size)?;
+    let are_timed = have_ends(index, number, &events);
+    let may_follow = own.add(names, &events)?;
+    if !are_timed || !may_follow {
+        return Err(Stop::Wrong(key, Column::Structure));
+    }
+    Ok(())
+}
+
+/// Reads the events of all lists.
+///
+/// `Stop::Wrong` for the first list that is not right: for its first column that no events are spelled as, or for
+/// structure where the columns do not come together to the events of a list, where these may not stand behind those
+/// before them, or where the list's times are others; `Stop::Disk` where the disk failed, `Stop::Memory` for want of
+/// memory.
+pub fn add_lists<D: Disk>(
+    alloc: Global,
+    index: &mut Index,
+    disk: &mut D,
+    names: &Names,
+    own: &mut OwnEvents,
+) -> Result<(), Stop>
+    requires none { own.old.events.items ≡ [] }
+    requires image { IfSome (D.image disk.old) (λ image. opening image ≡ Ok (opened_with index.old.opening names.now)) }
+    requires led { IsLed own.old.events.items own.old.graph }
+    // the events
+    ensures read { OnOk result (WhereTold (D.image disk.old)
+        (λ image. listed_events image (opened_with index.old.opening names.now) ≡ Ok own.new.events.items)) }
+    ensures led { OnOk result (IsLed own.new.events.items own.new.graph) }
+    ensures many { OnOk result (length own.new.events.items ≡ list_total index.old.opening * index.old.opening.params.l) }
+    // why there are none
+    ensures stopped { IfErr result (λ stop. WhereTold (D.image disk.old)
+        (λ image. IsStop stop (listed_events image (opened_with index.old.opening names.now)))) }
+    ensures cause { IsErrOf result Stop.Disk → Rose (D.faults disk.old) (D.faults disk.new) }
+    // what it leaves
+    ensures same { index.new ≡ index.old }
+    ensures disk { OnlyReads D.image D.faults D.write_faults disk.old disk.new }
+{
+    index.facts();
+    let total = leaves(index.params(), index.events_len());
+    for number in 0..total {
+        add_list(alloc, index, disk, names, own, number)?;
+    }
+    Ok(())
+}

@@ -1,0 +1,222 @@
+//! Reading the recent pieces of an index, and comparing the older ones.
+
+ghost use Rattle.std.specs.Prelude.{◌≡◌, ◌+◌, ◌≤◌, [], IfErr, IfOk, IfSome, IsErrOf, Ok, OnOk, Some, drop, length, slice_get, take, true};
+ghost use Rattle.std.specs.List.{All};
+ghost use Rattle.dg_columns.specs.NamesInRange.{NamesFit};
+ghost use Rattle.dg_disk.specs.Counts.{Rose};
+ghost use Rattle.dg_disk.specs.Frame.{OnlyReads};
+ghost use Rattle.dg_file.specs.Images.{IsOpenedAs};
+ghost use Rattle.dg_graph.specs.declared.event.Event.{Event};
+ghost use Rattle.dg_history.specs.declared.limits.TheConstants.{EVENTS_MAX};
+ghost use Rattle.dg_index.specs.OpenedIndex.{events_in, opening};
+ghost use Rattle.dg_sound.specs.OwnEvents.{has_batch_ends, is_recent, list_total, piece_length, piece_start, with_older, with_piece, with_pieces, with_recent};
+ghost use Rattle.dg_start.specs.Reading.{WhereTold};
+ghost use Rattle.dg_verify.specs.Verifying.{AreSoFar, IsLed, IsStop, opened_with};
+
+use crate::own_events::OwnEvents;
+use crate::records::{compare_columns, read_events};
+use crate::stop::Stop;
+use crate::times::are_ends;
+use dg_columns::write_events;
+use dg_disk::Disk;
+use dg_file::Index;
+use dg_graph::{Column, Event};
+use dg_history::Key;
+use dg_index::BatchEntry;
+use dg_names::Names;
+use dg_shape::leaves;
+use std::alloc::Global;
+
+// So many of the events, from this one on, as far as there are.
+fn cut(events: &[Event], start: u64, count: u64) -> &[Event]
+    ensures { result.now ≡ take count (drop start events.now) }
+{
+    let rest = &events[events.len().min(start as usize)..];
+    &rest[..rest.len().min(count as usize)]
+}
+
+// Whether the times of a batch behind so many events are those of its events among these.
+fn has_batch_ends(before: u64, batch: BatchEntry, events: &[Event]) -> bool
+    ensures { result ≡ has_batch_ends before batch events.now }
+{
+    are_ends(batch.ends, cut(events, before, batch.events))
+}
+
+// The events of a batch that its piece has: the index of the first of them, and their number.
+#[derive(Clone, Copy)]
+struct Span {
+    start: u64,
+    count: u64,
+}
+
+// Where the events of the piece of a batch stand, behind so many events.
+fn span_of(index: &Index, before: u64, batch: BatchEntry) -> Span
+    requires few { before + batch.events ≤ events_in index.now.opening.batches }
+    ensures start { result.start ≡ piece_start index.now.opening before batch }
+    ensures count { result.count ≡ piece_length index.now.opening before batch }
+    ensures small { result.count ≤ 65536 }
+{
+    index.facts();
+    let size = u64::from(index.params().l);
+    let closed = u64::from(leaves(index.params(), before + batch.events)) * size;
+    Span {
+        start: before.max(closed),
+        count: batch.events - closed.saturating_sub(before),
+    }
+}
+
+// Whether no batch behind this one, which stands behind so many events, closes a list.
+fn is_recent(index: &Index, before: u64, batch: BatchEntry) -> bool
+    requires few { before + batch.events ≤ events_in index.now.opening.batches }
+    ensures { result ≡ is_recent index.now.opening before batch }
+{
+    index.facts();
+    let closed = leaves(index.params(), before + batch.events);
+    closed == leaves(index.params(), index.events_len())
+}
+
+// Compares the piece of an older batch with the batch's events among those that were read.
+fn compare_older<D: Disk>(
+    alloc: Global,
+    index: &mut Index,
+    disk: &mut D,
+    events: &[Event],
+    number: u32,
+    before: u64,
+    batch: BatchEntry,
+) -> Result<(), Stop>
+    requires few { before + batch.events ≤ events_in index.old.opening.batches }
+    requires image { IfSome (D.image disk.old) (λ image. IsOpenedAs image index.old.opening) }
+    requires fit { All (λ (e : Event). NamesFit e.body) events.now }
+    ensures alike { OnOk result (WhereTold (D.image disk.old)
+        (λ image. with_older image (opened_with index.old.opening []) events.now number before batch ≡ Ok events.now)) }
+    ensures stopped { IfErr result (λ stop. WhereTold (D.image disk.old)
+        (λ image. IsStop stop (with_older image (opened_with index.old.opening []) events.now number before batch))) }
+    ensures cause { IsErrOf result Stop.Disk → Rose (D.faults disk.old) (D.faults disk.new) }
+    // what it leaves
+    ensures same { index.new ≡ index.old }
+    ensures disk { OnlyReads D.image D.faults D.write_faults disk.old disk.new }
+{
+    let key = Key::Piece(number);
+    if !has_batch_ends(before, batch, events) {
+        return Err(Stop::Wrong(key, Column::Structure));
+    }
+    let Span { start, count } = span_of(index, before, batch);
+    let piece = cut(events, start, count);
+    let structure = write_events(alloc, piece, Column::Structure)?;
+    let node_attrs = write_events(alloc, piece, Column::NodeAttr)?;
+    let edge_attrs = write_events(alloc, piece, Column::EdgeAttr)?;
+    compare_columns(index, disk, key, &structure, &node_attrs, &edge_attrs)
+}
+
+// Reads the piece of a recent batch behind the events that were read.
+fn add_recent<D: Disk>(
+    alloc: Global,
+    index: &mut Index,
+    disk: &mut D,
+    names: &Names,
+    own: &mut OwnEvents,
+    number: u32,
+    before: u64,
+    batch: BatchEntry,
+) -> Result<(), Stop>
+    requires there { slice_get index.old.opening.batches number ≡ Some batch }
+    requires few { before + batch.events ≤ events_in index.old.opening.batches }
+    requires image { IfSome (D.image disk.old) (λ image. opening image ≡ Ok (opened_with index.old.opening names.now)) }
+    requires led { IsLed own.old.events.items own.old.graph }
+    ensures read { OnOk result (WhereTold (D.image disk.old)
+        (λ image. with_recent image (opened_with index.old.opening names.now) own.old.events.items number before batch ≡ Ok own.new.events.items)) }
+    ensures led { OnOk result (IsLed own.new.events.items own.new.graph) }
+    ensures many { OnOk result (length own.new.events.items ≡ length own.old.events.items + piece_length index.old.opening before batch) }
+    ensures stopped { IfErr result (λ stop. WhereTold (D.image disk.old)
+        (λ image. IsStop stop (with_recent image (opened_with index.old.opening names.now) own.old.events.items number before batch))) }
+    ensures cause { IsErrOf result Stop.Disk → Rose (D.faults disk.old) (D.faults disk.new) }
+    // what it leaves
+    ensures same { index.new ≡ index.old }
+    ensures disk { OnlyReads D.image D.faults D.write_faults disk.old disk.new }
+{
+    index.facts();
+    let key = Key::Piece(number);
+    let Span { count, .. } = span_of(index, before, batch);
+    let events = read_events(alloc, index, disk, names, key, count)?;
+    let may_follow = own.add(names, &events)?;
+    if !may_follow || !has_batch_ends(before, batch, &own.events) {
+        return Err(Stop::Wrong(key, Column::Structure));
+    }
+    Ok(())
+}
+
+// Reads the piece of the batch, or compares it, as the batch is recent or older.
+fn add_piece<D: Disk>(
+    alloc: Global,
+    index: &mut Index,
+    disk: &mut D,
+    names: &Names,
+    own: &mut OwnEvents,
+    number: u32,
+    before: u64,
+    batch: BatchEntry,
+) -> Result<(), Stop>
+    requires there { slice_get index.old.opening.batches number ≡ Some batch }
+    requires few { before + batch.events ≤ events_in index.old.opening.batches }
+    requires image { IfSome (D.image disk.old) (λ image. opening image ≡ Ok (opened_with index.old.opening names.now)) }
+    requires led { IsLed own.old.events.items own.old.graph }
+    requires so_far { AreSoFar index.old.opening before own.old.events.items }
+    ensures read { OnOk result (WhereTold (D.image disk.old)
+        (λ image. with_piece image (opened_with index.old.opening names.now) own.old.events.items number before batch ≡ Ok own.new.events.items)) }
+    ensures led { OnOk result (IsLed own.new.events.items own.new.graph) }
+    ensures so_far { OnOk result (AreSoFar index.old.opening (before + batch.events) own.new.events.items) }
+    ensures stopped { IfErr result (λ stop. WhereTold (D.image disk.old)
+        (λ image. IsStop stop (with_piece image (opened_with index.old.opening names.now) own.old.events.items number before batch))) }
+    ensures cause { IsErrOf result Stop.Disk → Rose (D.faults disk.old) (D.faults disk.new) }
+    // what it leaves
+    ensures same { index.new ≡ index.old }
+    ensures disk { OnlyReads D.image D.faults D.write_faults disk.old disk.new }
+{
+    index.facts();
+    if is_recent(index, before, batch) {
+        add_recent(alloc, index, disk, names, own, number, before, batch)
+    } else {
+        compare_older(alloc, index, disk, &own.events, number, before, batch)
+    }
+}
+
+/// Reads the events of all recent pieces behind those of all lists, and compares each older piece with the events of
+/// its batch.
+///
+/// `Stop::Wrong` for the first piece that is not right: an older one for its first column that is another, or for
+/// structure where the batch's times are others, and a recent one as a list; `Stop::Disk` where the disk failed,
+/// `Stop::Memory` for want of memory.
+pub fn add_pieces<D: Disk>(
+    alloc: Global,
+    index: &mut Index,
+    disk: &mut D,
+    names: &Names,
+    own: &mut OwnEvents,
+) -> Result<(), Stop>
+    requires image { IfSome (D.image disk.old) (λ image. opening image ≡ Ok (opened_with index.old.opening names.now)) }
+    requires led { IsLed own.old.events.items own.old.graph }
+    requires so_far { AreSoFar index.old.opening 0 own.old.events.items }
+    // the events
+    ensures read { OnOk result (WhereTold (D.image disk.old)
+        (λ image. with_pieces image (opened_with index.old.opening names.now) own.old.events.items 0 0 index.old.opening.batches ≡ Ok own.new.events.items)) }
+    ensures led { OnOk result (IsLed own.new.events.items own.new.graph) }
+    ensures many { OnOk result (length own.new.events.items ≡ events_in index.old.opening.batches) }
+    // why there are none
+    ensures stopped { IfErr result (λ stop. WhereTold (D.image disk.old)
+        (λ image. IsStop stop (with_pieces image (opened_with index.old.opening names.now) own.old.events.items 0 0 index.old.opening.batches))) }
+    ensures cause { IsErrOf result Stop.Disk → Rose (D.faults disk.old) (D.faults disk.new) }
+    // what it leaves
+    ensures same { index.new ≡ index.old }
+    ensures disk { OnlyReads D.image D.faults D.write_faults disk.old disk.new }
+{
+    index.facts();
+    let mut before = 0;
+    let mut number = 0;
+    while let Some(batch) = index.batch(number) {
+        add_piece(alloc, index, disk, names, own, number, before, batch)?;
+        before += batch.events;
+        number += 1;
+    }
+    Ok(())
+}

@@ -1,0 +1,115 @@
+//! Reading the events of a record, and comparing its columns.
+
+ghost use Rattle.std.specs.Prelude.{◌≡◌, ◌<◌, ◌^◌, true, IfErr, IfOk, IfSome, IsErrOf, Ok, OnOk, None, bytes_eq, is_some, length};
+ghost use Rattle.std.specs.List.{All};
+ghost use Rattle.std.specs.Map.{lookup};
+ghost use Rattle.dg_columns.specs.NamesInRange.{NamesFit};
+ghost use Rattle.dg_disk.specs.Counts.{Rose};
+ghost use Rattle.dg_disk.specs.Frame.{OnlyReads};
+ghost use Rattle.dg_file.specs.Images.{IsOpenedAs};
+ghost use Rattle.dg_graph.specs.declared.event.Event.{Event};
+ghost use Rattle.dg_history.specs.Keys.{same_key};
+ghost use Rattle.dg_index.specs.OpenedIndex.{column_at, entry_at, opening};
+ghost use Rattle.dg_sound.specs.OwnEvents.{events_at};
+ghost use Rattle.dg_start.specs.Reading.{WhereTold};
+ghost use Rattle.dg_verify.specs.Verifying.{IsStop, IsWrong, keyed, keyed_column, opened_with, unlike};
+
+use crate::stop::Stop;
+use dg_disk::Disk;
+use dg_file::{FetchFault, Index};
+use dg_graph::{Column, Event};
+use dg_history::Key;
+use dg_index::Ends;
+use dg_names::Names;
+use dg_start::{EventSource, read_record};
+use std::alloc::Global;
+
+/// The events of a record of the index, which has so many.
+///
+/// `Stop::Wrong` for the first column that no events are spelled as, or for structure where the columns do not come
+/// together to as many events; `Stop::Disk` where the disk failed, `Stop::Memory` for want of memory.
+pub fn read_events<D: Disk>(
+    alloc: Global,
+    index: &mut Index,
+    disk: &mut D,
+    names: &Names,
+    key: Key,
+    count: u64,
+) -> Result<Vec<Event>, Stop>
+    requires held { is_some (lookup (same_key key) index.old.opening.records) ≡ true }
+    requires few { count < 2 ^ 32 }
+    requires image { IfSome (D.image disk.old) (λ image. opening image ≡ Ok (opened_with index.old.opening names.now)) }
+    ensures read { IfOk result (λ events. WhereTold (D.image disk.old)
+        (λ image. events_at image (opened_with index.old.opening names.now) key count ≡ Ok events.items)) }
+    ensures fit { IfOk result (λ events. All (λ (e : Event). NamesFit e.body) events.items) }
+    ensures many { IfOk result (λ events. length events.items ≡ count) }
+    ensures stopped { IfErr result (λ stop. WhereTold (D.image disk.old)
+        (λ image. IsStop stop (keyed key (events_at image (opened_with index.old.opening names.now) key count)))) }
+    ensures cause { IsErrOf result Stop.Disk → Rose (D.faults disk.old) (D.faults disk.new) }
+    // what it leaves
+    ensures same { index.new ≡ index.old }
+    ensures disk { OnlyReads D.image D.faults D.write_faults disk.old disk.new }
+{
+    // The bounds of the times are for the recent events alone.
+    let ends = Ends { first: 0, last: 0 };
+    let source = EventSource { key, count, ends };
+    Ok(read_record(alloc, index, disk, names.len(), source)?)
+}
+
+// Whether the record has this column. A record that the index does not keep has no byte.
+fn is_column<D: Disk>(
+    index: &mut Index,
+    disk: &mut D,
+    key: Key,
+    col: Column,
+    due: &[u8],
+) -> Result<bool, FetchFault>
+    requires image { IfSome (D.image disk.old) (λ image. IsOpenedAs image index.old.opening) }
+    ensures is { IfOk result (λ is. WhereTold (D.image disk.old)
+        (λ image. is ≡ bytes_eq (column_at image (entry_at index.old.opening key) col) due.now)) }
+    ensures cause { IsErrOf result FetchFault.Disk → Rose (D.faults disk.old) (D.faults disk.new) }
+    // what it leaves
+    ensures same { index.new ≡ index.old }
+    ensures disk { OnlyReads D.image D.faults D.write_faults disk.old disk.new }
+{
+    if index.entry(key).is_none() {
+        return Ok(due.is_empty());
+    }
+    let bytes = index.fetch(disk, key, col)?;
+    Ok(bytes.as_slice() == due)
+}
+
+/// Compares the columns of the record with these. `Stop::Wrong` for the first that is another, `Stop::Disk` where
+/// the disk failed, `Stop::Memory` for want of memory.
+pub fn compare_columns<D: Disk>(
+    index: &mut Index,
+    disk: &mut D,
+    key: Key,
+    structure: &[u8],
+    node_attrs: &[u8],
+    edge_attrs: &[u8],
+) -> Result<(), Stop>
+    requires image { IfSome (D.image disk.old) (λ image. IsOpenedAs image index.old.opening) }
+    ensures alike { OnOk result (WhereTold (D.image disk.old)
+        (λ image. unlike image index.old.opening key structure.now node_attrs.now edge_attrs.now ≡ None)) }
+    ensures stopped { IfErr result (λ stop. WhereTold (D.image disk.old)
+        (λ image. IsWrong stop (keyed_column key (unlike image index.old.opening key structure.now node_attrs.now edge_attrs.now)))) }
+    ensures cause { IsErrOf result Stop.Disk → Rose (D.faults disk.old) (D.faults disk.new) }
+    // what it leaves
+    ensures same { index.new ≡ index.old }
+    ensures disk { OnlyReads D.image D.faults D.write_faults disk.old disk.new }
+{
+    let is_structure = is_column(index, disk, key, Column::Structure, structure)?;
+    if !is_structure {
+        return Err(Stop::Wrong(key, Column::Structure));
+    }
+    let are_node_attrs = is_column(index, disk, key, Column::NodeAttr, node_attrs)?;
+    if !are_node_attrs {
+        return Err(Stop::Wrong(key, Column::NodeAttr));
+    }
+    let are_edge_attrs = is_column(index, disk, key, Column::EdgeAttr, edge_attrs)?;
+    if !are_edge_attrs {
+        return Err(Stop::Wrong(key, Column::EdgeAttr));
+    }
+    Ok(())
+}
