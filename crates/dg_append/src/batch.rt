@@ -104,8 +104,6 @@ fn try_batch<R: Threads, D: Disk>(
     history.now.facts();
     let last = last_of(index);
     let events = prepare(&mut history.now, last, front, changes)?;
-    let net = net_of(rt, alloc, &events)?;
-    pool.make_cells(net.plus().items())?;
     let left = recent_behind(alloc, index, &history.recent, &events)?;
     let segment = make_segment(
         rt,
@@ -119,6 +117,9 @@ fn try_batch<R: Threads, D: Disk>(
         &events,
         &left,
     )?;
+    // Made only now, so that they take no memory while the segment is made.
+    let net = net_of(rt, alloc, &events)?;
+    pool.make_cells(net.plus().items())?;
     keep_segment(index, disk, segment, limit)?;
     let total = index.events_len();
     history.recent = left;

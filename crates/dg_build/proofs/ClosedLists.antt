@@ -25,11 +25,11 @@ last_is n (e ∷ f ∷ more) = ap (λ k. (slice_index_or (e ∷ f ∷ more) k (a
 abbrev pub list_there : ℕ → List Event → ℕ → StoredList
 list_there l tail i = stored_cut (take l (drop (i * l) tail))
 
-pub lists_next : (l i : ℕ) (tail : List Event) (old now new : Segment) → now ≡ record old { lists = old.lists ++ map (list_there l tail) (numbers 0 i) }
-    → new ≡ record now { lists = now.lists ++ stored_cut (take (i * l + l - i * l) (drop (i * l) tail)) ∷ [] } → new ≡ record old { lists = old.lists ++ map (list_there l tail) (numbers 0 (i + 1)) }
-lists_next l i tail old now new is more =
+pub lists_next : (l i : ℕ) (tail cut : List Event) (old now new : Segment) → now ≡ record old { lists = old.lists ++ map (list_there l tail) (numbers 0 i) } → cut ≡ take l (drop (i * l) tail)
+    → new ≡ record now { lists = now.lists ++ stored_cut cut ∷ [] } → new ≡ record old { lists = old.lists ++ map (list_there l tail) (numbers 0 (i + 1)) }
+lists_next l i tail cut old now new is cut_is more =
     let f = list_there l tail in
-    more ∙ (λ j. record (is j) { lists = (is j).lists ++ (ap (λ n. stored_cut (take n (drop (i * l) tail))) (let e : i * l + l - i * l ≡ l = omega arith in e) ∙ ap f (let e : i ≡ 0 + i = omega arith in e)) j ∷ [] })
+    more ∙ (λ j. record (is j) { lists = (is j).lists ++ (ap stored_cut cut_is ∙ ap f (let e : i ≡ 0 + i = omega arith in e)) j ∷ [] })
     ∙ ap (λ (l : List StoredList). record old { lists = l })
     (append_assoc old.lists (map f (numbers 0 i)) (f (0 + i) ∷ []) ∙ ap (λ (l : List StoredList). old.lists ++ l) (sym (map-append f (numbers 0 i) (numbers (0 + i) 1)) ∙ ap (map f) (sym (numbers_append 0 i 1))))
 

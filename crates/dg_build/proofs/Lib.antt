@@ -9,3 +9,4 @@ pub mod NarrowDeltas
 pub mod ClosedLists
 pub mod ListTimes
 pub mod WholeSegment
+pub mod FirstList

@@ -15,23 +15,14 @@ ghost use Rattle.dg_build.specs.SpelledRecords.{IsFaultBelow, RisesFrom};
 ghost use Rattle.dg_build.specs.declared.fault.BuildFault.TheVariants.{Memory};
 
 use crate::fault::BuildFault;
+use crate::first_list::first_list;
 use crate::leaves::add_interior;
 use crate::records::{add_lists, set_piece};
 use dg_event::Event;
 use dg_history::Params;
 use dg_segment::Segment;
 use dg_set::Set;
-use std::alloc::{AllocError, Global};
-
-// The events behind the last leaf.
-fn tail(alloc: Global, recent: &[Event], events: &[Event]) -> Result<Vec<Event>, AllocError>
-    ensures { IfOk result (λ all. all.items ≡ recent.now ++ events.now) }
-{
-    let mut tail = Vec::new(alloc);
-    tail.extend_from_slice(recent)?;
-    tail.extend_from_slice(events)?;
-    Ok(tail)
-}
+use std::alloc::Global;
 
 // The events behind the first `count`.
 fn behind(events: &[Event], count: usize) -> &[Event]
@@ -88,9 +79,12 @@ pub fn build(
     let l = params.l as usize;
     let m = before / l;
     let after = (before + events.len()) / l;
-    let tail = tail(alloc, recent, events)?;
+    // Only the first list reaches over the border between the recent events and the batch.
+    let cut = l.saturating_sub(recent.len()).min(events.len());
+    let later = behind(events, cut);
+    let first = first_list(alloc, recent, &events[..cut])?;
     let mut segment = segment;
-    add_lists(alloc, l, after - m, tail.as_slice(), &mut segment)?;
+    add_lists(alloc, l, after - m, first.as_slice(), later, &mut segment)?;
     add_interior(
         alloc,
         params,
@@ -98,7 +92,8 @@ pub fn build(
         after,
         now,
         recent,
-        tail.as_slice(),
+        first.as_slice(),
+        later,
         older_sets,
         &mut segment,
     )?;

@@ -13,6 +13,7 @@ ghost use Rattle.dg_build.specs.SpelledRecords.{IsFaultBelow};
 ghost use Rattle.dg_build.specs.declared.fault.BuildFault.TheVariants.{Memory};
 
 use crate::fault::BuildFault;
+use crate::first_list::list_at;
 use crate::heights::{NewNodes, add_heights};
 use dg_event::Event;
 use dg_history::Params;
@@ -21,35 +22,37 @@ use dg_segment::Segment;
 use dg_set::Set;
 use std::alloc::{AllocError, Global};
 
-/// The first `count` new leaves, from the last leaf that was there before, and the events behind it. An
-/// `Err` says that memory ran out.
+/// The first `count` new leaves, from the last leaf that was there before, and the events behind it: those of
+/// the first list, and the later ones. An `Err` says that memory ran out.
 fn new_leaves(
     alloc: Global,
     params: Params,
     count: usize,
     leaf: &Set,
-    tail: &[Event],
+    first_list: &[Event],
+    later: &[Event],
 ) -> Result<NewNodes, AllocError>
     requires some { 1 ≤ count }
-    requires long { count * params.l ≤ length tail.now }
+    requires first { length first_list.now ≡ params.l }
+    requires long { count * params.l ≤ length first_list.now + length later.now }
     ensures long { IfOk result (λ up. length up.steps.items + 1 ≡ count) }
-    ensures is { IfOk result (λ up. (before more : List Event) → 1 ≤ params.l → tail.now ≡ recent_of params before ++ more
+    ensures is { IfOk result (λ up. (before more : List Event) → 1 ≤ params.l → first_list.now ++ later.now ≡ recent_of params before ++ more
         → leaf.now ≡ set_at params (before ++ more) 0 (leaves params (length before)) → AreChangesOf [] (before ++ more)
         → AreNewNodes params (before ++ more) 0 (leaves params (length before)) (leaves params (length before) + count) up.first up.steps.items) }
 {
     let l = params.l as usize;
-    let net = exact_net(alloc, &tail[..l])?;
+    let net = exact_net(alloc, first_list)?;
     let first = net.apply(leaf)?;
     let mut steps = Vec::with_capacity(alloc, count - 1)?;
     for i in 1..count {
-        steps.push(exact_net(alloc, &tail[i * l..i * l + l])?)?;
+        steps.push(exact_net(alloc, list_at(first_list, later, l, i))?)?;
     }
     Ok(NewNodes { first, steps })
 }
 
 /// Gives the segment the deltas of all interior nodes that are due between `m` and `after` leaves, by the
-/// current graph, and the events behind the last leaf, `recent` before the batch and `tail` with it.
-/// Where no node is due, nothing is made of the graph.
+/// current graph, and the events behind the last leaf: `recent` before the batch, and with it those of the
+/// first list and the later ones. Where no node is due, nothing is made of the graph.
 pub(crate) fn add_interior(
     alloc: Global,
     params: Params,
@@ -57,21 +60,23 @@ pub(crate) fn add_interior(
     after: usize,
     now: &Set,
     recent: &[Event],
-    tail: &[Event],
+    first_list: &[Event],
+    later: &[Event],
     older_sets: &[Set],
     segment: &mut Segment,
 ) -> Result<(), BuildFault>
     requires arity { 2 ≤ params.k }
-    requires long { (after - m) * params.l ≤ length tail.now }
+    requires first { m < after → length first_list.now ≡ params.l }
+    requires long { (after - m) * params.l ≤ length first_list.now + length later.now }
     requires older { length older_sets.now ≡ length (older params.k m after) }
     ensures frame { OnOk result (DiffersInDeltas segment.old segment.new) }
     ensures count { OnOk result (length segment.new.deltas ≡ length segment.old.deltas + length (deltas_due params.k m after)) }
     ensures is { OnOk result ((before more : List Event) → 1 ≤ params.l → leaves params (length before) ≡ m
-        → recent.now ≡ recent_of params before → tail.now ≡ recent_of params before ++ more → (m / params.k < after / params.k → now.now ≡ replay before)
+        → recent.now ≡ recent_of params before → first_list.now ++ later.now ≡ recent_of params before ++ more → (m / params.k < after / params.k → now.now ≡ replay before)
         → AreChangesOf [] (before ++ more) → older_sets.now ≡ map (set_of params before) (older params.k m after)
         → segment.new.deltas ≡ segment.old.deltas ++ map (λ key. stored (record_among params (before ++ more) [] key)) (deltas_due params.k m after)) }
     ensures fault { IfErr result (λ e. (before more : List Event) → 1 ≤ params.l → leaves params (length before) ≡ m
-        → recent.now ≡ recent_of params before → tail.now ≡ recent_of params before ++ more → (m / params.k < after / params.k → now.now ≡ replay before)
+        → recent.now ≡ recent_of params before → first_list.now ++ later.now ≡ recent_of params before ++ more → (m / params.k < after / params.k → now.now ≡ replay before)
         → AreChangesOf [] (before ++ more) → older_sets.now ≡ map (set_of params before) (older params.k m after)
         → length (before ++ more) < 2 ^ 32 → e ≡ Memory) }
     ensures wide { IfErr result (λ e. IsFaultBelow (length segment.old.deltas + length (deltas_due params.k m after)) e) }
@@ -82,7 +87,7 @@ pub(crate) fn add_interior(
     }
     let back = net_back(alloc, recent)?;
     let leaf = back.apply(now)?;
-    let fresh = new_leaves(alloc, params, after - m, &leaf, tail)?;
+    let fresh = new_leaves(alloc, params, after - m, &leaf, first_list, later)?;
     add_heights(alloc, params, m, after, fresh, older_sets, segment)?;
     Ok(())
 }

@@ -6,6 +6,7 @@ mod batch;
 mod climb;
 mod family;
 mod fault;
+mod first_list;
 mod heights;
 mod leaves;
 mod records;

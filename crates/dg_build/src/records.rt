@@ -1,6 +1,6 @@
 //! Writing lists, deltas and the piece of a segment.
 
-ghost use Rattle.std.specs.Prelude.{◌≡◌, ◌≤◌, ◌*◌, ◌++◌, ◌∷◌, [], false, length, map, take, drop, All, IfErr, OnOk};
+ghost use Rattle.std.specs.Prelude.{◌≡◌, ◌≤◌, ◌+◌, ◌*◌, ◌++◌, ◌∷◌, [], false, length, map, take, drop, All, IfErr, OnOk};
 ghost use Rattle.dg_graph.specs.declared.event.Event.{Event};
 ghost use Rattle.dg_history.specs.History.{first_time_of, last_time_from};
 ghost use Rattle.dg_columns.specs.NamesInRange.{NamesFit};
@@ -11,6 +11,7 @@ ghost use Rattle.dg_build.specs.InteriorDeltas.{stored_delta};
 ghost use Rattle.dg_build.specs.SpelledRecords.{stored_cut, is_wide, IsFaultOfDeltas};
 
 use crate::fault::BuildFault;
+use crate::first_list::list_at;
 use dg_columns::{write_delta, write_events};
 use dg_delta::Delta;
 use dg_graph::{Column, Event};
@@ -56,22 +57,25 @@ fn add_list(alloc: Global, events: &[Event], segment: &mut Segment) -> Result<()
     )
 }
 
-/// Gives the segment the columns of the first `count` closed lists, of `l` events each. An `Err` says that
-/// memory ran out, or that the segment would be too long.
+/// Gives the segment the columns of so many closed lists, of `l` events each: those of the first, and then
+/// those cut from the later events. An `Err` says that memory ran out, or that the segment would be too long.
 pub(crate) fn add_lists(
     alloc: Global,
     l: usize,
     count: usize,
-    tail: &[Event],
+    first: &[Event],
+    later: &[Event],
     segment: &mut Segment,
 ) -> Result<(), AllocError>
     requires few { l ≤ 65536 }
-    requires long { count * l ≤ length tail.now }
-    requires names { All (λ e. NamesFit e.body) tail.now }
-    ensures { OnOk result (segment.new ≡ record segment.old { lists = segment.old.lists ++ map (λ i. stored_cut (take l (drop (i * l) tail.now))) (numbers 0 count) }) }
+    requires first { 1 ≤ count → length first.now ≡ l }
+    requires long { count * l ≤ length first.now + length later.now }
+    requires first_names { All (λ e. NamesFit e.body) first.now }
+    requires later_names { All (λ e. NamesFit e.body) later.now }
+    ensures { OnOk result (segment.new ≡ record segment.old { lists = segment.old.lists ++ map (λ i. stored_cut (take l (drop (i * l) (first.now ++ later.now)))) (numbers 0 count) }) }
 {
     for i in 0..count {
-        add_list(alloc, &tail[i * l..i * l + l], segment)?;
+        add_list(alloc, list_at(first, later, l, i), segment)?;
     }
     Ok(())
 }

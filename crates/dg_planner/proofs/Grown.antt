@@ -29,17 +29,24 @@ use Rattle.dg_planner.proofs.Singles.{has_plan}
 pub sum_push : (xs : ListOf ℕ) (x : ℕ) → sum (xs ++ x ∷ []) ≡ sum xs + x
 sum_push xs x = sum_by_push (λ n. n) xs x
 
--- what is shown of the grafts, the singles and the weight of the targets so far, and of the costs from the tree
-pub record IsGrown (g : Ground) (edges : ListOf Edge) (links : ListOf Link) (targets : ListOf NodeId) (grafts : ListOf (Graft NodeId)) (singles : ListOf ℕ) (weight : ℕ) (costs : ListOf Label) : Type 0 where
-  pub count : length costs ≡ length (nodes_of g)
-  pub fits : Fits costs
-  pub table : IsTable (arcs links) (map (place_of g) ((Root ∷ []) ++ entered (arcs_of edges) (steps_of grafts))) costs
-  pub near : (v : ℕ) → v < length costs → (label_at costs v).weight ≤ FARTHEST
+-- what is shown of the grafts, the singles and the weight of the targets so far
+pub record IsGrown (edges : ListOf Edge) (targets : ListOf NodeId) (grafts : ListOf (Graft NodeId)) (singles : ListOf ℕ) (weight : ℕ) : Type 0 where
   pub tree : IsTree (arcs_of edges) (Root ∷ []) targets grafts
   pub weight_is : weight ≡ tree_weight (arcs_of edges) grafts
   pub light : weight ≤ length targets * FARTHEST
   pub singles_are : AreSingles (arcs_of edges) (Root ∷ []) targets singles
   pub singles_light : sum singles ≤ length targets * FARTHEST
+
+-- what is shown of the costs from the tree of these grafts, where a further target is planned by them
+pub record IsReady (g : Ground) (edges : ListOf Edge) (links : ListOf Link) (grafts : ListOf (Graft NodeId)) (costs : ListOf Label) : Type 0 where
+  pub count : length costs ≡ length (nodes_of g)
+  pub fits : Fits costs
+  pub table : IsTable (arcs links) (map (place_of g) ((Root ∷ []) ++ entered (arcs_of edges) (steps_of grafts))) costs
+  pub near : (v : ℕ) → v < length costs → (label_at costs v).weight ≤ FARTHEST
+
+-- before the first target
+pub none_grown : (edges : ListOf Edge) → IsGrown edges [] [] [] 0
+none_grown edges = record { tree = tt; weight_is = refl; light = omega arith; singles_are = tt; singles_light = omega arith }
 
 zip_push : {A B : Type 0} (R : A → B → Type 0) (xs : ListOf A) (ys : ListOf B) (x : A) (y : B) → AllZip R xs ys → R x y → AllZip R (xs ++ x ∷ []) (ys ++ y ∷ [])
 zip_push R [] [] x y all last = (last, tt)
@@ -76,19 +83,9 @@ module _ (g : Ground) (edges : ListOf Edge) (starts : ListOf ℕ) (links : ListO
       All-contains (Contains (nodes_of g)) ((Root ∷ []) ++ entered (arcs_of edges) steps) a
       (All-append (Contains (nodes_of g)) (Root ∷ []) (entered (arcs_of edges) steps) (All-from_recursion (Contains (nodes_of g)) (Root ∷ []) ((0, omega arith, refl), tt)) (entered_in steps)) c
 
-  -- before the first target
-  pub none_grown : (copy : ListOf Label) → copy ≡ costs → IsGrown g edges links [] [] [] 0 copy
-  none_grown copy is = subst (IsGrown g edges links [] [] [] 0) (sym is) (record {
-    count = whole.count;
-    fits = whole.fits;
-    table = whole.table;
-    near = whole.near;
-    tree = tt;
-    weight_is = refl;
-    light = omega arith;
-    singles_are = tt;
-    singles_light = omega arith;
-  })
+  -- the costs that are kept are those from the root
+  pub none_ready : IsReady g edges links [] costs
+  none_ready = record { count = whole.count; fits = whole.fits; table = whole.table; near = whole.near }
 
   -- what a single plan weighs stands in the table of the root
   single_is : (v : NodeId) → Contains (nodes_of g) v → (steps : ListOf ℕ) × IsPlan (arcs_of edges) (Root ∷ []) v steps × ((label_at costs (place_of g v)).weight ≡ weight_of (arcs_of edges) steps)
@@ -105,22 +102,39 @@ module _ (g : Ground) (edges : ListOf Edge) (starts : ListOf ℕ) (links : ListO
   pub single_light : (v : NodeId) → Contains (nodes_of g) v → (label_at costs (place_of g v)).weight ≤ FARTHEST
   single_light v vn = whole.near (place_of g v) (let p = place_within g v vn in let n = whole.count in omega arith)
 
-  module _ (targets : ListOf NodeId) (grafts : ListOf (Graft NodeId)) (singles : ListOf ℕ) (weight : ℕ) (now : ListOf Label) (had : IsGrown g edges links targets grafts singles weight now)
+  places_more : (grafts : ListOf (Graft NodeId)) (x : Graft NodeId)
+      → map (place_of g) ((Root ∷ []) ++ entered (arcs_of edges) (steps_of grafts)) ++ entered (arcs links) x.steps ≡ map (place_of g) ((Root ∷ []) ++ entered (arcs_of edges) (steps_of (grafts ++ x ∷ [])))
+  places_more grafts x =
+      ap (λ t. map (place_of g) ((Root ∷ []) ++ entered (arcs_of edges) (steps_of grafts)) ++ t) (ap (λ h. entered h x.steps) whole.named ∙ entered_renamed (place_of g) (arcs_of edges) x.steps)
+      ∙ (sym (map-append (place_of g) ((Root ∷ []) ++ entered (arcs_of edges) (steps_of grafts)) (entered (arcs_of edges) x.steps)) ∙ ap (map (place_of g)) (nodes_more (arcs_of edges) (Root ∷ []) grafts x))
+
+  -- the costs from the tree with one more graft
+  pub one_ready : (grafts : ListOf (Graft NodeId)) (now : ListOf Label) → IsReady g edges links grafts now → (x : Graft NodeId) (new : ListOf Label)
+      → length new ≡ length now → Fits new → Falls now new
+      → ((from : ListOf ℕ) → IsTable (arcs links) from now → IsTable (arcs links) (from ++ entered (arcs links) x.steps) new)
+      → IsReady g edges links (grafts ++ x ∷ []) new
+  one_ready grafts now ready x new len fits falls table = record {
+    count = len ∙ ready.count;
+    fits = fits;
+    table = subst (λ s. IsTable (arcs links) s new) (places_more grafts x) (table (map (place_of g) ((Root ∷ []) ++ entered (arcs_of edges) (steps_of grafts))) ready.table);
+    near = λ v within. (let a = ready.near v (let l = len in omega arith) in let b = (falls v).0 in omega arith);
+  }
+
+  module _ (targets : ListOf NodeId) (grafts : ListOf (Graft NodeId)) (singles : ListOf ℕ) (weight : ℕ) (now : ListOf Label)
+      (had : IsGrown edges targets grafts singles weight) (ready : IsReady g edges links grafts now)
       (target : NodeId) (vn : Contains (nodes_of g) target) where
     pub near_now : (label_at now (place_of g target)).weight ≤ FARTHEST
-    near_now = had.near (place_of g target) (let p = place_within g target vn in let n = had.count in omega arith)
+    near_now = ready.near (place_of g target) (let p = place_within g target vn in let n = ready.count in omega arith)
 
-    module _ (x : Graft NodeId) (new : ListOf Label)
+    module _ (x : Graft NodeId)
         (plan : (from : ListOf ℕ) → IsTable (arcs links) from now → IsPlan (arcs links) from (place_of g target) x.steps)
-        (begins : (a : NodeId) → Leads (arcs_of edges) a x.steps target → x.from ≡ a)
-        (len : length new ≡ length now) (fits : Fits new) (falls : Falls now new)
-        (table : (from : ListOf ℕ) → IsTable (arcs links) from now → IsTable (arcs links) (from ++ entered (arcs links) x.steps) new) where
+        (begins : (a : NodeId) → Leads (arcs_of edges) a x.steps target → x.from ≡ a) where
       tree_now : ListOf NodeId
       tree_now = (Root ∷ []) ++ entered (arcs_of edges) (steps_of grafts)
 
       by_places : IsPlan (arcs links) (map (place_of g) tree_now) (place_of g target) x.steps
       unfolding tree_now
-      by_places = plan (map (place_of g) tree_now) had.table
+      by_places = plan (map (place_of g) tree_now) ready.table
 
       by_nodes : IsPlan (arcs_of edges) tree_now target x.steps
       unfolding tree_now
@@ -134,23 +148,13 @@ module _ (g : Ground) (edges : ListOf Edge) (starts : ListOf ℕ) (links : ListO
       pub weighs : (label_at now (place_of g target)).weight ≡ weight_of (arcs_of edges) x.steps
       unfolding tree_now
       weighs =
-          tables.weight_is links now (map (place_of g) tree_now) had.table (place_of g target) (let n = near_now in omega arith) x.steps by_places
+          tables.weight_is links now (map (place_of g) tree_now) ready.table (place_of g target) (let n = near_now in omega arith) x.steps by_places
           ∙ weight_is g edges starts links outs ins costs whole by_nodes.walk.0 x.steps target by_nodes.walk.2
 
-      places_more : map (place_of g) tree_now ++ entered (arcs links) x.steps ≡ map (place_of g) ((Root ∷ []) ++ entered (arcs_of edges) (steps_of (grafts ++ x ∷ [])))
-      unfolding tree_now
-      places_more =
-          ap (λ t. map (place_of g) tree_now ++ t) (ap (λ h. entered h x.steps) whole.named ∙ entered_renamed (place_of g) (arcs_of edges) x.steps)
-          ∙ (sym (map-append (place_of g) tree_now (entered (arcs_of edges) x.steps)) ∙ ap (map (place_of g)) (nodes_more (arcs_of edges) (Root ∷ []) grafts x))
-
       -- one more target
-      pub one_grown : IsGrown g edges links (targets ++ target ∷ []) (grafts ++ x ∷ []) (singles ++ (label_at costs (place_of g target)).weight ∷ []) (weight + (label_at now (place_of g target)).weight) new
+      pub one_grown : IsGrown edges (targets ++ target ∷ []) (grafts ++ x ∷ []) (singles ++ (label_at costs (place_of g target)).weight ∷ []) (weight + (label_at now (place_of g target)).weight)
       unfolding tree_now
       one_grown = record {
-        count = len ∙ had.count;
-        fits = fits;
-        table = subst (λ s. IsTable (arcs links) s new) places_more (table (map (place_of g) tree_now) had.table);
-        near = λ v within. (let a = had.near v (let l = len in omega arith) in let b = (falls v).0 in omega arith);
         tree = tree_push (arcs_of edges) (Root ∷ []) targets grafts target x had.tree by_nodes (subst (Contains tree_now) (sym begins_at) by_nodes.walk.1) (subst (λ a. Leads (arcs_of edges) a x.steps target) (sym begins_at) by_nodes.walk.2);
         weight_is = (λ i. had.weight_is i + weighs i) ∙ sym (sum_by_push (λ (y : Graft NodeId). weight_of (arcs_of edges) y.steps) grafts x);
         light = (let a = had.light in let b = near_now in let n = length_push targets target in omega arith);
@@ -159,12 +163,11 @@ module _ (g : Ground) (edges : ListOf Edge) (starts : ListOf ℕ) (links : ListO
       }
 
 -- with each part told otherwise
-pub grown_as : (g : Ground) (edges : ListOf Edge) (links : ListOf Link) (targets targets' : ListOf NodeId) (grafts grafts' : ListOf (Graft NodeId)) (singles singles' : ListOf ℕ) (weight weight' : ℕ) (costs costs' : ListOf Label)
-    → targets' ≡ targets → grafts' ≡ grafts → singles' ≡ singles → weight' ≡ weight → costs' ≡ costs
-    → IsGrown g edges links targets grafts singles weight costs → IsGrown g edges links targets' grafts' singles' weight' costs'
-grown_as g edges links targets targets' grafts grafts' singles singles' weight weight' costs costs' a b c d e h =
-    subst (λ x. IsGrown g edges links targets' grafts' singles' weight' x) (sym e)
-    (subst (λ x. IsGrown g edges links targets' grafts' singles' x costs) (sym d)
-    (subst (λ x. IsGrown g edges links targets' grafts' x weight costs) (sym c)
-    (subst (λ x. IsGrown g edges links targets' x singles weight costs) (sym b)
-    (subst (λ x. IsGrown g edges links x grafts singles weight costs) (sym a) h))))
+pub grown_as : (edges : ListOf Edge) (targets targets' : ListOf NodeId) (grafts grafts' : ListOf (Graft NodeId)) (singles singles' : ListOf ℕ) (weight weight' : ℕ)
+    → targets' ≡ targets → grafts' ≡ grafts → singles' ≡ singles → weight' ≡ weight
+    → IsGrown edges targets grafts singles weight → IsGrown edges targets' grafts' singles' weight'
+grown_as edges targets targets' grafts grafts' singles singles' weight weight' a b c d h =
+    subst (λ x. IsGrown edges targets' grafts' singles' x) (sym d)
+    (subst (λ x. IsGrown edges targets' grafts' x weight) (sym c)
+    (subst (λ x. IsGrown edges targets' x singles weight) (sym b)
+    (subst (λ x. IsGrown edges x grafts singles weight) (sym a) h)))

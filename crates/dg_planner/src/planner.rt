@@ -15,10 +15,10 @@ use crate::build::build_edges;
 use crate::links::make_links;
 use crate::nodes::list_nodes;
 use crate::places::{Form, level_starts, node_count, place};
-use crate::tree::{Graft, Tree, beginning, weight_at};
+use crate::tree::{Graft, Tree, beginning, costs_now, grow_on, weight_at};
 use dg_graph::Columns;
 use dg_history::NodeId;
-use dg_path::{Adjacency, Cost, Link, Route, costs_from, grow, plan_to, route_to, thread};
+use dg_path::{Adjacency, Cost, Link, Route, costs_from, plan_to, route_to, thread};
 use dg_plan::Edge;
 use dg_shape::{Catalogue, Shape};
 use std::alloc::{AllocError, Global};
@@ -148,7 +148,7 @@ impl Planner {
 
     /// The tree of several targets, 32 at the most: for each in order the plan that begins at the nearest
     /// node of the tree so far. It weighs no more than the targets' single plans together, and enters no
-    /// record twice.
+    /// record twice. Behind each target but the last the costs are searched on from the nodes that it adds.
     pub fn plan_several(&self, alloc: Global, targets: &[NodeId]) -> Result<Tree, AllocError>
         requires targets { All (Contains self.now.nodes) targets.now }
         requires few { length targets.now ≤ 32 }
@@ -159,35 +159,33 @@ impl Planner {
         ensures shared { IfOk result (λ t. t.weight ≤ sum t.singles.items) }
         ensures once { IfOk result (λ t. EntersOnce self.now.edges (steps_of (grafts_in t))) }
     {
-        // The costs from the tree so far, which fall as it grows.
-        let mut costs = Vec::from_slice(alloc, &self.costs)?;
+        // The costs from the tree so far, once it has grown.
+        let mut grown = Vec::new(alloc);
         let mut grafts = Vec::with_capacity(alloc, targets.len())?;
         let mut singles = Vec::with_capacity(alloc, targets.len())?;
         let mut weight = 0;
         let mut sum = 0;
-        for target in targets {
+        for (i, target) in targets.iter().enumerate() {
             let at = place(self.form, &self.starts, *target);
             let single = weight_at(&self.costs, at);
             singles.push(single)?;
             sum += single;
-            let nearest = weight_at(&costs, at);
+            let costs = costs_now(&self.costs, &grown);
+            let nearest = weight_at(costs, at);
             weight += nearest;
             let steps = plan_to(
                 alloc,
                 &self.links,
                 &self.ins.first,
                 &self.ins.next,
-                &costs,
+                costs,
                 at,
             )?;
-            grow(
-                alloc,
-                &self.links,
-                &self.outs.first,
-                &self.outs.next,
-                &steps,
-                &mut costs,
-            )?;
+            // Behind the last target no plan follows that needs the costs.
+            if i + 1 < targets.len() {
+                let kept = &self.costs;
+                grow_on(alloc, &self.links, &self.outs, kept, &steps, &mut grown)?;
+            }
             let from = beginning(&self.edges, &steps, *target);
             grafts.push(Graft { from, steps })?;
         }

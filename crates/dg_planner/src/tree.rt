@@ -1,13 +1,15 @@
-ghost use Rattle.std.specs.Prelude.{◌≡◌, ◌<◌, length};
+ghost use Rattle.std.specs.Prelude.{true, ◌≡◌, ℕ, ◌<◌, List, ◌++◌, length, OnOk};
 ghost use Rattle.std.specs.List.{All};
 ghost use Rattle.dg_history.specs.declared.node.NodeId.{NodeId};
-ghost use Rattle.dg_path.specs.Search.{label_at};
+ghost use Rattle.dg_path.specs.Search.{AreAdjacent, AreLinks, Falls, Fits, IsSettled, IsTable, arcs, label_at};
 ghost use Rattle.dg_plan.specs.IndexGraph.{arcs_of};
-ghost use Rattle.dg_plan.specs.Walks.{Leads};
+ghost use Rattle.dg_plan.specs.Walks.{Leads, entered};
+ghost use Rattle.dg_planner.specs.Trees.{costs_now};
 
 use dg_history::NodeId;
-use dg_path::Cost;
+use dg_path::{Adjacency, Cost, Link, grow};
 use dg_plan::Edge;
+use std::alloc::{AllocError, Global};
 
 /// What a target adds to a tree.
 #[derive(Drop)]
@@ -49,4 +51,47 @@ pub fn weight_at(costs: &[Cost], place: u32) -> u64
     ensures { result ≡ (label_at costs.now place).weight }
 {
     costs[place as usize].weight
+}
+
+/// The costs from a tree so far: those that are kept from the root, until it has grown.
+pub fn costs_now<'a>(kept: &'a [Cost], grown: &'a [Cost]) -> &'a [Cost]
+    ensures { result.now ≡ costs_now kept.now grown.now }
+{
+    if grown.is_empty() { kept } else { grown }
+}
+
+// Copies the costs that are kept, where the tree has not grown.
+fn begin(kept: &[Cost], grown: &mut Vec<Cost>) -> Result<(), AllocError>
+    ensures { OnOk result (grown.new.items ≡ costs_now kept.now grown.old.items) }
+{
+    if grown.is_empty() {
+        grown.extend_from_slice(kept)?;
+    }
+    Ok(())
+}
+
+/// Grows the costs from a tree by steps that are added to it: those that are kept are copied once, when it first grows.
+/// An `Err` says that memory ran out: the costs are then of no use.
+pub fn grow_on(
+    alloc: Global,
+    links: &[Link],
+    outs: &Adjacency,
+    kept: &[Cost],
+    steps: &[u32],
+    grown: &mut Vec<Cost>,
+) -> Result<(), AllocError>
+    requires some { 0 < length (costs_now kept.now grown.old.items) }
+    requires links { AreLinks links.now (length (costs_now kept.now grown.old.items)) }
+    requires outs { AreAdjacent true links.now outs.now.first.items outs.now.next.items (length (costs_now kept.now grown.old.items)) }
+    requires fits { Fits (costs_now kept.now grown.old.items) }
+    requires settled { IsSettled (arcs links.now) (costs_now kept.now grown.old.items) }
+    requires steps { All (λ i. i < length links.now) steps.now }
+    ensures table { OnOk result ((starts : List ℕ) → IsTable (arcs links.now) starts (costs_now kept.now grown.old.items)
+        → IsTable (arcs links.now) (starts ++ entered (arcs links.now) steps.now) (costs_now kept.now grown.new.items)) }
+    ensures falls { OnOk result (Falls (costs_now kept.now grown.old.items) (costs_now kept.now grown.new.items)) }
+    ensures fits { OnOk result (Fits (costs_now kept.now grown.new.items)) }
+    ensures len { OnOk result (length (costs_now kept.now grown.new.items) ≡ length (costs_now kept.now grown.old.items)) }
+{
+    begin(kept, grown)?;
+    grow(alloc, links, &outs.first, &outs.next, steps, grown)
 }

@@ -5,6 +5,7 @@ use Rattle.dg_append.proofs.PreparedBatch.{IsPrepared, comes_to_segment, here, i
 use Rattle.dg_append.proofs.batch.try_batch.Goals as goal
 use Rattle.dg_append.specs.AddedBatches.{ComesToSegment, IsReady, TakesOlder, recent_behind}
 use Rattle.dg_append.specs.BatchSegments.{IsSegmentBehind}
+use Rattle.dg_append.specs.declared.fault.BatchFault.TheVariants as fault
 use Rattle.std.specs.List.{All}
 use Rattle.std.specs.Prelude.{is_some}
 use Rattle.dg_columns.specs.NamesInRange.{NamesFit}
@@ -32,7 +33,7 @@ recent_behind-requires g c =
     let ready : IsReady o c.args.known h c.args.front c.args.changes.now = of_here (index_opening h.index) o (λ o. IsReady o c.args.known h c.args.front c.args.changes.now) is c.requires.ready in
     let p : IsPrepared o c.args.known h c.args.front c.args.changes.now events =
     is_prepared o c.args.known h c.args.front c.args.changes.now events c.last_of-last.result c.facts.ensures.parameters ready c.facts-2.ensures c.in_ok-events.ensures.whole c.last_of-last.ensures.last c.in_ok-events.ensures.done in
-    omega (arith, p.follows.room, ap length c.deref-3.ensures.value)
+    omega (arith, p.follows.room, ap length c.deref-2.ensures.value)
 
 pub make_segment-requires-clause-few : goal.make_segment-requires-clause-few
 make_segment-requires-clause-few g c =
@@ -43,7 +44,7 @@ make_segment-requires-clause-few g c =
     let ready : IsReady o c.args.known h c.args.front c.args.changes.now = of_here (index_opening h.index) o (λ o. IsReady o c.args.known h c.args.front c.args.changes.now) is c.requires.ready in
     let p : IsPrepared o c.args.known h c.args.front c.args.changes.now events =
     is_prepared o c.args.known h c.args.front c.args.changes.now events c.last_of-last.result c.facts.ensures.parameters ready c.facts-2.ensures c.in_ok-events.ensures.whole c.last_of-last.ensures.last c.in_ok-events.ensures.done in
-    omega (arith, p.follows.room, ap length c.deref-5.ensures.value)
+    omega (arith, p.follows.room, ap length c.deref-4.ensures.value)
 
 pub make_segment-requires-clause-some : goal.make_segment-requires-clause-some
 make_segment-requires-clause-some g c =
@@ -54,7 +55,7 @@ make_segment-requires-clause-some g c =
     let ready : IsReady o c.args.known h c.args.front c.args.changes.now = of_here (index_opening h.index) o (λ o. IsReady o c.args.known h c.args.front c.args.changes.now) is c.requires.ready in
     let p : IsPrepared o c.args.known h c.args.front c.args.changes.now events =
     is_prepared o c.args.known h c.args.front c.args.changes.now events c.last_of-last.result c.facts.ensures.parameters ready c.facts-2.ensures c.in_ok-events.ensures.whole c.last_of-last.ensures.last c.in_ok-events.ensures.done in
-    omega (arith, p.follows.some, ap length c.deref-5.ensures.value)
+    omega (arith, p.follows.some, ap length c.deref-4.ensures.value)
 
 pub make_segment-requires-clause-rises : goal.make_segment-requires-clause-rises
 make_segment-requires-clause-rises g c =
@@ -65,7 +66,7 @@ make_segment-requires-clause-rises g c =
     let ready : IsReady o c.args.known h c.args.front c.args.changes.now = of_here (index_opening h.index) o (λ o. IsReady o c.args.known h c.args.front c.args.changes.now) is c.requires.ready in
     let p : IsPrepared o c.args.known h c.args.front c.args.changes.now events =
     is_prepared o c.args.known h c.args.front c.args.changes.now events c.last_of-last.result c.facts.ensures.parameters ready c.facts-2.ensures c.in_ok-events.ensures.whole c.last_of-last.ensures.last c.in_ok-events.ensures.done in
-    subst (λ (x : List Event × List Event). RisesFrom (floor_of o (first_time_of x.1)) (x.0 ++ x.1)) (let e : (h.recent.items, events) ≡ (c.deref-4.result.now, c.deref-5.result.now) = λ i. (sym c.deref-4.ensures.value i, sym c.deref-5.ensures.value i) in e)
+    subst (λ (x : List Event × List Event). RisesFrom (floor_of o (first_time_of x.1)) (x.0 ++ x.1)) (let e : (h.recent.items, events) ≡ (c.deref-3.result.now, c.deref-4.result.now) = λ i. (sym c.deref-3.ensures.value i, sym c.deref-4.ensures.value i) in e)
     (tail_rises o h.recent.items events p.follows)
 
 pub make_segment-requires-clause-changes : goal.make_segment-requires-clause-changes
@@ -77,7 +78,7 @@ make_segment-requires-clause-changes g c =
     let ready : IsReady o c.args.known h c.args.front c.args.changes.now = of_here (index_opening h.index) o (λ o. IsReady o c.args.known h c.args.front c.args.changes.now) is c.requires.ready in
     let p : IsPrepared o c.args.known h c.args.front c.args.changes.now events =
     is_prepared o c.args.known h c.args.front c.args.changes.now events c.last_of-last.result c.facts.ensures.parameters ready c.facts-2.ensures c.in_ok-events.ensures.whole c.last_of-last.ensures.last c.in_ok-events.ensures.done in
-    subst (λ (x : List Element × List Event). AreChangesOf x.0 x.1) (let e : (h.now.graph, events) ≡ (graph_now c.make_cells.new.self, c.deref-5.result.now) = λ i. (sym (c.make_cells.ensures.graphs.now ∙ c.requires.pool) i, sym c.deref-5.ensures.value i) in e) p.changes_are
+    subst (λ (x : List Element × List Event). AreChangesOf x.0 x.1) (let e : (h.now.graph, events) ≡ (graph_now c.args.pool.now, c.deref-4.result.now) = λ i. (sym c.requires.pool i, sym c.deref-4.ensures.value i) in e) p.changes_are
 
 pub returns-in_err-segment-clause-fails : goal.returns-in_err-segment-clause-fails
 returns-in_err-segment-clause-fails g c =
@@ -90,7 +91,7 @@ returns-in_err-segment-clause-fails g c =
     is_prepared o c.args.known h c.args.front c.args.changes.now events c.last_of-last.result c.facts.ensures.parameters ready c.facts-2.ensures c.in_ok-events.ensures.whole c.last_of-last.ensures.last c.in_ok-events.ensures.done in
     err_is c.from_residual-in_err-segment.result c.in_err-segment.field-0.0 _ c.from_residual-in_err-segment.ensures
     (here (index_opening h.index) o _ is
-    (not_made o c.args.known h (graph_now c.make_cells.new.self) c.deref-4.result.now c.deref-5.result.now events (c.make_cells.ensures.graphs.now ∙ c.requires.pool) c.deref-4.ensures.value c.deref-5.ensures.value
+    (not_made o c.args.known h (graph_now c.args.pool.now) c.deref-3.result.now c.deref-4.result.now events c.requires.pool c.deref-3.ensures.value c.deref-4.ensures.value
     c.args.limit (g.D.Disk.image c.args.disk.now) _ c.args.front c.args.changes.now c.in_err-segment.field-0.0 p c.make_segment.ensures.disk.same_image c.in_err-segment.ensures.fails))
 
 pub returns-in_err-segment-clause-takes : goal.returns-in_err-segment-clause-takes
@@ -103,8 +104,48 @@ returns-in_err-segment-clause-takes g c =
     let p : IsPrepared o c.args.known h c.args.front c.args.changes.now events =
     is_prepared o c.args.known h c.args.front c.args.changes.now events c.last_of-last.result c.facts.ensures.parameters ready c.facts-2.ensures c.in_ok-events.ensures.whole c.last_of-last.ensures.last c.in_ok-events.ensures.done in
     here (index_opening h.index) o _ is
-    (takes_over o c.args.known h (graph_now c.make_cells.new.self) c.deref-4.result.now c.deref-5.result.now events (c.make_cells.ensures.graphs.now ∙ c.requires.pool) c.deref-4.ensures.value c.deref-5.ensures.value
+    (takes_over o c.args.known h (graph_now c.args.pool.now) c.deref-3.result.now c.deref-4.result.now events c.requires.pool c.deref-3.ensures.value c.deref-4.ensures.value
     (g.D.Disk.image c.args.disk.now) (length c.args.changes.now) (g.D.Disk.taken c.args.disk.now) _ p.many c.make_segment.ensures.most)
+
+pub returns-in_err-net-clause-fails : goal.returns-in_err-net-clause-fails
+returns-in_err-net-clause-fails g c =
+    let o : Opening = c.in-Some.index.opening in
+    let h : StoredHistory = c.args.history.now in
+    let is : index_opening h.index ≡ Some o = ap index_opening c.in-Some.is in
+    err_is c.from_residual-in_err-net.result fault.Memory _ c.from_residual-in_err-net.ensures (here (index_opening h.index) o _ is c.make_segment.ensures.disk.same_image)
+
+pub returns-in_err-net-clause-takes : goal.returns-in_err-net-clause-takes
+returns-in_err-net-clause-takes g c =
+    let o : Opening = c.in-Some.index.opening in
+    let h : StoredHistory = c.args.history.now in
+    let is : index_opening h.index ≡ Some o = ap index_opening c.in-Some.is in
+    let events : List Event = c.in_ok-events.events.items in
+    let ready : IsReady o c.args.known h c.args.front c.args.changes.now = of_here (index_opening h.index) o (λ o. IsReady o c.args.known h c.args.front c.args.changes.now) is c.requires.ready in
+    let p : IsPrepared o c.args.known h c.args.front c.args.changes.now events =
+    is_prepared o c.args.known h c.args.front c.args.changes.now events c.last_of-last.result c.facts.ensures.parameters ready c.facts-2.ensures c.in_ok-events.ensures.whole c.last_of-last.ensures.last c.in_ok-events.ensures.done in
+    here (index_opening h.index) o _ is
+    (takes_over o c.args.known h (graph_now c.args.pool.now) c.deref-3.result.now c.deref-4.result.now events c.requires.pool c.deref-3.ensures.value c.deref-4.ensures.value
+    (g.D.Disk.image c.args.disk.now) (length c.args.changes.now) (g.D.Disk.taken c.args.disk.now) (g.D.Disk.taken c.make_segment.new.disk) p.many c.make_segment.ensures.most)
+
+pub returns-in_err-make_cells-clause-fails : goal.returns-in_err-make_cells-clause-fails
+returns-in_err-make_cells-clause-fails g c =
+    let o : Opening = c.in-Some.index.opening in
+    let h : StoredHistory = c.args.history.now in
+    let is : index_opening h.index ≡ Some o = ap index_opening c.in-Some.is in
+    err_is c.from_residual-in_err-make_cells.result fault.Memory _ c.from_residual-in_err-make_cells.ensures (here (index_opening h.index) o _ is c.make_segment.ensures.disk.same_image)
+
+pub returns-in_err-make_cells-clause-takes : goal.returns-in_err-make_cells-clause-takes
+returns-in_err-make_cells-clause-takes g c =
+    let o : Opening = c.in-Some.index.opening in
+    let h : StoredHistory = c.args.history.now in
+    let is : index_opening h.index ≡ Some o = ap index_opening c.in-Some.is in
+    let events : List Event = c.in_ok-events.events.items in
+    let ready : IsReady o c.args.known h c.args.front c.args.changes.now = of_here (index_opening h.index) o (λ o. IsReady o c.args.known h c.args.front c.args.changes.now) is c.requires.ready in
+    let p : IsPrepared o c.args.known h c.args.front c.args.changes.now events =
+    is_prepared o c.args.known h c.args.front c.args.changes.now events c.last_of-last.result c.facts.ensures.parameters ready c.facts-2.ensures c.in_ok-events.ensures.whole c.last_of-last.ensures.last c.in_ok-events.ensures.done in
+    here (index_opening h.index) o _ is
+    (takes_over o c.args.known h (graph_now c.args.pool.now) c.deref-3.result.now c.deref-4.result.now events c.requires.pool c.deref-3.ensures.value c.deref-4.ensures.value
+    (g.D.Disk.image c.args.disk.now) (length c.args.changes.now) (g.D.Disk.taken c.args.disk.now) (g.D.Disk.taken c.make_segment.new.disk) p.many c.make_segment.ensures.most)
 
 pub keep_segment-requires-clause-due : goal.keep_segment-requires-clause-due
 keep_segment-requires-clause-due g c =
@@ -116,7 +157,7 @@ keep_segment-requires-clause-due g c =
     let p : IsPrepared o c.args.known h c.args.front c.args.changes.now events =
     is_prepared o c.args.known h c.args.front c.args.changes.now events c.last_of-last.result c.facts.ensures.parameters ready c.facts-2.ensures c.in_ok-events.ensures.whole c.last_of-last.ensures.last c.in_ok-events.ensures.done in
     let b : IsSegmentBehind o (drop c.args.known h.names) h.recent.items events c.in_ok-segment.segment =
-    behind_here o (drop c.args.known h.names) h.recent.items c.deref-4.result.now c.deref-5.result.now events c.in_ok-segment.segment c.deref-4.ensures.value c.deref-5.ensures.value c.in_ok-segment.ensures.behind in
+    behind_here o (drop c.args.known h.names) h.recent.items c.deref-3.result.now c.deref-4.result.now events c.in_ok-segment.segment c.deref-3.ensures.value c.deref-4.ensures.value c.in_ok-segment.ensures.behind in
     subst (λ (x : Opening). IsDue x c.in_ok-segment.segment) (sym (ap (λ (x : IndexState). x.opening) c.make_segment.ensures.same))
     (segment_due o h.recent.items events p.follows (drop c.args.known h.names) c.in_ok-segment.segment b (omega (arith, p.few_names, ready.sound.counted.0)))
 
@@ -131,7 +172,7 @@ returns-in_err-keep_segment-clause-fails g c =
     is_prepared o c.args.known h c.args.front c.args.changes.now events c.last_of-last.result c.facts.ensures.parameters ready c.facts-2.ensures c.in_ok-events.ensures.whole c.last_of-last.ensures.last c.in_ok-events.ensures.done in
     let comes : ComesToSegment o c.args.known h (g.D.Disk.image c.args.disk.now) c.args.changes.now c.args.front events c.in_ok-segment.segment =
     comes_to_segment o c.args.known h (g.D.Disk.image c.args.disk.now) c.args.front c.args.changes.now events c.in_ok-segment.segment p
-    (built_over o c.args.known h (graph_now c.make_cells.new.self) c.deref-4.result.now c.deref-5.result.now events (c.make_cells.ensures.graphs.now ∙ c.requires.pool) c.deref-4.ensures.value c.deref-5.ensures.value
+    (built_over o c.args.known h (graph_now c.args.pool.now) c.deref-3.result.now c.deref-4.result.now events c.requires.pool c.deref-3.ensures.value c.deref-4.ensures.value
     (g.D.Disk.image c.args.disk.now) c.in_ok-segment.segment c.in_ok-segment.ensures.is) in
     err_is c.from_residual-in_err-keep_segment.result c.in_err-keep_segment.field-0.0 _ c.from_residual-in_err-keep_segment.ensures
     (here (index_opening h.index) o _ is
@@ -150,7 +191,7 @@ returns-in_err-keep_segment-clause-takes g c =
     is_prepared o c.args.known h c.args.front c.args.changes.now events c.last_of-last.result c.facts.ensures.parameters ready c.facts-2.ensures c.in_ok-events.ensures.whole c.last_of-last.ensures.last c.in_ok-events.ensures.done in
     here (index_opening h.index) o _ is
     (subst (λ n. TakesOlder (g.D.Disk.image c.args.disk.now) o c.args.known h (length c.args.changes.now) (g.D.Disk.taken c.args.disk.now) n) (sym c.keep_segment.ensures.disk.nothing_read)
-    (takes_over o c.args.known h (graph_now c.make_cells.new.self) c.deref-4.result.now c.deref-5.result.now events (c.make_cells.ensures.graphs.now ∙ c.requires.pool) c.deref-4.ensures.value c.deref-5.ensures.value
+    (takes_over o c.args.known h (graph_now c.args.pool.now) c.deref-3.result.now c.deref-4.result.now events c.requires.pool c.deref-3.ensures.value c.deref-4.ensures.value
     (g.D.Disk.image c.args.disk.now) (length c.args.changes.now) (g.D.Disk.taken c.args.disk.now) (g.D.Disk.taken c.make_segment.new.disk) p.many c.make_segment.ensures.most))
 
 pub returns-clause-takes : goal.returns-clause-takes
@@ -164,7 +205,7 @@ returns-clause-takes g c =
     is_prepared o c.args.known h c.args.front c.args.changes.now events c.last_of-last.result c.facts.ensures.parameters ready c.facts-2.ensures c.in_ok-events.ensures.whole c.last_of-last.ensures.last c.in_ok-events.ensures.done in
     here (index_opening h.index) o _ is
     (subst (λ n. TakesOlder (g.D.Disk.image c.args.disk.now) o c.args.known h (length c.args.changes.now) (g.D.Disk.taken c.args.disk.now) n) (sym c.keep_segment.ensures.disk.nothing_read)
-    (takes_over o c.args.known h (graph_now c.make_cells.new.self) c.deref-4.result.now c.deref-5.result.now events (c.make_cells.ensures.graphs.now ∙ c.requires.pool) c.deref-4.ensures.value c.deref-5.ensures.value
+    (takes_over o c.args.known h (graph_now c.args.pool.now) c.deref-3.result.now c.deref-4.result.now events c.requires.pool c.deref-3.ensures.value c.deref-4.ensures.value
     (g.D.Disk.image c.args.disk.now) (length c.args.changes.now) (g.D.Disk.taken c.args.disk.now) (g.D.Disk.taken c.make_segment.new.disk) p.many c.make_segment.ensures.most))
 
 pub returns-clause-sound : goal.returns-clause-sound
@@ -178,7 +219,7 @@ returns-clause-sound g c =
     is_prepared o c.args.known h c.args.front c.args.changes.now events c.last_of-last.result c.facts.ensures.parameters ready c.facts-2.ensures c.in_ok-events.ensures.whole c.last_of-last.ensures.last c.in_ok-events.ensures.done in
     let s : Segment = c.in_ok-segment.segment in
     let b : IsSegmentBehind o (drop c.args.known h.names) h.recent.items events s =
-    behind_here o (drop c.args.known h.names) h.recent.items c.deref-4.result.now c.deref-5.result.now events s c.deref-4.ensures.value c.deref-5.ensures.value c.in_ok-segment.ensures.behind in
+    behind_here o (drop c.args.known h.names) h.recent.items c.deref-3.result.now c.deref-4.result.now events s c.deref-3.ensures.value c.deref-4.ensures.value c.in_ok-segment.ensures.behind in
     let index : c.make_segment.new.index.opening ≡ o = ap (λ (x : IndexState). x.opening) c.make_segment.ensures.same in
     let kept : c.keep_segment.new.index.opening ≡ index_with o s = c.in_ok-keep_segment.ensures.kept ∙ ap (λ (x : Opening). index_with x s) index in
     let added : IsAdded o c.args.limit c.args.known h (g.D.Disk.image c.args.disk.now) (g.D.Disk.image c.keep_segment.new.disk) events s (Some c.keep_segment.new.index.opening) h.names c.commit.new.self c.in_ok-left.left.items = record {
@@ -186,14 +227,14 @@ returns-clause-sound g c =
       names_are = refl;
       graph = c.commit.ensures.graph ∙ ap (λ (set : List Element). replay_from set c.prepare.new.now.pending) c.prepare.ensures.same_graph ∙ ap (replay_from h.now.graph) c.in_ok-events.ensures.pending;
       pending = c.commit.ensures.none;
-      recent_is = c.in_ok-left.ensures ∙ (λ i. recent_behind o.params (events_in o.batches) (c.deref-2.ensures.value i) (c.deref-3.ensures.value i));
+      recent_is = c.in_ok-left.ensures ∙ (λ i. recent_behind o.params (events_in o.batches) (c.deref.ensures.value i) (c.deref-2.ensures.value i));
       gained = subst (λ (x : Option (List ℕ)). BothTold x (g.D.Disk.image c.keep_segment.new.disk) (GainsBatch s)) c.make_segment.ensures.disk.same_image c.in_ok-keep_segment.ensures.gained;
       opened = gains_here o c.make_segment.new.index.opening c.keep_segment.new.index.opening s (g.D.Disk.image c.args.disk.now) (g.D.Disk.image c.make_segment.new.disk) (g.D.Disk.image c.keep_segment.new.disk) index kept c.make_segment.ensures.disk.same_image c.in_ok-keep_segment.ensures.opened;
       same = c.keep_segment.ensures.disk.told ∙ ap (λ (x : Option (List ℕ)). is_some x) c.make_segment.ensures.disk.same_image;
       fits = subst (λ (x : Opening). needed_for x s ≤ c.args.limit) index c.in_ok-keep_segment.ensures.fits;
     } in
     sound_after o c.args.limit c.args.known h c.args.front c.args.changes.now events s (g.D.Disk.image c.args.disk.now) (g.D.Disk.image c.keep_segment.new.disk) (Some c.keep_segment.new.index.opening) h.names c.commit.new.self c.in_ok-left.left.items
-    ready p b (subst (λ (es : List Event). All (λ (e : Event). NamesFit e.body) es) c.deref-5.ensures.value c.in_ok-segment.ensures.fit) added
+    ready p b (subst (λ (es : List Event). All (λ (e : Event). NamesFit e.body) es) c.deref-4.ensures.value c.in_ok-segment.ensures.fit) added
 
 pub returns-clause-adds : goal.returns-clause-adds
 returns-clause-adds g c =
@@ -206,7 +247,7 @@ returns-clause-adds g c =
     is_prepared o c.args.known h c.args.front c.args.changes.now events c.last_of-last.result c.facts.ensures.parameters ready c.facts-2.ensures c.in_ok-events.ensures.whole c.last_of-last.ensures.last c.in_ok-events.ensures.done in
     let s : Segment = c.in_ok-segment.segment in
     let b : IsSegmentBehind o (drop c.args.known h.names) h.recent.items events s =
-    behind_here o (drop c.args.known h.names) h.recent.items c.deref-4.result.now c.deref-5.result.now events s c.deref-4.ensures.value c.deref-5.ensures.value c.in_ok-segment.ensures.behind in
+    behind_here o (drop c.args.known h.names) h.recent.items c.deref-3.result.now c.deref-4.result.now events s c.deref-3.ensures.value c.deref-4.ensures.value c.in_ok-segment.ensures.behind in
     let index : c.make_segment.new.index.opening ≡ o = ap (λ (x : IndexState). x.opening) c.make_segment.ensures.same in
     let kept : c.keep_segment.new.index.opening ≡ index_with o s = c.in_ok-keep_segment.ensures.kept ∙ ap (λ (x : Opening). index_with x s) index in
     let added : IsAdded o c.args.limit c.args.known h (g.D.Disk.image c.args.disk.now) (g.D.Disk.image c.keep_segment.new.disk) events s (Some c.keep_segment.new.index.opening) h.names c.commit.new.self c.in_ok-left.left.items = record {
@@ -214,7 +255,7 @@ returns-clause-adds g c =
       names_are = refl;
       graph = c.commit.ensures.graph ∙ ap (λ (set : List Element). replay_from set c.prepare.new.now.pending) c.prepare.ensures.same_graph ∙ ap (replay_from h.now.graph) c.in_ok-events.ensures.pending;
       pending = c.commit.ensures.none;
-      recent_is = c.in_ok-left.ensures ∙ (λ i. recent_behind o.params (events_in o.batches) (c.deref-2.ensures.value i) (c.deref-3.ensures.value i));
+      recent_is = c.in_ok-left.ensures ∙ (λ i. recent_behind o.params (events_in o.batches) (c.deref.ensures.value i) (c.deref-2.ensures.value i));
       gained = subst (λ (x : Option (List ℕ)). BothTold x (g.D.Disk.image c.keep_segment.new.disk) (GainsBatch s)) c.make_segment.ensures.disk.same_image c.in_ok-keep_segment.ensures.gained;
       opened = gains_here o c.make_segment.new.index.opening c.keep_segment.new.index.opening s (g.D.Disk.image c.args.disk.now) (g.D.Disk.image c.make_segment.new.disk) (g.D.Disk.image c.keep_segment.new.disk) index kept c.make_segment.ensures.disk.same_image c.in_ok-keep_segment.ensures.opened;
       same = c.keep_segment.ensures.disk.told ∙ ap (λ (x : Option (List ℕ)). is_some x) c.make_segment.ensures.disk.same_image;
@@ -222,7 +263,7 @@ returns-clause-adds g c =
     } in
     let comes : ComesToSegment o c.args.known h (g.D.Disk.image c.args.disk.now) c.args.changes.now c.args.front events s =
     comes_to_segment o c.args.known h (g.D.Disk.image c.args.disk.now) c.args.front c.args.changes.now events s p
-    (built_over o c.args.known h (graph_now c.make_cells.new.self) c.deref-4.result.now c.deref-5.result.now events (c.make_cells.ensures.graphs.now ∙ c.requires.pool) c.deref-4.ensures.value c.deref-5.ensures.value
+    (built_over o c.args.known h (graph_now c.args.pool.now) c.deref-3.result.now c.deref-4.result.now events c.requires.pool c.deref-3.ensures.value c.deref-4.ensures.value
     (g.D.Disk.image c.args.disk.now) s c.in_ok-segment.ensures.is) in
     let many : c.len.result ≡ length events = search rules in
     let total : c.events_len-total.result ≡ events_in o.batches + length events =

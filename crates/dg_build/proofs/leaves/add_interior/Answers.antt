@@ -10,6 +10,9 @@ use Rattle.dg_build.proofs.leaves.add_interior.Goals as goal
 pub new_leaves-requires-clause-some : goal.new_leaves-requires-clause-some
 new_leaves-requires-clause-some c = let lt : c.args.m < c.args.after = more_there c.args.params.k c.args.m c.args.after c.requires.arity c.if-m-k.false in omega (arith, lt)
 
+pub new_leaves-requires-clause-first : goal.new_leaves-requires-clause-first
+new_leaves-requires-clause-first c = c.requires.first (more_there c.args.params.k c.args.m c.args.after c.requires.arity c.if-m-k.false)
+
 pub add_heights-requires-clause-some : goal.add_heights-requires-clause-some
 add_heights-requires-clause-some c = more_there c.args.params.k c.args.m c.args.after c.requires.arity c.if-m-k.false
 

@@ -9,5 +9,5 @@ use Rattle.dg_build.proofs.leaves.new_leaves.Given as goal
 abbrev pub invariant-loop-i : goal.invariant-loop-i
 invariant-loop-i l = record {
   long : length l.steps.items + 1 ≡ l.i;
-  is : (before more : List Event) → 1 ≤ l.fn.params.l → l.tail ≡ recent_of l.fn.params before ++ more → AreChangesOf [] (before ++ more) → StepsSoFar l.fn.params (before ++ more) (leaves l.fn.params (length before)) l.i l.steps.items;
+  is : (before more : List Event) → 1 ≤ l.fn.params.l → l.first_list ++ l.later ≡ recent_of l.fn.params before ++ more → AreChangesOf [] (before ++ more) → StepsSoFar l.fn.params (before ++ more) (leaves l.fn.params (length before)) l.i l.steps.items;
 }

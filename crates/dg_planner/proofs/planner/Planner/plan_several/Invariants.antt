@@ -1,11 +1,15 @@
-use Rattle.std.proofs.Common.{◌≡◌, take}
+use Rattle.std.proofs.Common.{◌≡◌, ◌<◌, length, take}
 use Rattle.std.specs.List.{sum}
 use Rattle.dg_planner.specs.Order.{bare_ground}
-use Rattle.dg_planner.specs.Trees.{grafts_of}
-use Rattle.dg_planner.proofs.Grown.{IsGrown}
+use Rattle.dg_planner.specs.Trees.{costs_now, grafts_of}
+use Rattle.dg_planner.proofs.Grown.{IsGrown, IsReady}
 use Rattle.dg_planner.proofs.planner.Planner.plan_several.Given as goal
 
-abbrev pub invariant-loop-target : goal.invariant-loop-target
-invariant-loop-target l =
-    (IsGrown (bare_ground l.self-inside.form.leaves l.self-inside.form.arity l.self-inside.form.memory) l.self-inside.edges.items l.self-inside.links.items
-    (take l.target-index l.targets) (grafts_of l.grafts.items) l.singles.items l.weight l.costs.items) × (l.sum ≡ sum l.singles.items)
+-- the costs are those from the tree where a target follows
+abbrev pub invariant-loop-i : goal.invariant-loop-i
+invariant-loop-i l =
+    IsGrown l.self-inside.edges.items (take l.i l.targets) (grafts_of l.grafts.items) l.singles.items l.weight
+    × (l.i < length l.targets
+    → IsReady (bare_ground l.self-inside.form.leaves l.self-inside.form.arity l.self-inside.form.memory) l.self-inside.edges.items l.self-inside.links.items (grafts_of l.grafts.items)
+    (costs_now l.self-inside.costs.items l.grown.items))
+    × (l.sum ≡ sum l.singles.items)
