@@ -486,9 +486,10 @@ class Case:
     def reply(self, *lines):
         self.due += list(lines) + ["end"]
 
-    def run(self, file, status=0):
+    def run(self, file, status=0, checked=False):
         script = "".join(line + "\n" for line in self.script)
-        ran = subprocess.run([self.program, self.index], input=script.encode(), capture_output=True)
+        words = [self.index, "--checked"] if checked else [self.index]
+        ran = subprocess.run([self.program, *words], input=script.encode(), capture_output=True)
         due = "".join(line + "\n" for line in self.due)
         with open(self.index, "rb") as made:
             same = made.read() == file
@@ -654,8 +655,8 @@ def check(program, index, seed):
             case.script.append("verify")
             case.reply(f"ok verify sound {len(history.sizes)}")
         if rng.random() < 0.5:
-            case.run(history.file())
-    case.run(history.file())
+            case.run(history.file(), checked=rng.random() < 0.5)
+    case.run(history.file(), checked=bool(seed % 2))
 
 
 # Seeds of files whose damage no start meets and a batch does: few files are such.
@@ -708,6 +709,8 @@ def check_damage(program, index, seed):
     with open(index, "wb") as made:
         made.write(with_damage())
     case = Case(program, index, seed)
+    case.script.append("tree")
+    case.run(with_damage(), 7, checked=True)
     if damaged in starts:
         case.script.append("tree")
         case.run(with_damage(), 7)

@@ -1,6 +1,6 @@
 -- Where nothing failed, the length of the script decides how a run ends.
 use Rattle.std.proofs.Common.{◌≡◌, ℕ, ◌<◌, ◌≤◌, inl, inr, List, ◌++◌, Option, Some, None, IfSome, length, refl, ap, arith, length-append}
-use Rattle.dg_start.specs.declared.fault.StartFault.{StartFault}
+use Rattle.dg_session.specs.declared.session_fault.SessionFault.{SessionFault}
 use Rattle.dg_machine.specs.declared.limits.Limits.{Limits}
 use Rattle.dg_io.specs.Told.{Gives}
 use Rattle.deltagraph.specs.declared.status.Status.{Status}
@@ -14,7 +14,7 @@ long_enough script taken limit (Some xs) gives is =
 
 pub completes_of : (limits : Limits) (s : Status) (left rest : Option (List ℕ))
     → (s ≡ status.Words → ⊥) → (s ≡ status.SourceFault → ⊥) → (s ≡ status.SinkFault → ⊥)
-    → (s ≡ status.DiskFault → ⊥) → ((fault : StartFault) → s ≡ status.Refused fault → ⊥)
+    → (s ≡ status.DiskFault → ⊥) → ((fault : SessionFault) → s ≡ status.Refused fault → ⊥)
     → (s ≡ status.Done → IfSome left (λ script. length script < limits.script_bytes))
     → (s ≡ status.ScriptLimit → (taken : List ℕ) × Gives left taken rest × (length taken ≡ limits.script_bytes))
     → IfSome left (λ script. Completes limits s script)

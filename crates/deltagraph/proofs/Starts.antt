@@ -1,17 +1,38 @@
 -- What follows from how a session begins, or does not.
-use Rattle.std.proofs.Common.{◌≡◌, ◌≢◌, ℕ, ◌⊎◌, inl, inr, List, [], Option, Some, None, IfSome, Result, Ok, Err, refl, sym, ◌∙◌, ap, subst}
-use Rattle.dg_start.specs.declared.fault.StartFault.{StartFault}
+use Rattle.std.proofs.Common.{◌≡◌, ◌≢◌, ℕ, ◌⊎◌, inl, inr, Bool, true, List, [], Option, Some, None, IfSome, Result, Ok, Err, refl, sym, ◌∙◌, ap, subst}
+use Rattle.dg_session.specs.declared.session_fault.SessionFault.{SessionFault}
+use Rattle.dg_session.specs.declared.session_fault.SessionFault.TheVariants.{Start, Unsound}
+use Rattle.dg_session.specs.SessionStart.{Begins, BeginsAreDetermined, RefusesSession}
 use Rattle.dg_start.specs.declared.fault.StartFault.TheVariants as fault
-use Rattle.dg_start.specs.SessionStart.{RefusesStart, Started, Starts, StartsAreDetermined}
+use Rattle.dg_start.specs.SessionStart.{Started}
 use Rattle.deltagraph.specs.declared.status.Status.{Status}
 use Rattle.deltagraph.specs.declared.status.Status.TheVariants as status
 use Rattle.dg_io.specs.Told.{grown}
 use Rattle.deltagraph.specs.Served.{Gained}
-use Rattle.deltagraph.specs.Statuses.{end_of}
+use Rattle.deltagraph.specs.Statuses.{end_of, is_unbegun}
 
 pub where_some : (o : Option (List ℕ)) (P Q : List ℕ → Type 0) → ((x : List ℕ) → P x → Q x) → IfSome o P → IfSome o Q
 where_some None P Q each all = tt
 where_some (Some x) P Q each all = each x all
+
+-- How a run ends for whose session there is this fault: by the disk, by want of memory, or by what lies in the image.
+pub data EndsFor (s : Status) (f : SessionFault) : Type 0 where
+  By_disk : s ≡ status.DiskFault → f ≡ Start fault.Disk → EndsFor s f
+  By_memory : s ≡ status.NoMemory → f ≡ Start fault.Memory → EndsFor s f
+  By_image : s ≡ status.Refused f → f ≢ Start fault.Disk → f ≢ Start fault.Memory → EndsFor s f
+
+ends : (f : SessionFault) → EndsFor (end_of f) f
+ends (Start fault.Disk) = By_disk refl refl
+ends (Start fault.Foreign) = By_image refl (λ e. cc) (λ e. cc)
+ends (Start (fault.Damaged place)) = By_image refl (λ e. cc) (λ e. cc)
+ends (Start (fault.BadRecord key col)) = By_image refl (λ e. cc) (λ e. cc)
+ends (Start fault.NotGraph) = By_image refl (λ e. cc) (λ e. cc)
+ends (Start (fault.BadRecent number)) = By_image refl (λ e. cc) (λ e. cc)
+ends (Start fault.Memory) = By_memory refl refl
+ends (Unsound key col) = By_image refl (λ e. cc) (λ e. cc)
+
+pub ends_for : (s : Status) (f : SessionFault) → s ≡ end_of f → EndsFor s f
+ends_for s f is = subst (λ (t : Status). EndsFor t f) (sym is) (ends f)
 
 -- the end of a run whose session did not begin is none of these
 pub record Unbegun (s : Status) : Type 0 where
@@ -21,99 +42,77 @@ pub record Unbegun (s : Status) : Type 0 where
   pub sink : s ≡ status.SinkFault → ⊥
   pub limit : s ≡ status.ScriptLimit → ⊥
 
-ends : (f : StartFault) → Unbegun (end_of f)
-ends fault.Disk = record { words = λ e. cc; done = λ e. cc; source = λ e. cc; sink = λ e. cc; limit = λ e. cc }
-ends fault.Foreign = record { words = λ e. cc; done = λ e. cc; source = λ e. cc; sink = λ e. cc; limit = λ e. cc }
-ends (fault.Damaged place) = record { words = λ e. cc; done = λ e. cc; source = λ e. cc; sink = λ e. cc; limit = λ e. cc }
-ends (fault.BadRecord key col) = record { words = λ e. cc; done = λ e. cc; source = λ e. cc; sink = λ e. cc; limit = λ e. cc }
-ends fault.NotGraph = record { words = λ e. cc; done = λ e. cc; source = λ e. cc; sink = λ e. cc; limit = λ e. cc }
-ends (fault.BadRecent number) = record { words = λ e. cc; done = λ e. cc; source = λ e. cc; sink = λ e. cc; limit = λ e. cc }
-ends fault.Memory = record { words = λ e. cc; done = λ e. cc; source = λ e. cc; sink = λ e. cc; limit = λ e. cc }
+pub unbegun : (s : Status) (f : SessionFault) → EndsFor s f → Unbegun s
+unbegun s f (By_disk is disk) = record { words = λ e. cc; done = λ e. cc; source = λ e. cc; sink = λ e. cc; limit = λ e. cc }
+unbegun s f (By_memory is memory) = record { words = λ e. cc; done = λ e. cc; source = λ e. cc; sink = λ e. cc; limit = λ e. cc }
+unbegun s f (By_image is disk memory) = record { words = λ e. cc; done = λ e. cc; source = λ e. cc; sink = λ e. cc; limit = λ e. cc }
 
-pub unbegun : (s : Status) (f : StartFault) → s ≡ end_of f → Unbegun s
-unbegun s f is = subst Unbegun (sym is) (ends f)
-
-end_disk : (f : StartFault) → end_of f ≡ status.DiskFault → f ≡ fault.Disk
-end_disk fault.Disk e = refl
-end_disk fault.Foreign e = absurd (cc)
-end_disk (fault.Damaged place) e = absurd (cc)
-end_disk (fault.BadRecord key col) e = absurd (cc)
-end_disk fault.NotGraph e = absurd (cc)
-end_disk (fault.BadRecent number) e = absurd (cc)
-end_disk fault.Memory e = absurd (cc)
+-- the run ended before anything was touched, or by the disk
+pub untouched_end : (s : Status) (f : SessionFault) → EndsFor s f → (is_unbegun s ≡ true) ⊎ (s ≡ status.DiskFault)
+untouched_end s f (By_disk is disk) = inr is
+untouched_end s f (By_memory is memory) = inl (ap is_unbegun is)
+untouched_end s f (By_image is disk memory) = inl (ap is_unbegun is)
 
 -- the run ends so by a failure of the disk alone
-pub disk_failed : (s : Status) (f : StartFault) → s ≡ end_of f → s ≡ status.DiskFault → f ≡ fault.Disk
-disk_failed s f is e = end_disk f (sym is ∙ e)
+pub disk_failed : (s : Status) (f : SessionFault) → EndsFor s f → s ≡ status.DiskFault → f ≡ Start fault.Disk
+disk_failed s f (By_disk is disk) e = disk
+disk_failed s f (By_memory is memory) e = absurd (cc)
+disk_failed s f (By_image is disk memory) e = absurd (cc)
 
 -- a fault that the image is refused for
-pub record Lies (f g : StartFault) : Type 0 where
-  pub disk : g ≢ fault.Disk
-  pub memory : g ≢ fault.Memory
+pub record Lies (f g : SessionFault) : Type 0 where
+  pub disk : g ≢ Start fault.Disk
+  pub memory : g ≢ Start fault.Memory
   pub same : f ≡ g
 
-end_refused : (f g : StartFault) → end_of f ≡ status.Refused g → Lies f g
-end_refused fault.Disk g e = absurd (cc)
-end_refused fault.Foreign g e = record { disk = λ d. cc; memory = λ d. cc; same = cc }
-end_refused (fault.Damaged place) g e = record { disk = λ d. cc; memory = λ d. cc; same = cc }
-end_refused (fault.BadRecord key col) g e = record { disk = λ d. cc; memory = λ d. cc; same = cc }
-end_refused fault.NotGraph g e = record { disk = λ d. cc; memory = λ d. cc; same = cc }
-end_refused (fault.BadRecent number) g e = record { disk = λ d. cc; memory = λ d. cc; same = cc }
-end_refused fault.Memory g e = absurd (cc)
-
-pub lies : (s : Status) (f g : StartFault) → s ≡ end_of f → s ≡ status.Refused g → Lies f g
-lies s f g is e = end_refused f g (sym is ∙ e)
+pub lies : (s : Status) (f g : SessionFault) → EndsFor s f → s ≡ status.Refused g → Lies f g
+lies s f g (By_disk is disk) e = absurd (cc)
+lies s f g (By_memory is memory) e = absurd (cc)
+lies s f g (By_image is disk memory) e =
+    let both : status.Refused f ≡ status.Refused g = sym is ∙ e in
+    let same : f ≡ g = cc in record { disk = λ d. disk (same ∙ d); memory = λ m. memory (same ∙ m); same = same }
 
 -- the image is refused for the fault, where it lies there
-refused_for : (f : StartFault) (image : List ℕ) → f ≢ fault.Disk → f ≢ fault.Memory → RefusesStart f image → Starts image (Err f)
-refused_for fault.Disk image disk memory h = absurd (disk refl)
-refused_for fault.Foreign image disk memory h = h
-refused_for (fault.Damaged place) image disk memory h = h
-refused_for (fault.BadRecord key col) image disk memory h = h
-refused_for fault.NotGraph image disk memory h = h
-refused_for (fault.BadRecent number) image disk memory h = h
-refused_for fault.Memory image disk memory h = absurd (memory refl)
+refused_for : (checked : Bool) (f : SessionFault) (image : List ℕ) → f ≢ Start fault.Disk → f ≢ Start fault.Memory → RefusesSession checked f image → Begins checked image (Err f)
+refused_for checked (Start fault.Disk) image disk memory h = absurd (disk refl)
+refused_for checked (Start fault.Foreign) image disk memory h = h
+refused_for checked (Start (fault.Damaged place)) image disk memory h = h
+refused_for checked (Start (fault.BadRecord key col)) image disk memory h = h
+refused_for checked (Start fault.NotGraph) image disk memory h = h
+refused_for checked (Start (fault.BadRecent number)) image disk memory h = h
+refused_for checked (Start fault.Memory) image disk memory h = absurd (memory refl)
+refused_for checked (Unsound key col) image disk memory h = h
 
-pub refused_so : (s : Status) (f g : StartFault) (image : List ℕ) → s ≡ end_of f → s ≡ status.Refused g → RefusesStart f image → Starts image (Err g)
-refused_so s f g image is e h =
+pub refused_so : (checked : Bool) (s : Status) (f g : SessionFault) (image : List ℕ) → EndsFor s f → s ≡ status.Refused g → RefusesSession checked f image → Begins checked image (Err g)
+refused_so checked s f g image is e h =
     let l = lies s f g is e in
-    refused_for g image l.disk l.memory (subst (λ (x : StartFault). RefusesStart x image) l.same h)
+    refused_for checked g image l.disk l.memory (subst (λ (x : SessionFault). RefusesSession checked x image) l.same h)
 
 -- an image comes to one fault
-one_fault : StartsAreDetermined → (image : List ℕ) (f g : StartFault) → Starts image (Err f) → Starts image (Err g) → f ≡ g
-one_fault determined image f g a b =
-    let e : ◌≡◌ {A = Result (Option Started) StartFault} (Err f) (Err g) = determined image (Err f) (Err g) a b in cc
+one_fault : BeginsAreDetermined → (checked : Bool) (image : List ℕ) (f g : SessionFault) → Begins checked image (Err f) → Begins checked image (Err g) → f ≡ g
+one_fault determined checked image f g a b =
+    let e : ◌≡◌ {A = Result (Option Started) SessionFault} (Err f) (Err g) = determined checked image (Err f) (Err g) a b in cc
 
 -- an image that is refused ends the run so
-pub ends_so : StartsAreDetermined → (s : Status) (f g : StartFault) (image : List ℕ) → s ≡ end_of f → (f ≡ fault.Disk → ⊥) → RefusesStart f image → Starts image (Err g)
+pub ends_so : BeginsAreDetermined → (checked : Bool) (s : Status) (f g : SessionFault) (image : List ℕ) → EndsFor s f → (f ≡ Start fault.Disk → ⊥) → RefusesSession checked f image → Begins checked image (Err g)
     → (s ≡ status.Refused g) ⊎ (s ≡ status.NoMemory)
-ends_so determined s fault.Disk g image is disk h e = absurd (disk refl)
-ends_so determined s fault.Foreign g image is disk h e = inl (is ∙ ap (λ x. status.Refused x) (one_fault determined image fault.Foreign g h e))
-ends_so determined s (fault.Damaged place) g image is disk h e = inl (is ∙ ap (λ x. status.Refused x) (one_fault determined image (fault.Damaged place) g h e))
-ends_so determined s (fault.BadRecord key col) g image is disk h e = inl (is ∙ ap (λ x. status.Refused x) (one_fault determined image (fault.BadRecord key col) g h e))
-ends_so determined s fault.NotGraph g image is disk h e = inl (is ∙ ap (λ x. status.Refused x) (one_fault determined image fault.NotGraph g h e))
-ends_so determined s (fault.BadRecent number) g image is disk h e = inl (is ∙ ap (λ x. status.Refused x) (one_fault determined image (fault.BadRecent number) g h e))
-ends_so determined s fault.Memory g image is disk h e = inr is
+ends_so determined checked s f g image (By_disk is disk) calm h e = absurd (calm disk)
+ends_so determined checked s f g image (By_memory is memory) calm h e = inr is
+ends_so determined checked s f g image (By_image is disk memory) calm h e =
+    inl (is ∙ ap (λ x. status.Refused x) (one_fault determined checked image f g (refused_for checked f image disk memory h) e))
 
 -- what does not lie in the image is not answered so
-pub never_so : (s : Status) (f g : StartFault) → s ≡ end_of f → (f ≡ fault.Disk) ⊎ (f ≡ fault.Memory) → s ≡ status.Refused g → ⊥
+pub never_so : (s : Status) (f g : SessionFault) → EndsFor s f → (f ≡ Start fault.Disk) ⊎ (f ≡ Start fault.Memory) → s ≡ status.Refused g → ⊥
 never_so s f g is (inl e) refused = let l = lies s f g is refused in l.disk (sym l.same ∙ e)
 never_so s f g is (inr e) refused = let l = lies s f g is refused in l.memory (sym l.same ∙ e)
 
 -- a session that began is over an image that is not refused
-pub begins_ok : StartsAreDetermined → (image : List ℕ) (started : Option Started) (g : StartFault) → Starts image (Ok started) → Starts image (Err g) → ⊥
-begins_ok determined image started g a b =
-    let e : ◌≡◌ {A = Result (Option Started) StartFault} (Ok started) (Err g) = determined image (Ok started) (Err g) a b in cc
-
-end_gains : (f : StartFault) (before now : Option (List ℕ)) → now ≡ grown before [] → Gained (end_of f) before [] now
-end_gains fault.Disk before now same = same
-end_gains fault.Foreign before now same = same
-end_gains (fault.Damaged offset) before now same = same
-end_gains (fault.BadRecord key col) before now same = same
-end_gains fault.NotGraph before now same = same
-end_gains (fault.BadRecent number) before now same = same
-end_gains fault.Memory before now same = same
+pub begins_ok : BeginsAreDetermined → (checked : Bool) (image : List ℕ) (started : Option Started) (g : SessionFault) → Begins checked image (Ok started) → Begins checked image (Err g) → ⊥
+begins_ok determined checked image started g a b =
+    let e : ◌≡◌ {A = Result (Option Started) SessionFault} (Ok started) (Err g) = determined checked image (Ok started) (Err g) a b in cc
 
 -- what a sink gains whose run did not begin
-pub unbegun_gains : (s : Status) (f : StartFault) (before now : Option (List ℕ)) → s ≡ end_of f → now ≡ grown before [] → Gained s before [] now
-unbegun_gains s f before now is same = subst (λ (t : Status). Gained t before [] now) (sym is) (end_gains f before now same)
+pub unbegun_gains : (s : Status) (f : SessionFault) (before now : Option (List ℕ)) → EndsFor s f → now ≡ grown before [] → Gained s before [] now
+unbegun_gains s f before now (By_disk is disk) same = subst (λ (t : Status). Gained t before [] now) (sym is) same
+unbegun_gains s f before now (By_memory is memory) same = subst (λ (t : Status). Gained t before [] now) (sym is) same
+unbegun_gains s f before now (By_image is disk memory) same = subst (λ (t : Status). Gained t before [] now) (sym is) same

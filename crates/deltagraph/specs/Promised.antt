@@ -1,13 +1,16 @@
 -- The promise of the program, on one page.
-use Rattle.std.specs.Prelude.{◌≡◌, ◌≢◌, ℕ, ◌<◌, ◌≤◌, ◌↔◌, ◌⊎◌, Bool, true, false, ◌==◌, not, List, [], ◌∷◌, length, IfSome, Option, Err, is_some, slice_index}
+use Rattle.std.specs.Prelude.{◌≡◌, ◌≢◌, ℕ, ◌<◌, ◌≤◌, ◌⊎◌, Bool, true, false, List, length, IfSome, Option, Err, is_some}
+use Rattle.dg_columns.specs.ColumnLaws.{AreBytes}
 use Rattle.dg_disk.specs.Counts.{Rose as DiskRose}
-use Rattle.dg_start.specs.declared.fault.StartFault.{StartFault}
+use Rattle.dg_session.specs.declared.session_fault.SessionFault.{SessionFault}
+use Rattle.dg_session.specs.declared.session_fault.SessionFault.TheVariants as session_fault
+use Rattle.dg_session.specs.SessionStart.{Begins, IsStanding}
 use Rattle.dg_start.specs.declared.fault.StartFault.TheVariants as start_fault
 use Rattle.dg_history.specs.History.{History}
 use Rattle.dg_fold.specs.BytesRead.{Takes}
 use Rattle.dg_index.specs.ImageOfHistory.{IsImageOf, StandsAs}
 use Rattle.dg_index.specs.OpenedIndex.{opened_of}
-use Rattle.dg_start.specs.SessionStart.{PlansLastLeaf, Starts, start_bytes}
+use Rattle.dg_start.specs.SessionStart.{PlansLastLeaf, start_bytes}
 use Rattle.dg_io.specs.Told.{Gives, CountRose}
 use Rattle.dg_machine.specs.declared.limits.Limits.{Limits}
 use Rattle.dg_machine.specs.MachineState.{machine_at}
@@ -16,12 +19,6 @@ use Rattle.deltagraph.specs.declared.status.Status.TheVariants as status
 use Rattle.deltagraph.specs.Outside.{Outside, IsUntouched}
 use Rattle.deltagraph.specs.Served.{HasNoEntry, Served}
 use Rattle.deltagraph.specs.Statuses.{is_unbegun}
-
--- one word that does not begin with `-`
-abbrev pub is_written_form : List (List ℕ) → Bool
-is_written_form [] = false
-is_written_form (index ∷ []) = not (slice_index index 0 == 45)
-is_written_form (index ∷ other ∷ more) = false
 
 -- the fact holds of each history, or none, that the image stands for, where it is told
 abbrev pub WhereItStands : Option (List ℕ) → (Option History → Type 0) → Type 0
@@ -41,17 +38,23 @@ pub record Completes (limits : Limits) (s : Status) (script : List ℕ) : Type 0
   pub long : limits.script_bytes ≤ length script → (s ≡ status.ScriptLimit) ⊎ (s ≡ status.NoMemory)
 
 -- What a run within these limits promises that ended so, over source, sink and disk as they were at its
--- start; the words on its command line were of the written form, or were not.
-pub record Promised (limits : Limits) (are_written : Bool) (s : Status) (start now : Outside) : Type 0 where
+-- start; the words on its command line were of the written form, or were not, and said `--checked`, or did not.
+pub record Promised (limits : Limits) (are_written are_checked : Bool) (s : Status) (start now : Outside) : Type 0 where
   -- The headline. Where the image stands for a history or for no index, the sink gained the texts of the
   -- replies of a run of the machine that keeps only the events and a table of handles, and the image stands
   -- for what that run came to.
   pub served : WhereItStands start.image (λ index. Served (machine_at limits index) s start now)
+  -- With `--checked` no premise on the image is left but that it is one of bytes: it stands for a history or for no
+  -- index, so that the headline holds over it, or the run did not begin.
+  pub checked : are_checked ≡ true
+      → IfSome start.image (λ image. AreBytes image → IsStanding image ⊎ (IsUntouched start now × ((is_unbegun s ≡ true) ⊎ (s ≡ status.DiskFault))))
   -- Whether the disk tells its image stays the same.
   pub told : is_some now.image ≡ is_some start.image
-  -- Status 2 comes exactly where the words are not of the written form, and then nothing was called.
-  pub words : (s ≡ status.Words) ↔ (are_written ≡ false)
-  pub words_untouched : s ≡ status.Words → now ≡ start
+  -- Status 2 comes only where the words are not of the written form; such words end with it, or with want of memory to
+  -- read them, and nothing is called.
+  pub words : s ≡ status.Words → are_written ≡ false
+  pub wrong_words : are_written ≡ false → (s ≡ status.Words) ⊎ (s ≡ status.NoMemory)
+  pub words_untouched : are_written ≡ false → now ≡ start
   -- With statuses 2, 6 and 7 source, sink and image are as they were.
   pub unbegun : is_unbegun s ≡ true → IsUntouched start now
   -- Status 0 comes only where the script has fewer bytes than the limit.
@@ -67,14 +70,16 @@ pub record Promised (limits : Limits) (are_written : Bool) (s : Status) (start n
   pub script_limit : s ≡ status.ScriptLimit → (taken : List ℕ) × Gives start.left taken now.left × (length taken ≡ limits.script_bytes)
   -- Status 7 comes only for what the image is refused for, and never where it stands for a history or for no
   -- index; and an image that is refused gives it, unless the disk failed or memory lacked.
-  pub refused : (fault : StartFault) → s ≡ status.Refused fault → (fault ≢ start_fault.Disk) × (fault ≢ start_fault.Memory)
-      × IfSome start.image (λ image. Starts image (Err fault))
-  pub never_refused : WhereItStands start.image (λ index. (fault : StartFault) → s ≡ status.Refused fault → ⊥)
+  pub refused : (fault : SessionFault) → s ≡ status.Refused fault
+      → (fault ≢ session_fault.Start start_fault.Disk) × (fault ≢ session_fault.Start start_fault.Memory)
+      × IfSome start.image (λ image. Begins are_checked image (Err fault))
+  pub never_refused : WhereItStands start.image (λ index. (fault : SessionFault) → s ≡ status.Refused fault → ⊥)
   pub refuses : are_written ≡ true → (DiskRose start.disk_faults now.disk_faults → ⊥)
-      → IfSome start.image (λ image. (fault : StartFault) → Starts image (Err fault) → (s ≡ status.Refused fault) ⊎ (s ≡ status.NoMemory))
-  -- Where the image stands for a history, a run over a script without an entry has read of the disk what its start
-  -- reads: all that is in use but the columns, the recent pieces, and the records along the plan of the last leaf.
-  pub start_reads : s ≡ status.Done → HasNoEntry start.left → IfSome start.image (λ image. (z : History) → IsImageOf z image
+      → IfSome start.image (λ image. (fault : SessionFault) → Begins are_checked image (Err fault) → (s ≡ status.Refused fault) ⊎ (s ≡ status.NoMemory))
+  -- Where the image stands for a history, a run without `--checked` over a script without an entry has read of the disk
+  -- what its start reads: all that is in use but the columns, the recent pieces, and the records along the plan of the
+  -- last leaf.
+  pub start_reads : are_checked ≡ false → s ≡ status.Done → HasNoEntry start.left → IfSome start.image (λ image. (z : History) → IsImageOf z image
       → (steps : List ℕ) → PlansLastLeaf (opened_of z).index steps → Takes (start_bytes (opened_of z).index steps) start.bytes_read now.bytes_read)
   -- Where the words are of the written form, the image stands for a history or for no index and nothing
   -- failed, the script is answered to its end or to the limit.

@@ -1,6 +1,7 @@
 -- The exit status of each end of a run, and how a run ends whose session does not begin.
 use Rattle.std.specs.Prelude.{ℕ, Bool, true, false}
-use Rattle.dg_start.specs.declared.fault.StartFault.{StartFault}
+use Rattle.dg_session.specs.declared.session_fault.SessionFault.{SessionFault}
+use Rattle.dg_session.specs.declared.session_fault.SessionFault.TheVariants.{Start, Unsound}
 use Rattle.dg_start.specs.declared.fault.StartFault.TheVariants as fault
 use Rattle.deltagraph.specs.declared.status.Status.{Status}
 use Rattle.deltagraph.specs.declared.status.Status.TheVariants as status
@@ -17,14 +18,15 @@ code_of (status.Refused fault) = 7
 code_of status.ScriptLimit = 9
 
 -- a failure of the disk and want of memory have ends of their own
-abbrev pub end_of : StartFault → Status
-end_of fault.Disk = status.DiskFault
-end_of fault.Foreign = status.Refused fault.Foreign
-end_of (fault.Damaged place) = status.Refused (fault.Damaged place)
-end_of (fault.BadRecord key col) = status.Refused (fault.BadRecord key col)
-end_of fault.NotGraph = status.Refused fault.NotGraph
-end_of (fault.BadRecent number) = status.Refused (fault.BadRecent number)
-end_of fault.Memory = status.NoMemory
+abbrev pub end_of : SessionFault → Status
+end_of (Start fault.Disk) = status.DiskFault
+end_of (Start fault.Foreign) = status.Refused (Start fault.Foreign)
+end_of (Start (fault.Damaged place)) = status.Refused (Start (fault.Damaged place))
+end_of (Start (fault.BadRecord key col)) = status.Refused (Start (fault.BadRecord key col))
+end_of (Start fault.NotGraph) = status.Refused (Start fault.NotGraph)
+end_of (Start (fault.BadRecent number)) = status.Refused (Start (fault.BadRecent number))
+end_of (Start fault.Memory) = status.NoMemory
+end_of (Unsound key col) = status.Refused (Unsound key col)
 
 -- the run ended before anything was read or written, and not by a failure of the disk
 abbrev pub is_unbegun : Status → Bool

@@ -1,5 +1,6 @@
-//! `deltagraph INDEX` carries out a script of commands, read from standard input, over the index file
-//! of that name, and writes the reply to each of them.
+//! `deltagraph [--checked] INDEX` carries out a script of commands, read from standard input, over the
+//! index file of that name, and writes the reply to each of them. With `--checked` it refuses a file that is
+//! not exactly what its own events determine.
 #![tactic(auto)]
 
 mod descriptors;
@@ -13,11 +14,12 @@ mod words;
 use descriptors::{Held, hold_standard};
 use dg_disk::FileDisk;
 use dg_io::{StdSink, StdSource};
+use dg_words::read_words;
 use serve::serve;
 use status::Status;
 use std::fs::File;
 use std::process::ExitCode;
-use words::{index_word, words_after_name};
+use words::words_after_name;
 
 fn main(rt: HostRuntime) -> ExitCode {
     let status = match begin(&rt) {
@@ -67,10 +69,10 @@ struct Begun {
 fn begin(rt: &HostRuntime) -> Result<Begun, Status> {
     let _held = hold_standard(rt).map_err(|_| Status::DiskFault)?;
     let words = words_after_name(rt)?;
-    let index = index_word(rt.alloc(), words.as_slice()).map_err(|_| Status::NoMemory)?;
+    let read = read_words(rt.alloc(), words.as_slice()).map_err(|_| Status::NoMemory)?;
     Ok(Begun {
         _held,
         words,
-        index,
+        index: read.map(|read| read.index),
     })
 }

@@ -2,25 +2,25 @@ ghost use Rattle.std.specs.Prelude.{◌≡◌, IfSome, map, string_bytes, true};
 ghost use Rattle.dg_machine.specs.MachineState.{IsWithin};
 ghost use Rattle.dg_start.specs.StoredHistory.{IsHeldBy};
 ghost use Rattle.deltagraph.specs.Outside.{outside};
-ghost use Rattle.deltagraph.specs.Promised.{Promised, is_written_form};
+ghost use Rattle.dg_words.specs.WrittenForm.{is_checked, is_written_form};
+ghost use Rattle.deltagraph.specs.Promised.{Promised};
 ghost use Rattle.deltagraph.specs.Turns.{ScriptAnswered};
 
 use crate::status::Status;
 use crate::turn::{Turn, next_turn};
-use crate::words::are_written;
 use dg_disk::Disk;
 use dg_history::{EVENTS_MAX, FILE_BYTES_MAX};
 use dg_io::{Lines, Sink, Source};
 use dg_line::write_reply;
 use dg_machine::{FIRST_HANDLE, Limits, SCRIPT_BYTES_MAX};
-use dg_session::{Session, Stop};
-use dg_start::law_starts_are_determined;
+use dg_session::{Session, Stop, law_begins_are_determined};
+use dg_words::read_words;
 use std::alloc::Global;
 use std::thread::Threads;
 
 /// Reads the words, and carries out the commands of the script one by one over the index file that
-/// the disk holds. Each reply is written before the next line is read. It is `serve_with` at the
-/// standard limits.
+/// the disk holds, which is verified first where the words say `--checked`. Each reply is written before
+/// the next line is read. It is `serve_with` at the standard limits.
 pub fn serve<R: Threads + Sync, S: Source, K: Sink, D: Disk>(
     rt: &R,
     alloc: Global,
@@ -30,7 +30,7 @@ pub fn serve<R: Threads + Sync, S: Source, K: Sink, D: Disk>(
     disk: &mut D,
 ) -> Status
     ensures promise { Promised (record { script_bytes = SCRIPT_BYTES_MAX; events = EVENTS_MAX; file_bytes = FILE_BYTES_MAX; first_handle = FIRST_HANDLE })
-        (is_written_form (map string_bytes words.now)) result
+        (is_written_form (map string_bytes words.now)) (is_checked (map string_bytes words.now)) result
         (outside S.left S.faults K.written K.faults D.image D.faults D.write_faults D.taken source.old sink.old disk.old)
         (outside S.left S.faults K.written K.faults D.image D.faults D.write_faults D.taken source.new sink.new disk.new) }
 {
@@ -48,33 +48,35 @@ pub fn serve_with<R: Threads + Sync, S: Source, K: Sink, D: Disk>(
     disk: &mut D,
 ) -> Status
     requires limits { IsWithin limits }
-    ensures promise { Promised limits (is_written_form (map string_bytes words.now)) result
+    ensures promise { Promised limits (is_written_form (map string_bytes words.now)) (is_checked (map string_bytes words.now)) result
         (outside S.left S.faults K.written K.faults D.image D.faults D.write_faults D.taken source.old sink.old disk.old)
         (outside S.left S.faults K.written K.faults D.image D.faults D.write_faults D.taken source.new sink.new disk.new) }
 {
-    if !are_written(words) {
-        return Status::Words;
+    match read_words(alloc, words) {
+        Ok(Some(read)) => carry_out(rt, alloc, read.checked, limits, source, sink, disk),
+        Ok(None) => Status::Words,
+        Err(_) => Status::NoMemory,
     }
-    carry_out(rt, alloc, limits, source, sink, disk)
 }
 
-// Starts a session over the disk's image, and carries out the script.
+// Starts a session over the disk's image, checked or not, and carries out the script.
 fn carry_out<R: Threads + Sync, S: Source, K: Sink, D: Disk>(
     rt: &R,
     alloc: Global,
+    checked: bool,
     limits: Limits,
     source: &mut S,
     sink: &mut K,
     disk: &mut D,
 ) -> Status
     requires limits { IsWithin limits }
-    ensures promise { Promised limits true result
+    ensures promise { Promised limits true checked result
         (outside S.left S.faults K.written K.faults D.image D.faults D.write_faults D.taken source.old sink.old disk.old)
         (outside S.left S.faults K.written K.faults D.image D.faults D.write_faults D.taken source.new sink.new disk.new) }
 {
-    // Its clause says that an image comes to one start.
-    law_starts_are_determined();
-    match Session::start(rt, alloc, disk, limits) {
+    // Its clause says that an image comes to one beginning.
+    law_begins_are_determined();
+    match Session::start(rt, alloc, disk, checked, limits) {
         Ok(mut session) => answer_script(
             rt,
             alloc,

@@ -1,7 +1,7 @@
 ghost use Rattle.std.specs.Prelude.{◌≡◌};
 ghost use Rattle.deltagraph.specs.Statuses.{code_of, end_of};
 
-use dg_start::StartFault;
+use dg_session::{SessionFault, StartFault};
 
 /// How a run ended.
 #[derive(Clone, Copy, Debug, PartialEq, Eq)]
@@ -18,21 +18,21 @@ pub enum Status {
     DiskFault,
     /// There was no memory to begin with.
     NoMemory,
-    /// The index file is not one that a run begins over, for this reason: never `StartFault::Disk` or
-    /// `StartFault::Memory`.
-    Refused(StartFault),
+    /// The index file is not one that a run begins over, for this reason: never a failure of the disk or
+    /// want of memory.
+    Refused(SessionFault),
     /// As many bytes of the script as the limit were taken, and another is needed.
     ScriptLimit,
 }
 
-impl From<StartFault> for Status {
+impl From<SessionFault> for Status {
     ghost from_gives = { λ fault status. status ≡ end_of fault };
 
     /// How a run ends whose session does not begin.
-    fn from(fault: StartFault) -> Status {
+    fn from(fault: SessionFault) -> Status {
         match fault {
-            StartFault::Disk => Status::DiskFault,
-            StartFault::Memory => Status::NoMemory,
+            SessionFault::Start(StartFault::Disk) => Status::DiskFault,
+            SessionFault::Start(StartFault::Memory) => Status::NoMemory,
             _ => Status::Refused(fault),
         }
     }

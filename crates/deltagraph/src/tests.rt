@@ -8,7 +8,7 @@ use dg_graph::Column;
 use dg_history::{EVENTS_MAX, FILE_BYTES_MAX, Key};
 use dg_io::{MemorySink, MemorySource};
 use dg_machine::{FIRST_HANDLE, Limits, SCRIPT_BYTES_MAX};
-use dg_start::StartFault;
+use dg_session::{SessionFault, StartFault};
 use std::alloc::Global;
 use std::test::Fail;
 use std::thread::Threads;
@@ -49,18 +49,26 @@ fn run<R: Threads + Sync>(
     requires limits { IsWithin limits }
 {
     let words = ["history".to_string(alloc)?].to_vec(alloc)?;
+    run_by(rt, alloc, &words, image, script, chunk, limits)
+}
+
+// The same by these words.
+fn run_by<R: Threads + Sync>(
+    rt: &R,
+    alloc: Global,
+    words: &[String],
+    image: &[u8],
+    script: &[u8],
+    chunk: usize,
+    limits: Limits,
+) -> Result<Ran, Fail>
+    requires chunk { 0 < chunk }
+    requires limits { IsWithin limits }
+{
     let mut source = MemorySource::new(alloc, script, chunk, &[])?;
     let mut sink = MemorySink::new(alloc, WHOLE, &[])?;
     let mut disk = MemoryDisk::new(alloc, image, ROOM, CALLS_MAX, &[])?;
-    let status = serve_with(
-        rt,
-        alloc,
-        words.as_slice(),
-        limits,
-        &mut source,
-        &mut sink,
-        &mut disk,
-    );
+    let status = serve_with(rt, alloc, words, limits, &mut source, &mut sink, &mut disk);
     Ok(Ran {
         status,
         written: Vec::from_slice(alloc, sink.written())?,
@@ -330,7 +338,6 @@ fn a_failed_write_ends_a_run_with_a_front_of_the_replies(rt: HostRuntime) -> Res
 
 #[test]
 fn each_status_has_its_code_and_its_line(rt: HostRuntime) {
-    let refused = "the index is refused";
     let usage = "usage: deltagraph [--cache N] [--checked] INDEX";
     let statuses = [
         (Status::Done, 0, None),
@@ -339,19 +346,62 @@ fn each_status_has_its_code_and_its_line(rt: HostRuntime) {
         (Status::SinkFault, 4, Some("writing failed")),
         (Status::DiskFault, 5, Some("the index file failed")),
         (Status::NoMemory, 6, Some("out of memory")),
-        (Status::Refused(StartFault::Foreign), 7, Some(refused)),
-        (Status::Refused(StartFault::Damaged(18)), 7, Some(refused)),
-        (
-            Status::Refused(StartFault::BadRecord(Key::Piece(0), Column::Structure)),
-            7,
-            Some(refused),
-        ),
-        (Status::Refused(StartFault::NotGraph), 7, Some(refused)),
-        (Status::Refused(StartFault::BadRecent(1)), 7, Some(refused)),
         (Status::ScriptLimit, 9, Some("the script is too long")),
     ];
     for (status, code, line) in statuses {
         assert_eq!(rt; status.code(), code);
         assert_eq!(rt; status.message(), line);
     }
+    let faults = [
+        SessionFault::Start(StartFault::Foreign),
+        SessionFault::Start(StartFault::Damaged(18)),
+        SessionFault::Start(StartFault::BadRecord(Key::Piece(0), Column::Structure)),
+        SessionFault::Start(StartFault::NotGraph),
+        SessionFault::Start(StartFault::BadRecent(1)),
+        SessionFault::Unsound(Key::List(1), Column::Structure),
+    ];
+    for fault in faults {
+        assert_eq!(rt; Status::from(fault), Status::Refused(fault));
+        assert_eq!(rt; Status::from(fault).code(), 7);
+        assert_eq!(rt; Status::from(fault).message(), Some("the index is refused"));
+    }
+}
+
+// A script that makes an index file of 496 bytes.
+const FIVE: &[u8] =
+    b"create 2 2 intersection\nload 5\n10 +node 1\n20 +node 2\n30 +edge 5 1 2 dir\n40 nset 1 name A\n50 -edge 5\n";
+
+// What is asked of it.
+const QUESTIONS: &[u8] = b"at 30 s\nlist 1\n";
+
+// A byte of the structure of its first list, which a start does not read.
+const BYTE_OF_FIRST_LIST: usize = 296;
+
+#[test]
+fn a_file_is_checked_where_a_word_says_so(rt: HostRuntime) -> Result<(), Fail> {
+    let alloc = rt.alloc();
+    let limits = Limits::standard();
+    let made = run(&rt, alloc, NO_FILE, FIVE, WHOLE, limits)?;
+    assert_eq!(rt; made.image.len(), 496);
+    let plain = run(&rt, alloc, &made.image, QUESTIONS, WHOLE, limits)?;
+    let mut wrong = made.image.clone()?;
+    if let Some(byte) = wrong.get_mut(BYTE_OF_FIRST_LIST) {
+        *byte = 3;
+    }
+    let unchecked = run(&rt, alloc, &wrong, b"", WHOLE, limits)?;
+    assert_eq!(rt; unchecked.status, Status::Done);
+
+    for [first, second] in [["--checked", "history"], ["history", "--checked"]] {
+        let words = [first.to_string(alloc)?, second.to_string(alloc)?].to_vec(alloc)?;
+        let sound = run_by(&rt, alloc, &words, &made.image, QUESTIONS, WHOLE, limits)?;
+        assert_eq!(rt; sound.status, Status::Done);
+        assert_eq!(rt; sound.written, plain.written);
+
+        let refused = run_by(&rt, alloc, &words, &wrong, QUESTIONS, WHOLE, limits)?;
+        let fault = SessionFault::Unsound(Key::List(1), Column::Structure);
+        assert_eq!(rt; refused.status, Status::Refused(fault));
+        assert_eq!(rt; refused.written.as_slice(), b"".as_slice());
+        assert_eq!(rt; refused.image, wrong);
+    }
+    Ok(())
 }

@@ -27,6 +27,7 @@ pub mod ReadsStep
 pub mod DamageStep
 pub mod TreeStep
 pub mod VerifyStep
+pub mod CheckedStart
 pub mod CreateStep
 pub mod KeptGraphs
 pub mod NewHandles

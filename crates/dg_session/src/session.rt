@@ -1,5 +1,6 @@
 ghost use Rattle.std.specs.Prelude.{◌≡◌, ◌⊎◌, ℕ, ◌+◌, ◌<◌, ◌≤◌, IfErr, IfSome, IsErrOf, OnErr, OnOk, List, [], ◌∷◌, ◌++◌, Ok, Option, None, Some, is_some, true, false, not, length, map, take, IfOk};
 ghost use Rattle.std.specs.List.{All, list_any, sum};
+ghost use Rattle.dg_columns.specs.ColumnLaws.{AreBytes};
 ghost use Rattle.dg_disk.specs.Counts.{Rose as DiskRose};
 ghost use Rattle.dg_disk.specs.Frame.{GoesOn, OnlyReads, ReadsAndSyncs};
 ghost use Rattle.dg_fold.specs.BytesRead.{Takes, TakesAtMost};
@@ -37,7 +38,7 @@ ghost use Rattle.dg_session.specs.Parts.{Parts};
 ghost use Rattle.dg_session.specs.Reads.{IsNodeHeld, IsRetrieved, Reads, ReadsIn, bases_of, listed_by, with_new};
 ghost use Rattle.dg_session.specs.Session.{ComesTo, StandsFor, Steps, Stops, TakesLines, is_too_full, node_needs, refused_by, retrieval_needs};
 ghost use Rattle.dg_session.specs.SessionState.{handles_of};
-ghost use Rattle.dg_session.specs.SessionStart.{IsNew};
+ghost use Rattle.dg_session.specs.SessionStart.{Begins, FailsCheck, IsNew, IsSound, IsStanding, RefusesSession};
 ghost use Rattle.dg_session.specs.Sweeps.{SweepsNothing, SweepsPool};
 ghost use Rattle.dg_session.specs.Verified.{IsOfFile, VerifiesFile};
 ghost use Rattle.dg_start.specs.SessionStart.{PlansLastLeaf, RefusesStart, Starts, start_bytes};
@@ -56,6 +57,7 @@ use crate::planning::{has_node, judge, plan_reply};
 use crate::queries::{neighbours_reply, node_reply};
 use crate::record_listing::tree_reply;
 use crate::retrieving::{handle_lines, leads_at, node_lead};
+use crate::session_fault::SessionFault;
 use crate::snapshot::{listing, span};
 use crate::stop::Stop;
 use dg_delta::Delta;
@@ -64,6 +66,7 @@ use dg_file::Index;
 use dg_graph::{Columns, Event, NAMES_MAX};
 use dg_handles::{Handles, law_tie_is_kept, law_union_of_handles};
 use dg_history::{ARITY_MAX, ARITY_MIN, LEAF_MAX, LEAF_MIN, NodeId, Params};
+use dg_index::law_images_are_opened;
 use dg_io::{Lines, Source};
 use dg_machine::{
     BodyLines, Command, HANDLE_MAX, Head, LIVE_HANDLES_MAX, Limits, Refusal, Reply, Stands,
@@ -74,7 +77,7 @@ use dg_pool::Pool;
 use dg_retrieval::{GraphLead, NodeLead, RetrievalFault, Retrieved};
 use dg_set::Set;
 use dg_sound::Soundness;
-use dg_sound_files::law_standing_files_are_sound;
+use dg_sound_files::{law_sound_files_stand, law_standing_files_are_sound};
 use dg_start::{OpenedFile, StartFault, StoredHistory, open};
 use dg_verify::{VerifyFault, verify};
 use dg_view::View;
@@ -140,10 +143,55 @@ impl Session {
     /// handle that may live. Where the file has no index yet, the session has none.
     ///
     /// It reads the directories, the recent pieces and the records along the plan of the last leaf, and nothing
-    /// else. `StartFault` says why there is none: the disk failed, the file is not one of an index, a segment, a
-    /// record that is read or a recent event is not right, or memory lacks. An image that stands for a history, or
-    /// for none, is refused only for the disk or for memory.
+    /// else. With `checked` it reads all records too, makes anew what the events determine, and compares the two: that
+    /// costs what loading all events anew costs, and all events and columns are in memory at once. A file that
+    /// passes stands for a history, or for none.
+    ///
+    /// `SessionFault` says why there is none: the disk failed, the file is not one of an index, a segment, a
+    /// record that is read or a recent event is not right, or memory lacks; with `checked` also that a record is not
+    /// what the file's own events determine. An image that stands for a history, or for none, is refused only for the
+    /// disk or for memory.
     pub fn start<R: Threads + Sync, D: Disk>(
+        rt: &R,
+        alloc: Global,
+        disk: &mut D,
+        checked: bool,
+        limits: Limits,
+    ) -> Result<Session, SessionFault>
+        requires limits { IsWithin limits }
+        // the session
+        ensures started { IfOk result (λ session. IfSome (D.image disk.old) (λ image.
+            Begins checked image (Ok (started_with session.parts.index session.parts.names session.parts.graph session.parts.recent)))) }
+        ensures new { IfOk result (λ session. IsNew limits session.parts) }
+        ensures stands { IfOk result (λ session. IfSome (D.image disk.old) (λ image. (index : Option History)
+            → StandsAs index image → StandsFor session.parts image (machine_at limits index))) }
+        ensures held { IfOk result (λ session. IfSome (D.image disk.new) (λ image. IsHeldBy session.parts.index session.parts.names image)) }
+        ensures checked { OnOk result (checked ≡ true → IfSome (D.image disk.old) (λ image. AreBytes image → IsStanding image)) }
+        // the bytes read, over an image of a history that is not checked
+        ensures takes { OnOk result (checked ≡ false → IfSome (D.image disk.old) (λ image. (z : History) → IsImageOf z image
+            → (steps : List ℕ) → PlansLastLeaf (opened_of z).index steps
+            → Takes (start_bytes (opened_of z).index steps) (D.taken disk.old) (D.taken disk.new))) }
+        // why there is none
+        ensures refused { IfErr result (λ fault. IfSome (D.image disk.old) (λ image. RefusesSession checked fault image)) }
+        ensures never { IfErr result (λ fault. IfSome (D.image disk.old) (λ image. (index : Option History)
+            → StandsAs index image → (fault ≡ SessionFault.Start StartFault.Disk) ⊎ (fault ≡ SessionFault.Start StartFault.Memory))) }
+        ensures cause { IsErrOf result (SessionFault.Start StartFault.Disk) → DiskRose (D.faults disk.old) (D.faults disk.new) }
+        // what it leaves
+        ensures disk { ReadsAndSyncs D.image D.faults D.write_faults disk.old disk.new }
+    {
+        law_images_are_opened();
+        law_standing_files_are_sound();
+        law_sound_files_stand();
+        let mut session = Session::begin(rt, alloc, disk, limits)?;
+        if !checked {
+            return Ok(session);
+        }
+        session.check(rt, disk)?;
+        Ok(session)
+    }
+
+    // A session that is not checked.
+    fn begin<R: Threads + Sync, D: Disk>(
         rt: &R,
         alloc: Global,
         disk: &mut D,
@@ -181,6 +229,26 @@ impl Session {
             adjacency: KeptAdjacency::new(),
             alloc,
         })
+    }
+
+    // Nothing where the file is what its own events determine, or there is no index, and else why not.
+    fn check<R: Threads, D: Disk>(&mut self, rt: &R, disk: &mut D) -> Result<(), SessionFault>
+        requires image { IfSome (D.image disk.old) (λ image. IsHeldBy self.old.parts.index self.old.parts.names image) }
+        ensures sound { OnOk result (IfSome (D.image disk.old) (λ image. IsSound image)) }
+        // why not
+        ensures fails { IfErr result (λ fault. IfSome (D.image disk.old) (λ image. FailsCheck fault image)) }
+        ensures cause { IsErrOf result (SessionFault.Start StartFault.Disk) → DiskRose (D.faults disk.old) (D.faults disk.new) }
+        // what it leaves
+        ensures same { self.new ≡ self.old }
+        ensures disk { OnlyReads D.image D.faults D.write_faults disk.old disk.new }
+    {
+        if !self.has_index() {
+            return Ok(());
+        }
+        match self.soundness(rt, disk)? {
+            Soundness::Sound(_) => Ok(()),
+            Soundness::Unsound(key, column) => Err(SessionFault::Unsound(key, column)),
+        }
     }
 
     /// The names of the history, by their numbers. Without an index there are none.
@@ -318,7 +386,7 @@ impl Session {
             Command::Plan { t, cols } => self.plan(t, cols),
             Command::Certify { t, cols, count } => self.certify(t, cols, count, lines, source),
             Command::Tree => self.tree(),
-            Command::Verify => self.verify(disk),
+            Command::Verify => self.verify(rt, disk),
             Command::Workload { seed, count } => self.workload(rt, seed, count, disk),
         }
     }
@@ -523,7 +591,7 @@ impl Session {
     }
 
     // Whether the file is what its own events determine, as the reply.
-    fn verify<D: Disk>(&mut self, disk: &mut D) -> Result<Reply, Halt>
+    fn verify<R: Threads, D: Disk>(&mut self, rt: &R, disk: &mut D) -> Result<Reply, Halt>
         requires image { IfSome (D.image disk.old) (λ image. IsHeldBy self.old.parts.index self.old.parts.names image) }
         ensures comes { ComesTo Command.Verify [] self.old.parts (D.image disk.old) self.new.parts (D.image disk.new) result }
         ensures no_stop { (stop : Stop) → result ≡ Err (Halt.Stop stop) → ⊥ }
@@ -535,12 +603,16 @@ impl Session {
     {
         law_standing_files_are_sound();
         let _ = self.index()?;
-        let soundness = self.soundness(disk)?;
+        let soundness = self.soundness(rt, disk)?;
         Ok(headed(self.alloc, Head::Verified(soundness)))
     }
 
     // Whether the file is what its own events determine.
-    fn soundness<D: Disk>(&mut self, disk: &mut D) -> Result<Soundness, VerifyFault>
+    fn soundness<R: Threads, D: Disk>(
+        &mut self,
+        rt: &R,
+        disk: &mut D,
+    ) -> Result<Soundness, VerifyFault>
         requires there { is_some self.old.parts.index ≡ true }
         requires image { IfSome (D.image disk.old) (λ image. IsHeldBy self.old.parts.index self.old.parts.names image) }
         ensures sound { IfOk result (λ soundness. IsOfFile self.old.parts (D.image disk.old) soundness) }
@@ -552,7 +624,7 @@ impl Session {
         let Some(index) = &mut self.history.index else {
             unreachable!()
         };
-        verify(self.alloc, index, disk, &self.history.names)
+        verify(rt, self.alloc, index, disk, &self.history.names)
     }
 
     // The index, or why nothing is asked of it.

@@ -1,6 +1,8 @@
 pub mod Outcomes
 pub mod LastTime
 pub mod Completions
+pub mod TestedEvents
+pub mod ExactOnes
 pub mod RecordsRead
 pub mod ReadLists
 pub mod ReadPieces

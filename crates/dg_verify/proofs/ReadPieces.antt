@@ -1,5 +1,5 @@
 -- How the pieces of an index are read or compared, one after another.
-use Rattle.std.proofs.Common.{◌≡◌, ℕ, zero, suc, ◌+◌, ◌≤◌, Bool, true, false, ◌&&◌, List, [], ◌∷◌, Option, Some, None, Result, Ok, Err, if◌then◌else◌, length, drop, take, slice_get, refl, sym, ◌∙◌, ap, arith}
+use Rattle.std.proofs.Common.{◌≡◌, ℕ, zero, suc, ◌+◌, ◌≤◌, Bool, true, false, ◌&&◌, List, [], ◌∷◌, Option, Some, None, Result, Ok, Err, if◌then◌else◌, length, drop, take, slice_get, refl, sym, ◌∙◌, ap, subst, arith}
 use Rattle.std.proofs.lemmas.List.{drop_all}
 use Rattle.std.proofs.lemmas.List.Sums.{sum_by-cons}
 use Rattle.dg_graph.specs.declared.element.Column.{Column}
@@ -10,12 +10,14 @@ use Rattle.dg_history.specs.declared.node.Key.{Key}
 use Rattle.dg_history.specs.declared.node.Key.TheVariants as key
 use Rattle.dg_index.specs.OpenedIndex.{Opened, Opening, events_in}
 use Rattle.dg_index.specs.declared.entry.BatchEntry.{BatchEntry}
-use Rattle.dg_sound.specs.OwnEvents.{and_then, has_batch_ends, if_columns, is_column_of, piece_length, piece_start, with_older, with_piece, with_pieces}
+use Rattle.dg_sound.specs.OwnEvents.{and_then, has_batch_ends, if_columns, is_column_of, listed_events, own_events, piece_length, piece_start, with_older, with_piece, with_pieces}
 use Rattle.dg_start.specs.Reading.{WhereTold}
+use Rattle.dg_verify.specs.declared.own_events.OwnEvents.{OwnEvents}
 use Rattle.dg_verify.specs.declared.stop.Stop.{Stop}
 use Rattle.dg_verify.specs.declared.stop.Stop.TheVariants as stop
+use Rattle.dg_verify.specs.Testing.{IsStopBehind, tested}
 use Rattle.dg_verify.specs.Verifying.{IsStop, IsWrong, keyed_column, opened_with, unlike}
-use Rattle.dg_verify.proofs.ReadLists.{stops_as, then_stops}
+use Rattle.dg_verify.proofs.TestedEvents.{stops_on, stops_so, tested_then, then_behind}
 
 from_here : (batches : List BatchEntry) (n : ℕ) (b : BatchEntry) → slice_get batches n ≡ Some b → drop n batches ≡ b ∷ drop (n + 1) batches
 from_here [] n b there = cc
@@ -23,45 +25,60 @@ from_here (x ∷ batches) zero b there = let e : x ≡ b = cc in ap (λ (t : Bat
 from_here (x ∷ batches) (suc n) b there =
     from_here batches n b there ∙ ap (λ (m : ℕ). b ∷ drop m (x ∷ batches)) (let e : suc (n + 1) ≡ suc n + 1 = omega arith in e)
 
--- All pieces are read as these events with the pieces from this one on, and so many events stand before its batch.
-pub record PiecesGoOn (told : Option (List ℕ)) (x : Opened) (listed : List Event) (number before : ℕ) (events : List Event) : Type 0 where
-  pub goes_on : WhereTold told (λ image. with_pieces image x listed 0 0 x.index.batches ≡ with_pieces image x events number before (drop number x.index.batches))
+-- All pieces are read as these events, tested, with the pieces from this one on, and so many events stand before its
+-- batch.
+pub record PiecesGoOn (told : Option (List ℕ)) (x : Opened) (listed : OwnEvents) (number before : ℕ) (own : OwnEvents) : Type 0 where
+  pub goes_on : WhereTold told (λ image. tested x.names listed (with_pieces image x listed.events.items 0 0 x.index.batches)
+      ≡ tested x.names own (with_pieces image x own.events.items number before (drop number x.index.batches)))
   pub counted : before + events_in (drop number x.index.batches) ≡ events_in x.index.batches
 
-module _ (told : Option (List ℕ)) (x : Opened) (listed : List Event) (number before : ℕ) (events : List Event) (b : BatchEntry)
-    (there : slice_get x.index.batches number ≡ Some b) (so_far : PiecesGoOn told x listed number before events) where
+module _ (told : Option (List ℕ)) (x : Opened) (listed : OwnEvents) (number before : ℕ) (own : OwnEvents) (b : BatchEntry)
+    (there : slice_get x.index.batches number ≡ Some b) (so_far : PiecesGoOn told x listed number before own) where
   here : drop number x.index.batches ≡ b ∷ drop (number + 1) x.index.batches
   here = from_here x.index.batches number b there
 
-  next_piece : (image : List ℕ) → told ≡ Some image → with_pieces image x listed 0 0 x.index.batches
-      ≡ and_then (with_piece image x events number before b) (λ events. with_pieces image x events (number + 1) (before + b.events) (drop (number + 1) x.index.batches))
-  next_piece image h = so_far.goes_on image h ∙ ap (with_pieces image x events number before) here
+  next_piece : (image : List ℕ) → told ≡ Some image → tested x.names listed (with_pieces image x listed.events.items 0 0 x.index.batches)
+      ≡ tested x.names own (and_then (with_piece image x own.events.items number before b) (λ events. with_pieces image x events (number + 1) (before + b.events) (drop (number + 1) x.index.batches)))
+  next_piece image h = so_far.goes_on image h ∙ ap (λ (bs : List BatchEntry). tested x.names own (with_pieces image x own.events.items number before bs)) here
 
-  pub one_pieced : (after : List Event) → WhereTold told (λ image. with_piece image x events number before b ≡ Ok after) → PiecesGoOn told x listed (number + 1) (before + b.events) after
-  one_pieced after read = record {
+  pub one_pieced : (after : OwnEvents) → WhereTold told (λ image. tested x.names own (with_piece image x own.events.items number before b) ≡ tested x.names after (Ok after.events.items))
+      → PiecesGoOn told x listed (number + 1) (before + b.events) after
+  one_pieced after pieced = record {
     goes_on = λ image h.
         next_piece image h
-        ∙ ap (λ r. and_then r (λ events. with_pieces image x events (number + 1) (before + b.events) (drop (number + 1) x.index.batches))) (read image h);
+        ∙ then_behind x.names own after (with_piece image x own.events.items number before b)
+        (λ events. with_pieces image x events (number + 1) (before + b.events) (drop (number + 1) x.index.batches)) (pieced image h);
     counted = omega (arith, so_far.counted, ap events_in here, sum_by-cons (λ (b : BatchEntry). b.events) b (drop (number + 1) x.index.batches));
   }
 
-  pub piece_stops : (s : Stop) → WhereTold told (λ image. IsStop s (with_piece image x events number before b)) → WhereTold told (λ image. IsStop s (with_pieces image x listed 0 0 x.index.batches))
-  piece_stops s stopped image h =
-      stops_as s (and_then (with_piece image x events number before b) (λ events. with_pieces image x events (number + 1) (before + b.events) (drop (number + 1) x.index.batches)))
-      (with_pieces image x listed 0 0 x.index.batches) (sym (next_piece image h))
-      (then_stops s (with_piece image x events number before b) (λ events. with_pieces image x events (number + 1) (before + b.events) (drop (number + 1) x.index.batches)) (stopped image h))
+  pub piece_stops : (s : Stop) (after : OwnEvents) → WhereTold told (λ image. IsStopBehind x.names after s (tested x.names own (with_piece image x own.events.items number before b)))
+      → WhereTold told (λ image. IsStopBehind x.names after s (tested x.names listed (with_pieces image x listed.events.items 0 0 x.index.batches)))
+  piece_stops s after stopped image h =
+      stops_so s x.names after
+      (tested x.names own (and_then (with_piece image x own.events.items number before b) (λ events. with_pieces image x events (number + 1) (before + b.events) (drop (number + 1) x.index.batches))))
+      (tested x.names listed (with_pieces image x listed.events.items 0 0 x.index.batches)) (sym (next_piece image h))
+      (stops_on s x.names own after (with_piece image x own.events.items number before b)
+      (λ events. with_pieces image x events (number + 1) (before + b.events) (drop (number + 1) x.index.batches)) (stopped image h))
 
-pub all_pieced : (told : Option (List ℕ)) (x : Opened) (listed : List Event) (number before : ℕ) (events : List Event) → length x.index.batches ≤ number → PiecesGoOn told x listed number before events
-    → WhereTold told (λ image. with_pieces image x listed 0 0 x.index.batches ≡ Ok events)
-all_pieced told x listed number before events past so_far image h =
-    so_far.goes_on image h ∙ ap (with_pieces image x events number before) (drop_all number x.index.batches past)
+pub all_pieced : (told : Option (List ℕ)) (x : Opened) (listed : OwnEvents) (number before : ℕ) (own : OwnEvents) → length x.index.batches ≤ number → PiecesGoOn told x listed number before own
+    → WhereTold told (λ image. tested x.names listed (with_pieces image x listed.events.items 0 0 x.index.batches) ≡ tested x.names own (Ok own.events.items))
+all_pieced told x listed number before own past so_far image h =
+    so_far.goes_on image h
+    ∙ ap (λ (bs : List BatchEntry). tested x.names own (with_pieces image x own.events.items number before bs)) (drop_all number x.index.batches past)
 
 -- how many events there are at last
-pub all_counted : (told : Option (List ℕ)) (x : Opened) (listed : List Event) (number before : ℕ) (events : List Event) → length x.index.batches ≤ number → PiecesGoOn told x listed number before events
+pub all_counted : (told : Option (List ℕ)) (x : Opened) (listed : OwnEvents) (number before : ℕ) (own : OwnEvents) → length x.index.batches ≤ number → PiecesGoOn told x listed number before own
     → before ≡ events_in x.index.batches
-all_counted told x listed number before events past so_far =
+all_counted told x listed number before own past so_far =
     let none : events_in (drop number x.index.batches) ≡ 0 = ap events_in (drop_all number x.index.batches past) in
     omega (arith, none, so_far.counted)
+
+-- the events of all lists, tested, with all pieces
+pub own_by_pieces : (image : List ℕ) (x : Opened) (own : OwnEvents) → listed_events image x ≡ tested x.names own (Ok own.events.items)
+    → own_events image x ≡ tested x.names own (with_pieces image x own.events.items 0 0 x.index.batches)
+own_by_pieces image x own listed =
+    ap (λ r. and_then r (λ events. with_pieces image x events 0 0 x.index.batches)) listed
+    ∙ tested_then x.names own (Ok own.events.items) (λ events. with_pieces image x events 0 0 x.index.batches)
 
 -- ---- an older piece
 
@@ -104,5 +121,5 @@ module _ (image : List ℕ) (o : Opening) (events piece : List Event) (number be
 
   pub older_stops : (s : Stop) → IsWrong s (keyed_column (key.Piece number) (unlike image o (key.Piece number) structure node_attrs edge_attrs)) → IsStop s (with_older image (opened_with o []) events number before b)
   older_stops s h =
-      stops_as s (as_result (key.Piece number) events (unlike image o (key.Piece number) structure node_attrs edge_attrs)) (with_older image (opened_with o []) events number before b) (sym as_compared)
+      subst (λ t. IsStop s t) (sym as_compared)
       (stops_result s (key.Piece number) events (unlike image o (key.Piece number) structure node_attrs edge_attrs) h)

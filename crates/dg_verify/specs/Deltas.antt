@@ -1,15 +1,30 @@
 -- How the tops and downs of an index are compared with those that are due: each kind by itself, in the order of the
 -- heights and nodes.
-use Rattle.std.specs.Prelude.{ℕ, Bool, true, false, List, [], ◌∷◌, Option, None, if◌then◌else◌}
+use Rattle.std.specs.Prelude.{◌≡◌, ℕ, Bool, true, false, List, [], ◌∷◌, Option, None, Result, IfErr, IfOk, if◌then◌else◌, length, map}
+use Rattle.dg_build.specs.declared.fault.BuildFault.{BuildFault}
+use Rattle.dg_build.specs.declared.fault.BuildFault.TheVariants.{Memory}
 use Rattle.dg_graph.specs.declared.element.Column.{Column}
+use Rattle.dg_graph.specs.declared.event.Event.{Event}
+use Rattle.dg_graph.specs.ExactEvents.{AreChangesOf}
 use Rattle.dg_history.specs.declared.node.Key.{Key}
 use Rattle.dg_history.specs.declared.node.Key.TheVariants as key
-use Rattle.dg_index.specs.FileOfHistory.{Stored}
+use Rattle.dg_history.specs.declared.params.Params.{Params}
+use Rattle.dg_index.specs.FileOfHistory.{Stored, stored}
+use Rattle.dg_index.specs.Hierarchy.{leaves}
+use Rattle.dg_index.specs.IndexRecords.{deltas_due, record_among}
 use Rattle.dg_index.specs.OpenedIndex.{Opening}
 use Rattle.dg_sound.specs.Soundness.{or_later}
 use Rattle.dg_verify.specs.declared.deltas.DeltaKind.{DeltaKind}
 use Rattle.dg_verify.specs.declared.deltas.DeltaKind.TheVariants as delta
+use Rattle.dg_verify.specs.declared.due_deltas.DueDeltas.{DueDeltas}
 use Rattle.dg_verify.specs.Verifying.{unlike}
+
+-- These tops and downs were made of the events. Where each of the events is exact after those before it, they are those
+-- that are due, and there are none only for want of memory.
+pub record AreMadeOf (params : Params) (events : List Event) (made : Result DueDeltas BuildFault) : Type 0 where
+  pub keys : IfOk made (λ due. due.keys.items ≡ deltas_due params.k 0 (leaves params (length events)))
+  pub deltas : IfOk made (λ due. AreChangesOf [] events → due.segment.deltas ≡ map (λ k. stored (record_among params events [] k)) due.keys.items)
+  pub fault : IfErr made (λ fault. AreChangesOf [] events → fault ≡ Memory)
 
 abbrev pub has_kind : DeltaKind → Key → Bool
 has_kind delta.Top (key.Top h) = true

@@ -1,3 +1,4 @@
 pub mod Stops
+pub mod Testing
 pub mod Verifying
 pub mod Deltas

@@ -1,16 +1,11 @@
 -- How an index file is verified: what is known of the events that were read, what a comparison finds, and what a stop
 -- says.
-use Rattle.std.specs.Prelude.{◌≡◌, ℕ, ◌*◌, List, [], Option, Some, None, Result, Ok, Err, bytes_eq, length, max, if◌then◌else◌}
-use Rattle.std.specs.List.{All}
-use Rattle.dg_columns.specs.NamesInRange.{NamesFit}
+use Rattle.std.specs.Prelude.{◌≡◌, ℕ, ◌*◌, List, Option, Some, None, Result, Ok, Err, bytes_eq, length, max, if◌then◌else◌}
 use Rattle.dg_graph.specs.declared.element.Column.{Column}
 use Rattle.dg_graph.specs.declared.element.Column.TheVariants as column
 use Rattle.dg_graph.specs.declared.event.Event.{Event}
-use Rattle.dg_graph.specs.Replay.{replay}
 use Rattle.dg_history.specs.declared.node.Key.{Key}
 use Rattle.dg_index.specs.OpenedIndex.{Opened, Opening, column_at, entry_at}
-use Rattle.dg_list.specs.NetLaws.{AreMadeByChanges}
-use Rattle.dg_now.specs.Now.{NowState}
 use Rattle.dg_sound.specs.declared.soundness.Soundness.{Soundness}
 use Rattle.dg_sound.specs.declared.soundness.Soundness.TheVariants.{Unsound}
 use Rattle.dg_sound.specs.OwnEvents.{list_total}
@@ -22,14 +17,6 @@ abbrev pub opened_with : Opening → List (List ℕ) → Opened
 opened_with o names = record { index = o; names = names }
 
 -- ---- what was read
-
--- Each of the events is what some change comes to after those before it, and can be spelled; the graph is that behind
--- them, and nothing is pending.
-pub record IsLed (events : List Event) (now : NowState) : Type 0 where
-  pub graph : now.graph ≡ replay events
-  pub pending : now.pending ≡ []
-  pub made : AreMadeByChanges [] events
-  pub fit : All (λ (e : Event). NamesFit e.body) events
 
 -- there are as many events as all lists have, or as stand before a batch, where these are more
 abbrev pub AreSoFar : Opening → ℕ → List Event → Type 0

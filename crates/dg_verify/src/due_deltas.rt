@@ -1,7 +1,8 @@
 //! The tops and downs that the events of a file determine.
 
-ghost use Rattle.std.specs.Prelude.{◌≡◌, ◌≤◌, ◌+◌, ◌-◌, [], IfOk, drop, length, map, take, true};
+ghost use Rattle.std.specs.Prelude.{◌≡◌, ◌≤◌, ◌+◌, ◌-◌, [], IfErr, IfOk, drop, length, map, take, true};
 ghost use Rattle.std.specs.List.{All};
+ghost use Rattle.dg_build.specs.declared.fault.BuildFault.TheVariants.{Memory};
 ghost use Rattle.dg_columns.specs.NamesInRange.{NamesFit};
 ghost use Rattle.dg_graph.specs.declared.event.Event.{Event};
 ghost use Rattle.dg_graph.specs.ExactEvents.{AreChangesOf};
@@ -48,22 +49,19 @@ fn delta_keys(alloc: Global, params: Params, events: u64) -> Result<Vec<Key>, Al
     Vec::from_slice(alloc, between(&keys, lists))
 }
 
-/// The tops and downs that the events determine. `AllocError` for want of memory.
-pub fn due_deltas(alloc: Global, params: Params, events: &[Event]) -> Result<DueDeltas, AllocError>
+/// The tops and downs that the events determine, where each is exact after those before it. For other events nothing is
+/// said of what is made. `BuildFault::Memory` for want of memory; `BuildFault::Wide` comes of other events alone.
+pub fn due_deltas(alloc: Global, params: Params, events: &[Event]) -> Result<DueDeltas, BuildFault>
     requires parameters { are_parameters params.l params.k ≡ true }
     requires few { length events.now ≤ EVENTS_MAX }
     requires fit { All (λ (e : Event). NamesFit e.body) events.now }
-    requires changes { AreChangesOf [] events.now }
     ensures keys { IfOk result (λ due. due.keys.items ≡ deltas_due params.k 0 (leaves params (length events.now))) }
-    ensures deltas { IfOk result (λ due. due.segment.deltas ≡ map (λ k. stored (record_among params events.now [] k)) due.keys.items) }
+    ensures deltas { IfOk result (λ due. AreChangesOf [] events.now → due.segment.deltas ≡ map (λ k. stored (record_among params events.now [] k)) due.keys.items) }
+    ensures fault { IfErr result (λ fault. AreChangesOf [] events.now → fault ≡ Memory) }
 {
     let count = events.len() as u64;
     let keys = delta_keys(alloc, params, count)?;
     let bare = Segment::new(alloc, count, first_time(events), last_time(events));
-    match build(alloc, params, 0, &[], events, &Set::new(alloc), &[], bare) {
-        Ok(segment) => Ok(DueDeltas { keys, segment }),
-        Err(BuildFault::Memory) => Err(AllocError),
-        // Such events lead to no delta that is too wide.
-        Err(BuildFault::Wide(_)) => unreachable!(),
-    }
+    let segment = build(alloc, params, 0, &[], events, &Set::new(alloc), &[], bare)?;
+    Ok(DueDeltas { keys, segment })
 }

@@ -7,7 +7,8 @@ ghost use Rattle.dg_history.specs.declared.node.Key.TheVariants as key;
 ghost use Rattle.dg_index.specs.OpenedIndex.{entry_at, opening};
 ghost use Rattle.dg_sound.specs.OwnEvents.{have_ends, list_total, listed_events, with_list};
 ghost use Rattle.dg_start.specs.Reading.{WhereTold};
-ghost use Rattle.dg_verify.specs.Verifying.{IsLed, IsStop, opened_with};
+ghost use Rattle.dg_verify.specs.Testing.{IsRead, IsStopBehind, tested};
+ghost use Rattle.dg_verify.specs.Verifying.{opened_with};
 
 use crate::own_events::OwnEvents;
 use crate::records::read_events;
@@ -45,15 +46,15 @@ fn add_list<D: Disk>(
 ) -> Result<(), Stop>
     requires closed { number < list_total index.old.opening }
     requires image { IfSome (D.image disk.old) (λ image. opening image ≡ Ok (opened_with index.old.opening names.now)) }
-    requires led { IsLed own.old.events.items own.old.graph }
+    requires read { IsRead own.old }
     // the events
-    ensures read { OnOk result (WhereTold (D.image disk.old)
-        (λ image. with_list image (opened_with index.old.opening names.now) own.old.events.items number ≡ Ok own.new.events.items)) }
-    ensures led { OnOk result (IsLed own.new.events.items own.new.graph) }
+    ensures listed { OnOk result (WhereTold (D.image disk.old)
+        (λ image. tested names.now own.old (with_list image (opened_with index.old.opening names.now) own.old.events.items number) ≡ tested names.now own.new (Ok own.new.events.items))) }
+    ensures read { OnOk result (IsRead own.new) }
     ensures many { OnOk result (length own.new.events.items ≡ length own.old.events.items + index.old.opening.params.l) }
     // why there are none
     ensures stopped { IfErr result (λ stop. WhereTold (D.image disk.old)
-        (λ image. IsStop stop (with_list image (opened_with index.old.opening names.now) own.old.events.items number))) }
+        (λ image. IsStopBehind names.now own.new stop (tested names.now own.old (with_list image (opened_with index.old.opening names.now) own.old.events.items number)))) }
     ensures cause { IsErrOf result Stop.Disk → Rose (D.faults disk.old) (D.faults disk.new) }
     // what it leaves
     ensures same { index.new ≡ index.old }
@@ -63,19 +64,18 @@ fn add_list<D: Disk>(
     let key = Key::List(number);
     let size = u64::from(index.params().l);
     let events = read_events(alloc, index, disk, names, key, size)?;
-    let are_timed = have_ends(index, number, &events);
-    let may_follow = own.add(names, &events)?;
-    if !are_timed || !may_follow {
+    own.add(key, &events)?;
+    if !have_ends(index, number, &events) {
         return Err(Stop::Wrong(key, Column::Structure));
     }
     Ok(())
 }
 
-/// Reads the events of all lists.
+/// Reads the events of all lists. Whether they may follow one another is not tested.
 ///
-/// `Stop::Wrong` for the first list that is not right: for its first column that no events are spelled as, or for
-/// structure where the columns do not come together to the events of a list, where these may not stand behind those
-/// before them, or where the list's times are others; `Stop::Disk` where the disk failed, `Stop::Memory` for want of
+/// `Stop::Wrong` for the first list that is not right by itself: for its first column that no events are spelled as,
+/// or for structure where the columns do not come together to the events of a list, or where the list's times are
+/// others; the events of the lists before it are read. `Stop::Disk` where the disk failed, `Stop::Memory` for want of
 /// memory.
 pub fn add_lists<D: Disk>(
     alloc: Global,
@@ -86,15 +86,15 @@ pub fn add_lists<D: Disk>(
 ) -> Result<(), Stop>
     requires none { own.old.events.items ≡ [] }
     requires image { IfSome (D.image disk.old) (λ image. opening image ≡ Ok (opened_with index.old.opening names.now)) }
-    requires led { IsLed own.old.events.items own.old.graph }
+    requires read { IsRead own.old }
     // the events
-    ensures read { OnOk result (WhereTold (D.image disk.old)
-        (λ image. listed_events image (opened_with index.old.opening names.now) ≡ Ok own.new.events.items)) }
-    ensures led { OnOk result (IsLed own.new.events.items own.new.graph) }
+    ensures listed { OnOk result (WhereTold (D.image disk.old)
+        (λ image. listed_events image (opened_with index.old.opening names.now) ≡ tested names.now own.new (Ok own.new.events.items))) }
+    ensures read { OnOk result (IsRead own.new) }
     ensures many { OnOk result (length own.new.events.items ≡ list_total index.old.opening * index.old.opening.params.l) }
     // why there are none
     ensures stopped { IfErr result (λ stop. WhereTold (D.image disk.old)
-        (λ image. IsStop stop (listed_events image (opened_with index.old.opening names.now)))) }
+        (λ image. IsStopBehind names.now own.new stop (listed_events image (opened_with index.old.opening names.now)))) }
     ensures cause { IsErrOf result Stop.Disk → Rose (D.faults disk.old) (D.faults disk.new) }
     // what it leaves
     ensures same { index.new ≡ index.old }

@@ -1,29 +1,38 @@
-//! The events that an index file holds of its own, as far as they were read.
+//! The events that an index file holds of its own, as far as they were read, and the test of them.
 
-ghost use Rattle.std.specs.Prelude.{◌≡◌, ◌++◌, ◌&&◌, [], true, IfOk, nat_le};
+ghost use Rattle.std.specs.Prelude.{◌≡◌, ◌++◌, ◌&&◌, [], Bool, List, Ok, OnOk, true, IfOk, nat_le, ℕ};
 ghost use Rattle.std.specs.List.{All};
 ghost use Rattle.dg_columns.specs.NamesInRange.{NamesFit};
 ghost use Rattle.dg_graph.specs.declared.event.Event.{Event};
 ghost use Rattle.dg_graph.specs.Completion.{completes};
 ghost use Rattle.dg_graph.specs.Effect.{forwards};
-ghost use Rattle.dg_graph.specs.Replay.{replay_from};
-ghost use Rattle.dg_sound.specs.OwnEvents.{are_completions, may_follow};
-ghost use Rattle.dg_verify.specs.Verifying.{IsLed};
+ghost use Rattle.dg_sound.specs.OwnEvents.{if_right, with_record};
+ghost use Rattle.dg_verify.specs.Testing.{IsRead, first_unfit, followed, key_at, tested};
 
-use crate::times::last_time;
 use dg_graph::Event;
+use dg_history::Key;
 use dg_names::Names;
 use dg_now::Now;
 use dg_start::has_key;
 use std::alloc::{AllocError, Global};
 
-/// The events that were read, each of which some change comes to after those before it, and the graph behind them.
+/// A record of events that was read.
+#[derive(Clone, Copy, Debug, PartialEq, Eq)]
+pub struct ReadRecord {
+    /// Its key.
+    pub key: Key,
+    /// How many events there are up to its last one.
+    pub end: usize,
+}
+
+/// The events that were read, and the records that they stand in. Whether they may follow one another is not tested
+/// yet.
 #[derive(Drop)]
 pub struct OwnEvents {
     /// The events.
     pub events: Vec<Event>,
-    /// The graph behind them.
-    pub graph: Now,
+    /// Their records, in the order of keys.
+    pub records: Vec<ReadRecord>,
 }
 
 // Takes the graph past the event, where some change comes to it there. Answers whether one does and the event is
@@ -41,54 +50,66 @@ fn follow(graph: &mut Now, names: &Names, earliest: u64, event: &Event) -> Resul
     Ok(is_followed && earliest <= event.time)
 }
 
-// Takes the graph past the events. Answers whether some change comes to each of them there, and none is earlier than
-// the time and than the one before it.
-fn are_completions(
-    graph: &mut Now,
-    names: &Names,
-    earliest: u64,
-    events: &[Event],
-) -> Result<bool, AllocError>
-    requires { graph.old.pending ≡ [] }
-    ensures right { IfOk result (λ right. right ≡ are_completions names.now graph.old.graph earliest events.now) }
-    ensures led { IfOk result (λ right. right ≡ true → graph.new.graph ≡ replay_from graph.old.graph events.now) }
-    ensures none { graph.new.pending ≡ [] }
+// How many of the events, from the first on, some change comes to after those before them, and are not earlier.
+fn followed(alloc: Global, names: &Names, events: &[Event]) -> Result<usize, AllocError>
+    ensures { IfOk result (λ count. count ≡ followed names.now [] 0 events.now) }
 {
-    let mut time = earliest;
-    for event in events {
-        let is_right = follow(graph, names, time, event)?;
+    let mut graph = Now::new(alloc);
+    let mut time = 0;
+    for (count, event) in events.iter().enumerate() {
+        let is_right = follow(&mut graph, names, time, event)?;
         if !is_right {
-            return Ok(false);
+            return Ok(count);
         }
         time = event.time;
     }
-    Ok(true)
+    Ok(events.len())
+}
+
+// The key of the record that the event of this index stands in.
+fn key_at(records: &[ReadRecord], index: usize) -> Option<Key>
+    ensures { result ≡ key_at records.now index }
+{
+    for read in records {
+        if index < read.end {
+            return Some(read.key);
+        }
+    }
+    None
 }
 
 impl OwnEvents {
     /// No events. Takes no memory yet.
     pub fn new(alloc: Global) -> OwnEvents
         ensures none { result.events.items ≡ [] }
-        ensures led { IsLed result.events.items result.graph }
+        ensures read { IsRead result }
     {
         OwnEvents {
             events: Vec::new(alloc),
-            graph: Now::new(alloc),
+            records: Vec::new(alloc),
         }
     }
 
-    /// Puts these events behind those that were read, and answers whether they may stand there. Where they may not,
-    /// nothing is known of what was read.
-    pub fn add(&mut self, names: &Names, events: &[Event]) -> Result<bool, AllocError>
-        requires led { IsLed self.old.events.items self.old.graph }
+    /// Puts the events of this record behind those that were read.
+    pub fn add(&mut self, key: Key, events: &[Event]) -> Result<(), AllocError>
+        requires read { IsRead self.old }
         requires fit { All (λ (e : Event). NamesFit e.body) events.now }
-        ensures may { IfOk result (λ may. may ≡ may_follow names.now self.old.events.items events.now) }
-        ensures added { IfOk result (λ may. may ≡ true → self.new.events.items ≡ self.old.events.items ++ events.now) }
-        ensures led { IfOk result (λ may. may ≡ true → IsLed self.new.events.items self.new.graph) }
+        ensures added { OnOk result (self.new.events.items ≡ self.old.events.items ++ events.now) }
+        ensures read { OnOk result (IsRead self.new) }
+        ensures behind { OnOk result ((names : List (List ℕ)) → (right : List Event → Bool) → tested names self.old (with_record names key right self.old.events.items (Ok events.now)) ≡ tested names self.new (if_right (right events.now) key self.new.events.items)) }
     {
-        let earliest = last_time(&self.events);
-        let may_follow = are_completions(&mut self.graph, names, earliest, events)?;
         self.events.extend_from_slice(events)?;
-        Ok(may_follow)
+        let end = self.events.len();
+        self.records.push(ReadRecord { key, end })?;
+        Ok(())
+    }
+
+    /// The record of the first event that may not stand behind those before it: that no change comes to there, or that
+    /// is earlier.
+    pub fn first_unfit(&self, alloc: Global, names: &Names) -> Result<Option<Key>, AllocError>
+        ensures { IfOk result (λ key. key ≡ first_unfit names.now self.now) }
+    {
+        let count = followed(alloc, names, &self.events)?;
+        Ok(key_at(&self.records, count))
     }
 }

@@ -11,7 +11,8 @@ ghost use Rattle.dg_history.specs.declared.limits.TheConstants.{EVENTS_MAX};
 ghost use Rattle.dg_index.specs.OpenedIndex.{events_in, opening};
 ghost use Rattle.dg_sound.specs.OwnEvents.{has_batch_ends, is_recent, list_total, piece_length, piece_start, with_older, with_piece, with_pieces, with_recent};
 ghost use Rattle.dg_start.specs.Reading.{WhereTold};
-ghost use Rattle.dg_verify.specs.Verifying.{AreSoFar, IsLed, IsStop, opened_with};
+ghost use Rattle.dg_verify.specs.Testing.{IsRead, IsStopBehind, tested};
+ghost use Rattle.dg_verify.specs.Verifying.{AreSoFar, IsStop, opened_with};
 
 use crate::own_events::OwnEvents;
 use crate::records::{compare_columns, read_events};
@@ -123,13 +124,13 @@ fn add_recent<D: Disk>(
     requires there { slice_get index.old.opening.batches number ≡ Some batch }
     requires few { before + batch.events ≤ events_in index.old.opening.batches }
     requires image { IfSome (D.image disk.old) (λ image. opening image ≡ Ok (opened_with index.old.opening names.now)) }
-    requires led { IsLed own.old.events.items own.old.graph }
-    ensures read { OnOk result (WhereTold (D.image disk.old)
-        (λ image. with_recent image (opened_with index.old.opening names.now) own.old.events.items number before batch ≡ Ok own.new.events.items)) }
-    ensures led { OnOk result (IsLed own.new.events.items own.new.graph) }
+    requires read { IsRead own.old }
+    ensures pieced { OnOk result (WhereTold (D.image disk.old)
+        (λ image. tested names.now own.old (with_recent image (opened_with index.old.opening names.now) own.old.events.items number before batch) ≡ tested names.now own.new (Ok own.new.events.items))) }
+    ensures read { OnOk result (IsRead own.new) }
     ensures many { OnOk result (length own.new.events.items ≡ length own.old.events.items + piece_length index.old.opening before batch) }
     ensures stopped { IfErr result (λ stop. WhereTold (D.image disk.old)
-        (λ image. IsStop stop (with_recent image (opened_with index.old.opening names.now) own.old.events.items number before batch))) }
+        (λ image. IsStopBehind names.now own.new stop (tested names.now own.old (with_recent image (opened_with index.old.opening names.now) own.old.events.items number before batch)))) }
     ensures cause { IsErrOf result Stop.Disk → Rose (D.faults disk.old) (D.faults disk.new) }
     // what it leaves
     ensures same { index.new ≡ index.old }
@@ -139,8 +140,8 @@ fn add_recent<D: Disk>(
     let key = Key::Piece(number);
     let Span { count, .. } = span_of(index, before, batch);
     let events = read_events(alloc, index, disk, names, key, count)?;
-    let may_follow = own.add(names, &events)?;
-    if !may_follow || !has_batch_ends(before, batch, &own.events) {
+    own.add(key, &events)?;
+    if !has_batch_ends(before, batch, &own.events) {
         return Err(Stop::Wrong(key, Column::Structure));
     }
     Ok(())
@@ -160,14 +161,14 @@ fn add_piece<D: Disk>(
     requires there { slice_get index.old.opening.batches number ≡ Some batch }
     requires few { before + batch.events ≤ events_in index.old.opening.batches }
     requires image { IfSome (D.image disk.old) (λ image. opening image ≡ Ok (opened_with index.old.opening names.now)) }
-    requires led { IsLed own.old.events.items own.old.graph }
+    requires read { IsRead own.old }
     requires so_far { AreSoFar index.old.opening before own.old.events.items }
-    ensures read { OnOk result (WhereTold (D.image disk.old)
-        (λ image. with_piece image (opened_with index.old.opening names.now) own.old.events.items number before batch ≡ Ok own.new.events.items)) }
-    ensures led { OnOk result (IsLed own.new.events.items own.new.graph) }
+    ensures pieced { OnOk result (WhereTold (D.image disk.old)
+        (λ image. tested names.now own.old (with_piece image (opened_with index.old.opening names.now) own.old.events.items number before batch) ≡ tested names.now own.new (Ok own.new.events.items))) }
+    ensures read { OnOk result (IsRead own.new) }
     ensures so_far { OnOk result (AreSoFar index.old.opening (before + batch.events) own.new.events.items) }
     ensures stopped { IfErr result (λ stop. WhereTold (D.image disk.old)
-        (λ image. IsStop stop (with_piece image (opened_with index.old.opening names.now) own.old.events.items number before batch))) }
+        (λ image. IsStopBehind names.now own.new stop (tested names.now own.old (with_piece image (opened_with index.old.opening names.now) own.old.events.items number before batch)))) }
     ensures cause { IsErrOf result Stop.Disk → Rose (D.faults disk.old) (D.faults disk.new) }
     // what it leaves
     ensures same { index.new ≡ index.old }
@@ -182,11 +183,11 @@ fn add_piece<D: Disk>(
 }
 
 /// Reads the events of all recent pieces behind those of all lists, and compares each older piece with the events of
-/// its batch.
+/// its batch. Whether the events may follow one another is not tested.
 ///
-/// `Stop::Wrong` for the first piece that is not right: an older one for its first column that is another, or for
-/// structure where the batch's times are others, and a recent one as a list; `Stop::Disk` where the disk failed,
-/// `Stop::Memory` for want of memory.
+/// `Stop::Wrong` for the first piece that is not right by itself: an older one for its first column that is another, or
+/// for structure where the batch's times are others, and a recent one as a list; the events before it are read.
+/// `Stop::Disk` where the disk failed, `Stop::Memory` for want of memory.
 pub fn add_pieces<D: Disk>(
     alloc: Global,
     index: &mut Index,
@@ -195,16 +196,16 @@ pub fn add_pieces<D: Disk>(
     own: &mut OwnEvents,
 ) -> Result<(), Stop>
     requires image { IfSome (D.image disk.old) (λ image. opening image ≡ Ok (opened_with index.old.opening names.now)) }
-    requires led { IsLed own.old.events.items own.old.graph }
+    requires read { IsRead own.old }
     requires so_far { AreSoFar index.old.opening 0 own.old.events.items }
     // the events
-    ensures read { OnOk result (WhereTold (D.image disk.old)
-        (λ image. with_pieces image (opened_with index.old.opening names.now) own.old.events.items 0 0 index.old.opening.batches ≡ Ok own.new.events.items)) }
-    ensures led { OnOk result (IsLed own.new.events.items own.new.graph) }
+    ensures pieced { OnOk result (WhereTold (D.image disk.old)
+        (λ image. tested names.now own.old (with_pieces image (opened_with index.old.opening names.now) own.old.events.items 0 0 index.old.opening.batches) ≡ tested names.now own.new (Ok own.new.events.items))) }
+    ensures read { OnOk result (IsRead own.new) }
     ensures many { OnOk result (length own.new.events.items ≡ events_in index.old.opening.batches) }
     // why there are none
     ensures stopped { IfErr result (λ stop. WhereTold (D.image disk.old)
-        (λ image. IsStop stop (with_pieces image (opened_with index.old.opening names.now) own.old.events.items 0 0 index.old.opening.batches))) }
+        (λ image. IsStopBehind names.now own.new stop (tested names.now own.old (with_pieces image (opened_with index.old.opening names.now) own.old.events.items 0 0 index.old.opening.batches)))) }
     ensures cause { IsErrOf result Stop.Disk → Rose (D.faults disk.old) (D.faults disk.new) }
     // what it leaves
     ensures same { index.new ≡ index.old }

@@ -1,8 +1,12 @@
-use Rattle.std.proofs.Common.{sym, ◌∙◌}
-use Rattle.deltagraph.proofs.Promises.{wrong_words}
+use Rattle.deltagraph.proofs.Promises.{bad_words, unread_words}
 use Rattle.deltagraph.proofs.serve.serve_with.Goals as goal
 
-pub returns-then-not-are_written : goal.returns-then-not-are_written
-returns-then-not-are_written g c = record {
-  promise = wrong_words c.args.limits _ _ (sym c.are_written.ensures ∙ c.if-not-are_written.true);
+pub returns-in-Ok-None : goal.returns-in-Ok-None
+returns-in-Ok-None g c = record {
+  promise = bad_words c.args.limits _ _ _ (rw c.in-Ok-None.field-0-is at c.in-Ok-None.ensures.read);
+}
+
+pub returns-in-Err : goal.returns-in-Err
+returns-in-Err g c = record {
+  promise = unread_words c.args.limits _ _ _;
 }

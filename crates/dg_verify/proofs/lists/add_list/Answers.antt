@@ -6,10 +6,12 @@ use Rattle.dg_sound.specs.OwnEvents.{events_at, have_ends, with_list}
 use Rattle.dg_start.specs.Reading.{WhereTold}
 use Rattle.dg_start.proofs.Told.{err_is}
 use Rattle.dg_verify.specs.declared.stop.Stop.{Stop}
+use Rattle.dg_verify.specs.Testing.{IsStopBehind, tested}
 use Rattle.dg_verify.specs.Verifying.{IsStop, keyed, opened_with}
 use Rattle.dg_verify.proofs.Parameters.{in_range}
 use Rattle.dg_verify.proofs.ReadLists.{list_held}
 use Rattle.dg_verify.proofs.RecordsRead.{record_stops}
+use Rattle.dg_verify.proofs.TestedEvents.{stops_behind}
 use Rattle.dg_verify.proofs.lists.add_list.Goals as goal
 
 pub read_events-requires-clause-held : goal.read_events-requires-clause-held
@@ -25,7 +27,9 @@ returns-in_err-events-clause-stopped g c =
     let k = key.List c.args.number in
     let s : Stop = c.in_err-events.field-0.0 in
     err_is c.from_residual.result s
-    (λ (s : Stop). WhereTold (g.D.Disk.image c.args.disk.now) (λ image. IsStop s (with_list image x c.args.own.now.events.items c.args.number)))
+    (λ (s : Stop). WhereTold (g.D.Disk.image c.args.disk.now)
+    (λ image. IsStopBehind c.args.names.now c.args.own.now s (tested c.args.names.now c.args.own.now (with_list image x c.args.own.now.events.items c.args.number))))
     c.from_residual.ensures
-    (λ image h. record_stops s c.args.names.now k (have_ends (entry_at o k).ends) c.args.own.now.events.items (events_at image x k o.params.l)
-    (subst (λ (n : ℕ). IsStop s (keyed k (events_at image x k n))) (c.from-size.ensures ∙ ap (λ (p : Params). p.l) c.params.ensures) (c.in_err-events.ensures.stopped image h)))
+    (λ image h. stops_behind s c.args.names.now c.args.own.now (with_list image x c.args.own.now.events.items c.args.number)
+    (record_stops s c.args.names.now k (have_ends (entry_at o k).ends) c.args.own.now.events.items (events_at image x k o.params.l)
+    (subst (λ (n : ℕ). IsStop s (keyed k (events_at image x k n))) (c.from-size.ensures ∙ ap (λ (p : Params). p.l) c.params.ensures) (c.in_err-events.ensures.stopped image h))))

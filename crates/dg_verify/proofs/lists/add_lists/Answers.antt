@@ -6,7 +6,8 @@ use Rattle.dg_sound.specs.OwnEvents.{listed_events, with_list}
 use Rattle.dg_start.specs.Reading.{WhereTold}
 use Rattle.dg_start.proofs.Told.{err_is, said_before}
 use Rattle.dg_verify.specs.declared.stop.Stop.{Stop}
-use Rattle.dg_verify.specs.Verifying.{IsStop, opened_with}
+use Rattle.dg_verify.specs.Testing.{IsStopBehind, tested}
+use Rattle.dg_verify.specs.Verifying.{opened_with}
 use Rattle.dg_verify.proofs.ReadLists.{all_listed, list_stops, many_more, one_listed}
 use Rattle.dg_verify.proofs.lists.add_lists.Goals as goal
 
@@ -16,10 +17,11 @@ returns-in_err-add_list-clause-stopped g c =
     let told = g.D.Disk.image c.args.disk.now in
     let x = opened_with o c.args.names.now in
     let s : Stop = c.in_err-add_list.field-0.0 in
-    err_is c.from_residual.result s (λ (s : Stop). WhereTold told (λ image. IsStop s (listed_events image x))) c.from_residual.ensures
-    (list_stops told x c.leaves-total.result c.loop-number.number c.loop-number-test.true c.loop-number.own.events.items c.loop-number.invariant.so_far s
+    err_is c.from_residual.result s (λ (s : Stop). WhereTold told (λ image. IsStopBehind c.args.names.now c.add_list.new.own s (listed_events image x))) c.from_residual.ensures
+    (list_stops told x c.leaves-total.result c.loop-number.number c.loop-number-test.true c.loop-number.own c.loop-number.invariant.so_far s c.add_list.new.own
     (said_before (g.D.Disk.image c.loop-number.disk) told c.loop-number.index.opening o
-    (λ image p. IsStop s (with_list image (opened_with p c.args.names.now) c.loop-number.own.events.items c.loop-number.number))
+    (λ image p. IsStopBehind c.args.names.now c.add_list.new.own s
+    (tested c.args.names.now c.loop-number.own (with_list image (opened_with p c.args.names.now) c.loop-number.own.events.items c.loop-number.number)))
     c.loop-number.invariant.frame.same_image (ap (λ (i : IndexState). i.opening) c.loop-number.invariant.same) c.in_err-add_list.ensures.stopped))
 
 pub loop-number-preserved : goal.loop-number-preserved
@@ -35,16 +37,17 @@ loop-number-preserved g c =
         counted = omega (arith, c.add_list.ensures.disk.counted, c.loop-number.invariant.frame.counted);
         no_write_failed = c.add_list.ensures.disk.no_write_failed ∙ c.loop-number.invariant.frame.no_write_failed;
       };
-      led = c.in_ok-add_list.ensures.led;
+      read = c.in_ok-add_list.ensures.read;
       many = many_more c.loop-number.number o.params.l _ _ c.loop-number.invariant.many (c.in_ok-add_list.ensures.many ∙ (λ j. length c.loop-number.own.events.items + (same_opening j).params.l));
       so_far =
-          one_listed told x c.leaves-total.result c.loop-number.number c.loop-number-test.true c.loop-number.own.events.items c.loop-number.invariant.so_far c.add_list.new.own.events.items
+          one_listed told x c.leaves-total.result c.loop-number.number c.loop-number-test.true c.loop-number.own c.loop-number.invariant.so_far c.add_list.new.own
           (said_before (g.D.Disk.image c.loop-number.disk) told c.loop-number.index.opening o
-          (λ image p. with_list image (opened_with p c.args.names.now) c.loop-number.own.events.items c.loop-number.number ≡ Ok c.add_list.new.own.events.items)
-          c.loop-number.invariant.frame.same_image same_opening c.in_ok-add_list.ensures.read);
+          (λ image p. tested c.args.names.now c.loop-number.own (with_list image (opened_with p c.args.names.now) c.loop-number.own.events.items c.loop-number.number)
+          ≡ tested c.args.names.now c.add_list.new.own (Ok c.add_list.new.own.events.items))
+          c.loop-number.invariant.frame.same_image same_opening c.in_ok-add_list.ensures.listed);
     }
 
-pub returns-clause-read : goal.returns-clause-read
-returns-clause-read g c =
-    all_listed (g.D.Disk.image c.args.disk.now) (opened_with c.args.index.now.opening c.args.names.now) c.leaves-total.result c.loop-number.number c.loop-number.own.events.items
+pub returns-clause-listed : goal.returns-clause-listed
+returns-clause-listed g c =
+    all_listed (g.D.Disk.image c.args.disk.now) (opened_with c.args.index.now.opening c.args.names.now) c.leaves-total.result c.loop-number.number c.loop-number.own
     (let past = c.loop-number-test.false in omega (arith, past)) c.loop-number.invariant.so_far

@@ -1,6 +1,7 @@
 use Rattle.std.proofs.Common.{◌≡◌, ◌*◌, length}
 use Rattle.dg_disk.specs.Frame.{OnlyReads}
-use Rattle.dg_verify.specs.Verifying.{IsLed, opened_with}
+use Rattle.dg_verify.specs.Testing.{IsRead}
+use Rattle.dg_verify.specs.Verifying.{opened_with}
 use Rattle.dg_verify.proofs.ReadLists.{ListsGoOn}
 use Rattle.dg_verify.proofs.lists.add_lists.Given as goal
 
@@ -8,7 +9,7 @@ abbrev pub invariant-loop-number : goal.invariant-loop-number
 invariant-loop-number g l = record {
   same : l.index ≡ l.fn.index;
   frame : OnlyReads g.D.Disk.image g.D.Disk.faults g.D.Disk.write_faults l.fn.disk l.disk;
-  led : IsLed l.own.events.items l.own.graph;
+  read : IsRead l.own;
   many : length l.own.events.items ≡ l.number * l.fn.index.opening.params.l;
-  so_far : ListsGoOn (g.D.Disk.image l.fn.disk) (opened_with l.fn.index.opening l.names) l.total l.number l.own.events.items;
+  so_far : ListsGoOn (g.D.Disk.image l.fn.disk) (opened_with l.fn.index.opening l.names) l.total l.number l.own;
 }

@@ -6,7 +6,8 @@ use Rattle.dg_start.specs.Reading.{WhereTold}
 use Rattle.dg_start.proofs.EventSources.{batch_there, batch_within, none_left}
 use Rattle.dg_start.proofs.Told.{err_is, said_before}
 use Rattle.dg_verify.specs.declared.stop.Stop.{Stop}
-use Rattle.dg_verify.specs.Verifying.{AreSoFar, IsStop, opened_with}
+use Rattle.dg_verify.specs.Testing.{IsStopBehind, tested}
+use Rattle.dg_verify.specs.Verifying.{AreSoFar, opened_with}
 use Rattle.dg_verify.proofs.Parameters.{all_count, in_range}
 use Rattle.dg_verify.proofs.ReadPieces.{all_counted, all_pieced, one_pieced, piece_stops}
 use Rattle.dg_verify.proofs.pieces.add_pieces.Goals as goal
@@ -27,10 +28,13 @@ returns-in_err-add_piece-clause-stopped g c =
     let s : Stop = c.in_err-add_piece.field-0.0 in
     let same : c.loop-batch.index.opening ≡ o = ap (λ (i : IndexState). i.opening) c.loop-batch.invariant.same in
     let there : slice_get o.batches c.loop-batch.number ≡ Some c.in-Some.batch = ap (λ (p : Opening). slice_get p.batches c.loop-batch.number) (sym same) ∙ sym c.batch.ensures ∙ c.in-Some.is in
-    err_is c.from_residual.result s (λ (s : Stop). WhereTold told (λ image. IsStop s (with_pieces image x c.args.own.now.events.items 0 0 o.batches))) c.from_residual.ensures
-    (piece_stops told x c.args.own.now.events.items c.loop-batch.number c.loop-batch.before c.loop-batch.own.events.items c.in-Some.batch there c.loop-batch.invariant.so_far s
+    err_is c.from_residual.result s
+    (λ (s : Stop). WhereTold told (λ image. IsStopBehind c.args.names.now c.add_piece.new.own s (tested c.args.names.now c.args.own.now (with_pieces image x c.args.own.now.events.items 0 0 o.batches))))
+    c.from_residual.ensures
+    (piece_stops told x c.args.own.now c.loop-batch.number c.loop-batch.before c.loop-batch.own c.in-Some.batch there c.loop-batch.invariant.so_far s c.add_piece.new.own
     (said_before (g.D.Disk.image c.loop-batch.disk) told c.loop-batch.index.opening o
-    (λ image p. IsStop s (with_piece image (opened_with p c.args.names.now) c.loop-batch.own.events.items c.loop-batch.number c.loop-batch.before c.in-Some.batch))
+    (λ image p. IsStopBehind c.args.names.now c.add_piece.new.own s
+    (tested c.args.names.now c.loop-batch.own (with_piece image (opened_with p c.args.names.now) c.loop-batch.own.events.items c.loop-batch.number c.loop-batch.before c.in-Some.batch)))
     c.loop-batch.invariant.frame.same_image same c.in_err-add_piece.ensures.stopped))
 
 pub overflow_add-number : goal.overflow_add-number
@@ -64,20 +68,22 @@ loop-batch-preserved g c =
         counted = omega (arith, c.add_piece.ensures.disk.counted, c.loop-batch.invariant.frame.counted);
         no_write_failed = c.add_piece.ensures.disk.no_write_failed ∙ c.loop-batch.invariant.frame.no_write_failed;
       };
-      led = c.in_ok-add_piece.ensures.led;
+      read = c.in_ok-add_piece.ensures.read;
       many = subst (λ (p : Opening). AreSoFar p (c.loop-batch.before + c.in-Some.batch.events) c.add_piece.new.own.events.items) same c.in_ok-add_piece.ensures.so_far;
       so_far =
-          one_pieced told x c.args.own.now.events.items c.loop-batch.number c.loop-batch.before c.loop-batch.own.events.items c.in-Some.batch there c.loop-batch.invariant.so_far c.add_piece.new.own.events.items
+          one_pieced told x c.args.own.now c.loop-batch.number c.loop-batch.before c.loop-batch.own c.in-Some.batch there c.loop-batch.invariant.so_far c.add_piece.new.own
           (said_before (g.D.Disk.image c.loop-batch.disk) told c.loop-batch.index.opening o
-          (λ image p. with_piece image (opened_with p c.args.names.now) c.loop-batch.own.events.items c.loop-batch.number c.loop-batch.before c.in-Some.batch ≡ Ok c.add_piece.new.own.events.items)
-          c.loop-batch.invariant.frame.same_image same c.in_ok-add_piece.ensures.read);
+          (λ image p. tested c.args.names.now c.loop-batch.own
+          (with_piece image (opened_with p c.args.names.now) c.loop-batch.own.events.items c.loop-batch.number c.loop-batch.before c.in-Some.batch)
+          ≡ tested c.args.names.now c.add_piece.new.own (Ok c.add_piece.new.own.events.items))
+          c.loop-batch.invariant.frame.same_image same c.in_ok-add_piece.ensures.pieced);
     }
 
-pub returns-clause-read : goal.returns-clause-read
-returns-clause-read g c =
+pub returns-clause-pieced : goal.returns-clause-pieced
+returns-clause-pieced g c =
     let o : Opening = c.args.index.now.opening in
     let same : c.loop-batch.index.opening ≡ o = ap (λ (i : IndexState). i.opening) c.loop-batch.invariant.same in
-    all_pieced (g.D.Disk.image c.args.disk.now) (opened_with o c.args.names.now) c.args.own.now.events.items c.loop-batch.number c.loop-batch.before c.loop-batch.own.events.items
+    all_pieced (g.D.Disk.image c.args.disk.now) (opened_with o c.args.names.now) c.args.own.now c.loop-batch.number c.loop-batch.before c.loop-batch.own
     (none_left o.batches c.loop-batch.number (ap (λ (p : Opening). slice_get p.batches c.loop-batch.number) (sym same) ∙ sym c.batch.ensures ∙ c.in_default.is)) c.loop-batch.invariant.so_far
 
 pub returns-clause-many : goal.returns-clause-many
@@ -86,6 +92,6 @@ returns-clause-many g c =
     let range = in_range o.params.l o.params.k c.facts.ensures.parameters in
     let same : c.loop-batch.index.opening ≡ o = ap (λ (i : IndexState). i.opening) c.loop-batch.invariant.same in
     all_count o c.loop-batch.before (length c.loop-batch.own.events.items) range.some
-    (all_counted (g.D.Disk.image c.args.disk.now) (opened_with o c.args.names.now) c.args.own.now.events.items c.loop-batch.number c.loop-batch.before c.loop-batch.own.events.items
+    (all_counted (g.D.Disk.image c.args.disk.now) (opened_with o c.args.names.now) c.args.own.now c.loop-batch.number c.loop-batch.before c.loop-batch.own
     (none_left o.batches c.loop-batch.number (ap (λ (p : Opening). slice_get p.batches c.loop-batch.number) (sym same) ∙ sym c.batch.ensures ∙ c.in_default.is)) c.loop-batch.invariant.so_far)
     c.loop-batch.invariant.many

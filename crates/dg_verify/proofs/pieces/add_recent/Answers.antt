@@ -1,4 +1,4 @@
-use Rattle.std.proofs.Common.{ℕ, List, subst, ◌++◌}
+use Rattle.std.proofs.Common.{◌≡◌, ℕ, true, false, List, Ok, sym, ◌∙◌, ap, subst, ◌++◌}
 use Rattle.dg_graph.specs.declared.event.Event.{Event}
 use Rattle.dg_history.specs.declared.node.Key.TheVariants as key
 use Rattle.dg_sound.specs.OwnEvents.{events_at, has_batch_ends, piece_length, with_recent}
@@ -6,8 +6,10 @@ use Rattle.dg_start.specs.Reading.{WhereTold}
 use Rattle.dg_start.proofs.EventSources.{batch_there, piece_held}
 use Rattle.dg_start.proofs.Told.{err_is}
 use Rattle.dg_verify.specs.declared.stop.Stop.{Stop}
+use Rattle.dg_verify.specs.Testing.{IsStopBehind, tested}
 use Rattle.dg_verify.specs.Verifying.{IsStop, keyed, opened_with}
 use Rattle.dg_verify.proofs.RecordsRead.{record_stops}
+use Rattle.dg_verify.proofs.TestedEvents.{read_behind, stops_behind}
 use Rattle.dg_verify.proofs.pieces.add_recent.Goals as goal
 
 pub read_events-requires-clause-held : goal.read_events-requires-clause-held
@@ -23,7 +25,33 @@ returns-in_err-events-clause-stopped g c =
     let s : Stop = c.in_err-events.field-0.0 in
     let own : List Event = c.args.own.now.events.items in
     err_is c.from_residual.result s
-    (λ (s : Stop). WhereTold (g.D.Disk.image c.args.disk.now) (λ image. IsStop s (with_recent image x own c.args.number c.args.before c.args.batch)))
+    (λ (s : Stop). WhereTold (g.D.Disk.image c.args.disk.now)
+    (λ image. IsStopBehind c.args.names.now c.args.own.now s (tested c.args.names.now c.args.own.now (with_recent image x own c.args.number c.args.before c.args.batch))))
     c.from_residual.ensures
-    (λ image h. record_stops s c.args.names.now k (λ events. has_batch_ends c.args.before c.args.batch (own ++ events)) own (events_at image x k (piece_length o c.args.before c.args.batch))
-    (subst (λ (n : ℕ). IsStop s (keyed k (events_at image x k n))) c.span_of-count.ensures.count (c.in_err-events.ensures.stopped image h)))
+    (λ image h. stops_behind s c.args.names.now c.args.own.now (with_recent image x own c.args.number c.args.before c.args.batch)
+    (record_stops s c.args.names.now k (λ events. has_batch_ends c.args.before c.args.batch (own ++ events)) own (events_at image x k (piece_length o c.args.before c.args.batch))
+    (subst (λ (n : ℕ). IsStop s (keyed k (events_at image x k n))) c.span_of-count.ensures.count (c.in_err-events.ensures.stopped image h))))
+
+pub returns-then-not-has_batch_ends-clause-stopped : goal.returns-then-not-has_batch_ends-clause-stopped
+returns-then-not-has_batch_ends-clause-stopped g c image h =
+    let o = c.args.index.now.opening in
+    let x = opened_with o c.args.names.now in
+    let k = key.Piece c.args.number in
+    let own : List Event = c.args.own.now.events.items in
+    read_behind c.args.names.now c.args.own.now c.add.new.self k (λ events. has_batch_ends c.args.before c.args.batch (own ++ events)) c.deref.result.now
+    (events_at image x k (piece_length o c.args.before c.args.batch)) false
+    (subst (λ (n : ℕ). events_at image x k n ≡ Ok c.deref.result.now) c.span_of-count.ensures.count (c.in_ok-events.ensures.read image h ∙ ap (λ (es : List Event). Ok es) (sym c.deref.ensures.value)))
+    (c.in_ok-add.ensures.behind c.args.names.now (λ events. has_batch_ends c.args.before c.args.batch (own ++ events)))
+    (ap (has_batch_ends c.args.before c.args.batch) (sym c.in_ok-add.ensures.added ∙ sym c.deref-2.ensures.value) ∙ sym c.has_batch_ends.ensures ∙ c.if-not-has_batch_ends.true)
+
+pub returns-clause-pieced : goal.returns-clause-pieced
+returns-clause-pieced g c image h =
+    let o = c.args.index.now.opening in
+    let x = opened_with o c.args.names.now in
+    let k = key.Piece c.args.number in
+    let own : List Event = c.args.own.now.events.items in
+    read_behind c.args.names.now c.args.own.now c.add.new.self k (λ events. has_batch_ends c.args.before c.args.batch (own ++ events)) c.deref.result.now
+    (events_at image x k (piece_length o c.args.before c.args.batch)) true
+    (subst (λ (n : ℕ). events_at image x k n ≡ Ok c.deref.result.now) c.span_of-count.ensures.count (c.in_ok-events.ensures.read image h ∙ ap (λ (es : List Event). Ok es) (sym c.deref.ensures.value)))
+    (c.in_ok-add.ensures.behind c.args.names.now (λ events. has_batch_ends c.args.before c.args.batch (own ++ events)))
+    (ap (has_batch_ends c.args.before c.args.batch) (sym c.in_ok-add.ensures.added ∙ sym c.deref-2.ensures.value) ∙ sym c.has_batch_ends.ensures ∙ c.if-not-has_batch_ends.false)

@@ -1,4 +1,4 @@
-use Rattle.std.proofs.Common.{◌≡◌, ◌+◌, List, [], Ok, None, length, map, ◌∙◌, ap, arith}
+use Rattle.std.proofs.Common.{◌≡◌, ℕ, ◌+◌, List, [], Some, Ok, None, length, map, ◌∙◌, ap, arith}
 use Rattle.dg_file.specs.Index.{IndexState}
 use Rattle.dg_graph.specs.declared.event.Event.{Event}
 use Rattle.dg_history.specs.declared.node.Key.{Key}
@@ -6,103 +6,102 @@ use Rattle.dg_index.specs.FileOfHistory.{Stored, stored}
 use Rattle.dg_index.specs.Hierarchy.{leaves}
 use Rattle.dg_index.specs.IndexRecords.{deltas_due, record_among}
 use Rattle.dg_index.specs.OpenedIndex.{Opening, events_in}
-use Rattle.dg_sound.specs.OwnEvents.{with_pieces}
+use Rattle.dg_sound.specs.OwnEvents.{own_events}
 use Rattle.dg_sound.specs.Soundness.{soundness_of}
 use Rattle.dg_start.specs.Reading.{WhereTold}
 use Rattle.dg_start.proofs.Told.{err_is, said_before}
 use Rattle.dg_verify.specs.declared.deltas.DeltaKind.TheVariants as delta
+use Rattle.dg_verify.specs.declared.own_events.OwnEvents.{OwnEvents}
 use Rattle.dg_verify.specs.declared.stop.Stop.{Stop}
 use Rattle.dg_verify.specs.Deltas.{first_unlike}
 use Rattle.dg_verify.specs.Verifying.{IsUnsound, IsWrong, opened_with}
 use Rattle.dg_verify.proofs.Parameters.{in_range}
+use Rattle.dg_verify.proofs.TestedEvents.{all_tested}
 use Rattle.dg_verify.proofs.Verified.{all_sound, downs_unsound, tops_unsound}
 use Rattle.dg_verify.proofs.verification.compare_all.Goals as goal
 
 pub returns-in_err-compare_deltas-clause-stopped : goal.returns-in_err-compare_deltas-clause-stopped
 returns-in_err-compare_deltas-clause-stopped g c =
     let o : Opening = c.args.index.now.opening in
-    let x = opened_with o c.args.names.now in
+    let names = c.args.names.now in
+    let x = opened_with o names in
     let told = g.D.Disk.image c.args.disk.now in
     let range = in_range o.params.l o.params.k c.facts.ensures.parameters in
-    let listed : List Event = c.add_lists.new.own.events.items in
-    let events : List Event = c.add_pieces.new.own.events.items in
+    let own : OwnEvents = c.read_all.new.own in
+    let events : List Event = own.events.items in
     let keys : List Key = c.in_ok-due.due.keys.items in
     let due : List Stored = c.in_ok-due.due.segment.deltas in
-    let listed_same : c.add_lists.new.index.opening ≡ o = ap (λ (i : IndexState). i.opening) c.add_lists.ensures.same in
-    let same : c.add_pieces.new.index.opening ≡ o = ap (λ (i : IndexState). i.opening) (c.add_pieces.ensures.same ∙ c.add_lists.ensures.same) in
-    let image_same = c.add_pieces.ensures.disk.same_image ∙ c.add_lists.ensures.disk.same_image in
+    let same : c.read_all.new.index.opening ≡ o = ap (λ (i : IndexState). i.opening) c.read_all.ensures.same in
+    let image_same = c.read_all.ensures.disk.same_image in
     let p_is : c.params.result ≡ o.params = c.params.ensures ∙ ap (λ (p : Opening). p.params) same in
-    let many : length events ≡ events_in o.batches = c.in_ok-add_pieces.ensures.many ∙ ap (λ (p : Opening). events_in p.batches) listed_same in
+    let many : length events ≡ events_in o.batches = c.in_default.ensures.many in
     let keys_are : keys ≡ deltas_due o.params.k 0 (leaves o.params (length events)) =
-    c.in_ok-due.ensures.keys ∙ (λ j. deltas_due (p_is j).k 0 (leaves (p_is j) (length (c.deref.ensures.value j)))) in
+    c.in_ok-due.ensures.keys ∙ (λ j. deltas_due (p_is j).k 0 (leaves (p_is j) (length events))) in
     let due_are : due ≡ map (λ k. stored (record_among o.params events [] k)) keys =
-    c.in_ok-due.ensures.deltas ∙ (λ j. map (λ k. stored (record_among (p_is j) (c.deref.ensures.value j) [] k)) keys) in
-    let pieced = said_before (g.D.Disk.image c.add_lists.new.disk) told c.add_lists.new.index.opening o
-    (λ image p. with_pieces image (opened_with p c.args.names.now) listed 0 0 p.batches ≡ Ok events)
-    c.add_lists.ensures.disk.same_image listed_same c.in_ok-add_pieces.ensures.read in
+    c.in_ok-due.ensures.deltas ∙ (λ j. map (λ k. stored (record_among (p_is j) events [] k)) keys) in
+    let read : (image : List ℕ) → told ≡ Some image → own_events image x ≡ Ok events =
+    λ image h. c.in_default.ensures.own image h ∙ all_tested names own c.in_default.ensures.read c.in_ok-due.ensures.fit (Ok events) in
     let s : Stop = c.in_err-compare_deltas.field-0.0 in
     err_is c.from_residual-in_err-compare_deltas.result s (λ (s : Stop). WhereTold told (λ image. IsUnsound s (soundness_of image x))) c.from_residual-in_err-compare_deltas.ensures
-    (λ image h. tops_unsound image x listed (c.in_ok-add_lists.ensures.read image h) events (pieced image h) range.wide keys due many keys_are due_are s
-    (said_before (g.D.Disk.image c.add_pieces.new.disk) told c.add_pieces.new.index.opening o (λ image p. IsWrong s (first_unlike image p delta.Top keys due))
+    (λ image h. tops_unsound image x events (read image h) range.wide keys due many keys_are due_are s
+    (said_before (g.D.Disk.image c.read_all.new.disk) told c.read_all.new.index.opening o (λ image p. IsWrong s (first_unlike image p delta.Top keys due))
     image_same same c.in_err-compare_deltas.ensures.stopped image h))
 
 pub returns-in_err-compare_deltas-2-clause-stopped : goal.returns-in_err-compare_deltas-2-clause-stopped
 returns-in_err-compare_deltas-2-clause-stopped g c =
     let o : Opening = c.args.index.now.opening in
-    let x = opened_with o c.args.names.now in
+    let names = c.args.names.now in
+    let x = opened_with o names in
     let told = g.D.Disk.image c.args.disk.now in
     let range = in_range o.params.l o.params.k c.facts.ensures.parameters in
-    let listed : List Event = c.add_lists.new.own.events.items in
-    let events : List Event = c.add_pieces.new.own.events.items in
+    let own : OwnEvents = c.read_all.new.own in
+    let events : List Event = own.events.items in
     let keys : List Key = c.in_ok-due.due.keys.items in
     let due : List Stored = c.in_ok-due.due.segment.deltas in
-    let listed_same : c.add_lists.new.index.opening ≡ o = ap (λ (i : IndexState). i.opening) c.add_lists.ensures.same in
-    let same : c.add_pieces.new.index.opening ≡ o = ap (λ (i : IndexState). i.opening) (c.add_pieces.ensures.same ∙ c.add_lists.ensures.same) in
-    let image_same = c.add_pieces.ensures.disk.same_image ∙ c.add_lists.ensures.disk.same_image in
+    let same : c.read_all.new.index.opening ≡ o = ap (λ (i : IndexState). i.opening) c.read_all.ensures.same in
+    let image_same = c.read_all.ensures.disk.same_image in
+    let p_is : c.params.result ≡ o.params = c.params.ensures ∙ ap (λ (p : Opening). p.params) same in
+    let many : length events ≡ events_in o.batches = c.in_default.ensures.many in
+    let keys_are : keys ≡ deltas_due o.params.k 0 (leaves o.params (length events)) =
+    c.in_ok-due.ensures.keys ∙ (λ j. deltas_due (p_is j).k 0 (leaves (p_is j) (length events))) in
+    let due_are : due ≡ map (λ k. stored (record_among o.params events [] k)) keys =
+    c.in_ok-due.ensures.deltas ∙ (λ j. map (λ k. stored (record_among (p_is j) events [] k)) keys) in
+    let read : (image : List ℕ) → told ≡ Some image → own_events image x ≡ Ok events =
+    λ image h. c.in_default.ensures.own image h ∙ all_tested names own c.in_default.ensures.read c.in_ok-due.ensures.fit (Ok events) in
     let then_same : c.compare_deltas.new.index.opening ≡ o = ap (λ (i : IndexState). i.opening) c.compare_deltas.ensures.same ∙ same in
     let then_image = c.compare_deltas.ensures.disk.same_image ∙ image_same in
-    let p_is : c.params.result ≡ o.params = c.params.ensures ∙ ap (λ (p : Opening). p.params) same in
-    let many : length events ≡ events_in o.batches = c.in_ok-add_pieces.ensures.many ∙ ap (λ (p : Opening). events_in p.batches) listed_same in
-    let keys_are : keys ≡ deltas_due o.params.k 0 (leaves o.params (length events)) =
-    c.in_ok-due.ensures.keys ∙ (λ j. deltas_due (p_is j).k 0 (leaves (p_is j) (length (c.deref.ensures.value j)))) in
-    let due_are : due ≡ map (λ k. stored (record_among o.params events [] k)) keys =
-    c.in_ok-due.ensures.deltas ∙ (λ j. map (λ k. stored (record_among (p_is j) (c.deref.ensures.value j) [] k)) keys) in
-    let pieced = said_before (g.D.Disk.image c.add_lists.new.disk) told c.add_lists.new.index.opening o
-    (λ image p. with_pieces image (opened_with p c.args.names.now) listed 0 0 p.batches ≡ Ok events)
-    c.add_lists.ensures.disk.same_image listed_same c.in_ok-add_pieces.ensures.read in
-    let no_top = said_before (g.D.Disk.image c.add_pieces.new.disk) told c.add_pieces.new.index.opening o (λ image p. first_unlike image p delta.Top keys due ≡ None)
+    let no_top = said_before (g.D.Disk.image c.read_all.new.disk) told c.read_all.new.index.opening o (λ image p. first_unlike image p delta.Top keys due ≡ None)
     image_same same c.in_ok-compare_deltas.ensures.alike in
     let s : Stop = c.in_err-compare_deltas-2.field-0.0 in
     err_is c.from_residual-in_err-compare_deltas-2.result s (λ (s : Stop). WhereTold told (λ image. IsUnsound s (soundness_of image x))) c.from_residual-in_err-compare_deltas-2.ensures
-    (λ image h. downs_unsound image x listed (c.in_ok-add_lists.ensures.read image h) events (pieced image h) range.wide keys due many keys_are due_are (no_top image h) s
+    (λ image h. downs_unsound image x events (read image h) range.wide keys due many keys_are due_are (no_top image h) s
     (said_before (g.D.Disk.image c.compare_deltas.new.disk) told c.compare_deltas.new.index.opening o (λ image p. IsWrong s (first_unlike image p delta.Down keys due))
     then_image then_same c.in_err-compare_deltas-2.ensures.stopped image h))
 
 pub returns-clause-sound : goal.returns-clause-sound
 returns-clause-sound g c =
     let o : Opening = c.args.index.now.opening in
-    let x = opened_with o c.args.names.now in
+    let names = c.args.names.now in
+    let x = opened_with o names in
     let told = g.D.Disk.image c.args.disk.now in
     let range = in_range o.params.l o.params.k c.facts.ensures.parameters in
-    let listed : List Event = c.add_lists.new.own.events.items in
-    let events : List Event = c.add_pieces.new.own.events.items in
+    let own : OwnEvents = c.read_all.new.own in
+    let events : List Event = own.events.items in
     let keys : List Key = c.in_ok-due.due.keys.items in
     let due : List Stored = c.in_ok-due.due.segment.deltas in
-    let listed_same : c.add_lists.new.index.opening ≡ o = ap (λ (i : IndexState). i.opening) c.add_lists.ensures.same in
-    let same : c.add_pieces.new.index.opening ≡ o = ap (λ (i : IndexState). i.opening) (c.add_pieces.ensures.same ∙ c.add_lists.ensures.same) in
-    let image_same = c.add_pieces.ensures.disk.same_image ∙ c.add_lists.ensures.disk.same_image in
+    let same : c.read_all.new.index.opening ≡ o = ap (λ (i : IndexState). i.opening) c.read_all.ensures.same in
+    let image_same = c.read_all.ensures.disk.same_image in
+    let p_is : c.params.result ≡ o.params = c.params.ensures ∙ ap (λ (p : Opening). p.params) same in
+    let many : length events ≡ events_in o.batches = c.in_default.ensures.many in
+    let keys_are : keys ≡ deltas_due o.params.k 0 (leaves o.params (length events)) =
+    c.in_ok-due.ensures.keys ∙ (λ j. deltas_due (p_is j).k 0 (leaves (p_is j) (length events))) in
+    let due_are : due ≡ map (λ k. stored (record_among o.params events [] k)) keys =
+    c.in_ok-due.ensures.deltas ∙ (λ j. map (λ k. stored (record_among (p_is j) events [] k)) keys) in
+    let read : (image : List ℕ) → told ≡ Some image → own_events image x ≡ Ok events =
+    λ image h. c.in_default.ensures.own image h ∙ all_tested names own c.in_default.ensures.read c.in_ok-due.ensures.fit (Ok events) in
     let then_same : c.compare_deltas.new.index.opening ≡ o = ap (λ (i : IndexState). i.opening) c.compare_deltas.ensures.same ∙ same in
     let then_image = c.compare_deltas.ensures.disk.same_image ∙ image_same in
-    let p_is : c.params.result ≡ o.params = c.params.ensures ∙ ap (λ (p : Opening). p.params) same in
-    let many : length events ≡ events_in o.batches = c.in_ok-add_pieces.ensures.many ∙ ap (λ (p : Opening). events_in p.batches) listed_same in
-    let keys_are : keys ≡ deltas_due o.params.k 0 (leaves o.params (length events)) =
-    c.in_ok-due.ensures.keys ∙ (λ j. deltas_due (p_is j).k 0 (leaves (p_is j) (length (c.deref.ensures.value j)))) in
-    let due_are : due ≡ map (λ k. stored (record_among o.params events [] k)) keys =
-    c.in_ok-due.ensures.deltas ∙ (λ j. map (λ k. stored (record_among (p_is j) (c.deref.ensures.value j) [] k)) keys) in
-    let pieced = said_before (g.D.Disk.image c.add_lists.new.disk) told c.add_lists.new.index.opening o
-    (λ image p. with_pieces image (opened_with p c.args.names.now) listed 0 0 p.batches ≡ Ok events)
-    c.add_lists.ensures.disk.same_image listed_same c.in_ok-add_pieces.ensures.read in
-    let no_top = said_before (g.D.Disk.image c.add_pieces.new.disk) told c.add_pieces.new.index.opening o (λ image p. first_unlike image p delta.Top keys due ≡ None)
+    let no_top = said_before (g.D.Disk.image c.read_all.new.disk) told c.read_all.new.index.opening o (λ image p. first_unlike image p delta.Top keys due ≡ None)
     image_same same c.in_ok-compare_deltas.ensures.alike in
     let no_down = said_before (g.D.Disk.image c.compare_deltas.new.disk) told c.compare_deltas.new.index.opening o (λ image p. first_unlike image p delta.Down keys due ≡ None)
     then_image then_same c.in_ok-compare_deltas-2.ensures.alike in
@@ -110,5 +109,5 @@ returns-clause-sound g c =
     let lists : c.from-lists.result ≡ leaves o.params (events_in o.batches) =
     c.from-lists.ensures ∙ c.leaves.ensures.leaves
     ∙ (λ j. leaves ((c.params-2.ensures ∙ ap (λ (p : Opening). p.params) last_same) j) ((c.events_len.ensures.events ∙ ap (λ (p : Opening). events_in p.batches) last_same) j)) in
-    λ image h. all_sound image x listed (c.in_ok-add_lists.ensures.read image h) events (pieced image h) range.wide keys due many keys_are due_are (no_top image h)
+    λ image h. all_sound image x events (read image h) range.wide keys due many keys_are due_are (no_top image h)
     (c.from-lists.result + c.len.result) (no_down image h) (omega (arith, lists, c.len.ensures, c.in_ok-due.due.keys.ok))

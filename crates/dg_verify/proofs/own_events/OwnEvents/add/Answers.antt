@@ -1,10 +1,18 @@
-use Rattle.std.proofs.Common.{ap, sym, ◌∙◌}
-use Rattle.dg_history.specs.History.{last_time_from}
-use Rattle.dg_verify.proofs.Completions.{led_more}
+use Rattle.std.proofs.Common.{◌≡◌, ℕ, [], ◌∷◌, ◌++◌, length, ◌∙◌, ap, arith}
+use Rattle.dg_verify.specs.declared.own_events.OwnEvents.{OwnEvents}
+use Rattle.dg_verify.proofs.TestedEvents.{one_record, read_more, record_of}
 use Rattle.dg_verify.proofs.own_events.OwnEvents.add.Goals as goal
 
-pub returns-clause-led : goal.returns-clause-led
-returns-clause-led c right =
-    led_more c.args.names.now c.args.self.now.events.items c.args.events.now c.extend_from_slice.new.self.items c.args.self.now.graph c.are_completions.new.graph c.last_time-earliest.result
-    c.requires.led (c.last_time-earliest.ensures ∙ ap (last_time_from 0) c.deref.ensures.value) c.requires.fit (sym c.in_ok-may_follow.ensures.right ∙ right)
-    (c.in_ok-may_follow.ensures.led right) c.are_completions.ensures.none c.in_ok-extend_from_slice.ensures.items
+pub returns-clause-read : goal.returns-clause-read
+returns-clause-read c =
+    let after : OwnEvents = record { events = c.extend_from_slice.new.self; records = c.push.new.self } in
+    let many : c.len-end.result ≡ length c.extend_from_slice.new.self.items = omega (arith, c.len-end.ensures, c.extend_from_slice.new.self.ok) in
+    read_more c.args.self.now after c.args.key c.args.events.now c.requires.read c.requires.fit c.in_ok-extend_from_slice.ensures.items
+    (c.in_ok-push.ensures.items ∙ ap (λ (n : ℕ). c.args.self.now.records.items ++ record_of c.args.key n ∷ []) many)
+
+pub returns-clause-behind : goal.returns-clause-behind
+returns-clause-behind c names right =
+    let after : OwnEvents = record { events = c.extend_from_slice.new.self; records = c.push.new.self } in
+    let many : c.len-end.result ≡ length c.extend_from_slice.new.self.items = omega (arith, c.len-end.ensures, c.extend_from_slice.new.self.ok) in
+    one_record c.args.self.now after c.args.key c.args.events.now c.requires.read c.requires.fit c.in_ok-extend_from_slice.ensures.items
+    (c.in_ok-push.ensures.items ∙ ap (λ (n : ℕ). c.args.self.now.records.items ++ record_of c.args.key n ∷ []) many) names right

@@ -1,0 +1,53 @@
+use Rattle.std.proofs.Common.{◌≡◌, Ok, sym, ◌∙◌, ap}
+use Rattle.dg_file.specs.Index.{IndexState}
+use Rattle.dg_index.specs.OpenedIndex.{Opening}
+use Rattle.dg_sound.specs.OwnEvents.{own_events, with_pieces}
+use Rattle.dg_start.specs.Reading.{WhereTold}
+use Rattle.dg_start.proofs.Told.{said_before}
+use Rattle.dg_verify.specs.declared.own_events.OwnEvents.{OwnEvents}
+use Rattle.dg_verify.specs.declared.stop.Stop.{Stop}
+use Rattle.dg_verify.specs.Testing.{IsStopBehind, tested}
+use Rattle.dg_verify.specs.Verifying.{opened_with}
+use Rattle.dg_verify.proofs.Outcomes.{if_err, on_ok}
+use Rattle.dg_verify.proofs.ReadPieces.{own_by_pieces}
+use Rattle.dg_verify.proofs.TestedEvents.{stops_so}
+use Rattle.dg_verify.proofs.verification.read_all.Goals as goal
+
+pub returns-clause-own : goal.returns-clause-own
+returns-clause-own g c =
+    let o : Opening = c.args.index.now.opening in
+    let p : Opening = c.add_lists.new.index.opening in
+    let names = c.args.names.now in
+    let x = opened_with o names in
+    let told = g.D.Disk.image c.args.disk.now in
+    let own : OwnEvents = c.add_lists.new.own in
+    let after : OwnEvents = c.add_pieces.new.own in
+    let same : p ≡ o = ap (λ (i : IndexState). i.opening) c.add_lists.ensures.same in
+    on_ok c.add_pieces.result
+    (WhereTold (g.D.Disk.image c.add_lists.new.disk) (λ image. tested names own (with_pieces image (opened_with p names) own.events.items 0 0 p.batches) ≡ tested names after (Ok after.events.items)))
+    (WhereTold told (λ image. own_events image x ≡ tested names after (Ok after.events.items)))
+    (λ pieced image h. own_by_pieces image x own (c.in_ok-add_lists.ensures.listed image h)
+    ∙ said_before (g.D.Disk.image c.add_lists.new.disk) told p o
+    (λ image p. tested names own (with_pieces image (opened_with p names) own.events.items 0 0 p.batches) ≡ tested names after (Ok after.events.items))
+    c.add_lists.ensures.disk.same_image same pieced image h)
+    c.add_pieces.ensures.pieced
+
+pub returns-clause-stopped : goal.returns-clause-stopped
+returns-clause-stopped g c =
+    let o : Opening = c.args.index.now.opening in
+    let p : Opening = c.add_lists.new.index.opening in
+    let names = c.args.names.now in
+    let x = opened_with o names in
+    let told = g.D.Disk.image c.args.disk.now in
+    let own : OwnEvents = c.add_lists.new.own in
+    let after : OwnEvents = c.add_pieces.new.own in
+    let same : p ≡ o = ap (λ (i : IndexState). i.opening) c.add_lists.ensures.same in
+    if_err c.add_pieces.result
+    (λ (s : Stop). WhereTold (g.D.Disk.image c.add_lists.new.disk) (λ image. IsStopBehind names after s (tested names own (with_pieces image (opened_with p names) own.events.items 0 0 p.batches))))
+    (λ (s : Stop). WhereTold told (λ image. IsStopBehind names after s (own_events image x)))
+    (λ s stopped image h. stops_so s names after (tested names own (with_pieces image x own.events.items 0 0 o.batches)) (own_events image x)
+    (sym (own_by_pieces image x own (c.in_ok-add_lists.ensures.listed image h)))
+    (said_before (g.D.Disk.image c.add_lists.new.disk) told p o
+    (λ image p. IsStopBehind names after s (tested names own (with_pieces image (opened_with p names) own.events.items 0 0 p.batches)))
+    c.add_lists.ensures.disk.same_image same stopped image h))
+    c.add_pieces.ensures.stopped
