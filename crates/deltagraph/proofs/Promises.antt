@@ -25,7 +25,7 @@ use Rattle.deltagraph.specs.declared.status.Status.TheVariants as status
 use Rattle.deltagraph.specs.Outside.{Outside, IsUntouched}
 use Rattle.deltagraph.specs.Promised.{Completes, Promised, WhereItStands}
 use Rattle.deltagraph.specs.Served.{Gained, Remains, Served}
-use Rattle.deltagraph.specs.Statuses.{end_of, is_unbegun, IsBegun}
+use Rattle.deltagraph.specs.Statuses.{ending_of, is_unbegun, IsBegun}
 use Rattle.deltagraph.specs.Turns.{ScriptAnswered}
 use Rattle.deltagraph.proofs.Completes.{completes_of}
 use Rattle.deltagraph.proofs.RunSoFar.{at_some, if_some, served_nothing}
@@ -91,7 +91,7 @@ unread_words limits are_written checked start = record {
 }
 
 -- no session begins
-pub no_session : BeginsAreDetermined → (limits : Limits) (checked : Bool) (s : Status) (f : SessionFault) (start now : Outside) → s ≡ end_of f → IsUntouched start now → start.disk_faults ≤ now.disk_faults
+pub no_session : BeginsAreDetermined → (limits : Limits) (checked : Bool) (s : Status) (f : SessionFault) (start now : Outside) → s ≡ ending_of f → IsUntouched start now → start.disk_faults ≤ now.disk_faults
     → (f ≡ Start fault.Disk → DiskRose start.disk_faults now.disk_faults)
     → IfSome start.image (λ image. RefusesSession checked f image)
     → IfSome start.image (λ image. (index : Option History) → StandsAs index image → (f ≡ Start fault.Disk) ⊎ (f ≡ Start fault.Memory))

@@ -9,7 +9,7 @@ use Rattle.deltagraph.specs.declared.status.Status.{Status}
 use Rattle.deltagraph.specs.declared.status.Status.TheVariants as status
 use Rattle.dg_io.specs.Told.{grown}
 use Rattle.deltagraph.specs.Served.{Gained}
-use Rattle.deltagraph.specs.Statuses.{end_of, is_unbegun}
+use Rattle.deltagraph.specs.Statuses.{ending_of, is_unbegun}
 
 pub where_some : (o : Option (List ℕ)) (P Q : List ℕ → Type 0) → ((x : List ℕ) → P x → Q x) → IfSome o P → IfSome o Q
 where_some None P Q each all = tt
@@ -21,7 +21,7 @@ pub data EndsFor (s : Status) (f : SessionFault) : Type 0 where
   By_memory : s ≡ status.NoMemory → f ≡ Start fault.Memory → EndsFor s f
   By_image : s ≡ status.Refused f → f ≢ Start fault.Disk → f ≢ Start fault.Memory → EndsFor s f
 
-ends : (f : SessionFault) → EndsFor (end_of f) f
+ends : (f : SessionFault) → EndsFor (ending_of f) f
 ends (Start fault.Disk) = By_disk refl refl
 ends (Start fault.Foreign) = By_image refl (λ e. cc) (λ e. cc)
 ends (Start (fault.Damaged place)) = By_image refl (λ e. cc) (λ e. cc)
@@ -31,7 +31,7 @@ ends (Start (fault.BadRecent number)) = By_image refl (λ e. cc) (λ e. cc)
 ends (Start fault.Memory) = By_memory refl refl
 ends (Unsound key col) = By_image refl (λ e. cc) (λ e. cc)
 
-pub ends_for : (s : Status) (f : SessionFault) → s ≡ end_of f → EndsFor s f
+pub ends_for : (s : Status) (f : SessionFault) → s ≡ ending_of f → EndsFor s f
 ends_for s f is = subst (λ (t : Status). EndsFor t f) (sym is) (ends f)
 
 -- the end of a run whose session did not begin is none of these

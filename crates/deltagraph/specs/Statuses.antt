@@ -18,15 +18,15 @@ code_of (status.Refused fault) = 7
 code_of status.ScriptLimit = 9
 
 -- a failure of the disk and want of memory have ends of their own
-abbrev pub end_of : SessionFault → Status
-end_of (Start fault.Disk) = status.DiskFault
-end_of (Start fault.Foreign) = status.Refused (Start fault.Foreign)
-end_of (Start (fault.Damaged place)) = status.Refused (Start (fault.Damaged place))
-end_of (Start (fault.BadRecord key col)) = status.Refused (Start (fault.BadRecord key col))
-end_of (Start fault.NotGraph) = status.Refused (Start fault.NotGraph)
-end_of (Start (fault.BadRecent number)) = status.Refused (Start (fault.BadRecent number))
-end_of (Start fault.Memory) = status.NoMemory
-end_of (Unsound key col) = status.Refused (Unsound key col)
+abbrev pub ending_of : SessionFault → Status
+ending_of (Start fault.Disk) = status.DiskFault
+ending_of (Start fault.Foreign) = status.Refused (Start fault.Foreign)
+ending_of (Start (fault.Damaged place)) = status.Refused (Start (fault.Damaged place))
+ending_of (Start (fault.BadRecord key col)) = status.Refused (Start (fault.BadRecord key col))
+ending_of (Start fault.NotGraph) = status.Refused (Start fault.NotGraph)
+ending_of (Start (fault.BadRecent number)) = status.Refused (Start (fault.BadRecent number))
+ending_of (Start fault.Memory) = status.NoMemory
+ending_of (Unsound key col) = status.Refused (Unsound key col)
 
 -- the run ended before anything was read or written, and not by a failure of the disk
 abbrev pub is_unbegun : Status → Bool

@@ -73,10 +73,10 @@ Breaks before after old image now =
     × WhereBothTold image now (λ x y. (m : MachineState) → StandsFor old x m → IsCut m e x y)
 
 -- each turn but the last takes something
-abbrev pub Falls : Turn → ℕ → ℕ → Type 0
-Falls turn.End old new = Unit {0}
-Falls turn.Skipped old new = new < old
-Falls (turn.Replied reply) old new = new < old
+abbrev pub TurnTakes : Turn → ℕ → ℕ → Type 0
+TurnTakes turn.End old new = Unit {0}
+TurnTakes turn.Skipped old new = new < old
+TurnTakes (turn.Replied reply) old new = new < old
 
 -- the last turn comes where a read has given the end of input
 abbrev pub EndsAt : Turn → LinesState → Type 0

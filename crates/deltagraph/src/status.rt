@@ -1,5 +1,5 @@
 ghost use Rattle.std.specs.Prelude.{◌≡◌};
-ghost use Rattle.deltagraph.specs.Statuses.{code_of, end_of};
+ghost use Rattle.deltagraph.specs.Statuses.{code_of, ending_of};
 
 use dg_session::{SessionFault, StartFault};
 
@@ -26,7 +26,7 @@ pub enum Status {
 }
 
 impl From<SessionFault> for Status {
-    ghost from_gives = { λ fault status. status ≡ end_of fault };
+    ghost from_gives = { λ fault status. status ≡ ending_of fault };
 
     /// How a run ends whose session does not begin.
     fn from(fault: SessionFault) -> Status {

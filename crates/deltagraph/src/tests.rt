@@ -374,8 +374,8 @@ const FIVE: &[u8] =
 // What is asked of it.
 const QUESTIONS: &[u8] = b"at 30 s\nlist 1\n";
 
-// A byte of the structure of its first list, which a start does not read.
-const BYTE_OF_FIRST_LIST: usize = 296;
+// A byte of the structure of its second list, which has the number 1 and is not read by a start.
+const BYTE_OF_SECOND_LIST: usize = 296;
 
 #[test]
 fn a_file_is_checked_where_a_word_says_so(rt: HostRuntime) -> Result<(), Fail> {
@@ -385,7 +385,7 @@ fn a_file_is_checked_where_a_word_says_so(rt: HostRuntime) -> Result<(), Fail> {
     assert_eq!(rt; made.image.len(), 496);
     let plain = run(&rt, alloc, &made.image, QUESTIONS, WHOLE, limits)?;
     let mut wrong = made.image.clone()?;
-    if let Some(byte) = wrong.get_mut(BYTE_OF_FIRST_LIST) {
+    if let Some(byte) = wrong.get_mut(BYTE_OF_SECOND_LIST) {
         *byte = 3;
     }
     let unchecked = run(&rt, alloc, &wrong, b"", WHOLE, limits)?;

@@ -23,7 +23,7 @@ use Rattle.dg_history.specs.declared.node.NodeId.TheVariants.{Root}
 use Rattle.dg_history.specs.History.{History, events_of, last_time_from}
 use Rattle.dg_index.specs.FileOfHistory.{Segment, segment_of}
 use Rattle.dg_index.specs.IndexGrowth.{index_with, needed_for}
-use Rattle.dg_index.specs.OpenedIndex.{Opening, events_in}
+use Rattle.dg_index.specs.OpenedIndex.{Opening, event_total}
 use Rattle.dg_now.specs.Now.{NowState}
 use Rattle.dg_plan.specs.IndexGraph.{arcs_of}
 use Rattle.dg_plan.specs.Walks.{AreSingles}
@@ -109,7 +109,7 @@ pub record IsAdded (o : Opening) (limit known : ℕ) (old : StoredHistory) (befo
   pub names_are : names ≡ old.names
   pub graph : now.graph ≡ replay_from old.now.graph events
   pub pending : now.pending ≡ []
-  pub recent_is : recent ≡ recent_behind o.params (events_in o.batches) old.recent.items events
+  pub recent_is : recent ≡ recent_behind o.params (event_total o.batches) old.recent.items events
   pub gained : BothTold before after (GainsBatch s)
   pub opened : BothTold before after (GainsSegment o s (index_with o s))
   pub same : is_some after ≡ is_some before
@@ -121,7 +121,7 @@ pub sound_after : (o : Opening) (limit known : ℕ) (old : StoredHistory) (front
     → IsAdded o limit known old before after events s told names now recent → IsSoundHistory told names now recent
 sound_after o limit known old front changes events s before after told names now recent r p b fit a =
     let m : MayFollow o old.recent.items events = p.follows in
-    let left : List Event = recent_behind o.params (events_in o.batches) old.recent.items events in
+    let left : List Event = recent_behind o.params (event_total o.batches) old.recent.items events in
     let many_names : length (take known old.names) + length (drop known old.names) ≡ length old.names =
     sym (length-append (take known old.names) (drop known old.names)) ∙ ap length (take-append-drop known old.names) in
     let counted : AreCounted (Some (index_with o s)) names now.graph recent = (
@@ -139,7 +139,7 @@ sound_after o limit known old front changes events s before after told names now
 pub batch_added : (o : Opening) (limit known : ℕ) (old new : StoredHistory) (before after : Option (List ℕ)) (front : Front) (changes : List Change) (events : List Event) (s : Segment) (added : AddedBatch) (told : Option Opening)
     → told ≡ Some o → IfSome before (λ image. IsHeldBy told (take known old.names) image) → ComesToSegment o known old before changes front events s → s.names ≡ drop known old.names
     → IsAdded o limit known old before after events s (index_opening new.index) new.names new.now new.recent.items
-    → added ≡ record { events = length events; total = events_in o.batches + length events; last = last_time_from 0 events }
+    → added ≡ record { events = length events; total = event_total o.batches + length events; last = last_time_from 0 events }
     → AddsBatch o limit known old new before after changes front added
 batch_added o limit known old new before after front changes events s added told is image comes names a told_is =
     let held : IfSome after (λ image. IsHeldBy (Some (index_with o s)) (take known old.names ++ s.names) image) =

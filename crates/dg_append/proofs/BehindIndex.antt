@@ -21,9 +21,9 @@ use Rattle.dg_index.specs.declared.entry.Entry.{Entry}
 use Rattle.dg_index.specs.declared.entry.Row.{Row}
 use Rattle.dg_index.specs.FileOfHistory.{Segment, Stored, StoredList, directory}
 use Rattle.dg_index.specs.Hierarchy.{leaves, numbers}
-use Rattle.dg_index.specs.IndexGrowth.{IsDue, index_with, names_in}
+use Rattle.dg_index.specs.IndexGrowth.{IsDue, index_with, name_total}
 use Rattle.dg_index.specs.IndexRecords.{deltas_due, lists_due}
-use Rattle.dg_index.specs.OpenedIndex.{Opening, delta_count, directory_of, earliest_in, events_in, first_in, keys_next, laid, last_list, last_or, list_count, list_row, may_be_listed, record_row, rows_in, total, within}
+use Rattle.dg_index.specs.OpenedIndex.{Opening, delta_count, directory_of, earliest_in, event_total, first_in, keys_next, laid, last_list, last_or, list_count, list_row, may_be_listed, record_row, rows_in, total, within}
 use Rattle.dg_index.proofs.DueNodes.{numbers_length}
 use Rattle.dg_index.proofs.StableRecords.{leaves_more}
 use Rattle.dg_start.specs.StoredHistory.{MayGoOn, RiseUpTo, floor_of, recent_count}
@@ -98,7 +98,7 @@ pub record MayFollow (o : Opening) (recent events : List Event) : Type 0 where
   pub pos : 0 < o.params.l
   pub some : 1 ≤ length events
   pub few : length events ≤ BATCH_LINES_MAX
-  pub room : events_in o.batches + length events ≤ EVENTS_MAX
+  pub room : event_total o.batches + length events ≤ EVENTS_MAX
   pub early : earliest_in 0 o.batches ≤ first_time_of events
   pub later : first_time_of events ≤ last_time_from 0 events
   pub last : last_time_from 0 events ≤ TIME_MAX
@@ -118,32 +118,32 @@ module _ (o : Opening) (recent events : List Event) (m : MayFollow o recent even
   tail_last = last_of_both (floor_of o (first_time_of events)) recent events m.some
 
   module _ (names : List (List ℕ)) (s : Segment) (b : IsSegmentBehind o names recent events s) where
-    pub segment_due : names_in o.batches + length names ≤ NAMES_MAX → IsDue o s
+    pub segment_due : name_total o.batches + length names ≤ NAMES_MAX → IsDue o s
     segment_due few = record {
       lists = b.lists ∙ ap (list_count o) (sym b.events_are);
       deltas = b.deltas ∙ ap (delta_count o) (sym b.events_are);
       follows =
-          six_true (nat_le 1 s.events) (nat_le s.events BATCH_LINES_MAX) (nat_le (events_in o.batches + s.events) EVENTS_MAX) (nat_le (earliest_in 0 o.batches) s.first)
+          six_true (nat_le 1 s.events) (nat_le s.events BATCH_LINES_MAX) (nat_le (event_total o.batches + s.events) EVENTS_MAX) (nat_le (earliest_in 0 o.batches) s.first)
           (nat_le s.first s.last) (nat_le s.last TIME_MAX)
-          (le-leb 1 s.events (omega (arith, b.events_are, m.some))) (le-leb s.events BATCH_LINES_MAX (omega (arith, b.events_are, m.few))) (le-leb (events_in o.batches + s.events) EVENTS_MAX (omega (arith, b.events_are, m.room)))
+          (le-leb 1 s.events (omega (arith, b.events_are, m.some))) (le-leb s.events BATCH_LINES_MAX (omega (arith, b.events_are, m.few))) (le-leb (event_total o.batches + s.events) EVENTS_MAX (omega (arith, b.events_are, m.room)))
           (le-leb (earliest_in 0 o.batches) s.first (omega (arith, b.first_is, m.early))) (le-leb s.first s.last (omega (arith, b.first_is, b.last_is, m.later))) (le-leb s.last TIME_MAX (omega (arith, b.last_is, m.last)));
       few_names = omega (arith, few, ap length b.names_are);
       listed = (λ i. may_be_listed (floor_of o (b.first_is i)) (b.last_is i) (map list_row s.lists)) ∙ b.listed;
     }
 
-    new_events : events_in (index_with o s).batches ≡ events_in o.batches + length events
-    new_events = sum_by_push (λ (x : BatchEntry). x.events) o.batches (directory_of s).batch ∙ ap (λ n. events_in o.batches + n) b.events_are
+    new_events : event_total (index_with o s).batches ≡ event_total o.batches + length events
+    new_events = sum_by_push (λ (x : BatchEntry). x.events) o.batches (directory_of s).batch ∙ ap (λ n. event_total o.batches + n) b.events_are
 
-    up : leaves o.params (events_in o.batches) ≤ leaves o.params (events_in o.batches + length events)
-    up = leaves_more o.params.l (events_in o.batches) (length events) m.pos
+    up : leaves o.params (event_total o.batches) ≤ leaves o.params (event_total o.batches + length events)
+    up = leaves_more o.params.l (event_total o.batches) (length events) m.pos
 
     keys_long : length (keys_next o s.events) ≡ list_count o s.events + (delta_count o s.events + 1)
     keys_long =
-        length-append (lists_due o.params (events_in o.batches) (events_in o.batches + s.events)) _
-        ∙ (λ i. lists_long i + length-append (deltas_due o.params.k (leaves o.params (events_in o.batches)) (leaves o.params (events_in o.batches + s.events))) (key.Piece (length o.batches) ∷ []) i)
+        length-append (lists_due o.params (event_total o.batches) (event_total o.batches + s.events)) _
+        ∙ (λ i. lists_long i + length-append (deltas_due o.params.k (leaves o.params (event_total o.batches)) (leaves o.params (event_total o.batches + s.events))) (key.Piece (length o.batches) ∷ []) i)
       where
-        lists_long : length (lists_due o.params (events_in o.batches) (events_in o.batches + s.events)) ≡ list_count o s.events
-        lists_long = length-map (numbers (leaves o.params (events_in o.batches)) (list_count o s.events)) (λ i. key.List i) ∙ numbers_length (leaves o.params (events_in o.batches)) (list_count o s.events)
+        lists_long : length (lists_due o.params (event_total o.batches) (event_total o.batches + s.events)) ≡ list_count o s.events
+        lists_long = length-map (numbers (leaves o.params (event_total o.batches)) (list_count o s.events)) (λ i. key.List i) ∙ numbers_length (leaves o.params (event_total o.batches)) (list_count o s.events)
 
     rows_long : length (rows_in (directory_of s)) ≡ length s.lists + (length s.deltas + 1)
     rows_long =
@@ -161,10 +161,10 @@ module _ (o : Opening) (recent events : List Event) (m : MayFollow o recent even
         ∙ rows_more (floor_of o (first_time_of events)) (map list_row s.lists) (map record_row s.deltas ++ record_row s.piece ∷ [])
         ∙ no_times (last_in_rows (floor_of o (first_time_of events)) (map list_row s.lists)) s.deltas (record_row s.piece) refl
 
-    pub new_goes_on : MayGoOn (Some (index_with o s)) (recent_behind o.params (events_in o.batches) recent events)
+    pub new_goes_on : MayGoOn (Some (index_with o s)) (recent_behind o.params (event_total o.batches) recent events)
     new_goes_on t late =
-        let n : ℕ = leaves o.params (events_in o.batches + length events) * o.params.l - leaves o.params (events_in o.batches) * o.params.l in
-        let left : List Event = recent_behind o.params (events_in o.batches) recent events in
+        let n : ℕ = leaves o.params (event_total o.batches + length events) * o.params.l - leaves o.params (event_total o.batches) * o.params.l in
+        let left : List Event = recent_behind o.params (event_total o.batches) recent events in
         let on = left_goes_on (floor_of o (first_time_of events)) (last_time_from 0 events) t n s.lists (recent ++ events) tail_rises tail_last b.listed b.behind
         (omega (arith, earliest_more 0 o.batches (directory_of s).batch, b.last_is, late)) in
         record {
@@ -173,26 +173,26 @@ module _ (o : Opening) (recent events : List Event) (m : MayFollow o recent even
         }
 
     -- there are as many recent events as the index has behind its last list
-    pub new_counted : length (recent_behind o.params (events_in o.batches) recent events) ≡ recent_count (index_with o s)
+    pub new_counted : length (recent_behind o.params (event_total o.batches) recent events) ≡ recent_count (index_with o s)
     new_counted =
-        let m : ℕ = leaves o.params (events_in o.batches) * o.params.l in
-        let after : ℕ = leaves o.params (events_in o.batches + length events) * o.params.l in
+        let m : ℕ = leaves o.params (event_total o.batches) * o.params.l in
+        let after : ℕ = leaves o.params (event_total o.batches + length events) * o.params.l in
         length-drop (after - m) (recent ++ events) ∙ ap (λ n. n - (after - m)) (length-append recent events)
-        ∙ (let e : length recent + length events - (after - m) ≡ events_in o.batches + length events - after =
-        omega (arith, m_counted, div-mul-le_self (events_in o.batches) o.params.l, mul-le-mul_right o.params.l up) in e)
+        ∙ (let e : length recent + length events - (after - m) ≡ event_total o.batches + length events - after =
+        omega (arith, m_counted, div-mul-le_self (event_total o.batches) o.params.l, mul-le-mul_right o.params.l up) in e)
         ∙ ap (λ n. n - leaves o.params n * o.params.l) (sym new_events)
       where
-        m_counted : length recent ≡ events_in o.batches - leaves o.params (events_in o.batches) * o.params.l
+        m_counted : length recent ≡ event_total o.batches - leaves o.params (event_total o.batches) * o.params.l
         m_counted = m.counted
 
-    pub new_names : names_in (index_with o s).batches ≡ names_in o.batches + length names
-    new_names = sum_by_push (λ (x : BatchEntry). x.names) o.batches (directory_of s).batch ∙ ap (λ n. names_in o.batches + n) (ap length b.names_are)
+    pub new_names : name_total (index_with o s).batches ≡ name_total o.batches + length names
+    new_names = sum_by_push (λ (x : BatchEntry). x.names) o.batches (directory_of s).batch ∙ ap (λ n. name_total o.batches + n) (ap length b.names_are)
 
-    pub new_total : events_in (index_with o s).batches ≡ events_in o.batches + length events
+    pub new_total : event_total (index_with o s).batches ≡ event_total o.batches + length events
     new_total = new_events
 
 pub new_fit : (o : Opening) (recent events : List Event) → All (λ (e : Event). NamesFit e.body) recent → All (λ (e : Event). NamesFit e.body) events
-    → All (λ (e : Event). NamesFit e.body) (recent_behind o.params (events_in o.batches) recent events)
+    → All (λ (e : Event). NamesFit e.body) (recent_behind o.params (event_total o.batches) recent events)
 new_fit o recent events first then =
-    All-drop (λ (e : Event). NamesFit e.body) (leaves o.params (events_in o.batches + length events) * o.params.l - leaves o.params (events_in o.batches) * o.params.l) (recent ++ events)
+    All-drop (λ (e : Event). NamesFit e.body) (leaves o.params (event_total o.batches + length events) * o.params.l - leaves o.params (event_total o.batches) * o.params.l) (recent ++ events)
     (All-append (λ (e : Event). NamesFit e.body) recent events first then)

@@ -7,7 +7,7 @@ use Rattle.dg_history.specs.declared.node.Key.TheVariants as key
 use Rattle.dg_history.specs.declared.params.Params.{Params}
 use Rattle.dg_index.specs.Hierarchy.{leaves, numbers}
 use Rattle.dg_index.specs.IndexRecords.{deltas_due, lists_due}
-use Rattle.dg_index.specs.OpenedIndex.{Opening, events_in}
+use Rattle.dg_index.specs.OpenedIndex.{Opening, event_total}
 use Rattle.dg_index.proofs.DueNodes.{numbers_length}
 
 -- the keys of the segment of so many events behind so many
@@ -19,13 +19,13 @@ lists_long p before count =
     length-map (numbers (leaves p before) (leaves p (before + count) - leaves p before)) (λ i. key.List i) ∙ numbers_length (leaves p before) (leaves p (before + count) - leaves p before)
 
 module _ (o : Opening) (count place : ℕ) (within : place < length (deltas_due o.params.k (leaves_before o) (leaves_after o count))) (p : Params) (before : ℕ) (keys : ListOf Key) (after_leaves before_leaves : ℕ)
-    (params : p ≡ o.params) (events : before ≡ events_in o.batches) (are : keys ≡ keys_behind p before count)
+    (params : p ≡ o.params) (events : before ≡ event_total o.batches) (are : keys ≡ keys_behind p before count)
     (after_is : after_leaves ≡ leaves p (before + count)) (before_is : before_leaves ≡ leaves p before) where
-  keys_are : keys ≡ lists_due o.params (events_in o.batches) (events_in o.batches + count) ++ (deltas_due o.params.k (leaves_before o) (leaves_after o count) ++ key.Piece 0 ∷ [])
+  keys_are : keys ≡ lists_due o.params (event_total o.batches) (event_total o.batches + count) ++ (deltas_due o.params.k (leaves_before o) (leaves_after o count) ++ key.Piece 0 ∷ [])
   keys_are = are ∙ (λ i. keys_behind (params i) (events i) count)
 
-  first : after_leaves - before_leaves ≡ length (lists_due o.params (events_in o.batches) (events_in o.batches + count))
-  first = (λ i. after_is i - before_is i) ∙ (λ i. leaves (params i) (events i + count) - leaves (params i) (events i)) ∙ sym (lists_long o.params (events_in o.batches) count)
+  first : after_leaves - before_leaves ≡ length (lists_due o.params (event_total o.batches) (event_total o.batches + count))
+  first = (λ i. after_is i - before_is i) ∙ (λ i. leaves (params i) (events i + count) - leaves (params i) (events i)) ∙ sym (lists_long o.params (event_total o.batches) count)
 
   -- its place is among the keys
   pub place_within : after_leaves - before_leaves + place < length keys
@@ -35,7 +35,7 @@ module _ (o : Opening) (count place : ℕ) (within : place < length (deltas_due 
         first,
         within,
         ap length keys_are,
-        length-append (lists_due o.params (events_in o.batches) (events_in o.batches + count)) (deltas_due o.params.k (leaves_before o) (leaves_after o count) ++ key.Piece 0 ∷ []),
+        length-append (lists_due o.params (event_total o.batches) (event_total o.batches + count)) (deltas_due o.params.k (leaves_before o) (leaves_after o count) ++ key.Piece 0 ∷ []),
         length-append (deltas_due o.params.k (leaves_before o) (leaves_after o count)) (key.Piece 0 ∷ []),
       )
 
@@ -45,6 +45,6 @@ module _ (o : Opening) (count place : ℕ) (within : place < length (deltas_due 
     place,
     within,
     sym (is ∙ (λ i. get_or (keys_are i) (first i + place) x)
-        ∙ get_or-append-add (lists_due o.params (events_in o.batches) (events_in o.batches + count)) (deltas_due o.params.k (leaves_before o) (leaves_after o count) ++ key.Piece 0 ∷ []) place x
+        ∙ get_or-append-add (lists_due o.params (event_total o.batches) (event_total o.batches + count)) (deltas_due o.params.k (leaves_before o) (leaves_after o count) ++ key.Piece 0 ∷ []) place x
         ∙ get_or_append_left (deltas_due o.params.k (leaves_before o) (leaves_after o count)) (key.Piece 0 ∷ []) x place within),
   )

@@ -21,7 +21,7 @@ use Rattle.dg_history.specs.History.{Batch, History, events_of}
 use Rattle.dg_index.specs.FileOfHistory.{Segment, segment_of}
 use Rattle.dg_index.specs.Hierarchy.{set_of}
 use Rattle.dg_index.specs.IndexRecords.{recent_of}
-use Rattle.dg_index.specs.OpenedIndex.{Opening, events_in, opened_of}
+use Rattle.dg_index.specs.OpenedIndex.{Opening, event_total, opened_of}
 use Rattle.dg_plan.specs.IndexGraph.{arcs_of}
 use Rattle.dg_plan.specs.Walks.{AreSingles}
 use Rattle.dg_retrieval.specs.KeptGraph.{record_edges}
@@ -48,7 +48,7 @@ module _ (z : History) (image : ListOf ℕ) (o : Opening) (known : ℕ) (names :
 
   pub past_is : (events : ListOf Event) (sets : ListOf (ListOf Element)) → AreChangesOf graph events → sets ≡ sets_of z (older_children o (length events)) → IsPast o (events_of z) recent graph events sets
   past_is events sets changes are = record {
-    long = sym (ap (λ (x : Opening). events_in x.batches) opened ∙ opened_events z);
+    long = sym (ap (λ (x : Opening). event_total x.batches) opened ∙ opened_events z);
     recent_is = is.1.recent_are ∙ ap (λ (p : Params). recent_of p (events_of z)) (sym params);
     graph_is = is.1.graph_is;
     changes = changes_joined [] (events_of z) events (legal_is_indexed z is.0.legal).0.changes (subst (λ (set : ListOf Element). AreChangesOf set events) is.1.graph_is changes);

@@ -12,9 +12,9 @@ use Rattle.dg_index.specs.declared.entry.Row.{Row}
 use Rattle.dg_index.specs.Hierarchy.{leaves, set_of}
 use Rattle.dg_index.specs.IndexRecords.{deltas_due, recent_of}
 use Rattle.dg_index.specs.OlderNodes.{older}
-use Rattle.dg_index.specs.OpenedIndex.{Opening, delta_count, events_in, list_count, may_be_listed}
+use Rattle.dg_index.specs.OpenedIndex.{Opening, delta_count, event_total, list_count, may_be_listed}
 
-module _ (o : Opening) (p : Params) (before : ℕ) (params : p ≡ o.params) (counted : before ≡ events_in o.batches) where
+module _ (o : Opening) (p : Params) (before : ℕ) (params : p ≡ o.params) (counted : before ≡ event_total o.batches) where
   pub as_many_lists : (count : ℕ) → leaves p (before + count) - leaves p before ≡ list_count o count
   as_many_lists count = λ i. leaves (params i) (counted i + count) - leaves (params i) (counted i)
 

@@ -26,7 +26,7 @@ use Rattle.dg_index.specs.FileOfHistory.{Segment, segment_of}
 use Rattle.dg_index.specs.Hierarchy.{leaves}
 use Rattle.dg_index.specs.ImageOfHistory.{IsImageOf}
 use Rattle.dg_index.specs.IndexGrowth.{index_with, needed_for}
-use Rattle.dg_index.specs.OpenedIndex.{Opening, events_in, may_be_named}
+use Rattle.dg_index.specs.OpenedIndex.{Opening, event_total, may_be_named}
 use Rattle.dg_plan.specs.IndexGraph.{arcs_of}
 use Rattle.dg_plan.specs.Walks.{AreSingles}
 use Rattle.dg_retrieval.specs.KeptGraph.{record_edges}
@@ -55,7 +55,7 @@ pub record IsReady (o : Opening) (known : ℕ) (h : StoredHistory) (front : Fron
   pub within : known ≤ length h.names
   pub some : front ≡ Whole → 1 ≤ length changes
   pub few : length changes ≤ BATCH_LINES_MAX
-  pub room : events_in o.batches + length changes ≤ EVENTS_MAX
+  pub room : event_total o.batches + length changes ≤ EVENTS_MAX
   pub named : front ≡ Whole → may_be_named (take known h.names) (drop known h.names) ≡ true
   pub fit : front ≡ Whole → All (λ (change : Change). WhatNamesFit change.what) changes
   pub timed : front ≡ Whole → All (λ (change : Change). change.time ≤ TIME_MAX) changes
@@ -90,11 +90,11 @@ pub record AddsBatch (o : Opening) (limit known : ℕ) (old new : StoredHistory)
   pub index : index_opening new.index ≡ Some (index_with o segment)
   pub names : new.names ≡ old.names
   pub graph : new.now.graph ≡ replay_from old.now.graph events
-  pub recent : new.recent.items ≡ recent_behind o.params (events_in o.batches) old.recent.items events
+  pub recent : new.recent.items ≡ recent_behind o.params (event_total o.batches) old.recent.items events
   pub gains : BothTold before after (GainsBatch segment)
   pub held : IfSome after (λ image. IsHeldBy (index_opening new.index) new.names image)
   pub fits : needed_for o segment ≤ limit
-  pub told : added ≡ record { events = length events; total = events_in o.batches + length events; last = last_time_from 0 events }
+  pub told : added ≡ record { events = length events; total = event_total o.batches + length events; last = last_time_from 0 events }
 
 -- The lines come to a batch for which the file has too little room.
 pub record FillsFile (o : Opening) (limit known : ℕ) (old : StoredHistory) (before : Option (List ℕ)) (changes : List Change) (front : Front) (needed : ℕ) : Type 0 where

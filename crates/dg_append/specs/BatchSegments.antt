@@ -17,7 +17,7 @@ use Rattle.dg_index.specs.Hierarchy.{set_of}
 use Rattle.dg_index.specs.ImageOfHistory.{IsImageOf}
 use Rattle.dg_index.specs.IndexGrowth.{needed_for}
 use Rattle.dg_index.specs.IndexRecords.{recent_of}
-use Rattle.dg_index.specs.OpenedIndex.{Opening, delta_count, events_in, last_or, list_count, list_row, may_be_listed}
+use Rattle.dg_index.specs.OpenedIndex.{Opening, delta_count, event_total, last_or, list_count, list_row, may_be_listed}
 use Rattle.dg_start.specs.StoredHistory.{IsKeptOf, floor_of}
 
 -- the last time of the last of these rows that has times, where without one it is this
@@ -39,12 +39,12 @@ pub record IsSegmentBehind (o : Opening) (names : ListOf (ListOf ℕ)) (recent e
   pub lists : length s.lists ≡ list_count o (length events)
   pub deltas : length s.deltas ≡ delta_count o (length events)
   pub listed : may_be_listed (floor_of o (first_time_of events)) (last_time_from 0 events) (map list_row s.lists) ≡ true
-  pub behind : BeginsBehind (last_in_rows 0 (map list_row s.lists)) (recent_behind o.params (events_in o.batches) recent events)
+  pub behind : BeginsBehind (last_in_rows 0 (map list_row s.lists)) (recent_behind o.params (event_total o.batches) recent events)
 
 -- These are all events of an index, of which these are recent; this graph is theirs, these sets are those of their
 -- older children, and these events may follow them.
 pub record IsPast (o : Opening) (past recent : ListOf Event) (graph : ListOf Element) (events : ListOf Event) (sets : ListOf (ListOf Element)) : Type 0 where
-  pub long : length past ≡ events_in o.batches
+  pub long : length past ≡ event_total o.batches
   pub recent_is : recent ≡ recent_of o.params past
   pub graph_is : graph ≡ replay past
   pub changes : AreChangesOf [] (past ++ events)

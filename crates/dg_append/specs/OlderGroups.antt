@@ -9,7 +9,7 @@ use Rattle.dg_history.specs.declared.node.NodeId.{NodeId}
 use Rattle.dg_index.specs.Hierarchy.{leaves}
 use Rattle.dg_index.specs.IndexRecords.{deltas_due}
 use Rattle.dg_index.specs.OlderNodes.{older}
-use Rattle.dg_index.specs.OpenedIndex.{Opening, events_in}
+use Rattle.dg_index.specs.OpenedIndex.{Opening, event_total}
 use Rattle.dg_plan.specs.HistoryGraph.{all_columns}
 use Rattle.dg_retrieval.specs.declared.fault.RetrievalFault.{RetrievalFault}
 use Rattle.dg_retrieval.specs.declared.fault.RetrievalFault.TheVariants as fault
@@ -19,10 +19,10 @@ use Rattle.dg_retrieval.specs.Retrieval.{IsFirstDamage}
 
 -- the numbers of leaves before and after a batch of so many events behind the index
 abbrev pub leaves_before : Opening → ℕ
-leaves_before o = leaves o.params (events_in o.batches)
+leaves_before o = leaves o.params (event_total o.batches)
 
 abbrev pub leaves_after : Opening → ℕ → ℕ
-leaves_after o count = leaves o.params (events_in o.batches + count)
+leaves_after o count = leaves o.params (event_total o.batches + count)
 
 -- the older children of the interior nodes that such a batch completes, by height and number
 abbrev pub older_children : Opening → ℕ → ListOf NodeId

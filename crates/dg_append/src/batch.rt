@@ -65,22 +65,22 @@ fn try_batch<R: Threads, D: Disk>(
     limit: u64,
     known: u32,
     front: Front,
-    changes: &[Change],
+    changes: Vec<Change>,
     history: &mut StoredHistory,
     pool: &mut Pool,
     disk: &mut D,
 ) -> Result<AddedBatch, BatchFault>
     requires index { is_some history.old.index ≡ true }
-    requires ready { IfSome (index_opening history.old.index) (λ o. IsReady o known history.old front changes.now) }
+    requires ready { IfSome (index_opening history.old.index) (λ o. IsReady o known history.old front changes.items) }
     requires limit { limit ≤ FILE_BYTES_MAX }
     requires image { IfSome (D.image disk.old) (λ image. IsHeldBy (index_opening history.old.index) (take known history.old.names) image) }
     requires pool { graph_now pool.old ≡ history.old.now.graph }
     // what is added, or why nothing is
     ensures adds { IfOk result (λ added. IfSome (index_opening history.old.index) (λ o.
-        AddsBatch o limit known history.old history.new (D.image disk.old) (D.image disk.new) changes.now front added)) }
+        AddsBatch o limit known history.old history.new (D.image disk.old) (D.image disk.new) changes.items front added)) }
     ensures sound { OnOk result (IsSoundHistory (index_opening history.new.index) history.new.names history.new.now history.new.recent.items) }
     ensures fails { IfErr result (λ fault. IfSome (index_opening history.old.index) (λ o.
-        FailsBatch o limit known history.old (D.image disk.old) (D.image disk.new) changes.now front fault)) }
+        FailsBatch o limit known history.old (D.image disk.old) (D.image disk.new) changes.items front fault)) }
     ensures leaves { IfErr result (λ fault. LeavesHistory fault history.old history.new) }
     // the pool
     ensures pool { OnOk result (graph_now pool.new ≡ history.new.now.graph) }
@@ -88,7 +88,7 @@ fn try_batch<R: Threads, D: Disk>(
     ensures slots { (s : ℕ) → slot_graph pool.new s ≡ slot_graph pool.old s }
     // the bytes read
     ensures takes { IfSome (index_opening history.old.index) (λ o.
-        TakesOlder (D.image disk.old) o known history.old (length changes.now) (D.taken disk.old) (D.taken disk.new)) }
+        TakesOlder (D.image disk.old) o known history.old (length changes.items) (D.taken disk.old) (D.taken disk.new)) }
     ensures nothing { IfErr result (λ fault. ReadsNothing fault (D.taken disk.old) (D.taken disk.new)) }
     ensures unread { (front ≡ Front.Whole → ⊥) → D.taken disk.new ≡ D.taken disk.old }
     // causes
@@ -103,8 +103,10 @@ fn try_batch<R: Threads, D: Disk>(
     index.facts();
     history.now.facts();
     let last = last_of(index);
-    let events = prepare(&mut history.now, last, front, changes)?;
-    let left = recent_behind(alloc, index, &history.recent, &events)?;
+    // The changes are dropped with this, and the events held where they are pending: one copy of the batch.
+    prepare(&mut history.now, last, front, changes)?;
+    let events = history.now.pending();
+    let left = recent_behind(alloc, index, &history.recent, events)?;
     let segment = make_segment(
         rt,
         alloc,
@@ -114,22 +116,22 @@ fn try_batch<R: Threads, D: Disk>(
         known,
         &history.recent,
         pool,
-        &events,
+        events,
         &left,
     )?;
     // Made only now, so that they take no memory while the segment is made.
-    let net = net_of(rt, alloc, &events)?;
+    let net = net_of(rt, alloc, events)?;
     pool.make_cells(net.plus().items())?;
     keep_segment(index, disk, segment, limit)?;
-    let total = index.events_len();
+    let added = AddedBatch {
+        events: events.len() as u64,
+        total: index.events_len(),
+        last: last_instant(events),
+    };
     history.recent = left;
     history.now.commit();
     pool.pass(&net);
-    Ok(AddedBatch {
-        events: events.len() as u64,
-        total,
-        last: last_instant(&events),
-    })
+    Ok(added)
 }
 
 /// Adds the batch of the changes to the history, which had the first `known` of the names before them. The file
@@ -148,21 +150,21 @@ pub fn add_batch<R: Threads, D: Disk>(
     limit: u64,
     known: u32,
     front: Front,
-    changes: &[Change],
+    changes: Vec<Change>,
     history: &mut StoredHistory,
     pool: &mut Pool,
     disk: &mut D,
 ) -> Result<AddedBatch, BatchFault>
     requires index { is_some history.old.index ≡ true }
-    requires ready { IfSome (index_opening history.old.index) (λ o. IsReady o known history.old front changes.now) }
+    requires ready { IfSome (index_opening history.old.index) (λ o. IsReady o known history.old front changes.items) }
     requires limit { limit ≤ FILE_BYTES_MAX }
     requires image { IfSome (D.image disk.old) (λ image. IsHeldBy (index_opening history.old.index) (take known history.old.names) image) }
     requires pool { graph_now pool.old ≡ history.old.now.graph }
     // what is added, or why nothing is
     ensures adds { IfOk result (λ added. IfSome (index_opening history.old.index) (λ o.
-        AddsBatch o limit known history.old history.new (D.image disk.old) (D.image disk.new) changes.now front added)) }
+        AddsBatch o limit known history.old history.new (D.image disk.old) (D.image disk.new) changes.items front added)) }
     ensures fails { IfErr result (λ fault. IfSome (index_opening history.old.index) (λ o.
-        FailsBatch o limit known history.old (D.image disk.old) (D.image disk.new) changes.now front fault)) }
+        FailsBatch o limit known history.old (D.image disk.old) (D.image disk.new) changes.items front fault)) }
     ensures back { IfErr result (λ fault. IsBack fault known history.old history.new) }
     ensures sound { IsSoundHistory (index_opening history.new.index) history.new.names history.new.now history.new.recent.items }
     // the pool
@@ -171,7 +173,7 @@ pub fn add_batch<R: Threads, D: Disk>(
     ensures slots { (s : ℕ) → slot_graph pool.new s ≡ slot_graph pool.old s }
     // the bytes read
     ensures takes { IfSome (index_opening history.old.index) (λ o.
-        TakesOlder (D.image disk.old) o known history.old (length changes.now) (D.taken disk.old) (D.taken disk.new)) }
+        TakesOlder (D.image disk.old) o known history.old (length changes.items) (D.taken disk.old) (D.taken disk.new)) }
     ensures nothing { IfErr result (λ fault. ReadsNothing fault (D.taken disk.old) (D.taken disk.new)) }
     ensures unread { (front ≡ Front.Whole → ⊥) → D.taken disk.new ≡ D.taken disk.old }
     // causes

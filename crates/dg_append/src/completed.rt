@@ -1,6 +1,6 @@
 //! What the changes of a batch come to.
 
-ghost use Rattle.std.specs.Prelude.{◌≡◌, ◌≤◌, ◌<◌, ◌^◌, ◌++◌, ◌∷◌, List, [], Option, None, Ok, length, IfOk, IfErr, IfSome, IfNone, OnErr};
+ghost use Rattle.std.specs.Prelude.{◌≡◌, ◌≤◌, ◌<◌, ◌^◌, ◌++◌, ◌∷◌, List, [], Option, None, Ok, length, IfErr, IfSome, IfNone, OnErr, OnOk};
 ghost use Rattle.dg_append.specs.Fronts.{IsFront, lines};
 ghost use Rattle.dg_graph.specs.declared.event.Change.{Change};
 ghost use Rattle.dg_graph.specs.declared.event.Event.{Event};
@@ -9,7 +9,7 @@ ghost use Rattle.dg_history.specs.declared.limits.TheConstants.{BATCH_LINES_MAX}
 ghost use Rattle.dg_now.specs.Now.{FaultOf, earliest_time_after};
 
 use crate::front::Front;
-use dg_graph::{Change, Event, REASON_FORM};
+use dg_graph::{Change, REASON_FORM};
 use dg_now::{Now, PrepareFault};
 
 // Why the changes are refused, if they are, before a line that is no change. The graph has nothing
@@ -26,7 +26,7 @@ fn refusal_of_front(now: &mut Now, last: Option<u64>, changes: &[Change]) -> Opt
         return None;
     }
     match now.prepare(last, changes) {
-        Ok(_) => {
+        Ok(()) => {
             now.abandon();
             None
         }
@@ -54,8 +54,8 @@ fn fault_of_form(now: &mut Now, last: Option<u64>, changes: &[Change]) -> Prepar
     }
 }
 
-/// The events that the lines come to whose changes were kept, as a batch after the last time. They
-/// are pending then.
+/// Completes the lines whose changes were kept, as a batch after the last time. Their events are pending
+/// then, and the changes are dropped.
 ///
 /// `PrepareFault::BadChange` for the least line that is refused; `PrepareFault::Memory` for want of
 /// memory. Then nothing has changed.
@@ -63,24 +63,22 @@ pub(crate) fn prepare(
     now: &mut Now,
     last: Option<u64>,
     front: Front,
-    changes: &[Change],
-) -> Result<Vec<Event>, PrepareFault>
+    changes: Vec<Change>,
+) -> Result<(), PrepareFault>
     requires none_pending { now.old.pending ≡ [] }
-    requires some { front ≡ Front.Whole → 1 ≤ length changes.now }
-    requires few { length changes.now ≤ BATCH_LINES_MAX }
+    requires some { front ≡ Front.Whole → 1 ≤ length changes.items }
+    requires few { length changes.items ≤ BATCH_LINES_MAX }
     requires last { IfSome last (λ t. t < 2 ^ 63) }
-    ensures whole { IfOk result (λ events. front ≡ Front.Whole) }
-    ensures done { IfOk result (λ events.
-        completed 1 (earliest_time_after last) now.old.graph (lines changes.now) ≡ Ok events.items) }
-    ensures pending { IfOk result (λ events. now.new.pending ≡ events.items) }
-    ensures refused { IfErr result (λ fault. (all : List (Option Change)) → IsFront front changes.now all
+    ensures whole { OnOk result (front ≡ Front.Whole) }
+    ensures done { OnOk result (completed 1 (earliest_time_after last) now.old.graph (lines changes.items) ≡ Ok now.new.pending) }
+    ensures refused { IfErr result (λ fault. (all : List (Option Change)) → IsFront front changes.items all
         → FaultOf (completed 1 (earliest_time_after last) now.old.graph all) fault) }
     ensures same_graph { now.new.graph ≡ now.old.graph }
     ensures err { OnErr result (now.new ≡ now.old) }
 {
     match front {
-        Front::Whole => now.prepare(last, changes),
-        Front::Form => Err(fault_of_form(now, last, changes)),
+        Front::Whole => now.prepare(last, &changes),
+        Front::Form => Err(fault_of_form(now, last, &changes)),
         Front::Unkept => Err(PrepareFault::Memory),
     }
 }

@@ -16,7 +16,7 @@ ghost use Rattle.dg_history.specs.declared.limits.TheConstants.{EVENTS_MAX};
 ghost use Rattle.dg_history.specs.declared.node.NodeId.TheVariants.{Root};
 ghost use Rattle.dg_history.specs.History.{History, events_of, first_time_of};
 ghost use Rattle.dg_index.specs.FileOfHistory.{segment_of};
-ghost use Rattle.dg_index.specs.OpenedIndex.{events_in};
+ghost use Rattle.dg_index.specs.OpenedIndex.{event_total};
 ghost use Rattle.dg_plan.specs.IndexGraph.{arcs_of};
 ghost use Rattle.dg_plan.specs.Walks.{AreSingles};
 ghost use Rattle.dg_pool.specs.Graphs.{graph_now};
@@ -56,14 +56,14 @@ pub(crate) fn make_segment<R: Threads, D: Disk>(
     left: &[Event],
 ) -> Result<Segment, BatchFault>
     requires image { IfSome (D.image disk.old) (λ image. IsOpenedAs image index.old.opening) }
-    requires few { events_in index.old.opening.batches + length events.now ≤ EVENTS_MAX }
+    requires few { event_total index.old.opening.batches + length events.now ≤ EVENTS_MAX }
     requires some { 1 ≤ length events.now }
     requires within { known ≤ length names.now }
     requires counted { length recent.now ≡ recent_count index.old.opening }
     requires recent_fit { All (λ e. NamesFit e.body) recent.now }
     requires rises { RisesFrom (floor_of index.old.opening (first_time_of events.now)) (recent.now ++ events.now) }
     requires changes { AreChangesOf (graph_now pool.now) events.now }
-    requires left { left.now ≡ recent_behind index.old.opening.params (events_in index.old.opening.batches) recent.now events.now }
+    requires left { left.now ≡ recent_behind index.old.opening.params (event_total index.old.opening.batches) recent.now events.now }
     ensures behind { IfOk result (λ s. IsSegmentBehind index.old.opening (drop known names.now) recent.now events.now s) }
     ensures fit { OnOk result (All (λ e. NamesFit e.body) events.now) }
     ensures is { IfOk result (λ s. IfSome (D.image disk.old) (λ image. (z : History) → StandsForKept z image index.old.opening known names.now (graph_now pool.now) recent.now

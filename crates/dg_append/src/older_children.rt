@@ -5,7 +5,7 @@ ghost use Rattle.dg_append.specs.OlderGroups.{older_children};
 ghost use Rattle.dg_history.specs.declared.limits.TheConstants.{EVENTS_MAX};
 ghost use Rattle.dg_index.specs.Hierarchy.{numbers};
 ghost use Rattle.dg_index.specs.OlderNodes.{node_at, older};
-ghost use Rattle.dg_index.specs.OpenedIndex.{events_in};
+ghost use Rattle.dg_index.specs.OpenedIndex.{event_total};
 
 use dg_file::Index;
 use dg_history::NodeId;
@@ -67,7 +67,7 @@ pub(crate) fn older_children(
     index: &Index,
     count: u64,
 ) -> Result<Vec<NodeId>, AllocError>
-    requires { events_in index.now.opening.batches + count ≤ EVENTS_MAX }
+    requires { event_total index.now.opening.batches + count ≤ EVENTS_MAX }
     ensures { IfOk result (λ nodes. nodes.items ≡ older_children index.now.opening count) }
 {
     index.facts();

@@ -10,7 +10,7 @@ ghost use Rattle.dg_fold.specs.BytesRead.{TakesAtMost};
 ghost use Rattle.dg_history.specs.declared.limits.TheConstants.{EVENTS_MAX};
 ghost use Rattle.dg_history.specs.declared.node.NodeId.TheVariants.{Root};
 ghost use Rattle.dg_history.specs.History.{History};
-ghost use Rattle.dg_index.specs.OpenedIndex.{events_in};
+ghost use Rattle.dg_index.specs.OpenedIndex.{event_total};
 ghost use Rattle.dg_plan.specs.IndexGraph.{arcs_of};
 ghost use Rattle.dg_plan.specs.Walks.{AreSingles};
 ghost use Rattle.dg_retrieval.specs.KeptGraph.{record_edges, record_nodes, shape_with};
@@ -33,7 +33,7 @@ pub const GROUP_MAX: u32 = 32;
 
 // The shape of the index.
 fn shape_of(index: &Index) -> Shape
-    ensures { result ≡ shape_with index.now.opening.params (events_in index.now.opening.batches) }
+    ensures { result ≡ shape_with index.now.opening.params (event_total index.now.opening.batches) }
 {
     let Params { l, k, .. } = index.params();
     let events = index.events_len();
@@ -109,7 +109,7 @@ pub(crate) fn older_sets<R: Threads, D: Disk>(
     names: u32,
     count: u64,
 ) -> Result<Vec<Set>, RetrievalFault>
-    requires few { events_in index.old.opening.batches + count ≤ EVENTS_MAX }
+    requires few { event_total index.old.opening.batches + count ≤ EVENTS_MAX }
     requires image { IfSome (D.image disk.old) (λ image. IsOpenedAs image index.old.opening) }
     // the sets
     ensures count { IfOk result (λ sets. length sets.items ≡ length (older_children index.old.opening count)) }

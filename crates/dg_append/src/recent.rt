@@ -4,7 +4,7 @@ ghost use Rattle.std.specs.Prelude.{◌≡◌, ◌≤◌, ◌+◌, ◌-◌, ◌*
 ghost use Rattle.dg_append.specs.AddedBatches.{recent_behind};
 ghost use Rattle.dg_history.specs.declared.limits.TheConstants.{EVENTS_MAX};
 ghost use Rattle.dg_index.specs.Hierarchy.{leaves};
-ghost use Rattle.dg_index.specs.OpenedIndex.{events_in};
+ghost use Rattle.dg_index.specs.OpenedIndex.{event_total};
 
 use dg_file::Index;
 use dg_graph::Event;
@@ -20,9 +20,9 @@ fn behind(events: &[Event], count: usize) -> &[Event]
 
 // How many events stand in the lists that a batch of so many closes.
 fn closed_by(index: &Index, count: u64) -> usize
-    requires { events_in index.now.opening.batches + count ≤ EVENTS_MAX }
-    ensures { result ≡ leaves index.now.opening.params (events_in index.now.opening.batches + count) * index.now.opening.params.l
-        - leaves index.now.opening.params (events_in index.now.opening.batches) * index.now.opening.params.l }
+    requires { event_total index.now.opening.batches + count ≤ EVENTS_MAX }
+    ensures { result ≡ leaves index.now.opening.params (event_total index.now.opening.batches + count) * index.now.opening.params.l
+        - leaves index.now.opening.params (event_total index.now.opening.batches) * index.now.opening.params.l }
 {
     index.facts();
     let params = index.params();
@@ -39,8 +39,8 @@ pub(crate) fn recent_behind(
     recent: &[Event],
     events: &[Event],
 ) -> Result<Vec<Event>, AllocError>
-    requires { events_in index.now.opening.batches + length events.now ≤ EVENTS_MAX }
-    ensures { IfOk result (λ left. left.items ≡ recent_behind index.now.opening.params (events_in index.now.opening.batches) recent.now events.now) }
+    requires { event_total index.now.opening.batches + length events.now ≤ EVENTS_MAX }
+    ensures { IfOk result (λ left. left.items ≡ recent_behind index.now.opening.params (event_total index.now.opening.batches) recent.now events.now) }
 {
     let closed = closed_by(index, events.len() as u64);
     let mut left = Vec::new(alloc);

@@ -16,7 +16,7 @@ ghost use Rattle.dg_history.specs.History.{first_time_of, last_time_from};
 ghost use Rattle.dg_index.specs.FileOfHistory.{segment_of};
 ghost use Rattle.dg_index.specs.IndexGrowth.{IsDue, index_with, needed_for};
 ghost use Rattle.dg_index.specs.IndexRecords.{deltas_due};
-ghost use Rattle.dg_index.specs.OpenedIndex.{events_in};
+ghost use Rattle.dg_index.specs.OpenedIndex.{event_total};
 ghost use Rattle.dg_pool.specs.Graphs.{graph_now};
 ghost use Rattle.dg_start.specs.StoredHistory.{floor_of, recent_count};
 
@@ -87,7 +87,7 @@ fn completed_set(
 
 // The key of the delta at this place, from 0, among those that a batch of so many events gives.
 fn delta_key(alloc: Global, index: &Index, count: u64, place: usize) -> Result<Key, AllocError>
-    requires few { events_in index.now.opening.batches + count ≤ EVENTS_MAX }
+    requires few { event_total index.now.opening.batches + count ≤ EVENTS_MAX }
     requires place { place < length (deltas_due index.now.opening.params.k (leaves_before index.now.opening) (leaves_after index.now.opening count)) }
     ensures { IfOk result (λ key. IsDueDelta index.now.opening count key) }
 {
@@ -151,13 +151,13 @@ pub(crate) fn segment_of(
     left: &[Event],
     older: &[Set],
 ) -> Result<Segment, BatchFault>
-    requires few { events_in index.now.opening.batches + length events.now ≤ EVENTS_MAX }
+    requires few { event_total index.now.opening.batches + length events.now ≤ EVENTS_MAX }
     requires some { 1 ≤ length events.now }
     requires counted { length recent.now ≡ recent_count index.now.opening }
     requires recent_fit { All (λ e. NamesFit e.body) recent.now }
     requires fit { All (λ e. NamesFit e.body) events.now }
     requires rises { RisesFrom (floor_of index.now.opening (first_time_of events.now)) (recent.now ++ events.now) }
-    requires left { left.now ≡ recent_behind index.now.opening.params (events_in index.now.opening.batches) recent.now events.now }
+    requires left { left.now ≡ recent_behind index.now.opening.params (event_total index.now.opening.batches) recent.now events.now }
     requires older { length older.now ≡ length (older_children index.now.opening (length events.now)) }
     ensures behind { IfOk result (λ s. IsSegmentBehind index.now.opening (drop known names.now) recent.now events.now s) }
     ensures is { IfOk result (λ s. (past : List Event) → IsPast index.now.opening past recent.now (graph_now pool.now) events.now older.now

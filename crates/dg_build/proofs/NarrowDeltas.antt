@@ -1,13 +1,13 @@
 -- No history has a node whose deltas cannot be written.
-use Rattle.std.proofs.Common.{◌≡◌, ℕ, suc, ◌+◌, ◌^◌, ◌<◌, ◌≤◌, Bool, true, false, cond, not, ◌||◌, List, [], ◌∷◌, ◌++◌, length, map, filter, Option, Some, None, refl, sym, ap, ◌∙◌, arith, subst}
-use Rattle.std.specs.List.{flat_map}
+use Rattle.std.proofs.Common.{◌≡◌, ℕ, suc, ◌+◌, ◌^◌, ◌<◌, ◌≤◌, ◌==◌, Bool, true, false, cond, not, ◌||◌, List, [], ◌∷◌, length, map, filter, Option, Some, None, refl, sym, ap, ◌∙◌, arith, subst}
 use Rattle.std.proofs.lemmas.Bool.{lt-leb, false≢true}
 use Rattle.dg_graph.specs.declared.element.Element.{Element}
 use Rattle.dg_graph.specs.declared.event.Event.{Event}
 use Rattle.dg_history.specs.declared.params.Params.{Params}
-use Rattle.dg_graph.specs.Composition.{Delta, between}
+use Rattle.dg_graph.specs.Composition.{Delta, between, chained, reversed}
 use Rattle.dg_graph.specs.Elements.{has}
 use Rattle.dg_graph.specs.Sets.{without_all}
+use Rattle.dg_index.specs.ExactSteps.{downs}
 use Rattle.dg_index.specs.Hierarchy.{children, set_at}
 use Rattle.dg_index.proofs.NodeBounds.{node_few}
 use Rattle.dg_build.specs.declared.fault.BuildFault.{BuildFault}
@@ -64,25 +64,48 @@ pub below_end : (index : ℕ) (deltas : List Delta) (e : BuildFault) → IsFault
 below_end index deltas Memory is = tt
 below_end index deltas (Wide at) is = named index deltas at is
 
+-- where the first that is too wide is the same, so are the faults
+fault_moved : (from to : ℕ) (xs ys : List Delta) (e : BuildFault) → first_wide from xs ≡ first_wide to ys → IsFaultOfDeltas from xs e → IsFaultOfDeltas to ys e
+fault_moved from to xs ys Memory same is = tt
+fault_moved from to xs ys (Wide at) same is = sym same ∙ is
+
+-- of the deltas to the children but the first, from the next of them on
+pub others_fault : (from to : ℕ) (first way last : Delta) (left rest ways : List Delta) (e : BuildFault) → left ≡ way ∷ rest → last ≡ chained first way
+    → first_wide from (map (λ (d : Delta). chained first d) left) ≡ first_wide to (map (λ (d : Delta). chained first d) ways)
+    → IsFaultOfDeltas from (last ∷ map (λ (d : Delta). chained first d) rest) e → IsFaultOfDeltas to (map (λ (d : Delta). chained first d) ways) e
+others_fault from to first way last left rest ways e left_is last_is same is =
+    let f = λ (d : Delta). chained first d in
+    fault_moved from to (last ∷ map f rest) (map f ways) e ((λ i. first_wide from (last_is i ∷ map f rest)) ∙ ap (λ (l : List Delta). first_wide from (map f l)) (sym left_is) ∙ same) is
+
+-- of the deltas to the children, at the first of them, and behind it
+pub first_fault : (index : ℕ) (inner first : Delta) (ways : List Delta) (e : BuildFault) → first ≡ reversed inner → IsFaultOfDeltas index (first ∷ map (λ (d : Delta). chained (reversed inner) d) ways) e → IsFaultOfDeltas index (downs inner ways) e
+first_fault index inner first ways e is fault =
+    let more : List Delta = map (λ (d : Delta). chained (reversed inner) d) ways in
+    fault_moved index index (first ∷ more) (downs inner ways) e (ap (λ (d : Delta). first_wide index (d ∷ more)) is) fault
+
+pub later_fault : (index next : ℕ) (inner first : Delta) (ways : List Delta) (e : BuildFault) → first ≡ reversed inner → is_wide first ≡ false → next ≡ index + 1
+    → IsFaultOfDeltas next (map (λ (d : Delta). chained first d) ways) e → IsFaultOfDeltas index (downs inner ways) e
+later_fault index next inner first ways e is narrow next_is fault =
+    let more : List Delta = map (λ (d : Delta). chained (reversed inner) d) ways in
+    fault_moved next index (map (λ (d : Delta). chained first d) ways) (downs inner ways) e
+    ((λ i. first_wide (next_is i) (map (λ (d : Delta). chained (is i) d) ways)) ∙ sym (λ i. cond ((ap (λ (d : Delta). is_wide d) (sym is) ∙ narrow) i) (Some index) (first_wide (index + 1) more))) fault
+
+-- of the delta from the root, where there is one
+pub top_fault : (index below : ℕ) (first top : Delta) (e : BuildFault) → below ≡ 0 → top ≡ first → IsFaultOfDeltas index (top ∷ []) e → IsFaultOfDeltas index (cond (below == 0) (first ∷ []) []) e
+top_fault index below first top e none same fault =
+    fault_moved index index (top ∷ []) (cond (below == 0) (first ∷ []) []) e (ap (λ (d : Delta). first_wide index (d ∷ [])) same ∙ sym (ap (λ n. first_wide index (cond (n == 0) (first ∷ []) [])) none)) fault
+
 pub below_more : (few many : ℕ) (e : BuildFault) → few ≤ many → IsFaultBelow few e → IsFaultBelow many e
 below_more few many Memory le is = tt
 below_more few many (Wide at) le is = omega (arith, le, is)
-
-narrow_both : (xs ys : List Delta) → AreNarrow xs → AreNarrow ys → AreNarrow (xs ++ ys)
-narrow_both [] ys f g = g
-narrow_both (x ∷ xs) ys f g = (f.0, narrow_both xs ys f.1 g)
 
 narrow_downs : (p : Params) (events : List Event) → length events < 2 ^ 32 → (h j : ℕ) (ns : List ℕ) → AreNarrow (map (λ c. between (set_at p events (suc h) j) (set_at p events h c)) ns)
 narrow_downs p events few h j [] = tt
 narrow_downs p events few h j (n ∷ ns) = (narrow (set_at p events (suc h) j) (set_at p events h n) (length events) (node_few p events (suc h) j) (node_few p events h n) few, narrow_downs p events few h j ns)
 
-narrow_row : (p : Params) (events : List Event) → length events < 2 ^ 32 → (h : ℕ) (ns : List ℕ) → AreNarrow (flat_map (downs_of p events h) ns)
-narrow_row p events few h [] = tt
-narrow_row p events few h (n ∷ ns) = narrow_both (downs_of p events h n) (flat_map (downs_of p events h) ns) (narrow_downs p events few h n (children p.k n)) (narrow_row p events few h ns)
-
--- the deltas to the children of the nodes of a height
-pub downs_memory : (p : Params) (events : List Event) → length events < 2 ^ 32 → (h index : ℕ) (ns : List ℕ) (downs : List Delta) (e : BuildFault) → downs ≡ flat_map (downs_of p events h) ns → IsFaultOfDeltas index downs e → e ≡ Memory
-downs_memory p events few h index ns downs e is fault = only_memory index downs (subst AreNarrow (sym is) (narrow_row p events few h ns)) e fault
+-- the deltas to the children of a node
+pub downs_memory : (p : Params) (events : List Event) → length events < 2 ^ 32 → (h j index : ℕ) (downs : List Delta) (e : BuildFault) → downs ≡ downs_of p events h j → IsFaultOfDeltas index downs e → e ≡ Memory
+downs_memory p events few h j index downs e is fault = only_memory index downs (subst AreNarrow (sym is) (narrow_downs p events few h j (children p.k j))) e fault
 
 -- the delta from the root to the first node of a height
 pub top_memory : (p : Params) (events : List Event) → length events < 2 ^ 32 → (h j index : ℕ) (first : Bool) (node : List Element) (e : BuildFault) → node ≡ set_at p events h j → IsFaultOfDeltas index (cond first (between [] node ∷ []) []) e → e ≡ Memory

@@ -1,5 +1,6 @@
 -- The new nodes of the next height.
-use Rattle.std.proofs.Common.{◌≡◌, ℕ, zero, suc, ◌+◌, ◌-◌, ◌*◌, ◌/◌, ◌<◌, ◌≤◌, ◌==◌, Bool, true, false, cond, List, [], ◌∷◌, ◌++◌, length, get_or, map, refl, sym, ap, ◌∙◌, arith, append_assoc, length-append}
+use Rattle.std.proofs.Common.{◌≡◌, ℕ, zero, suc, ◌+◌, ◌-◌, ◌*◌, ◌/◌, ◌<◌, ◌≤◌, ◌==◌, Bool, true, false, cond, List, [], ◌∷◌, ◌++◌, length, get_or, map, refl, sym, ap, ◌∙◌, arith, add-mul, append_assoc, length-append}
+use Rattle.std.specs.List.{flat_map}
 use Rattle.std.proofs.lemmas.Bool.{ne_eqb}
 use Rattle.std.proofs.lemmas.List.{map-append, length-map}
 use Rattle.dg_graph.specs.declared.element.Element.{Element}
@@ -7,10 +8,10 @@ use Rattle.dg_graph.specs.declared.event.Event.{Event}
 use Rattle.dg_history.specs.declared.params.Params.{Params}
 use Rattle.dg_graph.specs.Composition.{Delta, between, applied}
 use Rattle.dg_delta.proofs.Deltas.{between_leads_on}
-use Rattle.dg_index.specs.Hierarchy.{set_at}
+use Rattle.dg_index.specs.Hierarchy.{numbers, set_at}
 use Rattle.dg_index.specs.FileOfHistory.{Segment, Stored}
 use Rattle.dg_index.proofs.InteriorNodes.{IsSet-node}
-use Rattle.dg_build.specs.InteriorDeltas.{AreNewNodes, AreOlderSets, Climbs, DiffersInDeltas, Rises, deltas_added, stored_delta}
+use Rattle.dg_build.specs.InteriorDeltas.{AreMade, AreNewNodes, AreOlderSets, DiffersInDeltas, Rises, deltas_added, downs_of, stored_delta}
 use Rattle.dg_build.proofs.RowSteps.{base_is}
 
 -- ---- segments that differ in their deltas alone
@@ -24,16 +25,17 @@ differs_on a b c first later = later ∙ (λ i. record (first i) { deltas = c.de
 pub differs_not : (a : Segment) → DiffersInDeltas a a
 differs_not a = refl
 
--- what is written of a height: its top, where there is one, and its downs
-pub record Spells (old new : Segment) (tops downs : List Delta) : Type 0 where
+-- what is written of a height: its top, where there is one, the downs of its first node, and then those of the others
+pub record Spells (old new : Segment) (tops downs : List Delta) (later : List Stored) : Type 0 where
   pub differs : DiffersInDeltas old new
-  pub adds : new.deltas ≡ old.deltas ++ map stored_delta (tops ++ downs)
+  pub adds : new.deltas ≡ old.deltas ++ (map stored_delta (tops ++ downs) ++ later)
 
-pub spells : (old mid new : Segment) (tops downs : List Delta) → mid ≡ record old { deltas = old.deltas ++ map stored_delta tops } → new ≡ record mid { deltas = mid.deltas ++ map stored_delta downs } → Spells old new tops downs
-spells old mid new tops downs first later = record {
-  differs = differs_on old mid new (differs_by old mid _ first) (differs_by mid new _ later);
-  adds = ap (λ (s : Segment). s.deltas) later ∙ ap (λ (s : Segment). s.deltas ++ map stored_delta downs) first
-      ∙ append_assoc old.deltas (map stored_delta tops) (map stored_delta downs) ∙ ap (λ (l : List Stored). old.deltas ++ l) (sym (map-append stored_delta tops downs));
+pub spells : (old top mid new : Segment) (tops downs : List Delta) (later : List Stored) → top ≡ record old { deltas = old.deltas ++ map stored_delta tops } → mid ≡ record top { deltas = top.deltas ++ map stored_delta downs }
+    → DiffersInDeltas mid new → new.deltas ≡ mid.deltas ++ later → Spells old new tops downs later
+spells old top mid new tops downs later first downs_are differs adds = record {
+  differs = differs_on old mid new (differs_on old top mid (differs_by old top _ first) (differs_by top mid _ downs_are)) differs;
+  adds = adds ∙ (λ i. (downs_are i).deltas ++ later) ∙ (λ i. ((first i).deltas ++ map stored_delta downs) ++ later) ∙ ap (λ (l : List Stored). l ++ later) (append_assoc old.deltas (map stored_delta tops) (map stored_delta downs))
+      ∙ append_assoc old.deltas (map stored_delta tops ++ map stored_delta downs) later ∙ ap (λ (l : List Stored). old.deltas ++ (l ++ later)) (sym (map-append stored_delta tops downs));
 }
 
 -- ---- how many deltas
@@ -42,18 +44,16 @@ top_length : (t : Bool) (node : List Element) → length (cond t (between [] nod
 top_length true node = refl
 top_length false node = refl
 
-pub adds_row : (k q end : ℕ) (old new : Segment) (downs : List Delta) (node : List Element) → length downs ≡ (end / k - q / k) * k → Spells old new (cond (q / k == 0) (between [] node ∷ []) []) downs
-    → length new.deltas ≡ length old.deltas + deltas_added k (q / k) (end / k)
-adds_row k q end old new downs node many is =
-    let top : List Delta = cond (q / k == 0) (between [] node ∷ []) [] in
-    omega (arith, ap (λ (l : List Stored). length l) is.adds, length-append old.deltas (map stored_delta (top ++ downs)), length-map (top ++ downs) stored_delta, length-append top downs, top_length (q / k == 0) node, many)
+pub deltas_length : (old new : Segment) (made : List Delta) → new ≡ record old { deltas = old.deltas ++ map stored_delta made } → length new.deltas ≡ length old.deltas + length made
+deltas_length old new made is = ap (λ (s : Segment). length s.deltas) is ∙ length-append old.deltas (map stored_delta made) ∙ ap (λ n. length old.deltas + n) (length-map made stored_delta)
 
--- those behind the top, and all
-pub adds_in_all : (k q end : ℕ) (old mid : Segment) (downs : List Delta) (node : List Element) → length downs ≡ (end / k - q / k) * k → mid ≡ record old { deltas = old.deltas ++ map stored_delta (cond (q / k == 0) (between [] node ∷ []) []) }
-    → length mid.deltas + length downs ≡ length old.deltas + deltas_added k (q / k) (end / k)
-adds_in_all k q end old mid downs node many is =
-    let top : List Delta = cond (q / k == 0) (between [] node ∷ []) [] in
-    omega (arith, ap (λ (s : Segment). length s.deltas) is, length-append old.deltas (map stored_delta top), length-map top stored_delta, top_length (q / k == 0) node, many)
+-- those up to the top, up to the first node, and all
+pub tops_added : (k q end : ℕ) (old top : Segment) (node : List Element) → q / k < end / k → top ≡ record old { deltas = old.deltas ++ map stored_delta (cond (q / k == 0) (between [] node ∷ []) []) }
+    → length top.deltas + k + (end / k - q / k - 1) * k ≡ length old.deltas + deltas_added k (q / k) (end / k)
+tops_added k q end old top node due is =
+    let tops : List Delta = cond (q / k == 0) (between [] node ∷ []) [] in
+    let split : (end / k - q / k) * k ≡ (end / k - q / k - 1) * k + 1 * k = ap (λ n. n * k) (let e : end / k - q / k ≡ end / k - q / k - 1 + 1 = omega (arith, due) in e) ∙ add-mul (end / k - q / k - 1) 1 k in
+    omega (arith, ap (λ (s : Segment). length s.deltas) is, length-append old.deltas (map stored_delta tops), length-map tops stored_delta, top_length (q / k == 0) node, split)
 
 pub top_within : (k q end : ℕ) (node : List Element) → length (cond (q / k == 0) (between [] node ∷ []) []) ≤ deltas_added k (q / k) (end / k)
 top_within k q end node = omega (arith, top_length (q / k == 0) node)
@@ -63,22 +63,28 @@ top_within k q end node = omega (arith, top_length (q / k == 0) node)
 module _ (p : Params) (events : List Event) (h q end : ℕ) (two : 2 ≤ p.k) (due : q / p.k < end / p.k) (sets : List (List Element)) (first : List Element) (steps : List Delta)
     (are_new : AreNewNodes p events h q end first steps) (are_older : AreOlderSets p events h q sets) where
   -- the first new node
-  pub node_there : (inner : Delta) (up downs : List Delta) (node : List Element) → Climbs p events h (q / p.k) (end / p.k - q / p.k) downs inner up → node ≡ applied inner (get_or sets 0 first) → node ≡ set_at p events (suc h) (q / p.k + 1)
-  node_there inner up downs node climbs node_is =
+  pub node_there : (inner : Delta) (node : List Element) → inner ≡ between (set_at p events h (q / p.k * p.k + 1)) (set_at p events (suc h) (q / p.k + 1)) → node ≡ applied inner (get_or sets 0 first) → node ≡ set_at p events (suc h) (q / p.k + 1)
+  node_there inner node inner_is node_is =
       let a : ℕ = q / p.k * p.k + 1 in
       let base = base_is p events h q end two due sets first steps are_new are_older in
-      node_is ∙ (λ i. applied (climbs.first_is i) (base i)) ∙ between_leads_on (set_at p events h a) (set_at p events (suc h) (q / p.k + 1)) (IsSet-node p events h a) (IsSet-node p events (suc h) (q / p.k + 1))
+      node_is ∙ (λ i. applied (inner_is i) (base i)) ∙ between_leads_on (set_at p events h a) (set_at p events (suc h) (q / p.k + 1)) (IsSet-node p events h a) (IsSet-node p events (suc h) (q / p.k + 1))
 
-  pub rises : (inner : Delta) (up downs : List Delta) (node : List Element) (old new : Segment) → Climbs p events h (q / p.k) (end / p.k - q / p.k) downs inner up → node ≡ applied inner (get_or sets 0 first)
-      → Spells old new (cond (q / p.k == 0) (between [] node ∷ []) []) downs → Rises p events h (q / p.k) (end / p.k) node up old new
-  rises inner up downs node old new climbs node_is spelled =
-      let there = node_there inner up downs node climbs node_is in
+  pub rises : (up downs : List Delta) (node : List Element) (old mid new : Segment) → node ≡ set_at p events (suc h) (q / p.k + 1) → downs ≡ downs_of p events h (q / p.k + 1)
+      → AreMade p events h (q / p.k + 1) (end / p.k - q / p.k - 1) up mid new
+      → Spells old new (cond (q / p.k == 0) (between [] node ∷ []) []) downs (map stored_delta (flat_map (downs_of p events h) (numbers (q / p.k + 1 + 1) (end / p.k - q / p.k - 1)))) → Rises p events h (q / p.k) (end / p.k) node up old new
+  rises up downs node old mid new there downs_are made spelled =
+      let b : ℕ = q / p.k in
+      let n : ℕ = end / p.k - b - 1 in
+      let top : List Delta = cond (b == 0) (between [] (set_at p events (suc h) 1) ∷ []) [] in
+      let later : List Delta = flat_map (downs_of p events h) (numbers (b + 1 + 1) n) in
       record {
         nodes = record {
           first_is = there;
-          steps_are = climbs.steps_are;
+          steps_are = made.steps_are;
         };
-        adds = spelled.adds ∙ (λ i. old.deltas ++ map stored_delta (by (q / p.k) there i ++ climbs.downs_are i));
+        adds = spelled.adds ∙ (λ i. old.deltas ++ (map stored_delta (by b there i ++ downs_are i) ++ map stored_delta later))
+            ∙ ap (λ (l : List Stored). old.deltas ++ l) (sym (map-append stored_delta (top ++ downs_of p events h (b + 1)) later)) ∙ ap (λ (l : List Delta). old.deltas ++ map stored_delta l) (append_assoc top (downs_of p events h (b + 1)) later)
+            ∙ ap (λ m. old.deltas ++ map stored_delta (top ++ flat_map (downs_of p events h) (numbers (b + 1) m))) (let e : suc n ≡ end / p.k - b = omega (arith, due) in e);
       }
     where
       by : (b : ℕ) → node ≡ set_at p events (suc h) (b + 1) → cond (b == 0) (between [] node ∷ []) [] ≡ cond (b == 0) (between [] (set_at p events (suc h) 1) ∷ []) []

@@ -1,48 +1,36 @@
 -- The nodes of a height, group by group.
-use Rattle.std.proofs.Common.{◌≡◌, ℕ, zero, suc, ◌+◌, ◌-◌, ◌*◌, ◌<◌, ◌≤◌, List, [], ◌∷◌, ◌++◌, get_or, map, take, drop, refl, sym, ap, subst, ◌∙◌, arith, add-mul, append-nil, mul-le-mul_right}
+use Rattle.std.proofs.Common.{◌≡◌, ℕ, suc, ◌+◌, ◌-◌, ◌*◌, ◌<◌, ◌≤◌, List, [], ◌∷◌, ◌++◌, get_or, length, map, take, drop, refl, sym, ap, ◌∙◌, arith, add-mul, append-nil, append_assoc, length-drop, length-take-le, mul-le-mul_right}
 use Rattle.std.specs.List.{flat_map}
 use Rattle.std.proofs.lemmas.List.{take_at, drop_at, length-map, map-append}
 use Rattle.std.proofs.lemmas.List.Concat.{flat_map-append}
-use Rattle.dg_graph.specs.declared.element.Element.{Element}
 use Rattle.dg_graph.specs.declared.event.Event.{Event}
 use Rattle.dg_history.specs.declared.params.Params.{Params}
-use Rattle.dg_graph.specs.Composition.{Delta, between, reversed, chained}
+use Rattle.dg_graph.specs.Composition.{Delta, between, chained}
 use Rattle.dg_index.specs.Hierarchy.{numbers, set_at}
+use Rattle.dg_index.specs.FileOfHistory.{Segment, Stored}
 use Rattle.dg_graph.specs.DifferentialFunction.{inward}
 use Rattle.dg_index.specs.ExactSteps.{ways_of, downs, steps_at}
 use Rattle.dg_index.proofs.DueNodes.{numbers_length, numbers_append}
-use Rattle.dg_graph.proofs.ExactDeltas.{to_all, chained_between}
-use Rattle.dg_index.proofs.InteriorNodes.{IsSet-node, ways_node, inward_node, downs_node, step_up}
-use Rattle.dg_build.specs.InteriorDeltas.{last_way, downs_of, Climbs}
+use Rattle.dg_index.proofs.InteriorNodes.{ways_node, inward_node, downs_node, step_up}
+use Rattle.dg_build.proofs.LastWays.{last_numbered, ways_length, downs_length}
+use Rattle.dg_build.specs.InteriorDeltas.{last_way, downs_of, stored_delta, AreMade, IsBehind, IsNextNode}
 
 -- ---- parts of a row of steps
 
 abbrev step_of : Params → List Event → ℕ → ℕ → Delta
 step_of p events h c = between (set_at p events h c) (set_at p events h (c + 1))
 
-pub steps_slice : (p : Params) (events : List Event) (h a m i n : ℕ) → i + n ≤ m → take n (drop i (steps_at p events h a m)) ≡ steps_at p events h (a + i) n
-steps_slice p events h a m i n le =
-    let f = step_of p events h in
-    let r : ℕ = m - (i + n) in
-    let front : List Delta = map f (numbers a i) in
-    let mid : List Delta = map f (numbers (a + i) n) in
-    let rest : List Delta = map f (numbers (a + i + n) r) in
-    let cut : numbers a m ≡ numbers a i ++ (numbers (a + i) n ++ numbers (a + i + n) r) =
-    ap (numbers a) (let e : m ≡ i + (n + r) = omega (arith, le) in e) ∙ numbers_append a i (n + r) ∙ ap (λ (l : List ℕ). numbers a i ++ l) (numbers_append (a + i) n r) in
-    let all : steps_at p events h a m ≡ front ++ (mid ++ rest) =
-    ap (map f) cut ∙ map-append f (numbers a i) (numbers (a + i) n ++ numbers (a + i + n) r) ∙ ap (λ (l : List Delta). front ++ l) (map-append f (numbers (a + i) n) (numbers (a + i + n) r)) in
-    ap (λ (l : List Delta). take n (drop i l)) all
-    ∙ ap (take n) (drop_at front (mid ++ rest) i (length-map (numbers a i) f ∙ numbers_length a i))
-    ∙ take_at mid rest n (length-map (numbers (a + i) n) f ∙ numbers_length (a + i) n)
+pub steps_cut : (p : Params) (events : List Event) (h a n r : ℕ) → steps_at p events h a (n + r) ≡ steps_at p events h a n ++ steps_at p events h (a + n) r
+steps_cut p events h a n r = ap (map (step_of p events h)) (numbers_append a n r) ∙ map-append (step_of p events h) (numbers a n) (numbers (a + n) r)
 
-pub step_there : (p : Params) (events : List Event) (h a m i : ℕ) (d : Delta) → i < m → get_or (steps_at p events h a m) i d ≡ step_of p events h (a + i)
-step_there p events h a zero i d lt = absurd (omega (arith, lt))
-step_there p events h a (suc m) zero d lt = ap (step_of p events h) (let e : a ≡ a + 0 = omega arith in e)
-step_there p events h a (suc m) (suc i) d lt = step_there p events h (a + 1) m i d (omega (arith, lt)) ∙ ap (step_of p events h) (let e : a + 1 + i ≡ a + suc i = omega arith in e)
+steps_length : (p : Params) (events : List Event) (h a n : ℕ) → length (steps_at p events h a n) ≡ n
+steps_length p events h a n = length-map (numbers a n) (step_of p events h) ∙ numbers_length a n
 
-last_of : (f : ℕ → List Element) (s : List Element) (b n : ℕ) → last_way (to_all s (map f (numbers b (suc n)))) ≡ between s (f (b + n))
-last_of f s b zero = ap (λ m. between s (f m)) (let e : b ≡ b + 0 = omega arith in e)
-last_of f s b (suc n) = last_of f s (b + 1) n ∙ ap (λ m. between s (f m)) (let e : b + 1 + n ≡ b + suc n = omega arith in e)
+pub steps_front : (p : Params) (events : List Event) (h a n r : ℕ) → take n (steps_at p events h a (n + r)) ≡ steps_at p events h a n
+steps_front p events h a n r = ap (take n) (steps_cut p events h a n r) ∙ take_at (steps_at p events h a n) (steps_at p events h (a + n) r) n (steps_length p events h a n)
+
+pub steps_back : (p : Params) (events : List Event) (h a n r : ℕ) → drop n (steps_at p events h a (n + r)) ≡ steps_at p events h (a + n) r
+steps_back p events h a n r = ap (drop n) (steps_cut p events h a n r) ∙ drop_at (steps_at p events h a n) (steps_at p events h (a + n) r) n (steps_length p events h a n)
 
 -- ---- one group
 
@@ -51,86 +39,178 @@ pub record IsGroup (p : Params) (events : List Event) (h j : ℕ) (inner last : 
   pub last_is : last ≡ between (set_at p events (suc h) j) (set_at p events h (j * p.k))
   pub more_is : more ≡ downs_of p events h j
 
-pub group_is : (p : Params) (events : List Event) (h j : ℕ) (g : List Delta) (inner last : Delta) → 1 ≤ j → 2 ≤ p.k → g ≡ steps_at p events h ((j - 1) * p.k + 1) (p.k - 1)
-    → inner ≡ inward p.function (ways_of g) → last ≡ chained (reversed inner) (last_way (ways_of g)) → IsGroup p events h j inner last (downs inner (ways_of g))
-group_is p events h j g inner last some two same_g is_inner is_last =
-    let s = set_at p events h in
+pub group_is : (p : Params) (events : List Event) (h j : ℕ) (g : List Delta) (inner last : Delta) (more : List Delta) → 1 ≤ j → 2 ≤ p.k → g ≡ steps_at p events h ((j - 1) * p.k + 1) (p.k - 1)
+    → inner ≡ inward p.function (ways_of g) → more ≡ downs inner (ways_of g) → last ≡ last_way more → IsGroup p events h j inner last more
+group_is p events h j g inner last more some two same_g is_inner is_more is_last =
+    let t = set_at p events (suc h) j in
+    let f = λ (c : ℕ). between t (set_at p events h c) in
     let a : ℕ = (j - 1) * p.k + 1 in
     let ways = ap ways_of same_g ∙ ways_node p events h j some two in
-    let inner_is : inner ≡ between (s a) (set_at p events (suc h) j) = is_inner ∙ ap (λ (l : List Delta). inward p.function (ways_of l)) same_g ∙ inward_node p events h j some two in
-    let end : a + 1 + (p.k - 2) ≡ j * p.k = omega (arith, sym (add-mul (j - 1) 1 p.k) ∙ ap (λ n. n * p.k) (let e : j - 1 + 1 ≡ j = omega (arith, some) in e), two) in
-    let last_step : last_way (ways_of g) ≡ between (s a) (s (j * p.k)) =
-    ap last_way (ways ∙ ap (λ n. to_all (s a) (map s (numbers (a + 1) n))) (let e : p.k - 1 ≡ suc (p.k - 2) = omega (arith, two) in e)) ∙ last_of s (s a) (a + 1) (p.k - 2) ∙ ap (λ n. between (s a) (s n)) end in
+    let inner_is = is_inner ∙ ap (λ (l : List Delta). inward p.function (ways_of l)) same_g ∙ inward_node p events h j some two in
+    let more_is = is_more ∙ downs_node p events h j some two inner (ways_of g) inner_is ways in
+    let long : p.k ≡ suc (p.k - 1) = omega (arith, two) in
+    let end : a + (p.k - 1) ≡ j * p.k = omega (arith, sym (add-mul (j - 1) 1 p.k) ∙ ap (λ n. n * p.k) (let e : j - 1 + 1 ≡ j = omega (arith, some) in e), two) in
     record {
       inner_is = inner_is;
-      last_is = is_last ∙ (λ i. chained (reversed (inner_is i)) (last_step i)) ∙ chained_between (set_at p events (suc h) j) (s a) (s (j * p.k)) (IsSet-node p events (suc h) j) (IsSet-node p events h a) (IsSet-node p events h (j * p.k));
-      more_is = downs_node p events h j some two inner (ways_of g) inner_is ways;
+      last_is = is_last ∙ ap last_way (more_is ∙ ap (λ n. map f (numbers a n)) long) ∙ last_numbered f a (p.k - 1) ∙ ap f end;
+      more_is = more_is;
     }
 
--- ---- group after group
+-- ---- the node behind another
+
+-- the step to its first child, those behind it, and those between its children
+record NextGroup (p : Params) (events : List Event) (h j more : ℕ) (step : Delta) (rest : List Delta) : Type 0 where
+  pub step_is : step ≡ between (set_at p events h (j * p.k)) (set_at p events h (j * p.k + 1))
+  pub rest_are : rest ≡ steps_at p events h (j * p.k + 1) (p.k - 1 + (more - 1) * p.k)
+  pub group_are : take (p.k - 1) rest ≡ steps_at p events h ((j + 1 - 1) * p.k + 1) (p.k - 1)
+
+-- the number of its first child
+first_child : (j k : ℕ) → j * k + 1 ≡ (j + 1 - 1) * k + 1
+first_child j k = ap (λ n. n * k + 1) (let e : j ≡ j + 1 - 1 = omega arith in e)
+
+next_group : (p : Params) (events : List Event) (h j more : ℕ) (last step : Delta) (row rest : List Delta) → 2 ≤ p.k → 1 ≤ more → IsBehind p events h j more last row → row ≡ step ∷ rest → NextGroup p events h j more step rest
+next_group p events h j more last step row rest two some so row_is =
+    let c : ℕ = j * p.k in
+    let m : ℕ = p.k - 1 + (more - 1) * p.k in
+    let all : more * p.k ≡ suc m = omega (arith, sym (add-mul (more - 1) 1 p.k) ∙ ap (λ n. n * p.k) (let e : more - 1 + 1 ≡ more = omega (arith, some) in e), two) in
+    let whole : step ∷ rest ≡ step_of p events h c ∷ steps_at p events h (c + 1) m = sym row_is ∙ so.row_is ∙ ap (steps_at p events h c) all in
+    let rest_are : rest ≡ steps_at p events h (c + 1) m = ap (λ (l : List Delta). drop 1 l) whole in
+    record {
+      step_is = ap (λ (l : List Delta). get_or l 0 step) whole;
+      rest_are = rest_are;
+      group_are = ap (take (p.k - 1)) rest_are ∙ steps_front p events h (c + 1) (p.k - 1) ((more - 1) * p.k) ∙ ap (λ n. steps_at p events h n (p.k - 1)) (first_child j p.k);
+    }
+
+pub next_is : (p : Params) (events : List Event) (h j more : ℕ) (last step : Delta) (row rest row2 : List Delta) (inner link last2 : Delta) (made : List Delta) (old new : Segment) → 2 ≤ p.k → 1 ≤ more
+    → IsBehind p events h j more last row → row ≡ step ∷ rest → row2 ≡ drop (p.k - 1) rest
+    → inner ≡ inward p.function (ways_of (take (p.k - 1) rest)) → link ≡ chained (chained last step) inner → made ≡ downs inner (ways_of (take (p.k - 1) rest)) → last2 ≡ last_way made
+    → new ≡ record old { deltas = old.deltas ++ map stored_delta made } → IsNextNode p events h j more link last2 row2 old new
+next_is p events h j more last step row rest row2 inner link last2 made old new two some so row_is row2_is inner_is link_is made_is last_is new_is =
+    let s = set_at p events h in
+    let t = set_at p events (suc h) in
+    let c : ℕ = j * p.k in
+    let n = next_group p events h j more last step row rest two some so row_is in
+    let r = group_is p events h (j + 1) (take (p.k - 1) rest) inner last2 made (omega arith) two n.group_are inner_is made_is last_is in
+    let inner_here : inner ≡ between (s (c + 1)) (t (j + 1)) = r.inner_is ∙ ap (λ n. between (s n) (t (j + 1))) (sym (first_child j p.k)) in
+    record {
+      step_is = link_is ∙ (λ i. chained (chained (so.last_is i) (n.step_is i)) (inner_here i)) ∙ step_up p events h j c (c + 1);
+      adds = ap (λ (x : Segment). x.deltas) new_is ∙ ap (λ (l : List Delta). old.deltas ++ map stored_delta l) r.more_is;
+      behind = record {
+        last_is = r.last_is;
+        row_is = row2_is ∙ ap (drop (p.k - 1)) n.rest_are ∙ steps_back p events h (c + 1) (p.k - 1) ((more - 1) * p.k)
+            ∙ ap (λ n. steps_at p events h n ((more - 1) * p.k)) (let e : c + 1 + (p.k - 1) ≡ (j + 1) * p.k = omega (arith, two, add-mul j 1 p.k) in e);
+      };
+    }
+
+-- the deltas to its children
+pub next_made : (p : Params) (events : List Event) (h j more : ℕ) (last step : Delta) (row rest : List Delta) (inner : Delta) (made : List Delta) → 2 ≤ p.k → 1 ≤ more
+    → IsBehind p events h j more last row → row ≡ step ∷ rest → inner ≡ inward p.function (ways_of (take (p.k - 1) rest)) → made ≡ downs inner (ways_of (take (p.k - 1) rest)) → made ≡ downs_of p events h (j + 1)
+next_made p events h j more last step row rest inner made two some so row_is inner_is made_is =
+    (group_is p events h (j + 1) (take (p.k - 1) rest) inner (last_way made) made (omega arith) two (next_group p events h j more last step row rest two some so row_is).group_are inner_is made_is refl).more_is
+
+-- of any input, the row without the steps of a node, and as many deltas as a node has children
+pub rest_is : (k : ℕ) (step : Delta) (row rest row2 : List Delta) → 2 ≤ k → row ≡ step ∷ rest → row2 ≡ drop (k - 1) rest → row2 ≡ drop k row
+rest_is k step row rest row2 two row_is row2_is =
+    row2_is ∙ ap (λ n. drop n (step ∷ rest)) (let e : suc (k - 1) ≡ k = omega (arith, two) in e) ∙ ap (drop k) (sym row_is)
+
+pub made_length : (k : ℕ) (row made : List Delta) (inner : Delta) → 2 ≤ k → k - 1 ≤ length row → made ≡ downs inner (ways_of (take (k - 1) row)) → length made ≡ k
+made_length k row made inner two long is =
+    omega (arith, two, ap (λ (l : List Delta). length l) is, downs_length inner (ways_of (take (k - 1) row)), ways_length (take (k - 1) row), length-take-le (k - 1) row long)
+
+-- ---- node after node
+
+-- how much of the row is left, and how many deltas may be added
+pub so_many : (k more i : ℕ) → i < more → i * k + k ≤ more * k
+so_many k more i lt = omega (arith, mul-le-mul_right k (let e : i + 1 ≤ more = omega (arith, lt) in e), add-mul i 1 k)
+
+pub row_left : (k more i row : ℕ) → i < more → row ≡ (more - i) * k → k ≤ row
+row_left k more i row lt is = omega (arith, is, mul-le-mul_right k (let e : 1 ≤ more - i = omega (arith, lt) in e))
+
+pub row_after : (k more i next : ℕ) (row row2 : List Delta) → i < more → next ≡ i + 1 → length row ≡ (more - i) * k → row2 ≡ drop k row → length row2 ≡ (more - next) * k
+row_after k more i next row row2 lt next_is long is =
+    let split : (more - i) * k ≡ (more - next) * k + 1 * k = ap (λ n. n * k) (let e : more - i ≡ more - next + 1 = omega (arith, lt, next_is) in e) ∙ add-mul (more - next) 1 k in
+    omega (arith, ap (λ (l : List Delta). length l) is, length-drop k row, long, split)
+
+-- behind the first node of so many
+pub row_behind : (k count : ℕ) (row row2 : List Delta) → 2 ≤ k → 1 ≤ count → length row + 1 ≡ count * k → row2 ≡ drop (k - 1) row → length row2 ≡ (count - 1) * k
+row_behind k count row row2 two some long is =
+    let split : count * k ≡ (count - 1) * k + 1 * k = ap (λ n. n * k) (let e : count ≡ count - 1 + 1 = omega (arith, some) in e) ∙ add-mul (count - 1) 1 k in
+    omega (arith, two, ap (λ (l : List Delta). length l) is, length-drop (k - 1) row, long, split)
 
 -- so many of the nodes are made
-pub record ClimbsSoFar (p : Params) (events : List Event) (h q i : ℕ) (out : List Delta) (last : Delta) (up : List Delta) : Type 0 where
-  pub downs : out ≡ flat_map (downs_of p events h) (numbers (q + 1) i)
-  pub last_is : last ≡ between (set_at p events (suc h) (q + i)) (set_at p events h ((q + i) * p.k))
-  pub steps : up ≡ steps_at p events (suc h) (q + 1) (i - 1)
+pub record NodesSoFar (p : Params) (events : List Event) (h j more i : ℕ) (steps : List Delta) (last : Delta) (row : List Delta) (old now : Segment) : Type 0 where
+  pub behind : IsBehind p events h (j + i) (more - i) last row
+  pub made : AreMade p events h j i steps old now
 
-module _ (p : Params) (events : List Event) (h q count : ℕ) (steps : List Delta) (two : 2 ≤ p.k)
-    (is : steps ≡ steps_at p events h (q * p.k + 1) (count * p.k - 1)) where
-  -- the steps within group i
-  pub group_there : (i : ℕ) (g : List Delta) (inner last : Delta) → i < count → g ≡ take (p.k - 1) (drop (i * p.k) steps) → inner ≡ inward p.function (ways_of g) → last ≡ chained (reversed inner) (last_way (ways_of g))
-      → IsGroup p events h (q + 1 + i) inner last (downs inner (ways_of g))
-  group_there i g inner last lt g_is is_inner is_last =
-      let m : (i + 1) * p.k ≤ count * p.k = mul-le-mul_right p.k (let e : i + 1 ≤ count = omega (arith, lt) in e) in
-      let slice : g ≡ steps_at p events h (q * p.k + 1 + i * p.k) (p.k - 1) = g_is ∙ ap (λ (l : List Delta). take (p.k - 1) (drop (i * p.k) l)) is ∙ steps_slice p events h (q * p.k + 1) (count * p.k - 1) (i * p.k) (p.k - 1) (omega (arith, m, add-mul i 1 p.k, two)) in
-      let first : q * p.k + 1 + i * p.k ≡ (q + 1 + i - 1) * p.k + 1 = omega (arith, sym (add-mul q i p.k) ∙ ap (λ n. n * p.k) (let e : q + i ≡ q + 1 + i - 1 = omega arith in e)) in
-      let there : g ≡ steps_at p events h ((q + 1 + i - 1) * p.k + 1) (p.k - 1) = slice ∙ ap (λ n. steps_at p events h n (p.k - 1)) first in
-      group_is p events h (q + 1 + i) g inner last (omega arith) two there is_inner is_last
+pub nodes_first : (p : Params) (events : List Event) (h j more : ℕ) (steps : List Delta) (last : Delta) (row : List Delta) (old : Segment) → steps ≡ [] → IsBehind p events h j more last row → NodesSoFar p events h j more 0 steps last row old old
+nodes_first p events h j more steps last row old none so = record {
+  behind = record {
+    last_is = so.last_is ∙ ap (λ n. between (set_at p events (suc h) n) (set_at p events h (n * p.k))) (let e : j ≡ j + 0 = omega arith in e);
+    row_is = so.row_is ∙ (λ i. steps_at p events h (same i * p.k) (all i * p.k));
+  };
+  made = record { steps_are = none; adds = sym (append-nil old.deltas) };
+}
+  where
+    same : j ≡ j + 0
+    same = omega arith
 
-  pub so_far_first : (out : List Delta) (g : List Delta) (inner last : Delta) → 1 ≤ count → g ≡ take (p.k - 1) steps → inner ≡ inward p.function (ways_of g) → last ≡ chained (reversed inner) (last_way (ways_of g)) → out ≡ downs inner (ways_of g)
-      → ClimbsSoFar p events h q 1 out last []
-  so_far_first out g inner last some g_is is_inner is_last is_out =
-      let r = group_there 0 g inner last (omega (arith, some)) (g_is ∙ ap (λ n. take (p.k - 1) (drop n steps)) (let e : 0 ≡ 0 * p.k = omega arith in e)) is_inner is_last in
+    all : more ≡ more - 0
+    all = omega arith
+
+pub nodes_more : (p : Params) (events : List Event) (h j more i : ℕ) (steps : List Delta) (last : Delta) (row : List Delta) (old now : Segment) (link last2 : Delta) (row2 steps2 : List Delta) (new : Segment)
+    → NodesSoFar p events h j more i steps last row old now → IsNextNode p events h (j + i) (more - i) link last2 row2 now new → steps2 ≡ steps ++ link ∷ [] → NodesSoFar p events h j more (i + 1) steps2 last2 row2 old new
+nodes_more p events h j more i steps last row old now link last2 row2 steps2 new so next steps2_is =
+    let before : List Delta = flat_map (downs_of p events h) (numbers (j + 1) i) in
+    record {
+      behind = record {
+        last_is = next.behind.last_is ∙ ap (λ n. between (set_at p events (suc h) n) (set_at p events h (n * p.k))) on;
+        row_is = next.behind.row_is ∙ (λ x. steps_at p events h (on x * p.k) (left x * p.k));
+      };
+      made = record {
+        steps_are = steps2_is ∙ (λ x. so.made.steps_are x ++ next.step_is x ∷ []) ∙ sym (steps_cut p events (suc h) j i 1);
+        adds = next.adds ∙ (λ x. so.made.adds x ++ map stored_delta (downs_of p events h (there x)))
+            ∙ append_assoc old.deltas (map stored_delta before) (map stored_delta (downs_of p events h (j + 1 + i)))
+            ∙ ap (λ (l : List Stored). old.deltas ++ l) (sym (map-append stored_delta before (downs_of p events h (j + 1 + i))))
+            ∙ ap (λ (l : List Delta). old.deltas ++ map stored_delta (before ++ l)) (sym (append-nil (downs_of p events h (j + 1 + i))))
+            ∙ ap (λ (l : List Delta). old.deltas ++ map stored_delta l) (sym (flat_map-append (downs_of p events h) (numbers (j + 1) i) (numbers (j + 1 + i) 1)))
+            ∙ ap (λ (l : List ℕ). old.deltas ++ map stored_delta (flat_map (downs_of p events h) l)) (sym (numbers_append (j + 1) i 1));
+      };
+    }
+  where
+    on : j + i + 1 ≡ j + (i + 1)
+    on = omega arith
+
+    left : more - i - 1 ≡ more - (i + 1)
+    left = omega arith
+
+    there : j + i + 1 ≡ j + 1 + i
+    there = omega arith
+
+-- ---- the first node, and those behind it
+
+module _ (p : Params) (events : List Event) (h b count : ℕ) (row : List Delta) (two : 2 ≤ p.k) (some : 1 ≤ count) (is : row ≡ steps_at p events h (b * p.k + 1) (count * p.k - 1)) where
+  all : count * p.k - 1 ≡ p.k - 1 + (count - 1) * p.k
+  all = omega (arith, sym (add-mul (count - 1) 1 p.k) ∙ ap (λ n. n * p.k) (let e : count - 1 + 1 ≡ count = omega (arith, some) in e), two)
+
+  -- the node is made
+  pub first_group : (inner last : Delta) (made : List Delta) → inner ≡ inward p.function (ways_of (take (p.k - 1) row)) → made ≡ downs inner (ways_of (take (p.k - 1) row)) → last ≡ last_way made → IsGroup p events h (b + 1) inner last made
+  first_group inner last made inner_is made_is last_is =
+      let g_is : take (p.k - 1) row ≡ steps_at p events h ((b + 1 - 1) * p.k + 1) (p.k - 1) = ap (take (p.k - 1)) (is ∙ ap (steps_at p events h (b * p.k + 1)) all) ∙ steps_front p events h (b * p.k + 1) (p.k - 1) ((count - 1) * p.k) ∙ ap (λ n. steps_at p events h n (p.k - 1)) (first_child b p.k) in
+      group_is p events h (b + 1) (take (p.k - 1) row) inner last made (omega arith) two g_is inner_is made_is last_is
+
+  pub downs_there : (inner : Delta) (made : List Delta) → inner ≡ inward p.function (ways_of (take (p.k - 1) row)) → made ≡ downs inner (ways_of (take (p.k - 1) row)) → made ≡ downs_of p events h (b + 1)
+  downs_there inner made inner_is made_is = (first_group inner (last_way made) made inner_is made_is refl).more_is
+
+  pub inner_there : (inner : Delta) → inner ≡ inward p.function (ways_of (take (p.k - 1) row)) → inner ≡ between (set_at p events h (b * p.k + 1)) (set_at p events (suc h) (b + 1))
+  inner_there inner inner_is =
+      (first_group inner (last_way (downs inner (ways_of (take (p.k - 1) row)))) (downs inner (ways_of (take (p.k - 1) row))) inner_is refl refl).inner_is ∙ ap (λ n. between (set_at p events h n) (set_at p events (suc h) (b + 1))) (sym (first_child b p.k))
+
+  -- and the rest of the row is behind it
+  pub first_behind : (inner last : Delta) (made row2 : List Delta) → inner ≡ inward p.function (ways_of (take (p.k - 1) row)) → made ≡ downs inner (ways_of (take (p.k - 1) row)) → last ≡ last_way made → row2 ≡ drop (p.k - 1) row
+      → IsBehind p events h (b + 1) (count - 1) last row2
+  first_behind inner last made row2 inner_is made_is last_is row2_is =
       record {
-        downs = is_out ∙ r.more_is ∙ ap (downs_of p events h) (let e : q + 1 + 0 ≡ q + 1 = omega arith in e) ∙ sym (append-nil (downs_of p events h (q + 1)));
-        last_is = r.last_is ∙ ap (λ n. between (set_at p events (suc h) n) (set_at p events h (n * p.k))) (let e : q + 1 + 0 ≡ q + 1 = omega arith in e);
-        steps = refl;
-      }
-
-  pub so_far_more : (i : ℕ) (out out2 : List Delta) (last last2 inner step link : Delta) (up up2 g : List Delta) → 1 ≤ i → i < count → ClimbsSoFar p events h q i out last up
-      → g ≡ take (p.k - 1) (drop (i * p.k) steps) → inner ≡ inward p.function (ways_of g) → last2 ≡ chained (reversed inner) (last_way (ways_of g)) → out2 ≡ out ++ downs inner (ways_of g)
-      → (d : Delta) → step ≡ get_or steps (i * p.k - 1) d → link ≡ chained (chained last step) inner → up2 ≡ up ++ link ∷ [] → ClimbsSoFar p events h q (i + 1) out2 last2 up2
-  so_far_more i out out2 last last2 inner step link up up2 g some lt so g_is is_inner is_last is_out d step_is link_is up_is =
-      let s = set_at p events h in
-      let t = set_at p events (suc h) in
-      let r = group_there i g inner last2 lt g_is is_inner is_last in
-      let up_i : i * p.k + p.k ≤ count * p.k = subst (λ n. n ≤ count * p.k) (add-mul i 1 p.k ∙ (let e : i * p.k + 1 * p.k ≡ i * p.k + p.k = omega arith in e)) (mul-le-mul_right p.k (let e : i + 1 ≤ count = omega (arith, lt) in e)) in
-      let big : 1 * p.k ≤ i * p.k = mul-le-mul_right p.k some in
-      let c : ℕ = (q + i) * p.k in
-      let offset : q * p.k + 1 + (i * p.k - 1) ≡ c = omega (arith, big, two, add-mul q i p.k) in
-      let step_here : step ≡ between (s c) (s (c + 1)) = step_is ∙ ap (λ (l : List Delta). get_or l (i * p.k - 1) d) is ∙ step_there p events h (q * p.k + 1) (count * p.k - 1) (i * p.k - 1) d (omega (arith, up_i, big, two)) ∙ ap (step_of p events h) offset in
-      let next : q + 1 + i ≡ q + i + 1 = omega arith in
-      let first : (q + 1 + i - 1) * p.k + 1 ≡ c + 1 = ap (λ n. n * p.k + 1) (let e : q + 1 + i - 1 ≡ q + i = omega arith in e) in
-      let inner_here : inner ≡ between (s (c + 1)) (t (q + i + 1)) = r.inner_is ∙ (λ j. between (s (first j)) (t (next j))) in
-      let linked : link ≡ between (t (q + i)) (t (q + i + 1)) = link_is ∙ (λ j. chained (chained (so.last_is j) (step_here j)) (inner_here j)) ∙ step_up p events h (q + i) c (c + 1) in
-      record {
-        downs = is_out ∙ (λ j. so.downs j ++ r.more_is j)
-            ∙ ap (λ (l : List Delta). flat_map (downs_of p events h) (numbers (q + 1) i) ++ l) (sym (append-nil (downs_of p events h (q + 1 + i))))
-            ∙ sym (flat_map-append (downs_of p events h) (numbers (q + 1) i) (numbers (q + 1 + i) 1)) ∙ ap (flat_map (downs_of p events h)) (sym (numbers_append (q + 1) i 1));
-        last_is = r.last_is ∙ ap (λ n. between (t n) (s (n * p.k))) (let e : q + 1 + i ≡ q + (i + 1) = omega arith in e);
-        steps = up_is ∙ (λ j. so.steps j ++ linked j ∷ []) ∙ (λ j. steps_at p events (suc h) (q + 1) (i - 1) ++ between (t (at_place i some j)) (t (at_place i some j + 1)) ∷ [])
-            ∙ sym (map-append (step_of p events (suc h)) (numbers (q + 1) (i - 1)) (numbers (q + 1 + (i - 1)) 1)) ∙ ap (map (step_of p events (suc h))) (sym (numbers_append (q + 1) (i - 1) 1))
-            ∙ ap (steps_at p events (suc h) (q + 1)) (let e : i - 1 + 1 ≡ i + 1 - 1 = omega (arith, some) in e);
-      }
-    where
-      at_place : (i : ℕ) → 1 ≤ i → q + i ≡ q + 1 + (i - 1)
-      at_place i some = omega (arith, some)
-
-  pub climbs_done : (out : List Delta) (first last : Delta) (up g : List Delta) → 1 ≤ count → ClimbsSoFar p events h q count out last up → g ≡ take (p.k - 1) steps → first ≡ inward p.function (ways_of g) → Climbs p events h q count out first up
-  climbs_done out first last up g some so g_is first_is =
-      let r = group_there 0 g first (chained (reversed first) (last_way (ways_of g))) (omega (arith, some)) (g_is ∙ ap (λ n. take (p.k - 1) (drop n steps)) (let e : 0 ≡ 0 * p.k = omega arith in e)) first_is refl in
-      record {
-        downs_are = so.downs;
-        first_is = r.inner_is ∙ (λ j. between (set_at p events h ((let e : q + 1 + 0 - 1 ≡ q = omega arith in e j) * p.k + 1)) (set_at p events (suc h) (let e : q + 1 + 0 ≡ q + 1 = omega arith in e j)));
-        steps_are = so.steps;
+        last_is = (first_group inner last made inner_is made_is last_is).last_is;
+        row_is = row2_is ∙ ap (drop (p.k - 1)) (is ∙ ap (steps_at p events h (b * p.k + 1)) all) ∙ steps_back p events h (b * p.k + 1) (p.k - 1) ((count - 1) * p.k)
+            ∙ ap (λ n. steps_at p events h n ((count - 1) * p.k)) (let e : b * p.k + 1 + (p.k - 1) ≡ (b + 1) * p.k = omega (arith, two, add-mul b 1 p.k) in e);
       }

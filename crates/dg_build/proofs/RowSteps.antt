@@ -8,7 +8,7 @@ use Rattle.dg_graph.specs.Composition.{Delta, between}
 use Rattle.dg_index.specs.Hierarchy.{numbers, set_at}
 use Rattle.dg_index.specs.ExactSteps.{steps_at}
 use Rattle.dg_index.proofs.DueNodes.{numbers_append}
-use Rattle.dg_build.proofs.NodeGroups.{steps_slice}
+use Rattle.dg_build.proofs.NodeGroups.{steps_front}
 use Rattle.dg_build.specs.InteriorDeltas.{steps_to, AreNewNodes, AreOlderSets}
 
 -- ---- how long a row is
@@ -44,6 +44,12 @@ row_long k q end sets first steps row two due long many is =
     let few : end / k * k - q - 1 ≤ length steps = omega (arith, long, pl.within) in
     omega (arith, ap (λ (l : List Delta). length l) is, length-append (steps_to sets first) (take (end / k * k - q - 1) steps), row_length sets first, many, length-take-le (end / k * k - q - 1) steps few, width k q end two due, pl.back, pl.near, pl.some)
 
+-- the steps within its first group are there
+pub first_long : (k q end : ℕ) (sets : List (List Element)) (first : List Element) (steps row : List Delta) → 2 ≤ k → q / k < end / k → length steps + 1 ≡ end - q → length sets ≡ q - q / k * k
+    → row ≡ steps_to sets first ++ take (end / k * k - q - 1) steps → k - 1 ≤ length row
+first_long k q end sets first steps row two due long many is =
+    omega (arith, row_long k q end sets first steps row two due long many is, mul-le-mul_right k (let e : 1 ≤ end / k - q / k = omega (arith, due) in e))
+
 -- ---- what is in it
 
 first_there : (f : ℕ → List Element) (b n : ℕ) → get_or (map f (numbers b n)) 0 (f (b + n)) ≡ f b
@@ -77,7 +83,7 @@ module _ (p : Params) (events : List Event) (h q end : ℕ) (two : 2 ≤ p.k) (d
       let pl = places k q end two due in
       let front : steps_to sets first ≡ steps_at p events h a n = (λ i. steps_to (old i) (first_is_there i)) ∙ row_there f a n in
       let back : take m steps ≡ steps_at p events h (a + n) m =
-      ap (take m) new.steps_are ∙ steps_slice p events h (q + 1) (end - q - 1) 0 m (omega (arith, pl.within)) ∙ ap (λ b. steps_at p events h b m) (let e : q + 1 + 0 ≡ a + n = omega (arith, edge) in e) in
+      ap (take m) (new.steps_are ∙ ap (steps_at p events h (q + 1)) (let e : end - q - 1 ≡ m + (end - q - 1 - m) = omega (arith, pl.within) in e)) ∙ steps_front p events h (q + 1) m (end - q - 1 - m) ∙ ap (λ b. steps_at p events h b m) (let e : q + 1 ≡ a + n = omega (arith, edge) in e) in
       is ∙ (λ i. front i ++ back i) ∙ sym (map-append g (numbers a n) (numbers (a + n) m)) ∙ ap (map g) (sym (numbers_append a n m))
       ∙ ap (steps_at p events h a) (let e : n + m ≡ (end / k - q / k) * k - 1 = omega (arith, width k q end two due, pl.back, pl.near, pl.some) in e)
 

@@ -25,13 +25,6 @@ steps_to (set ∷ sets) end = between set (get_or sets 0 end) ∷ steps_to sets 
 abbrev pub downs_of : Params → List Event → ℕ → ℕ → List Delta
 downs_of p events h j = map (λ c. between (set_at p events (suc h) j) (set_at p events h c)) (children p.k j)
 
--- So many interior nodes behind the q-th, whose children are of height h, are made: these are the deltas to their
--- children, the delta from the first child to the first of them, and the steps from each to the next.
-pub record Climbs (p : Params) (events : List Event) (h q count : ℕ) (downs : List Delta) (first : Delta) (steps : List Delta) : Type 0 where
-  pub downs_are : downs ≡ flat_map (downs_of p events h) (numbers (q + 1) count)
-  pub first_is : first ≡ between (set_at p events h (q * p.k + 1)) (set_at p events (suc h) (q + 1))
-  pub steps_are : steps ≡ steps_at p events (suc h) (q + 1) (count - 1)
-
 -- the nodes of a height behind the q-th, up to the last: the set of the first, and the steps from each to the next
 pub record AreNewNodes (p : Params) (events : List Event) (h q last : ℕ) (first : List Element) (steps : List Delta) : Type 0 where
   pub first_is : first ≡ set_at p events h (q + 1)
@@ -58,6 +51,25 @@ stored_delta d = stored (Exact d)
 -- the segments differ in their deltas alone
 abbrev pub DiffersInDeltas : Segment → Segment → Type 0
 DiffersInDeltas old new = new ≡ record old { deltas = new.deltas }
+
+-- Behind node j of the height above the children, which are of height h: the delta from it to its last child, and the
+-- steps from that child on, to the last one of so many groups more.
+pub record IsBehind (p : Params) (events : List Event) (h j more : ℕ) (last : Delta) (row : List Delta) : Type 0 where
+  pub last_is : last ≡ between (set_at p events (suc h) j) (set_at p events h (j * p.k))
+  pub row_is : row ≡ steps_at p events h (j * p.k) (more * p.k)
+
+-- So many nodes behind node j are made: these are the steps from each node to the next, from node j on, and the deltas
+-- to the children of each are added.
+pub record AreMade (p : Params) (events : List Event) (h j count : ℕ) (steps : List Delta) (old new : Segment) : Type 0 where
+  pub steps_are : steps ≡ steps_at p events (suc h) j count
+  pub adds : new.deltas ≡ old.deltas ++ map stored_delta (flat_map (downs_of p events h) (numbers (j + 1) count))
+
+-- The node behind node j is made: this is the step to it, the deltas to its children are added, and the rest of the row
+-- is behind it.
+pub record IsNextNode (p : Params) (events : List Event) (h j more : ℕ) (step last : Delta) (row : List Delta) (old new : Segment) : Type 0 where
+  pub step_is : step ≡ between (set_at p events (suc h) j) (set_at p events (suc h) (j + 1))
+  pub adds : new.deltas ≡ old.deltas ++ map stored_delta (downs_of p events h (j + 1))
+  pub behind : IsBehind p events h (j + 1) (more - 1) last row
 
 -- The nodes of the next height are made, and their deltas are added.
 pub record Rises (p : Params) (events : List Event) (h q last : ℕ) (first : List Element) (steps : List Delta) (old new : Segment) : Type 0 where

@@ -1,84 +1,108 @@
 //! The interior nodes of a height, by the exact steps between their children.
 
-ghost use Rattle.std.specs.Prelude.{◌≡◌, ◌≤◌, ◌+◌, ◌-◌, ◌*◌, ◌++◌, ℕ, List, length, IfOk};
+ghost use Rattle.std.specs.Prelude.{◌≡◌, ◌≤◌, ◌<◌, ◌+◌, ◌-◌, ◌*◌, ◌^◌, ◌∷◌, ℕ, List, length, take, drop, IfOk, IfErr, OnOk};
 ghost use Rattle.dg_graph.specs.declared.event.Event.{Event};
-ghost use Rattle.dg_graph.specs.Composition.{chained, reversed};
 ghost use Rattle.dg_graph.specs.DifferentialFunction.{inward};
-ghost use Rattle.dg_index.specs.ExactSteps.{downs, steps_at, ways_of};
-ghost use Rattle.dg_build.specs.InteriorDeltas.{last_way, Climbs};
+ghost use Rattle.dg_index.specs.ExactSteps.{ways_of};
+ghost use Rattle.dg_build.specs.InteriorDeltas.{AreMade, DiffersInDeltas, IsBehind, IsNextNode};
+ghost use Rattle.dg_build.specs.SpelledRecords.{IsFaultBelow};
+ghost use Rattle.dg_build.specs.declared.fault.BuildFault.TheVariants.{Memory};
 
-use crate::family::{add_downs, last_down, reversed, ways};
+use crate::family::{add_downs, next_step, ways};
+use crate::fault::BuildFault;
 use dg_delta::Delta;
 use dg_diff::inward;
-use dg_graph::Function;
 use dg_history::Params;
+use dg_segment::Segment;
 use std::alloc::{AllocError, Global};
+use std::collections::VecDeque;
 
-/// Makes the interior node of a group of children, by the exact steps from each child to the next, and adds
-/// the deltas from it to its children. Answers the exact delta from the first child to it, and the one
-/// from it to the last child.
-fn group(
-    alloc: Global,
-    function: Function,
-    steps: &[Delta],
-    out: &mut Vec<Delta>,
-) -> Result<(Delta, Delta), AllocError>
-    requires { 1 ≤ length steps.now }
-    ensures inner { IfOk result (λ j. j.0 ≡ inward function (ways_of steps.now)) }
-    ensures last { IfOk result (λ j. j.1 ≡ chained (reversed j.0) (last_way (ways_of steps.now))) }
-    ensures adds { IfOk result (λ j. length out.new.items ≡ length out.old.items + (length steps.now + 1)) }
-    ensures downs { IfOk result (λ j. out.new.items ≡ out.old.items ++ downs j.0 (ways_of steps.now)) }
-{
-    let ways = ways(alloc, steps)?;
-    let inner = inward(alloc, function, ways.as_slice())?;
-    let to_first = reversed(&inner)?;
-    add_downs(&to_first, ways.as_slice(), out)?;
-    let last = last_down(&to_first, ways.as_slice())?;
-    Ok((inner, last))
-}
-
-/// The interior nodes that are made of one height, by exact deltas.
+/// An interior node, by exact deltas.
 #[derive(Drop)]
 pub(crate) struct Interior {
-    /// From each to its children.
-    pub(crate) downs: Vec<Delta>,
-    /// From the first child to the first of the nodes.
-    pub(crate) first: Delta,
-    /// From each to the next.
-    pub(crate) steps: Vec<Delta>,
+    /// From its first child to it.
+    pub(crate) inner: Delta,
+    /// From its first child to each other one.
+    pub(crate) ways: Vec<Delta>,
 }
 
-/// Makes `count` interior nodes, each of `params.k` children, by the exact steps from each child to the
-/// next. An `Err` says that memory ran out.
-pub(crate) fn climb(
+/// Makes the interior node of the next group of children, by the exact steps from each of them to the next,
+/// which are taken from the front of the row. An `Err` says that memory ran out.
+pub(crate) fn interior_node(
     alloc: Global,
     params: Params,
-    count: usize,
-    steps: &[Delta],
+    row: &mut VecDeque<Delta>,
 ) -> Result<Interior, AllocError>
     requires arity { 2 ≤ params.k }
-    requires some { 1 ≤ count }
-    requires long { length steps.now + 1 ≡ count * params.k }
-    ensures steps { IfOk result (λ made. length made.steps.items + 1 ≡ count) }
-    ensures downs { IfOk result (λ made. length made.downs.items ≡ count * params.k) }
-    ensures is { IfOk result (λ made. (events : List Event) (h q : ℕ) → steps.now ≡ steps_at params events h (q * params.k + 1) (count * params.k - 1)
-        → Climbs params events h q count made.downs.items made.first made.steps.items) }
+    requires there { params.k - 1 ≤ length row.old.items }
+    ensures inner { IfOk result (λ f. f.inner ≡ inward params.function (ways_of (take (params.k - 1) row.old.items))) }
+    ensures ways { IfOk result (λ f. f.ways.items ≡ ways_of (take (params.k - 1) row.old.items)) }
+    ensures rest { OnOk result (row.new.items ≡ drop (params.k - 1) row.old.items) }
 {
     let k = params.k as usize;
-    let mut downs = Vec::new(alloc);
-    let mut up = Vec::new(alloc);
-    let (first, last) = group(alloc, params.function, &steps[..k - 1], &mut downs)?;
+    let ways = ways(alloc, k - 1, row)?;
+    let inner = inward(alloc, params.function, ways.as_slice())?;
+    Ok(Interior { inner, ways })
+}
+
+/// Makes the interior node behind another one, by the delta from that one to its last child, and the exact
+/// steps from that child on, which are taken from the front of the row. Gives the segment the deltas to its
+/// children. Answers the exact step from the one node to the other, and the delta to its own last child.
+fn next_node(
+    alloc: Global,
+    params: Params,
+    last: Delta,
+    row: &mut VecDeque<Delta>,
+    segment: &mut Segment,
+) -> Result<(Delta, Delta), BuildFault>
+    requires arity { 2 ≤ params.k }
+    requires there { params.k ≤ length row.old.items }
+    ensures rest { OnOk result (row.new.items ≡ drop params.k row.old.items) }
+    ensures frame { OnOk result (DiffersInDeltas segment.old segment.new) }
+    ensures adds { OnOk result (length segment.new.deltas ≡ length segment.old.deltas + params.k) }
+    ensures is { IfOk result (λ made. (events : List Event) (h j more : ℕ) → 1 ≤ more → IsBehind params events h j more last row.old.items
+        → IsNextNode params events h j more made.0 made.1 row.new.items segment.old segment.new) }
+    ensures fault { IfErr result (λ e. (events : List Event) (h j more : ℕ) → 1 ≤ more → IsBehind params events h j more last row.old.items
+        → length events < 2 ^ 32 → e ≡ Memory) }
+    ensures wide { IfErr result (λ e. IsFaultBelow (length segment.old.deltas + params.k) e) }
+{
+    let mut step = last;
+    step = step.chain(&next_step(row))?;
+    let Interior { inner, ways } = interior_node(alloc, params, row)?;
+    step = step.chain(&inner)?;
+    let down = add_downs(alloc, inner, ways, segment)?;
+    Ok((step, down))
+}
+
+/// Makes so many interior nodes behind another one, by the delta from that one to its last child, and the
+/// exact steps from that child on. Gives the segment the deltas from each to its children. Answers the exact
+/// steps from each node to the next. Each step of the row is let go of as soon as it is used.
+pub(crate) fn later_nodes(
+    alloc: Global,
+    params: Params,
+    more: usize,
+    last: Delta,
+    row: VecDeque<Delta>,
+    segment: &mut Segment,
+) -> Result<Vec<Delta>, BuildFault>
+    requires arity { 2 ≤ params.k }
+    requires long { length row.items ≡ more * params.k }
+    ensures steps { IfOk result (λ up. length up.items ≡ more) }
+    ensures frame { OnOk result (DiffersInDeltas segment.old segment.new) }
+    ensures adds { OnOk result (length segment.new.deltas ≡ length segment.old.deltas + more * params.k) }
+    ensures is { IfOk result (λ up. (events : List Event) (h j : ℕ) → IsBehind params events h j more last row.items
+        → AreMade params events h j more up.items segment.old segment.new) }
+    ensures fault { IfErr result (λ e. (events : List Event) (h j : ℕ) → IsBehind params events h j more last row.items
+        → length events < 2 ^ 32 → e ≡ Memory) }
+    ensures wide { IfErr result (λ e. IsFaultBelow (length segment.old.deltas + more * params.k) e) }
+{
     let mut last = last;
-    for i in 1..count {
-        let at = i * k - 1;
-        let (inner, down) = group(alloc, params.function, &steps[at + 1..at + k], &mut downs)?;
-        let over = last.chain(&steps[at])?;
-        up.push(over.chain(&inner)?)?;
+    let mut row = row;
+    let mut steps = Vec::with_capacity(alloc, more)?;
+    while steps.len() < more {
+        let (step, down) = next_node(alloc, params, last, &mut row, segment)?;
+        steps.push(step)?;
         last = down;
     }
-    Ok(Interior {
-        downs,
-        first,
-        steps: up,
-    })
+    Ok(steps)
 }

@@ -11,15 +11,17 @@ ghost use Rattle.dg_build.specs.InteriorDeltas.{AreNewNodes, AreOlderSets, Diffe
 ghost use Rattle.dg_build.specs.SpelledRecords.{IsFaultBelow, IsFaultOfDeltas};
 ghost use Rattle.dg_build.specs.declared.fault.BuildFault.TheVariants.{Memory};
 
-use crate::climb::{Interior, climb};
+use crate::climb::{Interior, interior_node, later_nodes};
+use crate::family::add_downs;
 use crate::fault::BuildFault;
-use crate::records::add_deltas;
+use crate::records::add_delta;
 use crate::row::{row_steps, set_or};
 use dg_delta::Delta;
 use dg_history::Params;
 use dg_segment::Segment;
 use dg_set::Set;
 use std::alloc::Global;
+use std::collections::VecDeque;
 
 /// The new nodes of a height.
 #[derive(Drop)]
@@ -42,7 +44,7 @@ fn add_top(
 {
     if below == 0 {
         let top = Delta::between(&Set::new(alloc), first)?;
-        add_deltas(alloc, &[top], segment)?;
+        add_delta(alloc, &top, segment)?;
     }
     Ok(())
 }
@@ -77,15 +79,14 @@ fn rise(
     let above = end / k;
     let NewNodes { first: node, steps } = nodes;
     let row = row_steps(alloc, older_sets, &node, steps, above * k - q - 1)?;
-    let Interior {
-        downs,
-        first: inner,
-        steps: up,
-    } = climb(alloc, params, above - below, row.as_slice())?;
+    let mut row = VecDeque::from_vec(row);
+    let Interior { inner, ways } = interior_node(alloc, params, &mut row)?;
     let first = inner.apply(set_or(older_sets, 0, &node))?;
+    drop(node);
     add_top(alloc, below, &first, segment)?;
-    add_deltas(alloc, downs.as_slice(), segment)?;
-    Ok(NewNodes { first, steps: up })
+    let last = add_downs(alloc, inner, ways, segment)?;
+    let steps = later_nodes(alloc, params, above - below - 1, last, row, segment)?;
+    Ok(NewNodes { first, steps })
 }
 
 /// Gives the segment the deltas of all interior nodes that are due between `m` and `after` leaves, in the

@@ -28,7 +28,7 @@ fn new_leaves(
     alloc: Global,
     params: Params,
     count: usize,
-    leaf: &Set,
+    leaf: Set,
     first_list: &[Event],
     later: &[Event],
 ) -> Result<NewNodes, AllocError>
@@ -37,12 +37,13 @@ fn new_leaves(
     requires long { count * params.l ≤ length first_list.now + length later.now }
     ensures long { IfOk result (λ up. length up.steps.items + 1 ≡ count) }
     ensures is { IfOk result (λ up. (before more : List Event) → 1 ≤ params.l → first_list.now ++ later.now ≡ recent_of params before ++ more
-        → leaf.now ≡ set_at params (before ++ more) 0 (leaves params (length before)) → AreChangesOf [] (before ++ more)
+        → leaf ≡ set_at params (before ++ more) 0 (leaves params (length before)) → AreChangesOf [] (before ++ more)
         → AreNewNodes params (before ++ more) 0 (leaves params (length before)) (leaves params (length before) + count) up.first up.steps.items) }
 {
     let l = params.l as usize;
     let net = exact_net(alloc, first_list)?;
-    let first = net.apply(leaf)?;
+    let first = net.apply(&leaf)?;
+    drop(leaf);
     let mut steps = Vec::with_capacity(alloc, count - 1)?;
     for i in 1..count {
         steps.push(exact_net(alloc, list_at(first_list, later, l, i))?)?;
@@ -87,7 +88,7 @@ pub(crate) fn add_interior(
     }
     let back = net_back(alloc, recent)?;
     let leaf = back.apply(now)?;
-    let fresh = new_leaves(alloc, params, after - m, &leaf, first_list, later)?;
+    let fresh = new_leaves(alloc, params, after - m, leaf, first_list, later)?;
     add_heights(alloc, params, m, after, fresh, older_sets, segment)?;
     Ok(())
 }

@@ -1,7 +1,8 @@
 //! Writing lists, deltas and the piece of a segment.
 
-ghost use Rattle.std.specs.Prelude.{◌≡◌, ◌≤◌, ◌+◌, ◌*◌, ◌++◌, ◌∷◌, [], false, length, map, take, drop, All, IfErr, OnOk};
+ghost use Rattle.std.specs.Prelude.{◌≡◌, ◌≤◌, ◌+◌, ◌*◌, ◌++◌, ◌∷◌, [], false, List, length, map, take, drop, All, IfErr, OnOk};
 ghost use Rattle.dg_graph.specs.declared.event.Event.{Event};
+ghost use Rattle.dg_graph.specs.Composition.{Delta};
 ghost use Rattle.dg_history.specs.History.{first_time_of, last_time_from};
 ghost use Rattle.dg_columns.specs.NamesInRange.{NamesFit};
 ghost use Rattle.dg_index.specs.Hierarchy.{numbers};
@@ -115,21 +116,20 @@ fn spell_delta(alloc: Global, delta: &Delta, segment: &mut Segment) -> Result<()
     segment.add_delta(&structure, &node_attrs, &edge_attrs)
 }
 
-/// Gives the segment the columns of the deltas. `Memory` says that memory ran out, or that the segment
-/// would be too long, and `Wide` names the first delta of the segment with too many elements.
-pub(crate) fn add_deltas(
+/// Gives the segment the columns of a delta. `Memory` says that memory ran out, or that the segment would be
+/// too long, and `Wide` names the delta, where it has too many elements.
+pub(crate) fn add_delta(
     alloc: Global,
-    deltas: &[Delta],
+    delta: &Delta,
     segment: &mut Segment,
 ) -> Result<(), BuildFault>
-    ensures ok { OnOk result (segment.new ≡ record segment.old { deltas = segment.old.deltas ++ map stored_delta deltas.now }) }
-    ensures fault { IfErr result (λ e. IsFaultOfDeltas (length segment.old.deltas) deltas.now e) }
+    ensures ok { OnOk result (segment.new ≡ record segment.old { deltas = segment.old.deltas ++ stored_delta delta.now ∷ [] }) }
+    ensures narrow { OnOk result (is_wide delta.now ≡ false) }
+    ensures fault { IfErr result (λ e. (more : List Delta) → IsFaultOfDeltas (length segment.old.deltas) (delta.now ∷ more) e) }
 {
-    for delta in deltas {
-        if is_wide(delta) {
-            return Err(BuildFault::Wide(segment.delta_rows().len()));
-        }
-        spell_delta(alloc, delta, segment)?;
+    if is_wide(delta) {
+        return Err(BuildFault::Wide(segment.delta_rows().len()));
     }
+    spell_delta(alloc, delta, segment)?;
     Ok(())
 }

@@ -3,7 +3,7 @@ use Rattle.std.proofs.Common.{arith, is_some, IfNone, IsSome, ◌≡◌, ℕ, su
 use Rattle.std.proofs.lemmas.Bool.{cases_eq}
 use Rattle.std.proofs.lemmas.List.{get_or-set_other, get_or-set_same}
 use Rattle.dg_cells.specs.declared.row.Row.{Row}
-use Rattle.dg_cells.specs.Rows.{cell_at, AreApart}
+use Rattle.dg_cells.specs.Rows.{cell_at, CellsAreApart}
 use Rattle.dg_graph.specs.Elements.{same}
 
 -- the cells that are read after a write
@@ -23,7 +23,7 @@ cell_written rows n o h = get_or-set_same rows n o None h
 abbrev pub Comes : List (Option Row) → List (Option Row) → Type 0
 Comes old new = (i : ℕ) (p : Row) → cell_at new i ≡ Some p → (q : Row) × (cell_at old i ≡ Some q) × (p.element ≡ q.element)
 
-pub apart_by : (old new : List (Option Row)) → Comes old new → AreApart old → AreApart new
+pub apart_by : (old new : List (Option Row)) → Comes old new → CellsAreApart old → CellsAreApart new
 apart_by old new comes apart i j r q a b e =
     let f = comes i r a in
     let g = comes j q b in
@@ -40,7 +40,7 @@ pub comes_written : (old : List (Option Row)) (n : ℕ) (r r2 : Row) → cell_at
 comes_written old n r r2 was same i p f = comes_at old n r r2 was same i p (cases_eq i n) f
 
 -- a read of a cell that has a row
-read_same : (rows : List (Option Row)) (n : ℕ) (o : Option Row) → IsSome (cell_at rows n) → get_or rows n o ≡ cell_at rows n
+pub read_same : (rows : List (Option Row)) (n : ℕ) (o : Option Row) → IsSome (cell_at rows n) → get_or rows n o ≡ cell_at rows n
 read_same [] n o h = cc
 read_same (p ∷ rows) zero o h = refl
 read_same (p ∷ rows) (suc n) o h = read_same rows n o h

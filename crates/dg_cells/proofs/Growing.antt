@@ -4,11 +4,11 @@ use Rattle.std.proofs.lemmas.Bool.{or_left, or_right}
 use Rattle.std.proofs.lemmas.List.{take_more}
 use Rattle.dg_graph.specs.declared.element.Element.{Element}
 use Rattle.dg_graph.specs.Elements.{same, has}
-use Rattle.dg_graph.proofs.Sets.{same_itself, element_exact}
+use Rattle.dg_graph.proofs.Sets.{same_itself}
 use Rattle.dg_cells.specs.declared.row.Row.{Row}
-use Rattle.dg_cells.specs.Rows.{cell_at, Grows, IsBare, HasCell, AllHave, AreAmong}
+use Rattle.dg_cells.specs.Rows.{cell_at, CellsGrow, IsBare, AreAmong}
 
-pub grows_then : (a b c : List (Option Row)) → Grows a b → Grows b c → Grows a c
+pub grows_then : (a b c : List (Option Row)) → CellsGrow a b → CellsGrow b c → CellsGrow a c
 grows_then a b c first second = record {
   kept = λ n r e. second.kept n r (first.kept n r e);
   bare = λ n r e f. at n r e f (cell_at b n) refl;
@@ -20,9 +20,6 @@ grows_then a b c first second = record {
         let both : Some q ≡ Some r = sym (second.kept n q g) ∙ f in
         let is : q ≡ r = cc in
         subst IsBare is (first.bare n q e g)
-
-pub has_cell_still : (a b : List (Option Row)) (x : Element) → Grows a b → HasCell a x → HasCell b x
-has_cell_still a b x grows h = (h.0, record { row = h.1.row; there = grows.kept h.0 h.1.row h.1.there; element = h.1.element })
 
 has_push : (xs : List Element) (y q : Element) → has (xs ++ y ∷ []) q ≡ (has xs q || same q y)
 has_push [] y q = at (same q y)
@@ -40,16 +37,7 @@ has_push (x ∷ xs) y q = ap (λ t. same q x || t) (has_push xs y q) ∙ at (sam
 pub has_more : (xs : List Element) (i : ℕ) (d q : Element) → i < length xs → has (take (i + 1) xs) q ≡ (has (take i xs) q || same q (get_or xs i d))
 has_more xs i d q h = ap (λ l. has l q) (take_more xs i d h) ∙ has_push (take i xs) (get_or xs i d) q
 
--- one element more has its cell
-pub all_have_more : (a b : List (Option Row)) (xs : List Element) (i : ℕ) (d : Element) → i < length xs → Grows a b → AllHave a (take i xs) → HasCell b (get_or xs i d) → AllHave b (take (i + 1) xs)
-all_have_more a b xs i d h grows so_far here q e = by (has (take i xs) q) refl (same q (get_or xs i d)) refl (sym (has_more xs i d q h) ∙ e)
-  where
-    by : (s : Bool) → has (take i xs) q ≡ s → (t : Bool) → same q (get_or xs i d) ≡ t → (has (take i xs) q || same q (get_or xs i d)) ≡ true → HasCell b q
-    by true f t g k = has_cell_still a b q grows (so_far q f)
-    by false f true g k = subst (HasCell b) (sym (element_exact q (get_or xs i d) g)) here
-    by false f false g k = let none : false ≡ true = sym (λ u. f u || g u) ∙ k in cc
-
-pub among_more : (a b c : List (Option Row)) (xs : List Element) (i : ℕ) (d : Element) → i < length xs → Grows b c → AreAmong a b (take i xs) → ((n : ℕ) (r : Row) → cell_at b n ≡ None → cell_at c n ≡ Some r → r.element ≡ get_or xs i d) → AreAmong a c (take (i + 1) xs)
+pub among_more : (a b c : List (Option Row)) (xs : List Element) (i : ℕ) (d : Element) → i < length xs → CellsGrow b c → AreAmong a b (take i xs) → ((n : ℕ) (r : Row) → cell_at b n ≡ None → cell_at c n ≡ Some r → r.element ≡ get_or xs i d) → AreAmong a c (take (i + 1) xs)
 among_more a b c xs i d h grows so_far here n r e f = has_more xs i d r.element h ∙ at (cell_at b n) refl
   where
     at : (o : Option Row) → cell_at b n ≡ o → (has (take i xs) r.element || same r.element (get_or xs i d)) ≡ true

@@ -5,6 +5,7 @@ pub mod Filled
 pub mod Growing
 pub mod Listed
 pub mod Merged
+pub mod Numbered
 pub mod Ordered
 pub mod Orders
 pub mod Strung

@@ -12,7 +12,7 @@ use Rattle.dg_graph.specs.Elements.{element_cmp, before, same, has, IsSet, put, 
 use Rattle.dg_graph.proofs.Sets.{differs_back, lacks_below, before_from_Greater, same_itself, element_exact, has-put, has-take_out, IsSet-put, IsSet-take_out, take_out-absent}
 use Rattle.dg_set.proofs.Indices.{before_at, put-first, put-past}
 use Rattle.dg_cells.specs.declared.row.Row.{Row}
-use Rattle.dg_cells.specs.Rows.{cell_at, AreApart, Lacks}
+use Rattle.dg_cells.specs.Rows.{cell_at, CellsAreApart, Lacks}
 use Rattle.dg_cells.specs.Order.{cell_element, elements_in, AreCells, IsLower, IsListed, Puts}
 use Rattle.dg_cells.proofs.Changed.{cell_past, cell_written, cell_there, apart_by, comes_written}
 use Rattle.dg_cells.proofs.Orders.{IsCell, length-elements_in, element_there}
@@ -334,7 +334,7 @@ module _ (rows : List (Option Row)) (order : List ℕ) (n : ℕ) (r : Row) (at :
       differs_by m q d e false f = f
 
 -- a row is written that has the same element
-pub listed_written : (old new : List (Option Row)) (order : List ℕ) → KeepsElements old new → KeepsElements new old → AreApart new → IsListed old order → IsListed new order
+pub listed_written : (old new : List (Option Row)) (order : List ℕ) → KeepsElements old new → KeepsElements new old → CellsAreApart new → IsListed old order → IsListed new order
 listed_written old new order keeps back apart listed =
     let same_elements = elements_as old new keeps order listed.in_order.live in
     record {

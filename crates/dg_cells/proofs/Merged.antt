@@ -1,6 +1,6 @@
 -- One step of the walk that gives rising elements their cells.
 use Rattle.dg_cells.proofs.Growing.{grows_then}
-use Rattle.std.proofs.Common.{eqb, arith, ◌≡◌, ℕ, suc, zero, ◌+◌, ◌-◌, ◌<◌, ◌≤◌, Bool, true, false, ◌||◌, List, [], ◌∷◌, ◌++◌, Option, Some, None, IsSome, is_some, length, get_or, take, drop, refl, sym, ap, ◌∙◌, subst, ◌⊎◌, inl, inr}
+use Rattle.std.proofs.Common.{eqb, arith, ◌≡◌, ℕ, suc, zero, ◌+◌, ◌-◌, ◌<◌, ◌≤◌, Bool, true, false, ◌||◌, List, [], ◌∷◌, ◌++◌, Option, Some, None, is_some, length, get_or, take, drop, refl, sym, ap, ◌∙◌, subst, ◌⊎◌, inl, inr}
 use Rattle.std.specs.List.{cons_option}
 use Rattle.std.proofs.lemmas.Bool.{cases_eq, cases_lt, true≢false, or_left, or_right, or_from, eq-eqb, eqb-true}
 use Rattle.std.proofs.lemmas.List.{append_assoc, drop_more, drop_all, drop-drop, get_or-drop, length-drop, get_or_default}
@@ -12,34 +12,21 @@ use Rattle.dg_graph.proofs.Sets.{before_trans, element_exact, differs_back, put-
 use Rattle.dg_set.proofs.Indices.{put-first}
 use Rattle.dg_set.proofs.Merges.{unioned_less, IsBelowFirst-unioned, IsSet-drop, rest_is_set}
 use Rattle.dg_cells.specs.declared.row.Row.{Row}
-use Rattle.dg_cells.specs.Rows.{cell_at, AreApart, Grows, AreAmong, AllHave, HasCell, IsBare}
+use Rattle.dg_cells.specs.Rows.{cell_at, CellsAreApart, CellsGrow, AreAmong, IsBare}
 use Rattle.dg_cells.specs.Order.{cell_element, elements_in, AreCells, IsOrder, IsLower, IsListed, Puts, is_noted, AreNoted}
 use Rattle.dg_cells.proofs.Orders.{IsCell, length-elements_in, element_there, rises_at}
 use Rattle.dg_cells.proofs.Listed.{KeepsElements, element_is, elements_as, cells_as, elements_append, elements_drop, elements_take, has_at, lacks_lower, after_from}
 
-pub keeps_grown : (old new : List (Option Row)) → Grows old new → KeepsElements old new
+pub keeps_grown : (old new : List (Option Row)) → CellsGrow old new → KeepsElements old new
 keeps_grown old new grows n x e =
     let was = element_is (cell_at old n) x e in
     ap cell_element (grows.kept n was.0 was.1) ∙ ap (λ y. Some y) was.2
 
-pub order_grown : (old new : List (Option Row)) (order : List ℕ) → Grows old new → IsOrder old order → IsOrder new order
+pub order_grown : (old new : List (Option Row)) (order : List ℕ) → CellsGrow old new → IsOrder old order → IsOrder new order
 order_grown old new order grows o = record {
   live = cells_as old new (keeps_grown old new grows) order o.live;
   rises = subst IsSet (sym (elements_as old new (keeps_grown old new grows) order o.live)) o.rises;
 }
-
--- an element that is listed has a cell
-pub cell_from : (rows : List (Option Row)) (order : List ℕ) (x : Element) → AreCells rows order → has (elements_in rows order) x ≡ true → HasCell rows x
-cell_from rows [] x h e = cc
-cell_from rows (n ∷ order) x h e = by (cell_from rows order x (λ k d g. h (suc k) d (omega arith))) (cell_at rows n) refl (h 0 0 (omega arith)) e
-  where
-    by : (has (elements_in rows order) x ≡ true → HasCell rows x) → (o : Option Row) → cell_at rows n ≡ o → IsSome o → has (cons_option (cell_element (cell_at rows n)) (elements_in rows order)) x ≡ true → HasCell rows x
-    by rest None f i g = cc
-    by rest (Some r) f i g = split (same x r.element) refl (sym (ap (λ o. has (cons_option (cell_element o) (elements_in rows order)) x) f) ∙ g)
-      where
-        split : (t : Bool) → same x r.element ≡ t → (same x r.element || has (elements_in rows order) x) ≡ true → HasCell rows x
-        split true k l = (n, record { row = r; there = f; element = sym (element_exact x r.element k) })
-        split false k l = rest (ap (λ t. t || has (elements_in rows order) x) (sym k) ∙ l)
 
 -- ---- unions by places
 
@@ -122,7 +109,7 @@ came_from mid new n r puts m q e = by (cases_eq m n)
     by (inl f) = let both : Some q ≡ Some r = sym e ∙ ap (cell_at new) f ∙ puts.put in inl (f, cc)
     by (inr d) = inr (sym (puts.others m d) ∙ e)
 
-pub puts_grows : (mid new : List (Option Row)) (n : ℕ) (r : Row) → Puts mid new n r → IsBare r → Grows mid new
+pub puts_grows : (mid new : List (Option Row)) (n : ℕ) (r : Row) → Puts mid new n r → IsBare r → CellsGrow mid new
 puts_grows mid new n r puts bare = record {
   kept = λ m q e. kept_by m q e (cases_eq m n);
   bare = λ m q e f. bare_by m q e (came_from mid new n r puts m q f);
@@ -143,7 +130,7 @@ puts_fresh mid new n r puts m q e f = by (came_from mid new n r puts m q f)
     by (inl g) = ap (λ (z : Row). z.element) g.1
     by (inr g) = let none : None ≡ Some q = sym e ∙ g in cc
 
-puts_apart : (mid new : List (Option Row)) (n : ℕ) (r : Row) → Puts mid new n r → AreApart mid → ((m : ℕ) (q : Row) → cell_at mid m ≡ Some q → q.element ≡ r.element → ⊥) → AreApart new
+puts_apart : (mid new : List (Option Row)) (n : ℕ) (r : Row) → Puts mid new n r → CellsAreApart mid → ((m : ℕ) (q : Row) → cell_at mid m ≡ Some q → q.element ≡ r.element → ⊥) → CellsAreApart new
 puts_apart mid new n r puts apart never i j p q a b e = by (came_from mid new n r puts i p a) (came_from mid new n r puts j q b)
   where
     by : (((i ≡ n) × (p ≡ r)) ⊎ (cell_at mid i ≡ Some p)) → (((j ≡ n) × (q ≡ r)) ⊎ (cell_at mid j ≡ Some q)) → i ≡ j
@@ -166,7 +153,7 @@ noted_push (k ∷ numbers) n m = ap (λ t. eqb m k || t) (noted_push numbers n m
     at true b c = refl
     at false b c = refl
 
-pub noted_more : (old mid new : List (Option Row)) (numbers more : List ℕ) (n : ℕ) (r : Row) → Grows old mid → AreNoted old mid numbers → Puts mid new n r → more ≡ numbers ++ n ∷ [] → AreNoted old new more
+pub noted_more : (old mid new : List (Option Row)) (numbers more : List ℕ) (n : ℕ) (r : Row) → CellsGrow old mid → AreNoted old mid numbers → Puts mid new n r → more ≡ numbers ++ n ∷ [] → AreNoted old new more
 noted_more old mid new numbers more n r grows noted puts is = record {
   came = λ m q e f. ap (λ l. is_noted l m) is ∙ noted_push numbers n m ∙ came_by m q e (came_from mid new n r puts m q f);
   vacant = λ m e. vacant_by m (is_noted numbers m) refl (eqb m n) refl (sym (ap (λ l. is_noted l m) is ∙ noted_push numbers n m) ∙ e);
@@ -188,7 +175,7 @@ noted_more old mid new numbers more n r grows noted puts is = record {
 -- ---- the step of the walk
 
 module _ (old mid : List (Option Row)) (order out : List ℕ) (items : List Element) (i j at : ℕ) (d : Element) (listed : IsListed old order) (items_set : IsSet items) (j_in : j < length items) (low_in : i ≤ length order)
-    (grows : Grows old mid) (apart : AreApart mid) (among : AreAmong old mid (take j items)) (live : AreCells mid out)
+    (grows : CellsGrow old mid) (apart : CellsAreApart mid) (among : AreAmong old mid (take j items)) (live : AreCells mid out)
     (past : (k : ℕ) (e : Element) → k < i → (m : ℕ) (g : Element) → j ≤ m → m < length items → before (get_or (elements_in old order) k e) (get_or items m g) ≡ true)
     (merged : elements_in mid out ++ unioned (drop i (elements_in old order)) (drop j items) ≡ unioned (elements_in old order) items)
     (place : IsLower (get_or items j d) (elements_in old order) at) where
@@ -200,9 +187,6 @@ module _ (old mid : List (Option Row)) (order out : List ℕ) (items : List Elem
 
   len : length (elements_in old order) ≡ length order
   len = length-elements_in old order listed.in_order.live
-
-  pub i_at : i ≤ at
-  i_at = let l = len in on es items i at j d listed.in_order.rises items_set j_in place past (omega arith)
 
   pub at_in : at ≤ length order
   at_in = let l = len in let within = place.within in omega arith
@@ -245,7 +229,7 @@ module _ (old mid : List (Option Row)) (order out : List ℕ) (items : List Elem
             let tied : z ≡ q = cc in
             true≢false (sym (listed.all m z g) ∙ ap (λ (w : Row). has (elements_in old order) w.element) tied ∙ ap (has (elements_in old order)) is_y ∙ gone)
 
-    pub apart_absent : AreApart new
+    pub apart_absent : CellsAreApart new
     apart_absent = puts_apart mid new n r puts apart never
 
     part : List ℕ
@@ -288,7 +272,7 @@ module _ (old mid : List (Option Row)) (order out : List ℕ) (items : List Elem
 -- ---- the end of the walk
 
 module _ (old new : List (Option Row)) (order out : List ℕ) (items : List Element) (i : ℕ) (listed : IsListed old order) (items_set : IsSet items)
-    (grows : Grows old new) (apart : AreApart new) (among : AreAmong old new items) (live : AreCells new out)
+    (grows : CellsGrow old new) (apart : CellsAreApart new) (among : AreAmong old new items) (live : AreCells new out)
     (merged : elements_in new out ++ unioned (drop i (elements_in old order)) [] ≡ unioned (elements_in old order) items) where
   elements_all : elements_in new (out ++ drop i order) ≡ unioned (elements_in old order) items
   elements_all =
@@ -314,8 +298,3 @@ module _ (old new : List (Option Row)) (order out : List ℕ) (items : List Elem
           let both : Some q ≡ Some r = sym (grows.kept n q f) ∙ e in
           let is : q ≡ r = cc in
           or_left (has (elements_in old order) r.element) (has items r.element) (ap (λ (z : Row). has (elements_in old order) z.element) (sym is) ∙ listed.all n q f)
-
-  pub all_have : AllHave new items
-  all_have x e =
-      cell_from new (out ++ drop i order) x live_all
-      (ap (λ l. has l x) elements_all ∙ has-unioned (elements_in old order) items x ∙ or_right (has (elements_in old order) x) (has items x) e)

@@ -14,7 +14,7 @@ use Rattle.dg_graph.specs.Elements.{before, same, has, IsSet, put, with_one}
 use Rattle.std.proofs.lemmas.Cmp.{tied_itself}
 use Rattle.dg_graph.proofs.Sets.{element_total, Greater_from_before, same_itself, element_exact, has-put, IsSet-put, same_members}
 use Rattle.dg_cells.specs.declared.row.Row.{Row}
-use Rattle.dg_cells.specs.Rows.{cell_at, AreApart}
+use Rattle.dg_cells.specs.Rows.{cell_at, CellsAreApart}
 use Rattle.dg_cells.specs.Order.{cell_element, elements_in, AreCells, IsListed, IsLower}
 use Rattle.dg_cells.specs.Cursors.{put_row, ordered, ordered_elements, place_of_row}
 use Rattle.dg_cells.proofs.Orders.{IsCell, length-elements_in, element_there, rises_at}
@@ -84,10 +84,10 @@ put_row-elements r (q ∷ rows) e =
         ∙ sym (ap (λ b. cond b (r.element ∷ q.element ∷ map element_of_row rows) (cond (same r.element q.element) (q.element ∷ map element_of_row rows) (q.element ∷ put r.element (map element_of_row rows)))) f
         ∙ ap (λ b. cond b (q.element ∷ map element_of_row rows) (q.element ∷ put r.element (map element_of_row rows))) (h ∙ g))
 
-apart_tail : (o : Option Row) (rows : List (Option Row)) → AreApart (o ∷ rows) → AreApart rows
+apart_tail : (o : Option Row) (rows : List (Option Row)) → CellsAreApart (o ∷ rows) → CellsAreApart rows
 apart_tail o rows apart i j r q e f g = let h = apart (suc i) (suc j) r q e f g in omega arith
 
-absent_first : (r : Row) (rows : List (Option Row)) → AreApart (Some r ∷ rows) → has (held rows) r.element ≡ false
+absent_first : (r : Row) (rows : List (Option Row)) → CellsAreApart (Some r ∷ rows) → has (held rows) r.element ≡ false
 absent_first r rows apart = by (has (held rows) r.element) refl
   where
     by : (t : Bool) → has (held rows) r.element ≡ t → has (held rows) r.element ≡ false
@@ -97,7 +97,7 @@ absent_first r rows apart = by (has (held rows) r.element) refl
         let same_cell = apart 0 (suc h.0) r h.1 refl h.2 (sym h.3) in
         absurd (omega arith)
 
-ordered_held : (rows : List (Option Row)) → AreApart rows → ordered_elements rows ≡ held rows
+ordered_held : (rows : List (Option Row)) → CellsAreApart rows → ordered_elements rows ≡ held rows
 ordered_held [] apart = refl
 ordered_held (None ∷ rows) apart = ordered_held rows (apart_tail None rows apart)
 ordered_held (Some r ∷ rows) apart =

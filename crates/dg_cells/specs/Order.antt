@@ -4,7 +4,7 @@ use Rattle.std.specs.List.{cons_option, All, list_any}
 use Rattle.dg_graph.specs.declared.element.Element.{Element}
 use Rattle.dg_graph.specs.Elements.{before, has, IsSet}
 use Rattle.dg_cells.specs.declared.row.Row.{Row}
-use Rattle.dg_cells.specs.Rows.{cell_at, AreApart}
+use Rattle.dg_cells.specs.Rows.{cell_at, CellsAreApart}
 use Rattle.dg_cells.specs.Pieces.{nth_piece}
 
 -- the element of a cell, if it is occupied
@@ -36,7 +36,7 @@ pub record IsLower (x : Element) (xs : List Element) (at : ℕ) : Type 0 where
 pub record IsListed (rows : List (Option Row)) (order : List ℕ) : Type 0 where
   pub in_order : IsOrder rows order
   pub all : (n : ℕ) (r : Row) → cell_at rows n ≡ Some r → has (elements_in rows order) r.element ≡ true
-  pub apart : AreApart rows
+  pub apart : CellsAreApart rows
 
 -- the cell's element is before x
 abbrev pub is_cell_before : Element → Option Row → Bool

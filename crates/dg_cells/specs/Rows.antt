@@ -1,5 +1,5 @@
 -- Cells, and the bits of a cell.
-use Rattle.std.specs.Prelude.{◌≡◌, ℕ, ◌+◌, ◌*◌, ◌/◌, ◌%◌, ◌≤◌, ◌==◌, Bool, true, false, ◌&&◌, not, cond, if◌then◌else◌, List, [], ◌∷◌, map, Option, Some, None, slice_index_or, slice_set}
+use Rattle.std.specs.Prelude.{◌≡◌, ℕ, ◌+◌, ◌*◌, ◌/◌, ◌%◌, ◌≤◌, ◌<◌, ◌==◌, Bool, true, false, ◌&&◌, not, cond, if◌then◌else◌, List, [], ◌∷◌, map, Option, Some, None, length, slice_index_or, slice_set}
 use Rattle.std.specs.Int.{bit_at}
 use Rattle.dg_graph.specs.declared.element.Element.{Element}
 use Rattle.dg_graph.specs.Elements.{same, has, bit}
@@ -66,8 +66,8 @@ abbrev pub Lacks : List (Option Row) → Element → Type 0
 Lacks rows x = (n : ℕ) (r : Row) → cell_at rows n ≡ Some r → same x r.element ≡ false
 
 -- no element has two cells
-abbrev pub AreApart : List (Option Row) → Type 0
-AreApart rows = (i j : ℕ) (r q : Row) → cell_at rows i ≡ Some r → cell_at rows j ≡ Some q → r.element ≡ q.element → i ≡ j
+abbrev pub CellsAreApart : List (Option Row) → Type 0
+CellsAreApart rows = (i j : ℕ) (r q : Row) → cell_at rows i ≡ Some r → cell_at rows j ≡ Some q → r.element ≡ q.element → i ≡ j
 
 -- the element has a cell
 abbrev pub HasCell : List (Option Row) → Element → Type 0
@@ -78,7 +78,7 @@ abbrev pub IsBare : Row → Type 0
 IsBare r = (b : ℕ) → has_bit r b ≡ false
 
 -- all cells stay, and new ones have no bit
-pub record Grows (old new : List (Option Row)) : Type 0 where
+pub record CellsGrow (old new : List (Option Row)) : Type 0 where
   pub kept : (n : ℕ) (r : Row) → cell_at old n ≡ Some r → cell_at new n ≡ Some r
   pub bare : (n : ℕ) (r : Row) → cell_at old n ≡ None → cell_at new n ≡ Some r → IsBare r
 
@@ -101,6 +101,11 @@ Marks s p items old new = (n : ℕ) → MarksCell s p items (cell_at old n) (cel
 -- each of the elements has a cell
 abbrev pub AllHave : List (Option Row) → List Element → Type 0
 AllHave rows items = (x : Element) → has items x ≡ true → HasCell rows x
+
+-- each of the elements has the cell with its number
+pub record AreNumbers (rows : List (Option Row)) (items : List Element) (numbers : List ℕ) : Type 0 where
+  pub count : length numbers ≡ length items
+  pub hold : (k : ℕ) → k < length items → (d : Element) → Holds rows (slice_index_or items k d) (slice_index_or numbers k 0)
 
 -- the elements of the new cells are among these
 abbrev pub AreAmong : List (Option Row) → List (Option Row) → List Element → Type 0

@@ -1,7 +1,7 @@
 //! The cells of the pool.
 ghost use Rattle.std.specs.Prelude.{◌≡◌, ℕ, ◌<◌, ◌≤◌, ◌==◌, Bool, true, false, List, Option, Some, None, [], ◌∷◌, ◌++◌, length, IfSome, IfNone, IsSome, IfOk, OnErr, OnOk, slice_set};
 ghost use Rattle.dg_cells.specs.declared.row.Row.{Row};
-ghost use Rattle.dg_cells.specs.Rows.{cell_at, is_current, pair, Writes, SetsCurrent, SetsPair, SetsBits, ClearsBits, Holds, Lacks, AreApart, Grows, HasCell, AllHave, AreAmong, new_rows};
+ghost use Rattle.dg_cells.specs.Rows.{cell_at, is_current, pair, Writes, SetsCurrent, SetsPair, SetsBits, ClearsBits, Holds, Lacks, CellsAreApart, CellsGrow, HasCell, AllHave, AreNumbers, AreAmong, new_rows};
 ghost use Rattle.std.specs.Prelude.{◌+◌, min, slice_get};
 ghost use Rattle.dg_graph.specs.Elements.{IsSet};
 ghost use Rattle.dg_cells.specs.Order.{IsLower};
@@ -13,8 +13,8 @@ use crate::filling::fill;
 use crate::listing::{add, add_each, number_at, unlist};
 use crate::merging::merge;
 use crate::pieces::Pieces;
-use crate::places::{START, has_element, seek};
-use crate::row::{Row, is_current, pair, with_bits, with_current, with_pair, without_bits};
+use crate::places::{START, has_element, row_in, seek};
+use crate::row::{Row, is_current, pair, set_current, set_pair, with_bits, without_bits};
 use dg_graph::Element;
 use std::alloc::{AllocError, Global};
 use std::marker::Model;
@@ -73,7 +73,7 @@ impl Cells {
 
     /// No element has two cells. Does nothing.
     pub fn facts(&self)
-        ensures { AreApart self.now }
+        ensures { CellsAreApart self.now }
     {
         let _ = &self.rows;
     }
@@ -108,13 +108,21 @@ impl Cells {
         }
     }
 
+    /// What stands in the cell, as `row` gives it, with no copy.
+    pub fn get(&self, n: usize) -> Option<&Row>
+        ensures there { IfSome result (λ r. cell_at self.now n ≡ Some r.now) }
+        ensures vacant { IfNone result (cell_at self.now n ≡ None) }
+    {
+        row_in(&self.rows, n)
+    }
+
     /// Writes whether the current graph has the element of an occupied cell.
     pub fn set_current(&mut self, n: usize, on: bool)
         requires { IsSome (cell_at self.old n) }
         ensures { Writes self.old self.new n (SetsCurrent on) }
     {
-        if let Some(row) = self.rows[n] {
-            self.rows[n] = Some(with_current(row, on));
+        if let Some(row) = &mut self.rows[n] {
+            set_current(row, on);
         }
     }
 
@@ -125,8 +133,8 @@ impl Cells {
         requires high { slot ≤ 127 }
         ensures { Writes self.old self.new n (SetsPair slot (explicit, own)) }
     {
-        if let Some(row) = self.rows[n] {
-            self.rows[n] = Some(with_pair(row, slot, explicit, own));
+        if let Some(row) = &mut self.rows[n] {
+            set_pair(row, slot, explicit, own);
         }
     }
 
@@ -177,7 +185,7 @@ impl Cells {
     /// Gives the element a cell with no bit, unless it has a cell. An `Err` says that memory ran out, or
     /// that there are 2^32 cells, and nothing has changed.
     pub fn add(&mut self, element: Element) -> Result<(), AllocError>
-        ensures grows { Grows self.old self.new }
+        ensures grows { CellsGrow self.old self.new }
         ensures there { OnOk result (HasCell self.new element) }
         ensures fresh { (n : ℕ) (r : Row) → cell_at self.old n ≡ None → cell_at self.new n ≡ Some r → r.element ≡ element }
         ensures err { OnErr result (self.new ≡ self.old) }
@@ -196,15 +204,41 @@ impl Cells {
     /// that memory ran out, or that there are 2^32 cells; some elements may have got a cell.
     pub fn add_all(&mut self, items: &[Element]) -> Result<(), AllocError>
         requires { IsSet items.now }
-        ensures grows { Grows self.old self.new }
+        ensures grows { CellsGrow self.old self.new }
         ensures there { OnOk result (AllHave self.new items.now) }
         ensures among { AreAmong self.old self.new items.now }
     {
+        let _numbers = self.add_numbered(items)?;
+        Ok(())
+    }
+
+    /// Does what `add_all` does, and answers the numbers of the elements' cells, in the order of the elements.
+    pub fn add_numbered(&mut self, items: &[Element]) -> Result<Vec<u32>, AllocError>
+        requires { IsSet items.now }
+        ensures grows { CellsGrow self.old self.new }
+        ensures numbers { IfOk result (λ numbers. AreNumbers self.new items.now numbers.items) }
+        ensures there { OnOk result (AllHave self.new items.now) }
+        ensures among { AreAmong self.old self.new items.now }
+    {
+        let mut numbers = Vec::with_capacity(*self.rows.allocator(), items.len())?;
         if items.len() > self.rows.len() / MANY {
-            merge(&mut self.rows, &mut self.order, &mut self.free, items)
+            merge(
+                &mut self.rows,
+                &mut self.order,
+                &mut self.free,
+                items,
+                &mut numbers,
+            )?;
         } else {
-            add_each(&mut self.rows, &mut self.order, &mut self.free, items)
+            add_each(
+                &mut self.rows,
+                &mut self.order,
+                &mut self.free,
+                items,
+                &mut numbers,
+            )?;
         }
+        Ok(numbers)
     }
 
     /// The number of the element's cell, as `find` gives it. It takes one step where the cell with the
@@ -268,5 +302,15 @@ impl Cells {
         ensures { cursor_place self.now result ≡ min (cursor_place self.now cursor + 1) (length (ordered self.now)) }
     {
         cursors::after(&self.rows, &self.order, cursor)
+    }
+
+    /// What stands in the cell at which the cursor stands, and the cursor that `after` gives; none past the
+    /// last occupied cell. O(1), unless cells came or went since the cursor was made, and O(log n) then.
+    pub fn step(&self, cursor: Cursor) -> Option<(&Row, Cursor)>
+        ensures found { IfSome result (λ s. slice_get (ordered self.now) (cursor_place self.now cursor) ≡ Some s.0.now) }
+        ensures next { IfSome result (λ s. cursor_place self.now s.1 ≡ min (cursor_place self.now cursor + 1) (length (ordered self.now))) }
+        ensures end { IfNone result (cursor_place self.now cursor ≡ length (ordered self.now)) }
+    {
+        cursors::step(&self.rows, &self.order, cursor)
     }
 }

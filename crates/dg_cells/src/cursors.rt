@@ -6,7 +6,7 @@ ghost use Rattle.dg_cells.specs.Order.{IsListed, IsLower};
 ghost use Rattle.dg_cells.specs.Cursors.{ordered, ordered_elements, cursor_place};
 
 use crate::pieces::Pieces;
-use crate::places::{Place, START, element, seek};
+use crate::places::{Place, START, element, row_in, seek};
 use crate::row::Row;
 use dg_graph::Element;
 
@@ -48,6 +48,28 @@ fn is_number_at(order: &Pieces, place: Place, n: usize) -> bool
     place.index < piece.len() && piece[place.index] as usize == n
 }
 
+// The number behind this one in its piece, where this one is at the place.
+fn next_number(order: &Pieces, place: Place, n: usize) -> Option<u32>
+    ensures piece { IfSome result (λ _. place.piece < length order.now) }
+    ensures index { IfSome result (λ _. place.index + 1 < length (nth_piece order.now place.piece)) }
+    ensures most { IfSome result (λ _. place.index < 1024) }
+    ensures number { IfSome result (λ _. slice_index_or (nth_piece order.now place.piece) place.index 0 ≡ n) }
+    ensures next { IfSome result (λ m. slice_index_or (nth_piece order.now place.piece) (place.index + 1) 0 ≡ m) }
+{
+    if place.piece >= order.len() {
+        return None;
+    }
+    let piece = order.piece(place.piece);
+    if place.index < piece.len()
+        && piece[place.index] as usize == n
+        && place.index + 1 < piece.len()
+    {
+        Some(piece[place.index + 1])
+    } else {
+        None
+    }
+}
+
 // The place of an occupied cell, which is looked for where it was.
 fn locate(rows: &[Option<Row>], order: &Pieces, n: usize, was: Place) -> Place
     requires listed { IsListed rows.now (strung order.now) }
@@ -82,6 +104,29 @@ fn next(order: &Pieces, place: Place) -> Place
             piece: place.piece + 1,
             index: 0,
         }
+    }
+}
+
+// The cursor behind one that stands at an occupied cell.
+fn behind(rows: &[Option<Row>], order: &Pieces, n: usize, cursor: Cursor) -> Cursor
+    requires listed { IsListed rows.now (strung order.now) }
+    requires there { IsSome (cell_at rows.now n) }
+    requires number { cursor.cell ≡ Some n }
+    ensures { cursor_place rows.now result ≡ min (cursor_place rows.now cursor + 1) (length (ordered rows.now)) }
+{
+    match next_number(order, cursor.place, n) {
+        Some(m) => Cursor {
+            cell: Some(m as usize),
+            place: Place {
+                piece: cursor.place.piece,
+                index: cursor.place.index + 1,
+            },
+        },
+        None => cursor_at(
+            rows,
+            order,
+            next(order, locate(rows, order, n, cursor.place)),
+        ),
     }
 }
 
@@ -129,14 +174,30 @@ pub(crate) fn after(rows: &[Option<Row>], order: &Pieces, cursor: Cursor) -> Cur
     ensures { cursor_place rows.now result ≡ min (cursor_place rows.now cursor + 1) (length (ordered rows.now)) }
 {
     match at(rows, order, cursor) {
-        Some(n) => cursor_at(
-            rows,
-            order,
-            next(order, locate(rows, order, n, cursor.place)),
-        ),
+        Some(n) => behind(rows, order, n, cursor),
         None => Cursor {
             cell: None,
             place: cursor.place,
         },
+    }
+}
+
+/// What stands in the cell at which the cursor stands, and the cursor at the next occupied cell.
+pub(crate) fn step<'a>(
+    rows: &'a [Option<Row>],
+    order: &Pieces,
+    cursor: Cursor,
+) -> Option<(&'a Row, Cursor)>
+    requires { IsListed rows.now (strung order.now) }
+    ensures found { IfSome result (λ s. slice_get (ordered rows.now) (cursor_place rows.now cursor) ≡ Some s.0.now) }
+    ensures next { IfSome result (λ s. cursor_place rows.now s.1 ≡ min (cursor_place rows.now cursor + 1) (length (ordered rows.now))) }
+    ensures end { IfNone result (cursor_place rows.now cursor ≡ length (ordered rows.now)) }
+{
+    match cursor.cell {
+        Some(n) => match row_in(rows, n) {
+            Some(row) => Some((row, behind(rows, order, n, cursor))),
+            None => None,
+        },
+        None => None,
     }
 }

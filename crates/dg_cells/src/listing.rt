@@ -1,9 +1,9 @@
 //! How cells come and go, with their numbers in the order.
-ghost use Rattle.std.specs.Prelude.{◌≡◌, ℕ, ◌+◌, ◌<◌, ◌≤◌, false, List, Option, Some, None, length, slice_index_or, slice_set, IfSome, IfNone, IfOk, OnOk, OnErr, IsSome, vec_len};
+ghost use Rattle.std.specs.Prelude.{◌≡◌, ℕ, ◌+◌, ◌<◌, ◌≤◌, false, List, [], Option, Some, None, length, slice_index_or, slice_set, IfSome, IfNone, IfOk, OnOk, OnErr, IsSome, vec_len};
 ghost use Rattle.std.specs.Vec.{vec_capacity};
 ghost use Rattle.dg_graph.specs.Elements.{has};
 ghost use Rattle.dg_cells.specs.declared.row.Row.{Row};
-ghost use Rattle.dg_cells.specs.Rows.{cell_at, Holds, Lacks, Grows, HasCell, AllHave, AreAmong};
+ghost use Rattle.dg_cells.specs.Rows.{cell_at, Holds, Lacks, CellsGrow, AreNumbers, AreAmong};
 ghost use Rattle.dg_cells.specs.Pieces.{strung, numbers_before, IsPlace};
 ghost use Rattle.dg_cells.specs.Order.{elements_in, IsLower, IsListed, Puts};
 
@@ -93,8 +93,8 @@ pub(crate) fn use_up(free: &mut Vec<u32>, n: u32) {
     }
 }
 
-/// Gives the element a cell with no bit, unless it has one, and answers where to look for the next.
-/// It takes the fewer steps the less it is behind `near`. An `Err` says that memory ran out or that all
+/// Gives the element a cell with no bit, unless it has one, and answers where to look for the next, and the
+/// number of the cell. It takes the fewer steps the less it is behind `near`. An `Err` says that memory ran out or that all
 /// numbers of 32 bits are in use, and no cell has changed.
 pub(crate) fn add(
     rows: &mut Vec<Option<Row>>,
@@ -102,45 +102,50 @@ pub(crate) fn add(
     free: &mut Vec<u32>,
     near: Place,
     x: &Element,
-) -> Result<Place, AllocError>
+) -> Result<(Place, u32), AllocError>
     requires { IsListed rows.old.items (strung order.old) }
     ensures listed { IsListed rows.new.items (strung order.new) }
-    ensures grows { Grows rows.old.items rows.new.items }
-    ensures there { OnOk result (HasCell rows.new.items x.now) }
+    ensures grows { CellsGrow rows.old.items rows.new.items }
+    ensures there { IfOk result (λ both. Holds rows.new.items x.now both.1) }
     ensures fresh { (n : ℕ) (r : Row) → cell_at rows.old.items n ≡ None → cell_at rows.new.items n ≡ Some r → r.element ≡ x.now }
     ensures err { OnErr result (rows.new.items ≡ rows.old.items) }
 {
-    if stands_at(rows, order, near, x) {
-        return Ok(behind(near));
+    if let Some(n) = stands_at(rows, order, near, x) {
+        return Ok((behind(near), n));
     }
     let place = seek(rows, order, near, x);
-    if number_at(rows, order, place, x).is_some() {
-        return Ok(behind(place));
+    if let Some(n) = number_at(rows, order, place, x) {
+        return Ok((behind(place), n));
     }
     let n = vacancy(rows, free)?;
     order.insert(place.piece, place.index, n)?;
     put(rows, n as usize, bare(*x));
     use_up(free, n);
-    Ok(behind(place))
+    Ok((behind(place), n))
 }
 
-/// Gives each of the elements a cell with no bit, unless it has one; quickest where they rise. An `Err`
-/// says that memory ran out or that all numbers of 32 bits are in use; some elements may have got a cell.
+/// Gives each of the elements a cell with no bit, unless it has one; quickest where they rise. Writes down the
+/// numbers of their cells. An `Err` says that memory ran out or that all numbers of 32 bits are in use; some
+/// elements may have got a cell.
 pub(crate) fn add_each(
     rows: &mut Vec<Option<Row>>,
     order: &mut Pieces,
     free: &mut Vec<u32>,
     items: &[Element],
+    numbers: &mut Vec<u32>,
 ) -> Result<(), AllocError>
-    requires { IsListed rows.old.items (strung order.old) }
+    requires listed { IsListed rows.old.items (strung order.old) }
+    requires none { numbers.old.items ≡ [] }
     ensures listed { IsListed rows.new.items (strung order.new) }
-    ensures grows { Grows rows.old.items rows.new.items }
-    ensures there { OnOk result (AllHave rows.new.items items.now) }
+    ensures grows { CellsGrow rows.old.items rows.new.items }
+    ensures numbers { OnOk result (AreNumbers rows.new.items items.now numbers.new.items) }
     ensures among { AreAmong rows.old.items rows.new.items items.now }
 {
     let mut near = START;
     for x in items {
-        near = add(rows, order, free, near, x)?;
+        let (behind, number) = add(rows, order, free, near, x)?;
+        numbers.push(number)?;
+        near = behind;
     }
     Ok(())
 }

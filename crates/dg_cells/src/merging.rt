@@ -2,26 +2,16 @@
 ghost use Rattle.std.specs.Prelude.{◌≡◌, ℕ, ◌+◌, ◌<◌, ◌≤◌, true, false, cond, List, Option, Some, None, [], ◌∷◌, ◌++◌, length, slice_index_or, IfOk, OnOk, OnErr};
 ghost use Rattle.dg_graph.specs.Elements.{IsSet};
 ghost use Rattle.dg_cells.specs.declared.row.Row.{Row};
-ghost use Rattle.dg_cells.specs.Rows.{cell_at, Grows, AllHave, AreAmong, IsBare};
+ghost use Rattle.dg_cells.specs.Rows.{cell_at, CellsGrow, AreNumbers, AreAmong, IsBare};
 ghost use Rattle.dg_cells.specs.Pieces.{strung};
 ghost use Rattle.dg_cells.specs.Order.{cell_element, AreCells, IsListed, Puts, is_noted, AreNoted};
 
 use crate::listing::{put, use_up, vacancy};
 use crate::pieces::Pieces;
-use crate::places::{has_element, seek_within};
+use crate::places::seek_on;
 use crate::row::{Row, bare};
 use dg_graph::Element;
 use std::alloc::AllocError;
-
-// Whether the cell with the number at the index has the element.
-fn stands(rows: &[Option<Row>], order: &[u32], at: usize, x: &Element) -> bool
-    requires { AreCells rows.now order.now }
-    ensures within { result ≡ true → at < length order.now }
-    ensures is { result ≡ true → cell_element (cell_at rows.now (slice_index_or order.now at 0)) ≡ Some x.now }
-    ensures is_not { result ≡ false → at < length order.now → cell_element (cell_at rows.now (slice_index_or order.now at 0)) ≡ Some x.now → ⊥ }
-{
-    at < order.len() && has_element(rows, order[at] as usize, x)
-}
 
 // Gives the element a new cell, whose number is noted. An `Err` says that there is none, and all is as
 // it was.
@@ -57,23 +47,25 @@ fn vacate(rows: &mut Vec<Option<Row>>, free: &mut Vec<u32>, taken: &[u32])
     }
 }
 
-// Gives each of the rising elements a cell, by one walk over the numbers in order. Answers the numbers
-// with those of the new cells, which are noted. An `Err` says that memory ran out; some elements may
-// have got a cell.
+// Gives each of the rising elements a cell, by one walk over the numbers in order, and writes down the
+// numbers of their cells. Answers the order with the numbers of the new cells, which are noted. An `Err` says
+// that memory ran out; some elements may have got a cell.
 fn merge_numbers(
     rows: &mut Vec<Option<Row>>,
     order: &[u32],
     free: &mut Vec<u32>,
     taken: &mut Vec<u32>,
     items: &[Element],
+    numbers: &mut Vec<u32>,
 ) -> Result<Vec<u32>, AllocError>
     requires listed { IsListed rows.old.items order.now }
     requires items { IsSet items.now }
     requires none { taken.old.items ≡ [] }
+    requires no_numbers { numbers.old.items ≡ [] }
     ensures listed { IfOk result (λ out. IsListed rows.new.items out.items) }
-    ensures there { OnOk result (AllHave rows.new.items items.now) }
+    ensures numbers { OnOk result (AreNumbers rows.new.items items.now numbers.new.items) }
     ensures among { AreAmong rows.old.items rows.new.items items.now }
-    ensures grows { Grows rows.old.items rows.new.items }
+    ensures grows { CellsGrow rows.old.items rows.new.items }
     ensures noted { AreNoted rows.old.items rows.new.items taken.new.items }
 {
     let alloc = *rows.allocator();
@@ -81,60 +73,67 @@ fn merge_numbers(
     let mut i = 0;
     let mut near = 0;
     for x in items {
-        near = seek_within(rows, order, near, x);
-        if !stands(rows, order, near, x) {
-            out.extend_from_slice(&order[i..near])?;
+        let (at, there) = seek_on(rows, order, near, x);
+        if there {
+            numbers.push(order[at])?;
+            near = at + 1;
+        } else {
+            out.extend_from_slice(&order[i..at])?;
             let number = cell_for(rows, free, taken, x)?;
             out.push(number)?;
-            i = near;
-        } else {
-            near += 1;
+            numbers.push(number)?;
+            i = at;
+            near = at;
         }
     }
     out.extend_from_slice(&order[i..])?;
     Ok(out)
 }
 
-// The same, with the numbers in pieces.
+// The same, with the order in pieces.
 fn merge_pieces(
     rows: &mut Vec<Option<Row>>,
     order: &[u32],
     free: &mut Vec<u32>,
     taken: &mut Vec<u32>,
     items: &[Element],
+    numbers: &mut Vec<u32>,
 ) -> Result<Pieces, AllocError>
     requires listed { IsListed rows.old.items order.now }
     requires items { IsSet items.now }
     requires none { taken.old.items ≡ [] }
+    requires no_numbers { numbers.old.items ≡ [] }
     ensures listed { IfOk result (λ pieces. IsListed rows.new.items (strung pieces)) }
-    ensures there { OnOk result (AllHave rows.new.items items.now) }
+    ensures numbers { OnOk result (AreNumbers rows.new.items items.now numbers.new.items) }
     ensures among { AreAmong rows.old.items rows.new.items items.now }
-    ensures grows { Grows rows.old.items rows.new.items }
+    ensures grows { CellsGrow rows.old.items rows.new.items }
     ensures noted { AreNoted rows.old.items rows.new.items taken.new.items }
 {
     let alloc = *rows.allocator();
-    let numbers = merge_numbers(rows, order, free, taken, items)?;
-    Pieces::of_numbers(alloc, &numbers)
+    let merged = merge_numbers(rows, order, free, taken, items, numbers)?;
+    Pieces::of_numbers(alloc, &merged)
 }
 
-/// Gives each of the rising elements a cell with no bit, unless it has one, by one walk over the order.
-/// An `Err` says that memory ran out or that all numbers of 32 bits are in use, and no cell has come.
+/// Gives each of the rising elements a cell with no bit, unless it has one, by one walk over the order, and
+/// writes down the numbers of their cells. An `Err` says that memory ran out or that all numbers of 32 bits are in use, and no cell has come.
 pub(crate) fn merge(
     rows: &mut Vec<Option<Row>>,
     order: &mut Pieces,
     free: &mut Vec<u32>,
     items: &[Element],
+    numbers: &mut Vec<u32>,
 ) -> Result<(), AllocError>
     requires listed { IsListed rows.old.items (strung order.old) }
     requires items { IsSet items.now }
+    requires none { numbers.old.items ≡ [] }
     ensures listed { IsListed rows.new.items (strung order.new) }
-    ensures grows { Grows rows.old.items rows.new.items }
-    ensures there { OnOk result (AllHave rows.new.items items.now) }
+    ensures grows { CellsGrow rows.old.items rows.new.items }
+    ensures numbers { OnOk result (AreNumbers rows.new.items items.now numbers.new.items) }
     ensures among { AreAmong rows.old.items rows.new.items items.now }
 {
-    let numbers = order.numbers()?;
+    let listed = order.numbers()?;
     let mut taken = Vec::new(*rows.allocator());
-    match merge_pieces(rows, &numbers, free, &mut taken, items) {
+    match merge_pieces(rows, &listed, free, &mut taken, items, numbers) {
         Ok(pieces) => {
             *order = pieces;
             Ok(())

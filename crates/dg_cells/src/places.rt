@@ -1,6 +1,7 @@
 //! Where an element stands in the order of the cells, or belongs.
-ghost use Rattle.std.specs.Prelude.{◌≡◌, ℕ, ◌+◌, ◌-◌, ◌<◌, ◌≤◌, true, false, Some, IsSome, IfSome, length, slice_index_or};
-ghost use Rattle.dg_cells.specs.Rows.{cell_at, Holds, HasCell};
+ghost use Rattle.std.specs.Prelude.{◌≡◌, ℕ, ◌+◌, ◌-◌, ◌<◌, ◌≤◌, true, false, Some, None, IsSome, IfSome, IfNone, length, slice_index_or};
+ghost use Rattle.std.specs.Ordering.{is_lt, is_eq};
+ghost use Rattle.dg_cells.specs.Rows.{cell_at, Holds};
 ghost use Rattle.dg_cells.specs.Pieces.{strung, nth_piece, numbers_before, IsPlace};
 ghost use Rattle.dg_cells.specs.Order.{cell_element, elements_in, AreCells, IsOrder, IsLower, is_cell_before, is_index_before, is_piece_before};
 
@@ -8,6 +9,7 @@ use crate::pieces::Pieces;
 use crate::row::Row;
 use dg_event::compare;
 use dg_graph::Element;
+use std::cmp::Ordering;
 
 /// An index within a piece of the order, or the end of the order.
 #[derive(Clone, Copy)]
@@ -24,6 +26,18 @@ pub(crate) fn behind(place: Place) -> Place {
     Place {
         piece: place.piece,
         index: place.index.saturating_add(1),
+    }
+}
+
+/// What stands in the cell.
+pub(crate) fn row_in(rows: &[Option<Row>], n: usize) -> Option<&Row>
+    ensures there { IfSome result (λ r. cell_at rows.now n ≡ Some r.now) }
+    ensures vacant { IfNone result (cell_at rows.now n ≡ None) }
+{
+    if n < rows.len() {
+        rows[n].as_ref()
+    } else {
+        None
     }
 }
 
@@ -44,7 +58,7 @@ pub(crate) fn has_element(rows: &[Option<Row>], n: usize, x: &Element) -> bool
     ensures has_not { result ≡ false → cell_element (cell_at rows.now n) ≡ Some x.now → ⊥ }
 {
     if n < rows.len() {
-        match rows[n] {
+        match &rows[n] {
             Some(row) => compare(x, &row.element).is_eq(),
             None => false,
         }
@@ -53,15 +67,37 @@ pub(crate) fn has_element(rows: &[Option<Row>], n: usize, x: &Element) -> bool
     }
 }
 
-/// Whether the cell with the number at this place has the element.
-pub(crate) fn stands_at(rows: &[Option<Row>], pieces: &Pieces, place: Place, x: &Element) -> bool
-    ensures { result ≡ true → HasCell rows.now x.now }
+/// The number at this place, if its cell has the element.
+pub(crate) fn stands_at(
+    rows: &[Option<Row>],
+    pieces: &Pieces,
+    place: Place,
+    x: &Element,
+) -> Option<u32>
+    ensures { IfSome result (Holds rows.now x.now) }
 {
     if place.piece >= pieces.len() {
-        return false;
+        return None;
     }
     let piece = pieces.piece(place.piece);
-    place.index < piece.len() && has_element(rows, piece[place.index] as usize, x)
+    if place.index < piece.len() && has_element(rows, piece[place.index] as usize, x) {
+        Some(piece[place.index])
+    } else {
+        None
+    }
+}
+
+// How the cell's element compares with this one.
+fn compare_at(rows: &[Option<Row>], n: usize, x: &Element) -> Ordering
+    requires { IsSome (cell_at rows.now n) }
+    ensures less { is_lt result ≡ is_cell_before x.now (cell_at rows.now n) }
+    ensures equal { is_eq result ≡ true → cell_element (cell_at rows.now n) ≡ Some x.now }
+    ensures differs { is_eq result ≡ false → cell_element (cell_at rows.now n) ≡ Some x.now → ⊥ }
+{
+    match &rows[n] {
+        Some(row) => compare(&row.element, x),
+        None => unreachable!(),
+    }
 }
 
 // Whether the cell's element is before this one.
@@ -69,7 +105,7 @@ fn is_before(rows: &[Option<Row>], n: usize, x: &Element) -> bool
     requires { IsSome (cell_at rows.now n) }
     ensures { result ≡ is_cell_before x.now (cell_at rows.now n) }
 {
-    compare(&element(rows, n), x).is_lt()
+    compare_at(rows, n, x).is_lt()
 }
 
 // A place to look at: so many steps from the low end, or half way.
@@ -106,6 +142,43 @@ fn start_within(rows: &[Option<Row>], order: &[u32], near: usize, x: &Element) -
     }
 }
 
+/// Where the element stands or belongs among cells of which those up to `from` are before it, and whether
+/// it stands there.
+pub(crate) fn seek_on(
+    rows: &[Option<Row>],
+    order: &[u32],
+    from: usize,
+    x: &Element,
+) -> (usize, bool)
+    requires cells { AreCells rows.now order.now }
+    requires within { from ≤ length order.now }
+    requires low { 0 < from → is_index_before rows.now order.now x.now (from - 1) ≡ true }
+    ensures on { from ≤ result.0 }
+    ensures within { result.0 ≤ length order.now }
+    ensures low { 0 < result.0 → is_index_before rows.now order.now x.now (result.0 - 1) ≡ true }
+    ensures high { result.0 < length order.now → is_index_before rows.now order.now x.now result.0 ≡ false }
+    ensures inside { result.1 ≡ true → result.0 < length order.now }
+    ensures is { result.1 ≡ true → cell_element (cell_at rows.now (slice_index_or order.now result.0 0)) ≡ Some x.now }
+    ensures is_not { result.1 ≡ false → result.0 < length order.now → cell_element (cell_at rows.now (slice_index_or order.now result.0 0)) ≡ Some x.now → ⊥ }
+{
+    let mut low = from;
+    let mut high = order.len();
+    let mut step = first_step(low);
+    let mut there = false;
+    while low < high {
+        let at = probe(low, high, step);
+        let found = compare_at(rows, order[at] as usize, x);
+        if found.is_lt() {
+            step = next_step(step);
+            low = at + 1;
+        } else {
+            there = found.is_eq();
+            high = at;
+        }
+    }
+    (low, there)
+}
+
 /// Where the element stands or belongs among the cells of a piece.
 pub(crate) fn seek_within(rows: &[Option<Row>], order: &[u32], near: usize, x: &Element) -> usize
     requires { AreCells rows.now order.now }
@@ -113,19 +186,9 @@ pub(crate) fn seek_within(rows: &[Option<Row>], order: &[u32], near: usize, x: &
     ensures low { 0 < result → is_index_before rows.now order.now x.now (result - 1) ≡ true }
     ensures high { result < length order.now → is_index_before rows.now order.now x.now result ≡ false }
 {
-    let mut low = start_within(rows, order, near, x);
-    let mut high = order.len();
-    let mut step = first_step(low);
-    while low < high {
-        let at = probe(low, high, step);
-        if is_before(rows, order[at] as usize, x) {
-            step = next_step(step);
-            low = at + 1;
-        } else {
-            high = at;
-        }
-    }
-    low
+    let from = start_within(rows, order, near, x);
+    let (index, _there) = seek_on(rows, order, from, x);
+    index
 }
 
 // Whether all elements of the piece are before this one.

@@ -18,21 +18,16 @@ fn has_bit(row: &Row, bit: u8) -> bool
     (row.bits[(bit / 64) as usize] >> (bit % 64)) & 1 == 1
 }
 
-// The row with the bit set or not.
-fn with_bit(row: Row, bit: u8, on: bool) -> Row
-    ensures element { result.element ≡ row.element }
-    ensures bits { (c : ℕ) → has_bit result c ≡ cond (c == bit) on (has_bit row c) }
+// Sets the bit or puts it off.
+fn set_bit(row: &mut Row, bit: u8, on: bool)
+    ensures element { row.new.element ≡ row.old.element }
+    ensures bits { (c : ℕ) → has_bit row.new c ≡ cond (c == bit) on (has_bit row.old c) }
 {
-    let mut bits = row.bits;
     let word = (bit / 64) as usize;
     if on {
-        bits[word] |= 1 << (bit % 64);
+        row.bits[word] |= 1 << (bit % 64);
     } else {
-        bits[word] &= !(1 << (bit % 64));
-    }
-    Row {
-        element: row.element,
-        bits,
+        row.bits[word] &= !(1 << (bit % 64));
     }
 }
 
@@ -51,20 +46,21 @@ pub fn pair(row: &Row, slot: u8) -> (bool, bool)
     (has_bit(row, 2 * slot), has_bit(row, 2 * slot + 1))
 }
 
-/// The row with or without the bit of the current graph.
-pub fn with_current(row: Row, on: bool) -> Row
-    ensures { SetsCurrent on row result }
+/// Sets the bit of the current graph or puts it off.
+pub fn set_current(row: &mut Row, on: bool)
+    ensures { SetsCurrent on row.old row.new }
 {
-    with_bit(row, 0, on)
+    set_bit(row, 0, on);
 }
 
-/// The row with these two bits of the slot.
-pub fn with_pair(row: Row, slot: u8, explicit: bool, own: bool) -> Row
+/// Writes these two bits of the slot.
+pub fn set_pair(row: &mut Row, slot: u8, explicit: bool, own: bool)
     requires low { 1 ≤ slot }
     requires high { slot ≤ 127 }
-    ensures { SetsPair slot (explicit, own) row result }
+    ensures { SetsPair slot (explicit, own) row.old row.new }
 {
-    with_bit(with_bit(row, 2 * slot, explicit), 2 * slot + 1, own)
+    set_bit(row, 2 * slot, explicit);
+    set_bit(row, 2 * slot + 1, own);
 }
 
 /// The row with these bits in place of its own.

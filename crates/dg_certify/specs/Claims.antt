@@ -5,11 +5,11 @@ use Rattle.dg_plan.specs.CertificateLines as lines
 use Rattle.dg_certify.specs.declared.claim.Claim.{Claim}
 use Rattle.dg_certify.specs.declared.claim.WrittenStep.{WrittenStep}
 
-abbrev pub step_of : WrittenStep → lines.WrittenStep
-step_of s = record { edge = s.edge; head = s.head; weight = s.weight }
+abbrev pub line_step : WrittenStep → lines.WrittenStep
+line_step s = record { edge = s.edge; head = s.head; weight = s.weight }
 
 abbrev pub claim_of : Claim → lines.Claim
-claim_of c = record { steps = map step_of c.steps.items; weight = c.weight; potentials = c.potentials.items; next = c.next }
+claim_of c = record { steps = map line_step c.steps.items; weight = c.weight; potentials = c.potentials.items; next = c.next }
 
 -- the claim with one more step, unless its line is bad, for which the nodes do not matter
 abbrev pub with_step : lines.Claim → lines.WrittenStep → Option lines.Claim

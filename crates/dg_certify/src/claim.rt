@@ -5,7 +5,7 @@ ghost use Rattle.dg_history.specs.declared.limits.TheConstants.{BATCH_LINES_MAX}
 ghost use Rattle.dg_graph.specs.declared.limits.TheConstants.{TIME_MAX};
 ghost use Rattle.dg_plan.specs.CertificateLines.{no_claim, claim_with, claimed, with_potential};
 ghost use Rattle.dg_plan.specs.InstantPoint.{same_node};
-ghost use Rattle.dg_certify.specs.Claims.{claim_of, read_of, step_of, with_step};
+ghost use Rattle.dg_certify.specs.Claims.{claim_of, read_of, line_step, with_step};
 
 use crate::same_node::place_of;
 use dg_graph::TIME_MAX;
@@ -91,7 +91,7 @@ impl Claim {
     // Takes a step, unless a potential stands before it or the weights pass the last instant.
     fn take_step(&mut self, step: WrittenStep) -> Result<bool, AllocError>
         requires fits { self.old.weight ≤ TIME_MAX }
-        ensures taken { IfOk result (λ taken. with_step (claim_of self.old) (step_of step) ≡ then_some taken (claim_of self.new)) }
+        ensures taken { IfOk result (λ taken. with_step (claim_of self.old) (line_step step) ≡ then_some taken (claim_of self.new)) }
         ensures fits { OnOk result (self.new.weight ≤ TIME_MAX) }
         ensures next { OnOk result (self.new.next ≡ self.old.next) }
         ensures steps { OnOk result (length self.new.steps.items ≤ length self.old.steps.items + 1) }

@@ -3,7 +3,7 @@ ghost use Rattle.std.specs.Prelude.{◌≡◌, ◌≤◌, ◌<◌, ◌^◌, leng
 ghost use Rattle.dg_history.specs.declared.limits.TheConstants.{BATCH_LINES_MAX};
 ghost use Rattle.dg_history.specs.declared.node.NodeId.TheVariants.{Root};
 ghost use Rattle.dg_plan.specs.CertificateLines.{is_as_written, bad_step};
-ghost use Rattle.dg_certify.specs.Claims.{step_of};
+ghost use Rattle.dg_certify.specs.Claims.{line_step};
 
 use crate::claim::WrittenStep;
 use crate::same_node::is_same;
@@ -14,7 +14,7 @@ use dg_plan::Edge;
 /// past the last, where the walk ends elsewhere than at the target.
 pub(crate) fn first_bad_step(edges: &[Edge], target: NodeId, steps: &[WrittenStep]) -> Option<u32>
     requires few { length steps.now ≤ BATCH_LINES_MAX }
-    ensures { result ≡ bad_step edges.now target 1 Root (map step_of steps.now) }
+    ensures { result ≡ bad_step edges.now target 1 Root (map line_step steps.now) }
 {
     let mut reached = NodeId::Root;
     let mut number = 1;
@@ -34,7 +34,7 @@ pub(crate) fn first_bad_step(edges: &[Edge], target: NodeId, steps: &[WrittenSte
 
 // Whether the step is an edge from the node reached, with the head and the weight that it writes.
 fn is_step(edges: &[Edge], reached: NodeId, step: &WrittenStep) -> bool
-    ensures { result ≡ is_as_written (slice_get edges.now step.now.edge) reached (step_of step.now) }
+    ensures { result ≡ is_as_written (slice_get edges.now step.now.edge) reached (line_step step.now) }
 {
     match edges.get(step.edge as usize) {
         Some(edge) => {

@@ -7,7 +7,7 @@ use Rattle.dg_graph.specs.declared.placed.Placed.{Placed}
 use Rattle.std.specs.Prelude.{◌==◌, ◌&&◌, not, nat_le, nat_lt}
 use Rattle.dg_graph.specs.ColumnGrammar.{and_read, any_number, two_bytes, four_bytes, eight_bytes, value_of, value_fields, body_at, body_size, events_at}
 use Rattle.dg_columns.specs.declared.event_fields.ValueFields.{ValueFields}
-use Rattle.dg_columns.specs.Fields.{value_at, placed_at}
+use Rattle.dg_columns.specs.Fields.{value_fields_at, placed_at}
 
 -- ---- a value's change
 
@@ -23,7 +23,7 @@ value_grouped make (Ok id) (Ok key) (Ok old) d =
       | Ok new ↦ refl
     ]
 
-pub value_made : (make : ℕ → ℕ → Option ℕ → Option ℕ → Body) (names : ℕ) (bytes : List ℕ) (at : ℕ) → value_fields make names bytes at ≡ and_read (value_at names bytes at) (λ v. Ok (make v.id v.key v.old v.new))
+pub value_made : (make : ℕ → ℕ → Option ℕ → Option ℕ → Body) (names : ℕ) (bytes : List ℕ) (at : ℕ) → value_fields make names bytes at ≡ and_read (value_fields_at names bytes at) (λ v. Ok (make v.id v.key v.old v.new))
 value_made make names bytes at =
     value_grouped make (eight_bytes any_number bytes at) (four_bytes (λ n. nat_lt n names) bytes (at + 8)) (four_bytes (λ n. nat_le n names) bytes (at + 12))
     (λ old. four_bytes (λ n. nat_le n names && not (old == 0 && n == 0)) bytes (at + 16))

@@ -12,8 +12,8 @@ use Rattle.dg_columns.specs.declared.edge.EdgeFields.{EdgeFields}
 use Rattle.dg_columns.specs.declared.event_fields.ValueFields.{ValueFields}
 
 -- an edge, from the offset on
-abbrev pub edge_at : List ℕ → ℕ → Result EdgeFields ℕ
-edge_at bytes at =
+abbrev pub edge_fields_at : List ℕ → ℕ → Result EdgeFields ℕ
+edge_fields_at bytes at =
     and_read (eight_bytes any_number bytes at) (λ id.
     and_read (eight_bytes any_number bytes (at + 8)) (λ src.
     and_read (eight_bytes any_number bytes (at + 16)) (λ dst.
@@ -21,8 +21,8 @@ edge_at bytes at =
     Ok (record { id = id; src = src; dst = dst; directed = directed == 1 })))))
 
 -- a value's change, from the offset on
-abbrev pub value_at : ℕ → List ℕ → ℕ → Result ValueFields ℕ
-value_at names bytes at =
+abbrev pub value_fields_at : ℕ → List ℕ → ℕ → Result ValueFields ℕ
+value_fields_at names bytes at =
     and_read (eight_bytes any_number bytes at) (λ id.
     and_read (four_bytes (λ n. nat_lt n names) bytes (at + 8)) (λ key.
     and_read (four_bytes (λ n. nat_le n names) bytes (at + 12)) (λ old.

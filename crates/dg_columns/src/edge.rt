@@ -2,7 +2,7 @@
 
 ghost use Rattle.std.specs.Prelude.{◌≡◌, ◌+◌, ◌++◌, ◌≤◌, length, OnOk};
 ghost use Rattle.dg_columns.specs.ReadOutcome.{IsReadAs};
-ghost use Rattle.dg_columns.specs.Fields.{edge_at, node_bytes, edge_bytes};
+ghost use Rattle.dg_columns.specs.Fields.{edge_fields_at, node_bytes, edge_bytes};
 
 use crate::fault::ReadFault;
 use crate::numbers::{byte_at, u64_at};
@@ -20,7 +20,7 @@ pub(crate) struct EdgeFields {
 /// The fields of an edge, after its kind.
 pub(crate) fn edge_at(bytes: &[u8], offset: usize) -> Result<EdgeFields, ReadFault>
     requires { offset ≤ length bytes.now }
-    ensures fields { IsReadAs (λ edge. edge) result (edge_at bytes.now offset) }
+    ensures fields { IsReadAs (λ edge. edge) result (edge_fields_at bytes.now offset) }
     ensures fits { OnOk result (offset + 25 ≤ length bytes.now) }
 {
     let id = u64_at(bytes, offset)?;

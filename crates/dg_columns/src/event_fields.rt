@@ -3,7 +3,7 @@
 ghost use Rattle.std.specs.Prelude.{◌≡◌, ◌+◌, ◌≤◌, length, OnOk, IfOk};
 ghost use Rattle.dg_graph.specs.ColumnGrammar.{body_at, body_size, value_of};
 ghost use Rattle.dg_columns.specs.ReadOutcome.{IsReadAs};
-ghost use Rattle.dg_columns.specs.Fields.{value_at};
+ghost use Rattle.dg_columns.specs.Fields.{value_fields_at};
 
 use crate::edge::edge_at;
 use crate::fault::ReadFault;
@@ -43,7 +43,7 @@ fn value_of(number: u32) -> Option<u32>
 /// The fields of a value's change.
 pub(crate) fn value_at(bytes: &[u8], offset: usize, names: u32) -> Result<ValueFields, ReadFault>
     requires { offset ≤ length bytes.now }
-    ensures fields { IsReadAs (λ value. value) result (value_at names bytes.now offset) }
+    ensures fields { IsReadAs (λ value. value) result (value_fields_at names bytes.now offset) }
     ensures fits { OnOk result (offset + 20 ≤ length bytes.now) }
 {
     let id = u64_at(bytes, offset)?;

@@ -4,7 +4,7 @@
 ghost use Rattle.std.specs.Prelude.{◌≡◌, ◌+◌, ◌≤◌, [], length, Ok, None, IfSome};
 ghost use Rattle.dg_graph.specs.Elements.{IsSet};
 ghost use Rattle.dg_graph.specs.ColumnGrammar.{element_at, element_size, elements_at};
-ghost use Rattle.dg_columns.specs.Fields.{attr_at, edge_at, next_element_at};
+ghost use Rattle.dg_columns.specs.Fields.{attr_at, edge_fields_at, next_element_at};
 
 use crate::delta_reader::{AttrFields, rises_from};
 use crate::delta_writer::element_size;
@@ -37,7 +37,7 @@ fn attr_here(bytes: &[u8], offset: usize, names: u32) -> Option<AttrFields>
 // The fields of an edge, after its kind.
 fn edge_here(bytes: &[u8], offset: usize) -> Option<EdgeFields>
     requires { offset ≤ length bytes.now }
-    ensures fields { IfSome result (λ e. edge_at bytes.now offset ≡ Ok e) }
+    ensures fields { IfSome result (λ e. edge_fields_at bytes.now offset ≡ Ok e) }
     ensures fits { IfSome result (λ e. offset + 25 ≤ length bytes.now) }
 {
     if bytes.len() - offset < EDGE_SIZE - 1 {

@@ -3,7 +3,7 @@ use Rattle.std.proofs.Common.{◌≡◌, Bool, true, false, cond, not, ◌||◌,
 use Rattle.dg_graph.specs.declared.element.Element.{Element}
 use Rattle.dg_graph.specs.Elements.{IsSet, has}
 use Rattle.dg_graph.specs.Sets.{unioned, without_all}
-use Rattle.dg_graph.specs.Composition.{Delta, IsDelta, between, applied, chained, Says, In, Out, As_it_was, says, and_then, composition, Composes}
+use Rattle.dg_graph.specs.Composition.{Delta, IsDelta, between, applied, chained, Says, In, Out, As_it_was, says, then_says, composition, Composes}
 use Rattle.dg_graph.proofs.Sets.{same_members, has-unioned, has-without_all, IsSet-unioned, IsSet-without_all}
 use Rattle.dg_graph.proofs.ExactDeltas.{has-cancelled}
 use Rattle.dg_set.specs.Apart.{AreApart}
@@ -90,7 +90,7 @@ IsDelta-composed a b f g = record {
 
 -- ---- what a composition says
 
-word_edited : (p m p2 m2 : Bool) → word (edited p m2 p2) (edited m p2 m2) ≡ and_then (word p m) (word p2 m2)
+word_edited : (p m p2 m2 : Bool) → word (edited p m2 p2) (edited m p2 m2) ≡ then_says (word p m) (word p2 m2)
 word_edited true m true true = refl
 word_edited true m true false = refl
 word_edited true true false true = refl
@@ -103,7 +103,7 @@ word_edited false true false false = refl
 word_edited false false false true = refl
 word_edited false false false false = refl
 
-pub says-composed : (a b : Delta) (x : Element) → says (composed a b) x ≡ and_then (says a x) (says b x)
+pub says-composed : (a b : Delta) (x : Element) → says (composed a b) x ≡ then_says (says a x) (says b x)
 says-composed a b x =
     let plus = has-edited a.plus b.minus b.plus x in
     let minus = has-edited a.minus b.plus b.minus x in
@@ -112,12 +112,12 @@ says-composed a b x =
 pub composes_by : (d a b : Delta) → d ≡ composed a b → Composes d (a ∷ b ∷ [])
 composes_by d a b is x = ap (λ z. says z x) is ∙ says-composed a b x
 
-pub and_then_associates : (a b c : Says) → and_then (and_then a b) c ≡ and_then a (and_then b c)
+pub and_then_associates : (a b c : Says) → then_says (then_says a b) c ≡ then_says a (then_says b c)
 and_then_associates a b In = refl
 and_then_associates a b Out = refl
 and_then_associates a b As_it_was = refl
 
-and_then_first : (a : Says) → a ≡ and_then As_it_was a
+and_then_first : (a : Says) → a ≡ then_says As_it_was a
 and_then_first In = refl
 and_then_first Out = refl
 and_then_first As_it_was = refl
@@ -125,7 +125,7 @@ and_then_first As_it_was = refl
 pub can_be_cut : CanBeCut
 can_be_cut [] ys x = and_then_first (composition ys x)
 can_be_cut (d ∷ xs) ys x =
-    ap (and_then (says d x)) (can_be_cut xs ys x)
+    ap (then_says (says d x)) (can_be_cut xs ys x)
     ∙ sym (and_then_associates (says d x) (composition xs x) (composition ys x))
 
 -- ---- a delta is what it says
@@ -164,9 +164,9 @@ is_associative a b c f g h =
     say_the_same_are_equal (composed (composed a b) c) (composed a (composed b c)) left right
     (λ x.
     says-composed (composed a b) c x
-    ∙ ap (λ w. and_then w (says c x)) (says-composed a b x)
+    ∙ ap (λ w. then_says w (says c x)) (says-composed a b x)
     ∙ and_then_associates (says a x) (says b x) (says c x)
-    ∙ ap (and_then (says a x)) (sym (says-composed b c x))
+    ∙ ap (then_says (says a x)) (sym (says-composed b c x))
     ∙ sym (says-composed a (composed b c) x))
 
 -- ---- what applying does
@@ -187,7 +187,7 @@ decides_each_element d set x =
 pub IsSet-applied : (d : Delta) (set : List Element) → IsSet set → IsSet (applied d set)
 IsSet-applied d set s = IsSet-edited set d.minus d.plus s
 
-in_after_both : (a b : Says) (was : Bool) → is_in_after (and_then a b) was ≡ is_in_after b (is_in_after a was)
+in_after_both : (a b : Says) (was : Bool) → is_in_after (then_says a b) was ≡ is_in_after b (is_in_after a was)
 in_after_both a In was = refl
 in_after_both a Out was = refl
 in_after_both a As_it_was was = refl

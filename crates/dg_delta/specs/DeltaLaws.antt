@@ -2,7 +2,7 @@
 use Rattle.std.specs.Prelude.{◌≡◌, List, [], ◌∷◌, ◌++◌}
 use Rattle.dg_graph.specs.declared.element.Element.{Element}
 use Rattle.dg_graph.specs.Elements.{IsSet, has}
-use Rattle.dg_graph.specs.Composition.{Delta, IsDelta, between, applied, chained, reversed, says, and_then, composition, Composes}
+use Rattle.dg_graph.specs.Composition.{Delta, IsDelta, between, applied, chained, reversed, says, then_says, composition, Composes}
 use Rattle.dg_delta.specs.Deltas.{composed, applied_in_turn, is_in_after}
 
 -- the exact delta from a to b leads from a to b
@@ -39,4 +39,4 @@ IsAssociative = (a b c : Delta) → IsDelta a → IsDelta b → IsDelta c → co
 
 -- it does not matter where a list is cut
 abbrev pub CanBeCut : Type 0
-CanBeCut = (xs ys : List Delta) (x : Element) → composition (xs ++ ys) x ≡ and_then (composition xs x) (composition ys x)
+CanBeCut = (xs ys : List Delta) (x : Element) → composition (xs ++ ys) x ≡ then_says (composition xs x) (composition ys x)

@@ -9,7 +9,7 @@ use Rattle.dg_history.specs.declared.limits.TheConstants.{EVENTS_MAX, FILE_BYTES
 use Rattle.dg_history.specs.declared.params.Params.{Params}
 use Rattle.dg_history.specs.History.{History, Batch, are_parameters, empty_history, events_of, with_batch}
 use Rattle.dg_history.specs.LegalHistory.{IsLegal}
-use Rattle.dg_index.specs.OpenedIndex.{Unopened, Opening, Opened, directory_of, earliest_in, events_in, may_be_named, opened_of, rows_in, MayStand}
+use Rattle.dg_index.specs.OpenedIndex.{Unopened, Opening, Opened, directory_of, earliest_in, event_total, may_be_named, opened_of, rows_in, MayStand}
 use Rattle.dg_index.specs.ImageOfHistory.{IsImageOf}
 use Rattle.dg_graph.specs.Columns.{eight}
 use Rattle.dg_index.specs.declared.entry.BatchEntry.{BatchEntry}
@@ -94,7 +94,7 @@ same_opening z image o h e = ap (ok_index o) (sym (images_are_opened z image h) 
 pub may_stand_due : (o : Opening) (s : Segment) (names : List (List ℕ)) → are_parameters o.params.l o.params.k ≡ true → IsDue o s → may_be_named names s.names ≡ true → MayStand (record { index = o; names = names }) s
 may_stand_due o s names parameters due named =
     let large = large_parameters o.params.l o.params.k parameters in
-    let all : events_in o.batches + s.events ≤ EVENTS_MAX = (follows_in (events_in o.batches) (earliest_in 0 o.batches) (directory_of s).batch due.follows).all in
+    let all : event_total o.batches + s.events ≤ EVENTS_MAX = (follows_in (event_total o.batches) (earliest_in 0 o.batches) (directory_of s).batch due.follows).all in
     let few = keys_few o s.events large.0 large.1 all in
     let count = keys_count o s.events in
     record {

@@ -8,7 +8,7 @@ use Rattle.dg_graph.specs.declared.limits.TheConstants.{NAMES_MAX}
 use Rattle.dg_history.specs.declared.node.Key.{Key}
 use Rattle.dg_graph.specs.Names.{are_new}
 use Rattle.dg_index.specs.ImageText.{four_at, eight_at, names_at}
-use Rattle.dg_index.specs.OpenedIndex.{may_be_named, Opening, Opened, Directory, list_count, delta_count, keys_next, list_at, record_at, rows_at, rows_in, directory_with, may_follow, may_be_listed, may_stand, if_it_may, events_in, earliest_in, last_list, first_in}
+use Rattle.dg_index.specs.OpenedIndex.{may_be_named, Opening, Opened, Directory, list_count, delta_count, keys_next, list_at, record_at, rows_at, rows_in, directory_with, may_follow, may_be_listed, may_stand, if_it_may, event_total, earliest_in, last_list, first_in}
 use Rattle.dg_index.specs.declared.entry.BatchEntry.{BatchEntry}
 use Rattle.dg_index.specs.declared.entry.Row.{Row}
 use Rattle.dg_index.proofs.KeptColumns.{Each}
@@ -102,7 +102,7 @@ module _ (x : Opened) (columns : ℕ) (bytes : List ℕ) where
           let L = list_count x.index (eight_at bytes 0) in
           let D = delta_count x.index (eight_at bytes 0) in
           let d : Directory = said L D bytes t in
-          due_by le t n ∙ not_named d (has_rows L D bytes t.1) (bytes_of_rows (rows_in d) == columns) (may_follow (events_in x.index.batches) (earliest_in 0 x.index.batches) d.batch) (may_be_named x.names d.names)
+          due_by le t n ∙ not_named d (has_rows L D bytes t.1) (bytes_of_rows (rows_in d) == columns) (may_follow (event_total x.index.batches) (earliest_in 0 x.index.batches) d.batch) (may_be_named x.names d.names)
           (may_be_listed (last_list (first_in d.batch.ends.first x.index.batches) x.index.records) d.batch.ends.last d.lists) (wrong t n)
 
   pub due_stale : 28 ≤ length bytes → ((t : List (List ℕ) × ℕ) → names_at (four_at bytes 24) bytes 28 ≡ Some t → are_new x.names t.0 ≡ false) → directory_due x columns bytes ≡ None
@@ -128,7 +128,7 @@ all_others : (n : ℕ) (bytes : List ℕ) (at : ℕ) → Each IsUntimed (rows_at
 all_others zero bytes at = tt
 all_others (suc n) bytes at = (refl, all_others n bytes (at + 24))
 
-suits_said : (o : Opening) (events lists deltas : ℕ) (bytes : List ℕ) (t : List (List ℕ) × ℕ) → 2 ≤ o.params.l → events_in o.batches + events ≤ EVENTS_MAX → lists ≡ list_count o events → deltas ≡ delta_count o events → Suits (keys_next o events) (rows_in (said lists deltas bytes t))
+suits_said : (o : Opening) (events lists deltas : ℕ) (bytes : List ℕ) (t : List (List ℕ) × ℕ) → 2 ≤ o.params.l → event_total o.batches + events ≤ EVENTS_MAX → lists ≡ list_count o events → deltas ≡ delta_count o events → Suits (keys_next o events) (rows_in (said lists deltas bytes t))
 suits_said o events lists deltas bytes t large few l_is d_is =
     suits_due o events (rows_at list_at 40 lists bytes (t.1 + 4)) (rows_at record_at 24 deltas bytes (t.1 + 8 + 40 * lists)) (record_at bytes (t.1 + 8 + 40 * lists + 24 * deltas)) large few
     (rows_length list_at 40 lists bytes (t.1 + 4) ∙ l_is) (rows_length record_at 24 deltas bytes (t.1 + 8 + 40 * lists) ∙ d_is) (all_lists lists bytes (t.1 + 4)) (all_others deltas bytes (t.1 + 8 + 40 * lists)) refl
@@ -162,7 +162,7 @@ module _ (x : Opened) (columns : ℕ) (bytes : List ℕ) (le : 28 ≤ length byt
   fits = bytes_of_rows (rows_in (said lists deltas bytes (taken.names, end))) == columns
 
   abbrev follows : Bool
-  follows = may_follow (events_in x.index.batches) (earliest_in 0 x.index.batches) (said lists deltas bytes (taken.names, end)).batch
+  follows = may_follow (event_total x.index.batches) (earliest_in 0 x.index.batches) (said lists deltas bytes (taken.names, end)).batch
 
   abbrev is_named : Bool
   is_named = may_be_named x.names taken.names
@@ -187,10 +187,10 @@ module _ (x : Opened) (columns : ℕ) (bytes : List ℕ) (le : 28 ≤ length byt
   batch_same : (said lists deltas bytes (taken.names, end)).batch ≡ batch
   batch_same = ap (λ (n : ℕ). record { events = eight_at bytes 0; ends = record { first = eight_at bytes 8; last = eight_at bytes 16 }; names = n }) long ∙ sym batch_is
 
-  follows_same : may_follow (events_in x.index.batches) (earliest_in 0 x.index.batches) (said lists deltas bytes (taken.names, end)).batch ≡ may_follow (events_in x.index.batches) (earliest_in 0 x.index.batches) batch
-  follows_same = ap (may_follow (events_in x.index.batches) (earliest_in 0 x.index.batches)) batch_same
+  follows_same : may_follow (event_total x.index.batches) (earliest_in 0 x.index.batches) (said lists deltas bytes (taken.names, end)).batch ≡ may_follow (event_total x.index.batches) (earliest_in 0 x.index.batches) batch
+  follows_same = ap (may_follow (event_total x.index.batches) (earliest_in 0 x.index.batches)) batch_same
 
-  pub due_following : may_follow (events_in x.index.batches) (earliest_in 0 x.index.batches) batch ≡ false → directory_due x columns bytes ≡ None
+  pub due_following : may_follow (event_total x.index.batches) (earliest_in 0 x.index.batches) batch ≡ false → directory_due x columns bytes ≡ None
   due_following e = due_at ∙ not_following (said lists deltas bytes (taken.names, end)) ok fits follows is_named is_listed (follows_same ∙ e)
 
   pub due_rows : has_rows lists deltas bytes end ≡ false → directory_due x columns bytes ≡ None
@@ -210,8 +210,8 @@ module _ (x : Opened) (columns : ℕ) (bytes : List ℕ) (le : 28 ≤ length byt
   pub due_listed : (rows : List Row) (first : ℕ) → rows ≡ rows_in (said lists deltas bytes (taken.names, end)) → first ≡ last_list (first_in batch.ends.first x.index.batches) x.index.records → may_be_listed first batch.ends.last (take lists rows) ≡ false → directory_due x columns bytes ≡ None
   due_listed rows first r f e = due_at ∙ not_listed (said lists deltas bytes (taken.names, end)) ok fits follows is_named is_listed (listed_same rows first r f ∙ e)
 
-  pub due_taken : (found : FoundDirectory) (first : ℕ) → 2 ≤ x.index.params.l → events_in x.index.batches + batch.events ≤ EVENTS_MAX → length x.names + count ≤ NAMES_MAX → found.batch ≡ batch → found.rows.items ≡ rows_in (said lists deltas bytes (taken.names, end))
-      → found.keys.items ≡ keys_next x.index batch.events → has_rows lists deltas bytes end ≡ true → may_follow (events_in x.index.batches) (earliest_in 0 x.index.batches) batch ≡ true → (bytes_of_rows found.rows.items == columns) ≡ true
+  pub due_taken : (found : FoundDirectory) (first : ℕ) → 2 ≤ x.index.params.l → event_total x.index.batches + batch.events ≤ EVENTS_MAX → length x.names + count ≤ NAMES_MAX → found.batch ≡ batch → found.rows.items ≡ rows_in (said lists deltas bytes (taken.names, end))
+      → found.keys.items ≡ keys_next x.index batch.events → has_rows lists deltas bytes end ≡ true → may_follow (event_total x.index.batches) (earliest_in 0 x.index.batches) batch ≡ true → (bytes_of_rows found.rows.items == columns) ≡ true
       → first ≡ last_list (first_in batch.ends.first x.index.batches) x.index.records → may_be_listed first batch.ends.last (take lists found.rows.items) ≡ true → TakesDirectory x.index columns bytes x.names new found
   due_taken found first large few room fb r k tables follow measured f listed =
       let named : may_be_named x.names taken.names ≡ true = and_from (are_new x.names taken.names) _ taken.fresh (le-leb (length x.names + length taken.names) NAMES_MAX (omega (arith, long, room))) in
@@ -227,7 +227,7 @@ module _ (x : Opened) (columns : ℕ) (bytes : List ℕ) (le : 28 ≤ length byt
         gained = taken.gained;
         suits = subst (λ (l : List Key). Suits l found.rows.items) (sym k) (subst (λ (l : List Row). Suits (keys_next x.index batch.events) l) (sym r) (suits_said x.index batch.events lists deltas bytes (taken.names, end) large few lists_is deltas_is));
         measured = eqb-true (bytes_of_rows found.rows.items) columns measured;
-        follows = ap (may_follow (events_in x.index.batches) (earliest_in 0 x.index.batches)) fb ∙ follow;
+        follows = ap (may_follow (event_total x.index.batches) (earliest_in 0 x.index.batches)) fb ∙ follow;
         listed =
             let o : Opening = x.index in
             let rows : List Row = rows_in (said lists deltas bytes (taken.names, end)) in

@@ -15,7 +15,7 @@ use Rattle.dg_index.proofs.DirectoryNames.{both}
 use Rattle.dg_index.proofs.ImageRanges.{Same, byte_same, four_same, piece_eight, same_fewer}
 use Rattle.dg_file.specs.declared.lengths.Lengths.{Lengths}
 use Rattle.dg_file.specs.declared.reading.Found.{Found}
-use Rattle.dg_file.specs.Directories.{fit_in, gate_after, lengths_at}
+use Rattle.dg_file.specs.Directories.{fit_in, gate_after, segment_lengths_at}
 use Rattle.dg_file.specs.Headers.{IsFoundIn}
 use Rattle.dg_file.specs.Images.{taken_after}
 
@@ -33,13 +33,13 @@ params_same n image other le same =
     let f = byte_same n 16 image other (omega arith) same in
     λ i. cond (bytes_eq (front i) (1 ∷ codes "DGRAPH1")) (params_with (l i) (k i) (function_in (f i))) None
 
-within_is : (image : List ℕ) (at : ℕ) → is_within image at ≡ fit_in at (length image) (lengths_at image at)
+within_is : (image : List ℕ) (at : ℕ) → is_within image at ≡ fit_in at (length image) (segment_lengths_at image at)
 within_is image at = refl
 
 -- the lengths in the bytes that are read are those at the offset
-lengths_read : (bytes image : List ℕ) (at : ℕ) → bytes ≡ take 16 (drop at image) → lengths_at bytes 0 ≡ lengths_at image at
+lengths_read : (bytes image : List ℕ) (at : ℕ) → bytes ≡ take 16 (drop at image) → segment_lengths_at bytes 0 ≡ segment_lengths_at image at
 lengths_read bytes image at is =
-    ap (λ (l : List ℕ). lengths_at l 0) is
+    ap (λ (l : List ℕ). segment_lengths_at l 0) is
     ∙ (λ i. record { directory = (piece_eight 16 at 0 image (omega arith) ∙ ap (eight_at image) (add-zero at)) i; columns = piece_eight 16 at 8 image (omega arith) i })
 
 pub some_both : (x : Option (List ℕ)) (F G H : List ℕ → Type 0) → ((a : List ℕ) → F a → G a → H a) → IfSome x F → IfSome x G → IfSome x H
@@ -118,15 +118,15 @@ within_short x at len le l =
     some_weaker x (LengthIs len) (λ image. is_within image at ≡ false)
     (λ image e. none_stands (is_within image at) (λ there. let ends = both (nat_le (gate_behind image at + 1) (length image)) _ (both (nat_le (at + 16) (length image)) _ there).1 in absurd (omega (arith, e, leb-true (gate_behind image at + 1) (length image) ends.0)))) l
 
-lengths_in : (bytes image : List ℕ) (at : ℕ) (h : Lengths) → length bytes ≡ 16 → h ≡ lengths_at bytes 0 → RangeIs at bytes image → h ≡ lengths_at image at
+lengths_in : (bytes image : List ℕ) (at : ℕ) (h : Lengths) → length bytes ≡ 16 → h ≡ segment_lengths_at bytes 0 → RangeIs at bytes image → h ≡ segment_lengths_at image at
 lengths_in bytes image at h long is r =
     is ∙ lengths_read bytes image at (r ∙ range_is image at (length bytes) ∙ ap (λ n. take n (drop at image)) long)
 
-pub found_lengths : (x : Option (List ℕ)) (bytes : List ℕ) (at : ℕ) (h : Lengths) → length bytes ≡ 16 → h ≡ lengths_at bytes 0 → IsRangeOf x at bytes → IfSome x (λ image. h ≡ lengths_at image at)
+pub found_lengths : (x : Option (List ℕ)) (bytes : List ℕ) (at : ℕ) (h : Lengths) → length bytes ≡ 16 → h ≡ segment_lengths_at bytes 0 → IsRangeOf x at bytes → IfSome x (λ image. h ≡ segment_lengths_at image at)
 found_lengths x bytes at h long is r =
-    some_weaker x (RangeIs at bytes) (λ image. h ≡ lengths_at image at) (λ image k. lengths_in bytes image at h long is k) r
+    some_weaker x (RangeIs at bytes) (λ image. h ≡ segment_lengths_at image at) (λ image k. lengths_in bytes image at h long is k) r
 
-pub within_wrong : (x : Option (List ℕ)) (bytes : List ℕ) (at len : ℕ) (h : Lengths) → length bytes ≡ 16 → h ≡ lengths_at bytes 0 → fit_in at len h ≡ false → IsLengthOf x len → IsRangeOf x at bytes → IfSome x (λ image. is_within image at ≡ false)
+pub within_wrong : (x : Option (List ℕ)) (bytes : List ℕ) (at len : ℕ) (h : Lengths) → length bytes ≡ 16 → h ≡ segment_lengths_at bytes 0 → fit_in at len h ≡ false → IsLengthOf x len → IsRangeOf x at bytes → IfSome x (λ image. is_within image at ≡ false)
 within_wrong x bytes at len h long is wrong l r =
     some_both x (LengthIs len) (RangeIs at bytes) (λ image. is_within image at ≡ false)
     (λ image e k. within_is image at ∙ (λ i. fit_in at (sym e i) (sym (lengths_in bytes image at h long is k) i)) ∙ wrong) l r

@@ -13,7 +13,7 @@ use Rattle.dg_file.specs.declared.lengths.Lengths.{Lengths}
 use Rattle.dg_file.specs.declared.reading.Found.{Found}
 use Rattle.dg_file.specs.declared.found_directory.FoundDirectory.{FoundDirectory}
 use Rattle.dg_file.specs.Headers.{IsFoundIn, Misses, IsOpenedSoFar}
-use Rattle.dg_file.specs.Directories.{lengths_at, fit_in, directory_due, TakesDirectory}
+use Rattle.dg_file.specs.Directories.{segment_lengths_at, fit_in, directory_due, TakesDirectory}
 use Rattle.dg_file.specs.Images.{taken_after, RefusesOpening}
 use Rattle.dg_file.specs.Invariant.{with_rows}
 use Rattle.dg_file.proofs.Found.{fit_facts}
@@ -58,7 +58,7 @@ outside (Some image) o names f h m = damaged image o names f h (by f m)
     by fault.Blank m = absurd m
     by fault.Foreign m = absurd m
 
-module _ (image : List ℕ) (x : Opened) (h : Lengths) (bytes : List ℕ) (is : h ≡ lengths_at image x.index.used) (text : bytes ≡ take h.directory (drop (x.index.used + 16) image)) where
+module _ (image : List ℕ) (x : Opened) (h : Lengths) (bytes : List ℕ) (is : h ≡ segment_lengths_at image x.index.used) (text : bytes ≡ take h.directory (drop (x.index.used + 16) image)) where
   due_same : directory_due x h.columns bytes ≡ directory_due x (eight_at image (x.index.used + 8)) (take (eight_at image x.index.used) (drop (x.index.used + 16) image))
   due_same = (λ i. directory_due x h.columns (text i)) ∙ ap (λ (l : Lengths). directory_due x l.columns (take l.directory (drop (x.index.used + 16) image))) is
 
@@ -69,21 +69,21 @@ module _ (image : List ℕ) (x : Opened) (h : Lengths) (bytes : List ℕ) (is : 
       by true = sym due_same ∙ none
       by false = refl
 
-pub broken : (x : Option (List ℕ)) (o : Opening) (names : List (List ℕ)) (offset : ℕ) (h : Lengths) (bytes : List ℕ) → offset ≡ o.used → IfSome x (λ image. IsOpenedSoFar image o names 1) → IfSome x (λ image. h ≡ lengths_at image offset) → IfSome x (λ image. bytes ≡ take h.directory (drop (offset + 16) image))
+pub broken : (x : Option (List ℕ)) (o : Opening) (names : List (List ℕ)) (offset : ℕ) (h : Lengths) (bytes : List ℕ) → offset ≡ o.used → IfSome x (λ image. IsOpenedSoFar image o names 1) → IfSome x (λ image. h ≡ segment_lengths_at image offset) → IfSome x (λ image. bytes ≡ take h.directory (drop (offset + 16) image))
     → directory_due (record { index = o; names = names }) h.columns bytes ≡ None → IfSome x (λ image. RefusesOpening (fault.Damaged offset) (opening image))
 broken None o names offset h bytes at opened l t none = tt
 broken (Some image) o names offset h bytes at opened l t none =
-    let is : h ≡ lengths_at image o.used = subst (λ n. h ≡ lengths_at image n) at l in
+    let is : h ≡ segment_lengths_at image o.used = subst (λ n. h ≡ segment_lengths_at image n) at l in
     let text : bytes ≡ take h.directory (drop (o.used + 16) image) = subst (λ n. bytes ≡ take h.directory (drop (n + 16) image)) at t in
     damaged image o names (fault.Damaged offset) opened (at, none_next image (record { index = o; names = names }) h bytes is text none)
 
 pub next_on : (x : Option (List ℕ)) (o : Opening) (names new : List (List ℕ)) (offset len gate : ℕ) (h : Lengths) (bytes : List ℕ) (f : FoundDirectory) → offset ≡ o.used → fit_in offset len h ≡ true → IfSome x (λ image. IsOpenedSoFar image o names 1) → IsLengthOf x len
-    → IfSome x (λ image. h ≡ lengths_at image offset) → IfSome x (λ image. bytes ≡ take h.directory (drop (offset + 16) image)) → TakesDirectory o h.columns bytes names new f → IfSome x (λ image. gate ≡ slice_index image (offset + 16 + h.directory + h.columns))
+    → IfSome x (λ image. h ≡ segment_lengths_at image offset) → IfSome x (λ image. bytes ≡ take h.directory (drop (offset + 16) image)) → TakesDirectory o h.columns bytes names new f → IfSome x (λ image. gate ≡ slice_index image (offset + 16 + h.directory + h.columns))
     → IfSome x (λ image. IsOpenedSoFar image (with_rows o f.batch f.rows.items (offset + 16 + h.directory) (offset + 16 + h.directory + h.columns + 1)) new gate)
 next_on None o names new offset len gate h bytes f at fits opened n l t takes g = tt
 next_on (Some image) o names new offset len gate h bytes f at fits opened n l t takes g =
     let y : Opened = record { index = o; names = names } in
-    let is : h ≡ lengths_at image o.used = subst (λ n. h ≡ lengths_at image n) at l in
+    let is : h ≡ segment_lengths_at image o.used = subst (λ n. h ≡ segment_lengths_at image n) at l in
     let text : bytes ≡ take h.directory (drop (o.used + 16) image) = subst (λ n. bytes ≡ take h.directory (drop (n + 16) image)) at t in
     let facts = fit_facts offset len h fits in
     let within : is_within image o.used ≡ true = (λ i. fit_in (sym at i) (sym n i) (sym is i)) ∙ fits in

@@ -7,8 +7,8 @@ use Rattle.dg_history.specs.declared.limits.TheConstants.{BATCH_LINES_MAX, EVENT
 use Rattle.dg_graph.specs.declared.limits.TheConstants.{NAMES_MAX, TIME_MAX}
 use Rattle.dg_history.specs.declared.node.Key.{Key}
 use Rattle.dg_shape.specs.Entries.{Holdings, spanned}
-use Rattle.dg_index.specs.OpenedIndex.{total, Opening, events_in, earliest_in, first_in, last_or, last_list, keys_next, laid, may_be_listed, may_follow, span_in, within}
-use Rattle.dg_index.specs.IndexGrowth.{AreInTurn, columns_in, last_time_in, names_in}
+use Rattle.dg_index.specs.OpenedIndex.{total, Opening, event_total, earliest_in, first_in, last_or, last_list, keys_next, laid, may_be_listed, may_follow, span_in, within}
+use Rattle.dg_index.specs.IndexGrowth.{AreInTurn, columns_in, last_time_in, name_total}
 use Rattle.dg_index.specs.declared.entry.Ends.{Ends}
 use Rattle.dg_index.specs.declared.entry.Entry.{Entry}
 use Rattle.dg_index.specs.declared.entry.BatchEntry.{BatchEntry}
@@ -28,12 +28,12 @@ earliest_push : (t : ℕ) (batches : List BatchEntry) (b : BatchEntry) → earli
 earliest_push t [] b = refl
 earliest_push t (c ∷ batches) b = earliest_push (c.ends.last + 1) batches b
 
-turn_push : (count t : ℕ) (batches : List BatchEntry) (b : BatchEntry) → AreInTurn count t batches → may_follow (count + events_in batches) (earliest_in t batches) b ≡ true → AreInTurn count t (batches ++ b ∷ [])
+turn_push : (count t : ℕ) (batches : List BatchEntry) (b : BatchEntry) → AreInTurn count t batches → may_follow (count + event_total batches) (earliest_in t batches) b ≡ true → AreInTurn count t (batches ++ b ∷ [])
 turn_push count t [] b turn e = (subst (λ n. may_follow n t b ≡ true) (let all : count + 0 ≡ count = omega arith in all) e, tt)
 turn_push count t (c ∷ batches) b turn e = (
   turn.0,
   turn_push (count + c.events) (c.ends.last + 1) batches b turn.1
-      (subst (λ n. may_follow n (earliest_in (c.ends.last + 1) batches) b ≡ true) (let all : count + events_in (c ∷ batches) ≡ count + c.events + events_in batches = omega (arith, sum_by-cons (λ (b : BatchEntry). b.events) c batches) in all) e),
+      (subst (λ n. may_follow n (earliest_in (c.ends.last + 1) batches) b ≡ true) (let all : count + event_total (c ∷ batches) ≡ count + c.events + event_total batches = omega (arith, sum_by-cons (λ (b : BatchEntry). b.events) c batches) in all) e),
 )
 
 last_append : (t : ℕ) (xs ys : List (Key × Entry)) → last_list t (xs ++ ys) ≡ last_list (last_list t xs) ys
@@ -94,13 +94,13 @@ follows_in count earliest b e =
     record { some = leb-true _ _ a.0; few = leb-true _ _ c.0; all = leb-true _ _ d.0; starts = leb-true _ _ f.0; rises = leb-true _ _ g.0; in_time = leb-true _ _ g.1 }
 
 pub noted_sound : (o : Opening) (events names from : ℕ) (last : Option ℕ) (span : Option Ends) (b : BatchEntry) (rows : List Row) (offset used : ℕ) → IndexIsSound o events names from last span → Suits (keys_next o b.events) rows
-    → may_follow (events_in o.batches) (earliest_in 0 o.batches) b ≡ true → may_be_listed (last_list (first_in b.ends.first o.batches) o.records) b.ends.last rows ≡ true → names_in o.batches + b.names ≤ NAMES_MAX → o.used ≤ offset → offset + bytes_of_rows rows + 1 ≡ used → used ≤ FILE_BYTES_MAX
+    → may_follow (event_total o.batches) (earliest_in 0 o.batches) b ≡ true → may_be_listed (last_list (first_in b.ends.first o.batches) o.records) b.ends.last rows ≡ true → name_total o.batches + b.names ≤ NAMES_MAX → o.used ≤ offset → offset + bytes_of_rows rows + 1 ≡ used → used ≤ FILE_BYTES_MAX
     → IndexIsSound (with_rows o b rows offset used) (events + b.events) (names + b.names) (b.ends.last + 1) (listed_after last rows) (Some (spanned span b.ends))
 noted_sound o events names from last span b rows offset used s suits follows may few behind is within =
-    let f = follows_in (events_in o.batches) (earliest_in 0 o.batches) b follows in
+    let f = follows_in (event_total o.batches) (earliest_in 0 o.batches) b follows in
     record {
       parameters = s.parameters;
-      turns = turn_push 0 0 o.batches b s.turns (subst (λ n. may_follow n (earliest_in 0 o.batches) b ≡ true) (let all : events_in o.batches ≡ 0 + events_in o.batches = omega arith in all) follows);
+      turns = turn_push 0 0 o.batches b s.turns (subst (λ n. may_follow n (earliest_in 0 o.batches) b ≡ true) (let all : event_total o.batches ≡ 0 + event_total o.batches = omega arith in all) follows);
       count = omega (arith, s.count, sum_by_push (λ (b : BatchEntry). b.events) o.batches b);
       few = omega (arith, s.count, f.all);
       number = omega (arith, s.number, f.some, length-append o.batches (b ∷ []));
@@ -134,10 +134,10 @@ pub bare_sound : (o : Opening) → are_parameters o.params.l o.params.k ≡ true
 bare_sound o p b r u = record {
   parameters = p;
   turns = subst (AreInTurn 0 0) (sym b) tt;
-  count = ap events_in (sym b);
+  count = ap event_total (sym b);
   few = omega arith;
   number = omega (arith, ap length b);
-  named = ap names_in (sym b);
+  named = ap name_total (sym b);
   few_names = omega arith;
   earliest = ap (earliest_in 0) (sym b);
   in_time = omega arith;

@@ -12,7 +12,7 @@ use Rattle.dg_index.specs.FileOfHistory.{Segment, Stored, StoredList}
 use Rattle.dg_index.specs.Hierarchy.{numbers, leaves, children}
 use Rattle.dg_index.specs.IndexGrowth.{IsDue}
 use Rattle.dg_index.specs.IndexRecords.{lists_due, deltas_of, deltas_due_at, deltas_due, inner_due}
-use Rattle.dg_index.specs.OpenedIndex.{Opening, delta_count, directory_of, events_in, keys_next, list_count, list_row, record_row, rows_in}
+use Rattle.dg_index.specs.OpenedIndex.{Opening, delta_count, directory_of, event_total, keys_next, list_count, list_row, record_row, rows_in}
 use Rattle.dg_index.proofs.DueNodes.{numbers_length, deltas_fit}
 use Rattle.dg_index.proofs.KeptColumns.{Each, each_append, each_flat, each_number, each_map}
 use Rattle.dg_shape.specs.declared.catalogue.TheConstants.{LISTS_MAX}
@@ -71,10 +71,10 @@ deltas_others k m after = each_flat P (deltas_due_at k m after) (numbers 1 after
 leaves_few : (l n : ℕ) → 2 ≤ l → n / l ≤ n
 leaves_few l n le = omega (arith, div-mul-le_self n l, (let one : 1 ≤ l = omega (arith, le) in mul-le-mul_right (n / l) one), mul_comm l (n / l))
 
-pub suits_due : (o : Opening) (events : ℕ) (lists deltas : List Row) (piece : Row) → 2 ≤ o.params.l → events_in o.batches + events ≤ EVENTS_MAX → length lists ≡ list_count o events → length deltas ≡ delta_count o events
+pub suits_due : (o : Opening) (events : ℕ) (lists deltas : List Row) (piece : Row) → 2 ≤ o.params.l → event_total o.batches + events ≤ EVENTS_MAX → length lists ≡ list_count o events → length deltas ≡ delta_count o events
     → Each IsTimed lists → Each IsUntimed deltas → IsUntimed piece → Suits (keys_next o events) (lists ++ (deltas ++ piece ∷ []))
 suits_due o events lists deltas piece large few l_is d_is timed untimed last =
-    let n = events_in o.batches in
+    let n = event_total o.batches in
     let m = leaves o.params n in
     let after = leaves o.params (n + events) in
     let a = leaves_few o.params.l n large in
@@ -93,7 +93,7 @@ all_untimed [] = tt
 all_untimed (x ∷ deltas) = (refl, all_untimed deltas)
 
 -- the rows of a segment that is due
-pub suits_segment : (o : Opening) (s : Segment) → 2 ≤ o.params.l → events_in o.batches + s.events ≤ EVENTS_MAX → IsDue o s → Suits (keys_next o s.events) (rows_in (directory_of s))
+pub suits_segment : (o : Opening) (s : Segment) → 2 ≤ o.params.l → event_total o.batches + s.events ≤ EVENTS_MAX → IsDue o s → Suits (keys_next o s.events) (rows_in (directory_of s))
 suits_segment o s large few due =
     suits_due o s.events (map list_row s.lists) (map record_row s.deltas) (record_row s.piece) large few (length-map s.lists list_row ∙ due.lists) (length-map s.deltas record_row ∙ due.deltas) (all_timed s.lists) (all_untimed s.deltas) refl
 
@@ -101,11 +101,11 @@ suits_segment o s large few due =
 
 pub keys_count : (o : Opening) (events : ℕ) → length (keys_next o events) ≡ list_count o events + delta_count o events + 1
 keys_count o events =
-    let n = events_in o.batches in
+    let n = event_total o.batches in
     let due = deltas_due o.params.k (leaves o.params n) (leaves o.params (n + events)) in
     omega (arith, length-append (lists_due o.params n (n + events)) (due ++ key.Piece (length o.batches) ∷ []), length-append due (key.Piece (length o.batches) ∷ []), length-map (numbers (leaves o.params n) (leaves o.params (n + events) - leaves o.params n)) (λ i. key.List i), numbers_length (leaves o.params n) (leaves o.params (n + events) - leaves o.params n))
 
-pub keys_few : (o : Opening) (events : ℕ) → 2 ≤ o.params.l → 2 ≤ o.params.k → events_in o.batches + events ≤ EVENTS_MAX → length (keys_next o events) ≤ 4 * EVENTS_MAX + 1
+pub keys_few : (o : Opening) (events : ℕ) → 2 ≤ o.params.l → 2 ≤ o.params.k → event_total o.batches + events ≤ EVENTS_MAX → length (keys_next o events) ≤ 4 * EVENTS_MAX + 1
 keys_few o events large wide few =
-    let n = events_in o.batches in
+    let n = event_total o.batches in
     omega (arith, keys_count o events, leaves_few o.params.l (n + events) large, deltas_fit o.params.k (leaves o.params n) (leaves o.params (n + events)) wide, few)

@@ -4,14 +4,14 @@ use Rattle.dg_graph.specs.declared.limits.TheConstants.{NAMES_MAX}
 use Rattle.dg_graph.specs.Names.{number_of, is_name, are_new}
 use Rattle.dg_history.specs.declared.limits.TheConstants.{FILE_BYTES_MAX}
 use Rattle.dg_index.specs.ImageText.{eight_at, name_at, names_at}
-use Rattle.dg_index.specs.OpenedIndex.{Opening, Opened, Directory, directory_in, earliest_in, events_in, first_in, if_it_may, keys_next, last_list, may_be_listed, may_follow, may_stand, rows_in}
+use Rattle.dg_index.specs.OpenedIndex.{Opening, Opened, Directory, directory_in, earliest_in, event_total, first_in, if_it_may, keys_next, last_list, may_be_listed, may_follow, may_stand, rows_in}
 use Rattle.dg_shape.specs.Additions.{bytes_of_rows, Suits}
 use Rattle.dg_file.specs.declared.found_directory.FoundDirectory.{FoundDirectory}
 use Rattle.dg_file.specs.declared.lengths.Lengths.{Lengths}
 
 -- the two lengths at the offset
-abbrev pub lengths_at : List ℕ → ℕ → Lengths
-lengths_at image at = record { directory = eight_at image at; columns = eight_at image (at + 8) }
+abbrev pub segment_lengths_at : List ℕ → ℕ → Lengths
+segment_lengths_at image at = record { directory = eight_at image at; columns = eight_at image (at + 8) }
 
 -- the offset of the gate behind the segment
 abbrev pub gate_after : ℕ → Lengths → ℕ
@@ -55,7 +55,7 @@ pub record TakesDirectory (o : Opening) (columns : ℕ) (bytes : List ℕ) (old 
   pub gained : new ≡ old ++ directory.names
   pub suits : Suits f.keys.items f.rows.items
   pub measured : bytes_of_rows f.rows.items ≡ columns
-  pub follows : may_follow (events_in o.batches) (earliest_in 0 o.batches) f.batch ≡ true
+  pub follows : may_follow (event_total o.batches) (earliest_in 0 o.batches) f.batch ≡ true
   pub listed : may_be_listed (last_list (first_in f.batch.ends.first o.batches) o.records) f.batch.ends.last f.rows.items ≡ true
   pub counted : length new ≡ length old + f.batch.names
   pub few : length new ≤ NAMES_MAX

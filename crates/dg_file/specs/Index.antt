@@ -17,7 +17,7 @@ pub record Prepared : Type 0 where
   pub keys : List Key
 
 -- the index has room for the segment, and the keys are those of its records behind the index
-pub record HasRoom (x : IndexState) (p : Prepared) : Type 0 where
+pub record HasSegmentRoom (x : IndexState) (p : Prepared) : Type 0 where
   pub keys : p.keys ≡ keys_next x.opening p.segment.events
   pub spare : length p.keys ≤ x.spare
   pub room : 1 ≤ x.room

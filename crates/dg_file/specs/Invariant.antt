@@ -8,9 +8,9 @@ use Rattle.dg_index.specs.declared.entry.BatchEntry.{BatchEntry}
 use Rattle.dg_index.specs.declared.entry.Ends.{Ends}
 use Rattle.dg_index.specs.declared.entry.Entry.{Entry}
 use Rattle.dg_index.specs.declared.entry.Row.{Row}
-use Rattle.dg_index.specs.IndexGrowth.{AreInTurn, columns_in, names_in}
+use Rattle.dg_index.specs.IndexGrowth.{AreInTurn, columns_in, name_total}
 use Rattle.dg_index.specs.IndexKeys.{AreKept}
-use Rattle.dg_index.specs.OpenedIndex.{Opening, earliest_in, events_in, keys_next, laid, last_list, last_or, span_in}
+use Rattle.dg_index.specs.OpenedIndex.{Opening, earliest_in, event_total, keys_next, laid, last_list, last_or, span_in}
 
 -- the last time of the last list, or this one
 abbrev pub last_from : ℕ → Option ℕ → ℕ
@@ -41,10 +41,10 @@ TimesRise t (r ∷ more) = BeginsFrom t r.1.ends × TimesRise (last_or t r.1.end
 pub record IndexIsSound (o : Opening) (events names from : ℕ) (last : Option ℕ) (span : Option Ends) : Type 0 where
   pub parameters : are_parameters o.params.l o.params.k ≡ true
   pub turns : AreInTurn 0 0 o.batches
-  pub count : events ≡ events_in o.batches
+  pub count : events ≡ event_total o.batches
   pub few : events ≤ EVENTS_MAX
   pub number : length o.batches ≤ events
-  pub named : names ≡ names_in o.batches
+  pub named : names ≡ name_total o.batches
   pub few_names : names ≤ NAMES_MAX
   pub earliest : from ≡ earliest_in 0 o.batches
   pub in_time : from ≤ TIME_MAX + 1

@@ -9,15 +9,15 @@ ghost use Rattle.dg_graph.specs.declared.limits.TheConstants.{NAMES_MAX, TIME_MA
 ghost use Rattle.dg_history.specs.History.{are_parameters, empty_history};
 ghost use Rattle.dg_history.specs.Keys.{same_key};
 ghost use Rattle.dg_index.specs.ImageOfHistory.{is_blank, IsImageOf};
-ghost use Rattle.dg_index.specs.IndexGrowth.{AreInTurn, IsDue, columns_in, index_with, last_time_in, names_in, needed_for};
+ghost use Rattle.dg_index.specs.IndexGrowth.{AreInTurn, IsDue, columns_in, index_with, last_time_in, name_total, needed_for};
 ghost use Rattle.dg_index.specs.IndexKeys.{AreKept};
-ghost use Rattle.dg_index.specs.OpenedIndex.{column_at, bare, earliest_in, events_in, first_in, keys_next, last_list, list_count, may_be_listed, may_follow, opened_of, opening, span_in};
+ghost use Rattle.dg_index.specs.OpenedIndex.{column_at, bare, earliest_in, event_total, first_in, keys_next, last_list, list_count, may_be_listed, may_follow, opened_of, opening, span_in};
 ghost use Rattle.dg_disk.specs.Image.{IsLengthOf};
 ghost use Rattle.dg_shape.specs.Additions.{bytes_of_rows, Suits};
 ghost use Rattle.dg_shape.specs.Points.{ListsRise};
 ghost use Rattle.dg_file.specs.Directories.{directory_due, TakesDirectory};
 ghost use Rattle.dg_file.specs.Headers.{IsOpenedSoFar};
-ghost use Rattle.dg_file.specs.Index.{HasRoom, opening_bytes};
+ghost use Rattle.dg_file.specs.Index.{HasSegmentRoom, opening_bytes};
 ghost use Rattle.dg_file.specs.Images.{BothTold, Fits, GainsBatch, GainsBatchOrNot, GainsSegment, IsMadeInPart, IsOpenedAs, RefusesOpening, taken_after};
 ghost use Rattle.dg_file.specs.Invariant.{listed_after, with_rows};
 
@@ -135,7 +135,7 @@ impl Index {
 
     // The lists that a batch of so many events gives.
     fn lists_next(&self, events: u64) -> u32
-        requires { events_in self.now.opening.batches + events ≤ EVENTS_MAX }
+        requires { event_total self.now.opening.batches + events ≤ EVENTS_MAX }
         ensures { result ≡ list_count self.now.opening events }
     {
         leaves(self.params, self.events + events) - leaves(self.params, self.events)
@@ -143,7 +143,7 @@ impl Index {
 
     // The records that a batch of so many events gives, in the order of the file.
     fn keys_next(&self, events: u64) -> Result<Vec<Key>, AllocError>
-        requires { events_in self.now.opening.batches + events ≤ EVENTS_MAX }
+        requires { event_total self.now.opening.batches + events ≤ EVENTS_MAX }
         ensures keys { IfOk result (λ keys. keys.items ≡ keys_next self.now.opening events) }
     {
         let number = self.batches.len() as u32;
@@ -156,9 +156,9 @@ impl Index {
         requires room { 1 ≤ self.old.room }
         requires keys { keys.now ≡ keys_next self.old.opening batch.events }
         requires rows { Suits keys.now rows.now }
-        requires follows { may_follow (events_in self.old.opening.batches) (earliest_in 0 self.old.opening.batches) batch ≡ true }
+        requires follows { may_follow (event_total self.old.opening.batches) (earliest_in 0 self.old.opening.batches) batch ≡ true }
         requires listed { may_be_listed (last_list (first_in batch.ends.first self.old.opening.batches) self.old.opening.records) batch.ends.last rows.now ≡ true }
-        requires names { names_in self.old.opening.batches + batch.names ≤ NAMES_MAX }
+        requires names { name_total self.old.opening.batches + batch.names ≤ NAMES_MAX }
         requires behind { self.old.opening.used ≤ offset }
         requires used { offset + bytes_of_rows rows.now + 1 ≡ used }
         requires within { used ≤ FILE_BYTES_MAX }
@@ -257,7 +257,7 @@ impl Index {
     ) -> Result<Index, ReopenFault>
         requires names { names.old ≡ [] }
         ensures opened { IfOk result (λ index. IfSome (D.image disk.old) (λ image. opening image ≡ Ok (record { index = index.opening; names = names.new }))) }
-        ensures counted_names { IfOk result (λ index. length names.new ≡ names_in index.opening.batches) }
+        ensures counted_names { IfOk result (λ index. length names.new ≡ name_total index.opening.batches) }
         ensures taken { IfOk result (λ index. D.taken disk.new ≡ raised_by (opening_bytes index.opening) (D.taken disk.old)) }
 
         // errors
@@ -285,9 +285,9 @@ impl Index {
         requires so_far { IfSome (D.image disk.old) (λ image. IsOpenedSoFar image self.old.opening names.old gate) }
         requires len { IsLengthOf (D.image disk.old) len }
         requires within { self.old.opening.used ≤ len }
-        requires counted_names { length names.old ≡ names_in self.old.opening.batches }
+        requires counted_names { length names.old ≡ name_total self.old.opening.batches }
         ensures opened { OnOk result (IfSome (D.image disk.old) (λ image. opening image ≡ Ok (record { index = self.new.opening; names = names.new }))) }
-        ensures counted_names { OnOk result (length names.new ≡ names_in self.new.opening.batches) }
+        ensures counted_names { OnOk result (length names.new ≡ name_total self.new.opening.batches) }
         ensures taken { OnOk result ((t : ℕ) → D.taken disk.old ≡ raised_by (opening_bytes self.old.opening) t → D.taken disk.new ≡ raised_by (opening_bytes self.new.opening) t) }
 
         // errors
@@ -316,11 +316,11 @@ impl Index {
         requires so_far { IfSome (D.image disk.old) (λ image. IsOpenedSoFar image self.old.opening names.old 1) }
         requires len { IsLengthOf (D.image disk.old) len }
         requires within { self.old.opening.used ≤ len }
-        requires counted_names { length names.old ≡ names_in self.old.opening.batches }
+        requires counted_names { length names.old ≡ name_total self.old.opening.batches }
         ensures so_far { IfOk result (λ gate. IfSome (D.image disk.old) (λ image. IsOpenedSoFar image self.new.opening names.new gate)) }
         ensures within { OnOk result (self.new.opening.used ≤ len) }
         ensures progress { OnOk result (self.old.opening.used < self.new.opening.used) }
-        ensures counted_names { OnOk result (length names.new ≡ names_in self.new.opening.batches) }
+        ensures counted_names { OnOk result (length names.new ≡ name_total self.new.opening.batches) }
         ensures taken { OnOk result ((t : ℕ) → D.taken disk.old ≡ raised_by (opening_bytes self.old.opening) t → D.taken disk.new ≡ raised_by (opening_bytes self.new.opening) t) }
 
         // errors
@@ -385,7 +385,7 @@ impl Index {
     pub fn prepare(&mut self, segment: Segment) -> Result<PreparedSegment, AllocError>
         requires due { IsDue self.old.opening segment }
         ensures prepared { IfOk result (λ p. p.segment ≡ segment) }
-        ensures room { IfOk result (λ p. HasRoom self.new p) }
+        ensures room { IfOk result (λ p. HasSegmentRoom self.new p) }
         ensures same { self.new.opening ≡ self.old.opening }
     {
         let keys = self.keys_next(segment.batch().events)?;
@@ -404,7 +404,7 @@ impl Index {
         prepared: PreparedSegment,
         limit: u64,
     ) -> Result<(), CommitFault>
-        requires room { HasRoom self.old prepared }
+        requires room { HasSegmentRoom self.old prepared }
         requires limit { limit ≤ FILE_BYTES_MAX }
         requires due { IsDue self.old.opening prepared.segment }
         requires image { IfSome (D.image disk.old) (λ image. Fits image self.old.opening prepared.segment) }
@@ -476,7 +476,7 @@ impl Index {
 
     /// How many events all batches have.
     pub fn events_len(&self) -> u64
-        ensures events { result ≡ events_in self.now.opening.batches }
+        ensures events { result ≡ event_total self.now.opening.batches }
         ensures few { result ≤ EVENTS_MAX }
     {
         self.events
@@ -484,7 +484,7 @@ impl Index {
 
     /// How many names all batches bring.
     pub fn names_len(&self) -> u32
-        ensures names { result ≡ names_in self.now.opening.batches }
+        ensures names { result ≡ name_total self.now.opening.batches }
         ensures few { result ≤ NAMES_MAX }
     {
         self.names
@@ -517,10 +517,10 @@ impl Index {
         ensures begun { 18 ≤ self.now.opening.used }
         ensures within { self.now.opening.used ≤ FILE_BYTES_MAX }
         ensures in_turn { AreInTurn 0 0 self.now.opening.batches }
-        ensures events { events_in self.now.opening.batches ≤ EVENTS_MAX }
-        ensures few { length self.now.opening.batches ≤ events_in self.now.opening.batches }
+        ensures events { event_total self.now.opening.batches ≤ EVENTS_MAX }
+        ensures few { length self.now.opening.batches ≤ event_total self.now.opening.batches }
         ensures earliest { earliest_in 0 self.now.opening.batches ≤ TIME_MAX + 1 }
-        ensures names { names_in self.now.opening.batches ≤ NAMES_MAX }
+        ensures names { name_total self.now.opening.batches ≤ NAMES_MAX }
         ensures listed { last_list 0 self.now.opening.records ≤ earliest_in 0 self.now.opening.batches }
         ensures kept { AreKept self.now.opening }
         ensures columns { columns_in self.now.opening.records ≤ self.now.opening.used }

@@ -1,7 +1,7 @@
 //! The two lengths with which a segment begins.
 
 ghost use Rattle.std.specs.Prelude.{◌≡◌, ◌+◌, ◌≤◌, length};
-ghost use Rattle.dg_file.specs.Directories.{lengths_at, fit_in};
+ghost use Rattle.dg_file.specs.Directories.{segment_lengths_at, fit_in};
 
 use crate::numbers::u64_at;
 use dg_history::FILE_BYTES_MAX;
@@ -20,7 +20,7 @@ impl Lengths {
     /// The lengths in these bytes.
     pub(crate) fn read(bytes: &[u8]) -> Lengths
         requires { length bytes.now ≡ 16 }
-        ensures { result ≡ lengths_at bytes.now 0 }
+        ensures { result ≡ segment_lengths_at bytes.now 0 }
     {
         Lengths {
             directory: u64_at(bytes, 0),

@@ -7,7 +7,7 @@ ghost use Rattle.dg_disk.specs.Image.{HasRange, IsLengthOf};
 ghost use Rattle.dg_history.specs.History.{are_parameters};
 ghost use Rattle.dg_index.specs.ImageText.{params_in, is_within};
 ghost use Rattle.dg_index.specs.OpenedIndex.{opening};
-ghost use Rattle.dg_file.specs.Directories.{lengths_at, fit_in};
+ghost use Rattle.dg_file.specs.Directories.{segment_lengths_at, fit_in};
 ghost use Rattle.dg_file.specs.Headers.{IsFoundIn, Misses};
 ghost use Rattle.dg_file.specs.Images.{RefusesOpening, taken_after};
 
@@ -72,7 +72,7 @@ pub(crate) fn read_lengths<D: Disk>(
 ) -> Result<Lengths, ReopenFault>
     requires len { IsLengthOf (D.image disk.old) len }
     requires within { offset ≤ len }
-    ensures lengths { IfOk result (λ lengths. IfSome (D.image disk.old) (λ image. lengths ≡ lengths_at image offset)) }
+    ensures lengths { IfOk result (λ lengths. IfSome (D.image disk.old) (λ image. lengths ≡ segment_lengths_at image offset)) }
     ensures fit { IfOk result (λ lengths. fit_in offset len lengths ≡ true) }
     ensures taken { OnOk result (D.taken disk.new ≡ raised_by 16 (D.taken disk.old)) }
 

@@ -13,7 +13,7 @@ use Rattle.dg_graph.specs.declared.event.Body.TheVariants as body
 use Rattle.dg_graph.specs.declared.event.Event.{Event}
 use Rattle.dg_graph.specs.declared.placed.Placed.{Placed}
 use Rattle.dg_graph.specs.Columns.{same_column, column_of_body, placed_from, placed_in, in_column}
-use Rattle.dg_graph.specs.Composition.{Delta, Says, In, Out, As_it_was, says, and_then as then_says, composition}
+use Rattle.dg_graph.specs.Composition.{Delta, Says, In, Out, As_it_was, says, then_says, composition}
 use Rattle.dg_graph.specs.Effect.{moved, removed_by, added_by}
 use Rattle.dg_graph.specs.Elements.{has, same, asks, column_of}
 use Rattle.dg_graph.proofs.Sets.{element_exact, has-filter}
@@ -28,7 +28,7 @@ use Rattle.dg_plan.specs.declared.edge.Way.{Way}
 use Rattle.dg_plan.specs.declared.edge.Way.TheVariants as way
 use Rattle.dg_index.specs.IndexRecords.{Record, Events, Exact, column_of_record}
 use Rattle.dg_fold.specs.PathIndependence.{taken}
-use Rattle.dg_fold.specs.Parts.{and_then, named, record_in, part_column_in, beside, are_events, Holds, RecordFits, PartsAreRead}
+use Rattle.dg_fold.specs.Parts.{and_then, fault_named, record_in, part_column_in, beside, are_events, PartHasRecord, RecordFits, PartsAreRead}
 
 -- ---- columns
 
@@ -286,13 +286,13 @@ module _ (names : ℕ) (few : names < 2 ^ 32) (col : Column) (w : Way) (until : 
   read_column r fits true = read_asked r fits
   read_column r fits false = read_none r
 
-column_says : (names : ℕ) → names < 2 ^ 32 → (cols : Columns) (r : Record) → RecordFits names r → (p : Part) → Holds cols r p → (col : Column)
+column_says : (names : ℕ) → names < 2 ^ 32 → (cols : Columns) (r : Record) → RecordFits names r → (p : Part) → PartHasRecord cols r p → (col : Column)
     → Column_says names p col (λ x. only (asks cols col) (composition (taken p.way p.until r) x))
 column_says names few cols r fits p h col =
     let one = read_column names few col p.way p.until r fits (asks cols col) in (
       taken p.way p.until one.0,
-      (λ i. named (λ (offset : ℕ). (p.key, col)) (and_then (record_in names (h.kind i) col (h.bytes col i)) (λ (x : Record). Ok (taken p.way p.until x))))
-          ∙ ap (λ e. named (λ (offset : ℕ). (p.key, col)) (and_then e (λ (x : Record). Ok (taken p.way p.until x)))) one.1,
+      (λ i. fault_named (λ (offset : ℕ). (p.key, col)) (and_then (record_in names (h.kind i) col (h.bytes col i)) (λ (x : Record). Ok (taken p.way p.until x))))
+          ∙ ap (λ e. fault_named (λ (offset : ℕ). (p.key, col)) (and_then e (λ (x : Record). Ok (taken p.way p.until x)))) one.1,
       one.2,
     )
 

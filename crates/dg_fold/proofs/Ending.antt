@@ -5,11 +5,12 @@ use Rattle.dg_graph.specs.declared.event.Event.{Event}
 use Rattle.dg_history.specs.declared.node.Key.TheVariants as key
 use Rattle.dg_graph.specs.Composition.{Delta, Composes}
 use Rattle.dg_history.specs.Keys.{same_key}
+use Rattle.dg_fold.specs.declared.along.Known.{Known}
 use Rattle.dg_fold.specs.declared.fault.FoldFault.{FoldFault}
 use Rattle.dg_fold.specs.declared.fault.FoldFault.TheVariants as fault
 use Rattle.dg_fold.specs.declared.part.Part.{Part}
 use Rattle.dg_fold.specs.Parts.{beside, Folds}
-use Rattle.dg_fold.specs.Steps.{Step, steps_in}
+use Rattle.dg_fold.specs.Steps.{PartedStep, steps_in}
 use Rattle.dg_fold.proofs.Folding.{folds_both}
 use Rattle.dg_fold.specs.declared.tree.Branch.{Branch}
 use Rattle.dg_fold.specs.declared.tree.Lead.{Lead}
@@ -22,14 +23,14 @@ found list parts i p h is yes_it_is =
     ap (list_part list) (drop_more parts i p h ∙ ap (λ q. q ∷ drop (i + 1) parts) (sym is))
     ∙ ap (λ b. cond b (Some p) (list_part list (drop (i + 1) parts))) yes_it_is
 
-module _ (names : ℕ) (recent : List Event) (parts : List Part) (all : List Step) where
-  pub led_length : (branches : List Branch) (leads : List Lead) → AreLed names recent all branches leads → length leads ≡ length branches
+module _ (names : ℕ) (recent : List Event) (parts : List Part) (all : List PartedStep) where
+  pub led_length : (branches : List Branch) (leads : List Known) → AreLed names recent all branches leads → length leads ≡ length branches
   led_length [] [] h = refl
   led_length [] (d ∷ leads) h = absurd h
   led_length (b ∷ branches) [] h = absurd h
   led_length (b ∷ branches) (d ∷ leads) h = ap (λ n. suc n) (led_length branches leads h.1)
 
-  led_at : (branches : List Branch) (leads : List Lead) (i : ℕ) (b : Branch) (d : Lead) → AreLed names recent all branches leads → i < length branches
+  led_at : (branches : List Branch) (leads : List Known) (i : ℕ) (b : Branch) (d : Known) → AreLed names recent all branches leads → i < length branches
       → LeadsFrom names recent all (get_or branches i b).to (get_or leads i d).begun (get_or leads i d).delta
   led_at [] [] i b d h n = absurd (omega arith)
   led_at [] (e ∷ leads) i b d h n = absurd h
@@ -78,7 +79,7 @@ module _ (names : ℕ) (recent : List Event) (parts : List Part) (all : List Ste
     fronts : length (take i times) ≡ length (take i branches)
     fronts = omega (arith, length-take i times, length-take i branches)
 
-    pub until_next : (firsts : List Lead) (d : Lead) (whole last : Delta) (grown : List Lead) → AreLed names recent all branches firsts
+    pub until_next : (firsts : List Known) (d : Known) (whole last : Delta) (grown : List Lead) → AreLed names recent all branches firsts
         → Folds (Ok last) (last_in names recent parts (get_or branches i b).to (get_or times i t)) → Composes whole ((get_or firsts i d).delta ∷ last ∷ [])
         → grown ≡ leads ++ record { begun = (get_or firsts i d).begun; delta = whole } ∷ []
         → Until branches times (i + 1) grown

@@ -16,7 +16,7 @@ use Rattle.dg_list.proofs.Nets.{composes_halves}
 use Rattle.dg_fold.specs.declared.fault.FoldFault.{FoldFault}
 use Rattle.dg_fold.specs.declared.fault.FoldFault.TheVariants as fault
 use Rattle.dg_fold.specs.declared.part.Part.{Part}
-use Rattle.dg_fold.specs.Parts.{and_then, named, is_events, bytes_in, record_in, part_column_in, beside, part_in, parts_in, Folds, fault_at}
+use Rattle.dg_fold.specs.Parts.{and_then, fault_named, is_events, bytes_in, record_in, part_column_in, beside, deltas_in_part, parts_in, Folds, fault_at}
 
 abbrev pub Due : Type 0
 Due = Result (List Delta) (Key × Column)
@@ -31,6 +31,12 @@ pub fails_then : (f : FoldFault) (d : Delta) (a b : Due) → Folds (Ok d) a → 
 fails_then (fault.Damaged k col) d a b first h =
     ap (λ r. beside r b) first.1 ∙ ap (beside (Ok first.0)) h
 fails_then fault.Memory d a b first h = tt
+
+-- the same, where the first has deltas
+pub fails_behind : (f : FoldFault) (list : List Delta) (a b : Due) → a ≡ Ok list → Folds (Err f) b → Folds (Err f) (beside a b)
+fails_behind (fault.Damaged k col) list a b first h =
+    ap (λ r. beside r b) first ∙ ap (beside (Ok list)) h
+fails_behind fault.Memory list a b first h = tt
 
 -- where neither has a fault, the one and then the other
 pub folds_both : (d first then : Delta) (a b : Due) → Folds (Ok first) a → Folds (Ok then) b → Composes d (first ∷ then ∷ []) → Folds (Ok d) (beside a b)
@@ -54,22 +60,22 @@ beside_assoc (Err f) b c = refl
 pub cut_anywhere : (names : ℕ) (xs ys : List Part) → parts_in names (xs ++ ys) ≡ beside (parts_in names xs) (parts_in names ys)
 cut_anywhere names [] ys = beside_empty (parts_in names ys)
 cut_anywhere names (p ∷ xs) ys =
-    ap (beside (part_in names p)) (cut_anywhere names xs ys)
-    ∙ sym (beside_assoc (part_in names p) (parts_in names xs) (parts_in names ys))
+    ap (beside (deltas_in_part names p)) (cut_anywhere names xs ys)
+    ∙ sym (beside_assoc (deltas_in_part names p) (parts_in names xs) (parts_in names ys))
 
 beside_end : (a : Due) → a ≡ beside a (Ok [])
 beside_end (Ok list) = ap (λ l. Ok l) (sym (append-nil list))
 beside_end (Err f) = refl
 
 -- one part alone
-pub one_part : (names : ℕ) (p : Part) → part_in names p ≡ parts_in names (p ∷ [])
-one_part names p = beside_end (part_in names p)
+pub one_part : (names : ℕ) (p : Part) → deltas_in_part names p ≡ parts_in names (p ∷ [])
+one_part names p = beside_end (deltas_in_part names p)
 
 -- ---- one column
 
 module _ (names : ℕ) (p : Part) (col : Column) where
   abbrev pub due_of : Bool → Due
-  due_of b = named (λ (offset : ℕ). (p.key, col)) (and_then (record_in names b col (bytes_in p.bytes col)) (λ (r : Record). Ok (taken p.way p.until r)))
+  due_of b = fault_named (λ (offset : ℕ). (p.key, col)) (and_then (record_in names b col (bytes_in p.bytes col)) (λ (r : Record). Ok (taken p.way p.until r)))
 
   pub folds_events : (d : Delta) (placed : List Placed) (events : List Event) → is_events p.key ≡ true
       → events_in col names (bytes_in p.bytes col) ≡ Ok placed → events ≡ map (λ (q : Placed). q.event) placed
@@ -77,7 +83,7 @@ module _ (names : ℕ) (p : Part) (col : Column) where
   folds_events d placed events is read are composes = (
     taken p.way p.until (Events events),
     ap due_of is
-        ∙ ap (λ r. named (λ (offset : ℕ). (p.key, col)) (and_then (and_then r (λ (q : List Placed). Ok (Events (map (λ (o : Placed). o.event) q)))) (λ (x : Record). Ok (taken p.way p.until x)))) read
+        ∙ ap (λ r. fault_named (λ (offset : ℕ). (p.key, col)) (and_then (and_then r (λ (q : List Placed). Ok (Events (map (λ (o : Placed). o.event) q)))) (λ (x : Record). Ok (taken p.way p.until x)))) read
         ∙ ap (λ l. Ok (taken p.way p.until (Events l))) (sym are),
     composes,
   )
@@ -85,22 +91,18 @@ module _ (names : ℕ) (p : Part) (col : Column) where
   pub fails_events : (f : ReadFault) → is_events p.key ≡ true → IsFaultOf f (events_in col names (bytes_in p.bytes col)) → Folds (Err (fault_at p.key col f)) (part_column_in names p col)
   fails_events (read.Damaged offset) is h =
       ap due_of is
-      ∙ ap (λ r. named (λ (n : ℕ). (p.key, col)) (and_then (and_then r (λ (q : List Placed). Ok (Events (map (λ (o : Placed). o.event) q)))) (λ (x : Record). Ok (taken p.way p.until x)))) h
+      ∙ ap (λ r. fault_named (λ (n : ℕ). (p.key, col)) (and_then (and_then r (λ (q : List Placed). Ok (Events (map (λ (o : Placed). o.event) q)))) (λ (x : Record). Ok (taken p.way p.until x)))) h
   fails_events read.Memory is h = tt
 
-  pub folds_exact : (d e : Delta) → is_events p.key ≡ false → delta_in col names (bytes_in p.bytes col) ≡ Ok e
-      → Composes d (taken p.way p.until (Exact e)) → Folds (Ok d) (part_column_in names p col)
-  folds_exact d e is read composes = (
-    taken p.way p.until (Exact e),
-    ap due_of is
-        ∙ ap (λ r. named (λ (offset : ℕ). (p.key, col)) (and_then (and_then r (λ (q : Delta). Ok (Exact q))) (λ (x : Record). Ok (taken p.way p.until x)))) read,
-    composes,
-  )
+  pub exact_is : (e : Delta) → is_events p.key ≡ false → delta_in col names (bytes_in p.bytes col) ≡ Ok e → part_column_in names p col ≡ Ok (taken p.way p.until (Exact e))
+  exact_is e is read =
+      ap due_of is
+      ∙ ap (λ r. fault_named (λ (offset : ℕ). (p.key, col)) (and_then (and_then r (λ (q : Delta). Ok (Exact q))) (λ (x : Record). Ok (taken p.way p.until x)))) read
 
   pub fails_exact : (f : ReadFault) → is_events p.key ≡ false → IsFaultOf f (delta_in col names (bytes_in p.bytes col)) → Folds (Err (fault_at p.key col f)) (part_column_in names p col)
   fails_exact (read.Damaged offset) is h =
       ap due_of is
-      ∙ ap (λ r. named (λ (n : ℕ). (p.key, col)) (and_then (and_then r (λ (q : Delta). Ok (Exact q))) (λ (x : Record). Ok (taken p.way p.until x)))) h
+      ∙ ap (λ r. fault_named (λ (n : ℕ). (p.key, col)) (and_then (and_then r (λ (q : Delta). Ok (Exact q))) (λ (x : Record). Ok (taken p.way p.until x)))) h
   fails_exact read.Memory is h = tt
 
 -- a list of at most one part, whose first is this one

@@ -22,9 +22,9 @@ use Rattle.dg_fold.specs.declared.part.Part.{Part}
 use Rattle.dg_fold.specs.BytesRead.{ColumnBytes, IsPartOf, AreParts, named_along, named_by}
 use Rattle.dg_fold.specs.HistoryPaths.{HistoryPathsLead}
 use Rattle.dg_fold.specs.Parts.{is_events, are_events, RecordFits}
-use Rattle.dg_fold.specs.PathIndependence.{begun_at, contents, IsSound, IsWalk}
+use Rattle.dg_fold.specs.PathIndependence.{begun_at, contents, IsSoundEdge, IsWalk}
 use Rattle.dg_plan.specs.TreePaths.{edges_at}
-use Rattle.dg_fold.specs.Steps.{Step, names_record, paired, StepHolds, PartHolds}
+use Rattle.dg_fold.specs.Steps.{PartedStep, names_record, paired, StepHolds, PartHolds}
 use Rattle.dg_fold.proofs.Fittings.{records_fit}
 use Rattle.dg_fold.proofs.Parted.{plans_lead}
 use Rattle.dg_fold.proofs.SoundEdges.{edges_are_sound}
@@ -51,7 +51,7 @@ module _ (names : ℕ) (z : History) (cols : Columns) (fit : (k : Key) → Recor
   abbrev pub bytes : ColumnBytes
   bytes k col = column_in z k col
 
-  abbrev pub Holding : Step → Type 0
+  abbrev pub Holding : PartedStep → Type 0
   Holding s = StepHolds names cols (contents z) s.0.via s.1
 
   part_holds : (k : Key) (way : Way) (p : Part) → IsPartOf bytes cols (k, way) p → PartHolds names cols (record_among z.params (events_of z) z.batches k) way (Some p)
@@ -84,10 +84,10 @@ module _ (names : ℕ) (z : History) (cols : Columns) (fit : (k : Key) → Recor
       (All-cons Holding (e, part_of e.via parts) (paired walk rest) both.0 (parts_hold walk rest both.1))
 
 -- the edges of the steps
-pub edges_paired : (walk : List Edge) (parts : List Part) → map (λ (s : Step). s.0) (paired walk parts) ≡ walk
+pub edges_paired : (walk : List Edge) (parts : List Part) → map (λ (s : PartedStep). s.0) (paired walk parts) ≡ walk
 edges_paired [] parts = refl
 edges_paired (e ∷ walk) parts =
-    ap (map (λ (s : Step). s.0)) (paired_first e walk parts)
+    ap (map (λ (s : PartedStep). s.0)) (paired_first e walk parts)
     ∙ ap (λ l. e ∷ l) (edges_paired walk (cond (names_record e.via) (drop 1 parts) parts))
 
 pub history_paths_lead : HistoryPathsLead
@@ -102,7 +102,7 @@ history_paths_lead names z indexed g graph cols a b steps leads parts are =
     (record {
       names_fit = indexed.names_fit;
       sets = node_set z;
-      sound = subst (All (IsSound x)) (sym is) (walks.1 x (edges_are_sound z g indexed.arity indexed.changes graph.leaves graph.arity));
+      sound = subst (All (IsSoundEdge x)) (sym is) (walks.1 x (edges_are_sound z g indexed.arity indexed.changes graph.leaves graph.arity));
       walk = subst (λ l. IsWalk a l b) (sym is) walks.0;
       parts = parts_hold names z cols fit walk parts are;
     }) in

@@ -29,9 +29,9 @@ use Rattle.dg_fold.specs.declared.part.Part.{Part}
 use Rattle.dg_fold.specs.BytesRead.{ColumnBytes, AreParts, asked_column, named_along, named_by}
 use Rattle.dg_fold.specs.Ends.{last_in, list_part, part_until}
 use Rattle.dg_fold.specs.HistoryPaths.{IsIndexed, IsGraphOf}
-use Rattle.dg_fold.specs.Parts.{beside, bytes_in, is_events, taken_as, Holds, RecordFits}
-use Rattle.dg_fold.specs.PathIndependence.{contents, Contents, IsSound}
-use Rattle.dg_fold.specs.Steps.{GoesOn, By_part, By_events, Step, paired, part_deltas, step_by, steps_in, StepHolds, PartHolds}
+use Rattle.dg_fold.specs.Parts.{beside, bytes_in, is_events, taken_as, PartHasRecord, RecordFits}
+use Rattle.dg_fold.specs.PathIndependence.{contents, Contents, IsSoundEdge}
+use Rattle.dg_fold.specs.Steps.{FoldGoesOn, By_part, By_events, PartedStep, paired, part_deltas, step_by, steps_in, StepHolds, PartHolds}
 use Rattle.dg_fold.specs.Trees.{IsAmong, IsStepOf, PathIn, Begins_at_root, Steps_on}
 use Rattle.dg_fold.proofs.Columns.{parts_are_read}
 use Rattle.dg_fold.proofs.Fittings.{records_fit}
@@ -50,14 +50,14 @@ fact_of P [] e h at = absurd at
 fact_of P (f ∷ walk) e h (inl is) = subst P (sym is) (All-head P f walk h)
 fact_of P (f ∷ walk) e h (inr at) = fact_of P walk e (All-tail P f walk h) at
 
-edge_among : (all : ListOf Step) (s : Step) → IsStepOf s all → IsAmong s.0 (map (λ (t : Step). t.0) all)
+edge_among : (all : ListOf PartedStep) (s : PartedStep) → IsStepOf s all → IsAmong s.0 (map (λ (t : PartedStep). t.0) all)
 edge_among [] s at = absurd at
-edge_among (t ∷ all) s (inl is) = inl (ap (λ (x : Step). x.0) is)
+edge_among (t ∷ all) s (inl is) = inl (ap (λ (x : PartedStep). x.0) is)
 edge_among (t ∷ all) s (inr at) = inr (edge_among all s at)
 
 -- a path to a list ends with an edge into it
-last_edge : (all : ListOf Step) (v : NodeId) (path : ListOf Step) → PathIn all v path → (i : ℕ) → v ≡ List i
-    → (e : Edge) × IsAmong e (map (λ (s : Step). s.0) all) × (e.to ≡ List i)
+last_edge : (all : ListOf PartedStep) (v : NodeId) (path : ListOf PartedStep) → PathIn all v path → (i : ℕ) → v ≡ List i
+    → (e : Edge) × IsAmong e (map (λ (s : PartedStep). s.0) all) × (e.to ≡ List i)
 last_edge all v path Begins_at_root i is = cc
 last_edge all v path (Steps_on s before at rest) i is = (s.0, edge_among all s at, is)
 
@@ -133,10 +133,10 @@ module _ (names : ℕ) (few : names < 2 ^ 32) (cols : Columns) (x : Contents) wh
   step_whole (via.Held k way) part h = held_whole (x.record_of k) way part h
   step_whole (via.Recent way) part h = (_, refl)
 
-  steps_whole : (steps : ListOf Step) → All (λ s. StepHolds names cols x s.0.via s.1) steps → Whole (steps_in names x.recent steps)
+  steps_whole : (steps : ListOf PartedStep) → All (λ s. StepHolds names cols x s.0.via s.1) steps → Whole (steps_in names x.recent steps)
   steps_whole [] h = ([], refl)
   steps_whole (s ∷ steps) h =
-      let P = λ (s : Step). StepHolds names cols x s.0.via s.1 in
+      let P = λ (s : PartedStep). StepHolds names cols x s.0.via s.1 in
       both_whole (step_by names x.recent s.0.via s.1) (steps_in names x.recent steps)
       (step_whole s.0.via s.1 (All-head P s steps h)) (steps_whole steps (All-tail P s steps h))
 
@@ -156,14 +156,14 @@ module _ (names : ℕ) (z : History) (indexed : IsIndexed names z) (rise : never
   holds : All (λ s. StepHolds names cols (contents z) s.0.via s.1) (paired walk parts)
   holds = parts_hold names z cols fits walk parts are
 
-  sound : All (IsSound (contents z)) (map (λ s. s.0) (paired walk parts))
+  sound : All (IsSoundEdge (contents z)) (map (λ s. s.0) (paired walk parts))
   sound =
       let all = edges_are_sound z g indexed.arity indexed.changes graph.leaves graph.arity in
-      subst (All (IsSound (contents z))) (sym (edges_paired walk parts))
-      (All-weaker (Contains (edges_of g)) (IsSound (contents z)) (λ e at. All-contains (IsSound (contents z)) (edges_of g) e all at) walk among)
+      subst (All (IsSoundEdge (contents z))) (sym (edges_paired walk parts))
+      (All-weaker (Contains (edges_of g)) (IsSoundEdge (contents z)) (λ e at. All-contains (IsSoundEdge (contents z)) (edges_of g) e all at) walk among)
 
   -- a part of a list, taken up to an instant, holds it
-  until_holds : (i t : ℕ) (p : Part) → IsListPart bytes cols i p → Holds cols (Events (closed_list z.params (events_of z) i)) (taken_as p Forward (Some t))
+  until_holds : (i t : ℕ) (p : Part) → IsListPart bytes cols i p → PartHasRecord cols (Events (closed_list z.params (events_of z) i)) (taken_as p Forward (Some t))
   until_holds i t p is = record { kind = ap is_events is.of; bytes = is.columns }
 
   until_whole : (i t : ℕ) (o : Option Part) → IfSome o (IsListPart bytes cols i) → Whole (part_until names t o)
@@ -181,7 +181,7 @@ module _ (names : ℕ) (z : History) (indexed : IsIndexed names z) (rise : never
   last_whole (Inner h j) t = ([], refl)
 
   -- the part of a list to which there is a path
-  listed : HoldsNoList g → (i : ℕ) (path : ListOf Step) → PathIn (paired walk parts) (List i) path → (p : Part) × (list_part i parts ≡ Some p)
+  listed : HoldsNoList g → (i : ℕ) (path : ListOf PartedStep) → PathIn (paired walk parts) (List i) path → (p : Part) × (list_part i parts ≡ Some p)
   listed none i path at =
       let last = last_edge (paired walk parts) (List i) path at i refl in
       let e = last.0 in
@@ -190,8 +190,8 @@ module _ (names : ℕ) (z : History) (indexed : IsIndexed names z) (rise : never
       let reads : Reads (List i) e.via = subst (λ n. Reads n e.via) last.2 enters in
       named_found bytes cols i (named_along walk) parts are (named_among i reads.0 walk e there reads.1)
 
-  goes_on : HoldsNoList g → (t : ℕ) (v : NodeId) (path : ListOf Step) → PathIn (paired walk parts) v path
-      → GoesOn names cols t (next_of z v) (last_in names recent parts v t)
+  goes_on : HoldsNoList g → (t : ℕ) (v : NodeId) (path : ListOf PartedStep) → PathIn (paired walk parts) v path
+      → FoldGoesOn names cols t (next_of z v) (last_in names recent parts v t)
   goes_on none t Root path at = By_events
   goes_on none t Now path at = By_events
   goes_on none t Recent path at = By_events
@@ -200,7 +200,7 @@ module _ (names : ℕ) (z : History) (indexed : IsIndexed names z) (rise : never
   goes_on none t (List i) path at =
       let found = listed none i path at in
       let is : IsListPart bytes cols i found.0 = subst (λ o. IfSome o (IsListPart bytes cols i)) found.1 (part_found bytes cols i (named_along walk) parts are) in
-      subst (λ o. GoesOn names cols t (next_of z (List i)) (part_until names t o)) (sym found.1)
+      subst (λ o. FoldGoesOn names cols t (next_of z (List i)) (part_until names t o)) (sym found.1)
       (By_part (taken_as found.0 Forward (Some t)) refl refl (until_holds i t found.0 is) (fits (key.List i)))
 
 pub history_trees_reach : HistoryTreesReach

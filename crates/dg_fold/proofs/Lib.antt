@@ -5,6 +5,7 @@ pub mod InstantsPart
 pub mod StepWalks
 pub mod SoundEdges
 pub mod Folding
+pub mod JoinedColumns
 pub mod Columns
 pub mod Parted
 pub mod Fittings

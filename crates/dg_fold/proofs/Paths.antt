@@ -7,15 +7,15 @@ use Rattle.dg_graph.specs.declared.event.Event.{Event}
 use Rattle.dg_history.specs.declared.node.Key.{Key}
 use Rattle.dg_history.specs.declared.node.NodeId.{NodeId}
 use Rattle.dg_history.specs.declared.node.NodeId.TheVariants.{Root}
-use Rattle.dg_graph.specs.Composition.{Delta, composition, and_then as then_says}
+use Rattle.dg_graph.specs.Composition.{Delta, composition, then_says}
 use Rattle.dg_delta.proofs.Deltas.{can_be_cut}
 use Rattle.dg_plan.specs.declared.edge.Edge.{Edge}
 use Rattle.dg_fold.specs.PathIndependence.{begun_at}
 use Rattle.dg_fold.specs.Parts.{beside, Folds}
-use Rattle.dg_fold.specs.Steps.{Step, step_by, steps_in}
+use Rattle.dg_fold.specs.Steps.{PartedStep, step_by, steps_in}
 use Rattle.dg_fold.specs.declared.along.Stepped.{Stepped}
 use Rattle.dg_fold.specs.Trees.{IsStepOf, PathIn, Begins_at_root, Steps_on}
-use Rattle.dg_fold.specs.TreeSteps.{IsIn, Path, Begins, Goes_on, AreStepped, PathsAreIn, edges_in, deltas_of}
+use Rattle.dg_fold.specs.TreeSteps.{IsAmongSteps, Path, Begins, Goes_on, AreStepped, PathsAreIn, step_edges, step_deltas}
 
 abbrev pub Due : Type 0
 Due = Result (List Delta) (Key × Column)
@@ -31,12 +31,12 @@ beside_associates (Ok xs) (Err f) c = refl
 beside_associates (Err f) b c = refl
 
 module _ (names : ℕ) (recent : List Event) where
-  abbrev pub due_of : Step → Due
+  abbrev pub due_of : PartedStep → Due
   due_of t = step_by names recent t.0.via t.1
 
   -- the step of a delta
-  step_of : (all : List Step) (steps : List Stepped) → AreStepped names recent all steps → (s : Stepped) → IsIn s steps
-      → (t : Step) × IsStepOf t all × (s.edge ≡ t.0) × Folds (Ok s.delta) (due_of t)
+  step_of : (all : List PartedStep) (steps : List Stepped) → AreStepped names recent all steps → (s : Stepped) → IsAmongSteps s steps
+      → (t : PartedStep) × IsStepOf t all × (s.edge ≡ t.0) × Folds (Ok s.delta) (due_of t)
   step_of [] [] h s here = absurd here
   step_of [] (r ∷ steps) h s here = absurd h
   step_of (t ∷ all) [] h s here = absurd h
@@ -46,15 +46,15 @@ module _ (names : ℕ) (recent : List Event) where
       let rest = step_of all steps h.2 s there in
       (rest.0, inr rest.1, rest.2, rest.3)
 
-  cut : (walk : List Step) (t : Step) → steps_in names recent (walk ++ t ∷ []) ≡ beside (steps_in names recent walk) (due_of t)
+  cut : (walk : List PartedStep) (t : PartedStep) → steps_in names recent (walk ++ t ∷ []) ≡ beside (steps_in names recent walk) (due_of t)
   cut [] t = beside_swap (due_of t)
   cut (s ∷ walk) t =
       ap (beside (due_of s)) (cut walk t) ∙ sym (beside_associates (due_of s) (steps_in names recent walk) (due_of t))
 
   -- a path by these steps, as one by those
-  path_in : (all : List Step) (steps : List Stepped) → AreStepped names recent all steps → (node : NodeId) (own : List Stepped) → Path steps node own
-      → (walk : List Step) × PathIn all node walk × (map (λ (t : Step). t.0) walk ≡ edges_in own)
-      × (dues : List Delta) × (steps_in names recent walk ≡ Ok dues) × ((x : Element) → composition (deltas_of own) x ≡ composition dues x)
+  path_in : (all : List PartedStep) (steps : List Stepped) → AreStepped names recent all steps → (node : NodeId) (own : List Stepped) → Path steps node own
+      → (walk : List PartedStep) × PathIn all node walk × (map (λ (t : PartedStep). t.0) walk ≡ step_edges own)
+      × (dues : List Delta) × (steps_in names recent walk ≡ Ok dues) × ((x : Element) → composition (step_deltas own) x ≡ composition dues x)
   path_in all steps h node own Begins = ([], Begins_at_root, refl, [], refl, λ x. refl)
   path_in all steps h node own (Goes_on s before here path) =
       let front = path_in all steps h s.edge.from before path in
@@ -64,12 +64,12 @@ module _ (names : ℕ) (recent : List Event) where
         front.0 ++ t.0 ∷ [],
         subst (λ n. PathIn all n (front.0 ++ t.0 ∷ [])) (ap (λ (e : Edge). e.to) (sym t.2))
             (Steps_on t.0 front.0 t.1 (subst (λ (e : Edge). PathIn all e.from front.0) t.2 front.1)),
-        map-append (λ (r : Step). r.0) front.0 (t.0 ∷ []) ∙ (λ i. front.2 i ++ same i ∷ []) ∙ sym (map-append (λ (r : Stepped). r.edge) before (s ∷ [])),
+        map-append (λ (r : PartedStep). r.0) front.0 (t.0 ∷ []) ∙ (λ i. front.2 i ++ same i ∷ []) ∙ sym (map-append (λ (r : Stepped). r.edge) before (s ∷ [])),
         front.3 ++ next.0,
         cut front.0 t.0 ∙ (λ i. beside (front.4 i) (next.1 i)),
         λ x.
             ap (λ l. composition l x) (map-append (λ (r : Stepped). r.delta) before (s ∷ []))
-            ∙ can_be_cut (deltas_of before) (s.delta ∷ []) x
+            ∙ can_be_cut (step_deltas before) (s.delta ∷ []) x
             ∙ (λ i. then_says (front.5 x i) (next.2 x i))
             ∙ sym (can_be_cut front.3 next.0 x),
       )

@@ -21,7 +21,7 @@ use Rattle.dg_plan.specs.declared.edge.Via.{Via}
 use Rattle.dg_plan.specs.declared.edge.Via.TheVariants as via
 use Rattle.dg_plan.specs.declared.edge.Way.TheVariants.{Same, Forward, Back}
 use Rattle.dg_index.specs.IndexRecords.{Events, Exact, heights, record_among}
-use Rattle.dg_fold.specs.PathIndependence.{taken, Contents, IsSound, Lead, via_deltas, enters_held, contents, EdgesAreSound}
+use Rattle.dg_fold.specs.PathIndependence.{taken, Contents, IsSoundEdge, Lead, via_deltas, enters_held, contents, EdgesAreSound}
 use Rattle.dg_list.proofs.Changes.{changes_behind}
 use Rattle.dg_fold.proofs.RecordsLead.{exact_leads, events_lead, events_lead_back, slice_leads}
 use Rattle.dg_fold.proofs.WalksLead.{replay_from-append}
@@ -81,11 +81,11 @@ by_record x e not_held h = record { leads = λ is. h; begins = λ is. absurd (fa
 not_root : (n : NodeId) → is_root n ≡ false → n ≡ Root → ⊥
 not_root n is e = true≢false (ap is_root (sym e) ∙ is)
 
-sound_kept : (x : Contents) (edges : ListOf Edge) → Each (Leads x) edges → Each (IsSound x) (kept edges)
+sound_kept : (x : Contents) (edges : ListOf Edge) → Each (Leads x) edges → Each (IsSoundEdge x) (kept edges)
 sound_kept x [] h = tt
 sound_kept x (e ∷ edges) h = by (is_root e.to) refl (sound_kept x edges h.1)
   where
-    by : (b : Bool) → is_root e.to ≡ b → Each (IsSound x) (kept edges) → Each (IsSound x) (cond (not b) (e ∷ kept edges) (kept edges))
+    by : (b : Bool) → is_root e.to ≡ b → Each (IsSoundEdge x) (kept edges) → Each (IsSoundEdge x) (cond (not b) (e ∷ kept edges) (kept edges))
     by true is rest = rest
     by false is rest = (record { leads = h.0.leads; begins = h.0.begins; on = not_root e.to is }, rest)
 
@@ -211,12 +211,12 @@ module _ (z : History) (g : Ground) (some : 1 ≤ z.params.k) (changes : AreChan
       (each_any (λ (b : ℕ × NodeId). Leads x (base_edge b)) (λ b. held_leads Root b.1 (via.Base b.0) refl refl) g.bases))
       (each_map (Leads x) (top_edge g.weight) (heights g.arity g.leaves) (each_any (λ h. Leads x (top_edge g.weight h)) top_leads (heights g.arity g.leaves))))
 
-  pub all_sound : All (IsSound x) (edges_of g)
+  pub all_sound : All (IsSoundEdge x) (edges_of g)
   all_sound =
       let lists = flat_map (list_edges g.weight) (numbers 0 g.leaves) in
       let levels = flat_map (level_edges g.weight g.leaves g.arity) (heights g.arity g.leaves) in
       let recent = cond g.memory (recent_edges g.leaves) [] in
-      all_each (IsSound x) (edges_of g)
+      all_each (IsSoundEdge x) (edges_of g)
       (sound_kept x (first_edges g ++ (lists ++ (levels ++ recent)))
       (each_both (Leads x) (first_edges g) (lists ++ (levels ++ recent)) first_leads
       (each_both (Leads x) lists (levels ++ recent)

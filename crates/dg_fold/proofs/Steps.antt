@@ -10,14 +10,14 @@ use Rattle.dg_fold.specs.declared.part.Part.{Part}
 use Rattle.dg_plan.specs.declared.edge.Via.{Via}
 use Rattle.dg_plan.specs.declared.edge.Via.TheVariants as via
 use Rattle.dg_fold.specs.Parts.{beside, Folds}
-use Rattle.dg_fold.specs.Steps.{Step, names_record, paired, step_by, steps_in}
+use Rattle.dg_fold.specs.Steps.{PartedStep, names_record, paired, step_by, steps_in}
 use Rattle.dg_fold.specs.declared.along.Stepped.{Stepped}
 use Rattle.dg_fold.specs.TreeSteps.{AreStepped, FailsAt}
 use Rattle.dg_fold.proofs.Paths.{Due, beside_associates}
 
 -- What is known when so many edges have been gone over.
 pub record Going (names : ℕ) (recent : List Event) (edges : List Edge) (parts : List Part) (i : ℕ) (rest : List Part) (steps : List Stepped) : Type 0 where
-  pub done : List Step
+  pub done : List PartedStep
   pub front : paired edges parts ≡ done ++ paired (drop i edges) rest
   pub stepped : AreStepped names recent done steps
 
@@ -41,7 +41,7 @@ step_is names recent (via.Paid key way) rest = refl
 step_is names recent (via.Held key way) rest = refl
 step_is names recent (via.Recent way) rest = refl
 
-stepped_more : (names : ℕ) (recent : List Event) (done : List Step) (steps : List Stepped) (t : Step) (s : Stepped)
+stepped_more : (names : ℕ) (recent : List Event) (done : List PartedStep) (steps : List Stepped) (t : PartedStep) (s : Stepped)
     → AreStepped names recent done steps → s.edge ≡ t.0 → Folds (Ok s.delta) (step_by names recent t.0.via t.1) → AreStepped names recent (done ++ t ∷ []) (steps ++ s ∷ [])
 stepped_more names recent [] [] t s h e f = (e, f, tt)
 stepped_more names recent [] (r ∷ steps) t s h e f = absurd h
@@ -61,7 +61,7 @@ module _ (names : ℕ) (recent : List Event) (edges : List Edge) (parts : List P
       → Folds (Ok delta) (step_by names recent e.via (slice_get rest 0)) → next ≡ cond (names_record e.via) (drop 1 rest) rest
       → new ≡ steps ++ record { edge = e; delta = delta } ∷ [] → Going names recent edges parts (i + 1) next new
   going_on delta next new g h folds behind grown =
-      let t : Step = (e, part_of e.via rest) in
+      let t : PartedStep = (e, part_of e.via rest) in
       let s : Stepped = record { edge = e; delta = delta } in
       record {
         done = g.done ++ t ∷ [];
@@ -71,7 +71,7 @@ module _ (names : ℕ) (recent : List Event) (edges : List Edge) (parts : List P
             (stepped_more names recent g.done steps t s g.stepped refl (subst (Folds (Ok delta)) (sym (step_is names recent e.via rest)) folds));
       }
 
-pub done_in : (names : ℕ) (recent : List Event) (done : List Step) (steps : List Stepped) → AreStepped names recent done steps → (list : List Delta) × (steps_in names recent done ≡ Ok list)
+pub done_in : (names : ℕ) (recent : List Event) (done : List PartedStep) (steps : List Stepped) → AreStepped names recent done steps → (list : List Delta) × (steps_in names recent done ≡ Ok list)
 done_in names recent [] [] h = ([], refl)
 done_in names recent [] (s ∷ steps) h = absurd h
 done_in names recent (t ∷ done) [] h = absurd h
@@ -79,7 +79,7 @@ done_in names recent (t ∷ done) (s ∷ steps) h =
     let rest = done_in names recent done steps h.2 in
     (h.1.0 ++ rest.0, (λ i. beside (h.1.1 i) (rest.1 i)))
 
-steps_cut : (names : ℕ) (recent : List Event) (xs ys : List Step) → steps_in names recent (xs ++ ys) ≡ beside (steps_in names recent xs) (steps_in names recent ys)
+steps_cut : (names : ℕ) (recent : List Event) (xs ys : List PartedStep) → steps_in names recent (xs ++ ys) ≡ beside (steps_in names recent xs) (steps_in names recent ys)
 steps_cut names recent [] ys = empty (steps_in names recent ys)
   where
     empty : (a : Due) → a ≡ beside (Ok []) a
@@ -95,7 +95,7 @@ pub fails_next : (names : ℕ) (recent : List Event) (edges : List Edge) (parts 
     → Folds (Err f) (step_by names recent (get_or edges i d).via (slice_get rest 0)) → FailsAt f names recent (paired edges parts)
 fails_next names recent edges parts i rest steps d (fault.Damaged k col) g h fails =
     let e = get_or edges i d in
-    let t : Step = (e, part_of e.via rest) in
+    let t : PartedStep = (e, part_of e.via rest) in
     let more = paired (drop (i + 1) edges) (cond (names_record e.via) (drop 1 rest) rest) in
     let done = done_in names recent g.done steps g.stepped in
     ap (steps_in names recent) (g.front ∙ ap (λ l. g.done ++ l) (at_next names recent edges parts i rest steps d g h))

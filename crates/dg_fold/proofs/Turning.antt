@@ -2,7 +2,7 @@
 use Rattle.std.proofs.Common.{◌≡◌, List, [], ◌∷◌, ◌++◌, map, reverse, sym, refl, ap, ◌∙◌}
 use Rattle.dg_graph.specs.declared.element.Element.{Element}
 use Rattle.dg_graph.specs.declared.event.Event.{Event}
-use Rattle.dg_graph.specs.Composition.{Delta, Composes, and_then, says, applied}
+use Rattle.dg_graph.specs.Composition.{Delta, Composes, then_says, says, applied}
 use Rattle.dg_graph.specs.Elements.{IsSet}
 use Rattle.dg_graph.specs.ExactEvents.{effect_of, AreChangesOf}
 use Rattle.dg_graph.specs.Replay.{replay_from}
@@ -22,7 +22,7 @@ one_of (d ∷ list) = composed d (one_of list)
 
 composes_all : (list : List Delta) → Composes (one_of list) list
 composes_all [] x = refl
-composes_all (d ∷ list) x = says-composed d (one_of list) x ∙ ap (and_then (says d x)) (composes_all list x)
+composes_all (d ∷ list) x = says-composed d (one_of list) x ∙ ap (then_says (says d x)) (composes_all list x)
 
 -- the effects of events, one after another, lead where the events lead
 pub replays_in_turn : (events : List Event) (set : List Element) → IsSet set → applied_in_turn (map effect_of events) set ≡ replay_from set events

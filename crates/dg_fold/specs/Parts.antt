@@ -27,9 +27,9 @@ and_then (Ok x) next = next x
 and_then (Err f) next = Err f
 
 -- the fault named otherwise
-abbrev pub named : {A F G : Type 0} → (F → G) → Result A F → Result A G
-named f (Ok x) = Ok x
-named f (Err e) = Err (f e)
+abbrev pub fault_named : {A F G : Type 0} → (F → G) → Result A F → Result A G
+fault_named f (Ok x) = Ok x
+fault_named f (Err e) = Err (f e)
 
 -- the record's key names events
 abbrev pub is_events : Key → Bool
@@ -51,7 +51,7 @@ record_in names false col bytes = and_then (delta_in col names bytes) (λ (d : D
 -- the deltas of one column of the part; or the key and the column of the damage
 abbrev pub part_column_in : ℕ → Part → Column → Result (List Delta) (Key × Column)
 part_column_in names p col =
-    named (λ (offset : ℕ). (p.key, col))
+    fault_named (λ (offset : ℕ). (p.key, col))
     (and_then (record_in names (is_events p.key) col (bytes_in p.bytes col)) (λ (r : Record). Ok (taken p.way p.until r)))
 
 -- both, one after the other; or the fault of the first that has one
@@ -59,13 +59,13 @@ abbrev pub beside : {F : Type 0} → Result (List Delta) F → Result (List Delt
 beside a b = and_then a (λ (xs : List Delta). and_then b (λ (ys : List Delta). Ok (xs ++ ys)))
 
 -- the deltas of a part, column by column
-abbrev pub part_in : ℕ → Part → Result (List Delta) (Key × Column)
-part_in names p = beside (part_column_in names p Structure) (beside (part_column_in names p NodeAttr) (part_column_in names p EdgeAttr))
+abbrev pub deltas_in_part : ℕ → Part → Result (List Delta) (Key × Column)
+deltas_in_part names p = beside (part_column_in names p Structure) (beside (part_column_in names p NodeAttr) (part_column_in names p EdgeAttr))
 
 -- the deltas of all parts, one after another; or the key and the column of the first damage
 abbrev pub parts_in : ℕ → List Part → Result (List Delta) (Key × Column)
 parts_in names [] = Ok []
-parts_in names (p ∷ parts) = beside (part_in names p) (parts_in names parts)
+parts_in names (p ∷ parts) = beside (deltas_in_part names p) (parts_in names parts)
 
 -- what was returned is the composition of these deltas, or the first damage; unless memory ran out
 abbrev pub Folds : Result Delta FoldFault → Result (List Delta) (Key × Column) → Type 0
@@ -84,7 +84,7 @@ are_events (Events events) = true
 are_events (Exact d) = false
 
 -- The part's bytes are the record's columns, of those that are asked for; a column that is not has none.
-pub record Holds (cols : Columns) (r : Record) (p : Part) : Type 0 where
+pub record PartHasRecord (cols : Columns) (r : Record) (p : Part) : Type 0 where
   pub kind : is_events p.key ≡ are_events r
   pub bytes : (col : Column) → bytes_in p.bytes col ≡ (if asks cols col then column_of_record col r else [])
 
@@ -100,8 +100,8 @@ word_in cols x w = if asks cols (column_of x) then w else As_it_was
 -- The deltas of a part that holds a record say what the record says in the way taken, of the elements in the
 -- columns that are asked for, and nothing of others.
 abbrev pub PartsAreRead : Type 0
-PartsAreRead = (names : ℕ) → names < 2 ^ 32 → (cols : Columns) (r : Record) → RecordFits names r → (p : Part) → Holds cols r p
-    → (list : List Delta) × (part_in names p ≡ Ok list)
+PartsAreRead = (names : ℕ) → names < 2 ^ 32 → (cols : Columns) (r : Record) → RecordFits names r → (p : Part) → PartHasRecord cols r p
+    → (list : List Delta) × (deltas_in_part names p ≡ Ok list)
     × ((x : Element) → composition list x ≡ word_in cols x (composition (taken p.way p.until r) x))
 
 -- the part, taken in this way

@@ -90,7 +90,7 @@ enters_held (via.Recent way) = false
 
 -- An edge is sound where its record leads from the set of its tail to the set of its head. One that enters a
 -- set that is held whole leaves Root; none enters Root.
-pub record IsSound (x : Contents) (e : Edge) : Type 0 where
+pub record IsSoundEdge (x : Contents) (e : Edge) : Type 0 where
   pub leads : enters_held e.via ≡ false → Lead (via_deltas x e.via) (x.set e.from) (x.set e.to)
   pub begins : enters_held e.via ≡ true → e.from ≡ Root
   pub on : e.to ≢ Root
@@ -114,7 +114,7 @@ begun_at u (e ∷ walk) = if enters_held e.via then e.to else u
 -- may have more columns.
 abbrev pub WalksLead : Type 0
 WalksLead = (x : Contents) → ((n : NodeId) → IsSet (x.set n))
-    → (walk : List Edge) → All (IsSound x) walk → (u v : NodeId) → IsWalk u walk v
+    → (walk : List Edge) → All (IsSoundEdge x) walk → (u v : NodeId) → IsWalk u walk v
     → (cols : Columns) (d : Delta) → ComposesIn cols d (walk_deltas x walk)
     → (set : List Element) → IsSet set → shown set cols ≡ shown (x.set (begun_at u walk)) cols
     → shown (applied d set) cols ≡ shown (x.set v) cols
@@ -124,7 +124,7 @@ WalksLead = (x : Contents) → ((n : NodeId) → IsSet (x.set n))
 -- it, and all after them are later.
 abbrev pub InstantsAreReached : Type 0
 InstantsAreReached = (x : Contents) → ((n : NodeId) → IsSet (x.set n))
-    → (walk : List Edge) → All (IsSound x) walk → (u v : NodeId) → IsWalk u walk v
+    → (walk : List Edge) → All (IsSoundEdge x) walk → (u v : NodeId) → IsWalk u walk v
     → (first next last : List Event) (t : ℕ) → x.set v ≡ replay first
     → All (λ e. nat_le e.time t ≡ true) first → All (λ e. t < e.time) last
     → (cols : Columns) (d : Delta) → ComposesIn cols d (walk_deltas x walk ++ forward (Some t) (Events next))
@@ -152,12 +152,12 @@ RecordsLead =
 -- events is in memory
 abbrev pub EdgesAreSound : Type 0
 EdgesAreSound = (z : History) (g : Ground) → 1 ≤ z.params.k → AreChangesOf [] (events_of z)
-    → g.leaves ≡ leaves z.params (length (events_of z)) → g.arity ≡ z.params.k → All (IsSound (contents z)) (edges_of g)
+    → g.leaves ≡ leaves z.params (length (events_of z)) → g.arity ≡ z.params.k → All (IsSoundEdge (contents z)) (edges_of g)
 
 -- steps by the numbers of edges are a walk of these edges, which are sound where all are
 abbrev pub StepsAreWalks : Type 0
 StepsAreWalks = (edges : List Edge) (steps : List ℕ) (a b : NodeId) → Leads (arcs_of edges) a steps b
-    → IsWalk a (edges_at edges steps) b × ((x : Contents) → All (IsSound x) edges → All (IsSound x) (edges_at edges steps))
+    → IsWalk a (edges_at edges steps) b × ((x : Contents) → All (IsSoundEdge x) edges → All (IsSoundEdge x) (edges_at edges steps))
 
 -- Of events whose times do not fall, the first so many are up to an instant, and the others are later.
 abbrev pub InstantsPart : Type 0

@@ -9,10 +9,10 @@ use Rattle.dg_graph.specs.Elements.{IsSet, shown}
 use Rattle.dg_history.specs.declared.node.NodeId.{NodeId}
 use Rattle.dg_history.specs.declared.node.NodeId.TheVariants.{Root}
 use Rattle.dg_plan.specs.declared.edge.Edge.{Edge}
-use Rattle.dg_fold.specs.PathIndependence.{Contents, IsSound, IsWalk}
+use Rattle.dg_fold.specs.PathIndependence.{Contents, IsSoundEdge, IsWalk}
 use Rattle.dg_fold.specs.declared.tree.Branch.{Branch}
 use Rattle.dg_fold.specs.Parts.{Folds}
-use Rattle.dg_fold.specs.Steps.{Step, steps_in, StepHolds, BeginsWith}
+use Rattle.dg_fold.specs.Steps.{PartedStep, steps_in, StepHolds, BeginsWith}
 
 -- ---- the branches of a tree
 
@@ -36,22 +36,22 @@ all_edges branches = flat_map (λ b. b.edges.items) branches
 -- ---- its paths
 
 -- the step is one of these
-abbrev pub IsStepOf : Step → List Step → Type 0
+abbrev pub IsStepOf : PartedStep → List PartedStep → Type 0
 IsStepOf s [] = ⊥
 IsStepOf s (t ∷ all) = (s ≡ t) ⊎ IsStepOf s all
 
 -- A path from Root to the node by some of a tree's steps: edges with the parts of the records that they name.
-pub data PathIn (all : List Step) : NodeId → List Step → Type 0 where
+pub data PathIn (all : List PartedStep) : NodeId → List PartedStep → Type 0 where
   Begins_at_root : PathIn all Root []
-  Steps_on : (s : Step) → (walk : List Step) → IsStepOf s all → PathIn all s.0.from walk → PathIn all s.0.to (walk ++ s ∷ [])
+  Steps_on : (s : PartedStep) → (walk : List PartedStep) → IsStepOf s all → PathIn all s.0.from walk → PathIn all s.0.to (walk ++ s ∷ [])
 
 -- the delta is the composition of the parts along the tree's path to the node
-abbrev pub LeadsTo : ℕ → List Event → List Step → NodeId → Delta → Type 0
-LeadsTo names recent all node d = (walk : List Step) × PathIn all node walk × Folds (Ok d) (steps_in names recent walk)
+abbrev pub LeadsTo : ℕ → List Event → List PartedStep → NodeId → Delta → Type 0
+LeadsTo names recent all node d = (walk : List PartedStep) × PathIn all node walk × Folds (Ok d) (steps_in names recent walk)
 
 -- Along a tree's path to a node, what the parts compose to leads to what is shown of the node.
 abbrev pub TreesLead : Type 0
 TreesLead = (names : ℕ) → names < 2 ^ 32 → (cols : Columns) (x : Contents) → ((n : NodeId) → IsSet (x.set n))
-    → (all : List Step) → All (IsSound x) (map (λ s. s.0) all) → All (λ s. StepHolds names cols x s.0.via s.1) all
+    → (all : List PartedStep) → All (IsSoundEdge x) (map (λ s. s.0) all) → All (λ s. StepHolds names cols x s.0.via s.1) all
     → (node : NodeId) (d : Delta) (led : LeadsTo names x.recent all node d)
     → (set : List Element) → BeginsWith cols x Root led.0 set → shown (applied d set) cols ≡ shown (x.set node) cols

@@ -1,12 +1,14 @@
 //! Going along the branches of a tree.
 
-ghost use Rattle.std.specs.Prelude.{◌≡◌, ◌≢◌, ◌<◌, ◌≤◌, ◌+◌, ℕ, length, take, IfOk, OnOk, IsTrue, List, [], ◌∷◌};
+ghost use Rattle.std.specs.Prelude.{◌≡◌, ◌≢◌, ◌⊎◌, ◌<◌, ◌≤◌, ◌+◌, ◌-◌, ℕ, length, take, IfOk, IsTrue, List, [], ◌∷◌};
 ghost use Rattle.dg_history.specs.declared.node.NodeId.{NodeId};
 ghost use Rattle.dg_history.specs.declared.node.NodeId.TheVariants.{Root};
 ghost use Rattle.dg_graph.specs.Composition.{Composes};
 ghost use Rattle.dg_fold.specs.PathIndependence.{begun_at};
-ghost use Rattle.dg_fold.specs.TreeSteps.{IsIn, AreIn, Walks, AreReached, deltas_of, node_at, IsKnown, IsOneOf, EnterNone};
+ghost use Rattle.dg_fold.specs.TreeSteps.{IsAmongSteps, AreIn, Walks, IsReachedNode, AreReached, step_deltas, last_of, IsNodeKnown, IsOneOf, EnterNone};
 
+use crate::halves::{Weighed, cut_at};
+use crate::net::{joined, joined_on};
 use dg_delta::Delta;
 use dg_history::NodeId;
 use dg_plan::{Edge, Via};
@@ -28,20 +30,34 @@ pub(crate) struct Known {
     pub delta: Delta,
 }
 
-// The composition of the steps, by halves.
-fn fold(alloc: Global, steps: &[Stepped]) -> Result<Delta, AllocError>
-    ensures { IfOk result (λ d. Composes d (deltas_of steps.now)) }
+impl Weighed for Stepped {
+    // The elements that it names, and one more.
+    fn weight(&self) -> u64 {
+        let named = self
+            .delta
+            .minus()
+            .len()
+            .saturating_add(self.delta.plus().len());
+        named.saturating_add(1)
+    }
+}
+
+// The composition of the steps. They are cut where what they name is halved, and the delta of a lone step is moved: so
+// a first step that names more than all others is copied once, and no element more often than about twice the
+// logarithm of how many are named.
+fn fold(alloc: Global, mut steps: Vec<Stepped>) -> Result<Delta, AllocError>
+    ensures { IfOk result (λ d. Composes d (step_deltas steps.items)) }
 {
     if steps.len() <= 1 {
-        return match steps.first() {
+        return match steps.pop() {
             None => Ok(Delta::new(alloc)),
-            Some(step) => step.delta.compose(&Delta::new(alloc)),
+            Some(step) => Ok(step.delta),
         };
     }
-    let (left, right) = steps.split_at(steps.len() / 2);
-    let first = fold(alloc, left)?;
-    let then = fold(alloc, right)?;
-    first.compose(&then)
+    let later = steps.split_off(cut_at(&steps))?;
+    let first = fold(alloc, steps)?;
+    let then = fold(alloc, later)?;
+    joined(first, then)
 }
 
 // How many steps there are up to the first that enters a node which is wanted, or to the end.
@@ -93,40 +109,52 @@ fn begun_on(known: &Known, edge: Edge) -> NodeId
     }
 }
 
-/// Goes along a branch from a known node, and notes what leads to each wanted node and to its end.
-/// Answers the offset of the end among what is known.
+// What leads to the end of the steps, which go on from the known node.
+fn known_behind(alloc: Global, here: &Known, steps: Vec<Stepped>) -> Result<Known, AllocError>
+    requires some { 0 < length steps.items }
+    requires walk { (v : NodeId) × Walks here.now.node steps.items v }
+    ensures node { IfOk result (λ k. (v : NodeId) → Walks here.now.node steps.items v → k.node ≡ v) }
+    ensures last { IfOk result (λ k. (s : Stepped) → IsAmongSteps s steps.items → IsAmongSteps s (take (length steps.items - 1) steps.items) ⊎ (s.edge.to ≡ k.node)) }
+    ensures reached { IfOk result (λ k. (all : List Stepped) → EnterNone all (Root ∷ []) → AreIn steps.items all → IsReachedNode all here.now → IsReachedNode all k) }
+{
+    let begun = begun_on(here, steps[0].edge);
+    let node = steps[steps.len() - 1].edge.to;
+    let then = fold(alloc, steps)?;
+    let delta = joined_on(&here.delta, then)?;
+    Ok(Known { node, begun, delta })
+}
+
+// The last of the stops, or the start where there is none.
+fn last_of<'a>(start: &'a Known, stops: &'a [Known]) -> &'a Known
+    ensures { result.now ≡ last_of start.entry.now stops.entry.now }
+{
+    match stops.last() {
+        Some(stop) => stop,
+        None => start,
+    }
+}
+
+/// Goes along a branch from a known node. Answers what leads to each node on the way that is wanted, and last what
+/// leads to the end of the branch; nothing for a branch with no step.
 pub(crate) fn go_along(
     alloc: Global,
-    known: &mut Vec<Known>,
-    from: usize,
-    branch: &[Stepped],
+    start: &Known,
+    branch: Vec<Stepped>,
     wanted: &[NodeId],
-) -> Result<usize, AllocError>
-    requires from { from < length known.old.items }
-    requires walk { (v : NodeId) × Walks (node_at known.old.items from) branch.now v }
-    ensures end { IfOk result (λ at. at < length known.new.items) }
-    ensures node { IfOk result (λ at. (v : NodeId) → Walks (node_at known.old.items from) branch.now v → node_at known.new.items at ≡ v) }
-    ensures kept { OnOk result ((n : NodeId) → IsKnown n known.old.items → IsKnown n known.new.items) }
-    ensures noted { OnOk result ((s : Stepped) → IsIn s branch.now → IsOneOf s.edge.to wanted.now → IsKnown s.edge.to known.new.items) }
-    ensures reached { OnOk result ((all : List Stepped) → EnterNone all (Root ∷ []) → AreIn branch.now all → AreReached all known.old.items → AreReached all known.new.items) }
+) -> Result<Vec<Known>, AllocError>
+    requires walk { (v : NodeId) × Walks start.now.node branch.items v }
+    ensures end { IfOk result (λ stops. (v : NodeId) → Walks start.now.node branch.items v → (last_of start.now stops.items).node ≡ v) }
+    ensures noted { IfOk result (λ stops. (s : Stepped) → IsAmongSteps s branch.items → IsOneOf s.edge.to wanted.now → IsNodeKnown s.edge.to stops.items) }
+    ensures reached { IfOk result (λ stops. (all : List Stepped) → EnterNone all (Root ∷ []) → AreIn branch.items all → IsReachedNode all start.now → AreReached all stops.items) }
 {
+    let mut stops = Vec::new(alloc);
     let mut rest = branch;
-    let mut at = from;
     while !rest.is_empty() {
-        let cut = next_cut(rest, wanted);
-        let (segment, more) = rest.split_at(cut);
-        let delta = fold(alloc, segment)?;
-        let here = &known[at];
-        let whole = here.delta.compose(&delta)?;
-        let begun = begun_on(here, segment[0].edge);
-        let node = segment[cut - 1].edge.to;
-        at = known.len();
-        known.push(Known {
-            node,
-            begun,
-            delta: whole,
-        })?;
+        let cut = next_cut(&rest, wanted);
+        let more = rest.split_off(cut)?;
+        let stop = known_behind(alloc, last_of(start, &stops), rest)?;
+        stops.push(stop)?;
         rest = more;
     }
-    Ok(at)
+    Ok(stops)
 }

@@ -1,14 +1,18 @@
 //! The delta of a part, column by column.
 
-ghost use Rattle.std.specs.Prelude.{◌≡◌, true, false, map, IfOk};
+ghost use Rattle.std.specs.Prelude.{◌≡◌, true, false, map, ℕ, Option, Ok, Err, IfOk, IfErr};
+ghost use Rattle.dg_columns.specs.ReadFits.{IsIn};
 ghost use Rattle.dg_graph.specs.declared.element.Column.{Column};
 ghost use Rattle.dg_graph.specs.declared.placed.Placed.{Placed};
-ghost use Rattle.dg_fold.specs.Parts.{is_events, bytes_in, part_column_in, beside, part_in, Folds, fault_at, taken_as};
+ghost use Rattle.dg_index.specs.IndexRecords.{Exact};
+ghost use Rattle.dg_plan.specs.declared.edge.Way.{Way};
+ghost use Rattle.dg_fold.specs.PathIndependence.{taken};
+ghost use Rattle.dg_fold.specs.Parts.{is_events, bytes_in, part_column_in, beside, deltas_in_part, Folds, fault_at, taken_as};
 
 use crate::fault::FoldFault;
 use crate::net::{joined, net_of, turned};
 use crate::part::{Bytes, Part};
-use dg_columns::{ReadFault, read_delta, read_events};
+use dg_columns::{ReadFault, join, read_delta, read_events};
 use dg_delta::Delta;
 use dg_graph::{Column, Event, Placed};
 use dg_history::Key;
@@ -59,7 +63,7 @@ fn events_of(alloc: Global, placed: &[Placed]) -> Result<Vec<Event>, AllocError>
 }
 
 // The net of a column of the part, which holds events.
-fn events_delta<R: Threads>(
+fn events_column<R: Threads>(
     rt: &R,
     alloc: Global,
     names: u32,
@@ -80,44 +84,7 @@ fn events_delta<R: Threads>(
     }
 }
 
-// The delta of a column of the part, which holds a delta.
-fn exact_delta(
-    alloc: Global,
-    names: u32,
-    part: &Part,
-    way: Way,
-    until: Option<u64>,
-    col: Column,
-) -> Result<Delta, FoldFault>
-    requires { is_events part.now.key ≡ false }
-    ensures { Folds result (part_column_in names (taken_as part.now way until) col) }
-{
-    match read_delta(alloc, bytes_of(&part.bytes, col), col, names) {
-        Ok(delta) => Ok(turned(alloc, delta, way)),
-        Err(fault) => Err(fault_of(fault, part.key, col)),
-    }
-}
-
-// The delta of a column of the part.
-fn column_delta<R: Threads>(
-    rt: &R,
-    alloc: Global,
-    names: u32,
-    part: &Part,
-    way: Way,
-    until: Option<u64>,
-    col: Column,
-) -> Result<Delta, FoldFault>
-    ensures { Folds result (part_column_in names (taken_as part.now way until) col) }
-{
-    if is_events(part.key) {
-        events_delta(rt, alloc, names, part, way, until, col)
-    } else {
-        exact_delta(alloc, names, part, way, until, col)
-    }
-}
-
-// The delta of the attributes of a part, taken in this way.
+// The net of the attributes of the part, which holds events.
 fn attributes_delta<R: Threads>(
     rt: &R,
     alloc: Global,
@@ -126,11 +93,60 @@ fn attributes_delta<R: Threads>(
     way: Way,
     until: Option<u64>,
 ) -> Result<Delta, FoldFault>
+    requires { is_events part.now.key ≡ true }
     ensures { Folds result (beside (part_column_in names (taken_as part.now way until) Column.NodeAttr) (part_column_in names (taken_as part.now way until) Column.EdgeAttr)) }
 {
-    let node_attr = column_delta(rt, alloc, names, part, way, until, Column::NodeAttr)?;
-    let edge_attr = column_delta(rt, alloc, names, part, way, until, Column::EdgeAttr)?;
+    let node_attr = events_column(rt, alloc, names, part, way, until, Column::NodeAttr)?;
+    let edge_attr = events_column(rt, alloc, names, part, way, until, Column::EdgeAttr)?;
     Ok(joined(node_attr, edge_attr)?)
+}
+
+// The net of the part, which holds events.
+fn events_delta<R: Threads>(
+    rt: &R,
+    alloc: Global,
+    names: u32,
+    part: &Part,
+    way: Way,
+    until: Option<u64>,
+) -> Result<Delta, FoldFault>
+    requires { is_events part.now.key ≡ true }
+    ensures { Folds result (deltas_in_part names (taken_as part.now way until)) }
+{
+    let structure = events_column(rt, alloc, names, part, way, until, Column::Structure)?;
+    let attributes = attributes_delta(rt, alloc, names, part, way, until)?;
+    Ok(joined(structure, attributes)?)
+}
+
+// The delta that a column of the part spells, which holds a delta.
+fn exact_column(alloc: Global, names: u32, part: &Part, col: Column) -> Result<Delta, FoldFault>
+    requires { is_events part.now.key ≡ false }
+    ensures ok { IfOk result (λ d. (way : Way) (until : Option ℕ) → part_column_in names (taken_as part.now way until) col ≡ Ok (taken way until (Exact d))) }
+    ensures inside { IfOk result (λ d. IsIn col d) }
+    ensures err { IfErr result (λ f. (way : Way) (until : Option ℕ) → Folds (Err f) (part_column_in names (taken_as part.now way until) col)) }
+{
+    match read_delta(alloc, bytes_of(&part.bytes, col), col, names) {
+        Ok(delta) => Ok(delta),
+        Err(fault) => Err(fault_of(fault, part.key, col)),
+    }
+}
+
+// The delta of the part, which holds a delta: its columns follow one another, and no element is compared.
+fn exact_delta(
+    alloc: Global,
+    names: u32,
+    part: &Part,
+    way: Way,
+    until: Option<u64>,
+) -> Result<Delta, FoldFault>
+    requires { is_events part.now.key ≡ false }
+    ensures { Folds result (deltas_in_part names (taken_as part.now way until)) }
+{
+    let structure = exact_column(alloc, names, part, Column::Structure)?;
+    let node_attr = exact_column(alloc, names, part, Column::NodeAttr)?;
+    let edge_attr = exact_column(alloc, names, part, Column::EdgeAttr)?;
+    let delta = join(structure, &node_attr, &edge_attr)?;
+    Ok(turned(alloc, delta, way))
 }
 
 /// The delta of a part, taken in this way up to an instant, in place of its own.
@@ -142,11 +158,13 @@ pub(crate) fn part_delta_as<R: Threads>(
     way: Way,
     until: Option<u64>,
 ) -> Result<Delta, FoldFault>
-    ensures { Folds result (part_in names (taken_as part.now way until)) }
+    ensures { Folds result (deltas_in_part names (taken_as part.now way until)) }
 {
-    let structure = column_delta(rt, alloc, names, part, way, until, Column::Structure)?;
-    let attributes = attributes_delta(rt, alloc, names, part, way, until)?;
-    Ok(joined(structure, attributes)?)
+    if is_events(part.key) {
+        events_delta(rt, alloc, names, part, way, until)
+    } else {
+        exact_delta(alloc, names, part, way, until)
+    }
 }
 
 /// The delta of a part.
@@ -156,7 +174,7 @@ pub(crate) fn part_delta<R: Threads>(
     names: u32,
     part: &Part,
 ) -> Result<Delta, FoldFault>
-    ensures { Folds result (part_in names part.now) }
+    ensures { Folds result (deltas_in_part names part.now) }
 {
     part_delta_as(rt, alloc, names, part, part.way, part.until)
 }

@@ -8,6 +8,7 @@ mod ends;
 mod fault;
 mod fetch;
 mod gate;
+mod halves;
 mod laws;
 mod net;
 mod part;

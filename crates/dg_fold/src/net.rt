@@ -67,6 +67,20 @@ pub(crate) fn joined(first: Delta, then: Delta) -> Result<Delta, AllocError>
     first.compose(&then)
 }
 
+/// One delta and then another, of which the first is used on. Where the first names nothing, nothing is
+/// copied. An `Err` says that memory ran out.
+pub(crate) fn joined_on(first: &Delta, then: Delta) -> Result<Delta, AllocError>
+    ensures { IfOk result (λ d. Composes d (first.now ∷ then ∷ [])) }
+{
+    if is_empty(first) {
+        return Ok(then);
+    }
+    if is_empty(&then) {
+        return first.copy();
+    }
+    first.compose(&then)
+}
+
 // Whether the delta names nothing.
 fn is_empty(delta: &Delta) -> bool
     ensures { IsTrue result → (delta.now ≡ record { minus = []; plus = [] }) }

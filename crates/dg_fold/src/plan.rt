@@ -1,6 +1,6 @@
 //! Composing the parts of a plan, by halves.
 
-ghost use Rattle.std.specs.Prelude.{◌<◌, ◌≤◌, length, List, Result};
+ghost use Rattle.std.specs.Prelude.{List, Result};
 ghost use Rattle.std.specs.Thread.{IsSync};
 ghost use Rattle.dg_graph.specs.declared.element.Column.{Column};
 ghost use Rattle.dg_history.specs.declared.node.Key.{Key};
@@ -10,6 +10,7 @@ ghost use Rattle.dg_fold.specs.Parts.{beside, parts_in, Folds};
 use crate::column::part_delta;
 use crate::fault::FoldFault;
 use crate::gate::Gate;
+use crate::halves::{Weighed, all_weigh, cut_at};
 use crate::net::joined;
 use crate::part::Part;
 use dg_delta::Delta;
@@ -17,7 +18,7 @@ use std::alloc::Global;
 use std::thread::{Threads, join};
 
 /// A half of so many bytes, or of fewer, is composed without a further thread: starting one takes longer.
-const ALONE_BYTES_MAX: usize = 1_048_576;
+const ALONE_BYTES_MAX: u64 = 1_048_576;
 
 // One composition and then another, or the first fault.
 fn both(first: Result<Delta, FoldFault>, then: Result<Delta, FoldFault>) -> Result<Delta, FoldFault>
@@ -28,43 +29,18 @@ fn both(first: Result<Delta, FoldFault>, then: Result<Delta, FoldFault>) -> Resu
     Ok(joined(first, then)?)
 }
 
-// The bytes of a part, or the greatest number where there are more.
-fn bytes_len(part: &Part) -> usize {
-    let bytes = &part.bytes;
-    bytes
-        .structure
-        .len()
-        .saturating_add(bytes.node_attr.len())
-        .saturating_add(bytes.edge_attr.len())
-}
-
-// The bytes of all parts, or the greatest number where there are more.
-fn all_bytes_len(parts: &[Part]) -> usize {
-    let mut sum = 0usize;
-    for part in parts {
-        sum = sum.saturating_add(bytes_len(part));
+impl Weighed for Part {
+    // The bytes of a part, or the greatest number where there are more; at least 1.
+    fn weight(&self) -> u64 {
+        let bytes = &self.bytes;
+        let structure = bytes.structure.len() as u64;
+        let node_attr = bytes.node_attr.len() as u64;
+        let edge_attr = bytes.edge_attr.len() as u64;
+        let all = structure
+            .saturating_add(node_attr)
+            .saturating_add(edge_attr);
+        all.max(1)
     }
-    sum
-}
-
-// Where to cut the parts in two, so that both sides have about half of the bytes.
-fn cut_at(parts: &[Part]) -> usize
-    requires { 2 ≤ length parts.now }
-    ensures some { 0 < result }
-    ensures within { result < length parts.now }
-{
-    let half = all_bytes_len(parts) / 2;
-    let mut sum = 0usize;
-    for (i, part) in parts.iter().enumerate() {
-        if i + 1 == parts.len() {
-            break;
-        }
-        sum = sum.saturating_add(bytes_len(part));
-        if sum >= half {
-            return i + 1;
-        }
-    }
-    parts.len() - 1
 }
 
 // The composition of the parts, in order, by halves and without a further thread.
@@ -112,7 +88,7 @@ pub fn compose_plan<R: Threads + Sync, G: Gate>(
             ensures { Folds result (parts_in names left.entry.now) }
         {
             gate.enter(false);
-            if all_bytes_len(left) <= ALONE_BYTES_MAX {
+            if all_weigh(left) <= ALONE_BYTES_MAX {
                 compose_alone(rt, alloc, names, left)
             } else {
                 compose_plan(rt, alloc, gate, names, left)
@@ -123,7 +99,7 @@ pub fn compose_plan<R: Threads + Sync, G: Gate>(
             ensures { Folds result (parts_in names right.entry.now) }
         {
             gate.enter(true);
-            if all_bytes_len(right) <= ALONE_BYTES_MAX {
+            if all_weigh(right) <= ALONE_BYTES_MAX {
                 compose_alone(rt, alloc, names, right)
             } else {
                 compose_plan(rt, alloc, gate, names, right)

@@ -1,14 +1,14 @@
 //! Composing along the paths of a tree.
 
-ghost use Rattle.std.specs.Prelude.{◌≡◌, ◌≢◌, ◌<◌, [], ◌∷◌, List, length, map, IfOk, IfErr, IfSome, OnOk, IsSome, Ok};
+ghost use Rattle.std.specs.Prelude.{◌≡◌, ◌≢◌, ◌⊎◌, ◌<◌, [], ◌∷◌, List, length, map, IfOk, IfErr, IfSome, OnOk, IsSome, Ok};
 ghost use Rattle.std.specs.List.{All};
-ghost use Rattle.dg_graph.specs.Composition.{Delta, Composes};
+ghost use Rattle.dg_graph.specs.Composition.{Delta};
 ghost use Rattle.dg_plan.specs.declared.edge.Edge.{Edge};
 ghost use Rattle.dg_fold.specs.Steps.{paired, steps_in};
 ghost use Rattle.dg_fold.specs.declared.along.Stepped.{Stepped};
 ghost use Rattle.dg_fold.specs.declared.fault.FoldFault.TheVariants as fault;
 ghost use Rattle.dg_fold.specs.Trees.{LeadsToTarget, Grow, all_edges};
-ghost use Rattle.dg_fold.specs.TreeSteps.{IsIn, AreIn, AreReached, AreLed, FailsAt, EnterNone, Reached, node_at, IsKnown, IsOneOf};
+ghost use Rattle.dg_fold.specs.TreeSteps.{IsAmongSteps, AreIn, IsReachedNode, AreReached, AreLed, FailsAt, EnterNone, known_node_at, IsNodeKnown, IsOneOf};
 ghost use Rattle.dg_fold.specs.declared.tree.Branch.{Branch};
 ghost use Rattle.dg_fold.specs.Parts.{beside};
 ghost use Rattle.dg_fold.specs.Ends.{AreLedUntil, FailsIn, lasts_in};
@@ -18,6 +18,7 @@ ghost use Rattle.dg_history.specs.declared.node.NodeId.TheVariants.{Root};
 use crate::along::{Known, Stepped, go_along, is_same};
 use crate::ends::last_delta;
 use crate::fault::FoldFault;
+use crate::net::joined;
 use crate::part::Part;
 use crate::stepping::stepped;
 use dg_delta::Delta;
@@ -55,9 +56,9 @@ fn edges_of(alloc: Global, branches: &[Branch]) -> Result<Vec<Edge>, AllocError>
 
 /// The offset of a node among those that are known.
 fn place_of(known: &[Known], node: NodeId) -> Option<usize>
-    ensures found { IsKnown node known.now → IsSome result }
+    ensures found { IsNodeKnown node known.now → IsSome result }
     ensures within { IfSome result (λ i. i < length known.now) }
-    ensures node { IfSome result (λ i. node_at known.now i ≡ node) }
+    ensures node { IfSome result (λ i. known_node_at known.now i ≡ node) }
 {
     for (i, entry) in known.iter().enumerate() {
         if is_same(entry.node, node) {
@@ -67,11 +68,39 @@ fn place_of(known: &[Known], node: NodeId) -> Option<usize>
     None
 }
 
-// The same delta once more.
-fn copied(alloc: Global, delta: &Delta) -> Result<Delta, AllocError>
-    ensures { IfOk result (λ d. Composes d (delta.now ∷ [])) }
+// What is known of the node, which is among these.
+fn known_among(known: &[Known], node: NodeId) -> &Known
+    requires { IsNodeKnown node known.now }
+    ensures node { result.now.node ≡ node }
+    ensures reached { (all : List Stepped) → AreReached all known.entry.now → IsReachedNode all result.now }
 {
-    delta.compose(&Delta::new(alloc))
+    match place_of(known, node) {
+        Some(i) => &known[i],
+        None => unreachable!(),
+    }
+}
+
+// What is known of the node, which is a node on the way or a target.
+fn known_at<'a>(known: &'a [Known], ends: &'a [Known], node: NodeId) -> &'a Known
+    requires { IsNodeKnown node known.now ⊎ IsNodeKnown node ends.now }
+    ensures node { result.now.node ≡ node }
+    ensures reached { (all : List Stepped) → AreReached all known.entry.now → AreReached all ends.entry.now → IsReachedNode all result.now }
+{
+    match place_of(known, node) {
+        Some(i) => &known[i],
+        None => known_among(ends, node),
+    }
+}
+
+// The same once more.
+fn copied(known: &Known) -> Result<Known, AllocError>
+    ensures { IfOk result (λ k. k ≡ known.now) }
+{
+    Ok(Known {
+        node: known.node,
+        begun: known.begun,
+        delta: known.delta.copy()?,
+    })
 }
 
 // The nodes at which branches begin.
@@ -85,36 +114,40 @@ fn beginnings(alloc: Global, branches: &[Branch]) -> Result<Vec<NodeId>, AllocEr
     Ok(nodes)
 }
 
-// What leads to the target of a branch, whose steps these are.
-fn led(
-    alloc: Global,
-    known: &mut Vec<Known>,
-    branch: &Branch,
-    own: &[Stepped],
-    wanted: &[NodeId],
-) -> Result<Lead, FoldFault>
-    requires edges { map (λ (s : Stepped). s.edge) own.now ≡ branch.now.edges.items }
-    requires walk { LeadsToTarget branch.now }
-    requires begins { IsKnown branch.now.from known.old.items }
-    ensures kept { OnOk result ((n : NodeId) → IsKnown n known.old.items → IsKnown n known.new.items) }
-    ensures noted { OnOk result ((s : Stepped) → IsIn s own.now → IsOneOf s.edge.to wanted.now → IsKnown s.edge.to known.new.items) }
-    ensures known { OnOk result ((all : List Stepped) → EnterNone all (Root ∷ []) → AreIn own.now all → AreReached all known.old.items → AreReached all known.new.items) }
-    ensures lead { IfOk result (λ d. (all : List Stepped) → EnterNone all (Root ∷ []) → AreIn own.now all → AreReached all known.old.items → Reached all branch.now.to d.begun d.delta) }
-    ensures err { IfErr result (λ f. f ≡ fault.Memory) }
-{
-    let Some(from) = place_of(known.as_slice(), branch.from) else {
-        unreachable!()
-    };
-    let at = go_along(alloc, known, from, own, wanted)?;
-    let end = &known[at];
-    let delta = copied(alloc, &end.delta)?;
-    Ok(Lead {
-        begun: end.begun,
-        delta,
-    })
+// What is known behind a branch: of the nodes on its way at which branches begin, and of its target.
+#[derive(Drop)]
+struct Gone {
+    stops: Vec<Known>,
+    end: Known,
 }
 
-// For each branch what leads to its target.
+// Goes along a branch, whose steps these are, from the known node where it begins.
+fn led(
+    alloc: Global,
+    start: &Known,
+    branch: &Branch,
+    own: Vec<Stepped>,
+    wanted: &[NodeId],
+) -> Result<Gone, AllocError>
+    requires edges { map (λ (s : Stepped). s.edge) own.items ≡ branch.now.edges.items }
+    requires walk { LeadsToTarget branch.now }
+    requires begins { start.now.node ≡ branch.now.from }
+    ensures target { IfOk result (λ g. g.end.node ≡ branch.now.to) }
+    ensures noted { IfOk result (λ g. (s : Stepped) → IsAmongSteps s own.items → IsOneOf s.edge.to wanted.now → IsNodeKnown s.edge.to g.stops.items ⊎ (s.edge.to ≡ g.end.node)) }
+    ensures reached { IfOk result (λ g. (all : List Stepped) → EnterNone all (Root ∷ []) → AreIn own.items all → IsReachedNode all start.now → AreReached all g.stops.items × IsReachedNode all g.end) }
+{
+    let mut stops = go_along(alloc, start, own, wanted)?;
+    match stops.pop() {
+        Some(end) => Ok(Gone { stops, end }),
+        None => {
+            let end = copied(start)?;
+            Ok(Gone { stops, end })
+        }
+    }
+}
+
+// For each branch what leads to its target. What is known of a node is held at one place, from which later branches
+// go on: it is copied only where a branch has no step.
 fn compose_paths<R: Threads>(
     rt: &R,
     alloc: Global,
@@ -122,7 +155,7 @@ fn compose_paths<R: Threads>(
     branches: &[Branch],
     parts: &[Part],
     recent: &[Event],
-) -> Result<Vec<Lead>, FoldFault>
+) -> Result<Vec<Known>, FoldFault>
     requires lead { All LeadsToTarget branches.now }
     requires grow { Grow [] branches.now }
     requires on { All (λ (e : Edge). e.to ≢ Root) (all_edges branches.now) }
@@ -132,7 +165,7 @@ fn compose_paths<R: Threads>(
 {
     let edges = edges_of(alloc, branches)?;
     let wanted = beginnings(alloc, branches)?;
-    let steps = match stepped(rt, alloc, names, &edges, parts, recent) {
+    let mut rest = match stepped(rt, alloc, names, &edges, parts, recent) {
         Ok(steps) => steps,
         Err(fault) => return Err(fault),
     };
@@ -142,17 +175,16 @@ fn compose_paths<R: Threads>(
         begun: NodeId::Root,
         delta: Delta::new(alloc),
     })?;
-    let mut leads = Vec::new(alloc);
-    let mut rest = steps.as_slice();
+    let mut ends = Vec::new(alloc);
     for branch in branches {
-        let (own, more) = rest.split_at(branch.edges.len());
-        match led(alloc, &mut known, branch, own, &wanted) {
-            Ok(lead) => leads.push(lead)?,
-            Err(fault) => return Err(fault),
-        }
+        let more = rest.split_off(branch.edges.len())?;
+        let start = known_at(&known, &ends, branch.from);
+        let Gone { mut stops, end } = led(alloc, start, branch, rest, &wanted)?;
+        known.append(&mut stops)?;
+        ends.push(end)?;
         rest = more;
     }
-    Ok(leads)
+    Ok(ends)
 }
 
 /// For each branch of a tree, in order, the composition along the tree's path from the root to the branch's
@@ -181,18 +213,17 @@ pub fn compose_tree<R: Threads>(
         Ok(firsts) => firsts,
         Err(fault) => return Err(fault),
     };
-    let mut leads = Vec::new(alloc);
-    for i in 0..branches.len() {
+    let mut leads = Vec::with_capacity(alloc, branches.len())?;
+    let mut i = 0;
+    for first in firsts {
         let last = match last_delta(rt, alloc, names, branches[i].to, times[i], parts, recent) {
             Ok(last) => last,
             Err(fault) => return Err(fault),
         };
-        let first = &firsts[i];
-        let delta = first.delta.compose(&last)?;
-        leads.push(Lead {
-            begun: first.begun,
-            delta,
-        })?;
+        let Known { begun, delta, .. } = first;
+        let delta = joined(delta, last)?;
+        leads.push(Lead { begun, delta })?;
+        i += 1;
     }
     Ok(leads)
 }

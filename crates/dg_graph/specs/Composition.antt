@@ -49,16 +49,16 @@ abbrev pub says : Delta → Element → Says
 says d x = if has d.plus x then In else (if has d.minus x then Out else As_it_was)
 
 -- a later word decides, unless it leaves the element as it was
-abbrev pub and_then : Says → Says → Says
-and_then first In = In
-and_then first Out = Out
-and_then first As_it_was = first
+abbrev pub then_says : Says → Says → Says
+then_says first In = In
+then_says first Out = Out
+then_says first As_it_was = first
 
 -- What a list of deltas, one after another, says of an element: the word of the last that names it.
 -- The empty list names nothing.
 abbrev pub composition : List Delta → Element → Says
 composition [] x = As_it_was
-composition (d ∷ later) x = and_then (says d x) (composition later x)
+composition (d ∷ later) x = then_says (says d x) (composition later x)
 
 -- the delta is the composition of the list
 abbrev pub Composes : Delta → List Delta → Type 0

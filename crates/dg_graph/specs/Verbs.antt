@@ -34,14 +34,14 @@ one a make [] = None
 one a make (x ∷ rest) = option_and_then (λ v. none_more (make v) rest) (a x)
 
 -- two words, one after the other
-abbrev pub two : {A B C : Type 0} → (List ℕ → Option A) → (List ℕ → Option B) → (A → B → C) → List (List ℕ) → Option C
-two a b make [] = None
-two a b make (x ∷ rest) = option_and_then (λ v. one b (make v) rest) (a x)
+abbrev pub two_words : {A B C : Type 0} → (List ℕ → Option A) → (List ℕ → Option B) → (A → B → C) → List (List ℕ) → Option C
+two_words a b make [] = None
+two_words a b make (x ∷ rest) = option_and_then (λ v. one b (make v) rest) (a x)
 
 -- three words, one after another
 abbrev pub three : {A B C D : Type 0} → (List ℕ → Option A) → (List ℕ → Option B) → (List ℕ → Option C) → (A → B → C → D) → List (List ℕ) → Option D
 three a b c make [] = None
-three a b c make (x ∷ rest) = option_and_then (λ v. two b c (make v) rest) (a x)
+three a b c make (x ∷ rest) = option_and_then (λ v. two_words b c (make v) rest) (a x)
 
 -- four words, one after another
 abbrev pub four_words : {A B C D E : Type 0} → (List ℕ → Option A) → (List ℕ → Option B) → (List ℕ → Option C) → (List ℕ → Option D) → (A → B → C → D → E) → List (List ℕ) → Option E

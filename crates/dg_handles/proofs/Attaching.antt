@@ -9,7 +9,7 @@ use Rattle.dg_graph.specs.declared.element.Columns.{Columns}
 use Rattle.dg_graph.specs.declared.element.Element.{Element}
 use Rattle.dg_graph.specs.Elements.{shown}
 use Rattle.dg_handles.specs.Attached.{AreAttached, IsAttached, NoneRestsOn, graph_led, numbers_of, resting}
-use Rattle.dg_handles.specs.Handles.{BeginsOn, HandlesState, Holds, IsBaseFor, IsTied, RestsOn, at_slot, graphs_at, held_by, members_at, numbered, overlays_on, slot_of}
+use Rattle.dg_handles.specs.Handles.{BeginsOn, HandlesState, SlotHolds, IsBaseHandle, IsTied, RestsOn, at_slot, slot_graphs, held_by, members_at, numbered, overlays_on, slot_of}
 use Rattle.dg_handles.proofs.Beside.{Entries, entry_append, of_some, slot_append, slot_listed, zip-append, zip-each, zip-map, zip-of_map}
 use Rattle.dg_handles.proofs.Listed.{distinct-append, listed-append, listed_push, many_listed, map_same}
 use Rattle.dg_handles.proofs.Tying.{Stays, base_slot, held_at, holds_still, live_slot, many, rests_among, rests_still, some_by, some_nowhere}
@@ -20,7 +20,7 @@ use Rattle.dg_pool.specs.declared.slots.Slot.{Slot}
 use Rattle.dg_pool.specs.Graphs.{PoolState, SameGraphs, SlotGraph, graph_now, is_listed, slot_graph}
 use Rattle.dg_pool.specs.Slots.{AllLive, BaseFits, IsBaseWith, base_members}
 use Rattle.dg_pool.specs.Sweeps.{members_as}
-use Rattle.dg_retrieval.specs.Beginnings.{base_of, begun_with, led_to}
+use Rattle.dg_retrieval.specs.Beginnings.{base_handle, begun_with, led_to}
 use Rattle.dg_retrieval.specs.declared.graph_lead.Beginning.{Beginning}
 use Rattle.dg_retrieval.specs.declared.graph_lead.Beginning.TheVariants as begins
 use Rattle.dg_retrieval.specs.declared.graph_lead.GraphLead.{GraphLead}
@@ -54,7 +54,7 @@ led_graph Q led f (t ∷ slots) (l ∷ leads) all same s in' = at (or_cases (eqb
     at (inl e) next = (l, all.0, ap f (sym (eqb-true t s e)) ∙ ap front same)
     at (inr e) next = next e
 
-members_of : (p : PoolState) (slots : List ℕ) (graphs : List SlotGraph) → map (slot_graph p) slots ≡ map (λ g. Some g) graphs → graphs_at p slots ≡ map (λ (g : SlotGraph). g.members) graphs
+members_of : (p : PoolState) (slots : List ℕ) (graphs : List SlotGraph) → map (slot_graph p) slots ≡ map (λ g. Some g) graphs → slot_graphs p slots ≡ map (λ (g : SlotGraph). g.members) graphs
 members_of p [] [] same = refl
 members_of p [] (g ∷ graphs) same = cc
 members_of p (s ∷ slots) [] same = cc
@@ -62,12 +62,12 @@ members_of p (s ∷ slots) (g ∷ graphs) same = let next = members_of p slots g
 
 -- the members of the graphs to which leads come
 pub members_led : (h : HandlesState) (old new : PoolState) (cols : Columns) (slots : List ℕ) (leads : List GraphLead) → map (slot_graph new) slots ≡ map (λ g. Some g) (map (graph_led h old cols) leads)
-    → graphs_at new slots ≡ map (led_to (graph_now old) (held_by h.table (graphs_at old h.slots)) cols) leads
+    → slot_graphs new slots ≡ map (led_to (graph_now old) (held_by h.table (slot_graphs old h.slots)) cols) leads
 members_led h old new cols slots leads same = members_of new slots (map (graph_led h old cols) leads) same ∙ twice leads
   where
-    twice : (ls : List GraphLead) → map (λ (g : SlotGraph). g.members) (map (graph_led h old cols) ls) ≡ map (led_to (graph_now old) (held_by h.table (graphs_at old h.slots)) cols) ls
+    twice : (ls : List GraphLead) → map (λ (g : SlotGraph). g.members) (map (graph_led h old cols) ls) ≡ map (led_to (graph_now old) (held_by h.table (slot_graphs old h.slots)) cols) ls
     twice [] = refl
-    twice (l ∷ ls) = ap (λ gs. led_to (graph_now old) (held_by h.table (graphs_at old h.slots)) cols l ∷ gs) (twice ls)
+    twice (l ∷ ls) = ap (λ gs. led_to (graph_now old) (held_by h.table (slot_graphs old h.slots)) cols l ∷ gs) (twice ls)
 
 -- ---- slots more
 
@@ -119,7 +119,7 @@ module _ (old new : PoolState) (h : HandlesState) (t : IsTied old h) (slots : Li
   pub others_held : (s : ℕ) → is_listed h.slots s ≡ true → is_listed slots s ≡ false
   others_held s in' = false_from_ne_true (is_listed slots s) (λ e. some_nowhere (slot_graph old s) (a.fresh s e) (live_slot old h t s in'))
 
-  pub held_kept : graphs_at new h.slots ≡ graphs_at old h.slots
+  pub held_kept : slot_graphs new h.slots ≡ slot_graphs old h.slots
   held_kept = map_same (members_at new) (members_at old) h.slots (λ s in'. ap members_as (a.others s (others_held s in')))
 
   live_among : (s : ℕ) → IsSome (slot_graph new s) → is_listed (h.slots ++ slots) s ≡ true
@@ -135,7 +135,7 @@ module _ (old new : PoolState) (h : HandlesState) (t : IsTied old h) (slots : Li
       omega (arith, few, most, length-append h.slots slots, many old h t)
 
   -- what begins on a base may rest on it
-  pub fits : (cols : Columns) (begins : Beginning) → ((handle : ℕ) → base_of begins ≡ Some handle → IsBaseFor handle cols h.table) → BaseFits new (resting h begins) cols
+  pub fits : (cols : Columns) (begins : Beginning) → ((handle : ℕ) → base_handle begins ≡ Some handle → IsBaseHandle handle cols h.table) → BaseFits new (resting h begins) cols
   fits cols begins.Nothing on = tt
   fits cols begins.Now on = tt
   fits cols (begins.Base handle) on =
@@ -144,8 +144,8 @@ module _ (old new : PoolState) (h : HandlesState) (t : IsTied old h) (slots : Li
       subst (λ (o : Option ℕ). BaseFits new (at_slot o) cols) (sym b.1) (subst (IsBaseWith cols) (sym same) b.2)
 
   -- and has the set with which it begins by that base
-  pub begun_at : (cols : Columns) (begins : Beginning) → ((handle : ℕ) → base_of begins ≡ Some handle → IsBaseFor handle cols h.table)
-      → base_members new (resting h begins) ≡ begun_with (graph_now old) (held_by h.table (graphs_at old h.slots)) begins
+  pub begun_at : (cols : Columns) (begins : Beginning) → ((handle : ℕ) → base_handle begins ≡ Some handle → IsBaseHandle handle cols h.table)
+      → base_members new (resting h begins) ≡ begun_with (graph_now old) (held_by h.table (slot_graphs old h.slots)) begins
   begun_at cols begins.Nothing on = refl
   begun_at cols begins.Now on = a.now
   begun_at cols (begins.Base handle) on =
@@ -180,7 +180,7 @@ none_on_new old new h t cols slots leads on a s in' = λ u g b is rests same. at
     apart : (k : ℕ) → is_listed h.slots k ≡ true → k ≡ s → ⊥
     apart k held same = some_nowhere (slot_graph old k) (a.fresh k (ap (is_listed slots) same ∙ in')) (live_slot old h t k held)
 
-    led : (begins : Beginning) → ((handle : ℕ) → base_of begins ≡ Some handle → IsBaseFor handle cols h.table) → (b : Slot) → resting h begins ≡ base.Slot b → b.0 ≡ s → ⊥
+    led : (begins : Beginning) → ((handle : ℕ) → base_handle begins ≡ Some handle → IsBaseHandle handle cols h.table) → (b : Slot) → resting h begins ≡ base.Slot b → b.0 ≡ s → ⊥
     led begins.Nothing on' b rests same = cc
     led begins.Now on' b rests same = cc
     led (begins.Base handle) on' b rests same =
@@ -214,15 +214,15 @@ stays h more slots next handle = record {
 
 module _ (old new : PoolState) (h : HandlesState) (t : IsTied old h) (more : Entries) (slots : List ℕ) (next : ℕ) (graphs : List SlotGraph) (a : AreAttached old new slots graphs) where
   abbrev NowHeld : ℕ × Stands → Option SlotGraph → Type 0
-  NowHeld entry o = Holds (with_more h more slots next) entry.1 o
+  NowHeld entry o = SlotHolds (with_more h more slots next) entry.1 o
 
   first_held : AllZip (λ (entry : ℕ × Stands) (s : ℕ). NowHeld entry (slot_graph new s)) h.table h.slots
   first_held =
-      zip-each (λ (entry : ℕ × Stands) (s : ℕ). Holds h entry.1 (slot_graph old s)) (λ (entry : ℕ × Stands) (s : ℕ). NowHeld entry (slot_graph new s)) h.table h.slots t.held
+      zip-each (λ (entry : ℕ × Stands) (s : ℕ). SlotHolds h entry.1 (slot_graph old s)) (λ (entry : ℕ × Stands) (s : ℕ). NowHeld entry (slot_graph new s)) h.table h.slots t.held
       (λ entry s in' held. subst (NowHeld entry) (sym (a.others s (others_held old new h t slots graphs a s in')))
       (holds_still old h (with_more h more slots next) t entry.1 (slot_graph old s) (λ handle e. stays h more slots next handle) held))
 
-  pub tied_more : AllZip (λ (entry : ℕ × Stands) (g : SlotGraph). Holds (with_more h more slots next) entry.1 (Some g)) more graphs → IsTied new (with_more h more slots next)
+  pub tied_more : AllZip (λ (entry : ℕ × Stands) (g : SlotGraph). SlotHolds (with_more h more slots next) entry.1 (Some g)) more graphs → IsTied new (with_more h more slots next)
   tied_more new_held = record {
     held = zip-append (λ (entry : ℕ × Stands) (s : ℕ). NowHeld entry (slot_graph new s)) h.table more h.slots slots first_held
         (zip-of_map NowHeld (slot_graph new) more slots (subst (AllZip NowHeld more) (sym a.hold) (zip-map NowHeld (λ (g : SlotGraph). Some g) more graphs new_held)));
@@ -233,14 +233,14 @@ module _ (old new : PoolState) (h : HandlesState) (t : IsTied old h) (more : Ent
 -- the graphs to which leads come are as overlays on what they begin with
 pub overlays_held : (p : PoolState) (h k : HandlesState) → IsTied p h → ((handle : ℕ) → Stays h k handle) → (cols : Columns) (next : ℕ) (times : List ℕ) (leads : List GraphLead) → length leads ≡ length times
     → AllByRecursion (BeginsOn h.table cols) leads
-    → AllZip (λ (entry : ℕ × Stands) (g : SlotGraph). Holds k entry.1 (Some g)) (numbered next (overlays_on cols times (map (λ (l : GraphLead). base_of l.begins) leads))) (map (graph_led h p cols) leads)
+    → AllZip (λ (entry : ℕ × Stands) (g : SlotGraph). SlotHolds k entry.1 (Some g)) (numbered next (overlays_on cols times (map (λ (l : GraphLead). base_handle l.begins) leads))) (map (graph_led h p cols) leads)
 overlays_held p h k t stays' cols next [] [] many' on = tt
 overlays_held p h k t stays' cols next [] (l ∷ leads) many' on = absurd (omega (arith, many'))
 overlays_held p h k t stays' cols next (time ∷ times) [] many' on = absurd (omega (arith, many'))
 overlays_held p h k t stays' cols next (time ∷ times) (l ∷ leads) many' on =
-    ((refl, rests_still p h k t cols (base_of l.begins) (resting h l.begins) (λ handle e. stays' handle) (rests l.begins on.0)), overlays_held p h k t stays' cols (next + 1) times leads (omega (arith, many')) on.1)
+    ((refl, rests_still p h k t cols (base_handle l.begins) (resting h l.begins) (λ handle e. stays' handle) (rests l.begins on.0)), overlays_held p h k t stays' cols (next + 1) times leads (omega (arith, many')) on.1)
   where
-    rests : (begins : Beginning) → ((handle : ℕ) → base_of begins ≡ Some handle → IsBaseFor handle cols h.table) → RestsOn h cols (base_of begins) (resting h begins)
+    rests : (begins : Beginning) → ((handle : ℕ) → base_handle begins ≡ Some handle → IsBaseHandle handle cols h.table) → RestsOn h cols (base_handle begins) (resting h begins)
     rests begins.Nothing on' = tt
     rests begins.Now on' = tt
     rests (begins.Base handle) on' = (on' handle refl, refl)

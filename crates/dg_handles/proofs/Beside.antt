@@ -6,7 +6,7 @@ use Rattle.dg_graph.specs.declared.element.Element.{Element}
 use Rattle.dg_handles.specs.Handles.{AreDistinct, graph_among, slot_of}
 use Rattle.dg_handles.proofs.Listed.{listed_at}
 use Rattle.dg_machine.specs.declared.stands.Stands.{Stands}
-use Rattle.dg_machine.specs.MachineState.{dependent_on, entry_at, rests_on}
+use Rattle.dg_machine.specs.MachineState.{dependent_on, stands_at, is_overlay_on}
 use Rattle.dg_pool.specs.Graphs.{is_listed}
 
 abbrev pub Entries : Type 0
@@ -90,12 +90,12 @@ slot_listed handle (entry ∷ table) (slot ∷ slots) s is = at (eqb entry.0 han
 
 -- the slot beside a handle's entry
 pub slot_beside : (P : Stands → ℕ → Type 0) (handle : ℕ) (table : Entries) (slots : List ℕ) → AllZip (λ (entry : ℕ × Stands) (s : ℕ). P entry.1 s) table slots
-    → (e : Stands) → entry_at handle table ≡ Some e → (s : ℕ) × (slot_of handle table slots ≡ Some s) × P e s
+    → (e : Stands) → stands_at handle table ≡ Some e → (s : ℕ) × (slot_of handle table slots ≡ Some s) × P e s
 slot_beside P handle [] slots h e is = cc
 slot_beside P handle (entry ∷ table) [] h e is = absurd h
 slot_beside P handle (entry ∷ table) (slot ∷ slots) h e is = at (eqb entry.0 handle) (slot_beside P handle table slots h.1 e) is
   where
-    at : (b : Bool) → (entry_at handle table ≡ Some e → (s : ℕ) × (slot_of handle table slots ≡ Some s) × P e s) → cond b (Some entry.1) (entry_at handle table) ≡ Some e
+    at : (b : Bool) → (stands_at handle table ≡ Some e → (s : ℕ) × (slot_of handle table slots ≡ Some s) × P e s) → cond b (Some entry.1) (stands_at handle table) ≡ Some e
         → (s : ℕ) × (cond b (Some slot) (slot_of handle table slots) ≡ Some s) × P e s
     at true rest same = (slot, refl, subst (λ (x : Stands). P x slot) (of_some entry.1 e same) h.0)
     at false rest same = rest same
@@ -113,12 +113,12 @@ graph_beside f handle (entry ∷ table) (slot ∷ slots) s is = at (eqb entry.0 
 
 -- ---- more entries
 
-pub entry_append : (handle : ℕ) (table more : Entries) (e : Stands) → entry_at handle table ≡ Some e → entry_at handle (table ++ more) ≡ Some e
+pub entry_append : (handle : ℕ) (table more : Entries) (e : Stands) → stands_at handle table ≡ Some e → stands_at handle (table ++ more) ≡ Some e
 entry_append handle [] more e is = cc
 entry_append handle (entry ∷ table) more e is = at (eqb entry.0 handle) (entry_append handle table more e) is
   where
-    at : (b : Bool) → (entry_at handle table ≡ Some e → entry_at handle (table ++ more) ≡ Some e) → cond b (Some entry.1) (entry_at handle table) ≡ Some e
-        → cond b (Some entry.1) (entry_at handle (table ++ more)) ≡ Some e
+    at : (b : Bool) → (stands_at handle table ≡ Some e → stands_at handle (table ++ more) ≡ Some e) → cond b (Some entry.1) (stands_at handle table) ≡ Some e
+        → cond b (Some entry.1) (stands_at handle (table ++ more)) ≡ Some e
     at true rest same = same
     at false rest same = rest same
 
@@ -134,9 +134,9 @@ slot_append handle (entry ∷ table) more (slot ∷ slots) others s is = at (eqb
 
 -- ---- an entry less
 
-pub entry_remove : (handle : ℕ) (table : Entries) (place : ℕ) → place < length table → (get_or (handles_in table) place 0 ≡ handle → ⊥) → entry_at handle (remove table place) ≡ entry_at handle table
+pub entry_remove : (handle : ℕ) (table : Entries) (place : ℕ) → place < length table → (get_or (handles_in table) place 0 ≡ handle → ⊥) → stands_at handle (remove table place) ≡ stands_at handle table
 entry_remove handle [] place within differ = absurd (omega (arith, within))
-entry_remove handle (entry ∷ table) zero within differ = sym (ap (λ b. cond b (Some entry.1) (entry_at handle table)) (ne_eqb entry.0 handle differ))
+entry_remove handle (entry ∷ table) zero within differ = sym (ap (λ b. cond b (Some entry.1) (stands_at handle table)) (ne_eqb entry.0 handle differ))
 entry_remove handle (entry ∷ table) (suc place) within differ = ap (λ o. cond (eqb entry.0 handle) (Some entry.1) o) (entry_remove handle table place (omega (arith, within)) differ)
 
 pub slot_remove : (handle : ℕ) (table : Entries) (slots : List ℕ) (place : ℕ) → length slots ≡ length table → place < length table → (get_or (handles_in table) place 0 ≡ handle → ⊥)
@@ -170,14 +170,14 @@ slot_apart handle (entry ∷ table) (slot ∷ slots) (suc place) apart many with
 
 -- no entry rests on a handle on which none depends
 pub none_dependent : (R : ℕ × Stands → ℕ → Type 0) (handle : ℕ) (table : Entries) (slots : List ℕ) → dependent_on handle table ≡ None → AllZip R table slots
-    → AllZip (λ (entry : ℕ × Stands) (s : ℕ). R entry s × (rests_on handle entry.1 ≡ false)) table slots
+    → AllZip (λ (entry : ℕ × Stands) (s : ℕ). R entry s × (is_overlay_on handle entry.1 ≡ false)) table slots
 none_dependent R handle [] [] none h = tt
 none_dependent R handle [] (s ∷ slots) none h = absurd h
 none_dependent R handle (entry ∷ table) [] none h = absurd h
-none_dependent R handle (entry ∷ table) (s ∷ slots) none h = at (rests_on handle entry.1) refl (λ e. none_dependent R handle table slots e h.1) none
+none_dependent R handle (entry ∷ table) (s ∷ slots) none h = at (is_overlay_on handle entry.1) refl (λ e. none_dependent R handle table slots e h.1) none
   where
-    at : (b : Bool) → rests_on handle entry.1 ≡ b → (dependent_on handle table ≡ None → AllZip (λ (x : ℕ × Stands) (t : ℕ). R x t × (rests_on handle x.1 ≡ false)) table slots)
+    at : (b : Bool) → is_overlay_on handle entry.1 ≡ b → (dependent_on handle table ≡ None → AllZip (λ (x : ℕ × Stands) (t : ℕ). R x t × (is_overlay_on handle x.1 ≡ false)) table slots)
         → cond b (Some entry.0) (dependent_on handle table) ≡ None
-        → (R entry s × (rests_on handle entry.1 ≡ false)) × AllZip (λ (x : ℕ × Stands) (t : ℕ). R x t × (rests_on handle x.1 ≡ false)) table slots
+        → (R entry s × (is_overlay_on handle entry.1 ≡ false)) × AllZip (λ (x : ℕ × Stands) (t : ℕ). R x t × (is_overlay_on handle x.1 ≡ false)) table slots
     at true is rest e = cc
     at false is rest e = ((h.0, is), rest e)

@@ -10,7 +10,7 @@ use Rattle.dg_handles.proofs.Beside.{Entries, handles_in}
 use Rattle.dg_machine.specs.declared.stands.Stands.{Stands}
 use Rattle.dg_machine.specs.declared.stands.Stands.TheVariants.{Overlay}
 use Rattle.dg_pool.specs.declared.slots.Slot.{Slot}
-use Rattle.dg_retrieval.specs.Beginnings.{base_of}
+use Rattle.dg_retrieval.specs.Beginnings.{base_handle}
 use Rattle.dg_retrieval.specs.declared.graph_lead.GraphLead.{GraphLead}
 
 -- ---- overlays, one more
@@ -37,26 +37,26 @@ abbrev pub entry_of : Entry → ℕ × Stands
 entry_of e = (e.handle, e.stands)
 
 abbrev begun_on : GraphLead → Option ℕ
-begun_on l = base_of l.begins
+begun_on l = base_handle l.begins
 
 pub table_more : (next : ℕ) (cols : Columns) (times : List ℕ) (leads : List GraphLead) (lead : GraphLead) (first now after : List Entry) (e : Entry) (i : ℕ) → i < length times → length leads ≡ length times
-    → lead ≡ get_or leads i lead → entry_of e ≡ (next + i, Overlay (get_or times i 0) cols (base_of lead.begins))
+    → lead ≡ get_or leads i lead → entry_of e ≡ (next + i, Overlay (get_or times i 0) cols (base_handle lead.begins))
     → after ≡ now ++ e ∷ [] → map entry_of now ≡ map entry_of first ++ numbered next (overlays_on cols (take i times) (map begun_on (take i leads)))
     → map entry_of after ≡ map entry_of first ++ numbered next (overlays_on cols (take (i + 1) times) (map begun_on (take (i + 1) leads)))
 table_more next cols times leads lead first now after e i within many lead_is is added so_far =
-    let x : Stands = Overlay (get_or times i 0) cols (base_of lead.begins) in
+    let x : Stands = Overlay (get_or times i 0) cols (base_handle lead.begins) in
     let ons : List (Option ℕ) = map begun_on (take i leads) in
     let done : List Stands = overlays_on cols (take i times) ons in
     let taken : length (take i times) ≡ i = length-take-le i times (omega (arith, within)) in
     let beside : length ons ≡ length (take i times) = length-map (take i leads) begun_on ∙ length-take-le i leads (omega (arith, within, many)) ∙ sym taken in
     let len : length done ≡ i = overlays_length cols (take i times) ons beside ∙ taken in
-    let leads_more : map begun_on (take (i + 1) leads) ≡ ons ++ base_of lead.begins ∷ [] =
+    let leads_more : map begun_on (take (i + 1) leads) ≡ ons ++ base_handle lead.begins ∷ [] =
     map_more begun_on leads i lead (omega (arith, within, many)) ∙ ap (λ (l : GraphLead). ons ++ begun_on l ∷ []) (sym lead_is) in
     ap (map entry_of) added ∙ map_push entry_of now e
     ∙ (λ k. so_far k ++ is k ∷ [])
     ∙ append_assoc (map entry_of first) (numbered next done) ((next + i, x) ∷ [])
     ∙ ap (λ n. map entry_of first ++ (numbered next done ++ (next + n, x) ∷ [])) (sym len)
-    ∙ ap (λ l. map entry_of first ++ l) (sym (numbered_push next done x) ∙ ap (numbered next) (sym (overlays_push cols (take i times) ons (get_or times i 0) (base_of lead.begins) beside)
+    ∙ ap (λ l. map entry_of first ++ l) (sym (numbered_push next done x) ∙ ap (numbered next) (sym (overlays_push cols (take i times) ons (get_or times i 0) (base_handle lead.begins) beside)
     ∙ (λ k. overlays_on cols (sym (take_more times i 0 within) k) (sym leads_more k))))
 
 abbrev pub number_of : Entry → ℕ

@@ -6,14 +6,14 @@ use Rattle.std.proofs.lemmas.List.{drop_more, get_or-map}
 use Rattle.std.proofs.Math.ListN.{length-map, take-append-drop}
 use Rattle.dg_graph.specs.declared.element.Element.{Element}
 use Rattle.dg_handles.specs.declared.entries.Entry.{Entry}
-use Rattle.dg_handles.specs.Handles.{AreDistinct, HandlesState, Holds, IsTied, graph_among, graphs_at, graphs_without, members_at, slot_of}
+use Rattle.dg_handles.specs.Handles.{AreDistinct, HandlesState, SlotHolds, IsTied, graph_among, slot_graphs, graphs_without, members_at, slot_of}
 use Rattle.dg_handles.specs.Places.{IsFirst, NoneIs}
 use Rattle.dg_handles.proofs.Beside.{Entries, entry_remove, handles_in, none_dependent, slot_remove, zip-each, zip-remove}
 use Rattle.dg_handles.proofs.Entering.{entry_of, number_of, numbers_are}
 use Rattle.dg_handles.proofs.Listed.{distinct_middle, listed_past, map_same}
 use Rattle.dg_handles.proofs.Tying.{Stays, holds_still, many, some_nowhere}
 use Rattle.dg_machine.specs.declared.stands.Stands.{Stands}
-use Rattle.dg_machine.specs.MachineState.{dependent_on, entry_at, rests_on, without_handle}
+use Rattle.dg_machine.specs.MachineState.{dependent_on, stands_at, is_overlay_on, without_handle}
 use Rattle.dg_pool.specs.Graphs.{PoolState, SlotGraph, is_listed, slot_graph}
 use Rattle.dg_pool.specs.Sweeps.{members_as}
 
@@ -27,7 +27,7 @@ map-remove f (x ∷ xs) (suc i) = ap (λ l. f x ∷ l) (map-remove f xs i)
 
 -- what a place says of the table, of the slots, and of graphs that are as many
 pub record Found (handle : ℕ) (table : Entries) (slots : List ℕ) (place : ℕ) : Type 0 where
-  pub entry : (d : ℕ × Stands) → entry_at handle table ≡ Some (get_or table place d).1
+  pub entry : (d : ℕ × Stands) → stands_at handle table ≡ Some (get_or table place d).1
   pub slot : slot_of handle table slots ≡ Some (get_or slots place 0)
   pub without : without_handle handle table ≡ remove table place
   pub graphs : (graphs : List (List Element)) → length graphs ≡ length table → graphs_without handle table graphs ≡ remove graphs place
@@ -36,7 +36,7 @@ pub found : (handle : ℕ) (table : Entries) (slots : List ℕ) (place : ℕ) �
 found handle [] slots place same f = absurd (omega (arith, f.within))
 found handle (e ∷ table) [] place same f = absurd (omega (arith, same))
 found handle (e ∷ table) (s ∷ slots) zero same f = record {
-  entry = λ d. ap (λ b. cond b (Some e.1) (entry_at handle table)) here;
+  entry = λ d. ap (λ b. cond b (Some e.1) (stands_at handle table)) here;
   slot = ap (λ b. cond b (Some s) (slot_of handle table slots)) here;
   without = ap (λ b. cond b table (e ∷ without_handle handle table)) here;
   graphs = at;
@@ -51,7 +51,7 @@ found handle (e ∷ table) (s ∷ slots) zero same f = record {
 found handle (e ∷ table) (s ∷ slots) (suc place) same f =
     let next = found handle table slots place (omega (arith, same)) (record { within = omega (arith, f.within); here = f.here; before = λ k lt is. f.before (suc k) (omega (arith, lt)) is }) in
     record {
-      entry = λ d. ap (λ b. cond b (Some e.1) (entry_at handle table)) differ ∙ next.entry d;
+      entry = λ d. ap (λ b. cond b (Some e.1) (stands_at handle table)) differ ∙ next.entry d;
       slot = ap (λ b. cond b (Some s) (slot_of handle table slots)) differ ∙ next.slot;
       without = ap (λ b. cond b table (e ∷ without_handle handle table)) differ ∙ ap (λ l. e ∷ l) next.without;
       graphs = at next.graphs;
@@ -68,7 +68,7 @@ found handle (e ∷ table) (s ∷ slots) (suc place) same f =
 -- ---- where it is not
 
 pub record Missed (handle : ℕ) (table : Entries) (slots : List ℕ) : Type 0 where
-  pub entry : entry_at handle table ≡ None
+  pub entry : stands_at handle table ≡ None
   pub slot : slot_of handle table slots ≡ None
   pub without : without_handle handle table ≡ table
   pub graph : (graphs : List (List Element)) → length graphs ≡ length table → graph_among handle table graphs ≡ None
@@ -84,7 +84,7 @@ missed handle (e ∷ table) [] same none = absurd (omega (arith, same))
 missed handle (e ∷ table) (s ∷ slots) same none =
     let next = missed handle table slots (omega (arith, same)) (λ k lt is. none (suc k) (omega (arith, lt)) is) in
     record {
-      entry = ap (λ b. cond b (Some e.1) (entry_at handle table)) differ ∙ next.entry;
+      entry = ap (λ b. cond b (Some e.1) (stands_at handle table)) differ ∙ next.entry;
       slot = ap (λ b. cond b (Some s) (slot_of handle table slots)) differ ∙ next.slot;
       without = ap (λ b. cond b table (e ∷ without_handle handle table)) differ ∙ ap (λ l. e ∷ l) next.without;
       graph = at_graph next.graph;
@@ -120,7 +120,7 @@ module _ (handle : ℕ) (s : HandlesState) (entries seen : List Entry) (next : �
   pub as_many : length s.slots ≡ length s.table
   as_many = subst (λ (v : HandlesState). length v.slots ≡ length v.table) is_state alike
 
-  pub graphs_many : (p : PoolState) → length (graphs_at p s.slots) ≡ length s.table
+  pub graphs_many : (p : PoolState) → length (slot_graphs p s.slots) ≡ length s.table
   graphs_many p = length-map s.slots (members_at p) ∙ as_many
 
   pub missed_in : NoneIs handle (map (λ (e : Entry). e.handle) seen) → Missed handle s.table s.slots
@@ -156,7 +156,7 @@ module _ (handle : ℕ) (s : HandlesState) (entries seen : List Entry) (next : �
       pub slot_in : slot_of handle s.table s.slots ≡ Some e.slot.0
       slot_in = found_in.slot ∙ ap (λ n. Some n) number_in
 
-      pub entry_in : entry_at handle s.table ≡ Some e.stands
+      pub entry_in : stands_at handle s.table ≡ Some e.stands
       entry_in =
           let at : get_or s.table place (entry_of e) ≡ entry_of e = subst (λ (v : HandlesState). get_or v.table place (entry_of e) ≡ entry_of e) is_state (get_or-map entry_of entries place e (entry_of e) inside ∙ ap entry_of (sym e_is)) in
           found_in.entry (entry_of e) ∙ ap (λ (x : ℕ × Stands). Some x.1) at
@@ -187,9 +187,9 @@ module _ (old new : PoolState) (h : HandlesState) (t : IsTied old h) (handle pla
   differs : (s : ℕ) → is_listed left s ≡ true → s ≡ ended → ⊥
   differs s in' same = both_ways (is_listed left ended) middle.0 (ap (is_listed left) (sym same) ∙ in')
 
-  stays_by : (stands : Stands) → rests_on handle stands ≡ false → (n : ℕ) → rests_on n stands ≡ true → Stays h without_place n
+  stays_by : (stands : Stands) → is_overlay_on handle stands ≡ false → (n : ℕ) → is_overlay_on n stands ≡ true → Stays h without_place n
   stays_by stands free n on =
-      let other : get_or (handles_in h.table) place 0 ≡ n → ⊥ = λ same. both_ways (rests_on handle stands) free (ap (λ k. rests_on k stands) (sym here ∙ same) ∙ on) in
+      let other : get_or (handles_in h.table) place 0 ≡ n → ⊥ = λ same. both_ways (is_overlay_on handle stands) free (ap (λ k. is_overlay_on k stands) (sym here ∙ same) ∙ on) in
       record {
         entry = λ e is. entry_remove n h.table place within other ∙ is;
         slot = λ s is. slot_remove n h.table h.slots place (many old h t) within other ∙ is;
@@ -197,15 +197,15 @@ module _ (old new : PoolState) (h : HandlesState) (t : IsTied old h) (handle pla
 
   pub tied_removed : IsTied new without_place
   tied_removed = record {
-    held = zip-each (λ (entry : ℕ × Stands) (s : ℕ). Holds h entry.1 (slot_graph old s) × (rests_on handle entry.1 ≡ false)) (λ (entry : ℕ × Stands) (s : ℕ). Holds without_place entry.1 (slot_graph new s))
+    held = zip-each (λ (entry : ℕ × Stands) (s : ℕ). SlotHolds h entry.1 (slot_graph old s) × (is_overlay_on handle entry.1 ≡ false)) (λ (entry : ℕ × Stands) (s : ℕ). SlotHolds without_place entry.1 (slot_graph new s))
         (remove h.table place) left
-        (zip-remove (λ (entry : ℕ × Stands) (s : ℕ). Holds h entry.1 (slot_graph old s) × (rests_on handle entry.1 ≡ false)) h.table h.slots place
-        (none_dependent (λ (entry : ℕ × Stands) (s : ℕ). Holds h entry.1 (slot_graph old s)) handle h.table h.slots none t.held))
-        (λ entry s in' r. subst (Holds without_place entry.1) (sym (others s (differs s in'))) (holds_still old h without_place t entry.1 (slot_graph old s) (stays_by entry.1 r.1) r.0));
+        (zip-remove (λ (entry : ℕ × Stands) (s : ℕ). SlotHolds h entry.1 (slot_graph old s) × (is_overlay_on handle entry.1 ≡ false)) h.table h.slots place
+        (none_dependent (λ (entry : ℕ × Stands) (s : ℕ). SlotHolds h entry.1 (slot_graph old s)) handle h.table h.slots none t.held))
+        (λ entry s in' r. subst (SlotHolds without_place entry.1) (sym (others s (differs s in'))) (holds_still old h without_place t entry.1 (slot_graph old s) (stays_by entry.1 r.1) r.0));
     apart = middle.1;
     only = λ s live. let d : s ≡ ended → ⊥ = λ same. some_nowhere (slot_graph new s) (ap (slot_graph new) same ∙ gone) live in
         sym (listed_past (take place h.slots) ended (drop (suc place) h.slots) s d) ∙ ap (λ l. is_listed l s) (sym whole) ∙ t.only s (subst (λ (o : Option SlotGraph). IsSome o) (others s d) live);
   }
 
-  pub graphs_removed : graphs_at new left ≡ remove (graphs_at old h.slots) place
+  pub graphs_removed : slot_graphs new left ≡ remove (slot_graphs old h.slots) place
   graphs_removed = map_same (members_at new) (members_at old) left (λ s in'. ap members_as (others s (differs s in'))) ∙ map-remove (members_at old) h.slots place

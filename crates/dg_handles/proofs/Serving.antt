@@ -11,15 +11,15 @@ use Rattle.dg_handles.proofs.Entering.{entry_of, numbers_are}
 use Rattle.dg_history.specs.declared.node.NodeId.{NodeId}
 use Rattle.dg_machine.specs.declared.stands.Stands.{Stands}
 use Rattle.dg_machine.specs.declared.stands.Stands.TheVariants.{Overlay, Base}
-use Rattle.dg_machine.specs.MachineState.{entry_at}
+use Rattle.dg_machine.specs.MachineState.{stands_at}
 use Rattle.dg_machine.specs.Planning.{bases_in, includes, usable}
 
 -- a live handle has none of the numbers below
-entry_low : (low high handle : ℕ) (table : Entries) (e : Stands) → RiseWithin low high (handles_in table) → entry_at handle table ≡ Some e → low ≤ handle
+entry_low : (low high handle : ℕ) (table : Entries) (e : Stands) → RiseWithin low high (handles_in table) → stands_at handle table ≡ Some e → low ≤ handle
 entry_low low high handle [] e rises is = cc
 entry_low low high handle (entry ∷ table) e rises is = at (eqb entry.0 handle) refl (entry_low (entry.0 + 1) high handle table e rises.1) is
   where
-    at : (b : Bool) → eqb entry.0 handle ≡ b → (entry_at handle table ≡ Some e → entry.0 + 1 ≤ handle) → cond b (Some entry.1) (entry_at handle table) ≡ Some e → low ≤ handle
+    at : (b : Bool) → eqb entry.0 handle ≡ b → (stands_at handle table ≡ Some e → entry.0 + 1 ≤ handle) → cond b (Some entry.1) (stands_at handle table) ≡ Some e → low ≤ handle
     at true same rest found = let it = eqb-true entry.0 handle same in omega (arith, it, rises.0)
     at false same rest found = let above = rest found in omega (arith, above, rises.0)
 
@@ -29,7 +29,7 @@ module _ (cols : Columns) (high : ℕ) (entry : ℕ × Stands) (table : Entries)
   behind b holds =
       let low = entry_low (entry.0 + 1) high b.0 table (Base b.1 holds.0) rises holds.1 in
       let differ : entry.0 ≡ b.0 → ⊥ = λ same. absurd (omega (arith, low, same)) in
-      (holds.0, ap (λ t. cond t (Some entry.1) (entry_at b.0 table)) (ne_eqb entry.0 b.0 differ) ∙ holds.1, holds.2)
+      (holds.0, ap (λ t. cond t (Some entry.1) (stands_at b.0 table)) (ne_eqb entry.0 b.0 differ) ∙ holds.1, holds.2)
 
   all_behind : (bases : List (ℕ × NodeId)) → AllByRecursion (HoldsNode table cols) bases → AllByRecursion (HoldsNode (entry ∷ table) cols) bases
   all_behind [] all = tt
@@ -43,7 +43,7 @@ bases_held cols low high ((n, Base node all) ∷ table) rises =
   where
     at : (b : Bool) → includes all cols ≡ b → AllByRecursion (HoldsNode ((n, Base node all) ∷ table) cols) (bases_in cols table)
         → AllByRecursion (HoldsNode ((n, Base node all) ∷ table) cols) (cond b ((n, node) ∷ []) [] ++ bases_in cols table)
-    at true is rest = ((all, ap (λ t. cond t (Some (Base node all)) (entry_at n table)) (eq-eqb n n refl), is), rest)
+    at true is rest = ((all, ap (λ t. cond t (Some (Base node all)) (stands_at n table)) (eq-eqb n n refl), is), rest)
     at false is rest = rest
 
 pub bases_in_entries : (cols : Columns) (high : ℕ) (entries : List Entry) → RiseWithin 0 high (map (λ (e : Entry). e.handle) entries) → All (HoldsNode (map entry_of entries) cols) (bases_in cols (map entry_of entries))

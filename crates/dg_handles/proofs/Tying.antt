@@ -8,11 +8,11 @@ use Rattle.dg_graph.specs.declared.element.Columns.{Columns}
 use Rattle.dg_graph.specs.declared.element.Element.{Element}
 use Rattle.dg_graph.specs.Elements.{asks, column_of}
 use Rattle.dg_handles.specs.Attached.{NoneRestsOn}
-use Rattle.dg_handles.specs.Handles.{AreDistinct, HandlesState, Holds, IsBaseFor, IsGraphIn, IsNoSlot, IsTied, RestsOn, TieIsKept, at_slot, graphs_at, held_by, members_at, slot_of}
+use Rattle.dg_handles.specs.Handles.{AreDistinct, HandlesState, SlotHolds, IsBaseHandle, IsGraphIn, IsNoSlot, IsTied, RestsOn, TieIsKept, at_slot, slot_graphs, held_by, members_at, slot_of}
 use Rattle.dg_handles.proofs.Beside.{Entries, beside, graph_beside, handles_in, none_dependent, slot_apart, slot_beside, slot_listed, zip-each, zip-length}
 use Rattle.dg_machine.specs.declared.stands.Stands.{Stands}
 use Rattle.dg_machine.specs.declared.stands.Stands.TheVariants.{Overlay, Base}
-use Rattle.dg_machine.specs.MachineState.{dependent_on, entry_at, rests_on}
+use Rattle.dg_machine.specs.MachineState.{dependent_on, stands_at, is_overlay_on}
 use Rattle.dg_machine.specs.Planning.{includes}
 use Rattle.dg_pool.specs.declared.slots.Base.{Base as PoolBase}
 use Rattle.dg_pool.specs.declared.slots.Base.TheVariants as base
@@ -32,7 +32,7 @@ some_in : (cols : Columns) (allowed : PoolBase → Type 0) (o : Option SlotGraph
 some_in cols allowed None h = absurd h
 some_in cols allowed (Some g) h = refl
 
-some_held : (h : HandlesState) (stands : Stands) (o : Option SlotGraph) → Holds h stands o → IsSome o
+some_held : (h : HandlesState) (stands : Stands) (o : Option SlotGraph) → SlotHolds h stands o → IsSome o
 some_held h (Overlay t cols on) o held = some_in cols (RestsOn h cols on) o held
 some_held h (Base node cols) o held = some_in cols (λ b. b ≡ base.Nothing) o held
 
@@ -67,17 +67,17 @@ slot_number (base.Slot b) = b.0
 
 module _ (p : PoolState) (h : HandlesState) (t : IsTied p h) where
   pub many : length h.slots ≡ length h.table
-  many = zip-length (λ (entry : ℕ × Stands) (s : ℕ). Holds h entry.1 (slot_graph p s)) h.table h.slots t.held
+  many = zip-length (λ (entry : ℕ × Stands) (s : ℕ). SlotHolds h entry.1 (slot_graph p s)) h.table h.slots t.held
 
   pub live_slot : (s : ℕ) → is_listed h.slots s ≡ true → IsSome (slot_graph p s)
   live_slot s in' =
-      let r = beside (λ (entry : ℕ × Stands) (k : ℕ). Holds h entry.1 (slot_graph p k)) h.table h.slots t.held s in' in
+      let r = beside (λ (entry : ℕ × Stands) (k : ℕ). SlotHolds h entry.1 (slot_graph p k)) h.table h.slots t.held s in' in
       some_held h r.0.1 (slot_graph p s) r.1
 
   -- the slot of a handle that holds a base
-  pub base_slot : (handle : ℕ) (cols : Columns) → IsBaseFor handle cols h.table → (s : ℕ) × (slot_of handle h.table h.slots ≡ Some s) × IsBaseWith cols (slot_graph p s)
+  pub base_slot : (handle : ℕ) (cols : Columns) → IsBaseHandle handle cols h.table → (s : ℕ) × (slot_of handle h.table h.slots ≡ Some s) × IsBaseWith cols (slot_graph p s)
   base_slot handle cols b =
-      let r = slot_beside (λ (stands : Stands) (k : ℕ). Holds h stands (slot_graph p k)) handle h.table h.slots t.held (Base b.0 b.1) b.2 in
+      let r = slot_beside (λ (stands : Stands) (k : ℕ). SlotHolds h stands (slot_graph p k)) handle h.table h.slots t.held (Base b.0 b.1) b.2 in
       (r.0, r.1, at (slot_graph p r.0) r.2)
     where
       at : (o : Option SlotGraph) → IsGraphIn b.1 (λ x. x ≡ base.Nothing) o → IsBaseWith cols o
@@ -85,12 +85,12 @@ module _ (p : PoolState) (h : HandlesState) (t : IsTied p h) where
       at (Some g) e = (e.1, subst (λ (all : Columns). Includes all cols) (sym e.0) (included b.1 cols b.3))
 
   -- the graph of a handle is that of its slot
-  pub held_at : (handle s : ℕ) → slot_of handle h.table h.slots ≡ Some s → held_by h.table (graphs_at p h.slots) handle ≡ members_at p s
+  pub held_at : (handle s : ℕ) → slot_of handle h.table h.slots ≡ Some s → held_by h.table (slot_graphs p h.slots) handle ≡ members_at p s
   held_at handle s is = ap (λ o. unwrap_or o []) (graph_beside (members_at p) handle h.table h.slots s is)
 
   -- what stands for a graph that rests on a slot rests on the handle of that slot
-  pub rests_by : (stands : Stands) (g : SlotGraph) (b : Slot) → Holds h stands (Some g) → g.base ≡ base.Slot b
-      → (handle : ℕ) × (rests_on handle stands ≡ true) × (slot_of handle h.table h.slots ≡ Some b.0)
+  pub rests_by : (stands : Stands) (g : SlotGraph) (b : Slot) → SlotHolds h stands (Some g) → g.base ≡ base.Slot b
+      → (handle : ℕ) × (is_overlay_on handle stands ≡ true) × (slot_of handle h.table h.slots ≡ Some b.0)
   rests_by (Overlay t' cols None) g b held is = absurd (subst IsNoSlot is held.1)
   rests_by (Overlay t' cols (Some handle)) g b held is =
       let r = base_slot handle cols held.1.0 in
@@ -102,26 +102,26 @@ module _ (p : PoolState) (h : HandlesState) (t : IsTied p h) where
   pub rests_among : (s : ℕ) (g : SlotGraph) (b : Slot) → slot_graph p s ≡ Some g → g.base ≡ base.Slot b → is_listed h.slots b.0 ≡ true
   rests_among s g b is on =
       let in' = t.only s (some_by (slot_graph p s) g is) in
-      let r = beside (λ (entry : ℕ × Stands) (k : ℕ). Holds h entry.1 (slot_graph p k)) h.table h.slots t.held s in' in
-      let on' = rests_by r.0.1 g b (subst (Holds h r.0.1) is r.1) on in
+      let r = beside (λ (entry : ℕ × Stands) (k : ℕ). SlotHolds h entry.1 (slot_graph p k)) h.table h.slots t.held s in' in
+      let on' = rests_by r.0.1 g b (subst (SlotHolds h r.0.1) is r.1) on in
       slot_listed on'.0 h.table h.slots b.0 on'.2
 
   -- none rests on the slot of a handle on which none depends
   pub none_rests : (handle place : ℕ) → dependent_on handle h.table ≡ None → place < length h.table → get_or (handles_in h.table) place 0 ≡ handle → NoneRestsOn p (get_or h.slots place 0)
   none_rests handle place none within here = λ s g b is on same.
       let in' = t.only s (some_by (slot_graph p s) g is) in
-      let R : ℕ × Stands → ℕ → Type 0 = λ (entry : ℕ × Stands) (k : ℕ). Holds h entry.1 (slot_graph p k) in
-      let r = beside (λ (entry : ℕ × Stands) (k : ℕ). R entry k × (rests_on handle entry.1 ≡ false)) h.table h.slots (none_dependent R handle h.table h.slots none t.held) s in' in
-      let on' = rests_by r.0.1 g b (subst (Holds h r.0.1) is r.1.0) on in
+      let R : ℕ × Stands → ℕ → Type 0 = λ (entry : ℕ × Stands) (k : ℕ). SlotHolds h entry.1 (slot_graph p k) in
+      let r = beside (λ (entry : ℕ × Stands) (k : ℕ). R entry k × (is_overlay_on handle entry.1 ≡ false)) h.table h.slots (none_dependent R handle h.table h.slots none t.held) s in' in
+      let on' = rests_by r.0.1 g b (subst (SlotHolds h r.0.1) is r.1.0) on in
       let there : slot_of on'.0 h.table h.slots ≡ Some (get_or h.slots place 0) = on'.2 ∙ ap (λ n. Some n) same in
       let it : handle ≡ on'.0 = sym here ∙ slot_apart on'.0 h.table h.slots place t.apart many within there in
-      both_ways (rests_on handle r.0.1) r.1.1 (ap (λ n. rests_on n r.0.1) it ∙ on'.1)
+      both_ways (is_overlay_on handle r.0.1) r.1.1 (ap (λ n. is_overlay_on n r.0.1) it ∙ on'.1)
 
 -- ---- the tie to other handles
 
 -- the handle has the entry and the slot that it had
 pub record Stays (h k : HandlesState) (handle : ℕ) : Type 0 where
-  pub entry : (e : Stands) → entry_at handle h.table ≡ Some e → entry_at handle k.table ≡ Some e
+  pub entry : (e : Stands) → stands_at handle h.table ≡ Some e → stands_at handle k.table ≡ Some e
   pub slot : (s : ℕ) → slot_of handle h.table h.slots ≡ Some s → slot_of handle k.table k.slots ≡ Some s
 
 module _ (p : PoolState) (h k : HandlesState) (t : IsTied p h) where
@@ -132,7 +132,7 @@ module _ (p : PoolState) (h k : HandlesState) (t : IsTied p h) where
       let at = base_slot p h t handle cols r.0 in
       ((r.0.0, r.0.1, s.entry (Base r.0.0 r.0.1) r.0.2, r.0.3), r.1 ∙ ap at_slot at.1 ∙ sym (ap at_slot (s.slot at.0 at.1)))
 
-  pub holds_still : (stands : Stands) (o : Option SlotGraph) → ((handle : ℕ) → rests_on handle stands ≡ true → Stays h k handle) → Holds h stands o → Holds k stands o
+  pub holds_still : (stands : Stands) (o : Option SlotGraph) → ((handle : ℕ) → is_overlay_on handle stands ≡ true → Stays h k handle) → SlotHolds h stands o → SlotHolds k stands o
   holds_still (Overlay t' cols on) None stays held = absurd held
   holds_still (Overlay t' cols None) (Some g) stays held = held
   holds_still (Overlay t' cols (Some handle)) (Some g) stays held =
@@ -144,8 +144,8 @@ module _ (p : PoolState) (h k : HandlesState) (t : IsTied p h) where
 
 pub tie_is_kept : TieIsKept
 tie_is_kept = λ old new h same t. record {
-  held = zip-each (λ (entry : ℕ × Stands) (s : ℕ). Holds h entry.1 (slot_graph old s)) (λ (entry : ℕ × Stands) (s : ℕ). Holds h entry.1 (slot_graph new s)) h.table h.slots t.held
-      (λ entry s in' held. subst (Holds h entry.1) (sym (same s)) held);
+  held = zip-each (λ (entry : ℕ × Stands) (s : ℕ). SlotHolds h entry.1 (slot_graph old s)) (λ (entry : ℕ × Stands) (s : ℕ). SlotHolds h entry.1 (slot_graph new s)) h.table h.slots t.held
+      (λ entry s in' held. subst (SlotHolds h entry.1) (sym (same s)) held);
   apart = t.apart;
   only = λ s live. t.only s (subst (λ (o : Option SlotGraph). IsSome o) (same s) live);
 }

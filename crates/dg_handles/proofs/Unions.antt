@@ -8,9 +8,9 @@ use Rattle.dg_graph.specs.Sets.{unioned}
 use Rattle.dg_graph.proofs.Sets.{IsSet-put, IsSet-unioned, has-unioned, same_members}
 use Rattle.dg_cells.specs.declared.row.Row.{Row}
 use Rattle.dg_cells.specs.Rows.{is_current}
-use Rattle.dg_handles.specs.Handles.{HandlesState, IsTied, UnionOfHandles, graphs_at, members_at}
+use Rattle.dg_handles.specs.Handles.{HandlesState, IsTied, UnionOfHandles, slot_graphs, members_at}
 use Rattle.dg_handles.proofs.Tying.{some_nowhere}
-use Rattle.dg_machine.specs.MachineState.{union_of}
+use Rattle.dg_machine.specs.MachineState.{union_of_sets}
 use Rattle.dg_pool.specs.declared.slots.SlotState.{SlotState}
 use Rattle.dg_pool.specs.declared.slots.SlotState.TheVariants as state
 use Rattle.dg_pool.specs.Graphs.{PoolState, SlotGraph, given, graph_as, graph_now, is_listed, picked, slot_at, slot_graph}
@@ -54,25 +54,25 @@ module _ (rows : List (Option Row)) (x : Element) where
 -- ---- by handles
 
 module _ (p : PoolState) (x : Element) where
-  from_handles : (slots : List ℕ) → has (union_of (graphs_at p slots)) x ≡ true → (s : ℕ) × (has (members_at p s) x ≡ true)
+  from_handles : (slots : List ℕ) → has (union_of_sets (slot_graphs p slots)) x ≡ true → (s : ℕ) × (has (members_at p s) x ≡ true)
   from_handles [] e = cc
   from_handles (s ∷ slots) e =
-      at (or_cases (has (members_at p s) x) (has (union_of (graphs_at p slots)) x) (sym (has-unioned (members_at p s) (union_of (graphs_at p slots)) x) ∙ e))
+      at (or_cases (has (members_at p s) x) (has (union_of_sets (slot_graphs p slots)) x) (sym (has-unioned (members_at p s) (union_of_sets (slot_graphs p slots)) x) ∙ e))
       (from_handles slots)
     where
-      at : (has (members_at p s) x ≡ true) ⊎ (has (union_of (graphs_at p slots)) x ≡ true) → (has (union_of (graphs_at p slots)) x ≡ true → (t : ℕ) × (has (members_at p t) x ≡ true)) → (t : ℕ) × (has (members_at p t) x ≡ true)
+      at : (has (members_at p s) x ≡ true) ⊎ (has (union_of_sets (slot_graphs p slots)) x ≡ true) → (has (union_of_sets (slot_graphs p slots)) x ≡ true → (t : ℕ) × (has (members_at p t) x ≡ true)) → (t : ℕ) × (has (members_at p t) x ≡ true)
       at (inl f) rest = (s, f)
       at (inr f) rest = rest f
 
-  to_handles : (slots : List ℕ) (s : ℕ) → is_listed slots s ≡ true → has (members_at p s) x ≡ true → has (union_of (graphs_at p slots)) x ≡ true
+  to_handles : (slots : List ℕ) (s : ℕ) → is_listed slots s ≡ true → has (members_at p s) x ≡ true → has (union_of_sets (slot_graphs p slots)) x ≡ true
   to_handles [] s in' e = cc
   to_handles (t ∷ slots) s in' e =
-      has-unioned (members_at p t) (union_of (graphs_at p slots)) x
+      has-unioned (members_at p t) (union_of_sets (slot_graphs p slots)) x
       ∙ at (or_cases (eqb t s) (is_listed slots s) in') (λ f. to_handles slots s f e)
     where
-      at : (eqb t s ≡ true) ⊎ (is_listed slots s ≡ true) → (is_listed slots s ≡ true → has (union_of (graphs_at p slots)) x ≡ true) → (has (members_at p t) x || has (union_of (graphs_at p slots)) x) ≡ true
-      at (inl f) rest = or_left (has (members_at p t) x) (has (union_of (graphs_at p slots)) x) (ap (λ n. has (members_at p n) x) (eqb-true t s f) ∙ e)
-      at (inr f) rest = or_right (has (members_at p t) x) (has (union_of (graphs_at p slots)) x) (rest f)
+      at : (eqb t s ≡ true) ⊎ (is_listed slots s ≡ true) → (is_listed slots s ≡ true → has (union_of_sets (slot_graphs p slots)) x ≡ true) → (has (members_at p t) x || has (union_of_sets (slot_graphs p slots)) x) ≡ true
+      at (inl f) rest = or_left (has (members_at p t) x) (has (union_of_sets (slot_graphs p slots)) x) (ap (λ n. has (members_at p n) x) (eqb-true t s f) ∙ e)
+      at (inr f) rest = or_right (has (members_at p t) x) (has (union_of_sets (slot_graphs p slots)) x) (rest f)
 
   some_if : (o : Option SlotGraph) → has (members_as o) x ≡ true → IsSome o
   some_if None e = cc
@@ -86,16 +86,16 @@ module _ (p : PoolState) (x : Element) where
       at (inl lt) = lt
       at (inr past) = absurd (some_nowhere (slot_graph p s) (ap (graph_as p.rows s) (get_or_past p.slots s state.Free past)) h)
 
-  has_alike : (h : HandlesState) → IsTied p h → has (live_union p.rows 0 p.slots) x ≡ has (union_of (graphs_at p h.slots)) x
-  has_alike h t = alike (has (live_union p.rows 0 p.slots) x) (has (union_of (graphs_at p h.slots)) x) forth back
+  has_alike : (h : HandlesState) → IsTied p h → has (live_union p.rows 0 p.slots) x ≡ has (union_of_sets (slot_graphs p h.slots)) x
+  has_alike h t = alike (has (live_union p.rows 0 p.slots) x) (has (union_of_sets (slot_graphs p h.slots)) x) forth back
     where
-      forth : has (live_union p.rows 0 p.slots) x ≡ true → has (union_of (graphs_at p h.slots)) x ≡ true
+      forth : has (live_union p.rows 0 p.slots) x ≡ true → has (union_of_sets (slot_graphs p h.slots)) x ≡ true
       forth e =
           let r = from_union p.rows x 0 p.slots e in
           let at : has (members_at p r.0) x ≡ true = ap (λ n. has (members_as (graph_as p.rows n (slot_at p.slots r.0))) x) (let same : r.0 ≡ 0 + r.0 = omega arith in same) ∙ r.1 in
           to_handles h.slots r.0 (t.only r.0 (some_if (slot_graph p r.0) at)) at
 
-      back : has (union_of (graphs_at p h.slots)) x ≡ true → has (live_union p.rows 0 p.slots) x ≡ true
+      back : has (union_of_sets (slot_graphs p h.slots)) x ≡ true → has (live_union p.rows 0 p.slots) x ≡ true
       back e =
           let r = from_handles h.slots e in
           to_union p.rows x 0 p.slots r.0 (within r.0 (some_if (slot_graph p r.0) r.1))
@@ -113,6 +113,6 @@ pub union_of_handles : UnionOfHandles
 union_of_handles = λ p h t.
     let now = graph_now p in
     let set = IsSet-picked is_current p.rows in
-    same_members (unioned now (live_union p.rows 0 p.slots)) (unioned now (union_of (graphs_at p h.slots)))
-    (IsSet-unioned now (live_union p.rows 0 p.slots) set) (IsSet-unioned now (union_of (graphs_at p h.slots)) set)
-    (λ x. has-unioned now (live_union p.rows 0 p.slots) x ∙ ap (λ b. has now x || b) (has_alike p x h t) ∙ sym (has-unioned now (union_of (graphs_at p h.slots)) x))
+    same_members (unioned now (live_union p.rows 0 p.slots)) (unioned now (union_of_sets (slot_graphs p h.slots)))
+    (IsSet-unioned now (live_union p.rows 0 p.slots) set) (IsSet-unioned now (union_of_sets (slot_graphs p h.slots)) set)
+    (λ x. has-unioned now (live_union p.rows 0 p.slots) x ∙ ap (λ b. has now x || b) (has_alike p x h t) ∙ sym (has-unioned now (union_of_sets (slot_graphs p h.slots)) x))

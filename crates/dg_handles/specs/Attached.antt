@@ -1,7 +1,7 @@
 -- Slots that are given to new graphs.
 use Rattle.std.specs.Prelude.{◌≡◌, ℕ, true, false, List, Option, Some, None, map}
 use Rattle.dg_graph.specs.declared.element.Columns.{Columns}
-use Rattle.dg_handles.specs.Handles.{AreDistinct, HandlesState, at_slot, graphs_at, held_by, slot_of}
+use Rattle.dg_handles.specs.Handles.{AreDistinct, HandlesState, at_slot, slot_graphs, held_by, slot_of}
 use Rattle.dg_pool.specs.declared.slots.Base.{Base}
 use Rattle.dg_pool.specs.declared.slots.Base.TheVariants as base
 use Rattle.dg_pool.specs.declared.slots.Slot.{Slot}
@@ -25,7 +25,7 @@ abbrev pub graph_led : HandlesState → PoolState → Columns → GraphLead → 
 graph_led h p cols lead = record {
   base = resting h lead.begins;
   cols = cols;
-  members = led_to (graph_now p) (held_by h.table (graphs_at p h.slots)) cols lead;
+  members = led_to (graph_now p) (held_by h.table (slot_graphs p h.slots)) cols lead;
 }
 
 -- a slot that was not live has this graph, and no other graph has changed

@@ -7,14 +7,14 @@ use Rattle.dg_graph.specs.declared.element.Element.{Element}
 use Rattle.dg_history.specs.declared.node.NodeId.{NodeId}
 use Rattle.dg_machine.specs.declared.stands.Stands.{Stands}
 use Rattle.dg_machine.specs.declared.stands.Stands.TheVariants.{Overlay, Base}
-use Rattle.dg_machine.specs.MachineState.{entry_at, union_of}
+use Rattle.dg_machine.specs.MachineState.{stands_at, union_of_sets}
 use Rattle.dg_machine.specs.Planning.{bases_in, includes}
 use Rattle.dg_pool.specs.declared.slots.Base.{Base as PoolBase}
 use Rattle.dg_pool.specs.declared.slots.Base.TheVariants as base
 use Rattle.dg_pool.specs.declared.slots.SlotState.TheVariants as state
 use Rattle.dg_pool.specs.Graphs.{PoolState, SlotGraph, graph_now, is_listed, is_live, slot_at, slot_graph}
 use Rattle.dg_pool.specs.Sweeps.{cells_of, members_as, union_of as pool_union}
-use Rattle.dg_retrieval.specs.Beginnings.{base_of}
+use Rattle.dg_retrieval.specs.Beginnings.{base_handle}
 use Rattle.dg_retrieval.specs.declared.graph_lead.GraphLead.{GraphLead}
 
 -- The live handles with what each stands for, the oldest first; the slot of each; and the number of the next handle.
@@ -46,8 +46,8 @@ abbrev pub members_at : PoolState → ℕ → List Element
 members_at p s = members_as (slot_graph p s)
 
 -- the graphs in these slots
-abbrev pub graphs_at : PoolState → List ℕ → List (List Element)
-graphs_at p slots = map (members_at p) slots
+abbrev pub slot_graphs : PoolState → List ℕ → List (List Element)
+slot_graphs p slots = map (members_at p) slots
 
 -- the graph of a live handle
 abbrev pub graph_among : ℕ → List (ℕ × Stands) → List (List Element) → Option (List Element)
@@ -69,15 +69,15 @@ graphs_without handle (entry ∷ table) (graph ∷ graphs) = if entry.0 == handl
 
 -- the handle holds the set of this node, in columns that have all of these
 abbrev pub HoldsNode : List (ℕ × Stands) → Columns → ℕ × NodeId → Type 0
-HoldsNode table cols (handle, node) = (all : Columns) × (entry_at handle table ≡ Some (Base node all)) × (includes all cols ≡ true)
+HoldsNode table cols (handle, node) = (all : Columns) × (stands_at handle table ≡ Some (Base node all)) × (includes all cols ≡ true)
 
 -- the handle holds the set of some node, in columns that have all of these
-abbrev pub IsBaseFor : ℕ → Columns → List (ℕ × Stands) → Type 0
-IsBaseFor handle cols table = (node : NodeId) × (all : Columns) × (entry_at handle table ≡ Some (Base node all)) × (includes all cols ≡ true)
+abbrev pub IsBaseHandle : ℕ → Columns → List (ℕ × Stands) → Type 0
+IsBaseHandle handle cols table = (node : NodeId) × (all : Columns) × (stands_at handle table ≡ Some (Base node all)) × (includes all cols ≡ true)
 
 -- where the lead begins with the set of a handle, the handle holds a base for these columns
 abbrev pub BeginsOn : List (ℕ × Stands) → Columns → GraphLead → Type 0
-BeginsOn table cols lead = (handle : ℕ) → base_of lead.begins ≡ Some handle → IsBaseFor handle cols table
+BeginsOn table cols lead = (handle : ℕ) → base_handle lead.begins ≡ Some handle → IsBaseHandle handle cols table
 
 -- ---- the tie
 
@@ -102,7 +102,7 @@ IsNoSlot (base.Slot b) = ⊥
 -- the columns; or on no slot, where it is on no handle.
 abbrev pub RestsOn : HandlesState → Columns → Option ℕ → PoolBase → Type 0
 RestsOn h cols None b = IsNoSlot b
-RestsOn h cols (Some handle) b = IsBaseFor handle cols h.table × (b ≡ at_slot (slot_of handle h.table h.slots))
+RestsOn h cols (Some handle) b = IsBaseHandle handle cols h.table × (b ≡ at_slot (slot_of handle h.table h.slots))
 
 -- a graph is there, it has these columns, and what it rests on is allowed
 abbrev pub IsGraphIn : Columns → (PoolBase → Type 0) → Option SlotGraph → Type 0
@@ -111,9 +111,9 @@ IsGraphIn cols allowed (Some g) = (g.cols ≡ cols) × allowed g.base
 
 -- A slot has a graph in the columns of what a handle stands for: an overlay rests as it is entered, and the set of a
 -- node rests on nothing.
-abbrev pub Holds : HandlesState → Stands → Option SlotGraph → Type 0
-Holds h (Overlay t cols on) o = IsGraphIn cols (RestsOn h cols on) o
-Holds h (Base node cols) o = IsGraphIn cols (λ b. b ≡ base.Nothing) o
+abbrev pub SlotHolds : HandlesState → Stands → Option SlotGraph → Type 0
+SlotHolds h (Overlay t cols on) o = IsGraphIn cols (RestsOn h cols on) o
+SlotHolds h (Base node cols) o = IsGraphIn cols (λ b. b ≡ base.Nothing) o
 
 -- no number stands twice
 abbrev pub AreDistinct : List ℕ → Type 0
@@ -123,7 +123,7 @@ AreDistinct (s ∷ slots) = (is_listed slots s ≡ false) × AreDistinct slots
 -- There are as many slots as handles. Each handle has a slot of its own, whose graph rests as the handle's entry says,
 -- and no other slot is live.
 pub record IsTied (p : PoolState) (h : HandlesState) : Type 0 where
-  pub held : AllZip (λ (entry : ℕ × Stands) (s : ℕ). Holds h entry.1 (slot_graph p s)) h.table h.slots
+  pub held : AllZip (λ (entry : ℕ × Stands) (s : ℕ). SlotHolds h entry.1 (slot_graph p s)) h.table h.slots
   pub apart : AreDistinct h.slots
   pub only : (s : ℕ) → IsSome (slot_graph p s) → is_listed h.slots s ≡ true
 
@@ -144,4 +144,4 @@ TieIsKept = (old new : PoolState) (h : HandlesState) → ((s : ℕ) → slot_gra
 
 -- the union of a pool is that of the current graph and the graphs of the handles
 abbrev pub UnionOfHandles : Type 0
-UnionOfHandles = (p : PoolState) (h : HandlesState) → IsTied p h → pool_union p ≡ union_of (graph_now p ∷ graphs_at p h.slots)
+UnionOfHandles = (p : PoolState) (h : HandlesState) → IsTied p h → pool_union p ≡ union_of_sets (graph_now p ∷ slot_graphs p h.slots)

@@ -4,11 +4,11 @@ ghost use Rattle.std.specs.Prelude.{◌≡◌, ◌+◌, ◌≤◌, [], ◌∷◌
 ghost use Rattle.dg_handles.specs.Attached.{numbers_of};
 ghost use Rattle.dg_handles.specs.Handles.{numbered, overlays_on};
 ghost use Rattle.dg_handles.specs.Places.{IsFirst, NoneIs};
-ghost use Rattle.dg_machine.specs.MachineState.{dependent_on, rests_on};
+ghost use Rattle.dg_machine.specs.MachineState.{dependent_on, is_overlay_on};
 ghost use Rattle.dg_machine.specs.Planning.{bases_in, includes, usable};
 ghost use Rattle.dg_machine.specs.declared.limits.TheConstants.{HANDLE_MAX};
 ghost use Rattle.dg_planner.specs.Bases.{base_of as node_of};
-ghost use Rattle.dg_retrieval.specs.Beginnings.{base_of};
+ghost use Rattle.dg_retrieval.specs.Beginnings.{base_handle};
 
 use dg_graph::Columns;
 use dg_machine::Stands;
@@ -40,7 +40,7 @@ pub(crate) fn place_of(entries: &[Entry], handle: u32) -> Option<usize>
 
 // Whether it stands for an overlay on this handle.
 fn rests_on(stands: Stands, handle: u32) -> bool
-    ensures { result ≡ rests_on handle stands }
+    ensures { result ≡ is_overlay_on handle stands }
 {
     match stands {
         Stands::Overlay { on: Some(base), .. } => base == handle,
@@ -100,7 +100,7 @@ pub(crate) fn bases(
 
 // The handle whose set a graph begins with, if with that of any.
 fn base_of(begins: Beginning) -> Option<u32>
-    ensures { result ≡ base_of begins }
+    ensures { result ≡ base_handle begins }
 {
     match begins {
         Beginning::Base(handle) => Some(handle),
@@ -123,7 +123,7 @@ pub(crate) fn enter(
     requires room { vec_len entries.old + length times.now ≤ vec_capacity entries.old }
     requires numbers { next + length times.now ≤ HANDLE_MAX + 1 }
     ensures table { map (λ e. (e.handle, e.stands)) entries.new.items
-        ≡ map (λ e. (e.handle, e.stands)) entries.old.items ++ numbered next (overlays_on cols times.now (map (λ l. base_of l.begins) leads.now)) }
+        ≡ map (λ e. (e.handle, e.stands)) entries.old.items ++ numbered next (overlays_on cols times.now (map (λ l. base_handle l.begins) leads.now)) }
     ensures slots { map (λ e. e.slot.0) entries.new.items ≡ map (λ e. e.slot.0) entries.old.items ++ numbers_of slots.now }
     ensures len { vec_len entries.new ≡ vec_len entries.old + length times.now }
     ensures capacity { vec_capacity entries.new ≡ vec_capacity entries.old }

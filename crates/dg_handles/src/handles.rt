@@ -6,14 +6,14 @@ ghost use Rattle.std.specs.Option.{option_map};
 ghost use Rattle.dg_graph.specs.Composition.{applied};
 ghost use Rattle.dg_graph.specs.Elements.{shown};
 ghost use Rattle.dg_handles.specs.Attached.{AreAttached, graph_led, numbers_of, resting};
-ghost use Rattle.dg_handles.specs.Handles.{BeginsOn, HoldsNode, IsTied, graph_among, graphs_at, graphs_without, held_by, numbered, overlays_on, slot_of};
-ghost use Rattle.dg_machine.specs.MachineState.{dependent_on, entry_at, without_handle};
+ghost use Rattle.dg_handles.specs.Handles.{BeginsOn, HoldsNode, IsTied, graph_among, slot_graphs, graphs_without, held_by, numbered, overlays_on, slot_of};
+ghost use Rattle.dg_machine.specs.MachineState.{dependent_on, stands_at, without_handle};
 ghost use Rattle.dg_machine.specs.Planning.{bases_in};
 ghost use Rattle.dg_machine.specs.declared.limits.TheConstants.{HANDLE_MAX, LIVE_HANDLES_MAX};
 ghost use Rattle.dg_machine.specs.declared.stands.Stands.TheVariants as stands;
 ghost use Rattle.dg_planner.specs.Bases.{base_of as node_of};
 ghost use Rattle.dg_pool.specs.Graphs.{PoolState, SameGraphs, graph_now, slot_graph};
-ghost use Rattle.dg_retrieval.specs.Beginnings.{base_of, led_to};
+ghost use Rattle.dg_retrieval.specs.Beginnings.{base_handle, led_to};
 
 use crate::attach::{attach, detach, detach_all};
 use crate::entries::{Entry, bases, dependent, enter, place_of};
@@ -86,7 +86,7 @@ impl Handles {
 
     /// What the handle stands for, where it is live.
     pub fn stands(&self, handle: u32) -> Option<Stands>
-        ensures { result ≡ entry_at handle self.now.table }
+        ensures { result ≡ stands_at handle self.now.table }
     {
         let place = place_of(&self.entries, handle)?;
         Some(self.entries[place].stands)
@@ -179,10 +179,10 @@ impl Handles {
         requires leads { length leads.now ≡ length times.now }
         requires bases { All (BeginsOn self.old.table cols) leads.now }
         // the handles and their graphs
-        ensures table { OnOk result (self.new.table ≡ self.old.table ++ numbered self.old.next (overlays_on cols times.now (map (λ l. base_of l.begins) leads.now))) }
+        ensures table { OnOk result (self.new.table ≡ self.old.table ++ numbered self.old.next (overlays_on cols times.now (map (λ l. base_handle l.begins) leads.now))) }
         ensures next { OnOk result (self.new.next ≡ self.old.next + length times.now) }
-        ensures graphs { OnOk result (graphs_at pool.new self.new.slots
-            ≡ graphs_at pool.old self.old.slots ++ map (led_to (graph_now pool.old) (held_by self.old.table (graphs_at pool.old self.old.slots)) cols) leads.now) }
+        ensures graphs { OnOk result (slot_graphs pool.new self.new.slots
+            ≡ slot_graphs pool.old self.old.slots ++ map (led_to (graph_now pool.old) (held_by self.old.table (slot_graphs pool.old self.old.slots)) cols) leads.now) }
         ensures tied { IsTied pool.new self.new }
         ensures now { graph_now pool.new ≡ graph_now pool.old }
         // what is left where there is none
@@ -211,8 +211,8 @@ impl Handles {
         // the handle and its graph
         ensures table { OnOk result (self.new.table ≡ self.old.table ++ (self.old.next, stands.Base node cols) ∷ []) }
         ensures next { OnOk result (self.new.next ≡ self.old.next + 1) }
-        ensures graphs { OnOk result (graphs_at pool.new self.new.slots
-            ≡ graphs_at pool.old self.old.slots ++ shown (applied delta.now []) cols ∷ []) }
+        ensures graphs { OnOk result (slot_graphs pool.new self.new.slots
+            ≡ slot_graphs pool.old self.old.slots ++ shown (applied delta.now []) cols ∷ []) }
         ensures tied { IsTied pool.new self.new }
         ensures now { graph_now pool.new ≡ graph_now pool.old }
         // what is left where there is none
@@ -232,8 +232,8 @@ impl Handles {
     /// The graph of a handle, where it is live.
     pub fn view<'a>(&self, pool: &'a Pool, handle: u32) -> Option<View<'a>>
         requires tied { IsTied pool.now self.now }
-        ensures graph { result ≡ graph_among handle self.now.table (graphs_at pool.now self.now.slots) }
-        ensures there { is_some result ≡ is_some (entry_at handle self.now.table) }
+        ensures graph { result ≡ graph_among handle self.now.table (slot_graphs pool.now self.now.slots) }
+        ensures there { is_some result ≡ is_some (stands_at handle self.now.table) }
     {
         let place = place_of(&self.entries, handle)?;
         Some(View::of(pool, self.entries[place].slot))
@@ -244,11 +244,11 @@ impl Handles {
     pub fn release(&mut self, pool: &mut Pool, handle: u32) -> bool
         requires tied { IsTied pool.old self.old }
         requires unused { dependent_on handle self.old.table ≡ None }
-        ensures there { result ≡ is_some (entry_at handle self.old.table) }
+        ensures there { result ≡ is_some (stands_at handle self.old.table) }
         ensures same { result ≡ false → (self.new ≡ self.old) × (pool.new ≡ pool.old) }
         ensures table { self.new.table ≡ without_handle handle self.old.table }
         ensures next { self.new.next ≡ self.old.next }
-        ensures graphs { graphs_at pool.new self.new.slots ≡ graphs_without handle self.old.table (graphs_at pool.old self.old.slots) }
+        ensures graphs { slot_graphs pool.new self.new.slots ≡ graphs_without handle self.old.table (slot_graphs pool.old self.old.slots) }
         ensures tied { IsTied pool.new self.new }
         ensures now { graph_now pool.new ≡ graph_now pool.old }
     {

@@ -8,7 +8,7 @@ use Rattle.dg_graph.specs.declared.limits.TheConstants.{TIME_MAX}
 use Rattle.dg_graph.specs.Lines.{ScriptLine, Text, Long}
 use Rattle.std.specs.List.{join_with_byte}
 use Rattle.dg_graph.specs.Names.{added, number_in, is_key, is_name}
-use Rattle.dg_graph.specs.Verbs.{Verb, verb, is_word, read_by, one, two, four_words}
+use Rattle.dg_graph.specs.Verbs.{Verb, verb, is_word, read_by, one, two_words, four_words}
 use Rattle.dg_graph.specs.Words.{words, number}
 
 abbrev pub time_of : List ℕ → Option ℕ
@@ -51,15 +51,15 @@ abbrev pub value_text_of : List ℕ → Option (List ℕ)
 value_text_of text = if is_name text then Some text else None
 
 -- `ID KEY VALUE`, where VALUE is the rest of the line: words with a space between each two
-abbrev pub set_of : (ℕ → List ℕ → List ℕ → WhatByText) → List (List ℕ) → Option WhatByText
-set_of make (id ∷ key ∷ word ∷ more) =
+abbrev pub setting_of : (ℕ → List ℕ → List ℕ → WhatByText) → List (List ℕ) → Option WhatByText
+setting_of make (id ∷ key ∷ word ∷ more) =
     option_and_then (λ n. option_and_then (λ k.
     option_map (λ v. make n k v) (value_text_of (join_with_byte 32 (word ∷ more)))) (key_text_of key)) (id_of id)
-set_of make rest = None
+setting_of make rest = None
 
 -- `ID KEY`
 abbrev pub unset_of : (ℕ → List ℕ → WhatByText) → List (List ℕ) → Option WhatByText
-unset_of make words = two id_of key_text_of (λ n k. make n k) words
+unset_of make words = two_words id_of key_text_of (λ n k. make n k) words
 
 -- the kinds of change, by the word after the instant
 abbrev pub change_verbs : List (Verb WhatByText)
@@ -68,9 +68,9 @@ change_verbs =
     ∷ verb (codes "-node") (one_id (λ n. RemoveNode n))
     ∷ verb (codes "+edge") new_edge
     ∷ verb (codes "-edge") (one_id (λ n. RemoveEdge n))
-    ∷ verb (codes "nset") (set_of (λ n k v. Sets_node n k v))
+    ∷ verb (codes "nset") (setting_of (λ n k v. Sets_node n k v))
     ∷ verb (codes "ndel") (unset_of (λ n k. Unsets_node n k))
-    ∷ verb (codes "eset") (set_of (λ n k v. Sets_edge n k v))
+    ∷ verb (codes "eset") (setting_of (λ n k v. Sets_edge n k v))
     ∷ verb (codes "edel") (unset_of (λ n k. Unsets_edge n k))
     ∷ []
 

@@ -11,7 +11,7 @@ use Rattle.dg_graph.specs.Columns.{four, eight}
 use Rattle.dg_index.specs.FileOfHistory.{name_bytes, Stored, StoredList, Segment, bytes_of, lengths_bytes, list_bytes, directory, blobs, stored_in, segment_bytes}
 use Rattle.dg_graph.specs.Names.{are_new}
 use Rattle.dg_index.specs.ImageText.{four_at, eight_at, names_at, gate_behind, is_within}
-use Rattle.dg_index.specs.OpenedIndex.{may_be_named, Opened, Directory, lengths_at, list_at, record_at, rows_at, rows_in, total, lengths_of, list_row, record_row, directory_of, directory_with, directory_in, list_count, delta_count, may_follow, may_be_listed, within, may_stand, if_it_may, directory_next, events_in, earliest_in, last_list, first_in, read_on, go_on_with, with_directory, with_segment, MayStand}
+use Rattle.dg_index.specs.OpenedIndex.{may_be_named, Opened, Directory, lengths_at, list_at, record_at, rows_at, rows_in, total, lengths_of, list_row, record_row, directory_of, directory_with, directory_in, list_count, delta_count, may_follow, may_be_listed, within, may_stand, if_it_may, directory_next, event_total, earliest_in, last_list, first_in, read_on, go_on_with, with_directory, with_segment, MayStand}
 use Rattle.dg_index.specs.declared.entry.BatchEntry.{BatchEntry}
 use Rattle.dg_index.specs.declared.entry.Row.{Row}
 use Rattle.dg_index.proofs.ImageRanges.{eight_read, four_read, behind}
@@ -182,7 +182,7 @@ module _ (x : Opened) (s : Segment) (may : MayStand x s) (few : length (blobs s)
   -- the bytes of its directory say what it is
   pub directory_read : directory_in x.index (directory s) ≡ Some (directory_of s)
   directory_read =
-      let f = follows_from (events_in x.index.batches) (earliest_in 0 x.index.batches) (directory_of s).batch may.follows in
+      let f = follows_from (event_total x.index.batches) (earliest_in 0 x.index.batches) (directory_of s).batch may.follows in
       let b : List ℕ = directory s in
       let n = length s.lists in
       let k = length s.deltas in
@@ -264,7 +264,7 @@ stands_next x s image rest may is some fits =
     let due : directory_in x.index (take (eight_at image at) (drop (at + 16) image)) ≡ Some (directory_of s) = ap (directory_in x.index) text ∙ directory_read x s may (omega (arith, all, fits)) in
     let stands : may_stand x (eight_at image (at + 8)) (directory_of s) ≡ true =
     and_from (sum_by (λ (r : Row). total r.lengths) (rows_in (directory_of s)) == eight_at image (at + 8)) _ (eq-eqb _ _ (omega (arith, measures s, e1.0)))
-    (and_from (may_follow (events_in x.index.batches) (earliest_in 0 x.index.batches) (directory_of s).batch) _ may.follows (and_from (may_be_named x.names s.names) _ may.named may.listed)) in
+    (and_from (may_follow (event_total x.index.batches) (earliest_in 0 x.index.batches) (directory_of s).batch) _ may.follows (and_from (may_be_named x.names s.names) _ may.named may.listed)) in
     record {
       size = e0.0;
       gate = gate;

@@ -10,7 +10,7 @@ use Rattle.dg_history.specs.Keys.{same_key}
 use Rattle.dg_index.specs.Hierarchy.{numbers, leaves, children, parent}
 use Rattle.dg_index.specs.IndexRecords.{lists_due, deltas_of, inner_due, deltas_due_at, deltas_due}
 use Rattle.dg_index.specs.declared.entry.BatchEntry.{BatchEntry}
-use Rattle.dg_index.specs.OpenedIndex.{events_in}
+use Rattle.dg_index.specs.OpenedIndex.{event_total}
 use Rattle.dg_index.specs.IndexKeys.{keys_among, among, Fresh}
 use Rattle.dg_index.proofs.DueNodes.{due_to}
 use Rattle.dg_index.proofs.KeptColumns.{Each, each_append, each_flat, each_number, each_map, power_some, parent_is, same_key_exact}
@@ -242,24 +242,24 @@ module _ (k m after number : ℕ) (wide : 0 < k) where
       (omega arith, tt))
 
 module _ (p : Params) (pos : 0 < p.l) (wide : 0 < p.k) where
-  keys_made : (batches : List BatchEntry) (number count : ℕ) → Each (IsMade p.k (number + length batches) (leaves p (count + events_in batches))) (keys_among p number count batches)
+  keys_made : (batches : List BatchEntry) (number count : ℕ) → Each (IsMade p.k (number + length batches) (leaves p (count + event_total batches))) (keys_among p number count batches)
   keys_made [] number count = tt
   keys_made (b ∷ more) number count =
       let m : ℕ = leaves p count in
       let after : ℕ = leaves p (count + b.events) in
-      let total : count + events_in (b ∷ more) ≡ count + b.events + events_in more = omega (arith, sum_by-cons (λ (b : BatchEntry). b.events) b more) in
-      let later : after ≤ leaves p (count + events_in (b ∷ more)) = subst (λ n. after ≤ leaves p n) (sym total) (leaves_more p.l (count + b.events) (events_in more) pos) in
-      let one = made_more p.k (number + 1) (number + length (b ∷ more)) after (leaves p (count + events_in (b ∷ more))) (lists_due p count (count + b.events) ++ (deltas_due p.k m after ++ key.Piece number ∷ [])) (omega arith) later
+      let total : count + event_total (b ∷ more) ≡ count + b.events + event_total more = omega (arith, sum_by-cons (λ (b : BatchEntry). b.events) b more) in
+      let later : after ≤ leaves p (count + event_total (b ∷ more)) = subst (λ n. after ≤ leaves p n) (sym total) (leaves_more p.l (count + b.events) (event_total more) pos) in
+      let one = made_more p.k (number + 1) (number + length (b ∷ more)) after (leaves p (count + event_total (b ∷ more))) (lists_due p count (count + b.events) ++ (deltas_due p.k m after ++ key.Piece number ∷ [])) (omega arith) later
       (made_all p.k m after number wide (leaves_more p.l count b.events pos)) in
-      let rest = made_more p.k (number + 1 + length more) (number + length (b ∷ more)) (leaves p (count + b.events + events_in more)) (leaves p (count + events_in (b ∷ more))) (keys_among p (number + 1) (count + b.events) more) (omega arith)
-      (subst (λ n. leaves p (count + b.events + events_in more) ≤ leaves p n) (sym total) (omega arith)) (keys_made more (number + 1) (count + b.events)) in
-      each_append (IsMade p.k (number + length (b ∷ more)) (leaves p (count + events_in (b ∷ more)))) (lists_due p count (count + b.events) ++ (deltas_due p.k m after ++ key.Piece number ∷ [])) (keys_among p (number + 1) (count + b.events) more) one rest
+      let rest = made_more p.k (number + 1 + length more) (number + length (b ∷ more)) (leaves p (count + b.events + event_total more)) (leaves p (count + event_total (b ∷ more))) (keys_among p (number + 1) (count + b.events) more) (omega arith)
+      (subst (λ n. leaves p (count + b.events + event_total more) ≤ leaves p n) (sym total) (omega arith)) (keys_made more (number + 1) (count + b.events)) in
+      each_append (IsMade p.k (number + length (b ∷ more)) (leaves p (count + event_total (b ∷ more)))) (lists_due p count (count + b.events) ++ (deltas_due p.k m after ++ key.Piece number ∷ [])) (keys_among p (number + 1) (count + b.events) more) one rest
 
   -- the keys of the next segment are new, each of them
   pub fresh_next : (batches : List BatchEntry) (events : ℕ)
-      → Fresh (keys_among p 0 0 batches) (lists_due p (events_in batches) (events_in batches + events) ++ (deltas_due p.k (leaves p (events_in batches)) (leaves p (events_in batches + events)) ++ key.Piece (length batches) ∷ []))
+      → Fresh (keys_among p 0 0 batches) (lists_due p (event_total batches) (event_total batches + events) ++ (deltas_due p.k (leaves p (event_total batches)) (leaves p (event_total batches + events)) ++ key.Piece (length batches) ∷ []))
   fresh_next batches events =
-      let n : ℕ = events_in batches in
+      let n : ℕ = event_total batches in
       let m : ℕ = leaves p n in
       let after : ℕ = leaves p (n + events) in
       let up : m ≤ after = leaves_more p.l n events pos in

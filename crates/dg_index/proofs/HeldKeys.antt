@@ -14,7 +14,7 @@ use Rattle.dg_index.specs.Hierarchy.{numbers, leaves, children, parent}
 use Rattle.dg_index.specs.IndexRecords.{lists_due, deltas_of, deltas_due_at, deltas_due}
 use Rattle.dg_index.specs.declared.entry.BatchEntry.{BatchEntry}
 use Rattle.dg_index.specs.declared.entry.Entry.{Entry}
-use Rattle.dg_index.specs.OpenedIndex.{events_in}
+use Rattle.dg_index.specs.OpenedIndex.{event_total}
 use Rattle.dg_index.specs.IndexKeys.{keys_among, key_exists, among}
 use Rattle.dg_index.proofs.DueNodes.{due_from}
 use Rattle.dg_index.proofs.KeptColumns.{power_some}
@@ -82,7 +82,7 @@ module _ (p : Params) (pos : 0 < p.l) (two : 2 ≤ p.k) where
   -- what is due of one of the batches is held
   held_by : (x : Key) (batches : List BatchEntry) (number count : ℕ) (low : ℕ → Bool)
       → ((m after : ℕ) → low m ≡ false → low after ≡ true → among x (map (λ i. key.List i) (numbers m (after - m)) ++ deltas_due p.k m after) ≡ true)
-      → low (leaves p count) ≡ false → low (leaves p (count + events_in batches)) ≡ true → among x (keys_among p number count batches) ≡ true
+      → low (leaves p count) ≡ false → low (leaves p (count + event_total batches)) ≡ true → among x (keys_among p number count batches) ≡ true
   held_by x [] number count low due before reached = absurd (let same : false ≡ true = sym before ∙ ap (λ n. low (leaves p n)) (let e : count ≡ count + 0 = omega arith in e) ∙ reached in cc)
   held_by x (b ∷ more) number count low due before reached =
       by (held_by x more (number + 1) (count + b.events) low due) (low (leaves p (count + b.events))) refl
@@ -90,10 +90,10 @@ module _ (p : Params) (pos : 0 < p.l) (two : 2 ≤ p.k) where
       here : List Key
       here = lists_due p count (count + b.events) ++ (deltas_due p.k (leaves p count) (leaves p (count + b.events)) ++ key.Piece number ∷ [])
 
-      all : count + events_in (b ∷ more) ≡ count + b.events + events_in more
+      all : count + event_total (b ∷ more) ≡ count + b.events + event_total more
       all = omega (arith, sum_by-cons (λ (b : BatchEntry). b.events) b more)
 
-      by : (low (leaves p (count + b.events)) ≡ false → low (leaves p (count + b.events + events_in more)) ≡ true → among x (keys_among p (number + 1) (count + b.events) more) ≡ true)
+      by : (low (leaves p (count + b.events)) ≡ false → low (leaves p (count + b.events + event_total more)) ≡ true → among x (keys_among p (number + 1) (count + b.events) more) ≡ true)
           → (t : Bool) → low (leaves p (count + b.events)) ≡ t → among x (keys_among p number count (b ∷ more)) ≡ true
       by later true e =
           among_left x (lists_due p count (count + b.events) ++ (deltas_due p.k (leaves p count) (leaves p (count + b.events)) ++ key.Piece number ∷ [])) (keys_among p (number + 1) (count + b.events) more)
@@ -111,14 +111,14 @@ module _ (p : Params) (pos : 0 < p.l) (two : 2 ≤ p.k) where
       zero_leaves = omega arith
 
   -- each record of an index of so many events is held
-  pub exists_held : (batches : List BatchEntry) (k : Key) → key_exists p (events_in batches) k ≡ true → among k (keys_among p 0 0 batches) ≡ true
+  pub exists_held : (batches : List BatchEntry) (k : Key) → key_exists p (event_total batches) k ≡ true → among k (keys_among p 0 0 batches) ≡ true
   exists_held batches (key.List i) e =
       held_by (key.List i) batches 0 0 (λ n. nat_lt i n)
       (λ m after low high.
       let from : m ≤ i = ltb-false i m low in
       let to : i < after = ltb-true i after high in
       among_left (key.List i) (map (λ i. key.List i) (numbers m (after - m))) (deltas_due p.k m after) (among_map (key.List i) (λ i. key.List i) m (after - m) i from (omega (arith, from, to)) (same_itself (key.List i))))
-      (le-ltb i (leaves p 0) (let z : leaves p 0 ≤ i = omega arith in z)) (ap (λ n. nat_lt i (leaves p n)) (let z : 0 + events_in batches ≡ events_in batches = omega arith in z) ∙ e)
+      (le-ltb i (leaves p 0) (let z : leaves p 0 ≤ i = omega arith in z)) (ap (λ n. nat_lt i (leaves p n)) (let z : 0 + event_total batches ≡ event_total batches = omega arith in z) ∙ e)
   exists_held batches (key.Piece s) e = absurd cc
   exists_held batches (key.Top h) e =
       let parts = both (nat_le 1 h) _ e in
@@ -128,7 +128,7 @@ module _ (p : Params) (pos : 0 < p.l) (two : 2 ≤ p.k) where
       among_right (key.Top h) (map (λ i. key.List i) (numbers m (after - m))) (deltas_due p.k m after)
       (node_due p.k m after h 1 (key.Top h) two low (omega arith) (omega (arith, leb-false (p.k ^ h) m below)) (omega (arith, leb-true (p.k ^ h) after high))
       (or_first (same_key (key.Top h) (key.Top h)) _ (same_itself (key.Top h)))))
-      (none_first (p.k ^ h) (power_some p.k h (omega (arith, two)))) (ap (λ n. nat_le (p.k ^ h) (leaves p n)) (let z : 0 + events_in batches ≡ events_in batches = omega arith in z) ∙ parts.1)
+      (none_first (p.k ^ h) (power_some p.k h (omega (arith, two)))) (ap (λ n. nat_le (p.k ^ h) (leaves p n)) (let z : 0 + event_total batches ≡ event_total batches = omega arith in z) ∙ parts.1)
   exists_held batches (key.Down h c) e =
       let parts = both (nat_le 1 h) _ e in
       let more = both (nat_le 1 c) _ parts.1 in
@@ -146,7 +146,7 @@ module _ (p : Params) (pos : 0 < p.l) (two : 2 ≤ p.k) where
       (node_due p.k m after h j (key.Down h c) two low (omega arith) (omega (arith, leb-false (j * p.k ^ h) m below)) (leb-true (j * p.k ^ h) after high)
       (among_right (key.Down h c) (cond (j == 1) (key.Top h ∷ []) []) (map (λ c. key.Down h c) (children p.k j))
       (among_map (key.Down h c) (λ c. key.Down h c) ((j - 1) * p.k + 1) p.k c (omega (arith, start, under, some)) (omega (arith, start, over, add-mul ((c - 1) / p.k) 1 p.k)) (same_itself (key.Down h c))))))
-      (none_first (j * p.k ^ h) pos_node) (ap (λ n. nat_le (j * p.k ^ h) (leaves p n)) (let z : 0 + events_in batches ≡ events_in batches = omega arith in z) ∙ more.1)
+      (none_first (j * p.k ^ h) pos_node) (ap (λ n. nat_le (j * p.k ^ h) (leaves p n)) (let z : 0 + event_total batches ≡ event_total batches = omega arith in z) ∙ more.1)
 
 -- where the keys of the records are these, what is held at one of them is something
 pub found : (records : List (Key × Entry)) (k : Key) → among k (map (λ (r : Key × Entry). r.0) records) ≡ true → is_some (lookup (same_key k) records) ≡ true

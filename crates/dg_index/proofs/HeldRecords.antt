@@ -21,7 +21,7 @@ use Rattle.dg_index.specs.declared.entry.Ends.{Ends}
 use Rattle.dg_index.specs.declared.entry.Entry.{Entry}
 use Rattle.dg_index.specs.declared.entry.Row.{Row}
 use Rattle.dg_index.specs.declared.entry.BatchEntry.{BatchEntry}
-use Rattle.dg_index.specs.OpenedIndex.{Opened, bare, opened_of, opened_onto, with_segment, directory_of, rows_in, list_row, record_row, lengths_of, laid, total, keys_next, events_in}
+use Rattle.dg_index.specs.OpenedIndex.{Opened, bare, opened_of, opened_onto, with_segment, directory_of, rows_in, list_row, record_row, lengths_of, laid, total, keys_next, event_total}
 use Rattle.dg_index.proofs.DirectoryDecoding.{map_last}
 use Rattle.dg_index.proofs.DueNodes.{numbers_length}
 use Rattle.dg_index.proofs.HeldKeys.{exists_held, found}
@@ -96,7 +96,7 @@ plain_deltas z k m after = each_flat (IsPlain z) (deltas_due_at k m after) (numb
 -- what is known of what is opened with the segments of these batches
 pub record IsToldSoFar (z : History) (x : Opened) (front : List Batch) : Type 0 where
   pub params : x.index.params ≡ z.params
-  pub count : events_in x.index.batches ≡ length (events_among front)
+  pub count : event_total x.index.batches ≡ length (events_among front)
   pub number : length x.index.batches ≡ length front
   pub keys : AreKept x.index
   pub told : Each (IsTold z) x.index.records

@@ -29,7 +29,7 @@ use Rattle.dg_index.specs.IndexRecords.{Record, Events, Exact, closed_list, piec
 use Rattle.dg_index.specs.declared.entry.Entry.{Entry}
 use Rattle.dg_index.specs.declared.entry.Row.{Row}
 use Rattle.dg_index.specs.declared.entry.BatchEntry.{BatchEntry}
-use Rattle.dg_index.specs.OpenedIndex.{Opened, bare, opened_of, opened_onto, with_segment, directory_of, rows_in, list_row, record_row, lengths_of, laid, total, keys_next, events_in, column_at}
+use Rattle.dg_index.specs.OpenedIndex.{Opened, bare, opened_of, opened_onto, with_segment, directory_of, rows_in, list_row, record_row, lengths_of, laid, total, keys_next, event_total, column_at}
 use Rattle.dg_index.proofs.DueNodes.{due_to}
 use Rattle.dg_index.proofs.StableRecords.{child_within, stable, leaves_more}
 use Rattle.dg_index.proofs.ImageRanges.{behind}
@@ -227,7 +227,7 @@ piece_there p before (c ∷ front) b more = piece_there p (before ++ c.events) f
 -- what is known of what is opened so far
 pub record IsSoFar (z : History) (image : List ℕ) (x : Opened) (front : List Batch) : Type 0 where
   pub params : x.index.params ≡ z.params
-  pub count : events_in x.index.batches ≡ length (events_among front)
+  pub count : event_total x.index.batches ≡ length (events_among front)
   pub number : length x.index.batches ≡ length front
   pub kept : Each (IsKept z image) x.index.records
 

@@ -21,7 +21,7 @@ use Rattle.dg_index.specs.IndexRecords.{lists_due, deltas_due, piece_of}
 use Rattle.dg_index.specs.declared.entry.BatchEntry.{BatchEntry}
 use Rattle.dg_index.specs.declared.entry.Row.{Row}
 use Rattle.dg_index.specs.declared.entry.Entry.{Entry}
-use Rattle.dg_index.specs.OpenedIndex.{Opening, Opened, Directory, laid, total, rows_in, keys_next, events_in, list_count, delta_count, with_directory}
+use Rattle.dg_index.specs.OpenedIndex.{Opening, Opened, Directory, laid, total, rows_in, keys_next, event_total, list_count, delta_count, with_directory}
 use Rattle.dg_index.specs.EverAdded.{ever}
 use Rattle.dg_index.specs.IndexKeys.{keys_among, AreKept}
 use Rattle.dg_index.proofs.DueNodes.{numbers_length}
@@ -42,7 +42,7 @@ keys_of_one : Params → ℕ → ℕ → ℕ → List Key
 keys_of_one p number count events = lists_due p count (count + events) ++ (deltas_due p.k (leaves p count) (leaves p (count + events)) ++ key.Piece number ∷ [])
 
 pub keys_more : (p : Params) (number count : ℕ) (batches : List BatchEntry) (b : BatchEntry)
-    → keys_among p number count (batches ++ b ∷ []) ≡ keys_among p number count batches ++ (lists_due p (count + events_in batches) (count + events_in batches + b.events) ++ (deltas_due p.k (leaves p (count + events_in batches)) (leaves p (count + events_in batches + b.events)) ++ key.Piece (number + length batches) ∷ []))
+    → keys_among p number count (batches ++ b ∷ []) ≡ keys_among p number count batches ++ (lists_due p (count + event_total batches) (count + event_total batches + b.events) ++ (deltas_due p.k (leaves p (count + event_total batches)) (leaves p (count + event_total batches + b.events)) ++ key.Piece (number + length batches) ∷ []))
 unfolding keys_of_one
 keys_more p number count [] b = append-nil (keys_of_one p number count b.events) ∙ (λ i. keys_of_one p (num i) (cnt i) b.events)
   where
@@ -53,12 +53,12 @@ keys_more p number count [] b = append-nil (keys_of_one p number count b.events)
     cnt = omega arith
 keys_more p number count (c ∷ batches) b =
     ap (λ (l : List Key). keys_of_one p number count c.events ++ l) (keys_more p (number + 1) (count + c.events) batches b ∙ (λ i. keys_among p (number + 1) (count + c.events) batches ++ keys_of_one p (num i) (cnt i) b.events))
-    ∙ sym (append_assoc (keys_of_one p number count c.events) (keys_among p (number + 1) (count + c.events) batches) (keys_of_one p (number + length (c ∷ batches)) (count + events_in (c ∷ batches)) b.events))
+    ∙ sym (append_assoc (keys_of_one p number count c.events) (keys_among p (number + 1) (count + c.events) batches) (keys_of_one p (number + length (c ∷ batches)) (count + event_total (c ∷ batches)) b.events))
   where
     num : number + 1 + length batches ≡ number + length (c ∷ batches)
     num = omega arith
 
-    cnt : count + c.events + events_in batches ≡ count + events_in (c ∷ batches)
+    cnt : count + c.events + event_total batches ≡ count + event_total (c ∷ batches)
     cnt = omega (arith, sum_by-cons (λ (b : BatchEntry). b.events) c batches)
 
 -- the records of an index with one batch more, for each of whose keys there is a row, are those of its batches
@@ -66,13 +66,13 @@ pub kept_laid : (o : Opening) (b : BatchEntry) (rows : List Row) (offset used : 
     → AreKept (record { params = o.params; batches = o.batches ++ b ∷ []; records = o.records ++ laid offset (keys_next o b.events) rows; used = used })
 unfolding keys_of_one
 kept_laid o b rows offset used kept long =
-    let n : ℕ = events_in o.batches in
+    let n : ℕ = event_total o.batches in
     let keys : List Key = keys_next o b.events in
     map-append (λ (r : Key × Entry). r.0) o.records (laid offset keys rows) ∙ (λ i. kept i ++ laid_keys offset keys rows long i)
     ∙ (λ i. keys_among o.params 0 0 o.batches ++ keys_of_one o.params (length o.batches) (z i) b.events)
     ∙ sym (keys_more o.params 0 0 o.batches b ∙ (λ i. keys_among o.params 0 0 o.batches ++ keys_of_one o.params (w i) (0 + n) b.events))
   where
-    z : events_in o.batches ≡ 0 + events_in o.batches
+    z : event_total o.batches ≡ 0 + event_total o.batches
     z = omega arith
 
     w : 0 + length o.batches ≡ length o.batches
@@ -83,7 +83,7 @@ pub kept_more : (x : Opened) (d : Directory) (offset used : ℕ) → AreKept x.i
 unfolding keys_of_one
 kept_more x d offset used kept lists deltas =
     let o : Opening = x.index in
-    let n : ℕ = events_in o.batches in
+    let n : ℕ = event_total o.batches in
     let keys : List Key = keys_next o d.batch.events in
     let m : ℕ = leaves o.params n in
     let after : ℕ = leaves o.params (n + d.batch.events) in
@@ -94,7 +94,7 @@ kept_more x d offset used kept lists deltas =
     ∙ (λ i. keys_among o.params 0 0 o.batches ++ keys_of_one o.params (length o.batches) (z i) d.batch.events)
     ∙ sym (keys_more o.params 0 0 o.batches d.batch ∙ (λ i. keys_among o.params 0 0 o.batches ++ keys_of_one o.params (w i) (0 + n) d.batch.events))
   where
-    z : events_in x.index.batches ≡ 0 + events_in x.index.batches
+    z : event_total x.index.batches ≡ 0 + event_total x.index.batches
     z = omega arith
 
     w : 0 + length x.index.batches ≡ length x.index.batches

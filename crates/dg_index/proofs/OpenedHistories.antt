@@ -27,7 +27,7 @@ use Rattle.dg_history.specs.History.{first_time_of, History, Batch, are_paramete
 use Rattle.dg_history.specs.LegalHistory.{IsLegalBatch, AreLegalAfter, FitsEvent}
 use Rattle.dg_index.specs.ImageOfHistory.{is_blank, IsImageOf}
 use Rattle.dg_graph.specs.Names.{are_new}
-use Rattle.dg_index.specs.OpenedIndex.{No_index, may_be_named, rows_in, Opened, bare, opening, opened_of, opened_onto, with_segment, directory_of, list_row, record_row, laid, total, last_list, last_or, first_in, earliest_in, events_in, may_follow, may_be_listed, within, read_on, opened_or, opened_by, keys_next, MayStand}
+use Rattle.dg_index.specs.OpenedIndex.{No_index, may_be_named, rows_in, Opened, bare, opening, opened_of, opened_onto, with_segment, directory_of, list_row, record_row, laid, total, last_list, last_or, first_in, earliest_in, event_total, may_follow, may_be_listed, within, read_on, opened_or, opened_by, keys_next, MayStand}
 use Rattle.dg_index.specs.ImageText.{params_in, params_with, function_in, four_at}
 use Rattle.dg_graph.specs.declared.event.TheConstants.{REASON_TIME}
 use Rattle.dg_index.specs.Hierarchy.{numbers, leaves}
@@ -278,7 +278,7 @@ rises_first (e ∷ events) some r = (omega arith, r.1)
 -- the index and the names are those of these events and names
 pub record IsBehind (p : Params) (x : Opened) (before : List Event) (names : List (List ℕ)) : Type 0 where
   pub params : x.index.params ≡ p
-  pub count : events_in x.index.batches ≡ length before
+  pub count : event_total x.index.batches ≡ length before
   pub earliest : earliest_in 0 x.index.batches ≡ earliest_next (span_of before)
   pub names_are : x.names ≡ names
   pub first : (events : List Event) → 1 ≤ length events → first_in (first_time_of events) x.index.batches ≡ first_time_of (before ++ events)

@@ -51,8 +51,8 @@ pub record Directory : Type 0 where
 
 -- ---- what stands before a segment
 
-abbrev pub events_in : List BatchEntry → ℕ
-events_in batches = sum_by (λ (b : BatchEntry). b.events) batches
+abbrev pub event_total : List BatchEntry → ℕ
+event_total batches = sum_by (λ (b : BatchEntry). b.events) batches
 
 -- the earliest time that the next batch may begin with, where without these it is this one
 abbrev pub earliest_in : ℕ → List BatchEntry → ℕ
@@ -84,16 +84,16 @@ span_in (b ∷ batches) = Some (record { first = b.ends.first; last = last_end b
 
 -- the numbers of lists and of deltas that a batch of so many events gives
 abbrev pub list_count : Opening → ℕ → ℕ
-list_count o events = leaves o.params (events_in o.batches + events) - leaves o.params (events_in o.batches)
+list_count o events = leaves o.params (event_total o.batches + events) - leaves o.params (event_total o.batches)
 
 abbrev pub delta_count : Opening → ℕ → ℕ
-delta_count o events = length (deltas_due o.params.k (leaves o.params (events_in o.batches)) (leaves o.params (events_in o.batches + events)))
+delta_count o events = length (deltas_due o.params.k (leaves o.params (event_total o.batches)) (leaves o.params (event_total o.batches + events)))
 
 -- the keys of the records of such a batch's segment, in the order of the file
 abbrev pub keys_next : Opening → ℕ → List Key
 keys_next o events =
-    lists_due o.params (events_in o.batches) (events_in o.batches + events)
-    ++ (deltas_due o.params.k (leaves o.params (events_in o.batches)) (leaves o.params (events_in o.batches + events))
+    lists_due o.params (event_total o.batches) (event_total o.batches + events)
+    ++ (deltas_due o.params.k (leaves o.params (event_total o.batches)) (leaves o.params (event_total o.batches + events))
     ++ key.Piece (length o.batches) ∷ [])
 
 -- ---- reading a directory
@@ -167,7 +167,7 @@ may_be_named names new = are_new names new && nat_le (length names + length new)
 abbrev pub may_stand : Opened → ℕ → Directory → Bool
 may_stand x columns d =
     sum_by (λ (r : Row). total r.lengths) (rows_in d) == columns
-    && (may_follow (events_in x.index.batches) (earliest_in 0 x.index.batches) d.batch
+    && (may_follow (event_total x.index.batches) (earliest_in 0 x.index.batches) d.batch
     && (may_be_named x.names d.names
     && may_be_listed (last_list (first_in d.batch.ends.first x.index.batches) x.index.records) d.batch.ends.last d.lists))
 
@@ -287,6 +287,6 @@ pub record MayStand (x : Opened) (s : Segment) : Type 0 where
   pub deltas : length s.deltas ≡ delta_count x.index s.events
   pub few_lists : length s.lists < 2 ^ 32
   pub few_deltas : length s.deltas < 2 ^ 32
-  pub follows : may_follow (events_in x.index.batches) (earliest_in 0 x.index.batches) (directory_of s).batch ≡ true
+  pub follows : may_follow (event_total x.index.batches) (earliest_in 0 x.index.batches) (directory_of s).batch ≡ true
   pub named : may_be_named x.names s.names ≡ true
   pub listed : may_be_listed (last_list (first_in s.first x.index.batches) x.index.records) s.last (map list_row s.lists) ≡ true

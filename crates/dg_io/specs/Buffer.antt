@@ -3,7 +3,7 @@ use Rattle.std.specs.Prelude.{◌≡◌, ◌<◌, ◌≤◌, false, IsTrue, leng
 use Rattle.dg_io.specs.declared.lines.Lines.TheInside.{Inside}
 use Rattle.dg_io.specs.Feed.{has_feed}
 
-pub record IsWhole (l : Inside) : Type 0 where
+pub record IsBufferWhole (l : Inside) : Type 0 where
   pub start : l.start ≤ l.scanned
   pub scanned : l.scanned ≤ l.end
   pub within : l.end ≤ length l.buffer

@@ -76,7 +76,7 @@ impl Model for Lines {
 
     ghost Value = { LinesState };
 
-    ghost use Rattle.dg_io.specs.Buffer.{IsWhole};
+    ghost use Rattle.dg_io.specs.Buffer.{IsBufferWhole};
 
     ghost view = { λ l. record {
       held = slice_range l.buffer l.start l.end;
@@ -87,7 +87,7 @@ impl Model for Lines {
       text = slice_range l.buffer l.text_start l.text_end;
     } };
 
-    ghost invariant = { IsWhole };
+    ghost invariant = { IsBufferWhole };
 }
 
 impl Lines {

@@ -1,14 +1,16 @@
 -- Bytes on their way to a sink through a buffer, piece by piece.
-use Rattle.std.proofs.Common.{◌≡◌, ℕ, ◌+◌, ◌<◌, ◌≤◌, Option, Result, Ok, Err, OnErr, map, drop, length, get_or, codes, List, [], ◌∷◌, ◌++◌, refl, sym, ap, ◌∙◌, subst, append_assoc, append-nil}
+use Rattle.std.proofs.Common.{◌≡◌, ℕ, ◌+◌, ◌-◌, ◌<◌, ◌≤◌, Option, Result, Ok, Err, OnErr, map, take, drop, length, get_or, codes, List, [], ◌∷◌, ◌++◌, refl, sym, ap, ◌∙◌, subst, append_assoc, append-nil, arith}
 use Rattle.std.specs.List.{join_with_byte}
+use Rattle.std.proofs.lemmas.List.Concat.{flat_map-append}
 use Rattle.dg_io.specs.Told.{grown, GrowsByPart}
 use Rattle.dg_io.proofs.ToldLemmas.{grown_nothing, both_pieces, part_first, part_second}
 use Rattle.dg_machine.specs.declared.reply.BodyLine.{BodyLine}
 use Rattle.dg_machine.specs.declared.reply.Reply.{Reply}
 use Rattle.dg_machine.specs.ReplyText.{text_line, body_text, body_words, head_words, text}
 use Rattle.dg_line.specs.declared.reply_buffer.Word.{Word}
-use Rattle.dg_line.specs.Buffered.{IsBuffered, word_bytes}
-use Rattle.std.proofs.lemmas.List.{at_drop_more, at_drop_all}
+use Rattle.dg_line.specs.Buffered.{IsBuffered, spaced, word_bytes}
+use Rattle.std.proofs.lemmas.List.{at_drop_more, at_drop_all, length-append, length-take-le, take-append-drop, take-take, take_at}
+use borrow.Rule.Slice.PartMut.{put_mid, post_of}
 
 -- of all bytes, some are sent, then come those held, and `left` is still to be put
 pub record IsPartlyPut (start : Option (List ℕ)) (all : List ℕ) (now : Option (List ℕ)) (held left : List ℕ) : Type 0 where
@@ -104,13 +106,39 @@ put_past start mid all held between piece words i past feed g =
     subst (λ (left : List ℕ). IsPartlyPut start all mid held left)
     (rest_past between words i past ∙ ap (λ bytes. bytes ++ []) (sym feed)) g
 
--- what a loop over the lines of a body knows, before a line whose words are these
-pub put_line : (names : List (List ℕ)) (start mid : Option (List ℕ)) (all held : List ℕ) (lines : List BodyLine) (i : ℕ) (d : BodyLine) (words : List (List ℕ))
-    → i < length lines → words ≡ body_words names (get_or lines i d) → IsPartlyPut start all mid held (body_text names (drop i lines))
-    → IsPartlyPut start all mid held (text_line words ++ body_text names (drop (i + 1) lines))
-put_line names start mid all held lines i d words below is g =
-    subst (λ (left : List ℕ). IsPartlyPut start all mid held left)
-    (at_drop_more (body_text names) lines i d below ∙ ap (λ ws. text_line ws ++ body_text names (drop (i + 1) lines)) (sym is)) g
+-- of what is held, some is sent
+pub put_moved : (start mid now : Option (List ℕ)) (all held left new_held : List ℕ) → IsPartlyPut start all mid held left → IsBuffered mid held now new_held
+    → IsPartlyPut start all now new_held left
+put_moved start mid now all held left new_held g p = record {
+  sent = g.sent ++ p.sent;
+  written = both_pieces start mid now g.sent p.sent g.written p.written;
+  split =
+      append_assoc g.sent p.sent (new_held ++ left)
+      ∙ ap (λ bytes. g.sent ++ bytes) (sym (append_assoc p.sent new_held left) ∙ ap (λ bytes. bytes ++ left) p.rest) ∙ g.split;
+}
+
+-- or a write of it fails
+pub put_move_fails : (start mid new : Option (List ℕ)) (all held left : List ℕ) → IsPartlyPut start all mid held left → GrowsByPart mid held new
+    → GrowsByPart start all new
+put_move_fails start mid new all held left g p =
+    subst (λ (bytes : List ℕ). GrowsByPart start bytes new) g.split
+    (part_second start mid new g.sent (held ++ left) g.written (part_first mid new held left p))
+
+-- the next line of a body is held
+pub put_body_line : (names : List (List ℕ)) (start now : Option (List ℕ)) (all held new_held : List ℕ) (lines : List BodyLine) (i : ℕ) (d : BodyLine)
+    → i < length lines → new_held ≡ held ++ text_line (body_words names (get_or lines i d)) → IsPartlyPut start all now held (body_text names (drop i lines))
+    → IsPartlyPut start all now new_held (body_text names (drop (i + 1) lines))
+put_body_line names start now all held new_held lines i d below is g =
+    let line = text_line (body_words names (get_or lines i d)) in
+    let later = body_text names (drop (i + 1) lines) in
+    record {
+      sent = g.sent;
+      written = g.written;
+      split =
+          ap (λ bytes. g.sent ++ bytes)
+          (ap (λ bytes. bytes ++ later) is ∙ append_assoc held line later
+          ∙ ap (λ bytes. held ++ bytes) (sym (at_drop_more (body_text names) lines i d below))) ∙ g.split;
+    }
 
 -- and behind the last
 pub put_lines_past : (names : List (List ℕ)) (start mid : Option (List ℕ)) (all held : List ℕ) (lines : List BodyLine) (i : ℕ) → length lines ≤ i
@@ -142,3 +170,40 @@ pub buffered_fails : (start mid new : Option (List ℕ)) (all held : List ℕ) �
     → GrowsByPart start all new
 buffered_fails start mid new all held p q =
     subst (λ (bytes : List ℕ). GrowsByPart start bytes new) p.rest (part_second start mid new p.sent held p.written q)
+
+-- a number's text is held, of the twenty bytes that are written behind those held
+pub number_held : (bytes digits text rest ys : List ℕ) (held start k : ℕ) → held ≤ length bytes → start + length text ≡ 20 → drop start digits ≡ text ++ rest
+    → ys ≡ take (start + 20 - start) (drop start digits) → take (held + (20 - start)) (put_mid held k bytes ys) ≡ take held bytes ++ text
+number_held bytes digits text rest ys held start k below whole is copied =
+    let n = length text in
+    let later = drop n ys in
+    let behind = post_of held k bytes in
+    let front : take n ys ≡ text =
+    ap (take n) copied ∙ take-take n (start + 20 - start) (drop start digits) (omega arith) ∙ ap (take n) is ∙ take_at text rest n refl in
+    let parts : ys ≡ text ++ later = sym (take-append-drop n ys) ∙ ap (λ xs. xs ++ later) front in
+    ap (λ xs. take (held + (20 - start)) (take held bytes ++ (xs ++ behind))) parts
+    ∙ ap (λ xs. take (held + (20 - start)) (take held bytes ++ xs)) (append_assoc text later behind)
+    ∙ ap (take (held + (20 - start))) (sym (append_assoc (take held bytes) text (later ++ behind)))
+    ∙ take_at (take held bytes ++ text) (later ++ behind) (held + (20 - start))
+    (omega (arith, length-append (take held bytes) text, length-take-le held bytes below))
+
+-- the words of a line, each but the first behind a space
+line_spaced : (w : List ℕ) (ws : List (List ℕ)) → text_line (w ∷ ws) ≡ w ++ (spaced ws ++ 10 ∷ [])
+line_spaced w [] = refl
+line_spaced w (v ∷ ws) =
+    append_assoc w (32 ∷ join_with_byte 32 (v ∷ ws)) (10 ∷ [])
+    ∙ ap (λ bytes. w ++ (32 ∷ bytes)) (line_spaced v ws ∙ sym (append_assoc v (spaced ws) (10 ∷ [])))
+
+pieces : (held a b c d e f : List ℕ) → (((((held ++ a) ++ b) ++ c) ++ d) ++ e) ++ f ≡ held ++ (a ++ ((b ++ (c ++ (d ++ (e ++ [])))) ++ f))
+pieces held a b c d e f = simp (append_assoc, append-nil) refl
+
+-- what is held behind a record's line: `record`, the words of its key, and the lengths of its columns
+pub record_held : (held : List ℕ) (key : List (List ℕ)) (s n e : List ℕ)
+    → (((((held ++ codes "record") ++ spaced key) ++ (32 ∷ s)) ++ (32 ∷ n)) ++ (32 ∷ e)) ++ 10 ∷ []
+    ≡ held ++ text_line (codes "record" ∷ (key ++ s ∷ n ∷ e ∷ []))
+record_held held key s n e =
+    let line : text_line (codes "record" ∷ (key ++ s ∷ n ∷ e ∷ []))
+    ≡ codes "record" ++ ((spaced key ++ ((32 ∷ s) ++ ((32 ∷ n) ++ ((32 ∷ e) ++ [])))) ++ 10 ∷ []) =
+    line_spaced (codes "record") (key ++ s ∷ n ∷ e ∷ [])
+    ∙ ap (λ bytes. codes "record" ++ (bytes ++ 10 ∷ [])) (flat_map-append (λ w. 32 ∷ w) key (s ∷ n ∷ e ∷ [])) in
+    pieces held (codes "record") (spaced key) (32 ∷ s) (32 ∷ n) (32 ∷ e) (10 ∷ []) ∙ ap (λ bytes. held ++ bytes) (sym line)

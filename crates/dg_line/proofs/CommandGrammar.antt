@@ -10,7 +10,7 @@ use Rattle.dg_graph.specs.Words.{words}
 use Rattle.dg_history.specs.ChangeGrammar.{id_of, time_of}
 use Rattle.dg_machine.specs.declared.command.Command.{Command}
 use Rattle.dg_machine.specs.declared.command.Command.TheVariants as command
-use Rattle.dg_machine.specs.CommandGrammar.{Begins, IsColumn, columns_of, command_verbs, count_from_0, count_of, function_of, handle_of, held_node_verbs, n32_of, sweep_of}
+use Rattle.dg_machine.specs.CommandGrammar.{BeginsCommand, IsColumn, columns_of, command_verbs, count_from_0, count_of, function_of, handle_of, held_node_verbs, n32_of, sweep_of}
 use Rattle.dg_line.specs.Prefixes.{IsLongestPrefix, IsPrefixOfOne}
 use Rattle.dg_line.specs.Symbols.{Terminal, One_of, Number, IsLineOfOne}
 use Rattle.dg_line.proofs.Numbers.{number_within}
@@ -82,7 +82,7 @@ abbrev pub command_rows : List (List Terminal)
 command_rows = commands.rows
 
 -- `load 1` is a command
-some_command : Begins []
+some_command : BeginsCommand []
 some_command = (
   codes "load 1",
   ap (λ (o : Option ℕ). is_some (option_and_then (λ (n : ℕ). Some (command.Load n)) o))
@@ -95,20 +95,20 @@ pub column_is : (line : List ℕ) (longest column : ℕ) → IsLongestPrefix (Is
 column_is line longest column f is = record {
   from_one = omega arith;
   within = omega (arith, f.within);
-  begins = subst (λ (n : ℕ). Begins (take n line)) (let e : longest ≡ column - 1 = omega arith in e) (begins longest f);
+  begins = subst (λ (n : ℕ). BeginsCommand (take n line)) (let e : longest ≡ column - 1 = omega arith in e) (begins longest f);
   longest = λ n above in_line b.
       let most = f.longest (take n line) (drop n line) (take-append-drop n line) (fills (take n line) b) in
       omega (arith, length-take-le n line in_line);
 }
   where
-    fills : (bytes : List ℕ) → Begins bytes → IsPrefixOfOne (IsLineOfOne command_rows) bytes
+    fills : (bytes : List ℕ) → BeginsCommand bytes → IsPrefixOfOne (IsLineOfOne command_rows) bytes
     fills bytes b =
         let found = commands.takes (words (bytes ++ b.0)) b.1 in
         let same : words (bytes ++ b.0) ++ zeros found.0 ≡ words (bytes ++ (b.0 ++ zero_text found.0)) =
         sym (zero_words found.0 (bytes ++ b.0)) ∙ ap words (append_assoc bytes b.0 (zero_text found.0)) in
         (b.0 ++ zero_text found.0, subst (λ (ws : List (List ℕ)). Any (AreWordsOf ws) command_rows) same found.1)
 
-    begins : (n : ℕ) → IsLongestPrefix (IsLineOfOne command_rows) line n → Begins (take n line)
+    begins : (n : ℕ) → IsLongestPrefix (IsLineOfOne command_rows) line n → BeginsCommand (take n line)
     begins zero g = some_command
     begins (suc n) g =
         let b = g.begins (omega arith) in

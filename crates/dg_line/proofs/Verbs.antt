@@ -9,7 +9,7 @@ use Rattle.std.specs.Option.{option_map}
 use Rattle.std.proofs.lemmas.Bool.{false≢true}
 use Rattle.std.proofs.lemmas.List.{append-nil}
 use Rattle.std.proofs.lemmas.Slice.Eq.{bytes_eq-Decides}
-use Rattle.dg_graph.specs.Verbs.{Verb, is_word, look_up, read_by, none_more, one, two, three}
+use Rattle.dg_graph.specs.Verbs.{Verb, is_word, look_up, read_by, none_more, one, two_words, three}
 use Rattle.dg_graph.specs.Words.{number}
 use Rattle.dg_line.specs.Symbols.{Terminal, One_of, Number, IsWordOf}
 use Rattle.dg_line.proofs.Any.{both_true, any_first, any_none, any_cases, any_left, any_right, any_either, any_mapped, any_unmapped, any_weaker, contains_first, contains_later, contains_none, contains_cases}
@@ -104,14 +104,14 @@ one_row {a = a} {t = t} r make =
     after_word a t (λ v ws. none_more (make v) ws) [] (one a make) refl (λ w ws. refl) r (λ v. no_words (make v))
 
 pub two_row : {A B C : Type 0} {a : List ℕ → Option A} {b : List ℕ → Option B} {t u : Terminal} → ReadsWord a t → ReadsWord b u
-    → (make : A → B → C) → ReadsRow (two a b make) (t ∷ u ∷ [])
+    → (make : A → B → C) → ReadsRow (two_words a b make) (t ∷ u ∷ [])
 two_row {a = a} {b = b} {t = t} {u = u} r s make =
-    after_word a t (λ v ws. one b (make v) ws) (u ∷ []) (two a b make) refl (λ w ws. refl) r (λ v. one_row s (make v))
+    after_word a t (λ v ws. one b (make v) ws) (u ∷ []) (two_words a b make) refl (λ w ws. refl) r (λ v. one_row s (make v))
 
 pub three_row : {A B C D : Type 0} {a : List ℕ → Option A} {b : List ℕ → Option B} {c : List ℕ → Option C} {t u v : Terminal}
     → ReadsWord a t → ReadsWord b u → ReadsWord c v → (make : A → B → C → D) → ReadsRow (three a b c make) (t ∷ u ∷ v ∷ [])
 three_row {a = a} {b = b} {c = c} {t = t} {u = u} {v = v} r s q make =
-    after_word a t (λ x ws. two b c (make x) ws) (u ∷ v ∷ []) (three a b c make) refl (λ w ws. refl) r (λ x. two_row s q (make x))
+    after_word a t (λ x ws. two_words b c (make x) ws) (u ∷ v ∷ []) (three a b c make) refl (λ w ws. refl) r (λ x. two_row s q (make x))
 
 -- ---- a table of verbs
 

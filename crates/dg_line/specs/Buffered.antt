@@ -1,6 +1,8 @@
 -- Bytes on their way to a sink through a buffer.
-use Rattle.std.specs.Prelude.{◌≡◌, ℕ, List, ◌++◌, Option, decimal}
+use Rattle.std.specs.Prelude.{◌≡◌, ℕ, ◌+◌, ◌≤◌, List, ◌∷◌, ◌++◌, Option, decimal, length}
+use Rattle.std.specs.List.{flat_map}
 use Rattle.dg_io.specs.Told.{grown}
+use Rattle.dg_line.specs.declared.reply_buffer.TheConstants.{BUFFER_BYTES}
 use Rattle.dg_line.specs.declared.reply_buffer.Word.{Word}
 use Rattle.dg_line.specs.declared.reply_buffer.Word.TheVariants as word
 
@@ -14,3 +16,11 @@ pub record IsBuffered (before : Option (List ℕ)) (bytes : List ℕ) (after : O
 abbrev pub word_bytes : Word → List ℕ
 word_bytes (word.Text text) = text.now
 word_bytes (word.Number n) = decimal n
+
+-- behind the bytes held there is room for this many
+abbrev pub HasBufferRoom : List ℕ → ℕ → Type 0
+HasBufferRoom held n = length held + n ≤ BUFFER_BYTES
+
+-- words, each behind a space
+abbrev pub spaced : List (List ℕ) → List ℕ
+spaced ws = flat_map (λ w. 32 ∷ w) ws

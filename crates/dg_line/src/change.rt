@@ -1,6 +1,6 @@
 ghost use Rattle.std.specs.Prelude.{◌≡◌, ◌+◌, ◌<◌, ◌≤◌, ◌⊎◌, List, ℕ, Some, None, IfOk, IsErrOf, OnOk, OnErr, length, take};
 ghost use Rattle.std.specs.Option.{option_map};
-ghost use Rattle.dg_history.specs.ChangeGrammar.{WhatByText, Plain, ChangeByText, what_by_text_of, change_with, direction_of, named, new_edge, one_id, change_by_text_of, set_of, unset_of, what_in};
+ghost use Rattle.dg_history.specs.ChangeGrammar.{WhatByText, Plain, ChangeByText, what_by_text_of, change_with, direction_of, named, new_edge, one_id, change_by_text_of, setting_of, unset_of, what_in};
 ghost use Rattle.dg_graph.specs.Names.{added, number_in};
 ghost use Rattle.dg_line.specs.TextChange.{change_by_text, what_by_text, with_key};
 ghost use Rattle.dg_line.specs.declared.change.ChangeFault.TheVariants.{Memory};
@@ -214,7 +214,7 @@ fn new_edge(mut words: Words) -> Option<What>
 
 // `ID KEY VALUE`, where the value is the rest of the line.
 fn parse_attribute(mut words: Words) -> Option<TextAttribute>
-    ensures { (make : ℕ → List ℕ → List ℕ → WhatByText) → option_map (λ a. make a.id a.key.now a.value.now) result ≡ set_of make words.entry }
+    ensures { (make : ℕ → List ℕ → List ℕ → WhatByText) → option_map (λ a. make a.id a.key.now a.value.now) result ≡ setting_of make words.entry }
 {
     let owner = words.next()?;
     let key = words.next()?;

@@ -1,6 +1,6 @@
 ghost use Rattle.std.specs.Prelude.{◌≡◌, ◌≤◌, ◌∷◌, IfErr, IfOk, IfSome, List, option_and_then, ℕ};
 ghost use Rattle.std.specs.Result.{result_ok};
-ghost use Rattle.dg_graph.specs.Verbs.{none_more, one, read_by, two, three};
+ghost use Rattle.dg_graph.specs.Verbs.{none_more, one, read_by, two_words, three};
 ghost use Rattle.dg_history.specs.ChangeGrammar.{id_of, time_of};
 ghost use Rattle.dg_machine.specs.CommandGrammar.{IsColumn, CountIsInRange, columns_of, command_of, count_from_0, count_of, function_of, handle_of, held_node_verbs, n32_of, several_of, several_with, sweep_of, times_of};
 
@@ -167,7 +167,7 @@ fn append(mut words: Words) -> Option<Command>
 
 // `at TIME COLS`, from the words after `at`.
 fn at(mut words: Words) -> Option<Command>
-    ensures command { result ≡ two time_of columns_of (λ t cols. Command.At t cols) words.entry }
+    ensures command { result ≡ two_words time_of columns_of (λ t cols. Command.At t cols) words.entry }
     ensures range { IfSome result (λ c. CountIsInRange c) }
 {
     let t = time(words.next()?)?;
@@ -226,7 +226,7 @@ fn materialise(mut words: Words) -> Option<Command>
 
 // `materialise` with a leaf, from the words after `leaf`: its number and the columns.
 fn leaf(mut words: Words) -> Option<Command>
-    ensures command { result ≡ two n32_of columns_of (λ number cols. Command.Materialise (NodeId.Leaf number) cols) words.entry }
+    ensures command { result ≡ two_words n32_of columns_of (λ number cols. Command.Materialise (NodeId.Leaf number) cols) words.entry }
     ensures range { IfSome result (λ c. CountIsInRange c) }
 {
     let number = n32(words.next()?)?;
@@ -275,7 +275,7 @@ fn counts(mut words: Words) -> Option<Command>
 
 // `node HANDLE ID`, from the words after `node`.
 fn node(mut words: Words) -> Option<Command>
-    ensures command { result ≡ two handle_of id_of (λ handle id. Command.Node handle id) words.entry }
+    ensures command { result ≡ two_words handle_of id_of (λ handle id. Command.Node handle id) words.entry }
     ensures range { IfSome result (λ c. CountIsInRange c) }
 {
     let handle = handle(words.next()?)?;
@@ -286,7 +286,7 @@ fn node(mut words: Words) -> Option<Command>
 
 // `neighbours HANDLE ID`, from the words after `neighbours`.
 fn neighbours(mut words: Words) -> Option<Command>
-    ensures command { result ≡ two handle_of id_of (λ handle id. Command.Neighbours handle id) words.entry }
+    ensures command { result ≡ two_words handle_of id_of (λ handle id. Command.Neighbours handle id) words.entry }
     ensures range { IfSome result (λ c. CountIsInRange c) }
 {
     let handle = handle(words.next()?)?;
@@ -326,7 +326,7 @@ fn pool(words: Words) -> Option<Command>
 
 // `plan TIME COLS`, from the words after `plan`.
 fn plan(mut words: Words) -> Option<Command>
-    ensures command { result ≡ two time_of columns_of (λ t cols. Command.Plan t cols) words.entry }
+    ensures command { result ≡ two_words time_of columns_of (λ t cols. Command.Plan t cols) words.entry }
     ensures range { IfSome result (λ c. CountIsInRange c) }
 {
     let t = time(words.next()?)?;
@@ -367,7 +367,7 @@ fn tree(words: Words) -> Option<Command>
 
 // `workload ID COUNT`, from the words after `workload`: the seed and the number of changes.
 fn workload(mut words: Words) -> Option<Command>
-    ensures command { result ≡ two id_of count_of (λ seed count. Command.Workload seed count) words.entry }
+    ensures command { result ≡ two_words id_of count_of (λ seed count. Command.Workload seed count) words.entry }
     ensures range { IfSome result (λ c. CountIsInRange c) }
 {
     let seed = id(words.next()?)?;

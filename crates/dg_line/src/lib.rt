@@ -2,6 +2,7 @@
 //! line, and the text of a reply. docs/SCRIPT.md has the grammar.
 #![tactic(auto)]
 
+mod body_line;
 mod change;
 mod command;
 mod grammar;

@@ -1,18 +1,18 @@
-ghost use Rattle.std.specs.Prelude.{◌≡◌, ◌≤◌, ◌++◌, [], ◌∷◌, map, take, codes, decimal, if◌then◌else◌, OnOk, OnErr};
-ghost use Rattle.dg_machine.specs.ReplyText.{text, body_text, column_word, head_words, element_words, body_words, function_word, key_words, node_words, refusal_words, side_word, soundness_words, verdict_words};
-ghost use Rattle.dg_graph.specs.Names.{name_text};
+ghost use Rattle.std.specs.Prelude.{◌≡◌, ◌≤◌, ◌++◌, [], ◌∷◌, map, take, codes, decimal, OnOk, OnErr};
+ghost use Rattle.dg_machine.specs.ReplyText.{text, body_text, column_word, head_words, function_word, key_words, refusal_words, soundness_words, verdict_words};
 ghost use Rattle.dg_io.specs.Told.{grown, GrowsByPart, CountRose};
 ghost use Rattle.dg_line.specs.Buffered.{IsBuffered, word_bytes};
 
+use crate::body_line::hold_body_line;
 use crate::reply_buffer::{ReplyBuffer, Word};
 use crate::reply_line::{ReplyLine, WORDS_MAX};
-use dg_graph::{Column, Element, Function};
-use dg_history::{Key, NodeId};
+use dg_graph::{Column, Function};
+use dg_history::Key;
 use dg_io::{Failed, Sink};
 use dg_machine::{BodyLine, Head, Refusal, Reply};
 use dg_names::Names;
 use dg_plan::Verdict;
-use dg_query::{Counts, Neighbour, Side};
+use dg_query::Counts;
 use dg_sound::Soundness;
 
 const OK: Word<'static> = Word::Text(b"ok");
@@ -48,8 +48,8 @@ fn put_body<K: Sink>(
     ensures counted { K.faults sink.old ≤ K.faults sink.new }
 {
     for line in lines {
-        let words = body_line(names, line);
-        buffer.put_line(sink, words.words())?;
+        buffer.make_room(sink)?;
+        hold_body_line(buffer, names, line);
     }
     Ok(())
 }
@@ -418,158 +418,4 @@ fn column_letter(column: Column) -> &'static [u8]
         Column::NodeAttr => b"n".as_slice(),
         Column::EdgeAttr => b"e".as_slice(),
     }
-}
-
-// The words of a body line.
-fn body_line<'a>(names: &'a Names, line: &BodyLine) -> ReplyLine<'a>
-    ensures words { map word_bytes (take result.len result.words) ≡ body_words names.now line.now }
-    ensures len { result.len ≤ WORDS_MAX }
-{
-    match line {
-        BodyLine::Element(element) => element_line(names, element),
-        BodyLine::Attribute(attribute) => {
-            ReplyLine::of(&[
-                Word::Text(b"attr"),
-                name(names, attribute.key),
-                name(names, attribute.value),
-            ])
-        }
-        BodyLine::Neighbour(neighbour) => neighbour_line(*neighbour),
-        BodyLine::Handle { handle, t, single } => handle_line(*handle, *t, *single),
-        BodyLine::Step { edge, head, weight } => step_line(*edge, *head, *weight),
-        BodyLine::Potential { node, value } => potential_line(*node, *value),
-        BodyLine::Sizes { key, lengths } => sizes_line(*key, *lengths),
-    }
-}
-
-// A line of an edge at a node: the side on which it lies, its id, and the node at its other end.
-fn neighbour_line(neighbour: Neighbour) -> ReplyLine<'static>
-    ensures words { map word_bytes (take result.len result.words) ≡ side_word neighbour.side ∷ decimal neighbour.edge ∷ decimal neighbour.node ∷ [] }
-    ensures len { result.len ≤ WORDS_MAX }
-{
-    ReplyLine::of(&[
-        Word::Text(side_name(neighbour.side)),
-        Word::Number(neighbour.edge),
-        Word::Number(neighbour.node),
-    ])
-}
-
-// The word of the side of a node on which an edge lies.
-fn side_name(side: Side) -> &'static [u8]
-    ensures { result.now ≡ side_word side }
-{
-    match side {
-        Side::Out => b"out".as_slice(),
-        Side::Inward => b"in".as_slice(),
-        Side::Both => b"both".as_slice(),
-    }
-}
-
-// A line of a new handle: its number, its instant, and the weight of the instant's single plan.
-fn handle_line(handle: u32, t: u64, single: u64) -> ReplyLine<'static>
-    ensures words { map word_bytes (take result.len result.words) ≡ codes "handle" ∷ decimal handle ∷ decimal t ∷ decimal single ∷ [] }
-    ensures len { result.len ≤ WORDS_MAX }
-{
-    ReplyLine::of(&[
-        Word::Text(b"handle"),
-        Word::Number(u64::from(handle)),
-        Word::Number(t),
-        Word::Number(single),
-    ])
-}
-
-// A line of a plan's step: the number of its edge, the node that it enters, and its weight.
-fn step_line(edge: u32, head: NodeId, weight: u64) -> ReplyLine<'static>
-    ensures words { map word_bytes (take result.len result.words) ≡ codes "step" ∷ decimal edge ∷ (node_words head ++ decimal weight ∷ []) }
-    ensures len { result.len ≤ WORDS_MAX }
-{
-    let mut line = ReplyLine::of(&[Word::Text(b"step"), Word::Number(u64::from(edge))]);
-    line.put_node(head);
-    line.put(Word::Number(weight));
-    line
-}
-
-// A line of the potential of a node.
-fn potential_line(node: NodeId, value: u64) -> ReplyLine<'static>
-    ensures words { map word_bytes (take result.len result.words) ≡ codes "potential" ∷ (node_words node ++ decimal value ∷ []) }
-    ensures len { result.len ≤ WORDS_MAX }
-{
-    let mut line = ReplyLine::of(&[Word::Text(b"potential")]);
-    line.put_node(node);
-    line.put(Word::Number(value));
-    line
-}
-
-// A line of a record: its key, and the bytes of its three columns.
-fn sizes_line(key: Key, lengths: [u64; 3]) -> ReplyLine<'static>
-    ensures words { map word_bytes (take result.len result.words) ≡ codes "record" ∷ (key_words key ++ map decimal lengths) }
-    ensures len { result.len ≤ WORDS_MAX }
-{
-    let [structure, nodes, edges] = lengths;
-    let mut line = ReplyLine::of(&[Word::Text(b"record")]);
-    line.put_key(key);
-    line.put(Word::Number(structure));
-    line.put(Word::Number(nodes));
-    line.put(Word::Number(edges));
-    line
-}
-
-fn element_line<'a>(names: &'a Names, element: &Element) -> ReplyLine<'a>
-    ensures words { map word_bytes (take result.len result.words) ≡ element_words names.now element.now }
-    ensures len { result.len ≤ WORDS_MAX }
-{
-    match *element {
-        Element::Node { id } => ReplyLine::of(&[Word::Text(b"node"), Word::Number(id)]),
-        Element::Edge {
-            id,
-            src,
-            dst,
-            directed,
-        } => edge_line(id, src, dst, directed),
-        Element::NodeAttr { id, key, value } => {
-            attribute_line(b"nattr", id, name(names, key), name(names, value))
-        }
-        Element::EdgeAttr { id, key, value } => {
-            attribute_line(b"eattr", id, name(names, key), name(names, value))
-        }
-    }
-}
-
-// A line of an edge.
-fn edge_line(id: u64, src: u64, dst: u64, directed: bool) -> ReplyLine<'static>
-    ensures words { map word_bytes (take result.len result.words) ≡ codes "edge" ∷ decimal id ∷ decimal src ∷ decimal dst ∷ (if directed then codes "dir" else codes "undir") ∷ [] }
-    ensures len { result.len ≤ WORDS_MAX }
-{
-    ReplyLine::of(&[
-        Word::Text(b"edge"),
-        Word::Number(id),
-        Word::Number(src),
-        Word::Number(dst),
-        Word::Text(direction(directed)),
-    ])
-}
-
-// A line of an attribute: its kind, an id, a key and a value.
-fn attribute_line<'a>(kind: &'static [u8], id: u64, key: Word<'a>, value: Word<'a>) -> ReplyLine<'a>
-    ensures words { map word_bytes (take result.len result.words) ≡ kind.now ∷ decimal id ∷ word_bytes key.entry ∷ word_bytes value.entry ∷ [] }
-    ensures len { result.len ≤ WORDS_MAX }
-{
-    ReplyLine::of(&[Word::Text(kind), Word::Number(id), key, value])
-}
-
-fn direction(directed: bool) -> &'static [u8]
-    ensures { result.now ≡ (if directed then codes "dir" else codes "undir") }
-{
-    if directed {
-        b"dir".as_slice()
-    } else {
-        b"undir".as_slice()
-    }
-}
-
-// The text of the name of this number, or the empty text where there is no such name.
-fn name(names: &Names, number: u32) -> Word
-    ensures { word_bytes result ≡ name_text names.now number }
-{
-    Word::Text(names.text(number).unwrap_or(b"".as_slice()))
 }

@@ -1,14 +1,24 @@
-ghost use Rattle.std.specs.Prelude.{◌≡◌, ◌+◌, ◌≤◌, ℕ, List, [], ◌++◌, length, map, OnOk, OnErr};
+ghost use Rattle.std.specs.Prelude.{◌≡◌, ◌+◌, ◌≤◌, ℕ, List, [], ◌++◌, decimal, length, map, OnOk, OnErr};
 ghost use Rattle.dg_machine.specs.ReplyText.{text_line};
 ghost use Rattle.dg_io.specs.Told.{grown, GrowsByPart, CountRose};
 ghost use Rattle.dg_line.specs.Buffered.{IsBuffered, word_bytes};
 
+use dg_graph::NAME_BYTES_MAX;
 use dg_io::{Failed, Sink, write_whole};
-use itoa::Buffer;
+use itoa::{Buffer, write_digits};
 use std::marker::Model;
 
-/// The most bytes that a buffer holds. A reply of no more bytes is one write.
-const BUFFER_BYTES: usize = 8192;
+/// The most bytes that are held before a line of a body. A reply of no more bytes is one write.
+const HELD_BYTES: usize = 8192;
+
+/// The most bytes of a line of a body: those of a key and a value, and of what stands before them.
+pub(crate) const BODY_LINE_BYTES: usize = 2 * NAME_BYTES_MAX + 64;
+
+/// The most bytes that a buffer holds.
+const BUFFER_BYTES: usize = HELD_BYTES + BODY_LINE_BYTES;
+
+/// The most bytes of a number's text.
+const NUMBER_BYTES: usize = 20;
 
 /// A word of a line of text.
 #[derive(Clone, Copy)]
@@ -63,6 +73,60 @@ impl ReplyBuffer {
             between = b" ".as_slice();
         }
         self.put(sink, b"\n".as_slice())
+    }
+
+    /// Makes room for a line of a body: where there is none, what is held is written. `Failed` where
+    /// a write failed: then a part of it is written.
+    pub fn make_room<K: Sink>(&mut self, sink: &mut K) -> Result<(), Failed>
+        ensures ok { OnOk result (IsBuffered (K.written sink.old) self.old (K.written sink.new) self.new) }
+        ensures room { OnOk result (length self.new + BODY_LINE_BYTES ≤ BUFFER_BYTES) }
+        ensures err { OnErr result (GrowsByPart (K.written sink.old) self.old (K.written sink.new)) }
+        ensures cause { OnErr result (CountRose (K.faults sink.old) (K.faults sink.new)) }
+        ensures counted { K.faults sink.old ≤ K.faults sink.new }
+    {
+        if self.held <= HELD_BYTES {
+            return Ok(());
+        }
+        self.flush(sink)
+    }
+
+    /// Holds a text behind what is held, where there is room.
+    #[inline(always)]
+    pub fn hold(&mut self, piece: &[u8])
+        requires { length self.old + length piece.now ≤ BUFFER_BYTES }
+        ensures put { self.new ≡ self.old ++ piece.now }
+        ensures len { length self.new ≡ length self.old + length piece.now }
+    {
+        let end = self.held + piece.len();
+        self.bytes[self.held..end].copy_from_slice(piece);
+        self.held = end;
+    }
+
+    /// Holds the decimal text of a number behind what is held, where there is room.
+    pub fn hold_number(&mut self, n: u64)
+        requires { length self.old + NUMBER_BYTES ≤ BUFFER_BYTES }
+        ensures put { self.new ≡ self.old ++ decimal n }
+        ensures len { length self.new ≤ length self.old + NUMBER_BYTES }
+    {
+        // As many bytes are copied for each number, and those behind the digits are not held: a copy
+        // whose length is known needs no call.
+        let mut digits = [0; 2 * NUMBER_BYTES];
+        let start = write_digits(n, &mut digits, NUMBER_BYTES);
+        self.bytes[self.held..self.held + NUMBER_BYTES].copy_from_slice(
+            &digits[start..start + NUMBER_BYTES],
+        );
+        self.held += NUMBER_BYTES - start;
+    }
+
+    /// Holds a text and a number behind what is held, where there is room.
+    #[inline(always)]
+    pub fn hold_with(&mut self, text: &[u8], n: u64)
+        requires { length self.old + (length text.now + NUMBER_BYTES) ≤ BUFFER_BYTES }
+        ensures put { self.new ≡ self.old ++ (text.now ++ decimal n) }
+        ensures len { length self.new ≤ length self.old + (length text.now + NUMBER_BYTES) }
+    {
+        self.hold(text);
+        self.hold_number(n);
     }
 
     /// Writes what is held. `Failed` where a write failed: then a part of it is written, and all of it is
@@ -122,14 +186,5 @@ impl ReplyBuffer {
         ensures { result + length self.now ≡ BUFFER_BYTES }
     {
         BUFFER_BYTES - self.held
-    }
-
-    fn hold(&mut self, piece: &[u8])
-        requires { length self.old + length piece.now ≤ BUFFER_BYTES }
-        ensures { self.new ≡ self.old ++ piece.now }
-    {
-        let end = self.held + piece.len();
-        self.bytes[self.held..end].copy_from_slice(piece);
-        self.held = end;
     }
 }

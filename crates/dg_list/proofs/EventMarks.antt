@@ -11,7 +11,7 @@ use Rattle.std.proofs.lemmas.List.{map-append, drop_more}
 use Rattle.std.proofs.lemmas.List.Sorted.{ranks_by}
 use Rattle.dg_graph.specs.declared.element.Element.{Element}
 use Rattle.dg_graph.specs.declared.event.Event.{Event}
-use Rattle.dg_graph.specs.Composition.{Delta, Says, In, Out, As_it_was, says, and_then, composition, Composes}
+use Rattle.dg_graph.specs.Composition.{Delta, Says, In, Out, As_it_was, says, then_says, composition, Composes}
 use Rattle.dg_graph.specs.Elements.{IsSet, IsBelowFirst, element_cmp, before, has, same}
 use Rattle.dg_graph.proofs.Sets.{element_total, element_exact, before_trans, lacks_below}
 use Rattle.dg_set.specs.Apart.{AreApart}
@@ -25,7 +25,7 @@ earlier_ranks = ranks_by element_total (λ (m : Mark). m.element)
 
 -- ---- words
 
-first_word : (w : Says) → and_then As_it_was w ≡ w
+first_word : (w : Says) → then_says As_it_was w ≡ w
 first_word In = refl
 first_word Out = refl
 first_word As_it_was = refl
@@ -41,7 +41,7 @@ says_one m x = by m.puts_in (same x m.element)
     by true b = elim (same x m.element) as (λ t. cond (t || false) In As_it_was ≡ said true t) [ true ↦ refl | false ↦ refl ]
     by false b = elim (same x m.element) as (λ t. cond (t || false) Out As_it_was ≡ said false t) [ true ↦ refl | false ↦ refl ]
 
-repeats : (p q b : Bool) → and_then (said p b) (said q b) ≡ said q b
+repeats : (p q b : Bool) → then_says (said p b) (said q b) ≡ said q b
 repeats true true true = refl
 repeats true false true = refl
 repeats false true true = refl
@@ -126,10 +126,10 @@ absorbed m (n ∷ rest) e x =
     let one = says_one m x ∙ ap (λ z. said m.puts_in (same x z)) is in
     let two = says_one n x in
     let b = same x n.element in
-    ap (λ w. and_then w later) two
-    ∙ ap (λ w. and_then w later) (sym (repeats m.puts_in n.puts_in b))
+    ap (λ w. then_says w later) two
+    ∙ ap (λ w. then_says w later) (sym (repeats m.puts_in n.puts_in b))
     ∙ and_then_associates (said m.puts_in b) (said n.puts_in b) later
-    ∙ sym (λ i. and_then (one i) (and_then (two i) later))
+    ∙ sym (λ i. then_says (one i) (then_says (two i) later))
 
 module _ (y : Element) (rest : List Mark) (minus plus : List Element) (k : Keeps minus plus rest) where
   abbrev at : Bool → Mark
@@ -138,8 +138,8 @@ module _ (y : Element) (rest : List Mark) (minus plus : List Element) (k : Keeps
   nowhere : (set : List Element) → IsBelowFirst y set → IsSet set → (x : Element) → same x y ≡ true → has set x ≡ false
   nowhere set b s x e = ap (has set) (element_exact x y e) ∙ lacks_below y set b s
 
-  said_first : (p : Bool) (x : Element) → and_then (said p (same x y)) (word (has plus x) (has minus x)) ≡ composition (map word_of (at p ∷ rest)) x
-  said_first p x = (λ i. and_then (sym (says_one (at p) x) i) (k.says x i))
+  said_first : (p : Bool) (x : Element) → then_says (said p (same x y)) (word (has plus x) (has minus x)) ≡ composition (map word_of (at p ∷ rest)) x
+  said_first p x = (λ i. then_says (sym (says_one (at p) x) i) (k.says x i))
 
   module _ (below_minus : IsBelowFirst y minus) (below_plus : IsBelowFirst y plus) where
     put_first : Keeps minus (y ∷ plus) (at true ∷ rest)
@@ -150,8 +150,8 @@ module _ (y : Element) (rest : List Mark) (minus plus : List Element) (k : Keeps
         | true ↦ λ e. absurd (true≢false (sym h ∙ nowhere minus below_minus k.out x e))
         | false ↦ λ e. k.apart x h
       ] refl;
-      says = λ x. elim (same x y) as (λ t. same x y ≡ t → word (t || has plus x) (has minus x) ≡ and_then (said true t) (word (has plus x) (has minus x))) [
-        | true ↦ λ e. sym (λ i. and_then In (word (nowhere plus below_plus k.into x e i) (nowhere minus below_minus k.out x e i)))
+      says = λ x. elim (same x y) as (λ t. same x y ≡ t → word (t || has plus x) (has minus x) ≡ then_says (said true t) (word (has plus x) (has minus x))) [
+        | true ↦ λ e. sym (λ i. then_says In (word (nowhere plus below_plus k.into x e i) (nowhere minus below_minus k.out x e i)))
         | false ↦ λ e. sym (first_word (word (has plus x) (has minus x)))
       ] refl ∙ said_first true x;
     }
@@ -164,8 +164,8 @@ module _ (y : Element) (rest : List Mark) (minus plus : List Element) (k : Keeps
         | true ↦ λ e h. nowhere plus below_plus k.into x e
         | false ↦ λ e h. k.apart x h
       ] refl;
-      says = λ x. elim (same x y) as (λ t. same x y ≡ t → word (has plus x) (t || has minus x) ≡ and_then (said false t) (word (has plus x) (has minus x))) [
-        | true ↦ λ e. ap (λ b. word b true) (nowhere plus below_plus k.into x e) ∙ sym (λ i. and_then Out (word (nowhere plus below_plus k.into x e i) (nowhere minus below_minus k.out x e i)))
+      says = λ x. elim (same x y) as (λ t. same x y ≡ t → word (has plus x) (t || has minus x) ≡ then_says (said false t) (word (has plus x) (has minus x))) [
+        | true ↦ λ e. ap (λ b. word b true) (nowhere plus below_plus k.into x e) ∙ sym (λ i. then_says Out (word (nowhere plus below_plus k.into x e i) (nowhere minus below_minus k.out x e i)))
         | false ↦ λ e. sym (first_word (word (has plus x) (has minus x)))
       ] refl ∙ said_first false x;
     }
@@ -195,10 +195,10 @@ only x p (m ∷ ms) =
     let k : Mark = record { element = x; puts_in = p } in
     let rest = filter (ties earlier k) ms in
     elim (ties earlier k m) as (λ t. ties earlier k m ≡ t → composition (map word_of (cond t (m ∷ rest) rest)) x ≡ composition (map word_of (m ∷ ms)) x) [
-      | true ↦ λ e. ap (and_then (says (word_of m) x)) (only x p ms)
+      | true ↦ λ e. ap (then_says (says (word_of m) x)) (only x p ms)
       | false ↦ λ e.
           let none : says (word_of m) x ≡ As_it_was = says_one m x ∙ ap (said m.puts_in) (sym (ties_are k m) ∙ e) in
-          only x p ms ∙ sym (ap (λ w. and_then w (composition (map word_of ms) x)) none ∙ first_word (composition (map word_of ms) x))
+          only x p ms ∙ sym (ap (λ w. then_says w (composition (map word_of ms) x)) none ∙ first_word (composition (map word_of ms) x))
     ] refl
 
 pub stable_same : (xs ys : List Mark) → IsStableBy earlier xs ys → (x : Element) → composition (map word_of ys) x ≡ composition (map word_of xs) x
@@ -212,11 +212,11 @@ both_words : (out into : Option Element) (x : Element) → composition (map word
 both_words None None x = refl
 both_words (Some y) None x = first_word_last (says (word_of (taken_out y)) x)
   where
-    first_word_last : (w : Says) → and_then w As_it_was ≡ w
+    first_word_last : (w : Says) → then_says w As_it_was ≡ w
     first_word_last w = refl
 both_words None (Some z) x = refl
 both_words (Some y) (Some z) x =
-    elim (same x z) as (λ b. and_then (cond (same x y || false) Out As_it_was) (cond (b || false) In As_it_was) ≡ word (b || false) (same x y || false)) [
+    elim (same x z) as (λ b. then_says (cond (same x y || false) Out As_it_was) (cond (b || false) In As_it_was) ≡ word (b || false) (same x y || false)) [
       | true ↦ refl
       | false ↦ refl
     ]
@@ -228,7 +228,7 @@ events_say out into (e ∷ events) x =
     let rest = flat_map (λ e. marks_of (out e) (into e)) events in
     ap (λ l. composition l x) (map-append word_of marks rest)
     ∙ can_be_cut (map word_of marks) (map word_of rest) x
-    ∙ (λ i. and_then (both_words (out e) (into e) x i) (events_say out into events x i))
+    ∙ (λ i. then_says (both_words (out e) (into e) x i) (events_say out into events x i))
 
 -- the net of sorted marks
 pub net_is : (d : Delta) (xs ys : List Mark) → IsSortedBy earlier ys → IsStableBy earlier xs ys → d ≡ record { minus = lasts false ys; plus = lasts true ys } → Composes d (map word_of xs)

@@ -9,7 +9,7 @@ use Rattle.dg_graph.specs.declared.element.Element.{Element}
 use Rattle.dg_graph.specs.declared.event.Event.{Event}
 use Rattle.dg_graph.specs.Elements.{IsSet, has, same, with_one, without}
 use Rattle.dg_graph.specs.Effect.{removed_by, added_by, forwards}
-use Rattle.dg_graph.specs.Composition.{Delta, and_then, composition, Composes, applied, reversed}
+use Rattle.dg_graph.specs.Composition.{Delta, then_says, composition, Composes, applied, reversed}
 use Rattle.dg_graph.specs.Replay.{replay_from}
 use Rattle.dg_graph.proofs.ExactEvents.{IsSet-with_one, IsSet-without, IsSet-forwards, IsSet-replay_from}
 use Rattle.dg_graph.proofs.Sets.{has-put, has-take_out, same_members}
@@ -48,7 +48,7 @@ back_of e = reversed (effect_of e)
 pub composes_halves : (d a b : Delta) (xs ys list : List Delta) → Composes d (a ∷ b ∷ []) → Composes a xs → Composes b ys → list ≡ xs ++ ys → Composes d list
 composes_halves d a b xs ys list composes first then is x =
     composes x
-    ∙ (λ i. and_then (first x i) (then x i))
+    ∙ (λ i. then_says (first x i) (then x i))
     ∙ sym (can_be_cut xs ys x)
     ∙ ap (λ l. composition l x) (sym is)
 

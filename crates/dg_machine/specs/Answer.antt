@@ -32,7 +32,7 @@ use Rattle.dg_machine.specs.declared.reply.Refusal.TheVariants as refusal
 use Rattle.dg_machine.specs.declared.reply.Reply.{Reply}
 use Rattle.dg_machine.specs.declared.stands.Stands.{Stands}
 use Rattle.dg_machine.specs.declared.stands.Stands.TheVariants.{Overlay, Base}
-use Rattle.dg_machine.specs.MachineState.{MachineState, elements, elements_held, entry_at, history_in, without_handle}
+use Rattle.dg_machine.specs.MachineState.{MachineState, elements, elements_held, stands_at, history_in, without_handle}
 use Rattle.dg_machine.specs.CommandGrammar.{plan_line_in}
 use Rattle.dg_machine.specs.GeneratedChanges.{batch_of_changes, generated}
 use Rattle.dg_query.specs.Queries.{counts_of, degree_of, neighbours_of, values_of}
@@ -107,7 +107,7 @@ base_for m cols steps t = base_under (edges_in m cols) steps (point_for m t)
 
 -- the elements of a handle
 abbrev pub shown_by : MachineState → ℕ → List Element
-shown_by m handle = elements_if (history_in m.index) (entry_at handle m.table)
+shown_by m handle = elements_if (history_in m.index) (stands_at handle m.table)
 
 -- the listing of a set
 abbrev pub listing : ℕ → List Element → Reply

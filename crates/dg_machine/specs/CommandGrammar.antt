@@ -10,7 +10,7 @@ use Rattle.dg_graph.specs.declared.function.Function.{Function}
 use Rattle.dg_graph.specs.declared.function.Function.TheVariants.{Intersection, Union, Balanced}
 use Rattle.dg_graph.specs.Words.{words, number}
 use Rattle.dg_graph.specs.Lines.{ScriptLine, Text, Long}
-use Rattle.dg_graph.specs.Verbs.{Verb, verb, is_word, read_by, none_more, one, two, three}
+use Rattle.dg_graph.specs.Verbs.{Verb, verb, is_word, read_by, none_more, one, two_words, three}
 use Rattle.dg_history.specs.declared.node.NodeId.{NodeId}
 use Rattle.dg_history.specs.declared.node.NodeId.TheVariants as node
 use Rattle.dg_plan.specs.declared.certificate.PlanLine.{PlanLine}
@@ -67,7 +67,7 @@ sweep_of word = if is_word word (codes "all") then Some command.CleanAll else op
 -- a leaf or an interior node of the index, and columns
 abbrev pub held_node_verbs : List (Verb Command)
 held_node_verbs =
-    verb (codes "leaf") (two n32_of columns_of (λ j cols. command.Materialise (node.Leaf j) cols))
+    verb (codes "leaf") (two_words n32_of columns_of (λ j cols. command.Materialise (node.Leaf j) cols))
     ∷ verb (codes "inner") (three n32_of n32_of columns_of (λ h j cols. command.Materialise (node.Inner h j) cols))
     ∷ []
 
@@ -77,21 +77,21 @@ command_verbs =
     verb (codes "create") (three n32_of n32_of function_of (λ l k f. command.Create l k f))
     ∷ verb (codes "load") (one count_of (λ n. command.Load n))
     ∷ verb (codes "append") (one count_of (λ n. command.Append n))
-    ∷ verb (codes "at") (two time_of columns_of (λ t cols. command.At t cols))
+    ∷ verb (codes "at") (two_words time_of columns_of (λ t cols. command.At t cols))
     ∷ verb (codes "several") several_of
     ∷ verb (codes "materialise") (read_by held_node_verbs)
     ∷ verb (codes "list") (one handle_of (λ h. command.List h))
     ∷ verb (codes "counts") (one handle_of (λ h. command.Counts h))
-    ∷ verb (codes "node") (two handle_of id_of (λ h id. command.Node h id))
-    ∷ verb (codes "neighbours") (two handle_of id_of (λ h id. command.Neighbours h id))
+    ∷ verb (codes "node") (two_words handle_of id_of (λ h id. command.Node h id))
+    ∷ verb (codes "neighbours") (two_words handle_of id_of (λ h id. command.Neighbours h id))
     ∷ verb (codes "release") (one handle_of (λ h. command.Release h))
     ∷ verb (codes "clean") (one sweep_of (λ c. c))
     ∷ verb (codes "pool") (none_more command.Pool)
-    ∷ verb (codes "plan") (two time_of columns_of (λ t cols. command.Plan t cols))
+    ∷ verb (codes "plan") (two_words time_of columns_of (λ t cols. command.Plan t cols))
     ∷ verb (codes "certify") (three time_of columns_of count_from_0 (λ t cols n. command.Certify t cols n))
     ∷ verb (codes "verify") (none_more command.Verify)
     ∷ verb (codes "tree") (none_more command.Tree)
-    ∷ verb (codes "workload") (two id_of count_of (λ seed n. command.Workload seed n))
+    ∷ verb (codes "workload") (two_words id_of count_of (λ seed n. command.Workload seed n))
     ∷ []
 
 -- the command that the line is
@@ -99,16 +99,16 @@ abbrev pub command_of : List ℕ → Option Command
 command_of line = read_by command_verbs (words line)
 
 -- the bytes begin some command
-abbrev pub Begins : List ℕ → Type 0
-Begins bytes = (rest : List ℕ) × IsTrue (is_some (command_of (bytes ++ rest)))
+abbrev pub BeginsCommand : List ℕ → Type 0
+BeginsCommand bytes = (rest : List ℕ) × IsTrue (is_some (command_of (bytes ++ rest)))
 
 -- The column, from 1, at which a line leaves the grammar of commands: one more than the length of the
 -- longest front of the line that begins some command.
 pub record IsColumn (line : List ℕ) (column : ℕ) : Type 0 where
   pub from_one : 1 ≤ column
   pub within : column ≤ length line + 1
-  pub begins : Begins (take (column - 1) line)
-  pub longest : (n : ℕ) → column ≤ n → n ≤ length line → Begins (take n line) → ⊥
+  pub begins : BeginsCommand (take (column - 1) line)
+  pub longest : (n : ℕ) → column ≤ n → n ≤ length line → BeginsCommand (take n line) → ⊥
 
 -- ---- plan lines
 
@@ -118,8 +118,8 @@ node_verbs make =
     verb (codes "root") (one time_of (make node.Root))
     ∷ verb (codes "now") (one time_of (make node.Now))
     ∷ verb (codes "recent") (one time_of (make node.Recent))
-    ∷ verb (codes "leaf") (two n32_of time_of (λ j n. make (node.Leaf j) n))
-    ∷ verb (codes "list") (two n32_of time_of (λ i n. make (node.List i) n))
+    ∷ verb (codes "leaf") (two_words n32_of time_of (λ j n. make (node.Leaf j) n))
+    ∷ verb (codes "list") (two_words n32_of time_of (λ i n. make (node.List i) n))
     ∷ verb (codes "inner") (three n32_of n32_of time_of (λ h j n. make (node.Inner h j) n))
     ∷ []
 

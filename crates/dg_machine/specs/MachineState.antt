@@ -49,9 +49,9 @@ names_in None = []
 names_in (Some z) = names_of z
 
 -- what a handle stands for, where it is live
-abbrev pub entry_at : ℕ → List (ℕ × Stands) → Option Stands
-entry_at handle [] = None
-entry_at handle (entry ∷ table) = if entry.0 == handle then Some entry.1 else entry_at handle table
+abbrev pub stands_at : ℕ → List (ℕ × Stands) → Option Stands
+stands_at handle [] = None
+stands_at handle (entry ∷ table) = if entry.0 == handle then Some entry.1 else stands_at handle table
 
 -- the table without the handle
 abbrev pub without_handle : ℕ → List (ℕ × Stands) → List (ℕ × Stands)
@@ -59,15 +59,15 @@ without_handle handle [] = []
 without_handle handle (entry ∷ table) = if entry.0 == handle then table else entry ∷ without_handle handle table
 
 -- it stands for an overlay that rests on this handle
-abbrev pub rests_on : ℕ → Stands → Bool
-rests_on handle (Overlay t cols None) = false
-rests_on handle (Overlay t cols (Some base)) = base == handle
-rests_on handle (Base node cols) = false
+abbrev pub is_overlay_on : ℕ → Stands → Bool
+is_overlay_on handle (Overlay t cols None) = false
+is_overlay_on handle (Overlay t cols (Some base)) = base == handle
+is_overlay_on handle (Base node cols) = false
 
 -- the first live handle that rests on this one, and so the least
 abbrev pub dependent_on : ℕ → List (ℕ × Stands) → Option ℕ
 dependent_on handle [] = None
-dependent_on handle (entry ∷ table) = if rests_on handle entry.1 then Some entry.0 else dependent_on handle table
+dependent_on handle (entry ∷ table) = if is_overlay_on handle entry.1 then Some entry.0 else dependent_on handle table
 
 -- the elements of what a handle stands for: the graph as of the instant, or the set of the node, in its columns
 abbrev pub elements : History → Stands → List Element
@@ -75,9 +75,9 @@ elements z (Overlay t cols on) = shown (replay_at (events_of z) t) cols
 elements z (Base node cols) = shown (set_of z.params (events_of z) node) cols
 
 -- the elements of any of these sets
-abbrev pub union_of : List (List Element) → List Element
-union_of [] = []
-union_of (set ∷ sets) = unioned set (union_of sets)
+abbrev pub union_of_sets : List (List Element) → List Element
+union_of_sets [] = []
+union_of_sets (set ∷ sets) = unioned set (union_of_sets sets)
 
 -- the elements that the live handles list, the oldest first
 abbrev pub graphs_of : MachineState → List (List Element)
@@ -85,4 +85,4 @@ graphs_of m = map (λ (e : ℕ × Stands). elements (history_in m.index) e.1) m.
 
 -- the elements of the current graph and of the live handles together
 abbrev pub elements_held : MachineState → List Element
-elements_held m = union_of (replay (events_in_index m.index) ∷ graphs_of m)
+elements_held m = union_of_sets (replay (events_in_index m.index) ∷ graphs_of m)

@@ -15,7 +15,7 @@ use Rattle.dg_machine.specs.declared.reply.Refusal.{Refusal}
 use Rattle.dg_machine.specs.declared.reply.Refusal.TheVariants as refusal
 use Rattle.dg_machine.specs.declared.stands.Stands.{Stands}
 use Rattle.dg_machine.specs.declared.stands.Stands.TheVariants.{Overlay, Base}
-use Rattle.dg_machine.specs.MachineState.{MachineState, dependent_on, events_in_index, history_in, names_in, entry_at}
+use Rattle.dg_machine.specs.MachineState.{MachineState, dependent_on, events_in_index, history_in, names_in, stands_at}
 
 pub record Needs : Type 0 where
   pub lines : Option ℕ  -- so many lines that follow it, where any may
@@ -123,8 +123,8 @@ can_be_held p n (node.List i) = false
 can_be_held p n (node.Inner h j) = exists p n (node.Inner h j)
 
 -- the index has this leaf or interior node
-abbrev pub has_node : MachineState → NodeId → Bool
-has_node m node = can_be_held (history_in m.index).params (length (events_in_index m.index)) node
+abbrev pub has_index_node : MachineState → NodeId → Bool
+has_index_node m node = can_be_held (history_in m.index).params (length (events_in_index m.index)) node
 
 -- so many more events, or the names that so many lines may bring, are too many
 abbrev pub is_full : MachineState → ℕ → Bool
@@ -142,10 +142,10 @@ refusals m lines n =
     ++ (when (n.unloaded && is_some (span_of (events_in_index m.index))) refusal.AlreadyLoaded
     ++ (when (nat_lt 0 n.changes && is_full m n.changes) (refusal.HistoryFull (length (events_in_index m.index)) n.changes)
     ++ (when (list_any (λ t. not (in_range (span_of (events_in_index m.index)) t)) n.instants) (refusal.OutOfRange (span_of (events_in_index m.index)))
-    ++ (of n.handle (λ h. when (not (is_some (entry_at h m.table))) (refusal.UnknownHandle h))
-    ++ (of n.handle (λ h. when (n.overlay && is_base (entry_at h m.table)) (refusal.NotAnOverlay h))
+    ++ (of n.handle (λ h. when (not (is_some (stands_at h m.table))) (refusal.UnknownHandle h))
+    ++ (of n.handle (λ h. when (n.overlay && is_base (stands_at h m.table)) (refusal.NotAnOverlay h))
     ++ (of n.unused (λ h. of (dependent_on h m.table) (λ d. refusal.InUse d ∷ []))
-    ++ (of n.node (λ v. when (not (has_node m v)) refusal.UnknownNode)
+    ++ (of n.node (λ v. when (not (has_index_node m v)) refusal.UnknownNode)
     ++ (when (nat_lt 0 n.handles && nat_lt LIVE_HANDLES_MAX (length m.table + n.handles)) (refusal.PoolFull (length m.table) n.handles)
     ++ when (nat_lt 0 n.handles && nat_lt (HANDLE_MAX + 1) (m.next + n.handles)) refusal.HandlesSpent)))))))))))
 

@@ -13,7 +13,7 @@ use Rattle.dg_graph.specs.Replay.{replay_from}
 use Rattle.dg_graph.proofs.Sets.{element_exact}
 use Rattle.dg_now.specs.declared.element_id.ElementId.{ElementId}
 use Rattle.dg_now.specs.HeldGraph.{HeldGraphState, KeepsIds}
-use Rattle.dg_now.specs.EventEffect.{changed_id, element_before, CanHappen, CameBy, AllHappen, KnowsEvent, AllKnown, Led, element_before_all}
+use Rattle.dg_now.specs.EventEffect.{changed_id, element_before, CanHappen, CameBy, AllHappen, KnowsEvent, KnowsAllEvents, Led, element_before_all}
 use Rattle.dg_now.specs.ElementIds.{element_id_of, at, same_id}
 use Rattle.dg_now.proofs.EventEffect.{graph_forwards, led_graph, undone, came, removed_has_id, added_has_id, known_still}
 use Rattle.dg_now.proofs.HeldGraph.{same_id_exact, same_id_from}
@@ -84,7 +84,7 @@ replay_more : (set : List Element) (events : List Event) (e : Event)
 replay_more set [] e = refl
 replay_more set (x ∷ events) e = replay_more (forwards set x) events e
 
-known_more : (h : HeldGraphState) (events : List Event) (e : Event) → AllKnown h events → KnowsEvent h e → AllKnown h (events ++ e ∷ [])
+known_more : (h : HeldGraphState) (events : List Event) (e : Event) → KnowsAllEvents h events → KnowsEvent h e → KnowsAllEvents h (events ++ e ∷ [])
 known_more h [] e k here = (here, tt)
 known_more h (x ∷ events) e k here = (k.0, known_more h events e k.1 here)
 
@@ -114,7 +114,7 @@ happen_less : (set : List Element) (events : List Event) (e : Event) → AllHapp
 happen_less set [] e h = (tt, h.0)
 happen_less set (x ∷ events) e h = let rest = happen_less (forwards set x) events e h.1 in ((h.0, rest.0), rest.1)
 
-known_less : (h : HeldGraphState) (events : List Event) (e : Event) → AllKnown h (events ++ e ∷ []) → AllKnown h events × KnowsEvent h e
+known_less : (h : HeldGraphState) (events : List Event) (e : Event) → KnowsAllEvents h (events ++ e ∷ []) → KnowsAllEvents h events × KnowsEvent h e
 known_less h [] e k = (tt, k.0)
 known_less h (x ∷ events) e k = let rest = known_less h events e k.1 in ((k.0, rest.0), rest.1)
 

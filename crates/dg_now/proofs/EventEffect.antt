@@ -16,7 +16,7 @@ use Rattle.dg_graph.proofs.Sets.{same_itself, element_exact, take_out-put, put-t
 use Rattle.dg_now.specs.declared.element_id.ElementId.{ElementId}
 use Rattle.dg_now.specs.declared.element_id.ElementId.TheVariants.{Node, Edge, NodeValue, EdgeValue}
 use Rattle.dg_now.specs.HeldGraph.{HeldGraphState, knows, HasRoom, IsKnown, KeepsIds}
-use Rattle.dg_now.specs.EventEffect.{changed_id, element_before, element_after, CanHappen, CameBy, AllHappen, KnowsEvent, AllKnown, rewound, Led}
+use Rattle.dg_now.specs.EventEffect.{changed_id, element_before, element_after, CanHappen, CameBy, AllHappen, KnowsEvent, KnowsAllEvents, rewound, Led}
 use Rattle.dg_now.specs.ElementIds.{element_id_of, at, needs_id}
 use Rattle.dg_now.proofs.ElementIds.{at_has, at_lacks, one_of_each_id, needs_live, live_needs, put_graph, out_graph, out_from, out_keeps, put_itself, put_from, any_to, Lives}
 
@@ -337,7 +337,7 @@ event_still old new keeps e k = record {
   added = if_still old new keeps (added_by e.body) k.added;
 }
 
-pub known_still : (old new : HeldGraphState) (events : List Event) → KeepsIds old new → AllKnown old events → AllKnown new events
+pub known_still : (old new : HeldGraphState) (events : List Event) → KeepsIds old new → KnowsAllEvents old events → KnowsAllEvents new events
 known_still old new [] keeps k = tt
 known_still old new (e ∷ events) keeps k = (event_still old new keeps e k.0, known_still old new events keeps k.1)
 

@@ -16,7 +16,7 @@ use Rattle.dg_graph.proofs.Sets.{element_total, element_exact, same_itself, Grea
 use Rattle.dg_now.specs.declared.element_id.ElementId.{ElementId}
 use Rattle.dg_now.specs.declared.element_id.ElementId.TheVariants.{Node, Edge, NodeValue, EdgeValue}
 use Rattle.dg_now.specs.ElementIds.{element_id_of, has_id}
-use Rattle.dg_now.specs.Sorted.{least, first_value, is_value_at}
+use Rattle.dg_now.specs.Sorted.{least, least_value_at, is_value_at}
 use Rattle.dg_now.proofs.ElementIds.{either, has_id_is}
 
 -- ---- the derived order
@@ -273,15 +273,15 @@ begins_edge_value id (element.NodeAttr n k v) (rest, is) = let kind = nth_is 0 _
 begins_edge_value id (element.EdgeAttr n k v) (rest, is) = eq-eqb n id (nth_is 1 (3 ∷ n ∷ k ∷ v ∷ []) (3 ∷ id ∷ rest) is)
 
 -- a value that is not before the first one that can stand there, and is before one that does
-pub value_between : (p : ElementId) (y z : Element) → is_value_at p y ≡ true → before z (first_value p) ≡ false → before y z ≡ false → is_value_at p z ≡ true
+pub value_between : (p : ElementId) (y z : Element) → is_value_at p y ≡ true → before z (least_value_at p) ≡ false → before y z ≡ false → is_value_at p z ≡ true
 value_between (Node id) y z at h k =
-    begins_node_value id z (between (2 ∷ id ∷ []) (first_value (Node id)) y z (0 ∷ 0 ∷ [], refl) (value_begins (Node id) y at) h k)
+    begins_node_value id z (between (2 ∷ id ∷ []) (least_value_at (Node id)) y z (0 ∷ 0 ∷ [], refl) (value_begins (Node id) y at) h k)
 value_between (Edge id) y z at h k =
-    begins_edge_value id z (between (3 ∷ id ∷ []) (first_value (Edge id)) y z (0 ∷ 0 ∷ [], refl) (value_begins (Edge id) y at) h k)
+    begins_edge_value id z (between (3 ∷ id ∷ []) (least_value_at (Edge id)) y z (0 ∷ 0 ∷ [], refl) (value_begins (Edge id) y at) h k)
 value_between (NodeValue id key) y z at h k = absurd (false≢true at)
 value_between (EdgeValue id key) y z at h k = absurd (false≢true at)
 
-value_not_below : (p : ElementId) (x : Element) → is_value_at p x ≡ true → before x (first_value p) ≡ false
+value_not_below : (p : ElementId) (x : Element) → is_value_at p x ≡ true → before x (least_value_at p) ≡ false
 value_not_below (Node id) (element.Node n) e = absurd (false≢true e)
 value_not_below (Node id) (element.Edge n s d b) e = absurd (false≢true e)
 value_not_below (Node id) (element.NodeAttr n k v) e =
@@ -297,7 +297,7 @@ value_not_below (Edge id) (element.EdgeAttr n k v) e =
 value_not_below (NodeValue id key) x e = absurd (false≢true e)
 value_not_below (EdgeValue id key) x e = absurd (false≢true e)
 
-pub below_value : (p : ElementId) (x : Element) → IsTrue (before x (first_value p)) → is_value_at p x ≡ false
+pub below_value : (p : ElementId) (x : Element) → IsTrue (before x (least_value_at p)) → is_value_at p x ≡ false
 below_value p x e = by (is_value_at p x) refl
   where
     by : (b : Bool) → is_value_at p x ≡ b → is_value_at p x ≡ false

@@ -18,7 +18,7 @@ use Rattle.dg_graph.proofs.Sets.{element_total, tied_exact, before_trans}
 use Rattle.dg_now.specs.declared.element_id.ElementId.{ElementId}
 use Rattle.dg_now.specs.declared.element_id.ElementId.TheVariants.{Node, Edge}
 use Rattle.dg_now.specs.ElementIds.{element_id_of, has_id, at, needs_id}
-use Rattle.dg_now.specs.Sorted.{IsFirstFrom, least, first_value, is_value_at, has_end}
+use Rattle.dg_now.specs.Sorted.{IsFirstFrom, least, least_value_at, is_value_at, has_end}
 use Rattle.dg_now.proofs.ElementIds.{has_id_is, has_id_itself}
 use Rattle.dg_now.proofs.Order.{compares_by, rises_far, rises_on, id_between, id_of_least, below_least, value_between, below_value}
 
@@ -204,16 +204,16 @@ count_both t u v h (x ∷ xs) =
 -- ---- values
 
 -- the items from the first value that can stand at an element on: those that do come first
-values_parted : (p : ElementId) (xs : List Element) → IsSet xs → (i : ℕ) → IsFirstFrom (first_value p) xs i
+values_parted : (p : ElementId) (xs : List Element) → IsSet xs → (i : ℕ) → IsFirstFrom (least_value_at p) xs i
     → (k j : ℕ) (d : Element) → i ≤ k → k ≤ j → j < length xs → is_value_at p (get_or xs j d) ≡ true → is_value_at p (get_or xs k d) ≡ true
 values_parted p xs s i first k j d from up end h =
     value_between p (get_or xs j d) (get_or xs k d) h (first.above k d from (omega arith)) (rises_on xs s k j d up end)
 
-values_past : (p : ElementId) (xs : List Element) (i : ℕ) → IsFirstFrom (first_value p) xs i → count_by (is_value_at p) xs ≡ count_by (is_value_at p) (drop i xs)
+values_past : (p : ElementId) (xs : List Element) (i : ℕ) → IsFirstFrom (least_value_at p) xs i → count_by (is_value_at p) xs ≡ count_by (is_value_at p) (drop i xs)
 values_past p xs i first = count_from (is_value_at p) xs i first.within (λ k d less. below_value p (get_or xs k d) (first.below k d less))
 
 -- a search for the end of them counts them
-pub values_counted : (p : ElementId) (xs : List Element) → IsSet xs → (i : ℕ) → IsFirstFrom (first_value p) xs i → (ys : List Element) → ys ≡ drop i xs → (n : ℕ) → n ≤ length ys
+pub values_counted : (p : ElementId) (xs : List Element) → IsSet xs → (i : ℕ) → IsFirstFrom (least_value_at p) xs i → (ys : List Element) → ys ≡ drop i xs → (n : ℕ) → n ≤ length ys
     → (IsPartitionedBy (is_value_at p) ys → IsPartitionPoint (λ y. is_value_at p y ≡ true) (λ y. is_value_at p y ≡ false) ys n) → n ≡ count_by (is_value_at p) xs
 values_counted p xs s i first ys is n within parted =
     let point = parted by in

@@ -75,13 +75,13 @@ pub record KnowsEvent (h : HeldGraphState) (e : Event) : Type 0 where
   pub removed : IfSome (removed_by e.body) (IsKnown h)
   pub added : IfSome (added_by e.body) (IsKnown h)
 
-abbrev pub AllKnown : HeldGraphState → List Event → Type 0
-AllKnown h [] = Unit {0}
-AllKnown h (e ∷ events) = KnowsEvent h e × AllKnown h events
+abbrev pub KnowsAllEvents : HeldGraphState → List Event → Type 0
+KnowsAllEvents h [] = Unit {0}
+KnowsAllEvents h (e ∷ events) = KnowsEvent h e × KnowsAllEvents h events
 
 -- The events led from the graph before them to what is held.
 pub record Led (start : List Element) (events : List Event) (h : HeldGraphState) : Type 0 where
   pub graph : IsGraph start
   pub happen : AllHappen start events
   pub comes : h.set ≡ replay_from start events
-  pub known : AllKnown h events
+  pub known : KnowsAllEvents h events

@@ -53,11 +53,11 @@ is_value_at (Edge id) (element.EdgeAttr n key value) = n == id
 is_value_at p x = false
 
 -- the first value that can stand at the element with the id
-abbrev pub first_value : ElementId → Element
-first_value (Node id) = element.NodeAttr id 0 0
-first_value (Edge id) = element.EdgeAttr id 0 0
-first_value (NodeValue id key) = element.NodeAttr id 0 0
-first_value (EdgeValue id key) = element.EdgeAttr id 0 0
+abbrev pub least_value_at : ElementId → Element
+least_value_at (Node id) = element.NodeAttr id 0 0
+least_value_at (Edge id) = element.EdgeAttr id 0 0
+least_value_at (NodeValue id key) = element.NodeAttr id 0 0
+least_value_at (EdgeValue id key) = element.EdgeAttr id 0 0
 
 -- the element is an edge with this end
 abbrev pub has_end : ℕ → Element → Bool

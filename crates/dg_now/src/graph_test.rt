@@ -1,5 +1,5 @@
 //! Whether a set is a graph, by walks over its elements in their order.
-ghost use Rattle.std.specs.Prelude.{◌≡◌, ◌↔◌, ◌==◌, IfOk, IsTrue};
+ghost use Rattle.std.specs.Prelude.{◌≡◌, ◌↔◌, ◌==◌, true, IfOk, IsTrue};
 ghost use Rattle.std.specs.List.{list_any, list_all};
 ghost use Rattle.std.specs.List.Sorted.{IsNonDecreasing};
 ghost use Rattle.dg_graph.specs.Elements.{IsSet};
@@ -68,12 +68,26 @@ fn node_ids(alloc: Global, items: &[Element]) -> Result<Vec<u64>, AllocError>
     Ok(nodes)
 }
 
-// Whether the id is among those of the nodes.
+// Whether the id stands as far behind the first node as it is greater, as it does where none between them is
+// missing.
+fn stands_as_numbered(nodes: &[u64], id: u64) -> bool
+    ensures { IsTrue result → list_any (λ node. node == id) nodes.now ≡ true }
+{
+    let Some(first) = nodes.first() else {
+        return false;
+    };
+    match nodes.get(id.wrapping_sub(*first) as usize) {
+        Some(node) => *node == id,
+        None => false,
+    }
+}
+
+// Whether the id is among those of the nodes. Most have the ids from one on, so one look is tried before a search.
 fn is_node(nodes: &[u64], id: u64) -> bool
     requires { IsNonDecreasing nodes.now }
     ensures { result ≡ list_any (λ node. node == id) nodes.now }
 {
-    nodes.binary_search(&id).is_ok()
+    stands_as_numbered(nodes, id) || nodes.binary_search(&id).is_ok()
 }
 
 // Whether the ends of the element, where it is an edge, are among the nodes.

@@ -48,9 +48,9 @@ impl HeldGraph {
     }
 
     /// The graph of these elements; an `Err` where they are no graph, or for want of memory.
-    pub(crate) fn from_set(alloc: Global, set: &Set) -> Result<HeldGraph, FromFault>
-        ensures ok { IfOk result (λ held. held.set ≡ set.now) }
-        ensures not_graph { IsErrOf result FromFault.NotGraph → IsGraph set.now → ⊥ }
+    pub(crate) fn from_set(alloc: Global, set: Set) -> Result<HeldGraph, FromFault>
+        ensures ok { IfOk result (λ held. held.set ≡ set) }
+        ensures not_graph { IsErrOf result FromFault.NotGraph → IsGraph set → ⊥ }
     {
         let base = SortedGraph::from_set(alloc, set)?;
         // It is a graph.

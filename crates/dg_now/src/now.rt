@@ -1,4 +1,4 @@
-ghost use Rattle.std.specs.Prelude.{◌≡◌, ◌<◌, ◌≤◌, ◌^◌, [], Ok, length, IfOk, IfErr, IfSome, OnErr, IsErrOf, if◌then◌else◌};
+ghost use Rattle.std.specs.Prelude.{◌≡◌, ◌<◌, ◌≤◌, ◌^◌, [], Ok, length, IfOk, IfErr, IfSome, OnErr, OnOk, IsErrOf, if◌then◌else◌};
 ghost use Rattle.dg_graph.specs.Completion.{has_node, edge_of, node_value, edge_value, is_change_of};
 ghost use Rattle.dg_graph.specs.Effect.{forwards};
 ghost use Rattle.dg_graph.specs.Graph.{IsGraph};
@@ -53,9 +53,9 @@ impl Now {
     /// The graph of these elements, and nothing pending. `FromFault::NotGraph` where they are no graph:
     /// an element lacks what it needs, or two elements have one id; `FromFault::Memory` for want of
     /// memory.
-    pub fn from_set(alloc: Global, set: &Set) -> Result<Now, FromFault>
-        ensures ok { IfOk result (λ now. (now.graph ≡ set.now) × (now.pending ≡ []) × IsGraph set.now) }
-        ensures not_graph { IsErrOf result FromFault.NotGraph → IsGraph set.now → ⊥ }
+    pub fn from_set(alloc: Global, set: Set) -> Result<Now, FromFault>
+        ensures ok { IfOk result (λ now. (now.graph ≡ set) × (now.pending ≡ []) × IsGraph set) }
+        ensures not_graph { IsErrOf result FromFault.NotGraph → IsGraph set → ⊥ }
     {
         let held = HeldGraph::from_set(alloc, set)?;
         // What is held is a graph.
@@ -79,19 +79,14 @@ impl Now {
     ///
     /// `PrepareFault::BadChange` for the least line that is refused; `PrepareFault::Memory` for want of
     /// memory. After an `Err` nothing has changed.
-    pub fn prepare(
-        &mut self,
-        last: Option<u64>,
-        changes: &[Change],
-    ) -> Result<Vec<Event>, PrepareFault>
+    pub fn prepare(&mut self, last: Option<u64>, changes: &[Change]) -> Result<(), PrepareFault>
         requires none_pending { self.old.pending ≡ [] }
         requires some { 1 ≤ length changes.now }
         requires few { length changes.now ≤ 2 ^ 20 }
         requires last { IfSome last (λ t. t < 2 ^ 63) }
 
         // The events are those of the changes, and are pending.
-        ensures ok { IfOk result (λ events. completed_batch self.old.graph last changes.now ≡ Ok events.items) }
-        ensures pending { IfOk result (λ events. self.new.pending ≡ events.items) }
+        ensures ok { OnOk result (completed_batch self.old.graph last changes.now ≡ Ok self.new.pending) }
 
         // A refusal is that of the changes.
         ensures bad { IfErr result (FaultOf (completed_batch self.old.graph last changes.now)) }
@@ -109,29 +104,32 @@ impl Now {
             self.abandon();
             return Err(fault);
         }
-        match Vec::from_slice(alloc, &self.pending) {
-            Ok(events) => Ok(events),
-            Err(_) => {
-                self.abandon();
-                Err(PrepareFault::Memory)
-            }
-        }
+        Ok(())
     }
 
-    /// Takes the graph past the pending events. Takes no memory.
+    /// The pending events, in their order.
+    pub fn pending(&self) -> &[Event]
+        ensures { result.now ≡ self.now.pending }
+    {
+        &self.pending
+    }
+
+    /// Takes the graph past the pending events, whose memory is given back. Takes no memory.
     pub fn commit(&mut self)
         ensures graph { self.new.graph ≡ replay_from self.old.graph self.old.pending }
         ensures none { self.new.pending ≡ [] }
     {
-        self.pending.clear();
+        self.pending = Vec::new(*self.pending.allocator());
     }
 
-    /// Forgets the pending events. Takes no memory.
+    /// Forgets the pending events, whose memory is given back. Takes no memory.
     pub fn abandon(&mut self)
         ensures graph { self.new.graph ≡ self.old.graph }
         ensures none { self.new.pending ≡ [] }
     {
         undo(&mut self.held, &mut self.pending);
+        // None is left, so this only gives their memory back.
+        self.commit();
     }
 
     /// Takes the graph past the event, where some change comes to it there, and answers whether one does.

@@ -4,7 +4,7 @@ ghost use Rattle.std.specs.List.{count_by};
 ghost use Rattle.dg_graph.specs.declared.element.Element.{Element};
 ghost use Rattle.dg_graph.specs.Elements.{IsSet, before};
 ghost use Rattle.dg_now.specs.ElementIds.{at};
-ghost use Rattle.dg_now.specs.Sorted.{IsFirstFrom, least, first_value, is_value_at};
+ghost use Rattle.dg_now.specs.Sorted.{IsFirstFrom, least, least_value_at, is_value_at};
 
 use crate::element_id::ElementId;
 use dg_graph::Element;
@@ -76,7 +76,7 @@ pub(crate) fn find(items: &[Element], id: ElementId) -> Option<Element>
 
 // The first value that can stand at the element with the id.
 fn first_value(id: ElementId) -> Element
-    ensures { result ≡ first_value id }
+    ensures { result ≡ least_value_at id }
 {
     match id {
         ElementId::Node(id) | ElementId::NodeValue(id, _) => Element::NodeAttr {

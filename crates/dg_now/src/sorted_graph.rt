@@ -47,15 +47,15 @@ impl SortedGraph {
     }
 
     /// The graph of these elements; an `Err` where they are no graph, or for want of memory.
-    pub(crate) fn from_set(alloc: Global, set: &Set) -> Result<SortedGraph, FromFault>
-        ensures ok { IfOk result (λ graph. graph ≡ set.now) }
-        ensures not_graph { IsErrOf result FromFault.NotGraph → IsGraph set.now → ⊥ }
+    pub(crate) fn from_set(alloc: Global, set: Set) -> Result<SortedGraph, FromFault>
+        ensures ok { IfOk result (λ graph. graph ≡ set) }
+        ensures not_graph { IsErrOf result FromFault.NotGraph → IsGraph set → ⊥ }
     {
         if !is_graph(alloc, set.items())? {
             return Err(FromFault::NotGraph);
         }
         Ok(SortedGraph {
-            elements: set.copy()?,
+            elements: set,
             ends: None,
         })
     }

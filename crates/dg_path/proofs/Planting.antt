@@ -16,7 +16,7 @@ use Rattle.dg_path.specs.declared.search.Waiting.{Waiting}
 use Rattle.dg_path.specs.declared.search.Cost.{Cost as Label}
 use Rattle.dg_path.specs.declared.search.TheConstants.{UNREACHED}
 use Rattle.dg_plan.specs.Walks.{Arc, Reaches, cost_of, with_edge, AtMost, no_cost, entered}
-use Rattle.dg_path.specs.Search.{arc, arcs, cheaper, seen, label_at, cost_at, Fits, IsSettled, Walked, IsKnown, AllKnown, Falls, IsTable, WithStarts}
+use Rattle.dg_path.specs.Search.{arc, arcs, cheaper, seen, label_at, cost_at, CostsFit, AreCostsSettled, Walked, IsCostKnown, AllKnown, Falls, IsTable, WithStarts}
 use Rattle.dg_plan.proofs.Trees.{entered-append}
 use Rattle.dg_plan.proofs.Costs.{at_most_along, at_most_both}
 use Rattle.dg_path.proofs.Searching.{Below, below, cheaper_is, count_set}
@@ -39,7 +39,7 @@ far_table g n = record {
   zero = λ a in'. absurd (let h = in'.1 in omega arith);
 }
 
-pub far_fits : (n : ℕ) → n + 1 < 2 ^ 32 → Fits (replicate n UNREACHED)
+pub far_fits : (n : ℕ) → n + 1 < 2 ^ 32 → CostsFit (replicate n UNREACHED)
 far_fits n few = record {
   few = (let l = length-replicate n UNREACHED in omega arith);
   edges = λ v within. (let a = ap (λ (c : Label). c.edges) (far_everywhere n v) in omega arith);
@@ -48,7 +48,7 @@ far_fits n few = record {
 
 -- ---- one more
 
-module _ (node : ℕ) (old new : List Label) (waits waits_new : List (Reverse Waiting)) (within : node < length old) (fits : Fits old) (new_is : new ≡ set old node none)
+module _ (node : ℕ) (old new : List Label) (waits waits_new : List (Reverse Waiting)) (within : node < length old) (fits : CostsFit old) (new_is : new ≡ set old node none)
     (pushed : IsPermutation (record { 0 = record { weight = 0; edges = 0; node = node } } ∷ waits) waits_new) where
   at_node : label_at new node ≡ none
   at_node = ap (λ cs. label_at cs node) new_is ∙ get_or-set_same old node none UNREACHED within
@@ -110,7 +110,7 @@ module _ (node : ℕ) (old new : List Label) (waits waits_new : List (Reverse Wa
       costs_none starts had a in' (inl e) = ap seen (ap (label_at new) e ∙ at_node)
       costs_none starts had a in' (inr apart) = ap seen (elsewhere a apart) ∙ ⊎_elim (λ (h : Contains starts a). had a h) (λ (h : node ≡ a). absurd (apart (sym h))) (Contains-push_cases starts node a in')
 
-      still : (g : List (Arc ℕ)) (v : ℕ) → (v ≡ node) ⊎ (v ≡ node → ⊥) → IsKnown g old waits v → IsKnown g new waits_new v
+      still : (g : List (Arc ℕ)) (v : ℕ) → (v ≡ node) ⊎ (v ≡ node → ⊥) → IsCostKnown g old waits v → IsCostKnown g new waits_new v
       still g v (inl e) k = inr (subst (Contains waits_new) (λ j. record { 0 = record { weight = (is j).weight; edges = (is j).edges; node = sym e j } })
           (Contains-permutation _ _ _ pushed (0, omega arith, refl)))
         where
@@ -126,7 +126,7 @@ module _ (node : ℕ) (old new : List Label) (waits waits_new : List (Reverse Wa
 
 -- ---- several
 
-pub none_planted : (old : List Label) (waits : List (Reverse Waiting)) → Fits old → WithStarts [] old waits old waits
+pub none_planted : (old : List Label) (waits : List (Reverse Waiting)) → CostsFit old → WithStarts [] old waits old waits
 none_planted old waits fits = record {
   len = refl;
   fits = fits;
@@ -147,12 +147,12 @@ more_planted xs ys a b c wa wb wc p q = record {
 }
 
 -- each node is known where no edge can lower a cost
-pub settled_known : (g : List (Arc ℕ)) (costs : List Label) (waits : List (Reverse Waiting)) → IsSettled g costs → AllKnown g costs waits
+pub settled_known : (g : List (Arc ℕ)) (costs : List Label) (waits : List (Reverse Waiting)) → AreCostsSettled g costs → AllKnown g costs waits
 settled_known g costs waits s v within = inl (λ i e is from. subst (λ w. AtMost (cost_at costs e.to) (with_edge (cost_at costs w) e.weight)) from (s i e is))
 
 -- the table once the search has gone on from them
 pub table_after : (g : List (Arc ℕ)) (starts more : List ℕ) (old mid new : List Label) (waits waits_mid : List (Reverse Waiting)) → IsTable g starts old → WithStarts more old waits mid waits_mid
-    → IsSettled g new → Falls mid new → ((s : List ℕ) → Walked g s mid → Walked g s new) → IsTable g (starts ++ more) new
+    → AreCostsSettled g new → Falls mid new → ((s : List ℕ) → Walked g s mid → Walked g s new) → IsTable g (starts ++ more) new
 table_after g starts more old mid new waits waits_mid t p settled falls walks = record {
   settled = settled;
   walked = walks (starts ++ more) (p.walks g starts t.walked);
@@ -163,7 +163,7 @@ table_after g starts more old mid new waits waits_mid t p settled falls walks = 
 pub put_back : {X : Type 0} (n : ℕ) (xs ys : List X) → length xs ≡ n → length ys ≡ n → take n (xs ++ drop (length xs) ys) ≡ xs
 put_back n xs ys a b = ap (λ zs. take n (xs ++ zs)) (drop_all (length xs) ys (omega arith)) ∙ (ap (take n) (append-nil xs) ∙ take_all n xs (omega arith))
 
-pub known_after : (g : List (Arc ℕ)) (more : List ℕ) (old mid : List Label) (waits waits_mid : List (Reverse Waiting)) → IsSettled g old → WithStarts more old waits mid waits_mid → AllKnown g mid waits_mid
+pub known_after : (g : List (Arc ℕ)) (more : List ℕ) (old mid : List Label) (waits waits_mid : List (Reverse Waiting)) → AreCostsSettled g old → WithStarts more old waits mid waits_mid → AllKnown g mid waits_mid
 known_after g more old mid waits waits_mid s p v within = p.known g v (settled_known g old waits s v (let l = p.len in omega arith))
 
 pub on_ok_from : {T E : Type 0} (r : Result T E) (A B C D : Type 0) → OnOk r A → OnOk r B → OnOk r C → (A → B → C → D) → OnOk r D

@@ -15,7 +15,7 @@ use Rattle.dg_path.specs.declared.search.Waiting.{Waiting}
 use Rattle.dg_path.specs.declared.search.Cost.{Cost as Label}
 use Rattle.dg_path.specs.declared.search.TheConstants.{UNREACHED}
 use Rattle.dg_plan.specs.Walks.{Arc, Cost, Reaches, cost_of, with_edge, AtMost}
-use Rattle.dg_path.specs.Search.{arc, arcs, cheaper, seen, label_at, cost_at, IsLink, AreLinks, IsNext, Fits, IsSettled, Walked, IsDone, waiting, IsKnown, AllKnown, as_number, effort, Lowered, Lowers}
+use Rattle.dg_path.specs.Search.{arc, arcs, cheaper, seen, label_at, cost_at, IsLink, AreLinks, IsNext, CostsFit, AreCostsSettled, Walked, IsDone, waiting, IsCostKnown, AllKnown, as_number, effort, Lowered, Lowers}
 use Rattle.dg_plan.proofs.Costs.{at_most_itself, at_most_along, cost_last}
 use Rattle.dg_plan.proofs.LeastWalks.{reaches_more}
 
@@ -97,7 +97,7 @@ count_set p xs i y within keeps =
 
 -- ---- nothing lowered yet
 
-pub not_yet : (links : List Link) (node r : ℕ) (old : List Label) (waits : List (Reverse Waiting)) → Fits old → IsNext true links node 0 r → Lowered links node r old waits old waits
+pub not_yet : (links : List Link) (node r : ℕ) (old : List Label) (waits : List (Reverse Waiting)) → CostsFit old → IsNext true links node 0 r → Lowered links node r old waits old waits
 not_yet links node r old waits fits next = record {
   len = refl;
   same = refl;
@@ -207,7 +207,7 @@ module _ (links : List Link) (node at r : ℕ) (link : Link) (old mid new : List
         let had = low.fits.edges v within in
         omega arith
 
-    new_fits : Fits new
+    new_fits : CostsFit new
     new_fits = record {
       few = (let e = new_len in let f = low.fits.few in omega arith);
       edges = λ v within. by v (let e = new_len in omega arith) (cases_eq v link.head);
@@ -264,7 +264,7 @@ module _ (links : List Link) (node at r : ℕ) (link : Link) (old mid new : List
         by (inr (inr above)) = absurd (next.skipped i l (omega arith) i<r is from)
 
     -- the nodes that wait
-    new_known : (v : ℕ) → v ≢ node → IsKnown (arcs links) mid waits_mid v → IsKnown (arcs links) new waits_new v
+    new_known : (v : ℕ) → v ≢ node → IsCostKnown (arcs links) mid waits_mid v → IsCostKnown (arcs links) new waits_new v
     new_known v apart known = by (cases_eq v link.head) known
       where
         front : Contains (record { 0 = record { weight = through.weight; edges = through.edges; node = link.head } } ∷ waits_mid) (record { 0 = record { weight = through.weight; edges = through.edges; node = link.head } })
@@ -273,7 +273,7 @@ module _ (links : List Link) (node at r : ℕ) (link : Link) (old mid new : List
         back : (x : Reverse Waiting) → Contains waits_mid x → Contains (record { 0 = record { weight = through.weight; edges = through.edges; node = link.head } } ∷ waits_mid) x
         back x c = (suc c.0, (let h = c.1 in omega arith), c.2)
 
-        by : (v ≡ link.head) ⊎ (v ≡ link.head → ⊥) → IsKnown (arcs links) mid waits_mid v → IsKnown (arcs links) new waits_new v
+        by : (v ≡ link.head) ⊎ (v ≡ link.head → ⊥) → IsCostKnown (arcs links) mid waits_mid v → IsCostKnown (arcs links) new waits_new v
         by (inl e) k =
             let is : record { 0 = record { weight = through.weight; edges = through.edges; node = link.head } } ≡ waiting new v =
             (λ j. record { 0 = record { weight = (at_new' e j).weight; edges = (at_new' e j).edges; node = sym e j } }) in
@@ -323,11 +323,11 @@ next_here leaving links node k r n = record { above = omega arith; skipped = λ 
 
 -- ---- what waits
 
-kept_by_pop : (g : List (Arc ℕ)) (costs : List Label) (old new : List (Reverse Waiting)) (x : Reverse Waiting) → IsPermutation old (x ∷ new) → (v : ℕ) → (waiting costs v ≡ x → ⊥) → IsKnown g costs old v → IsKnown g costs new v
+kept_by_pop : (g : List (Arc ℕ)) (costs : List Label) (old new : List (Reverse Waiting)) (x : Reverse Waiting) → IsPermutation old (x ∷ new) → (v : ℕ) → (waiting costs v ≡ x → ⊥) → IsCostKnown g costs old v → IsCostKnown g costs new v
 kept_by_pop g costs old new x moved v other (inl done) = inl done
 kept_by_pop g costs old new x moved v other (inr waits) = by (Contains-permutation _ _ _ moved waits)
   where
-    by : Contains (x ∷ new) (waiting costs v) → IsKnown g costs new v
+    by : Contains (x ∷ new) (waiting costs v) → IsCostKnown g costs new v
     by (zero, within, is) = absurd (other (sym is))
     by (suc k, within, is) = inr (k, omega arith, is)
 
@@ -344,7 +344,7 @@ pub fresh : (links : List Link) (mid new : List Label) (old rest now : List (Rev
     → AllKnown (arcs links) mid old → AllKnown (arcs links) new now
 fresh links mid new old rest now x moved low known v within = by (cases_eq v x.0.node)
   where
-    by : (v ≡ x.0.node) ⊎ (v ≡ x.0.node → ⊥) → IsKnown (arcs links) new now v
+    by : (v ≡ x.0.node) ⊎ (v ≡ x.0.node → ⊥) → IsCostKnown (arcs links) new now v
     by (inl e) = inl (λ i edge is from.
         let l = link_of links i edge is in
         let leaves : l.0.tail ≡ x.0.node = ap (λ (k : Arc ℕ). k.from) l.2 ∙ (from ∙ e) in
@@ -354,7 +354,7 @@ fresh links mid new old rest now x moved low known v within = by (cases_eq v x.0
         (subst (λ (k : Arc ℕ). AtMost (cost_at new k.to) (with_edge (cost_at mid x.0.node) k.weight)) l.2 at))
     by (inr apart) = low.known v apart (kept_by_pop (arcs links) mid old rest x moved v (λ e. apart (ap (λ (w : Reverse Waiting). w.0.node) e)) (known v (let e = low.len in omega arith)))
 
-pub all_settled : (links : List Link) (costs : List Label) (queue : List (Reverse Waiting)) → AreLinks links (length costs) → length queue ≡ 0 → AllKnown (arcs links) costs queue → IsSettled (arcs links) costs
+pub all_settled : (links : List Link) (costs : List Label) (queue : List (Reverse Waiting)) → AreLinks links (length costs) → length queue ≡ 0 → AllKnown (arcs links) costs queue → AreCostsSettled (arcs links) costs
 all_settled links costs queue inside empty known i e is =
     let l = link_of links i e is in
     let tail : l.0.tail < length costs = (subst (IsLink (length costs)) (get_or_from_slice_get links i l.0 l.0 l.1) (inside i l.0 (slice_get_within links i l.0 l.1))).tail in

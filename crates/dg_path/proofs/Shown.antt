@@ -10,7 +10,7 @@ use Rattle.dg_path.specs.declared.search.Link.{Link}
 use Rattle.dg_path.specs.declared.search.Cost.{Cost as Label}
 use Rattle.dg_path.specs.declared.search.TheConstants.{UNREACHED}
 use Rattle.dg_plan.specs.Walks.{Arc, Cost, Reaches, cost_of, with_edge, AtMost, no_cost, IsBest}
-use Rattle.dg_path.specs.Search.{arc, arcs, label_at, cost_at, IsSettled, IsTable, Meets}
+use Rattle.dg_path.specs.Search.{arc, arcs, label_at, cost_at, AreCostsSettled, IsTable, Meets}
 use Rattle.dg_plan.proofs.Costs.{same_cost, cost_last}
 use Rattle.dg_plan.proofs.LeastWalks.{reaches_more}
 use Rattle.dg_path.proofs.Searching.{link_of}
@@ -112,7 +112,7 @@ module _ (links : List Link) (costs : List Label) (shown : is_table links costs 
   entered_shown = below_at (length costs) (λ v. v == 0 || (not (nat_lt (label_at costs v).weight UNREACHED.weight) || list_any (into costs v) links))
       (both (all_below (length costs) (λ v. v == 0 || (not (nat_lt (label_at costs v).weight UNREACHED.weight) || list_any (into costs v) links))) _ rest_shown).0
 
-  pub settled : IsSettled (arcs links) costs
+  pub settled : AreCostsSettled (arcs links) costs
   settled i e there =
       let l = link_of links i e there in
       subst (λ (x : Arc ℕ). AtMost (cost_at costs x.to) (with_edge (cost_at costs x.from) x.weight)) l.2

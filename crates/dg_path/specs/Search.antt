@@ -59,14 +59,14 @@ abbrev pub AreAdjacent : Bool → List Link → List ℕ → List ℕ → ℕ �
 AreAdjacent leaving links first next nodes = AreThreaded leaving links first next nodes 0
 
 -- each cost counts no more edges than there are nodes that cost less, and no more nodes than a u32 counts
-pub record Fits (costs : List Label) : Type 0 where
+pub record CostsFit (costs : List Label) : Type 0 where
   pub few : length costs + 1 < 2 ^ 32
   pub edges : (v : ℕ) → v < length costs → (label_at costs v).edges ≤ count_by (λ c. cheaper c (label_at costs v)) costs
   pub far : (v : ℕ) → v < length costs → AtMost (cost_at costs v) (seen UNREACHED)
 
 -- no edge can lower a cost
-abbrev pub IsSettled : List (Arc ℕ) → List Label → Type 0
-IsSettled g costs = (i : ℕ) (e : Arc ℕ) → slice_get g i ≡ Some e → AtMost (cost_at costs e.to) (with_edge (cost_at costs e.from) e.weight)
+abbrev pub AreCostsSettled : List (Arc ℕ) → List Label → Type 0
+AreCostsSettled g costs = (i : ℕ) (e : Arc ℕ) → slice_get g i ≡ Some e → AtMost (cost_at costs e.to) (with_edge (cost_at costs e.from) e.weight)
 
 -- each cost but the far one is that of a walk from one of the starting nodes
 abbrev pub Walked : List (Arc ℕ) → List ℕ → List Label → Type 0
@@ -81,11 +81,11 @@ abbrev pub waiting : List Label → ℕ → Reverse Waiting
 waiting costs v = record { 0 = record { weight = (label_at costs v).weight; edges = (label_at costs v).edges; node = v } }
 
 -- the node is done, or waits at its cost
-abbrev pub IsKnown : List (Arc ℕ) → List Label → List (Reverse Waiting) → ℕ → Type 0
-IsKnown g costs queue v = IsDone g costs v ⊎ Contains queue (waiting costs v)
+abbrev pub IsCostKnown : List (Arc ℕ) → List Label → List (Reverse Waiting) → ℕ → Type 0
+IsCostKnown g costs queue v = IsDone g costs v ⊎ Contains queue (waiting costs v)
 
 abbrev pub AllKnown : List (Arc ℕ) → List Label → List (Reverse Waiting) → Type 0
-AllKnown g costs queue = (v : ℕ) → v < length costs → IsKnown g costs queue v
+AllKnown g costs queue = (v : ℕ) → v < length costs → IsCostKnown g costs queue v
 
 -- no cost has risen
 abbrev pub Falls : List Label → List Label → Type 0
@@ -102,11 +102,11 @@ effort costs waits = 2 * sum_by as_number costs + waits
 pub record Lowered (links : List Link) (node at : ℕ) (old : List Label) (waits : List (Reverse Waiting)) (new : List Label) (waiting_now : List (Reverse Waiting)) : Type 0 where
   pub len : length new ≡ length old
   pub same : label_at new node ≡ label_at old node
-  pub fits : Fits new
+  pub fits : CostsFit new
   pub falls : Falls old new
   pub walks : (starts : List ℕ) → Walked (arcs links) starts old → Walked (arcs links) starts new
   pub relaxed : (i : ℕ) (l : Link) → i < at → slice_get links i ≡ Some l → l.tail ≡ node → AtMost (cost_at new l.head) (with_edge (cost_at old node) l.weight)
-  pub known : (v : ℕ) → v ≢ node → IsKnown (arcs links) old waits v → IsKnown (arcs links) new waiting_now v
+  pub known : (v : ℕ) → v ≢ node → IsCostKnown (arcs links) old waits v → IsCostKnown (arcs links) new waiting_now v
   pub effort : effort new (length waiting_now) ≤ effort old (length waits)
 
 -- What one link can do to the costs, where the walk so far costs `from`: it lowers its head, which then
@@ -121,7 +121,7 @@ Lowers from link old waits new waiting_now =
 -- What the costs are once the search is done: of each node to which there is a walk that is not too heavy, the
 -- least cost.
 pub record IsTable (g : List (Arc ℕ)) (starts : List ℕ) (costs : List Label) : Type 0 where
-  pub settled : IsSettled g costs
+  pub settled : AreCostsSettled g costs
   pub walked : Walked g starts costs
   pub zero : (a : ℕ) → Contains starts a → cost_at costs a ≡ no_cost
 
@@ -140,10 +140,10 @@ pub record IsFirstInto (links : List Link) (costs : List Label) (node i : ℕ) :
 -- What becomes of the costs where these nodes are starting nodes too.
 pub record WithStarts (more : List ℕ) (old : List Label) (waits : List (Reverse Waiting)) (new : List Label) (waiting_now : List (Reverse Waiting)) : Type 0 where
   pub len : length new ≡ length old
-  pub fits : Fits new
+  pub fits : CostsFit new
   pub walks : (g : List (Arc ℕ)) (starts : List ℕ) → Walked g starts old → Walked g (starts ++ more) new
   pub zero : (starts : List ℕ) → ((a : ℕ) → Contains starts a → cost_at old a ≡ no_cost) → (a : ℕ) → Contains (starts ++ more) a → cost_at new a ≡ no_cost
-  pub known : (g : List (Arc ℕ)) (v : ℕ) → IsKnown g old waits v → IsKnown g new waiting_now v
+  pub known : (g : List (Arc ℕ)) (v : ℕ) → IsCostKnown g old waits v → IsCostKnown g new waiting_now v
   pub falls : Falls old new
 
 -- a graft as the definitions have it

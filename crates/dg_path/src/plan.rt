@@ -3,7 +3,7 @@ ghost use Rattle.std.specs.List.{All};
 ghost use Rattle.dg_plan.specs.Walks.{IsPlan};
 ghost use Rattle.dg_path.specs.declared.search.Link.{Link};
 ghost use Rattle.dg_path.specs.declared.search.TheConstants.{UNREACHED};
-ghost use Rattle.dg_path.specs.Search.{AreLinks, AreAdjacent, arcs, IsTable, Meets, IsFirstInto, label_at, Fits};
+ghost use Rattle.dg_path.specs.Search.{AreLinks, AreAdjacent, arcs, IsTable, Meets, IsFirstInto, label_at, CostsFit};
 
 use crate::{Cost, Link};
 use std::alloc::{AllocError, Global};

@@ -1,7 +1,7 @@
 ghost use Rattle.std.specs.Prelude.{true, ◌≡◌, ℕ, List, ◌<◌, ◌≤◌, ◌+◌, ◌-◌, ◌^◌, length, OnOk};
 ghost use Rattle.std.specs.BinaryHeap.{heap_items};
 ghost use Rattle.dg_plan.specs.Walks.{AtMost};
-ghost use Rattle.dg_path.specs.Search.{AreLinks, AreAdjacent, arcs, cheaper, IsSettled, Walked, Fits, AllKnown, Falls, Lowered, Lowers, cost_at, seen};
+ghost use Rattle.dg_path.specs.Search.{AreLinks, AreAdjacent, arcs, cheaper, AreCostsSettled, Walked, CostsFit, AllKnown, Falls, Lowered, Lowers, cost_at, seen};
 
 use std::alloc::AllocError;
 use std::cmp::Reverse;
@@ -98,7 +98,7 @@ fn relax(
     requires node { node < length costs.old }
     requires links { AreLinks links.now (length costs.old) }
     requires adjacent { AreAdjacent true links.now first.now next.now (length costs.old) }
-    requires fits { Fits costs.old }
+    requires fits { CostsFit costs.old }
     ensures lowered { OnOk result (Lowered links.now node (length links.now) costs.old (heap_items queue.old) costs.new (heap_items queue.new)) }
 {
     let from = costs[node as usize];
@@ -121,12 +121,12 @@ pub(crate) fn settle(
 ) -> Result<(), AllocError>
     requires links { AreLinks links.now (length costs.old) }
     requires adjacent { AreAdjacent true links.now first.now next.now (length costs.old) }
-    requires fits { Fits costs.old }
+    requires fits { CostsFit costs.old }
     requires waits { AllKnown (arcs links.now) costs.old (heap_items queue.old) }
-    ensures settled { OnOk result (IsSettled (arcs links.now) costs.new) }
+    ensures settled { OnOk result (AreCostsSettled (arcs links.now) costs.new) }
     ensures walks { OnOk result ((starts : List ℕ) → Walked (arcs links.now) starts costs.old → Walked (arcs links.now) starts costs.new) }
     ensures falls { OnOk result (Falls costs.old costs.new) }
-    ensures fits { OnOk result (Fits costs.new) }
+    ensures fits { OnOk result (CostsFit costs.new) }
 {
     while let Some(Reverse(top)) = queue.pop() {
         if (top.node as usize) < costs.len() {

@@ -2,7 +2,7 @@ ghost use Rattle.std.specs.Prelude.{true, ◌≡◌, ℕ, List, [], ◌∷◌, �
 ghost use Rattle.std.specs.BinaryHeap.{heap_items};
 ghost use Rattle.std.specs.List.{All};
 ghost use Rattle.dg_plan.specs.Walks.{entered};
-ghost use Rattle.dg_path.specs.Search.{AreLinks, AreAdjacent, arcs, IsSettled, IsTable, Fits, Falls, AllKnown, WithStarts};
+ghost use Rattle.dg_path.specs.Search.{AreLinks, AreAdjacent, arcs, AreCostsSettled, IsTable, CostsFit, Falls, AllKnown, WithStarts};
 
 use crate::search::{Waiting, settle};
 use crate::{Cost, Link, UNREACHED};
@@ -17,7 +17,7 @@ fn add_start(
     queue: &mut BinaryHeap<Reverse<Waiting>>,
 ) -> Result<(), AllocError>
     requires node { node < length costs.old }
-    requires fits { Fits costs.old }
+    requires fits { CostsFit costs.old }
     ensures added { OnOk result (WithStarts (node ∷ []) costs.old (heap_items queue.old) costs.new (heap_items queue.new)) }
 {
     costs[node as usize] = Cost {
@@ -44,10 +44,10 @@ fn start_at(
     requires node { node < length costs.old }
     requires links { AreLinks links.now (length costs.old) }
     requires adjacent { AreAdjacent true links.now first.now next.now (length costs.old) }
-    requires fits { Fits costs.old }
-    requires settled { IsSettled (arcs links.now) costs.old }
+    requires fits { CostsFit costs.old }
+    requires settled { AreCostsSettled (arcs links.now) costs.old }
     ensures table { OnOk result ((starts : List ℕ) → IsTable (arcs links.now) starts costs.old → IsTable (arcs links.now) (starts ++ node ∷ []) costs.new) }
-    ensures fits { OnOk result (Fits costs.new) }
+    ensures fits { OnOk result (CostsFit costs.new) }
 {
     let mut queue = BinaryHeap::new(alloc);
     add_start(node, costs, &mut queue)?;
@@ -70,7 +70,7 @@ pub fn costs_from(
     requires links { AreLinks links.now nodes }
     requires chained { AreAdjacent true links.now first.now next.now nodes }
     ensures table { IfOk result (λ v. IsTable (arcs links.now) (start ∷ []) v.items) }
-    ensures fits { IfOk result (λ v. Fits v.items) }
+    ensures fits { IfOk result (λ v. CostsFit v.items) }
     ensures len { IfOk result (λ v. length v.items ≡ nodes) }
 {
     let mut costs = vec![in alloc; UNREACHED; nodes]?;
@@ -92,13 +92,13 @@ pub fn grow(
 ) -> Result<(), AllocError>
     requires links { AreLinks links.now (length costs.old) }
     requires chained { AreAdjacent true links.now first.now next.now (length costs.old) }
-    requires fits { Fits costs.old }
-    requires settled { IsSettled (arcs links.now) costs.old }
+    requires fits { CostsFit costs.old }
+    requires settled { AreCostsSettled (arcs links.now) costs.old }
     requires steps { All (λ i. i < length links.now) steps.now }
     ensures table { OnOk result ((starts : List ℕ) → IsTable (arcs links.now) starts costs.old → IsTable (arcs links.now) (starts ++ entered (arcs links.now) steps.now) costs.new) }
     ensures falls { OnOk result (Falls costs.old costs.new) }
-    ensures settled { OnOk result (IsSettled (arcs links.now) costs.new) }
-    ensures fits { OnOk result (Fits costs.new) }
+    ensures settled { OnOk result (AreCostsSettled (arcs links.now) costs.new) }
+    ensures fits { OnOk result (CostsFit costs.new) }
 {
     let mut queue = BinaryHeap::with_capacity(alloc, steps.len())?;
     for step in steps {

@@ -1,7 +1,7 @@
 ghost use Rattle.std.specs.Prelude.{true, false, ◌≡◌, ℕ, List, [], ◌∷◌, ◌++◌, ◌<◌, ◌≤◌, ◌+◌, ◌^◌, length, IfOk, OnOk};
 ghost use Rattle.std.specs.List.{All};
 ghost use Rattle.dg_plan.specs.Walks.{IsTree, Leads};
-ghost use Rattle.dg_path.specs.Search.{AreLinks, AreAdjacent, arcs, IsTable, Fits, IsTarget, grafts_of};
+ghost use Rattle.dg_path.specs.Search.{AreLinks, AreAdjacent, arcs, IsTable, CostsFit, IsTarget, grafts_of};
 
 use crate::{Adjacency, Cost, Link, grow, plan_to};
 use std::alloc::{AllocError, Global};
@@ -42,7 +42,7 @@ pub fn graft(
     requires few { length links.now < 2 ^ 32 }
     requires outs { AreAdjacent true links.now outs.now.first.items outs.now.next.items (length costs.old) }
     requires ins { AreAdjacent false links.now ins.now.first.items ins.now.next.items (length costs.old) }
-    requires fits { Fits costs.old }
+    requires fits { CostsFit costs.old }
     requires table { (starts : List ℕ) × IsTable (arcs links.now) starts costs.old }
     requires targets { All (IsTarget costs.old) targets.now }
     ensures tree { IfOk result (λ v. (starts : List ℕ) → IsTable (arcs links.now) starts costs.old → IsTree (arcs links.now) starts targets.now (grafts_of v.items)) }

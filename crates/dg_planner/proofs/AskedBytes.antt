@@ -16,7 +16,7 @@ use Rattle.dg_index.specs.IndexGrowth.{columns_in}
 use Rattle.dg_index.specs.OpenedIndex.{total}
 use Rattle.dg_plan.specs.IndexGraph.{lists_before}
 use Rattle.dg_shape.specs.Entries.{Holdings, column_length_in}
-use Rattle.dg_planner.specs.AskedLengths.{asked_of, asked_in, asked_length}
+use Rattle.dg_planner.specs.AskedLengths.{asked_of, asked_in, asked_length_of}
 
 -- the asked columns of what is held, if anything is
 abbrev pub asked_or_none : Columns → Option Entry → ℕ
@@ -62,8 +62,8 @@ held_within cols test (x ∷ es) =
     part false n = omega arith
 
 -- a record's asked columns are among all columns
-pub one_within : (c : Holdings) (cols : Columns) (k : Key) (most : ℕ) → columns_in c.entries ≤ most → asked_length c cols k ≤ most
-one_within c cols k most fits = let h : asked_length c cols k ≤ columns_in c.entries = held_within cols (same_key k) c.entries in omega arith
+pub one_within : (c : Holdings) (cols : Columns) (k : Key) (most : ℕ) → columns_in c.entries ≤ most → asked_length_of c cols k ≤ most
+one_within c cols k most fits = let h : asked_length_of c cols k ≤ columns_in c.entries = held_within cols (same_key k) c.entries in omega arith
 
 -- ---- all lists
 
@@ -133,5 +133,5 @@ lists_among cols (x ∷ es) first n =
     omega arith
 
 -- the asked columns of all lists before a leaf are among all columns
-pub lists_within : (c : Holdings) (cols : Columns) (leaves most : ℕ) → columns_in c.entries ≤ most → lists_before (asked_length c cols) leaves ≤ most
-lists_within c cols leaves most fits = let h : lists_before (asked_length c cols) leaves ≤ columns_in c.entries = lists_among cols c.entries 0 leaves in omega arith
+pub lists_within : (c : Holdings) (cols : Columns) (leaves most : ℕ) → columns_in c.entries ≤ most → lists_before (asked_length_of c cols) leaves ≤ most
+lists_within c cols leaves most fits = let h : lists_before (asked_length_of c cols) leaves ≤ columns_in c.entries = lists_among cols c.entries 0 leaves in omega arith

@@ -15,7 +15,7 @@ use Rattle.dg_plan.specs.declared.edge.Via.TheVariants as via
 use Rattle.dg_index.specs.Hierarchy.{numbers}
 use Rattle.dg_index.specs.IndexRecords.{heights}
 use Rattle.dg_plan.specs.IndexGraph.{edge, Ground, inners_at, leaf, level_node, is_root, base_edge, top_edge, list_edges, child_edges, inner_edges, level_edges, first_edges, recent_edges, edges_of, inner_nodes, nodes_of, IsReached, lists_before}
-use Rattle.dg_planner.specs.Order.{IsNodeOf, HasEnds, place_of}
+use Rattle.dg_planner.specs.Order.{IsGraphNode, HasEnds, place_of}
 use Rattle.dg_planner.specs.Links.{link_in}
 use Rattle.dg_path.specs.Search.{IsLink, AreLinks}
 use Rattle.dg_planner.proofs.Standing.{stands}
@@ -151,28 +151,28 @@ module _ (g : Ground) (low : 2 ≤ g.arity) (bases_in : All (λ (b : ℕ × Node
       (all_flat Ends (level_edges g.weight g.leaves g.arity) (heights g.arity g.leaves) level_ends) (recent_ends g.memory in_memory))))
 
   -- what a node of the graph is
-  pub nodes_are : All (IsNodeOf g.leaves g.arity) (nodes_of g)
+  pub nodes_are : All (IsGraphNode g.leaves g.arity) (nodes_of g)
   nodes_are =
-      All-cons (IsNodeOf g.leaves g.arity) Root _ tt
-      (All-append (IsNodeOf g.leaves g.arity) (cond g.memory (Now ∷ Recent ∷ []) []) _ (memory_are g.memory)
-      (All-append (IsNodeOf g.leaves g.arity) (map (λ j. Leaf j) (numbers 1 g.leaves)) _
-      (All-map (IsNodeOf g.leaves g.arity) (λ j. Leaf j) (numbers 1 g.leaves) (All-weaker (Contains (numbers 1 g.leaves)) (λ j. IsNodeOf g.leaves g.arity (Leaf j))
+      All-cons (IsGraphNode g.leaves g.arity) Root _ tt
+      (All-append (IsGraphNode g.leaves g.arity) (cond g.memory (Now ∷ Recent ∷ []) []) _ (memory_are g.memory)
+      (All-append (IsGraphNode g.leaves g.arity) (map (λ j. Leaf j) (numbers 1 g.leaves)) _
+      (All-map (IsGraphNode g.leaves g.arity) (λ j. Leaf j) (numbers 1 g.leaves) (All-weaker (Contains (numbers 1 g.leaves)) (λ j. IsGraphNode g.leaves g.arity (Leaf j))
       (λ j c. (let r = number_of 1 g.leaves j c in let e = r.2 in let i = r.1 in (omega arith, omega arith))) (numbers 1 g.leaves) (All-contains_itself (numbers 1 g.leaves))))
-      (All-append (IsNodeOf g.leaves g.arity) (map (λ i. List i) (numbers 0 g.leaves)) (inner_nodes g)
-      (All-map (IsNodeOf g.leaves g.arity) (λ i. List i) (numbers 0 g.leaves) (All-weaker (Contains (numbers 0 g.leaves)) (λ i. IsNodeOf g.leaves g.arity (List i))
+      (All-append (IsGraphNode g.leaves g.arity) (map (λ i. List i) (numbers 0 g.leaves)) (inner_nodes g)
+      (All-map (IsGraphNode g.leaves g.arity) (λ i. List i) (numbers 0 g.leaves) (All-weaker (Contains (numbers 0 g.leaves)) (λ i. IsGraphNode g.leaves g.arity (List i))
       (λ i c. (let r = number_of 0 g.leaves i c in let e = r.2 in let k = r.1 in omega arith)) (numbers 0 g.leaves) (All-contains_itself (numbers 0 g.leaves))))
-      (all_flat (IsNodeOf g.leaves g.arity) (λ h. map (λ j. Inner h j) (numbers 1 (inners_at g.leaves g.arity h))) (heights g.arity g.leaves) (λ h hc.
-      All-map (IsNodeOf g.leaves g.arity) (λ j. Inner h j) (numbers 1 (inners_at g.leaves g.arity h)) (All-weaker (Contains (numbers 1 (inners_at g.leaves g.arity h))) (λ j. IsNodeOf g.leaves g.arity (Inner h j))
+      (all_flat (IsGraphNode g.leaves g.arity) (λ h. map (λ j. Inner h j) (numbers 1 (inners_at g.leaves g.arity h))) (heights g.arity g.leaves) (λ h hc.
+      All-map (IsGraphNode g.leaves g.arity) (λ j. Inner h j) (numbers 1 (inners_at g.leaves g.arity h)) (All-weaker (Contains (numbers 1 (inners_at g.leaves g.arity h))) (λ j. IsGraphNode g.leaves g.arity (Inner h j))
       (λ j c. (let at = height_of h hc in let r = number_of 1 (inners_at g.leaves g.arity h) j c in let e = r.2 in let k = r.1 in let d = div-le_self g.leaves (g.arity ^ h) in (at.0, omega arith, omega arith, at.1)))
       (numbers 1 (inners_at g.leaves g.arity h)) (All-contains_itself (numbers 1 (inners_at g.leaves g.arity h)))))))))
     where
-      memory_are : (m : Bool) → All (IsNodeOf g.leaves g.arity) (cond m (Now ∷ Recent ∷ []) [])
-      memory_are true = All-from_recursion (IsNodeOf g.leaves g.arity) (Now ∷ Recent ∷ []) (tt, (tt, tt))
-      memory_are false = All-nil (IsNodeOf g.leaves g.arity)
+      memory_are : (m : Bool) → All (IsGraphNode g.leaves g.arity) (cond m (Now ∷ Recent ∷ []) [])
+      memory_are true = All-from_recursion (IsGraphNode g.leaves g.arity) (Now ∷ Recent ∷ []) (tt, (tt, tt))
+      memory_are false = All-nil (IsGraphNode g.leaves g.arity)
 
   -- so each edge can be told by places, which are below the number of nodes
   pub has_ends : All (HasEnds g.leaves g.arity) (edges_of g)
-  has_ends = All-weaker Ends (HasEnds g.leaves g.arity) (λ e ends. (All-contains (IsNodeOf g.leaves g.arity) (nodes_of g) e.from nodes_are ends.0, All-contains (IsNodeOf g.leaves g.arity) (nodes_of g) e.to nodes_are ends.1)) (edges_of g) ends_in
+  has_ends = All-weaker Ends (HasEnds g.leaves g.arity) (λ e ends. (All-contains (IsGraphNode g.leaves g.arity) (nodes_of g) e.from nodes_are ends.0, All-contains (IsGraphNode g.leaves g.arity) (nodes_of g) e.to nodes_are ends.1)) (edges_of g) ends_in
 
   place_below : (v : NodeId) → Contains (nodes_of g) v → place_of g v < length (nodes_of g)
   place_below v c =

@@ -17,7 +17,7 @@ use Rattle.dg_plan.proofs.Trees.{nodes_more, tree_push}
 use Rattle.dg_path.specs.declared.adjacency.Adjacency.{Adjacency}
 use Rattle.dg_path.specs.declared.search.Link.{Link}
 use Rattle.dg_path.specs.declared.search.Cost.{Cost as Label}
-use Rattle.dg_path.specs.Search.{Falls, Fits, IsTable, arcs, label_at}
+use Rattle.dg_path.specs.Search.{Falls, CostsFit, IsTable, arcs, label_at}
 use Rattle.dg_path.proofs.Tables as tables
 use Rattle.dg_planner.specs.Order.{place_of}
 use Rattle.dg_planner.specs.Whole.{FARTHEST, IsWhole}
@@ -40,7 +40,7 @@ pub record IsGrown (edges : ListOf Edge) (targets : ListOf NodeId) (grafts : Lis
 -- what is shown of the costs from the tree of these grafts, where a further target is planned by them
 pub record IsReady (g : Ground) (edges : ListOf Edge) (links : ListOf Link) (grafts : ListOf (Graft NodeId)) (costs : ListOf Label) : Type 0 where
   pub count : length costs ≡ length (nodes_of g)
-  pub fits : Fits costs
+  pub fits : CostsFit costs
   pub table : IsTable (arcs links) (map (place_of g) ((Root ∷ []) ++ entered (arcs_of edges) (steps_of grafts))) costs
   pub near : (v : ℕ) → v < length costs → (label_at costs v).weight ≤ FARTHEST
 
@@ -110,7 +110,7 @@ module _ (g : Ground) (edges : ListOf Edge) (starts : ListOf ℕ) (links : ListO
 
   -- the costs from the tree with one more graft
   pub one_ready : (grafts : ListOf (Graft NodeId)) (now : ListOf Label) → IsReady g edges links grafts now → (x : Graft NodeId) (new : ListOf Label)
-      → length new ≡ length now → Fits new → Falls now new
+      → length new ≡ length now → CostsFit new → Falls now new
       → ((from : ListOf ℕ) → IsTable (arcs links) from now → IsTable (arcs links) (from ++ entered (arcs links) x.steps) new)
       → IsReady g edges links (grafts ++ x ∷ []) new
   one_ready grafts now ready x new len fits falls table = record {

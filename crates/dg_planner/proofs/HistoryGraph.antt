@@ -29,7 +29,7 @@ use Rattle.dg_plan.proofs.AlikeGraphs.{same_edges}
 use Rattle.dg_plan.proofs.EnteredOnce.{all_flat, number_of}
 use Rattle.dg_shape.specs.Entries.{Holdings, column_length_in}
 use Rattle.dg_planner.specs.Bases.{ground_of}
-use Rattle.dg_planner.specs.AskedLengths.{asked_length}
+use Rattle.dg_planner.specs.AskedLengths.{asked_length_of}
 use Rattle.dg_planner.specs.HistoryLaws.{shape_of, HoldsRecordsOf, GraphOfHistory}
 
 -- ---- which records exist
@@ -105,10 +105,10 @@ module _ (z : History) (legal : IsLegal z) where
         + (if cols.edges_attr then unwrap_or (option_map (λ e. column_length_in e column.EdgeAttr) o) 0 else 0))
 
     -- the bytes of a record that exists are those of the history's record
-    pub lengths_are : (k : Key) → key_exists z.params (length (events_of z)) k ≡ true → asked_length catalogue cols k ≡ length_in_history z k cols
+    pub lengths_are : (k : Key) → key_exists z.params (length (events_of z)) k ≡ true → asked_length_of catalogue cols k ≡ length_in_history z k cols
     lengths_are k there = by (lookup (same_key k) (opened_of z).index.records) refl (record_held z legal k there)
       where
-        by : (o : Option Entry) → lookup (same_key k) (opened_of z).index.records ≡ o → is_some o ≡ true → asked_length catalogue cols k ≡ length_in_history z k cols
+        by : (o : Option Entry) → lookup (same_key k) (opened_of z).index.records ≡ o → is_some o ≡ true → asked_length_of catalogue cols k ≡ length_in_history z k cols
         by None is some = absurd (false≢true some)
         by (Some e) is some =
             let told = held_lengths k e is in
@@ -122,7 +122,7 @@ module _ (z : History) (legal : IsLegal z) where
         let p : Params = z.params in
         let n : ℕ = length (events_of z) in
         let m : ℕ = leaves p n in
-        same_edges m p.k bases memory (asked_length catalogue cols) (λ k. length_in_history z k cols)
+        same_edges m p.k bases memory (asked_length_of catalogue cols) (λ k. length_in_history z k cols)
         (λ i lt. lengths_are (key.List i) (list_exists p n i lt))
         (λ h c. let height = height_of p.k m h c in lengths_are (key.Top h) (top_exists p n h height.0 height.1))
         (λ h j c hc jc cc'.

@@ -15,7 +15,7 @@ use Rattle.dg_path.specs.declared.adjacency.Adjacency.{Adjacency}
 use Rattle.dg_path.specs.declared.search.Link.{Link}
 use Rattle.dg_path.specs.declared.search.Cost.{Cost as Label}
 use Rattle.dg_path.specs.Search.{IsTarget, arc, arcs}
-use Rattle.dg_planner.specs.Order.{IsNodeOf, bare_ground, place_of}
+use Rattle.dg_planner.specs.Order.{IsGraphNode, bare_ground, place_of}
 use Rattle.dg_planner.specs.Whole.{IsBetween, IsWhole}
 use Rattle.dg_planner.proofs.Standing.{apart_places, stands}
 use Rattle.dg_planner.proofs.Ends.{nodes_are}
@@ -55,8 +55,8 @@ plan_within edges starts v steps p =
     All-weaker (IsBest (arcs_of edges) starts) (λ i. i < length edges) (λ i b. (let e = edge_of edges i b.attains.edge b.attains.there in slice_get_within edges i e.0 e.1)) steps p.best
 
 -- a node is one of its form
-pub node_is : (g : Ground) → 2 ≤ g.arity → (v : NodeId) → Contains (nodes_of g) v → IsNodeOf g.leaves g.arity v
-node_is g low v c = All-contains (IsNodeOf g.leaves g.arity) (nodes_of g) v (nodes_are (bare_ground g.leaves g.arity g.memory) low (All-nil _)) c
+pub node_is : (g : Ground) → 2 ≤ g.arity → (v : NodeId) → Contains (nodes_of g) v → IsGraphNode g.leaves g.arity v
+node_is g low v c = All-contains (IsGraphNode g.leaves g.arity) (nodes_of g) v (nodes_are (bare_ground g.leaves g.arity g.memory) low (All-nil _)) c
 
 -- its place is below the number of nodes
 pub place_within : (g : Ground) (v : NodeId) → Contains (nodes_of g) v → place_of g v < length (nodes_of g)

@@ -20,5 +20,5 @@ abbrev pub asked_in : Entry → Columns → ℕ
 asked_in e cols = asked_of cols (column_length_in e)
 
 -- those of the record of a key, and 0 where the key is not held
-abbrev pub asked_length : Holdings → Columns → Key → ℕ
-asked_length c cols key = asked_of cols (λ col. unwrap_or (length_of c key col) 0)
+abbrev pub asked_length_of : Holdings → Columns → Key → ℕ
+asked_length_of c cols key = asked_of cols (λ col. unwrap_or (length_of c key col) 0)

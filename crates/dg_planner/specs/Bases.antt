@@ -8,7 +8,7 @@ use Rattle.dg_plan.specs.IndexGraph.{Ground, nodes_of}
 use Rattle.dg_shape.specs.declared.shape.Shape.{Shape}
 use Rattle.dg_shape.specs.Entries.{Holdings}
 use Rattle.dg_planner.specs.declared.build.Base.{Base}
-use Rattle.dg_planner.specs.AskedLengths.{asked_length}
+use Rattle.dg_planner.specs.AskedLengths.{asked_length_of}
 
 abbrev pub base_of : Base → ℕ × NodeId
 base_of b = (b.handle, b.node)
@@ -19,11 +19,11 @@ ground_with leaves arity memory bases weight = record { leaves = leaves; arity =
 -- by the shape of the index, and each record by the bytes of its asked columns
 abbrev pub ground_of : Shape → Holdings → Columns → List Base → Bool → Ground
 ground_of shape catalogue cols bases memory =
-    record { leaves = shape.events / shape.l; arity = shape.k; bases = map base_of bases; memory = memory; weight = asked_length catalogue cols }
+    record { leaves = shape.events / shape.l; arity = shape.k; bases = map base_of bases; memory = memory; weight = asked_length_of catalogue cols }
 
 -- each of these bases is the graph of one of the nodes
-abbrev pub AreAmong : List NodeId → List (ℕ × NodeId) → Type 0
-AreAmong nodes bases = All (λ (b : ℕ × NodeId). Contains nodes b.1) bases
+abbrev pub AreBasesAmong : List NodeId → List (ℕ × NodeId) → Type 0
+AreBasesAmong nodes bases = All (λ (b : ℕ × NodeId). Contains nodes b.1) bases
 
 abbrev pub HasBases : Ground → Type 0
-HasBases g = AreAmong (nodes_of g) g.bases
+HasBases g = AreBasesAmong (nodes_of g) g.bases

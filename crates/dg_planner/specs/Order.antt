@@ -37,13 +37,13 @@ abbrev pub inners_of : ℕ → ℕ → ℕ → ListOf NodeId
 inners_of leaves arity h = map (λ j. Inner h j) (numbers 1 (inners_at leaves arity h))
 
 -- the node is one of the graph; Now and Recent are where the graph after all events is in memory
-abbrev pub IsNodeOf : ℕ → ℕ → NodeId → Type 0
-IsNodeOf leaves arity Root = ⊤
-IsNodeOf leaves arity Now = ⊤
-IsNodeOf leaves arity Recent = ⊤
-IsNodeOf leaves arity (Leaf j) = (1 ≤ j) × (j ≤ leaves)
-IsNodeOf leaves arity (List i) = i < leaves
-IsNodeOf leaves arity (Inner h j) = (1 ≤ h) × (1 ≤ j) × (j ≤ leaves) × (arity ^ h ≤ leaves)
+abbrev pub IsGraphNode : ℕ → ℕ → NodeId → Type 0
+IsGraphNode leaves arity Root = ⊤
+IsGraphNode leaves arity Now = ⊤
+IsGraphNode leaves arity Recent = ⊤
+IsGraphNode leaves arity (Leaf j) = (1 ≤ j) × (j ≤ leaves)
+IsGraphNode leaves arity (List i) = i < leaves
+IsGraphNode leaves arity (Inner h j) = (1 ≤ h) × (1 ≤ j) × (j ≤ leaves) × (arity ^ h ≤ leaves)
 
 -- the interior nodes below each height
 pub record AreStarts (leaves arity : ℕ) (starts : ListOf ℕ) : Type 0 where
@@ -55,7 +55,7 @@ pub record AreStarts (leaves arity : ℕ) (starts : ListOf ℕ) : Type 0 where
 
 -- both ends of the edge are nodes
 abbrev pub HasEnds : ℕ → ℕ → Edge → Type 0
-HasEnds leaves arity e = IsNodeOf leaves arity e.from × IsNodeOf leaves arity e.to
+HasEnds leaves arity e = IsGraphNode leaves arity e.from × IsGraphNode leaves arity e.to
 
 -- the number of nodes
 abbrev pub count_in : ℕ → ℕ → Bool → ℕ

@@ -6,14 +6,14 @@ use Rattle.dg_plan.specs.Walks.{Graft as GraftOf}
 use Rattle.dg_planner.specs.declared.tree.Graft.{Graft}
 use Rattle.dg_planner.specs.declared.tree.Tree.{Tree}
 
-abbrev pub graft_of : Graft → GraftOf NodeId
-graft_of x = record { from = x.from; steps = x.steps.items }
+abbrev pub node_graft : Graft → GraftOf NodeId
+node_graft x = record { from = x.from; steps = x.steps.items }
 
-abbrev pub grafts_of : List Graft → List (GraftOf NodeId)
-grafts_of xs = map graft_of xs
+abbrev pub node_grafts : List Graft → List (GraftOf NodeId)
+node_grafts xs = map node_graft xs
 
 abbrev pub grafts_in : Tree → List (GraftOf NodeId)
-grafts_in t = grafts_of t.grafts.items
+grafts_in t = node_grafts t.grafts.items
 
 -- the costs from a tree so far: those that are kept from the root, until it has grown
 abbrev pub costs_now : List Label → List Label → List Label

@@ -9,7 +9,7 @@ use Rattle.dg_plan.specs.EnteredRecords.{EntersOnce}
 use Rattle.dg_path.specs.declared.search.Link.{Link}
 use Rattle.dg_path.specs.declared.search.Cost.{Cost as Label}
 use Rattle.dg_path.specs.declared.adjacency.Adjacency.{Adjacency}
-use Rattle.dg_path.specs.Search.{AreLinks, AreAdjacent, Fits, IsTable, arcs, label_at}
+use Rattle.dg_path.specs.Search.{AreLinks, AreAdjacent, CostsFit, IsTable, arcs, label_at}
 use Rattle.dg_planner.specs.Order.{AreStarts, place_of}
 
 -- the graph of a planner: its nodes and its edges, each in their order
@@ -42,5 +42,5 @@ pub record IsWhole (g : Ground) (edges : List Edge) (starts : List ℕ) (links :
   pub out_chains : AreAdjacent true links outs.first.items outs.next.items (length costs)
   pub in_chains : AreAdjacent false links ins.first.items ins.next.items (length costs)
   pub table : IsTable (arcs links) (0 ∷ []) costs
-  pub fits : Fits costs
+  pub fits : CostsFit costs
   pub near : (v : ℕ) → v < length costs → (label_at costs v).weight ≤ FARTHEST

@@ -1,7 +1,7 @@
 ghost use Rattle.std.specs.Prelude.{◌≡◌, ℕ, ◌+◌, ◌-◌, ◌*◌, ◌/◌, ◌^◌, ◌<◌, ◌≤◌, List, [], ◌∷◌, ◌++◌, length, map, OnOk, IfOk};
 ghost use Rattle.std.specs.List.{flat_map};
 ghost use Rattle.dg_history.specs.declared.node.Key.{Key};
-ghost use Rattle.dg_planner.specs.AskedLengths.{asked_length};
+ghost use Rattle.dg_planner.specs.AskedLengths.{asked_length_of};
 ghost use Rattle.dg_planner.specs.Bases.{base_of};
 ghost use Rattle.dg_index.specs.Hierarchy.{numbers};
 ghost use Rattle.dg_index.specs.IndexRecords.{heights};
@@ -75,7 +75,7 @@ fn add_list(
     i: u32,
 ) -> Result<(), AllocError>
     requires { i < 2 ^ 31 }
-    ensures { OnOk result (edges.new.items ≡ edges.old.items ++ kept (list_edges (asked_length catalogue.now cols) i)) }
+    ensures { OnOk result (edges.new.items ≡ edges.old.items ++ kept (list_edges (asked_length_of catalogue.now cols) i)) }
 {
     let list = NodeId::List(i);
     let key = Key::List(i);
@@ -97,7 +97,7 @@ fn add_lists(
     leaves: u32,
 ) -> Result<(), AllocError>
     requires { leaves < 2 ^ 28 }
-    ensures { OnOk result (edges.new.items ≡ edges.old.items ++ kept (flat_map (list_edges (asked_length catalogue.now cols)) (numbers 0 leaves))) }
+    ensures { OnOk result (edges.new.items ≡ edges.old.items ++ kept (flat_map (list_edges (asked_length_of catalogue.now cols)) (numbers 0 leaves))) }
 {
     for i in 0..leaves {
         add_list(edges, catalogue, cols, i)?;
@@ -117,7 +117,7 @@ fn add_children(
     requires below { below < 2 ^ 31 }
     requires j { 1 ≤ j }
     requires fits { j * arity ≤ 2 ^ 28 }
-    ensures { OnOk result (edges.new.items ≡ edges.old.items ++ kept (inner_edges (asked_length catalogue.now cols) arity below j)) }
+    ensures { OnOk result (edges.new.items ≡ edges.old.items ++ kept (inner_edges (asked_length_of catalogue.now cols) arity below j)) }
 {
     let first = (j - 1) * arity + 1;
     for n in 0..arity {
@@ -136,7 +136,7 @@ fn add_child(
     c: u32,
 ) -> Result<(), AllocError>
     requires { below < 2 ^ 31 }
-    ensures { OnOk result (edges.new.items ≡ edges.old.items ++ kept (child_edges (asked_length catalogue.now cols) below j c)) }
+    ensures { OnOk result (edges.new.items ≡ edges.old.items ++ kept (child_edges (asked_length_of catalogue.now cols) below j c)) }
 {
     let node = NodeId::Inner(below + 1, j);
     let child = node_of_level(below, c);
@@ -158,7 +158,7 @@ fn add_level(
 ) -> Result<(), AllocError>
     requires below { below < 2 ^ 31 }
     requires fits { count * arity ≤ 2 ^ 28 }
-    ensures { OnOk result (edges.new.items ≡ edges.old.items ++ kept (flat_map (inner_edges (asked_length catalogue.now cols) arity below) (numbers 1 count))) }
+    ensures { OnOk result (edges.new.items ≡ edges.old.items ++ kept (flat_map (inner_edges (asked_length_of catalogue.now cols) arity below) (numbers 1 count))) }
 {
     for n in 0..count {
         add_children(edges, catalogue, cols, arity, below, n + 1)?;
@@ -177,7 +177,7 @@ fn add_levels(
     requires leaves { leaves < 2 ^ 28 }
     requires low { 2 ≤ arity }
     requires high { arity ≤ 64 }
-    ensures { OnOk result (edges.new.items ≡ edges.old.items ++ kept (flat_map (level_edges (asked_length catalogue.now cols) leaves arity) (heights arity leaves))) }
+    ensures { OnOk result (edges.new.items ≡ edges.old.items ++ kept (flat_map (level_edges (asked_length_of catalogue.now cols) leaves arity) (heights arity leaves))) }
 {
     let mut below = 0;
     let mut width = arity as u64;
@@ -217,7 +217,7 @@ fn add_tops(
     requires leaves { leaves < 2 ^ 28 }
     requires low { 2 ≤ arity }
     requires high { arity ≤ 64 }
-    ensures { OnOk result (edges.new.items ≡ edges.old.items ++ kept (map (top_edge (asked_length catalogue.now cols)) (heights arity leaves))) }
+    ensures { OnOk result (edges.new.items ≡ edges.old.items ++ kept (map (top_edge (asked_length_of catalogue.now cols)) (heights arity leaves))) }
 {
     let mut below = 0;
     let mut width = arity as u64;
@@ -274,7 +274,7 @@ pub fn build_edges(
     requires leaves { form.leaves < 2 ^ 28 }
     requires low { 2 ≤ form.arity }
     requires high { form.arity ≤ 64 }
-    ensures { IfOk result (λ v. v.items ≡ edges_of (record { leaves = form.leaves; arity = form.arity; bases = map base_of bases.now; memory = form.memory; weight = asked_length catalogue.now cols })) }
+    ensures { IfOk result (λ v. v.items ≡ edges_of (record { leaves = form.leaves; arity = form.arity; bases = map base_of bases.now; memory = form.memory; weight = asked_length_of catalogue.now cols })) }
 {
     let mut edges = Vec::new(alloc);
     if form.memory {

@@ -1,7 +1,7 @@
 ghost use Rattle.std.specs.Prelude.{◌≡◌, ◌≤◌};
 ghost use Rattle.dg_shape.specs.declared.catalogue.TheConstants.{BYTES_MAX};
 ghost use Rattle.dg_shape.specs.Entries.{IsInRange};
-ghost use Rattle.dg_planner.specs.AskedLengths.{asked_in, asked_length};
+ghost use Rattle.dg_planner.specs.AskedLengths.{asked_in, asked_length_of};
 
 use dg_graph::Columns;
 use dg_history::Key;
@@ -20,7 +20,7 @@ fn asked_in(entry: &Entry, cols: Columns) -> u64
 
 /// The bytes of the asked columns of a record, and 0 where its key is not held.
 pub fn asked_length(catalogue: &Catalogue, cols: Columns, key: Key) -> u64
-    ensures { result ≡ asked_length catalogue.now cols key }
+    ensures { result ≡ asked_length_of catalogue.now cols key }
 {
     match catalogue.entry(key) {
         Some(entry) => asked_in(&entry, cols),

@@ -1,5 +1,5 @@
 ghost use Rattle.std.specs.Prelude.{◌≡◌, ℕ, ◌+◌, ◌<◌, ◌≤◌, ◌^◌, length, IfOk, slice_index};
-ghost use Rattle.dg_planner.specs.Order.{count_in, place_in, inners_below, AreStarts, IsNodeOf};
+ghost use Rattle.dg_planner.specs.Order.{count_in, place_in, inners_below, AreStarts, IsGraphNode};
 
 use dg_history::NodeId;
 use std::alloc::{AllocError, Global};
@@ -38,7 +38,7 @@ pub fn level_starts(alloc: Global, leaves: u32, arity: u32) -> Result<Vec<u32>, 
 pub fn place(form: Form, starts: &[u32], node: NodeId) -> u32
     requires leaves { form.leaves < 2 ^ 28 }
     requires starts { AreStarts form.leaves form.arity starts.now }
-    requires node { IsNodeOf form.leaves form.arity node }
+    requires node { IsGraphNode form.leaves form.arity node }
     ensures { result ≡ place_in form.leaves form.arity form.memory node }
 {
     let first = if form.memory { 3 } else { 1 };

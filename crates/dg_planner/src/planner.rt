@@ -6,7 +6,7 @@ ghost use Rattle.dg_plan.specs.IndexGraph.{arcs_of, edges_of, nodes_of, lists_be
 ghost use Rattle.dg_plan.specs.EnteredRecords.{EntersOnce};
 ghost use Rattle.dg_plan.specs.Walks.{AreSingles, IsPlan, IsPotential, IsTree, Leads, steps_of, tree_weight, weight_of};
 ghost use Rattle.dg_shape.specs.Shapes.{IsShape};
-ghost use Rattle.dg_planner.specs.AskedLengths.{asked_length};
+ghost use Rattle.dg_planner.specs.AskedLengths.{asked_length_of};
 ghost use Rattle.dg_planner.specs.Bases.{HasBases, ground_of, ground_with};
 ghost use Rattle.dg_planner.specs.Trees.{grafts_in};
 
@@ -90,11 +90,11 @@ impl Planner {
         requires leaves { form.leaves < 2 ^ 28 }
         requires low { 2 ≤ form.arity }
         requires high { form.arity ≤ 64 }
-        requires bases { HasBases (ground_with form.leaves form.arity form.memory bases.now (asked_length catalogue.now cols)) }
-        requires light { (k : Key) → asked_length catalogue.now cols k ≤ 2 ^ 48 }
-        requires lists { lists_before (asked_length catalogue.now cols) form.leaves ≤ 2 ^ 48 }
-        ensures nodes { IfOk result (λ p. p.nodes ≡ nodes_of (ground_with form.leaves form.arity form.memory bases.now (asked_length catalogue.now cols))) }
-        ensures edges { IfOk result (λ p. p.edges ≡ edges_of (ground_with form.leaves form.arity form.memory bases.now (asked_length catalogue.now cols))) }
+        requires bases { HasBases (ground_with form.leaves form.arity form.memory bases.now (asked_length_of catalogue.now cols)) }
+        requires light { (k : Key) → asked_length_of catalogue.now cols k ≤ 2 ^ 48 }
+        requires lists { lists_before (asked_length_of catalogue.now cols) form.leaves ≤ 2 ^ 48 }
+        ensures nodes { IfOk result (λ p. p.nodes ≡ nodes_of (ground_with form.leaves form.arity form.memory bases.now (asked_length_of catalogue.now cols))) }
+        ensures edges { IfOk result (λ p. p.edges ≡ edges_of (ground_with form.leaves form.arity form.memory bases.now (asked_length_of catalogue.now cols))) }
     {
         let edges = build_edges(alloc, form, bases, catalogue, cols)?;
         let starts = level_starts(alloc, form.leaves, form.arity)?;

@@ -1,7 +1,7 @@
 ghost use Rattle.std.specs.Prelude.{true, ◌≡◌, ℕ, ◌<◌, List, ◌++◌, length, OnOk};
 ghost use Rattle.std.specs.List.{All};
 ghost use Rattle.dg_history.specs.declared.node.NodeId.{NodeId};
-ghost use Rattle.dg_path.specs.Search.{AreAdjacent, AreLinks, Falls, Fits, IsSettled, IsTable, arcs, label_at};
+ghost use Rattle.dg_path.specs.Search.{AreAdjacent, AreLinks, Falls, CostsFit, AreCostsSettled, IsTable, arcs, label_at};
 ghost use Rattle.dg_plan.specs.IndexGraph.{arcs_of};
 ghost use Rattle.dg_plan.specs.Walks.{Leads, entered};
 ghost use Rattle.dg_planner.specs.Trees.{costs_now};
@@ -83,13 +83,13 @@ pub fn grow_on(
     requires some { 0 < length (costs_now kept.now grown.old.items) }
     requires links { AreLinks links.now (length (costs_now kept.now grown.old.items)) }
     requires outs { AreAdjacent true links.now outs.now.first.items outs.now.next.items (length (costs_now kept.now grown.old.items)) }
-    requires fits { Fits (costs_now kept.now grown.old.items) }
-    requires settled { IsSettled (arcs links.now) (costs_now kept.now grown.old.items) }
+    requires fits { CostsFit (costs_now kept.now grown.old.items) }
+    requires settled { AreCostsSettled (arcs links.now) (costs_now kept.now grown.old.items) }
     requires steps { All (λ i. i < length links.now) steps.now }
     ensures table { OnOk result ((starts : List ℕ) → IsTable (arcs links.now) starts (costs_now kept.now grown.old.items)
         → IsTable (arcs links.now) (starts ++ entered (arcs links.now) steps.now) (costs_now kept.now grown.new.items)) }
     ensures falls { OnOk result (Falls (costs_now kept.now grown.old.items) (costs_now kept.now grown.new.items)) }
-    ensures fits { OnOk result (Fits (costs_now kept.now grown.new.items)) }
+    ensures fits { OnOk result (CostsFit (costs_now kept.now grown.new.items)) }
     ensures len { OnOk result (length (costs_now kept.now grown.new.items) ≡ length (costs_now kept.now grown.old.items)) }
 {
     begin(kept, grown)?;

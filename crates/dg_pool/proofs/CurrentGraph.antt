@@ -19,7 +19,7 @@ use Rattle.dg_pool.specs.declared.slots.Slot.{Slot}
 use Rattle.dg_pool.specs.declared.slots.Base.TheVariants as base
 use Rattle.dg_pool.specs.declared.slots.SlotState.{SlotState}
 use Rattle.dg_pool.specs.declared.slots.SlotState.TheVariants as state
-use Rattle.dg_cells.specs.Rows.{HasCell, cell_at, AreApart, Writes, is_current, pair, SetsPair, SetsCurrent, Lacks}
+use Rattle.dg_cells.specs.Rows.{HasCell, cell_at, CellsAreApart, Writes, is_current, pair, SetsPair, SetsCurrent, Lacks}
 use Rattle.dg_pool.specs.Graphs.{slot_at, pair_at, is_on_now, is_live, is_listed, ListsOnNow, pinned, Pins, Keeps, AreSlots, IsBased, IsBaseFor, slot_says, pair_says, in_base, in_slot, given, picked, graph_as, HaveCells, changed, all_changed}
 use Rattle.dg_cells.proofs.Changed.{cell_past, cell_there}
 use Rattle.dg_pool.proofs.Picked.{picked_same, picked_more, picked_set, picked_decides, picked_nothing}
@@ -249,7 +249,7 @@ module _ (slots : List SlotState) (fit : AreSlots slots) (on : Bool) (old new : 
         read_new m (cases_eq m n) (Bool × Bool) (pair_at s) (pair_stays slots fit on w.before w.after w.how s low (idle_stays (slot_at slots s) idle));
   }
 
-  changed_on : (was : Bool) → is_current w.before ≡ was → (t : Bool) → on ≡ t → not was ≡ t → AreApart new → picked is_current new ≡ changed t w.before.element (picked is_current old)
+  changed_on : (was : Bool) → is_current w.before ≡ was → (t : Bool) → on ≡ t → not was ≡ t → CellsAreApart new → picked is_current new ≡ changed t w.before.element (picked is_current old)
   changed_on false cur true e d apart =
       ap (picked is_current) w.is
       ∙ picked_more is_current old n (Some w.after) w.before.element inside
@@ -271,7 +271,7 @@ module _ (slots : List SlotState) (fit : AreSlots slots) (on : Bool) (old new : 
   changed_on false cur false e d apart = absurd (true≢false d)
   changed_on true cur true e d apart = absurd (false≢true d)
 
-  pub changes_now : is_current w.before ≡ not on → AreApart new → picked is_current new ≡ changed on w.before.element (picked is_current old)
+  pub changes_now : is_current w.before ≡ not on → CellsAreApart new → picked is_current new ≡ changed on w.before.element (picked is_current old)
   changes_now cur apart = changed_on (is_current w.before) refl on refl (ap not cur ∙ twice on) apart
     where
       twice : (b : Bool) → not (not b) ≡ b
@@ -289,7 +289,7 @@ not_there rows x false lacks there =
     sym (take_out-absent x (picked is_current rows) (picked_set is_current rows) (picked_nothing is_current rows x lacks))
 
 -- and one whose bit is as asked stays
-pub unchanged : (rows : List (Option Row)) (x : Element) (n : ℕ) (r : Row) (on : Bool) → AreApart rows → cell_at rows n ≡ Some r → r.element ≡ x → is_current r ≡ on → picked is_current rows ≡ changed on x (picked is_current rows)
+pub unchanged : (rows : List (Option Row)) (x : Element) (n : ℕ) (r : Row) (on : Bool) → CellsAreApart rows → cell_at rows n ≡ Some r → r.element ≡ x → is_current r ≡ on → picked is_current rows ≡ changed on x (picked is_current rows)
 unchanged rows x n r true apart there is cur =
     sym (put-there x (picked is_current rows) (picked_set is_current rows) (picked_decides is_current rows x n r apart there is ∙ cur))
 unchanged rows x n r false apart there is cur =
@@ -310,9 +310,9 @@ same_as true false e = cc
 same_as false true e = cc
 same_as false false e = refl
 
-pub apart_written : (old new : List (Option Row)) (n : ℕ) (P : Row → Row → Type 0) (w : Writes old new n P) → w.after.element ≡ w.before.element → AreApart old → AreApart new
+pub apart_written : (old new : List (Option Row)) (n : ℕ) (P : Row → Row → Type 0) (w : Writes old new n P) → w.after.element ≡ w.before.element → CellsAreApart old → CellsAreApart new
 apart_written old new n P w same apart =
-    subst AreApart (sym w.is) (apart_by old (set old n (Some w.after)) (comes_written old n w.before w.after w.was same) apart)
+    subst CellsAreApart (sym w.is) (apart_by old (set old n (Some w.after)) (comes_written old n w.before w.after w.was same) apart)
 
 -- ---- one after another
 

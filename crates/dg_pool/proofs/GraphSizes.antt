@@ -9,7 +9,7 @@ use Rattle.dg_graph.specs.declared.element.Element.{Element}
 use Rattle.dg_graph.specs.Elements.{has, put, with_one, same, element_cmp}
 use Rattle.dg_graph.proofs.Sets.{put_by, element_exact, same_members}
 use Rattle.dg_cells.specs.declared.row.Row.{Row}
-use Rattle.dg_cells.specs.Rows.{cell_at, AreApart, Lacks}
+use Rattle.dg_cells.specs.Rows.{cell_at, CellsAreApart, Lacks}
 use Rattle.dg_pool.specs.Graphs.{picked, PoolState, AreSlots}
 use Rattle.dg_pool.specs.Sweeps.{passes_test, is_needed, union_of}
 use Rattle.dg_pool.proofs.Unions.{union_decides, union_lacks, IsSet-union_of}
@@ -33,10 +33,10 @@ length-put x (y ∷ set) e =
       | Greater ↦ λ p. ap suc (length-put x set (right (same x y) (has set x) e))
     ] refl
 
-apart_tail : (o : Option Row) (rows : List (Option Row)) → AreApart (o ∷ rows) → AreApart rows
+apart_tail : (o : Option Row) (rows : List (Option Row)) → CellsAreApart (o ∷ rows) → CellsAreApart rows
 apart_tail o rows apart i j r q e f same = let tied = apart (suc i) (suc j) r q e f same in omega arith
 
-alone : (test : Row → Bool) (r : Row) (rows : List (Option Row)) → AreApart (Some r ∷ rows) → has (picked test rows) r.element ≡ false
+alone : (test : Row → Bool) (r : Row) (rows : List (Option Row)) → CellsAreApart (Some r ∷ rows) → has (picked test rows) r.element ≡ false
 alone test r rows apart = picked_lacks test rows r.element (λ n. at n (cell_at rows n) refl)
   where
     at : (n : ℕ) (o : Option Row) → cell_at rows n ≡ o → gives test r.element (cell_at rows n) ≡ false
@@ -48,7 +48,7 @@ alone test r rows apart = picked_lacks test rows r.element (λ n. at n (cell_at 
         by true false f = refl
         by true true f = let tied = apart 0 (suc n) r q refl e (element_exact r.element q.element f) in absurd (omega arith)
 
-pub length-picked : (test : Row → Bool) (rows : List (Option Row)) → AreApart rows → length (picked test rows) ≡ count_by (passes_test test) rows
+pub length-picked : (test : Row → Bool) (rows : List (Option Row)) → CellsAreApart rows → length (picked test rows) ≡ count_by (passes_test test) rows
 length-picked test [] apart = refl
 length-picked test (None ∷ rows) apart =
     length-picked test rows (apart_tail None rows apart)
@@ -60,7 +60,7 @@ length-picked test (Some r ∷ rows) apart =
     at false e = omega arith
 
 -- the union is what the needed cells give
-pub union_is : (p : PoolState) → AreSlots p.slots → AreApart p.rows → union_of p ≡ picked (is_needed p.slots) p.rows
+pub union_is : (p : PoolState) → AreSlots p.slots → CellsAreApart p.rows → union_of p ≡ picked (is_needed p.slots) p.rows
 union_is p fit apart =
     same_members (union_of p) (picked (is_needed p.slots) p.rows) (IsSet-union_of p) (picked_set (is_needed p.slots) p.rows) (λ x. at x (row_or_none p.rows x))
   where

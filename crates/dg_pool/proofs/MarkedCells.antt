@@ -1,22 +1,29 @@
 -- New cells, and the marks of a new slot.
-use Rattle.std.proofs.Common.{◌≡◌, ℕ, ◌+◌, ◌<◌, ◌≤◌, Bool, true, false, cond, ◌||◌, List, [], ◌∷◌, ◌++◌, Option, Some, None, length, get_or, drop, refl, sym, ap, ◌∙◌, subst, ◌⊎◌, inl, inr}
+use Rattle.std.proofs.Common.{◌≡◌, ℕ, ◌+◌, ◌<◌, ◌≤◌, Bool, true, false, cond, ◌||◌, not, List, [], ◌∷◌, ◌++◌, append-nil, arith, Option, Some, None, length, get_or, take, drop, filter, refl, sym, ap, ◌∙◌, subst, ◌⊎◌, inl, inr}
 use Rattle.std.proofs.lemmas.Bool.{cases_eq, eq-eqb, ne_eqb}
-use Rattle.std.proofs.lemmas.List.{drop_more}
+use Rattle.std.proofs.lemmas.List.{drop_more, length-take}
+use Rattle.std.proofs.lemmas.List.Elements.{filter_more}
+use Rattle.std.proofs.lemmas.List.Sums.{length-filter, count_by-le-length}
+use mathlib.Core.Bool.{beq}
 use Rattle.dg_graph.specs.declared.element.Element.{Element}
 use Rattle.dg_graph.specs.Elements.{has, same}
 use Rattle.dg_graph.proofs.Sets.{element_exact, same_itself}
 use Rattle.dg_cells.specs.declared.row.Row.{Row}
-use Rattle.dg_cells.specs.Rows.{cell_at, AreApart, Holds, HasCell, Grows, IsBare, Marks, MarksCell, MarksRow, SetsPair, Writes, pair}
+use Rattle.dg_cells.specs.Rows.{cell_at, CellsAreApart, Holds, HasCell, CellsGrow, IsBare, AreNumbers, Marks, MarksCell, MarksRow, SetsPair, Writes, pair}
 use Rattle.dg_delta.specs.Deltas.{is_in_after}
 use Rattle.dg_pool.specs.declared.slots.Base.{Base}
 use Rattle.dg_pool.specs.declared.slots.Base.TheVariants as base
 use Rattle.dg_pool.specs.Graphs.{in_base, pair_says, given, picked}
-use Rattle.dg_pool.specs.Slots.{IsNoBase}
+use Rattle.dg_pool.specs.Slots.{IsNoBase, moved_over}
+use Rattle.dg_pool.specs.Counts.{kind_count, one_more}
+use Rattle.dg_query.specs.declared.answers.Counts.{Counts}
+use Rattle.dg_query.specs.Queries.{counts_of}
+use Rattle.dg_pool.proofs.GraphCounts.{counts-push, kind-most}
 use Rattle.dg_pool.proofs.Picked.{picked_alike}
 use Rattle.dg_cells.proofs.Changed.{cell_past, cell_there}
 use Rattle.dg_cells.proofs.Changed.{cell_written}
 
-pub grows_then : (a b c : List (Option Row)) → Grows a b → Grows b c → Grows a c
+pub grows_then : (a b c : List (Option Row)) → CellsGrow a b → CellsGrow b c → CellsGrow a c
 grows_then a b c f g = record {
   kept = λ n r e. g.kept n r (f.kept n r e);
   bare = λ n r e h. at n r e h (cell_at b n) refl;
@@ -29,11 +36,11 @@ grows_then a b c f g = record {
         let tied : q ≡ r = cc in
         subst IsBare tied (f.bare n q e k)
 
-pub has_grown : (a b : List (Option Row)) → Grows a b → (x : Element) → HasCell a x → HasCell b x
+pub has_grown : (a b : List (Option Row)) → CellsGrow a b → (x : Element) → HasCell a x → HasCell b x
 has_grown a b g x h = (h.0, record { row = h.1.row; there = g.kept h.0 h.1.row h.1.there; element = h.1.element })
 
 -- one more of the elements has a cell
-pub have_more : (a b : List (Option Row)) (items : List Element) (i : ℕ) (d : Element) → i < length items → Grows a b → HasCell b (get_or items i d)
+pub have_more : (a b : List (Option Row)) (items : List Element) (i : ℕ) (d : Element) → i < length items → CellsGrow a b → HasCell b (get_or items i d)
     → (x : Element) → HasCell a x ⊎ (has (drop i items) x ≡ true) → HasCell b x ⊎ (has (drop (i + 1) items) x ≡ true)
 have_more a b items i d h g there x (inl f) = inl (has_grown a b g x f)
 have_more a b items i d h g there x (inr e) = at (same x (get_or items i d)) refl (sym (ap (λ l. has l x) (drop_more items i d h)) ∙ e)
@@ -74,7 +81,7 @@ module _ (s : ℕ) (p : Bool × Bool) (low : 1 ≤ s) (x : Element) where
   }
 
   -- the cell of the element is marked, and all others stay
-  pub marks_here : (old new : List (Option Row)) (at : ℕ) → AreApart old → Holds old x at → Writes old new at (SetsPair s p) → Marks s p (x ∷ []) old new
+  pub marks_here : (old new : List (Option Row)) (at : ℕ) → CellsAreApart old → Holds old x at → Writes old new at (SetsPair s p) → Marks s p (x ∷ []) old new
   marks_here old new at apart h w n = by n (cases_eq n at)
     where
       is_x : w.before.element ≡ x
@@ -152,3 +159,61 @@ mark_start s p rows n = at (cell_at rows n)
     at : (o : Option Row) → MarksCell s p [] o o
     at None = tt
     at (Some r) = record { element = refl; current = refl; own = refl; others = λ u one other. refl }
+
+-- ---- the cells of elements, by their numbers
+
+module _ (s : ℕ) (p : Bool × Bool) (items : List Element) (old new : List (Option Row)) (marks : Marks s p items old new) where
+  -- a cell that is marked has its element still
+  pub marked_holds : (x : Element) (n : ℕ) → Holds old x n → Holds new x n
+  marked_holds x n h = by (cell_at new n) refl (subst (λ (o : Option Row). MarksCell s p items o (cell_at new n)) h.there (marks n))
+    where
+      by : (o : Option Row) → cell_at new n ≡ o → MarksCell s p items (Some h.row) (cell_at new n) → Holds new x n
+      by None e f = absurd (subst (MarksCell s p items (Some h.row)) e f)
+      by (Some q) e f =
+          let m : MarksRow s p items h.row q = subst (MarksCell s p items (Some h.row)) e f in
+          record { row = q; there = e; element = m.element ∙ h.element }
+
+  pub marked_numbers : (all : List Element) (numbers : List ℕ) → AreNumbers old all numbers → AreNumbers new all numbers
+  marked_numbers all numbers a = record { count = a.count; hold = λ k h d. marked_holds (get_or all k d) (get_or numbers k 0) (a.hold k h d) }
+
+-- ---- what the base loses or gains
+
+-- whether an item is moved
+abbrev pub moves : Bool → List Element → Element → Bool
+moves own set x = cond own (not (has set x)) (has set x)
+
+-- an item is moved where the base has it and it is taken out, or the base lacks it and it is put in
+moves_is : (own had : Bool) → cond own (not had) had ≡ not (beq had own)
+moves_is true true = refl
+moves_is true false = refl
+moves_is false true = refl
+moves_is false false = refl
+
+pub moved_more : (own had : Bool) (set items : List Element) (i : ℕ) (d : Element) → i < length items → had ≡ has set (get_or items i d) → filter (moves own set) (take (i + 1) items) ≡ filter (moves own set) (take i items) ++ cond (not (beq had own)) (get_or items i d ∷ []) []
+moved_more own had set items i d h e =
+    let moved : moves own set (get_or items i d) ≡ not (beq had own) = ap (λ t. cond own (not t) t) (sym e) ∙ moves_is own had in
+    filter_more (moves own set) items i d h ∙ ap (λ t. filter (moves own set) (take i items) ++ cond t (get_or items i d ∷ []) []) moved
+
+-- with one item more
+pub moved_on : (own had : Bool) (set items : List Element) (i : ℕ) (d : Element) (before after : Counts) → i < length items → had ≡ has set (get_or items i d) → before ≡ counts_of (moved_over own set (take i items))
+    → not (beq had own) ≡ true → after ≡ one_more before (get_or items i d) → after ≡ counts_of (moved_over own set (take (i + 1) items))
+moved_on own had set items i d before after h e f t g =
+    g ∙ ap (λ z. one_more z (get_or items i d)) f ∙ sym (counts-push (filter (moves own set) (take i items)) (get_or items i d))
+    ∙ ap counts_of (sym (moved_more own had set items i d h e ∙ ap (λ b. filter (moves own set) (take i items) ++ cond b (get_or items i d ∷ []) []) t))
+
+-- with one that is not moved
+pub moved_off : (own had : Bool) (set items : List Element) (i : ℕ) (d : Element) (before after : Counts) → i < length items → had ≡ has set (get_or items i d) → before ≡ counts_of (moved_over own set (take i items))
+    → not (beq had own) ≡ false → after ≡ before → after ≡ counts_of (moved_over own set (take (i + 1) items))
+moved_off own had set items i d before after h e f t g =
+    g ∙ f
+    ∙ ap counts_of (sym (moved_more own had set items i d h e ∙ ap (λ b. filter (moves own set) (take i items) ++ cond b (get_or items i d ∷ []) []) t ∙ append-nil (filter (moves own set) (take i items))))
+
+-- there are no more of a kind than items before this one
+pub moved_most : (own : Bool) (set items : List Element) (i : ℕ) (x : Element) (counts : Counts) → counts ≡ counts_of (moved_over own set (take i items)) → i < length items → kind_count counts x ≤ i
+moved_most own set items i x counts e h =
+    let same = ap (λ z. kind_count z x) e in
+    let most = kind-most (filter (moves own set) (take i items)) x in
+    let long = length-filter (moves own set) (take i items) in
+    let fewer = count_by-le-length (moves own set) (take i items) in
+    let short = length-take i items in
+    omega arith

@@ -14,7 +14,7 @@ use Rattle.dg_pool.specs.declared.slots.Base.{Base}
 use Rattle.dg_pool.specs.declared.slots.Base.TheVariants as base
 use Rattle.dg_pool.specs.declared.slots.SlotState.{SlotState}
 use Rattle.dg_pool.specs.declared.slots.SlotState.TheVariants as state
-use Rattle.dg_cells.specs.Rows.{cell_at, is_current, pair, AreApart, Lacks, Grows, IsBare, MarksCell, MarksRow, AllHave}
+use Rattle.dg_cells.specs.Rows.{cell_at, is_current, pair, CellsAreApart, Lacks, CellsGrow, IsBare, MarksCell, MarksRow, AllHave}
 use Rattle.dg_pool.specs.Graphs.{slot_at, pair_at, is_live, AreSlots, IsBased, IsBaseFor, IsClean, IsPool, PoolState, slot_says, pair_says, in_base, in_slot, given, picked, graph_as, slot_graph}
 use Rattle.dg_pool.specs.Sweeps.{members_as}
 use Rattle.dg_pool.specs.Slots.{base_members, BaseFits, IsBaseWith, IsNoBase}
@@ -38,7 +38,7 @@ bare_slot r bare s b cols = ap (λ p. asks cols (column_of r.element) && is_in_a
     at true t e = e
     at false t e = refl
 
-grown_given : (test : Row → Bool) → ((r : Row) → IsBare r → test r ≡ false) → (old new : List (Option Row)) → Grows old new → (n : ℕ) → given test (cell_at new n) ≡ given test (cell_at old n)
+grown_given : (test : Row → Bool) → ((r : Row) → IsBare r → test r ≡ false) → (old new : List (Option Row)) → CellsGrow old new → (n : ℕ) → given test (cell_at new n) ≡ given test (cell_at old n)
 grown_given test none old new g n = at (cell_at old n) refl (cell_at new n) refl
   where
     at : (o : Option Row) → cell_at old n ≡ o → (q : Option Row) → cell_at new n ≡ q → given test (cell_at new n) ≡ given test (cell_at old n)
@@ -46,7 +46,7 @@ grown_given test none old new g n = at (cell_at old n) refl (cell_at new n) refl
     at None e None f = ap (given test) (f ∙ sym e)
     at None e (Some q) f = ap (given test) f ∙ ap (λ t. cond t (Some q.element) None) (none q (g.bare n q e f)) ∙ sym (ap (given test) e)
 
-pub grown_base : (old new : List (Option Row)) → Grows old new → (z : Base) → picked (in_base z) new ≡ picked (in_base z) old
+pub grown_base : (old new : List (Option Row)) → CellsGrow old new → (z : Base) → picked (in_base z) new ≡ picked (in_base z) old
 grown_base old new g z = picked_alike (in_base z) new old (grown_given (in_base z) (λ r bare. by r bare z) old new g)
   where
     by : (r : Row) → IsBare r → (b : Base) → in_base b r ≡ false
@@ -54,16 +54,16 @@ grown_base old new g z = picked_alike (in_base z) new old (grown_given (in_base 
     by r bare base.Now = bare 0
     by r bare (base.Slot o) = ap (λ p. is_in_after (pair_says p) false) (bare_pair r bare o.0)
 
-pub grown_now : (old new : List (Option Row)) → Grows old new → picked is_current new ≡ picked is_current old
+pub grown_now : (old new : List (Option Row)) → CellsGrow old new → picked is_current new ≡ picked is_current old
 grown_now old new g = picked_alike is_current new old (grown_given is_current (λ r bare. bare 0) old new g)
 
-pub grown_seen : (old new : List (Option Row)) → Grows old new → (s : ℕ) (slot : SlotState) → graph_as new s slot ≡ graph_as old s slot
+pub grown_seen : (old new : List (Option Row)) → CellsGrow old new → (s : ℕ) (slot : SlotState) → graph_as new s slot ≡ graph_as old s slot
 grown_seen old new g s state.Free = refl
 grown_seen old new g s (state.Released swept) = refl
 grown_seen old new g s (state.Live b cols) =
     ap (λ m. Some (record { base = b; cols = cols; members = m })) (picked_alike (in_slot s b cols) new old (grown_given (in_slot s b cols) (λ r bare. bare_slot r bare s b cols) old new g))
 
-grown_pair : (old new : List (Option Row)) → Grows old new → (s n : ℕ) → pair_at s (cell_at old n) ≡ (false, false) → pair_at s (cell_at new n) ≡ (false, false)
+grown_pair : (old new : List (Option Row)) → CellsGrow old new → (s n : ℕ) → pair_at s (cell_at old n) ≡ (false, false) → pair_at s (cell_at new n) ≡ (false, false)
 grown_pair old new g s n h = at (cell_at old n) refl (cell_at new n) refl
   where
     at : (o : Option Row) → cell_at old n ≡ o → (q : Option Row) → cell_at new n ≡ q → pair_at s (cell_at new n) ≡ (false, false)
@@ -71,13 +71,13 @@ grown_pair old new g s n h = at (cell_at old n) refl (cell_at new n) refl
     at None e None f = ap (pair_at s) f
     at None e (Some q) f = ap (pair_at s) f ∙ bare_pair q (g.bare n q e f) s
 
-pub grown_clean : (old new : List (Option Row)) → Grows old new → (place s : ℕ) (slot : SlotState) → IsClean old place s slot → IsClean new place s slot
+pub grown_clean : (old new : List (Option Row)) → CellsGrow old new → (place s : ℕ) (slot : SlotState) → IsClean old place s slot → IsClean new place s slot
 grown_clean old new g place s state.Free k = λ n. grown_pair old new g s n (k n)
 grown_clean old new g place s (state.Released true) k = λ n h. grown_pair old new g s n (k n h)
 grown_clean old new g place s (state.Released false) k = tt
 grown_clean old new g place s (state.Live b cols) k = tt
 
-pub grown_pool : (old new : List (Option Row)) (slots : List SlotState) (place : ℕ) → Grows old new → AreApart new → IsPool (record { rows = old; slots = slots; place = place }) → IsPool (record { rows = new; slots = slots; place = place })
+pub grown_pool : (old new : List (Option Row)) (slots : List SlotState) (place : ℕ) → CellsGrow old new → CellsAreApart new → IsPool (record { rows = old; slots = slots; place = place }) → IsPool (record { rows = new; slots = slots; place = place })
 grown_pool old new slots place g apart p = record {
   slots = p.slots;
   apart = apart;
@@ -153,7 +153,7 @@ base_live cols (state.Released swept) h = absurd h
 base_live cols (state.Live b all) h = refl
 
 module _ (slots : List SlotState) (s : ℕ) (d : Delta) (rows rows1 rows3 : List (Option Row)) (place : ℕ) (p : IsPool (record { rows = rows; slots = slots; place = place }))
-    (low : 1 ≤ s) (high : s < 128) (free : slot_at slots s ≡ state.Free) (grows : Grows rows rows1) (there : AllHave rows1 d.plus) (apart1 : AreApart rows1) (apart3 : AreApart rows3)
+    (low : 1 ≤ s) (high : s < 128) (free : slot_at slots s ≡ state.Free) (grows : CellsGrow rows rows1) (there : AllHave rows1 d.plus) (apart1 : CellsAreApart rows1) (apart3 : CellsAreApart rows3)
     (marked : (n : ℕ) → MarkedCell s d (cell_at rows1 n) (cell_at rows3 n)) where
   not_free : (b : ℕ) → is_live (slot_at slots b) ≡ true → b ≡ s → ⊥
   not_free b live e = true≢false (sym live ∙ ap (λ n. is_live (slot_at slots n)) e ∙ ap is_live free)

@@ -1,5 +1,5 @@
 -- The sets that the cells give, by the cells in the order of their elements.
-use Rattle.std.proofs.Common.{arith, zero-add, ◌≡◌, ℕ, suc, zero, min, ◌+◌, ◌<◌, Bool, true, false, cond, not, ◌||◌, ◌&&◌, IsTrue, List, [], ◌∷◌, Option, Some, None, IfSome, IfNone, IsSome, length, map, drop, filter, refl, sym, ap, ◌∙◌, ◌⊎◌, inl, inr}
+use Rattle.std.proofs.Common.{arith, zero-add, ◌≡◌, ℕ, suc, zero, min, ◌+◌, Bool, true, false, cond, not, ◌||◌, ◌&&◌, IsTrue, List, [], ◌∷◌, Option, Some, None, IfSome, IfNone, length, map, drop, filter, refl, sym, ap, ◌∙◌, ◌⊎◌, inl, inr}
 use Rattle.std.specs.Prelude.{slice_get}
 use Rattle.std.specs.List.{list_any, count_by}
 use Rattle.std.proofs.lemmas.Bool.{true≢false, or_left, or_right, or_from}
@@ -11,7 +11,7 @@ use Rattle.dg_graph.specs.Elements.{IsSet, IsBelowFirst, has, same, before, with
 use Rattle.dg_graph.proofs.Sets.{same_members, same_itself, element_exact, before_trans, IsBelowFirst-trans}
 use Rattle.dg_cells.specs.declared.row.Row.{Row}
 use Rattle.dg_cells.specs.declared.cursors.Cursor.{Cursor}
-use Rattle.dg_cells.specs.Rows.{cell_at, AreApart, Lacks}
+use Rattle.dg_cells.specs.Rows.{cell_at, CellsAreApart, Lacks}
 use Rattle.dg_cells.specs.Order.{IsLower}
 use Rattle.dg_cells.specs.Cursors.{ordered, ordered_elements, cursor_place, place_of_row, row_at}
 use Rattle.dg_pool.specs.declared.slots.SlotState.{SlotState}
@@ -61,7 +61,7 @@ any_none f [] h = refl
 any_none f (p ∷ rows) h = or_from (f p) (list_any f rows) (h 0 p refl) (any_none f rows (λ k r e. h (suc k) r e))
 
 -- what the cells give is what their rows give in order
-module _ (rows : List (Option Row)) (apart : AreApart rows) (rises : IsSet (ordered_elements rows))
+module _ (rows : List (Option Row)) (apart : CellsAreApart rows) (rises : IsSet (ordered_elements rows))
     (all : (n : ℕ) (r : Row) → cell_at rows n ≡ Some r → (k : ℕ) × (slice_get (ordered rows) k ≡ Some r))
     (only : (k : ℕ) (r : Row) → slice_get (ordered rows) k ≡ Some r → (n : ℕ) × (cell_at rows n ≡ Some r)) where
   stands : (test : Row → Bool) (q : Element) (n : ℕ) (r : Row) → cell_at rows n ≡ Some r → r.element ≡ q → (t : Bool) → test r ≡ t → list_any (λ (z : Row). test z && same q z.element) (ordered rows) ≡ t
@@ -170,7 +170,7 @@ lower_is_count x (y ∷ xs) (suc at) h =
     omega (arith, c, rest)
 
 -- the cells from a cursor on that pass the test, by the set that they give
-pub passing_is : (rows : List (Option Row)) → AreApart rows → IsSet (ordered_elements rows)
+pub passing_is : (rows : List (Option Row)) → CellsAreApart rows → IsSet (ordered_elements rows)
     → ((n : ℕ) (r : Row) → cell_at rows n ≡ Some r → (k : ℕ) × (slice_get (ordered rows) k ≡ Some r))
     → ((k : ℕ) (r : Row) → slice_get (ordered rows) k ≡ Some r → (n : ℕ) × (cell_at rows n ≡ Some r))
     → (test : Row → Bool) (c : Cursor) → not_before (picked test rows) (element_of (row_at rows c.cell)) ≡ passing_from test rows c
@@ -179,11 +179,6 @@ passing_is rows apart rises all only test c = at (row_at rows c.cell)
     at : (o : Option Row) → not_before (picked test rows) (element_of o) ≡ map el (filter test (drop (place_of_row rows o) (ordered rows)))
     at None = sym (ap (λ l. map el (filter test l)) (drop_all (length (ordered rows)) (ordered rows) (omega arith)))
     at (Some r) = ap (filter (λ y. not (before y r.element))) (picked_in_order rows apart rises all only test) ∙ rest_by_place r.element test (ordered rows) rises
-
--- a place where some row stands
-pub some_within : (rows : List Row) (k : ℕ) (o : Option Row) → slice_get rows k ≡ o → IsSome o → k < length rows
-some_within rows k None e i = cc
-some_within rows k (Some r) e i = slice_get_within rows k r e
 
 -- a cell more
 pub passing_step : (test : Row → Bool) (rows : List (Option Row)) (c d : Cursor) (r : Row) → slice_get (ordered rows) (cursor_place rows c) ≡ Some r → cursor_place rows d ≡ min (cursor_place rows c + 1) (length (ordered rows))
@@ -217,7 +212,7 @@ members_are rows s state.Free = sym (picked_none (in_state s state.Free) rows (�
 members_are rows s (state.Released swept) = sym (picked_none (in_state s (state.Released swept)) rows (λ r. refl))
 members_are rows s (state.Live b cols) = refl
 
-module _ (p : PoolState) (apart : AreApart p.rows) (rises : IsSet (ordered_elements p.rows))
+module _ (p : PoolState) (apart : CellsAreApart p.rows) (rises : IsSet (ordered_elements p.rows))
     (all : (n : ℕ) (r : Row) → cell_at p.rows n ≡ Some r → (k : ℕ) × (slice_get (ordered p.rows) k ≡ Some r))
     (only : (k : ℕ) (r : Row) → slice_get (ordered p.rows) k ≡ Some r → (n : ℕ) × (cell_at p.rows n ≡ Some r)) where
   pub members_from_is : (s : ℕ) (c : Cursor) → members_from p s c ≡ passing_from (in_state s (slot_at p.slots s)) p.rows c

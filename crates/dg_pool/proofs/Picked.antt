@@ -5,7 +5,7 @@ use Rattle.dg_graph.specs.declared.element.Element.{Element}
 use Rattle.dg_graph.specs.Elements.{IsSet, has, put, with_one, same}
 use Rattle.dg_graph.proofs.Sets.{IsSet-put, has-put, or_swap, same_members, same_itself, element_exact}
 use Rattle.dg_cells.specs.declared.row.Row.{Row}
-use Rattle.dg_cells.specs.Rows.{cell_at, Lacks, AreApart}
+use Rattle.dg_cells.specs.Rows.{cell_at, Lacks, CellsAreApart}
 use Rattle.dg_pool.specs.Graphs.{given, picked}
 
 pub IsSet-with_one : (s : List Element) (o : Option Element) → IsSet s → IsSet (with_one s o)
@@ -86,7 +86,7 @@ picked_has test (o ∷ rows) q (suc n) e =
     has-with_given test q o (picked test rows) ∙ or_right (gives test q o) (has (picked test rows) q) (picked_has test rows q n e)
 
 -- of an element that has a cell, the test of that cell decides
-decided_by : (test : Row → Bool) (rows : List (Option Row)) (q : Element) (n : ℕ) (r : Row) (t : Bool) → test r ≡ t → AreApart rows → cell_at rows n ≡ Some r → r.element ≡ q → has (picked test rows) q ≡ t
+decided_by : (test : Row → Bool) (rows : List (Option Row)) (q : Element) (n : ℕ) (r : Row) (t : Bool) → test r ≡ t → CellsAreApart rows → cell_at rows n ≡ Some r → r.element ≡ q → has (picked test rows) q ≡ t
 decided_by test rows q n r true e apart there is =
     picked_has test rows q n (ap (gives test q) there ∙ ap (λ t. t && same q r.element) e ∙ ap (same q) is ∙ same_itself q)
 decided_by test rows q n r false e apart there is =
@@ -107,7 +107,7 @@ decided_by test rows q n r false e apart there is =
     at m None f = ap (gives test q) f
     at m (Some p) f = ap (gives test q) f ∙ by p (same q p.element) (other m p f)
 
-pub picked_decides : (test : Row → Bool) (rows : List (Option Row)) (q : Element) (n : ℕ) (r : Row) → AreApart rows → cell_at rows n ≡ Some r → r.element ≡ q → has (picked test rows) q ≡ test r
+pub picked_decides : (test : Row → Bool) (rows : List (Option Row)) (q : Element) (n : ℕ) (r : Row) → CellsAreApart rows → cell_at rows n ≡ Some r → r.element ≡ q → has (picked test rows) q ≡ test r
 picked_decides test rows q n r apart there is = decided_by test rows q n r (test r) refl apart there is
 
 -- of one that has none, nothing

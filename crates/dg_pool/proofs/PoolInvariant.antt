@@ -12,7 +12,7 @@ use Rattle.dg_pool.specs.declared.slots.Slot.{Slot}
 use Rattle.dg_pool.specs.declared.slots.Base.TheVariants as base
 use Rattle.dg_pool.specs.declared.slots.SlotState.{SlotState}
 use Rattle.dg_pool.specs.declared.slots.SlotState.TheVariants as state
-use Rattle.dg_cells.specs.Rows.{cell_at, AreApart, Lacks}
+use Rattle.dg_cells.specs.Rows.{cell_at, CellsAreApart, Lacks}
 use Rattle.dg_pool.specs.Graphs.{slot_at, pair_at, is_live, AreSlots, IsBased, IsBaseFor, IsClean, IsPool, SameGraphs, graph_as, picked}
 use Rattle.dg_pool.specs.Sweeps.{is_swept, is_needed, CellsSwept, remains, element_of, begun, ended, started, union_of, cells_of, remains_in, PassesCells}
 use Rattle.dg_pool.specs.Slots.{rests_on, NoneOn, is_free}
@@ -215,7 +215,7 @@ module _ (f : SlotState → SlotState) (live : (b : Base) (cols : Columns) → f
     (same_seen : (rows : List (Option Row)) (s : ℕ) (slot : SlotState) → graph_as rows s (f slot) ≡ graph_as rows s slot)
     (slots mid : List SlotState) (rows after : List (Option Row)) (place : ℕ) (p : IsPool (record { rows = rows; slots = slots; place = place }))
     (count_mid : length mid ≡ 128) (begins : (s : ℕ) → slot_at mid s ≡ f (slot_at slots s))
-    (from until : ℕ) (w : CellsSwept mid rows after from until) (apart : AreApart after)
+    (from until : ℕ) (w : CellsSwept mid rows after from until) (apart : CellsAreApart after)
     (cleared : (s : ℕ) → 1 ≤ s → is_swept (slot_at mid s) ≡ true → (n : ℕ) → n < from → pair_at s (cell_at rows n) ≡ (false, false)) where
   pub slots_mid : AreSlots mid
   slots_mid = slots_mapped f live idle slots mid count_mid begins free p.slots

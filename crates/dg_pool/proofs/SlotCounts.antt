@@ -8,7 +8,7 @@ use Rattle.dg_graph.specs.Elements.{IsSet, has, asks, column_of, shown}
 use Rattle.dg_graph.specs.Composition.{Delta, IsDelta, applied}
 use Rattle.dg_delta.specs.Deltas.{is_in_after}
 use Rattle.dg_cells.specs.declared.row.Row.{Row}
-use Rattle.dg_cells.specs.Rows.{cell_at, AreApart, Lacks, is_current}
+use Rattle.dg_cells.specs.Rows.{cell_at, CellsAreApart, Lacks, is_current}
 use Rattle.dg_query.specs.declared.answers.Counts.{Counts}
 use Rattle.dg_pool.specs.declared.slots.Base.{Base}
 use Rattle.dg_pool.specs.declared.slots.Base.TheVariants as base
@@ -28,7 +28,7 @@ pub record SumsTo (was lost gained new : ℕ) : Type 0 where
   pub low : lost ≤ was
   pub sum : new + lost ≡ was + gained
 
-module _ (p : PoolState) (apart : AreApart p.rows) (b : Base) (cols : Columns) (fits : BaseFits p b cols) where
+module _ (p : PoolState) (apart : CellsAreApart p.rows) (b : Base) (cols : Columns) (fits : BaseFits p b cols) where
   abbrev under : List Element
   under = base_members p b
 

@@ -11,7 +11,7 @@ use Rattle.dg_cells.specs.declared.row.Row.{Row}
 use Rattle.dg_pool.specs.declared.slots.Base.{Base}
 use Rattle.dg_pool.specs.declared.slots.SlotState.{SlotState}
 use Rattle.dg_pool.specs.declared.slots.SlotState.TheVariants as state
-use Rattle.dg_cells.specs.Rows.{cell_at, is_current, pair, AreApart, Lacks}
+use Rattle.dg_cells.specs.Rows.{cell_at, is_current, pair, CellsAreApart, Lacks}
 use Rattle.dg_pool.specs.Graphs.{slot_at, AreSlots, pair_says, in_base, in_slot, graph_as, graph_now, PoolState, SameGraphs}
 use Rattle.dg_pool.specs.Sweeps.{in_state, wants, wanted_from, is_needed, members_as, live_union, union_of}
 use Rattle.dg_pool.proofs.Picked.{picked_set, picked_decides, picked_nothing}
@@ -21,12 +21,12 @@ abbrev pub in_some : ℕ → List SlotState → Row → Bool
 in_some s [] r = false
 in_some s (slot ∷ slots) r = in_state s slot r || in_some (s + 1) slots r
 
-pub has-members : (rows : List (Option Row)) (n : ℕ) (r : Row) → AreApart rows → cell_at rows n ≡ Some r → (s : ℕ) (slot : SlotState) → has (members_as (graph_as rows s slot)) r.element ≡ in_state s slot r
+pub has-members : (rows : List (Option Row)) (n : ℕ) (r : Row) → CellsAreApart rows → cell_at rows n ≡ Some r → (s : ℕ) (slot : SlotState) → has (members_as (graph_as rows s slot)) r.element ≡ in_state s slot r
 has-members rows n r apart there s state.Free = refl
 has-members rows n r apart there s (state.Released swept) = refl
 has-members rows n r apart there s (state.Live b cols) = picked_decides (in_slot s b cols) rows r.element n r apart there refl
 
-has-live_union : (rows : List (Option Row)) (n : ℕ) (r : Row) → AreApart rows → cell_at rows n ≡ Some r → (s : ℕ) (slots : List SlotState) → has (live_union rows s slots) r.element ≡ in_some s slots r
+has-live_union : (rows : List (Option Row)) (n : ℕ) (r : Row) → CellsAreApart rows → cell_at rows n ≡ Some r → (s : ℕ) (slots : List SlotState) → has (live_union rows s slots) r.element ≡ in_some s slots r
 has-live_union rows n r apart there s [] = refl
 has-live_union rows n r apart there s (slot ∷ slots) =
     let first = has-members rows n r apart there s slot in
@@ -104,7 +104,7 @@ needed_by slots fit r = at (is_current r) refl (in_some 0 slots r) refl (wanted_
     at false e false f true g = absurd (true≢false (sym (wanted_in 0 slots r g) ∙ f))
     at false e false f false g = or_from (is_current r) (in_some 0 slots r) e f ∙ sym (or_from (is_current r) (wanted_from 0 slots r) e g)
 
-pub union_decides : (p : PoolState) → AreSlots p.slots → AreApart p.rows → (n : ℕ) (r : Row) → cell_at p.rows n ≡ Some r → has (union_of p) r.element ≡ is_needed p.slots r
+pub union_decides : (p : PoolState) → AreSlots p.slots → CellsAreApart p.rows → (n : ℕ) (r : Row) → cell_at p.rows n ≡ Some r → has (union_of p) r.element ≡ is_needed p.slots r
 union_decides p fit apart n r there =
     let first = picked_decides is_current p.rows r.element n r apart there refl in
     let rest = has-live_union p.rows n r apart there 0 p.slots in

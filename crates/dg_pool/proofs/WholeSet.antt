@@ -7,7 +7,7 @@ use Rattle.dg_graph.specs.declared.element.Element.{Element}
 use Rattle.dg_graph.specs.Elements.{IsSet, bit, with_one}
 use Rattle.dg_set.proofs.Indices.{put-first}
 use Rattle.dg_cells.specs.declared.row.Row.{Row}
-use Rattle.dg_cells.specs.Rows.{cell_at, has_bit, is_current, AreApart, new_row, new_rows}
+use Rattle.dg_cells.specs.Rows.{cell_at, has_bit, is_current, CellsAreApart, new_row, new_rows}
 use Rattle.dg_query.specs.declared.answers.Counts.{Counts}
 use Rattle.dg_query.specs.Queries.{counts_of}
 use Rattle.dg_pool.specs.declared.slots.SlotState.{SlotState}
@@ -60,7 +60,7 @@ module _ (items : List Element) (rows : List (Option Row)) (rising : IsSet items
   pub cells_whole : picked (λ (r : Row). true) rows ≡ items
   cells_whole = ap (picked (λ (r : Row). true)) rows_are ∙ picked_new (λ (r : Row). true) true items rising (λ x. refl)
 
-  module _ (slots : List SlotState) (counts : List Counts) (now : Counts) (apart : AreApart rows) (count : length slots ≡ 128) (free : (s : ℕ) → slot_at slots s ≡ state.Free) (len : length counts ≡ 128) (now_is : now ≡ counts_of items) where
+  module _ (slots : List SlotState) (counts : List Counts) (now : Counts) (apart : CellsAreApart rows) (count : length slots ≡ 128) (free : (s : ℕ) → slot_at slots s ≡ state.Free) (len : length counts ≡ 128) (now_is : now ≡ counts_of items) where
     pub whole_pool : IsCountedPool (record { rows = rows; slots = slots; place = 0 }) (set counts 0 now)
     whole_pool = record {
       pool = record {

@@ -9,7 +9,7 @@ use Rattle.dg_pool.specs.declared.slots.SlotState.{SlotState}
 use Rattle.dg_pool.specs.Graphs.{AreSlots, ListsOnNow, Keeps, picked}
 
 -- what a change goes by: the slots, the numbers of those that rest on the current graph, and its counts
-pub record IsKnown (slots : List SlotState) (on_now : List ℕ) (counts : Counts) (rows : List (Option Row)) : Type 0 where
+pub record IsChangeKnown (slots : List SlotState) (on_now : List ℕ) (counts : Counts) (rows : List (Option Row)) : Type 0 where
   pub states : AreSlots slots
   pub listed : ListsOnNow slots on_now
   pub counted : counts ≡ counts_of (picked is_current rows)

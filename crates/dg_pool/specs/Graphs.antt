@@ -15,7 +15,7 @@ use Rattle.dg_pool.specs.declared.slots.Base.{Base}
 use Rattle.dg_pool.specs.declared.slots.Base.TheVariants as base
 use Rattle.dg_pool.specs.declared.slots.SlotState.{SlotState}
 use Rattle.dg_pool.specs.declared.slots.SlotState.TheVariants as state
-use Rattle.dg_cells.specs.Rows.{is_current, pair, cell_at, AreApart, HasCell}
+use Rattle.dg_cells.specs.Rows.{is_current, pair, cell_at, CellsAreApart, HasCell}
 
 pub record PoolState : Type 0 where
   pub rows : List (Option Row)
@@ -116,7 +116,7 @@ IsClean rows place s (state.Live b cols) = Unit {0}
 
 pub record IsPool (p : PoolState) : Type 0 where
   pub slots : AreSlots p.slots
-  pub apart : AreApart p.rows
+  pub apart : CellsAreApart p.rows
   pub clean : (s : ℕ) → 1 ≤ s → IsClean p.rows p.place s (slot_at p.slots s)
 
 abbrev pub is_live : SlotState → Bool

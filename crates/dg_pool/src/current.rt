@@ -5,7 +5,7 @@ ghost use Rattle.dg_graph.specs.Replay.{replay_from};
 ghost use Rattle.dg_graph.specs.Composition.{applied};
 ghost use Rattle.dg_cells.specs.Rows.{AllHave, HasCell, Holds, Lacks, cell_at, pair, is_current, Writes};
 ghost use Rattle.dg_pool.specs.Graphs.{is_on_now, ListsOnNow, Pins, HaveCells, picked, changed, all_changed};
-ghost use Rattle.dg_pool.specs.Current.{IsKnown, TakesTo};
+ghost use Rattle.dg_pool.specs.Current.{IsChangeKnown, TakesTo};
 
 use crate::counts::with_change;
 use crate::search::find_from;
@@ -50,7 +50,7 @@ fn change(
     element: &Element,
     on: bool,
 ) -> Counts
-    requires known { IsKnown slots.now on_now.now counts cells.old }
+    requires known { IsChangeKnown slots.now on_now.now counts cells.old }
     requires found { IfSome found (Holds cells.old element.now) }
     requires lacks { IfNone found (Lacks cells.old element.now) }
     requires there { on ≡ true → HasCell cells.old element.now }
@@ -81,7 +81,7 @@ fn pass(
     counts: Counts,
     event: &Event,
 ) -> Counts
-    requires known { IsKnown slots.now on_now.now counts cells.old }
+    requires known { IsChangeKnown slots.now on_now.now counts cells.old }
     requires there { IfSome (added_by event.now.body) (HasCell cells.old) }
     ensures { TakesTo (forwards (picked is_current cells.old) event.now) slots.now cells.old cells.new result }
 {
@@ -106,7 +106,7 @@ pub(crate) fn pass_all(
     counts: Counts,
     events: &[Event],
 ) -> Counts
-    requires known { IsKnown slots.now on_now.now counts cells.old }
+    requires known { IsChangeKnown slots.now on_now.now counts cells.old }
     requires there { HaveCells cells.old events.now }
     ensures { TakesTo (replay_from (picked is_current cells.old) events.now) slots.now cells.old cells.new result }
 {
@@ -127,7 +127,7 @@ pub(crate) fn change_all(
     items: &[Element],
     on: bool,
 ) -> Counts
-    requires known { IsKnown slots.now on_now.now counts cells.old }
+    requires known { IsChangeKnown slots.now on_now.now counts cells.old }
     requires there { on ≡ true → AllHave cells.old items.now }
     ensures { TakesTo (all_changed on items.now (picked is_current cells.old)) slots.now cells.old cells.new result }
 {
@@ -149,7 +149,7 @@ pub(crate) fn pass_delta(
     counts: Counts,
     delta: &Delta,
 ) -> Counts
-    requires known { IsKnown slots.now on_now.now counts cells.old }
+    requires known { IsChangeKnown slots.now on_now.now counts cells.old }
     requires there { AllHave cells.old delta.now.plus }
     ensures { TakesTo (applied delta.now (picked is_current cells.old)) slots.now cells.old cells.new result }
 {

@@ -1,7 +1,7 @@
 //! How many cells there are, and how many of them are needed.
 ghost use Rattle.std.specs.Prelude.{◌≡◌, true, length};
 ghost use Rattle.dg_cells.specs.declared.row.Row.{Row};
-ghost use Rattle.dg_cells.specs.Rows.{AreApart};
+ghost use Rattle.dg_cells.specs.Rows.{CellsAreApart};
 ghost use Rattle.dg_pool.specs.Graphs.{AreSlots, picked};
 ghost use Rattle.dg_pool.specs.Sweeps.{is_needed};
 
@@ -12,7 +12,7 @@ use dg_cells::Cells;
 
 /// How many cells there are.
 pub(crate) fn count_all(cells: &Cells) -> u64
-    requires { AreApart cells.now }
+    requires { CellsAreApart cells.now }
     ensures { result ≡ length (picked (λ (r : Row). true) cells.now) }
 {
     let mut count = 0;
@@ -27,7 +27,7 @@ pub(crate) fn count_all(cells: &Cells) -> u64
 /// How many cells are needed.
 pub(crate) fn count_needed(cells: &Cells, slots: &[SlotState; 128]) -> u64
     requires slots { AreSlots slots.now }
-    requires apart { AreApart cells.now }
+    requires apart { CellsAreApart cells.now }
     ensures { result ≡ length (picked (is_needed slots.now) cells.now) }
 {
     let masks = masks_of(slots);

@@ -61,12 +61,9 @@ pub(crate) fn next_member(
     ensures none { IfNone result (passing_from (in_state slot state) cells.now from ≡ []) }
 {
     let mut cursor = from;
-    while let Some(n) = cells.at(cursor) {
-        let behind = cells.after(cursor);
-        if let Some(row) = cells.row(n) {
-            if has_member(&row, state, slot) {
-                return Some((row.element, behind));
-            }
+    while let Some((row, behind)) = cells.step(cursor) {
+        if has_member(row, state, slot) {
+            return Some((row.element, behind));
         }
         cursor = behind;
     }
@@ -86,13 +83,11 @@ pub(crate) fn list_now(
     cells.order_facts();
     let mut list = Vec::with_capacity(alloc, room)?;
     let mut cursor = cells.first();
-    while let Some(n) = cells.at(cursor) {
-        if let Some(row) = cells.row(n) {
-            if is_current(&row) {
-                list.push(row.element)?;
-            }
+    while let Some((row, behind)) = cells.step(cursor) {
+        if is_current(row) {
+            list.push(row.element)?;
         }
-        cursor = cells.after(cursor);
+        cursor = behind;
     }
     Ok(list)
 }

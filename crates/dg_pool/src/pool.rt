@@ -15,7 +15,7 @@ ghost use Rattle.dg_graph.specs.Composition.{applied};
 use crate::counts::{base_counts, count_kinds, counts_after, no_counts, room_for};
 use crate::current::{pass_all, pass_delta};
 use crate::lengths::{count_all, count_needed};
-use crate::marks::mark;
+use crate::marks::{mark, mark_cells};
 use crate::members::{has_member, list_now, next_member};
 use crate::room::{add_by_all, make_all, make_rising};
 use crate::slots::{
@@ -245,9 +245,10 @@ impl Pool {
         ensures states { (t : ℕ) → (t ≡ slot → ⊥) → slot_at self.new.slots t ≡ slot_at self.old.slots t }
         ensures explicit { OnOk result (NamesOnly self.new slot delta.now) }
     {
-        make_rising(&mut self.cells, delta.plus().items())?;
+        let plus = delta.plus().items();
+        let numbers = make_rising(&mut self.cells, plus)?;
         let lost = mark(&mut self.cells, slot, base, false, delta.minus().items());
-        let gained = mark(&mut self.cells, slot, base, true, delta.plus().items());
+        let gained = mark_cells(&mut self.cells, slot, base, true, plus, &numbers);
         // no graph has more elements than there are cells, so the counts fit
         let _most = self.cells.len();
         let was = base_counts(&self.counts, base);

@@ -1,8 +1,8 @@
 //! How elements get cells.
-ghost use Rattle.std.specs.Prelude.{◌≡◌, true, OnOk, IfSome};
+ghost use Rattle.std.specs.Prelude.{◌≡◌, true, OnOk, IfOk, IfSome};
 ghost use Rattle.dg_graph.specs.Effect.{added_by};
 ghost use Rattle.dg_graph.specs.Elements.{IsSet};
-ghost use Rattle.dg_cells.specs.Rows.{Grows, HasCell, AllHave, AreApart};
+ghost use Rattle.dg_cells.specs.Rows.{CellsGrow, HasCell, AllHave, AreNumbers, CellsAreApart};
 ghost use Rattle.dg_pool.specs.Graphs.{HaveCells};
 
 use dg_cells::Cells;
@@ -24,7 +24,7 @@ fn rise(items: &[Element]) -> bool
 
 // Gives each of the elements a cell, in any order.
 fn add_each(cells: &mut Cells, items: &[Element]) -> Result<(), AllocError>
-    ensures grows { Grows cells.old cells.new }
+    ensures grows { CellsGrow cells.old cells.new }
     ensures there { OnOk result (AllHave cells.new items.now) }
 {
     for element in items {
@@ -33,15 +33,16 @@ fn add_each(cells: &mut Cells, items: &[Element]) -> Result<(), AllocError>
     Ok(())
 }
 
-/// Gives each of the elements, which rise, a cell. An `Err` says that memory ran out; some may have got
-/// one.
-pub(crate) fn make_rising(cells: &mut Cells, items: &[Element]) -> Result<(), AllocError>
+/// Gives each of the elements, which rise, a cell, and answers the numbers of their cells. An `Err` says that
+/// memory ran out; some may have got one.
+pub(crate) fn make_rising(cells: &mut Cells, items: &[Element]) -> Result<Vec<u32>, AllocError>
     requires { IsSet items.now }
-    ensures grows { Grows cells.old cells.new }
+    ensures grows { CellsGrow cells.old cells.new }
     ensures there { OnOk result (AllHave cells.new items.now) }
-    ensures apart { AreApart cells.new }
+    ensures numbers { IfOk result (λ numbers. AreNumbers cells.new items.now numbers.items) }
+    ensures apart { CellsAreApart cells.new }
 {
-    let made = cells.add_all(items);
+    let made = cells.add_numbered(items);
     cells.facts();
     made
 }
@@ -49,21 +50,22 @@ pub(crate) fn make_rising(cells: &mut Cells, items: &[Element]) -> Result<(), Al
 /// Gives each of the elements a cell; quickest where they rise. An `Err` says that memory ran out; some
 /// may have got one.
 pub(crate) fn make_all(cells: &mut Cells, items: &[Element]) -> Result<(), AllocError>
-    ensures grows { Grows cells.old cells.new }
+    ensures grows { CellsGrow cells.old cells.new }
     ensures there { OnOk result (AllHave cells.new items.now) }
-    ensures apart { AreApart cells.new }
+    ensures apart { CellsAreApart cells.new }
 {
-    if rise(items) {
-        return make_rising(cells, items);
-    }
-    let made = add_each(cells, items);
+    let made = if rise(items) {
+        cells.add_all(items)
+    } else {
+        add_each(cells, items)
+    };
     cells.facts();
     made
 }
 
 // Gives the element that the event adds, if it adds one, a cell.
 fn add_by(cells: &mut Cells, event: &Event) -> Result<(), AllocError>
-    ensures grows { Grows cells.old cells.new }
+    ensures grows { CellsGrow cells.old cells.new }
     ensures there { OnOk result (IfSome (added_by event.now.body) (HasCell cells.new)) }
 {
     match effect(event).1 {
@@ -75,7 +77,7 @@ fn add_by(cells: &mut Cells, event: &Event) -> Result<(), AllocError>
 /// Gives each element that the events add a cell. An `Err` says that memory ran out; some may have got
 /// one.
 pub(crate) fn add_by_all(cells: &mut Cells, events: &[Event]) -> Result<(), AllocError>
-    ensures grows { Grows cells.old cells.new }
+    ensures grows { CellsGrow cells.old cells.new }
     ensures there { OnOk result (HaveCells cells.new events.now) }
 {
     for event in events {

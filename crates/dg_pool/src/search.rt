@@ -17,7 +17,7 @@ pub(crate) fn find_from(cells: &Cells, near: Cursor, element: &Element) -> (Opti
     let Some(n) = cells.at(cursor) else {
         return (None, cursor);
     };
-    let Some(row) = cells.row(n) else {
+    let Some(row) = cells.get(n) else {
         return (None, cursor);
     };
     if compare(element, &row.element).is_eq() {

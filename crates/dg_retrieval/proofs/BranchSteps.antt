@@ -7,20 +7,20 @@ use Rattle.dg_history.specs.declared.node.NodeId.TheVariants.{Root}
 use Rattle.dg_plan.specs.declared.edge.Edge.{Edge}
 use Rattle.dg_plan.specs.Walks.{Graft}
 use Rattle.dg_planner.specs.declared.tree.Graft.{Graft as PlannedGraft}
-use Rattle.dg_planner.specs.Trees.{graft_of, grafts_of}
+use Rattle.dg_planner.specs.Trees.{node_graft, node_grafts}
 use Rattle.dg_retrieval.specs.Branches.{AreBranches, IsBranch}
 use Rattle.dg_retrieval.proofs.TreeBranches.{branches_more}
 
 -- with the branch of one graft more
 pub branches_step : (edges : ListOf Edge) (targets : ListOf NodeId) (xs : ListOf PlannedGraft) (done next : ListOf Branch) (i : ℕ) (x : PlannedGraft) (b : Branch) → length xs ≡ length targets
-    → i < length xs → get_or xs i x ≡ x → AreBranches edges (take i targets) (grafts_of (take i xs)) done → next ≡ done ++ b ∷ [] → IsBranch edges (get_or targets i Root) (graft_of x) b
-    → AreBranches edges (take (i + 1) targets) (grafts_of (take (i + 1) xs)) next
+    → i < length xs → get_or xs i x ≡ x → AreBranches edges (take i targets) (node_grafts (take i xs)) done → next ≡ done ++ b ∷ [] → IsBranch edges (get_or targets i Root) (node_graft x) b
+    → AreBranches edges (take (i + 1) targets) (node_grafts (take (i + 1) xs)) next
 branches_step edges targets xs done next i x b many within here are is one =
-    let more : AreBranches edges (take i targets ++ get_or targets i Root ∷ []) (grafts_of (take i xs) ++ graft_of x ∷ []) (done ++ b ∷ []) =
-    branches_more edges (take i targets) (grafts_of (take i xs)) done (get_or targets i Root) (graft_of x) b are one in
+    let more : AreBranches edges (take i targets ++ get_or targets i Root ∷ []) (node_grafts (take i xs) ++ node_graft x ∷ []) (done ++ b ∷ []) =
+    branches_more edges (take i targets) (node_grafts (take i xs)) done (get_or targets i Root) (node_graft x) b are one in
     let ends : take (i + 1) targets ≡ take i targets ++ get_or targets i Root ∷ [] = take_more targets i Root (omega (arith, many, within)) in
-    let grafts : grafts_of (take (i + 1) xs) ≡ grafts_of (take i xs) ++ graft_of x ∷ [] =
-    ap grafts_of (take_more xs i x within) ∙ map-append graft_of (take i xs) (get_or xs i x ∷ []) ∙ ap (λ (y : PlannedGraft). grafts_of (take i xs) ++ graft_of y ∷ []) here in
-    subst (λ (bs : ListOf Branch). AreBranches edges (take (i + 1) targets) (grafts_of (take (i + 1) xs)) bs) (sym is)
+    let grafts : node_grafts (take (i + 1) xs) ≡ node_grafts (take i xs) ++ node_graft x ∷ [] =
+    ap node_grafts (take_more xs i x within) ∙ map-append node_graft (take i xs) (get_or xs i x ∷ []) ∙ ap (λ (y : PlannedGraft). node_grafts (take i xs) ++ node_graft y ∷ []) here in
+    subst (λ (bs : ListOf Branch). AreBranches edges (take (i + 1) targets) (node_grafts (take (i + 1) xs)) bs) (sym is)
     (subst (λ (gs : ListOf (Graft NodeId)). AreBranches edges (take (i + 1) targets) gs (done ++ b ∷ [])) (sym grafts)
-    (subst (λ (vs : ListOf NodeId). AreBranches edges vs (grafts_of (take i xs) ++ graft_of x ∷ []) (done ++ b ∷ [])) (sym ends) more))
+    (subst (λ (vs : ListOf NodeId). AreBranches edges vs (node_grafts (take i xs) ++ node_graft x ∷ []) (done ++ b ∷ [])) (sym ends) more))

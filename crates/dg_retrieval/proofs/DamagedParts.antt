@@ -4,7 +4,7 @@ use Rattle.dg_fold.specs.declared.part.Part.{Part}
 use Rattle.dg_fold.specs.declared.tree.Branch.{Branch}
 use Rattle.dg_fold.specs.BytesRead.{AreParts, ColumnBytes, named_along, named_by}
 use Rattle.dg_fold.specs.Ends.{last_in, lasts_in, part_until}
-use Rattle.dg_fold.specs.Parts.{and_then, beside, bytes_in, is_events, named, part_column_in, part_in, parts_in, record_in, taken_as}
+use Rattle.dg_fold.specs.Parts.{and_then, beside, bytes_in, is_events, fault_named, part_column_in, deltas_in_part, parts_in, record_in, taken_as}
 use Rattle.dg_fold.specs.PathIndependence.{taken}
 use Rattle.dg_fold.specs.Steps.{paired, steps_in}
 use Rattle.dg_graph.specs.declared.element.Column.{Column}
@@ -88,14 +88,14 @@ module _ (names : ℕ) (recent : ListOf Event) (bytes : ColumnBytes) (cols : Col
       by more via.Now parts are = behind_same [] _ _ (more parts are)
       by more (via.Base handle) parts are = behind_same [] _ _ (more parts are)
       by more (via.Paid key way) [] are = elim are [ ]
-      by more (via.Paid key way) (p ∷ parts) are = both_same (part_in names p) (part_in names p) _ _ (same_fault (part_in names p)) (more parts are.1)
+      by more (via.Paid key way) (p ∷ parts) are = both_same (deltas_in_part names p) (deltas_in_part names p) _ _ (same_fault (deltas_in_part names p)) (more parts are.1)
       by more (via.Held key way) [] are = elim are [ ]
-      by more (via.Held key way) (p ∷ parts) are = both_same (part_in names p) (part_in names p) _ _ (same_fault (part_in names p)) (more parts are.1)
+      by more (via.Held key way) (p ∷ parts) are = both_same (deltas_in_part names p) (deltas_in_part names p) _ _ (same_fault (deltas_in_part names p)) (more parts are.1)
       by more (via.Recent way) parts are = behind_same _ _ _ (more parts are)
 
 -- ---- the last events of the paths
 
-record_whole : (r : Result Record ℕ) (f : ℕ → Key × Column) (g h : Record → ListOf Delta) → IsWhole (named f (and_then r (λ (x : Record). Ok (g x)))) → IsWhole (named f (and_then r (λ (x : Record). Ok (h x))))
+record_whole : (r : Result Record ℕ) (f : ℕ → Key × Column) (g h : Record → ListOf Delta) → IsWhole (fault_named f (and_then r (λ (x : Record). Ok (g x)))) → IsWhole (fault_named f (and_then r (λ (x : Record). Ok (h x))))
 record_whole (Ok x) f g h whole = tt
 record_whole (Err n) f g h whole = elim whole [ ]
 
@@ -104,7 +104,7 @@ column_whole names p way until col whole =
     record_whole (record_in names (is_events p.key) col (bytes_in p.bytes col)) (λ offset. (p.key, col)) (λ r. taken p.way p.until r) (λ r. taken way until r) whole
 
 -- whether a part is damaged is not a matter of the way in which it is taken
-part_whole : (names : ℕ) (p : Part) (way : Way) (until : Option ℕ) → IsWhole (part_in names p) → IsWhole (part_in names (taken_as p way until))
+part_whole : (names : ℕ) (p : Part) (way : Way) (until : Option ℕ) → IsWhole (deltas_in_part names p) → IsWhole (deltas_in_part names (taken_as p way until))
 part_whole names p way until whole =
     let a = parts_whole (part_column_in names p Structure) (beside (part_column_in names p NodeAttr) (part_column_in names p EdgeAttr)) whole in
     let b = parts_whole (part_column_in names p NodeAttr) (part_column_in names p EdgeAttr) a.1 in
@@ -115,7 +115,7 @@ part_whole names p way until whole =
 until_whole : (names t : ℕ) (test : Part → Bool) (parts : ListOf Part) → IsWhole (parts_in names parts) → IsWhole (part_until names t (find test parts))
 until_whole names t test [] whole = tt
 until_whole names t test (p ∷ parts) whole =
-    let both = parts_whole (part_in names p) (parts_in names parts) whole in
+    let both = parts_whole (deltas_in_part names p) (parts_in names parts) whole in
     let rest = until_whole names t test parts both.1 in
     elim (test p) as (λ b. IsWhole (part_until names t (cond b (Some p) (find test parts)))) [ true ↦ part_whole names p Forward (Some t) both.0 | false ↦ rest ]
 

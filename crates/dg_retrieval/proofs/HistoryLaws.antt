@@ -16,7 +16,7 @@ use Rattle.dg_fold.specs.Ends.{LeadsUntil}
 use Rattle.dg_fold.specs.HistoryPaths.{IsGraphOf}
 use Rattle.dg_fold.specs.HistoryTrees.{HoldsNoList}
 use Rattle.dg_fold.specs.Parts.{RecordFits}
-use Rattle.dg_fold.specs.PathIndependence.{IsSound, contents}
+use Rattle.dg_fold.specs.PathIndependence.{IsSoundEdge, contents}
 use Rattle.dg_fold.specs.Steps.{BeginsWith, paired, steps_in}
 use Rattle.dg_fold.specs.Trees.{LeadsTo}
 use Rattle.dg_graph.specs.declared.element.Columns.{Columns}
@@ -65,7 +65,7 @@ nodes_reach z legal g graph cols walk among parts are v d led set begins =
     let names : ℕ = length (names_of z) in
     let indexed = (legal_is_indexed z legal).0 in
     let all = edges_are_sound z g indexed.arity indexed.changes graph.leaves graph.arity in
-    let sound : All (IsSound (contents z)) walk = All-weaker (Contains (edges_of g)) (IsSound (contents z)) (λ e there. All-contains (IsSound (contents z)) (edges_of g) e all there) walk among in
+    let sound : All (IsSoundEdge (contents z)) walk = All-weaker (Contains (edges_of g)) (IsSoundEdge (contents z)) (λ e there. All-contains (IsSoundEdge (contents z)) (edges_of g) e all there) walk among in
     let fits : (k : Key) → RecordFits names (record_among z.params (events_of z) z.batches k) = records_fit names z indexed.fits indexed.few indexed.lists indexed.short in
-    trees_lead names indexed.names_fit cols (contents z) (node_set z) (paired walk parts) (subst (All (IsSound (contents z))) (sym (edges_paired walk parts)) sound)
+    trees_lead names indexed.names_fit cols (contents z) (node_set z) (paired walk parts) (subst (All (IsSoundEdge (contents z))) (sym (edges_paired walk parts)) sound)
     (parts_hold names z cols fits walk parts are) v d led set begins

@@ -19,7 +19,7 @@ use Rattle.dg_history.specs.Keys.{same_key}
 use Rattle.dg_index.specs.ImageOfHistory.{IsImageOf}
 use Rattle.dg_index.specs.IndexKeys.{AreKept, key_exists}
 use Rattle.dg_index.specs.IndexRecords.{column_in}
-use Rattle.dg_index.specs.OpenedIndex.{Opening, events_in, opened_of}
+use Rattle.dg_index.specs.OpenedIndex.{Opening, event_total, opened_of}
 use Rattle.dg_index.proofs.HeldRecords.{record_held}
 use Rattle.dg_index.proofs.OpenedHistories.{large_parameters}
 use Rattle.dg_plan.specs.declared.edge.Edge.{Edge}
@@ -70,13 +70,13 @@ module _ (o : Opening) (cols : Columns) (memory : Bool) (bases : ListOf (ℕ × 
     walk_named : All (λ (named : Key × Way). is_some (lookup (same_key named.0) o.records) ≡ true) (named_along walk)
     walk_named =
         let params : o.params ≡ z.params = ap (λ (x : Opening). x.params) opened ∙ opened_params z in
-        let count : events_in o.batches ≡ length (events_of z) = ap (λ (x : Opening). events_in x.batches) opened ∙ opened_events z in
+        let count : event_total o.batches ≡ length (events_of z) = ap (λ (x : Opening). event_total x.batches) opened ∙ opened_events z in
         let large = large_parameters z.params.l z.params.k stands.legal.parameters in
         let wide : 0 < o.params.k = subst (λ (p : Params). 0 < p.k) (sym params) (let two = large.1 in omega arith) in
-        let exist = walk_all (λ (e : Edge). NamesWhatExists o.params (events_in o.batches) e.via) (named_edges o.params (events_in o.batches) wide (index_ground o cols memory bases) refl refl) in
+        let exist = walk_all (λ (e : Edge). NamesWhatExists o.params (event_total o.batches) e.via) (named_edges o.params (event_total o.batches) wide (index_ground o cols memory bases) refl refl) in
         all_flat (λ (named : Key × Way). is_some (lookup (same_key named.0) o.records) ≡ true) (λ (e : Edge). named_by e.via) walk (λ e among i d within.
         let key : Key = (get_or (named_by e.via) i d).0 in
-        let there : key_exists o.params (events_in o.batches) key ≡ true = All-contains (λ (e : Edge). NamesWhatExists o.params (events_in o.batches) e.via) walk e exist among i d within in
+        let there : key_exists o.params (event_total o.batches) key ≡ true = All-contains (λ (e : Edge). NamesWhatExists o.params (event_total o.batches) e.via) walk e exist among i d within in
         ap (λ (x : Opening). is_some (lookup (same_key key) x.records)) opened ∙ record_held z stands.legal key ((λ i. key_exists (sym params i) (sym count i) key) ∙ there))
 
     -- parts of the walk hold the columns of the history's records

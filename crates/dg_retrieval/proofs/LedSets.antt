@@ -10,7 +10,7 @@ use Rattle.dg_fold.specs.declared.tree.Lead.{Lead}
 use Rattle.dg_fold.specs.Ends.{AreLedUntil, LeadsUntil, last_in}
 use Rattle.dg_fold.specs.Parts.{Folds, beside}
 use Rattle.dg_fold.specs.PathIndependence.{begun_at}
-use Rattle.dg_fold.specs.Steps.{Step, paired, step_by, steps_in, names_record}
+use Rattle.dg_fold.specs.Steps.{PartedStep, paired, step_by, steps_in, names_record}
 use Rattle.dg_fold.specs.Trees.{IsStepOf, LeadsTo, PathIn, all_edges}
 use Rattle.dg_fold.specs.Trees.PathIn.{Begins_at_root, Steps_on}
 use Rattle.dg_graph.specs.declared.element.Column.{Column}
@@ -46,7 +46,7 @@ use Rattle.dg_retrieval.proofs.TreeBranches.{branches_hold}
 -- ---- without recent events
 
 -- the step takes a record
-abbrev StepTakes : Step → Type 0
+abbrev StepTakes : PartedStep → Type 0
 StepTakes s = TakesRecord s.0
 
 step_alike : (names : ℕ) (recent : ListOf Event) (v : Via) (part : Option Part) → names_record v ≡ true → step_by names [] v part ≡ step_by names recent v part
@@ -57,7 +57,7 @@ step_alike names recent (via.Held key way) part takes = refl
 step_alike names recent (via.Recent way) part takes = absurd (false≢true takes)
 
 -- what such steps come to is the same whatever the recent events
-steps_alike : (names : ℕ) (recent : ListOf Event) (steps : ListOf Step) → All StepTakes steps → steps_in names [] steps ≡ steps_in names recent steps
+steps_alike : (names : ℕ) (recent : ListOf Event) (steps : ListOf PartedStep) → All StepTakes steps → steps_in names [] steps ≡ steps_in names recent steps
 steps_alike names recent [] all = refl
 steps_alike names recent (s ∷ steps) all =
     let one = step_alike names recent s.0.via s.1 (All-head StepTakes s steps all) in
@@ -65,7 +65,7 @@ steps_alike names recent (s ∷ steps) all =
     λ i. beside (one i) (rest i)
 
 -- so is each step of a path by such steps
-path_takes : (all : ListOf Step) → ((s : Step) → IsStepOf s all → StepTakes s) → (v : NodeId) (path : ListOf Step) → PathIn all v path → All StepTakes path
+path_takes : (all : ListOf PartedStep) → ((s : PartedStep) → IsStepOf s all → StepTakes s) → (v : NodeId) (path : ListOf PartedStep) → PathIn all v path → All StepTakes path
 path_takes all takes v path Begins_at_root = All-nil StepTakes
 path_takes all takes v path (Steps_on s before among way) = All-push StepTakes before s (path_takes all takes s.0.from before way) (takes s among)
 
@@ -103,8 +103,8 @@ module _ (names : ℕ) (z : History) (walk : ListOf Edge) (parts : ListOf Part) 
       let same : beside (steps_in names [] led.0) (last_in names [] parts v t) ≡ steps_in names recent led.0 =
       ap (beside (steps_in names [] led.0)) (no_last names parts v t bare) ∙ none_more (steps_in names [] led.0) ∙ steps_alike names recent led.0 takes in
       let leads : LeadsTo names recent (paired walk parts) v d = (led.0, led.1, subst (Folds (Ok d)) same led.3) in
-      let begins : shown [] all_columns ≡ shown (set_of z.params (events_of z) (begun_at node.Root (map (λ (s : Step). s.0) led.0))) all_columns =
-      ap (λ n. shown (set_of z.params (events_of z) n) all_columns) (sym (begins_there node.Root (map (λ (s : Step). s.0) led.0) (All-map TakesRecord (λ (s : Step). s.0) led.0 takes))) in
+      let begins : shown [] all_columns ≡ shown (set_of z.params (events_of z) (begun_at node.Root (map (λ (s : PartedStep). s.0) led.0))) all_columns =
+      ap (λ n. shown (set_of z.params (events_of z) n) all_columns) (sym (begins_there node.Root (map (λ (s : PartedStep). s.0) led.0) (All-map TakesRecord (λ (s : PartedStep). s.0) led.0 takes))) in
       sym (all_shown (applied d [])) ∙ reaches v d leads [] (tt, begins) ∙ all_shown (set_of z.params (events_of z) v)
 
   all_led : (edges : ListOf Edge) (branches : ListOf Branch) (times : ListOf ℕ) (targets : ListOf NodeId) (paths : ListOf Lead) (leads : ListOf GraphLead) → map (λ (b : Branch). b.to) branches ≡ targets

@@ -11,7 +11,7 @@ use Rattle.dg_history.specs.declared.params.Params.{Params}
 use Rattle.dg_history.specs.History.{History, events_of}
 use Rattle.dg_index.specs.Hierarchy.{leaves}
 use Rattle.dg_index.specs.IndexKeys.{key_exists}
-use Rattle.dg_index.specs.OpenedIndex.{Opening, events_in, opened_of}
+use Rattle.dg_index.specs.OpenedIndex.{Opening, event_total, opened_of}
 use Rattle.dg_plan.specs.declared.edge.Edge.{Edge}
 use Rattle.dg_plan.specs.declared.edge.Via.{Via}
 use Rattle.dg_plan.specs.declared.edge.Via.TheVariants as via
@@ -68,5 +68,5 @@ named_edges p n wide g many arity =
 pub graph_of_index : (z : History) (o : Opening) → o ≡ (opened_of z).index → (cols : Columns) (memory : Bool) (bases : ListOf (ℕ × NodeId)) → IsGraphOf z (index_ground o cols memory bases)
 graph_of_index z o opened cols memory bases =
     let params : o.params ≡ z.params = ap (λ (x : Opening). x.params) opened ∙ opened_params z in
-    let count : events_in o.batches ≡ length (events_of z) = ap (λ (x : Opening). events_in x.batches) opened ∙ opened_events z in
+    let count : event_total o.batches ≡ length (events_of z) = ap (λ (x : Opening). event_total x.batches) opened ∙ opened_events z in
     record { leaves = λ i. count i / (params i).l; arity = ap (λ (p : Params). p.k) params }

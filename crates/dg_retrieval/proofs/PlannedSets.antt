@@ -14,8 +14,10 @@ use Rattle.dg_plan.specs.TreePaths.{edges_at}
 use Rattle.dg_graph.specs.declared.element.Column.{Column}
 use Rattle.dg_graph.specs.declared.element.Element.{Element}
 use Rattle.dg_graph.specs.declared.element.Columns.{Columns}
-use Rattle.dg_graph.specs.Composition.{Composes, Delta, applied}
+use Rattle.dg_graph.specs.Composition.{Composes, Delta, IsDelta, applied}
 use Rattle.dg_graph.specs.Elements.{shown}
+use Rattle.dg_graph.specs.Sets.{unioned}
+use Rattle.dg_graph.proofs.Sets.{same_members, IsSet-unioned, has-unioned}
 use Rattle.dg_history.specs.declared.node.Key.{Key}
 use Rattle.dg_history.specs.declared.node.NodeId.{NodeId}
 use Rattle.dg_history.specs.declared.node.NodeId.TheVariants.{List, Root}
@@ -50,6 +52,10 @@ leads_from edges node steps plan = by plan.walk.0 plan.walk.1.0 plan.walk.1.1 pl
 -- a composition, applied to the empty graph, is what its deltas come to one after another
 folds_to : (d : Delta) (list : ListOf Delta) (due : Result (ListOf Delta) (Key × Column)) → due ≡ Ok list → Composes d list → Ok (applied d []) ≡ set_after due
 folds_to d list due is composes = ap Ok (applies_each_in_turn d list [] composes tt) ∙ sym (ap set_after is)
+
+-- from the empty graph a delta comes to what it puts in
+pub from_nothing : (d : Delta) → IsDelta d → d.plus ≡ applied d []
+from_nothing d sound = same_members d.plus (unioned [] d.plus) sound.plus (IsSet-unioned [] d.plus tt) (λ q. sym (has-unioned [] d.plus q))
 
 module _ (o : Opening) (cols : Columns) (edges : ListOf Edge) (is : edges ≡ index_edges o cols false []) (node : NodeId) (steps : ListOf ℕ) (plan : IsPlan (arcs_of edges) (Root ∷ []) node steps)
     (walk : ListOf Edge) (along : walk ≡ edges_at edges steps) where

@@ -24,7 +24,7 @@ use Rattle.dg_plan.specs.Walks.{Graft}
 use Rattle.dg_retrieval.specs.declared.graph_lead.Beginning.{Beginning}
 use Rattle.dg_retrieval.specs.declared.graph_lead.Beginning.TheVariants as begins
 use Rattle.dg_retrieval.specs.declared.graph_lead.GraphLead.{GraphLead}
-use Rattle.dg_retrieval.specs.Beginnings.{LeadsAs, StandsFor, begun_with, led_to}
+use Rattle.dg_retrieval.specs.Beginnings.{LeadsAs, BeginningStandsFor, begun_with, led_to}
 use Rattle.dg_retrieval.specs.Branches.{AreBranches}
 use Rattle.dg_retrieval.specs.Retrieval.{AreHeld, ArePoints, graphs_at}
 use Rattle.dg_retrieval.proofs.HistoryLaws.{ReachesInstants}
@@ -59,7 +59,7 @@ module _ (names : ℕ) (z : History) (cols : Columns) (edges : ListOf Edge) (hel
       shows : (a b : NodeId) → a ≡ b → shown (set_of z.params (events_of z) a) cols ≡ shown (set_of z.params (events_of z) b) cols
       shows a b is = ap (λ n. shown (set_of z.params (events_of z) n) cols) is
 
-      by : (b : Beginning) → StandsFor edges path.begun b → shown (applied path.delta (begun_with now held b)) cols ≡ shown (replay_at (events_of z) t) cols
+      by : (b : Beginning) → BeginningStandsFor edges path.begun b → shown (applied path.delta (begun_with now held b)) cols ≡ shown (replay_at (events_of z) t) cols
       by begins.Nothing root = reached t path.begun path.delta led [] tt (shows node.Root path.begun (sym root))
       by begins.Now whole = reached t path.begun path.delta led now (IsSet-replay [] (events_of z) tt) (shows node.Now path.begun (sym whole))
       by (begins.Base handle) base =

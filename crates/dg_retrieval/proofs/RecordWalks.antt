@@ -6,7 +6,7 @@ use Rattle.std.proofs.lemmas.Bool.{false≢true}
 use Rattle.dg_fold.specs.declared.part.Part.{Part}
 use Rattle.dg_fold.specs.BytesRead.{AreParts, ColumnBytes, named_along, named_by}
 use Rattle.dg_fold.specs.HistoryPaths.{IsGraphOf}
-use Rattle.dg_fold.specs.Parts.{beside, part_in, parts_in}
+use Rattle.dg_fold.specs.Parts.{beside, deltas_in_part, parts_in}
 use Rattle.dg_fold.specs.PathIndependence.{begun_at, enters_held}
 use Rattle.dg_plan.specs.TreePaths.{edges_at}
 use Rattle.dg_fold.specs.Steps.{names_record, paired, steps_in}
@@ -90,9 +90,9 @@ steps_are_parts names recent bytes cols (e ∷ walk) parts all are =
     by more via.Now parts takes are = absurd (false≢true takes)
     by more (via.Base handle) parts takes are = absurd (false≢true takes)
     by more (via.Paid key way) [] takes are = elim are [ ]
-    by more (via.Paid key way) (p ∷ parts) takes are = ap (beside (part_in names p)) (more parts are.1)
+    by more (via.Paid key way) (p ∷ parts) takes are = ap (beside (deltas_in_part names p)) (more parts are.1)
     by more (via.Held key way) [] takes are = elim are [ ]
-    by more (via.Held key way) (p ∷ parts) takes are = ap (beside (part_in names p)) (more parts are.1)
+    by more (via.Held key way) (p ∷ parts) takes are = ap (beside (deltas_in_part names p)) (more parts are.1)
     by more (via.Recent way) parts takes are = absurd (false≢true takes)
 
 -- ---- over a history

@@ -14,7 +14,7 @@ use Rattle.dg_fold.specs.BytesRead.{AreParts, HoldsWhatIsEntered, IsKept, Takes,
 use Rattle.dg_fold.specs.Ends.{AreLedUntil, FailsIn, lasts_in}
 use Rattle.dg_fold.specs.Parts.{beside, parts_in}
 use Rattle.dg_plan.specs.TreePaths.{base_behind, base_under, edges_at}
-use Rattle.dg_fold.specs.Steps.{Step, paired, steps_in}
+use Rattle.dg_fold.specs.Steps.{PartedStep, paired, steps_in}
 use Rattle.dg_fold.specs.Trees.{all_edges}
 use Rattle.dg_graph.specs.declared.element.Column.{Column}
 use Rattle.dg_graph.specs.declared.element.Columns.{Columns}
@@ -34,11 +34,11 @@ use Rattle.dg_plan.specs.Walks.{AreSingles, Arc, Graft, IsTree, entered, steps_o
 use Rattle.dg_plan.proofs.Plans.{one_plan}
 use Rattle.dg_plan.proofs.Trees.{tree_grows}
 use Rattle.dg_planner.specs.declared.tree.Graft.{Graft as PlannedGraft}
-use Rattle.dg_planner.specs.Trees.{graft_of, grafts_of}
+use Rattle.dg_planner.specs.Trees.{node_graft, node_grafts}
 use Rattle.dg_retrieval.specs.Branches.{AreBranches}
 use Rattle.dg_retrieval.specs.Faults.{of_fold}
 use Rattle.dg_retrieval.specs.declared.graph_lead.GraphLead.{GraphLead}
-use Rattle.dg_retrieval.specs.Beginnings.{IsOffered, LeadsAs, StandsFor, base_of, begun_within, lead_by}
+use Rattle.dg_retrieval.specs.Beginnings.{IsOffered, LeadsAs, BeginningStandsFor, base_handle, begun_within, lead_by}
 use Rattle.dg_retrieval.specs.KeptGraph.{index_ground}
 use Rattle.dg_retrieval.specs.NodeSets.{IsIndexOver, IsUndamaged}
 use Rattle.dg_retrieval.specs.Retrieval.{IsFirstDamage, IsNoDamage, TakesAtMostTree}
@@ -61,14 +61,14 @@ tree_many g tree [] (x ∷ grafts) t = elim t [ ]
 tree_many g tree (v ∷ targets) [] t = elim t [ ]
 tree_many g tree (v ∷ targets) (x ∷ grafts) t = ap (λ n. suc n) (tree_many g (tree ++ entered g x.steps) targets grafts t.3)
 
-pub grafts_many : (edges : ListOf Edge) (targets : ListOf NodeId) (xs ys : ListOf PlannedGraft) → ys ≡ xs → IsTree (arcs_of edges) (Root ∷ []) targets (grafts_of xs) → length ys ≡ length targets
-grafts_many edges targets xs ys is t = ap length is ∙ sym (length-map xs graft_of) ∙ tree_many (arcs_of edges) (Root ∷ []) targets (grafts_of xs) t
+pub grafts_many : (edges : ListOf Edge) (targets : ListOf NodeId) (xs ys : ListOf PlannedGraft) → ys ≡ xs → IsTree (arcs_of edges) (Root ∷ []) targets (node_grafts xs) → length ys ≡ length targets
+grafts_many edges targets xs ys is t = ap length is ∙ sym (length-map xs node_graft) ∙ tree_many (arcs_of edges) (Root ∷ []) targets (node_grafts xs) t
 
 -- branches of the same edges and grafts
 pub branches_as : (edges edges' : ListOf Edge) (targets : ListOf NodeId) (xs xs' : ListOf PlannedGraft) (branches : ListOf Branch) → edges' ≡ edges → xs' ≡ xs
-    → AreBranches edges' targets (grafts_of xs') branches → AreBranches edges targets (grafts_of xs) branches
+    → AreBranches edges' targets (node_grafts xs') branches → AreBranches edges targets (node_grafts xs) branches
 branches_as edges edges' targets xs xs' branches same alike are =
-    subst (λ (es : ListOf Edge). AreBranches es targets (grafts_of xs) branches) same (subst (λ (ys : ListOf PlannedGraft). AreBranches edges' targets (grafts_of ys) branches) alike are)
+    subst (λ (es : ListOf Edge). AreBranches es targets (node_grafts xs) branches) same (subst (λ (ys : ListOf PlannedGraft). AreBranches edges' targets (node_grafts ys) branches) alike are)
 
 -- the single plans of the same targets weigh the same
 one_singles : {N : Type 0} (g : ListOf (Arc N)) (starts targets : ListOf N) (xs ys : ListOf ℕ) → AreSingles g starts targets xs → AreSingles g starts targets ys → xs ≡ ys
@@ -85,7 +85,7 @@ one_singles g starts (v ∷ targets) (x ∷ xs) (y ∷ ys) a b =
 -- ---- what leads to the targets
 
 -- something leads to each target
-pub led_many : (names : ℕ) (recent : ListOf Event) (parts : ListOf Part) (all : ListOf Step) (branches : ListOf Branch) (times : ListOf ℕ) (leads : ListOf Lead)
+pub led_many : (names : ℕ) (recent : ListOf Event) (parts : ListOf Part) (all : ListOf PartedStep) (branches : ListOf Branch) (times : ListOf ℕ) (leads : ListOf Lead)
     → AreLedUntil names recent parts all branches times leads → length leads ≡ length branches
 led_many names recent parts all [] times [] led = refl
 led_many names recent parts all [] times (l ∷ leads) led = elim led [ ]
@@ -103,7 +103,7 @@ leads_many walk (l ∷ paths) (v ∷ targets) many = ap (λ n. suc n) (leads_man
 
 -- their bases are those that are found behind the targets
 bases_are : (walk : ListOf Edge) (paths : ListOf Lead) (targets : ListOf NodeId) → length paths ≡ length targets
-    → map (λ (l : GraphLead). base_of l.begins) (map (lead_by walk) (zip paths targets)) ≡ map (base_behind (reverse walk)) targets
+    → map (λ (l : GraphLead). base_handle l.begins) (map (lead_by walk) (zip paths targets)) ≡ map (base_behind (reverse walk)) targets
 bases_are walk [] [] many = refl
 bases_are walk [] (v ∷ targets) many = absurd (omega arith)
 bases_are walk (l ∷ paths) [] many = absurd (omega arith)
@@ -129,9 +129,9 @@ leads_stand edges walk parts grow among enter names recent (b ∷ branches) (t �
     let path = led.0 in
     let here : b.to ≡ v = cc in
     let rest : map (λ (x : Branch). x.to) branches ≡ targets = cc in
-    let stands : StandsFor edges l.begun (begun_within walk b.to) =
-    subst (λ (n : NodeId). StandsFor edges n (begun_within walk b.to)) path.2 (path_stands edges walk parts grow among enter b.to path.0 path.1) in (
-      record { delta = refl; begins = subst (λ (n : NodeId). StandsFor edges l.begun (begun_within walk n)) here stands },
+    let stands : BeginningStandsFor edges l.begun (begun_within walk b.to) =
+    subst (λ (n : NodeId). BeginningStandsFor edges n (begun_within walk b.to)) path.2 (path_stands edges walk parts grow among enter b.to path.0 path.1) in (
+      record { delta = refl; begins = subst (λ (n : NodeId). BeginningStandsFor edges l.begun (begun_within walk n)) here stands },
       leads_stand edges walk parts grow among enter names recent branches times targets paths rest led.1,
     )
 
@@ -191,9 +191,9 @@ module _ (o : Opening) (cols : Columns) (edges : ListOf Edge) (targets : ListOf 
     pub count_of : length leads ≡ length targets
     count_of = ap length made ∙ leads_many walk paths targets paths_many
 
-    pub bases_of : map (λ (l : GraphLead). base_of l.begins) leads ≡ map (base_under edges (steps_of grafts)) targets
+    pub bases_of : map (λ (l : GraphLead). base_handle l.begins) leads ≡ map (base_under edges (steps_of grafts)) targets
     bases_of =
-        ap (map (λ (l : GraphLead). base_of l.begins)) made ∙ bases_are walk paths targets paths_many
+        ap (map (λ (l : GraphLead). base_handle l.begins)) made ∙ bases_are walk paths targets paths_many
         ∙ ap (λ (es : ListOf Edge). map (base_behind (reverse es)) targets) in_tree
 
     pub offered_of : All (IsOffered edges) leads

@@ -10,7 +10,7 @@ use Rattle.std.proofs.lemmas.List.Elements.{All-append, All-cons, All-contains_i
 use Rattle.std.proofs.lemmas.Option.{same_Some, slice_get-map}
 use Rattle.dg_fold.specs.declared.part.Part.{Part}
 use Rattle.dg_fold.specs.PathIndependence.{begun_at, enters_held}
-use Rattle.dg_fold.specs.Steps.{Step, names_record, paired}
+use Rattle.dg_fold.specs.Steps.{PartedStep, names_record, paired}
 use Rattle.dg_fold.specs.Trees.{IsStepOf, PathIn}
 use Rattle.dg_fold.specs.Trees.PathIn.{Begins_at_root, Steps_on}
 use Rattle.dg_history.specs.declared.node.NodeId.{NodeId}
@@ -22,7 +22,7 @@ use Rattle.dg_plan.specs.IndexGraph.{Ground, arc_of, arcs_of, edges_of, is_root}
 use Rattle.dg_plan.specs.InstantPoint.{same_node}
 use Rattle.dg_plan.specs.TreePaths.{base_behind, base_of_via, edges_at}
 use Rattle.dg_plan.specs.Walks.{Arc, Grows}
-use Rattle.dg_retrieval.specs.Beginnings.{StandsFor, base_of, begun_behind, begun_by, begun_within}
+use Rattle.dg_retrieval.specs.Beginnings.{BeginningStandsFor, base_handle, begun_behind, beginning_by, begun_within}
 use Rattle.dg_retrieval.proofs.TreeRecords.{each_edge}
 
 -- ---- nodes
@@ -70,7 +70,7 @@ edges_enter g = each_edge g EntersNow (record {
 })
 
 -- what holds of the edges holds of the edge of each of their steps
-pub step_has : (P : Edge → Type 0) (walk : ListOf Edge) (parts : ListOf Part) → All P walk → (s : Step) → IsStepOf s (paired walk parts) → P s.0
+pub step_has : (P : Edge → Type 0) (walk : ListOf Edge) (parts : ListOf Part) → All P walk → (s : PartedStep) → IsStepOf s (paired walk parts) → P s.0
 step_has P [] parts all s among = elim among [ ]
 step_has P (e ∷ walk) parts all s among =
     let first : P e = all 0 e (omega arith) in
@@ -78,7 +78,7 @@ step_has P (e ∷ walk) parts all s among =
     by (names_record e.via) first rest among
   where
     one : (o : Option Part) (some : ListOf Part) → P e → ((some : ListOf Part) → IsStepOf s (paired walk some) → P s.0) → IsStepOf s ((e, o) ∷ paired walk some) → P s.0
-    one o some first rest (inl is) = subst (λ (x : Step). P x.0) (sym is) first
+    one o some first rest (inl is) = subst (λ (x : PartedStep). P x.0) (sym is) first
     one o some first rest (inr more) = rest some more
 
     by : (b : Bool) → P e → ((some : ListOf Part) → IsStepOf s (paired walk some) → P s.0)
@@ -139,7 +139,7 @@ passed_by (e ∷ walk) before n all =
     (passed_by walk before n (All-tail (λ (x : Edge). x.to ≢ n) e walk all))
   where
     by : (b : Bool) → (b ≡ true → ⊥) → begun_behind (walk ++ before) n ≡ begun_behind before n
-        → (if b then (if is_root e.from then begun_by e.via else begun_behind (walk ++ before) e.from) else begun_behind (walk ++ before) n) ≡ begun_behind before n
+        → (if b then (if is_root e.from then beginning_by e.via else begun_behind (walk ++ before) e.from) else begun_behind (walk ++ before) n) ≡ begun_behind before n
     by true other rest = absurd (other refl)
     by false other rest = rest
 
@@ -157,7 +157,7 @@ cut_at walk e there = (
 -- The path to the node that an edge enters begins with the edge, where that leaves the root, and else as the path to the
 -- node that it leaves.
 entered_by_one : (walk : ListOf Edge) (tree : ListOf NodeId) → EdgesGrow tree walk → (e : Edge) → IsCut walk e
-    → begun_within walk e.to ≡ (if is_root e.from then begun_by e.via else begun_within walk e.from)
+    → begun_within walk e.to ≡ (if is_root e.from then beginning_by e.via else begun_within walk e.from)
 entered_by_one walk tree grow e cut =
     let before : ListOf Edge = cut.0 in
     let behind : ListOf Edge = cut.1 in
@@ -175,8 +175,8 @@ entered_by_one walk tree grow e cut =
     (all_back (λ (x : Edge). x.to ≢ e.from) behind (none_enters (from.0 ++ e.to ∷ []) behind from.1.2 e.from (Contains-append_left from.0 (e.to ∷ []) e.from from.1.0)))
     ∙ passed_by (e ∷ []) (reverse before) e.from (All-cons (λ (x : Edge). x.to ≢ e.from) e [] (λ is. from.1.1 (subst (Contains from.0) (sym is) from.1.0)) (All-nil (λ (x : Edge). x.to ≢ e.from))) in
     of_head
-    ∙ ap (λ b. if b then (if is_root e.from then begun_by e.via else begun_behind (reverse before) e.from) else begun_behind (reverse before) e.to) (same_itself e.to)
-    ∙ ap (λ x. if is_root e.from then begun_by e.via else x) (sym of_tail)
+    ∙ ap (λ b. if b then (if is_root e.from then beginning_by e.via else begun_behind (reverse before) e.from) else begun_behind (reverse before) e.to) (same_itself e.to)
+    ∙ ap (λ x. if is_root e.from then beginning_by e.via else x) (sym of_tail)
 
 -- no edge of a tree from the root enters it
 root_alone : (walk : ListOf Edge) → EdgesGrow (node.Root ∷ []) walk → All (λ (e : Edge). e.to ≢ node.Root) walk
@@ -185,15 +185,15 @@ root_alone walk grow = none_enters (node.Root ∷ []) walk grow node.Root (0, om
 -- ---- the paths of a tree
 
 -- a path to the root has no step
-no_way : (walk : ListOf Edge) (parts : ListOf Part) → EdgesGrow (node.Root ∷ []) walk → (v : NodeId) (path : ListOf Step) → PathIn (paired walk parts) v path → v ≡ node.Root → path ≡ []
+no_way : (walk : ListOf Edge) (parts : ListOf Part) → EdgesGrow (node.Root ∷ []) walk → (v : NodeId) (path : ListOf PartedStep) → PathIn (paired walk parts) v path → v ≡ node.Root → path ≡ []
 no_way walk parts grow v path Begins_at_root root = refl
 no_way walk parts grow v path (Steps_on s before among way) root = absurd (step_has (λ (e : Edge). e.to ≢ node.Root) walk parts (root_alone walk grow) s among root)
 
 -- the first edge of a path stands for the node with whose set the path begins
-first_stands : (edges : ListOf Edge) (e : Edge) → Contains edges e → EntersNow e → StandsFor edges (begun_at node.Root (e ∷ [])) (begun_by e.via)
+first_stands : (edges : ListOf Edge) (e : Edge) → Contains edges e → EntersNow e → BeginningStandsFor edges (begun_at node.Root (e ∷ [])) (beginning_by e.via)
 first_stands edges e there now = by e.via refl
   where
-    by : (v : Via) → e.via ≡ v → StandsFor edges (if enters_held v then e.to else node.Root) (begun_by v)
+    by : (v : Via) → e.via ≡ v → BeginningStandsFor edges (if enters_held v then e.to else node.Root) (beginning_by v)
     by via.Now is = now is
     by (via.Base handle) is = (e, there, is, refl)
     by (via.Paid key way) is = refl
@@ -202,41 +202,41 @@ first_stands edges e there now = by e.via refl
 
 module _ (edges walk : ListOf Edge) (parts : ListOf Part) (grow : EdgesGrow (node.Root ∷ []) walk) (among : All (Contains edges) walk) (enter : All EntersNow walk) where
   -- what a path begins with is what is found behind its node
-  pub path_stands : (v : NodeId) (path : ListOf Step) → PathIn (paired walk parts) v path → StandsFor edges (begun_at node.Root (map (λ (s : Step). s.0) path)) (begun_within walk v)
+  pub path_stands : (v : NodeId) (path : ListOf PartedStep) → PathIn (paired walk parts) v path → BeginningStandsFor edges (begun_at node.Root (map (λ (s : PartedStep). s.0) path)) (begun_within walk v)
   path_stands v path Begins_at_root =
-      subst (StandsFor edges node.Root)
+      subst (BeginningStandsFor edges node.Root)
       (sym (ap (λ (es : ListOf Edge). begun_behind es node.Root) (sym (append-nil (reverse walk)))
       ∙ passed_by (reverse walk) [] node.Root (all_back (λ (e : Edge). e.to ≢ node.Root) walk (root_alone walk grow)))) refl
   path_stands v path (Steps_on s before step way) =
-      subst (StandsFor edges (begun_at node.Root (map (λ (x : Step). x.0) (before ++ s ∷ [])))) (sym (entered_by_one walk (node.Root ∷ []) grow s.0 cut))
+      subst (BeginningStandsFor edges (begun_at node.Root (map (λ (x : PartedStep). x.0) (before ++ s ∷ [])))) (sym (entered_by_one walk (node.Root ∷ []) grow s.0 cut))
       (by (is_root s.0.from) refl (path_stands s.0.from before way))
     where
       cut : IsCut walk s.0
       cut = step_has (IsCut walk) walk parts (All-weaker (Contains walk) (IsCut walk) (λ e there. cut_at walk e there) walk (All-contains_itself walk)) s step
 
-      first : StandsFor edges (begun_at node.Root (s.0 ∷ [])) (begun_by s.0.via)
+      first : BeginningStandsFor edges (begun_at node.Root (s.0 ∷ [])) (beginning_by s.0.via)
       first = first_stands edges s.0 (step_has (Contains edges) walk parts among s step) (step_has EntersNow walk parts enter s step)
 
-      on : (before : ListOf Step) → PathIn (paired walk parts) s.0.from before → is_root s.0.from ≡ false
-          → StandsFor edges (begun_at node.Root (map (λ (x : Step). x.0) before)) (begun_within walk s.0.from)
-          → StandsFor edges (begun_at node.Root (map (λ (x : Step). x.0) (before ++ s ∷ []))) (begun_within walk s.0.from)
+      on : (before : ListOf PartedStep) → PathIn (paired walk parts) s.0.from before → is_root s.0.from ≡ false
+          → BeginningStandsFor edges (begun_at node.Root (map (λ (x : PartedStep). x.0) before)) (begun_within walk s.0.from)
+          → BeginningStandsFor edges (begun_at node.Root (map (λ (x : PartedStep). x.0) (before ++ s ∷ []))) (begun_within walk s.0.from)
       on [] way other stands = absurd (false≢true (sym other ∙ ap is_root (ends_at s.0.from [] way refl)))
         where
-          ends_at : (n : NodeId) (path : ListOf Step) → PathIn (paired walk parts) n path → length path ≡ 0 → n ≡ node.Root
+          ends_at : (n : NodeId) (path : ListOf PartedStep) → PathIn (paired walk parts) n path → length path ≡ 0 → n ≡ node.Root
           ends_at n path Begins_at_root none = refl
           ends_at n path (Steps_on t front in' more) none = absurd (let many = length-append front (t ∷ []) in omega arith)
       on (x ∷ before) way other stands = stands
 
-      by : (b : Bool) → is_root s.0.from ≡ b → StandsFor edges (begun_at node.Root (map (λ (x : Step). x.0) before)) (begun_within walk s.0.from)
-          → StandsFor edges (begun_at node.Root (map (λ (x : Step). x.0) (before ++ s ∷ []))) (if b then begun_by s.0.via else begun_within walk s.0.from)
+      by : (b : Bool) → is_root s.0.from ≡ b → BeginningStandsFor edges (begun_at node.Root (map (λ (x : PartedStep). x.0) before)) (begun_within walk s.0.from)
+          → BeginningStandsFor edges (begun_at node.Root (map (λ (x : PartedStep). x.0) (before ++ s ∷ []))) (if b then beginning_by s.0.via else begun_within walk s.0.from)
       by true root stands =
           let none : before ≡ [] = no_way walk parts grow s.0.from before way (root_is s.0.from root) in
-          subst (λ (steps : ListOf Step). StandsFor edges (begun_at node.Root (map (λ (x : Step). x.0) (steps ++ s ∷ []))) (begun_by s.0.via)) (sym none) first
+          subst (λ (steps : ListOf PartedStep). BeginningStandsFor edges (begun_at node.Root (map (λ (x : PartedStep). x.0) (steps ++ s ∷ []))) (beginning_by s.0.via)) (sym none) first
       by false other stands = on before way other stands
 
 -- ---- the bases that are found
 
-base_by : (v : Via) → base_of (begun_by v) ≡ base_of_via v
+base_by : (v : Via) → base_handle (beginning_by v) ≡ base_of_via v
 base_by via.Now = refl
 base_by (via.Base handle) = refl
 base_by (via.Paid key way) = refl
@@ -244,32 +244,32 @@ base_by (via.Held key way) = refl
 base_by (via.Recent way) = refl
 
 -- the base that is found is that behind the node
-pub base_found : (back : ListOf Edge) (n : NodeId) → base_of (begun_behind back n) ≡ base_behind back n
+pub base_found : (back : ListOf Edge) (n : NodeId) → base_handle (begun_behind back n) ≡ base_behind back n
 base_found [] n = refl
 base_found (e ∷ back) n = by (same_node n e.to) (is_root e.from) (base_found back e.from) (base_found back n)
   where
-    by : (b c : Bool) → base_of (begun_behind back e.from) ≡ base_behind back e.from → base_of (begun_behind back n) ≡ base_behind back n
-        → base_of (if b then (if c then begun_by e.via else begun_behind back e.from) else begun_behind back n) ≡ (if b then (if c then base_of_via e.via else base_behind back e.from) else base_behind back n)
+    by : (b c : Bool) → base_handle (begun_behind back e.from) ≡ base_behind back e.from → base_handle (begun_behind back n) ≡ base_behind back n
+        → base_handle (if b then (if c then beginning_by e.via else begun_behind back e.from) else begun_behind back n) ≡ (if b then (if c then base_of_via e.via else base_behind back e.from) else base_behind back n)
     by true true from at = base_by e.via
     by true false from at = from
     by false c from at = at
 
 -- it is that of one of the edges
-pub base_offered : (edges back : ListOf Edge) → All (Contains edges) back → (n : NodeId) (handle : ℕ) → base_of (begun_behind back n) ≡ Some handle → (e : Edge) × Contains edges e × (e.via ≡ via.Base handle)
+pub base_offered : (edges back : ListOf Edge) → All (Contains edges) back → (n : NodeId) (handle : ℕ) → base_handle (begun_behind back n) ≡ Some handle → (e : Edge) × Contains edges e × (e.via ≡ via.Base handle)
 base_offered edges [] all n handle found = absurd (let none : None ≡ Some handle = found in cc)
 base_offered edges (e ∷ back) all n handle found =
     by (same_node n e.to) (is_root e.from) (base_offered edges back (All-tail (Contains edges) e back all) e.from handle) (base_offered edges back (All-tail (Contains edges) e back all) n handle) found
   where
-    here : (v : Via) → e.via ≡ v → base_of (begun_by v) ≡ Some handle → (f : Edge) × Contains edges f × (f.via ≡ via.Base handle)
+    here : (v : Via) → e.via ≡ v → base_handle (beginning_by v) ≡ Some handle → (f : Edge) × Contains edges f × (f.via ≡ via.Base handle)
     here via.Now is found = absurd (let none : None ≡ Some handle = found in cc)
     here (via.Base other) is found = (e, All-head (Contains edges) e back all, is ∙ ap (λ h. via.Base h) (same_Some _ _ found))
     here (via.Paid key way) is found = absurd (let none : None ≡ Some handle = found in cc)
     here (via.Held key way) is found = absurd (let none : None ≡ Some handle = found in cc)
     here (via.Recent way) is found = absurd (let none : None ≡ Some handle = found in cc)
 
-    by : (b c : Bool) → (base_of (begun_behind back e.from) ≡ Some handle → (f : Edge) × Contains edges f × (f.via ≡ via.Base handle))
-        → (base_of (begun_behind back n) ≡ Some handle → (f : Edge) × Contains edges f × (f.via ≡ via.Base handle))
-        → base_of (if b then (if c then begun_by e.via else begun_behind back e.from) else begun_behind back n) ≡ Some handle → (f : Edge) × Contains edges f × (f.via ≡ via.Base handle)
+    by : (b c : Bool) → (base_handle (begun_behind back e.from) ≡ Some handle → (f : Edge) × Contains edges f × (f.via ≡ via.Base handle))
+        → (base_handle (begun_behind back n) ≡ Some handle → (f : Edge) × Contains edges f × (f.via ≡ via.Base handle))
+        → base_handle (if b then (if c then beginning_by e.via else begun_behind back e.from) else begun_behind back n) ≡ Some handle → (f : Edge) × Contains edges f × (f.via ≡ via.Base handle)
     by true true from at found = here e.via refl found
     by true false from at found = from found
     by false c from at found = at found

@@ -16,7 +16,7 @@ use Rattle.dg_history.specs.History.{are_parameters}
 use Rattle.dg_index.specs.Hierarchy.{leaves, numbers, parent}
 use Rattle.dg_index.specs.IndexKeys.{AreKept, among, key_exists}
 use Rattle.dg_index.specs.IndexRecords.{heights}
-use Rattle.dg_index.specs.OpenedIndex.{Opening, events_in}
+use Rattle.dg_index.specs.OpenedIndex.{Opening, event_total}
 use Rattle.dg_index.proofs.HeldKeys.{exists_held, found}
 use Rattle.dg_index.proofs.KeptColumns.{parent_is, power_some}
 use Rattle.dg_index.proofs.OpenedHistories.{large_parameters}
@@ -259,11 +259,11 @@ paid_edges p n wide g many arity = each_edge g (λ (e : Edge). IsPaid p n g.weig
 pub edges_kept : (o : Opening) → are_parameters o.params.l o.params.k ≡ true → AreKept o → (cols : Columns) (memory : Bool) (bases : ListOf (ℕ × NodeId)) → All (λ (e : Edge). IsKept o e.via) (index_edges o cols memory bases)
 edges_kept o right kept cols memory bases =
     let large = large_parameters o.params.l o.params.k right in
-    All-weaker (λ (e : Edge). IsPaid o.params (events_in o.batches) (index_ground o cols memory bases).weight e.weight e.via) (λ (e : Edge). IsKept o e.via)
+    All-weaker (λ (e : Edge). IsPaid o.params (event_total o.batches) (index_ground o cols memory bases).weight e.weight e.via) (λ (e : Edge). IsKept o e.via)
     (λ e paid. by e.via e.weight paid) (index_edges o cols memory bases)
-    (paid_edges o.params (events_in o.batches) (omega (arith, large.1)) (index_ground o cols memory bases) refl refl)
+    (paid_edges o.params (event_total o.batches) (omega (arith, large.1)) (index_ground o cols memory bases) refl refl)
   where
-    by : (v : Via) (w : ℕ) → IsPaid o.params (events_in o.batches) (index_ground o cols memory bases).weight w v → IsKept o v
+    by : (v : Via) (w : ℕ) → IsPaid o.params (event_total o.batches) (index_ground o cols memory bases).weight w v → IsKept o v
     by via.Now w paid = tt
     by (via.Base handle) w paid = tt
     by (via.Paid k way) w paid =

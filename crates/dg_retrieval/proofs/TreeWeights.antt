@@ -23,7 +23,7 @@ use Rattle.dg_index.specs.FileOfHistory.{segment_of}
 use Rattle.dg_index.specs.ImageOfHistory.{IsImageOf}
 use Rattle.dg_index.specs.IndexKeys.{key_exists}
 use Rattle.dg_index.specs.IndexRecords.{column_in, length_in}
-use Rattle.dg_index.specs.OpenedIndex.{Opened, Opening, bare, column_at, entry_or_none, events_in, opened_of, opened_onto, with_segment}
+use Rattle.dg_index.specs.OpenedIndex.{Opened, Opening, bare, column_at, entry_or_none, event_total, opened_of, opened_onto, with_segment}
 use Rattle.dg_index.proofs.HeldRecords.{record_held}
 use Rattle.dg_index.proofs.KeptColumns.{columns_are_kept}
 use Rattle.dg_index.proofs.OpenedHistories.{large_parameters}
@@ -95,14 +95,14 @@ params_onto p x before (b ∷ batches) = params_onto p (with_segment x (segment_
 pub opened_params : (z : History) → (opened_of z).index.params ≡ z.params
 opened_params z = params_onto z.params (bare z.params) [] z.batches
 
-events_noted : (batches : ListOf Batch) → events_in (map noted batches) ≡ length (flat_map (λ (b : Batch). b.events) batches)
+events_noted : (batches : ListOf Batch) → event_total (map noted batches) ≡ length (flat_map (λ (b : Batch). b.events) batches)
 events_noted [] = refl
 events_noted (b ∷ batches) =
     sum_by-cons (λ (e : BatchEntry). e.events) (noted b) (map noted batches) ∙ ap (λ n. length b.events + n) (events_noted batches)
     ∙ sym (length-append b.events (flat_map (λ (b : Batch). b.events) batches))
 
-pub opened_events : (z : History) → events_in (opened_of z).index.batches ≡ length (events_of z)
-opened_events z = ap events_in (batches_of z) ∙ events_noted z.batches
+pub opened_events : (z : History) → event_total (opened_of z).index.batches ≡ length (events_of z)
+opened_events z = ap event_total (batches_of z) ∙ events_noted z.batches
 
 -- ---- over an image of a history
 
@@ -132,13 +132,13 @@ asked_is z bytes cols k same = by cols.nodes_attr cols.edges_attr
 
 module _ (z : History) (image : ListOf ℕ) (stands : IsImageOf z image) (o : Opening) (opened : o ≡ (opened_of z).index) (has : HasColumns z image o) (cols : Columns) (memory : Bool) (bases : ListOf (ℕ × NodeId)) where
   abbrev n : ℕ
-  n = events_in o.batches
+  n = event_total o.batches
 
   params : o.params ≡ z.params
   params = ap (λ (x : Opening). x.params) opened ∙ opened_params z
 
   count : n ≡ length (events_of z)
-  count = ap (λ (x : Opening). events_in x.batches) opened ∙ opened_events z
+  count = ap (λ (x : Opening). event_total x.batches) opened ∙ opened_events z
 
   weighs : (e : Edge) → IsPaid o.params n (index_ground o cols memory bases).weight e.weight e.via → WeighsWhatItEnters (kept_in image o) cols e
   weighs e = by e.via e.weight

@@ -30,31 +30,31 @@ abbrev pub led_to : List Element → (ℕ → List Element) → Columns → Grap
 led_to now held cols lead = shown (applied lead.delta (begun_with now held lead.begins)) cols
 
 -- the handle whose set it begins with, where there is one
-abbrev pub base_of : Beginning → Option ℕ
-base_of Nothing = None
-base_of Now = None
-base_of (Base handle) = Some handle
+abbrev pub base_handle : Beginning → Option ℕ
+base_handle Nothing = None
+base_handle Now = None
+base_handle (Base handle) = Some handle
 
 -- where the lead begins with a base, one of the edges leads on by it
 abbrev pub IsOffered : List Edge → GraphLead → Type 0
-IsOffered edges lead = (handle : ℕ) → base_of lead.begins ≡ Some handle → (e : Edge) × Contains edges e × (e.via ≡ via.Base handle)
+IsOffered edges lead = (handle : ℕ) → base_handle lead.begins ≡ Some handle → (e : Edge) × Contains edges e × (e.via ≡ via.Base handle)
 
 -- ---- what a path begins with
 
 -- what a path begins with whose first edge leads on by this
-abbrev pub begun_by : Via → Beginning
-begun_by via.Now = Now
-begun_by (via.Base handle) = Base handle
-begun_by (via.Paid key way) = Nothing
-begun_by (via.Held key way) = Nothing
-begun_by (via.Recent way) = Nothing
+abbrev pub beginning_by : Via → Beginning
+beginning_by via.Now = Now
+beginning_by (via.Base handle) = Base handle
+beginning_by (via.Paid key way) = Nothing
+beginning_by (via.Held key way) = Nothing
+beginning_by (via.Recent way) = Nothing
 
 -- What the path to a node begins with, where the edges so far are these, the last first: the last edge into the node
 -- decides, by itself where it leaves the root, and else by the path to the node that it leaves.
 abbrev pub begun_behind : List Edge → NodeId → Beginning
 begun_behind [] node = Nothing
 begun_behind (e ∷ before) node =
-    if same_node node e.to then (if is_root e.from then begun_by e.via else begun_behind before e.from)
+    if same_node node e.to then (if is_root e.from then beginning_by e.via else begun_behind before e.from)
     else begun_behind before node
 
 -- what the path to a node begins with, within the tree of these edges
@@ -67,12 +67,12 @@ lead_by walk p = record { begins = begun_within walk p.1; delta = p.0.delta }
 
 -- The beginning stands for the node with whose set a path begins: nothing for the root, the current graph for its node,
 -- and a base for the node that one of the edges enters by it.
-abbrev pub StandsFor : List Edge → NodeId → Beginning → Type 0
-StandsFor edges begun Nothing = begun ≡ node.Root
-StandsFor edges begun Now = begun ≡ node.Now
-StandsFor edges begun (Base handle) = (e : Edge) × Contains edges e × (e.via ≡ via.Base handle) × (e.to ≡ begun)
+abbrev pub BeginningStandsFor : List Edge → NodeId → Beginning → Type 0
+BeginningStandsFor edges begun Nothing = begun ≡ node.Root
+BeginningStandsFor edges begun Now = begun ≡ node.Now
+BeginningStandsFor edges begun (Base handle) = (e : Edge) × Contains edges e × (e.via ≡ via.Base handle) × (e.to ≡ begun)
 
 -- what leads to a node has the same delta, and begins as the path does
 pub record LeadsAs (edges : List Edge) (path : Lead) (lead : GraphLead) : Type 0 where
   pub delta : lead.delta ≡ path.delta
-  pub begins : StandsFor edges path.begun lead.begins
+  pub begins : BeginningStandsFor edges path.begun lead.begins

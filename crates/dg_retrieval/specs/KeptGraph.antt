@@ -7,7 +7,7 @@ use Rattle.dg_history.specs.declared.node.NodeId.{NodeId}
 use Rattle.dg_history.specs.declared.node.NodeId.TheVariants.{List}
 use Rattle.dg_history.specs.declared.params.Params.{Params}
 use Rattle.dg_index.specs.declared.entry.Entry.{Entry}
-use Rattle.dg_index.specs.OpenedIndex.{Opening, events_in}
+use Rattle.dg_index.specs.OpenedIndex.{Opening, event_total}
 use Rattle.dg_plan.specs.declared.edge.Edge.{Edge}
 use Rattle.dg_plan.specs.HistoryGraph.{all_columns}
 use Rattle.dg_plan.specs.IndexGraph.{Ground, edges_of, nodes_of}
@@ -41,18 +41,18 @@ kept_nodes o n cols = nodes_of (kept_ground o n cols [])
 -- these are the edges of the index in these columns, with bases of which none holds the graph of a list, and with the
 -- current graph where there is an event
 abbrev pub IsKeptGraph : Opening → Columns → ListOf Edge → Type 0
-IsKeptGraph o cols edges = (bases : ListOf (ℕ × NodeId)) × HoldNoList bases × (edges ≡ kept_edges o (events_in o.batches) cols bases)
+IsKeptGraph o cols edges = (bases : ListOf (ℕ × NodeId)) × HoldNoList bases × (edges ≡ kept_edges o (event_total o.batches) cols bases)
 
 -- the graph of the records of an index in these columns, with these bases: with the current graph, or without
 abbrev pub index_ground : Opening → Columns → Bool → ListOf (ℕ × NodeId) → Ground
-index_ground o cols memory bases = record (ground_of (shape_with o.params (events_in o.batches)) (holding o.records) cols [] memory) { bases = bases }
+index_ground o cols memory bases = record (ground_of (shape_with o.params (event_total o.batches)) (holding o.records) cols [] memory) { bases = bases }
 
 abbrev pub index_edges : Opening → Columns → Bool → ListOf (ℕ × NodeId) → ListOf Edge
 index_edges o cols memory bases = edges_of (index_ground o cols memory bases)
 
 -- the graph of the records of an index alone, which have all their columns
 abbrev pub record_ground : Opening → Ground
-record_ground o = ground_of (shape_with o.params (events_in o.batches)) (holding o.records) all_columns [] false
+record_ground o = ground_of (shape_with o.params (event_total o.batches)) (holding o.records) all_columns [] false
 
 abbrev pub record_edges : Opening → ListOf Edge
 record_edges o = edges_of (record_ground o)

@@ -4,7 +4,7 @@ ghost use Rattle.std.specs.Prelude.{◌≡◌, length, map, reverse, IfOk};
 ghost use Rattle.std.specs.List.{zip};
 ghost use Rattle.dg_plan.specs.IndexGraph.{is_root};
 ghost use Rattle.dg_plan.specs.InstantPoint.{same_node};
-ghost use Rattle.dg_retrieval.specs.Beginnings.{begun_by, begun_within, lead_by};
+ghost use Rattle.dg_retrieval.specs.Beginnings.{beginning_by, begun_within, lead_by};
 
 use crate::graph_lead::{Beginning, GraphLead};
 use dg_fold::Lead;
@@ -28,7 +28,7 @@ fn is_root(node: NodeId) -> bool
 
 // What a path begins with whose first edge leads on by this.
 fn begun_by(via: Via) -> Beginning
-    ensures { result ≡ begun_by via }
+    ensures { result ≡ beginning_by via }
 {
     match via {
         Via::Now => Beginning::Now,

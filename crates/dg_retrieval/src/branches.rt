@@ -3,7 +3,7 @@
 ghost use Rattle.std.specs.Prelude.{◌≡◌, length, slice_get, IfOk};
 ghost use Rattle.dg_plan.specs.TreePaths.{edges_at};
 ghost use Rattle.dg_fold.specs.Trees.{all_edges};
-ghost use Rattle.dg_planner.specs.Trees.{grafts_of};
+ghost use Rattle.dg_planner.specs.Trees.{node_grafts};
 ghost use Rattle.dg_retrieval.specs.Branches.{AreBranches};
 
 use dg_fold::Branch;
@@ -44,7 +44,7 @@ pub fn branches_of(
     grafts: &[Graft],
 ) -> Result<Vec<Branch>, AllocError>
     requires { length grafts.now ≡ length targets.now }
-    ensures { IfOk result (λ branches. AreBranches edges.now targets.now (grafts_of grafts.now) branches.items) }
+    ensures { IfOk result (λ branches. AreBranches edges.now targets.now (node_grafts grafts.now) branches.items) }
 {
     let mut branches = Vec::with_capacity(alloc, grafts.len())?;
     for (index, graft) in grafts.iter().enumerate() {

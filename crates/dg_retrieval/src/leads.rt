@@ -13,7 +13,7 @@ ghost use Rattle.dg_plan.specs.TreePaths.{base_under};
 ghost use Rattle.dg_plan.specs.Walks.{AreSingles, IsTree, steps_of, tree_weight};
 ghost use Rattle.dg_planner.specs.Trees.{grafts_in};
 ghost use Rattle.dg_retrieval.specs.declared.graph_lead.GraphLead.{GraphLead};
-ghost use Rattle.dg_retrieval.specs.Beginnings.{IsOffered, base_of};
+ghost use Rattle.dg_retrieval.specs.Beginnings.{IsOffered, base_handle};
 ghost use Rattle.dg_retrieval.specs.NodeSets.{IsIndexOver, IsUndamaged};
 ghost use Rattle.dg_retrieval.specs.Retrieval.{IsFirstDamage, IsNoDamage, TakesAtMostTree};
 ghost use Rattle.dg_retrieval.specs.TreeLeads.{AreIndexEdges, AreTreeLeads};
@@ -70,7 +70,7 @@ pub fn lead_along_tree<R: Threads, D: Disk>(
     ensures singles { IfOk result (λ r. AreSingles (arcs_of planner.now.edges) (Root ∷ []) targets.now r.tree.singles.items) }
     ensures sum { IfOk result (λ r. r.tree.sum ≡ sum r.tree.singles.items) }
     ensures count { IfOk result (λ r. length r.leads.items ≡ length targets.now) }
-    ensures bases { IfOk result (λ r. map (λ (l : GraphLead). base_of l.begins) r.leads.items ≡ map (base_under planner.now.edges (steps_of (grafts_in r.tree))) targets.now) }
+    ensures bases { IfOk result (λ r. map (λ (l : GraphLead). base_handle l.begins) r.leads.items ≡ map (base_under planner.now.edges (steps_of (grafts_in r.tree))) targets.now) }
     ensures offered { IfOk result (λ r. All (IsOffered planner.now.edges) r.leads.items) }
     ensures leads { IfOk result (λ r. IfSome (D.image disk.old) (λ image. AreTreeLeads names recent.now planner.now.edges index.old.opening cols targets.now (grafts_in r.tree) times.now r.leads.items image)) }
     ensures whole { OnOk result (IfSome (D.image disk.old) (λ image. IsUndamaged names planner.now.edges index.old.opening cols targets.now image)) }

@@ -25,8 +25,8 @@ use dg_file::Index;
 use dg_fold::{Open, compose_plan, fetch_walk};
 use dg_graph::Columns;
 use dg_history::NodeId;
-use dg_planner::Planner;
-use std::alloc::Global;
+use dg_planner::{Graft, Planner};
+use std::alloc::{AllocError, Global};
 use std::thread::Threads;
 
 /// What leads from nothing to the set of a node.
@@ -81,12 +81,33 @@ pub fn retrieve_node<R: Threads + Sync, D: Disk>(
 {
     // Its clauses say which records the index keeps.
     index.facts();
-    let route = planner.plan(alloc, node)?;
+    let route = plan_of(alloc, planner, node)?;
     let walk = edges_at(alloc, planner.edges(), &route.steps)?;
     let parts = fetch_walk(alloc, index, disk, &walk, cols)?;
     let delta = compose_plan(rt, alloc, &Open, names, &parts)?;
     Ok(NodeLead {
         delta,
         weight: route.weight,
+    })
+}
+
+// The steps of a least plan, and their weight in bytes.
+#[derive(Drop)]
+struct NodePlan {
+    steps: Vec<u32>,
+    weight: u64,
+}
+
+// The least plan of a node: that of the tree of this node alone, for which no potentials are made.
+fn plan_of(alloc: Global, planner: &Planner, node: NodeId) -> Result<NodePlan, AllocError>
+    requires node { Contains planner.now.nodes node }
+    ensures plan { IfOk result (λ plan. IsPlan (arcs_of planner.now.edges) (Root ∷ []) node plan.steps.items) }
+    ensures weight { IfOk result (λ plan. plan.weight ≡ weight_of (arcs_of planner.now.edges) plan.steps.items) }
+{
+    let mut tree = planner.plan_several(alloc, &[node])?;
+    let Graft { steps, .. } = tree.grafts.remove(0);
+    Ok(NodePlan {
+        steps,
+        weight: tree.weight,
     })
 }

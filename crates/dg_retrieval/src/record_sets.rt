@@ -80,7 +80,9 @@ pub fn plan_set<R: Threads + Sync, D: Disk>(
     ensures disk { OnlyReads D.image D.faults D.write_faults disk.old disk.new }
 {
     let lead = retrieve_node(rt, alloc, index, disk, names, planner, node, ALL_COLUMNS)?;
-    Ok(lead.delta.apply(&Set::new(alloc))?)
+    // From nothing it comes to what it puts in.
+    let (_, set) = lead.delta.into_sets();
+    Ok(set)
 }
 
 // An instant for each of the nodes: it is not looked at, since they are no lists.

@@ -7,11 +7,11 @@ ghost use Rattle.dg_fold.specs.BytesRead.{Takes};
 ghost use Rattle.dg_graph.specs.declared.element.Element.{Element};
 ghost use Rattle.dg_history.specs.History.{History};
 ghost use Rattle.dg_history.specs.declared.node.NodeId.TheVariants.{Root};
-ghost use Rattle.dg_index.specs.OpenedIndex.{events_in};
+ghost use Rattle.dg_index.specs.OpenedIndex.{event_total};
 ghost use Rattle.dg_plan.specs.IndexGraph.{arcs_of};
 ghost use Rattle.dg_plan.specs.Walks.{AreSingles};
 ghost use Rattle.dg_retrieval.specs.declared.graph_lead.GraphLead.{GraphLead};
-ghost use Rattle.dg_retrieval.specs.Beginnings.{IsOffered, base_of, led_to};
+ghost use Rattle.dg_retrieval.specs.Beginnings.{IsOffered, base_handle, led_to};
 ghost use Rattle.dg_retrieval.specs.KeptGraph.{IsKeptGraph, kept_nodes};
 ghost use Rattle.dg_retrieval.specs.NodeSets.{IsUndamaged};
 ghost use Rattle.dg_retrieval.specs.Retrieval.{AreHeld, ArePoints, IsFirstDamage, IsNoDamage, IsOver, IsTreeOf, TakesAtMostTree, graphs_at};
@@ -62,13 +62,13 @@ pub fn retrieve<R: Threads, D: Disk>(
 ) -> Result<Retrieved, RetrievalFault>
     requires image { IfSome (D.image disk.old) (λ image. IsOpenedAs image index.old.opening) }
     requires edges { IsKeptGraph index.old.opening cols planner.now.edges }
-    requires nodes { planner.now.nodes ≡ kept_nodes index.old.opening (events_in index.old.opening.batches) cols }
+    requires nodes { planner.now.nodes ≡ kept_nodes index.old.opening (event_total index.old.opening.batches) cols }
     requires targets { All (Contains planner.now.nodes) targets.now }
     requires few { length targets.now ≤ 32 }
     requires times { length times.now ≡ length targets.now }
     // what leads to the graphs, and the weights
     ensures count { IfOk result (λ r. (length r.leads.items ≡ length targets.now) × (length r.singles.items ≡ length targets.now)) }
-    ensures tree { IfOk result (λ r. IsTreeOf planner.now.edges targets.now r.weight (map (λ (l : GraphLead). base_of l.begins) r.leads.items)) }
+    ensures tree { IfOk result (λ r. IsTreeOf planner.now.edges targets.now r.weight (map (λ (l : GraphLead). base_handle l.begins) r.leads.items)) }
     ensures singles { IfOk result (λ r. AreSingles (arcs_of planner.now.edges) (Root ∷ []) targets.now r.singles.items) }
     ensures sum { IfOk result (λ r. r.sum ≡ sum r.singles.items) }
     ensures offered { IfOk result (λ r. All (IsOffered planner.now.edges) r.leads.items) }

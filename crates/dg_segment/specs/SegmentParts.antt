@@ -7,12 +7,12 @@ use Rattle.dg_segment.specs.PackedRecords.{StoredRecord, stored_row}
 use Rattle.dg_segment.specs.declared.segment.Segment.TheInside.{Inside}
 
 -- the instants of a list; of another record they mean nothing
-abbrev pub ends_of : Option Ends → Ends
-ends_of None = record { first = 0; last = 0 }
-ends_of (Some e) = e
+abbrev pub ends_or_zero : Option Ends → Ends
+ends_or_zero None = record { first = 0; last = 0 }
+ends_or_zero (Some e) = e
 
 abbrev pub list_of : StoredRecord → StoredList
-list_of r = record { first = (ends_of r.ends).first; last = (ends_of r.ends).last; columns = r.columns }
+list_of r = record { first = (ends_or_zero r.ends).first; last = (ends_or_zero r.ends).last; columns = r.columns }
 
 abbrev pub delta_of : StoredRecord → Stored
 delta_of r = r.columns
@@ -30,7 +30,7 @@ segment_in s = record {
 }
 
 -- Instants are there exactly for lists, and the segment with the gate behind it is shorter than 2^63 bytes.
-pub record IsSound (s : Inside) : Type 0 where
+pub record IsSoundSegment (s : Inside) : Type 0 where
   pub lists : map stored_row s.lists ≡ map list_row (map list_of s.lists)
   pub deltas : map stored_row s.deltas ≡ map record_row (map delta_of s.deltas)
   pub small : length (segment_bytes (segment_in s)) + 1 < 2 ^ 63

@@ -44,11 +44,11 @@ impl Model for Segment {
 
     ghost Value = { Segment };
 
-    ghost use Rattle.dg_segment.specs.SegmentParts.{IsSound, segment_in};
+    ghost use Rattle.dg_segment.specs.SegmentParts.{IsSoundSegment, segment_in};
 
     ghost view = { segment_in };
 
-    ghost invariant = { IsSound };
+    ghost invariant = { IsSoundSegment };
 }
 
 impl Segment {

@@ -52,7 +52,7 @@ use Rattle.dg_session.specs.declared.halt.Halt.{Halt}
 use Rattle.dg_session.specs.declared.halt.Halt.TheVariants as halt
 use Rattle.dg_session.specs.Halt.{batch_halt}
 use Rattle.dg_session.specs.Parts.{Parts}
-use Rattle.dg_session.specs.Reads.{Reads, ReadsBy, ReadsIn, ReadsOlder, head_of, is_early, is_quiet, older_for}
+use Rattle.dg_session.specs.Reads.{Reads, ReadsBy, ReadsIn, ReadsOlder, reply_head, is_early, is_quiet, older_for}
 use Rattle.dg_session.specs.Session.{StandsFor, is_of_read}
 use Rattle.dg_start.specs.declared.stored_history.StoredHistory.{StoredHistory}
 use Rattle.dg_start.specs.StoredHistory.{index_opening}
@@ -91,10 +91,10 @@ nothing_read p image count before after same =
 -- there is no batch to be completed, and nothing was read
 pub unread_reads : (from : Origin) (count : ℕ) (p : Parts) (image : Option (List ℕ)) (h : Halt) (taken : ℕ) → ReadsIn (adding from count) p image (Err h) taken taken
 unread_reads from count p image h taken =
-    every_some (head_of (Err h)) (λ x. Reads (adding from count) p image x taken taken)
+    every_some (reply_head (Err h)) (λ x. Reads (adding from count) p image x taken taken)
     (λ x. batch_reads from count p image x taken taken (nothing_read p image count taken taken refl) (λ e. refl))
 
-early_told : (f : BatchFault) (before after : ℕ) → ReadsNothing f before after → IfSome (head_of (Err (batch_halt f))) (λ h. is_early h ≡ true → after ≡ before)
+early_told : (f : BatchFault) (before after : ℕ) → ReadsNothing f before after → IfSome (reply_head (Err (batch_halt f))) (λ h. is_early h ≡ true → after ≡ before)
 early_told (fault.BadChange line reason) before after none = λ e. none
 early_told (fault.FileFull n most) before after none = λ e. absurd (false≢true e)
 early_told (fault.Damaged key col) before after none = λ e. absurd (false≢true e)
@@ -105,7 +105,7 @@ early_told fault.Store before after none = tt
 pub failed_reads : (from : Origin) (count : ℕ) (p : Parts) (image : Option (List ℕ)) (f : BatchFault) (before after : ℕ) → ReadsNoMore p image count before after → ReadsNothing f before after
     → ReadsIn (adding from count) p image (Err (batch_halt f)) before after
 failed_reads from count p image f before after older none =
-    if_some (head_of (Err (batch_halt f))) (λ h. is_early h ≡ true → after ≡ before) (λ h. Reads (adding from count) p image h before after)
+    if_some (reply_head (Err (batch_halt f))) (λ h. is_early h ≡ true → after ≡ before) (λ h. Reads (adding from count) p image h before after)
     (λ h early. batch_reads from count p image h before after older early) (early_told f before after none)
 
 not_early : (from : Origin) (graph : List Element) (events total last : ℕ) → is_early (head_over from graph events total last) ≡ false

@@ -35,7 +35,7 @@ use Rattle.dg_index.proofs.StableRecords.{leaves_more, recent_more, replay_appen
 use Rattle.dg_history.specs.History.{History, Batch, earliest_next, events_of, last_time_from, names_of, span_of, with_batch}
 use Rattle.dg_index.specs.ImageOfHistory.{IsImageOf, StandsAs}
 use Rattle.dg_history.specs.LegalHistory.{IsLegal}
-use Rattle.dg_index.specs.OpenedIndex.{Opened, Opening, earliest_in, events_in, may_be_named}
+use Rattle.dg_index.specs.OpenedIndex.{Opened, Opening, earliest_in, event_total, may_be_named}
 use Rattle.dg_machine.specs.declared.limits.Limits.{Limits}
 use Rattle.dg_machine.specs.declared.stands.Stands.{Stands}
 use Rattle.dg_machine.specs.declared.reply.Head.TheVariants as head
@@ -71,7 +71,7 @@ use Rattle.dg_session.specs.declared.stop.Stop.TheVariants as stop
 use Rattle.dg_session.specs.Halt.{batch_halt}
 use Rattle.dg_session.specs.GeneratedBatch.{IsGenerated}
 use Rattle.dg_session.specs.HeldIndex.{events_held, span_held}
-use Rattle.dg_handles.specs.Handles.{HandlesState, graphs_at}
+use Rattle.dg_handles.specs.Handles.{HandlesState, slot_graphs}
 use Rattle.dg_pool.specs.Graphs.{PoolState, slot_graph}
 use Rattle.dg_session.proofs.PoolStep.{graphs_same}
 use Rattle.dg_session.specs.Parts.{Parts}
@@ -272,7 +272,7 @@ StaysAs fault.Store p q = Unit {0}
 
 -- the session with these handles, whose graphs are in this pool
 abbrev pub with_handles : Parts → HandlesState → PoolState → Parts
-with_handles p h pool = record p { table = h.table; graphs = graphs_at pool h.slots; next = h.next }
+with_handles p h pool = record p { table = h.table; graphs = slot_graphs pool h.slots; next = h.next }
 
 pub kept_handles : (x : Parts) (h h' : HandlesState) (pool pool' : PoolState) → h' ≡ h → ((s : ℕ) → slot_graph pool' s ≡ slot_graph pool s)
     → with_handles x h' pool' ≡ with_handles x h pool
@@ -306,7 +306,7 @@ module _ (from : Origin) (got : List ScriptLine) (p : Parts) (count known limit 
   pub opening_there : index_opening c.index ≡ Some free.index
   opening_there = sym a.index ∙ free.there
 
-  held_here : events_held p.index ≡ events_in free.index.batches
+  held_here : events_held p.index ≡ event_total free.index.batches
   held_here = ap events_held free.there
 
   names_kept : take known c.names ≡ p.names
@@ -383,8 +383,8 @@ module _ (from : Origin) (got : List ScriptLine) (p : Parts) (count known limit 
     };
   }
 
-  many_of : (image : List ℕ) (m : MachineState) (z : History) → IsOf p free.index image m z → events_in free.index.batches ≡ length (events_of z)
-  many_of image m z h = ap (λ (x : Opening). events_in x.batches) h.opened ∙ count_is z h.stands.legal
+  many_of : (image : List ℕ) (m : MachineState) (z : History) → IsOf p free.index image m z → event_total free.index.batches ≡ length (events_of z)
+  many_of image m z h = ap (λ (x : Opening). event_total x.batches) h.opened ∙ count_is z h.stands.legal
 
   completed_is : (image : List ℕ) (m : MachineState) (z : History) (due : Result (List Event) (ℕ × ℕ)) → IsOf p free.index image m z → ComeTo free.index c.now.graph b.front b.changes.items due
       → completed 1 (earliest_next (span_of (events_of z))) (replay (events_of z)) (changes_after (names_of z) Due) ≡ due
@@ -461,7 +461,7 @@ module _ (from : Origin) (got : List ScriptLine) (p : Parts) (count known limit 
 
     -- the first line of the reply
     abbrev said : Reply
-    said = headed (head_over from (replay_from c.now.graph events) (length events) (events_in free.index.batches + length events) (last_time_from 0 events))
+    said = headed (head_over from (replay_from c.now.graph events) (length events) (event_total free.index.batches + length events) (last_time_from 0 events))
 
     -- there is room: the answer, and the legal history with the batch
     record IsAdded (m : MachineState) (z : History) : Type 0 where
@@ -469,7 +469,7 @@ module _ (from : Origin) (got : List ScriptLine) (p : Parts) (count known limit 
       legal : IsLegal (with_batch z New)
       names : c.names ≡ names_of (with_batch z New)
       graph : replay_from c.now.graph events ≡ replay (events_of (with_batch z New))
-      recent : recent_behind free.index.params (events_in free.index.batches) c.recent.items events ≡ recent_of z.params (events_of (with_batch z New))
+      recent : recent_behind free.index.params (event_total free.index.batches) c.recent.items events ≡ recent_of z.params (events_of (with_batch z New))
       rises : Rises (earliest_next (span_of (events_of z))) events
 
     is_added : needed_for free.index segment ≤ limit → (image : List ℕ) → told ≡ Some image → (m : MachineState) (z : History) → StandsFor p image m → IsOf p free.index image m z → IsAdded m z
@@ -478,7 +478,7 @@ module _ (from : Origin) (got : List ScriptLine) (p : Parts) (count known limit 
         let same : batch_next z c.names events ≡ New = ap (λ (k : ℕ). batch_with k c.names events) (sym (known_of image m z h)) in
         let room : nat_lt m.limits.file_bytes (size (with_batch z New)) ≡ false =
         le-ltb m.limits.file_bytes (size (with_batch z New)) (omega (arith, fits, needed_is image at m z h, a.limit_is, ap (λ (x : Limits). x.file_bytes) s.limits)) in
-        let many : length (events_of z) ≡ events_in free.index.batches = sym (many_of image m z h) in
+        let many : length (events_of z) ≡ event_total free.index.batches = sym (many_of image m z h) in
         let params : free.index.params ≡ z.params = ap (λ (x : Opening). x.params) h.opened ∙ (behind z h.stands.legal).params in
         let large = large_parameters z.params.l z.params.k h.stands.legal.parameters in
         let held : c.recent.items ≡ recent_of z.params (events_of z) = a.recent ∙ h.recent in
@@ -500,7 +500,7 @@ module _ (from : Origin) (got : List ScriptLine) (p : Parts) (count known limit 
       index = Some (index_with free.index segment);
       names = c.names;
       graph = replay_from c.now.graph events;
-      recent = recent_behind free.index.params (events_in free.index.batches) c.recent.items events;
+      recent = recent_behind free.index.params (event_total free.index.batches) c.recent.items events;
     }
 
     add_moves : (q : Parts) (before after : List ℕ) (reply : Reply) → told ≡ Some before → needed_for free.index segment ≤ limit → GainsBatch segment before after → q ≡ added_to → reply ≡ said
@@ -538,10 +538,10 @@ module _ (from : Origin) (got : List ScriptLine) (p : Parts) (count known limit 
           where
             by_image : IsImageOf z after ⊎ IsImageOf (with_batch z New) after → IsCut m (Asked (adding from count) got) before after
             by_image (inl same) =
-                As_before (is_accepted m (adding from count) got _ is.answered (ok_head from (replay_from c.now.graph events) (length events) (events_in free.index.batches + length events) (last_time_from 0 events)))
+                As_before (is_accepted m (adding from count) got _ is.answered (ok_head from (replay_from c.now.graph events) (length events) (event_total free.index.batches + length events) (last_time_from 0 events)))
                 (subst (λ (i : Option History). StandsAs i after) (sym h.index) same)
             by_image (inr more) =
-                As_after (is_accepted m (adding from count) got _ is.answered (ok_head from (replay_from c.now.graph events) (length events) (events_in free.index.batches + length events) (last_time_from 0 events)))
+                As_after (is_accepted m (adding from count) got _ is.answered (ok_head from (replay_from c.now.graph events) (length events) (event_total free.index.batches + length events) (last_time_from 0 events)))
                 said (record m { index = Some (with_batch z New) }) (steps_as before m s _ is.answered) more
 
   -- ---- what the command comes to
@@ -580,7 +580,7 @@ module _ (from : Origin) (got : List ScriptLine) (p : Parts) (count known limit 
         let q_is : with_history p new ≡ added_to before d.events d.segment d.comes = λ i. record p { index = index i; names = names i; graph = d.graph i; recent = d.recent i } in
         let told : headed (head_over from new.now.graph x.events x.total x.last) ≡ said before d.events d.segment d.comes =
         ap (λ (t : AddedBatch). headed (head_over from new.now.graph t.events t.total t.last)) d.told
-        ∙ ap (λ (set : List Element). headed (head_over from set (length d.events) (events_in free.index.batches + length d.events) (last_time_from 0 d.events))) d.graph in
+        ∙ ap (λ (set : List Element). headed (head_over from set (length d.events) (event_total free.index.batches + length d.events) (last_time_from 0 d.events))) d.graph in
         record {
           moves = λ y z ey ez.
               add_moves before d.events d.segment d.comes (with_history p new) y z (headed (head_over from new.now.graph x.events x.total x.last)) ey d.fits

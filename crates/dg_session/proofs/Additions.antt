@@ -18,7 +18,7 @@ use Rattle.dg_query.specs.Queries.{counts_of}
 use Rattle.dg_session.proofs.ChangeRanges.{lines_fit}
 use Rattle.dg_session.proofs.GeneratedRanges.{generated_fit}
 use Rattle.dg_session.proofs.LegalHistory.{AskedFit}
-use Rattle.dg_session.specs.BatchCommand.{command_with, head_of}
+use Rattle.dg_session.specs.BatchCommand.{command_with, batch_head}
 use Rattle.dg_session.specs.declared.batch_command.BatchCommand.{BatchCommand}
 use Rattle.dg_session.specs.declared.batch_command.BatchCommand.TheVariants.{Load, Append}
 
@@ -39,7 +39,7 @@ asked_from (Seed seed) count got = generated seed count
 
 -- the head of the reply, where this is the graph of the history with the batch
 abbrev pub head_over : Origin → List Element → ℕ → ℕ → ℕ → Head
-head_over (Lines_of which) graph events total last = head_of which events total last
+head_over (Lines_of which) graph events total last = batch_head which events total last
 head_over (Seed seed) graph events total last = head.Generated events last (counts_of graph).nodes (counts_of graph).edges
 
 -- the answer, by what they come to behind the history

@@ -11,7 +11,7 @@ use Rattle.dg_machine.specs.declared.reply.Refusal.TheVariants as refusal
 use Rattle.dg_machine.specs.declared.reply.Reply.{Reply}
 use Rattle.dg_machine.specs.declared.stands.Stands.{Stands}
 use Rattle.dg_machine.specs.Answer.{accepted, elements_if, is_refusal, say, shown_by}
-use Rattle.dg_machine.specs.MachineState.{MachineState, elements, entry_at, history_in}
+use Rattle.dg_machine.specs.MachineState.{MachineState, elements, stands_at, history_in}
 use Rattle.dg_machine.specs.Needs.{earliest, is_base, needs, when}
 use Rattle.dg_machine.specs.Planning.{no_plan}
 use Rattle.dg_session.proofs.StandsFor.{hit, miss, one_image, stands_on}
@@ -25,13 +25,13 @@ use Rattle.dg_session.specs.Session.{Accepts, ComesTo, StandsFor, refused_by}
 
 -- the graph of a handle is that of what it stands for, where all handles have theirs
 graph_of_entry : (z : History) (handle : ℕ) (table : List (ℕ × Stands)) (graph : List Element)
-    → graph_among handle table (map (λ (e : ℕ × Stands). elements z e.1) table) ≡ Some graph → elements_if z (entry_at handle table) ≡ graph
+    → graph_among handle table (map (λ (e : ℕ × Stands). elements z e.1) table) ≡ Some graph → elements_if z (stands_at handle table) ≡ graph
 graph_of_entry z handle [] graph is = absurd (none-some graph is)
 graph_of_entry z handle (e ∷ table) graph is = by (e.0 == handle) (graph_of_entry z handle table graph) is
   where
-    by : (here : Bool) → (graph_among handle table (map (λ (e : ℕ × Stands). elements z e.1) table) ≡ Some graph → elements_if z (entry_at handle table) ≡ graph)
+    by : (here : Bool) → (graph_among handle table (map (λ (e : ℕ × Stands). elements z e.1) table) ≡ Some graph → elements_if z (stands_at handle table) ≡ graph)
         → (if here then Some (elements z e.1) else graph_among handle table (map (λ (e : ℕ × Stands). elements z e.1) table)) ≡ Some graph
-        → elements_if z (if here then Some e.1 else entry_at handle table) ≡ graph
+        → elements_if z (if here then Some e.1 else stands_at handle table) ≡ graph
     by true rest h = cc
     by false rest h = rest h
 
@@ -44,32 +44,32 @@ shown_are p image m handle graph s is =
 
 -- the handle is not live
 abbrev pub is_unknown : ℕ → Parts → Bool
-is_unknown handle p = not (is_some (entry_at handle p.table))
+is_unknown handle p = not (is_some (stands_at handle p.table))
 
 -- The command asks something of the handle's graph: it needs the handle alone, or, where `overlay`, that it stands for
 -- an instant, and this is its answer.
 pub record Asks (c : Command) (handle : ℕ) (overlay : Bool) (answer : List Element → Reply) : Type 0 where
   pub unplanned : IsUnplanned c
-  pub needed : (p : Parts) → refused_by p 0 (needs c) ≡ earliest (when (is_unknown handle p) (refusal.UnknownHandle handle) ++ (when (overlay && is_base (entry_at handle p.table)) (refusal.NotAnOverlay handle) ++ []))
+  pub needed : (p : Parts) → refused_by p 0 (needs c) ≡ earliest (when (is_unknown handle p) (refusal.UnknownHandle handle) ++ (when (overlay && is_base (stands_at handle p.table)) (refusal.NotAnOverlay handle) ++ []))
   pub due : (m : MachineState) → accepted m c [] no_plan ≡ say m (answer (shown_by m handle))
   pub accepts : (graph : List Element) → is_refusal (answer graph).head ≡ false
 
 module _ (c : Command) (handle : ℕ) (overlay : Bool) (answer : List Element → Reply) (asks : Asks c handle overlay answer) (p : Parts) where
-  pub ask_refused : is_some (entry_at handle p.table) ≡ false → refused_by p 0 (needs c) ≡ Some (refusal.UnknownHandle handle)
+  pub ask_refused : is_some (stands_at handle p.table) ≡ false → refused_by p 0 (needs c) ≡ Some (refusal.UnknownHandle handle)
   ask_refused none = asks.needed p ∙ hit (is_unknown handle p) (refusal.UnknownHandle handle) _ (ap not none)
 
   -- the handle is live, and stands for a node of the index
-  pub ask_base : is_some (entry_at handle p.table) ≡ true → (overlay && is_base (entry_at handle p.table)) ≡ true → refused_by p 0 (needs c) ≡ Some (refusal.NotAnOverlay handle)
+  pub ask_base : is_some (stands_at handle p.table) ≡ true → (overlay && is_base (stands_at handle p.table)) ≡ true → refused_by p 0 (needs c) ≡ Some (refusal.NotAnOverlay handle)
   ask_base some base =
       asks.needed p ∙ miss (is_unknown handle p) (refusal.UnknownHandle handle) _ (ap not some)
-      ∙ hit (overlay && is_base (entry_at handle p.table)) (refusal.NotAnOverlay handle) [] base
+      ∙ hit (overlay && is_base (stands_at handle p.table)) (refusal.NotAnOverlay handle) [] base
 
-  pub ask_free : is_some (entry_at handle p.table) ≡ true → (overlay && is_base (entry_at handle p.table)) ≡ false → refused_by p 0 (needs c) ≡ None
+  pub ask_free : is_some (stands_at handle p.table) ≡ true → (overlay && is_base (stands_at handle p.table)) ≡ false → refused_by p 0 (needs c) ≡ None
   ask_free some served =
       asks.needed p ∙ miss (is_unknown handle p) (refusal.UnknownHandle handle) _ (ap not some)
-      ∙ miss (overlay && is_base (entry_at handle p.table)) (refusal.NotAnOverlay handle) [] served
+      ∙ miss (overlay && is_base (stands_at handle p.table)) (refusal.NotAnOverlay handle) [] served
 
-  pub ask_answers : (graph : List Element) (image : Option (List ℕ)) (reply : Reply) → is_some (entry_at handle p.table) ≡ true → (overlay && is_base (entry_at handle p.table)) ≡ false
+  pub ask_answers : (graph : List Element) (image : Option (List ℕ)) (reply : Reply) → is_some (stands_at handle p.table) ≡ true → (overlay && is_base (stands_at handle p.table)) ≡ false
       → graph_among handle p.table p.graphs ≡ Some graph → reply ≡ answer graph → Accepts c [] p image p image reply
   ask_answers graph image reply live served found reply_is = record {
     moves =
@@ -87,7 +87,7 @@ module _ (c : Command) (handle : ℕ) (overlay : Bool) (answer : List Element �
 
   -- the handle is not live
   pub ask_unknown : (r : Result Reply Halt) (x : Refusal) (image : Option (List ℕ)) → IsErr r × IsErrAnd r (λ y. y ≡ halt.Refusal x)
-      → (is_some (entry_at handle p.table) ≡ false) × (x ≡ refusal.UnknownHandle handle) → ComesTo c [] p image p image r
+      → (is_some (stands_at handle p.table) ≡ false) × (x ≡ refusal.UnknownHandle handle) → ComesTo c [] p image p image r
   ask_unknown r x image err none =
       handed_out r (halt.Refusal (refusal.UnknownHandle handle)) (ComesTo c [] p image p image)
       (err.0, subst (λ z. IsErrAnd r (λ y. y ≡ halt.Refusal z)) none.1 err.1)
@@ -95,6 +95,6 @@ module _ (c : Command) (handle : ℕ) (overlay : Bool) (answer : List Element �
 
   -- memory lacks
   pub ask_lacks : (r : Result Reply Halt) (image : Option (List ℕ)) → (needs c).memory ≡ true → IsErr r × IsErrAnd r (λ y. y ≡ halt.Refusal refusal.OutOfMemory)
-      → is_some (entry_at handle p.table) ≡ true → (overlay && is_base (entry_at handle p.table)) ≡ false → ComesTo c [] p image p image r
+      → is_some (stands_at handle p.table) ≡ true → (overlay && is_base (stands_at handle p.table)) ≡ false → ComesTo c [] p image p image r
   ask_lacks r image memory err live served =
       handed_out r (halt.Refusal refusal.OutOfMemory) (ComesTo c [] p image p image) err (lacking_denies c [] p p image image refl refl memory (ask_free live served))

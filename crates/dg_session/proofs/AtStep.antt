@@ -23,7 +23,7 @@ use Rattle.dg_retrieval.specs.Retrieval.{TakesAtMostTree}
 use Rattle.dg_session.proofs.Retrievals.{handles_stand, if_some, moved_with, overlays_same, reads_failed, retrieval_accepted}
 use Rattle.dg_session.proofs.StandsFor.{one_image, one_told}
 use Rattle.dg_session.specs.Parts.{Parts}
-use Rattle.dg_session.specs.Reads.{IsRetrieved, Reads, is_early, with_new}
+use Rattle.dg_session.specs.Reads.{IsRetrieved, Reads, is_early, with_new_handles}
 use Rattle.dg_session.specs.Session.{Accepts, StandsFor, refused_by, retrieval_needs}
 
 -- a tree of one target is the plan of the target
@@ -53,7 +53,7 @@ overlays_are m t cols grafts steps bases is same =
 pub at_answers : (p q : Parts) (t : ℕ) (cols : Columns) (before after : Option (List ℕ)) (weight : ℕ) (singles : List ℕ) (bases : List (Option ℕ)) (graphs : List (List Element)) (reply : Reply)
     → refused_by p 0 (retrieval_needs (t ∷ []) 1) ≡ None → after ≡ before
     → IfSome before (λ image. (m : MachineState) → StandsFor p image m → IsRetrieved m (t ∷ []) cols weight singles bases graphs)
-    → q ≡ with_new p (overlays_on cols (t ∷ []) bases) graphs → reply ≡ headed (head.At p.next weight)
+    → q ≡ with_new_handles p (overlays_on cols (t ∷ []) bases) graphs → reply ≡ headed (head.At p.next weight)
     → Accepts (command.At t cols) [] p before q after reply
 at_answers p q t cols before after weight singles bases graphs reply none same got is reply_is =
     retrieval_accepted (command.At t cols) p q before after (overlays_on cols (t ∷ []) bases) graphs reply

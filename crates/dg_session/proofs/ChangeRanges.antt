@@ -13,9 +13,9 @@ use Rattle.dg_graph.specs.declared.event.What.TheVariants as what
 use Rattle.dg_graph.specs.declared.limits.TheConstants.{TIME_MAX}
 use Rattle.dg_graph.specs.Lines.{ScriptLine, Text, Long}
 use Rattle.dg_graph.specs.Names.{is_key, is_name}
-use Rattle.dg_graph.specs.Verbs.{Verb, none_more, one, two, three, four_words}
+use Rattle.dg_graph.specs.Verbs.{Verb, none_more, one, two_words, three, four_words}
 use Rattle.dg_graph.specs.Words.{words, number}
-use Rattle.dg_history.specs.ChangeGrammar.{WhatByText, Plain, Sets_node, Unsets_node, Sets_edge, Unsets_edge, ChangeByText, change_verbs, id_of, time_of, direction_of, key_text_of, value_text_of, set_of, what_by_text_of, change_by_text_of_words, change_by_text_in}
+use Rattle.dg_history.specs.ChangeGrammar.{WhatByText, Plain, Sets_node, Unsets_node, Sets_edge, Unsets_edge, ChangeByText, change_verbs, id_of, time_of, direction_of, key_text_of, value_text_of, setting_of, what_by_text_of, change_by_text_of_words, change_by_text_in}
 use Rattle.dg_machine.proofs.Tables.{each_read_by}
 
 -- what the words, or one word, are read as has the property
@@ -54,7 +54,7 @@ one_gives a make P Q t q (word ∷ rest) x e =
     none_more_gives Q (make s.0) (q s.0 (t word s.0 s.1)) rest x s.2
 
 two_gives : {A B C : Type 0} (a : List ℕ → Option A) (b : List ℕ → Option B) (make : A → B → C) (P : A → Type 0) (R : B → Type 0) (Q : C → Type 0)
-    → Takes P a → Takes R b → ((v : A) (w : B) → P v → R w → Q (make v w)) → Gives Q (two a b make)
+    → Takes P a → Takes R b → ((v : A) (w : B) → P v → R w → Q (make v w)) → Gives Q (two_words a b make)
 two_gives a b make P R Q t u q [] x e = absurd (none-some x e)
 two_gives a b make P R Q t u q (word ∷ rest) x e =
     let s = and_then_is (λ v. one b (make v) rest) (a word) x e in
@@ -64,7 +64,7 @@ three_gives : {A B C D : Type 0} (a : List ℕ → Option A) (b : List ℕ → O
     → Takes P a → Takes R b → Takes S c → ((u : A) (v : B) (w : C) → P u → R v → S w → Q (make u v w)) → Gives Q (three a b c make)
 three_gives a b c make P R S Q t u v q [] x e = absurd (none-some x e)
 three_gives a b c make P R S Q t u v q (word ∷ rest) x e =
-    let s = and_then_is (λ y. two b c (make y) rest) (a word) x e in
+    let s = and_then_is (λ y. two_words b c (make y) rest) (a word) x e in
     two_gives b c (make s.0) R S Q u v (λ y z. q s.0 y z (t word s.0 s.1)) rest x s.2
 
 edge_gives : {D E : Type 0} (a : List ℕ → Option ℕ) (d : List ℕ → Option D) (make : ℕ → ℕ → ℕ → D → E) (P : ℕ → Type 0) (Q : E → Type 0)
@@ -131,7 +131,7 @@ SaidFits said = (said.time ≤ TIME_MAX) × AskedFits said.asked
 id_gives : (make : ℕ → What) → ((n : ℕ) → n < 2 ^ 64 → PlainFits (make n)) → Gives AskedFits (one id_of (λ n. Plain (make n)))
 id_gives make = one_gives id_of (λ n. Plain (make n)) (λ n. n < 2 ^ 64) AskedFits id_fits
 
-set_gives : (make : ℕ → List ℕ → List ℕ → WhatByText) → ((n : ℕ) (k v : List ℕ) → n < 2 ^ 64 → is_key k ≡ true → is_name v ≡ true → AskedFits (make n k v)) → Gives AskedFits (set_of make)
+set_gives : (make : ℕ → List ℕ → List ℕ → WhatByText) → ((n : ℕ) (k v : List ℕ) → n < 2 ^ 64 → is_key k ≡ true → is_name v ≡ true → AskedFits (make n k v)) → Gives AskedFits (setting_of make)
 set_gives make q [] x e = absurd (none-some x e)
 set_gives make q (id ∷ []) x e = absurd (none-some x e)
 set_gives make q (id ∷ key ∷ []) x e = absurd (none-some x e)
@@ -142,7 +142,7 @@ set_gives make q (id ∷ key ∷ word ∷ more) x e =
     let u = map_is (λ v. make s.0 t.0 v) (value_text_of text) x t.2 in
     subst AskedFits u.2 (q s.0 t.0 u.0 (id_fits id s.0 s.1) (tested is_key key t.0 t.1) (tested is_name text u.0 u.1))
 
-unset_gives : (make : ℕ → List ℕ → WhatByText) → ((n : ℕ) (k : List ℕ) → n < 2 ^ 64 → is_key k ≡ true → AskedFits (make n k)) → Gives AskedFits (two id_of key_text_of make)
+unset_gives : (make : ℕ → List ℕ → WhatByText) → ((n : ℕ) (k : List ℕ) → n < 2 ^ 64 → is_key k ≡ true → AskedFits (make n k)) → Gives AskedFits (two_words id_of key_text_of make)
 unset_gives make = two_gives id_of key_text_of make (λ n. n < 2 ^ 64) (λ k. is_key k ≡ true) AskedFits id_fits (λ key k e. tested is_key key k e)
 
 each_change : EachGives AskedFits change_verbs

@@ -15,7 +15,7 @@ use Rattle.dg_session.specs.declared.session_fault.SessionFault.{SessionFault}
 use Rattle.dg_session.specs.declared.session_fault.SessionFault.TheVariants as fault
 use Rattle.dg_session.specs.Parts.{Parts}
 use Rattle.dg_session.specs.Session.{StandsFor}
-use Rattle.dg_session.specs.SessionStart.{Begins, FailsCheck, IsSound, IsStanding, IsUnsound, RefusesSession}
+use Rattle.dg_session.specs.SessionStart.{Begins, FailsCheck, IsSoundImage, IsStanding, IsUnsoundImage, RefusesSession}
 use Rattle.dg_session.proofs.Steps.{handed_out}
 use Rattle.dg_sound.specs.declared.soundness.Soundness.TheVariants.{Sound, Unsound}
 use Rattle.dg_sound.specs.Soundness.{soundness_of}
@@ -37,13 +37,13 @@ one_opened : (image : List ℕ) (x y : Opened) → opening image ≡ Ok x → op
 one_opened image x y a b = let same : ◌≡◌ {A = Result Opened Unopened} (Ok x) (Ok y) = sym a ∙ b in cc
 
 -- no image is sound and unsound
-not_both : (image : List ℕ) (key : Key) (col : Column) → IsSound image → IsUnsound image key col → ⊥
+not_both : (image : List ℕ) (key : Key) (col : Column) → IsSoundImage image → IsUnsoundImage image key col → ⊥
 not_both image key col sound unsound =
     let found = sound unsound.0 unsound.1 in
     let same : Sound found.0 ≡ Unsound key col = sym found.1 ∙ unsound.2 in cc
 
 -- an image is unsound in one place
-one_place : (image : List ℕ) (k l : Key) (c d : Column) → IsUnsound image k c → IsUnsound image l d → Unsound k c ≡ Unsound l d
+one_place : (image : List ℕ) (k l : Key) (c d : Column) → IsUnsoundImage image k c → IsUnsoundImage image l d → Unsound k c ≡ Unsound l d
 one_place image k l c d a b = sym a.2 ∙ ap (soundness_of image) (one_opened image a.0 b.0 a.1 b.1) ∙ b.2
 
 pub begins_determined : StartsAreDetermined → (checked : Bool) (image : List ℕ) (a b : Result (Option Started) SessionFault) → Begins checked image a → Begins checked image b → a ≡ b
@@ -83,14 +83,14 @@ begins_unchecked checked p told is starts =
     told_so told (λ image. Starts image (Ok (started_of p))) (λ image. Begins checked image (Ok (started_of p))) (λ image h. (h, λ e. absurd (let bad : true ≡ false = sym e ∙ is in cc))) starts
 
 -- it is checked, and found sound
-pub begins_sound : (checked : Bool) (p q : Parts) (told mid : Option (List ℕ)) → q ≡ p → mid ≡ told → IfSome told (λ image. Starts image (Ok (started_of p))) → IfSome mid IsSound
+pub begins_sound : (checked : Bool) (p q : Parts) (told mid : Option (List ℕ)) → q ≡ p → mid ≡ told → IfSome told (λ image. Starts image (Ok (started_of p))) → IfSome mid IsSoundImage
     → IfSome told (λ image. Begins checked image (Ok (started_of q)))
 begins_sound checked p q None mid same image starts sound = tt
 begins_sound checked p q (Some x) mid same image starts sound =
-    let whole : IsSound x = subst (λ (o : Option (List ℕ)). IfSome o IsSound) image sound in
+    let whole : IsSoundImage x = subst (λ (o : Option (List ℕ)). IfSome o IsSoundImage) image sound in
     (subst (λ (s : Parts). Starts x (Ok (started_of s))) (sym same) starts, λ e. whole)
 
-standing : SoundFilesStand → (index : Option Opening) (names : List (List ℕ)) (image : List ℕ) → IsHeldBy index names image → IsSound image → AreBytes image → IsStanding image
+standing : SoundFilesStand → (index : Option Opening) (names : List (List ℕ)) (image : List ℕ) → IsHeldBy index names image → IsSoundImage image → AreBytes image → IsStanding image
 standing law None names image held sound bytes = (None, held)
 standing law (Some o) names image held sound bytes =
     let x : Opened = record { index = o; names = names } in
@@ -98,7 +98,7 @@ standing law (Some o) names image held sound bytes =
     let z = law image x n.0 bytes held n.1 in (Some z.0, z.2)
 
 -- what is checked and found sound stands for a history, or for none
-pub stands_checked : SoundFilesStand → (p : Parts) (told mid : Option (List ℕ)) → mid ≡ told → IfSome mid (λ image. IsHeldBy p.index p.names image) → IfSome mid IsSound
+pub stands_checked : SoundFilesStand → (p : Parts) (told mid : Option (List ℕ)) → mid ≡ told → IfSome mid (λ image. IsHeldBy p.index p.names image) → IfSome mid IsSoundImage
     → IfSome told (λ image. AreBytes image → IsStanding image)
 stands_checked law p told None same held sound = subst (λ (o : Option (List ℕ)). IfSome o (λ image. AreBytes image → IsStanding image)) same tt
 stands_checked law p told (Some x) same held sound =
@@ -151,7 +151,7 @@ refused_checked checked s f (Some x) mid is same starts fails =
     refuses_so checked s f x is starts (subst (λ (o : Option (List ℕ)). IfSome o (λ image. FailsCheck f image)) same fails)
 
 -- what stands is not unsound
-never_unsound : ImagesAreOpened → StandingFilesAreSound → (image : List ℕ) (index : Option History) (key : Key) (col : Column) → StandsAs index image → IsUnsound image key col → ⊥
+never_unsound : ImagesAreOpened → StandingFilesAreSound → (image : List ℕ) (index : Option History) (key : Key) (col : Column) → StandsAs index image → IsUnsoundImage image key col → ⊥
 never_unsound opened law image None key col stands unsound = not_opened image unsound.0 stands unsound.1
 never_unsound opened law image (Some z) key col stands unsound =
     let sound = (law z image stands).1 in

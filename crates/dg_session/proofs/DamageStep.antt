@@ -5,7 +5,7 @@ use Rattle.std.proofs.lemmas.Bool.{false≢true}
 use Rattle.dg_graph.specs.declared.element.Columns.{Columns}
 use Rattle.dg_graph.specs.declared.event.Event.{Event}
 use Rattle.dg_graph.specs.Lines.{ScriptLine}
-use Rattle.dg_index.specs.OpenedIndex.{Opening, events_in}
+use Rattle.dg_index.specs.OpenedIndex.{Opening, event_total}
 use Rattle.dg_machine.specs.declared.command.Command.{Command}
 use Rattle.dg_machine.specs.declared.reply.Head.{Head}
 use Rattle.dg_machine.specs.declared.reply.Head.TheVariants as head
@@ -30,7 +30,7 @@ use Rattle.dg_session.specs.Damage.{DamageIn, DamageIs, Graphs, IsMetBy, NamesDa
 use Rattle.dg_session.specs.Halt.{retrieval_halt}
 use Rattle.dg_session.specs.Parts.{Parts}
 use Rattle.dg_session.specs.HeldIndex.{points_over}
-use Rattle.dg_session.specs.Reads.{head_of}
+use Rattle.dg_session.specs.Reads.{reply_head}
 use Rattle.dg_session.specs.Session.{Accepts, ComesTo, Denies, is_of_read}
 
 -- ---- no damage
@@ -105,7 +105,7 @@ never_for_damage c x got p before q after r is no_reads comes =
 
 -- the fault of a retrieval over what the session has in memory
 pub damage_over : (p : Parts) (o : Opening) (times : List ℕ) (cols : Columns) (told : Option (List ℕ)) (names : ℕ) (recent : List Event) (r : Result Retrieved RetrievalFault)
-    → IsSession p o names recent → (edges : List Edge) → edges ≡ kept_edges o (events_in o.batches) cols (bases_in cols p.table)
+    → IsSession p o names recent → (edges : List Edge) → edges ≡ kept_edges o (event_total o.batches) cols (bases_in cols p.table)
     → IfErr r (λ f. IfSome told (λ image. IsFirstDamage names edges o cols (points_over o recent times) image f))
     → IfErr r (λ f. NamesDamage p told (times, cols) f)
 damage_over p o times cols told names recent (Ok x) is edges edges_is damage = tt
@@ -143,5 +143,5 @@ node_damage_in c p image node cols retrieval_fault.Memory is damage = tt
 node_damage_in c p image node cols (retrieval_fault.Damaged key col) is damage = subst (λ (x : ReadsFor). IsMetBy x p image key col) (sym is) damage
 
 -- the reply, where there is one
-pub damage_in_reply : (c : Command) (p : Parts) (image : Option (List ℕ)) (r : Result Reply Halt) (h : Head) → head_of r ≡ Some h → DamageIn c p image r → DamageIs c p image h
+pub damage_in_reply : (c : Command) (p : Parts) (image : Option (List ℕ)) (r : Result Reply Halt) (h : Head) → reply_head r ≡ Some h → DamageIn c p image r → DamageIs c p image h
 damage_in_reply c p image r h is damage = subst (λ (o : Option Head). IfSome o (λ x. DamageIs c p image x)) is damage

@@ -20,7 +20,7 @@ use Rattle.dg_index.specs.Hierarchy.{numbers, set_of}
 use Rattle.dg_index.specs.IndexRecords.{heights}
 use Rattle.dg_machine.specs.declared.stands.Stands.{Stands}
 use Rattle.dg_machine.specs.declared.stands.Stands.TheVariants.{Overlay, Base}
-use Rattle.dg_machine.specs.MachineState.{elements, entry_at}
+use Rattle.dg_machine.specs.MachineState.{elements, stands_at}
 use Rattle.dg_machine.specs.Planning.{includes}
 use Rattle.dg_plan.specs.declared.edge.Edge.{Edge}
 use Rattle.dg_plan.specs.declared.edge.Via.{Via}
@@ -77,13 +77,13 @@ base_of_edge g e h there is = subst (IsOf g.bases e) is (All-contains (IsServed 
 
 -- ---- what a handle lists
 
-found : (z : History) (h : ℕ) (table : ListOf (ℕ × Stands)) (s : Stands) → entry_at h table ≡ Some s
+found : (z : History) (h : ℕ) (table : ListOf (ℕ × Stands)) (s : Stands) → stands_at h table ≡ Some s
     → graph_among h table (map (λ (e : ℕ × Stands). elements z e.1) table) ≡ Some (elements z s)
 found z h [] s is = absurd (none-some s is)
 found z h (e ∷ table) s is = by (e.0 == h) (found z h table s) is
   where
-    by : (here : Bool) → (entry_at h table ≡ Some s → graph_among h table (map (λ (e : ℕ × Stands). elements z e.1) table) ≡ Some (elements z s))
-        → (if here then Some e.1 else entry_at h table) ≡ Some s
+    by : (here : Bool) → (stands_at h table ≡ Some s → graph_among h table (map (λ (e : ℕ × Stands). elements z e.1) table) ≡ Some (elements z s))
+        → (if here then Some e.1 else stands_at h table) ≡ Some s
         → (if here then Some (elements z e.1) else graph_among h table (map (λ (e : ℕ × Stands). elements z e.1) table)) ≡ Some (elements z s)
     by true rest e_is = let same : e.1 ≡ s = cc in ap (λ (x : Stands). Some (elements z x)) same
     by false rest e_is = rest e_is

@@ -5,7 +5,7 @@ use Rattle.dg_history.specs.declared.params.Params.{Params}
 use Rattle.dg_history.specs.History.{History, events_of, last_time_from, names_of, span_of}
 use Rattle.dg_history.specs.LegalHistory.{IsLegal}
 use Rattle.dg_index.specs.declared.entry.BatchEntry.{BatchEntry}
-use Rattle.dg_index.specs.OpenedIndex.{Opened, earliest_in, events_in, first_in, last_end, opened_of, span_in}
+use Rattle.dg_index.specs.OpenedIndex.{Opened, earliest_in, event_total, first_in, last_end, opened_of, span_in}
 use Rattle.dg_index.proofs.OpenedHistories.{IsBehind}
 use Rattle.dg_planner.specs.HistoryLaws.{kept_span}
 use Rattle.dg_session.proofs.OpenedHistory.{behind}
@@ -21,7 +21,7 @@ span_behind : (p : Params) (x : Opened) (before : List Event) (names : List (Lis
     → span_in batches ≡ kept_span (span_of before)
 span_behind p x [] names is [] at = refl
 span_behind p x (e ∷ before) names is [] at =
-    absurd (let none : events_in [] ≡ length (e ∷ before) = ap events_in (sym at) ∙ is.count in omega (arith, none))
+    absurd (let none : event_total [] ≡ length (e ∷ before) = ap event_total (sym at) ∙ is.count in omega (arith, none))
 span_behind p x [] names is (b ∷ more) at =
     absurd (let last : earliest_in 0 (b ∷ more) ≡ 0 = ap (earliest_in 0) (sym at) ∙ is.earliest in omega (arith, last, earliest_last 0 b more))
 span_behind p x (e ∷ before) names is (b ∷ more) at =
@@ -35,7 +35,7 @@ pair_back None = refl
 pair_back (Some s) = refl
 
 module _ (z : History) (legal : IsLegal z) where
-  pub count_is : events_in (opened_of z).index.batches ≡ length (events_of z)
+  pub count_is : event_total (opened_of z).index.batches ≡ length (events_of z)
   count_is = (behind z legal).count
 
   pub kept_span_is : span_in (opened_of z).index.batches ≡ kept_span (span_of (events_of z))

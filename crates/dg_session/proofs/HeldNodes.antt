@@ -14,7 +14,7 @@ use Rattle.dg_history.specs.declared.node.NodeId.{NodeId}
 use Rattle.dg_index.specs.declared.entry.BatchEntry.{BatchEntry}
 use Rattle.dg_index.specs.FileOfHistory.{Segment}
 use Rattle.dg_index.specs.IndexGrowth.{index_with}
-use Rattle.dg_index.specs.OpenedIndex.{Opening, directory_of, events_in}
+use Rattle.dg_index.specs.OpenedIndex.{Opening, directory_of, event_total}
 use Rattle.dg_machine.specs.declared.stands.Stands.{Stands}
 use Rattle.dg_machine.specs.declared.stands.Stands.TheVariants.{Overlay, Base}
 use Rattle.dg_machine.specs.Needs.{can_be_held}
@@ -33,13 +33,13 @@ each_handle P Q f (e ∷ table) h =
 pub nodes_with : (o : Opening) (s : Segment) → 0 < o.params.l → (table : ListOf (ℕ × Stands)) → HasNodes (Some o) table → HasNodes (Some (index_with o s)) table
 nodes_with o s pos table h = each_handle (HasNodeOf (Some o)) (HasNodeOf (Some (index_with o s))) one table h
   where
-    more : events_in (index_with o s).batches ≡ events_in o.batches + (directory_of s).batch.events
+    more : event_total (index_with o s).batches ≡ event_total o.batches + (directory_of s).batch.events
     more = sum_by_push (λ (b : BatchEntry). b.events) o.batches (directory_of s).batch
 
     one : (x : Stands) → HasNodeOf (Some o) x → HasNodeOf (Some (index_with o s)) x
     one (Overlay t cols on) r = tt
     one (Base node cols) r =
-        ap (λ n. can_be_held o.params n node) more ∙ held_more o.params pos (events_in o.batches) (directory_of s).batch.events node r
+        ap (λ n. can_be_held o.params n node) more ∙ held_more o.params pos (event_total o.batches) (directory_of s).batch.events node r
 
 -- nor does it lose one by a batch
 pub nodes_after : (i : Option IndexState) (limit known : ℕ) (old new : StoredHistory) (before after : Option (ListOf ℕ)) (changes : ListOf Change) (front : Front) (added : AddedBatch) (table : ListOf (ℕ × Stands))

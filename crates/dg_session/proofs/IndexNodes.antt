@@ -9,13 +9,13 @@ use Rattle.dg_history.specs.declared.node.NodeId.{NodeId}
 use Rattle.dg_history.specs.declared.node.NodeId.TheVariants.{Root, Now, Recent, Leaf, List, Inner}
 use Rattle.dg_history.specs.declared.params.Params.{Params}
 use Rattle.dg_index.specs.Hierarchy.{leaves}
-use Rattle.dg_index.specs.OpenedIndex.{Opening, events_in}
+use Rattle.dg_index.specs.OpenedIndex.{Opening, event_total}
 use Rattle.dg_machine.specs.declared.stands.Stands.{Stands}
 use Rattle.dg_machine.specs.declared.stands.Stands.TheVariants.{Overlay, Base}
 use Rattle.dg_machine.specs.Needs.{can_be_held}
 use Rattle.dg_machine.specs.Planning.{bases_in, includes, usable}
 use Rattle.dg_plan.specs.IndexGraph.{Ground, nodes_of}
-use Rattle.dg_planner.specs.Bases.{AreAmong}
+use Rattle.dg_planner.specs.Bases.{AreBasesAmong}
 use Rattle.dg_planner.specs.IndexNodes.{NodesAreListed}
 use Rattle.dg_session.specs.HeldIndex.{HasNodeOf, HasNodes}
 
@@ -35,8 +35,8 @@ node_listed listed p n wide g many arity (List i) there = absurd (false≢true t
 node_listed listed p n wide g many arity (Inner h j) there = listed p n wide g many arity (Inner h j) tt there
 
 -- and so is the node of each handle that can serve
-pub bases_listed : NodesAreListed → (o : Opening) → 2 ≤ o.params.k → (g : Ground) → g.leaves ≡ leaves o.params (events_in o.batches) → g.arity ≡ o.params.k
-    → (cols : Columns) (table : ListOf (ℕ × Stands)) → HasNodes (Some o) table → AreAmong (nodes_of g) (bases_in cols table)
+pub bases_listed : NodesAreListed → (o : Opening) → 2 ≤ o.params.k → (g : Ground) → g.leaves ≡ leaves o.params (event_total o.batches) → g.arity ≡ o.params.k
+    → (cols : Columns) (table : ListOf (ℕ × Stands)) → HasNodes (Some o) table → AreBasesAmong (nodes_of g) (bases_in cols table)
 bases_listed listed o wide g many arity cols [] has = All-nil (λ (b : ℕ × NodeId). Contains (nodes_of g) b.1)
 bases_listed listed o wide g many arity cols (e ∷ table) has =
     All-append (λ (b : ℕ × NodeId). Contains (nodes_of g) b.1) (usable cols e) (bases_in cols table)
@@ -49,4 +49,4 @@ bases_listed listed o wide g many arity cols (e ∷ table) has =
 
     one : (handle : ℕ) (s : Stands) → HasNodeOf (Some o) s → All (λ (b : ℕ × NodeId). Contains (nodes_of g) b.1) (usable cols (handle, s))
     one handle (Overlay t others on) has = All-nil (λ (b : ℕ × NodeId). Contains (nodes_of g) b.1)
-    one handle (Base node all) has = by handle node (includes all cols) (node_listed listed o.params (events_in o.batches) wide g many arity node has)
+    one handle (Base node all) has = by handle node (includes all cols) (node_listed listed o.params (event_total o.batches) wide g many arity node has)

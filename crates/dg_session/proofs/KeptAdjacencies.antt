@@ -4,7 +4,7 @@ use Rattle.std.specs.Prelude.{Result, Ok, Err, OnOk, OnErr}
 use Rattle.std.proofs.lemmas.Bool.{eq-eqb, eqb-true, false≢true}
 use Rattle.std.proofs.lemmas.Option.{none-some, same_Some}
 use Rattle.dg_graph.specs.declared.element.Element.{Element}
-use Rattle.dg_handles.specs.Handles.{HandlesState, graph_among, graphs_at, graphs_without}
+use Rattle.dg_handles.specs.Handles.{HandlesState, graph_among, slot_graphs, graphs_without}
 use Rattle.dg_machine.specs.declared.stands.Stands.{Stands}
 use Rattle.dg_machine.specs.MachineState.{without_handle}
 use Rattle.dg_pool.specs.Graphs.{PoolState, SameGraphs, slot_graph}
@@ -31,7 +31,7 @@ kept_alone handle table graphs set (Some k) is h = (set, ap (λ n. graph_among n
 -- ---- the same graphs
 
 pub kept_on : (old new : PoolState) (h : HandlesState) (kept : Option (ℕ × List EdgeEnd)) → ((s : ℕ) → slot_graph new s ≡ slot_graph old s)
-    → KeepsAdjacency h.table (graphs_at old h.slots) kept → KeepsAdjacency h.table (graphs_at new h.slots) kept
+    → KeepsAdjacency h.table (slot_graphs old h.slots) kept → KeepsAdjacency h.table (slot_graphs new h.slots) kept
 kept_on old new h kept same k = subst (λ gs. KeepsAdjacency h.table gs kept) (sym (graphs_same old new same h.slots)) k
 
 -- ---- new handles
@@ -55,14 +55,14 @@ kept_more table more graphs others (Some k) h = (h.0, among_more k.0 table more 
 
 -- whether they were added or not
 pub kept_after : {A E : Type 0} (r : Result A E) (old new : HandlesState) (pool pool' : PoolState) (more : List (ℕ × Stands)) (others : List (List Element)) (kept : Option (ℕ × List EdgeEnd))
-    → OnOk r (new.table ≡ old.table ++ more) → OnOk r (graphs_at pool' new.slots ≡ graphs_at pool old.slots ++ others)
+    → OnOk r (new.table ≡ old.table ++ more) → OnOk r (slot_graphs pool' new.slots ≡ slot_graphs pool old.slots ++ others)
     → OnErr r (new ≡ old) → OnErr r (SameGraphs pool pool')
-    → KeepsAdjacency old.table (graphs_at pool old.slots) kept → KeepsAdjacency new.table (graphs_at pool' new.slots) kept
+    → KeepsAdjacency old.table (slot_graphs pool old.slots) kept → KeepsAdjacency new.table (slot_graphs pool' new.slots) kept
 kept_after (Ok x) old new pool pool' more others kept table graphs same same_graphs h =
-    subst (λ (t : List (ℕ × Stands)). KeepsAdjacency t (graphs_at pool' new.slots) kept) (sym table)
-    (subst (λ gs. KeepsAdjacency (old.table ++ more) gs kept) (sym graphs) (kept_more old.table more (graphs_at pool old.slots) others kept h))
+    subst (λ (t : List (ℕ × Stands)). KeepsAdjacency t (slot_graphs pool' new.slots) kept) (sym table)
+    (subst (λ gs. KeepsAdjacency (old.table ++ more) gs kept) (sym graphs) (kept_more old.table more (slot_graphs pool old.slots) others kept h))
 kept_after (Err e) old new pool pool' more others kept table graphs same same_graphs h =
-    subst (λ (s : HandlesState). KeepsAdjacency s.table (graphs_at pool' s.slots) kept) (sym same) (kept_on pool pool' old kept same_graphs.slots h)
+    subst (λ (s : HandlesState). KeepsAdjacency s.table (slot_graphs pool' s.slots) kept) (sym same) (kept_on pool pool' old kept same_graphs.slots h)
 
 -- ---- a handle that ends
 

@@ -39,7 +39,7 @@ use Rattle.dg_session.proofs.Retrievals.{both_false, handles_taken, if_some, mov
 use Rattle.dg_session.proofs.StandsFor.{events_are, events_there, hit, is_of, last_passes, miss, not_false, one_image, one_told, params_are, passes}
 use Rattle.dg_session.specs.HeldIndex.{has_node_held}
 use Rattle.dg_session.specs.Parts.{Parts}
-use Rattle.dg_session.specs.Reads.{IsNodeHeld, Reads, is_early, with_new}
+use Rattle.dg_session.specs.Reads.{IsNodeHeld, Reads, is_early, with_new_handles}
 use Rattle.dg_session.specs.Session.{Accepts, StandsFor, is_reached, node_needs, refused_by}
 
 -- ---- what is refused
@@ -107,7 +107,7 @@ node_reached p image m node cols s has =
 pub node_answers : (p q : Parts) (node : NodeId) (cols : Columns) (before after : Option (List ℕ)) (weight : ℕ) (graph : List Element) (reply : Reply)
     → refused_by p 0 (node_needs node) ≡ None → after ≡ before
     → IfSome before (λ image. (m : MachineState) → StandsFor p image m → IsNodeHeld m node cols weight graph)
-    → q ≡ with_new p (Base node cols ∷ []) (graph ∷ []) → reply ≡ headed (head.Materialised p.next weight)
+    → q ≡ with_new_handles p (Base node cols ∷ []) (graph ∷ []) → reply ≡ headed (head.Materialised p.next weight)
     → Accepts (command.Materialise node cols) [] p before q after reply
 node_answers p q node cols before after weight graph reply none same got is reply_is =
     retrieval_accepted (command.Materialise node cols) p q before after (Base node cols ∷ []) (graph ∷ []) reply
@@ -122,7 +122,7 @@ node_answers p q node cols before after weight graph reply none same got is repl
       (λ i. record { reply = (ap (λ n. headed (head.Materialised n (weight_of (arcs_of (record_edges_in m cols)) r.plan.0))) (sym s.next) ∙ ap (λ w. headed (head.Materialised p.next w)) (sym r.plan.2) ∙ sym reply_is) i; state = with_handle m (Base node cols) }),
       handles_taken p q y m (Base node cols ∷ []) (subst (λ image. StandsFor p image m) (one_image before after x y same a b) s) free.0
           (All-cons reaches (Base node cols) [] (node_reached p x m node cols s free.1) (All-nil reaches))
-          (is ∙ ap (λ g. with_new p (Base node cols ∷ []) (g ∷ [])) r.listed),
+          (is ∙ ap (λ g. with_new_handles p (Base node cols ∷ []) (g ∷ [])) r.listed),
     )))
     (ap (λ (r : Reply). is_refusal r.head) reply_is) same is
 

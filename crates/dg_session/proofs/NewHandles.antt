@@ -8,7 +8,7 @@ use Rattle.std.proofs.lemmas.List.Elements.{All-append, All-cons, All-nil}
 use Rattle.dg_graph.specs.declared.element.Columns.{Columns}
 use Rattle.dg_handles.specs.Handles.{HandlesState, numbered, overlays_on}
 use Rattle.dg_history.specs.declared.node.NodeId.{NodeId}
-use Rattle.dg_index.specs.OpenedIndex.{Opening, events_in}
+use Rattle.dg_index.specs.OpenedIndex.{Opening, event_total}
 use Rattle.dg_machine.specs.declared.stands.Stands.{Stands}
 use Rattle.dg_machine.specs.declared.stands.Stands.TheVariants.{Overlay, Base}
 use Rattle.dg_machine.specs.Planning.{bases_in, usable}
@@ -57,7 +57,7 @@ pub kept_same : (index : Option Opening) (old new : List (ℕ × Stands)) (kept 
 kept_same index old new None same h = tt
 kept_same None old new (Some k) same h = absurd h
 kept_same (Some o) old new (Some k) same h = record {
-  edges = h.edges ∙ ap (kept_edges o (events_in o.batches) k.0) (sym (same k.0));
+  edges = h.edges ∙ ap (kept_edges o (event_total o.batches) k.0) (sym (same k.0));
   nodes = h.nodes;
 }
 

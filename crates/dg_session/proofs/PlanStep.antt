@@ -14,7 +14,7 @@ use Rattle.dg_history.specs.History.{History, events_of, in_range, span_of}
 use Rattle.dg_append.specs.OlderGroups.{older_children}
 use Rattle.dg_index.specs.Hierarchy.{leaves}
 use Rattle.dg_index.specs.OlderNodes.{older}
-use Rattle.dg_index.specs.OpenedIndex.{Opening, events_in, opened_of}
+use Rattle.dg_index.specs.OpenedIndex.{Opening, event_total, opened_of}
 use Rattle.dg_machine.specs.declared.command.Command.TheVariants as command
 use Rattle.dg_machine.specs.declared.reply.Head.TheVariants as head
 use Rattle.dg_machine.specs.declared.reply.Refusal.{Refusal}
@@ -98,19 +98,19 @@ module _ (p : Parts) (o : Opening) (image : List ℕ) (m : MachineState) (there 
   records_are : o.records ≡ (opened_of z).index.records
   records_are = ap (λ (x : Opening). x.records) of_z.opened
 
-  pub many_are : events_in o.batches ≡ length (events_of z)
-  many_are = ap (λ (x : Opening). events_in x.batches) of_z.opened ∙ count_is z of_z.stands.legal
+  pub many_are : event_total o.batches ≡ length (events_of z)
+  many_are = ap (λ (x : Opening). event_total x.batches) of_z.opened ∙ count_is z of_z.stands.legal
 
   pub span_there : span_held (Some o) ≡ span_of (events_of z)
   span_there = ap (λ (x : Opening). span_held (Some x)) of_z.opened ∙ span_is z of_z.stands.legal
 
-  pub edges_are : (cols : Columns) → kept_edges o (events_in o.batches) cols (bases_in cols p.table) ≡ edges_in m cols
+  pub edges_are : (cols : Columns) → kept_edges o (event_total o.batches) cols (bases_in cols p.table) ≡ edges_in m cols
   edges_are cols =
       (λ i. kept_edges_over (params_are i) (many_are i) (records_are i) cols (bases_in cols (s.table i)))
       ∙ (graph_of_history z of_z.stands.legal (holding (opened_of z).index.records) refl cols (bases_in cols m.table)).0
       ∙ sym (ap (λ (i : Option History). edges_of (let g : Ground = record (ground_of_history (history_in i) cols) { bases = bases_in cols m.table } in g)) of_z.index)
 
-  pub nodes_are : (cols : Columns) → kept_nodes o (events_in o.batches) cols ≡ nodes_in m cols
+  pub nodes_are : (cols : Columns) → kept_nodes o (event_total o.batches) cols ≡ nodes_in m cols
   nodes_are cols =
       (λ i. nodes_of (ground_of (shape_with (params_are i) (many_are i)) (holding (records_are i)) cols [] (nat_lt 0 (many_are i))))
       ∙ (graph_of_history z of_z.stands.legal (holding (opened_of z).index.records) refl cols []).1
@@ -150,9 +150,9 @@ module _ (p : Parts) (o : Opening) (image : List ℕ) (m : MachineState) (there 
   pub is_planned : (t : ℕ) (cols : Columns) (reply : Reply) → in_range (span_held (Some o)) t ≡ true → (r : IsPlanReply o p.recent (bases_in cols p.table) t cols reply) → IsPlanned m (command.Plan t cols) r.plan
   is_planned t cols reply inside r = (
     subst (λ (es : List Edge). IsPlan (arcs_of es) (Root ∷ []) (point_for m t) r.plan.steps) (edges_are cols)
-        (subst (λ (a : NodeId). IsPlan (arcs_of (kept_edges o (events_in o.batches) cols (bases_in cols p.table))) (Root ∷ []) a r.plan.steps) (point_is t inside) r.least),
+        (subst (λ (a : NodeId). IsPlan (arcs_of (kept_edges o (event_total o.batches) cols (bases_in cols p.table))) (Root ∷ []) a r.plan.steps) (point_is t inside) r.least),
     subst (λ (ns : List NodeId). AllZip (IsPotential (arcs_of (edges_in m cols)) (Root ∷ []) (weight_of (arcs_of (edges_in m cols)) r.plan.steps)) ns r.plan.potentials) (nodes_are cols)
-        (subst (λ (es : List Edge). AllZip (IsPotential (arcs_of es) (Root ∷ []) (weight_of (arcs_of es) r.plan.steps)) (kept_nodes o (events_in o.batches) cols) r.plan.potentials) (edges_are cols) r.certified),
+        (subst (λ (es : List Edge). AllZip (IsPotential (arcs_of es) (Root ∷ []) (weight_of (arcs_of es) r.plan.steps)) (kept_nodes o (event_total o.batches) cols) r.plan.potentials) (edges_are cols) r.certified),
   )
 
   pub plan_due : (t : ℕ) (cols : Columns) (reply : Reply) (r : IsPlanReply o p.recent (bases_in cols p.table) t cols reply)
@@ -161,7 +161,7 @@ module _ (p : Parts) (o : Opening) (image : List ℕ) (m : MachineState) (there 
       sym (r.says ∙ (λ i. plan_reply (edges_are cols i) (nodes_are cols i) (weight_of (arcs_of (edges_are cols i)) r.plan.steps) r.plan.steps r.plan.potentials))
 
   pub verdict_due : (t : ℕ) (cols : Columns) (got : List ScriptLine) → in_range (span_held (Some o)) t ≡ true
-      → judged (kept_edges o (events_in o.batches) cols (bases_in cols p.table)) (kept_nodes o (events_in o.batches) cols) (point_over o p.recent t) (map plan_line_in got)
+      → judged (kept_edges o (event_total o.batches) cols (bases_in cols p.table)) (kept_nodes o (event_total o.batches) cols) (point_over o p.recent t) (map plan_line_in got)
       ≡ judged (edges_in m cols) (nodes_in m cols) (point_for m t) (map plan_line_in got)
   verdict_due t cols got inside = λ i. judged (edges_are cols i) (nodes_are cols i) (point_is t inside i) (map plan_line_in got)
 
@@ -186,7 +186,7 @@ plan_answers p t cols image o reply there inside r = record {
 
 pub certificate_answers : (p : Parts) (t : ℕ) (cols : Columns) (count : ℕ) (got : List ScriptLine) (image : Option (List ℕ)) (o : Opening) (verdict : Verdict) (reply : Reply)
     → p.index ≡ Some o → in_range (span_held (Some o)) t ≡ true → nat_lt (length got) count ≡ false
-    → verdict ≡ judged (kept_edges o (events_in o.batches) cols (bases_in cols p.table)) (kept_nodes o (events_in o.batches) cols) (point_over o p.recent t) (map plan_line_in got) → reply ≡ headed (head.Certified verdict)
+    → verdict ≡ judged (kept_edges o (event_total o.batches) cols (bases_in cols p.table)) (kept_nodes o (event_total o.batches) cols) (point_over o p.recent t) (map plan_line_in got) → reply ≡ headed (head.Certified verdict)
     → Accepts (command.Certify t cols count) got p image p image reply
 certificate_answers p t cols count got image o verdict reply there inside enough is reply_is = record {
   moves =

@@ -8,7 +8,7 @@ use Rattle.dg_graph.specs.declared.element.Columns.{Columns}
 use Rattle.dg_handles.specs.Handles.{HoldsNode}
 use Rattle.dg_history.specs.declared.node.NodeId.{NodeId}
 use Rattle.dg_history.specs.declared.node.NodeId.TheVariants.{List}
-use Rattle.dg_index.specs.OpenedIndex.{Opening, events_in}
+use Rattle.dg_index.specs.OpenedIndex.{Opening, event_total}
 use Rattle.dg_machine.specs.declared.stands.Stands.{Stands}
 use Rattle.dg_machine.specs.declared.stands.Stands.TheVariants.{Overlay, Base}
 use Rattle.dg_machine.specs.Planning.{bases_in, includes}
@@ -40,8 +40,8 @@ no_lists o cols ((handle, Base node all) ∷ table) h =
 
 -- The graph is that of the session's index, with the handles that can serve.
 pub record IsPlanningIn (p : Parts) (o : Opening) (cols : Columns) (g : PlannerGraph) : Type 0 where
-  pub edges : g.edges ≡ kept_edges o (events_in o.batches) cols (bases_in cols p.table)
-  pub nodes : g.nodes ≡ kept_nodes o (events_in o.batches) cols
+  pub edges : g.edges ≡ kept_edges o (event_total o.batches) cols (bases_in cols p.table)
+  pub nodes : g.nodes ≡ kept_nodes o (event_total o.batches) cols
   pub none : HoldNoList (bases_in cols p.table)
 
 pub planning_in : (p : Parts) (s : Inside) (index : IndexState) (cols : Columns) (kept : Option (Columns × PlannerGraph)) (g : PlannerGraph)
@@ -52,7 +52,7 @@ planning_in p s index cols kept g view there nodes is kept_is =
     let table : s.handles.table ≡ p.table = ap (λ (x : Parts). x.table) view in
     let has : HasNodes (Some index.opening) s.handles.table = subst (λ i. HasNodes i s.handles.table) (ap index_opening there) nodes in
     record {
-      edges = graph.edges ∙ ap (λ t. kept_edges index.opening (events_in index.opening.batches) cols (bases_in cols t)) table;
+      edges = graph.edges ∙ ap (λ t. kept_edges index.opening (event_total index.opening.batches) cols (bases_in cols t)) table;
       nodes = graph.nodes;
       none = subst (λ t. HoldNoList (bases_in cols t)) table (no_lists index.opening cols s.handles.table has);
     }

@@ -21,7 +21,7 @@ use Rattle.dg_index.specs.declared.entry.Entry.{Entry}
 use Rattle.dg_index.specs.Hierarchy.{children, leaves, numbers}
 use Rattle.dg_index.specs.IndexKeys.{AreKept, keys_among}
 use Rattle.dg_index.specs.IndexRecords.{deltas_due, deltas_due_at, deltas_of, inner_due, lists_due}
-use Rattle.dg_index.specs.OpenedIndex.{Opening, events_in, span_in}
+use Rattle.dg_index.specs.OpenedIndex.{Opening, event_total, span_in}
 use Rattle.dg_index.proofs.KeptColumns.{Each, each_append, each_flat, each_map, each_number}
 use Rattle.dg_index.proofs.OpenedHistories.{large_parameters}
 use Rattle.dg_index.proofs.StableRecords.{leaves_more}
@@ -38,7 +38,7 @@ use Rattle.dg_session.specs.HeldIndex.{catalogue_of, ends_pair, point_over, span
 pub record IsSoundIndex (o : Opening) : Type 0 where
   pub parameters : are_parameters o.params.l o.params.k ≡ true
   pub kept : AreKept o
-  pub few : length o.batches ≤ events_in o.batches
+  pub few : length o.batches ≤ event_total o.batches
 
 -- ---- the lists among the records
 
@@ -65,17 +65,17 @@ below_deltas most k m after = each_flat (IsBelow most) (deltas_due_at k m after)
     at h = each_flat (IsBelow most) (deltas_of k h) (inner_due k m after h) (each_number (λ j. Each (IsBelow most) (deltas_of k h j)) (m / k ^ h + 1) (after / k ^ h - m / k ^ h) (λ j low high. node h j))
 
 -- the lists of batches behind so many events
-below_among : (p : Params) → 0 < p.l → (most number count : ℕ) (batches : ListOf BatchEntry) → leaves p (count + events_in batches) ≤ most → Each (IsBelow most) (keys_among p number count batches)
+below_among : (p : Params) → 0 < p.l → (most number count : ℕ) (batches : ListOf BatchEntry) → leaves p (count + event_total batches) ≤ most → Each (IsBelow most) (keys_among p number count batches)
 below_among p pos most number count [] le = tt
 below_among p pos most number count (b ∷ batches) le =
     let m : ℕ = leaves p count in
     let after : ℕ = leaves p (count + b.events) in
     let lists : ListOf Key = lists_due p count (count + b.events) in
     let up : m ≤ after = leaves_more p.l count b.events pos in
-    let one : events_in (b ∷ batches) ≡ b.events + events_in batches = sum_by-cons (λ (x : BatchEntry). x.events) b batches in
-    let whole : count + b.events + events_in batches ≡ count + events_in (b ∷ batches) = omega (arith, one) in
-    let within : leaves p (count + b.events + events_in batches) ≤ most = subst (λ n. leaves p n ≤ most) (sym whole) le in
-    let on : after ≤ leaves p (count + b.events + events_in batches) = leaves_more p.l (count + b.events) (events_in batches) pos in
+    let one : event_total (b ∷ batches) ≡ b.events + event_total batches = sum_by-cons (λ (x : BatchEntry). x.events) b batches in
+    let whole : count + b.events + event_total batches ≡ count + event_total (b ∷ batches) = omega (arith, one) in
+    let within : leaves p (count + b.events + event_total batches) ≤ most = subst (λ n. leaves p n ≤ most) (sym whole) le in
+    let on : after ≤ leaves p (count + b.events + event_total batches) = leaves_more p.l (count + b.events) (event_total batches) pos in
     each_append (IsBelow most) (lists ++ (deltas_due p.k m after ++ key.Piece number ∷ [])) (keys_among p (number + 1) (count + b.events) batches)
     (each_append (IsBelow most) lists (deltas_due p.k m after ++ key.Piece number ∷ [])
     (each_map (IsBelow most) (λ i. key.List i) (numbers m (after - m)) (each_number (λ i. IsBelow most (key.List i)) m (after - m) (λ i low high. omega (arith, low, high, up, on, within))))
@@ -83,10 +83,10 @@ below_among p pos most number count (b ∷ batches) le =
     (below_among p pos most (number + 1) (count + b.events) batches within)
 
 -- those of an index
-below_records : (o : Opening) → 0 < o.params.l → AreKept o → Each (IsBelow (leaves o.params (events_in o.batches))) (keys_of o.records)
+below_records : (o : Opening) → 0 < o.params.l → AreKept o → Each (IsBelow (leaves o.params (event_total o.batches))) (keys_of o.records)
 below_records o pos kept =
-    subst (Each (IsBelow (leaves o.params (events_in o.batches)))) (sym kept)
-    (below_among o.params pos (leaves o.params (events_in o.batches)) 0 0 o.batches (let e : 0 + events_in o.batches ≡ events_in o.batches = omega arith in subst (λ n. leaves o.params n ≤ leaves o.params (events_in o.batches)) (sym e) (omega arith)))
+    subst (Each (IsBelow (leaves o.params (event_total o.batches)))) (sym kept)
+    (below_among o.params pos (leaves o.params (event_total o.batches)) 0 0 o.batches (let e : 0 + event_total o.batches ≡ event_total o.batches = omega arith in subst (λ n. leaves o.params n ≤ leaves o.params (event_total o.batches)) (sym e) (omega arith)))
 
 -- so no more lists have begun than there are
 if_begun : (b : Bool) (i m : ℕ) → i < m → cond b (i + 1) 0 ≤ m
@@ -153,36 +153,36 @@ module _ (o : Opening) (n : ℕ) (cols : Columns) (some : 0 < n) where
 
 -- ---- the point
 
-some_events : (batches : ListOf BatchEntry) (span : Ends) → span_in batches ≡ Some span → length batches ≤ events_in batches → 0 < events_in batches
+some_events : (batches : ListOf BatchEntry) (span : Ends) → span_in batches ≡ Some span → length batches ≤ event_total batches → 0 < event_total batches
 some_events [] span is few = cc
 some_events (b ∷ batches) span is few = omega (arith, few)
 
 -- the point of an instant of the history is a node of the graph
-pub point_there : (o : Opening) (recent : ListOf Event) (t : ℕ) (cols : Columns) → IsSoundIndex o → in_range (span_held (Some o)) t ≡ true → Contains (kept_nodes o (events_in o.batches) cols) (point_over o recent t)
+pub point_there : (o : Opening) (recent : ListOf Event) (t : ℕ) (cols : Columns) → IsSoundIndex o → in_range (span_held (Some o)) t ≡ true → Contains (kept_nodes o (event_total o.batches) cols) (point_over o recent t)
 point_there o recent t cols sound inside = by_span (span_in o.batches) refl inside
   where
     pos : 0 < o.params.l
     pos = let large = large_parameters o.params.l o.params.k sound.parameters in omega (arith, large.0)
 
-    begun : begun_by (catalogue_of o) t ≤ leaves o.params (events_in o.batches)
-    begun = few_begun (catalogue_of o) t (leaves o.params (events_in o.batches)) (keys_of o.records) (below_records o pos sound.kept)
+    begun : begun_by (catalogue_of o) t ≤ leaves o.params (event_total o.batches)
+    begun = few_begun (catalogue_of o) t (leaves o.params (event_total o.batches)) (keys_of o.records) (below_records o pos sound.kept)
 
-    by_recent : 0 < events_in o.batches → (come : Bool) → Contains (kept_nodes o (events_in o.batches) cols) (cond come Recent (point_in_lists (catalogue_of o) t (begun_by (catalogue_of o) t)))
-    by_recent some true = in_recent o (events_in o.batches) cols some
-    by_recent some false = in_lists o (events_in o.batches) cols some (catalogue_of o) t (begun_by (catalogue_of o) t) begun
+    by_recent : 0 < event_total o.batches → (come : Bool) → Contains (kept_nodes o (event_total o.batches) cols) (cond come Recent (point_in_lists (catalogue_of o) t (begun_by (catalogue_of o) t)))
+    by_recent some true = in_recent o (event_total o.batches) cols some
+    by_recent some false = in_lists o (event_total o.batches) cols some (catalogue_of o) t (begun_by (catalogue_of o) t) begun
 
-    by_last : 0 < events_in o.batches → (last : Bool)
-        → Contains (kept_nodes o (events_in o.batches) cols) (cond last Now (cond (has_come t (first_time_in recent)) Recent (point_in_lists (catalogue_of o) t (begun_by (catalogue_of o) t))))
-    by_last some true = in_now o (events_in o.batches) cols some
+    by_last : 0 < event_total o.batches → (last : Bool)
+        → Contains (kept_nodes o (event_total o.batches) cols) (cond last Now (cond (has_come t (first_time_in recent)) Recent (point_in_lists (catalogue_of o) t (begun_by (catalogue_of o) t))))
+    by_last some true = in_now o (event_total o.batches) cols some
     by_last some false = by_recent some (has_come t (first_time_in recent))
 
-    by_within : (within : Bool) (found : NodeId) → within ≡ true → Contains (kept_nodes o (events_in o.batches) cols) found
-        → Contains (kept_nodes o (events_in o.batches) cols) (unwrap_or (cond within (Some found) None) Root)
+    by_within : (within : Bool) (found : NodeId) → within ≡ true → Contains (kept_nodes o (event_total o.batches) cols) found
+        → Contains (kept_nodes o (event_total o.batches) cols) (unwrap_or (cond within (Some found) None) Root)
     by_within true found is there = there
     by_within false found is there = absurd (false≢true is)
 
     by_span : (span : Option Ends) → span_in o.batches ≡ span → in_range (ends_pair span) t ≡ true
-        → Contains (kept_nodes o (events_in o.batches) cols) (unwrap_or (point_in (catalogue_of o) span t (first_time_in recent)) Root)
+        → Contains (kept_nodes o (event_total o.batches) cols) (unwrap_or (point_in (catalogue_of o) span t (first_time_in recent)) Root)
     by_span None is within = absurd (false≢true within)
     by_span (Some ends) is within =
         by_within (nat_le ends.first t && nat_le t ends.last) _ within (by_last (some_events o.batches ends is sound.few) (t == ends.last))

@@ -16,25 +16,25 @@ use Rattle.dg_session.proofs.Retrievals.{every_some, if_some}
 use Rattle.dg_session.specs.declared.halt.Halt.{Halt}
 use Rattle.dg_session.specs.declared.halt.Halt.TheVariants as halt
 use Rattle.dg_session.specs.Parts.{Parts}
-use Rattle.dg_session.specs.Reads.{Reads, ReadsIn, head_of, is_early, is_quiet}
+use Rattle.dg_session.specs.Reads.{Reads, ReadsIn, reply_head, is_early, is_quiet}
 use Rattle.dg_session.specs.Session.{Accepts, ComesTo, Denies}
 
 -- ---- bytes
 
 -- one that reads no records and is not refused early may read what it likes, where it writes
 pub reads_freely : (c : Command) (p : Parts) (image : Option (List ℕ)) (r : Result Reply Halt) (before after : ℕ) → (needs c).reads ≡ false → is_quiet c ≡ false
-    → IfSome (head_of r) (λ h. is_early h ≡ true → after ≡ before) → ReadsIn c p image r before after
+    → IfSome (reply_head r) (λ h. is_early h ≡ true → after ≡ before) → ReadsIn c p image r before after
 reads_freely c p image r before after no_reads writes early =
-    if_some (head_of r) (λ h. is_early h ≡ true → after ≡ before) (λ h. Reads c p image h before after)
+    if_some (reply_head r) (λ h. is_early h ≡ true → after ≡ before) (λ h. Reads c p image h before after)
     (λ h nothing. record { told = λ e. absurd (false≢true (sym no_reads ∙ e)); early = nothing; nothing = λ e. absurd (false≢true (sym writes ∙ e)) }) early
 
 -- one that reads no records has read nothing
 pub reads_nothing : (c : Command) (p : Parts) (image : Option (List ℕ)) (r : Result Reply Halt) (count : ℕ) → (needs c).reads ≡ false → ReadsIn c p image r count count
 reads_nothing c p image r count no_reads =
-    every_some (head_of r) (λ h. Reads c p image h count count) (λ h. record { told = λ e. absurd (false≢true (sym no_reads ∙ e)); early = λ e. refl; nothing = λ e. refl })
+    every_some (reply_head r) (λ h. Reads c p image h count count) (λ h. record { told = λ e. absurd (false≢true (sym no_reads ∙ e)); early = λ e. refl; nothing = λ e. refl })
 
 -- the reply, where there is one
-pub reads_in_reply : (c : Command) (p : Parts) (image : Option (List ℕ)) (r : Result Reply Halt) (h : Head) (before after : ℕ) → head_of r ≡ Some h → ReadsIn c p image r before after → Reads c p image h before after
+pub reads_in_reply : (c : Command) (p : Parts) (image : Option (List ℕ)) (r : Result Reply Halt) (h : Head) (before after : ℕ) → reply_head r ≡ Some h → ReadsIn c p image r before after → Reads c p image h before after
 reads_in_reply c p image r h before after is reads = subst (λ (o : Option Head). IfSome o (λ x. Reads c p image x before after)) is reads
 
 -- ---- a failed read

@@ -17,8 +17,8 @@ use Rattle.dg_machine.specs.declared.reply.Reply.{Reply}
 use Rattle.dg_machine.specs.declared.stands.Stands.{Stands}
 use Rattle.dg_machine.specs.declared.stands.Stands.TheVariants.{Overlay, Base}
 use Rattle.dg_machine.specs.Answer.{Answered, headed, is_refusal}
-use Rattle.dg_machine.specs.MachineState.{MachineState, dependent_on, elements, entry_at, history_in, without_handle}
-use Rattle.dg_index.specs.OpenedIndex.{Opening, events_in}
+use Rattle.dg_machine.specs.MachineState.{MachineState, dependent_on, elements, stands_at, history_in, without_handle}
+use Rattle.dg_index.specs.OpenedIndex.{Opening, event_total}
 use Rattle.dg_machine.specs.Needs.{earliest, is_base, needs, of}
 use Rattle.dg_machine.specs.Planning.{bases_in, usable}
 use Rattle.dg_planner.specs.Whole.{PlannerGraph}
@@ -46,13 +46,13 @@ none_usable cols (handle, Overlay t others on) overlay = refl
 none_usable cols (handle, Base node all) overlay = absurd (false≢true (sym overlay))
 
 -- without an overlay the same handles can serve
-bases_without : (cols : Columns) (handle : ℕ) (table : List (ℕ × Stands)) (s : Stands) → entry_at handle table ≡ Some s → is_base (Some s) ≡ false
+bases_without : (cols : Columns) (handle : ℕ) (table : List (ℕ × Stands)) (s : Stands) → stands_at handle table ≡ Some s → is_base (Some s) ≡ false
     → bases_in cols (without_handle handle table) ≡ bases_in cols table
 bases_without cols handle [] s is overlay = refl
 bases_without cols handle (e ∷ table) s is overlay = by (e.0 == handle) (λ r. bases_without cols handle table s r overlay) is
   where
-    by : (here : Bool) → (entry_at handle table ≡ Some s → bases_in cols (without_handle handle table) ≡ bases_in cols table)
-        → (if here then Some e.1 else entry_at handle table) ≡ Some s
+    by : (here : Bool) → (stands_at handle table ≡ Some s → bases_in cols (without_handle handle table) ≡ bases_in cols table)
+        → (if here then Some e.1 else stands_at handle table) ≡ Some s
         → bases_in cols (if here then table else e ∷ without_handle handle table) ≡ usable cols e ++ bases_in cols table
     by true rest e_is = ap (λ (xs : List (ℕ × NodeId)). xs ++ bases_in cols table) (sym (none_usable cols e (ap is_base e_is ∙ overlay)))
     by false rest e_is = ap (λ (xs : List (ℕ × NodeId)). usable cols e ++ xs) (rest e_is)
@@ -65,10 +65,10 @@ same_kept None table others (Some k) same h = h
 same_kept (Some o) table others (Some k) same h = graph h
   where
     graph : IsGraphFor o table k.0 k.1 → IsGraphFor o others k.0 k.1
-    graph g = record { edges = g.edges ∙ ap (λ (b : List (ℕ × NodeId)). kept_edges o (events_in o.batches) k.0 b) (sym (same k.0)); nodes = g.nodes }
+    graph g = record { edges = g.edges ∙ ap (λ (b : List (ℕ × NodeId)). kept_edges o (event_total o.batches) k.0 b) (sym (same k.0)); nodes = g.nodes }
 
 -- a planner that is forgotten with a base is kept for the handles without one
-pub kept_without : (index : Option Opening) (handle : ℕ) (table : List (ℕ × Stands)) (s : Stands) (old new : Option (Columns × PlannerGraph)) → entry_at handle table ≡ Some s
+pub kept_without : (index : Option Opening) (handle : ℕ) (table : List (ℕ × Stands)) (s : Stands) (old new : Option (Columns × PlannerGraph)) → stands_at handle table ≡ Some s
     → (is_base (Some s) ≡ true → new ≡ None) → (is_base (Some s) ≡ false → new ≡ old) → IsKeptFor index table old → IsKeptFor index (without_handle handle table) new
 kept_without index handle table s old new is base overlay h = by (is_base (Some s)) refl
   where
@@ -111,23 +111,23 @@ stands_without p q image m handle s is =
     (all_without (λ (e : ℕ × Stands). is_reached (history_in m.index) e.1 ≡ true) handle m.table s.reached)
     (λ none. ap (without_handle handle) (s.no_handles none))
 
-pub release_refused : (p : Parts) (handle : ℕ) → is_some (entry_at handle p.table) ≡ false → refused_by p 0 (needs (command.Release handle)) ≡ Some (refusal.UnknownHandle handle)
-release_refused p handle none = hit (not (is_some (entry_at handle p.table))) (refusal.UnknownHandle handle) _ (ap not none)
+pub release_refused : (p : Parts) (handle : ℕ) → is_some (stands_at handle p.table) ≡ false → refused_by p 0 (needs (command.Release handle)) ≡ Some (refusal.UnknownHandle handle)
+release_refused p handle none = hit (not (is_some (stands_at handle p.table))) (refusal.UnknownHandle handle) _ (ap not none)
 
 -- the refusal by a handle that rests on this one, if there is one
 abbrev by_dependent : Option ℕ → Option Refusal
 by_dependent d = earliest (of d (λ h. refusal.InUse h ∷ []) ++ [])
 
-pub release_used : (p : Parts) (handle dependent : ℕ) → is_some (entry_at handle p.table) ≡ true → dependent_on handle p.table ≡ Some dependent
+pub release_used : (p : Parts) (handle dependent : ℕ) → is_some (stands_at handle p.table) ≡ true → dependent_on handle p.table ≡ Some dependent
     → refused_by p 0 (needs (command.Release handle)) ≡ Some (refusal.InUse dependent)
 release_used p handle dependent some is =
-    miss (not (is_some (entry_at handle p.table))) (refusal.UnknownHandle handle) _ (ap not some) ∙ ap by_dependent is
+    miss (not (is_some (stands_at handle p.table))) (refusal.UnknownHandle handle) _ (ap not some) ∙ ap by_dependent is
 
-pub release_free : (p : Parts) (handle : ℕ) → is_some (entry_at handle p.table) ≡ true → dependent_on handle p.table ≡ None → refused_by p 0 (needs (command.Release handle)) ≡ None
+pub release_free : (p : Parts) (handle : ℕ) → is_some (stands_at handle p.table) ≡ true → dependent_on handle p.table ≡ None → refused_by p 0 (needs (command.Release handle)) ≡ None
 release_free p handle some unused =
-    miss (not (is_some (entry_at handle p.table))) (refusal.UnknownHandle handle) _ (ap not some) ∙ ap by_dependent unused
+    miss (not (is_some (stands_at handle p.table))) (refusal.UnknownHandle handle) _ (ap not some) ∙ ap by_dependent unused
 
-pub release_answers : (p q : Parts) (handle : ℕ) (image : Option (List ℕ)) (reply : Reply) → is_some (entry_at handle p.table) ≡ true → dependent_on handle p.table ≡ None
+pub release_answers : (p q : Parts) (handle : ℕ) (image : Option (List ℕ)) (reply : Reply) → is_some (stands_at handle p.table) ≡ true → dependent_on handle p.table ≡ None
     → q ≡ parts_without handle p → reply ≡ headed (head.Released handle) → Accepts (command.Release handle) [] p image q image reply
 release_answers p q handle image reply live unused is reply_is = record {
   moves =

@@ -17,7 +17,7 @@ use Rattle.dg_history.specs.declared.node.Key.{Key}
 use Rattle.dg_history.specs.declared.node.NodeId.{NodeId}
 use Rattle.dg_history.specs.declared.node.NodeId.TheVariants.{Root}
 use Rattle.dg_history.specs.History.{History, events_of, in_range, span_of}
-use Rattle.dg_index.specs.OpenedIndex.{Opening, events_in}
+use Rattle.dg_index.specs.OpenedIndex.{Opening, event_total}
 use Rattle.dg_machine.specs.declared.command.Command.{Command}
 use Rattle.dg_machine.specs.declared.limits.TheConstants.{HANDLE_MAX, LIVE_HANDLES_MAX}
 use Rattle.dg_machine.specs.declared.reply.Head.{Head}
@@ -41,7 +41,7 @@ use Rattle.dg_retrieval.specs.declared.fault.RetrievalFault.{RetrievalFault}
 use Rattle.dg_retrieval.specs.declared.fault.RetrievalFault.TheVariants as retrieval_fault
 use Rattle.dg_retrieval.specs.declared.graph_lead.GraphLead.{GraphLead}
 use Rattle.dg_retrieval.specs.KeptGraph.{kept_edges, kept_ground, kept_nodes}
-use Rattle.dg_retrieval.specs.Beginnings.{base_of, led_to}
+use Rattle.dg_retrieval.specs.Beginnings.{base_handle, led_to}
 use Rattle.dg_retrieval.specs.Retrieval.{AreHeld, ArePoints, IsNoDamage, IsOver, IsTreeOf, TakesAtMostTree, graphs_at}
 use Rattle.dg_session.proofs.HeldBases.{bases_are_held}
 use Rattle.dg_session.proofs.PlanStep.{edges_are, point_here, point_is}
@@ -53,7 +53,7 @@ use Rattle.dg_session.specs.contracts.session.Session.{the_view}
 use Rattle.dg_session.specs.declared.session.Session.TheInside.{Inside}
 use Rattle.dg_session.specs.HeldIndex.{point_over, points_over, span_held}
 use Rattle.dg_session.specs.Parts.{Parts}
-use Rattle.dg_session.specs.Reads.{IsRetrieved, Reads, ReadsAsTold, ReadsBy, ReadsIn, bases_of, is_early, listed_by, with_new}
+use Rattle.dg_session.specs.Reads.{IsRetrieved, Reads, ReadsAsTold, ReadsBy, ReadsIn, bases_of, is_early, listed_by, with_new_handles}
 use Rattle.dg_start.specs.StoredHistory.{IsHeldBy, index_opening}
 use Rattle.dg_session.specs.Session.{Accepts, ComesTo, Moves, StandsFor, WhereBothTold, is_reached, refused_by, retrieval_needs}
 
@@ -147,9 +147,9 @@ each_same out f g (t ∷ times) each h =
 
 -- the points of instants that are in the history are nodes of the graph
 pub points_there : (o : Opening) (recent : List Event) (cols : Columns) (times : List ℕ) → IsSoundIndex o → list_any (is_out (span_held (Some o))) times ≡ false
-    → All (Contains (kept_nodes o (events_in o.batches) cols)) (points_over o recent times)
+    → All (Contains (kept_nodes o (event_total o.batches) cols)) (points_over o recent times)
 points_there o recent cols times sound =
-    each_in (is_out (span_held (Some o))) (Contains (kept_nodes o (events_in o.batches) cols)) (point_over o recent) times
+    each_in (is_out (span_held (Some o))) (Contains (kept_nodes o (event_total o.batches) cols)) (point_over o recent) times
     (λ t h. point_there o recent t cols sound (not_false (in_range (span_held (Some o)) t) h))
 
 -- a retrieval that is not refused is of instants that are between those that the index tells
@@ -195,8 +195,8 @@ module _ (p : Parts) (o : Opening) (image : List ℕ) (m : MachineState) (there 
       mapped times bases cols many ∙ sym (ap (λ (i : Option History). map (elements (history_in i)) (overlays_on cols times bases)) (is_of p o image m there s).1.index)
 
   pub is_retrieved : (times : List ℕ) (cols : Columns) (weight : ℕ) (singles : List ℕ) (bases : List (Option ℕ)) (graphs : List (List Element)) → list_any (is_out (span_held (Some o))) times ≡ false
-      → IsTreeOf (kept_edges o (events_in o.batches) cols (bases_in cols p.table)) (points_over o p.recent times) weight bases
-      → AreSingles (arcs_of (kept_edges o (events_in o.batches) cols (bases_in cols p.table))) (Root ∷ []) (points_over o p.recent times) singles
+      → IsTreeOf (kept_edges o (event_total o.batches) cols (bases_in cols p.table)) (points_over o p.recent times) weight bases
+      → AreSingles (arcs_of (kept_edges o (event_total o.batches) cols (bases_in cols p.table))) (Root ∷ []) (points_over o p.recent times) singles
       → length bases ≡ length times → graphs ≡ graphs_at z_of times cols → IsRetrieved m times cols weight singles bases graphs
   is_retrieved times cols weight singles bases graphs inside tree plans many graphs_are = record {
     tree = subst (λ (ns : List NodeId). IsTreeOf (edges_in m cols) ns weight bases) (points_are times inside) (subst (λ (es : List Edge). IsTreeOf es (points_over o p.recent times) weight bases) (edges_are p o image m there s cols) tree);
@@ -209,14 +209,14 @@ module _ (p : Parts) (o : Opening) (image : List ℕ) (m : MachineState) (there 
 -- ---- new handles
 
 pub handles_taken : (p q : Parts) (image : List ℕ) (m : MachineState) (all : List Stands) → StandsFor p image m → is_some p.index ≡ true
-    → All (λ (x : Stands). is_reached (history_in m.index) x ≡ true) all → q ≡ with_new p all (map (elements (history_in m.index)) all)
+    → All (λ (x : Stands). is_reached (history_in m.index) x ≡ true) all → q ≡ with_new_handles p all (map (elements (history_in m.index)) all)
     → StandsFor q image (with_handles m all)
 handles_taken p q image m [] s there reached is = subst (λ (x : Parts). StandsFor x image m) (sym (is ∙ same)) s
   where
     no_more : p.next + 0 ≡ p.next
     no_more = omega arith
 
-    same : with_new p [] [] ≡ p
+    same : with_new_handles p [] [] ≡ p
     same = λ i. record p { table = append-nil p.table i; graphs = append-nil p.graphs i; next = no_more i }
 handles_taken p q image m (x ∷ all) s there reached is =
     handles_taken one q image (with_handle m x) all
@@ -238,7 +238,7 @@ handles_taken p q image m (x ∷ all) s there reached is =
     count : p.next + suc (length all) ≡ p.next + 1 + length all
     count = omega arith
 
-    same : with_new p (x ∷ all) (graph ∷ more) ≡ with_new one all more
+    same : with_new_handles p (x ∷ all) (graph ∷ more) ≡ with_new_handles one all more
     same = λ i. record p {
       table = sym (append_assoc p.table ((p.next, x) ∷ []) (numbered (p.next + 1) all)) i;
       graphs = sym (append_assoc p.graphs (graph ∷ []) more) i;
@@ -265,11 +265,11 @@ overlays_same cols point base (t ∷ times) = λ i. Overlay t cols (base (point 
 -- the state that the session stands for with the new handles
 pub handles_stand : (p q : Parts) (x y : List ℕ) (m : MachineState) (times : List ℕ) (cols : Columns) (weight : ℕ) (singles : List ℕ) (bases : List (Option ℕ)) (graphs : List (List Element))
     → StandsFor p x m → x ≡ y → 1 ≤ length times → refused_by p 0 (retrieval_needs times (length times)) ≡ None → IsRetrieved m times cols weight singles bases graphs
-    → q ≡ with_new p (overlays_on cols times bases) graphs → StandsFor q y (with_handles m (overlays_on cols times bases))
+    → q ≡ with_new_handles p (overlays_on cols times bases) graphs → StandsFor q y (with_handles m (overlays_on cols times bases))
 handles_stand p q x y m times cols weight singles bases graphs s same some none r is =
     let free = retrieval_free p times some none in
     handles_taken p q y m (overlays_on cols times bases) (subst (λ image. StandsFor p image m) same s) free.0 (instants_reached p x m times bases cols s free.1)
-    (is ∙ ap (λ gs. with_new p (overlays_on cols times bases) gs) r.listed)
+    (is ∙ ap (λ gs. with_new_handles p (overlays_on cols times bases) gs) r.listed)
 
 -- ---- the step
 
@@ -285,7 +285,7 @@ moved_with c old new before after reply none step x y a b m s =
 
 -- a retrieval that gives new handles
 pub retrieval_accepted : (c : Command) (p q : Parts) (before after : Option (List ℕ)) (new : List Stands) (graphs : List (List Element)) (reply : Reply)
-    → WhereBothTold before after (λ x y. Moves c [] p x q y reply) → is_refusal reply.head ≡ false → after ≡ before → q ≡ with_new p new graphs
+    → WhereBothTold before after (λ x y. Moves c [] p x q y reply) → is_refusal reply.head ≡ false → after ≡ before → q ≡ with_new_handles p new graphs
     → Accepts c [] p before q after reply
 retrieval_accepted c p q before after new graphs reply moves accepts same is = record {
   moves = moves;
@@ -363,7 +363,7 @@ is_session p s index names recent view there count all = record {
 
 module _ (p : Parts) (o : Opening) (times : List ℕ) (cols : Columns) (told : Option (List ℕ)) (names : ℕ) (recent : List Event) (is : IsSession p o names recent)
     (inside : list_any (is_out (span_held (Some o))) times ≡ false)
-    (edges : List Edge) (edges_is : edges ≡ kept_edges o (events_in o.batches) cols (bases_in cols p.table)) (hold : All (HoldsNode p.table cols) (bases_in cols p.table)) where
+    (edges : List Edge) (edges_is : edges ≡ kept_edges o (event_total o.batches) cols (bases_in cols p.table)) (hold : All (HoldsNode p.table cols) (bases_in cols p.table)) where
   over_session : (image : List ℕ) (m : MachineState) (s : StandsFor p image m) → IsOver (z_of p o image m is.there s) image o names p.graph recent
   over_session image m s =
       subst (λ es. IsOver (z_of p o image m is.there s) image o names p.graph es) (sym is.all)
@@ -380,7 +380,7 @@ module _ (p : Parts) (o : Opening) (times : List ℕ) (cols : Columns) (told : O
       s.graphs ∙ (λ i. map (λ (e : ℕ × Stands). elements (history_in ((is_of p o image m is.there s).1.index i)) e.1) (sym s.table i)) in
       subst (λ (gs : List (List Element)). AreHeld z edges cols (held_by p.table gs)) (sym graphs)
       (subst (λ (es : List Edge). AreHeld z es cols (held_by p.table (map (λ (e : ℕ × Stands). elements z e.1) p.table))) (sym edges_is)
-      (bases_are_held z p.table cols (kept_ground o (events_in o.batches) cols (bases_in cols p.table)) hold))
+      (bases_are_held z p.table cols (kept_ground o (event_total o.batches) cols (bases_in cols p.table)) hold))
 
   pub retrieved_over : (r : Result Retrieved RetrievalFault)
       → IfOk r (λ x. length x.leads.items ≡ length times)
@@ -398,7 +398,7 @@ module _ (p : Parts) (o : Opening) (times : List ℕ) (cols : Columns) (told : O
       is_retrieved p o image m is.there s times cols x.weight x.singles.items (bases_of x.leads.items) (map (led_to p.graph (listed_by p) cols) x.leads.items) inside
       (subst (λ es. IsTreeOf es (points_over o p.recent times) x.weight (bases_of x.leads.items)) edges_is (subst (λ es. IsTreeOf edges (points_over o es times) x.weight (bases_of x.leads.items)) is.all tree))
       (subst (λ es. AreSingles (arcs_of es) (Root ∷ []) (points_over o p.recent times) x.singles.items) edges_is (subst (λ es. AreSingles (arcs_of edges) (Root ∷ []) (points_over o es times) x.singles.items) is.all singles))
-      (length-map x.leads.items (λ (l : GraphLead). base_of l.begins) ∙ count)
+      (length-map x.leads.items (λ (l : GraphLead). base_handle l.begins) ∙ count)
       (f (z_of p o image m is.there s) p.graph (listed_by p) (over_session image m s) (held_there image m s) (points_of_session image m s))) graphs
 
   pub taken_over : (r : Result Retrieved RetrievalFault) (before after : ℕ)

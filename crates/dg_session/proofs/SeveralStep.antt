@@ -24,7 +24,7 @@ use Rattle.dg_retrieval.specs.Retrieval.{TakesAtMostTree}
 use Rattle.dg_session.proofs.Retrievals.{handles_stand, if_some, moved_with, overlays_same, reads_failed, retrieval_accepted}
 use Rattle.dg_session.proofs.StandsFor.{one_image, one_told}
 use Rattle.dg_session.specs.Parts.{Parts}
-use Rattle.dg_session.specs.Reads.{IsRetrieved, Reads, is_early, with_new}
+use Rattle.dg_session.specs.Reads.{IsRetrieved, Reads, is_early, with_new_handles}
 use Rattle.dg_session.specs.Session.{Accepts, StandsFor, refused_by, retrieval_needs}
 
 module _ (p : Parts) (cols : Columns) (times : List ℕ) (count : ℕ) (number : length (take count times) ≡ count) (some : 1 ≤ count) where
@@ -41,7 +41,7 @@ module _ (p : Parts) (cols : Columns) (times : List ℕ) (count : ℕ) (number :
   module _ (free : refused_by p 0 (retrieval_needs (take count times) (length (take count times))) ≡ None) where
     pub several_answers : (q : Parts) (before after : Option (List ℕ)) (weight total : ℕ) (singles : List ℕ) (bases : List (Option ℕ)) (graphs : List (List Element)) (lines : List BodyLine) (reply : Reply) → after ≡ before
         → IfSome before (λ image. (m : MachineState) → StandsFor p image m → IsRetrieved m (take count times) cols weight singles bases graphs)
-        → q ≡ with_new p (overlays_on cols (take count times) bases) graphs
+        → q ≡ with_new_handles p (overlays_on cols (take count times) bases) graphs
         → total ≡ sum singles → lines ≡ handle_lines p.next (take count times) singles → reply ≡ record { head = head.Several weight total; body = lines }
         → Accepts (command.Several cols times count) [] p before q after reply
     several_answers q before after weight total singles bases graphs lines reply same got is total_is lines_are reply_is =

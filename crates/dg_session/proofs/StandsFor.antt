@@ -23,7 +23,7 @@ use Rattle.dg_machine.specs.declared.reply.Refusal.{Refusal}
 use Rattle.dg_machine.specs.declared.reply.Refusal.TheVariants as refusal
 use Rattle.dg_machine.specs.declared.stands.Stands.{Stands}
 use Rattle.dg_machine.specs.Answer.{with_handle}
-use Rattle.dg_machine.specs.MachineState.{MachineState, dependent_on, elements, entry_at, events_in_index, graphs_of, history_in, names_in}
+use Rattle.dg_machine.specs.MachineState.{MachineState, dependent_on, elements, stands_at, events_in_index, graphs_of, history_in, names_in}
 use Rattle.dg_machine.specs.Needs.{Needs, can_be_held, earliest, is_base, needs, of, refused, when}
 use Rattle.dg_session.proofs.HeldHistory.{count_is, span_is}
 use Rattle.dg_session.proofs.OpenedHistory.{behind}
@@ -177,8 +177,8 @@ refusals_of there limits params events span names table next read n =
     ++ (when (n.unloaded && is_some span) refusal.AlreadyLoaded
     ++ (when (nat_lt 0 n.changes && (nat_lt limits.events (events + n.changes) || nat_lt NAMES_MAX (names + 2 * n.changes))) (refusal.HistoryFull events n.changes)
     ++ (when (list_any (λ t. not (in_range span t)) n.instants) (refusal.OutOfRange span)
-    ++ (of n.handle (λ h. when (not (is_some (entry_at h table))) (refusal.UnknownHandle h))
-    ++ (of n.handle (λ h. when (n.overlay && is_base (entry_at h table)) (refusal.NotAnOverlay h))
+    ++ (of n.handle (λ h. when (not (is_some (stands_at h table))) (refusal.UnknownHandle h))
+    ++ (of n.handle (λ h. when (n.overlay && is_base (stands_at h table)) (refusal.NotAnOverlay h))
     ++ (of n.unused (λ h. of (dependent_on h table) (λ d. refusal.InUse d ∷ []))
     ++ (of n.node (λ v. when (not (can_be_held params events v)) refusal.UnknownNode)
     ++ (when (nat_lt 0 n.handles && nat_lt LIVE_HANDLES_MAX (length table + n.handles)) (refusal.PoolFull (length table) n.handles)

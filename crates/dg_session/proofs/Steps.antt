@@ -11,7 +11,7 @@ use Rattle.dg_machine.specs.declared.reply.Refusal.TheVariants as refusal
 use Rattle.dg_machine.specs.declared.reply.Reply.{Reply}
 use Rattle.dg_machine.specs.Answer.{Answered, IsPlannedBy, accepted, answer, answer_by, headed, is_begun, no_memory, is_refusal, store_read}
 use Rattle.dg_machine.specs.CutImage.{IsAccepted}
-use Rattle.dg_machine.specs.MachineState.{MachineState, entry_at, dependent_on}
+use Rattle.dg_machine.specs.MachineState.{MachineState, stands_at, dependent_on}
 use Rattle.dg_history.specs.History.{are_parameters, in_range}
 use Rattle.dg_machine.specs.declared.limits.TheConstants.{HANDLE_MAX, LIVE_HANDLES_MAX}
 use Rattle.dg_machine.specs.Needs.{Needs, earliest, following, is_followed, needs, of, refused, when, is_base}
@@ -121,8 +121,8 @@ never_read p read n =
     (when_not_read (n.unloaded && is_some (span_held p.index)) refusal.AlreadyLoaded _ refl
     (when_not_read (nat_lt 0 n.changes && is_too_full p n.changes) (refusal.HistoryFull (events_held p.index) n.changes) _ refl
     (when_not_read (list_any (λ t. not (in_range (span_held p.index) t)) n.instants) (refusal.OutOfRange (span_held p.index)) _ refl
-    (of_not_read n.handle (λ h. not (is_some (entry_at h p.table))) (λ h. refusal.UnknownHandle h) _ (λ h. refl)
-    (of_not_read n.handle (λ h. n.overlay && is_base (entry_at h p.table)) (λ h. refusal.NotAnOverlay h) _ (λ h. refl)
+    (of_not_read n.handle (λ h. not (is_some (stands_at h p.table))) (λ h. refusal.UnknownHandle h) _ (λ h. refl)
+    (of_not_read n.handle (λ h. n.overlay && is_base (stands_at h p.table)) (λ h. refusal.NotAnOverlay h) _ (λ h. refl)
     (used_not_read n.unused (λ h. dependent_on h p.table) _
     (of_not_read n.node (λ v. not (has_node_held p.index v)) (λ v. refusal.UnknownNode) _ (λ v. refl)
     (when_not_read (nat_lt 0 n.handles && nat_lt LIVE_HANDLES_MAX (length p.table + n.handles)) (refusal.PoolFull (length p.table) n.handles) _ refl

@@ -10,7 +10,7 @@ use Rattle.dg_history.specs.Keys.{same_key}
 use Rattle.dg_history.specs.LegalHistory.{IsLegal}
 use Rattle.dg_index.specs.declared.entry.Entry.{Entry}
 use Rattle.dg_index.specs.IndexRecords.{keys_of}
-use Rattle.dg_index.specs.OpenedIndex.{Opening, events_in, opened_of}
+use Rattle.dg_index.specs.OpenedIndex.{Opening, event_total, opened_of}
 use Rattle.dg_index.proofs.HeldRecords.{told_at}
 use Rattle.dg_machine.specs.declared.command.Command.TheVariants as command
 use Rattle.dg_machine.specs.declared.reply.BodyLine.TheVariants as line
@@ -59,7 +59,7 @@ listed z legal =
 
 -- ---- the answer
 
-pub tree_answers : (p : Parts) (image : Option (List ℕ)) (o : Opening) (reply : Reply) → p.index ≡ Some o → reply ≡ listing_of o (events_in o.batches)
+pub tree_answers : (p : Parts) (image : Option (List ℕ)) (o : Opening) (reply : Reply) → p.index ≡ Some o → reply ≡ listing_of o (event_total o.batches)
     → Accepts command.Tree [] p image p image reply
 tree_answers p image o reply there is = record {
   moves =
@@ -69,7 +69,7 @@ tree_answers p image o reply there is = record {
       let z : History = found.0 in
       let h : IsOf p o x m z = found.1 in
       let due : reply ≡ tree_reply (history_in m.index) =
-      is ∙ (λ i. listing_of (h.opened i) (events_in (h.opened i).batches)) ∙ ap (listing_of (opening_of z)) (count_is z h.stands.legal) ∙ listed z h.stands.legal ∙ sym (ap (λ (i : Option History). tree_reply (history_in i)) h.index) in (
+      is ∙ (λ i. listing_of (h.opened i) (event_total (h.opened i).batches)) ∙ ap (listing_of (opening_of z)) (count_is z h.stands.legal) ∙ listed z h.stands.legal ∙ sym (ap (λ (i : Option History). tree_reply (history_in i)) h.index) in (
         m,
         (λ i. record { reply = sym due i; state = m }),
         stands_on p p x y m refl (one_image image image x y refl a b) s,

@@ -21,9 +21,9 @@ command_with Load count = command.Load count
 command_with Append count = command.Append count
 
 -- the head of the reply where a batch was added
-abbrev pub head_of : BatchCommand → ℕ → ℕ → ℕ → Head
-head_of Load events total last = head.Loaded events total last
-head_of Append events total last = head.Appended events total last
+abbrev pub batch_head : BatchCommand → ℕ → ℕ → ℕ → Head
+batch_head Load events total last = head.Loaded events total last
+batch_head Append events total last = head.Appended events total last
 
 -- why no batch of so many lines is added, whatever its lines are
 abbrev pub barred : BatchCommand → Parts → ℕ → Option Refusal

@@ -4,7 +4,7 @@ use Rattle.dg_append.specs.OlderGroups.{IsBatchDamage}
 use Rattle.dg_graph.specs.declared.element.Column.{Column}
 use Rattle.dg_graph.specs.declared.element.Columns.{Columns}
 use Rattle.dg_history.specs.declared.node.Key.{Key}
-use Rattle.dg_index.specs.OpenedIndex.{Opening, events_in}
+use Rattle.dg_index.specs.OpenedIndex.{Opening, event_total}
 use Rattle.dg_machine.specs.declared.command.Command.{Command}
 use Rattle.dg_machine.specs.declared.command.Command.TheVariants as command
 use Rattle.dg_history.specs.declared.node.NodeId.{NodeId}
@@ -20,7 +20,7 @@ use Rattle.dg_retrieval.specs.Retrieval.{IsFirstDamage}
 use Rattle.dg_session.specs.declared.halt.Halt.{Halt}
 use Rattle.dg_session.specs.HeldIndex.{points_over}
 use Rattle.dg_session.specs.Parts.{Parts}
-use Rattle.dg_session.specs.Reads.{head_of}
+use Rattle.dg_session.specs.Reads.{reply_head}
 
 -- what a command reads records for: the graphs as of instants, in columns; the set of a node, in columns; the older
 -- children of a batch of so many lines; or nothing
@@ -44,7 +44,7 @@ reads_for c = Nothing_read
 abbrev pub NamesDamage : Parts → Option (List ℕ) → List ℕ × Columns → RetrievalFault → Type 0
 NamesDamage old image asked f =
     (o : Opening) × (old.index ≡ Some o)
-    × IfSome image (λ bytes. IsFirstDamage (length old.names) (kept_edges o (events_in o.batches) asked.1 (bases_in asked.1 old.table)) o asked.1 (points_over o old.recent asked.0) bytes f)
+    × IfSome image (λ bytes. IsFirstDamage (length old.names) (kept_edges o (event_total o.batches) asked.1 (bases_in asked.1 old.table)) o asked.1 (points_over o old.recent asked.0) bytes f)
 
 -- Of the set of a node that is not read so: the first damage among the columns that its plan enters, over the records
 -- alone.
@@ -73,4 +73,4 @@ DamageIs c old image h = Unit {0}
 
 -- the same of what the command comes to
 abbrev pub DamageIn : Command → Parts → Option (List ℕ) → Result Reply Halt → Type 0
-DamageIn c old image r = IfSome (head_of r) (λ h. DamageIs c old image h)
+DamageIn c old image r = IfSome (reply_head r) (λ h. DamageIs c old image h)

@@ -7,7 +7,7 @@ use Rattle.dg_history.specs.declared.node.NodeId.{NodeId}
 use Rattle.dg_history.specs.declared.node.NodeId.TheVariants.{Root}
 use Rattle.dg_history.specs.declared.params.Params.{Params}
 use Rattle.dg_index.specs.declared.entry.Ends.{Ends}
-use Rattle.dg_index.specs.OpenedIndex.{Opening, events_in, span_in}
+use Rattle.dg_index.specs.OpenedIndex.{Opening, event_total, span_in}
 use Rattle.dg_machine.specs.declared.stands.Stands.{Stands}
 use Rattle.dg_machine.specs.declared.stands.Stands.TheVariants.{Overlay, Base}
 use Rattle.dg_machine.specs.Needs.{can_be_held}
@@ -18,7 +18,7 @@ use Rattle.dg_shape.specs.Points.{point_of}
 -- how many events it has
 abbrev pub events_held : Option Opening → ℕ
 events_held None = 0
-events_held (Some o) = events_in o.batches
+events_held (Some o) = event_total o.batches
 
 abbrev pub ends_pair : Option Ends → Option (ℕ × ℕ)
 ends_pair None = None

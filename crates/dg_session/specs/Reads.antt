@@ -27,7 +27,7 @@ use Rattle.dg_plan.specs.HistoryGraph.{all_columns}
 use Rattle.dg_plan.specs.IndexGraph.{arcs_of}
 use Rattle.dg_plan.specs.Walks.{AreSingles, IsPlan, weight_of}
 use Rattle.dg_retrieval.specs.declared.graph_lead.GraphLead.{GraphLead}
-use Rattle.dg_retrieval.specs.Beginnings.{base_of}
+use Rattle.dg_retrieval.specs.Beginnings.{base_handle}
 use Rattle.dg_retrieval.specs.Retrieval.{IsTreeOf}
 use Rattle.dg_session.specs.declared.halt.Halt.{Halt}
 use Rattle.dg_session.specs.declared.halt.Halt.TheVariants as halt
@@ -35,8 +35,8 @@ use Rattle.dg_session.specs.Parts.{Parts}
 use Rattle.dg_session.specs.Session.{StandsFor}
 
 -- the session with new handles for these behind those that it has, which list these graphs
-abbrev pub with_new : Parts → List Stands → List (List Element) → Parts
-with_new p new graphs = record p {
+abbrev pub with_new_handles : Parts → List Stands → List (List Element) → Parts
+with_new_handles p new graphs = record p {
   table = p.table ++ numbered p.next new;
   graphs = p.graphs ++ graphs;
   next = p.next + length new;
@@ -44,7 +44,7 @@ with_new p new graphs = record p {
 
 -- the handles on which new graphs rest, where they rest on one
 abbrev pub bases_of : List GraphLead → List (Option ℕ)
-bases_of leads = map (λ (l : GraphLead). base_of l.begins) leads
+bases_of leads = map (λ (l : GraphLead). base_handle l.begins) leads
 
 -- the graph that a handle lists
 abbrev pub listed_by : Parts → ℕ → List Element
@@ -116,11 +116,11 @@ pub record Reads (c : Command) (old : Parts) (image : Option (List ℕ)) (h : He
   pub nothing : is_quiet c ≡ true → after ≡ before
 
 -- the first line of the reply to a command that comes to this, unless it is stopped
-abbrev pub head_of : Result Reply Halt → Option Head
-head_of (Ok reply) = Some reply.head
-head_of (Err (halt.Refusal r)) = Some (head.Refused r)
-head_of (Err (halt.Stop s)) = None
+abbrev pub reply_head : Result Reply Halt → Option Head
+reply_head (Ok reply) = Some reply.head
+reply_head (Err (halt.Refusal r)) = Some (head.Refused r)
+reply_head (Err (halt.Stop s)) = None
 
 -- the same of what the command comes to
 abbrev pub ReadsIn : Command → Parts → Option (List ℕ) → Result Reply Halt → ℕ → ℕ → Type 0
-ReadsIn c old image r before after = IfSome (head_of r) (λ h. Reads c old image h before after)
+ReadsIn c old image r before after = IfSome (reply_head r) (λ h. Reads c old image h before after)

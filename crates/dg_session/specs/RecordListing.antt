@@ -23,8 +23,8 @@ abbrev pub held_line : List (Key × Entry) → Key → BodyLine
 held_line records k = line.Sizes k (lengths_held (lookup (same_key k) records))
 
 -- the keys of the deltas from the interior nodes of a height to their children
-abbrev pub downs_of : ℕ → ℕ → ℕ → List Key
-downs_of arity leaves h = map (λ c. key.Down h c) (numbers 1 (leaves / arity ^ h * arity))
+abbrev pub down_keys : ℕ → ℕ → ℕ → List Key
+down_keys arity leaves h = map (λ c. key.Down h c) (numbers 1 (leaves / arity ^ h * arity))
 
 -- the reply of an index with so many events
 abbrev pub listing_of : Opening → ℕ → Reply

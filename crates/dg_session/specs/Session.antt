@@ -16,7 +16,7 @@ use Rattle.dg_machine.specs.declared.stands.Stands.{Stands}
 use Rattle.dg_machine.specs.declared.stands.Stands.TheVariants.{Overlay, Base}
 use Rattle.dg_machine.specs.Answer.{headed, is_refusal}
 use Rattle.dg_machine.specs.CutImage.{IsCut}
-use Rattle.dg_machine.specs.MachineState.{MachineState, dependent_on, entry_at, graphs_of, history_in}
+use Rattle.dg_machine.specs.MachineState.{MachineState, dependent_on, stands_at, graphs_of, history_in}
 use Rattle.dg_machine.specs.Needs.{Needs, can_be_held, earliest, following, is_base, is_writing, needs, nothing_more, of, when}
 use Rattle.dg_machine.specs.Run.{Step}
 use Rattle.dg_machine.specs.Script.{Asked, Follows}
@@ -85,8 +85,8 @@ refusals_by there p read n =
     ++ (when (n.unloaded && is_some (span_held p.index)) refusal.AlreadyLoaded
     ++ (when (nat_lt 0 n.changes && is_too_full p n.changes) (refusal.HistoryFull (events_held p.index) n.changes)
     ++ (when (list_any (λ t. not (in_range (span_held p.index) t)) n.instants) (refusal.OutOfRange (span_held p.index))
-    ++ (of n.handle (λ h. when (not (is_some (entry_at h p.table))) (refusal.UnknownHandle h))
-    ++ (of n.handle (λ h. when (n.overlay && is_base (entry_at h p.table)) (refusal.NotAnOverlay h))
+    ++ (of n.handle (λ h. when (not (is_some (stands_at h p.table))) (refusal.UnknownHandle h))
+    ++ (of n.handle (λ h. when (n.overlay && is_base (stands_at h p.table)) (refusal.NotAnOverlay h))
     ++ (of n.unused (λ h. of (dependent_on h p.table) (λ d. refusal.InUse d ∷ []))
     ++ (of n.node (λ v. when (not (has_node_held p.index v)) refusal.UnknownNode)
     ++ (when (nat_lt 0 n.handles && nat_lt LIVE_HANDLES_MAX (length p.table + n.handles)) (refusal.PoolFull (length p.table) n.handles)

@@ -26,13 +26,13 @@ pub record IsNew (limits : Limits) (session : Parts) : Type 0 where
 -- ---- soundness
 
 -- where the image is an index, it is exactly what its own events determine
-abbrev pub IsSound : List ℕ → Type 0
-IsSound image = (x : Opened) → opening image ≡ Ok x → (n : ℕ) × (soundness_of image x ≡ Sound n)
+abbrev pub IsSoundImage : List ℕ → Type 0
+IsSoundImage image = (x : Opened) → opening image ≡ Ok x → (n : ℕ) × (soundness_of image x ≡ Sound n)
 
 -- the image is an index, and this record is its first, in the order of keys, and this the first column of it, that is
 -- not what its own events determine
-abbrev pub IsUnsound : List ℕ → Key → Column → Type 0
-IsUnsound image key col = (x : Opened) × (opening image ≡ Ok x) × (soundness_of image x ≡ Unsound key col)
+abbrev pub IsUnsoundImage : List ℕ → Key → Column → Type 0
+IsUnsoundImage image key col = (x : Opened) × (opening image ≡ Ok x) × (soundness_of image x ≡ Unsound key col)
 
 -- the image stands for a history, or for no index
 abbrev pub IsStanding : List ℕ → Type 0
@@ -43,9 +43,9 @@ IsStanding image = (index : Option History) × StandsAs index image
 -- What an image comes to as the beginning of a session, checked or not: what it starts with, and with a check only if
 -- it is sound; why it does not start; or what is not sound in an image that starts.
 abbrev pub Begins : Bool → List ℕ → Result (Option Started) SessionFault → Type 0
-Begins checked image (Ok s) = Starts image (Ok s) × (checked ≡ true → IsSound image)
+Begins checked image (Ok s) = Starts image (Ok s) × (checked ≡ true → IsSoundImage image)
 Begins checked image (Err (fault.Start f)) = Starts image (Err f)
-Begins checked image (Err (fault.Unsound key col)) = (s : Option Started) × Starts image (Ok s) × (checked ≡ true) × IsUnsound image key col
+Begins checked image (Err (fault.Unsound key col)) = (s : Option Started) × Starts image (Ok s) × (checked ≡ true) × IsUnsoundImage image key col
 
 -- The fault is why no session begins. Of a failure of the disk and of want of memory nothing is said.
 abbrev pub RefusesSession : Bool → SessionFault → List ℕ → Type 0
@@ -67,4 +67,4 @@ fault_of_verify verify_fault.Memory = fault.Start start_fault.Memory
 -- what a check fails for: the disk, want of memory, or what is not sound in the image
 abbrev pub FailsCheck : SessionFault → List ℕ → Type 0
 FailsCheck (fault.Start f) image = (f ≡ start_fault.Disk) ⊎ (f ≡ start_fault.Memory)
-FailsCheck (fault.Unsound key col) image = IsUnsound image key col
+FailsCheck (fault.Unsound key col) image = IsUnsoundImage image key col

@@ -4,7 +4,7 @@ ghost use Rattle.std.specs.Prelude.{◌≡◌, ◌≤◌, ◌<◌, ℕ, true, If
 ghost use Rattle.dg_append.specs.AddedBatches.{AddsBatch, FailsBatch, IsBack, IsReady, ReadsNothing, TakesOlder};
 ghost use Rattle.dg_disk.specs.Counts.{Rose};
 ghost use Rattle.dg_disk.specs.Frame.{GoesOn};
-ghost use Rattle.dg_handles.specs.Handles.{IsTied, graphs_at};
+ghost use Rattle.dg_handles.specs.Handles.{IsTied, slot_graphs};
 ghost use Rattle.dg_history.specs.declared.limits.TheConstants.{FILE_BYTES_MAX};
 ghost use Rattle.dg_pool.specs.Graphs.{graph_now, slot_graph};
 ghost use Rattle.dg_session.specs.BatchCommand.{HandlesStay};
@@ -32,7 +32,7 @@ pub fn add_changes<R: Threads, D: Disk>(
     alloc: Global,
     limit: u64,
     known: u32,
-    batch: &BatchLines,
+    batch: BatchLines,
     history: &mut StoredHistory,
     pool: &mut Pool,
     handles: &mut Handles,
@@ -40,33 +40,33 @@ pub fn add_changes<R: Threads, D: Disk>(
     disk: &mut D,
 ) -> Result<AddedBatch, BatchFault>
     requires index { is_some history.old.index ≡ true }
-    requires ready { IfSome (index_opening history.old.index) (λ o. IsReady o known history.old batch.now.front batch.now.changes.items) }
+    requires ready { IfSome (index_opening history.old.index) (λ o. IsReady o known history.old batch.front batch.changes.items) }
     requires limit { limit ≤ FILE_BYTES_MAX }
     requires image { IfSome (D.image disk.old) (λ image. IsHeldBy (index_opening history.old.index) (take known history.old.names) image) }
     requires pool { graph_now pool.old ≡ history.old.now.graph }
     requires tied { IsTied pool.old handles.old }
     requires nodes { HasNodes (index_opening history.old.index) handles.old.table }
-    requires adjacency { KeepsAdjacency handles.old.table (graphs_at pool.old handles.old.slots) adjacency.old }
+    requires adjacency { KeepsAdjacency handles.old.table (slot_graphs pool.old handles.old.slots) adjacency.old }
     // what is added, or why nothing is
     ensures adds { IfOk result (λ added. IfSome (index_opening history.old.index) (λ o.
-        AddsBatch o limit known history.old history.new (D.image disk.old) (D.image disk.new) batch.now.changes.items batch.now.front added)) }
+        AddsBatch o limit known history.old history.new (D.image disk.old) (D.image disk.new) batch.changes.items batch.front added)) }
     ensures fails { IfErr result (λ fault. IfSome (index_opening history.old.index) (λ o.
-        FailsBatch o limit known history.old (D.image disk.old) (D.image disk.new) batch.now.changes.items batch.now.front fault)) }
+        FailsBatch o limit known history.old (D.image disk.old) (D.image disk.new) batch.changes.items batch.front fault)) }
     ensures back { IfErr result (λ fault. IsBack fault known history.old history.new) }
     ensures sound { IsSoundHistory (index_opening history.new.index) history.new.names history.new.now history.new.recent.items }
     // the pool and the handles
     ensures pool { graph_now pool.new ≡ history.new.now.graph }
     ensures tied { IsTied pool.new handles.new }
     ensures nodes { HasNodes (index_opening history.new.index) handles.new.table }
-    ensures adjacency { KeepsAdjacency handles.new.table (graphs_at pool.new handles.new.slots) adjacency.new }
+    ensures adjacency { KeepsAdjacency handles.new.table (slot_graphs pool.new handles.new.slots) adjacency.new }
     ensures handles { OnOk result (handles.new ≡ handles.old) }
     ensures graphs { OnOk result ((s : ℕ) → slot_graph pool.new s ≡ slot_graph pool.old s) }
     ensures handles_back { IfErr result (λ fault. HandlesStay fault handles.old handles.new pool.old pool.new) }
     // the bytes read
     ensures takes { IfSome (index_opening history.old.index) (λ o.
-        TakesOlder (D.image disk.old) o known history.old (length batch.now.changes.items) (D.taken disk.old) (D.taken disk.new)) }
+        TakesOlder (D.image disk.old) o known history.old (length batch.changes.items) (D.taken disk.old) (D.taken disk.new)) }
     ensures nothing { IfErr result (λ fault. ReadsNothing fault (D.taken disk.old) (D.taken disk.new)) }
-    ensures unread { (batch.now.front ≡ Front.Whole → ⊥) → D.taken disk.new ≡ D.taken disk.old }
+    ensures unread { (batch.front ≡ Front.Whole → ⊥) → D.taken disk.new ≡ D.taken disk.old }
     // causes
     ensures cause { IsErrOf result BatchFault.Store → Rose (D.write_faults disk.old) (D.write_faults disk.new) }
     ensures read { IsErrOf result BatchFault.Read → Rose (D.faults disk.old) (D.faults disk.new) × (D.write_faults disk.new ≡ D.write_faults disk.old) }
@@ -76,9 +76,7 @@ pub fn add_changes<R: Threads, D: Disk>(
     law_tie_is_kept();
     have_lists(history);
     let BatchLines { front, changes, .. } = batch;
-    match add_batch(
-        rt, alloc, limit, known, *front, changes, history, pool, disk,
-    ) {
+    match add_batch(rt, alloc, limit, known, front, changes, history, pool, disk) {
         Ok(added) => Ok(added),
         Err(BatchFault::Store) => {
             *history = StoredHistory::empty(alloc);

@@ -1,7 +1,7 @@
 //! The commands that add a batch.
 
 ghost use Rattle.std.specs.Prelude.{◌≡◌};
-ghost use Rattle.dg_session.specs.BatchCommand.{head_of};
+ghost use Rattle.dg_session.specs.BatchCommand.{batch_head};
 
 use dg_append::AddedBatch;
 use dg_machine::Head;
@@ -18,7 +18,7 @@ pub enum BatchCommand {
 impl BatchCommand {
     /// The first line of the reply where this was added.
     pub fn head(self, added: AddedBatch) -> Head
-        ensures { result ≡ head_of self added.events added.total added.last }
+        ensures { result ≡ batch_head self added.events added.total added.last }
     {
         let AddedBatch {
             events,

@@ -4,7 +4,7 @@
 ghost use Rattle.std.specs.Prelude.{◌≡◌, ℕ, ◌≤◌, ◌<◌, ◌*◌, ◌^◌, true, false, List, [], ◌++◌, Some, length, nat_le, slice_get, IfOk, OnOk};
 ghost use Rattle.dg_history.specs.declared.limits.TheConstants.{BATCH_LINES_MAX};
 ghost use Rattle.dg_history.specs.History.{in_range};
-ghost use Rattle.dg_index.specs.OpenedIndex.{events_in};
+ghost use Rattle.dg_index.specs.OpenedIndex.{event_total};
 ghost use Rattle.dg_machine.specs.Answer.{potential_lines, step_lines};
 ghost use Rattle.dg_plan.specs.CertificateLines.{judged};
 ghost use Rattle.dg_planner.specs.HistoryLaws.{first_time_in};
@@ -185,8 +185,8 @@ pub fn plan_reply(
     cols: Columns,
 ) -> Result<Reply, AllocError>
     requires there { in_range (span_held (Some index.now.opening)) t ≡ true }
-    requires nodes { planner.now.nodes ≡ kept_nodes index.now.opening (events_in index.now.opening.batches) cols }
-    ensures { IfOk result (λ reply. (bases : List (ℕ × NodeId)) → planner.now.edges ≡ kept_edges index.now.opening (events_in index.now.opening.batches) cols bases
+    requires nodes { planner.now.nodes ≡ kept_nodes index.now.opening (event_total index.now.opening.batches) cols }
+    ensures { IfOk result (λ reply. (bases : List (ℕ × NodeId)) → planner.now.edges ≡ kept_edges index.now.opening (event_total index.now.opening.batches) cols bases
         → IsPlanReply index.now.opening recent.now bases t cols reply) }
 {
     index.facts();

@@ -6,8 +6,8 @@ ghost use Rattle.dg_graph.specs.declared.function.Function.{Function};
 ghost use Rattle.dg_history.specs.declared.node.Key.TheVariants as key;
 ghost use Rattle.dg_index.specs.Hierarchy.{numbers};
 ghost use Rattle.dg_index.specs.IndexRecords.{heights, keys_of};
-ghost use Rattle.dg_index.specs.OpenedIndex.{events_in};
-ghost use Rattle.dg_session.specs.RecordListing.{downs_of, held_line, listing_of};
+ghost use Rattle.dg_index.specs.OpenedIndex.{event_total};
+ghost use Rattle.dg_session.specs.RecordListing.{down_keys, held_line, listing_of};
 ghost use Rattle.dg_shape.specs.Shapes.{IsShape, made_with};
 
 use crate::planning::shape_of;
@@ -105,7 +105,7 @@ fn add_downs(
     requires leaves { leaves < 2 ^ 31 }
     requires low { 2 ≤ arity }
     requires high { arity ≤ 64 }
-    ensures { OnOk result (lines.new.items ≡ lines.old.items ++ map (held_line catalogue.now.entries) (flat_map (downs_of arity leaves) (heights arity leaves))) }
+    ensures { OnOk result (lines.new.items ≡ lines.old.items ++ map (held_line catalogue.now.entries) (flat_map (down_keys arity leaves) (heights arity leaves))) }
 {
     let mut below = 0;
     let mut width = arity as u64;
@@ -138,7 +138,7 @@ fn record_lines(
 
 /// The reply with the parameters of an index, and a line for each of its records.
 pub fn tree_reply(alloc: Global, index: &Index) -> Result<Reply, AllocError>
-    ensures { IfOk result (λ reply. reply ≡ listing_of index.now.opening (events_in index.now.opening.batches)) }
+    ensures { IfOk result (λ reply. reply ≡ listing_of index.now.opening (event_total index.now.opening.batches)) }
 {
     index.facts();
     let events = index.events_len();

@@ -12,7 +12,7 @@ ghost use Rattle.dg_graph.specs.Composition.{applied};
 ghost use Rattle.dg_graph.specs.Elements.{shown};
 ghost use Rattle.dg_history.specs.History.{History, events_of, in_range};
 ghost use Rattle.dg_index.specs.Hierarchy.{set_of};
-ghost use Rattle.dg_index.specs.OpenedIndex.{events_in};
+ghost use Rattle.dg_index.specs.OpenedIndex.{event_total};
 ghost use Rattle.dg_machine.specs.declared.command.TheConstants.{TIMES_MAX};
 ghost use Rattle.dg_graph.specs.declared.element.Element.{Element};
 ghost use Rattle.dg_machine.specs.declared.limits.TheConstants.{HANDLE_MAX};
@@ -68,7 +68,7 @@ pub fn leads_at<R: Threads, D: Disk>(
 ) -> Result<Retrieved, RetrievalFault>
     requires image { IfSome (D.image disk.old) (λ image. IsOpenedAs image index.old.opening) }
     requires edges { IsKeptGraph index.old.opening cols planner.now.edges }
-    requires nodes { planner.now.nodes ≡ kept_nodes index.old.opening (events_in index.old.opening.batches) cols }
+    requires nodes { planner.now.nodes ≡ kept_nodes index.old.opening (event_total index.old.opening.batches) cols }
     requires few { length times.now ≤ TIMES_MAX }
     requires there { list_any (λ t. not (in_range (span_held (Some index.old.opening)) t)) times.now ≡ false }
     // the graphs and the weights

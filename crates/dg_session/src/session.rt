@@ -7,7 +7,7 @@ ghost use Rattle.dg_fold.specs.BytesRead.{Takes, TakesAtMost};
 ghost use Rattle.dg_io.specs.Frame.{Advances};
 ghost use Rattle.dg_io.specs.Told.{CountRose};
 ghost use Rattle.dg_io.specs.LinesState.{told, NeedsByte};
-ghost use Rattle.dg_handles.specs.Handles.{BeginsOn, IsTied, graph_among, graphs_at, overlays_on};
+ghost use Rattle.dg_handles.specs.Handles.{BeginsOn, IsTied, graph_among, slot_graphs, overlays_on};
 ghost use Rattle.dg_history.specs.declared.limits.TheConstants.{BATCH_LINES_MAX, EVENTS_MAX};
 ghost use Rattle.dg_graph.specs.Composition.{applied};
 ghost use Rattle.dg_graph.specs.Elements.{shown};
@@ -22,7 +22,7 @@ ghost use Rattle.dg_machine.specs.Needs.{following, is_base, is_writing, needs};
 ghost use Rattle.dg_history.specs.History.{History, are_parameters, in_range};
 ghost use Rattle.dg_index.specs.ImageOfHistory.{IsImageOf, StandsAs};
 ghost use Rattle.dg_index.specs.OpenedIndex.{opened_of};
-ghost use Rattle.dg_machine.specs.MachineState.{IsWithin, MachineState, entry_at, machine_at};
+ghost use Rattle.dg_machine.specs.MachineState.{IsWithin, MachineState, stands_at, machine_at};
 ghost use Rattle.dg_history.specs.declared.node.NodeId.TheVariants.{Root};
 ghost use Rattle.dg_plan.specs.IndexGraph.{arcs_of};
 ghost use Rattle.dg_plan.specs.Walks.{IsPlan, weight_of};
@@ -35,10 +35,10 @@ ghost use Rattle.dg_session.specs.BatchCommand.{barred, command_with};
 ghost use Rattle.dg_session.specs.HeldIndex.{events_held, span_held};
 ghost use Rattle.dg_session.specs.Damage.{DamageIn, DamageIs, NamesDamage, NamesNodeDamage};
 ghost use Rattle.dg_session.specs.Parts.{Parts};
-ghost use Rattle.dg_session.specs.Reads.{IsNodeHeld, IsRetrieved, Reads, ReadsIn, bases_of, listed_by, with_new};
+ghost use Rattle.dg_session.specs.Reads.{IsNodeHeld, IsRetrieved, Reads, ReadsIn, bases_of, listed_by, with_new_handles};
 ghost use Rattle.dg_session.specs.Session.{ComesTo, StandsFor, Steps, Stops, TakesLines, is_too_full, node_needs, refused_by, retrieval_needs};
 ghost use Rattle.dg_session.specs.SessionState.{handles_of};
-ghost use Rattle.dg_session.specs.SessionStart.{Begins, FailsCheck, IsNew, IsSound, IsStanding, RefusesSession};
+ghost use Rattle.dg_session.specs.SessionStart.{Begins, FailsCheck, IsNew, IsSoundImage, IsStanding, RefusesSession};
 ghost use Rattle.dg_session.specs.Sweeps.{SweepsNothing, SweepsPool};
 ghost use Rattle.dg_session.specs.Verified.{IsOfFile, VerifiesFile};
 ghost use Rattle.dg_start.specs.SessionStart.{PlansLastLeaf, RefusesStart, Starts, start_bytes};
@@ -75,7 +75,6 @@ use dg_machine::{
 use dg_names::Names;
 use dg_pool::Pool;
 use dg_retrieval::{GraphLead, NodeLead, RetrievalFault, Retrieved};
-use dg_set::Set;
 use dg_sound::Soundness;
 use dg_sound_files::{law_sound_files_stand, law_standing_files_are_sound};
 use dg_start::{OpenedFile, StartFault, StoredHistory, open};
@@ -102,7 +101,7 @@ pub struct Session {
 
 impl Model for Session {
     ghost use Rattle.std.specs.Prelude.{◌≡◌};
-    ghost use Rattle.dg_handles.specs.Handles.{IsTied, graphs_at};
+    ghost use Rattle.dg_handles.specs.Handles.{IsTied, slot_graphs};
     ghost use Rattle.dg_machine.specs.MachineState.{IsWithin};
     ghost use Rattle.dg_pool.specs.Graphs.{graph_now};
     ghost use Rattle.dg_session.specs.HeldIndex.{HasNodes};
@@ -121,7 +120,7 @@ impl Model for Session {
         graph = s.history.now.graph;
         recent = s.history.recent.items;
         table = s.handles.table;
-        graphs = graphs_at s.pool s.handles.slots;
+        graphs = slot_graphs s.pool s.handles.slots;
         next = s.handles.next;
       };
       pool = s.pool;
@@ -135,7 +134,7 @@ impl Model for Session {
         × IsTied s.pool s.handles
         × HasNodes (index_opening s.history.index) s.handles.table
         × IsKeptFor (index_opening s.history.index) s.handles.table s.planner
-        × KeepsAdjacency s.handles.table (graphs_at s.pool s.handles.slots) s.adjacency };
+        × KeepsAdjacency s.handles.table (slot_graphs s.pool s.handles.slots) s.adjacency };
 }
 
 impl Session {
@@ -218,8 +217,16 @@ impl Session {
         ensures disk { ReadsAndSyncs D.image D.faults D.write_faults disk.old disk.new }
     {
         let handles = Handles::new(alloc, limits.first_handle)?;
-        let OpenedFile { history, last_set } = open(rt, alloc, disk)?;
-        let pool = pool_of(alloc, &last_set, &history.recent)?;
+        let OpenedFile { history, made } = open(
+            rt,
+            alloc,
+            disk,
+            |set| -> Result<Pool, AllocError>
+                ensures now { IfOk result (λ pool. graph_now pool ≡ set.now) }
+                ensures none { IfOk result (λ pool. (s : ℕ) → slot_graph pool s ≡ None) }
+            { Pool::from_set(alloc, set) },
+        )?;
+        let pool = past_events(made?, &history.recent)?;
         Ok(Session {
             limits,
             history,
@@ -234,7 +241,7 @@ impl Session {
     // Nothing where the file is what its own events determine, or there is no index, and else why not.
     fn check<R: Threads, D: Disk>(&mut self, rt: &R, disk: &mut D) -> Result<(), SessionFault>
         requires image { IfSome (D.image disk.old) (λ image. IsHeldBy self.old.parts.index self.old.parts.names image) }
-        ensures sound { OnOk result (IfSome (D.image disk.old) (λ image. IsSound image)) }
+        ensures sound { OnOk result (IfSome (D.image disk.old) (λ image. IsSoundImage image)) }
         // why not
         ensures fails { IfErr result (λ fault. IfSome (D.image disk.old) (λ image. FailsCheck fault image)) }
         ensures cause { IsErrOf result (SessionFault.Start StartFault.Disk) → DiskRose (D.faults disk.old) (D.faults disk.new) }
@@ -263,7 +270,7 @@ impl Session {
     pub fn pool(&self) -> &Pool
         ensures pool { result.now ≡ self.now.pool }
         ensures now { graph_now result.now ≡ self.now.parts.graph }
-        ensures graphs { graphs_at result.now self.now.slots ≡ self.now.parts.graphs }
+        ensures graphs { slot_graphs result.now self.now.slots ≡ self.now.parts.graphs }
         ensures tied { IsTied result.now (handles_of self.now) }
     {
         &self.pool
@@ -525,7 +532,7 @@ impl Session {
             self.alloc,
             self.limits.file_bytes,
             known,
-            &batch,
+            batch,
             &mut self.history,
             &mut self.pool,
             &mut self.handles,
@@ -571,7 +578,7 @@ impl Session {
             self.alloc,
             self.limits.file_bytes,
             known,
-            &batch,
+            batch,
             &mut self.history,
             &mut self.pool,
             &mut self.handles,
@@ -722,7 +729,7 @@ impl Session {
         requires room { length self.old.parts.table + length times.now ≤ LIVE_HANDLES_MAX }
         requires numbers { self.old.parts.next + length times.now ≤ HANDLE_MAX + 1 }
         requires leads { length leads.now ≡ length times.now }
-        ensures added { OnOk result (self.new.parts ≡ with_new self.old.parts (overlays_on cols times.now (bases_of leads.now)) (map (led_to self.old.parts.graph (listed_by self.old.parts) cols) leads.now)) }
+        ensures added { OnOk result (self.new.parts ≡ with_new_handles self.old.parts (overlays_on cols times.now (bases_of leads.now)) (map (led_to self.old.parts.graph (listed_by self.old.parts) cols) leads.now)) }
         ensures err { OnErr result (self.new.parts ≡ self.old.parts) }
     {
         self.handles.add(&mut self.pool, cols, times, leads)
@@ -854,7 +861,7 @@ impl Session {
     // A new handle that holds what the delta leads to from nothing: the set of the node in these columns.
     fn add_base(&mut self, node: NodeId, cols: Columns, delta: &Delta) -> Result<(), AllocError>
         requires free { refused_by self.old.parts 0 (node_needs node) ≡ None }
-        ensures added { OnOk result (self.new.parts ≡ with_new self.old.parts (Stands.Base node cols ∷ []) (shown (applied delta.now []) cols ∷ [])) }
+        ensures added { OnOk result (self.new.parts ≡ with_new_handles self.old.parts (Stands.Base node cols ∷ []) (shown (applied delta.now []) cols ∷ [])) }
         ensures err { OnErr result (self.new.parts ≡ self.old.parts) }
     {
         self.planner.forget();
@@ -906,8 +913,8 @@ impl Session {
     // The graph of a handle, or why nothing is asked of it.
     fn graph_of(&self, handle: u32) -> Result<View<'_>, Refusal>
         ensures graph { IfOk result (λ graph. graph_among handle self.now.parts.table self.now.parts.graphs ≡ Some graph) }
-        ensures live { OnOk result (is_some (entry_at handle self.now.parts.table) ≡ true) }
-        ensures none { IfErr result (λ refusal. (is_some (entry_at handle self.now.parts.table) ≡ false) × (refusal ≡ Refusal.UnknownHandle handle)) }
+        ensures live { OnOk result (is_some (stands_at handle self.now.parts.table) ≡ true) }
+        ensures none { IfErr result (λ refusal. (is_some (stands_at handle self.now.parts.table) ≡ false) × (refusal ≡ Refusal.UnknownHandle handle)) }
     {
         match self.handles.view(&self.pool, handle) {
             Some(graph) => Ok(graph),
@@ -1066,9 +1073,9 @@ fn are_parameters(params: Params) -> bool
 // The graph of a handle that stands for an instant, or why no node of it is asked for.
 fn overlay_of<'a>(handles: &Handles, pool: &'a Pool, handle: u32) -> Result<View<'a>, Refusal>
     requires tied { IsTied pool.now handles.now }
-    ensures graph { IfOk result (λ graph. graph_among handle handles.now.table (graphs_at pool.now handles.now.slots) ≡ Some graph) }
-    ensures live { OnOk result (is_some (entry_at handle handles.now.table) ≡ true) }
-    ensures overlay { OnOk result (is_base (entry_at handle handles.now.table) ≡ false) }
+    ensures graph { IfOk result (λ graph. graph_among handle handles.now.table (slot_graphs pool.now handles.now.slots) ≡ Some graph) }
+    ensures live { OnOk result (is_some (stands_at handle handles.now.table) ≡ true) }
+    ensures overlay { OnOk result (is_base (stands_at handle handles.now.table) ≡ false) }
     ensures refused { IfErr result (λ refusal. (p : Parts) → p.table ≡ handles.now.table
         → (id : ℕ) → refused_by p 0 (needs (Command.Node handle id)) ≡ Some refusal) }
 {
@@ -1134,12 +1141,11 @@ fn first_of<'a>(times: &'a [u64], count: u8) -> &'a [u64]
     &times[..usize::from(count)]
 }
 
-// A pool whose current graph is this set, past the events, and which has no other graph.
-fn pool_of(alloc: Global, set: &Set, events: &[Event]) -> Result<Pool, AllocError>
-    ensures now { IfOk result (λ pool. graph_now pool ≡ replay_from set.now events.now) }
-    ensures none { IfOk result (λ pool. (s : ℕ) → slot_graph pool s ≡ None) }
+// The pool, with its current graph past the events. An `Err` says that memory ran out.
+fn past_events(mut pool: Pool, events: &[Event]) -> Result<Pool, AllocError>
+    ensures now { IfOk result (λ after. graph_now after ≡ replay_from (graph_now pool) events.now) }
+    ensures slots { IfOk result (λ after. (s : ℕ) → slot_graph after s ≡ slot_graph pool s) }
 {
-    let mut pool = Pool::from_set(alloc, set)?;
     pool.make_room(events)?;
     pool.apply_now(events);
     Ok(pool)

@@ -10,7 +10,7 @@ use Rattle.dg_history.specs.declared.node.NodeId.TheVariants as node
 use Rattle.dg_history.specs.declared.params.Params.{Params}
 use Rattle.dg_history.specs.History.{are_parameters}
 use Rattle.dg_index.specs.Hierarchy.{numbers, children, exists, parent}
-use Rattle.dg_shape.specs.Shapes.{node_at, if_exists, parent_of, child_of}
+use Rattle.dg_shape.specs.Shapes.{node_of_height, if_exists, parent_of, child_of}
 use Rattle.dg_index.proofs.DueNodes.{none_above}
 use Rattle.dg_index.proofs.KeptColumns.{power_some}
 use Rattle.dg_shape.proofs.DueKeys.{below_power}
@@ -124,18 +124,18 @@ module _ (p : Params) (n : ℕ) where
   no_child node.Recent place e = refl
   no_child (node.List i) place e = refl
   no_child (node.Leaf c) place e = refl
-  no_child (node.Inner h j) place e = ap (λ b. cond (b && (nat_le 1 place && nat_le place p.k)) (Some (node_at (h - 1) (get_or (children p.k j) (place - 1) 0))) None) e
+  no_child (node.Inner h j) place e = ap (λ b. cond (b && (nat_le 1 place && nat_le place p.k)) (Some (node_of_height (h - 1) (get_or (children p.k j) (place - 1) 0))) None) e
 
   pub inner_child : (a : NodeId) (h j place : ℕ) (r : Option NodeId) → a ≡ node.Inner h j → exists p n a ≡ true
-      → r ≡ cond (nat_le 1 place && nat_le place p.k) (Some (node_at (h - 1) (get_or (children p.k j) (place - 1) 0))) None → r ≡ child_of p n a place
+      → r ≡ cond (nat_le 1 place && nat_le place p.k) (Some (node_of_height (h - 1) (get_or (children p.k j) (place - 1) 0))) None → r ≡ child_of p n a place
   inner_child a h j place r is e r_is =
-      r_is ∙ ap (λ b. cond (b && (nat_le 1 place && nat_le place p.k)) (Some (node_at (h - 1) (get_or (children p.k j) (place - 1) 0))) None) (sym (ap (exists p n) (sym is) ∙ e)) ∙ ap (λ x. child_of p n x place) (sym is)
+      r_is ∙ ap (λ b. cond (b && (nat_le 1 place && nat_le place p.k)) (Some (node_of_height (h - 1) (get_or (children p.k j) (place - 1) 0))) None) (sym (ap (exists p n) (sym is) ∙ e)) ∙ ap (λ x. child_of p n x place) (sym is)
 
 -- the child at a place that there is
-pub child_there : (k h above place : ℕ) (r : NodeId) → 1 ≤ above → 1 ≤ place → place ≤ k → r ≡ node_at (h - 1) ((above - 1) * k + place)
-    → Some r ≡ cond (nat_le 1 place && nat_le place k) (Some (node_at (h - 1) (get_or (children k above) (place - 1) 0))) None
+pub child_there : (k h above place : ℕ) (r : NodeId) → 1 ≤ above → 1 ≤ place → place ≤ k → r ≡ node_of_height (h - 1) ((above - 1) * k + place)
+    → Some r ≡ cond (nat_le 1 place && nat_le place k) (Some (node_of_height (h - 1) (get_or (children k above) (place - 1) 0))) None
 child_there k h above place r some low high is =
     let at : get_or (children k above) (place - 1) 0 ≡ (above - 1) * k + place =
     number_at ((above - 1) * k + 1) k (place - 1) (omega (arith, low, high)) ∙ (let z : (above - 1) * k + 1 + (place - 1) ≡ (above - 1) * k + place = omega (arith, low) in z) in
-    let found : Option NodeId = Some (node_at (h - 1) (get_or (children k above) (place - 1) 0)) in
-    ap Some is ∙ ap (λ x. Some (node_at (h - 1) x)) (sym at) ∙ (λ i. cond (sym (le-leb 1 place low) i && sym (le-leb place k high) i) found None)
+    let found : Option NodeId = Some (node_of_height (h - 1) (get_or (children k above) (place - 1) 0)) in
+    ap Some is ∙ ap (λ x. Some (node_of_height (h - 1) x)) (sym at) ∙ (λ i. cond (sym (le-leb 1 place low) i && sym (le-leb place k high) i) found None)

@@ -19,8 +19,8 @@ abbrev pub made_with : Function → Shape → Params
 made_with f s = record { l = s.l; k = s.k; function = f }
 
 -- the node of this number at a height, where the leaves have height 0
-abbrev pub node_at : ℕ → ℕ → NodeId
-node_at h j = cond (h == 0) (node.Leaf j) (node.Inner h j)
+abbrev pub node_of_height : ℕ → ℕ → NodeId
+node_of_height h j = cond (h == 0) (node.Leaf j) (node.Inner h j)
 
 -- the node, if it exists
 abbrev pub if_exists : Params → ℕ → NodeId → Option NodeId
@@ -37,7 +37,7 @@ parent_of p n (node.List i) = None
 
 -- the child at a place, counted from 1, among those of an interior node that exists
 abbrev pub child_of : Params → ℕ → NodeId → ℕ → Option NodeId
-child_of p n (node.Inner h j) place = cond (exists p n (node.Inner h j) && (nat_le 1 place && nat_le place p.k)) (Some (node_at (h - 1) (get_or (children p.k j) (place - 1) 0))) None
+child_of p n (node.Inner h j) place = cond (exists p n (node.Inner h j) && (nat_le 1 place && nat_le place p.k)) (Some (node_of_height (h - 1) (get_or (children p.k j) (place - 1) 0))) None
 child_of p n node.Root place = None
 child_of p n node.Now place = None
 child_of p n node.Recent place = None

@@ -2,7 +2,7 @@ ghost use Rattle.std.specs.Prelude.{◌≡◌, ◌≤◌, ◌+◌, ◌-◌, ◌*
 ghost use Rattle.dg_graph.specs.declared.function.Function.{Function};
 ghost use Rattle.dg_index.specs.Hierarchy.{leaves, exists, parent, children};
 ghost use Rattle.dg_history.specs.declared.limits.TheConstants.{EVENTS_MAX};
-ghost use Rattle.dg_shape.specs.Shapes.{IsShape, made_with, node_at, if_exists, parent_of, child_of};
+ghost use Rattle.dg_shape.specs.Shapes.{IsShape, made_with, node_of_height, if_exists, parent_of, child_of};
 
 use dg_history::NodeId;
 
@@ -20,7 +20,7 @@ pub struct Shape {
 
 // The node of this number at a height, where the leaves have height 0.
 fn node_at(height: u32, number: u32) -> NodeId
-    ensures { result ≡ node_at height number }
+    ensures { result ≡ node_of_height height number }
 {
     if height == 0 {
         NodeId::Leaf(number)
@@ -43,7 +43,7 @@ fn child_at(arity: u32, height: u32, above: u32, number: u32) -> Option<NodeId>
     requires height { 1 ≤ height }
     requires above { 1 ≤ above }
     requires few { above * arity ≤ EVENTS_MAX }
-    ensures { result ≡ cond (nat_le 1 number && nat_le number arity) (Some (node_at (height - 1) (get_or (children arity above) (number - 1) 0))) None }
+    ensures { result ≡ cond (nat_le 1 number && nat_le number arity) (Some (node_of_height (height - 1) (get_or (children arity above) (number - 1) 0))) None }
 {
     if number < 1 {
         return None;

@@ -16,24 +16,24 @@ use Rattle.dg_history.specs.declared.node.Key.{Key}
 use Rattle.dg_history.specs.declared.node.Key.TheVariants as key
 use Rattle.dg_history.specs.History.{first_time_of, last_time_from}
 use Rattle.dg_index.specs.Hierarchy.{leaves, numbers}
-use Rattle.dg_index.specs.OpenedIndex.{Opened, Opening, column_at, entry_at, events_in}
+use Rattle.dg_index.specs.OpenedIndex.{Opened, Opening, column_at, entry_at, event_total}
 use Rattle.dg_index.specs.declared.entry.BatchEntry.{BatchEntry}
 use Rattle.dg_index.specs.declared.entry.Ends.{Ends}
 
 -- ---- one record of events
 
 -- the first result, and then what follows from it
-abbrev pub and_then : {A B E : Type 0} → Result A E → (A → Result B E) → Result B E
-and_then (Ok x) next = next x
-and_then (Err e) next = Err e
+abbrev pub and_own : {A B E : Type 0} → Result A E → (A → Result B E) → Result B E
+and_own (Ok x) next = next x
+and_own (Err e) next = Err e
 
 abbrev pub spelled_or : Column → Result (List Placed) ℕ → Result (List Placed) Column
 spelled_or col (Ok placed) = Ok placed
 spelled_or col (Err offset) = Err col
 
 -- what a column of a record is read as, or that it is in no spelling
-abbrev pub placed_at : List ℕ → Opened → Key → Column → Result (List Placed) Column
-placed_at image x k col = spelled_or col (read_as_events col (length x.names) (column_at image (entry_at x.index k) col))
+abbrev pub placed_in_column : List ℕ → Opened → Key → Column → Result (List Placed) Column
+placed_in_column image x k col = spelled_or col (read_as_events col (length x.names) (column_at image (entry_at x.index k) col))
 
 abbrev pub merged_or : Option (List Event) → Result (List Event) Column
 merged_or (Some events) = Ok events
@@ -41,11 +41,11 @@ merged_or None = Err column.Structure
 
 -- The events of a record that has so many: or its first column that is in no spelling, or structure where the columns
 -- do not come together to as many events.
-abbrev pub events_at : List ℕ → Opened → Key → ℕ → Result (List Event) Column
-events_at image x k count =
-    and_then (placed_at image x k column.Structure) (λ a.
-    and_then (placed_at image x k column.NodeAttr) (λ b.
-    and_then (placed_at image x k column.EdgeAttr) (λ c. merged_or (merged a b c count))))
+abbrev pub events_of_record : List ℕ → Opened → Key → ℕ → Result (List Event) Column
+events_of_record image x k count =
+    and_own (placed_in_column image x k column.Structure) (λ a.
+    and_own (placed_in_column image x k column.NodeAttr) (λ b.
+    and_own (placed_in_column image x k column.EdgeAttr) (λ c. merged_or (merged a b c count))))
 
 -- ---- what is asked of events
 
@@ -57,8 +57,8 @@ are_completions names set time (e ∷ events) =
     completes names set e.body && (nat_le time e.time && are_completions names (forwards set e) e.time events)
 
 -- the events may stand behind those before them
-abbrev pub may_follow : List (List ℕ) → List Event → List Event → Bool
-may_follow names before events = are_completions names (replay before) (last_time_from 0 before) events
+abbrev pub events_may_follow : List (List ℕ) → List Event → List Event → Bool
+events_may_follow names before events = are_completions names (replay before) (last_time_from 0 before) events
 
 -- the times are those of the first and of the last event
 abbrev pub are_ends : Ends → List Event → Bool
@@ -77,22 +77,22 @@ if_right right k events = if right then Ok events else Err (k, column.Structure)
 -- the events with those of a record behind them, or its column that is not right
 abbrev pub with_record : List (List ℕ) → Key → (List Event → Bool) → List Event → Result (List Event) Column → Result (List Event) (Key × Column)
 with_record names k right before (Err col) = Err (k, col)
-with_record names k right before (Ok events) = if_right (right events && may_follow names before events) k (before ++ events)
+with_record names k right before (Ok events) = if_right (right events && events_may_follow names before events) k (before ++ events)
 
 -- the events with those of the list behind them
 abbrev pub with_list : List ℕ → Opened → List Event → ℕ → Result (List Event) (Key × Column)
 with_list image x before i =
     with_record x.names (key.List i) (have_ends (entry_at x.index (key.List i)).ends) before
-    (events_at image x (key.List i) x.index.params.l)
+    (events_of_record image x (key.List i) x.index.params.l)
 
 -- the events with those of these lists behind them, or the first list that is not right
 abbrev pub with_lists : List ℕ → Opened → List Event → List ℕ → Result (List Event) (Key × Column)
 with_lists image x before [] = Ok before
-with_lists image x before (i ∷ more) = and_then (with_list image x before i) (λ events. with_lists image x events more)
+with_lists image x before (i ∷ more) = and_own (with_list image x before i) (λ events. with_lists image x events more)
 
 -- how many closed lists there are
 abbrev pub list_total : Opening → ℕ
-list_total o = leaves o.params (events_in o.batches)
+list_total o = leaves o.params (event_total o.batches)
 
 -- the events of all lists
 abbrev pub listed_events : List ℕ → Opened → Result (List Event) (Key × Column)
@@ -140,10 +140,10 @@ with_older image x before number count b =
 abbrev pub with_recent : List ℕ → Opened → List Event → ℕ → ℕ → BatchEntry → Result (List Event) (Key × Column)
 with_recent image x before number count b =
     with_record x.names (key.Piece number) (λ events. has_batch_ends count b (before ++ events)) before
-    (events_at image x (key.Piece number) (piece_length x.index count b))
+    (events_of_record image x (key.Piece number) (piece_length x.index count b))
 
-abbrev pub with_piece : List ℕ → Opened → List Event → ℕ → ℕ → BatchEntry → Result (List Event) (Key × Column)
-with_piece image x before number count b =
+abbrev pub with_piece_events : List ℕ → Opened → List Event → ℕ → ℕ → BatchEntry → Result (List Event) (Key × Column)
+with_piece_events image x before number count b =
     if is_recent x.index count b then with_recent image x before number count b else with_older image x before number count b
 
 -- The events with those of the recent ones of these batches' pieces behind them, or the first piece that is not right.
@@ -151,8 +151,8 @@ with_piece image x before number count b =
 abbrev pub with_pieces : List ℕ → Opened → List Event → ℕ → ℕ → List BatchEntry → Result (List Event) (Key × Column)
 with_pieces image x before number count [] = Ok before
 with_pieces image x before number count (b ∷ more) =
-    and_then (with_piece image x before number count b) (λ events. with_pieces image x events (number + 1) (count + b.events) more)
+    and_own (with_piece_events image x before number count b) (λ events. with_pieces image x events (number + 1) (count + b.events) more)
 
 -- the events of all lists and of all recent pieces, or the first record of events that is not right
 abbrev pub own_events : List ℕ → Opened → Result (List Event) (Key × Column)
-own_events image x = and_then (listed_events image x) (λ listed. with_pieces image x listed 0 0 x.index.batches)
+own_events image x = and_own (listed_events image x) (λ listed. with_pieces image x listed 0 0 x.index.batches)

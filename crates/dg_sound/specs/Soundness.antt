@@ -10,7 +10,7 @@ use Rattle.dg_history.specs.declared.params.Params.{Params}
 use Rattle.dg_history.specs.History.{History, Batch}
 use Rattle.dg_index.specs.Hierarchy.{leaves, numbers}
 use Rattle.dg_index.specs.IndexRecords.{column_of_record, heights, lists_due, record_among}
-use Rattle.dg_index.specs.OpenedIndex.{Opened, column_at, entry_at, events_in}
+use Rattle.dg_index.specs.OpenedIndex.{Opened, column_at, entry_at, event_total}
 use Rattle.dg_index.specs.declared.entry.BatchEntry.{BatchEntry}
 use Rattle.dg_sound.specs.declared.soundness.Soundness.{Soundness}
 use Rattle.dg_sound.specs.declared.soundness.Soundness.TheVariants.{Sound, Unsound}
@@ -57,15 +57,15 @@ abbrev pub sound_unless : ℕ → Option (Key × Column) → Soundness
 sound_unless total None = Sound total
 sound_unless total (Some wrong) = Unsound wrong.0 wrong.1
 
-abbrev pub judged : List ℕ → Opened → Result (List Event) (Key × Column) → Soundness
-judged image x (Err wrong) = Unsound wrong.0 wrong.1
-judged image x (Ok events) =
-    sound_unless (record_total x.index.params (events_in x.index.batches))
-    (first_wrong image x events (delta_keys x.index.params (events_in x.index.batches)))
+abbrev pub judged_events : List ℕ → Opened → Result (List Event) (Key × Column) → Soundness
+judged_events image x (Err wrong) = Unsound wrong.0 wrong.1
+judged_events image x (Ok events) =
+    sound_unless (record_total x.index.params (event_total x.index.batches))
+    (first_wrong image x events (delta_keys x.index.params (event_total x.index.batches)))
 
 -- Of an image that is opened as this: sound, or the first record, in the order of keys, that is not right.
 abbrev pub soundness_of : List ℕ → Opened → Soundness
-soundness_of image x = judged image x (own_events image x)
+soundness_of image x = judged_events image x (own_events image x)
 
 -- ---- the history of the file's own events
 

@@ -7,7 +7,7 @@ use Rattle.dg_graph.specs.declared.limits.TheConstants.{NAMES_MAX}
 use Rattle.dg_graph.specs.Names.{are_new}
 use Rattle.dg_history.specs.declared.limits.TheConstants.{BATCH_LINES_MAX, EVENTS_MAX}
 use Rattle.dg_index.specs.ImageText.{eight_at}
-use Rattle.dg_index.specs.OpenedIndex.{Opened, Directory, earliest_in, events_in, may_be_named, may_follow, rows_in}
+use Rattle.dg_index.specs.OpenedIndex.{Opened, Directory, earliest_in, event_total, may_be_named, may_follow, rows_in}
 use Rattle.dg_index.specs.declared.entry.BatchEntry.{BatchEntry}
 use Rattle.dg_index.proofs.DirectoryNames.{both, new_append}
 use Rattle.dg_index.proofs.KeptColumns.{Each}
@@ -30,25 +30,25 @@ chain_named image (d ∷ ds) y x fits c = ((next_spelt image y d fits c.1).names
 -- ---- what may stand
 
 record Passes (y : Opened) (d : Directory) : Type 0 where
-  follows : may_follow (events_in y.index.batches) (earliest_in 0 y.index.batches) d.batch ≡ true
+  follows : may_follow (event_total y.index.batches) (earliest_in 0 y.index.batches) d.batch ≡ true
   new : are_new y.names d.names ≡ true
   few_names : length y.names + length d.names ≤ NAMES_MAX
-  few : events_in y.index.batches + d.batch.events ≤ EVENTS_MAX
+  few : event_total y.index.batches + d.batch.events ≤ EVENTS_MAX
 
 passes : (image : List ℕ) (y : Opened) (d : Directory) → StandsNext y image d → Passes y d
 passes image y d next =
     let a = both (sum_of (rows_in d) == eight_at image (y.index.used + 8)) _ next.may in
-    let b = both (may_follow (events_in y.index.batches) (earliest_in 0 y.index.batches) d.batch) _ a.1 in
+    let b = both (may_follow (event_total y.index.batches) (earliest_in 0 y.index.batches) d.batch) _ a.1 in
     let c = both (may_be_named y.names d.names) _ b.1 in
     let n = both (are_new y.names d.names) _ c.0 in
     let f1 = both (nat_le 1 d.batch.events) _ b.0 in
     let f2 = both (nat_le d.batch.events BATCH_LINES_MAX) _ f1.1 in
-    let f3 = both (nat_le (events_in y.index.batches + d.batch.events) EVENTS_MAX) _ f2.1 in
+    let f3 = both (nat_le (event_total y.index.batches + d.batch.events) EVENTS_MAX) _ f2.1 in
     record {
       follows = b.0;
       new = n.0;
       few_names = leb-true (length y.names + length d.names) NAMES_MAX n.1;
-      few = leb-true (events_in y.index.batches + d.batch.events) EVENTS_MAX f3.0;
+      few = leb-true (event_total y.index.batches + d.batch.events) EVENTS_MAX f3.0;
     }
 
 pub chain_new : (image : List ℕ) (ds : List Directory) (y x : Opened) → Chain image y ds x → are_new y.names (new_names ds) ≡ true
@@ -64,8 +64,8 @@ chain_few_names image (d ∷ ds) y x le c =
     let p = passes image y d c.1 in
     chain_few_names image ds (one_more image y d) x (omega (arith, p.few_names, length-append y.names d.names)) c.2
 
-pub chain_few : (image : List ℕ) (ds : List Directory) (y x : Opened) → events_in y.index.batches ≤ EVENTS_MAX → Chain image y ds x → events_in x.index.batches ≤ EVENTS_MAX
-chain_few image [] y x le c = subst (λ (x : Opened). events_in x.index.batches ≤ EVENTS_MAX) c.0 le
+pub chain_few : (image : List ℕ) (ds : List Directory) (y x : Opened) → event_total y.index.batches ≤ EVENTS_MAX → Chain image y ds x → event_total x.index.batches ≤ EVENTS_MAX
+chain_few image [] y x le c = subst (λ (x : Opened). event_total x.index.batches ≤ EVENTS_MAX) c.0 le
 chain_few image (d ∷ ds) y x le c =
     let p = passes image y d c.1 in
     chain_few image ds (one_more image y d) x (omega (arith, p.few, sum_by_push (λ (b : BatchEntry). b.events) y.index.batches d.batch)) c.2
@@ -81,11 +81,11 @@ earliest_more : (t : ℕ) (xs : List BatchEntry) (b : BatchEntry) → earliest_i
 earliest_more t [] b = refl
 earliest_more t (x ∷ xs) b = earliest_more (x.ends.last + 1) xs b
 
-pub chain_follow : (image : List ℕ) (ds : List Directory) (y x : Opened) → Chain image y ds x → AllFollow (events_in y.index.batches) (earliest_in 0 y.index.batches) (batch_entries ds)
+pub chain_follow : (image : List ℕ) (ds : List Directory) (y x : Opened) → Chain image y ds x → AllFollow (event_total y.index.batches) (earliest_in 0 y.index.batches) (batch_entries ds)
 chain_follow image [] y x c = tt
 chain_follow image (d ∷ ds) y x c =
     let more = chain_follow image ds (one_more image y d) x c.2 in (
       (passes image y d c.1).follows,
       subst (λ n. AllFollow n (d.batch.ends.last + 1) (batch_entries ds)) (sum_by_push (λ (b : BatchEntry). b.events) y.index.batches d.batch)
-          (subst (λ t. AllFollow (events_in (y.index.batches ++ d.batch ∷ [])) t (batch_entries ds)) (earliest_more 0 y.index.batches d.batch) more),
+          (subst (λ t. AllFollow (event_total (y.index.batches ++ d.batch ∷ [])) t (batch_entries ds)) (earliest_more 0 y.index.batches d.batch) more),
     )

@@ -25,7 +25,7 @@ use Rattle.dg_index.specs.OpenedIndex.{Opened, column_at, entry_at, opened_of}
 use Rattle.dg_index.proofs.DirectoryNames.{both}
 use Rattle.dg_index.proofs.HeldRecords.{record_held, told_at}
 use Rattle.dg_index.proofs.OpenedHistories.{large_parameters}
-use Rattle.dg_sound.specs.OwnEvents.{and_then, are_completions, have_ends, list_total, listed_events, may_follow, with_list, with_lists}
+use Rattle.dg_sound.specs.OwnEvents.{and_own, are_completions, have_ends, list_total, listed_events, events_may_follow, with_list, with_lists}
 use Rattle.dg_sound_files.proofs.CompletedEvents.{all_complete, completions_behind, completions_front, events_fit, fit_drop, fit_take}
 use Rattle.dg_sound_files.proofs.OwnRecords.{IsHeld, columns_there, count_is, held_at, names_are, params_are}
 use Rattle.dg_sound_files.proofs.ReadRecords.{ends_of, record_read, record_right}
@@ -52,7 +52,7 @@ module _ (z : History) (image : List ℕ) (h : IsImageOf z image) where
       (fit_take (length (names_of z)) 0 k (drop n (events_of z)) (fit_drop (length (names_of z)) 0 n (events_of z) (events_fit z h.legal)))
 
   -- and may follow those before them
-  pub some_follow : (n k : ℕ) → may_follow (opened_of z).names (take n (events_of z)) (take k (drop n (events_of z))) ≡ true
+  pub some_follow : (n k : ℕ) → events_may_follow (opened_of z).names (take n (events_of z)) (take k (drop n (events_of z))) ≡ true
   some_follow n k =
       let names : List (List ℕ) = names_of z in
       let all : List Event = events_of z in
@@ -61,7 +61,7 @@ module _ (z : History) (image : List ℕ) (h : IsImageOf z image) where
       let whole = subst (λ (es : List Event). are_completions names [] 0 es ≡ true) (sym (take-append-drop n all)) (all_complete z h.legal) in
       let behind = completions_behind names [] 0 front later whole in
       let parted = subst (λ (es : List Event). are_completions names (replay front) (last_time_from 0 front) es ≡ true) (sym (take-append-drop k later)) behind in
-      subst (λ (ns : List (List ℕ)). may_follow ns front (take k later) ≡ true) (sym (names_are z))
+      subst (λ (ns : List (List ℕ)). events_may_follow ns front (take k later) ≡ true) (sym (names_are z))
       (completions_front names (replay front) (last_time_from 0 front) (take k later) (drop k later) parted)
 
 -- ---- the lists
@@ -99,7 +99,7 @@ module _ (kept : ColumnsAreKept) (back : EventsAreReadBack) (merge : EventsAreMe
       let l : ℕ = z.params.l in
       let on : i + 1 + n ≡ i + suc n = omega arith in
       let sum : (i + suc n) * l ≡ (i + 1) * l + n * l = ap (λ c. c * l) (sym on) ∙ add-mul (i + 1) n l in
-      ap (λ r. and_then r (λ events. with_lists image (opened_of z) events (numbers (i + 1) n))) (list_read i (omega (arith, le, sum)))
+      ap (λ r. and_own r (λ events. with_lists image (opened_of z) events (numbers (i + 1) n))) (list_read i (omega (arith, le, sum)))
       ∙ lists_read (i + 1) n (subst (λ c. c * l ≤ length (events_of z)) (sym on) le)
       ∙ ap (λ c. Ok (take (c * l) (events_of z))) on
 

@@ -7,7 +7,7 @@ use Rattle.std.proofs.lemmas.List.{take-append-drop, take_at, drop_at, drop-drop
 use Rattle.std.proofs.lemmas.List.Sums.{sum_by-cons}
 use Rattle.dg_graph.specs.declared.event.Event.{Event}
 use Rattle.dg_history.specs.History.{Batch, first_time_of}
-use Rattle.dg_index.specs.OpenedIndex.{Directory, events_in}
+use Rattle.dg_index.specs.OpenedIndex.{Directory, event_total}
 use Rattle.dg_index.specs.declared.entry.BatchEntry.{BatchEntry}
 use Rattle.dg_index.proofs.DirectoryNames.{both}
 use Rattle.dg_index.proofs.KeptColumns.{Each}
@@ -21,10 +21,10 @@ nothing_left [] e = refl
 nothing_left (x ∷ xs) e = absurd (omega (arith, e))
 
 -- the events of the batches are the events that were cut
-pub own_events_whole : (names : List (List ℕ)) (events : List Event) (batches : List BatchEntry) → length events ≡ events_in batches → flat_map (λ (b : Batch). b.events) (own_batches names events batches) ≡ events
+pub own_events_whole : (names : List (List ℕ)) (events : List Event) (batches : List BatchEntry) → length events ≡ event_total batches → flat_map (λ (b : Batch). b.events) (own_batches names events batches) ≡ events
 own_events_whole names events [] len = nothing_left events len
 own_events_whole names events (b ∷ batches) len =
-    let sum : events_in (b ∷ batches) ≡ b.events + events_in batches = sum_by-cons (λ (b : BatchEntry). b.events) b batches in
+    let sum : event_total (b ∷ batches) ≡ b.events + event_total batches = sum_by-cons (λ (b : BatchEntry). b.events) b batches in
     ap (λ (l : List Event). take b.events events ++ l) (own_events_whole (drop b.names names) (drop b.events events) batches (omega (arith, length-drop b.events events, len, sum))) ∙ take-append-drop b.events events
 
 -- the directories count their names
@@ -44,11 +44,11 @@ abbrev pub HaveEnds : ℕ → List BatchEntry → List Event → Type 0
 HaveEnds count [] events = Unit {0}
 HaveEnds count (b ∷ more) events = (has_batch_ends count b events ≡ true) × HaveEnds (count + b.events) more events
 
-pub own_agree : (count : ℕ) (events : List Event) (ds : List Directory) → Each IsNamed ds → count + events_in (batch_entries ds) ≤ length events → HaveEnds count (batch_entries ds) events
+pub own_agree : (count : ℕ) (events : List Event) (ds : List Directory) → Each IsNamed ds → count + event_total (batch_entries ds) ≤ length events → HaveEnds count (batch_entries ds) events
     → Agree ds (own_batches (new_names ds) (drop count events) (batch_entries ds))
 own_agree count events [] named long ends = tt
 own_agree count events (d ∷ ds) named long ends =
-    let sum : events_in (batch_entries (d ∷ ds)) ≡ d.batch.events + events_in (batch_entries ds) = sum_by-cons (λ (b : BatchEntry). b.events) d.batch (batch_entries ds) in
+    let sum : event_total (batch_entries (d ∷ ds)) ≡ d.batch.events + event_total (batch_entries ds) = sum_by-cons (λ (b : BatchEntry). b.events) d.batch (batch_entries ds) in
     let front : take d.batch.names (d.names ++ new_names ds) ≡ d.names = take_at d.names (new_names ds) d.batch.names (sym named.0) in
     let rest : drop d.batch.names (d.names ++ new_names ds) ≡ new_names ds = drop_at d.names (new_names ds) d.batch.names (sym named.0) in
     let t = both (d.batch.ends.first == first_time_of (take d.batch.events (drop count events))) _ ends.0 in

@@ -20,14 +20,14 @@ use Rattle.dg_history.specs.declared.node.Key.TheVariants as key
 use Rattle.dg_history.specs.History.{last_time_from}
 use Rattle.dg_index.specs.Hierarchy.{leaves, numbers}
 use Rattle.dg_index.specs.IndexRecords.{closed_list}
-use Rattle.dg_index.specs.OpenedIndex.{Opened, column_at, entry_at, events_in}
+use Rattle.dg_index.specs.OpenedIndex.{Opened, column_at, entry_at, event_total}
 use Rattle.dg_index.specs.declared.entry.BatchEntry.{BatchEntry}
 use Rattle.dg_index.proofs.DirectoryNames.{both}
 use Rattle.dg_index.proofs.KeptColumns.{Each, each_append}
 use Rattle.dg_index.proofs.StableRecords.{leaves_more}
 use Rattle.dg_columns.specs.ColumnLaws.{AreBytes, EventsHaveOneSpelling}
 use Rattle.dg_columns.specs.ReadFits.{EventsThatAreReadFit}
-use Rattle.dg_sound.specs.OwnEvents.{events_at, are_completions, may_follow, are_ends, have_ends, if_right, with_record, with_list, with_lists, list_total, piece_start, piece_length, is_recent, has_batch_ends, is_column_of, if_columns, with_older, with_recent, with_piece, with_pieces}
+use Rattle.dg_sound.specs.OwnEvents.{events_of_record, are_completions, events_may_follow, are_ends, have_ends, if_right, with_record, with_list, with_lists, list_total, piece_start, piece_length, is_recent, has_batch_ends, is_column_of, if_columns, with_older, with_recent, with_piece_events, with_pieces}
 use Rattle.dg_sound_files.proofs.RecordsOfEvents.{ok_same, and_then_is, events_are_of}
 
 -- ---- parts of lists
@@ -74,7 +74,7 @@ pub record AreSound (x : Opened) (events : List Event) : Type 0 where
 pub no_events : (x : Opened) → AreSound x []
 no_events x = record { follow = refl; fit = tt }
 
-more_sound : (x : Opened) (before events : List Event) → AreSound x before → may_follow x.names before events ≡ true → Each (FitsEvent (length x.names)) events → AreSound x (before ++ events)
+more_sound : (x : Opened) (before events : List Event) → AreSound x before → events_may_follow x.names before events ≡ true → Each (FitsEvent (length x.names)) events → AreSound x (before ++ events)
 more_sound x before events so follows fit = record {
   follow = completions_append x.names [] 0 before events ∙ (λ i. so.follow i && follows i);
   fit = each_append (FitsEvent (length x.names)) before events so.fit fit;
@@ -90,13 +90,13 @@ record Added (names : List (List ℕ)) (right : List Event → Bool) (before : L
   events : List Event
   read : r ≡ Ok events
   passes : right events ≡ true
-  follows : may_follow names before events ≡ true
+  follows : events_may_follow names before events ≡ true
   is : before ++ events ≡ result
 
 added : (names : List (List ℕ)) (k : Key) (right : List Event → Bool) (before : List Event) (r : Result (List Event) Column) (result : List Event) → with_record names k right before r ≡ Ok result → Added names right before r result
 added names k right before (Err col) result e = absurd cc
 added names k right before (Ok events) result e =
-    let a = if_right_is (right events && may_follow names before events) k (before ++ events) result e in
+    let a = if_right_is (right events && events_may_follow names before events) k (before ++ events) result e in
     let b = both (right events) _ a.0 in
     record { events = events; read = refl; passes = b.0; follows = b.1; is = a.1 }
 
@@ -130,7 +130,7 @@ module _ (spelled : EventsHaveOneSpelling) (fit : EventsThatAreReadFit) (image :
       }
   lists_read i (suc n) before result len so e =
       let a = and_then_is (with_list image x before i) (λ events. with_lists image x events (numbers (i + 1) n)) result e in
-      let r = added x.names (key.List i) (have_ends (entry_at x.index (key.List i)).ends) before (events_at image x (key.List i) x.index.params.l) a.0 a.1 in
+      let r = added x.names (key.List i) (have_ends (entry_at x.index (key.List i)).ends) before (events_of_record image x (key.List i) x.index.params.l) a.0 a.1 in
       let of = events_are_of spelled fit image x all (key.List i) x.index.params.l r.events r.read in
       let next : AreSound x a.0 = subst (AreSound x) r.is (more_sound x before r.events so r.follows of.fit) in
       let long : length a.0 ≡ (i + 1) * x.index.params.l = ap length (sym r.is) ∙ omega (arith, length-append before r.events, len, of.count, add-mul i 1 x.index.params.l) in
@@ -168,7 +168,7 @@ module _ (spelled : EventsHaveOneSpelling) (fit : EventsThatAreReadFit) (image :
   pub record PiecesRead (number count : ℕ) (batches : List BatchEntry) (before result : List Event) : Type 0 where
     pub more : List Event
     pub is : before ++ more ≡ result
-    pub size : length result ≡ max (list_total x.index * x.index.params.l) (count + events_in batches)
+    pub size : length result ≡ max (list_total x.index * x.index.params.l) (count + event_total batches)
     pub sound : AreSound x result
     pub right : (later : List Event) → AreRightPieces number count batches (result ++ later)
 
@@ -230,7 +230,7 @@ module _ (spelled : EventsHaveOneSpelling) (fit : EventsThatAreReadFit) (image :
   recent_read : (number count : ℕ) (b : BatchEntry) (before result : List Event) → length before ≡ max (list_total x.index * x.index.params.l) count → AreSound x before → leaves x.index.params (count + b.events) ≡ list_total x.index
       → with_recent image x before number count b ≡ Ok result → PieceRead number count b before result
   recent_read number count b before result len so same e =
-      let r = added x.names (key.Piece number) (λ events. has_batch_ends count b (before ++ events)) before (events_at image x (key.Piece number) (piece_length x.index count b)) result e in
+      let r = added x.names (key.Piece number) (λ events. has_batch_ends count b (before ++ events)) before (events_of_record image x (key.Piece number) (piece_length x.index count b)) result e in
       let of = events_are_of spelled fit image x all (key.Piece number) (piece_length x.index count b) r.events r.read in
       let start : length before ≡ piece_start x.index count b = len ∙ omega (arith, ap (λ n. n * x.index.params.l) same) in
       let size : length (before ++ r.events) ≡ count + b.events = omega (arith, length-append before r.events, start, of.count, reach count b) in
@@ -245,7 +245,7 @@ module _ (spelled : EventsHaveOneSpelling) (fit : EventsThatAreReadFit) (image :
       }
 
   piece_read : (number count : ℕ) (b : BatchEntry) (before result : List Event) → length before ≡ max (list_total x.index * x.index.params.l) count → AreSound x before → leaves x.index.params (count + b.events) ≤ list_total x.index
-      → with_piece image x before number count b ≡ Ok result → PieceRead number count b before result
+      → with_piece_events image x before number count b ≡ Ok result → PieceRead number count b before result
   piece_read number count b before result len so le e = by (is_recent x.index count b) refl e
     where
       by : (t : Bool) → is_recent x.index count b ≡ t → cond t (with_recent image x before number count b) (with_older image x before number count b) ≡ Ok result → PieceRead number count b before result
@@ -257,7 +257,7 @@ module _ (spelled : EventsHaveOneSpelling) (fit : EventsThatAreReadFit) (image :
   right_later : (number count : ℕ) (b : BatchEntry) (next more result later : List Event) → next ++ more ≡ result → IsRightPiece number count b (next ++ (more ++ later)) → IsRightPiece number count b (result ++ later)
   right_later number count b next more result later on right = subst (IsRightPiece number count b) (sym (append_assoc next more later) ∙ ap (λ (l : List Event). l ++ later) on) right
 
-  pub pieces_read : (number count : ℕ) (batches : List BatchEntry) (before result : List Event) → count + events_in batches ≡ events_in x.index.batches → length before ≡ max (list_total x.index * x.index.params.l) count → AreSound x before
+  pub pieces_read : (number count : ℕ) (batches : List BatchEntry) (before result : List Event) → count + event_total batches ≡ event_total x.index.batches → length before ≡ max (list_total x.index * x.index.params.l) count → AreSound x before
       → with_pieces image x before number count batches ≡ Ok result → PiecesRead number count batches before result
   pieces_read number count [] before result sum len so e =
       let same = ok_same before result e in
@@ -269,16 +269,16 @@ module _ (spelled : EventsHaveOneSpelling) (fit : EventsThatAreReadFit) (image :
         right = λ later. tt;
       }
   pieces_read number count (b ∷ batches) before result sum len so e =
-      let all : events_in (b ∷ batches) ≡ b.events + events_in batches = sum_by-cons (λ (b : BatchEntry). b.events) b batches in
+      let all : event_total (b ∷ batches) ≡ b.events + event_total batches = sum_by-cons (λ (b : BatchEntry). b.events) b batches in
       let up : leaves x.index.params (count + b.events) ≤ list_total x.index =
-      subst (λ n. leaves x.index.params (count + b.events) ≤ leaves x.index.params n) (let z : count + b.events + events_in batches ≡ events_in x.index.batches = omega (arith, all, sum) in z) (leaves_more x.index.params.l (count + b.events) (events_in batches) pos) in
-      let a = and_then_is (with_piece image x before number count b) (λ events. with_pieces image x events (number + 1) (count + b.events) batches) result e in
+      subst (λ n. leaves x.index.params (count + b.events) ≤ leaves x.index.params n) (let z : count + b.events + event_total batches ≡ event_total x.index.batches = omega (arith, all, sum) in z) (leaves_more x.index.params.l (count + b.events) (event_total batches) pos) in
+      let a = and_then_is (with_piece_events image x before number count b) (λ events. with_pieces image x events (number + 1) (count + b.events) batches) result e in
       let one = piece_read number count b before a.0 len so up a.1 in
       let m = pieces_read (number + 1) (count + b.events) batches a.0 result (omega (arith, all, sum)) one.size one.sound a.2 in
       record {
         more = one.more ++ m.more;
         is = joined before one.more a.0 m.more result one.is m.is;
-        size = m.size ∙ ap (max (list_total x.index * x.index.params.l)) (let z : count + b.events + events_in batches ≡ count + events_in (b ∷ batches) = omega (arith, all) in z);
+        size = m.size ∙ ap (max (list_total x.index * x.index.params.l)) (let z : count + b.events + event_total batches ≡ count + event_total (b ∷ batches) = omega (arith, all) in z);
         sound = m.sound;
         right = λ later. (
           right_later number count b a.0 m.more result later m.is (one.right (m.more ++ later)),

@@ -20,7 +20,7 @@ use Rattle.dg_index.specs.Hierarchy.{leaves, numbers}
 use Rattle.dg_index.specs.ImageOfHistory.{IsImageOf}
 use Rattle.dg_index.specs.IndexKeys.{AreKept, among, keys_among}
 use Rattle.dg_index.specs.IndexRecords.{column_in, deltas_due, lists_due}
-use Rattle.dg_index.specs.OpenedIndex.{Opened, Opening, bare, column_at, directory_of, entry_at, entry_or_none, events_in, list_row, opened_of, opened_onto, record_row, with_segment}
+use Rattle.dg_index.specs.OpenedIndex.{Opened, Opening, bare, column_at, directory_of, entry_at, entry_or_none, event_total, list_row, opened_of, opened_onto, record_row, with_segment}
 use Rattle.dg_index.proofs.DueNodes.{numbers_length}
 use Rattle.dg_index.proofs.HeldKeys.{among_append, found}
 use Rattle.dg_index.proofs.KeptColumns.{events_among}
@@ -32,7 +32,7 @@ use Rattle.dg_index.proofs.RecentPieces.{batches_of, noted}
 -- what is known of what is opened so far, behind these events
 record AreKnown (p : Params) (x : Opened) (before : List Event) : Type 0 where
   params : x.index.params ≡ p
-  count : events_in x.index.batches ≡ length before
+  count : event_total x.index.batches ≡ length before
   kept : AreKept x.index
 
 known_more : (p : Params) (x : Opened) (before : List Event) (b : Batch) → AreKnown p x before → AreKnown p (with_segment x (segment_of p before b)) (before ++ b.events)
@@ -41,11 +41,11 @@ known_more p x before b a =
     let m : ℕ = leaves p (length before) in
     let after : ℕ = leaves p (length before + length b.events) in
     let offset : ℕ = x.index.used + 16 + length (directory s) in
-    let lists : length (map list_row s.lists) ≡ leaves x.index.params (events_in x.index.batches + length b.events) - leaves x.index.params (events_in x.index.batches) =
+    let lists : length (map list_row s.lists) ≡ leaves x.index.params (event_total x.index.batches + length b.events) - leaves x.index.params (event_total x.index.batches) =
     length-map s.lists list_row ∙ length-map (numbers m (after - m)) (stored_list p (before ++ b.events)) ∙ numbers_length m (after - m)
     ∙ (λ i. leaves (sym a.params i) (sym a.count i + length b.events) - leaves (sym a.params i) (sym a.count i)) in
     let deltas : length (map record_row s.deltas)
-    ≡ length (deltas_due x.index.params.k (leaves x.index.params (events_in x.index.batches)) (leaves x.index.params (events_in x.index.batches + length b.events))) =
+    ≡ length (deltas_due x.index.params.k (leaves x.index.params (event_total x.index.batches)) (leaves x.index.params (event_total x.index.batches + length b.events))) =
     length-map s.deltas record_row ∙ length-map (deltas_due p.k m after) _
     ∙ (λ i. length (deltas_due (sym a.params i).k (leaves (sym a.params i) (sym a.count i)) (leaves (sym a.params i) (sym a.count i + length b.events)))) in
     record {
@@ -66,7 +66,7 @@ known z = known_all z.params z.batches (bare z.params) [] (record { params = ref
 pub params_are : (z : History) → (opened_of z).index.params ≡ z.params
 params_are z = (known z).params
 
-pub count_is : (z : History) → events_in (opened_of z).index.batches ≡ length (events_of z)
+pub count_is : (z : History) → event_total (opened_of z).index.batches ≡ length (events_of z)
 count_is z = (known z).count
 
 names_onto : (p : Params) (batches : List Batch) (x : Opened) (before : List Event) → (opened_onto p x before batches).names ≡ x.names ++ flat_map (λ (b : Batch). b.names) batches

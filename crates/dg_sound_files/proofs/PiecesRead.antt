@@ -26,7 +26,7 @@ use Rattle.dg_index.proofs.KeptColumns.{events_among, piece_there}
 use Rattle.dg_index.proofs.NodeBounds.{piece_short}
 use Rattle.dg_index.proofs.RecentPieces.{batches_of, noted}
 use Rattle.dg_index.proofs.StableRecords.{leaves_more}
-use Rattle.dg_sound.specs.OwnEvents.{and_then, are_ends, has_batch_ends, if_columns, is_column_of, is_recent, list_total, own_events, piece_length, piece_start, with_older, with_piece, with_pieces, with_recent}
+use Rattle.dg_sound.specs.OwnEvents.{and_own, are_ends, has_batch_ends, if_columns, is_column_of, is_recent, list_total, own_events, piece_length, piece_start, with_older, with_piece_events, with_pieces, with_recent}
 use Rattle.dg_sound_files.proofs.ListsRead.{all_listed, few_events, few_names, some_events, some_fit, some_follow}
 use Rattle.dg_sound_files.proofs.OwnRecords.{columns_there, count_is, params_are, piece_held}
 use Rattle.dg_sound_files.proofs.ReadRecords.{ends_of, record_read, record_right}
@@ -157,7 +157,7 @@ module _ (kept : ColumnsAreKept) (back : EventsAreReadBack) (merge : EventsAreMe
         record_right x.names k (λ events. has_batch_ends count (noted b) (take start all ++ events)) (take start all) own _ read times (some_follow z image h start n)
         ∙ ap (λ (es : List Event). Ok es) joined
 
-    piece_read : with_piece image (opened_of z) (take (max listed count) (events_of z)) (length front) count (noted b) ≡ Ok (take (max listed upto) (events_of z))
+    piece_read : with_piece_events image (opened_of z) (take (max listed count) (events_of z)) (length front) count (noted b) ≡ Ok (take (max listed upto) (events_of z))
     piece_read = by (is_recent (opened_of z).index count (noted b)) refl
       where
         by : (t : Bool) → is_recent (opened_of z).index count (noted b) ≡ t
@@ -190,14 +190,14 @@ module _ (kept : ColumnsAreKept) (back : EventsAreReadBack) (merge : EventsAreMe
       let events : events_among (front ++ b ∷ []) ≡ events_among front ++ b.events = flat_map-append (λ (b : Batch). b.events) front (b ∷ []) ∙ ap (λ (l : List Event). events_among front ++ l) (append-nil b.events) in
       let number : length (front ++ b ∷ []) ≡ length front + 1 = length-append front (b ∷ []) in
       let count : length (events_among (front ++ b ∷ [])) ≡ n + length b.events = ap length events ∙ length-append (events_among front) b.events in
-      ap (λ r. and_then r (λ events. with_pieces image x events (length front + 1) (n + length b.events) (map noted more))) (piece_read front b more is)
+      ap (λ r. and_own r (λ events. with_pieces image x events (length front + 1) (n + length b.events) (map noted more))) (piece_read front b more is)
       ∙ (λ i. with_pieces image x (take (max listed (sym count i)) (events_of z)) (sym number i) (sym count i) (map noted more))
       ∙ pieces_read (front ++ b ∷ []) more (is ∙ sym (append_assoc front (b ∷ []) more))
 
   pub all_read : own_events image (opened_of z) ≡ Ok (events_of z)
   all_read =
       let x : Opened = opened_of z in
-      ap (λ r. and_then r (λ listed. with_pieces image x listed 0 0 x.index.batches)) (all_listed kept back merge z image h)
+      ap (λ r. and_own r (λ listed. with_pieces image x listed 0 0 x.index.batches)) (all_listed kept back merge z image h)
       ∙ (λ i. with_pieces image x (take (start i) (events_of z)) 0 0 (batches_of z i))
       ∙ pieces_read [] z.batches refl
     where

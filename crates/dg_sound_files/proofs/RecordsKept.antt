@@ -20,7 +20,7 @@ use Rattle.dg_index.specs.Hierarchy.{leaves, numbers, parent, set_at}
 use Rattle.dg_index.specs.ImageText.{eight_at, gate_behind}
 use Rattle.dg_index.specs.IndexKeys.{AreKept, Fresh, among}
 use Rattle.dg_index.specs.IndexRecords.{Exact, closed_list, column_in, column_of_record, deltas_due, heights, lists_due, piece_at, piece_of}
-use Rattle.dg_index.specs.OpenedIndex.{Opened, Directory, column_at, entry_at, entry_or_none, events_in, keys_next, laid, rows_in, total}
+use Rattle.dg_index.specs.OpenedIndex.{Opened, Directory, column_at, entry_at, entry_or_none, event_total, keys_next, laid, rows_in, total}
 use Rattle.dg_index.specs.declared.entry.BatchEntry.{BatchEntry}
 use Rattle.dg_index.specs.declared.entry.Ends.{Ends}
 use Rattle.dg_index.specs.declared.entry.Entry.{Entry}
@@ -118,7 +118,7 @@ module _ (image : List ℕ) (x : Opened) (events : List Event) (pos : 0 < x.inde
   PieceColumns number count (b ∷ more) =
       ((col : Column) → column_at image (entry_at x.index (key.Piece number)) col ≡ events_column col (take (piece_length x.index count b) (drop (piece_start x.index count b) events))) × PieceColumns (number + 1) (count + b.events) more
 
-  module _ (fits : IsBytes image) (lists : (j : ℕ) → j < list_total x.index → IsGood (key.List j)) (deltas : Each IsGood (delta_keys x.index.params (events_in x.index.batches))) where
+  module _ (fits : IsBytes image) (lists : (j : ℕ) → j < list_total x.index → IsGood (key.List j)) (deltas : Each IsGood (delta_keys x.index.params (event_total x.index.batches))) where
     -- the records that are laid next are right, where their keys are new
     laid_good : (offset : ℕ) (records later : List (Key × Entry)) (keys : List Key) (rows : List Row) → Fresh (map (λ (r : Key × Entry). r.0) records) keys → x.index.records ≡ records ++ (laid offset keys rows ++ later) → Each IsGood keys
         → Each (IsKept (history_of x events) image) (laid offset keys rows) × Each (IsListTimed (history_of x events)) (laid offset keys rows)
@@ -146,10 +146,10 @@ module _ (image : List ℕ) (x : Opened) (events : List Event) (pos : 0 < x.inde
         let rise : m ≤ after = leaves_more p.l count n pos in
         each_append IsGood (lists_due p count (count + n)) (deltas_due p.k m after ++ key.Piece number ∷ [])
         (each_map IsGood (λ i. key.List i) (numbers m (after - m)) (each_number (λ i. IsGood (key.List i)) m (after - m) (λ j from to. lists j (omega (arith, to, rise, up)))))
-        (each_append IsGood (deltas_due p.k m after) (key.Piece number ∷ []) (due_tested IsGood p (events_in x.index.batches) two deltas m after up) (piece, tt))
+        (each_append IsGood (deltas_due p.k m after) (key.Piece number ∷ []) (due_tested IsGood p (event_total x.index.batches) two deltas m after up) (piece, tt))
 
     pub all_kept : (ds : List Directory) (y : Opened) (front left : List Batch) → (history_of x events).batches ≡ front ++ left → IsFront (history_of x events) y front → AreKept y.index
-        → events_in y.index.batches + events_in (batch_entries ds) ≡ events_in x.index.batches → Agree ds left → PieceColumns (length y.index.batches) (events_in y.index.batches) (batch_entries ds) → Chain image y ds x
+        → event_total y.index.batches + event_total (batch_entries ds) ≡ event_total x.index.batches → Agree ds left → PieceColumns (length y.index.batches) (event_total y.index.batches) (batch_entries ds) → Chain image y ds x
         → Each (IsKept (history_of x events) image) y.index.records → Each (IsListTimed (history_of x events)) y.index.records → Each (IsKept (history_of x events) image) x.index.records × Each (IsListTimed (history_of x events)) x.index.records
     all_kept [] y front left is so keys total agree pieces c kept timed =
         (subst (λ (x' : Opened). Each (IsKept (history_of x events) image) x'.index.records) c.0 kept, subst (λ (x' : Opened). Each (IsListTimed (history_of x events)) x'.index.records) c.0 timed)
@@ -161,27 +161,27 @@ module _ (image : List ℕ) (x : Opened) (events : List Event) (pos : 0 < x.inde
         let y1 : Opened = one_more image y d in
         let n : ℕ = d.batch.events in
         let before : List Event = events_among front in
-        let sum : events_in (batch_entries (d ∷ ds)) ≡ d.batch.events + events_in (batch_entries ds) = sum_by-cons (λ (b : BatchEntry). b.events) d.batch (batch_entries ds) in
+        let sum : event_total (batch_entries (d ∷ ds)) ≡ d.batch.events + event_total (batch_entries ds) = sum_by-cons (λ (b : BatchEntry). b.events) d.batch (batch_entries ds) in
         let offset : ℕ = y.index.used + 16 + eight_at image y.index.used in
         let here : List (Key × Entry) = laid offset (keys_next y.index d.batch.events) (rows_in d) in
         let later = chain_records image ds y1 x c.2 in
         let cut : events ≡ (before ++ b.events) ++ events_among left = sym whole ∙ ap events_among is ∙ flat_map-append (λ (b : Batch). b.events) front (b ∷ left) ∙ sym (append_assoc before b.events (events_among left)) in
-        let own_part : take d.batch.events (drop (events_in y.index.batches) events) ≡ b.events = ap (λ (l : List Event). take d.batch.events (drop (events_in y.index.batches) l)) cut ∙ range_behind d.batch.events (events_in y.index.batches) before b.events (events_among left) (sym so.count) (sym counts.events) in
-        let piece_is : take (piece_length x.index (events_in y.index.batches) d.batch) (drop (piece_start x.index (events_in y.index.batches) d.batch) events) ≡ piece_of p before b =
-        piece_cut (events_in y.index.batches) d.batch.events ∙ (λ i. drop (leaves x.index.params (so.count i + counts.events i) * x.index.params.l - so.count i) (own_part i)) in
+        let own_part : take d.batch.events (drop (event_total y.index.batches) events) ≡ b.events = ap (λ (l : List Event). take d.batch.events (drop (event_total y.index.batches) l)) cut ∙ range_behind d.batch.events (event_total y.index.batches) before b.events (events_among left) (sym so.count) (sym counts.events) in
+        let piece_is : take (piece_length x.index (event_total y.index.batches) d.batch) (drop (piece_start x.index (event_total y.index.batches) d.batch) events) ≡ piece_of p before b =
+        piece_cut (event_total y.index.batches) d.batch.events ∙ (λ i. drop (leaves x.index.params (so.count i + counts.events i) * x.index.params.l - so.count i) (own_part i)) in
         let piece_there_is : piece_at p [] z.batches (length y.index.batches) ≡ piece_of p before b = (λ i. piece_at p [] (is i) (so.number i)) ∙ piece_there p [] front b left in
         let piece : IsGood (key.Piece (length y.index.batches)) = (λ col. pieces.0 col ∙ ap (events_column col) (piece_is ∙ sym piece_there_is), tt) in
-        let up : leaves p (events_in y.index.batches + d.batch.events) ≤ list_total x.index =
-        subst (λ n. leaves p (events_in y.index.batches + d.batch.events) ≤ leaves p n) (let e : events_in y.index.batches + d.batch.events + events_in (batch_entries ds) ≡ events_in x.index.batches = omega (arith, total, sum) in e) (leaves_more p.l (events_in y.index.batches + d.batch.events) (events_in (batch_entries ds)) pos) in
+        let up : leaves p (event_total y.index.batches + d.batch.events) ≤ list_total x.index =
+        subst (λ n. leaves p (event_total y.index.batches + d.batch.events) ≤ leaves p n) (let e : event_total y.index.batches + d.batch.events + event_total (batch_entries ds) ≡ event_total x.index.batches = omega (arith, total, sum) in e) (leaves_more p.l (event_total y.index.batches + d.batch.events) (event_total (batch_entries ds)) pos) in
         let good : Each IsGood (keys_next y.index d.batch.events) =
-        subst (λ (q : Params). Each IsGood (lists_due q (events_in y.index.batches) (events_in y.index.batches + d.batch.events) ++ (deltas_due q.k (leaves q (events_in y.index.batches)) (leaves q (events_in y.index.batches + d.batch.events)) ++ key.Piece (length y.index.batches) ∷ []))) (sym so.params)
-        (keys_good (events_in y.index.batches) d.batch.events (length y.index.batches) up piece) in
+        subst (λ (q : Params). Each IsGood (lists_due q (event_total y.index.batches) (event_total y.index.batches + d.batch.events) ++ (deltas_due q.k (leaves q (event_total y.index.batches)) (leaves q (event_total y.index.batches + d.batch.events)) ++ key.Piece (length y.index.batches) ∷ []))) (sym so.params)
+        (keys_good (event_total y.index.batches) d.batch.events (length y.index.batches) up piece) in
         let fresh = fresh_next y.index.params (subst (λ (q : Params). 0 < q.l) (sym so.params) pos) (subst (λ (q : Params). 0 < q.k) (sym so.params) (omega (arith, two))) y.index.batches d.batch.events in
         let new = laid_good offset y.index.records later.0 (keys_next y.index d.batch.events) (rows_in d) (subst (λ (l : List Key). Fresh l (keys_next y.index d.batch.events)) (sym keys) fresh) (later.1 ∙ append_assoc y.index.records here later.0) good in
         let spelt = next_spelt image y d fits c.1 in
         let keys_next_kept : AreKept y1.index = kept_more y d offset (gate_behind image y.index.used + 1) keys spelt.lists spelt.deltas in
         let events_are : events_among (front ++ b ∷ []) ≡ before ++ b.events = flat_map-append (λ (b : Batch). b.events) front (b ∷ []) ∙ ap (λ (l : List Event). before ++ l) (append-nil b.events) in
-        let push : events_in (y.index.batches ++ d.batch ∷ []) ≡ events_in y.index.batches + d.batch.events = sum_by_push (λ (b : BatchEntry). b.events) y.index.batches d.batch in
+        let push : event_total (y.index.batches ++ d.batch ∷ []) ≡ event_total y.index.batches + d.batch.events = sum_by_push (λ (b : BatchEntry). b.events) y.index.batches d.batch in
         let longer : length (y.index.batches ++ d.batch ∷ []) ≡ length y.index.batches + 1 = length-append y.index.batches (d.batch ∷ []) in
         let so_next : IsFront z y1 (front ++ b ∷ []) = record {
           params = so.params;
@@ -189,5 +189,5 @@ module _ (image : List ℕ) (x : Opened) (events : List Event) (pos : 0 < x.inde
           number = longer ∙ ap (λ c. c + 1) so.number ∙ sym (length-append front (b ∷ []));
         } in
         all_kept ds y1 (front ++ b ∷ []) left (is ∙ sym (append_assoc front (b ∷ []) left)) so_next keys_next_kept (omega (arith, push, total, sum)) agree.1
-        (subst (λ m. PieceColumns m (events_in (y.index.batches ++ d.batch ∷ [])) (batch_entries ds)) (sym longer) (subst (λ m. PieceColumns (length y.index.batches + 1) m (batch_entries ds)) (sym push) pieces.1)) c.2
+        (subst (λ m. PieceColumns m (event_total (y.index.batches ++ d.batch ∷ [])) (batch_entries ds)) (sym longer) (subst (λ m. PieceColumns (length y.index.batches + 1) m (batch_entries ds)) (sym push) pieces.1)) c.2
         (each_append (IsKept z image) y.index.records here kept new.0) (each_append (IsListTimed z) y.index.records here timed new.1)

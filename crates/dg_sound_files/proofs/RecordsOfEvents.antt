@@ -20,7 +20,7 @@ use Rattle.dg_index.proofs.KeptColumns.{Each}
 use Rattle.dg_columns.specs.ColumnLaws.{AreBytes, EventsHaveOneSpelling}
 use Rattle.dg_columns.specs.Ranges.{BodyFits, EventsFit}
 use Rattle.dg_columns.specs.ReadFits.{EventsThatAreReadFit, PlacedFit}
-use Rattle.dg_sound.specs.OwnEvents.{and_then, spelled_or, placed_at, merged_or, events_at}
+use Rattle.dg_sound.specs.OwnEvents.{and_own, spelled_or, placed_in_column, merged_or, events_of_record}
 use Rattle.dg_sound_files.proofs.NamesInBytes.{then_is, some_is}
 use Rattle.dg_sound_files.proofs.UnmergedColumns.{stands_in, unmerged}
 
@@ -29,7 +29,7 @@ use Rattle.dg_sound_files.proofs.UnmergedColumns.{stands_in, unmerged}
 pub ok_same : {A E : Type 0} (x y : A) → (let r : Result A E = Ok x in r) ≡ Ok y → x ≡ y
 ok_same x y e = cc
 
-pub and_then_is : {A B E : Type 0} (r : Result A E) (next : A → Result B E) (y : B) → and_then r next ≡ Ok y → (x : A) × (r ≡ Ok x) × (next x ≡ Ok y)
+pub and_then_is : {A B E : Type 0} (r : Result A E) (next : A → Result B E) (y : B) → and_own r next ≡ Ok y → (x : A) × (r ≡ Ok x) × (next x ≡ Ok y)
 and_then_is (Ok x) next y e = (x, refl, e)
 and_then_is (Err f) next y e = absurd cc
 
@@ -101,7 +101,7 @@ module _ (spelled : EventsHaveOneSpelling) (fit : EventsThatAreReadFit) (image :
     text : column_at image (entry_at x.index k) col ≡ counted placed
     fits : PlacedFit col (length x.names) 0 0 placed
 
-  column_read : (k : Key) (col : Column) (placed : List Placed) → placed_at image x k col ≡ Ok placed → ColumnRead k col placed
+  column_read : (k : Key) (col : Column) (placed : List Placed) → placed_in_column image x k col ≡ Ok placed → ColumnRead k col placed
   column_read k col placed e =
       let bytes = column_bytes image (entry_at x.index k) col all in
       let read = spelled_is col (read_as_events col (length x.names) (column_at image (entry_at x.index k) col)) placed e in
@@ -110,11 +110,11 @@ module _ (spelled : EventsHaveOneSpelling) (fit : EventsThatAreReadFit) (image :
         fits = fit col (length x.names) (column_at image (entry_at x.index k) col) placed bytes read;
       }
 
-  pub events_are_of : (k : Key) (count : ℕ) (events : List Event) → events_at image x k count ≡ Ok events → AreOf image x k count events
+  pub events_are_of : (k : Key) (count : ℕ) (events : List Event) → events_of_record image x k count ≡ Ok events → AreOf image x k count events
   events_are_of k count events e =
-      let a = and_then_is (placed_at image x k column.Structure) (λ a. and_then (placed_at image x k column.NodeAttr) (λ b. and_then (placed_at image x k column.EdgeAttr) (λ c. merged_or (merged a b c count)))) events e in
-      let b = and_then_is (placed_at image x k column.NodeAttr) (λ b. and_then (placed_at image x k column.EdgeAttr) (λ c. merged_or (merged a.0 b c count))) events a.2 in
-      let c = and_then_is (placed_at image x k column.EdgeAttr) (λ c. merged_or (merged a.0 b.0 c count)) events b.2 in
+      let a = and_then_is (placed_in_column image x k column.Structure) (λ a. and_own (placed_in_column image x k column.NodeAttr) (λ b. and_own (placed_in_column image x k column.EdgeAttr) (λ c. merged_or (merged a b c count)))) events e in
+      let b = and_then_is (placed_in_column image x k column.NodeAttr) (λ b. and_own (placed_in_column image x k column.EdgeAttr) (λ c. merged_or (merged a.0 b c count))) events a.2 in
+      let c = and_then_is (placed_in_column image x k column.EdgeAttr) (λ c. merged_or (merged a.0 b.0 c count)) events b.2 in
       let ra = column_read k column.Structure a.0 a.1 in
       let rb = column_read k column.NodeAttr b.0 b.1 in
       let rc = column_read k column.EdgeAttr c.0 c.1 in

@@ -15,7 +15,7 @@ use Rattle.dg_index.specs.FileOfHistory.{Stored, StoredList, Segment, directory,
 use Rattle.dg_index.specs.Hierarchy.{numbers, leaves}
 use Rattle.dg_index.specs.ImageText.{eight_at, gate_behind}
 use Rattle.dg_index.specs.IndexRecords.{closed_list, record_among, deltas_due, lists_due}
-use Rattle.dg_index.specs.OpenedIndex.{Opened, Directory, directory_of, list_row, record_row, rows_in, laid, total, keys_next, events_in}
+use Rattle.dg_index.specs.OpenedIndex.{Opened, Directory, directory_of, list_row, record_row, rows_in, laid, total, keys_next, event_total}
 use Rattle.dg_index.specs.declared.entry.BatchEntry.{BatchEntry}
 use Rattle.dg_index.specs.declared.entry.Ends.{Ends}
 use Rattle.dg_index.specs.declared.entry.Entry.{Entry}
@@ -86,7 +86,7 @@ module _ (z : History) (pos : 0 < z.params.l) (wide : 0 < z.params.k) (all later
 -- the index is that of these batches
 pub record IsFront (z : History) (y : Opened) (front : List Batch) : Type 0 where
   pub params : y.index.params ≡ z.params
-  pub count : events_in y.index.batches ≡ length (events_among front)
+  pub count : event_total y.index.batches ≡ length (events_among front)
   pub number : length y.index.batches ≡ length front
 
 -- the directory counts this batch, and tells its times and names

@@ -9,7 +9,7 @@ use Rattle.dg_history.specs.declared.node.Key.TheVariants as key
 use Rattle.dg_history.specs.History.{Batch, events_of, names_of}
 use Rattle.dg_history.specs.LegalHistory.{AreLegalAfter, FitsEvent, IsLegal}
 use Rattle.dg_index.specs.ImageOfHistory.{IsImageOf}
-use Rattle.dg_index.specs.OpenedIndex.{Opened, Directory, bare, events_in}
+use Rattle.dg_index.specs.OpenedIndex.{Opened, Directory, bare, event_total}
 use Rattle.dg_index.specs.declared.entry.BatchEntry.{BatchEntry}
 use Rattle.dg_index.proofs.KeptColumns.{Each, events_among}
 use Rattle.dg_index.proofs.OpenedHistories.{large_parameters}
@@ -19,7 +19,7 @@ use Rattle.dg_columns.proofs.Fields.{IsBytes, bytes_from_all}
 use Rattle.dg_sound.specs.declared.soundness.Soundness.TheVariants.{Sound}
 use Rattle.dg_sound.specs.OwnEvents.{are_completions, list_total, listed_events, own_events, with_pieces}
 use Rattle.dg_sound_files.specs.SoundFiles.{SoundFilesStand}
-use Rattle.dg_sound.specs.Soundness.{delta_keys, first_wrong, history_of, if_read, judged, own_batches, record_total, sound_unless}
+use Rattle.dg_sound.specs.Soundness.{delta_keys, first_wrong, history_of, if_read, judged_events, own_batches, record_total, sound_unless}
 use Rattle.dg_sound_files.proofs.ChainFacts.{chain_few, chain_few_names, chain_follow, chain_named, chain_new}
 use Rattle.dg_sound_files.proofs.FilesInBytes.{IsOpened, is_opened, stands_as_file}
 use Rattle.dg_sound_files.proofs.OwnBatches.{HaveEnds, own_agree, own_events_whole, own_names_whole}
@@ -37,15 +37,15 @@ none_wrong : (total n : ℕ) (wrong : Option (Key × Column)) → sound_unless t
 none_wrong total n None e = refl
 none_wrong total n (Some wrong) e = absurd cc
 
-judged_is : (image : List ℕ) (x : Opened) (n : ℕ) (r : Result (List Event) (Key × Column)) → judged image x r ≡ Sound n → (events : List Event) × (r ≡ Ok events) × (first_wrong image x events (delta_keys x.index.params (events_in x.index.batches)) ≡ None)
+judged_is : (image : List ℕ) (x : Opened) (n : ℕ) (r : Result (List Event) (Key × Column)) → judged_events image x r ≡ Sound n → (events : List Event) × (r ≡ Ok events) × (first_wrong image x events (delta_keys x.index.params (event_total x.index.batches)) ≡ None)
 judged_is image x n (Err wrong) e = absurd cc
 judged_is image x n (Ok events) e =
-    (events, refl, none_wrong (record_total x.index.params (events_in x.index.batches)) n (first_wrong image x events (delta_keys x.index.params (events_in x.index.batches))) e)
+    (events, refl, none_wrong (record_total x.index.params (event_total x.index.batches)) n (first_wrong image x events (delta_keys x.index.params (event_total x.index.batches))) e)
 
 -- ---- what is known of the events that are read
 
 pub record AreRead (spelled : EventsHaveOneSpelling) (fit : EventsThatAreReadFit) (image : List ℕ) (x : Opened) (all : AreBytes image) (pos : 0 < x.index.params.l) (events : List Event) : Type 0 where
-  pub size : length events ≡ events_in x.index.batches
+  pub size : length events ≡ event_total x.index.batches
   pub sound : AreSound x events
   pub lists : (j : ℕ) → j < list_total x.index → IsRightList spelled fit image x all pos j events
   pub pieces : AreRightPieces spelled fit image x all pos 0 0 x.index.batches events
@@ -56,7 +56,7 @@ module _ (spelled : EventsHaveOneSpelling) (fit : EventsThatAreReadFit) (image :
       let count : length listed ≡ list_total x.index * x.index.params.l = lists.count ∙ ap (λ m. m * x.index.params.l) (let e : 0 + list_total x.index ≡ list_total x.index = omega arith in e) in
       let pieces = pieces_read spelled fit image x all pos 0 0 x.index.batches listed events (omega arith) (omega (arith, count)) lists.sound e in
       record {
-        size = omega (arith, pieces.size, div-mul-le_self (events_in x.index.batches) x.index.params.l);
+        size = omega (arith, pieces.size, div-mul-le_self (event_total x.index.batches) x.index.params.l);
         sound = pieces.sound;
         lists = λ j lt. subst (IsRightList spelled fit image x all pos j) pieces.is (lists.right j (omega arith) (omega (arith, lt)) pieces.more);
         pieces = subst (AreRightPieces spelled fit image x all pos 0 0 x.index.batches) (append-nil events) (pieces.right []);
@@ -80,7 +80,7 @@ module _ (spelled : EventsHaveOneSpelling) (fit : EventsThatAreReadFit) (image :
   -- ---- the history of these events
 
   history_stands : (fits : IsBytes image) (o : IsOpened image x) (two : 2 ≤ x.index.params.k) (events : List Event) → AreRead spelled fit image x all pos events
-      → Each (IsRightDelta image x events) (delta_keys x.index.params (events_in x.index.batches)) → IsImageOf (history_of x events) image
+      → Each (IsRightDelta image x events) (delta_keys x.index.params (event_total x.index.batches)) → IsImageOf (history_of x events) image
   history_stands fits o two events read right =
       let ds : List Directory = o.directories in
       let whole : events_of (history_of x events) ≡ events = own_events_whole x.names events x.index.batches read.size in
@@ -88,7 +88,7 @@ module _ (spelled : EventsHaveOneSpelling) (fit : EventsThatAreReadFit) (image :
       let batches_are : x.index.batches ≡ batch_entries ds = chain_batches image ds (bare x.index.params) x o.chain in
       let names_are : x.names ≡ new_names ds = chain_names image ds (bare x.index.params) x o.chain in
       let named = chain_named image ds (bare x.index.params) x fits o.chain in
-      let total : 0 + events_in (batch_entries ds) ≡ events_in x.index.batches = omega (arith, ap events_in batches_are) in
+      let total : 0 + event_total (batch_entries ds) ≡ event_total x.index.batches = omega (arith, ap event_total batches_are) in
       let ends : HaveEnds 0 (batch_entries ds) events = subst (λ (l : List BatchEntry). HaveEnds 0 l events) batches_are (batch_ends two events whole 0 0 x.index.batches read.pieces) in
       let agree : Agree ds (history_of x events).batches =
       subst (λ (l : List (List ℕ)). Agree ds (own_batches l events x.index.batches)) (sym names_are)
@@ -96,7 +96,7 @@ module _ (spelled : EventsHaveOneSpelling) (fit : EventsThatAreReadFit) (image :
       -- the records
       let columns : PieceColumns image x events pos two whole 0 0 (batch_entries ds) = subst (PieceColumns image x events pos two whole 0 0) batches_are (piece_columns two events whole 0 0 x.index.batches read.pieces) in
       let lists : (j : ℕ) → j < list_total x.index → IsGood image x events pos two whole (key.List j) = λ j lt. good_list image x events pos two whole j (read.lists j lt).columns (read.lists j lt).ends in
-      let deltas = good_deltas image x events pos two whole (events_in x.index.batches) right in
+      let deltas = good_deltas image x events pos two whole (event_total x.index.batches) right in
       let kept = all_kept image x events pos two whole fits lists deltas ds (bare x.index.params) [] (history_of x events).batches refl (record { params = refl; count = refl; number = refl }) refl total agree columns o.chain tt tt in
       -- its legality
       let names_whole : names_of (history_of x events) ≡ x.names = (λ i. flat_map (λ (b : Batch). b.names) (own_batches (names_are i) events (batches_are i))) ∙ own_names_whole events ds named ∙ sym names_are in
@@ -121,5 +121,5 @@ sound_files_stand spelled fit = λ image x n all opened sound.
     let large = large_parameters x.index.params.l x.index.params.k o.right in
     let pos : 0 < x.index.params.l = omega (arith, large.0) in
     let j = judged_is image x n (own_events image x) sound in
-    let right = all_right image x j.0 (delta_keys x.index.params (events_in x.index.batches)) j.2 in
+    let right = all_right image x j.0 (delta_keys x.index.params (event_total x.index.batches)) j.2 in
     (history_of x j.0, ap (if_read x) j.1, history_stands spelled fit image x all pos fits o large.1 j.0 (are_read spelled fit image x all pos j.0 j.1) right)

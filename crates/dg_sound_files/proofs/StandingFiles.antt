@@ -9,7 +9,7 @@ use Rattle.dg_index.specs.FileLaws.{ColumnsAreKept}
 use Rattle.dg_index.specs.OpenedIndex.{opened_of}
 use Rattle.dg_index.proofs.RecentPieces.{batches_of, noted}
 use Rattle.dg_sound_files.specs.SoundFiles.{StandingFilesAreSound}
-use Rattle.dg_sound.specs.Soundness.{delta_keys, first_wrong, history_of, if_read, judged, own_batches, record_total, sound_unless}
+use Rattle.dg_sound.specs.Soundness.{delta_keys, first_wrong, history_of, if_read, judged_events, own_batches, record_total, sound_unless}
 use Rattle.dg_sound_files.proofs.DeltasRight.{deltas_right}
 use Rattle.dg_sound_files.proofs.OwnRecords.{count_is, names_are, params_are}
 use Rattle.dg_sound_files.proofs.PiecesRead.{all_read}
@@ -33,7 +33,7 @@ pub standing_files_are_sound : ColumnsAreKept → EventsAreReadBack → EventsAr
 standing_files_are_sound kept back merge z image h =
     let read = all_read kept back merge z image h in (
       ap (if_read (opened_of z)) read ∙ ap (λ (y : History). Some y) (own_is z),
-      ap (judged image (opened_of z)) read
+      ap (judged_events image (opened_of z)) read
           ∙ (λ i. sound_unless (record_total (params_are z i) (count_is z i)) (first_wrong image (opened_of z) (events_of z) (delta_keys (params_are z i) (count_is z i))))
           ∙ ap (sound_unless (record_total z.params (length (events_of z)))) (deltas_right kept z image h),
     )

@@ -20,7 +20,7 @@ use Rattle.dg_retrieval.specs.NodeSets.{IsIndexOver, IsLedByPlan}
 use Rattle.dg_start.specs.declared.event_source.EventSource.{EventSource}
 use Rattle.dg_start.specs.declared.fault.StartFault.{StartFault}
 use Rattle.dg_start.specs.declared.fault.StartFault.TheVariants as fault
-use Rattle.dg_start.specs.RecentReading.{events_in_sources, events_read, first_wrong, recent_in_image, recent_sources}
+use Rattle.dg_start.specs.RecentReading.{events_in_sources, events_read, first_wrong_event, recent_in_image, recent_sources}
 use Rattle.dg_start.specs.Reading.{ArePartedBy, CanBeRead, WhereTold, bounded, bytes_in_sources, source_of, sources_in}
 use Rattle.dg_start.specs.Refusals.{IsReason, RefusesEvents, RefusesPlan}
 use Rattle.dg_start.specs.SessionStart.{Bad_event, Bad_piece, Bad_plan, Good, Not_graph, PlansLastLeaf, RefusesStart, Started, Starts, StartsBy, StartsIndex, first_recent, last_leaf, recent_bytes}
@@ -77,7 +77,7 @@ module _ (names : List (List ℕ)) (o : Opening) where
         refused_by_event fault.Memory h = tt
 
         -- or the set past the events
-        started_so : IsGraph set → first_wrong names (first_recent o) set pairs ≡ None → (graph : List Element) (recent : List Event) → events_read pairs ≡ recent → graph ≡ replay_from set recent
+        started_so : IsGraph set → first_wrong_event names (first_recent o) set pairs ≡ None → (graph : List Element) (recent : List Event) → events_read pairs ≡ recent → graph ≡ replay_from set recent
             → Starts image (Ok (started_with (Some o) names graph recent))
         started_so is right graph recent recent_is graph_is =
             subst (λ (d : Option Started). Starts image (Ok d))
@@ -117,7 +117,7 @@ module _ (names : List (List ℕ)) (o : Opening) where
             if_told told (λ image. RefusesStart f image)
             (λ image h. refused_by_event image (opened_at image h) (bounded (sources_in found) recent) (read_at image h) set (led_at image h) f bad)
 
-        pub is_started : IsGraph set → first_wrong names (first_recent o) set (bounded (sources_in found) recent) ≡ None → (graph : List Element) → graph ≡ replay_from set recent
+        pub is_started : IsGraph set → first_wrong_event names (first_recent o) set (bounded (sources_in found) recent) ≡ None → (graph : List Element) → graph ≡ replay_from set recent
             → IfSome told (λ image. Starts image (Ok (started_with (Some o) names graph recent)))
         is_started is right graph graph_is =
             if_told told (λ image. Starts image (Ok (started_with (Some o) names graph recent)))
@@ -136,12 +136,12 @@ module _ (names : List (List ℕ)) (o : Opening) (right : are_parameters o.param
   pub recent_many : length recent ≡ recent_count o
   recent_many = parted_length (recent_sources o) recent parted_so ∙ recent_counts o (list_some o.params.l o.params.k right)
 
-  pub recent_goes_on : AreInTurn 0 0 o.batches → last_list 0 o.records ≤ earliest_in 0 o.batches → (n : ℕ) (set : List Element) → first_wrong names n set (bounded (sources_in found) recent) ≡ None
+  pub recent_goes_on : AreInTurn 0 0 o.batches → last_list 0 o.records ≤ earliest_in 0 o.batches → (n : ℕ) (set : List Element) → first_wrong_event names n set (bounded (sources_in found) recent) ≡ None
       → MayGoOn (Some o) recent
   recent_goes_on turns listed n set none =
       subst (λ (es : List Event). MayGoOn (Some o) es) (untag_bounded (recent_sources o) recent parted_so)
       (may_go_on o (bounded (recent_sources o) recent) turns listed (are_of (recent_sources o) recent parted_so)
-      (are_within names n set (bounded (recent_sources o) recent) (ap (λ l. first_wrong names n set (bounded l recent)) (sym are) ∙ none)))
+      (are_within names n set (bounded (recent_sources o) recent) (ap (λ l. first_wrong_event names n set (bounded l recent)) (sym are) ∙ none)))
 
 -- ---- the bytes read, over an image of a history
 

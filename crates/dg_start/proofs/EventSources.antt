@@ -16,7 +16,7 @@ use Rattle.dg_index.specs.declared.entry.BatchEntry.{BatchEntry}
 use Rattle.dg_index.specs.Hierarchy.{leaves}
 use Rattle.dg_index.specs.IndexKeys.{AreKept, among, keys_among}
 use Rattle.dg_index.specs.IndexRecords.{lists_due, deltas_due}
-use Rattle.dg_index.specs.OpenedIndex.{Opening, events_in}
+use Rattle.dg_index.specs.OpenedIndex.{Opening, event_total}
 use Rattle.dg_index.specs.RecentEvents.{RecentPiece, pieces_ahead}
 use Rattle.dg_start.specs.RecentReading.{piece_source}
 use Rattle.dg_index.proofs.HeldKeys.{among_append, found}
@@ -78,7 +78,7 @@ pub record PiecesSoFar (o : Opening) (number before : ℕ) (found : List EventSo
   pub pieces : List RecentPiece
   pub found_are : map source_of found ≡ map (piece_source o) pieces
   pub ahead : pieces_ahead o.params 0 0 [] o.batches ≡ pieces_ahead o.params number before pieces (drop number o.batches)
-  pub counted : before + events_in (drop number o.batches) ≡ events_in o.batches
+  pub counted : before + event_total (drop number o.batches) ≡ event_total o.batches
 
 pub no_pieces : (o : Opening) (found : List EventSource) → found ≡ [] → PiecesSoFar o 0 0 found
 no_pieces o found none = record { pieces = []; found_are = ap (map source_of) none; ahead = refl; counted = omega arith }
@@ -90,10 +90,10 @@ from_here (x ∷ batches) (suc n) b there =
     from_here batches n b there ∙ ap (λ (m : ℕ). b ∷ drop m (x ∷ batches)) (let e : suc (n + 1) ≡ suc n + 1 = omega arith in e)
 
 -- the events of the next batch are among those of all
-pub batch_within : (o : Opening) (number before : ℕ) (b : BatchEntry) → slice_get o.batches number ≡ Some b → before + events_in (drop number o.batches) ≡ events_in o.batches
-    → before + b.events ≤ events_in o.batches
+pub batch_within : (o : Opening) (number before : ℕ) (b : BatchEntry) → slice_get o.batches number ≡ Some b → before + event_total (drop number o.batches) ≡ event_total o.batches
+    → before + b.events ≤ event_total o.batches
 batch_within o number before b there counted =
-    omega (arith, counted, ap events_in (from_here o.batches number b there), sum_by-cons (λ (b : BatchEntry). b.events) b (drop (number + 1) o.batches))
+    omega (arith, counted, ap event_total (from_here o.batches number b there), sum_by-cons (λ (b : BatchEntry). b.events) b (drop (number + 1) o.batches))
 
 pub one_piece : (o : Opening) (number before : ℕ) (b : BatchEntry) (old new : List EventSource) (s : EventSource)
     → slice_get o.batches number ≡ Some b
@@ -110,7 +110,7 @@ one_piece o number before b old new s there source is so_far =
           ∙ (λ i. kept (leaves o.params (before + b.events) == leaves o.params before) i ++ source i ∷ [])
           ∙ sym (map-append (piece_source o) (if leaves o.params (before + b.events) == leaves o.params before then so_far.pieces else []) (piece ∷ []));
       ahead = so_far.ahead ∙ ap (pieces_ahead o.params number before so_far.pieces) here;
-      counted = omega (arith, so_far.counted, ap events_in here, sum_by-cons (λ (b : BatchEntry). b.events) b (drop (number + 1) o.batches));
+      counted = omega (arith, so_far.counted, ap event_total here, sum_by-cons (λ (b : BatchEntry). b.events) b (drop (number + 1) o.batches));
     }
   where
     kept : (same : Bool) → map source_of (if same then old else []) ≡ map (piece_source o) (if same then so_far.pieces else [])

@@ -2,7 +2,7 @@
 use Rattle.std.proofs.Common.{◌≡◌, ℕ, List as ListOf, [], ◌∷◌, Option, Some, None, Result, Ok, Err, length, refl, sym, ◌∙◌, ap, subst}
 use Rattle.dg_fold.specs.BytesRead.{AreParts, ColumnBytes, IsPartOf, asked_column, kept_in, named_along}
 use Rattle.dg_fold.specs.declared.part.Part.{Part}
-use Rattle.dg_fold.specs.Parts.{and_then, beside, is_events, named, part_column_in, part_in, parts_in, record_in}
+use Rattle.dg_fold.specs.Parts.{and_then, beside, is_events, fault_named, part_column_in, deltas_in_part, parts_in, record_in}
 use Rattle.dg_fold.specs.PathIndependence.{taken}
 use Rattle.dg_plan.specs.TreePaths.{edges_at}
 use Rattle.dg_graph.specs.declared.element.Column.{Column}
@@ -27,7 +27,7 @@ use Rattle.dg_retrieval.specs.KeptGraph.{record_edges}
 use Rattle.dg_retrieval.specs.NodeSets.{IsLedByPlan, set_after}
 use Rattle.dg_start.specs.declared.fault.StartFault.{StartFault}
 use Rattle.dg_start.specs.declared.fault.StartFault.TheVariants as fault
-use Rattle.dg_start.specs.RecentReading.{events_read, first_wrong, recent_in_image}
+use Rattle.dg_start.specs.RecentReading.{events_read, first_wrong_event, recent_in_image}
 use Rattle.dg_start.specs.SessionStart.{Bad_event, Bad_piece, Bad_plan, Good, Not_graph, Started, StartsAreDetermined, StartsBy, StartsIndex, first_recent, last_leaf}
 
 -- ---- parts of the same bytes come to the same
@@ -35,12 +35,12 @@ use Rattle.dg_start.specs.SessionStart.{Bad_event, Bad_piece, Bad_plan, Good, No
 module _ (names : ℕ) (bytes : ColumnBytes) (cols : Columns) where
   abbrev column_by : Key → Way → Option ℕ → Column → ListOf ℕ → Result (ListOf Delta) (Key × Column)
   column_by key way until col text =
-      named (λ (offset : ℕ). (key, col)) (and_then (record_in names (is_events key) col text) (λ (r : Record). Ok (taken way until r)))
+      fault_named (λ (offset : ℕ). (key, col)) (and_then (record_in names (is_events key) col text) (λ (r : Record). Ok (taken way until r)))
 
   column_is : (n : Key × Way) (p : Part) → IsPartOf bytes cols n p → (col : Column) → part_column_in names p col ≡ column_by n.0 n.1 None col (asked_column bytes cols n.0 col)
   column_is n p is col = λ i. column_by (is.key i) (is.way i) (is.until i) col (is.columns col i)
 
-  part_is : (n : Key × Way) (p q : Part) → IsPartOf bytes cols n p → IsPartOf bytes cols n q → part_in names p ≡ part_in names q
+  part_is : (n : Key × Way) (p q : Part) → IsPartOf bytes cols n p → IsPartOf bytes cols n q → deltas_in_part names p ≡ deltas_in_part names q
   part_is n p q a b =
       let one : (col : Column) → part_column_in names p col ≡ part_column_in names q col = λ col. column_is n p a col ∙ sym (column_is n q b col) in
       λ i. beside (one Structure i) (beside (one NodeAttr i) (one EdgeAttr i))
@@ -114,10 +114,10 @@ module _ (image : ListOf ℕ) (x : Opened) where
     no_graph none due (Good others e' set' l' graph right) = absurd (none (subst IsGraph (set_once set' set l' l) graph))
 
     wrong_is : (others : Pairs) → Read (Ok others) → (set' : ListOf Element) → Led (Ok set')
-        → first_wrong x.names (first_recent x.index) set pairs ≡ first_wrong x.names (first_recent x.index) set' others
-    wrong_is others e' set' l' = λ i. first_wrong x.names (first_recent x.index) (set_once set set' l l' i) (read_once pairs others e e' i)
+        → first_wrong_event x.names (first_recent x.index) set pairs ≡ first_wrong_event x.names (first_recent x.index) set' others
+    wrong_is others e' set' l' = λ i. first_wrong_event x.names (first_recent x.index) (set_once set set' l l' i) (read_once pairs others e e' i)
 
-    event : IsGraph set → (n : ℕ) → first_wrong x.names (first_recent x.index) set pairs ≡ Some n → (due : Due) → StartsIndex image x due → Err (fault.BadRecent n) ≡ due
+    event : IsGraph set → (n : ℕ) → first_wrong_event x.names (first_recent x.index) set pairs ≡ Some n → (due : Due) → StartsIndex image x due → Err (fault.BadRecent n) ≡ due
     event graph n wrong due (Bad_piece g e') = cc
     event graph n wrong due (Bad_plan others e' key col l') = absurd (set_or_damage set (key, col) l l')
     event graph n wrong due (Not_graph others e' set' l' none) = absurd (none (subst IsGraph (set_once set set' l l') graph))
@@ -127,7 +127,7 @@ module _ (image : ListOf ℕ) (x : Opened) where
     event graph n wrong due (Good others e' set' l' graph' right) =
         let s : Some n ≡ None = sym wrong ∙ wrong_is others e' set' l' ∙ right in cc
 
-    good : IsGraph set → first_wrong x.names (first_recent x.index) set pairs ≡ None → (due : Due) → StartsIndex image x due
+    good : IsGraph set → first_wrong_event x.names (first_recent x.index) set pairs ≡ None → (due : Due) → StartsIndex image x due
         → Ok (Some (record { opened = x; graph = replay_from set (events_read pairs); recent = events_read pairs })) ≡ due
     good graph right due (Bad_piece g e') = cc
     good graph right due (Bad_plan others e' key col l') = absurd (set_or_damage set (key, col) l l')

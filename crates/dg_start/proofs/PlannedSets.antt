@@ -9,7 +9,7 @@ use Rattle.dg_fold.specs.BytesRead.{AreParts, ColumnBytes, kept_in, named_along,
 use Rattle.dg_fold.specs.declared.part.Part.{Part}
 use Rattle.dg_fold.specs.HistoryPaths.{IsGraphOf}
 use Rattle.dg_fold.specs.HistoryTrees.{KeepsKey}
-use Rattle.dg_fold.specs.Parts.{beside, part_in, parts_in}
+use Rattle.dg_fold.specs.Parts.{beside, deltas_in_part, parts_in}
 use Rattle.dg_fold.specs.PathIndependence.{begun_at, enters_held}
 use Rattle.dg_plan.specs.TreePaths.{edges_at}
 use Rattle.dg_fold.specs.Steps.{paired, steps_in}
@@ -21,7 +21,7 @@ use Rattle.dg_graph.specs.declared.element.Column.TheVariants.{Structure, NodeAt
 use Rattle.dg_graph.specs.declared.element.Columns.{Columns}
 use Rattle.dg_graph.specs.declared.element.Element.{Element}
 use Rattle.dg_graph.specs.declared.event.Event.{Event}
-use Rattle.dg_graph.specs.Composition.{Composes, Delta, and_then, applied, nothing, says}
+use Rattle.dg_graph.specs.Composition.{Composes, Delta, then_says, applied, nothing, says}
 use Rattle.dg_graph.specs.Elements.{asks, column_of, shown}
 use Rattle.dg_history.specs.declared.node.Key.{Key}
 use Rattle.dg_history.specs.declared.node.NodeId.{NodeId}
@@ -31,7 +31,7 @@ use Rattle.dg_history.specs.History.{History, events_of, names_of}
 use Rattle.dg_index.specs.Hierarchy.{numbers, set_of}
 use Rattle.dg_index.specs.ImageOfHistory.{IsImageOf}
 use Rattle.dg_index.specs.IndexRecords.{column_in, heights, recent_of}
-use Rattle.dg_index.specs.OpenedIndex.{Opening, events_in, opened_of}
+use Rattle.dg_index.specs.OpenedIndex.{Opening, event_total, opened_of}
 use Rattle.dg_index.proofs.HeldRecords.{record_held}
 use Rattle.dg_index.proofs.OpenedHistories.{IsBehind, large_parameters}
 use Rattle.dg_plan.specs.declared.edge.Edge.{Edge}
@@ -101,9 +101,9 @@ module _ (names : ℕ) (recent : ListOf Event) (bytes : ColumnBytes) (cols : Col
       by more via.Now h parts are = absurd h
       by more (via.Base handle) h parts are = absurd h
       by more (via.Paid key way) h [] are = absurd are
-      by more (via.Paid key way) h (p ∷ parts) are = ap (beside (part_in names p)) (more parts are.1)
+      by more (via.Paid key way) h (p ∷ parts) are = ap (beside (deltas_in_part names p)) (more parts are.1)
       by more (via.Held key way) h [] are = absurd are
-      by more (via.Held key way) h (p ∷ parts) are = ap (beside (part_in names p)) (more parts are.1)
+      by more (via.Held key way) h (p ∷ parts) are = ap (beside (deltas_in_part names p)) (more parts are.1)
       by more (via.Recent way) h parts are = absurd h
 
 -- ---- deltas one after another are one
@@ -115,7 +115,7 @@ composed_all (d ∷ list) = composed d (composed_all list)
 composes_all : (list : ListOf Delta) → Composes (composed_all list) list
 unfolding composed_all
 composes_all [] x = refl
-composes_all (d ∷ list) x = says-composed d (composed_all list) x ∙ ap (and_then (says d x)) (composes_all list x)
+composes_all (d ∷ list) x = says-composed d (composed_all list) x ∙ ap (then_says (says d x)) (composes_all list x)
 
 -- ---- all columns
 
@@ -145,8 +145,8 @@ module _ (z : History) (image : ListOf ℕ) (stands : IsImageOf z image) (o : Op
   params : o.params ≡ z.params
   params = ap (λ (x : Opening). x.params) opened ∙ state.params
 
-  count : events_in o.batches ≡ length (events_of z)
-  count = ap (λ (x : Opening). events_in x.batches) opened ∙ state.count
+  count : event_total o.batches ≡ length (events_of z)
+  count = ap (λ (x : Opening). event_total x.batches) opened ∙ state.count
 
   -- the graph of the records of the index is one of the history
   graph : IsGraphOf z (record_ground o)

@@ -39,7 +39,7 @@ use Rattle.dg_index.specs.Hierarchy.{leaves, numbers}
 use Rattle.dg_index.specs.ImageOfHistory.{IsImageOf}
 use Rattle.dg_index.specs.IndexKeys.{AreKept}
 use Rattle.dg_index.specs.IndexRecords.{column_in, deltas_due, piece_at, piece_of, recent_of}
-use Rattle.dg_index.specs.OpenedIndex.{Opened, Opening, bare, column_at, directory_of, entry_at, entry_or_none, events_in, last_list, list_row, opened_of, opened_onto, record_row, with_segment}
+use Rattle.dg_index.specs.OpenedIndex.{Opened, Opening, bare, column_at, directory_of, entry_at, entry_or_none, event_total, last_list, list_row, opened_of, opened_onto, record_row, with_segment}
 use Rattle.dg_index.specs.RecentEvents.{RecentPiece, pieces_ahead}
 use Rattle.dg_index.proofs.DueNodes.{numbers_length}
 use Rattle.dg_index.proofs.KeptColumns.{Each, columns_are_kept, each_append, piece_there}
@@ -49,7 +49,7 @@ use Rattle.dg_index.proofs.RecentEvents.{together}
 use Rattle.dg_index.proofs.RecentPieces.{batches_of, noted, recent_read}
 use Rattle.dg_list.specs.NetLaws.{AreMadeByChanges}
 use Rattle.dg_start.specs.declared.fault.StartFault.{StartFault}
-use Rattle.dg_start.specs.RecentReading.{Source, and_start, events_in_source, events_in_sources, first_wrong, is_right, merged_or, piece_source, placed_in_record, recent_in_image, spelled_or}
+use Rattle.dg_start.specs.RecentReading.{Source, and_start, events_in_source, events_in_sources, first_wrong_event, is_right, merged_or_fault, piece_source, placed_in_record, recent_in_image, spelled_or_fault}
 use Rattle.dg_start.proofs.BoundedEvents.{tagged, untag, untagged}
 use Rattle.dg_start.proofs.EventSources.{piece_held}
 use Rattle.dg_start.proofs.MadeEvents.{batches_made, events_among, made_behind}
@@ -131,10 +131,10 @@ right_here names set p k a b c =
     ∙ ap (λ x. x && (nat_le p.0.first p.1.time && nat_le p.1.time p.0.last)) a ∙ ap (λ x. x && nat_le p.1.time p.0.last) (le-leb p.0.first p.1.time b) ∙ le-leb p.1.time p.0.last c
 
 none_wrong : (names : List (List ℕ)) (n : ℕ) (set : List Element) (pairs : List (Ends × Event)) → AreMadeByChanges set (untag pairs) → HaveKeys names (untag pairs) → AreWithin pairs
-    → first_wrong names n set pairs ≡ None
+    → first_wrong_event names n set pairs ≡ None
 none_wrong names n set [] made keys h = refl
 none_wrong names n set (p ∷ pairs) made keys h =
-    ap (λ x. if x then first_wrong names (n + 1) (forwards set p.1) pairs else Some n)
+    ap (λ x. if x then first_wrong_event names (n + 1) (forwards set p.1) pairs else Some n)
     (right_here names set p (All-head (λ (e : Event). IsTrue (has_key names e.body)) p.1 (untag pairs) keys) made.0 h.0 h.1)
     ∙ none_wrong names (n + 1) (forwards set p.1) pairs made.1 (All-tail (λ (e : Event). IsTrue (has_key names e.body)) p.1 (untag pairs) keys) h.2
 
@@ -147,7 +147,7 @@ within_joined (x ∷ xs) ys h more = (h.0, h.1, within_joined xs ys h.2 more)
 -- What is known of what is opened so far, behind these events.
 record AreKnown (p : Params) (x : Opened) (before : List Event) : Type 0 where
   params : x.index.params ≡ p
-  count : events_in x.index.batches ≡ length before
+  count : event_total x.index.batches ≡ length before
   kept : AreKept x.index
 
 known_more : (p : Params) (x : Opened) (before : List Event) (b : Batch) → AreKnown p x before → AreKnown p (with_segment x (segment_of p before b)) (before ++ b.events)
@@ -157,11 +157,11 @@ known_more p x before b a =
     let m : ℕ = leaves p (length before) in
     let after : ℕ = leaves p (length before + length b.events) in
     let offset : ℕ = x.index.used + 16 + length (directory s) in
-    let lists : length (map list_row s.lists) ≡ leaves x.index.params (events_in x.index.batches + length b.events) - leaves x.index.params (events_in x.index.batches) =
+    let lists : length (map list_row s.lists) ≡ leaves x.index.params (event_total x.index.batches + length b.events) - leaves x.index.params (event_total x.index.batches) =
     length-map s.lists list_row ∙ length-map (numbers m (after - m)) (stored_list p all) ∙ numbers_length m (after - m)
     ∙ (λ i. leaves (sym a.params i) (sym a.count i + length b.events) - leaves (sym a.params i) (sym a.count i)) in
     let deltas : length (map record_row s.deltas)
-    ≡ length (deltas_due x.index.params.k (leaves x.index.params (events_in x.index.batches)) (leaves x.index.params (events_in x.index.batches + length b.events))) =
+    ≡ length (deltas_due x.index.params.k (leaves x.index.params (event_total x.index.batches)) (leaves x.index.params (event_total x.index.batches + length b.events))) =
     length-map s.deltas record_row ∙ length-map (deltas_due p.k m after) _
     ∙ (λ i. length (deltas_due (sym a.params i).k (leaves (sym a.params i) (sym a.count i)) (leaves (sym a.params i) (sym a.count i + length b.events)))) in
     record {
@@ -195,7 +195,7 @@ held_at o k h = by (lookup (same_key k) o.records) refl h
 -- ---- one source
 
 abbrev by_columns : Key → ℕ → Result (List Placed) StartFault → Result (List Placed) StartFault → Result (List Placed) StartFault → Result (List Event) StartFault
-by_columns k count a b c = and_start a (λ a. and_start b (λ b. and_start c (λ c. merged_or k (merged a b c count))))
+by_columns k count a b c = and_start a (λ a. and_start b (λ b. and_start c (λ c. merged_or_fault k (merged a b c count))))
 
 -- a source in whose record these events stand, as many as are due, is read as them
 source_is : EventsAreReadBack → EventsAreMergedBack → (image : List ℕ) (n : ℕ) → n ≤ NAMES_MAX → (o : Opening) (s : Source) (own : List Event)
@@ -203,10 +203,10 @@ source_is : EventsAreReadBack → EventsAreMergedBack → (image : List ℕ) (n 
     → events_in_source image n o s ≡ Ok own
 source_is back merge image n few o s own there count short fit =
     let col_is : (col : Column) → placed_in_record image n o s.key col ≡ Ok (placed_in col own) =
-    λ col. ap (λ (bytes : List ℕ). spelled_or s.key col (read_as_events col n bytes)) (there col)
-    ∙ ap (spelled_or s.key col) (back col n own (omega (arith, few)) short fit) in
+    λ col. ap (λ (bytes : List ℕ). spelled_or_fault s.key col (read_as_events col n bytes)) (there col)
+    ∙ ap (spelled_or_fault s.key col) (back col n own (omega (arith, few)) short fit) in
     (λ i. by_columns s.key (count i) (col_is column.Structure i) (col_is column.NodeAttr i) (col_is column.EdgeAttr i))
-    ∙ ap (merged_or s.key) (merge own (no_fall n 0 own fit))
+    ∙ ap (merged_or_fault s.key) (merge own (no_fall n 0 own fit))
 
 -- ---- the sources of an image of a history
 
@@ -353,7 +353,7 @@ module _ (back : EventsAreReadBack) (merge : EventsAreMergedBack) (z : History) 
   all_recent = recent
 
   -- and each is right behind the last closed list
-  pub none_is_wrong : (n : ℕ) → first_wrong (names_of z) n (replay (take (leaves z.params (length (events_of z)) * z.params.l) (events_of z))) recent_pairs ≡ None
+  pub none_is_wrong : (n : ℕ) → first_wrong_event (names_of z) n (replay (take (leaves z.params (length (events_of z)) * z.params.l) (events_of z))) recent_pairs ≡ None
   none_is_wrong n =
       let m : ℕ = leaves z.params (length (events_of z)) * z.params.l in
       let made : AreMadeByChanges [] (events_of z) = batches_made (names_of z) [] z.batches tt h.legal.batches in

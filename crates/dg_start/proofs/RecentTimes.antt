@@ -18,10 +18,10 @@ use Rattle.dg_index.specs.declared.entry.Ends.{Ends}
 use Rattle.dg_index.specs.declared.entry.Entry.{Entry}
 use Rattle.dg_index.specs.Hierarchy.{leaves}
 use Rattle.dg_index.specs.IndexGrowth.{AreInTurn}
-use Rattle.dg_index.specs.OpenedIndex.{Opening, earliest_in, events_in, first_in, last_list, last_or, may_follow}
+use Rattle.dg_index.specs.OpenedIndex.{Opening, earliest_in, event_total, first_in, last_list, last_or, may_follow}
 use Rattle.dg_index.specs.RecentEvents.{RecentPiece, pieces_ahead}
 use Rattle.dg_index.proofs.StableRecords.{leaves_more}
-use Rattle.dg_start.specs.RecentReading.{Source, first_wrong, is_right, piece_source, recent_sources}
+use Rattle.dg_start.specs.RecentReading.{Source, first_wrong_event, is_right, piece_source, recent_sources}
 use Rattle.dg_start.specs.StoredHistory.{MayGoOn, floor_of, recent_count}
 use Rattle.dg_start.proofs.BoundedEvents.{AreOf, counts, tagged, untag, untagged}
 
@@ -42,12 +42,12 @@ is_within names set p h =
     let t = both_true (nat_le p.0.first p.1.time) (nat_le p.1.time p.0.last) a.1 in
     (leb-true p.0.first p.1.time t.0, leb-true p.1.time p.0.last t.1)
 
-pub are_within : (names : List (List ℕ)) (n : ℕ) (set : List Element) (pairs : List (Ends × Event)) → first_wrong names n set pairs ≡ None → AreWithin pairs
+pub are_within : (names : List (List ℕ)) (n : ℕ) (set : List Element) (pairs : List (Ends × Event)) → first_wrong_event names n set pairs ≡ None → AreWithin pairs
 are_within names n set [] h = tt
 are_within names n set (p ∷ pairs) h = by (is_right names set p) refl h (λ e. are_within names (n + 1) (forwards set p.1) pairs e)
   where
-    by : (right : Bool) → is_right names set p ≡ right → (if right then first_wrong names (n + 1) (forwards set p.1) pairs else Some n) ≡ None
-        → (first_wrong names (n + 1) (forwards set p.1) pairs ≡ None → AreWithin pairs) → AreWithin (p ∷ pairs)
+    by : (right : Bool) → is_right names set p ≡ right → (if right then first_wrong_event names (n + 1) (forwards set p.1) pairs else Some n) ≡ None
+        → (first_wrong_event names (n + 1) (forwards set p.1) pairs ≡ None → AreWithin pairs) → AreWithin (p ∷ pairs)
     by true is e later =
         let here = is_within names set p is in
         (here.0, here.1, later e)
@@ -87,7 +87,7 @@ module _ (p : Params) (pos : 0 < p.l) where
       strict a b le ne = ⊎_elim (λ (e : a ≡ b). absurd (ne e)) (λ (lt : a < b). let r : a + 1 ≤ b = omega (arith, lt) in r) (eq-or-lt_of_le le)
 
   ahead_count : (number count : ℕ) (kept : List RecentPiece) (batches : List BatchEntry) → piece_counts kept ≡ count - leaves p count * p.l
-      → piece_counts (pieces_ahead p number count kept batches) ≡ count + events_in batches - leaves p (count + events_in batches) * p.l
+      → piece_counts (pieces_ahead p number count kept batches) ≡ count + event_total batches - leaves p (count + event_total batches) * p.l
   ahead_count number count kept [] is = is ∙ (let f : ℕ → ℕ = λ n. n - leaves p n * p.l in ap f (let e : count ≡ count + 0 = omega arith in e))
   ahead_count number count kept (b ∷ batches) is =
       let piece : RecentPiece = record { number = number; count = b.events - (leaves p (count + b.events) * p.l - count); batch = b } in
@@ -96,7 +96,7 @@ module _ (p : Params) (pos : 0 < p.l) where
       ∙ ap (λ n. n + piece.count) (chosen (leaves p (count + b.events) == leaves p count))
       ∙ count_on count b.events (piece_counts kept) (leaves p (count + b.events) == leaves p count) refl is)
       ∙ (let f : ℕ → ℕ = λ n. n - leaves p n * p.l in
-      ap f (let e : count + b.events + events_in batches ≡ count + events_in (b ∷ batches) = omega (arith, sum_by-cons (λ (b : BatchEntry). b.events) b batches) in e))
+      ap f (let e : count + b.events + event_total batches ≡ count + event_total (b ∷ batches) = omega (arith, sum_by-cons (λ (b : BatchEntry). b.events) b batches) in e))
     where
       chosen : (same : Bool) → piece_counts (if same then kept else []) ≡ (if same then piece_counts kept else 0)
       chosen true = refl
@@ -108,7 +108,7 @@ ahead_in o = pieces_ahead o.params 0 0 [] o.batches
 -- the recent sources have the events behind the last closed list
 pub recent_counts : (o : Opening) → 1 ≤ o.params.l → counts (recent_sources o) ≡ recent_count o
 recent_counts o some =
-    let n : ℕ = events_in o.batches in
+    let n : ℕ = event_total o.batches in
     let ahead : piece_counts (ahead_in o) ≡ 0 + n - leaves o.params (0 + n) * o.params.l = ahead_count o.params (omega (arith, some)) 0 0 [] o.batches (let z : 0 ≡ 0 - leaves o.params 0 * o.params.l = omega arith in z) in
     pieces_count o (ahead_in o) ∙ ahead
     ∙ (let f : ℕ → ℕ = λ m. m - leaves o.params m * o.params.l in ap f (let e : 0 + n ≡ n = omega arith in e))

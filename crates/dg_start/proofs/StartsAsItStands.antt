@@ -22,7 +22,7 @@ use Rattle.dg_list.proofs.NetLaws.{changes_keep_graphs}
 use Rattle.dg_plan.specs.IndexGraph.{leaf}
 use Rattle.dg_retrieval.specs.NodeSets.{IsLedByPlan}
 use Rattle.dg_start.specs.declared.fault.StartFault.{StartFault}
-use Rattle.dg_start.specs.RecentReading.{events_read, first_wrong, recent_in_image}
+use Rattle.dg_start.specs.RecentReading.{events_read, first_wrong_event, recent_in_image}
 use Rattle.dg_start.specs.SessionStart.{Bad_event, Bad_piece, Bad_plan, Good, Not_graph, Started, Starts, StartsBy, StartsIndex, first_recent, last_leaf}
 use Rattle.dg_start.specs.StoredHistory.{StartsAsItStands}
 use Rattle.dg_start.proofs.MadeEvents.{batches_made, made_before}
@@ -84,7 +84,7 @@ module _ (back : EventsAreReadBack) (merge : EventsAreMergedBack) (z : History) 
       let made : AreMadeByChanges [] (events_of z) = batches_made (names_of z) [] z.batches tt h.legal.batches in
       changes_keep_graphs [] before empty_graph (made_before [] before (drop n (events_of z)) (subst (AreMadeByChanges []) (sym (take-append-drop n (events_of z))) made))
 
-  right : first_wrong (names_of z) (first_recent o) (replay before) pairs ≡ None
+  right : first_wrong_event (names_of z) (first_recent o) (replay before) pairs ≡ None
   right = none_is_wrong back merge z image h (first_recent o)
 
   good : (pairs' : List (Ends × Event)) → recent_in_image image (length (names_of z)) o ≡ Ok pairs' → (set : List Element) → IsLedByPlan (length (names_of z)) image o (last_leaf o) (Ok set)
@@ -112,7 +112,7 @@ module _ (back : EventsAreReadBack) (merge : EventsAreMergedBack) (z : History) 
   index_starts due (Bad_event pairs' e set l graph n wrong) =
       let same : pairs' ≡ pairs = (let f = read in cc) in
       let from : set ≡ replay before = (let f = led (Ok set) l in cc) in
-      let none : first_wrong (names_of z) (first_recent o) set pairs' ≡ None = (λ i. first_wrong (names_of z) (first_recent o) (from i) (same i)) ∙ right in
+      let none : first_wrong_event (names_of z) (first_recent o) set pairs' ≡ None = (λ i. first_wrong_event (names_of z) (first_recent o) (from i) (same i)) ∙ right in
       cc
   index_starts due (Good pairs' e set l graph none) = good pairs' e set l
 

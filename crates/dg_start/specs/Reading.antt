@@ -10,7 +10,7 @@ use Rattle.dg_index.specs.declared.entry.Ends.{Ends}
 use Rattle.dg_index.specs.OpenedIndex.{Opening}
 use Rattle.dg_plan.specs.HistoryGraph.{all_columns}
 use Rattle.dg_start.specs.declared.event_source.EventSource.{EventSource}
-use Rattle.dg_start.specs.RecentReading.{Source, first_wrong}
+use Rattle.dg_start.specs.RecentReading.{Source, first_wrong_event}
 
 -- where the events of a source stand
 abbrev pub source_of : EventSource → Source
@@ -44,13 +44,13 @@ ArePartedBy [] events = events ≡ []
 ArePartedBy (s ∷ more) events = (s.count ≤ length events) × RisesFrom 0 (take s.count events) × ArePartedBy more (drop s.count events)
 
 -- the number that was found, or else what comes later
-abbrev pub or_later : Option ℕ → Option ℕ → Option ℕ
-or_later None later = later
-or_later (Some n) later = Some n
+abbrev pub or_later_number : Option ℕ → Option ℕ → Option ℕ
+or_later_number None later = later
+or_later_number (Some n) later = Some n
 
 -- The first of the events of one source that is not right has this number; where all are right, they lead
 -- from one set to the other.
 abbrev pub FirstWrong : List (List ℕ) → Ends → ℕ → List Element → List Event → Option ℕ → List Element → Type 0
 FirstWrong names ends number set events wrong after =
-    (more : List (Ends × Event)) → first_wrong names number set (map (λ (e : Event). (ends, e)) events ++ more)
-    ≡ or_later wrong (first_wrong names (number + length events) after more)
+    (more : List (Ends × Event)) → first_wrong_event names number set (map (λ (e : Event). (ends, e)) events ++ more)
+    ≡ or_later_number wrong (first_wrong_event names (number + length events) after more)

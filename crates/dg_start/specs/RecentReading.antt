@@ -44,17 +44,17 @@ abbrev pub and_start : {A B : Type 0} → Result A StartFault → (A → Result 
 and_start (Ok x) next = next x
 and_start (Err f) next = Err f
 
-abbrev pub spelled_or : Key → Column → Result (List Placed) ℕ → Result (List Placed) StartFault
-spelled_or k col (Ok placed) = Ok placed
-spelled_or k col (Err offset) = Err (fault.BadRecord k col)
+abbrev pub spelled_or_fault : Key → Column → Result (List Placed) ℕ → Result (List Placed) StartFault
+spelled_or_fault k col (Ok placed) = Ok placed
+spelled_or_fault k col (Err offset) = Err (fault.BadRecord k col)
 
 -- what a column of a record is read as, with so many names
 abbrev pub placed_in_record : List ℕ → ℕ → Opening → Key → Column → Result (List Placed) StartFault
-placed_in_record image names o k col = spelled_or k col (read_as_events col names (column_at image (entry_at o k) col))
+placed_in_record image names o k col = spelled_or_fault k col (read_as_events col names (column_at image (entry_at o k) col))
 
-abbrev pub merged_or : Key → Option (List Event) → Result (List Event) StartFault
-merged_or k (Some events) = Ok events
-merged_or k None = Err (fault.BadRecord k column.Structure)
+abbrev pub merged_or_fault : Key → Option (List Event) → Result (List Event) StartFault
+merged_or_fault k (Some events) = Ok events
+merged_or_fault k None = Err (fault.BadRecord k column.Structure)
 
 -- the events of a record, or its first column that is in no spelling, or structure where the columns do
 -- not come together to as many events as are due
@@ -62,7 +62,7 @@ abbrev pub events_in_source : List ℕ → ℕ → Opening → Source → Result
 events_in_source image names o s =
     and_start (placed_in_record image names o s.key column.Structure) (λ a.
     and_start (placed_in_record image names o s.key column.NodeAttr) (λ b.
-    and_start (placed_in_record image names o s.key column.EdgeAttr) (λ c. merged_or s.key (merged a b c s.count))))
+    and_start (placed_in_record image names o s.key column.EdgeAttr) (λ c. merged_or_fault s.key (merged a b c s.count))))
 
 -- the events of these records, one record after another, each event with the times that it has to lie between
 abbrev pub events_in_sources : List ℕ → ℕ → Opening → List Source → Result (List (Ends × Event)) StartFault
@@ -78,9 +78,9 @@ abbrev pub is_right : List (List ℕ) → List Element → Ends × Event → Boo
 is_right names set e = completes names set e.1.body && (nat_le e.0.first e.1.time && nat_le e.1.time e.0.last)
 
 -- the number of the first event that is not right, after the set, where they are numbered from n on
-abbrev pub first_wrong : List (List ℕ) → ℕ → List Element → List (Ends × Event) → Option ℕ
-first_wrong names n set [] = None
-first_wrong names n set (e ∷ more) = if is_right names set e then first_wrong names (n + 1) (forwards set e.1) more else Some n
+abbrev pub first_wrong_event : List (List ℕ) → ℕ → List Element → List (Ends × Event) → Option ℕ
+first_wrong_event names n set [] = None
+first_wrong_event names n set (e ∷ more) = if is_right names set e then first_wrong_event names (n + 1) (forwards set e.1) more else Some n
 
 -- the events that were read, without their times' bounds
 abbrev pub events_read : List (Ends × Event) → List Event

@@ -11,14 +11,14 @@ use Rattle.dg_history.specs.declared.node.NodeId.{NodeId}
 use Rattle.dg_history.specs.declared.node.NodeId.TheVariants.{Root}
 use Rattle.dg_index.specs.Hierarchy.{leaves}
 use Rattle.dg_index.specs.declared.entry.Ends.{Ends}
-use Rattle.dg_index.specs.OpenedIndex.{Unopened, No_index, Not_ours, Damaged_at, Opened, Opening, entry_at, events_in, opening, total}
+use Rattle.dg_index.specs.OpenedIndex.{Unopened, No_index, Not_ours, Damaged_at, Opened, Opening, entry_at, event_total, opening, total}
 use Rattle.dg_plan.specs.IndexGraph.{arcs_of, leaf}
 use Rattle.dg_plan.specs.Walks.{IsPlan, weight_of}
 use Rattle.dg_retrieval.specs.KeptGraph.{record_edges}
 use Rattle.dg_retrieval.specs.NodeSets.{IsLedByPlan}
 use Rattle.dg_start.specs.declared.fault.StartFault.{StartFault}
 use Rattle.dg_start.specs.declared.fault.StartFault.TheVariants as fault
-use Rattle.dg_start.specs.RecentReading.{Source, events_read, first_wrong, recent_in_image, recent_sources}
+use Rattle.dg_start.specs.RecentReading.{Source, events_read, first_wrong_event, recent_in_image, recent_sources}
 
 -- what a session starts with: the index and the names as the directories tell them, the current graph, and the
 -- events behind the last closed list
@@ -29,7 +29,7 @@ pub record Started : Type 0 where
 
 -- the number of closed lists
 abbrev pub lists_in : Opening → ℕ
-lists_in o = leaves o.params (events_in o.batches)
+lists_in o = leaves o.params (event_total o.batches)
 
 -- the node of the graph behind the last closed list: the root, where there is none
 abbrev pub last_leaf : Opening → NodeId
@@ -52,10 +52,10 @@ pub data StartsIndex (image : List ℕ) (x : Opened) : Result (Option Started) S
       → StartsIndex image x (Err fault.NotGraph)
   Bad_event : (recent : List (Ends × Event)) → recent_in_image image (length x.names) x.index ≡ Ok recent
       → (set : List Element) → IsLedByPlan (length x.names) image x.index (last_leaf x.index) (Ok set) → IsGraph set
-      → (n : ℕ) → first_wrong x.names (first_recent x.index) set recent ≡ Some n → StartsIndex image x (Err (fault.BadRecent n))
+      → (n : ℕ) → first_wrong_event x.names (first_recent x.index) set recent ≡ Some n → StartsIndex image x (Err (fault.BadRecent n))
   Good : (recent : List (Ends × Event)) → recent_in_image image (length x.names) x.index ≡ Ok recent
       → (set : List Element) → IsLedByPlan (length x.names) image x.index (last_leaf x.index) (Ok set) → IsGraph set
-      → first_wrong x.names (first_recent x.index) set recent ≡ None
+      → first_wrong_event x.names (first_recent x.index) set recent ≡ None
       → StartsIndex image x (Ok (Some (record { opened = x; graph = replay_from set (events_read recent); recent = events_read recent })))
 
 abbrev pub StartsBy : List ℕ → Result Opened Unopened → Result (Option Started) StartFault → Type 0

@@ -11,9 +11,9 @@ use Rattle.dg_graph.specs.Replay.{replay}
 use Rattle.dg_history.specs.History.{History, events_of, last_time_from, names_of}
 use Rattle.dg_index.specs.Hierarchy.{leaves}
 use Rattle.dg_index.specs.ImageOfHistory.{StandsAs, is_blank}
-use Rattle.dg_index.specs.IndexGrowth.{names_in}
+use Rattle.dg_index.specs.IndexGrowth.{name_total}
 use Rattle.dg_index.specs.IndexRecords.{recent_of}
-use Rattle.dg_index.specs.OpenedIndex.{Opening, earliest_in, events_in, first_in, last_list, opened_of, opening}
+use Rattle.dg_index.specs.OpenedIndex.{Opening, earliest_in, event_total, first_in, last_list, opened_of, opening}
 use Rattle.dg_now.specs.Now.{NowState}
 use Rattle.dg_start.specs.declared.fault.StartFault.{StartFault}
 use Rattle.dg_start.specs.SessionStart.{Started, Starts}
@@ -31,12 +31,12 @@ started_with (Some o) names graph recent = Some (record { opened = record { inde
 
 -- how many events stand behind the last closed list
 abbrev pub recent_count : Opening → ℕ
-recent_count o = events_in o.batches - leaves o.params (events_in o.batches) * o.params.l
+recent_count o = event_total o.batches - leaves o.params (event_total o.batches) * o.params.l
 
 -- there are as many names and recent events as the batches have, and without an index there is nothing
 abbrev pub AreCounted : Option Opening → List (List ℕ) → List Element → List Event → Type 0
 AreCounted None names graph recent = (names ≡ []) × (graph ≡ []) × (recent ≡ [])
-AreCounted (Some o) names graph recent = (length names ≡ names_in o.batches) × (length recent ≡ recent_count o)
+AreCounted (Some o) names graph recent = (length names ≡ name_total o.batches) × (length recent ≡ recent_count o)
 
 -- the time that no new list may begin before, where the next batch begins at this time
 abbrev pub floor_of : Opening → ℕ → ℕ

@@ -1,6 +1,7 @@
 //! Opening an index file.
 
 ghost use Rattle.std.specs.Prelude.{◌≡◌, ◌⊎◌, ◌+◌, ℕ, List, [], Ok, Option, None, Some, IfErr, IfOk, IfSome, IsErrOf, OnOk, length};
+ghost use Rattle.std.specs.Fn.{FnOnceReturnsAt};
 ghost use Rattle.std.specs.List.{All};
 ghost use Rattle.dg_columns.specs.NamesInRange.{NamesFit};
 ghost use Rattle.dg_disk.specs.Counts.{Rose};
@@ -8,6 +9,7 @@ ghost use Rattle.dg_disk.specs.Frame.{OnlyReads, ReadsAndSyncs};
 ghost use Rattle.dg_fold.specs.BytesRead.{Takes};
 ghost use Rattle.dg_history.specs.History.{History};
 ghost use Rattle.dg_index.specs.ImageOfHistory.{IsImageOf, StandsAs};
+ghost use Rattle.dg_graph.specs.declared.element.Element.{Element};
 ghost use Rattle.dg_graph.specs.declared.event.Event.{Event};
 ghost use Rattle.dg_graph.specs.Replay.{replay_from};
 ghost use Rattle.dg_index.specs.OpenedIndex.{opened_of, opening};
@@ -34,36 +36,39 @@ use dg_set::Set;
 use std::alloc::Global;
 use std::thread::Threads;
 
-/// An index file that was opened: its history, and the graph behind the last closed list, which the recent events lead
-/// on to the current graph.
+/// An index file that was opened: its history, and what was made of the graph behind the last closed list.
 #[derive(Drop)]
-pub struct OpenedFile {
+pub struct OpenedFile<T> {
     /// The history.
     pub history: StoredHistory,
-    /// The graph behind its last closed list.
-    pub last_set: Set,
+    /// What was made of the graph behind its last closed list.
+    pub made: T,
 }
 
-// The current graph, the recent events, and the graph behind the last closed list.
-struct Current {
+// The current graph, the recent events, and what was made of the graph behind the last closed list.
+struct Current<T> {
     now: Now,
     recent: Vec<Event>,
-    set: Set,
+    made: T,
 }
 
-// The current graph and the recent events of an index with these names.
-fn read_current<R: Threads + Sync, D: Disk>(
+// The current graph and the recent events of an index with these names, and what is made of the graph behind the last
+// closed list, which the current graph then keeps.
+fn read_current<R: Threads + Sync, D: Disk, T: Drop, F: FnOnce(&Set) -> T>(
     rt: &R,
     alloc: Global,
     index: &mut Index,
     disk: &mut D,
     names: &Names,
-) -> Result<Current, StartFault>
+    make: F,
+) -> Result<Current<T>, StartFault>
+    requires make { F.IsAlwaysCallable make }
     requires image { IfSome (D.image disk.old) (λ image. opening image ≡ Ok (record { index = index.old.opening; names = names.now })) }
     // the graph and the events
     ensures started { IfOk result (λ current. IfSome (D.image disk.old) (λ image.
         Starts image (Ok (started_with (Some index.old.opening) names.now current.now.graph current.recent.items)))) }
-    ensures led { IfOk result (λ current. current.now.graph ≡ replay_from current.set current.recent.items) }
+    ensures made { IfOk result (λ current. (set : List Element) × FnOnceReturnsAt F.FnOnce make set current.made
+        × (current.now.graph ≡ replay_from set current.recent.items)) }
     ensures none { IfOk result (λ current. current.now.pending ≡ []) }
     ensures many { IfOk result (λ current. length current.recent.items ≡ recent_count index.old.opening) }
     ensures fit { IfOk result (λ current. All (λ (e : Event). NamesFit e.body) current.recent.items) }
@@ -83,45 +88,51 @@ fn read_current<R: Threads + Sync, D: Disk>(
     let sources = recent_sources(alloc, index)?;
     let recent = read_sources(alloc, index, disk, names.len(), &sources)?;
     let set = last_set(rt, alloc, index, disk, names.len())?;
-    let now = current_graph(alloc, names, &set, first_recent(index), &sources, &recent)?;
-    Ok(Current { now, recent, set })
+    let made = make(&set);
+    let now = current_graph(alloc, names, set, first_recent(index), &sources, &recent)?;
+    Ok(Current { now, recent, made })
 }
 
-// No index. Takes no memory.
-fn blank(alloc: Global) -> OpenedFile
+// No index, and what is made of the empty graph. Takes no other memory.
+fn blank<T, F: FnOnce(&Set) -> T>(alloc: Global, make: F) -> OpenedFile<T>
+    requires make { F.IsAlwaysCallable make }
     ensures index { result.history.index ≡ None }
     ensures names { result.history.names ≡ [] }
     ensures graph { result.history.now.graph ≡ [] }
     ensures pending { result.history.now.pending ≡ [] }
     ensures recent { result.history.recent.items ≡ [] }
-    ensures set { result.last_set ≡ [] }
+    ensures made { FnOnceReturnsAt F.FnOnce make [] result.made }
 {
     OpenedFile {
         history: StoredHistory::empty(alloc),
-        last_set: Set::new(alloc),
+        made: make(&Set::new(alloc)),
     }
 }
 
 /// Opens the index over the disk, if there is one: reads its recent events, composes the records along the plan of
-/// its last leaf, and takes the graph that they come to past the recent events, each of which some change comes to.
-/// Nothing else is read.
+/// its last leaf, makes something of the graph that they come to, and takes that graph past the recent events, each of
+/// which some change comes to. Nothing else is read. The current graph keeps the graph of the last leaf, which is
+/// nowhere copied.
 ///
 /// In this order: `StartFault::Foreign` where the file is not one of an index, `StartFault::Damaged` with the offset
 /// of the first segment that breaks a rule, `StartFault::BadRecord` for the first column of the recent pieces and
 /// then of the plan that is in no spelling, or a piece whose columns do not come together, `StartFault::NotGraph`,
 /// `StartFault::BadRecent` with the number of the first recent event that no change comes to or that is out of its
 /// time; `StartFault::Disk` where the disk failed, `StartFault::Memory` for want of memory.
-pub fn open<R: Threads + Sync, D: Disk>(
+pub fn open<R: Threads + Sync, D: Disk, T: Drop, F: FnOnce(&Set) -> T>(
     rt: &R,
     alloc: Global,
     disk: &mut D,
-) -> Result<OpenedFile, StartFault>
+    make: F,
+) -> Result<OpenedFile<T>, StartFault>
+    requires make { F.IsAlwaysCallable make }
     // the history
     ensures started { IfOk result (λ opened. IfSome (D.image disk.old) (λ image.
         Starts image (Ok (started_with (index_opening opened.history.index) opened.history.names opened.history.now.graph opened.history.recent.items)))) }
     ensures stands { IfOk result (λ opened. IfSome (D.image disk.old) (λ image. (z : Option History) → StandsAs z image
         → KeepsHistory z (index_opening opened.history.index) opened.history.names opened.history.now.graph opened.history.recent.items)) }
-    ensures led { IfOk result (λ opened. opened.history.now.graph ≡ replay_from opened.last_set opened.history.recent.items) }
+    ensures made { IfOk result (λ opened. (set : List Element) × FnOnceReturnsAt F.FnOnce make set opened.made
+        × (opened.history.now.graph ≡ replay_from set opened.history.recent.items)) }
     ensures sound { IfOk result (λ opened. IsSoundHistory (index_opening opened.history.index) opened.history.names opened.history.now opened.history.recent.items) }
     ensures held { IfOk result (λ opened. IfSome (D.image disk.new) (λ image. IsHeldBy (index_opening opened.history.index) opened.history.names image)) }
     // the bytes read, over an image of a history
@@ -140,13 +151,13 @@ pub fn open<R: Threads + Sync, D: Disk>(
     let mut names = Names::new(alloc);
     let mut index = match Index::reopen(alloc, disk, &mut names) {
         Ok(index) => index,
-        Err(ReopenFault::Blank) => return Ok(blank(alloc)),
+        Err(ReopenFault::Blank) => return Ok(blank(alloc, make)),
         Err(ReopenFault::Foreign) => return Err(StartFault::Foreign),
         Err(ReopenFault::Damaged(offset)) => return Err(StartFault::Damaged(offset)),
         Err(ReopenFault::Disk) => return Err(StartFault::Disk),
         Err(ReopenFault::Memory) => return Err(StartFault::Memory),
     };
-    let Current { now, recent, set } = read_current(rt, alloc, &mut index, disk, &names)?;
+    let Current { now, recent, made } = read_current(rt, alloc, &mut index, disk, &names, make)?;
     Ok(OpenedFile {
         history: StoredHistory {
             index: Some(index),
@@ -154,6 +165,6 @@ pub fn open<R: Threads + Sync, D: Disk>(
             now,
             recent,
         },
-        last_set: set,
+        made,
     })
 }

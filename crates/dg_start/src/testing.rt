@@ -4,7 +4,7 @@ ghost use Rattle.std.specs.Prelude.{◌≡◌, ◌<◌, ◌+◌, ◌^◌, [], If
 ghost use Rattle.dg_graph.specs.Effect.{forwards};
 ghost use Rattle.dg_graph.specs.Graph.{IsGraph};
 ghost use Rattle.dg_graph.specs.Replay.{replay_from};
-ghost use Rattle.dg_start.specs.RecentReading.{first_wrong, is_right};
+ghost use Rattle.dg_start.specs.RecentReading.{first_wrong_event, is_right};
 ghost use Rattle.dg_start.specs.Reading.{ArePartedBy, FirstWrong, bounded, sources_in};
 ghost use Rattle.dg_start.specs.Refusals.{RefusesEvents};
 
@@ -71,7 +71,7 @@ fn first_wrong(
     requires none_pending { current.old.pending ≡ [] }
     requires numbers { first + length events.now < 2 ^ 64 }
     requires parted { ArePartedBy (sources_in sources.now) events.now }
-    ensures wrong { IfOk result (λ wrong. wrong ≡ first_wrong names.now first current.old.graph (bounded (sources_in sources.now) events.now)) }
+    ensures wrong { IfOk result (λ wrong. wrong ≡ first_wrong_event names.now first current.old.graph (bounded (sources_in sources.now) events.now)) }
     ensures led { IfOk result (λ wrong. wrong ≡ None → current.new.graph ≡ replay_from current.old.graph events.now) }
     ensures none { current.new.pending ≡ [] }
 {
@@ -89,25 +89,26 @@ fn first_wrong(
     Ok(None)
 }
 
-/// The current graph: that of the set, past the events of these sources, which are numbered on from this one.
+/// The current graph: that of the set, which is kept as it is, past the events of these sources, which are numbered on
+/// from this one.
 ///
 /// `StartFault::NotGraph` where the set is no graph, `StartFault::BadRecent` with the number of the first event
 /// that no change comes to or that is out of its time, `StartFault::Memory` for want of memory.
 pub fn current_graph(
     alloc: Global,
     names: &Names,
-    set: &Set,
+    set: Set,
     first: u64,
     sources: &[EventSource],
     events: &[Event],
 ) -> Result<Now, StartFault>
     requires numbers { first + length events.now < 2 ^ 64 }
     requires parted { ArePartedBy (sources_in sources.now) events.now }
-    ensures from { IfOk result (λ now. IsGraph set.now) }
-    ensures right { IfOk result (λ now. first_wrong names.now first set.now (bounded (sources_in sources.now) events.now) ≡ None) }
-    ensures led { IfOk result (λ now. now.graph ≡ replay_from set.now events.now) }
+    ensures from { IfOk result (λ now. IsGraph set) }
+    ensures right { IfOk result (λ now. first_wrong_event names.now first set (bounded (sources_in sources.now) events.now) ≡ None) }
+    ensures led { IfOk result (λ now. now.graph ≡ replay_from set events.now) }
     ensures none { IfOk result (λ now. now.pending ≡ []) }
-    ensures refused { IfErr result (RefusesEvents names.now first set.now (bounded (sources_in sources.now) events.now)) }
+    ensures refused { IfErr result (RefusesEvents names.now first set (bounded (sources_in sources.now) events.now)) }
 {
     let mut current = match Now::from_set(alloc, set) {
         Ok(current) => current,

@@ -3,7 +3,7 @@ use Rattle.std.proofs.Common.{◌≡◌, ℕ, ◌+◌, ◌*◌, ◌/◌, ◌<◌
 use Rattle.std.proofs.lemmas.Bool.{eqb-false, leb-true}
 use Rattle.dg_history.specs.declared.params.TheConstants.{LEAF_MIN, LEAF_MAX, ARITY_MIN, ARITY_MAX}
 use Rattle.dg_history.specs.History.{are_parameters}
-use Rattle.dg_index.specs.OpenedIndex.{Opening, events_in}
+use Rattle.dg_index.specs.OpenedIndex.{Opening, event_total}
 use Rattle.dg_index.specs.declared.entry.BatchEntry.{BatchEntry}
 use Rattle.dg_sound.specs.OwnEvents.{is_recent, list_total}
 use Rattle.dg_verify.proofs.Completions.{both}
@@ -31,16 +31,16 @@ module _ (n l : ℕ) (some : 0 < l) where
 
 -- ---- how many events there are behind a batch
 
-module _ (o : Opening) (before : ℕ) (b : BatchEntry) (some : 0 < o.params.l) (within : before + b.events ≤ events_in o.batches) where
+module _ (o : Opening) (before : ℕ) (b : BatchEntry) (some : 0 < o.params.l) (within : before + b.events ≤ event_total o.batches) where
   -- a batch that is older
   pub older_count : is_recent o before b ≡ false → max (list_total o * o.params.l) before ≡ max (list_total o * o.params.l) (before + b.events)
   older_count older =
       let n : ℕ = before + b.events in
-      let below : n / o.params.l ≤ list_total o = (le-div_iff_mul-le some).1 (let z : n / o.params.l * o.params.l ≤ events_in o.batches = omega (arith, closed_under n o.params.l some, within) in z) in
+      let below : n / o.params.l ≤ list_total o = (le-div_iff_mul-le some).1 (let z : n / o.params.l * o.params.l ≤ event_total o.batches = omega (arith, closed_under n o.params.l some, within) in z) in
       let less : n / o.params.l < list_total o = omega (arith, below, eqb-false (n / o.params.l) (list_total o) older) in
       let lt : n < list_total o * o.params.l = (div-lt_iff_lt-mul some).0 less in
       omega (arith, lt)
 
 -- all batches
-pub all_count : (o : Opening) (before count : ℕ) → 0 < o.params.l → before ≡ events_in o.batches → count ≡ max (list_total o * o.params.l) before → count ≡ events_in o.batches
-all_count o before count some all is = omega (arith, all, is, closed_under (events_in o.batches) o.params.l some)
+pub all_count : (o : Opening) (before count : ℕ) → 0 < o.params.l → before ≡ event_total o.batches → count ≡ max (list_total o * o.params.l) before → count ≡ event_total o.batches
+all_count o before count some all is = omega (arith, all, is, closed_under (event_total o.batches) o.params.l some)

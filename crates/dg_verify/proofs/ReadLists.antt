@@ -8,7 +8,7 @@ use Rattle.dg_index.specs.Hierarchy.{numbers}
 use Rattle.dg_index.specs.IndexKeys.{AreKept, among}
 use Rattle.dg_index.specs.OpenedIndex.{Opened, Opening}
 use Rattle.dg_index.proofs.HeldKeys.{exists_held, found}
-use Rattle.dg_sound.specs.OwnEvents.{and_then, list_total, listed_events, with_list, with_lists}
+use Rattle.dg_sound.specs.OwnEvents.{and_own, list_total, listed_events, with_list, with_lists}
 use Rattle.dg_start.specs.Reading.{WhereTold}
 use Rattle.dg_verify.specs.declared.own_events.OwnEvents.{OwnEvents}
 use Rattle.dg_verify.specs.declared.stop.Stop.{Stop}
@@ -39,7 +39,7 @@ lists_begin told x total own is read none image h =
 
 module _ (told : Option (List ℕ)) (x : Opened) (total i : ℕ) (lt : i < total) (own : OwnEvents) (so_far : ListsGoOn told x total i own) where
   next_list : (image : List ℕ) → told ≡ Some image
-      → listed_events image x ≡ tested x.names own (and_then (with_list image x own.events.items i) (λ events. with_lists image x events (numbers (i + 1) (total - (i + 1)))))
+      → listed_events image x ≡ tested x.names own (and_own (with_list image x own.events.items i) (λ events. with_lists image x events (numbers (i + 1) (total - (i + 1)))))
   next_list image h = so_far image h ∙ ap (λ (ns : List ℕ). tested x.names own (with_lists image x own.events.items ns)) (numbers_next i total lt)
 
   pub one_listed : (after : OwnEvents) → WhereTold told (λ image. tested x.names own (with_list image x own.events.items i) ≡ tested x.names after (Ok after.events.items)) → ListsGoOn told x total (i + 1) after
@@ -50,7 +50,7 @@ module _ (told : Option (List ℕ)) (x : Opened) (total i : ℕ) (lt : i < total
   pub list_stops : (s : Stop) (after : OwnEvents) → WhereTold told (λ image. IsStopBehind x.names after s (tested x.names own (with_list image x own.events.items i)))
       → WhereTold told (λ image. IsStopBehind x.names after s (listed_events image x))
   list_stops s after stopped image h =
-      stops_so s x.names after (tested x.names own (and_then (with_list image x own.events.items i) (λ events. with_lists image x events (numbers (i + 1) (total - (i + 1))))))
+      stops_so s x.names after (tested x.names own (and_own (with_list image x own.events.items i) (λ events. with_lists image x events (numbers (i + 1) (total - (i + 1))))))
       (listed_events image x) (sym (next_list image h))
       (stops_on s x.names own after (with_list image x own.events.items i) (λ events. with_lists image x events (numbers (i + 1) (total - (i + 1)))) (stopped image h))
 

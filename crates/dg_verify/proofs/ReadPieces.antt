@@ -8,9 +8,9 @@ use Rattle.dg_graph.specs.declared.event.Event.{Event}
 use Rattle.dg_graph.specs.Columns.{events_column}
 use Rattle.dg_history.specs.declared.node.Key.{Key}
 use Rattle.dg_history.specs.declared.node.Key.TheVariants as key
-use Rattle.dg_index.specs.OpenedIndex.{Opened, Opening, events_in}
+use Rattle.dg_index.specs.OpenedIndex.{Opened, Opening, event_total}
 use Rattle.dg_index.specs.declared.entry.BatchEntry.{BatchEntry}
-use Rattle.dg_sound.specs.OwnEvents.{and_then, has_batch_ends, if_columns, is_column_of, listed_events, own_events, piece_length, piece_start, with_older, with_piece, with_pieces}
+use Rattle.dg_sound.specs.OwnEvents.{and_own, has_batch_ends, if_columns, is_column_of, listed_events, own_events, piece_length, piece_start, with_older, with_piece_events, with_pieces}
 use Rattle.dg_start.specs.Reading.{WhereTold}
 use Rattle.dg_verify.specs.declared.own_events.OwnEvents.{OwnEvents}
 use Rattle.dg_verify.specs.declared.stop.Stop.{Stop}
@@ -30,7 +30,7 @@ from_here (x ∷ batches) (suc n) b there =
 pub record PiecesGoOn (told : Option (List ℕ)) (x : Opened) (listed : OwnEvents) (number before : ℕ) (own : OwnEvents) : Type 0 where
   pub goes_on : WhereTold told (λ image. tested x.names listed (with_pieces image x listed.events.items 0 0 x.index.batches)
       ≡ tested x.names own (with_pieces image x own.events.items number before (drop number x.index.batches)))
-  pub counted : before + events_in (drop number x.index.batches) ≡ events_in x.index.batches
+  pub counted : before + event_total (drop number x.index.batches) ≡ event_total x.index.batches
 
 module _ (told : Option (List ℕ)) (x : Opened) (listed : OwnEvents) (number before : ℕ) (own : OwnEvents) (b : BatchEntry)
     (there : slice_get x.index.batches number ≡ Some b) (so_far : PiecesGoOn told x listed number before own) where
@@ -38,26 +38,26 @@ module _ (told : Option (List ℕ)) (x : Opened) (listed : OwnEvents) (number be
   here = from_here x.index.batches number b there
 
   next_piece : (image : List ℕ) → told ≡ Some image → tested x.names listed (with_pieces image x listed.events.items 0 0 x.index.batches)
-      ≡ tested x.names own (and_then (with_piece image x own.events.items number before b) (λ events. with_pieces image x events (number + 1) (before + b.events) (drop (number + 1) x.index.batches)))
+      ≡ tested x.names own (and_own (with_piece_events image x own.events.items number before b) (λ events. with_pieces image x events (number + 1) (before + b.events) (drop (number + 1) x.index.batches)))
   next_piece image h = so_far.goes_on image h ∙ ap (λ (bs : List BatchEntry). tested x.names own (with_pieces image x own.events.items number before bs)) here
 
-  pub one_pieced : (after : OwnEvents) → WhereTold told (λ image. tested x.names own (with_piece image x own.events.items number before b) ≡ tested x.names after (Ok after.events.items))
+  pub one_pieced : (after : OwnEvents) → WhereTold told (λ image. tested x.names own (with_piece_events image x own.events.items number before b) ≡ tested x.names after (Ok after.events.items))
       → PiecesGoOn told x listed (number + 1) (before + b.events) after
   one_pieced after pieced = record {
     goes_on = λ image h.
         next_piece image h
-        ∙ then_behind x.names own after (with_piece image x own.events.items number before b)
+        ∙ then_behind x.names own after (with_piece_events image x own.events.items number before b)
         (λ events. with_pieces image x events (number + 1) (before + b.events) (drop (number + 1) x.index.batches)) (pieced image h);
-    counted = omega (arith, so_far.counted, ap events_in here, sum_by-cons (λ (b : BatchEntry). b.events) b (drop (number + 1) x.index.batches));
+    counted = omega (arith, so_far.counted, ap event_total here, sum_by-cons (λ (b : BatchEntry). b.events) b (drop (number + 1) x.index.batches));
   }
 
-  pub piece_stops : (s : Stop) (after : OwnEvents) → WhereTold told (λ image. IsStopBehind x.names after s (tested x.names own (with_piece image x own.events.items number before b)))
+  pub piece_stops : (s : Stop) (after : OwnEvents) → WhereTold told (λ image. IsStopBehind x.names after s (tested x.names own (with_piece_events image x own.events.items number before b)))
       → WhereTold told (λ image. IsStopBehind x.names after s (tested x.names listed (with_pieces image x listed.events.items 0 0 x.index.batches)))
   piece_stops s after stopped image h =
       stops_so s x.names after
-      (tested x.names own (and_then (with_piece image x own.events.items number before b) (λ events. with_pieces image x events (number + 1) (before + b.events) (drop (number + 1) x.index.batches))))
+      (tested x.names own (and_own (with_piece_events image x own.events.items number before b) (λ events. with_pieces image x events (number + 1) (before + b.events) (drop (number + 1) x.index.batches))))
       (tested x.names listed (with_pieces image x listed.events.items 0 0 x.index.batches)) (sym (next_piece image h))
-      (stops_on s x.names own after (with_piece image x own.events.items number before b)
+      (stops_on s x.names own after (with_piece_events image x own.events.items number before b)
       (λ events. with_pieces image x events (number + 1) (before + b.events) (drop (number + 1) x.index.batches)) (stopped image h))
 
 pub all_pieced : (told : Option (List ℕ)) (x : Opened) (listed : OwnEvents) (number before : ℕ) (own : OwnEvents) → length x.index.batches ≤ number → PiecesGoOn told x listed number before own
@@ -68,16 +68,16 @@ all_pieced told x listed number before own past so_far image h =
 
 -- how many events there are at last
 pub all_counted : (told : Option (List ℕ)) (x : Opened) (listed : OwnEvents) (number before : ℕ) (own : OwnEvents) → length x.index.batches ≤ number → PiecesGoOn told x listed number before own
-    → before ≡ events_in x.index.batches
+    → before ≡ event_total x.index.batches
 all_counted told x listed number before own past so_far =
-    let none : events_in (drop number x.index.batches) ≡ 0 = ap events_in (drop_all number x.index.batches past) in
+    let none : event_total (drop number x.index.batches) ≡ 0 = ap event_total (drop_all number x.index.batches past) in
     omega (arith, none, so_far.counted)
 
 -- the events of all lists, tested, with all pieces
 pub own_by_pieces : (image : List ℕ) (x : Opened) (own : OwnEvents) → listed_events image x ≡ tested x.names own (Ok own.events.items)
     → own_events image x ≡ tested x.names own (with_pieces image x own.events.items 0 0 x.index.batches)
 own_by_pieces image x own listed =
-    ap (λ r. and_then r (λ events. with_pieces image x events 0 0 x.index.batches)) listed
+    ap (λ r. and_own r (λ events. with_pieces image x events 0 0 x.index.batches)) listed
     ∙ tested_then x.names own (Ok own.events.items) (λ events. with_pieces image x events 0 0 x.index.batches)
 
 -- ---- an older piece

@@ -8,14 +8,14 @@ use Rattle.dg_graph.specs.ColumnGrammar.{events_in as read_as_events}
 use Rattle.dg_graph.specs.ColumnMerge.{merged}
 use Rattle.dg_history.specs.declared.node.Key.{Key}
 use Rattle.dg_index.specs.OpenedIndex.{Opening, column_at, entry_at}
-use Rattle.dg_sound.specs.OwnEvents.{and_then, events_at, merged_or, spelled_or, with_record}
+use Rattle.dg_sound.specs.OwnEvents.{and_own, events_of_record, merged_or, spelled_or, with_record}
 use Rattle.dg_start.specs.declared.fault.StartFault.{StartFault}
 use Rattle.dg_start.specs.declared.fault.StartFault.TheVariants as fault
-use Rattle.dg_start.specs.RecentReading.{Source, and_start, events_in_source, merged_or as merged_or_fault, spelled_or as spelled_or_fault}
+use Rattle.dg_start.specs.RecentReading.{Source, and_start, events_in_source, merged_or_fault, spelled_or_fault}
 use Rattle.dg_start.specs.Refusals.{IsReason}
 use Rattle.dg_verify.specs.declared.stop.Stop.{Stop}
 use Rattle.dg_verify.specs.declared.stop.Stop.TheVariants as stop
-use Rattle.dg_verify.specs.Stops.{of_read}
+use Rattle.dg_verify.specs.Stops.{stop_of_start}
 use Rattle.dg_verify.specs.Verifying.{IsStop, keyed, opened_with}
 
 -- a record that is not right, as a fault of starting
@@ -24,7 +24,7 @@ as_started k (Ok x) = Ok x
 as_started k (Err col) = Err (fault.BadRecord k col)
 
 then_read : (k : Key) (col : Column) (r : Result (List Placed) ℕ) (f : List Placed → Result (List Event) StartFault) (g : List Placed → Result (List Event) Column)
-    → ((a : List Placed) → f a ≡ as_started k (g a)) → and_start (spelled_or_fault k col r) f ≡ as_started k (and_then (spelled_or col r) g)
+    → ((a : List Placed) → f a ≡ as_started k (g a)) → and_start (spelled_or_fault k col r) f ≡ as_started k (and_own (spelled_or col r) g)
 then_read k col (Ok a) f g h = h a
 then_read k col (Err offset) f g h = refl
 
@@ -34,14 +34,14 @@ then_merged k None = refl
 
 -- the same events, or the same column
 same_events : (image : List ℕ) (names : List (List ℕ)) (o : Opening) (s : Source)
-    → events_in_source image (length names) o s ≡ as_started s.key (events_at image (opened_with o names) s.key s.count)
+    → events_in_source image (length names) o s ≡ as_started s.key (events_of_record image (opened_with o names) s.key s.count)
 same_events image names o s =
     then_read s.key column.Structure (read_as_events column.Structure (length names) (column_at image (entry_at o s.key) column.Structure)) _ _ (λ a.
     then_read s.key column.NodeAttr (read_as_events column.NodeAttr (length names) (column_at image (entry_at o s.key) column.NodeAttr)) _ _ (λ b.
     then_read s.key column.EdgeAttr (read_as_events column.EdgeAttr (length names) (column_at image (entry_at o s.key) column.EdgeAttr)) _ _ (λ c.
     then_merged s.key (merged a b c s.count))))
 
-from_err : (f : StartFault) (k : Key) (r : Result (List Event) Column) → IsReason f (as_started k r) → IsStop (of_read f) (keyed k r)
+from_err : (f : StartFault) (k : Key) (r : Result (List Event) Column) → IsReason f (as_started k r) → IsStop (stop_of_start f) (keyed k r)
 from_err (fault.BadRecord key col) k (Ok x) h = absurd cc
 from_err (fault.BadRecord key col) k (Err c) h = cc
 from_err fault.Disk k r h = tt
@@ -52,11 +52,11 @@ from_err fault.NotGraph k r h = tt
 from_err (fault.BadRecent number) k r h = tt
 
 module _ (image : List ℕ) (names : List (List ℕ)) (o : Opening) (s : Source) (n : ℕ) (counted : n ≡ length names) where
-  as_events : events_in_source image n o s ≡ as_started s.key (events_at image (opened_with o names) s.key s.count)
+  as_events : events_in_source image n o s ≡ as_started s.key (events_of_record image (opened_with o names) s.key s.count)
   as_events = ap (λ (m : ℕ). events_in_source image m o s) counted ∙ same_events image names o s
 
-  pub events_refused : (f : StartFault) → IsReason f (events_in_source image n o s) → IsStop (of_read f) (keyed s.key (events_at image (opened_with o names) s.key s.count))
-  events_refused f h = from_err f s.key (events_at image (opened_with o names) s.key s.count) (subst (λ (r : Result (List Event) StartFault). IsReason f r) as_events h)
+  pub events_refused : (f : StartFault) → IsReason f (events_in_source image n o s) → IsStop (stop_of_start f) (keyed s.key (events_of_record image (opened_with o names) s.key s.count))
+  events_refused f h = from_err f s.key (events_of_record image (opened_with o names) s.key s.count) (subst (λ (r : Result (List Event) StartFault). IsReason f r) as_events h)
 
 -- ---- the record behind the events that were read
 

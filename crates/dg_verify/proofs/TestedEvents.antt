@@ -12,7 +12,7 @@ use Rattle.dg_graph.specs.Replay.{replay}
 use Rattle.dg_history.specs.declared.node.Key.{Key}
 use Rattle.dg_history.specs.History.{last_time_from}
 use Rattle.dg_list.specs.NetLaws.{AreMadeByChanges}
-use Rattle.dg_sound.specs.OwnEvents.{and_then, if_right, may_follow, with_record}
+use Rattle.dg_sound.specs.OwnEvents.{and_own, if_right, events_may_follow, with_record}
 use Rattle.dg_verify.specs.declared.own_events.OwnEvents.{OwnEvents}
 use Rattle.dg_verify.specs.declared.own_events.ReadRecord.{ReadRecord}
 use Rattle.dg_verify.specs.declared.stop.Stop.{Stop}
@@ -25,24 +25,24 @@ use Rattle.dg_verify.proofs.Completions.{all_right, at_most, made_so, more_follo
 
 -- what comes after the rest comes after all
 pub tested_then : {A B : Type 0} (names : List (List ℕ)) (own : OwnEvents) (r : Result A (Key × Column)) (next : A → Result B (Key × Column))
-    → and_then (tested names own r) next ≡ tested names own (and_then r next)
+    → and_own (tested names own r) next ≡ tested names own (and_own r next)
 tested_then names own r next = by (first_unfit names own)
   where
-    by : (u : Option Key) → and_then (unless u r) next ≡ unless u (and_then r next)
+    by : (u : Option Key) → and_own (unless u r) next ≡ unless u (and_own r next)
     by None = refl
     by (Some k) = refl
 
 -- behind the first records and then others
 pub then_behind : (names : List (List ℕ)) (own after : OwnEvents) (r : Result (List Event) (Key × Column)) (next : List Event → Result (List Event) (Key × Column))
-    → tested names own r ≡ tested names after (Ok after.events.items) → tested names own (and_then r next) ≡ tested names after (next after.events.items)
+    → tested names own r ≡ tested names after (Ok after.events.items) → tested names own (and_own r next) ≡ tested names after (next after.events.items)
 then_behind names own after r next is =
-    sym (tested_then names own r next) ∙ ap (λ t. and_then t next) is ∙ tested_then names after (Ok after.events.items) next
+    sym (tested_then names own r next) ∙ ap (λ t. and_own t next) is ∙ tested_then names after (Ok after.events.items) next
 
 -- what stops the first records stops what comes after them
 pub stops_on : (s : Stop) (names : List (List ℕ)) (own after : OwnEvents) (r : Result (List Event) (Key × Column)) (next : List Event → Result (List Event) (Key × Column))
-    → IsStopBehind names after s (tested names own r) → IsStopBehind names after s (tested names own (and_then r next))
+    → IsStopBehind names after s (tested names own r) → IsStopBehind names after s (tested names own (and_own r next))
 stops_on (stop.Wrong k col) names own after r next h =
-    sym (tested_then names own r next) ∙ ap (λ t. and_then t next) h ∙ tested_then names after (Err (k, col)) next
+    sym (tested_then names own r next) ∙ ap (λ t. and_own t next) h ∙ tested_then names after (Err (k, col)) next
 stops_on stop.Disk names own after r next h = tt
 stops_on stop.Memory names own after r next h = tt
 
@@ -190,16 +190,16 @@ module _ (own after : OwnEvents) (k : Key) (events : List Event) (read : IsRead 
     one_record = by (nat_lt front (length own.events.items)) refl
       where
         rest : (t : Bool) → nat_lt more (length events) ≡ t → front ≡ length own.events.items
-            → if_right (right events && may_follow names own.events.items events) k (own.events.items ++ events) ≡ tested names after (if_right (right events) k after.events.items)
+            → if_right (right events && events_may_follow names own.events.items events) k (own.events.items ++ events) ≡ tested names after (if_right (right events) k after.events.items)
         rest true e all =
             let lt = ltb-true more (length events) e in
-            if_some (right events) (may_follow names own.events.items events) (some_wrong names (replay own.events.items) (last_time_from 0 own.events.items) events lt)
+            if_some (right events) (events_may_follow names own.events.items events) (some_wrong names (replay own.events.items) (last_time_from 0 own.events.items) events lt)
             ∙ sym (ap (λ u. unless u (if_right (right events) k after.events.items))
             (here_unfit all ∙ last_key (length own.events.items + more) (omega arith) (omega (arith, lt, longer))))
         rest false e all =
             let most = at_most names (replay own.events.items) (last_time_from 0 own.events.items) events in
             let full : more ≡ length events = omega (arith, most, ltb-false more (length events) e) in
-            if_all (right events) (may_follow names own.events.items events) (all_right names (replay own.events.items) (last_time_from 0 own.events.items) events full)
+            if_all (right events) (events_may_follow names own.events.items events) (all_right names (replay own.events.items) (last_time_from 0 own.events.items) events full)
             ∙ sym (ap (λ u. unless u (if_right (right events) k after.events.items))
             (here_unfit all ∙ none_after (length own.events.items + more) (omega (arith, full, longer))))
 

@@ -7,16 +7,16 @@ use Rattle.dg_verify.specs.declared.stop.Stop.{Stop}
 use Rattle.dg_verify.specs.declared.stop.Stop.TheVariants as stop
 
 -- the same cause
-abbrev pub of_fetch : FetchFault → Stop
-of_fetch fetch_fault.Disk = stop.Disk
-of_fetch fetch_fault.Memory = stop.Memory
+abbrev pub stop_of_fetch : FetchFault → Stop
+stop_of_fetch fetch_fault.Disk = stop.Disk
+stop_of_fetch fetch_fault.Memory = stop.Memory
 
 -- the same cause; reading a record has none but the first three
-abbrev pub of_read : StartFault → Stop
-of_read (start_fault.BadRecord key col) = stop.Wrong key col
-of_read start_fault.Disk = stop.Disk
-of_read start_fault.Memory = stop.Memory
-of_read start_fault.Foreign = stop.Memory
-of_read (start_fault.Damaged offset) = stop.Memory
-of_read start_fault.NotGraph = stop.Memory
-of_read (start_fault.BadRecent number) = stop.Memory
+abbrev pub stop_of_start : StartFault → Stop
+stop_of_start (start_fault.BadRecord key col) = stop.Wrong key col
+stop_of_start start_fault.Disk = stop.Disk
+stop_of_start start_fault.Memory = stop.Memory
+stop_of_start start_fault.Foreign = stop.Memory
+stop_of_start (start_fault.Damaged offset) = stop.Memory
+stop_of_start start_fault.NotGraph = stop.Memory
+stop_of_start (start_fault.BadRecent number) = stop.Memory

@@ -8,8 +8,8 @@ ghost use Rattle.dg_disk.specs.Frame.{OnlyReads};
 ghost use Rattle.dg_file.specs.Images.{IsOpenedAs};
 ghost use Rattle.dg_graph.specs.declared.event.Event.{Event};
 ghost use Rattle.dg_history.specs.declared.limits.TheConstants.{EVENTS_MAX};
-ghost use Rattle.dg_index.specs.OpenedIndex.{events_in, opening};
-ghost use Rattle.dg_sound.specs.OwnEvents.{has_batch_ends, is_recent, list_total, piece_length, piece_start, with_older, with_piece, with_pieces, with_recent};
+ghost use Rattle.dg_index.specs.OpenedIndex.{event_total, opening};
+ghost use Rattle.dg_sound.specs.OwnEvents.{has_batch_ends, is_recent, list_total, piece_length, piece_start, with_older, with_piece_events, with_pieces, with_recent};
 ghost use Rattle.dg_start.specs.Reading.{WhereTold};
 ghost use Rattle.dg_verify.specs.Testing.{IsRead, IsStopBehind, tested};
 ghost use Rattle.dg_verify.specs.Verifying.{AreSoFar, IsStop, opened_with};
@@ -52,7 +52,7 @@ struct Span {
 
 // Where the events of the piece of a batch stand, behind so many events.
 fn span_of(index: &Index, before: u64, batch: BatchEntry) -> Span
-    requires few { before + batch.events ≤ events_in index.now.opening.batches }
+    requires few { before + batch.events ≤ event_total index.now.opening.batches }
     ensures start { result.start ≡ piece_start index.now.opening before batch }
     ensures count { result.count ≡ piece_length index.now.opening before batch }
     ensures small { result.count ≤ 65536 }
@@ -68,7 +68,7 @@ fn span_of(index: &Index, before: u64, batch: BatchEntry) -> Span
 
 // Whether no batch behind this one, which stands behind so many events, closes a list.
 fn is_recent(index: &Index, before: u64, batch: BatchEntry) -> bool
-    requires few { before + batch.events ≤ events_in index.now.opening.batches }
+    requires few { before + batch.events ≤ event_total index.now.opening.batches }
     ensures { result ≡ is_recent index.now.opening before batch }
 {
     index.facts();
@@ -86,7 +86,7 @@ fn compare_older<D: Disk>(
     before: u64,
     batch: BatchEntry,
 ) -> Result<(), Stop>
-    requires few { before + batch.events ≤ events_in index.old.opening.batches }
+    requires few { before + batch.events ≤ event_total index.old.opening.batches }
     requires image { IfSome (D.image disk.old) (λ image. IsOpenedAs image index.old.opening) }
     requires fit { All (λ (e : Event). NamesFit e.body) events.now }
     ensures alike { OnOk result (WhereTold (D.image disk.old)
@@ -122,7 +122,7 @@ fn add_recent<D: Disk>(
     batch: BatchEntry,
 ) -> Result<(), Stop>
     requires there { slice_get index.old.opening.batches number ≡ Some batch }
-    requires few { before + batch.events ≤ events_in index.old.opening.batches }
+    requires few { before + batch.events ≤ event_total index.old.opening.batches }
     requires image { IfSome (D.image disk.old) (λ image. opening image ≡ Ok (opened_with index.old.opening names.now)) }
     requires read { IsRead own.old }
     ensures pieced { OnOk result (WhereTold (D.image disk.old)
@@ -159,16 +159,16 @@ fn add_piece<D: Disk>(
     batch: BatchEntry,
 ) -> Result<(), Stop>
     requires there { slice_get index.old.opening.batches number ≡ Some batch }
-    requires few { before + batch.events ≤ events_in index.old.opening.batches }
+    requires few { before + batch.events ≤ event_total index.old.opening.batches }
     requires image { IfSome (D.image disk.old) (λ image. opening image ≡ Ok (opened_with index.old.opening names.now)) }
     requires read { IsRead own.old }
     requires so_far { AreSoFar index.old.opening before own.old.events.items }
     ensures pieced { OnOk result (WhereTold (D.image disk.old)
-        (λ image. tested names.now own.old (with_piece image (opened_with index.old.opening names.now) own.old.events.items number before batch) ≡ tested names.now own.new (Ok own.new.events.items))) }
+        (λ image. tested names.now own.old (with_piece_events image (opened_with index.old.opening names.now) own.old.events.items number before batch) ≡ tested names.now own.new (Ok own.new.events.items))) }
     ensures read { OnOk result (IsRead own.new) }
     ensures so_far { OnOk result (AreSoFar index.old.opening (before + batch.events) own.new.events.items) }
     ensures stopped { IfErr result (λ stop. WhereTold (D.image disk.old)
-        (λ image. IsStopBehind names.now own.new stop (tested names.now own.old (with_piece image (opened_with index.old.opening names.now) own.old.events.items number before batch)))) }
+        (λ image. IsStopBehind names.now own.new stop (tested names.now own.old (with_piece_events image (opened_with index.old.opening names.now) own.old.events.items number before batch)))) }
     ensures cause { IsErrOf result Stop.Disk → Rose (D.faults disk.old) (D.faults disk.new) }
     // what it leaves
     ensures same { index.new ≡ index.old }
@@ -202,7 +202,7 @@ pub fn add_pieces<D: Disk>(
     ensures pieced { OnOk result (WhereTold (D.image disk.old)
         (λ image. tested names.now own.old (with_pieces image (opened_with index.old.opening names.now) own.old.events.items 0 0 index.old.opening.batches) ≡ tested names.now own.new (Ok own.new.events.items))) }
     ensures read { OnOk result (IsRead own.new) }
-    ensures many { OnOk result (length own.new.events.items ≡ events_in index.old.opening.batches) }
+    ensures many { OnOk result (length own.new.events.items ≡ event_total index.old.opening.batches) }
     // why there are none
     ensures stopped { IfErr result (λ stop. WhereTold (D.image disk.old)
         (λ image. IsStopBehind names.now own.new stop (tested names.now own.old (with_pieces image (opened_with index.old.opening names.now) own.old.events.items 0 0 index.old.opening.batches)))) }

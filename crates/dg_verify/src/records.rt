@@ -10,7 +10,7 @@ ghost use Rattle.dg_file.specs.Images.{IsOpenedAs};
 ghost use Rattle.dg_graph.specs.declared.event.Event.{Event};
 ghost use Rattle.dg_history.specs.Keys.{same_key};
 ghost use Rattle.dg_index.specs.OpenedIndex.{column_at, entry_at, opening};
-ghost use Rattle.dg_sound.specs.OwnEvents.{events_at};
+ghost use Rattle.dg_sound.specs.OwnEvents.{events_of_record};
 ghost use Rattle.dg_start.specs.Reading.{WhereTold};
 ghost use Rattle.dg_verify.specs.Verifying.{IsStop, IsWrong, keyed, keyed_column, opened_with, unlike};
 
@@ -40,11 +40,11 @@ pub fn read_events<D: Disk>(
     requires few { count < 2 ^ 32 }
     requires image { IfSome (D.image disk.old) (λ image. opening image ≡ Ok (opened_with index.old.opening names.now)) }
     ensures read { IfOk result (λ events. WhereTold (D.image disk.old)
-        (λ image. events_at image (opened_with index.old.opening names.now) key count ≡ Ok events.items)) }
+        (λ image. events_of_record image (opened_with index.old.opening names.now) key count ≡ Ok events.items)) }
     ensures fit { IfOk result (λ events. All (λ (e : Event). NamesFit e.body) events.items) }
     ensures many { IfOk result (λ events. length events.items ≡ count) }
     ensures stopped { IfErr result (λ stop. WhereTold (D.image disk.old)
-        (λ image. IsStop stop (keyed key (events_at image (opened_with index.old.opening names.now) key count)))) }
+        (λ image. IsStop stop (keyed key (events_of_record image (opened_with index.old.opening names.now) key count)))) }
     ensures cause { IsErrOf result Stop.Disk → Rose (D.faults disk.old) (D.faults disk.new) }
     // what it leaves
     ensures same { index.new ≡ index.old }

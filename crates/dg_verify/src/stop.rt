@@ -29,9 +29,9 @@ impl From<AllocError> for Stop {
 }
 
 impl From<FetchFault> for Stop {
-    ghost use Rattle.dg_verify.specs.Stops.{of_fetch};
+    ghost use Rattle.dg_verify.specs.Stops.{stop_of_fetch};
 
-    ghost from_gives = { λ read stop. stop ≡ of_fetch read };
+    ghost from_gives = { λ read stop. stop ≡ stop_of_fetch read };
 
     fn from(read: FetchFault) -> Stop {
         match read {
@@ -42,9 +42,9 @@ impl From<FetchFault> for Stop {
 }
 
 impl From<StartFault> for Stop {
-    ghost use Rattle.dg_verify.specs.Stops.{of_read};
+    ghost use Rattle.dg_verify.specs.Stops.{stop_of_start};
 
-    ghost from_gives = { λ read stop. stop ≡ of_read read };
+    ghost from_gives = { λ read stop. stop ≡ stop_of_start read };
 
     // Reading a record has no other fault than these three.
     fn from(read: StartFault) -> Stop {

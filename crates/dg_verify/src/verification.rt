@@ -14,7 +14,7 @@ ghost use Rattle.dg_history.specs.History.{are_parameters};
 ghost use Rattle.dg_index.specs.FileOfHistory.{stored};
 ghost use Rattle.dg_index.specs.Hierarchy.{leaves};
 ghost use Rattle.dg_index.specs.IndexRecords.{deltas_due, record_among};
-ghost use Rattle.dg_index.specs.OpenedIndex.{events_in, opening};
+ghost use Rattle.dg_index.specs.OpenedIndex.{event_total, opening};
 ghost use Rattle.dg_sound.specs.OwnEvents.{own_events};
 ghost use Rattle.dg_sound.specs.Soundness.{soundness_of};
 ghost use Rattle.dg_sound.specs.declared.soundness.Soundness.TheVariants.{Sound};
@@ -57,7 +57,7 @@ fn read_all<D: Disk>(
     ensures own { OnOk result (WhereTold (D.image disk.old)
         (λ image. own_events image (opened_with index.old.opening names.now) ≡ tested names.now own.new (Ok own.new.events.items))) }
     ensures read { OnOk result (IsRead own.new) }
-    ensures many { OnOk result (length own.new.events.items ≡ events_in index.old.opening.batches) }
+    ensures many { OnOk result (length own.new.events.items ≡ event_total index.old.opening.batches) }
     // why there are none
     ensures stopped { IfErr result (λ stop. WhereTold (D.image disk.old)
         (λ image. IsStopBehind names.now own.new stop (own_events image (opened_with index.old.opening names.now)))) }

@@ -12,7 +12,7 @@ use Rattle.dg_query.specs.declared.answers.Neighbour.{Neighbour}
 use Rattle.dg_query.specs.declared.answers.Side.TheVariants as side
 use Rattle.dg_query.specs.Queries.{is_an_edge, edge_at, neighbours_of}
 use Rattle.dg_view.specs.declared.ends.EdgeEnd.{EdgeEnd}
-use Rattle.dg_view.specs.EdgeEnds.{edges_at, IsAdjacencyOf, RiseByNode}
+use Rattle.dg_view.specs.EdgeEnds.{edges_ending_at, IsAdjacencyOf, RiseByNode}
 
 abbrev edge_of : EdgeEnd → Neighbour
 edge_of end = end.edge
@@ -53,7 +53,7 @@ tied m n = grind (arith, nat_tests)
 
 pub still_at : (xs ys : List EdgeEnd) (n : ℕ)
     → ((x : EdgeEnd) → filter (ties (λ a b. is_lt (nat_cmp a.node b.node)) x) ys ≡ filter (ties (λ a b. is_lt (nat_cmp a.node b.node)) x) xs)
-    → edges_at ys n ≡ edges_at xs n
+    → edges_ending_at ys n ≡ edges_ending_at xs n
 still_at xs ys n stable =
     ap (map edge_of) (subst (λ (t : EdgeEnd → Bool). filter t ys ≡ filter t xs) (λ i end. tied end.node n i) (stable (record { node = n; edge = record { edge = 0; node = 0; side = side.Both } })))
 
@@ -103,7 +103,7 @@ module _ (xs : List EdgeEnd) (rises : RiseByNode xs) (n first : ℕ) (within : f
 
   pub ends_found : (count : ℕ) → count ≤ length ys
       → (IsPartitionedBy (stands_at n) ys → IsPartitionPoint (λ (end : EdgeEnd). stands_at n end ≡ true) (λ (end : EdgeEnd). stands_at n end ≡ false) ys count)
-      → map edge_of (take count ys) ≡ edges_at xs n
+      → map edge_of (take count ys) ≡ edges_ending_at xs n
   ends_found count fits point =
       let at = point come_first in
       ap (map edge_of)

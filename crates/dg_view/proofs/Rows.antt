@@ -5,7 +5,7 @@ use Rattle.dg_graph.specs.declared.element.Element.TheVariants.{Node, Edge, Node
 use Rattle.dg_query.specs.declared.answers.Side.TheVariants as side
 use Rattle.dg_query.specs.Queries.{counts_of, neighbours_of, values_of}
 use Rattle.dg_view.specs.declared.ends.EdgeEnd.{EdgeEnd}
-use Rattle.dg_view.specs.EdgeEnds.{edges_at}
+use Rattle.dg_view.specs.EdgeEnds.{edges_ending_at}
 
 graph : List Element
 graph = Node 1 ∷ Node 2 ∷ Edge 5 1 2 true ∷ Edge 6 2 2 true ∷ Edge 7 2 1 false ∷ NodeAttr 1 0 1 ∷ NodeAttr 2 0 1 ∷ []
@@ -29,14 +29,14 @@ ends =
     ∷ record { node = 2; edge = record { edge = 5; node = 1; side = side.Inward } } ∷ record { node = 2; edge = record { edge = 6; node = 2; side = side.Out } }
     ∷ record { node = 2; edge = record { edge = 7; node = 1; side = side.Both } } ∷ []
 
-at_1 : edges_at ends 1 ≡ neighbours_of graph 1
+at_1 : edges_ending_at ends 1 ≡ neighbours_of graph 1
 unfolding graph ends
 at_1 = refl
 
-at_2 : edges_at ends 2 ≡ neighbours_of graph 2
+at_2 : edges_ending_at ends 2 ≡ neighbours_of graph 2
 unfolding graph ends
 at_2 = refl
 
-at_3 : edges_at ends 3 ≡ neighbours_of graph 3
+at_3 : edges_ending_at ends 3 ≡ neighbours_of graph 3
 unfolding graph ends
 at_3 = refl

@@ -7,12 +7,12 @@ use Rattle.dg_query.specs.Queries.{neighbours_of}
 use Rattle.dg_view.specs.declared.ends.EdgeEnd.{EdgeEnd}
 
 -- the edges that have an end at the node, in their order
-abbrev pub edges_at : List EdgeEnd → ℕ → List Neighbour
-edges_at ends n = map (λ (end : EdgeEnd). end.edge) (filter (λ (end : EdgeEnd). end.node == n) ends)
+abbrev pub edges_ending_at : List EdgeEnd → ℕ → List Neighbour
+edges_ending_at ends n = map (λ (end : EdgeEnd). end.edge) (filter (λ (end : EdgeEnd). end.node == n) ends)
 
 -- at each node they are the edges of the set there, by their ids
 abbrev pub IsAdjacencyOf : List Element → List EdgeEnd → Type 0
-IsAdjacencyOf set ends = (n : ℕ) → edges_at ends n ≡ neighbours_of set n
+IsAdjacencyOf set ends = (n : ℕ) → edges_ending_at ends n ≡ neighbours_of set n
 
 -- they stand in the order of their nodes
 abbrev pub RiseByNode : List EdgeEnd → Type 0

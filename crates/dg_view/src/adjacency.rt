@@ -2,7 +2,7 @@
 ghost use Rattle.std.specs.Prelude.{◌≡◌, ℕ, List, length, filter, IfOk};
 ghost use Rattle.dg_graph.specs.declared.element.Element.{Element};
 ghost use Rattle.dg_query.specs.Queries.{is_an_edge};
-ghost use Rattle.dg_view.specs.EdgeEnds.{edges_at, IsAdjacencyOf};
+ghost use Rattle.dg_view.specs.EdgeEnds.{edges_ending_at, IsAdjacencyOf};
 
 use crate::ends::{EdgeEnd, at, sort};
 use dg_query::Neighbour;
@@ -31,7 +31,7 @@ impl Model for Adjacency {
 impl Adjacency {
     // The ends in their order; those at one node keep theirs.
     pub(crate) fn sorted(ends: Vec<EdgeEnd>) -> Result<Adjacency, AllocError>
-        ensures { IfOk result (λ adjacency. (n : ℕ) → edges_at adjacency n ≡ edges_at ends.items n) }
+        ensures { IfOk result (λ adjacency. (n : ℕ) → edges_ending_at adjacency n ≡ edges_ending_at ends.items n) }
     {
         let mut ends = ends;
         sort(&mut ends)?;
@@ -48,7 +48,7 @@ impl Adjacency {
     /// The edges at the node, by their ids; a loop is one of them. O(log E), and the edges. An `Err` says that
     /// memory ran out.
     pub fn neighbours(&self, alloc: Global, id: u64) -> Result<Vec<Neighbour>, AllocError>
-        ensures { IfOk result (λ list. list.items ≡ edges_at self.now id) }
+        ensures { IfOk result (λ list. list.items ≡ edges_ending_at self.now id) }
     {
         let ends = at(&self.ends, id);
         let mut list = Vec::with_capacity(alloc, ends.len())?;
@@ -60,7 +60,7 @@ impl Adjacency {
 
     /// How many edges the node has. A loop counts once. O(log E).
     pub fn degree(&self, id: u64) -> u64
-        ensures { result ≡ length (edges_at self.now id) }
+        ensures { result ≡ length (edges_ending_at self.now id) }
     {
         at(&self.ends, id).len() as u64
     }

@@ -2,7 +2,7 @@
 ghost use Rattle.std.specs.Prelude.{◌≡◌, ℕ, ◌==◌, [], ◌++◌, map, OnOk, if◌then◌else◌};
 ghost use Rattle.std.specs.Option.{option_to_list};
 ghost use Rattle.dg_query.specs.Queries.{edge_at};
-ghost use Rattle.dg_view.specs.EdgeEnds.{edges_at, RiseByNode};
+ghost use Rattle.dg_view.specs.EdgeEnds.{edges_ending_at, RiseByNode};
 
 use crate::elements::edge_at;
 use dg_graph::Element;
@@ -24,7 +24,7 @@ fn push_end(
     node: u64,
     element: &Element,
 ) -> Result<(), AllocFailed<EdgeEnd>>
-    ensures { OnOk result ((n : ℕ) → edges_at ends.new.items n ≡ edges_at ends.old.items n ++ (if node == n then option_to_list (edge_at n element.now) else [])) }
+    ensures { OnOk result ((n : ℕ) → edges_ending_at ends.new.items n ≡ edges_ending_at ends.old.items n ++ (if node == n then option_to_list (edge_at n element.now) else [])) }
 {
     match edge_at(node, element) {
         Some(edge) => ends.push(EdgeEnd { node, edge }),
@@ -37,7 +37,7 @@ pub(crate) fn push_ends(
     ends: &mut Vec<EdgeEnd>,
     element: &Element,
 ) -> Result<(), AllocFailed<EdgeEnd>>
-    ensures { OnOk result ((n : ℕ) → edges_at ends.new.items n ≡ edges_at ends.old.items n ++ option_to_list (edge_at n element.now)) }
+    ensures { OnOk result ((n : ℕ) → edges_ending_at ends.new.items n ≡ edges_ending_at ends.old.items n ++ option_to_list (edge_at n element.now)) }
 {
     let Element::Edge { src, dst, .. } = *element else {
         return Ok(());
@@ -53,7 +53,7 @@ pub(crate) fn push_ends(
 /// that memory ran out.
 pub(crate) fn sort(ends: &mut Vec<EdgeEnd>) -> Result<(), AllocError>
     ensures rises { OnOk result (RiseByNode ends.new.items) }
-    ensures stays { (n : ℕ) → edges_at ends.new.items n ≡ edges_at ends.old.items n }
+    ensures stays { (n : ℕ) → edges_ending_at ends.new.items n ≡ edges_ending_at ends.old.items n }
 {
     ends.sort_by_key(|end| end.node)
 }
@@ -61,7 +61,7 @@ pub(crate) fn sort(ends: &mut Vec<EdgeEnd>) -> Result<(), AllocError>
 /// The ends at the node, which follow one another. O(log E).
 pub(crate) fn at(ends: &[EdgeEnd], node: u64) -> &[EdgeEnd]
     requires { RiseByNode ends.now }
-    ensures { map (λ end. end.edge) result.now ≡ edges_at ends.now node }
+    ensures { map (λ end. end.edge) result.now ≡ edges_ending_at ends.now node }
 {
     let first = ends.partition_point(|end| end.node < node);
     let from = &ends[first..];

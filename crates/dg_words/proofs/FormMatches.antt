@@ -22,7 +22,7 @@ use Rattle.clap.specs.declared.parser.matches.MatchedArg.{MatchedArg}
 use Rattle.clap.proofs.CallerLemmas.{entry_by_id, required_has_value, same_rules_by_id}
 use Rattle.clap.proofs.SimpleLemmas.{ready_simple}
 use Rattle.clap.proofs.WalkLemmas.{both, first_value-rows, one_text-rows}
-use Rattle.dg_words.specs.Parsed.{Finds, ReadsAs}
+use Rattle.dg_words.specs.Parsed.{Finds, FlagReadsAs}
 use Rattle.dg_words.specs.WrittenForm.{checked_rule, form, index_of, index_rule, is_checked, is_true}
 
 -- ---- tests
@@ -228,7 +228,7 @@ flag_text c m s p none values = go (matched_of (found_of m) (codes "checked")) r
         let flag = flagged x (entry_by_id (EntryPasses p.built) (found_of m).entries.items (codes "checked") x values e) in
         subst (λ (o : Option MatchedArg). IfSome (text_of o) IsFlagText) (sym e) (first_text x.reading x.vals.items flag.0 flag.1)
 
-reads_as : (o : Option Text) → IfSome o IsFlagText → ReadsAs o (is_true o)
+reads_as : (o : Option Text) → IfSome o IsFlagText → FlagReadsAs o (is_true o)
 reads_as None h = refl
 reads_as (Some t) (inl h) = inl (h, ap (λ (u : Text). bytes_eq u (codes "true")) h)
 reads_as (Some t) (inr h) = inr (h, ap (λ (u : Text). bytes_eq u (codes "true")) h)
@@ -247,6 +247,6 @@ finds c m words e p h =
     record {
       index = index;
       has_index = subst (λ (o : Option Text). is_some o ≡ true) index (index_there c m e s p);
-      flag = subst (λ (o : Option Text). ReadsAs (one_text (found_of m) (codes "checked")) (is_true o)) flag
+      flag = subst (λ (o : Option Text). FlagReadsAs (one_text (found_of m) (codes "checked")) (is_true o)) flag
           (reads_as (one_text (found_of m) (codes "checked")) (flag_text c m s p (p.from.plain (plain_form c e s)).1 parsed.values));
     }

@@ -19,8 +19,8 @@ checked_rule = record (new_rule (codes "checked")) {
 }
 
 -- the program, whose words begin after its name, with neither help nor version
-abbrev pub bare : App
-bare = record (new_app (codes "deltagraph")) {
+abbrev pub bare_program : App
+bare_program = record (new_app (codes "deltagraph")) {
   top = record (new_app (codes "deltagraph")).top {
     no_binary_name = true;
     disable_help_flag = true;
@@ -30,7 +30,7 @@ bare = record (new_app (codes "deltagraph")) {
 
 -- `deltagraph [--checked] INDEX`
 abbrev pub form : App
-form = with_rule (with_rule bare index_rule) checked_rule
+form = with_rule (with_rule bare_program index_rule) checked_rule
 
 -- clap finds no fault with the words after the program's name
 unfoldable pub is_written_form : List Text → Bool

@@ -29,17 +29,17 @@ abbrev pub value_text : Key → ℕ → List ℕ
 value_text key number = with_letter (letter_of key) (decimal number)
 
 -- what is asked for, with the texts of its key and its value
-abbrev pub what_by_text : Request → WhatByText
-what_by_text (request.Plain what) = Plain what
-what_by_text (request.SetNode id key number) = Sets_node id (key_text key) (value_text key number)
-what_by_text (request.UnsetNode id key) = Unsets_node id (key_text key)
-what_by_text (request.SetEdge id key number) = Sets_edge id (key_text key) (value_text key number)
-what_by_text (request.UnsetEdge id key) = Unsets_edge id (key_text key)
+abbrev pub request_by_text : Request → WhatByText
+request_by_text (request.Plain what) = Plain what
+request_by_text (request.SetNode id key number) = Sets_node id (key_text key) (value_text key number)
+request_by_text (request.UnsetNode id key) = Unsets_node id (key_text key)
+request_by_text (request.SetEdge id key number) = Sets_edge id (key_text key) (value_text key number)
+request_by_text (request.UnsetEdge id key) = Unsets_edge id (key_text key)
 
 -- the list of names with the key of what is asked for
-abbrev pub with_key : List (List ℕ) → WhatByText → List (List ℕ)
-with_key names (Plain what) = names
-with_key names (Sets_node id key value) = added names key
-with_key names (Unsets_node id key) = added names key
-with_key names (Sets_edge id key value) = added names key
-with_key names (Unsets_edge id key) = added names key
+abbrev pub with_request_key : List (List ℕ) → WhatByText → List (List ℕ)
+with_request_key names (Plain what) = names
+with_request_key names (Sets_node id key value) = added names key
+with_request_key names (Unsets_node id key) = added names key
+with_request_key names (Sets_edge id key value) = added names key
+with_request_key names (Unsets_edge id key) = added names key

@@ -2,7 +2,7 @@ ghost use Rattle.std.specs.Prelude.{◌≡◌, ◌+◌, ◌/◌, ◌^◌, ◌<�
 ghost use Rattle.dg_history.specs.ChangeGrammar.{change_with, named};
 ghost use Rattle.dg_machine.specs.GeneratedChanges.{next_number, part_of};
 ghost use Rattle.dg_workload.specs.Place.{change_at, first_place, next_place};
-ghost use Rattle.dg_workload.specs.Request.{with_key};
+ghost use Rattle.dg_workload.specs.Request.{with_request_key};
 
 use crate::numbered::numbered;
 use crate::request::requested;
@@ -70,7 +70,7 @@ impl Generator {
 
         // No memory for a name that is new.
         ensures new_name { OnErr result (length names.old < length (named names.old (change_at self.old).asked)) }
-        ensures key_alone { OnErr result ((names.new ≡ names.old) ⊎ (names.new ≡ with_key names.old (change_at self.old).asked)) }
+        ensures key_alone { OnErr result ((names.new ≡ names.old) ⊎ (names.new ≡ with_request_key names.old (change_at self.old).asked)) }
 
         // Every name keeps its number, and at most two are new.
         ensures kept { take (length names.old) names.new ≡ names.old }

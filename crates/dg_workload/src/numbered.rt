@@ -3,7 +3,7 @@
 ghost use Rattle.std.specs.Prelude.{◌≡◌, ◌+◌, ◌<◌, ◌≤◌, ◌⊎◌, IfOk, OnOk, OnErr, length, take};
 ghost use Rattle.dg_graph.specs.Names.{added, number_in};
 ghost use Rattle.dg_history.specs.ChangeGrammar.{named, what_in};
-ghost use Rattle.dg_workload.specs.Request.{key_text, value_text, what_by_text, with_key};
+ghost use Rattle.dg_workload.specs.Request.{key_text, value_text, request_by_text, with_request_key};
 
 use crate::request::{Key, Request};
 use crate::texts::{ValueText, text_of_key};
@@ -17,12 +17,12 @@ use std::alloc::AllocError;
 pub fn numbered(request: Request, names: &mut Names) -> Result<What, AllocError>
     requires room { length names.old + 2 ≤ NAMES_MAX }
     // What is asked for, and the names with its texts.
-    ensures what { IfOk result (λ numbered. numbered ≡ what_in names.new (what_by_text request)) }
-    ensures named { OnOk result (names.new ≡ named names.old (what_by_text request)) }
+    ensures what { IfOk result (λ numbered. numbered ≡ what_in names.new (request_by_text request)) }
+    ensures named { OnOk result (names.new ≡ named names.old (request_by_text request)) }
 
     // No memory for a name that is new.
-    ensures new_name { OnErr result (length names.old < length (named names.old (what_by_text request))) }
-    ensures key_alone { OnErr result ((names.new ≡ names.old) ⊎ (names.new ≡ with_key names.old (what_by_text request))) }
+    ensures new_name { OnErr result (length names.old < length (named names.old (request_by_text request))) }
+    ensures key_alone { OnErr result ((names.new ≡ names.old) ⊎ (names.new ≡ with_request_key names.old (request_by_text request))) }
 
     // Every name keeps its number, and at most two are new.
     ensures kept { take (length names.old) names.new ≡ names.old }

@@ -3,7 +3,7 @@
 ghost use Rattle.std.specs.Prelude.{◌≡◌, ◌+◌, ◌*◌, ◌%◌, ◌^◌, ◌<◌, codes};
 ghost use Rattle.dg_history.specs.ChangeGrammar.{Sets_node};
 ghost use Rattle.dg_machine.specs.GeneratedChanges.{generated_what, lettered};
-ghost use Rattle.dg_workload.specs.Request.{what_by_text};
+ghost use Rattle.dg_workload.specs.Request.{request_by_text};
 
 use dg_graph::What;
 
@@ -43,7 +43,7 @@ pub enum Key {
 /// its number that it goes by.
 pub fn requested(kind: u32, group: u32, part: u64) -> Request
     requires { kind < 8 }
-    ensures { what_by_text result ≡ generated_what kind group part }
+    ensures { request_by_text result ≡ generated_what kind group part }
 {
     let group = u64::from(group);
     let edge = group + 1;
@@ -80,7 +80,7 @@ fn node_up_to(last: u64, part: u64) -> u64
 
 // A value of the key `kind` at a node.
 fn kind_of_node(id: u64, part: u64) -> Request
-    ensures { what_by_text result ≡ Sets_node id (codes "kind") (lettered (codes "v") (part % 5)) }
+    ensures { request_by_text result ≡ Sets_node id (codes "kind") (lettered (codes "v") (part % 5)) }
 {
     Request::SetNode {
         id,
@@ -93,7 +93,7 @@ fn kind_of_node(id: u64, part: u64) -> Request
 // an odd group its edge.
 fn value_taken_away(group: u64) -> Request
     requires { group < 2 ^ 32 }
-    ensures { what_by_text result ≡ generated_what 6 group 0 }
+    ensures { request_by_text result ≡ generated_what 6 group 0 }
 {
     if group % 2 == 0 {
         Request::UnsetNode {
@@ -111,7 +111,7 @@ fn value_taken_away(group: u64) -> Request
 // The last change of a group gives its second node a name, or in an odd group takes its edge away.
 fn end_of_group(group: u64) -> Request
     requires { group < 2 ^ 32 }
-    ensures { what_by_text result ≡ generated_what 7 group 0 }
+    ensures { request_by_text result ≡ generated_what 7 group 0 }
 {
     if group % 2 == 0 {
         Request::SetNode {

@@ -7,7 +7,7 @@ use Rattle.dg_graph.specs.declared.event.Event.{Event}
 use Rattle.dg_history.specs.declared.params.Params.{Params}
 use Rattle.dg_history.specs.History.{first_time_of}
 use Rattle.dg_index.specs.FileOfHistory.{segment_of}
-use Rattle.dg_index.specs.OpenedIndex.{Opening, events_in, list_row}
+use Rattle.dg_index.specs.OpenedIndex.{Opening, event_total, list_row}
 use Rattle.dg_pool.specs.Graphs.{graph_now}
 use Rattle.dg_start.specs.StoredHistory.{floor_of}
 
@@ -24,7 +24,7 @@ returns-then-begins_behind-clause-behind c =
       lists = c.in-Ok.ensures.lists ∙ as_many_lists o c.params-params.result c.events_len-before.result c.params-params.ensures c.events_len-before.ensures.events _;
       deltas = c.in-Ok.ensures.deltas ∙ as_many_deltas o c.params-params.result c.events_len-before.result c.params-params.ensures c.events_len-before.ensures.events _;
       listed = listed_by (floor_of o (first_time_of c.args.events.now)) c.args.recent.now c.args.events.now (map list_row c.in-Ok.segment.lists) c.requires.some (c.in-Ok.ensures.times (floor_of o (first_time_of c.args.events.now)) c.requires.rises);
-      behind = subst (λ (t : ℕ). BeginsBehind t (recent_behind o.params (events_in o.batches) c.args.recent.now c.args.events.now)) (c.last_in.ensures ∙ ap (last_in_rows 0) c.list_rows.ensures)
+      behind = subst (λ (t : ℕ). BeginsBehind t (recent_behind o.params (event_total o.batches) c.args.recent.now c.args.events.now)) (c.last_in.ensures ∙ ap (last_in_rows 0) c.list_rows.ensures)
           (subst (λ (left : List Event). BeginsBehind c.last_in.result left) c.requires.left (c.begins_behind.ensures c.if-begins_behind.true));
     }
 

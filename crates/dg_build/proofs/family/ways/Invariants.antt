@@ -1,6 +1,9 @@
-use Rattle.std.proofs.Common.{◌≡◌, ◌++◌, ◌∷◌, drop}
-use Rattle.dg_index.specs.ExactSteps.{ways_of, ways_on}
+use Rattle.std.proofs.Common.{◌-◌, length}
+use Rattle.dg_build.proofs.LastWays.{WaysSoFar}
 use Rattle.dg_build.proofs.family.ways.Given as goal
 
-abbrev pub invariant-loop-step : goal.invariant-loop-step
-invariant-loop-step l = l.ways.items ++ (l.way ∷ ways_on l.way (drop l.step-index l.step-items)) ≡ ways_of l.steps
+abbrev pub decreases-loop-way : goal.decreases-loop-way
+decreases-loop-way l = l.count - length l.ways.items
+
+abbrev pub invariant-loop-way : goal.invariant-loop-way
+invariant-loop-way l = WaysSoFar l.count l.fn.row.items l.ways.items l.way l.row.items

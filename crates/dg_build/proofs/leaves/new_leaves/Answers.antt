@@ -29,7 +29,7 @@ returns-clause-is c before more some is_tail leaf changes =
     let m : ℕ = leaves p (length before) in
     let end : c.loop-i.i ≡ c.args.count = omega arith in
     record {
-      first_is = leaf_first p before more c.args.leaf.now c.in_ok-first.first (c.args.first_list.now ++ c.args.later.now) c.args.first_list.now c.in_ok-net.net some is_tail changes
+      first_is = leaf_first p before more c.args.leaf c.in_ok-first.first (c.args.first_list.now ++ c.args.later.now) c.args.first_list.now c.in_ok-net.net some is_tail changes
           (sym (take_at c.args.first_list.now c.args.later.now p.l c.requires.first)) c.in_ok-net.ensures leaf c.in_ok-first.ensures;
       steps_are = (c.loop-i.invariant.is before more some is_tail changes).are ∙ ap (steps_at p (before ++ more) 0 (m + 1)) (let e : c.loop-i.i - 1 ≡ m + c.args.count - m - 1 = omega (arith, end) in e);
     }

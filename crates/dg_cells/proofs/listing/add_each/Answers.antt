@@ -1,12 +1,22 @@
 use Rattle.std.proofs.Common.{◌+◌}
 use Rattle.dg_graph.specs.declared.element.Element.TheVariants as kind
-use Rattle.dg_cells.proofs.Growing.{grows_then, all_have_more, among_more, has_whole}
+use Rattle.dg_cells.specs.Rows.{AreAmong}
+use Rattle.dg_cells.proofs.Growing.{grows_then, among_more, has_whole}
+use Rattle.dg_cells.proofs.Numbered.{numbered_more}
 use Rattle.dg_cells.proofs.listing.add_each.Goals as goal
+use Rattle.dg_cells.proofs.listing.add_each.Goals.{After-add}
 
-pub returns-in_err-near-clause-among : goal.returns-in_err-near-clause-among
-returns-in_err-near-clause-among c = λ n r e f.
+-- what came with the next element too is among all of them
+whole : (c : After-add) → AreAmong c.args.rows.now.items c.add.new.rows.items c.args.items.now
+whole c n r e f =
     has_whole c.args.items.now (c.loop-x.x-index + 1) r.element
     (among_more c.args.rows.now.items c.loop-x.rows.items c.add.new.rows.items c.args.items.now c.loop-x.x-index (kind.Node 0) c.loop-x-test.true c.add.ensures.grows c.loop-x.invariant.among c.add.ensures.fresh n r e f)
+
+pub returns-in_err-behind-clause-among : goal.returns-in_err-behind-clause-among
+returns-in_err-behind-clause-among c = whole (goal.at.returns-in_err-behind-clause-among c).After-add
+
+pub returns-in_err-push-clause-among : goal.returns-in_err-push-clause-among
+returns-in_err-push-clause-among c = whole (goal.at.returns-in_err-push-clause-among c).After-add
 
 pub loop-x-preserved : goal.loop-x-preserved
 loop-x-preserved c =
@@ -19,7 +29,7 @@ loop-x-preserved c =
     record {
       listed = c.add.ensures.listed;
       grows = grows_then first old new inv.grows c.add.ensures.grows;
-      there = all_have_more old new items i (kind.Node 0) c.loop-x-test.true c.add.ensures.grows inv.there c.in_ok-near.ensures.there;
+      numbered = numbered_more old new items c.loop-x.x-index c.loop-x.numbers.items c.push.new.self.items c.in_ok-behind.number (kind.Node 0) c.loop-x-test.true c.add.ensures.grows c.in_ok-behind.ensures.there c.in_ok-push.ensures.items inv.numbered;
       among = among_more first old new items i (kind.Node 0) c.loop-x-test.true c.add.ensures.grows inv.among c.add.ensures.fresh;
     }
 

@@ -1,5 +1,12 @@
-use Rattle.dg_cells.proofs.Walked.{Walked}
+use Rattle.std.proofs.Common.{◌≤◌}
+use Rattle.dg_cells.proofs.Numbered.{Numbered}
+use Rattle.dg_cells.proofs.Walked.{Walked, Passed}
 use Rattle.dg_cells.proofs.merging.merge_numbers.Given as goal
 
 abbrev pub invariant-loop-x : goal.invariant-loop-x
-invariant-loop-x l = Walked l.initial.rows.items l.order l.items l.x-index l.rows.items l.out.items l.taken.items l.i
+invariant-loop-x l = record {
+  walked : Walked l.initial.rows.items l.order l.items l.x-index l.rows.items l.out.items l.taken.items l.i;
+  passed : Passed l.initial.rows.items l.order l.items l.x-index l.near;
+  on : l.i ≤ l.near;
+  numbered : Numbered l.rows.items l.items l.x-index l.numbers.items;
+}

@@ -1,7 +1,7 @@
 use Rattle.std.proofs.Common.{◌≡◌, None, sym, ◌∙◌, ap, map}
 use Rattle.dg_history.specs.declared.node.NodeId.TheVariants.{Root}
 use Rattle.dg_plan.specs.CertificateLines.{bad_step, potential_in, verdict_on}
-use Rattle.dg_certify.specs.Claims.{step_of}
+use Rattle.dg_certify.specs.Claims.{line_step}
 use Rattle.dg_certify.specs.Potentials.{potential_at}
 use Rattle.dg_certify.proofs.Verdicts.{same_potentials, valid, not_tight}
 use Rattle.dg_certify.proofs.verdict.verdict_on.Goals as goal
@@ -21,7 +21,7 @@ returns c =
     ] in
     is
     ∙ same_potentials edges target weight (potential_at p) (potential_in weight c.args.claim.now.potentials.items)
-    (bad_step edges target 1 Root (map step_of c.args.claim.now.steps.items)) c.first_bad_node.result
+    (bad_step edges target 1 Root (map line_step c.args.claim.now.steps.items)) c.first_bad_node.result
     (λ node. c.in_ok-potentials.ensures node ∙ ap (λ l. potential_in weight l node) c.deref-2.ensures.value)
-    (ap (λ l. bad_step edges target 1 Root (map step_of l)) (sym c.deref.ensures.value) ∙ sym c.first_bad_step.ensures ∙ c.in_default.is)
+    (ap (λ l. bad_step edges target 1 Root (map line_step l)) (sym c.deref.ensures.value) ∙ sym c.first_bad_step.ensures ∙ c.in_default.is)
     c.first_bad_node.ensures

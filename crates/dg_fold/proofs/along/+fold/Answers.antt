@@ -1,16 +1,18 @@
-use Rattle.std.proofs.Common.{ap, ◌∙◌}
+use Rattle.std.proofs.Common.{◌≡◌, ◌++◌, sym, ap, ◌∙◌}
 use Rattle.std.proofs.lemmas.Result.{IfOk-weaker}
-use Rattle.std.proofs.lemmas.List.{map-append}
+use Rattle.std.proofs.lemmas.List.{map-append, take-append-drop}
 use Rattle.dg_list.proofs.Nets.{composes_halves}
-use Rattle.dg_fold.specs.TreeSteps.{deltas_of}
+use Rattle.dg_fold.specs.TreeSteps.{step_deltas}
 use Rattle.dg_fold.proofs.along.+fold.Goals as goal
 
 pub returns : goal.returns
 returns t c =
-    let left = c.split_at.result.0.now in
-    let right = c.split_at.result.1.now in
-    IfOk-weaker c.compose-2.result _ _
+    let steps = c.args.steps.items in
+    let left = c.split_off.new.self.items in
+    let right = c.in_ok-later.later.items in
+    let cut : steps ≡ left ++ right = sym (take-append-drop c.cut_at.result steps) ∙ (λ i. sym c.in_ok-later.ensures.items i ++ sym c.in_ok-later.ensures.tail i) in
+    IfOk-weaker c.joined.result _ _
     (λ d composes.
-    composes_halves d c.in_ok-first.first c.in_ok-then.then (deltas_of left) (deltas_of right) (deltas_of c.args.steps.now) composes c.in_ok-first.ensures
-    c.in_ok-then.ensures (ap deltas_of c.split_at.ensures.by_index.0 ∙ map-append (λ s. s.delta) left right))
-    c.compose-2.ensures.composes
+    composes_halves d c.in_ok-first.first c.in_ok-then.then (step_deltas left) (step_deltas right) (step_deltas steps) composes c.in_ok-first.ensures
+    c.in_ok-then.ensures (ap step_deltas cut ∙ map-append (λ s. s.delta) left right))
+    c.joined.ensures

@@ -2,4 +2,4 @@ use Rattle.std.proofs.Common.{length}
 use Rattle.dg_fold.proofs.along.+fold.Given as goal
 
 abbrev pub decreases-fold : goal.decreases-fold
-decreases-fold l = length l.steps.now
+decreases-fold l = length l.steps.items

@@ -1,16 +1,10 @@
-use Rattle.std.proofs.Common.{sym, ap, subst, ◌∙◌}
-use Rattle.dg_graph.specs.Composition.{Composes}
-use Rattle.dg_graph.specs.ColumnGrammar.{events_in}
-use Rattle.dg_index.specs.IndexRecords.{Events}
-use Rattle.dg_fold.specs.PathIndependence.{taken}
-use Rattle.dg_fold.specs.Parts.{taken_as}
-use Rattle.dg_fold.proofs.Folding.{folds_events}
+use Rattle.dg_graph.specs.declared.element.Column.TheVariants.{Structure, NodeAttr, EdgeAttr}
+use Rattle.dg_fold.proofs.Folding.{folds_both}
+use Rattle.dg_fold.specs.Parts.{taken_as, part_column_in, beside}
 use Rattle.dg_fold.proofs.column.events_delta.Goals as goal
 
-pub returns-in_ok-net_of-in-Ok : goal.returns-in_ok-net_of-in-Ok
-returns-in_ok-net_of-in-Ok g c =
-    folds_events c.args.names (taken_as c.args.part.now c.args.way c.args.until) c.args.col c.in_ok-net_of-in-Ok.field-0 c.in-Ok.placed.items c.in_ok-events-in-Ok.events.items c.requires
-    (ap (events_in c.args.col c.args.names) (sym c.bytes_of.ensures) ∙ c.in-Ok.ensures.ok)
-    (cc (c.in_ok-events-in-Ok.ensures, c.deref.ensures.value))
-    (subst (λ l. Composes c.in_ok-net_of-in-Ok.field-0 (taken c.args.way c.args.until (Events l))) c.deref-in-Ok.ensures.value
-    c.in_ok-net_of-in-Ok.ensures)
+pub returns : goal.returns
+returns g c =
+    let due = part_column_in c.args.names (taken_as c.args.part.now c.args.way c.args.until) in
+    folds_both c.in_ok-joined.field-0 c.in_ok-structure.structure c.in_ok-attributes.attributes (due Structure) (beside (due NodeAttr) (due EdgeAttr))
+    c.in_ok-structure.ensures c.in_ok-attributes.ensures c.in_ok-joined.ensures

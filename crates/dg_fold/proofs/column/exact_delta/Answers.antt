@@ -1,10 +1,11 @@
-use Rattle.std.proofs.Common.{sym, ap, ◌∙◌}
-use Rattle.dg_graph.specs.ColumnGrammar.{delta_in}
 use Rattle.dg_fold.specs.Parts.{taken_as}
-use Rattle.dg_fold.proofs.Folding.{folds_exact}
+use Rattle.dg_fold.proofs.JoinedColumns.{folds_columns}
 use Rattle.dg_fold.proofs.column.exact_delta.Goals as goal
 
-pub returns-in-Ok : goal.returns-in-Ok
-returns-in-Ok c =
-    folds_exact c.args.names (taken_as c.args.part.now c.args.way c.args.until) c.args.col c.turned.result c.in-Ok.delta c.requires
-    (ap (delta_in c.args.col c.args.names) (sym c.bytes_of.ensures) ∙ c.in-Ok.ensures.ok) (c.turned.ensures c.args.until)
+pub returns : goal.returns
+returns c =
+    let way = c.args.way in
+    let until = c.args.until in
+    folds_columns c.args.names (taken_as c.args.part.now way until) c.in_ok-structure.structure c.in_ok-node_attr.node_attr c.in_ok-edge_attr.edge_attr
+    c.in_ok-delta.delta c.turned.result (c.in_ok-structure.ensures.ok way until) (c.in_ok-node_attr.ensures.ok way until) (c.in_ok-edge_attr.ensures.ok way until)
+    c.in_ok-structure.ensures.inside c.in_ok-node_attr.ensures.inside c.in_ok-edge_attr.ensures.inside c.in_ok-delta.ensures (c.turned.ensures until)

@@ -1,29 +1,101 @@
-use Rattle.std.proofs.Common.{◌≡◌, [], ◌∷◌, ◌++◌, ap, ◌∙◌, subst, get_or, arith}
+use Rattle.std.proofs.Common.{◌≡◌, [], ◌∷◌, ◌++◌, refl, sym, ap, ◌∙◌, subst, get_or, arith}
+use Rattle.std.proofs.lemmas.Iterator.Adapters.{YieldsList-from_vec}
+use Rattle.std.proofs.lemmas.Iterator.Consumers.{YieldsList-turn, YieldsList-end}
+use Rattle.std.proofs.lemmas.List.{length_push}
 use Rattle.dg_graph.specs.Composition.{Composes}
-use Rattle.dg_fold.specs.declared.tree.Lead.{Lead}
+use Rattle.dg_fold.specs.declared.along.Known.{Known}
 use Rattle.dg_fold.specs.Steps.{paired}
 use Rattle.dg_fold.specs.Trees.{all_edges}
-use Rattle.dg_fold.proofs.Ending.{led_length, until_fails, until_next}
+use Rattle.dg_fold.proofs.Ending.{led_length, until_none, until_fails, until_next, until_all}
 use Rattle.dg_fold.proofs.tree.compose_tree.Goals as goal
+
+pub loop-first-init : goal.loop-first-init
+loop-first-init g c =
+    (refl, until_none c.args.names c.args.recent.now c.args.parts.now (paired (all_edges c.args.branches.now) c.args.parts.now) c.args.branches.now c.args.times.now c.in_ok-leads.leads.items c.in_ok-leads.ensures.items)
+
+pub bounds-branches-i : goal.bounds-branches-i
+bounds-branches-i g c =
+    let old = c.loop-first in
+    let gives = c.into_iter-first-iterator.ensures.into_iter_gives in
+    let n = led_length c.args.names c.args.recent.now c.args.parts.now (paired (all_edges c.args.branches.now) c.args.parts.now) c.args.branches.now c.in-Ok.firsts.items c.in-Ok.ensures.ok in
+    let turn = YieldsList-turn (YieldsList-from_vec c.in-Ok.firsts.items gives.0 (gives.1 ∙ c.in-Ok.firsts.ok.0)) old.yielded old.first-iterator old.yielded_by c.next.result c.next.new.self c.in-Some.first c.in-Some.is c.next.ensures.steps in
+    let h = turn.0 in
+    let at = old.invariant.0 in
+    omega arith
+
+pub bounds-branches-i-in-Some : goal.bounds-branches-i-in-Some
+bounds-branches-i-in-Some g c =
+    let old = c.loop-first in
+    let gives = c.into_iter-first-iterator.ensures.into_iter_gives in
+    let n = led_length c.args.names c.args.recent.now c.args.parts.now (paired (all_edges c.args.branches.now) c.args.parts.now) c.args.branches.now c.in-Ok.firsts.items c.in-Ok.ensures.ok in
+    let turn = YieldsList-turn (YieldsList-from_vec c.in-Ok.firsts.items gives.0 (gives.1 ∙ c.in-Ok.firsts.ok.0)) old.yielded old.first-iterator old.yielded_by c.next.result c.next.new.self c.in-Some.first c.in-Some.is c.next.ensures.steps in
+    let h = turn.0 in
+    let at = old.invariant.0 in
+    omega arith
+
+pub bounds-times-i : goal.bounds-times-i
+bounds-times-i g c =
+    let old = c.loop-first in
+    let gives = c.into_iter-first-iterator.ensures.into_iter_gives in
+    let n = led_length c.args.names c.args.recent.now c.args.parts.now (paired (all_edges c.args.branches.now) c.args.parts.now) c.args.branches.now c.in-Ok.firsts.items c.in-Ok.ensures.ok in
+    let turn = YieldsList-turn (YieldsList-from_vec c.in-Ok.firsts.items gives.0 (gives.1 ∙ c.in-Ok.firsts.ok.0)) old.yielded old.first-iterator old.yielded_by c.next.result c.next.new.self c.in-Some.first c.in-Some.is c.next.ensures.steps in
+    let h = turn.0 in
+    let at = old.invariant.0 in
+    let same = c.requires.times in
+    omega arith
+
+pub overflow_add-i : goal.overflow_add-i
+overflow_add-i g c =
+    let old = c.loop-first in
+    let gives = c.into_iter-first-iterator.ensures.into_iter_gives in
+    let n = led_length c.args.names c.args.recent.now c.args.parts.now (paired (all_edges c.args.branches.now) c.args.parts.now) c.args.branches.now c.in-Ok.firsts.items c.in-Ok.ensures.ok in
+    let turn = YieldsList-turn (YieldsList-from_vec c.in-Ok.firsts.items gives.0 (gives.1 ∙ c.in-Ok.firsts.ok.0)) old.yielded old.first-iterator old.yielded_by c.next.result c.next.new.self c.in-Some.first c.in-Some.is c.next.ensures.steps in
+    let h = turn.0 in
+    let at = old.invariant.0 in
+    omega arith
 
 pub returns-in-Err-last_delta-clause-err : goal.returns-in-Err-last_delta-clause-err
 returns-in-Err-last_delta-clause-err g c =
-    until_fails c.args.names c.args.recent.now c.args.parts.now (paired (all_edges c.args.branches.now) c.args.parts.now) c.args.branches.now c.args.times.now c.loop-i.i
-    c.loop-i.leads.items c.index-branches-i.result 0 c.requires.times c.loop-i-test.true c.loop-i.invariant c.in-Err-last_delta.fault c.in-Ok.ensures.read.0 c.in-Ok.ensures.read.1
+    let old = c.loop-first in
+    let gives = c.into_iter-first-iterator.ensures.into_iter_gives in
+    let all = paired (all_edges c.args.branches.now) c.args.parts.now in
+    let n = led_length c.args.names c.args.recent.now c.args.parts.now all c.args.branches.now c.in-Ok.firsts.items c.in-Ok.ensures.ok in
+    let turn = YieldsList-turn (YieldsList-from_vec c.in-Ok.firsts.items gives.0 (gives.1 ∙ c.in-Ok.firsts.ok.0)) old.yielded old.first-iterator old.yielded_by c.next.result c.next.new.self c.in-Some.first c.in-Some.is c.next.ensures.steps in
+    let h = turn.0 in
+    let at = old.invariant.0 in
+    until_fails c.args.names c.args.recent.now c.args.parts.now all c.args.branches.now c.args.times.now old.i
+    old.leads.items c.index-branches-i.result 0 c.requires.times (omega arith) old.invariant.1 c.in-Err-last_delta.fault c.in-Ok.ensures.read.0 c.in-Ok.ensures.read.1
     c.in-Err-last_delta.ensures
 
-pub index-first-requires : goal.index-first-requires
-index-first-requires g c =
-    let n = led_length c.args.names c.args.recent.now c.args.parts.now (paired (all_edges c.args.branches.now) c.args.parts.now) c.args.branches.now c.in-Ok.firsts.items c.in-Ok.ensures.ok in
-    let h = c.loop-i-test.true in
-    omega arith
+pub loop-first-preserved : goal.loop-first-preserved
+loop-first-preserved g c =
+    let old = c.loop-first in
+    let gives = c.into_iter-first-iterator.ensures.into_iter_gives in
+    let all = paired (all_edges c.args.branches.now) c.args.parts.now in
+    let firsts = c.in-Ok.firsts.items in
+    let first = c.in-Some.first in
+    let n = led_length c.args.names c.args.recent.now c.args.parts.now all c.args.branches.now firsts c.in-Ok.ensures.ok in
+    let turn = YieldsList-turn (YieldsList-from_vec firsts gives.0 (gives.1 ∙ c.in-Ok.firsts.ok.0)) old.yielded old.first-iterator old.yielded_by c.next.result c.next.new.self first c.in-Some.is c.next.ensures.steps in
+    let h = turn.0 in
+    let at = old.invariant.0 in
+    let there : first ≡ get_or firsts old.i first = turn.1 ∙ ap (λ k. get_or firsts k first) (sym at) in
+    let one_more = length_push old.yielded first in (
+      omega arith,
+      until_next c.args.names c.args.recent.now c.args.parts.now all c.args.branches.now c.args.times.now old.i
+          old.leads.items c.index-branches-i.result 0 c.requires.times (omega arith) old.invariant.1 firsts first c.in_ok-delta.delta c.in-Ok-last_delta.last
+          c.push.new.self.items c.in-Ok.ensures.ok c.in-Ok-last_delta.ensures
+          (subst (λ (d : Known). Composes c.in_ok-delta.delta (d.delta ∷ c.in-Ok-last_delta.last ∷ [])) there c.in_ok-delta.ensures)
+          (c.in_ok-push.ensures.items ∙ ap (λ (d : Known). old.leads.items ++ record { begun = d.begun; delta = c.in_ok-delta.delta } ∷ []) there),
+    )
 
-pub loop-i-preserved : goal.loop-i-preserved
-loop-i-preserved g c =
-    let first = c.index-first.result.now in
-    let there : first ≡ get_or c.in-Ok.firsts.items c.loop-i.i first = cc in
-    until_next c.args.names c.args.recent.now c.args.parts.now (paired (all_edges c.args.branches.now) c.args.parts.now) c.args.branches.now c.args.times.now c.loop-i.i
-    c.loop-i.leads.items c.index-branches-i.result 0 c.requires.times c.loop-i-test.true c.loop-i.invariant c.in-Ok.firsts.items first c.in_ok-delta.delta c.in-Ok-last_delta.last
-    c.push.new.self.items c.in-Ok.ensures.ok c.in-Ok-last_delta.ensures
-    (subst (λ (d : Lead). Composes c.in_ok-delta.delta (d.delta ∷ c.in-Ok-last_delta.last ∷ [])) there c.in_ok-delta.ensures.composes)
-    (c.in_ok-push.ensures.items ∙ ap (λ (d : Lead). c.loop-i.leads.items ++ record { begun = d.begun; delta = c.in_ok-delta.delta } ∷ []) there)
+pub returns-clause-ok : goal.returns-clause-ok
+returns-clause-ok g c =
+    let old = c.loop-first in
+    let gives = c.into_iter-first-iterator.ensures.into_iter_gives in
+    let all = paired (all_edges c.args.branches.now) c.args.parts.now in
+    let firsts = c.in-Ok.firsts.items in
+    let n = led_length c.args.names c.args.recent.now c.args.parts.now all c.args.branches.now firsts c.in-Ok.ensures.ok in
+    let end = YieldsList-end (YieldsList-from_vec firsts gives.0 (gives.1 ∙ c.in-Ok.firsts.ok.0)) old.yielded old.first-iterator old.yielded_by c.next.result c.next.new.self c.in-None.is c.next.ensures.steps in
+    let long = end.1 in
+    let at = old.invariant.0 in
+    until_all c.args.names c.args.recent.now c.args.parts.now all c.args.branches.now c.args.times.now old.i old.leads.items c.requires.times (omega arith) old.invariant.1

@@ -1,24 +1,40 @@
-use Rattle.std.proofs.Common.{◌≡◌, [], ◌∷◌, sym, ap, subst, ◌∙◌, get_or}
-use Rattle.dg_graph.specs.Composition.{Composes}
+use Rattle.std.proofs.Common.{◌≡◌, sym, ap, subst, ◌∙◌, length}
 use Rattle.dg_fold.specs.declared.along.Known.{Known}
-use Rattle.dg_fold.specs.TreeSteps.{node_at, Reached}
-use Rattle.dg_fold.proofs.Branches.{walk_begins, known_leads}
+use Rattle.dg_fold.specs.TreeSteps.{IsNodeKnown, last_of}
+use Rattle.dg_fold.proofs.Branches.{walk_begins}
+use Rattle.dg_fold.proofs.Trees.{popped_to, popped_known, popped_reached, no_stops}
 use Rattle.dg_fold.proofs.tree.led.Goals as goal
 
-pub go_along-requires-clause-walk : goal.go_along-requires-clause-walk
-go_along-requires-clause-walk c =
-    let b = c.args.branch.now in
-    let at = ap (λ k. node_at k c.in-Some.from) (sym c.as_slice.ensures.value) ∙ c.in-Some.ensures.node in
-    (b.to, walk_begins c.args.known.now.items c.in-Some.from c.args.own.now b at c.requires.edges c.requires.walk)
+pub go_along-requires : goal.go_along-requires
+go_along-requires c = record {
+  walk = (c.args.branch.now.to, walk_begins c.args.start.now c.args.own.items c.args.branch.now c.requires.begins c.requires.edges c.requires.walk);
+}
 
-pub returns-clause-lead : goal.returns-clause-lead
-returns-clause-lead c =
-    λ all on among reached.
-    let b = c.args.branch.now in
-    let new = c.go_along.new.known.items in
-    let at = ap (λ k. node_at k c.in-Some.from) (sym c.as_slice.ensures.value) ∙ c.in-Some.ensures.node in
-    let walk = walk_begins c.args.known.now.items c.in-Some.from c.args.own.now b at c.requires.edges c.requires.walk in
-    let there : c.index-end.result.now ≡ get_or new c.in_ok-at.at c.index-end.result.now = cc in
-    subst (λ (k : Known). Reached all b.to k.begun c.in_ok-delta.delta) (sym there)
-    (known_leads all new c.in_ok-at.at c.index-end.result.now b.to c.in_ok-delta.delta (c.in_ok-at.ensures.reached all on among reached) c.in_ok-at.ensures.end
-    (c.in_ok-at.ensures.node b.to walk) (subst (λ (k : Known). Composes c.in_ok-delta.delta (k.delta ∷ [])) there c.in_ok-delta.ensures))
+pub returns-in-Some-clause-target : goal.returns-in-Some-clause-target
+returns-in-Some-clause-target c =
+    let to = c.args.branch.now.to in
+    popped_to c.args.start.now c.in-Some.end c.in_ok-stops.stops.items c.pop.new.self.items to c.in-Some.ensures.items
+    (c.in_ok-stops.ensures.end to (walk_begins c.args.start.now c.args.own.items c.args.branch.now c.requires.begins c.requires.edges c.requires.walk))
+
+pub returns-in-Some-clause-noted : goal.returns-in-Some-clause-noted
+returns-in-Some-clause-noted c =
+    λ s here one. popped_known s.edge.to c.in-Some.end c.in_ok-stops.stops.items c.pop.new.self.items c.in-Some.ensures.items (c.in_ok-stops.ensures.noted s here one)
+
+pub returns-in-Some-clause-reached : goal.returns-in-Some-clause-reached
+returns-in-Some-clause-reached c =
+    λ all on among r. popped_reached all c.in-Some.end c.in_ok-stops.stops.items c.pop.new.self.items c.in-Some.ensures.items (c.in_ok-stops.ensures.reached all on among r)
+
+pub returns-in_ok-end-in-None-clause-target : goal.returns-in_ok-end-in-None-clause-target
+returns-in_ok-end-in-None-clause-target c =
+    let to = c.args.branch.now.to in
+    let stops = c.in_ok-stops.stops.items in
+    let zero : length stops ≡ 0 = sym c.in_ok-stops.stops.ok.0 ∙ c.in-None.ensures.cases.0 in
+    ap (λ (k : Known). k.node) c.in_ok-end-in-None.ensures ∙ ap (λ l. (last_of c.args.start.now l).node) (sym (no_stops stops zero))
+    ∙ c.in_ok-stops.ensures.end to (walk_begins c.args.start.now c.args.own.items c.args.branch.now c.requires.begins c.requires.edges c.requires.walk)
+
+pub returns-in_ok-end-in-None-clause-noted : goal.returns-in_ok-end-in-None-clause-noted
+returns-in_ok-end-in-None-clause-noted c =
+    λ s here one.
+    let stops = c.in_ok-stops.stops.items in
+    let zero : length stops ≡ 0 = sym c.in_ok-stops.stops.ok.0 ∙ c.in-None.ensures.cases.0 in
+    absurd (subst (IsNodeKnown s.edge.to) (no_stops stops zero) (c.in_ok-stops.ensures.noted s here one))

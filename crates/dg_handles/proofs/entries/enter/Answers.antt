@@ -1,7 +1,7 @@
 use Rattle.std.proofs.Common.{arith, ◌≡◌, ◌+◌, get_or, refl, sym, ap, ◌∙◌}
 use Rattle.dg_handles.proofs.Entering.{slots_more, table_more}
 use Rattle.dg_machine.specs.declared.stands.Stands.TheVariants.{Overlay}
-use Rattle.dg_retrieval.specs.Beginnings.{base_of}
+use Rattle.dg_retrieval.specs.Beginnings.{base_handle}
 use Rattle.dg_retrieval.specs.declared.graph_lead.GraphLead.{GraphLead}
 use Rattle.dg_handles.proofs.entries.enter.Goals as goal
 
@@ -10,7 +10,7 @@ loop-i-preserved c =
     let e = c.push_reserved.ensures in
     let i = c.loop-i.i in
     let lead = c.index-leads-i.result in
-    let on : c.base_of.result ≡ base_of lead.begins = c.base_of.ensures ∙ ap (λ (l : GraphLead). base_of l.begins) (sym c.index-leads-i.is) in
+    let on : c.base_of.result ≡ base_handle lead.begins = c.base_of.ensures ∙ ap (λ (l : GraphLead). base_handle l.begins) (sym c.index-leads-i.is) in
     record {
       table = table_more c.args.next c.args.cols c.args.times.now c.args.leads.now lead c.args.entries.now.items c.loop-i.entries.items c.push_reserved.new.self.items _ i c.loop-i-test.true c.requires.leads
           c.index-leads-i.is (λ k. (c.args.next + i, Overlay (get_or c.args.times.now i 0) c.args.cols (on k))) e.items c.loop-i.invariant.table;

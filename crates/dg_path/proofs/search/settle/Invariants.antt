@@ -1,12 +1,12 @@
 use Rattle.std.proofs.Common.{◌≡◌, ℕ, List, length}
 use Rattle.std.specs.BinaryHeap.{heap_items}
-use Rattle.dg_path.specs.Search.{arcs, Walked, Fits, AllKnown, Falls, effort}
+use Rattle.dg_path.specs.Search.{arcs, Walked, CostsFit, AllKnown, Falls, effort}
 use Rattle.dg_path.proofs.search.settle.Given as goal
 
 abbrev pub invariant-loop-top : goal.invariant-loop-top
 invariant-loop-top l =
     (length l.costs ≡ length l.fn.costs)
-    × Fits l.costs
+    × CostsFit l.costs
     × AllKnown (arcs l.links) l.costs (heap_items l.queue)
     × ((starts : List ℕ) → Walked (arcs l.links) starts l.fn.costs → Walked (arcs l.links) starts l.costs)
     × Falls l.fn.costs l.costs

@@ -5,7 +5,7 @@ use Rattle.std.proofs.lemmas.List.{take_more, map-append}
 use Rattle.std.proofs.lemmas.List.Elements.{All-weaker}
 use Rattle.dg_path.specs.declared.search.Cost.{Cost as Label}
 use Rattle.dg_plan.specs.Walks.{Arc, Leads, IsTree, IsPlan, Graft, entered, steps_of}
-use Rattle.dg_path.specs.Search.{arcs, cost_at, Fits, Falls, IsTable, IsTarget, graft_of, grafts_of}
+use Rattle.dg_path.specs.Search.{arcs, cost_at, CostsFit, Falls, IsTable, IsTarget, graft_of, grafts_of}
 use Rattle.dg_plan.proofs.Costs.{at_most_itself}
 use Rattle.dg_plan.proofs.Trees.{tree_push, nodes_more}
 use Rattle.dg_path.proofs.tree.graft.Goals as goal
@@ -19,7 +19,7 @@ grow-requires-clause-settled c = let t = c.requires.table in ((c.loop-i.invarian
 
 -- what the costs are once they may have been lowered: in any case where a target follows
 record IsGrown (g : List (Arc ℕ)) (steps : List ℕ) (follows : Type 0) (old new : List Label) : Type 0 where
-  fits : Fits new
+  fits : CostsFit new
   falls : Falls old new
   table : (starts : List ℕ) → follows → IsTable g starts old → IsTable g (starts ++ entered g steps) new
 

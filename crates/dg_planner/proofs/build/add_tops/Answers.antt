@@ -10,7 +10,7 @@ use Rattle.dg_plan.specs.declared.edge.Way.TheVariants.{Forward}
 use Rattle.dg_index.specs.Hierarchy.{numbers}
 use Rattle.dg_plan.specs.IndexGraph.{edge, kept, top_edge}
 use Rattle.dg_plan.proofs.Numbers.{above_exponent, all_heights, height_more, top_more, power_one, grows_more}
-use Rattle.dg_planner.specs.AskedLengths.{asked_length}
+use Rattle.dg_planner.specs.AskedLengths.{asked_length_of}
 use Rattle.dg_planner.proofs.build.add_tops.Goals as goal
 
 pub loop-width-init : goal.loop-width-init
@@ -28,7 +28,7 @@ loop-width-smaller c =
 
 pub loop-width-preserved : goal.loop-width-preserved
 loop-width-preserved c =
-    let weigh = asked_length c.args.catalogue.now c.args.cols in
+    let weigh = asked_length_of c.args.catalogue.now c.args.cols in
     let below = c.loop-width.below in
     let arity = c.args.arity in
     let leaves = c.args.leaves in
@@ -45,6 +45,6 @@ loop-width-preserved c =
 
 pub returns : goal.returns
 returns c =
-    let weigh = asked_length c.args.catalogue.now c.args.cols in
+    let weigh = asked_length_of c.args.catalogue.now c.args.cols in
     let past : c.args.leaves < c.args.arity ^ (c.loop-width.below + 1) = (let e = c.loop-width.invariant.0 in let t = c.loop-width-test.false in omega arith) in
     c.loop-width.invariant.2 ∙ ap (λ hs. c.args.edges.now.items ++ kept (map (top_edge weigh) hs)) (all_heights c.args.leaves c.args.arity c.loop-width.below c.requires.low c.loop-width.invariant.1 past)

@@ -26,8 +26,8 @@ returns-else-is_eq-clause-lacks c =
     let rows = c.args.cells.now in
     let x = c.args.element.now in
     let at = cursor_place rows c.seek_near-cursor.result in
-    let row = c.in-Some-row.row in
-    let there : slice_get (ordered rows) at ≡ Some row = c.in-Some.ensures.found ∙ sym c.row.ensures ∙ c.in-Some-row.is in
+    let row = c.in-Some-get.row.now in
+    let there : slice_get (ordered rows) at ≡ Some row = c.in-Some.ensures.found ∙ c.in-Some-get.ensures.there in
     let element : slice_get (ordered_elements rows) at ≡ Some row.element = slice_get-map (λ (r : Row). r.element) (ordered rows) at ∙ ap (option_map (λ (r : Row). r.element)) there in
     let differs : same x row.element ≡ false = ap is_eq (sym c.compare.ensures) ∙ sym c.is_eq.ensures ∙ c.if-is_eq.false in
     lacks_from_order rows x c.order_facts.ensures.all

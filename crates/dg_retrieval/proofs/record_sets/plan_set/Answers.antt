@@ -1,6 +1,5 @@
-use Rattle.std.proofs.Common.{ap, ◌∙◌}
-use Rattle.dg_graph.specs.Composition.{applied}
-use Rattle.dg_retrieval.proofs.PlannedSets.{set_damaged, set_is, set_led, set_takes}
+use Rattle.std.proofs.Common.{◌∙◌}
+use Rattle.dg_retrieval.proofs.PlannedSets.{from_nothing, set_damaged, set_is, set_led, set_takes}
 use Rattle.dg_retrieval.proofs.Retrieving.{fault_handed}
 use Rattle.dg_retrieval.proofs.record_sets.plan_set.Goals as goal
 
@@ -12,12 +11,12 @@ returns-in_err-lead-clause-damage g c key col is =
 pub returns-clause-led : goal.returns-clause-led
 returns-clause-led g c =
     set_led c.args.names (g.D.Disk.image c.args.disk.now) c.args.index.now.opening c.args.planner.now.edges c.requires.edges c.args.node c.in_ok-lead.lead.delta c.in_ok-lead.ensures.led _
-    (c.in_ok-apply.ensures ∙ ap (applied c.in_ok-lead.lead.delta) c.new.ensures)
+    (c.into_sets-set.ensures.plus ∙ from_nothing c.in_ok-lead.lead.delta c.into_sets-set.ensures.delta)
 
 pub returns-clause-set : goal.returns-clause-set
 returns-clause-set g c =
     set_is c.args.names (g.D.Disk.image c.args.disk.now) c.args.index.now.opening c.args.planner.now.edges c.requires.edges c.args.node c.in_ok-lead.lead.delta c.in_ok-lead.ensures.set _
-    (c.in_ok-apply.ensures ∙ ap (applied c.in_ok-lead.lead.delta) c.new.ensures)
+    (c.into_sets-set.ensures.plus ∙ from_nothing c.in_ok-lead.lead.delta c.into_sets-set.ensures.delta)
 
 pub returns-clause-takes : goal.returns-clause-takes
 returns-clause-takes g c =

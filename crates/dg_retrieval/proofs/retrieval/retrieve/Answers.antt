@@ -1,6 +1,6 @@
 use Rattle.std.proofs.Common.{[], ◌∷◌, nat_lt}
 use Rattle.dg_history.specs.declared.node.NodeId.TheVariants.{Root}
-use Rattle.dg_index.specs.OpenedIndex.{events_in}
+use Rattle.dg_index.specs.OpenedIndex.{event_total}
 use Rattle.dg_plan.specs.IndexGraph.{arcs_of}
 use Rattle.dg_planner.specs.Trees.{grafts_in}
 use Rattle.dg_retrieval.proofs.RetrievedGraphs.{leads_come, singles_many}
@@ -15,5 +15,5 @@ returns-clause-count g c = (
 pub returns-clause-graphs : goal.returns-clause-graphs
 returns-clause-graphs g c =
     let o = c.args.index.now.opening in
-    leads_come o c.args.cols c.args.planner.now.edges (nat_lt 0 (events_in o.batches), c.requires.edges.0, c.requires.edges.1, c.requires.edges.2) c.args.targets.now (grafts_in c.in_ok-tree.field-0.tree) c.args.names
+    leads_come o c.args.cols c.args.planner.now.edges (nat_lt 0 (event_total o.batches), c.requires.edges.0, c.requires.edges.1, c.requires.edges.2) c.args.targets.now (grafts_in c.in_ok-tree.field-0.tree) c.args.names
     c.args.recent.now c.args.times.now c.in_ok-tree.field-0.leads.items (g.D.Disk.image c.args.disk.now) c.in_ok-tree.ensures.leads

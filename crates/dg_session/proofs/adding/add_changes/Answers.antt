@@ -1,5 +1,5 @@
 use Rattle.std.proofs.Common.{sym, subst}
-use Rattle.dg_handles.specs.Handles.{graphs_at}
+use Rattle.dg_handles.specs.Handles.{slot_graphs}
 use Rattle.dg_session.specs.KeptAdjacency.{KeepsAdjacency}
 use Rattle.dg_session.proofs.HeldNodes.{nodes_after}
 use Rattle.dg_session.proofs.KeptAdjacencies.{kept_on}

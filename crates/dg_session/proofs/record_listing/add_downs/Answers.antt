@@ -7,7 +7,7 @@ use Rattle.std.proofs.Math.Nat.{one-le-pow, pow-le-pow_right}
 use Rattle.dg_history.specs.declared.node.Key.TheVariants as key
 use Rattle.dg_index.specs.Hierarchy.{numbers}
 use Rattle.dg_plan.proofs.Numbers.{above_exponent, all_heights, grows_more, height_more, power_one}
-use Rattle.dg_session.specs.RecordListing.{downs_of, held_line}
+use Rattle.dg_session.specs.RecordListing.{down_keys, held_line}
 use Rattle.dg_session.proofs.ListedRecords.{level_more}
 use Rattle.dg_session.proofs.record_listing.add_downs.Goals as goal
 
@@ -42,17 +42,17 @@ loop-width-preserved c =
     let test = c.loop-width-test.true in
     let le : arity ^ (below + 1) ≤ leaves = (let e = c.loop-width.invariant.0 in omega arith) in
     let f = held_line c.args.catalogue.now.entries in
-    let this : map f (map (λ n. key.Down (below + 1) n) (numbers 1 c.children_at-children.result)) ≡ map f (downs_of arity leaves (below + 1)) =
+    let this : map f (map (λ n. key.Down (below + 1) n) (numbers 1 c.children_at-children.result)) ≡ map f (down_keys arity leaves (below + 1)) =
     ap (λ n. map f (map (λ n. key.Down (below + 1) n) (numbers 1 n))) (c.children_at-children.ensures.are ∙ ap (λ w. leaves / w * arity) c.loop-width.invariant.0) in (
       ap (λ w. w * arity) c.loop-width.invariant.0 ∙ sym (pow_more arity (below + 1)),
       (let h = above_exponent arity (below + 1) c.requires.low in omega arith),
       c.in_ok-add_height.ensures
           ∙ ((λ i. c.loop-width.invariant.2 i ++ this i)
-          ∙ level_more f (downs_of arity leaves) c.args.lines.now.items (filter (λ h. nat_le (arity ^ h) leaves) (numbers 1 below)) (filter (λ h. nat_le (arity ^ h) leaves) (numbers 1 (below + 1))) (below + 1) (height_more leaves arity below le)),
+          ∙ level_more f (down_keys arity leaves) c.args.lines.now.items (filter (λ h. nat_le (arity ^ h) leaves) (numbers 1 below)) (filter (λ h. nat_le (arity ^ h) leaves) (numbers 1 (below + 1))) (below + 1) (height_more leaves arity below le)),
     )
 
 pub returns : goal.returns
 returns c =
     let past : c.args.leaves < c.args.arity ^ (c.loop-width.below + 1) = (let e = c.loop-width.invariant.0 in let t = c.loop-width-test.false in omega arith) in
     c.loop-width.invariant.2
-    ∙ ap (λ hs. c.args.lines.now.items ++ map (held_line c.args.catalogue.now.entries) (flat_map (downs_of c.args.arity c.args.leaves) hs)) (all_heights c.args.leaves c.args.arity c.loop-width.below c.requires.low c.loop-width.invariant.1 past)
+    ∙ ap (λ hs. c.args.lines.now.items ++ map (held_line c.args.catalogue.now.entries) (flat_map (down_keys c.args.arity c.args.leaves) hs)) (all_heights c.args.leaves c.args.arity c.loop-width.below c.requires.low c.loop-width.invariant.1 past)

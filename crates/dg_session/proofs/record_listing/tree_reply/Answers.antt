@@ -2,7 +2,7 @@ use Rattle.std.proofs.Common.{◌≡◌, ℕ, ◌/◌, length, map, ◌∙◌, a
 use Rattle.std.proofs.lemmas.List.{length-map}
 use Rattle.dg_index.specs.Hierarchy.{leaves}
 use Rattle.dg_index.specs.IndexRecords.{keys_of}
-use Rattle.dg_index.specs.OpenedIndex.{Opening, events_in}
+use Rattle.dg_index.specs.OpenedIndex.{Opening, event_total}
 use Rattle.dg_machine.specs.declared.reply.Head.TheVariants as head
 use Rattle.dg_retrieval.specs.KeptGraph.{shape_with}
 use Rattle.dg_shape.specs.declared.shape.Shape.{Shape}
@@ -13,7 +13,7 @@ use Rattle.dg_session.proofs.record_listing.tree_reply.Goals as goal
 pub returns : goal.returns
 returns c =
     let o : Opening = c.args.index.now.opening in
-    let n : ℕ = events_in o.batches in
+    let n : ℕ = event_total o.batches in
     let many : c.events_len-events.result ≡ n = c.events_len-events.ensures.events in
     let shape_is : c.shape_of-shape.result ≡ shape_with o.params n = c.shape_of-shape.ensures ∙ ap (shape_with o.params) many in
     let lines_are : c.in_ok-lines.lines.items ≡ map (held_line o.records) (keys_of o.params n) =

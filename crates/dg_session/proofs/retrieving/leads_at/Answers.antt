@@ -4,7 +4,7 @@ use Rattle.std.specs.List.{All, Contains}
 use Rattle.dg_graph.specs.declared.element.Element.{Element}
 use Rattle.dg_history.specs.declared.node.NodeId.{NodeId}
 use Rattle.dg_history.specs.History.{History}
-use Rattle.dg_index.specs.OpenedIndex.{Opening, events_in}
+use Rattle.dg_index.specs.OpenedIndex.{Opening, event_total}
 use Rattle.dg_retrieval.specs.KeptGraph.{kept_nodes}
 use Rattle.dg_retrieval.specs.Retrieval.{ArePoints, IsFirstDamage, IsNoDamage, IsOver, TakesAtMostTree}
 use Rattle.dg_session.proofs.Retrievals.{points_there}
@@ -14,7 +14,7 @@ pub retrieve-requires-clause-targets : goal.retrieve-requires-clause-targets
 retrieve-requires-clause-targets g c =
     let o : Opening = c.args.index.now.opening in
     subst (λ (ns : List NodeId). All (Contains ns) c.deref.result.now) (sym c.requires.nodes)
-    (subst (λ (ts : List NodeId). All (Contains (kept_nodes o (events_in o.batches) c.args.cols)) ts) (sym (c.deref.ensures.value ∙ c.in_ok-targets.ensures))
+    (subst (λ (ts : List NodeId). All (Contains (kept_nodes o (event_total o.batches) c.args.cols)) ts) (sym (c.deref.ensures.value ∙ c.in_ok-targets.ensures))
     (points_there o c.args.recent.now c.args.cols c.args.times.now (record { parameters = c.facts.ensures.parameters; kept = c.facts.ensures.kept; few = c.facts.ensures.few }) c.requires.there))
 
 pub returns-clause-most : goal.returns-clause-most

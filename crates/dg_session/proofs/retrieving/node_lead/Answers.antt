@@ -5,7 +5,7 @@ use Rattle.dg_fold.specs.BytesRead.{TakesAtMost}
 use Rattle.dg_history.specs.declared.node.NodeId.{NodeId}
 use Rattle.dg_history.specs.declared.node.NodeId.TheVariants.{Root}
 use Rattle.dg_history.specs.History.{History}
-use Rattle.dg_index.specs.OpenedIndex.{Opening, events_in}
+use Rattle.dg_index.specs.OpenedIndex.{Opening, event_total}
 use Rattle.dg_index.proofs.OpenedHistories.{large_parameters}
 use Rattle.dg_plan.specs.declared.edge.Edge.{Edge}
 use Rattle.dg_plan.specs.IndexGraph.{arcs_of}
@@ -20,7 +20,7 @@ pub retrieve_node-requires-clause-node : goal.retrieve_node-requires-clause-node
 retrieve_node-requires-clause-node g c κs within =
     let o : Opening = c.args.index.now.opening in
     subst (λ (ns : List NodeId). Contains ns c.args.node) (sym c.in_ok-planner.ensures.nodes)
-    (node_listed c.law_nodes_are_listed.ensures o.params (events_in o.batches) (large_parameters o.params.l o.params.k c.facts.ensures.parameters).1
+    (node_listed c.law_nodes_are_listed.ensures o.params (event_total o.batches) (large_parameters o.params.l o.params.k c.facts.ensures.parameters).1
     (index_ground o c.args.cols false []) refl refl c.args.node c.requires.node)
 
 pub returns-clause-plan : goal.returns-clause-plan

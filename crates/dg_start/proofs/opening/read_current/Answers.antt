@@ -13,7 +13,7 @@ use Rattle.dg_retrieval.specs.KeptGraph.{record_edges}
 use Rattle.dg_retrieval.specs.NodeSets.{IsIndexOver, IsLedByPlan}
 use Rattle.dg_start.specs.declared.event_source.EventSource.{EventSource}
 use Rattle.dg_start.specs.declared.fault.StartFault.{StartFault}
-use Rattle.dg_start.specs.RecentReading.{events_in_sources, first_wrong}
+use Rattle.dg_start.specs.RecentReading.{events_in_sources, first_wrong_event}
 use Rattle.dg_start.specs.Reading.{ArePartedBy, bounded, bytes_in_sources, sources_in}
 use Rattle.dg_start.specs.Refusals.{IsReason, RefusesEvents, RefusesPlan}
 use Rattle.dg_start.specs.SessionStart.{PlansLastLeaf, RefusesStart, first_recent, last_leaf}
@@ -85,7 +85,7 @@ returns-clause-started g c =
     (seen_before (g.D.Disk.image c.read_sources.new.disk) told c.read_sources.new.index.opening o c.len-2.result (length c.args.names.now) (λ image p n. IsLedByPlan n image p (last_leaf p) (Ok set))
     c.read_sources.ensures.disk.same_image (ap (λ (x : IndexState). x.opening) c.read_sources.ensures.same) c.len-2.ensures.len c.in_ok-set.ensures.led)
     c.in_ok-now.ensures.from
-    (tested_before (λ n l es. first_wrong c.args.names.now n set (bounded (sources_in l) es) ≡ None) (first_recent o) c.first_recent.result found c.deref-2.result.now recent c.deref-3.result.now
+    (tested_before (λ n l es. first_wrong_event c.args.names.now n set (bounded (sources_in l) es) ≡ None) (first_recent o) c.first_recent.result found c.deref-2.result.now recent c.deref-3.result.now
     (c.first_recent.ensures.number ∙ ap first_recent same) c.deref-2.ensures.value c.deref-3.ensures.value c.in_ok-now.ensures.right)
     c.in_ok-now.now.graph
     (c.in_ok-now.ensures.led ∙ ap (replay_from set) c.deref-3.ensures.value)
@@ -104,7 +104,7 @@ returns-clause-goes_on g c =
     recent_goes_on c.args.names.now o c.facts.ensures.parameters found c.in_ok-sources.ensures.are recent
     (subst (λ (l : List EventSource). ArePartedBy (sources_in l) recent) c.deref.ensures.value c.in_ok-recent.ensures.parted)
     c.facts.ensures.in_turn c.facts.ensures.listed c.first_recent.result set
-    (tested_before (λ n l es. first_wrong c.args.names.now n set (bounded (sources_in l) es) ≡ None) c.first_recent.result c.first_recent.result found c.deref-2.result.now recent c.deref-3.result.now
+    (tested_before (λ n l es. first_wrong_event c.args.names.now n set (bounded (sources_in l) es) ≡ None) c.first_recent.result c.first_recent.result found c.deref-2.result.now recent c.deref-3.result.now
     refl c.deref-2.ensures.value c.deref-3.ensures.value c.in_ok-now.ensures.right)
 
 pub returns-clause-takes : goal.returns-clause-takes

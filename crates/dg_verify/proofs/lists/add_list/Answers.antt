@@ -2,7 +2,7 @@ use Rattle.std.proofs.Common.{ℕ, ap, subst, ◌∙◌}
 use Rattle.dg_history.specs.declared.node.Key.TheVariants as key
 use Rattle.dg_history.specs.declared.params.Params.{Params}
 use Rattle.dg_index.specs.OpenedIndex.{entry_at}
-use Rattle.dg_sound.specs.OwnEvents.{events_at, have_ends, with_list}
+use Rattle.dg_sound.specs.OwnEvents.{events_of_record, have_ends, with_list}
 use Rattle.dg_start.specs.Reading.{WhereTold}
 use Rattle.dg_start.proofs.Told.{err_is}
 use Rattle.dg_verify.specs.declared.stop.Stop.{Stop}
@@ -31,5 +31,5 @@ returns-in_err-events-clause-stopped g c =
     (λ image. IsStopBehind c.args.names.now c.args.own.now s (tested c.args.names.now c.args.own.now (with_list image x c.args.own.now.events.items c.args.number))))
     c.from_residual.ensures
     (λ image h. stops_behind s c.args.names.now c.args.own.now (with_list image x c.args.own.now.events.items c.args.number)
-    (record_stops s c.args.names.now k (have_ends (entry_at o k).ends) c.args.own.now.events.items (events_at image x k o.params.l)
-    (subst (λ (n : ℕ). IsStop s (keyed k (events_at image x k n))) (c.from-size.ensures ∙ ap (λ (p : Params). p.l) c.params.ensures) (c.in_err-events.ensures.stopped image h))))
+    (record_stops s c.args.names.now k (have_ends (entry_at o k).ends) c.args.own.now.events.items (events_of_record image x k o.params.l)
+    (subst (λ (n : ℕ). IsStop s (keyed k (events_of_record image x k n))) (c.from-size.ensures ∙ ap (λ (p : Params). p.l) c.params.ensures) (c.in_err-events.ensures.stopped image h))))

@@ -1,7 +1,7 @@
 use Rattle.std.proofs.Common.{◌≡◌, ◌+◌, ◌-◌, ◌<◌, ◌≤◌, Some, Ok, length, slice_get, sym, ◌∙◌, ap, subst, arith}
 use Rattle.dg_file.specs.Index.{IndexState}
-use Rattle.dg_index.specs.OpenedIndex.{Opening, events_in}
-use Rattle.dg_sound.specs.OwnEvents.{with_piece, with_pieces}
+use Rattle.dg_index.specs.OpenedIndex.{Opening, event_total}
+use Rattle.dg_sound.specs.OwnEvents.{with_piece_events, with_pieces}
 use Rattle.dg_start.specs.Reading.{WhereTold}
 use Rattle.dg_start.proofs.EventSources.{batch_there, batch_within, none_left}
 use Rattle.dg_start.proofs.Told.{err_is, said_before}
@@ -17,7 +17,7 @@ add_piece-requires-clause-few g c =
     let o : Opening = c.args.index.now.opening in
     let same : c.loop-batch.index.opening ≡ o = ap (λ (i : IndexState). i.opening) c.loop-batch.invariant.same in
     let there : slice_get o.batches c.loop-batch.number ≡ Some c.in-Some.batch = ap (λ (p : Opening). slice_get p.batches c.loop-batch.number) (sym same) ∙ sym c.batch.ensures ∙ c.in-Some.is in
-    subst (λ (p : Opening). c.loop-batch.before + c.in-Some.batch.events ≤ events_in p.batches) (sym same)
+    subst (λ (p : Opening). c.loop-batch.before + c.in-Some.batch.events ≤ event_total p.batches) (sym same)
     (batch_within o c.loop-batch.number c.loop-batch.before c.in-Some.batch there c.loop-batch.invariant.so_far.counted)
 
 pub returns-in_err-add_piece-clause-stopped : goal.returns-in_err-add_piece-clause-stopped
@@ -34,7 +34,7 @@ returns-in_err-add_piece-clause-stopped g c =
     (piece_stops told x c.args.own.now c.loop-batch.number c.loop-batch.before c.loop-batch.own c.in-Some.batch there c.loop-batch.invariant.so_far s c.add_piece.new.own
     (said_before (g.D.Disk.image c.loop-batch.disk) told c.loop-batch.index.opening o
     (λ image p. IsStopBehind c.args.names.now c.add_piece.new.own s
-    (tested c.args.names.now c.loop-batch.own (with_piece image (opened_with p c.args.names.now) c.loop-batch.own.events.items c.loop-batch.number c.loop-batch.before c.in-Some.batch)))
+    (tested c.args.names.now c.loop-batch.own (with_piece_events image (opened_with p c.args.names.now) c.loop-batch.own.events.items c.loop-batch.number c.loop-batch.before c.in-Some.batch)))
     c.loop-batch.invariant.frame.same_image same c.in_err-add_piece.ensures.stopped))
 
 pub overflow_add-number : goal.overflow_add-number
@@ -74,7 +74,7 @@ loop-batch-preserved g c =
           one_pieced told x c.args.own.now c.loop-batch.number c.loop-batch.before c.loop-batch.own c.in-Some.batch there c.loop-batch.invariant.so_far c.add_piece.new.own
           (said_before (g.D.Disk.image c.loop-batch.disk) told c.loop-batch.index.opening o
           (λ image p. tested c.args.names.now c.loop-batch.own
-          (with_piece image (opened_with p c.args.names.now) c.loop-batch.own.events.items c.loop-batch.number c.loop-batch.before c.in-Some.batch)
+          (with_piece_events image (opened_with p c.args.names.now) c.loop-batch.own.events.items c.loop-batch.number c.loop-batch.before c.in-Some.batch)
           ≡ tested c.args.names.now c.add_piece.new.own (Ok c.add_piece.new.own.events.items))
           c.loop-batch.invariant.frame.same_image same c.in_ok-add_piece.ensures.pieced);
     }

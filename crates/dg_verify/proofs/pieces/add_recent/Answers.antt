@@ -1,7 +1,7 @@
 use Rattle.std.proofs.Common.{◌≡◌, ℕ, true, false, List, Ok, sym, ◌∙◌, ap, subst, ◌++◌}
 use Rattle.dg_graph.specs.declared.event.Event.{Event}
 use Rattle.dg_history.specs.declared.node.Key.TheVariants as key
-use Rattle.dg_sound.specs.OwnEvents.{events_at, has_batch_ends, piece_length, with_recent}
+use Rattle.dg_sound.specs.OwnEvents.{events_of_record, has_batch_ends, piece_length, with_recent}
 use Rattle.dg_start.specs.Reading.{WhereTold}
 use Rattle.dg_start.proofs.EventSources.{batch_there, piece_held}
 use Rattle.dg_start.proofs.Told.{err_is}
@@ -29,8 +29,8 @@ returns-in_err-events-clause-stopped g c =
     (λ image. IsStopBehind c.args.names.now c.args.own.now s (tested c.args.names.now c.args.own.now (with_recent image x own c.args.number c.args.before c.args.batch))))
     c.from_residual.ensures
     (λ image h. stops_behind s c.args.names.now c.args.own.now (with_recent image x own c.args.number c.args.before c.args.batch)
-    (record_stops s c.args.names.now k (λ events. has_batch_ends c.args.before c.args.batch (own ++ events)) own (events_at image x k (piece_length o c.args.before c.args.batch))
-    (subst (λ (n : ℕ). IsStop s (keyed k (events_at image x k n))) c.span_of-count.ensures.count (c.in_err-events.ensures.stopped image h))))
+    (record_stops s c.args.names.now k (λ events. has_batch_ends c.args.before c.args.batch (own ++ events)) own (events_of_record image x k (piece_length o c.args.before c.args.batch))
+    (subst (λ (n : ℕ). IsStop s (keyed k (events_of_record image x k n))) c.span_of-count.ensures.count (c.in_err-events.ensures.stopped image h))))
 
 pub returns-then-not-has_batch_ends-clause-stopped : goal.returns-then-not-has_batch_ends-clause-stopped
 returns-then-not-has_batch_ends-clause-stopped g c image h =
@@ -39,8 +39,8 @@ returns-then-not-has_batch_ends-clause-stopped g c image h =
     let k = key.Piece c.args.number in
     let own : List Event = c.args.own.now.events.items in
     read_behind c.args.names.now c.args.own.now c.add.new.self k (λ events. has_batch_ends c.args.before c.args.batch (own ++ events)) c.deref.result.now
-    (events_at image x k (piece_length o c.args.before c.args.batch)) false
-    (subst (λ (n : ℕ). events_at image x k n ≡ Ok c.deref.result.now) c.span_of-count.ensures.count (c.in_ok-events.ensures.read image h ∙ ap (λ (es : List Event). Ok es) (sym c.deref.ensures.value)))
+    (events_of_record image x k (piece_length o c.args.before c.args.batch)) false
+    (subst (λ (n : ℕ). events_of_record image x k n ≡ Ok c.deref.result.now) c.span_of-count.ensures.count (c.in_ok-events.ensures.read image h ∙ ap (λ (es : List Event). Ok es) (sym c.deref.ensures.value)))
     (c.in_ok-add.ensures.behind c.args.names.now (λ events. has_batch_ends c.args.before c.args.batch (own ++ events)))
     (ap (has_batch_ends c.args.before c.args.batch) (sym c.in_ok-add.ensures.added ∙ sym c.deref-2.ensures.value) ∙ sym c.has_batch_ends.ensures ∙ c.if-not-has_batch_ends.true)
 
@@ -51,7 +51,7 @@ returns-clause-pieced g c image h =
     let k = key.Piece c.args.number in
     let own : List Event = c.args.own.now.events.items in
     read_behind c.args.names.now c.args.own.now c.add.new.self k (λ events. has_batch_ends c.args.before c.args.batch (own ++ events)) c.deref.result.now
-    (events_at image x k (piece_length o c.args.before c.args.batch)) true
-    (subst (λ (n : ℕ). events_at image x k n ≡ Ok c.deref.result.now) c.span_of-count.ensures.count (c.in_ok-events.ensures.read image h ∙ ap (λ (es : List Event). Ok es) (sym c.deref.ensures.value)))
+    (events_of_record image x k (piece_length o c.args.before c.args.batch)) true
+    (subst (λ (n : ℕ). events_of_record image x k n ≡ Ok c.deref.result.now) c.span_of-count.ensures.count (c.in_ok-events.ensures.read image h ∙ ap (λ (es : List Event). Ok es) (sym c.deref.ensures.value)))
     (c.in_ok-add.ensures.behind c.args.names.now (λ events. has_batch_ends c.args.before c.args.batch (own ++ events)))
     (ap (has_batch_ends c.args.before c.args.batch) (sym c.in_ok-add.ensures.added ∙ sym c.deref-2.ensures.value) ∙ sym c.has_batch_ends.ensures ∙ c.if-not-has_batch_ends.false)

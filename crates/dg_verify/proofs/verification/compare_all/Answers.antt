@@ -5,7 +5,7 @@ use Rattle.dg_history.specs.declared.node.Key.{Key}
 use Rattle.dg_index.specs.FileOfHistory.{Stored, stored}
 use Rattle.dg_index.specs.Hierarchy.{leaves}
 use Rattle.dg_index.specs.IndexRecords.{deltas_due, record_among}
-use Rattle.dg_index.specs.OpenedIndex.{Opening, events_in}
+use Rattle.dg_index.specs.OpenedIndex.{Opening, event_total}
 use Rattle.dg_sound.specs.OwnEvents.{own_events}
 use Rattle.dg_sound.specs.Soundness.{soundness_of}
 use Rattle.dg_start.specs.Reading.{WhereTold}
@@ -34,7 +34,7 @@ returns-in_err-compare_deltas-clause-stopped g c =
     let same : c.read_all.new.index.opening ≡ o = ap (λ (i : IndexState). i.opening) c.read_all.ensures.same in
     let image_same = c.read_all.ensures.disk.same_image in
     let p_is : c.params.result ≡ o.params = c.params.ensures ∙ ap (λ (p : Opening). p.params) same in
-    let many : length events ≡ events_in o.batches = c.in_default.ensures.many in
+    let many : length events ≡ event_total o.batches = c.in_default.ensures.many in
     let keys_are : keys ≡ deltas_due o.params.k 0 (leaves o.params (length events)) =
     c.in_ok-due.ensures.keys ∙ (λ j. deltas_due (p_is j).k 0 (leaves (p_is j) (length events))) in
     let due_are : due ≡ map (λ k. stored (record_among o.params events [] k)) keys =
@@ -61,7 +61,7 @@ returns-in_err-compare_deltas-2-clause-stopped g c =
     let same : c.read_all.new.index.opening ≡ o = ap (λ (i : IndexState). i.opening) c.read_all.ensures.same in
     let image_same = c.read_all.ensures.disk.same_image in
     let p_is : c.params.result ≡ o.params = c.params.ensures ∙ ap (λ (p : Opening). p.params) same in
-    let many : length events ≡ events_in o.batches = c.in_default.ensures.many in
+    let many : length events ≡ event_total o.batches = c.in_default.ensures.many in
     let keys_are : keys ≡ deltas_due o.params.k 0 (leaves o.params (length events)) =
     c.in_ok-due.ensures.keys ∙ (λ j. deltas_due (p_is j).k 0 (leaves (p_is j) (length events))) in
     let due_are : due ≡ map (λ k. stored (record_among o.params events [] k)) keys =
@@ -92,7 +92,7 @@ returns-clause-sound g c =
     let same : c.read_all.new.index.opening ≡ o = ap (λ (i : IndexState). i.opening) c.read_all.ensures.same in
     let image_same = c.read_all.ensures.disk.same_image in
     let p_is : c.params.result ≡ o.params = c.params.ensures ∙ ap (λ (p : Opening). p.params) same in
-    let many : length events ≡ events_in o.batches = c.in_default.ensures.many in
+    let many : length events ≡ event_total o.batches = c.in_default.ensures.many in
     let keys_are : keys ≡ deltas_due o.params.k 0 (leaves o.params (length events)) =
     c.in_ok-due.ensures.keys ∙ (λ j. deltas_due (p_is j).k 0 (leaves (p_is j) (length events))) in
     let due_are : due ≡ map (λ k. stored (record_among o.params events [] k)) keys =
@@ -106,8 +106,8 @@ returns-clause-sound g c =
     let no_down = said_before (g.D.Disk.image c.compare_deltas.new.disk) told c.compare_deltas.new.index.opening o (λ image p. first_unlike image p delta.Down keys due ≡ None)
     then_image then_same c.in_ok-compare_deltas-2.ensures.alike in
     let last_same : c.compare_deltas-2.new.index.opening ≡ o = ap (λ (i : IndexState). i.opening) c.compare_deltas-2.ensures.same ∙ then_same in
-    let lists : c.from-lists.result ≡ leaves o.params (events_in o.batches) =
+    let lists : c.from-lists.result ≡ leaves o.params (event_total o.batches) =
     c.from-lists.ensures ∙ c.leaves.ensures.leaves
-    ∙ (λ j. leaves ((c.params-2.ensures ∙ ap (λ (p : Opening). p.params) last_same) j) ((c.events_len.ensures.events ∙ ap (λ (p : Opening). events_in p.batches) last_same) j)) in
+    ∙ (λ j. leaves ((c.params-2.ensures ∙ ap (λ (p : Opening). p.params) last_same) j) ((c.events_len.ensures.events ∙ ap (λ (p : Opening). event_total p.batches) last_same) j)) in
     λ image h. all_sound image x events (read image h) range.wide keys due many keys_are due_are (no_top image h)
     (c.from-lists.result + c.len.result) (no_down image h) (omega (arith, lists, c.len.ensures, c.in_ok-due.due.keys.ok))

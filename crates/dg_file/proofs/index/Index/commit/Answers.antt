@@ -5,7 +5,7 @@ use Rattle.dg_history.specs.History.{are_parameters}
 use Rattle.dg_index.specs.declared.entry.Row.{Row}
 use Rattle.dg_index.specs.FileOfHistory.{Segment, head_of, segment_bytes}
 use Rattle.dg_index.specs.IndexGrowth.{index_with, needed_for}
-use Rattle.dg_index.specs.OpenedIndex.{Opening, directory_of, earliest_in, events_in, first_in, last_list, may_be_listed, rows_in}
+use Rattle.dg_index.specs.OpenedIndex.{Opening, directory_of, earliest_in, event_total, first_in, last_list, may_be_listed, rows_in}
 use Rattle.dg_file.proofs.ListedRows.{listed_segment}
 use Rattle.dg_index.proofs.OpenedHistories.{large_parameters}
 use Rattle.dg_shape.specs.Additions.{Suits}
@@ -60,7 +60,7 @@ note-requires-clause-rows g c =
     let o : Opening = c.args.self.now.opening in
     let s : Segment = c.args.prepared.segment in
     let large = large_parameters o.params.l o.params.k (subst (λ (v : IndexState). are_parameters v.opening.params.l v.opening.params.k ≡ true) c.self.view_is c.self.invariant.parameters) in
-    let few : events_in o.batches + s.events ≤ EVENTS_MAX = (follows_in (events_in o.batches) (earliest_in 0 o.batches) (directory_of s).batch c.requires.due.follows).all in
+    let few : event_total o.batches + s.events ≤ EVENTS_MAX = (follows_in (event_total o.batches) (earliest_in 0 o.batches) (directory_of s).batch c.requires.due.follows).all in
     subst (λ (r : List Row). Suits c.keys.result.now r) (sym c.rows.ensures) (subst (λ (k : List Key). Suits k (rows_in (directory_of s))) (sym (c.keys.ensures ∙ c.requires.room.keys)) (suits_segment o s large.0 few c.requires.due))
 
 pub note-requires-clause-listed : goal.note-requires-clause-listed

@@ -6,7 +6,7 @@ use Rattle.dg_index.specs.ImageText.{names_at}
 use Rattle.dg_history.specs.History.{are_parameters}
 use Rattle.dg_index.specs.declared.entry.BatchEntry.{BatchEntry}
 use Rattle.dg_index.specs.declared.entry.Row.{Row}
-use Rattle.dg_index.specs.OpenedIndex.{Opening, Opened, may_follow, list_count, delta_count, keys_next, events_in, earliest_in, rows_in, may_be_listed}
+use Rattle.dg_index.specs.OpenedIndex.{Opening, Opened, may_follow, list_count, delta_count, keys_next, event_total, earliest_in, rows_in, may_be_listed}
 use Rattle.dg_index.proofs.OpenedHistories.{large_parameters}
 use Rattle.dg_file.specs.declared.directory_names.Untaken.TheVariants.{Broken}
 use Rattle.dg_shape.specs.Additions.{bytes_of_rows}
@@ -32,7 +32,7 @@ returns-then-not-may_follow-clause-broken c = λ _.
     let o : Opening = c.args.self.now.opening in
     let x : Opened = record { index = o; names = c.args.names.now } in
     let b : BatchEntry = c.batch_at-batch.result in
-    let events : c.self.inside.events ≡ events_in o.batches = c.self.invariant.count ∙ ap (λ (v : IndexState). events_in v.opening.batches) c.self.view_is in
+    let events : c.self.inside.events ≡ event_total o.batches = c.self.invariant.count ∙ ap (λ (v : IndexState). event_total v.opening.batches) c.self.view_is in
     let earliest : c.self.inside.earliest ≡ earliest_in 0 o.batches = c.self.invariant.earliest ∙ ap (λ (v : IndexState). earliest_in 0 v.opening.batches) c.self.view_is in
     let long : 28 ≤ length c.args.bytes.now = omega (arith, c.if-bytes-lt-NAMES_OFFSET.false) in
     due_following x c.args.columns c.args.bytes.now long c.u32_at-count.result c.in_ok-end.end c.read_names.new.names b c.u32_at-count.ensures c.in_ok-end.ensures.taken c.batch_at-batch.ensures
@@ -43,11 +43,11 @@ overflow_cast-deltas c =
     let o : Opening = c.args.self.now.opening in
     let x : Opened = record { index = o; names = c.args.names.now } in
     let b : BatchEntry = c.batch_at-batch.result in
-    let events : c.self.inside.events ≡ events_in o.batches = c.self.invariant.count ∙ ap (λ (v : IndexState). events_in v.opening.batches) c.self.view_is in
+    let events : c.self.inside.events ≡ event_total o.batches = c.self.invariant.count ∙ ap (λ (v : IndexState). event_total v.opening.batches) c.self.view_is in
     let earliest : c.self.inside.earliest ≡ earliest_in 0 o.batches = c.self.invariant.earliest ∙ ap (λ (v : IndexState). earliest_in 0 v.opening.batches) c.self.view_is in
     let long : 28 ≤ length c.args.bytes.now = omega (arith, c.if-bytes-lt-NAMES_OFFSET.false) in
-    let follow : may_follow (events_in o.batches) (earliest_in 0 o.batches) b ≡ true = (λ i. may_follow (sym events i) (sym earliest i) b) ∙ sym c.may_follow.ensures ∙ c.if-not-may_follow.false in
-    let few : events_in o.batches + b.events ≤ EVENTS_MAX = (follows_in (events_in o.batches) (earliest_in 0 o.batches) b follow).all in
+    let follow : may_follow (event_total o.batches) (earliest_in 0 o.batches) b ≡ true = (λ i. may_follow (sym events i) (sym earliest i) b) ∙ sym c.may_follow.ensures ∙ c.if-not-may_follow.false in
+    let few : event_total o.batches + b.events ≤ EVENTS_MAX = (follows_in (event_total o.batches) (earliest_in 0 o.batches) b follow).all in
     let large = large_parameters o.params.l o.params.k (subst (λ (v : IndexState). are_parameters v.opening.params.l v.opening.params.k ≡ true) c.self.view_is c.self.invariant.parameters) in
     let number : c.len-2.result ≡ length (keys_next o b.events) = omega (arith, c.len-2.ensures, c.in_ok-keys.keys.ok, ap length c.in_ok-keys.ensures.keys) in
     omega (arith, number, keys_few o b.events large.0 large.1 few)
@@ -57,7 +57,7 @@ overflow_sub-deltas c =
     let o : Opening = c.args.self.now.opening in
     let x : Opened = record { index = o; names = c.args.names.now } in
     let b : BatchEntry = c.batch_at-batch.result in
-    let events : c.self.inside.events ≡ events_in o.batches = c.self.invariant.count ∙ ap (λ (v : IndexState). events_in v.opening.batches) c.self.view_is in
+    let events : c.self.inside.events ≡ event_total o.batches = c.self.invariant.count ∙ ap (λ (v : IndexState). event_total v.opening.batches) c.self.view_is in
     let earliest : c.self.inside.earliest ≡ earliest_in 0 o.batches = c.self.invariant.earliest ∙ ap (λ (v : IndexState). earliest_in 0 v.opening.batches) c.self.view_is in
     let long : 28 ≤ length c.args.bytes.now = omega (arith, c.if-bytes-lt-NAMES_OFFSET.false) in
     let number : c.len-2.result ≡ length (keys_next o b.events) = omega (arith, c.len-2.ensures, c.in_ok-keys.keys.ok, ap length c.in_ok-keys.ensures.keys) in
@@ -68,7 +68,7 @@ overflow_sub-deltas-2 c =
     let o : Opening = c.args.self.now.opening in
     let x : Opened = record { index = o; names = c.args.names.now } in
     let b : BatchEntry = c.batch_at-batch.result in
-    let events : c.self.inside.events ≡ events_in o.batches = c.self.invariant.count ∙ ap (λ (v : IndexState). events_in v.opening.batches) c.self.view_is in
+    let events : c.self.inside.events ≡ event_total o.batches = c.self.invariant.count ∙ ap (λ (v : IndexState). event_total v.opening.batches) c.self.view_is in
     let earliest : c.self.inside.earliest ≡ earliest_in 0 o.batches = c.self.invariant.earliest ∙ ap (λ (v : IndexState). earliest_in 0 v.opening.batches) c.self.view_is in
     let long : 28 ≤ length c.args.bytes.now = omega (arith, c.if-bytes-lt-NAMES_OFFSET.false) in
     let number : c.len-2.result ≡ length (keys_next o b.events) = omega (arith, c.len-2.ensures, c.in_ok-keys.keys.ok, ap length c.in_ok-keys.ensures.keys) in
@@ -79,7 +79,7 @@ returns-then-not-has_rows-clause-broken c = λ _.
     let o : Opening = c.args.self.now.opening in
     let x : Opened = record { index = o; names = c.args.names.now } in
     let b : BatchEntry = c.batch_at-batch.result in
-    let events : c.self.inside.events ≡ events_in o.batches = c.self.invariant.count ∙ ap (λ (v : IndexState). events_in v.opening.batches) c.self.view_is in
+    let events : c.self.inside.events ≡ event_total o.batches = c.self.invariant.count ∙ ap (λ (v : IndexState). event_total v.opening.batches) c.self.view_is in
     let earliest : c.self.inside.earliest ≡ earliest_in 0 o.batches = c.self.invariant.earliest ∙ ap (λ (v : IndexState). earliest_in 0 v.opening.batches) c.self.view_is in
     let long : 28 ≤ length c.args.bytes.now = omega (arith, c.if-bytes-lt-NAMES_OFFSET.false) in
     let lists : ℕ = c.lists_next-lists.result in
@@ -93,7 +93,7 @@ returns-then-not-is_measured-clause-broken c = λ _.
     let o : Opening = c.args.self.now.opening in
     let x : Opened = record { index = o; names = c.args.names.now } in
     let b : BatchEntry = c.batch_at-batch.result in
-    let events : c.self.inside.events ≡ events_in o.batches = c.self.invariant.count ∙ ap (λ (v : IndexState). events_in v.opening.batches) c.self.view_is in
+    let events : c.self.inside.events ≡ event_total o.batches = c.self.invariant.count ∙ ap (λ (v : IndexState). event_total v.opening.batches) c.self.view_is in
     let earliest : c.self.inside.earliest ≡ earliest_in 0 o.batches = c.self.invariant.earliest ∙ ap (λ (v : IndexState). earliest_in 0 v.opening.batches) c.self.view_is in
     let long : 28 ≤ length c.args.bytes.now = omega (arith, c.if-bytes-lt-NAMES_OFFSET.false) in
     let lists : ℕ = c.lists_next-lists.result in
@@ -110,7 +110,7 @@ slice_bounds-may_be_listed-end c =
     let o : Opening = c.args.self.now.opening in
     let x : Opened = record { index = o; names = c.args.names.now } in
     let b : BatchEntry = c.batch_at-batch.result in
-    let events : c.self.inside.events ≡ events_in o.batches = c.self.invariant.count ∙ ap (λ (v : IndexState). events_in v.opening.batches) c.self.view_is in
+    let events : c.self.inside.events ≡ event_total o.batches = c.self.invariant.count ∙ ap (λ (v : IndexState). event_total v.opening.batches) c.self.view_is in
     let earliest : c.self.inside.earliest ≡ earliest_in 0 o.batches = c.self.invariant.earliest ∙ ap (λ (v : IndexState). earliest_in 0 v.opening.batches) c.self.view_is in
     let long : 28 ≤ length c.args.bytes.now = omega (arith, c.if-bytes-lt-NAMES_OFFSET.false) in
     let lists : ℕ = c.lists_next-lists.result in
@@ -127,7 +127,7 @@ returns-then-not-may_be_listed-clause-broken c = λ _.
     let o : Opening = c.args.self.now.opening in
     let x : Opened = record { index = o; names = c.args.names.now } in
     let b : BatchEntry = c.batch_at-batch.result in
-    let events : c.self.inside.events ≡ events_in o.batches = c.self.invariant.count ∙ ap (λ (v : IndexState). events_in v.opening.batches) c.self.view_is in
+    let events : c.self.inside.events ≡ event_total o.batches = c.self.invariant.count ∙ ap (λ (v : IndexState). event_total v.opening.batches) c.self.view_is in
     let earliest : c.self.inside.earliest ≡ earliest_in 0 o.batches = c.self.invariant.earliest ∙ ap (λ (v : IndexState). earliest_in 0 v.opening.batches) c.self.view_is in
     let long : 28 ≤ length c.args.bytes.now = omega (arith, c.if-bytes-lt-NAMES_OFFSET.false) in
     let lists : ℕ = c.lists_next-lists.result in
@@ -145,11 +145,11 @@ returns-clause-taken c =
     let o : Opening = c.args.self.now.opening in
     let x : Opened = record { index = o; names = c.args.names.now } in
     let b : BatchEntry = c.batch_at-batch.result in
-    let events : c.self.inside.events ≡ events_in o.batches = c.self.invariant.count ∙ ap (λ (v : IndexState). events_in v.opening.batches) c.self.view_is in
+    let events : c.self.inside.events ≡ event_total o.batches = c.self.invariant.count ∙ ap (λ (v : IndexState). event_total v.opening.batches) c.self.view_is in
     let earliest : c.self.inside.earliest ≡ earliest_in 0 o.batches = c.self.invariant.earliest ∙ ap (λ (v : IndexState). earliest_in 0 v.opening.batches) c.self.view_is in
     let long : 28 ≤ length c.args.bytes.now = omega (arith, c.if-bytes-lt-NAMES_OFFSET.false) in
-    let follow : may_follow (events_in o.batches) (earliest_in 0 o.batches) b ≡ true = (λ i. may_follow (sym events i) (sym earliest i) b) ∙ sym c.may_follow.ensures ∙ c.if-not-may_follow.false in
-    let few : events_in o.batches + b.events ≤ EVENTS_MAX = (follows_in (events_in o.batches) (earliest_in 0 o.batches) b follow).all in
+    let follow : may_follow (event_total o.batches) (earliest_in 0 o.batches) b ≡ true = (λ i. may_follow (sym events i) (sym earliest i) b) ∙ sym c.may_follow.ensures ∙ c.if-not-may_follow.false in
+    let few : event_total o.batches + b.events ≤ EVENTS_MAX = (follows_in (event_total o.batches) (earliest_in 0 o.batches) b follow).all in
     let large = large_parameters o.params.l o.params.k (subst (λ (v : IndexState). are_parameters v.opening.params.l v.opening.params.k ≡ true) c.self.view_is c.self.invariant.parameters) in
     let lists : ℕ = c.lists_next-lists.result in
     let deltas : ℕ = c.len-2.result - lists - 1 in

@@ -3,7 +3,7 @@ use Rattle.std.specs.Prelude.{IfSome, slice_index}
 use Rattle.std.proofs.lemmas.Result.{err_from_is_err_and}
 use Rattle.dg_disk.specs.Image.{IsLengthOf}
 use Rattle.dg_index.specs.IndexGrowth.{columns_in}
-use Rattle.dg_index.specs.OpenedIndex.{Opening, opening, keys_next, events_in, earliest_in, first_in, last_list, may_be_listed, may_follow}
+use Rattle.dg_index.specs.OpenedIndex.{Opening, opening, keys_next, event_total, earliest_in, first_in, last_list, may_be_listed, may_follow}
 use Rattle.dg_shape.specs.Additions.{Suits}
 use Rattle.dg_history.specs.declared.node.Key.{Key}
 use Rattle.dg_file.specs.declared.lengths.Lengths.{Lengths}
@@ -58,7 +58,7 @@ note-requires-clause-keys g c =
 
 pub note-requires-clause-follows : goal.note-requires-clause-follows
 note-requires-clause-follows g c =
-    ap (λ (o : Opening). may_follow (events_in o.batches) (earliest_in 0 o.batches) c.in-Ok.found.batch) c.reserve.ensures.same ∙ c.in-Ok.ensures.taken.follows
+    ap (λ (o : Opening). may_follow (event_total o.batches) (earliest_in 0 o.batches) c.in-Ok.found.batch) c.reserve.ensures.same ∙ c.in-Ok.ensures.taken.follows
 
 pub note-requires-clause-listed : goal.note-requires-clause-listed
 note-requires-clause-listed g c =

@@ -3,7 +3,7 @@ use Rattle.std.specs.Prelude.{IfSome}
 use Rattle.dg_disk.specs.Counts.{raised_by}
 use Rattle.dg_disk.specs.Frame.{OnlyReads}
 use Rattle.dg_file.specs.Headers.{IsOpenedSoFar}
-use Rattle.dg_index.specs.IndexGrowth.{names_in}
+use Rattle.dg_index.specs.IndexGrowth.{name_total}
 use Rattle.dg_file.specs.Index.{opening_bytes}
 use Rattle.dg_file.proofs.index.Index.read_segments.Given as goal
 
@@ -12,7 +12,7 @@ invariant-loop-gate g l = record {
   so_far : IfSome (g.D.Disk.image l.fn.disk) (λ image. IsOpenedSoFar image l.self.opening l.names l.gate);
   frame : OnlyReads g.D.Disk.image g.D.Disk.faults g.D.Disk.write_faults l.fn.disk l.disk;
   within : l.self.opening.used ≤ l.len;
-  counted_names : length l.names ≡ names_in l.self.opening.batches;
+  counted_names : length l.names ≡ name_total l.self.opening.batches;
   taken : (t : ℕ) → g.D.Disk.taken l.fn.disk ≡ raised_by (opening_bytes l.fn.self.opening) t → g.D.Disk.taken l.disk ≡ raised_by (opening_bytes l.self.opening) t;
 }
 

@@ -5,7 +5,7 @@ use Rattle.dg_file.specs.Headers.{IsFoundIn}
 use Rattle.dg_file.specs.Index.{opening_bytes}
 use Rattle.dg_file.proofs.Found.{found_length, some_weaker}
 use Rattle.dg_file.proofs.Moves.{on_err_any}
-use Rattle.dg_index.specs.IndexGrowth.{names_in}
+use Rattle.dg_index.specs.IndexGrowth.{name_total}
 use Rattle.dg_file.proofs.NextSegments.{begun}
 use Rattle.dg_file.proofs.index.Index.reopen.Goals as goal
 
@@ -24,7 +24,7 @@ read_segments-requires-clause-within g c = omega (arith, c.in_ok-found.ensures.l
 
 pub read_segments-requires-clause-counted_names : goal.read_segments-requires-clause-counted_names
 read_segments-requires-clause-counted_names g c =
-    ap length c.requires.names ∙ sym (ap (λ (o : Opening). names_in o.batches) c.empty-index.ensures)
+    ap length c.requires.names ∙ sym (ap (λ (o : Opening). name_total o.batches) c.empty-index.ensures)
 
 pub returns-in_err-read_segments-clause-bounded : goal.returns-in_err-read_segments-clause-bounded
 returns-in_err-read_segments-clause-bounded g c =

@@ -4,14 +4,14 @@ use Rattle.std.proofs.lemmas.List.Elements.{recursion_from_All}
 use Rattle.std.proofs.Math.ListN.{length-map}
 use Rattle.dg_graph.specs.declared.element.Element.{Element}
 use Rattle.dg_handles.specs.Attached.{AreAttached, graph_led, numbers_of}
-use Rattle.dg_handles.specs.Handles.{BeginsOn, HandlesState, IsTied, graphs_at, members_at, numbered, overlays_on}
+use Rattle.dg_handles.specs.Handles.{BeginsOn, HandlesState, IsTied, slot_graphs, members_at, numbered, overlays_on}
 use Rattle.dg_handles.proofs.Attaching.{held_kept, members_led, overlays_held, stays, tied_more, with_more}
 use Rattle.dg_handles.proofs.Beside.{Entries}
 use Rattle.dg_handles.proofs.Entering.{entry_of, number_of, overlays_many, rise_more}
 use Rattle.dg_handles.proofs.Tying.{tie_is_kept}
 use Rattle.dg_machine.specs.declared.stands.Stands.{Stands}
 use Rattle.dg_pool.specs.declared.slots.Slot.{Slot}
-use Rattle.dg_retrieval.specs.Beginnings.{base_of}
+use Rattle.dg_retrieval.specs.Beginnings.{base_handle}
 use Rattle.dg_retrieval.specs.declared.graph_lead.GraphLead.{GraphLead}
 use Rattle.dg_handles.proofs.handles.Handles.add.Goals as goal
 
@@ -33,9 +33,9 @@ returns-clause-graphs c =
     let new = c.attach_all.new.pool in
     let slots = numbers_of c.in_ok-slots.slots.items in
     let leads = c.args.leads.now in
-    ap (graphs_at new) (slots_are c) ∙ map-append (members_at new) h.slots slots
-    ∙ ap (λ (l : List (List Element)). l ++ graphs_at new slots) (held_kept old new h c.requires.tied slots (map (graph_led h old c.args.cols) leads) (attached c))
-    ∙ ap (λ (l : List (List Element)). graphs_at old h.slots ++ l) (members_led h old new c.args.cols slots leads (attached c).hold)
+    ap (slot_graphs new) (slots_are c) ∙ map-append (members_at new) h.slots slots
+    ∙ ap (λ (l : List (List Element)). l ++ slot_graphs new slots) (held_kept old new h c.requires.tied slots (map (graph_led h old c.args.cols) leads) (attached c))
+    ∙ ap (λ (l : List (List Element)). slot_graphs old h.slots ++ l) (members_led h old new c.args.cols slots leads (attached c).hold)
 
 pub returns-clause-tied : goal.returns-clause-tied
 returns-clause-tied c =
@@ -44,7 +44,7 @@ returns-clause-tied c =
     let leads = c.args.leads.now in
     let slots = numbers_of c.in_ok-slots.slots.items in
     let last = c.self.inside.next + length c.args.times.now in
-    let stands : List Stands = overlays_on c.args.cols c.args.times.now (map (λ (l : GraphLead). base_of l.begins) leads) in
+    let stands : List Stands = overlays_on c.args.cols c.args.times.now (map (λ (l : GraphLead). base_handle l.begins) leads) in
     let more : Entries = numbered c.self.inside.next stands in
     let table_is : map entry_of c.enter.new.entries.items ≡ h.table ++ more = c.enter.ensures.table ∙ ap (λ (s : HandlesState). s.table ++ more) c.self.view_is in
     subst (IsTied c.attach_all.new.pool) (λ k. record { table = sym table_is k; slots = sym (slots_are c) k; next = last })
@@ -55,7 +55,7 @@ returns-clause-tied c =
 pub invariant_of-self : goal.invariant_of-self
 invariant_of-self c =
     let entries = c.self.inside.entries in
-    let stands : List Stands = overlays_on c.args.cols c.args.times.now (map (λ (l : GraphLead). base_of l.begins) c.args.leads.now) in
+    let stands : List Stands = overlays_on c.args.cols c.args.times.now (map (λ (l : GraphLead). base_handle l.begins) c.args.leads.now) in
     let many : length c.args.self.now.table ≡ length entries.items = ap (λ (s : HandlesState). length s.table) (sym c.self.view_is) ∙ length-map entries.items entry_of in
     let last : c.self.inside.next ≡ c.args.self.now.next = ap (λ (s : HandlesState). s.next) c.self.view_is in
     let new = overlays_many c.args.cols c.args.times.now c.args.leads.now c.requires.leads in (

@@ -5,7 +5,7 @@ use Rattle.dg_graph.specs.Composition.{applied}
 use Rattle.dg_graph.specs.declared.element.Element.{Element}
 use Rattle.dg_graph.specs.Elements.{shown}
 use Rattle.dg_handles.specs.Attached.{AreAttached}
-use Rattle.dg_handles.specs.Handles.{HandlesState, IsTied, graphs_at, members_at}
+use Rattle.dg_handles.specs.Handles.{HandlesState, IsTied, slot_graphs, members_at}
 use Rattle.dg_handles.proofs.Attaching.{attached_more, attached_none, held_kept, some_free, tied_more}
 use Rattle.dg_handles.proofs.Beside.{Entries}
 use Rattle.dg_handles.proofs.Entering.{entry_of, number_of, rise_more}
@@ -43,9 +43,9 @@ returns-clause-graphs c =
     let old = c.args.pool.now in
     let new = c.attach.new.pool in
     let slots : List ℕ = c.in_ok-slot.slot.0 ∷ [] in
-    ap (graphs_at new) (slots_are c) ∙ map-append (members_at new) h.slots slots
-    ∙ ap (λ (l : List (List Element)). l ++ graphs_at new slots) (held_kept old new h c.requires.tied slots _ (attached c))
-    ∙ ap (λ o. graphs_at old h.slots ++ members_as o ∷ []) c.in_ok-slot.ensures.slot.holds
+    ap (slot_graphs new) (slots_are c) ∙ map-append (members_at new) h.slots slots
+    ∙ ap (λ (l : List (List Element)). l ++ slot_graphs new slots) (held_kept old new h c.requires.tied slots _ (attached c))
+    ∙ ap (λ o. slot_graphs old h.slots ++ members_as o ∷ []) c.in_ok-slot.ensures.slot.holds
 
 pub returns-clause-tied : goal.returns-clause-tied
 returns-clause-tied c =

@@ -1,7 +1,7 @@
 use Rattle.std.proofs.Common.{arith, ◌≡◌, ℕ, ◌<◌, ◌≤◌, List, None, IsSome, get_or, is_some, length, map, remove, sym, ap, ◌∙◌, subst}
 use Rattle.dg_handles.specs.declared.entries.Entry.{Entry}
 use Rattle.dg_handles.specs.Attached.{NoneRestsOn}
-use Rattle.dg_handles.specs.Handles.{HandlesState, IsTied, RiseWithin, graphs_at, slot_of}
+use Rattle.dg_handles.specs.Handles.{HandlesState, IsTied, RiseWithin, slot_graphs, slot_of}
 use Rattle.dg_handles.proofs.Beside.{handles_in, slot_listed}
 use Rattle.dg_handles.proofs.Entering.{entry_of, number_of, rise_remove}
 use Rattle.dg_handles.proofs.Placing.{Found, Missed, entry_in, found_in, graphs_many, graphs_removed, here_in, map-remove, missed_in, number_in, slot_in, tied_removed, within_in}
@@ -23,7 +23,7 @@ returns-in_default-clause-table c = sym (missed c).without
 
 pub returns-in_default-clause-graphs : goal.returns-in_default-clause-graphs
 returns-in_default-clause-graphs c =
-    sym ((missed c).graphs (graphs_at c.args.pool.now c.args.self.now.slots)
+    sym ((missed c).graphs (slot_graphs c.args.pool.now c.args.self.now.slots)
     (graphs_many c.args.handle c.args.self.now c.self.inside.entries.items c.deref.result.now c.self.inside.next c.self.view_is c.deref.ensures.value c.args.pool.now))
 
 -- ---- it is live
@@ -84,9 +84,9 @@ pub returns-clause-graphs : goal.returns-clause-graphs
 returns-clause-graphs c =
     let h = c.args.self.now in
     let old = c.args.pool.now in
-    ap (graphs_at c.detach.new.pool) (slots_are c)
+    ap (slot_graphs c.detach.new.pool) (slots_are c)
     ∙ graphs_removed old c.detach.new.pool h c.requires.tied c.args.handle c.in-Some.place c.self.inside.next (within c) (here c) c.requires.unused (gone c) (others c)
-    ∙ sym ((found c).graphs (graphs_at old h.slots)
+    ∙ sym ((found c).graphs (slot_graphs old h.slots)
     (graphs_many c.args.handle h c.self.inside.entries.items c.deref.result.now c.self.inside.next c.self.view_is c.deref.ensures.value old))
 
 pub returns-clause-tied : goal.returns-clause-tied

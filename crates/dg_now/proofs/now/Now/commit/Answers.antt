@@ -9,6 +9,6 @@ pub invariant_of-self : goal.invariant_of-self
 invariant_of-self c =
     let held = c.self.inside.held in
     let events = c.self.inside.pending.items in
-    let none : [] ≡ c.clear.new.self.items = sym c.clear.ensures.items in
+    let none : [] ≡ c.new.result.items = sym c.new.ensures.items in
     subst (λ (es : List Event). Led (rewound held.set es) es held) none
     (led_none held (led_is_graph (rewound held.set events) events held c.self.invariant))

@@ -25,14 +25,11 @@ led c = led_again c.reserve.new.self.set c.complete_all.new.events.items c.compl
 pub invariant_of-self-in-Err : goal.invariant_of-self-in-Err
 invariant_of-self-in-Err c = led (goal.at.invariant_of-self-in-Err c).After-complete_all
 
-pub invariant_of-self-in-Ok : goal.invariant_of-self-in-Ok
-invariant_of-self-in-Ok c = led (goal.at.invariant_of-self-in-Ok c).After-complete_all
+pub invariant_of-self-in_default : goal.invariant_of-self-in_default
+invariant_of-self-in_default c = led (goal.at.invariant_of-self-in_default c).After-complete_all
 
-pub invariant_of-self-in-Err-from_slice : goal.invariant_of-self-in-Err-from_slice
-invariant_of-self-in-Err-from_slice c = led (goal.at.invariant_of-self-in-Err-from_slice c).After-complete_all
-
-pub returns-in-Ok-clause-same_graph : goal.returns-in-Ok-clause-same_graph
-returns-in-Ok-clause-same_graph c = graph (goal.at.returns-in-Ok-clause-same_graph c).After-complete_all
+pub returns-clause-same_graph : goal.returns-clause-same_graph
+returns-clause-same_graph c = graph (goal.at.returns-clause-same_graph c).After-complete_all
 
 pub returns-in-Err-clause-same_graph : goal.returns-in-Err-clause-same_graph
 returns-in-Err-clause-same_graph c = c.abandon.ensures.graph ∙ graph (goal.at.returns-in-Err-clause-same_graph c).After-complete_all
@@ -41,13 +38,3 @@ pub returns-in-Err-clause-err : goal.returns-in-Err-clause-err
 returns-in-Err-clause-err c =
     same_state c.abandon.new.self c.args.self.now
     (c.abandon.ensures.graph ∙ graph (goal.at.returns-in-Err-clause-err c).After-complete_all) (c.abandon.ensures.none ∙ sym c.requires.none_pending)
-
-pub returns-in-Err-from_slice-clause-same_graph : goal.returns-in-Err-from_slice-clause-same_graph
-returns-in-Err-from_slice-clause-same_graph c =
-    c.abandon-in-Err-from_slice.ensures.graph ∙ graph (goal.at.returns-in-Err-from_slice-clause-same_graph c).After-complete_all
-
-pub returns-in-Err-from_slice-clause-err : goal.returns-in-Err-from_slice-clause-err
-returns-in-Err-from_slice-clause-err c =
-    same_state c.abandon-in-Err-from_slice.new.self c.args.self.now
-    (c.abandon-in-Err-from_slice.ensures.graph ∙ graph (goal.at.returns-in-Err-from_slice-clause-err c).After-complete_all)
-    (c.abandon-in-Err-from_slice.ensures.none ∙ sym c.requires.none_pending)

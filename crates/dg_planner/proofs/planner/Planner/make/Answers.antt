@@ -7,7 +7,7 @@ use Rattle.dg_plan.specs.IndexGraph.{Ground, arcs_of, edges_of, nodes_of}
 use Rattle.dg_plan.proofs.EnteredOnce.{enters_once}
 use Rattle.dg_path.specs.declared.search.Link.{Link}
 use Rattle.dg_path.specs.Search.{AreLinks, arcs, IsTable, AreAdjacent}
-use Rattle.dg_planner.specs.AskedLengths.{asked_length}
+use Rattle.dg_planner.specs.AskedLengths.{asked_length_of}
 use Rattle.dg_planner.specs.Bases.{ground_with, HasBases}
 use Rattle.dg_planner.specs.Links.{link_in}
 use Rattle.dg_planner.specs.Order.{HasEnds, count_in}
@@ -24,27 +24,27 @@ placed g low bases links n is count =
 
 pub make_links-requires-clause-ends : goal.make_links-requires-clause-ends
 make_links-requires-clause-ends c =
-    let G = ground_with c.args.form.leaves c.args.form.arity c.args.form.memory c.args.bases.now (asked_length c.args.catalogue.now c.args.cols) in
+    let G = ground_with c.args.form.leaves c.args.form.arity c.args.form.memory c.args.bases.now (asked_length_of c.args.catalogue.now c.args.cols) in
     subst (All (HasEnds c.args.form.leaves c.args.form.arity)) (sym (c.deref-2.ensures.value ∙ c.in_ok-edges.ensures)) (has_ends G c.requires.low c.requires.bases)
 
 pub thread-requires-clause-links : goal.thread-requires-clause-links
 thread-requires-clause-links c =
-    let G = ground_with c.args.form.leaves c.args.form.arity c.args.form.memory c.args.bases.now (asked_length c.args.catalogue.now c.args.cols) in
+    let G = ground_with c.args.form.leaves c.args.form.arity c.args.form.memory c.args.bases.now (asked_length_of c.args.catalogue.now c.args.cols) in
     placed G c.requires.low c.requires.bases _ _ (c.deref-4.ensures.value ∙ (c.in_ok-links.ensures ∙ ap (map (link_in c.args.form.leaves c.args.form.arity c.args.form.memory)) (c.deref-2.ensures.value ∙ c.in_ok-edges.ensures))) c.node_count-nodes.ensures
 
 pub thread-requires-2-clause-links : goal.thread-requires-2-clause-links
 thread-requires-2-clause-links c =
-    let G = ground_with c.args.form.leaves c.args.form.arity c.args.form.memory c.args.bases.now (asked_length c.args.catalogue.now c.args.cols) in
+    let G = ground_with c.args.form.leaves c.args.form.arity c.args.form.memory c.args.bases.now (asked_length_of c.args.catalogue.now c.args.cols) in
     placed G c.requires.low c.requires.bases _ _ (c.deref-5.ensures.value ∙ (c.in_ok-links.ensures ∙ ap (map (link_in c.args.form.leaves c.args.form.arity c.args.form.memory)) (c.deref-2.ensures.value ∙ c.in_ok-edges.ensures))) c.node_count-nodes.ensures
 
 pub costs_from-requires-clause-links : goal.costs_from-requires-clause-links
 costs_from-requires-clause-links c =
-    let G = ground_with c.args.form.leaves c.args.form.arity c.args.form.memory c.args.bases.now (asked_length c.args.catalogue.now c.args.cols) in
+    let G = ground_with c.args.form.leaves c.args.form.arity c.args.form.memory c.args.bases.now (asked_length_of c.args.catalogue.now c.args.cols) in
     placed G c.requires.low c.requires.bases _ _ (c.deref-6.ensures.value ∙ (c.in_ok-links.ensures ∙ ap (map (link_in c.args.form.leaves c.args.form.arity c.args.form.memory)) (c.deref-2.ensures.value ∙ c.in_ok-edges.ensures))) c.node_count-nodes.ensures
 
 pub invariant_of-result : goal.invariant_of-result
 invariant_of-result c =
-    let G = ground_with c.args.form.leaves c.args.form.arity c.args.form.memory c.args.bases.now (asked_length c.args.catalogue.now c.args.cols) in
+    let G = ground_with c.args.form.leaves c.args.form.arity c.args.form.memory c.args.bases.now (asked_length_of c.args.catalogue.now c.args.cols) in
     let edges = c.in_ok-edges.edges.items in
     let links = c.in_ok-links.links.items in
     let costs = c.in_ok-costs.costs.items in

@@ -9,9 +9,9 @@ use Rattle.dg_plan.specs.EnteredRecords.{EntersOnce}
 use Rattle.dg_plan.specs.IndexGraph.{arcs_of}
 use Rattle.dg_plan.specs.Walks.{Graft, IsPlan, Leads, entered, steps_of, tree_weight}
 use Rattle.dg_plan.proofs.Trees.{tree_grows, tree_weighs}
-use Rattle.dg_path.specs.Search.{Falls, Fits, IsTable, arcs, label_at}
+use Rattle.dg_path.specs.Search.{Falls, CostsFit, IsTable, arcs, label_at}
 use Rattle.dg_planner.specs.Order.{bare_ground, place_of}
-use Rattle.dg_planner.specs.Trees.{costs_now, graft_of, grafts_of}
+use Rattle.dg_planner.specs.Trees.{costs_now, node_graft, node_grafts}
 use Rattle.dg_planner.specs.Whole.{PlannerGraph}
 use Rattle.dg_planner.proofs.Grown.{IsReady, grown_as, near_now, one_grown, one_ready, single_light, sum_push}
 use Rattle.dg_planner.proofs.NodePlans.{link_count, node_is, place_within}
@@ -111,7 +111,7 @@ beginning-from-requires c =
 -- the costs from the tree with the steps, where a target follows
 ready : (c : goal.In_ok-push-2) → c.loop-i.i + 1 < length c.args.targets.now
     → IsReady (bare_ground c.self.inside.form.leaves c.self.inside.form.arity c.self.inside.form.memory) c.self.inside.edges.items c.self.inside.links.items
-    (grafts_of c.loop-i.grafts.items ++ record { from = c.beginning-from.result; steps = c.in_ok-steps.steps.items } ∷ [])
+    (node_grafts c.loop-i.grafts.items ++ record { from = c.beginning-from.result; steps = c.in_ok-steps.steps.items } ∷ [])
     (costs_now c.self.inside.costs.items c.if-i-targets.grown.items)
 ready c follows =
     let g = bare_ground c.self.inside.form.leaves c.self.inside.form.arity c.self.inside.form.memory in
@@ -124,7 +124,7 @@ ready c follows =
       | then-i-targets+in_ok-grow_on w ↦
           let new = costs_now kept w.grow_on.new.grown.items in
           let len : length new ≡ length old = subst (λ (ks : List Label). length (costs_now ks w.grow_on.new.grown.items) ≡ length (costs_now ks c.loop-i.grown.items)) w.deref-then-i-targets-2.ensures.value w.in_ok-grow_on.ensures.len in
-          let fits : Fits new = subst (λ (ks : List Label). Fits (costs_now ks w.grow_on.new.grown.items)) w.deref-then-i-targets-2.ensures.value w.in_ok-grow_on.ensures.fits in
+          let fits : CostsFit new = subst (λ (ks : List Label). CostsFit (costs_now ks w.grow_on.new.grown.items)) w.deref-then-i-targets-2.ensures.value w.in_ok-grow_on.ensures.fits in
           let falls : Falls old new = subst (λ (ks : List Label). Falls (costs_now ks c.loop-i.grown.items) (costs_now ks w.grow_on.new.grown.items)) w.deref-then-i-targets-2.ensures.value w.in_ok-grow_on.ensures.falls in
           let table : (from : List ℕ) → IsTable (arcs links) from old → IsTable (arcs links) (from ++ entered (arcs links) steps) new =
           subst (λ s. (from : List ℕ) → IsTable (arcs links) from old → IsTable (arcs links) (from ++ entered (arcs links) s) new) w.deref-then-i-targets-3.ensures.value
@@ -132,8 +132,8 @@ ready c follows =
           (subst (λ ks. (from : List ℕ) → IsTable (arcs w.deref-then-i-targets.result.now) from (costs_now ks c.loop-i.grown.items) → IsTable (arcs w.deref-then-i-targets.result.now) (from ++ entered (arcs w.deref-then-i-targets.result.now) w.deref-then-i-targets-3.result.now) (costs_now ks w.grow_on.new.grown.items)) w.deref-then-i-targets-2.ensures.value
           w.in_ok-grow_on.ensures.table)) in
           let x : Graft NodeId = record { from = c.beginning-from.result; steps = steps } in
-          subst (λ v. IsReady g edges links (grafts_of c.loop-i.grafts.items ++ x ∷ []) (costs_now kept v.items)) (sym w.grown-is)
-          (one_ready g edges _ links _ _ kept c.self.invariant (grafts_of c.loop-i.grafts.items) old (c.loop-i.invariant.1 c.loop-i-test.true) x new len fits falls table)
+          subst (λ v. IsReady g edges links (node_grafts c.loop-i.grafts.items ++ x ∷ []) (costs_now kept v.items)) (sym w.grown-is)
+          (one_ready g edges _ links _ _ kept c.self.invariant (node_grafts c.loop-i.grafts.items) old (c.loop-i.invariant.1 c.loop-i-test.true) x new len fits falls table)
       | else-i-targets w ↦ absurd (let past = w.if-i-targets.false in omega arith)
     ]
 
@@ -162,7 +162,7 @@ loop-i-preserved c =
     (λ a leads. c.beginning-from.ensures a
     (subst (λ s. Leads (arcs_of c.deref-in-loop-i-7.result.now) a s target) (sym c.deref-in-loop-i-8.ensures.value)
     (subst (λ es. Leads (arcs_of es) a steps target) (sym c.deref-in-loop-i-7.ensures.value) leads))) in
-    let grafts = ap grafts_of c.in_ok-push-2.ensures.items ∙ map-append graft_of c.loop-i.grafts.items _ in (
+    let grafts = ap node_grafts c.in_ok-push-2.ensures.items ∙ map-append node_graft c.loop-i.grafts.items _ in (
       grown_as edges _ _ _ _ _ _ _ _
           (take_more c.args.targets.now i Root within)
           grafts
@@ -175,18 +175,18 @@ loop-i-preserved c =
 
 pub returns-clause-weight : goal.returns-clause-weight
 returns-clause-weight c =
-    subst (λ (s : PlannerGraph). c.loop-i.weight ≡ tree_weight (arcs_of s.edges) (grafts_of c.loop-i.grafts.items)) c.self.view_is c.loop-i.invariant.0.weight_is
+    subst (λ (s : PlannerGraph). c.loop-i.weight ≡ tree_weight (arcs_of s.edges) (node_grafts c.loop-i.grafts.items)) c.self.view_is c.loop-i.invariant.0.weight_is
 
 pub returns-clause-shared : goal.returns-clause-shared
 returns-clause-shared c =
     let inv = c.loop-i.invariant.0 in
-    let low = tree_weighs (arcs_of c.self.inside.edges.items) (Root ∷ []) (Root ∷ []) (λ a in'. in') (take c.loop-i.i c.args.targets.now) (grafts_of c.loop-i.grafts.items) c.loop-i.singles.items inv.tree inv.singles_are in
+    let low = tree_weighs (arcs_of c.self.inside.edges.items) (Root ∷ []) (Root ∷ []) (λ a in'. in') (take c.loop-i.i c.args.targets.now) (node_grafts c.loop-i.grafts.items) c.loop-i.singles.items inv.tree inv.singles_are in
     let is = inv.weight_is in
     omega arith
 
 pub returns-clause-once : goal.returns-clause-once
 returns-clause-once c =
     let inv = c.loop-i.invariant.0 in
-    let grafts = grafts_of c.loop-i.grafts.items in
+    let grafts = node_grafts c.loop-i.grafts.items in
     subst (λ (s : PlannerGraph). EntersOnce s.edges (steps_of grafts)) c.self.view_is
     (c.self.invariant.once (Root ∷ []) (steps_of grafts) (tree_grows (arcs_of c.self.inside.edges.items) (Root ∷ []) (take c.loop-i.i c.args.targets.now) grafts inv.tree))

@@ -4,7 +4,7 @@ use Rattle.dg_io.specs.LinesState.{told}
 use Rattle.dg_machine.specs.declared.reply.Reply.{Reply}
 use Rattle.dg_machine.specs.Answer.{headed}
 use Rattle.dg_session.specs.SessionState.{SessionState}
-use Rattle.dg_session.specs.BatchCommand.{command_with, head_of}
+use Rattle.dg_session.specs.BatchCommand.{command_with, batch_head}
 use Rattle.dg_session.specs.Damage.{DamageIn}
 use Rattle.dg_session.specs.Halt.{batch_halt}
 use Rattle.dg_session.specs.Parts.{Parts}
@@ -128,12 +128,12 @@ returns-clause-comes g c =
     let image : Option (List ℕ) = g.D.Disk.image c.args.disk.now in
     let then_image : Option (List ℕ) = g.D.Disk.image c.add_changes.new.disk in
     let q : Parts = with_handles (with_history p c.add_changes.new.history) c.add_changes.new.handles c.add_changes.new.pool in
-    let reply : headed (head_of c.args.which c.in_ok-added.added.events c.in_ok-added.added.total c.in_ok-added.added.last) ≡ c.headed.result = sym (c.headed.ensures ∙ ap headed c.head.ensures) in (
+    let reply : headed (batch_head c.args.which c.in_ok-added.added.events c.in_ok-added.added.total c.in_ok-added.added.last) ≡ c.headed.result = sym (c.headed.ensures ∙ ap headed c.head.ensures) in (
       got,
       c.in_ok-batch.ensures.reads.follows,
       subst (λ (r : Reply). Accepts (command_with c.args.which c.args.count) got c.args.self.now.parts image q then_image r) reply
-          (subst (λ (x : Parts). Accepts (command_with c.args.which c.args.count) got x image q then_image (headed (head_of c.args.which c.in_ok-added.added.events c.in_ok-added.added.total c.in_ok-added.added.last))) (ap (λ (x : SessionState). x.parts) c.self.view_is)
-          (subst (λ (y : Parts). Accepts (command_with c.args.which c.args.count) got p image y then_image (headed (head_of c.args.which c.in_ok-added.added.events c.in_ok-added.added.total c.in_ok-added.added.last)))
+          (subst (λ (x : Parts). Accepts (command_with c.args.which c.args.count) got x image q then_image (headed (batch_head c.args.which c.in_ok-added.added.events c.in_ok-added.added.total c.in_ok-added.added.last))) (ap (λ (x : SessionState). x.parts) c.self.view_is)
+          (subst (λ (y : Parts). Accepts (command_with c.args.which c.args.count) got p image y then_image (headed (batch_head c.args.which c.in_ok-added.added.events c.in_ok-added.added.total c.in_ok-added.added.last)))
           (sym (kept_handles (with_history p c.add_changes.new.history) c.self.inside.handles c.add_changes.new.handles c.self.inside.pool c.add_changes.new.pool c.in_ok-added.ensures.handles c.in_ok-added.ensures.graphs))
           (batch_added (Lines_of c.args.which) got p c.args.count c.len-known.result c.self.inside.limits.file_bytes old c.in_ok-batch.batch asked c.add_changes.new.history image then_image
           c.in_ok-added.added c.in_ok-added.ensures.adds))),

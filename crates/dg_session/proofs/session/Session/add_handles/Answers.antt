@@ -1,14 +1,14 @@
 use Rattle.std.proofs.Common.{◌≡◌, ℕ, ◌+◌, ◌++◌, List, Option, length, map, refl, sym, ◌∙◌, ap}
 use Rattle.std.proofs.lemmas.List.{length-map}
 use Rattle.dg_graph.specs.declared.element.Element.{Element}
-use Rattle.dg_handles.specs.Handles.{graphs_at, held_by, numbered, overlays_on}
+use Rattle.dg_handles.specs.Handles.{slot_graphs, held_by, numbered, overlays_on}
 use Rattle.dg_machine.specs.declared.stands.Stands.{Stands}
 use Rattle.dg_pool.specs.Graphs.{graph_now}
 use Rattle.dg_retrieval.specs.declared.graph_lead.GraphLead.{GraphLead}
-use Rattle.dg_retrieval.specs.Beginnings.{base_of, led_to}
+use Rattle.dg_retrieval.specs.Beginnings.{base_handle, led_to}
 use Rattle.dg_session.specs.contracts.session.Session.{the_view}
 use Rattle.dg_session.specs.Parts.{Parts}
-use Rattle.dg_session.specs.Reads.{bases_of, listed_by, with_new}
+use Rattle.dg_session.specs.Reads.{bases_of, listed_by, with_new_handles}
 use Rattle.dg_session.specs.SessionState.{SessionState}
 use Rattle.dg_session.proofs.KeptAdjacencies.{kept_after as adjacency_after}
 use Rattle.dg_session.proofs.NewHandles.{kept_after, nodes_after, on_three, overlays_length}
@@ -22,15 +22,15 @@ returns-clause-added c =
     let bases : List (Option ℕ) = bases_of leads in
     let new : List Stands = overlays_on cols times bases in
     let view : Parts = (the_view c.self.inside).parts in
-    let many : length new ≡ length times = overlays_length cols times bases (length-map leads (λ (l : GraphLead). base_of l.begins) ∙ c.requires.leads) in
+    let many : length new ≡ length times = overlays_length cols times bases (length-map leads (λ (l : GraphLead). base_handle l.begins) ∙ c.requires.leads) in
     on_three c.add.result
     (λ table next graphs.
-    let q : Parts = record view { table = c.add.new.self.table; graphs = graphs_at c.add.new.pool c.add.new.self.slots; next = c.add.new.self.next } in
+    let q : Parts = record view { table = c.add.new.self.table; graphs = slot_graphs c.add.new.pool c.add.new.self.slots; next = c.add.new.self.next } in
     let number : c.add.new.self.next ≡ view.next + length new = next ∙ ap (λ n. view.next + n) (sym many) in
-    let lists : graphs_at c.add.new.pool c.add.new.self.slots ≡ view.graphs ++ map (led_to view.graph (listed_by view) cols) leads =
+    let lists : slot_graphs c.add.new.pool c.add.new.self.slots ≡ view.graphs ++ map (led_to view.graph (listed_by view) cols) leads =
     graphs ∙ ap (λ (g : List Element). view.graphs ++ map (led_to g (listed_by view) cols) leads) c.self.invariant.2 in
-    let first : q ≡ with_new view new (map (led_to view.graph (listed_by view) cols) leads) = (λ i. record view { table = table i; graphs = lists i; next = number i }) in
-    first ∙ ap (λ (x : SessionState). with_new x.parts new (map (led_to x.parts.graph (listed_by x.parts) cols) leads)) c.self.view_is)
+    let first : q ≡ with_new_handles view new (map (led_to view.graph (listed_by view) cols) leads) = (λ i. record view { table = table i; graphs = lists i; next = number i }) in
+    first ∙ ap (λ (x : SessionState). with_new_handles x.parts new (map (led_to x.parts.graph (listed_by x.parts) cols) leads)) c.self.view_is)
     c.add.ensures.table c.add.ensures.next c.add.ensures.graphs
 
 pub invariant_of-self : goal.invariant_of-self
@@ -46,6 +46,6 @@ invariant_of-self c =
       nodes_after c.add.result index old c.add.new.self c.args.cols c.args.times.now bases c.add.ensures.table c.add.ensures.err c.self.invariant.4,
       kept_after c.add.result index old c.add.new.self c.self.inside.planner c.args.cols c.args.times.now bases c.add.ensures.table c.add.ensures.err c.self.invariant.5,
       adjacency_after c.add.result old c.add.new.self pool c.add.new.pool (numbered old.next (overlays_on c.args.cols c.args.times.now bases))
-          (map (led_to (graph_now pool) (held_by old.table (graphs_at pool old.slots)) c.args.cols) c.args.leads.now) c.self.inside.adjacency
+          (map (led_to (graph_now pool) (held_by old.table (slot_graphs pool old.slots)) c.args.cols) c.args.leads.now) c.self.inside.adjacency
           c.add.ensures.table c.add.ensures.graphs c.add.ensures.err c.add.ensures.graphs_err c.self.invariant.6,
     )

@@ -12,7 +12,7 @@ use Rattle.dg_session.specs.declared.halt.Halt.TheVariants as halt
 use Rattle.dg_session.specs.Damage.{DamageIn, DamageIs}
 use Rattle.dg_session.specs.Halt.{retrieval_halt}
 use Rattle.dg_session.specs.Parts.{Parts}
-use Rattle.dg_session.specs.Reads.{ReadsIn, bases_of, listed_by, with_new}
+use Rattle.dg_session.specs.Reads.{ReadsIn, bases_of, listed_by, with_new_handles}
 use Rattle.dg_session.specs.Session.{ComesTo}
 use Rattle.dg_session.proofs.AtStep.{at_answers, at_fails}
 use Rattle.dg_session.proofs.DamageStep.{damage_in, tells_no_damage}
@@ -64,7 +64,7 @@ returns-clause-comes g c =
     let number : c.next-handle.result ≡ p.next = c.next-handle.ensures.next ∙ ap (λ (x : SessionState). x.parts.next) (c.self.view_is ∙ c.retrieve.ensures.same) in
     at_answers p c.add_handles.new.self.parts c.args.t cols (g.D.Disk.image c.args.disk.now) (g.D.Disk.image c.retrieve.new.disk) r.weight r.singles.items (bases_of r.leads.items) (map (led_to p.graph (listed_by p) cols) r.leads.items) c.headed.result
     (sym c.refused_retrieval.ensures ∙ c.in_default.is) c.retrieve.ensures.disk.same_image c.in_ok-leads.ensures.retrieved
-    (c.in_ok-add_handles.ensures.added ∙ (λ i. with_new (same i) (overlays_on cols times (bases_of (c.deref.ensures.value i))) (map (led_to (same i).graph (listed_by (same i)) cols) (c.deref.ensures.value i))))
+    (c.in_ok-add_handles.ensures.added ∙ (λ i. with_new_handles (same i) (overlays_on cols times (bases_of (c.deref.ensures.value i))) (map (led_to (same i).graph (listed_by (same i)) cols) (c.deref.ensures.value i))))
     (c.headed.ensures ∙ ap (λ n. headed (head.At n r.weight)) number)
 
 pub returns-in-Some-clause-damaged : goal.returns-in-Some-clause-damaged

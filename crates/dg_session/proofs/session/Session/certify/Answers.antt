@@ -1,6 +1,6 @@
 use Rattle.std.specs.Prelude.{IfErr, IfOk}
 use Rattle.dg_history.specs.History.{in_range}
-use Rattle.dg_index.specs.OpenedIndex.{events_in}
+use Rattle.dg_index.specs.OpenedIndex.{event_total}
 use Rattle.dg_session.specs.SessionState.{SessionState}
 use Rattle.dg_machine.specs.Planning.{bases_in}
 use Rattle.dg_session.specs.HeldIndex.{point_over, span_held}
@@ -104,8 +104,8 @@ returns-clause-comes g c image =
     let cols = c.args.cols in
     let graph : IsGraphFor o c.self.inside.handles.table cols c.planner-planner.result.now =
     subst (λ k. IsKeptFor (Some o) c.self.inside.handles.table k) c.planner-planner.ensures.planner c.keep.ensures.kept in
-    let edges : c.planner-planner.result.now.edges ≡ kept_edges o (events_in o.batches) cols (bases_in cols p.table) =
-    graph.edges ∙ ap (λ (x : Parts). kept_edges o (events_in o.batches) cols (bases_in cols x.table)) same in
+    let edges : c.planner-planner.result.now.edges ≡ kept_edges o (event_total o.batches) cols (bases_in cols p.table) =
+    graph.edges ∙ ap (λ (x : Parts). kept_edges o (event_total o.batches) cols (bases_in cols x.table)) same in
     let recent : c.deref.result.now ≡ p.recent = c.deref.ensures.value ∙ ap (λ (x : Parts). x.recent) same in
     let said : c.deref-2.result.now ≡ map plan_line_in w.0 = c.deref-2.ensures.value ∙ w.2.said_is c.if-not-written.false in (
       w.0,

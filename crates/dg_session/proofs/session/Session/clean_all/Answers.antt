@@ -1,5 +1,5 @@
 use Rattle.std.proofs.Common.{◌∷◌, length, ◌∙◌, ap}
-use Rattle.dg_machine.specs.MachineState.{union_of}
+use Rattle.dg_machine.specs.MachineState.{union_of_sets}
 use Rattle.dg_session.specs.contracts.session.Session.{the_view}
 use Rattle.dg_session.specs.Parts.{Parts}
 use Rattle.dg_session.specs.SessionState.{SessionState}
@@ -16,8 +16,8 @@ returns-clause-comes c image =
     let same = graphs_same old new c.clean_all.ensures.graphs.slots slots in
     let tied = c.law_tie_is_kept.ensures old new c.self.inside.handles c.clean_all.ensures.graphs.slots c.self.invariant.3 in
     let size = c.cell_len-cells.ensures ∙ ap length (c.clean_all.ensures.cells ∙ c.law_union_of_handles.ensures new c.self.inside.handles tied)
-    ∙ (λ i. length (union_of ((c.clean_all.ensures.graphs.now ∙ c.self.invariant.2) i ∷ same i)))
-    ∙ ap (λ (x : SessionState). length (union_of (x.parts.graph ∷ x.parts.graphs))) c.self.view_is in
+    ∙ (λ i. length (union_of_sets ((c.clean_all.ensures.graphs.now ∙ c.self.invariant.2) i ∷ same i)))
+    ∙ ap (λ (x : SessionState). length (union_of_sets (x.parts.graph ∷ x.parts.graphs))) c.self.view_is in
     clean_all_answers c.args.self.now.parts _ c.cell_len-cells.result image c.headed.result
     ((λ i. let x : Parts = record view { graphs = same i } in x) ∙ ap (λ (x : SessionState). x.parts) c.self.view_is) size c.headed.ensures
 

@@ -13,7 +13,7 @@ use Rattle.dg_session.specs.declared.halt.Halt.TheVariants as halt
 use Rattle.dg_session.specs.Damage.{DamageIn, DamageIs}
 use Rattle.dg_session.specs.Halt.{retrieval_halt}
 use Rattle.dg_session.specs.Parts.{Parts}
-use Rattle.dg_session.specs.Reads.{ReadsIn, with_new}
+use Rattle.dg_session.specs.Reads.{ReadsIn, with_new_handles}
 use Rattle.dg_session.specs.Session.{ComesTo}
 use Rattle.dg_session.proofs.DamageStep.{node_damage_in, tells_no_damage}
 use Rattle.dg_session.proofs.MaterialiseStep.{node_answers, node_fails}
@@ -77,7 +77,7 @@ returns-clause-comes g c =
     let number : c.next-handle.result ≡ p.next = c.next-handle.ensures.next ∙ ap (λ (x : SessionState). x.parts.next) (c.self.view_is ∙ c.lead_to_node.ensures.same) in
     node_answers p c.add_base.new.self.parts c.args.node cols (g.D.Disk.image c.args.disk.now) (g.D.Disk.image c.lead_to_node.new.disk) r.weight (shown (applied r.delta []) cols) c.headed.result
     (sym c.refused_node.ensures ∙ c.in_default.is) c.lead_to_node.ensures.disk.same_image c.in_ok-delta.ensures.held
-    (c.in_ok-add_base.ensures.added ∙ (λ i. with_new (same i) (Base c.args.node cols ∷ []) (shown (applied r.delta []) cols ∷ [])))
+    (c.in_ok-add_base.ensures.added ∙ (λ i. with_new_handles (same i) (Base c.args.node cols ∷ []) (shown (applied r.delta []) cols ∷ [])))
     (c.headed.ensures ∙ ap (λ n. headed (head.Materialised n r.weight)) number)
 
 pub returns-clause-damaged : goal.returns-clause-damaged

@@ -1,9 +1,9 @@
 use Rattle.std.proofs.Common.{[], true, refl, sym, ◌∙◌, ap, subst}
 use Rattle.std.specs.Prelude.{is_some}
-use Rattle.dg_handles.specs.Handles.{graph_among, graphs_at}
+use Rattle.dg_handles.specs.Handles.{graph_among, slot_graphs}
 use Rattle.dg_machine.specs.declared.command.Command.TheVariants as command
 use Rattle.dg_machine.specs.Answer.{node_reply}
-use Rattle.dg_machine.specs.MachineState.{entry_at}
+use Rattle.dg_machine.specs.MachineState.{stands_at}
 use Rattle.dg_machine.specs.Needs.{is_base}
 use Rattle.dg_session.specs.declared.halt.Halt.TheVariants as halt
 use Rattle.dg_session.specs.Parts.{Parts}
@@ -27,7 +27,7 @@ returns-in_err-graph-clause-comes c image =
 pub node-requires : goal.node-requires
 node-requires c =
     let s = c.self.inside in
-    record { kept = serves c.args.handle s.handles.table (graphs_at s.pool s.handles.slots) c.in_ok-graph.graph s.adjacency c.in_ok-graph.ensures.graph c.self.invariant.6 }
+    record { kept = serves c.args.handle s.handles.table (slot_graphs s.pool s.handles.slots) c.in_ok-graph.graph s.adjacency c.in_ok-graph.ensures.graph c.self.invariant.6 }
 
 pub returns-in_err-node-clause-comes : goal.returns-in_err-node-clause-comes
 returns-in_err-node-clause-comes c image =
@@ -35,8 +35,8 @@ returns-in_err-node-clause-comes c image =
     let id = c.args.id in
     let p : Parts = c.args.self.now.parts in
     let r = c.from_residual-in_err-node in
-    let live = ap (λ (x : SessionState). is_some (entry_at h x.parts.table)) (sym c.self.view_is) ∙ c.in_ok-graph.ensures.live in
-    let overlay = ap (λ (x : SessionState). is_base (entry_at h x.parts.table)) (sym c.self.view_is) ∙ c.in_ok-graph.ensures.overlay in
+    let live = ap (λ (x : SessionState). is_some (stands_at h x.parts.table)) (sym c.self.view_is) ∙ c.in_ok-graph.ensures.live in
+    let overlay = ap (λ (x : SessionState). is_base (stands_at h x.parts.table)) (sym c.self.view_is) ∙ c.in_ok-graph.ensures.overlay in
     subst (λ (x : Parts). ComesTo (command.Node h id) [] p image x image r.result) (sym (ap (λ (x : SessionState). x.parts) c.self.view_is))
     (ask_lacks (command.Node h id) h true (node_reply h id) (node_asks h id) p r.result image refl r.ensures live overlay)
 
@@ -46,8 +46,8 @@ returns-in_err-node_reply-clause-comes c image =
     let id = c.args.id in
     let p : Parts = c.args.self.now.parts in
     let r = c.from_residual-in_err-node_reply in
-    let live = ap (λ (x : SessionState). is_some (entry_at h x.parts.table)) (sym c.self.view_is) ∙ c.in_ok-graph.ensures.live in
-    let overlay = ap (λ (x : SessionState). is_base (entry_at h x.parts.table)) (sym c.self.view_is) ∙ c.in_ok-graph.ensures.overlay in
+    let live = ap (λ (x : SessionState). is_some (stands_at h x.parts.table)) (sym c.self.view_is) ∙ c.in_ok-graph.ensures.live in
+    let overlay = ap (λ (x : SessionState). is_base (stands_at h x.parts.table)) (sym c.self.view_is) ∙ c.in_ok-graph.ensures.overlay in
     subst (λ (x : Parts). ComesTo (command.Node h id) [] p image x image r.result) (sym (ap (λ (x : SessionState). x.parts) c.self.view_is))
     (ask_lacks (command.Node h id) h true (node_reply h id) (node_asks h id) p r.result image refl r.ensures live overlay)
 
@@ -58,8 +58,8 @@ returns-clause-comes c image =
     let p : Parts = c.args.self.now.parts in
     let graph = c.in_ok-graph.graph in
     let reply = c.in_ok-node_reply.field-0 in
-    let live = ap (λ (x : SessionState). is_some (entry_at h x.parts.table)) (sym c.self.view_is) ∙ c.in_ok-graph.ensures.live in
-    let overlay = ap (λ (x : SessionState). is_base (entry_at h x.parts.table)) (sym c.self.view_is) ∙ c.in_ok-graph.ensures.overlay in
+    let live = ap (λ (x : SessionState). is_some (stands_at h x.parts.table)) (sym c.self.view_is) ∙ c.in_ok-graph.ensures.live in
+    let overlay = ap (λ (x : SessionState). is_base (stands_at h x.parts.table)) (sym c.self.view_is) ∙ c.in_ok-graph.ensures.overlay in
     let found = ap (λ (x : SessionState). graph_among h x.parts.table x.parts.graphs) (sym c.self.view_is) ∙ c.in_ok-graph.ensures.graph in
     subst (λ (x : Parts). Accepts (command.Node h id) [] p image x image reply) (sym (ap (λ (x : SessionState). x.parts) c.self.view_is))
     (ask_answers (command.Node h id) h true (node_reply h id) (node_asks h id) p graph image reply live overlay found
@@ -74,5 +74,5 @@ invariant_of-self c =
       c.self.invariant.3,
       c.self.invariant.4,
       c.self.invariant.5,
-      kept_alone c.args.handle s.handles.table (graphs_at s.pool s.handles.slots) c.in_ok-graph.graph c.node.new.self c.in_ok-graph.ensures.graph c.node.ensures.kept,
+      kept_alone c.args.handle s.handles.table (slot_graphs s.pool s.handles.slots) c.in_ok-graph.graph c.node.new.self c.in_ok-graph.ensures.graph c.node.ensures.kept,
     )

@@ -1,5 +1,5 @@
 use Rattle.std.proofs.Common.{[], Some, refl, sym, ◌∙◌, ap, subst}
-use Rattle.dg_index.specs.OpenedIndex.{events_in}
+use Rattle.dg_index.specs.OpenedIndex.{event_total}
 use Rattle.dg_machine.specs.declared.command.Command.TheVariants as command
 use Rattle.dg_machine.specs.declared.reply.Refusal.TheVariants as refusal
 use Rattle.dg_machine.specs.Planning.{bases_in}
@@ -47,7 +47,7 @@ returns-clause-comes c image =
     let there = ap (λ (x : Parts). x.index) (sym same) ∙ c.in_ok-index.ensures.index in
     let graph : IsGraphFor o c.self.inside.handles.table cols c.planner-planner.result.now =
     subst (λ k. IsKeptFor (Some o) c.self.inside.handles.table k) c.planner-planner.ensures.planner c.keep.ensures.kept in
-    let edges = graph.edges ∙ ap (λ (x : Parts). kept_edges o (events_in o.batches) cols (bases_in cols x.table)) same in
+    let edges = graph.edges ∙ ap (λ (x : Parts). kept_edges o (event_total o.batches) cols (bases_in cols x.table)) same in
     let recent = c.deref.ensures.value ∙ ap (λ (x : Parts). x.recent) same in
     subst (λ (x : Parts). Accepts (command.Plan c.args.t cols) [] p image x image reply) (sym same)
     (plan_answers p c.args.t cols image o reply there c.in_ok-index.ensures.there

@@ -1,6 +1,6 @@
 use Rattle.std.proofs.Common.{◌∷◌, length, ◌∙◌, ap}
-use Rattle.dg_machine.specs.MachineState.{union_of}
-use Rattle.dg_handles.specs.Handles.{graphs_at}
+use Rattle.dg_machine.specs.MachineState.{union_of_sets}
+use Rattle.dg_handles.specs.Handles.{slot_graphs}
 use Rattle.dg_session.specs.SessionState.{SessionState}
 use Rattle.dg_session.proofs.PoolStep.{pool_answers}
 use Rattle.dg_session.proofs.session.Session.pool_size.Goals as goal
@@ -12,7 +12,7 @@ returns c = record {
       let slots = c.self.inside.handles.slots in
       let live = c.live-live.ensures.live ∙ ap (λ (x : SessionState). length x.parts.table) c.self.view_is in
       let size = c.union_len-size.ensures ∙ ap length (c.law_union_of_handles.ensures pool c.self.inside.handles c.self.invariant.3)
-      ∙ ap (λ g. length (union_of (g ∷ graphs_at pool slots))) c.self.invariant.2
-      ∙ ap (λ (x : SessionState). length (union_of (x.parts.graph ∷ x.parts.graphs))) c.self.view_is in
+      ∙ ap (λ g. length (union_of_sets (g ∷ slot_graphs pool slots))) c.self.invariant.2
+      ∙ ap (λ (x : SessionState). length (union_of_sets (x.parts.graph ∷ x.parts.graphs))) c.self.view_is in
       pool_answers c.args.self.now.parts c.live-live.result c.union_len-size.result image c.headed.result live size c.headed.ensures;
 }

@@ -1,10 +1,10 @@
 use Rattle.std.proofs.Common.{[], false, true, List, Option, Some, None, refl, sym, ◌∙◌, ap, subst}
 use Rattle.std.specs.Prelude.{is_some}
-use Rattle.dg_handles.specs.Handles.{graphs_at}
+use Rattle.dg_handles.specs.Handles.{slot_graphs}
 use Rattle.dg_machine.specs.declared.command.Command.TheVariants as command
 use Rattle.dg_machine.specs.declared.reply.Refusal.TheVariants as refusal
 use Rattle.dg_machine.specs.declared.stands.Stands.{Stands}
-use Rattle.dg_machine.specs.MachineState.{dependent_on, entry_at, without_handle}
+use Rattle.dg_machine.specs.MachineState.{dependent_on, stands_at, without_handle}
 use Rattle.dg_session.specs.contracts.session.Session.{the_view}
 use Rattle.dg_session.specs.HeldIndex.{HasNodeOf, HasNodes}
 use Rattle.dg_session.specs.KeptAdjacency.{KeepsAdjacency, kept_but}
@@ -21,7 +21,7 @@ pub returns-in_default-clause-comes : goal.returns-in_default-clause-comes
 returns-in_default-clause-comes c image =
     let h = c.args.handle in
     let p : Parts = c.args.self.now.parts in
-    let there = ap (λ (x : SessionState). is_some (entry_at h x.parts.table)) (sym c.self.view_is) ∙ ap is_some (sym c.stands.ensures ∙ c.in_default.is) in
+    let there = ap (λ (x : SessionState). is_some (stands_at h x.parts.table)) (sym c.self.view_is) ∙ ap is_some (sym c.stands.ensures ∙ c.in_default.is) in
     refused_denies (command.Release h) [] p p image image (refusal.UnknownHandle h) refl refl (release_refused p h there)
 
 pub returns-in-Some-dependent-clause-comes : goal.returns-in-Some-dependent-clause-comes
@@ -29,7 +29,7 @@ returns-in-Some-dependent-clause-comes c image =
     let h = c.args.handle in
     let p : Parts = c.args.self.now.parts in
     let d = c.in-Some-dependent.dependent in
-    let there = ap (λ (x : SessionState). is_some (entry_at h x.parts.table)) (sym c.self.view_is) ∙ ap is_some (sym c.stands.ensures ∙ c.in-Some.is) in
+    let there = ap (λ (x : SessionState). is_some (stands_at h x.parts.table)) (sym c.self.view_is) ∙ ap is_some (sym c.stands.ensures ∙ c.in-Some.is) in
     let used = ap (λ (x : SessionState). dependent_on h x.parts.table) (sym c.self.view_is) ∙ sym c.dependent.ensures ∙ c.in-Some-dependent.is in
     refused_denies (command.Release h) [] p p image image (refusal.InUse d) refl refl (release_used p h d there used)
 
@@ -38,7 +38,7 @@ returns-clause-comes c image =
     let h = c.args.handle in
     let p : Parts = c.args.self.now.parts in
     let view : Parts = (the_view c.self.inside).parts in
-    let there = ap (λ (x : SessionState). is_some (entry_at h x.parts.table)) (sym c.self.view_is) ∙ ap is_some (sym c.stands.ensures ∙ c.in-Some.is) in
+    let there = ap (λ (x : SessionState). is_some (stands_at h x.parts.table)) (sym c.self.view_is) ∙ ap is_some (sym c.stands.ensures ∙ c.in-Some.is) in
     let unused = ap (λ (x : SessionState). dependent_on h x.parts.table) (sym c.self.view_is) ∙ sym c.dependent.ensures ∙ c.in_default-dependent.is in
     let q_is = (λ i. let x : Parts = record view { table = c.release.ensures.table i; graphs = c.release.ensures.graphs i; next = c.release.ensures.next i } in x) ∙ ap (λ (x : SessionState). parts_without h x.parts) c.self.view_is in
     release_answers p _ h image c.headed.result there unused q_is c.headed.ensures
@@ -56,8 +56,8 @@ invariant_of-self c =
       subst (HasNodes index) (sym c.release.ensures.table) (all_without (λ e. HasNodeOf index e.1) h s.handles.table c.self.invariant.4),
       subst (λ t. IsKeptFor index t c.forget_base.new.planner) (sym c.release.ensures.table)
           (kept_without index h s.handles.table c.in-Some.stands s.planner c.forget_base.new.planner (sym c.stands.ensures ∙ c.in-Some.is) c.forget_base.ensures.base c.forget_base.ensures.overlay c.self.invariant.5),
-      subst (λ k. KeepsAdjacency c.release.new.self.table (graphs_at c.release.new.pool c.release.new.self.slots) k) (sym c.forget_handle.ensures)
-          (subst (λ t. KeepsAdjacency t (graphs_at c.release.new.pool c.release.new.self.slots) left) (sym c.release.ensures.table)
+      subst (λ k. KeepsAdjacency c.release.new.self.table (slot_graphs c.release.new.pool c.release.new.self.slots) k) (sym c.forget_handle.ensures)
+          (subst (λ t. KeepsAdjacency t (slot_graphs c.release.new.pool c.release.new.self.slots) left) (sym c.release.ensures.table)
           (subst (λ gs. KeepsAdjacency (without_handle h s.handles.table) gs left) (sym c.release.ensures.graphs)
-          (adjacency_without h s.handles.table (graphs_at s.pool s.handles.slots) s.adjacency c.self.invariant.6))),
+          (adjacency_without h s.handles.table (slot_graphs s.pool s.handles.slots) s.adjacency c.self.invariant.6))),
     )

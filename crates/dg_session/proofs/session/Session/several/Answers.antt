@@ -15,7 +15,7 @@ use Rattle.dg_session.specs.declared.halt.Halt.TheVariants as halt
 use Rattle.dg_session.specs.Damage.{DamageIn, NamesDamage}
 use Rattle.dg_session.specs.Halt.{retrieval_halt}
 use Rattle.dg_session.specs.Parts.{Parts}
-use Rattle.dg_session.specs.Reads.{IsRetrieved, ReadsIn, bases_of, listed_by, with_new}
+use Rattle.dg_session.specs.Reads.{IsRetrieved, ReadsIn, bases_of, listed_by, with_new_handles}
 use Rattle.dg_session.specs.Session.{ComesTo, StandsFor, refused_by, retrieval_needs}
 use Rattle.dg_session.proofs.SeveralStep.{needed, several_answers, several_fails}
 use Rattle.dg_session.proofs.DamageStep.{damage_in, tells_no_damage}
@@ -111,7 +111,7 @@ returns-clause-comes g c =
     several_answers p c.args.cols c.args.times c.args.count number c.requires.some none c.add_handles.new.self.parts (g.D.Disk.image c.args.disk.now) (g.D.Disk.image c.retrieve.new.disk) r.weight r.sum r.singles.items (bases_of r.leads.items) (map (led_to p.graph (listed_by p) cols) r.leads.items) c.in_ok-lines.lines.items _
     c.retrieve.ensures.disk.same_image
     (subst (λ ts. IfSome (g.D.Disk.image c.args.disk.now) (λ image. (m : MachineState) → StandsFor p image m → IsRetrieved m ts c.args.cols r.weight r.singles.items (bases_of r.leads.items) (map (led_to p.graph (listed_by p) cols) r.leads.items))) asked c.in_ok-retrieved.ensures.retrieved)
-    (c.in_ok-add_handles.ensures.added ∙ (λ i. with_new (same i) (overlays_on cols (asked i) (bases_of (c.deref-2.ensures.value i))) (map (led_to (same i).graph (listed_by (same i)) cols) (c.deref-2.ensures.value i))))
+    (c.in_ok-add_handles.ensures.added ∙ (λ i. with_new_handles (same i) (overlays_on cols (asked i) (bases_of (c.deref-2.ensures.value i))) (map (led_to (same i).graph (listed_by (same i)) cols) (c.deref-2.ensures.value i))))
     c.in_ok-retrieved.ensures.sum
     (c.in_ok-lines.ensures ∙ (let singles : c.deref.result.now ≡ r.singles.items = c.deref.ensures.value in λ i. handle_lines (next i) (asked i) (singles i)))
     (let body = c.from_vec.ensures in λ i. record { head = head.Several r.weight r.sum; body = body i })

@@ -5,7 +5,7 @@ use Rattle.dg_machine.specs.declared.reply.Reply.{Reply}
 use Rattle.dg_machine.specs.Run.{is_store_read}
 use Rattle.dg_session.specs.declared.halt.Halt.TheVariants as halt
 use Rattle.dg_session.specs.Damage.{DamageIs}
-use Rattle.dg_session.specs.Reads.{Reads, head_of}
+use Rattle.dg_session.specs.Reads.{Reads, reply_head}
 use Rattle.dg_session.proofs.DamageStep.{damage_in_reply}
 use Rattle.dg_session.proofs.ReadsStep.{accepted_reads, reads_in_reply, store_read_is}
 use Rattle.dg_session.proofs.Steps.{answered, refused_so}
@@ -33,10 +33,10 @@ returns-clause-reads g c =
     let before = g.D.Disk.taken c.args.disk.now in
     let after = g.D.Disk.taken c.carry_out.new.disk in
     elim c.match-carry_out.branch [
-      | in-Ok w ↦ rw w.result-is (reads_in_reply c.args.command.now p image c.carry_out.result w.in-Ok.reply.head before after (ap head_of w.in-Ok.is) c.carry_out.ensures.reads)
+      | in-Ok w ↦ rw w.result-is (reads_in_reply c.args.command.now p image c.carry_out.result w.in-Ok.reply.head before after (ap reply_head w.in-Ok.is) c.carry_out.ensures.reads)
       | in-Err-Refusal w ↦ rw w.result-is
           (subst (λ (x : Reply). Reads c.args.command.now p image x.head before after) (sym w.headed.ensures)
-          (reads_in_reply c.args.command.now p image c.carry_out.result (head.Refused w.in-Err-Refusal.refusal) before after (ap head_of (w.in-Err-Refusal.is ∙ ap (λ h. Err h) w.in-Err-Refusal.field-0-is)) c.carry_out.ensures.reads))
+          (reads_in_reply c.args.command.now p image c.carry_out.result (head.Refused w.in-Err-Refusal.refusal) before after (ap reply_head (w.in-Err-Refusal.is ∙ ap (λ h. Err h) w.in-Err-Refusal.field-0-is)) c.carry_out.ensures.reads))
       | in-Err-Stop w ↦ rw w.result-is tt
     ]
 
@@ -59,10 +59,10 @@ returns-clause-damaged g c =
     let p = c.args.self.now.parts in
     let image = g.D.Disk.image c.args.disk.now in
     elim c.match-carry_out.branch [
-      | in-Ok w ↦ rw w.result-is (damage_in_reply c.args.command.now p image c.carry_out.result w.in-Ok.reply.head (ap head_of w.in-Ok.is) c.carry_out.ensures.damaged)
+      | in-Ok w ↦ rw w.result-is (damage_in_reply c.args.command.now p image c.carry_out.result w.in-Ok.reply.head (ap reply_head w.in-Ok.is) c.carry_out.ensures.damaged)
       | in-Err-Refusal w ↦ rw w.result-is
           (subst (λ (x : Reply). DamageIs c.args.command.now p image x.head) (sym w.headed.ensures)
-          (damage_in_reply c.args.command.now p image c.carry_out.result (head.Refused w.in-Err-Refusal.refusal) (ap head_of (w.in-Err-Refusal.is ∙ ap (λ h. Err h) w.in-Err-Refusal.field-0-is)) c.carry_out.ensures.damaged))
+          (damage_in_reply c.args.command.now p image c.carry_out.result (head.Refused w.in-Err-Refusal.refusal) (ap reply_head (w.in-Err-Refusal.is ∙ ap (λ h. Err h) w.in-Err-Refusal.field-0-is)) c.carry_out.ensures.damaged))
       | in-Err-Stop w ↦ rw w.result-is tt
     ]
 
