@@ -30,7 +30,7 @@ use std::alloc::{AllocError, Global};
 use std::thread::Threads;
 
 /// What was added to a history.
-#[derive(Clone, Copy, Debug, PartialEq, Eq)]
+#[derive(Clone, Copy)]
 pub struct AddedBatch {
     /// The events of the batch.
     pub events: u64,

@@ -1,5 +1,5 @@
 /// How far the changes of a batch's lines are kept.
-#[derive(Clone, Copy, Debug, PartialEq, Eq)]
+#[derive(Clone, Copy)]
 pub enum Front {
     /// Each line is a change, and all are kept.
     Whole,

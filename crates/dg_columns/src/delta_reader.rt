@@ -20,7 +20,7 @@ use std::alloc::Global;
 use std::cmp::Ordering;
 
 /// A value without its kind.
-#[derive(Clone, Copy, Debug, PartialEq, Eq)]
+#[derive(Clone, Copy)]
 pub(crate) struct AttrFields {
     pub(crate) id: u64,
     pub(crate) key: u32,

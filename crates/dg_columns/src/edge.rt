@@ -9,7 +9,7 @@ use crate::numbers::{byte_at, u64_at};
 use std::alloc::AllocError;
 
 /// An edge without its kind.
-#[derive(Clone, Copy, Debug, PartialEq, Eq)]
+#[derive(Clone, Copy)]
 pub(crate) struct EdgeFields {
     pub(crate) id: u64,
     pub(crate) src: u64,

@@ -14,7 +14,7 @@ use crate::numbers::{byte_at, name_at, new_at, old_at, u64_at};
 use dg_graph::{Body, Column};
 
 /// A value's change without its kind.
-#[derive(Clone, Copy, Debug, PartialEq, Eq)]
+#[derive(Clone, Copy)]
 pub(crate) struct ValueFields {
     pub(crate) id: u64,
     pub(crate) key: u32,

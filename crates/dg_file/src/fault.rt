@@ -12,7 +12,7 @@ use std::alloc::AllocError;
 use thiserror::Error;
 
 /// Why an index was not made.
-#[derive(Clone, Copy, Debug, PartialEq, Eq, Hash, Error)]
+#[derive(Clone, Copy, Debug, PartialEq, Eq, Error)]
 pub enum CreateFault {
     /// The disk failed.
     #[error("the disk failed")]
@@ -23,7 +23,7 @@ pub enum CreateFault {
 }
 
 /// Why an index was not reopened.
-#[derive(Clone, Copy, Debug, PartialEq, Eq, Hash, Error)]
+#[derive(Clone, Copy, Debug, PartialEq, Eq, Error)]
 pub enum ReopenFault {
     /// There is no index.
     #[error("there is no index")]
@@ -43,7 +43,7 @@ pub enum ReopenFault {
 }
 
 /// Why a column was not read.
-#[derive(Clone, Copy, Debug, PartialEq, Eq, Hash, Error)]
+#[derive(Clone, Copy, Debug, PartialEq, Eq, Error)]
 pub enum FetchFault {
     /// The disk failed.
     #[error("the disk failed")]
@@ -54,7 +54,7 @@ pub enum FetchFault {
 }
 
 /// Why a batch was not added.
-#[derive(Clone, Copy, Debug, PartialEq, Eq, Hash, Error)]
+#[derive(Clone, Copy, Debug, PartialEq, Eq, Error)]
 pub enum CommitFault {
     /// The file would have so many bytes in use, more than it may have.
     #[error("the file would have {0} bytes in use, more than it may have")]

@@ -1,7 +1,7 @@
 use crate::event::Event;
 
 /// An event of a column, with its position among all events of its list or piece, from 0.
-#[derive(Clone, Copy, Debug, PartialEq, Eq, Hash)]
+#[derive(Clone, Copy)]
 pub struct Placed {
     /// The position.
     pub at: u16,

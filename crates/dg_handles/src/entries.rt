@@ -18,7 +18,7 @@ use dg_retrieval::{Beginning, GraphLead};
 use std::alloc::{AllocError, Global};
 
 /// A live handle, with what it stands for and the slot that has its graph.
-#[derive(Clone, Copy, Debug)]
+#[derive(Clone, Copy)]
 pub(crate) struct Entry {
     pub(crate) handle: u32,
     pub(crate) stands: Stands,

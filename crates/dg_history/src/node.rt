@@ -4,7 +4,7 @@ ghost use Rattle.dg_history.specs.Keys.{key_cmp};
 use std::cmp::Ordering;
 
 /// A node of the index: a graph that the index can give without the events that led to it.
-#[derive(Clone, Copy, Debug, PartialEq, Eq, Hash)]
+#[derive(Clone, Copy, PartialEq, Eq, Hash)]
 pub enum NodeId {
     /// The empty graph, with which every history starts.
     Root,

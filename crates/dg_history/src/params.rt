@@ -13,7 +13,7 @@ pub const ARITY_MIN: u32 = 2;
 pub const ARITY_MAX: u32 = 64;
 
 /// The parameters with which an index is made. They never change.
-#[derive(Clone, Copy, Debug, PartialEq, Eq, Hash)]
+#[derive(Clone, Copy)]
 pub struct Params {
     /// The leaf list size: events from one leaf to the next.
     pub l: u32,

@@ -1,5 +1,5 @@
 /// The first and the last instant of a list of events, or of a batch.
-#[derive(Clone, Copy, Debug, PartialEq, Eq, Hash)]
+#[derive(Clone, Copy)]
 pub struct Ends {
     /// The first instant.
     pub first: u64,
@@ -9,7 +9,7 @@ pub struct Ends {
 
 /// What an index keeps of one record. Its three columns stand one after another: structure, attributes
 /// of nodes, attributes of edges.
-#[derive(Clone, Copy, Debug, PartialEq, Eq, Hash)]
+#[derive(Clone, Copy)]
 pub struct Entry {
     /// The bytes of each column, in their order.
     pub lengths: [u64; 3],
@@ -20,7 +20,7 @@ pub struct Entry {
 }
 
 /// What a directory tells of one record.
-#[derive(Clone, Copy, Debug, PartialEq, Eq, Hash)]
+#[derive(Clone, Copy)]
 pub struct Row {
     /// The instants of a list of events, and `None` for every other record.
     pub ends: Option<Ends>,
@@ -29,7 +29,7 @@ pub struct Row {
 }
 
 /// What an index keeps of a batch, without its events.
-#[derive(Clone, Copy, Debug, PartialEq, Eq, Hash)]
+#[derive(Clone, Copy)]
 pub struct BatchEntry {
     /// How many events it has.
     pub events: u64,

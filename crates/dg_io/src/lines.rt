@@ -24,7 +24,7 @@ const LINE_FEED: u8 = b'\n';
 const CARRIAGE_RETURN: u8 = b'\r';
 
 /// What a call of `Lines::next` gives.
-#[derive(Clone, Copy, Debug, PartialEq, Eq)]
+#[derive(Clone, Copy, PartialEq, Eq)]
 pub enum Line {
     /// A line of so many bytes, at most `LINE_BYTES_MAX`. `Lines::text` gives them.
     Text(usize),

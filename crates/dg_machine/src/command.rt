@@ -5,7 +5,7 @@ use dg_history::NodeId;
 pub const TIMES_MAX: usize = 32;
 
 /// A command of the script. docs/SCRIPT.md has its grammar.
-#[derive(Clone, Copy, Debug, PartialEq, Eq, Hash)]
+#[derive(Clone, Copy)]
 pub enum Command {
     /// Make an empty index with this leaf list size, arity and differential function.
     Create {

@@ -5,7 +5,7 @@ ghost use Rattle.dg_machine.specs.declared.command.TheConstants.{TIMES_MAX};
 use dg_history::{EVENTS_MAX, FILE_BYTES_MAX};
 
 /// The bounds within which a session works. A test may set them lower than the standard.
-#[derive(Clone, Copy, Debug, PartialEq, Eq, Hash)]
+#[derive(Clone, Copy)]
 pub struct Limits {
     /// How many bytes of the script may be taken. A script has to have fewer.
     pub script_bytes: u64,

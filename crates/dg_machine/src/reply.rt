@@ -18,7 +18,7 @@ pub struct Reply {
 }
 
 /// The first line of a reply.
-#[derive(Clone, Copy, Debug, PartialEq, Eq, Hash)]
+#[derive(Clone, Copy)]
 pub enum Head {
     /// An index was made.
     Created,
@@ -122,7 +122,7 @@ pub enum Head {
 }
 
 /// Why a command was refused. docs/SCRIPT.md has the order in which these are tested.
-#[derive(Clone, Copy, Debug, PartialEq, Eq, Hash)]
+#[derive(Clone, Copy)]
 pub enum Refusal {
     /// 1: the line is no command; the column at which it leaves the grammar, from 1.
     Syntax(u32),
@@ -167,7 +167,7 @@ pub enum Refusal {
 }
 
 /// A line of a reply's body.
-#[derive(Clone, Copy, Debug, PartialEq, Eq, Hash)]
+#[derive(Clone, Copy)]
 pub enum BodyLine {
     /// An element of a listing.
     Element(Element),

@@ -2,7 +2,7 @@ use dg_graph::Columns;
 use dg_history::NodeId;
 
 /// What a live handle stands for.
-#[derive(Clone, Copy, Debug, PartialEq, Eq, Hash)]
+#[derive(Clone, Copy)]
 pub enum Stands {
     /// The graph as of the instant `t`, in these columns. It rests on the handle `on`, if on any.
     Overlay {

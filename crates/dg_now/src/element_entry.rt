@@ -14,7 +14,7 @@ use indexmap::IndexMap;
 use std::alloc::AllocError;
 
 /// What is kept of an element id that changed, or whose number of uses did.
-#[derive(Clone, Copy, Debug, PartialEq, Eq)]
+#[derive(Clone, Copy)]
 pub(crate) struct ElementEntry {
     /// The element with the id, if there is one now.
     pub element: Option<Element>,

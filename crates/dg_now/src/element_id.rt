@@ -5,7 +5,7 @@ ghost use Rattle.dg_now.specs.EventEffect.{changed_id, element_before};
 use dg_graph::{Body, Element};
 
 /// What names an element of a graph: one at the most has an id.
-#[derive(Clone, Copy, Debug, PartialEq, Eq, Hash)]
+#[derive(Clone, Copy, PartialEq, Eq, Hash)]
 pub(crate) enum ElementId {
     /// The node of this id.
     Node(u64),

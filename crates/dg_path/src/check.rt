@@ -9,7 +9,7 @@ use thiserror::Error;
 
 /// Why a plan with its potentials is no certificate. The first cause counts: steps before potentials, and
 /// these before weights.
-#[derive(Clone, Copy, Debug, PartialEq, Eq, Hash, Error)]
+#[derive(Clone, Copy, Debug, PartialEq, Eq, Error)]
 pub enum CheckFault {
     /// This step, counted from 1, is the first that is no edge or does not leave the node reached; or it is
     /// one past the last, and the walk ends elsewhere than at the target.

@@ -8,7 +8,7 @@ use std::cmp::Reverse;
 use std::collections::BinaryHeap;
 
 /// An edge between two nodes, which are given by their numbers.
-#[derive(Clone, Copy, Debug, PartialEq, Eq, Hash)]
+#[derive(Clone, Copy)]
 pub struct Link {
     /// The node that it leaves.
     pub tail: u32,
@@ -19,7 +19,7 @@ pub struct Link {
 }
 
 /// What a walk costs.
-#[derive(Clone, Copy, Debug, PartialEq, Eq, Hash)]
+#[derive(Clone, Copy)]
 pub struct Cost {
     /// The weight of its edges together, in bytes.
     pub weight: u64,
@@ -50,7 +50,7 @@ impl Cost {
 
 /// A node from which the search has to go on, with the cost that it had when it was lowered. The order is
 /// that in which the search goes on.
-#[derive(Clone, Copy, Debug, PartialEq, Eq, PartialOrd, Ord)]
+#[derive(Clone, Copy, PartialEq, Eq, PartialOrd, Ord)]
 pub(crate) struct Waiting {
     pub(crate) weight: u64,
     pub(crate) edges: u32,

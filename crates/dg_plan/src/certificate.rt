@@ -1,7 +1,7 @@
 use dg_history::NodeId;
 
 /// A line of a certificate, as a script writes it: a step of a walk, or the potential of a node.
-#[derive(Clone, Copy, Debug, PartialEq, Eq, Hash)]
+#[derive(Clone, Copy)]
 pub enum PlanLine {
     /// A step: the number of its edge, the node that it enters, and its weight in bytes.
     Step {
@@ -17,7 +17,7 @@ pub enum PlanLine {
 }
 
 /// What is said of the lines of a certificate. Lines and steps count from 1.
-#[derive(Clone, Copy, Debug, PartialEq, Eq, Hash)]
+#[derive(Clone, Copy)]
 pub enum Verdict {
     /// No walk to the target weighs less than this one.
     Valid,

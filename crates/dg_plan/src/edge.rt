@@ -1,7 +1,7 @@
 use dg_history::{Key, NodeId};
 
 /// How a record is applied.
-#[derive(Clone, Copy, Debug, PartialEq, Eq, Hash)]
+#[derive(Clone, Copy)]
 pub enum Way {
     /// Nothing of it is applied.
     Same,
@@ -12,7 +12,7 @@ pub enum Way {
 }
 
 /// By what an edge leads on.
-#[derive(Clone, Copy, Debug, PartialEq, Eq, Hash)]
+#[derive(Clone, Copy)]
 pub enum Via {
     /// The current graph, which is in memory.
     Now,
@@ -27,7 +27,7 @@ pub enum Via {
 }
 
 /// An edge of the graph of an index.
-#[derive(Clone, Copy, Debug, PartialEq, Eq, Hash)]
+#[derive(Clone, Copy)]
 pub struct Edge {
     /// The node that it leaves.
     pub from: NodeId,

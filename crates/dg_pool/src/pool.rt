@@ -68,7 +68,7 @@ impl From<AllocError> for AttachFault {
 pub struct InUse(pub Slot);
 
 /// How far a sweep has come.
-#[derive(Clone, Copy, Debug, PartialEq, Eq)]
+#[derive(Clone, Copy)]
 pub enum Swept {
     /// It has passed all cells.
     Done,

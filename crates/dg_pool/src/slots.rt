@@ -13,7 +13,7 @@ pub struct Slot(pub u8);
 
 /// What the graph of a slot rests on: its elements are those of the base, but for what the slot's own
 /// bits say.
-#[derive(Clone, Copy, Debug, PartialEq, Eq)]
+#[derive(Clone, Copy, PartialEq, Eq)]
 pub enum Base {
     /// Nothing: no element.
     Nothing,
@@ -24,7 +24,7 @@ pub enum Base {
 }
 
 /// What a slot is used for.
-#[derive(Clone, Copy, Debug, PartialEq, Eq)]
+#[derive(Clone, Copy, PartialEq, Eq)]
 pub enum SlotState {
     /// It may be given.
     Free,

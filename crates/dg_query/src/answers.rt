@@ -1,7 +1,7 @@
 //! What queries answer.
 
 /// How many elements a graph has of each kind.
-#[derive(Clone, Copy, Debug, PartialEq, Eq, Hash)]
+#[derive(Clone, Copy)]
 pub struct Counts {
     /// Nodes.
     pub nodes: u64,
@@ -14,7 +14,7 @@ pub struct Counts {
 }
 
 /// An attribute of a node: the numbers of a key and of its value in the history's list of names.
-#[derive(Clone, Copy, Debug, PartialEq, Eq, Hash)]
+#[derive(Clone, Copy)]
 pub struct KeyValue {
     /// The key.
     pub key: u32,
@@ -23,7 +23,7 @@ pub struct KeyValue {
 }
 
 /// On which side of a node an edge lies.
-#[derive(Clone, Copy, Debug, PartialEq, Eq, Hash)]
+#[derive(Clone, Copy)]
 pub enum Side {
     /// The edge is directed, and leaves the node. A directed loop is such an edge.
     Out,
@@ -34,7 +34,7 @@ pub enum Side {
 }
 
 /// An edge at a node.
-#[derive(Clone, Copy, Debug, PartialEq, Eq, Hash)]
+#[derive(Clone, Copy)]
 pub struct Neighbour {
     /// The id of the edge.
     pub edge: u64,

@@ -12,7 +12,7 @@ use std::alloc::{AllocError, AllocFailed};
 use thiserror::Error;
 
 /// Why nothing was retrieved.
-#[derive(Clone, Copy, Debug, PartialEq, Eq, Hash, Error)]
+#[derive(Clone, Copy, Debug, PartialEq, Eq, Error)]
 pub enum RetrievalFault {
     /// A read of the index file failed.
     #[error("the index file failed")]

@@ -1,7 +1,7 @@
 use dg_delta::Delta;
 
 /// What a graph that is retrieved begins with, all of it held in memory.
-#[derive(Clone, Copy, Debug, PartialEq, Eq, Hash)]
+#[derive(Clone, Copy)]
 pub enum Beginning {
     /// Nothing: the empty graph.
     Nothing,

@@ -7,7 +7,7 @@ use dg_append::AddedBatch;
 use dg_machine::Head;
 
 /// The command that adds a batch.
-#[derive(Clone, Copy, Debug, PartialEq, Eq)]
+#[derive(Clone, Copy)]
 pub enum BatchCommand {
     /// The first batch.
     Load,

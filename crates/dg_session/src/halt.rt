@@ -14,7 +14,7 @@ use dg_verify::VerifyFault;
 use std::alloc::AllocError;
 
 /// Why a command is not carried out.
-#[derive(Clone, Copy, Debug, PartialEq, Eq)]
+#[derive(Clone, Copy)]
 pub enum Halt {
     /// It is refused.
     Refusal(Refusal),

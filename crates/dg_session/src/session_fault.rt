@@ -13,7 +13,7 @@ use std::alloc::AllocError;
 use thiserror::Error;
 
 /// Why no session begins over an index file.
-#[derive(Clone, Copy, Debug, PartialEq, Eq, Hash, Error)]
+#[derive(Clone, Copy, Debug, PartialEq, Eq, Error)]
 pub enum SessionFault {
     /// The file is not started from.
     #[error(transparent)]

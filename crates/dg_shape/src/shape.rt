@@ -8,7 +8,7 @@ use dg_history::NodeId;
 
 /// What decides which nodes an index has. The parameters are those with which an index may be made,
 /// and there are at most `EVENTS_MAX` events.
-#[derive(Clone, Copy, Debug, PartialEq, Eq, Hash)]
+#[derive(Clone, Copy)]
 pub struct Shape {
     /// The leaf list size: events from one leaf to the next.
     pub l: u32,

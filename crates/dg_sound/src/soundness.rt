@@ -2,7 +2,7 @@ use dg_graph::Column;
 use dg_history::Key;
 
 /// Whether an index file is exactly what its own events determine.
-#[derive(Clone, Copy, Debug, PartialEq, Eq, Hash)]
+#[derive(Clone, Copy)]
 pub enum Soundness {
     /// It is; and the number of its lists, tops and downs.
     Sound(u64),

@@ -16,7 +16,7 @@ use dg_index::{BatchEntry, Ends};
 use std::alloc::{AllocError, Global};
 
 /// Events that stand in one record of an index.
-#[derive(Clone, Copy, Debug, PartialEq, Eq)]
+#[derive(Clone, Copy)]
 pub struct EventSource {
     /// The key of the record.
     pub key: Key,

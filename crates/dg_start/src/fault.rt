@@ -12,7 +12,7 @@ use thiserror::Error;
 
 /// Why an index file is not started from. docs/FORMATS.md says of each where it comes, in the order in
 /// which they are tested.
-#[derive(Clone, Copy, Debug, PartialEq, Eq, Hash, Error)]
+#[derive(Clone, Copy, Debug, PartialEq, Eq, Error)]
 pub enum StartFault {
     /// The disk failed.
     #[error("the disk failed")]

@@ -16,7 +16,7 @@ use dg_file::Index;
 use dg_history::Key;
 
 /// What a delta leads from.
-#[derive(Clone, Copy, Debug, PartialEq, Eq)]
+#[derive(Clone, Copy)]
 pub enum DeltaKind {
     /// From the root to the first interior node of a height.
     Top,

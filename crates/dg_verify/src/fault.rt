@@ -3,7 +3,7 @@
 use thiserror::Error;
 
 /// Why an index file was not verified.
-#[derive(Clone, Copy, Debug, PartialEq, Eq, Hash, Error)]
+#[derive(Clone, Copy, Debug, PartialEq, Eq, Error)]
 pub enum VerifyFault {
     /// The disk failed.
     #[error("the disk failed")]

@@ -17,7 +17,7 @@ use dg_start::has_key;
 use std::alloc::{AllocError, Global};
 
 /// A record of events that was read.
-#[derive(Clone, Copy, Debug, PartialEq, Eq)]
+#[derive(Clone, Copy)]
 pub struct ReadRecord {
     /// Its key.
     pub key: Key,

@@ -10,7 +10,7 @@ use dg_start::StartFault;
 use std::alloc::AllocError;
 
 /// Why verifying goes no further.
-#[derive(Clone, Copy, Debug, PartialEq, Eq)]
+#[derive(Clone, Copy)]
 pub enum Stop {
     /// The record is not right, in this column.
     Wrong(Key, Column),

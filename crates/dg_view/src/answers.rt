@@ -3,7 +3,7 @@
 use dg_query::KeyValue;
 
 /// A node of a graph.
-#[derive(Debug, Drop)]
+#[derive(Drop)]
 pub struct NodeView {
     /// How many edges it has. A loop counts once.
     pub degree: u64,
