@@ -4,19 +4,15 @@
 #![tactic(auto)]
 
 mod descriptors;
-mod serve;
-mod status;
 #[cfg(test)]
 mod tests;
-mod turn;
 mod words;
 
 use descriptors::{Held, hold_standard};
 use dg_disk::FileDisk;
 use dg_io::{StdSink, StdSource};
+use dg_run::{Status, serve};
 use dg_words::read_words;
-use serve::serve;
-use status::Status;
 use std::fs::File;
 use std::process::ExitCode;
 use words::words_after_name;

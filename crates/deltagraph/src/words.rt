@@ -1,4 +1,4 @@
-use crate::status::Status;
+use dg_run::Status;
 use std::env;
 use std::io::ErrorKind;
 

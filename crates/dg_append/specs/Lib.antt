@@ -3,3 +3,4 @@ pub mod OlderGroups
 pub mod Faults
 pub mod AddedBatches
 pub mod BatchSegments
+pub mod BatchNets

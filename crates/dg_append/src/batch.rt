@@ -18,12 +18,12 @@ use crate::completed::prepare;
 use crate::fault::BatchFault;
 use crate::front::Front;
 use crate::making::make_segment;
+use crate::nets::{make_nets, pass_batch};
 use crate::recent::recent_behind;
 use crate::segment::{keep_segment, last_instant};
 use dg_disk::Disk;
 use dg_file::Index;
 use dg_graph::{Change, Event};
-use dg_list::{Delta, merge_lists};
 use dg_pool::Pool;
 use dg_start::StoredHistory;
 use std::alloc::{AllocError, Global};
@@ -47,14 +47,6 @@ fn last_of(index: &Index) -> Option<u64>
 {
     index.facts();
     index.last_time()
-}
-
-// The net of the events, made of those of their two halves.
-fn net_of<R: Threads>(rt: &R, alloc: Global, events: &[Event]) -> Result<Delta, AllocError>
-    ensures { IfOk result (λ d. (set : List Element) → IsSet set → applied d set ≡ replay_from set events.now) }
-{
-    let (earlier, later) = events.split_at(events.len() / 2);
-    merge_lists(rt, alloc, earlier, later)
 }
 
 // The batch of the changes, in the file, in memory and in the pool. After a fault only what is pending has changed,
@@ -120,8 +112,7 @@ fn try_batch<R: Threads, D: Disk>(
         &left,
     )?;
     // Made only now, so that they take no memory while the segment is made.
-    let net = net_of(rt, alloc, events)?;
-    pool.make_cells(net.plus().items())?;
+    let nets = make_nets(alloc, events, pool)?;
     keep_segment(index, disk, segment, limit)?;
     let added = AddedBatch {
         events: events.len() as u64,
@@ -130,7 +121,7 @@ fn try_batch<R: Threads, D: Disk>(
     };
     history.recent = left;
     history.now.commit();
-    pool.pass(&net);
+    pass_batch(pool, &nets);
     Ok(added)
 }
 

@@ -8,6 +8,7 @@ mod completed;
 mod fault;
 mod front;
 mod making;
+mod nets;
 mod older_children;
 mod older_sets;
 mod recent;

@@ -33,11 +33,6 @@ pub record SetsPair (s : ℕ) (p : Bool × Bool) (old new : Row) : Type 0 where
 abbrev pub word_bit : List ℕ → ℕ → Bool
 word_bit words b = bit_at (slice_index_or words (b / 64) 0) (b % 64) == 1
 
--- the cell has these bits
-pub record SetsBits (words : List ℕ) (old new : Row) : Type 0 where
-  pub element : new.element ≡ old.element
-  pub bits : new.bits ≡ words
-
 -- the bits of the mask are off, and all others as they were
 pub record ClearsBits (mask : List ℕ) (old new : Row) : Type 0 where
   pub element : new.element ≡ old.element

@@ -1,7 +1,7 @@
 //! The cells of the pool.
 ghost use Rattle.std.specs.Prelude.{◌≡◌, ℕ, ◌<◌, ◌≤◌, ◌==◌, Bool, true, false, List, Option, Some, None, [], ◌∷◌, ◌++◌, length, IfSome, IfNone, IsSome, IfOk, OnErr, OnOk, slice_set};
 ghost use Rattle.dg_cells.specs.declared.row.Row.{Row};
-ghost use Rattle.dg_cells.specs.Rows.{cell_at, is_current, pair, Writes, SetsCurrent, SetsPair, SetsBits, ClearsBits, Holds, Lacks, CellsAreApart, CellsGrow, HasCell, AllHave, AreNumbers, AreAmong, new_rows};
+ghost use Rattle.dg_cells.specs.Rows.{cell_at, is_current, pair, Writes, SetsCurrent, SetsPair, ClearsBits, Holds, Lacks, CellsAreApart, CellsGrow, HasCell, AllHave, AreNumbers, AreAmong, new_rows};
 ghost use Rattle.std.specs.Prelude.{◌+◌, min, slice_get};
 ghost use Rattle.dg_graph.specs.Elements.{IsSet};
 ghost use Rattle.dg_cells.specs.Order.{IsLower};
@@ -13,8 +13,8 @@ use crate::filling::fill;
 use crate::listing::{add, add_each, number_at, unlist};
 use crate::merging::merge;
 use crate::pieces::Pieces;
-use crate::places::{START, has_element, row_in, seek};
-use crate::row::{Row, is_current, pair, set_current, set_pair, with_bits, without_bits};
+use crate::places::{START, row_in, seek};
+use crate::row::{Row, is_current, pair, set_current, set_pair, without_bits};
 use dg_graph::Element;
 use std::alloc::{AllocError, Global};
 use std::marker::Model;
@@ -149,16 +149,6 @@ impl Cells {
         }
     }
 
-    /// Writes all bits of an occupied cell.
-    pub fn set_bits(&mut self, n: usize, bits: [u64; 4])
-        requires { IsSome (cell_at self.old n) }
-        ensures { Writes self.old self.new n (SetsBits bits) }
-    {
-        if let Some(row) = self.rows[n] {
-            self.rows[n] = Some(with_bits(row, bits));
-        }
-    }
-
     /// Puts off the bits of an occupied cell that are set in the mask.
     pub fn clear(&mut self, n: usize, mask: [u64; 4])
         requires { IsSome (cell_at self.old n) }
@@ -200,19 +190,17 @@ impl Cells {
         Ok(())
     }
 
-    /// Gives each of the elements, which rise, a cell with no bit, unless it has a cell. An `Err` says
-    /// that memory ran out, or that there are 2^32 cells; some elements may have got a cell.
-    pub fn add_all(&mut self, items: &[Element]) -> Result<(), AllocError>
-        requires { IsSet items.now }
-        ensures grows { CellsGrow self.old self.new }
-        ensures there { OnOk result (AllHave self.new items.now) }
-        ensures among { AreAmong self.old self.new items.now }
+    /// Takes the memory for so many more cells, so that as many come without a copy of those that are there. No
+    /// cell comes. An `Err` says that there is none.
+    pub fn reserve(&mut self, more: usize) -> Result<(), AllocError>
+        ensures { self.new ≡ self.old }
     {
-        let _numbers = self.add_numbered(items)?;
-        Ok(())
+        self.rows.reserve(more)
     }
 
-    /// Does what `add_all` does, and answers the numbers of the elements' cells, in the order of the elements.
+    /// Gives each of the elements, which rise, a cell with no bit, unless it has a cell, and answers the numbers of
+    /// their cells, in the order of the elements. An `Err` says that memory ran out, or that there are 2^32 cells;
+    /// some elements may have got a cell.
     pub fn add_numbered(&mut self, items: &[Element]) -> Result<Vec<u32>, AllocError>
         requires { IsSet items.now }
         ensures grows { CellsGrow self.old self.new }
@@ -239,19 +227,6 @@ impl Cells {
             )?;
         }
         Ok(numbers)
-    }
-
-    /// The number of the element's cell, as `find` gives it. It takes one step where the cell with the
-    /// number `hint` has the element.
-    pub fn find_near(&self, hint: u32, element: &Element) -> Option<usize>
-        ensures found { IfSome result (Holds self.now element.now) }
-        ensures lacks { IfNone result (Lacks self.now element.now) }
-    {
-        if has_element(&self.rows, hint as usize, element) {
-            Some(hint as usize)
-        } else {
-            self.find(element)
-        }
     }
 
     /// The elements of the occupied cells rise in their order, in which each occupied cell stands, and

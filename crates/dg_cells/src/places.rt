@@ -52,8 +52,8 @@ pub(crate) fn element(rows: &[Option<Row>], n: usize) -> Element
     }
 }
 
-/// Whether the cell has the element.
-pub(crate) fn has_element(rows: &[Option<Row>], n: usize, x: &Element) -> bool
+// Whether the cell has the element.
+fn has_element(rows: &[Option<Row>], n: usize, x: &Element) -> bool
     ensures has { result ≡ true → Holds rows.now x.now n }
     ensures has_not { result ≡ false → cell_element (cell_at rows.now n) ≡ Some x.now → ⊥ }
 {

@@ -1,6 +1,6 @@
 //! A cell's element and its bits.
 ghost use Rattle.std.specs.Prelude.{◌≡◌, ℕ, ◌<◌, ◌≤◌, ◌==◌, Bool, true, false, cond};
-ghost use Rattle.dg_cells.specs.Rows.{has_bit, is_current, pair, SetsCurrent, SetsPair, SetsBits, ClearsBits, IsBare, new_row};
+ghost use Rattle.dg_cells.specs.Rows.{has_bit, is_current, pair, SetsCurrent, SetsPair, ClearsBits, IsBare, new_row};
 
 use dg_graph::Element;
 
@@ -61,16 +61,6 @@ pub fn set_pair(row: &mut Row, slot: u8, explicit: bool, own: bool)
 {
     set_bit(row, 2 * slot, explicit);
     set_bit(row, 2 * slot + 1, own);
-}
-
-/// The row with these bits in place of its own.
-pub fn with_bits(row: Row, bits: [u64; 4]) -> Row
-    ensures { SetsBits bits row result }
-{
-    Row {
-        element: row.element,
-        bits,
-    }
 }
 
 /// The row without the bits of the mask.

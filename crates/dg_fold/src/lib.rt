@@ -15,8 +15,6 @@ mod part;
 mod plan;
 mod record;
 mod stepping;
-#[cfg(test)]
-mod tests;
 mod tree;
 
 pub use dg_delta::Delta;

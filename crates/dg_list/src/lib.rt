@@ -11,4 +11,4 @@ pub use dg_delta::Delta;
 pub use dg_event::Event;
 pub use exact::exact_net;
 pub use laws::{law_changes_of_a_graph_are_exact, law_changes_of_a_graph_lead_to_a_graph};
-pub use net::{merge_lists, net_back, net_to};
+pub use net::{merge_lists, net_back, net_to, whole_net};

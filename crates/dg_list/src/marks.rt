@@ -60,6 +60,11 @@ fn push_marks(
     Ok(())
 }
 
+/// As many marks as the events can have, or more. Room that no mark takes costs no memory.
+fn marks_most(events: &[Event]) -> usize {
+    events.len().saturating_mul(2)
+}
+
 /// The marks of the events up to the instant, or of all where there is none.
 pub(crate) fn marks_on(
     alloc: Global,
@@ -68,7 +73,7 @@ pub(crate) fn marks_on(
 ) -> Result<Vec<Mark>, AllocError>
     ensures { IfOk result (λ marks. marks.items ≡ flat_map (λ e. marks_of (removed_by e.body) (added_by e.body)) (filter (counts until) events.now)) }
 {
-    let mut marks = Vec::with_capacity(alloc, events.len())?;
+    let mut marks = Vec::with_capacity(alloc, marks_most(events))?;
     for event in events {
         if counts(event, until) {
             let (removed, added) = effect(event);
@@ -82,7 +87,7 @@ pub(crate) fn marks_on(
 pub(crate) fn marks_back(alloc: Global, events: &[Event]) -> Result<Vec<Mark>, AllocError>
     ensures { IfOk result (λ marks. marks.items ≡ flat_map (λ e. marks_of (added_by e.body) (removed_by e.body)) (reverse events.now)) }
 {
-    let mut marks = Vec::with_capacity(alloc, events.len())?;
+    let mut marks = Vec::with_capacity(alloc, marks_most(events))?;
     for event in events.iter().rev() {
         let (removed, added) = effect(event);
         push_marks(&mut marks, added, removed)?;

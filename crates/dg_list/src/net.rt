@@ -22,6 +22,14 @@ pub fn net_to(alloc: Global, events: &[Event], t: u64) -> Result<Delta, AllocErr
     net_on(alloc, events, Some(t))
 }
 
+/// The net of all the events, in their order. An `Err` says that memory ran out.
+pub fn whole_net(alloc: Global, events: &[Event]) -> Result<Delta, AllocError>
+    ensures composes { IfOk result (λ d. Composes d (map effect_of events.now)) }
+    ensures applies { IfOk result (λ d. (set : List Element) → IsSet set → applied d set ≡ replay_from set events.now) }
+{
+    net_on(alloc, events, None)
+}
+
 /// The net that leads back over the events, the last one first. An `Err` says that memory ran out.
 pub fn net_back(alloc: Global, events: &[Event]) -> Result<Delta, AllocError>
     ensures composes { IfOk result (λ d. Composes d (map (λ e. reversed (effect_of e)) (reverse events.now))) }

@@ -2,5 +2,4 @@ pub mod Searching
 pub mod Threads
 pub mod Tables
 pub mod Planting
-pub mod Checking
 pub mod Shown

@@ -1,12 +1,11 @@
 //! Least walks in a graph whose nodes and edges are numbered from 0: the least cost of each node, the plan
-//! of a target, what certifies it, the check of a certificate, and the tree of several targets. A walk costs
+//! of a target, what certifies it, and the tree of several targets. A walk costs
 //! the weight of its edges, in bytes, and then the number of its edges; among walks that cost the same, a
 //! plan takes the edge with the least number, from the target back. What a walk, a plan, a certificate and a
 //! tree are stands in `dg_plan`.
 #![tactic(auto)]
 
 mod adjacency;
-mod check;
 mod plan;
 mod route;
 mod search;
@@ -14,7 +13,6 @@ mod table;
 mod tree;
 
 pub use adjacency::{Adjacency, thread};
-pub use check::{CheckFault, check_plan};
 pub use plan::plan_to;
 pub use route::{Route, route_to};
 pub use search::{Cost, Link, UNREACHED, search_limits};

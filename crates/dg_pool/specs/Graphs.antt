@@ -160,6 +160,10 @@ pub record Keeps (slots : List SlotState) (old new : List (Option Row)) : Type 0
   pub elements : (n : ℕ) → option_map (λ (r : Row). r.element) (cell_at new n) ≡ option_map (λ (r : Row). r.element) (cell_at old n)
   pub bits : (s : ℕ) → 1 ≤ s → is_live (slot_at slots s) ≡ false → (n : ℕ) → pair_at s (cell_at new n) ≡ pair_at s (cell_at old n)
 
+-- each element that has a cell has one still
+abbrev pub CellsStay : List (Option Row) → List (Option Row) → Type 0
+CellsStay old new = (x : Element) → HasCell old x → HasCell new x
+
 -- each element that the events add has a cell
 abbrev pub HaveCells : List (Option Row) → List Event → Type 0
 HaveCells rows [] = Unit {0}

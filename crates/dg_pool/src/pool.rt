@@ -3,7 +3,7 @@ ghost use Rattle.std.specs.Prelude.{◌≡◌, ◌<◌, ◌≤◌, ℕ, true, fa
 ghost use Rattle.dg_graph.specs.Replay.{replay_from};
 ghost use Rattle.dg_pool.specs.declared.slots.SlotState.TheVariants as state;
 ghost use Rattle.dg_pool.specs.declared.pool.AttachFault.TheVariants.{Memory};
-ghost use Rattle.dg_pool.specs.Graphs.{PoolState, graph_now, slot_graph, HaveCells, SameGraphs, slot_at, is_live};
+ghost use Rattle.dg_pool.specs.Graphs.{PoolState, graph_now, slot_graph, CellsStay, HaveCells, SameGraphs, slot_at, is_live};
 ghost use Rattle.dg_pool.specs.Sweeps.{union_of, cells_of, IsSweep, members_as};
 ghost use Rattle.dg_cells.specs.Rows.{AllHave};
 ghost use Rattle.dg_query.specs.Queries.{counts_of};
@@ -142,11 +142,13 @@ impl Pool {
         self.cells.facts();
     }
 
-    /// Takes the current graph on by a delta. No slot's members change. Takes no memory.
+    /// Takes the current graph on by a delta. No slot's members change, and each element keeps its cell. Takes no
+    /// memory.
     pub fn pass(&mut self, delta: &Delta)
         requires { AllHave self.old.rows delta.now.plus }
         ensures now { graph_now self.new ≡ applied delta.now (graph_now self.old) }
         ensures slots { (s : ℕ) → slot_graph self.new s ≡ slot_graph self.old s }
+        ensures cells { CellsStay self.old.rows self.new.rows }
     {
         let (on_now, len) = list_on_now(&self.slots);
         self.counts[0] = pass_delta(
@@ -280,13 +282,22 @@ impl Pool {
         Ok(Slot(slot))
     }
 
+    /// Takes the memory for so many more cells, so that as many come without a copy of those that are there.
+    /// Nothing changes. An `Err` says that there is none.
+    pub fn reserve(&mut self, cells: usize) -> Result<(), AllocError>
+        ensures { self.new ≡ self.old }
+    {
+        self.cells.reserve(cells)
+    }
+
     /// Gives each of the elements a cell. No graph changes. An `Err` says that memory ran out; some may
     /// have got one.
-    pub fn make_cells(&mut self, elements: &[Element]) -> Result<(), AllocError>
+    pub fn make_cells(&mut self, elements: &Set) -> Result<(), AllocError>
         ensures graphs { SameGraphs self.old self.new }
+        ensures cells { CellsStay self.old.rows self.new.rows }
         ensures there { OnOk result (AllHave self.new.rows elements.now) }
     {
-        make_all(&mut self.cells, elements)
+        make_all(&mut self.cells, elements.items())
     }
 
     /// Gives each element that the events add a cell, so that `apply_now` can take them. No graph changes. An `Err`

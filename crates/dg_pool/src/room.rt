@@ -6,32 +6,9 @@ ghost use Rattle.dg_cells.specs.Rows.{CellsGrow, HasCell, AllHave, AreNumbers, C
 ghost use Rattle.dg_pool.specs.Graphs.{HaveCells};
 
 use dg_cells::Cells;
-use dg_event::{compare, effect};
+use dg_event::effect;
 use dg_graph::{Element, Event};
 use std::alloc::AllocError;
-
-// Whether the elements rise strictly.
-fn rise(items: &[Element]) -> bool
-    ensures { result ≡ true → IsSet items.now }
-{
-    for index in 1..items.len() {
-        if !compare(&items[index - 1], &items[index]).is_lt() {
-            return false;
-        }
-    }
-    true
-}
-
-// Gives each of the elements a cell, in any order.
-fn add_each(cells: &mut Cells, items: &[Element]) -> Result<(), AllocError>
-    ensures grows { CellsGrow cells.old cells.new }
-    ensures there { OnOk result (AllHave cells.new items.now) }
-{
-    for element in items {
-        cells.add(*element)?;
-    }
-    Ok(())
-}
 
 /// Gives each of the elements, which rise, a cell, and answers the numbers of their cells. An `Err` says that
 /// memory ran out; some may have got one.
@@ -47,20 +24,15 @@ pub(crate) fn make_rising(cells: &mut Cells, items: &[Element]) -> Result<Vec<u3
     made
 }
 
-/// Gives each of the elements a cell; quickest where they rise. An `Err` says that memory ran out; some
-/// may have got one.
+/// Does what `make_rising` does, and answers no numbers.
 pub(crate) fn make_all(cells: &mut Cells, items: &[Element]) -> Result<(), AllocError>
+    requires { IsSet items.now }
     ensures grows { CellsGrow cells.old cells.new }
     ensures there { OnOk result (AllHave cells.new items.now) }
     ensures apart { CellsAreApart cells.new }
 {
-    let made = if rise(items) {
-        cells.add_all(items)
-    } else {
-        add_each(cells, items)
-    };
-    cells.facts();
-    made
+    let _numbers = make_rising(cells, items)?;
+    Ok(())
 }
 
 // Gives the element that the event adds, if it adds one, a cell.

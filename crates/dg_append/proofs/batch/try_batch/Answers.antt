@@ -107,35 +107,15 @@ returns-in_err-segment-clause-takes g c =
     (takes_over o c.args.known h (graph_now c.args.pool.now) c.deref-2.result.now c.pending-events.result.now events c.requires.pool c.deref-2.ensures.value c.pending-events.ensures
     (g.D.Disk.image c.args.disk.now) (length c.args.changes.items) (g.D.Disk.taken c.args.disk.now) _ p.many c.make_segment.ensures.most)
 
-pub returns-in_err-net-clause-fails : goal.returns-in_err-net-clause-fails
-returns-in_err-net-clause-fails g c =
+pub returns-in_err-nets-clause-fails : goal.returns-in_err-nets-clause-fails
+returns-in_err-nets-clause-fails g c =
     let o : Opening = c.in-Some.index.opening in
     let h : StoredHistory = c.args.history.now in
     let is : index_opening h.index ≡ Some o = ap index_opening c.in-Some.is in
-    err_is c.from_residual-in_err-net.result fault.Memory _ c.from_residual-in_err-net.ensures (here (index_opening h.index) o _ is c.make_segment.ensures.disk.same_image)
+    err_is c.from_residual-in_err-nets.result fault.Memory _ c.from_residual-in_err-nets.ensures (here (index_opening h.index) o _ is c.make_segment.ensures.disk.same_image)
 
-pub returns-in_err-net-clause-takes : goal.returns-in_err-net-clause-takes
-returns-in_err-net-clause-takes g c =
-    let o : Opening = c.in-Some.index.opening in
-    let h : StoredHistory = c.args.history.now in
-    let is : index_opening h.index ≡ Some o = ap index_opening c.in-Some.is in
-    let events : List Event = c.prepare.new.now.pending in
-    let ready : IsReady o c.args.known h c.args.front c.args.changes.items = of_here (index_opening h.index) o (λ o. IsReady o c.args.known h c.args.front c.args.changes.items) is c.requires.ready in
-    let p : IsPrepared o c.args.known h c.args.front c.args.changes.items events =
-    is_prepared o c.args.known h c.args.front c.args.changes.items events c.last_of-last.result c.facts.ensures.parameters ready c.facts-2.ensures c.in_ok-prepare.ensures.whole c.last_of-last.ensures.last c.in_ok-prepare.ensures.done in
-    here (index_opening h.index) o _ is
-    (takes_over o c.args.known h (graph_now c.args.pool.now) c.deref-2.result.now c.pending-events.result.now events c.requires.pool c.deref-2.ensures.value c.pending-events.ensures
-    (g.D.Disk.image c.args.disk.now) (length c.args.changes.items) (g.D.Disk.taken c.args.disk.now) (g.D.Disk.taken c.make_segment.new.disk) p.many c.make_segment.ensures.most)
-
-pub returns-in_err-make_cells-clause-fails : goal.returns-in_err-make_cells-clause-fails
-returns-in_err-make_cells-clause-fails g c =
-    let o : Opening = c.in-Some.index.opening in
-    let h : StoredHistory = c.args.history.now in
-    let is : index_opening h.index ≡ Some o = ap index_opening c.in-Some.is in
-    err_is c.from_residual-in_err-make_cells.result fault.Memory _ c.from_residual-in_err-make_cells.ensures (here (index_opening h.index) o _ is c.make_segment.ensures.disk.same_image)
-
-pub returns-in_err-make_cells-clause-takes : goal.returns-in_err-make_cells-clause-takes
-returns-in_err-make_cells-clause-takes g c =
+pub returns-in_err-nets-clause-takes : goal.returns-in_err-nets-clause-takes
+returns-in_err-nets-clause-takes g c =
     let o : Opening = c.in-Some.index.opening in
     let h : StoredHistory = c.args.history.now in
     let is : index_opening h.index ≡ Some o = ap index_opening c.in-Some.is in

@@ -1,6 +1,7 @@
-use Rattle.std.proofs.Common.{ap, ◌∙◌}
-use Rattle.dg_pool.specs.Graphs.{PoolState, slot_graph, graph_now, slot_at}
+use Rattle.std.proofs.Common.{ap, subst, ◌∙◌}
+use Rattle.dg_pool.specs.Graphs.{CellsStay, PoolState, slot_graph, graph_now, slot_at}
 use Rattle.dg_pool.proofs.KeptCounts.{counted_still}
+use Rattle.dg_pool.proofs.MarkedCells.{has_grown}
 use Rattle.dg_pool.proofs.NewSlot.{grown_pool, grown_now, grown_seen}
 use Rattle.dg_pool.proofs.pool.Pool.make_cells.Goals as goal
 
@@ -22,3 +23,8 @@ returns-clause-graphs c = record {
   now = grown_now c.self.inside.cells c.make_all.new.cells c.make_all.ensures.grows ∙ ap graph_now c.self.view_is;
   slots = λ t. grown_seen c.self.inside.cells c.make_all.new.cells c.make_all.ensures.grows t (slot_at c.self.inside.slots t) ∙ ap (λ (p : PoolState). slot_graph p t) c.self.view_is;
 }
+
+pub returns-clause-cells : goal.returns-clause-cells
+returns-clause-cells c =
+    subst (λ (p : PoolState). CellsStay p.rows c.make_all.new.cells) c.self.view_is
+    (has_grown c.self.inside.cells c.make_all.new.cells c.make_all.ensures.grows)

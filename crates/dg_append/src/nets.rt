@@ -1,0 +1,60 @@
+//! How the current graph of a pool goes on with a batch: by the nets of the two halves of its events. They are not
+//! composed, so that a long batch takes no memory for what both of them name.
+
+ghost use Rattle.std.specs.Prelude.{◌≡◌, ℕ, List, IfOk};
+ghost use Rattle.dg_append.specs.BatchNets.{led_by};
+ghost use Rattle.dg_cells.specs.Rows.{AllHave};
+ghost use Rattle.dg_graph.specs.declared.element.Element.{Element};
+ghost use Rattle.dg_graph.specs.Elements.{IsSet};
+ghost use Rattle.dg_graph.specs.Replay.{replay_from};
+ghost use Rattle.dg_pool.specs.Graphs.{SameGraphs, graph_now, slot_graph};
+
+use dg_graph::Event;
+use dg_list::{Delta, whole_net};
+use dg_pool::Pool;
+use std::alloc::{AllocError, Global};
+
+/// The nets of the events' two halves.
+#[derive(Drop)]
+pub(crate) struct Nets {
+    pub(crate) earlier: Delta,
+    pub(crate) later: Delta,
+}
+
+/// The nets of the events, with a cell in the pool for each element that one of them brings. No graph changes. An
+/// `Err` says that memory ran out.
+pub(crate) fn make_nets(
+    alloc: Global,
+    events: &[Event],
+    pool: &mut Pool,
+) -> Result<Nets, AllocError>
+    ensures graphs { SameGraphs pool.old pool.new }
+    ensures earlier { IfOk result (λ nets. AllHave pool.new.rows nets.earlier.plus) }
+    ensures later { IfOk result (λ nets. AllHave pool.new.rows nets.later.plus) }
+    ensures leads { IfOk result (λ nets. (set : List Element) → IsSet set → led_by nets.earlier nets.later set ≡ replay_from set events.now) }
+{
+    let (earlier, later) = events.split_at(events.len() / 2);
+    let earlier = whole_net(alloc, earlier)?;
+    let later = whole_net(alloc, later)?;
+    pool.reserve(
+        earlier
+            .plus()
+            .items()
+            .len()
+            .saturating_add(later.plus().items().len()),
+    )?;
+    pool.make_cells(earlier.plus())?;
+    pool.make_cells(later.plus())?;
+    Ok(Nets { earlier, later })
+}
+
+/// Takes the current graph of the pool on by the nets, the earlier first. No other graph changes.
+pub(crate) fn pass_batch(pool: &mut Pool, nets: &Nets)
+    requires earlier { AllHave pool.old.rows nets.now.earlier.plus }
+    requires later { AllHave pool.old.rows nets.now.later.plus }
+    ensures now { graph_now pool.new ≡ led_by nets.now.earlier nets.now.later (graph_now pool.old) }
+    ensures slots { (s : ℕ) → slot_graph pool.new s ≡ slot_graph pool.old s }
+{
+    pool.pass(&nets.earlier);
+    pool.pass(&nets.later);
+}

@@ -1,0 +1,349 @@
+-- The run so far, how each turn lengthens it, and what is owed where it ends.
+use Rattle.std.proofs.Common.{◌≡◌, ◌≤◌, ℕ, ◌+◌, Bool, true, false, cond, List, [], ◌∷◌, ◌++◌, Option, Some, None, IfSome, Result, Ok, Err, OnOk, OnErr, is_some, length, take, refl, sym, ◌∙◌, ap, subst, append_assoc, arith, length-append}
+use Rattle.std.specs.Option.{option_map}
+use Rattle.std.specs.Result.{is_err}
+use Rattle.std.proofs.lemmas.List.{append-nil}
+use Rattle.std.proofs.lemmas.List.Concat.{flat_map-append}
+use Rattle.std.proofs.lemmas.List.Sums.{sum_by-append, sum_by-cons}
+use Rattle.std.proofs.Math.Seq.{take-append-add}
+use Rattle.dg_disk.specs.Counts.{Rose as DiskRose, raised_by}
+use Rattle.dg_history.specs.History.{History}
+use Rattle.dg_index.specs.ImageOfHistory.{StandsAs}
+use Rattle.dg_index.specs.OpenedIndex.{opened_of}
+use Rattle.dg_io.specs.Told.{grown, GrowsByPart}
+use Rattle.dg_io.specs.LinesState.{LinesState}
+use Rattle.dg_machine.specs.declared.reply.Reply.{Reply}
+use Rattle.dg_machine.specs.Answer.{Answered}
+use Rattle.dg_machine.specs.CutImage.{IsCut}
+use Rattle.dg_machine.specs.MachineState.{MachineState, names_in}
+use Rattle.dg_machine.specs.ReplyText.{text}
+use Rattle.dg_machine.specs.Run.{Run, failed_reads, is_store_read, last_state, text_of, texts_of}
+use Rattle.dg_machine.specs.Script.{Entry, script}
+use Rattle.dg_machine.proofs.Runs.{run_more, last_more}
+use Rattle.dg_session.specs.Parts.{Parts}
+use Rattle.dg_session.specs.Session.{WhereBothTold, StandsFor}
+use Rattle.dg_start.specs.StoredHistory.{KeepsHistory}
+use Rattle.dg_run.specs.declared.status.Status.{Status}
+use Rattle.dg_run.specs.declared.status.Status.TheVariants as status
+use Rattle.dg_run.specs.Outside.{Outside}
+use Rattle.dg_run.specs.Served.{Served, Gained, Remains, Kept, Cut_off}
+use Rattle.dg_run.specs.Turns.{Breaks, Replies, asked}
+
+-- The run from m so far over the image now, which was `first` at its start: the entries answered, and those
+-- to come. So many calls of the disk failed before it, and so many by now.
+pub record Going (m : MachineState) (first left before : Option (List ℕ)) (f : ℕ) (session : Parts) (image : List ℕ) (more : Option (List Entry)) (written : Option (List ℕ)) (n : ℕ) : Type 0 where
+  pub entries : List Entry
+  pub answers : List Answered
+  pub run : Run m entries answers
+  pub stands : StandsFor session image (last_state m answers)
+  pub front : option_map script left ≡ option_map (λ rest. entries ++ rest) more
+  pub gained : written ≡ grown before (texts_of answers)
+  pub unmade : (last_state m answers).index ≡ None → first ≡ Some image
+  pub failed : raised_by (failed_reads answers) f ≤ n
+
+map-nothing : {A : Type 0} (o : Option (List A)) → o ≡ option_map (λ rest. [] ++ rest) o
+map-nothing None = refl
+map-nothing (Some xs) = refl
+
+grown-nil : (o : Option (List ℕ)) → o ≡ grown o []
+grown-nil None = refl
+grown-nil (Some xs) = ap (λ ys. Some ys) (sym (append-nil xs))
+
+grown-append : (o : Option (List ℕ)) (a b : List ℕ) → grown (grown o a) b ≡ grown o (a ++ b)
+grown-append None a b = refl
+grown-append (Some xs) a b = ap (λ ys. Some ys) (append_assoc xs a b)
+
+front_more : (o : Option (List Entry)) (entries : List Entry) (e : Entry)
+    → option_map (λ rest. entries ++ rest) (option_map (λ rest. e ∷ rest) o) ≡ option_map (λ rest. (entries ++ e ∷ []) ++ rest) o
+front_more None entries e = refl
+front_more (Some rest) entries e = ap (λ es. Some es) (sym (append_assoc entries (e ∷ []) rest))
+
+texts_more : (answers : List Answered) (a : Answered) → texts_of (answers ++ a ∷ []) ≡ texts_of answers ++ text_of a
+texts_more answers a = flat_map-append text_of answers (a ∷ []) ∙ ap (λ (bytes : List ℕ). texts_of answers ++ bytes) (append-nil (text_of a))
+
+-- the replies of a turn, and the calls of the disk that failed before it and by its end
+pub record IsCounted (r : Reply) (n k : ℕ) : Type 0 where
+  pub counted : n ≤ k
+  pub rose : is_store_read r.head ≡ true → DiskRose n k
+
+one_more : (b : Bool) (answers : List Answered) (a : Answered) → is_store_read a.reply.head ≡ b
+    → failed_reads (answers ++ a ∷ []) ≡ failed_reads answers + cond b 1 0
+one_more b answers a is =
+    sum_by-append (λ (x : Answered). cond (is_store_read x.reply.head) 1 0) answers (a ∷ [])
+    ∙ ap (λ (n : ℕ). failed_reads answers + n) (sum_by-cons (λ (x : Answered). cond (is_store_read x.reply.head) 1 0) a [] ∙ last b is)
+  where
+    last : (b : Bool) → is_store_read a.reply.head ≡ b → cond (is_store_read a.reply.head) 1 0 + 0 ≡ cond b 1 0
+    last true e = ap (λ (x : Bool). cond x 1 0 + 0) e
+    last false e = ap (λ (x : Bool). cond x 1 0 + 0) e
+
+failed_on : (b : Bool) (answers : List Answered) (a : Answered) (f n k : ℕ) → is_store_read a.reply.head ≡ b → raised_by (failed_reads answers) f ≤ n → IsCounted a.reply n k
+    → raised_by (failed_reads (answers ++ a ∷ [])) f ≤ k
+failed_on true answers a f n k is failed counts = omega (arith, one_more true answers a is, failed, counts.rose is)
+failed_on false answers a f n k is failed counts = omega (arith, one_more false answers a is, failed, counts.counted)
+
+-- before the first turn
+going_first : (m : MachineState) (first left before : Option (List ℕ)) (f : ℕ) (session : Parts) (image : List ℕ) → first ≡ Some image → StandsFor session image m
+    → Going m first left before f session image (option_map script left) before f
+going_first m first left before f session image is stands = record {
+  entries = [];
+  answers = [];
+  run = tt;
+  stands = stands;
+  front = map-nothing (option_map script left);
+  gained = grown-nil before;
+  unmade = λ none. is;
+  failed = omega arith;
+}
+
+-- what a session keeps of the index and the names of the machine's history
+kept_index : (index : Option History) (p : Parts) → KeepsHistory index p.index p.names p.graph p.recent → p.index ≡ option_map (λ (z : History). (opened_of z).index) index
+kept_index None p kept = kept.0
+kept_index (Some z) p kept = kept.index_is
+
+kept_names : (index : Option History) (p : Parts) → KeepsHistory index p.index p.names p.graph p.recent → p.names ≡ names_in index
+kept_names None p kept = kept.1
+kept_names (Some z) p kept = kept.names_are
+
+-- a session has no index exactly where the machine has none
+no_index_of : (session : Parts) (image : List ℕ) (m : MachineState) → StandsFor session image m → m.index ≡ None → session.index ≡ None
+no_index_of session image m stands none = kept_index m.index session stands.kept ∙ ap (option_map (λ (z : History). (opened_of z).index)) none
+
+none_of : (index : Option History) → option_map (λ (z : History). (opened_of z).index) index ≡ None → index ≡ None
+none_of None is = refl
+none_of (Some z) is = absurd (cc)
+
+some_injective : (x y : List ℕ) → Some x ≡ Some y → x ≡ y
+some_injective x y same = cc
+
+-- the text of the reply by the names of the session, which are those of the machine's history
+session_text : (new : Parts) (now : List ℕ) (k : MachineState) (r : Reply) → StandsFor new now k → text new.names r ≡ text (names_in k.index) r
+session_text new now k r stands = ap (λ (names : List (List ℕ)). text names r) (kept_names k.index new stands.kept)
+
+-- a turn with a reply that was written
+going_on : (m : MachineState) (first left before : Option (List ℕ)) (f : ℕ) (old new : Parts) (image now : List ℕ) (more rest : Option (List Entry)) (written : Option (List ℕ)) (n k : ℕ) (e : Entry) (r : Reply)
+    → Going m first left before f old image more written n → more ≡ option_map (λ es. e ∷ es) rest → Replies e old image new now r
+    → (new.index ≡ None → (old.index ≡ None) × (now ≡ image)) → IsCounted r n k → Going m first left before f new now rest (grown written (text new.names r)) k
+going_on m first left before f old new image now more rest written n k e r going is replies same counts =
+    let next = replies (last_state m going.answers) going.stands in
+    let a : Answered = record { reply = r; state = next.0 } in
+    let last : last_state m (going.answers ++ a ∷ []) ≡ next.0 = last_more m going.answers a in record {
+      entries = going.entries ++ e ∷ [];
+      answers = going.answers ++ a ∷ [];
+      run = run_more m going.entries going.answers e a going.run next.1;
+      stands = subst (λ (k : MachineState). StandsFor new now k) (sym last) next.2;
+      front = going.front ∙ ap (option_map (λ es. going.entries ++ es)) is ∙ front_more rest going.entries e;
+      gained =
+          ap (λ o. grown o (text new.names r)) going.gained
+          ∙ grown-append before (texts_of going.answers) (text new.names r)
+          ∙ ap (grown before) (ap (λ bytes. texts_of going.answers ++ bytes) (session_text new now next.0 r next.2) ∙ sym (texts_more going.answers a));
+      unmade = λ none.
+          let here : next.0.index ≡ None = ap (λ (k : MachineState). k.index) (sym last) ∙ none in
+          let was = same (no_index_of new now next.0 next.2 here) in
+          going.unmade (none_of (last_state m going.answers).index (sym (kept_index (last_state m going.answers).index old going.stands.kept) ∙ was.0)) ∙ ap (λ x. Some x) (sym was.1);
+      failed = failed_on (is_store_read r.head) going.answers a f n k refl going.failed counts;
+    }
+
+-- ---- over a disk that may tell its image
+
+-- the run so far, from every machine that the session stood for over the first image, where the images are told
+abbrev pub GoingOver : Option (List ℕ) → Option (List ℕ) → Option (List ℕ) → ℕ → Parts → Parts → Option (List ℕ) → Option (List Entry) → Option (List ℕ) → ℕ → Type 0
+GoingOver first left before f start session image more written n =
+    (x y : List ℕ) → first ≡ Some x → image ≡ Some y → (m : MachineState) → StandsFor start x m → Going m first left before f session y more written n
+
+-- an option that is told where another is
+told_as : (a b : Option (List ℕ)) (x : List ℕ) → is_some b ≡ is_some a → a ≡ Some x → (y : List ℕ) × (b ≡ Some y)
+told_as a None x same is = absurd (let none : false ≡ true = same ∙ ap (λ (o : Option (List ℕ)). is_some o) is in cc)
+told_as a (Some y) x same is = (y, refl)
+
+-- before the first turn
+pub over_first : (first left before : Option (List ℕ)) (f : ℕ) (session : Parts) (more : Option (List Entry))
+    → option_map script left ≡ more → GoingOver first left before f session session first more before f
+over_first first left before f session more is = λ x y a b m stands.
+    let one : x ≡ y = some_injective x y (sym a ∙ b) in
+    subst (λ (es : Option (List Entry)). Going m first left before f session y es before f) is
+    (going_first m first left before f session y b (subst (λ (z : List ℕ). StandsFor session z m) one stands))
+
+-- the run so far, where more calls of the disk may have failed since
+failed_later : (m : MachineState) (first left before : Option (List ℕ)) (f : ℕ) (session : Parts) (image : List ℕ) (more : Option (List Entry)) (written : Option (List ℕ)) (n k : ℕ)
+    → n ≤ k → Going m first left before f session image more written n → Going m first left before f session image more written k
+failed_later m first left before f session image more written n k le going = record {
+  entries = going.entries;
+  answers = going.answers;
+  run = going.run;
+  stands = going.stands;
+  front = going.front;
+  gained = going.gained;
+  unmade = going.unmade;
+  failed = omega (arith, le, going.failed);
+}
+
+-- a turn with no reply
+pub over_skip : (first left before : Option (List ℕ)) (f : ℕ) (start old new : Parts) (image now : Option (List ℕ)) (more rest : Option (List Entry)) (written : Option (List ℕ)) (n k : ℕ)
+    → GoingOver first left before f start old image more written n → more ≡ rest → new ≡ old → now ≡ image → n ≤ k
+    → GoingOver first left before f start new now rest written k
+over_skip first left before f start old new image now more rest written n k going same kept stays le = λ x y a b m stands.
+    subst (λ (es : Option (List Entry)). Going m first left before f new y es written k) same
+    (subst (λ (s : Parts). Going m first left before f s y more written k) (sym kept)
+    (failed_later m first left before f old y more written n k le (going x y a (sym stays ∙ b) m stands)))
+
+-- a turn with a reply that was written
+pub over_on : (first left before : Option (List ℕ)) (f : ℕ) (start old new : Parts) (image now : Option (List ℕ)) (more rest : Option (List Entry)) (written after : Option (List ℕ)) (n k : ℕ) (e : Entry) (r : Reply)
+    → GoingOver first left before f start old image more written n → is_some image ≡ is_some first → more ≡ option_map (λ es. e ∷ es) rest
+    → WhereBothTold image now (λ x y. Replies e old x new y r) → (new.index ≡ None → (old.index ≡ None) × (now ≡ image)) → after ≡ grown written (text new.names r)
+    → IsCounted r n k → GoingOver first left before f start new now rest after k
+over_on first left before f start old new image now more rest written after n k e r going told is replies same gained counts = λ x z a c m stands.
+    let mid = told_as first image x told a in
+    subst (λ (w : Option (List ℕ)). Going m first left before f new z rest w k) (sym gained)
+    (going_on m first left before f old new mid.0 z more rest written n k e r (going x mid.0 a mid.1 m stands) is (replies mid.0 z mid.1 c)
+    (λ none. let was = same none in (was.0, some_injective z mid.0 (sym c ∙ was.1 ∙ mid.1))) counts)
+
+-- ---- what is owed where the run ends
+
+-- what is owed from every machine that the session stood for over the first image
+abbrev pub ServedOver : Parts → Status → Outside → Outside → Type 0
+ServedOver session s start now = (image : List ℕ) (m : MachineState) → start.image ≡ Some image → StandsFor session image m → Served m s start now
+
+-- a run that ends between two entries
+pub over_cut : (s : Status) (start now : Outside) (begun session : Parts) (more : Option (List Entry))
+    → GoingOver start.image start.left start.written start.disk_faults begun session now.image more now.written now.disk_faults → is_some now.image ≡ is_some start.image
+    → (s ≡ status.Done → IfSome more (λ rest. rest ≡ [])) → ((due : List ℕ) → now.written ≡ grown start.written due → Gained s start.written due now.written)
+    → ServedOver begun s start now
+over_cut s start now begun session more going told whole gained = λ x m a stands.
+    let here = told_as start.image now.image x told a in
+    let run = going x here.0 a here.1 m stands in record {
+      entries = run.entries;
+      answers = run.answers;
+      run = run.run;
+      more = more;
+      front = run.front;
+      whole = whole;
+      gained = gained (texts_of run.answers) run.gained;
+      stands = subst (λ (o : Option (List ℕ)). IfSome o (λ image. Remains s (last_state m run.answers) more start.image image)) (sym here.1) (Kept run.stands.image_stands);
+      failed = run.failed;
+    }
+
+comes_first : (more rest : Option (List Entry)) (e : Entry) → more ≡ option_map (λ es. e ∷ es) rest → (es : List Entry) × IfSome more (λ all. all ≡ e ∷ es)
+comes_first more None e is = ([], subst (λ (o : Option (List Entry)). IfSome o (λ all. all ≡ e ∷ [])) (sym is) tt)
+comes_first more (Some es) e is = (es, subst (λ (o : Option (List Entry)). IfSome o (λ all. all ≡ e ∷ es)) (sym is) refl)
+
+-- a run that a failure of the disk cuts off within an entry
+pub over_broken : (start now : Outside) (begun session : Parts) (image : Option (List ℕ)) (more rest : Option (List Entry)) (n : ℕ)
+    → GoingOver start.image start.left start.written start.disk_faults begun session image more now.written n → is_some image ≡ is_some start.image
+    → is_some now.image ≡ is_some image → Breaks more rest session image now.image → n ≤ now.disk_faults → ServedOver begun status.DiskFault start now
+over_broken start now begun session image more rest n going told then_told breaks le = λ x m a stands.
+    let mid = told_as start.image image x told a in
+    let here = told_as image now.image mid.0 then_told mid.1 in
+    let run = going x mid.0 a mid.1 m stands in
+    let e = breaks.0 in
+    let first = comes_first more rest e breaks.1 in
+    let cut : IsCut (last_state m run.answers) e mid.0 here.0 = breaks.2 mid.0 here.0 mid.1 here.1 (last_state m run.answers) run.stands in record {
+      entries = run.entries;
+      answers = run.answers;
+      run = run.run;
+      more = more;
+      front = run.front;
+      whole = λ done. cc;
+      gained = run.gained;
+      stands =
+          subst (λ (o : Option (List ℕ)). IfSome o (λ image. Remains status.DiskFault (last_state m run.answers) more start.image image)) (sym here.1)
+          (Cut_off e first.0 mid.0 refl first.1 run.stands.image_stands run.unmade cut);
+      failed = omega (arith, le, run.failed);
+    }
+
+-- a proper prefix of a later piece is one of all pieces
+part_later : (before written after : Option (List ℕ)) (due piece : List ℕ) → written ≡ grown before due
+    → GrowsByPart written piece after → GrowsByPart before (due ++ piece) after
+part_later before written after due piece is part = (
+  length due + part.0,
+  omega (arith, length-append due piece, part.1),
+  part.2 ∙ ap (λ o. grown o (take part.0 piece)) is ∙ grown-append before due (take part.0 piece)
+      ∙ ap (grown before) (sym (take-append-add due piece part.0)),
+)
+
+-- the reply of the last turn was written in part
+pub over_part : (start now : Outside) (begun old new : Parts) (image : Option (List ℕ)) (more rest : Option (List Entry)) (written : Option (List ℕ)) (n : ℕ) (e : Entry) (r : Reply)
+    → GoingOver start.image start.left start.written start.disk_faults begun old image more written n → is_some image ≡ is_some start.image
+    → is_some now.image ≡ is_some image → more ≡ option_map (λ es. e ∷ es) rest → WhereBothTold image now.image (λ x y. Replies e old x new y r)
+    → (new.index ≡ None → (old.index ≡ None) × (now.image ≡ image)) → GrowsByPart written (text new.names r) now.written → IsCounted r n now.disk_faults → ServedOver begun status.SinkFault start now
+unfolding going_on
+over_part start now begun old new image more rest written n e r going told then_told is replies same part counts = λ x m a stands.
+    let mid = told_as start.image image x told a in
+    let here = told_as image now.image mid.0 then_told mid.1 in
+    let run = going x mid.0 a mid.1 m stands in
+    let next = going_on m start.image start.left start.written start.disk_faults old new mid.0 here.0 more rest written n now.disk_faults e r run is (replies mid.0 here.0 mid.1 here.1)
+    (λ none. let was = same none in (was.0, some_injective here.0 mid.0 (sym here.1 ∙ was.1 ∙ mid.1))) counts in
+    let k = replies mid.0 here.0 mid.1 here.1 (last_state m run.answers) run.stands in
+    let all : texts_of run.answers ++ text new.names r ≡ texts_of next.answers =
+    ap (λ bytes. texts_of run.answers ++ bytes) (session_text new here.0 k.0 r k.2) ∙ sym (texts_more run.answers (record { reply = r; state = k.0 })) in record {
+      entries = next.entries;
+      answers = next.answers;
+      run = next.run;
+      more = rest;
+      front = next.front;
+      whole = λ done. cc;
+      gained =
+          subst (λ (due : List ℕ). GrowsByPart start.written due now.written) all
+          (part_later start.written written now.written (texts_of run.answers) (text new.names r) run.gained part);
+      stands =
+          subst (λ (o : Option (List ℕ)). IfSome o (λ image. Remains status.SinkFault (last_state m next.answers) rest start.image image)) (sym here.1)
+          (Kept next.stands.image_stands);
+      failed = next.failed;
+    }
+
+pub if_some : (o : Option (List ℕ)) (P : List ℕ → Type 0) → ((x : List ℕ) → o ≡ Some x → P x) → IfSome o P
+if_some None P each = tt
+if_some (Some x) P each = each x refl
+
+pub at_some : (o : Option (List ℕ)) (P : List ℕ → Type 0) (x : List ℕ) → IfSome o P → o ≡ Some x → P x
+at_some o P x all is = let here : IfSome (Some x) P = subst (λ (p : Option (List ℕ)). IfSome p P) is all in here
+
+-- nothing was answered
+pub served_nothing : (s : Status) (m : MachineState) (start now : Outside) (image : List ℕ) → start.image ≡ Some image → StandsAs m.index image
+    → now.left ≡ start.left → now.written ≡ start.written → now.image ≡ start.image
+    → (s ≡ status.Done → ⊥) → (now.written ≡ grown start.written [] → Gained s start.written [] now.written) → start.disk_faults ≤ now.disk_faults → Served m s start now
+served_nothing s m start now image is stands left written same undone gained counted = record {
+  entries = [];
+  answers = [];
+  run = tt;
+  more = option_map script start.left;
+  front = map-nothing (option_map script start.left);
+  whole = λ done. absurd (undone done);
+  gained = gained (written ∙ grown-nil start.written);
+  stands =
+      subst (λ (o : Option (List ℕ)). IfSome o (λ i. Remains s m (option_map script start.left) start.image i)) (sym (same ∙ is)) (Kept stands);
+  failed = omega (arith, counted);
+}
+
+-- before anything is read, the entries to come are those of the script
+pub asked_first : (r : LinesState) (left : Option (List ℕ)) (limit : ℕ)
+    → r ≡ record { held = []; long = false; ended = false; taken = 0; limit = limit; text = [] }
+    → option_map script left ≡ asked r left
+asked_first r None limit is = refl
+asked_first r (Some bytes) limit is =
+    ap (λ (x : LinesState). asked x (Some bytes)) (sym is)
+
+-- ---- where no entry is to come
+
+-- a script without an entry stays one, and nothing was read from the disk
+abbrev pub StaysSilent : Option (List Entry) → Option (List Entry) → ℕ → ℕ → Type 0
+StaysSilent first now before after = first ≡ Some [] → (now ≡ Some []) × (after ≡ before)
+
+-- a turn with a reply is one at an entry
+none_more : (more : Option (List Entry)) (e : Entry) → ◌≡◌ {A = Option (List Entry)} (Some []) (option_map (λ es. e ∷ es) more) → ⊥
+none_more None e is = cc
+none_more (Some es) e is = cc
+
+pub silent_on : (first more rest : Option (List Entry)) (e : Entry) (before mid after : ℕ) → StaysSilent first more before mid → more ≡ option_map (λ es. e ∷ es) rest → StaysSilent first rest before after
+silent_on first more rest e before mid after silent is none = absurd (none_more rest e (sym (silent none).0 ∙ is))
+
+pub silent_skip : (first more rest : Option (List Entry)) (before mid after : ℕ) → StaysSilent first more before mid → more ≡ rest → after ≡ mid → StaysSilent first rest before after
+silent_skip first more rest before mid after silent same unread none = let s = silent none in (sym same ∙ s.0, unread ∙ s.1)
+
+-- what is said of an error, where the test says that it is one
+pub at_err : {T E : Type 0} (r : Result T E) (P : Type 0) → is_err r ≡ true → OnErr r P → P
+at_err (Ok x) P test says = absurd (cc)
+at_err (Err e) P test says = says
+
+pub at_ok : {T E : Type 0} (r : Result T E) (P : Type 0) → is_err r ≡ false → OnOk r P → P
+at_ok (Ok x) P test says = says
+at_ok (Err e) P test says = absurd (cc)

@@ -1,0 +1,157 @@
+use Rattle.std.proofs.Common.{◌≡◌, ℕ, List, refl, sym, ◌∙◌, ap, subst, Err, arith}
+use Rattle.dg_io.proofs.FrameLemmas.{advances_none, advances_both}
+use Rattle.dg_io.specs.Told.{CountRose, grown, GrowsByPart}
+use Rattle.dg_machine.specs.ReplyText.{text}
+use Rattle.dg_run.specs.declared.status.Status.TheVariants as status
+use Rattle.dg_run.specs.Turns.{asked}
+use Rattle.dg_run.proofs.EndOfRun.{done_within, limit_taken}
+use Rattle.dg_run.proofs.RunSoFar.{asked_first, at_err, at_ok, over_first, over_skip, over_on, over_cut, over_broken, over_part, silent_on, silent_skip}
+use Rattle.dg_run.proofs.serve.answer_script.Goals as goal
+
+pub loop-reply-init : goal.loop-reply-init
+loop-reply-init g c = record {
+  going = over_first _ _ _ _ _ _
+      (asked_first c.new-lines.result (g.S.Source.left c.args.source.now) c.args.limit c.new-lines.ensures);
+  told = refl;
+  held = c.requires;
+  lines = advances_none c.new-lines.result _ _;
+  sink_counted = omega arith;
+  disk_counted = omega arith;
+  silent = λ none. (sym (asked_first c.new-lines.result (g.S.Source.left c.args.source.now) c.args.limit c.new-lines.ensures) ∙ none, refl);
+}
+
+pub loop-reply-preserved-in-Ok-Skipped : goal.loop-reply-preserved-in-Ok-Skipped
+loop-reply-preserved-in-Ok-Skipped g c =
+    let l = c.loop-reply in
+    let turn = rw c.in-Ok-Skipped.field-0-is at c.in-Ok-Skipped.ensures.turn in record {
+      going = over_skip _ _ _ _ _ l.session.parts c.next_turn.new.session.parts _ _
+          (asked l.lines (g.S.Source.left l.source)) (asked c.next_turn.new.lines (g.S.Source.left c.next_turn.new.source)) _ _ _
+          l.invariant.going turn.0 turn.1 turn.2 c.next_turn.ensures.disk.counted;
+      told = c.next_turn.ensures.disk.told ∙ l.invariant.told;
+      held = c.in-Ok-Skipped.ensures.held;
+      lines = advances_both c.new-lines.result l.lines c.next_turn.new.lines _ _ _ _ _ _ l.invariant.lines c.next_turn.ensures.lines;
+      sink_counted = l.invariant.sink_counted;
+      disk_counted = omega (arith, l.invariant.disk_counted, c.next_turn.ensures.disk.writes_counted);
+      silent = silent_skip _ _ _ _ (g.D.Disk.taken l.disk) _ l.invariant.silent turn.0 (rw c.in-Ok-Skipped.field-0-is at c.in-Ok-Skipped.ensures.unread);
+    }
+
+pub loop-reply-preserved : goal.loop-reply-preserved
+loop-reply-preserved g c =
+    let l = c.loop-reply in
+    let turn = rw c.in-Ok-Replied.field-0-is at c.in-Ok-Replied.ensures.turn in
+    let written = at_ok c.write_reply.result (g.K.Sink.written c.write_reply.new.sink ≡ grown (g.K.Sink.written l.sink) (text c.names.result.now c.in-Ok-Replied.reply))
+    (sym c.is_err.ensures.value ∙ c.if-is_err.false) c.write_reply.ensures.ok
+    ∙ ap (λ (names : List (List ℕ)). grown (g.K.Sink.written l.sink) (text names c.in-Ok-Replied.reply)) c.names.ensures in record {
+      going = over_on _ _ _ _ _ l.session.parts c.next_turn.new.session.parts _ _
+          (asked l.lines (g.S.Source.left l.source)) (asked c.next_turn.new.lines (g.S.Source.left c.next_turn.new.source)) _ _ _ _ turn.0 c.in-Ok-Replied.reply
+          l.invariant.going l.invariant.told turn.1 turn.2 c.in-Ok-Replied.ensures.no_index written
+          (record { counted = c.next_turn.ensures.disk.counted; rose = rw c.in-Ok-Replied.field-0-is at c.in-Ok-Replied.ensures.store_read });
+      told = c.next_turn.ensures.disk.told ∙ l.invariant.told;
+      held = c.in-Ok-Replied.ensures.held;
+      lines = advances_both c.new-lines.result l.lines c.next_turn.new.lines _ _ _ _ _ _ l.invariant.lines c.next_turn.ensures.lines;
+      sink_counted = omega (arith, l.invariant.sink_counted, c.write_reply.ensures.counted);
+      disk_counted = omega (arith, l.invariant.disk_counted, c.next_turn.ensures.disk.writes_counted);
+      silent = silent_on _ (asked l.lines (g.S.Source.left l.source)) _ turn.0 _ (g.D.Disk.taken l.disk) _ l.invariant.silent turn.1;
+    }
+
+pub returns-then-is_err : goal.returns-then-is_err
+returns-then-is_err g c =
+    let l = c.loop-reply in
+    let turn = rw c.in-Ok-Replied.field-0-is at c.in-Ok-Replied.ensures.turn in record {
+      answered = record {
+        served = over_part _ _ _ l.session.parts c.next_turn.new.session.parts _
+            (asked l.lines (g.S.Source.left l.source)) (asked c.next_turn.new.lines (g.S.Source.left c.next_turn.new.source)) _ _ turn.0 c.in-Ok-Replied.reply
+            l.invariant.going l.invariant.told c.next_turn.ensures.disk.told turn.1 turn.2 c.in-Ok-Replied.ensures.no_index
+            (subst (λ (names : List (List ℕ)). GrowsByPart (g.K.Sink.written l.sink) (text names c.in-Ok-Replied.reply) (g.K.Sink.written c.write_reply.new.sink)) c.names.ensures
+            (at_err c.write_reply.result (GrowsByPart (g.K.Sink.written l.sink) (text c.names.result.now c.in-Ok-Replied.reply) (g.K.Sink.written c.write_reply.new.sink))
+            (sym c.is_err.ensures.value ∙ c.if-is_err.true) c.write_reply.ensures.err))
+            (record { counted = c.next_turn.ensures.disk.counted; rose = rw c.in-Ok-Replied.field-0-is at c.in-Ok-Replied.ensures.store_read });
+        told = c.next_turn.ensures.disk.told ∙ l.invariant.told;
+        begun = tt;
+        done = λ e. cc;
+        source_fault = λ e. cc;
+        sink_fault = λ e. omega (arith, l.invariant.sink_counted, at_err c.write_reply.result (CountRose (g.K.Sink.faults l.sink) (g.K.Sink.faults c.write_reply.new.sink)) (sym c.is_err.ensures.value ∙ c.if-is_err.true) c.write_reply.ensures.cause);
+        disk_fault = λ e. cc;
+        script_limit = λ e. cc;
+        silent = λ e. cc;
+      };
+    }
+
+pub returns-in-Ok-End : goal.returns-in-Ok-End
+returns-in-Ok-End g c =
+    let l = c.loop-reply in
+    let turn = rw c.in-Ok-End.field-0-is at c.in-Ok-End.ensures.turn in
+    let lines = advances_both c.new-lines.result l.lines c.next_turn.new.lines _ _ _ _ _ _ l.invariant.lines c.next_turn.ensures.lines in record {
+      answered = record {
+        served = over_cut status.Done _ _ _ c.next_turn.new.session.parts _
+            (over_skip _ _ _ _ _ l.session.parts c.next_turn.new.session.parts _ _ (asked l.lines (g.S.Source.left l.source)) _ _ _ _ l.invariant.going refl turn.2 turn.3 c.next_turn.ensures.disk.counted)
+            (c.next_turn.ensures.disk.told ∙ l.invariant.told) (λ done. turn.0) (λ due is. is);
+        told = c.next_turn.ensures.disk.told ∙ l.invariant.told;
+        begun = tt;
+        done = λ e. done_within c.args.limit c.new-lines.result c.next_turn.new.lines _ _ _ _ lines c.new-lines.ensures (rw c.in-Ok-End.field-0-is at c.in-Ok-End.ensures.end);
+        source_fault = λ e. cc;
+        sink_fault = λ e. cc;
+        disk_fault = λ e. cc;
+        script_limit = λ e. cc;
+        silent = λ e none. (rw c.in-Ok-End.field-0-is at c.in-Ok-End.ensures.unread) ∙ (l.invariant.silent none).1;
+      };
+    }
+
+pub returns-in-Err-Read : goal.returns-in-Err-Read
+returns-in-Err-Read g c =
+    let l = c.loop-reply in
+    let is = c.in-Err-Read.is ∙ ap (λ e. Err e) c.in-Err-Read.field-0-is in
+    let stop = c.next_turn.ensures.stop is in record {
+      answered = record {
+        served = over_cut status.SourceFault _ _ _ c.next_turn.new.session.parts _
+            (over_skip _ _ _ _ _ l.session.parts c.next_turn.new.session.parts _ _ (asked l.lines (g.S.Source.left l.source)) _ _ _ _ l.invariant.going refl stop.0 stop.1 c.next_turn.ensures.disk.counted)
+            (c.next_turn.ensures.disk.told ∙ l.invariant.told) (λ done. cc) (λ due is. is);
+        told = c.next_turn.ensures.disk.told ∙ l.invariant.told;
+        begun = tt;
+        done = λ e. cc;
+        source_fault = λ e. omega (arith, l.invariant.lines.counted, c.next_turn.ensures.read is);
+        sink_fault = λ e. cc;
+        disk_fault = λ e. cc;
+        script_limit = λ e. cc;
+        silent = λ e. cc;
+      };
+    }
+
+pub returns-in-Err-Limit : goal.returns-in-Err-Limit
+returns-in-Err-Limit g c =
+    let l = c.loop-reply in
+    let is = c.in-Err-Limit.is ∙ ap (λ e. Err e) c.in-Err-Limit.field-0-is in
+    let stop = c.next_turn.ensures.stop_limit is in
+    let limit = c.next_turn.ensures.limit is in
+    let lines = advances_both c.new-lines.result l.lines c.next_turn.new.lines _ _ _ _ _ _ l.invariant.lines c.next_turn.ensures.lines in record {
+      answered = record {
+        served = over_cut status.ScriptLimit _ _ _ c.next_turn.new.session.parts _
+            (over_skip _ _ _ _ _ l.session.parts c.next_turn.new.session.parts _ _ (asked l.lines (g.S.Source.left l.source)) _ _ _ _ l.invariant.going refl stop.0 stop.1 c.next_turn.ensures.disk.counted)
+            (c.next_turn.ensures.disk.told ∙ l.invariant.told) (λ done. cc) (λ due is. is);
+        told = c.next_turn.ensures.disk.told ∙ l.invariant.told;
+        begun = tt;
+        done = λ e. cc;
+        source_fault = λ e. cc;
+        sink_fault = λ e. cc;
+        disk_fault = λ e. cc;
+        script_limit = λ e. limit_taken c.args.limit c.new-lines.result c.next_turn.new.lines _ _ _ _ lines c.new-lines.ensures limit.0;
+        silent = λ e. cc;
+      };
+    }
+
+pub returns-in-Err-Store : goal.returns-in-Err-Store
+returns-in-Err-Store g c =
+    let l = c.loop-reply in
+    let is = c.in-Err-Store.is ∙ ap (λ e. Err e) c.in-Err-Store.field-0-is in record {
+      answered = record {
+        served = over_broken _ _ _ l.session.parts _ _ _ _ l.invariant.going l.invariant.told c.next_turn.ensures.disk.told (c.next_turn.ensures.store is) c.next_turn.ensures.disk.counted;
+        told = c.next_turn.ensures.disk.told ∙ l.invariant.told;
+        begun = tt;
+        done = λ e. cc;
+        source_fault = λ e. cc;
+        sink_fault = λ e. cc;
+        disk_fault = λ e. omega (arith, l.invariant.disk_counted, c.next_turn.ensures.store_cause is);
+        script_limit = λ e. cc;
+        silent = λ e. cc;
+      };
+    }

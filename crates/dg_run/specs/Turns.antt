@@ -1,0 +1,115 @@
+-- What one turn over the script does: to the entries to come, to the session and its image, and in
+-- reply.
+use Rattle.std.specs.Prelude.{◌≡◌, ℕ, ◌<◌, true, List, [], ◌∷◌, IsTrue, IfSome, Option, Some, is_some, length}
+use Rattle.std.specs.Option.{option_map}
+use Rattle.dg_machine.specs.declared.reply.Reply.{Reply}
+use Rattle.dg_machine.specs.CutImage.{IsCut}
+use Rattle.dg_graph.specs.Lines.{ScriptLine, Text}
+use Rattle.dg_machine.specs.MachineState.{MachineState}
+use Rattle.dg_machine.specs.CommandGrammar.{CountIsInRange, IsColumn}
+use Rattle.dg_machine.specs.Run.{Step, is_store_read}
+use Rattle.dg_machine.specs.Script as script
+use Rattle.dg_io.specs.LinesState.{LinesState, told, Comes}
+use Rattle.dg_session.specs.Session.{WhereBothTold, StandsFor}
+use Rattle.dg_session.specs.Parts.{Parts}
+use Rattle.dg_disk.specs.Counts.{Rose as DiskRose}
+use Rattle.dg_io.specs.Told.{Gives, CountRose}
+use Rattle.dg_run.specs.declared.status.Status.{Status}
+use Rattle.dg_run.specs.declared.status.Status.TheVariants as status
+use Rattle.dg_run.specs.Outside.{Outside}
+use Rattle.dg_run.specs.Served.{HasNoEntry, Served}
+use Rattle.dg_run.specs.Statuses.{IsBegun}
+use Rattle.dg_run.specs.declared.turn.Meaning.{Meaning}
+use Rattle.dg_run.specs.declared.turn.Meaning.TheVariants as meaning
+use Rattle.dg_run.specs.declared.turn.Turn.{Turn}
+use Rattle.dg_run.specs.declared.turn.Turn.TheVariants as turn
+
+-- what the line is, in the words of the script
+abbrev pub Means : Meaning → List ℕ → Type 0
+Means meaning.Skipped line = script.meaning (Text line) ≡ script.Skipped
+Means (meaning.Command c) line = script.meaning (Text line) ≡ script.Command_is c
+Means (meaning.Other syntax) line = (script.meaning (Text line) ≡ script.Other (script.No_command line)) × IsColumn line syntax.0
+
+-- the numbers of a command are in their ranges
+abbrev pub HasRanges : Meaning → Type 0
+HasRanges meaning.Skipped = Unit {0}
+HasRanges (meaning.Command c) = CountIsInRange c
+HasRanges (meaning.Other syntax) = Unit {0}
+
+-- the entries to come, where the source tells what is left
+abbrev pub asked : LinesState → Option (List ℕ) → Option (List script.Entry)
+asked r left = option_map script.entries_of (told r left)
+
+-- from every state that the session stands for over its image, the machine may give the entry this
+-- reply, and the session then stands for the new state over the image then
+abbrev pub Replies : script.Entry → Parts → List ℕ → Parts → List ℕ → Reply → Type 0
+Replies e old image new now reply =
+    (m : MachineState) → StandsFor old image m → (k : MachineState) × Step m e reply k × StandsFor new now k
+
+-- what the turn says of the entries to come and of the session and its image, before it and after it
+abbrev pub Turns : Turn → Option (List script.Entry) → Option (List script.Entry) → Parts → Option (List ℕ) → Parts → Option (List ℕ) → Type 0
+Turns turn.End before after old image new now = IfSome before (λ rest. rest ≡ []) × (before ≡ after) × (new ≡ old) × (now ≡ image)
+Turns turn.Skipped before after old image new now = (before ≡ after) × (new ≡ old) × (now ≡ image)
+Turns (turn.Replied reply) before after old image new now =
+    (e : script.Entry) × (before ≡ option_map (λ more. e ∷ more) after)
+    × WhereBothTold image now (λ x y. Replies e old x new y reply)
+
+-- a reply that says that a read of the index file failed comes only where a call of the disk did
+abbrev pub TellsFailedReads : Turn → ℕ → ℕ → Type 0
+TellsFailedReads turn.End before after = Unit {0}
+TellsFailedReads turn.Skipped before after = Unit {0}
+TellsFailedReads (turn.Replied reply) before after = is_store_read reply.head ≡ true → DiskRose before after
+
+-- a turn without a reply reads nothing from the disk
+abbrev pub ReadsToReply : Turn → ℕ → ℕ → Type 0
+ReadsToReply turn.End before after = after ≡ before
+ReadsToReply turn.Skipped before after = after ≡ before
+ReadsToReply (turn.Replied reply) before after = Unit {0}
+
+-- the disk failed within the first of the entries to come, and the image is that of a cut
+abbrev pub Breaks : Option (List script.Entry) → Option (List script.Entry) → Parts → Option (List ℕ) → Option (List ℕ) → Type 0
+Breaks before after old image now =
+    (e : script.Entry) × (before ≡ option_map (λ more. e ∷ more) after)
+    × WhereBothTold image now (λ x y. (m : MachineState) → StandsFor old x m → IsCut m e x y)
+
+-- each turn but the last takes something
+abbrev pub TurnTakes : Turn → ℕ → ℕ → Type 0
+TurnTakes turn.End old new = Unit {0}
+TurnTakes turn.Skipped old new = new < old
+TurnTakes (turn.Replied reply) old new = new < old
+
+-- the last turn comes where a read has given the end of input
+abbrev pub EndsAt : Turn → LinesState → Type 0
+EndsAt turn.End r = IsTrue r.ended
+EndsAt turn.Skipped r = Unit {0}
+EndsAt (turn.Replied reply) r = Unit {0}
+
+-- the same where the first line was just taken: before it the entries were those of it and the
+-- lines to come
+abbrev pub TurnsAt : Turn → List ℕ → Option (List ScriptLine) → Option (List ScriptLine) → Parts → Option (List ℕ) → Parts → Option (List ℕ) → Type 0
+TurnsAt turn line before after old image new now =
+    (start : Option (List ScriptLine)) → Comes (Text line) start before
+    → Turns turn (option_map script.entries_of start) (option_map script.entries_of after) old image new now
+
+abbrev pub BreaksAt : List ℕ → Option (List ScriptLine) → Option (List ScriptLine) → Parts → Option (List ℕ) → Option (List ℕ) → Type 0
+BreaksAt line before after old image now =
+    (start : Option (List ScriptLine)) → Comes (Text line) start before
+    → Breaks (option_map script.entries_of start) (option_map script.entries_of after) old image now
+
+-- the turn is not the last
+abbrev pub GoesOnward : Turn → Type 0
+GoesOnward turn.End = ⊥
+GoesOnward turn.Skipped = Unit {0}
+GoesOnward (turn.Replied reply) = Unit {0}
+
+-- What the run from a started session comes to: how it ended, and what it leaves of source, sink and disk.
+pub record ScriptAnswered (limit : ℕ) (session : Parts) (s : Status) (start now : Outside) : Type 0 where
+  pub served : (image : List ℕ) (m : MachineState) → start.image ≡ Some image → StandsFor session image m → Served m s start now
+  pub told : is_some now.image ≡ is_some start.image
+  pub begun : IsBegun s
+  pub done : s ≡ status.Done → IfSome start.left (λ script. length script < limit)
+  pub source_fault : s ≡ status.SourceFault → CountRose start.source_faults now.source_faults
+  pub sink_fault : s ≡ status.SinkFault → CountRose start.sink_faults now.sink_faults
+  pub disk_fault : s ≡ status.DiskFault → DiskRose start.write_faults now.write_faults
+  pub script_limit : s ≡ status.ScriptLimit → (taken : List ℕ) × Gives start.left taken now.left × (length taken ≡ limit)
+  pub silent : s ≡ status.Done → HasNoEntry start.left → now.bytes_read ≡ start.bytes_read

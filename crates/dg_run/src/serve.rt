@@ -1,0 +1,123 @@
+ghost use Rattle.std.specs.Prelude.{◌≡◌, IfSome, map, string_bytes, true};
+ghost use Rattle.dg_machine.specs.MachineState.{IsWithin};
+ghost use Rattle.dg_start.specs.StoredHistory.{IsHeldBy};
+ghost use Rattle.dg_run.specs.Outside.{outside};
+ghost use Rattle.dg_words.specs.WrittenForm.{is_checked, is_written_form};
+ghost use Rattle.dg_run.specs.Promised.{Promised};
+ghost use Rattle.dg_run.specs.Turns.{ScriptAnswered};
+
+use crate::status::Status;
+use crate::turn::{Turn, next_turn};
+use dg_disk::Disk;
+use dg_history::{EVENTS_MAX, FILE_BYTES_MAX};
+use dg_io::{Lines, Sink, Source};
+use dg_line::write_reply;
+use dg_machine::{FIRST_HANDLE, Limits, SCRIPT_BYTES_MAX};
+use dg_session::{Session, Stop, law_begins_are_determined};
+use dg_words::read_words;
+use std::alloc::Global;
+use std::thread::Threads;
+
+/// Reads the words, and carries out the commands of the script one by one over the index file that
+/// the disk holds, which is verified first where the words say `--checked`. Each reply is written before
+/// the next line is read. It is `serve_with` at the standard limits.
+pub fn serve<R: Threads + Sync, S: Source, K: Sink, D: Disk>(
+    rt: &R,
+    alloc: Global,
+    words: &[String],
+    source: &mut S,
+    sink: &mut K,
+    disk: &mut D,
+) -> Status
+    ensures promise { Promised (record { script_bytes = SCRIPT_BYTES_MAX; events = EVENTS_MAX; file_bytes = FILE_BYTES_MAX; first_handle = FIRST_HANDLE })
+        (is_written_form (map string_bytes words.now)) (is_checked (map string_bytes words.now)) result
+        (outside S.left S.faults K.written K.faults D.image D.faults D.write_faults D.taken source.old sink.old disk.old)
+        (outside S.left S.faults K.written K.faults D.image D.faults D.write_faults D.taken source.new sink.new disk.new) }
+{
+    serve_with(rt, alloc, words, Limits::standard(), source, sink, disk)
+}
+
+/// The same within these limits. `specs/Promised.antt` says field by field what it promises.
+pub fn serve_with<R: Threads + Sync, S: Source, K: Sink, D: Disk>(
+    rt: &R,
+    alloc: Global,
+    words: &[String],
+    limits: Limits,
+    source: &mut S,
+    sink: &mut K,
+    disk: &mut D,
+) -> Status
+    requires limits { IsWithin limits }
+    ensures promise { Promised limits (is_written_form (map string_bytes words.now)) (is_checked (map string_bytes words.now)) result
+        (outside S.left S.faults K.written K.faults D.image D.faults D.write_faults D.taken source.old sink.old disk.old)
+        (outside S.left S.faults K.written K.faults D.image D.faults D.write_faults D.taken source.new sink.new disk.new) }
+{
+    match read_words(alloc, words) {
+        Ok(Some(read)) => carry_out(rt, alloc, read.checked, limits, source, sink, disk),
+        Ok(None) => Status::Words,
+        Err(_) => Status::NoMemory,
+    }
+}
+
+// Starts a session over the disk's image, checked or not, and carries out the script.
+fn carry_out<R: Threads + Sync, S: Source, K: Sink, D: Disk>(
+    rt: &R,
+    alloc: Global,
+    checked: bool,
+    limits: Limits,
+    source: &mut S,
+    sink: &mut K,
+    disk: &mut D,
+) -> Status
+    requires limits { IsWithin limits }
+    ensures promise { Promised limits true checked result
+        (outside S.left S.faults K.written K.faults D.image D.faults D.write_faults D.taken source.old sink.old disk.old)
+        (outside S.left S.faults K.written K.faults D.image D.faults D.write_faults D.taken source.new sink.new disk.new) }
+{
+    // Its clause says that an image comes to one beginning.
+    law_begins_are_determined();
+    match Session::start(rt, alloc, disk, checked, limits) {
+        Ok(mut session) => answer_script(
+            rt,
+            alloc,
+            limits.script_bytes,
+            &mut session,
+            source,
+            sink,
+            disk,
+        ),
+        Err(fault) => Status::from(fault),
+    }
+}
+
+// Answers the script by the session, of which at most so many bytes may be taken.
+fn answer_script<R: Threads + Sync, S: Source, K: Sink, D: Disk>(
+    rt: &R,
+    alloc: Global,
+    limit: u64,
+    session: &mut Session,
+    source: &mut S,
+    sink: &mut K,
+    disk: &mut D,
+) -> Status
+    requires { IfSome (D.image disk.old) (λ image. IsHeldBy session.old.parts.index session.old.parts.names image) }
+    ensures answered { ScriptAnswered limit session.old.parts result
+        (outside S.left S.faults K.written K.faults D.image D.faults D.write_faults D.taken source.old sink.old disk.old)
+        (outside S.left S.faults K.written K.faults D.image D.faults D.write_faults D.taken source.new sink.new disk.new) }
+{
+    let mut lines = Lines::new(limit);
+    loop {
+        match next_turn(rt, alloc, session, &mut lines, source, disk) {
+            Ok(Turn::Skipped) => {}
+            Ok(Turn::Replied(reply)) => {
+                if write_reply(sink, session.names(), &reply).is_err() {
+                    return Status::SinkFault;
+                }
+            }
+            Ok(Turn::End) => return Status::Done,
+            Err(Stop::Read) => return Status::SourceFault,
+            Err(Stop::Limit) => return Status::ScriptLimit,
+            Err(Stop::Store) => return Status::DiskFault,
+        }
+    }
+}

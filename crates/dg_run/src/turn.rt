@@ -1,0 +1,151 @@
+ghost use Rattle.std.specs.Prelude.{◌≡◌, None, IfOk, IfSome, OnOk, IsErrOf};
+ghost use Rattle.dg_disk.specs.Counts.{Rose as DiskRose};
+ghost use Rattle.dg_disk.specs.Frame.{GoesOn};
+ghost use Rattle.dg_io.specs.Frame.{Advances};
+ghost use Rattle.dg_io.specs.Told.{CountRose};
+ghost use Rattle.dg_io.specs.LinesState.{told, to_come, NeedsByte};
+ghost use Rattle.dg_machine.specs.Answer.{headed};
+ghost use Rattle.dg_start.specs.StoredHistory.{IsHeldBy};
+ghost use Rattle.dg_run.specs.Turns.{Breaks, BreaksAt, EndsAt, TurnTakes, GoesOnward, HasRanges, Means, ReadsToReply, TellsFailedReads, Turns, TurnsAt, asked};
+
+use dg_disk::Disk;
+use dg_io::{Line, LineFault, Lines, Source};
+use dg_line::{Syntax, read_command};
+use dg_machine::{BodyLines, Command, Head, Refusal, Reply};
+use dg_session::{Session, Stop};
+use std::alloc::Global;
+use std::thread::Threads;
+
+// The first byte of a line that is skipped.
+const COMMENT: u8 = b'#';
+
+/// What one turn over the script comes to.
+#[derive(Drop)]
+pub enum Turn {
+    /// The script is at its end.
+    End,
+    /// The line has no reply.
+    Skipped,
+    /// The reply to a command, or to a line that is in none.
+    Replied(Reply),
+}
+
+/// What a line is where a command is expected.
+#[derive(Clone, Copy)]
+pub enum Meaning {
+    /// It is empty, or begins with `#`.
+    Skipped,
+    /// It is this command.
+    Command(Command),
+    /// It is in no command.
+    Other(Syntax),
+}
+
+/// Takes the next line of the script and, where it is a command, the lines that follow it, and
+/// carries it out.
+///
+/// `Stop::Read` where a read of the source failed, `Stop::Limit` where another byte is needed and as
+/// many as the limit were taken: the session and its image are then as before. `Stop::Store` where a
+/// write or a sync of the disk failed.
+pub fn next_turn<R: Threads + Sync, S: Source, D: Disk>(
+    rt: &R,
+    alloc: Global,
+    session: &mut Session,
+    lines: &mut Lines,
+    source: &mut S,
+    disk: &mut D,
+) -> Result<Turn, Stop>
+    requires { IfSome (D.image disk.old) (λ image. IsHeldBy session.old.parts.index session.old.parts.names image) }
+    ensures turn { IfOk result (λ turn. Turns turn (asked lines.old (S.left source.old)) (asked lines.new (S.left source.new)) session.old.parts (D.image disk.old) session.new.parts (D.image disk.new)) }
+    ensures held { OnOk result (IfSome (D.image disk.new) (λ image. IsHeldBy session.new.parts.index session.new.parts.names image)) }
+    ensures no_index { OnOk result (session.new.parts.index ≡ None → (session.old.parts.index ≡ None) × (D.image disk.new ≡ D.image disk.old)) }
+    ensures falls { IfOk result (λ turn. TurnTakes turn (to_come lines.old) (to_come lines.new)) }
+    ensures end { IfOk result (λ turn. EndsAt turn lines.new) }
+    ensures store_read { IfOk result (λ turn. TellsFailedReads turn (D.faults disk.old) (D.faults disk.new)) }
+    ensures unread { IfOk result (λ turn. ReadsToReply turn (D.taken disk.old) (D.taken disk.new)) }
+
+    // why it stops
+    ensures stop { IsErrOf result Stop.Read → (session.new.parts ≡ session.old.parts) × (D.image disk.new ≡ D.image disk.old) }
+    ensures stop_limit { IsErrOf result Stop.Limit → (session.new.parts ≡ session.old.parts) × (D.image disk.new ≡ D.image disk.old) }
+    ensures store { IsErrOf result Stop.Store → Breaks (asked lines.old (S.left source.old)) (asked lines.new (S.left source.new)) session.old.parts (D.image disk.old) (D.image disk.new) }
+    ensures read { IsErrOf result Stop.Read → CountRose (S.faults source.old) (S.faults source.new) }
+    ensures limit { IsErrOf result Stop.Limit → (lines.new.taken ≡ lines.new.limit) × NeedsByte lines.new }
+    ensures store_cause { IsErrOf result Stop.Store → DiskRose (D.write_faults disk.old) (D.write_faults disk.new) }
+
+    // what it takes and leaves
+    ensures lines { Advances lines.old (S.left source.old) (S.faults source.old) lines.new (S.left source.new) (S.faults source.new) }
+    ensures disk { GoesOn D.image D.faults D.write_faults disk.old disk.new }
+{
+    match lines.next(source) {
+        Ok(Line::End) => Ok(Turn::End),
+        Ok(Line::TooLong) => Ok(Turn::Replied(refused(alloc, Refusal::LineLong))),
+        Ok(Line::Text(_)) => turn_of(rt, alloc, session, lines, source, disk),
+        Err(LineFault::Read) => Err(Stop::Read),
+        Err(LineFault::Limit) => Err(Stop::Limit),
+    }
+}
+
+// The turn at a line of the script, which was just taken.
+fn turn_of<R: Threads + Sync, S: Source, D: Disk>(
+    rt: &R,
+    alloc: Global,
+    session: &mut Session,
+    lines: &mut Lines,
+    source: &mut S,
+    disk: &mut D,
+) -> Result<Turn, Stop>
+    requires { IfSome (D.image disk.old) (λ image. IsHeldBy session.old.parts.index session.old.parts.names image) }
+    ensures turn { IfOk result (λ turn. TurnsAt turn lines.old.text (told lines.old (S.left source.old)) (told lines.new (S.left source.new)) session.old.parts (D.image disk.old) session.new.parts (D.image disk.new)) }
+    ensures goes_on { IfOk result (λ turn. GoesOnward turn) }
+    ensures store_read { IfOk result (λ turn. TellsFailedReads turn (D.faults disk.old) (D.faults disk.new)) }
+    ensures unread { IfOk result (λ turn. ReadsToReply turn (D.taken disk.old) (D.taken disk.new)) }
+    ensures held { OnOk result (IfSome (D.image disk.new) (λ image. IsHeldBy session.new.parts.index session.new.parts.names image)) }
+    ensures no_index { OnOk result (session.new.parts.index ≡ None → (session.old.parts.index ≡ None) × (D.image disk.new ≡ D.image disk.old)) }
+
+    // why it stops
+    ensures stop { IsErrOf result Stop.Read → (session.new.parts ≡ session.old.parts) × (D.image disk.new ≡ D.image disk.old) }
+    ensures stop_limit { IsErrOf result Stop.Limit → (session.new.parts ≡ session.old.parts) × (D.image disk.new ≡ D.image disk.old) }
+    ensures store { IsErrOf result Stop.Store → BreaksAt lines.old.text (told lines.old (S.left source.old)) (told lines.new (S.left source.new)) session.old.parts (D.image disk.old) (D.image disk.new) }
+    ensures read { IsErrOf result Stop.Read → CountRose (S.faults source.old) (S.faults source.new) }
+    ensures limit { IsErrOf result Stop.Limit → (lines.new.taken ≡ lines.new.limit) × NeedsByte lines.new }
+    ensures store_cause { IsErrOf result Stop.Store → DiskRose (D.write_faults disk.old) (D.write_faults disk.new) }
+
+    // what it takes and leaves
+    ensures lines { Advances lines.old (S.left source.old) (S.faults source.old) lines.new (S.left source.new) (S.faults source.new) }
+    ensures disk { GoesOn D.image D.faults D.write_faults disk.old disk.new }
+{
+    match meaning_of(lines.text()) {
+        Meaning::Skipped => Ok(Turn::Skipped),
+        Meaning::Other(Syntax(column)) => Ok(Turn::Replied(refused(
+            alloc,
+            Refusal::Syntax(column),
+        ))),
+        Meaning::Command(command) => Ok(Turn::Replied(session.step(
+            rt, &command, lines, source, disk,
+        )?)),
+    }
+}
+
+// What the line is.
+fn meaning_of(line: &[u8]) -> Meaning
+    ensures means { Means result line.now }
+    ensures ranges { HasRanges result }
+{
+    match line {
+        [] | [COMMENT, ..] => Meaning::Skipped,
+        _ => match read_command(line) {
+            Ok(command) => Meaning::Command(command),
+            Err(syntax) => Meaning::Other(syntax),
+        },
+    }
+}
+
+// The reply that refuses a line. It takes no memory.
+fn refused(alloc: Global, refusal: Refusal) -> Reply
+    ensures { result ≡ headed (Head.Refused refusal) }
+{
+    Reply {
+        head: Head::Refused(refusal),
+        body: BodyLines::new(alloc),
+    }
+}
