@@ -1,5 +1,5 @@
 use Rattle.dg_run.proofs.Promises.{bad_words, unread_words}
-use Rattle.dg_run.proofs.serve.serve_with.Goals as goal
+use Rattle.dg_run.proofs.run.serve_with.Goals as goal
 
 pub returns-in-Ok-None : goal.returns-in-Ok-None
 returns-in-Ok-None g c = record {
