@@ -5,8 +5,6 @@
 mod disk;
 mod file;
 mod memory;
-#[cfg(test)]
-mod tests;
 
 pub use disk::{Disk, Failed};
 pub use file::FileDisk;

@@ -7,8 +7,6 @@ mod memory;
 mod sink;
 mod source;
 mod standard;
-#[cfg(test)]
-mod tests;
 
 pub use lines::{Line, LineFault, Lines};
 pub use memory::{MemorySink, MemorySource, OutOfMemory};

@@ -1,4 +1,4 @@
-use crate::{
+use dg_io::{
     Failed, Line, LineFault, Lines, MemorySink, MemorySource, Sink, Source, StdSink, StdSource,
     write_whole,
 };

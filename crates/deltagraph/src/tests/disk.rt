@@ -1,4 +1,4 @@
-use crate::{Disk, Failed, FileDisk, MemoryDisk};
+use dg_disk::{Disk, Failed, FileDisk, MemoryDisk};
 use std::test::Fail;
 use std::{env, fs, process};
 
