@@ -17,6 +17,9 @@ use Rattle.dg_file.specs.Invariant.{with_rows}
 use Rattle.dg_file.proofs.Found.{fit_facts, range_within}
 use Rattle.dg_file.proofs.NextSegments.{outside, broken, next_on, taken_next}
 use Rattle.dg_file.proofs.NotedBatches.{bytes_with}
+use Rattle.dg_file.proofs.Moves.{on_err_any}
+use Rattle.dg_file.proofs.TakenBytes.{behind_most, directory_most, gate_most, lengths_most, text_most}
+use Rattle.dg_disk.specs.Counts.{raised_by}
 use Rattle.dg_file.proofs.index.Index.read_next.Goals as goal
 
 pub returns-in_err-lengths-clause-refused : goal.returns-in_err-lengths-clause-refused
@@ -110,3 +113,67 @@ returns-clause-taken g c = λ n start.
     let all : opening_bytes c.note.new.self.opening ≡ opening_bytes o + 17 + h.directory = omega (arith, ap opening_bytes new, bytes, sound, takes.measured, same) in
     taken_next (opening_bytes o) (opening_bytes c.note.new.self.opening) h.directory n (g.D.Disk.taken c.args.disk.now) (g.D.Disk.taken c.read_lengths.new.disk) (g.D.Disk.taken c.read_range.new.disk) (g.D.Disk.taken c.read_byte.new.disk) long all start
     c.in_ok-lengths.ensures.taken c.in_ok-text.ensures.taken c.in_ok-gate.ensures.taken
+
+pub returns-in_err-lengths-clause-bounded : goal.returns-in_err-lengths-clause-bounded
+returns-in_err-lengths-clause-bounded g c =
+    let o : Opening = c.args.self.now.opening in
+    let offset : ℕ = c.self.inside.used in
+    let len : ℕ = c.args.len in
+    let start : ℕ = g.D.Disk.taken c.args.disk.now in
+    let same : offset ≡ o.used = ap (λ (v : IndexState). v.opening.used) c.self.view_is in
+    on_err_any c.from_residual.result (λ (t : ℕ) (s : start ≡ raised_by (opening_bytes o) t). lengths_most o offset len t start (g.D.Disk.taken c.read_lengths.new.disk) same c.requires.within c.in_err-lengths.ensures.bounded s)
+
+pub returns-in_err-text-clause-bounded : goal.returns-in_err-text-clause-bounded
+returns-in_err-text-clause-bounded g c =
+    let o : Opening = c.args.self.now.opening in
+    let offset : ℕ = c.self.inside.used in
+    let len : ℕ = c.args.len in
+    let start : ℕ = g.D.Disk.taken c.args.disk.now in
+    let same : offset ≡ o.used = ap (λ (v : IndexState). v.opening.used) c.self.view_is in
+    let h : Lengths = c.in_ok-lengths.lengths in
+    let f = fit_facts offset len h c.in_ok-lengths.ensures.fit in
+    on_err_any c.from_residual-in_err-text.result (λ (t : ℕ) (s : start ≡ raised_by (opening_bytes o) t). text_most o offset h.directory h.columns len t start (g.D.Disk.taken c.read_lengths.new.disk) (g.D.Disk.taken c.read_range.new.disk) same f.0 c.in_ok-lengths.ensures.taken c.in_err-text.ensures.none_taken s)
+
+pub returns-in-Err-Broken-clause-bounded : goal.returns-in-Err-Broken-clause-bounded
+returns-in-Err-Broken-clause-bounded g c =
+    let o : Opening = c.args.self.now.opening in
+    let offset : ℕ = c.self.inside.used in
+    let len : ℕ = c.args.len in
+    let start : ℕ = g.D.Disk.taken c.args.disk.now in
+    let same : offset ≡ o.used = ap (λ (v : IndexState). v.opening.used) c.self.view_is in
+    let h : Lengths = c.in_ok-lengths.lengths in
+    let f = fit_facts offset len h c.in_ok-lengths.ensures.fit in
+    λ t s. directory_most o offset h.directory h.columns len t start (g.D.Disk.taken c.read_lengths.new.disk) (g.D.Disk.taken c.read_range.new.disk) same f.0 c.in_ok-lengths.ensures.taken c.in_ok-text.ensures.taken s
+
+pub returns-in-Err-Memory-clause-bounded : goal.returns-in-Err-Memory-clause-bounded
+returns-in-Err-Memory-clause-bounded g c =
+    let o : Opening = c.args.self.now.opening in
+    let offset : ℕ = c.self.inside.used in
+    let len : ℕ = c.args.len in
+    let start : ℕ = g.D.Disk.taken c.args.disk.now in
+    let same : offset ≡ o.used = ap (λ (v : IndexState). v.opening.used) c.self.view_is in
+    let h : Lengths = c.in_ok-lengths.lengths in
+    let f = fit_facts offset len h c.in_ok-lengths.ensures.fit in
+    λ t s. directory_most o offset h.directory h.columns len t start (g.D.Disk.taken c.read_lengths.new.disk) (g.D.Disk.taken c.read_range.new.disk) same f.0 c.in_ok-lengths.ensures.taken c.in_ok-text.ensures.taken s
+
+pub returns-in_err-gate-clause-bounded : goal.returns-in_err-gate-clause-bounded
+returns-in_err-gate-clause-bounded g c =
+    let o : Opening = c.args.self.now.opening in
+    let offset : ℕ = c.self.inside.used in
+    let len : ℕ = c.args.len in
+    let start : ℕ = g.D.Disk.taken c.args.disk.now in
+    let same : offset ≡ o.used = ap (λ (v : IndexState). v.opening.used) c.self.view_is in
+    let h : Lengths = c.in_ok-lengths.lengths in
+    let f = fit_facts offset len h c.in_ok-lengths.ensures.fit in
+    on_err_any c.from_residual-in_err-gate.result (λ (t : ℕ) (s : start ≡ raised_by (opening_bytes o) t). gate_most o offset h.directory h.columns len t start (g.D.Disk.taken c.read_lengths.new.disk) (g.D.Disk.taken c.read_range.new.disk) (g.D.Disk.taken c.read_byte.new.disk) same f.0 c.in_ok-lengths.ensures.taken c.in_ok-text.ensures.taken c.in_err-gate.ensures.none_taken s)
+
+pub returns-in_err-reserve-clause-bounded : goal.returns-in_err-reserve-clause-bounded
+returns-in_err-reserve-clause-bounded g c =
+    let o : Opening = c.args.self.now.opening in
+    let offset : ℕ = c.self.inside.used in
+    let len : ℕ = c.args.len in
+    let start : ℕ = g.D.Disk.taken c.args.disk.now in
+    let same : offset ≡ o.used = ap (λ (v : IndexState). v.opening.used) c.self.view_is in
+    let h : Lengths = c.in_ok-lengths.lengths in
+    let f = fit_facts offset len h c.in_ok-lengths.ensures.fit in
+    on_err_any c.from_residual-in_err-reserve.result (λ (t : ℕ) (s : start ≡ raised_by (opening_bytes o) t). behind_most o offset h.directory h.columns len t start (g.D.Disk.taken c.read_lengths.new.disk) (g.D.Disk.taken c.read_range.new.disk) (g.D.Disk.taken c.read_byte.new.disk) same f.0 c.in_ok-lengths.ensures.taken c.in_ok-text.ensures.taken c.in_ok-gate.ensures.taken s)

@@ -1,0 +1,52 @@
+-- An opening takes no more bytes than the image has, however far it came with a segment: each lemma is for an end
+-- at one of its reads.
+use Rattle.std.proofs.Common.{◌≡◌, ℕ, ◌+◌, ◌-◌, ◌≤◌, refl, arith}
+use Rattle.dg_disk.specs.Counts.{raised_by}
+use Rattle.dg_index.specs.OpenedIndex.{Opening}
+use Rattle.dg_file.specs.Images.{taken_after}
+use Rattle.dg_file.specs.Index.{opening_bytes}
+use Rattle.dg_file.proofs.Found.{taken_bound}
+
+start_most : (o : Opening) (t start : ℕ) → start ≡ raised_by (opening_bytes o) t → start ≤ t + o.used
+start_most o t start s = omega (arith, s)
+
+-- at the lengths
+pub lengths_most : (o : Opening) (offset len t start one : ℕ) → offset ≡ o.used → o.used ≤ len → one ≤ start + (len - offset) → start ≡ raised_by (opening_bytes o) t → one ≤ t + len
+lengths_most o offset len t start one same within one_most s =
+    let most = start_most o t start s in
+    room o.used offset len t start one same within one_most most
+  where
+    room : (used offset len t start one : ℕ) → offset ≡ used → used ≤ len → one ≤ start + (len - offset) → start ≤ t + used → one ≤ t + len
+    room used offset len t start one same within one_most most = omega arith
+
+most : (used offset directory columns len t start one two three : ℕ) → offset ≡ used → offset + 17 + directory + columns ≤ len → start ≤ t + used → one ≤ start + 16 → two ≤ one + directory → three ≤ two + 1 → three ≤ t + len
+most used offset directory columns len t start one two three same fits s o w h = omega arith
+
+raised_most : (n count new : ℕ) → new ≡ raised_by n count → new ≤ count + n
+raised_most n count new is = omega (arith, is)
+
+after_most : (n count new : ℕ) → new ≡ taken_after n count → new ≤ count + n
+after_most n count new is = omega (arith, is, taken_bound n count)
+
+same_most : (n count new : ℕ) → new ≡ count → new ≤ count + n
+same_most n count new is = omega (arith, is)
+
+-- at the directory, of which no byte came
+pub text_most : (o : Opening) (offset directory columns len t start one two : ℕ) → offset ≡ o.used → offset + 17 + directory + columns ≤ len → one ≡ raised_by 16 start → two ≡ one → start ≡ raised_by (opening_bytes o) t → two ≤ t + len
+text_most o offset directory columns len t start one two same fits l d s =
+    most o.used offset directory columns len t start one two two same fits (start_most o t start s) (raised_most 16 start one l) (same_most directory one two d) (same_most 1 two two refl)
+
+-- behind the directory
+pub directory_most : (o : Opening) (offset directory columns len t start one two : ℕ) → offset ≡ o.used → offset + 17 + directory + columns ≤ len → one ≡ raised_by 16 start → two ≡ taken_after directory one → start ≡ raised_by (opening_bytes o) t → two ≤ t + len
+directory_most o offset directory columns len t start one two same fits l d s =
+    most o.used offset directory columns len t start one two two same fits (start_most o t start s) (raised_most 16 start one l) (after_most directory one two d) (same_most 1 two two refl)
+
+-- at the gate, which did not come
+pub gate_most : (o : Opening) (offset directory columns len t start one two three : ℕ) → offset ≡ o.used → offset + 17 + directory + columns ≤ len → one ≡ raised_by 16 start → two ≡ taken_after directory one → three ≡ two → start ≡ raised_by (opening_bytes o) t → three ≤ t + len
+gate_most o offset directory columns len t start one two three same fits l d g s =
+    most o.used offset directory columns len t start one two three same fits (start_most o t start s) (raised_most 16 start one l) (after_most directory one two d) (same_most 1 two three g)
+
+-- behind the gate
+pub behind_most : (o : Opening) (offset directory columns len t start one two three : ℕ) → offset ≡ o.used → offset + 17 + directory + columns ≤ len → one ≡ raised_by 16 start → two ≡ taken_after directory one → three ≡ raised_by 1 two → start ≡ raised_by (opening_bytes o) t → three ≤ t + len
+behind_most o offset directory columns len t start one two three same fits l d g s =
+    most o.used offset directory columns len t start one two three same fits (start_most o t start s) (raised_most 16 start one l) (after_most directory one two d) (raised_most 1 two three g)
