@@ -25,21 +25,16 @@ most used offset directory columns len t start one two three same fits s o w h =
 raised_most : (n count new : ℕ) → new ≡ raised_by n count → new ≤ count + n
 raised_most n count new is = omega (arith, is)
 
-after_most : (n count new : ℕ) → new ≡ taken_after n count → new ≤ count + n
+pub after_most : (n count new : ℕ) → new ≡ taken_after n count → new ≤ count + n
 after_most n count new is = omega (arith, is, taken_bound n count)
 
 same_most : (n count new : ℕ) → new ≡ count → new ≤ count + n
 same_most n count new is = omega (arith, is)
 
--- at the directory, of which no byte came
-pub text_most : (o : Opening) (offset directory columns len t start one two : ℕ) → offset ≡ o.used → offset + 17 + directory + columns ≤ len → one ≡ raised_by 16 start → two ≡ one → start ≡ raised_by (opening_bytes o) t → two ≤ t + len
-text_most o offset directory columns len t start one two same fits l d s =
-    most o.used offset directory columns len t start one two two same fits (start_most o t start s) (raised_most 16 start one l) (same_most directory one two d) (same_most 1 two two refl)
-
--- behind the directory
-pub directory_most : (o : Opening) (offset directory columns len t start one two : ℕ) → offset ≡ o.used → offset + 17 + directory + columns ≤ len → one ≡ raised_by 16 start → two ≡ taken_after directory one → start ≡ raised_by (opening_bytes o) t → two ≤ t + len
+-- at the directory
+pub directory_most : (o : Opening) (offset directory columns len t start one two : ℕ) → offset ≡ o.used → offset + 17 + directory + columns ≤ len → one ≡ raised_by 16 start → two ≤ one + directory → start ≡ raised_by (opening_bytes o) t → two ≤ t + len
 directory_most o offset directory columns len t start one two same fits l d s =
-    most o.used offset directory columns len t start one two two same fits (start_most o t start s) (raised_most 16 start one l) (after_most directory one two d) (same_most 1 two two refl)
+    most o.used offset directory columns len t start one two two same fits (start_most o t start s) (raised_most 16 start one l) d (same_most 1 two two refl)
 
 -- at the gate, which did not come
 pub gate_most : (o : Opening) (offset directory columns len t start one two three : ℕ) → offset ≡ o.used → offset + 17 + directory + columns ≤ len → one ≡ raised_by 16 start → two ≡ taken_after directory one → three ≡ two → start ≡ raised_by (opening_bytes o) t → three ≤ t + len

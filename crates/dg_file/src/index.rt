@@ -1,6 +1,6 @@
 //! An index over a disk: it is made, reopened, read, and given a batch.
 
-ghost use Rattle.std.specs.Prelude.{◌≡◌, ◌≢◌, ◌≤◌, ◌<◌, ◌+◌, ◌-◌, ◌^◌, ℕ, List, [], ◌∷◌, ◌++◌, true, false, length, map, min, Some, None, Ok, Err, is_some, slice_get, IsSome, IfSome, IfOk, IfErr, OnOk, OnErr, IsErrOf};
+ghost use Rattle.std.specs.Prelude.{◌≡◌, ◌≢◌, ◌≤◌, ◌<◌, ◌+◌, ◌-◌, ◌^◌, ℕ, List, [], ◌∷◌, ◌++◌, true, false, drop, length, map, min, take, Some, None, Ok, Err, is_some, slice_get, IsSome, IfSome, IfOk, IfErr, OnOk, OnErr, IsErrOf};
 ghost use Rattle.std.specs.Map.{lookup};
 ghost use Rattle.dg_disk.specs.Counts.{Rose, raised_by};
 ghost use Rattle.dg_disk.specs.Frame.{OnlyReads, OnlyWrites, ReadsAndSyncs};
@@ -13,11 +13,11 @@ ghost use Rattle.dg_index.specs.ImageOfHistory.{is_blank, IsImageOf};
 ghost use Rattle.dg_index.specs.IndexGrowth.{AreInTurn, IsDue, columns_in, index_with, last_time_in, name_total, needed_for};
 ghost use Rattle.dg_index.specs.IndexKeys.{AreKept};
 ghost use Rattle.dg_index.specs.OpenedIndex.{column_at, bare, directory_of, earliest_in, event_total, first_in, keys_next, last_list, list_count, may_be_listed, may_follow, opened_of, opening, rows_in, span_in};
-ghost use Rattle.dg_disk.specs.Image.{IsLengthOf};
+ghost use Rattle.dg_disk.specs.Image.{HasRange, IsLengthOf};
 ghost use Rattle.dg_shape.specs.Additions.{bytes_of_rows, Suits};
 ghost use Rattle.dg_shape.specs.Points.{ListsRise};
-ghost use Rattle.dg_file.specs.Directories.{directory_due, TakesDirectory};
-ghost use Rattle.dg_file.specs.Headers.{IsOpenedSoFar};
+ghost use Rattle.dg_file.specs.Directories.{directory_due, FindsDirectory, TakesDirectory};
+ghost use Rattle.dg_file.specs.Headers.{IsOpenedSoFar, Misses};
 ghost use Rattle.dg_file.specs.Index.{HasSegmentRoom, opening_bytes};
 ghost use Rattle.dg_file.specs.Images.{BothTold, Fits, GainsBatch, GainsBatchOrNot, GainsSegment, IsMadeInPart, IsOpenedAs, RefusesOpening, taken_after};
 ghost use Rattle.dg_file.specs.Invariant.{listed_after, with_rows};
@@ -29,7 +29,7 @@ use crate::directory_rows::{has_rows, is_measured, may_be_listed, rows_in};
 use crate::fault::{CommitFault, CreateFault, FetchFault, ReopenFault};
 use crate::found_directory::FoundDirectory;
 use crate::header::{HEADER_BYTES, OPEN};
-use crate::lengths::LENGTHS_BYTES;
+use crate::lengths::{LENGTHS_BYTES, Lengths};
 use crate::making::write_header;
 use crate::numbers::u32_at;
 use crate::prepared_segment::{PreparedSegment, Ready};
@@ -306,6 +306,36 @@ impl Index {
         Ok(())
     }
 
+    // Reads the directory of the segment behind the bytes in use, which begins with these lengths, and adds
+    // its names to those before it.
+    fn read_found<D: Disk>(
+        &self,
+        disk: &mut D,
+        lengths: Lengths,
+        names: &mut Names,
+    ) -> Result<FoundDirectory, ReopenFault>
+        requires { HasRange (D.image disk.old) (self.now.opening.used + 16) lengths.directory }
+        ensures found { IfOk result (λ found. FindsDirectory (D.image disk.old) self.now.opening lengths names.old names.new found) }
+        ensures taken { OnOk result (D.taken disk.new ≡ taken_after lengths.directory (D.taken disk.old)) }
+
+        // errors
+        ensures refused { IfErr result (λ fault. IfSome (D.image disk.old) (λ image. Misses self.now.opening.used (directory_due (record { index = self.now.opening; names = names.old }) lengths.columns (take lengths.directory (drop (self.now.opening.used + 16) image)) ≡ None) fault)) }
+        ensures bounded { OnErr result (D.taken disk.new ≤ D.taken disk.old + lengths.directory) }
+        ensures cause { IsErrOf result ReopenFault.Disk → Rose (D.faults disk.old) (D.faults disk.new) }
+
+        // frame
+        ensures frame { OnlyReads D.image D.faults D.write_faults disk.old disk.new }
+    {
+        let offset = self.used;
+        let text = read_range(self.alloc, disk, offset + LENGTHS_BYTES as u64, lengths.directory)?;
+        let found = match self.read_directory(&text, lengths.columns, names) {
+            Ok(found) => found,
+            Err(Untaken::Broken) => return Err(ReopenFault::Damaged(offset)),
+            Err(Untaken::Memory) => return Err(ReopenFault::Memory),
+        };
+        Ok(found)
+    }
+
     // Reads the segment behind the bytes in use, whose gate is open. Answers the byte of the gate
     // behind it.
     fn read_next<D: Disk>(
@@ -334,14 +364,8 @@ impl Index {
     {
         let offset = self.used;
         let lengths = read_lengths(disk, offset, len)?;
-        let directory_offset = offset + LENGTHS_BYTES as u64;
-        let text = read_range(self.alloc, disk, directory_offset, lengths.directory)?;
-        let found = match self.read_directory(&text, lengths.columns, names) {
-            Ok(found) => found,
-            Err(Untaken::Broken) => return Err(ReopenFault::Damaged(offset)),
-            Err(Untaken::Memory) => return Err(ReopenFault::Memory),
-        };
-        let columns_offset = directory_offset + lengths.directory;
+        let found = self.read_found(disk, lengths, names)?;
+        let columns_offset = offset + LENGTHS_BYTES as u64 + lengths.directory;
         let gate_offset = columns_offset + lengths.columns;
         let gate = read_byte(disk, gate_offset)?;
         self.reserve(found.keys.len() as u64)?;
