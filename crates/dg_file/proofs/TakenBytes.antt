@@ -1,7 +1,7 @@
 -- An opening takes no more bytes than the image has, however far it came with a segment: each lemma is for an end
 -- at one of its reads.
 use Rattle.std.proofs.Common.{◌≡◌, ℕ, ◌+◌, ◌-◌, ◌≤◌, refl, arith}
-use Rattle.dg_disk.specs.Counts.{raised_by}
+use Rattle.dg_disk.specs.Counts.{raised_by, Rose}
 use Rattle.dg_index.specs.OpenedIndex.{Opening}
 use Rattle.dg_file.specs.Images.{taken_after}
 use Rattle.dg_file.specs.Index.{opening_bytes}
@@ -45,3 +45,7 @@ gate_most o offset directory columns len t start one two three same fits l d g s
 pub behind_most : (o : Opening) (offset directory columns len t start one two three : ℕ) → offset ≡ o.used → offset + 17 + directory + columns ≤ len → one ≡ raised_by 16 start → two ≡ taken_after directory one → three ≡ raised_by 1 two → start ≡ raised_by (opening_bytes o) t → three ≤ t + len
 behind_most o offset directory columns len t start one two three same fits l d g s =
     most o.used offset directory columns len t start one two three same fits (start_most o t start s) (raised_most 16 start one l) (after_most directory one two d) (raised_most 1 two three g)
+
+-- a count that rose behind two others that did not fall
+pub rose_after : (a b c d : ℕ) → a ≤ b → b ≤ c → Rose c d → Rose a d
+rose_after a b c d one two rose = omega (arith, rose)

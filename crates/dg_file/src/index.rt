@@ -327,7 +327,12 @@ impl Index {
         ensures frame { OnlyReads D.image D.faults D.write_faults disk.old disk.new }
     {
         let offset = self.used;
-        let text = read_range(self.alloc, disk, offset + LENGTHS_BYTES as u64, lengths.directory)?;
+        let text = read_range(
+            self.alloc,
+            disk,
+            offset + LENGTHS_BYTES as u64,
+            lengths.directory,
+        )?;
         let found = match self.read_directory(&text, lengths.columns, names) {
             Ok(found) => found,
             Err(Untaken::Broken) => return Err(ReopenFault::Damaged(offset)),

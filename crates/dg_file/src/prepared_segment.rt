@@ -53,11 +53,7 @@ fn rows_of(alloc: Global, segment: &Segment) -> Result<Vec<Row>, AllocError>
 
 impl Ready {
     /// What goes with a segment, with these keys. `AllocError` for want of memory.
-    pub(crate) fn new(
-        alloc: Global,
-        segment: &Segment,
-        keys: Vec<Key>,
-    ) -> Result<Ready, AllocError>
+    pub(crate) fn new(alloc: Global, segment: &Segment, keys: Vec<Key>) -> Result<Ready, AllocError>
         ensures keys { IfOk result (λ r. r.keys ≡ keys) }
         ensures rows { IfOk result (λ r. r.rows.items ≡ rows_in (directory_of segment.now)) }
         ensures head { IfOk result (λ r. r.head.items ≡ head_of segment.now) }

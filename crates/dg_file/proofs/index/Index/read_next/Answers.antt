@@ -1,10 +1,10 @@
-use Rattle.std.proofs.Common.{◌≡◌, ℕ, ◌+◌, ◌≤◌, List, None, Err, take, drop, sym, ap, subst, ◌∙◌, arith, false}
+use Rattle.std.proofs.Common.{◌≡◌, ℕ, ◌+◌, ◌≤◌, List, None, take, drop, sym, ap, subst, ◌∙◌, arith, false}
 use Rattle.std.specs.Prelude.{IfSome, slice_index}
 use Rattle.std.proofs.lemmas.Result.{err_from_is_err_and}
 use Rattle.dg_disk.specs.Image.{IsLengthOf}
-use Rattle.dg_index.specs.IndexGrowth.{columns_in}
+use Rattle.dg_index.specs.IndexGrowth.{columns_in, name_total}
 use Rattle.dg_index.specs.OpenedIndex.{Opening, opening, keys_next, event_total, earliest_in, first_in, last_list, may_be_listed, may_follow}
-use Rattle.dg_shape.specs.Additions.{Suits}
+use Rattle.dg_shape.specs.Additions.{Suits, bytes_of_rows}
 use Rattle.dg_history.specs.declared.node.Key.{Key}
 use Rattle.dg_file.specs.declared.lengths.Lengths.{Lengths}
 use Rattle.dg_file.specs.Directories.{FindsDirectory, directory_due}
@@ -18,7 +18,7 @@ use Rattle.dg_file.proofs.Found.{fit_facts, range_within}
 use Rattle.dg_file.proofs.NextSegments.{outside, broken, next_on, taken_next}
 use Rattle.dg_file.proofs.NotedBatches.{bytes_with}
 use Rattle.dg_file.proofs.Moves.{on_err_any}
-use Rattle.dg_file.proofs.TakenBytes.{behind_most, directory_most, gate_most, lengths_most}
+use Rattle.dg_file.proofs.TakenBytes.{behind_most, directory_most, gate_most, lengths_most, rose_after}
 use Rattle.dg_disk.specs.Counts.{raised_by}
 use Rattle.dg_file.proofs.index.Index.read_next.Goals as goal
 
@@ -161,3 +161,36 @@ returns-in_err-reserve-clause-bounded g c =
     let h : Lengths = c.in_ok-lengths.lengths in
     let f = fit_facts offset len h c.in_ok-lengths.ensures.fit in
     on_err_any c.from_residual-in_err-reserve.result (λ (t : ℕ) (s : start ≡ raised_by (opening_bytes o) t). behind_most o offset h.directory h.columns len t start (g.D.Disk.taken c.read_lengths.new.disk) (g.D.Disk.taken c.read_found.new.disk) (g.D.Disk.taken c.read_byte.new.disk) same f.0 c.in_ok-lengths.ensures.taken c.in_ok-found.ensures.taken c.in_ok-gate.ensures.taken s)
+
+pub overflow_add-columns_offset : goal.overflow_add-columns_offset
+overflow_add-columns_offset g c =
+    let f = fit_facts c.self.inside.used c.args.len c.in_ok-lengths.lengths c.in_ok-lengths.ensures.fit in
+    omega (arith, f)
+
+pub overflow_add-gate_offset : goal.overflow_add-gate_offset
+overflow_add-gate_offset g c =
+    let f = fit_facts c.self.inside.used c.args.len c.in_ok-lengths.lengths c.in_ok-lengths.ensures.fit in
+    omega (arith, f)
+
+pub note-requires-clause-behind : goal.note-requires-clause-behind
+note-requires-clause-behind g c =
+    let same : c.self.inside.used ≡ c.args.self.now.opening.used = ap (λ (v : IndexState). v.opening.used) c.self.view_is in
+    omega (arith, same, ap (λ (o : Opening). o.used) c.reserve.ensures.same)
+
+pub note-requires-clause-names : goal.note-requires-clause-names
+note-requires-clause-names g c =
+    let takes = c.in_ok-found.ensures.found.taken in
+    omega (arith, ap (λ (o : Opening). name_total o.batches) c.reserve.ensures.same, c.requires.counted_names, takes.counted, takes.few)
+
+pub note-requires-clause-used : goal.note-requires-clause-used
+note-requires-clause-used g c =
+    ap (λ n. c.self.inside.used + 16 + c.in_ok-lengths.lengths.directory + n + 1) (ap bytes_of_rows c.deref-2.ensures.value ∙ c.in_ok-found.ensures.found.taken.measured)
+
+pub returns-clause-progress : goal.returns-clause-progress
+returns-clause-progress g c =
+    let same : c.self.inside.used ≡ c.args.self.now.opening.used = ap (λ (v : IndexState). v.opening.used) c.self.view_is in
+    omega (arith, same, ap (λ (o : Opening). o.used) c.note.ensures)
+
+pub returns-in_err-gate-clause-cause : goal.returns-in_err-gate-clause-cause
+returns-in_err-gate-clause-cause g c =
+    λ _. rose_after (g.D.Disk.faults c.args.disk.now) (g.D.Disk.faults c.read_lengths.new.disk) (g.D.Disk.faults c.read_found.new.disk) (g.D.Disk.faults c.read_byte.new.disk) c.read_lengths.ensures.frame.counted c.read_found.ensures.frame.counted c.in_err-gate.ensures.cause
