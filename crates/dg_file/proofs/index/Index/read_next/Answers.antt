@@ -18,7 +18,7 @@ use Rattle.dg_file.proofs.Found.{fit_facts, range_within}
 use Rattle.dg_file.proofs.NextSegments.{outside, broken, next_on, taken_next}
 use Rattle.dg_file.proofs.NotedBatches.{bytes_with}
 use Rattle.dg_file.proofs.Moves.{on_err_any}
-use Rattle.dg_file.proofs.TakenBytes.{behind_most, directory_most, gate_most, lengths_most, rose_after}
+use Rattle.dg_file.proofs.TakenBytes.{behind_most, directory_most, gate_most, lengths_most, reads_then, rose_after}
 use Rattle.dg_disk.specs.Counts.{raised_by}
 use Rattle.dg_file.proofs.index.Index.read_next.Goals as goal
 
@@ -194,3 +194,19 @@ returns-clause-progress g c =
 pub returns-in_err-gate-clause-cause : goal.returns-in_err-gate-clause-cause
 returns-in_err-gate-clause-cause g c =
     λ _. rose_after (g.D.Disk.faults c.args.disk.now) (g.D.Disk.faults c.read_lengths.new.disk) (g.D.Disk.faults c.read_found.new.disk) (g.D.Disk.faults c.read_byte.new.disk) c.read_lengths.ensures.frame.counted c.read_found.ensures.frame.counted c.in_err-gate.ensures.cause
+
+pub returns-in_err-found-clause-frame : goal.returns-in_err-found-clause-frame
+returns-in_err-found-clause-frame g c =
+    reads_then c.args.disk.now c.read_lengths.new.disk c.read_found.new.disk c.read_lengths.ensures.frame c.read_found.ensures.frame
+
+pub returns-in_err-gate-clause-frame : goal.returns-in_err-gate-clause-frame
+returns-in_err-gate-clause-frame g c =
+    reads_then c.args.disk.now c.read_found.new.disk c.read_byte.new.disk (reads_then c.args.disk.now c.read_lengths.new.disk c.read_found.new.disk c.read_lengths.ensures.frame c.read_found.ensures.frame) c.read_byte.ensures.frame
+
+pub returns-in_err-reserve-clause-frame : goal.returns-in_err-reserve-clause-frame
+returns-in_err-reserve-clause-frame g c =
+    reads_then c.args.disk.now c.read_found.new.disk c.read_byte.new.disk (reads_then c.args.disk.now c.read_lengths.new.disk c.read_found.new.disk c.read_lengths.ensures.frame c.read_found.ensures.frame) c.read_byte.ensures.frame
+
+pub returns-clause-frame : goal.returns-clause-frame
+returns-clause-frame g c =
+    reads_then c.args.disk.now c.read_found.new.disk c.read_byte.new.disk (reads_then c.args.disk.now c.read_lengths.new.disk c.read_found.new.disk c.read_lengths.ensures.frame c.read_found.ensures.frame) c.read_byte.ensures.frame
