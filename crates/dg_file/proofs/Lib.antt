@@ -7,6 +7,7 @@ pub mod DirectoryTests
 pub mod NotedBatches
 pub mod NextRows
 pub mod NextSegments
+pub mod TakenBytes
 pub mod FetchedColumns
 pub mod AddedSegments
 pub mod Creations

@@ -69,13 +69,18 @@ module _ (image : List ℕ) (x : Opened) (h : Lengths) (bytes : List ℕ) (is : 
       by true = sym due_same ∙ none
       by false = refl
 
-pub broken : (x : Option (List ℕ)) (o : Opening) (names : List (List ℕ)) (offset : ℕ) (h : Lengths) (bytes : List ℕ) → offset ≡ o.used → IfSome x (λ image. IsOpenedSoFar image o names 1) → IfSome x (λ image. h ≡ segment_lengths_at image offset) → IfSome x (λ image. bytes ≡ take h.directory (drop (offset + 16) image))
-    → directory_due (record { index = o; names = names }) h.columns bytes ≡ None → IfSome x (λ image. RefusesOpening (fault.Damaged offset) (opening image))
-broken None o names offset h bytes at opened l t none = tt
-broken (Some image) o names offset h bytes at opened l t none =
-    let is : h ≡ segment_lengths_at image o.used = subst (λ n. h ≡ segment_lengths_at image n) at l in
-    let text : bytes ≡ take h.directory (drop (o.used + 16) image) = subst (λ n. bytes ≡ take h.directory (drop (n + 16) image)) at t in
-    damaged image o names (fault.Damaged offset) opened (at, none_next image (record { index = o; names = names }) h bytes is text none)
+-- the directory may not stand there
+pub broken : (x : Option (List ℕ)) (o : Opening) (names : List (List ℕ)) (offset : ℕ) (h : Lengths) (f : ReopenFault) → offset ≡ o.used → IfSome x (λ image. IsOpenedSoFar image o names 1) → IfSome x (λ image. h ≡ segment_lengths_at image offset)
+    → IfSome x (λ image. Misses o.used (directory_due (record { index = o; names = names }) h.columns (take h.directory (drop (o.used + 16) image)) ≡ None) f) → IfSome x (λ image. RefusesOpening f (opening image))
+broken None o names offset h f at opened l m = tt
+broken (Some image) o names offset h f at opened l m = damaged image o names f opened (by f m)
+  where
+    by : (f : ReopenFault) → Misses o.used (directory_due (record { index = o; names = names }) h.columns (take h.directory (drop (o.used + 16) image)) ≡ None) f → Misses o.used (directory_next (record { index = o; names = names }) image ≡ None) f
+    by (fault.Damaged place) m = (m.0, none_next image (record { index = o; names = names }) h (take h.directory (drop (o.used + 16) image)) (subst (λ n. h ≡ segment_lengths_at image n) at l) refl m.1)
+    by fault.Disk m = tt
+    by fault.Memory m = tt
+    by fault.Blank m = absurd m
+    by fault.Foreign m = absurd m
 
 pub next_on : (x : Option (List ℕ)) (o : Opening) (names new : List (List ℕ)) (offset len gate : ℕ) (h : Lengths) (bytes : List ℕ) (f : FoundDirectory) → offset ≡ o.used → fit_in offset len h ≡ true → IfSome x (λ image. IsOpenedSoFar image o names 1) → IsLengthOf x len
     → IfSome x (λ image. h ≡ segment_lengths_at image offset) → IfSome x (λ image. bytes ≡ take h.directory (drop (offset + 16) image)) → TakesDirectory o h.columns bytes names new f → IfSome x (λ image. gate ≡ slice_index image (offset + 16 + h.directory + h.columns))

@@ -1,5 +1,5 @@
 -- The two lengths in front of a directory, and what the bytes of a directory say behind an index.
-use Rattle.std.specs.Prelude.{◌≡◌, ℕ, ◌+◌, ◌≤◌, Bool, true, ◌&&◌, not, List, [], ◌∷◌, ◌++◌, Option, Some, is_some, nat_le, length, option_and_then}
+use Rattle.std.specs.Prelude.{◌≡◌, ℕ, ◌+◌, ◌≤◌, Bool, true, ◌&&◌, not, List, [], ◌∷◌, ◌++◌, Option, Some, is_some, nat_le, length, take, drop, IfSome, option_and_then}
 use Rattle.dg_graph.specs.declared.limits.TheConstants.{NAMES_MAX}
 use Rattle.dg_graph.specs.Names.{number_of, is_name, are_new}
 use Rattle.dg_history.specs.declared.limits.TheConstants.{FILE_BYTES_MAX}
@@ -60,3 +60,10 @@ pub record TakesDirectory (o : Opening) (columns : ℕ) (bytes : List ℕ) (old 
   pub counted : length new ≡ length old + f.batch.names
   pub few : length new ≤ NAMES_MAX
   pub long : 60 ≤ length bytes
+
+-- the directory behind the index in the image, behind these two lengths, is taken: this is found in it
+pub record FindsDirectory (image : Option (List ℕ)) (o : Opening) (l : Lengths) (old new : List (List ℕ)) (f : FoundDirectory) : Type 0 where
+  pub bytes : List ℕ
+  pub there : IfSome image (λ image. bytes ≡ take l.directory (drop (o.used + 16) image))
+  pub len : length bytes ≡ l.directory
+  pub taken : TakesDirectory o l.columns bytes old new f

@@ -1,6 +1,6 @@
 //! An index over a disk: it is made, reopened, read, and given a batch.
 
-ghost use Rattle.std.specs.Prelude.{◌≡◌, ◌≢◌, ◌≤◌, ◌<◌, ◌+◌, ◌-◌, ◌^◌, ℕ, List, [], ◌∷◌, ◌++◌, true, false, length, map, min, Some, None, Ok, Err, is_some, slice_get, IsSome, IfSome, IfOk, IfErr, OnOk, OnErr, IsErrOf};
+ghost use Rattle.std.specs.Prelude.{◌≡◌, ◌≢◌, ◌≤◌, ◌<◌, ◌+◌, ◌-◌, ◌^◌, ℕ, List, [], ◌∷◌, ◌++◌, true, false, drop, length, map, min, take, Some, None, Ok, Err, is_some, slice_get, IsSome, IfSome, IfOk, IfErr, OnOk, OnErr, IsErrOf};
 ghost use Rattle.std.specs.Map.{lookup};
 ghost use Rattle.dg_disk.specs.Counts.{Rose, raised_by};
 ghost use Rattle.dg_disk.specs.Frame.{OnlyReads, OnlyWrites, ReadsAndSyncs};
@@ -8,15 +8,16 @@ ghost use Rattle.dg_history.specs.declared.limits.TheConstants.{EVENTS_MAX, FILE
 ghost use Rattle.dg_graph.specs.declared.limits.TheConstants.{NAMES_MAX, TIME_MAX};
 ghost use Rattle.dg_history.specs.History.{are_parameters, empty_history};
 ghost use Rattle.dg_history.specs.Keys.{same_key};
+ghost use Rattle.dg_index.specs.FileOfHistory.{head_of};
 ghost use Rattle.dg_index.specs.ImageOfHistory.{is_blank, IsImageOf};
 ghost use Rattle.dg_index.specs.IndexGrowth.{AreInTurn, IsDue, columns_in, index_with, last_time_in, name_total, needed_for};
 ghost use Rattle.dg_index.specs.IndexKeys.{AreKept};
-ghost use Rattle.dg_index.specs.OpenedIndex.{column_at, bare, earliest_in, event_total, first_in, keys_next, last_list, list_count, may_be_listed, may_follow, opened_of, opening, span_in};
-ghost use Rattle.dg_disk.specs.Image.{IsLengthOf};
+ghost use Rattle.dg_index.specs.OpenedIndex.{column_at, bare, directory_of, earliest_in, event_total, first_in, keys_next, last_list, list_count, may_be_listed, may_follow, opened_of, opening, rows_in, span_in};
+ghost use Rattle.dg_disk.specs.Image.{HasRange, IsLengthOf};
 ghost use Rattle.dg_shape.specs.Additions.{bytes_of_rows, Suits};
 ghost use Rattle.dg_shape.specs.Points.{ListsRise};
-ghost use Rattle.dg_file.specs.Directories.{directory_due, TakesDirectory};
-ghost use Rattle.dg_file.specs.Headers.{IsOpenedSoFar};
+ghost use Rattle.dg_file.specs.Directories.{directory_due, FindsDirectory, TakesDirectory};
+ghost use Rattle.dg_file.specs.Headers.{IsOpenedSoFar, Misses};
 ghost use Rattle.dg_file.specs.Index.{HasSegmentRoom, opening_bytes};
 ghost use Rattle.dg_file.specs.Images.{BothTold, Fits, GainsBatch, GainsBatchOrNot, GainsSegment, IsMadeInPart, IsOpenedAs, RefusesOpening, taken_after};
 ghost use Rattle.dg_file.specs.Invariant.{listed_after, with_rows};
@@ -28,10 +29,10 @@ use crate::directory_rows::{has_rows, is_measured, may_be_listed, rows_in};
 use crate::fault::{CommitFault, CreateFault, FetchFault, ReopenFault};
 use crate::found_directory::FoundDirectory;
 use crate::header::{HEADER_BYTES, OPEN};
-use crate::lengths::LENGTHS_BYTES;
+use crate::lengths::{LENGTHS_BYTES, Lengths};
 use crate::making::write_header;
 use crate::numbers::u32_at;
-use crate::prepared_segment::PreparedSegment;
+use crate::prepared_segment::{PreparedSegment, Ready};
 use crate::reading::{read_byte, read_header, read_lengths, read_range};
 use dg_disk::Disk;
 use dg_graph::{Column, NAMES_MAX};
@@ -305,6 +306,41 @@ impl Index {
         Ok(())
     }
 
+    // Reads the directory of the segment behind the bytes in use, which begins with these lengths, and adds
+    // its names to those before it.
+    fn read_found<D: Disk>(
+        &self,
+        disk: &mut D,
+        lengths: Lengths,
+        names: &mut Names,
+    ) -> Result<FoundDirectory, ReopenFault>
+        requires { HasRange (D.image disk.old) (self.now.opening.used + 16) lengths.directory }
+        ensures found { IfOk result (λ found. FindsDirectory (D.image disk.old) self.now.opening lengths names.old names.new found) }
+        ensures taken { OnOk result (D.taken disk.new ≡ taken_after lengths.directory (D.taken disk.old)) }
+
+        // errors
+        ensures refused { IfErr result (λ fault. IfSome (D.image disk.old) (λ image. Misses self.now.opening.used (directory_due (record { index = self.now.opening; names = names.old }) lengths.columns (take lengths.directory (drop (self.now.opening.used + 16) image)) ≡ None) fault)) }
+        ensures bounded { OnErr result (D.taken disk.new ≤ D.taken disk.old + lengths.directory) }
+        ensures cause { IsErrOf result ReopenFault.Disk → Rose (D.faults disk.old) (D.faults disk.new) }
+
+        // frame
+        ensures frame { OnlyReads D.image D.faults D.write_faults disk.old disk.new }
+    {
+        let offset = self.used;
+        let text = read_range(
+            self.alloc,
+            disk,
+            offset + LENGTHS_BYTES as u64,
+            lengths.directory,
+        )?;
+        let found = match self.read_directory(&text, lengths.columns, names) {
+            Ok(found) => found,
+            Err(Untaken::Broken) => return Err(ReopenFault::Damaged(offset)),
+            Err(Untaken::Memory) => return Err(ReopenFault::Memory),
+        };
+        Ok(found)
+    }
+
     // Reads the segment behind the bytes in use, whose gate is open. Answers the byte of the gate
     // behind it.
     fn read_next<D: Disk>(
@@ -333,14 +369,8 @@ impl Index {
     {
         let offset = self.used;
         let lengths = read_lengths(disk, offset, len)?;
-        let directory_offset = offset + LENGTHS_BYTES as u64;
-        let text = read_range(self.alloc, disk, directory_offset, lengths.directory)?;
-        let found = match self.read_directory(&text, lengths.columns, names) {
-            Ok(found) => found,
-            Err(Untaken::Broken) => return Err(ReopenFault::Damaged(offset)),
-            Err(Untaken::Memory) => return Err(ReopenFault::Memory),
-        };
-        let columns_offset = directory_offset + lengths.directory;
+        let found = self.read_found(disk, lengths, names)?;
+        let columns_offset = offset + LENGTHS_BYTES as u64 + lengths.directory;
         let gate_offset = columns_offset + lengths.columns;
         let gate = read_byte(disk, gate_offset)?;
         self.reserve(found.keys.len() as u64)?;
@@ -388,9 +418,23 @@ impl Index {
         ensures room { IfOk result (λ p. HasSegmentRoom self.new p) }
         ensures same { self.new.opening ≡ self.old.opening }
     {
+        let ready = self.ready(&segment)?;
+        Ok(PreparedSegment::new(segment, ready))
+    }
+
+    // Makes ready what goes with the segment, and room for its records and its batch.
+    fn ready(&mut self, segment: &Segment) -> Result<Ready, AllocError>
+        requires due { IsDue self.old.opening segment.now }
+        ensures keys { IfOk result (λ r. r.keys.items ≡ keys_next self.new.opening segment.now.events) }
+        ensures rows { IfOk result (λ r. r.rows.items ≡ rows_in (directory_of segment.now)) }
+        ensures head { IfOk result (λ r. r.head.items ≡ head_of segment.now) }
+        ensures spare { IfOk result (λ r. length r.keys.items ≤ self.new.spare) }
+        ensures room { OnOk result (1 ≤ self.new.room) }
+        ensures same { self.new.opening ≡ self.old.opening }
+    {
         let keys = self.keys_next(segment.batch().events)?;
         self.reserve(keys.len() as u64)?;
-        PreparedSegment::new(self.alloc, segment, keys)
+        Ready::new(self.alloc, segment, keys)
     }
 
     /// Adds the segment of a batch to the file, which may have `limit` bytes in use. The segment's gate
@@ -417,6 +461,34 @@ impl Index {
         ensures full { (n : ℕ) → result ≡ Err (CommitFault.FileFull n) → (n ≡ needed_for self.old.opening prepared.segment) × (limit < n) × (self.new ≡ self.old) × (D.image disk.new ≡ D.image disk.old) × (D.faults disk.new ≡ D.faults disk.old) × (D.write_faults disk.new ≡ D.write_faults disk.old) }
         ensures part { IsErrOf result CommitFault.Disk → BothTold (D.image disk.old) (D.image disk.new) (GainsBatchOrNot prepared.segment) }
         ensures disk_fits { IsErrOf result CommitFault.Disk → needed_for self.old.opening prepared.segment ≤ limit }
+        ensures cause { IsErrOf result CommitFault.Disk → Rose (D.write_faults disk.old) (D.write_faults disk.new) }
+
+        // frame
+        ensures frame { OnlyWrites D.image D.faults D.write_faults D.taken disk.old disk.new }
+    {
+        self.add(disk, &prepared, limit)
+    }
+
+    // Adds the segment to the file and to the index, as `commit` says.
+    fn add<D: Disk>(
+        &mut self,
+        disk: &mut D,
+        prepared: &PreparedSegment,
+        limit: u64,
+    ) -> Result<(), CommitFault>
+        requires room { HasSegmentRoom self.old prepared.now }
+        requires limit { limit ≤ FILE_BYTES_MAX }
+        requires due { IsDue self.old.opening prepared.now.segment }
+        requires image { IfSome (D.image disk.old) (λ image. Fits image self.old.opening prepared.now.segment) }
+        ensures ok { OnOk result (self.new.opening ≡ index_with self.old.opening prepared.now.segment) }
+        ensures opened { OnOk result (BothTold (D.image disk.old) (D.image disk.new) (GainsSegment self.old.opening prepared.now.segment self.new.opening)) }
+        ensures history { OnOk result (BothTold (D.image disk.old) (D.image disk.new) (GainsBatch prepared.now.segment)) }
+        ensures fits { OnOk result (needed_for self.old.opening prepared.now.segment ≤ limit) }
+
+        // errors
+        ensures full { (n : ℕ) → result ≡ Err (CommitFault.FileFull n) → (n ≡ needed_for self.old.opening prepared.now.segment) × (limit < n) × (self.new ≡ self.old) × (D.image disk.new ≡ D.image disk.old) × (D.faults disk.new ≡ D.faults disk.old) × (D.write_faults disk.new ≡ D.write_faults disk.old) }
+        ensures part { IsErrOf result CommitFault.Disk → BothTold (D.image disk.old) (D.image disk.new) (GainsBatchOrNot prepared.now.segment) }
+        ensures disk_fits { IsErrOf result CommitFault.Disk → needed_for self.old.opening prepared.now.segment ≤ limit }
         ensures cause { IsErrOf result CommitFault.Disk → Rose (D.write_faults disk.old) (D.write_faults disk.new) }
 
         // frame

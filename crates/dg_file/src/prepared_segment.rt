@@ -14,11 +14,18 @@ use std::marker::Model;
 #[derive(Drop)]
 pub struct PreparedSegment {
     segment: Segment,
-    keys: Vec<Key>,
-    // a row for each of its records
-    rows: Vec<Row>,
+    ready: Ready,
+}
+
+/// What is made ready to go with a segment.
+#[derive(Drop)]
+pub(crate) struct Ready {
+    // the keys of its records
+    pub keys: Vec<Key>,
+    // a row for each of them
+    pub rows: Vec<Row>,
     // what stands in front of its columns
-    head: Vec<u8>,
+    pub head: Vec<u8>,
 }
 
 impl Model for PreparedSegment {
@@ -29,9 +36,9 @@ impl Model for PreparedSegment {
 
     ghost Value = { Prepared };
 
-    ghost view = { λ p. record { segment = p.segment; keys = p.keys.items } };
+    ghost view = { λ p. record { segment = p.segment; keys = p.ready.keys.items } };
 
-    ghost invariant = { λ p. (p.rows.items ≡ rows_in (directory_of p.segment)) × (p.head.items ≡ head_of p.segment) };
+    ghost invariant = { λ p. (p.ready.rows.items ≡ rows_in (directory_of p.segment)) × (p.ready.head.items ≡ head_of p.segment) };
 }
 
 // A row for each record of the segment, in the order of the file.
@@ -44,23 +51,27 @@ fn rows_of(alloc: Global, segment: &Segment) -> Result<Vec<Row>, AllocError>
     Ok(rows)
 }
 
-impl PreparedSegment {
-    /// The segment with these keys, all else made ready. `AllocError` for want of memory.
-    pub(crate) fn new(
-        alloc: Global,
-        segment: Segment,
-        keys: Vec<Key>,
-    ) -> Result<PreparedSegment, AllocError>
-        ensures { IfOk result (λ p. p ≡ record { segment = segment; keys = keys.items }) }
+impl Ready {
+    /// What goes with a segment, with these keys. `AllocError` for want of memory.
+    pub(crate) fn new(alloc: Global, segment: &Segment, keys: Vec<Key>) -> Result<Ready, AllocError>
+        ensures keys { IfOk result (λ r. r.keys ≡ keys) }
+        ensures rows { IfOk result (λ r. r.rows.items ≡ rows_in (directory_of segment.now)) }
+        ensures head { IfOk result (λ r. r.head.items ≡ head_of segment.now) }
     {
-        let rows = rows_of(alloc, &segment)?;
+        let rows = rows_of(alloc, segment)?;
         let head = segment.head(alloc)?;
-        Ok(PreparedSegment {
-            segment,
-            keys,
-            rows,
-            head,
-        })
+        Ok(Ready { keys, rows, head })
+    }
+}
+
+impl PreparedSegment {
+    /// The segment with what was made ready to go with it.
+    pub(crate) fn new(segment: Segment, ready: Ready) -> PreparedSegment
+        requires rows { ready.rows.items ≡ rows_in (directory_of segment) }
+        requires head { ready.head.items ≡ head_of segment }
+        ensures { result ≡ record { segment = segment; keys = ready.keys.items } }
+    {
+        PreparedSegment { segment, ready }
     }
 
     /// The segment.
@@ -74,20 +85,20 @@ impl PreparedSegment {
     pub(crate) fn keys(&self) -> &[Key]
         ensures { result.now ≡ self.now.keys }
     {
-        &self.keys
+        &self.ready.keys
     }
 
     /// A row for each of its records.
     pub(crate) fn rows(&self) -> &[Row]
         ensures { result.now ≡ rows_in (directory_of self.now.segment) }
     {
-        &self.rows
+        &self.ready.rows
     }
 
     /// What stands in front of its columns.
     pub(crate) fn head(&self) -> &[u8]
         ensures { result.now ≡ head_of self.now.segment }
     {
-        &self.head
+        &self.ready.head
     }
 }

@@ -1,13 +1,13 @@
-use Rattle.std.proofs.Common.{◌≡◌, ℕ, ◌+◌, ◌≤◌, List, None, Err, take, drop, sym, ap, subst, ◌∙◌, arith, false}
+use Rattle.std.proofs.Common.{◌≡◌, ℕ, ◌+◌, ◌≤◌, List, None, take, drop, sym, ap, subst, ◌∙◌, arith, false}
 use Rattle.std.specs.Prelude.{IfSome, slice_index}
 use Rattle.std.proofs.lemmas.Result.{err_from_is_err_and}
 use Rattle.dg_disk.specs.Image.{IsLengthOf}
-use Rattle.dg_index.specs.IndexGrowth.{columns_in}
+use Rattle.dg_index.specs.IndexGrowth.{columns_in, name_total}
 use Rattle.dg_index.specs.OpenedIndex.{Opening, opening, keys_next, event_total, earliest_in, first_in, last_list, may_be_listed, may_follow}
-use Rattle.dg_shape.specs.Additions.{Suits}
+use Rattle.dg_shape.specs.Additions.{Suits, bytes_of_rows}
 use Rattle.dg_history.specs.declared.node.Key.{Key}
 use Rattle.dg_file.specs.declared.lengths.Lengths.{Lengths}
-use Rattle.dg_file.specs.Directories.{TakesDirectory, directory_due}
+use Rattle.dg_file.specs.Directories.{FindsDirectory, directory_due}
 use Rattle.dg_file.specs.Headers.{Misses, IsOpenedSoFar}
 use Rattle.dg_index.specs.ImageText.{is_within}
 use Rattle.dg_file.specs.Index.{IndexState, opening_bytes}
@@ -17,6 +17,9 @@ use Rattle.dg_file.specs.Invariant.{with_rows}
 use Rattle.dg_file.proofs.Found.{fit_facts, range_within}
 use Rattle.dg_file.proofs.NextSegments.{outside, broken, next_on, taken_next}
 use Rattle.dg_file.proofs.NotedBatches.{bytes_with}
+use Rattle.dg_file.proofs.Moves.{on_err_any}
+use Rattle.dg_file.proofs.TakenBytes.{behind_most, directory_most, gate_most, lengths_most, reads_then, rose_after}
+use Rattle.dg_disk.specs.Counts.{raised_by}
 use Rattle.dg_file.proofs.index.Index.read_next.Goals as goal
 
 pub returns-in_err-lengths-clause-refused : goal.returns-in_err-lengths-clause-refused
@@ -29,23 +32,27 @@ returns-in_err-lengths-clause-refused g c =
     let p = err_from_is_err_and c.from_residual.result c.from_residual.ensures.1 in
     rw (p.1, p.2) rest
 
-pub returns-in-Err-Broken-clause-refused : goal.returns-in-Err-Broken-clause-refused
-returns-in-Err-Broken-clause-refused g c =
+pub read_found-requires : goal.read_found-requires
+read_found-requires g c =
+    let same : c.self.inside.used ≡ c.args.self.now.opening.used = ap (λ (v : IndexState). v.opening.used) c.self.view_is in
+    let f = fit_facts c.self.inside.used c.args.len c.in_ok-lengths.lengths c.in_ok-lengths.ensures.fit in
+    range_within _ _ c.in_ok-lengths.lengths.directory c.args.len (omega (arith, f, same)) (subst (λ x. IsLengthOf x c.args.len) (sym c.read_lengths.ensures.frame.same_image) c.requires.len)
+
+pub returns-in_err-found-clause-refused : goal.returns-in_err-found-clause-refused
+returns-in_err-found-clause-refused g c =
     let x = g.D.Disk.image c.args.disk.now in
     let o : Opening = c.args.self.now.opening in
+    let h : Lengths = c.in_ok-lengths.lengths in
     let same : c.self.inside.used ≡ o.used = ap (λ (v : IndexState). v.opening.used) c.self.view_is in
-    let offset : ℕ = c.self.inside.used in
-    let f = fit_facts offset c.args.len c.in_ok-lengths.lengths c.in_ok-lengths.ensures.fit in
-    let l = c.in_ok-lengths.ensures.lengths in
-    let t = subst (λ y. IfSome y (λ image. c.in_ok-text.text.items ≡ take c.in_ok-lengths.lengths.directory (drop (offset + 16) image))) c.read_lengths.ensures.frame.same_image c.in_ok-text.ensures.bytes in
-    let here : c.deref.result.now ≡ c.in_ok-text.text.items = c.deref.ensures.value in
-    let none : directory_due (record { index = o; names = c.args.names.now }) c.in_ok-lengths.lengths.columns c.in_ok-text.text.items ≡ None = ap (λ (b : List ℕ). directory_due (record { index = o; names = c.args.names.now }) c.in_ok-lengths.lengths.columns b) (sym here) ∙ c.in-Err-Broken.ensures.broken (ap (λ e. Err e) c.in-Err-Broken.field-0-is) in
-    broken x o c.args.names.now offset c.in_ok-lengths.lengths c.in_ok-text.text.items same c.requires.so_far l t none
+    let misses = subst (λ y. IfSome y (λ image. Misses o.used (directory_due (record { index = o; names = c.args.names.now }) h.columns (take h.directory (drop (o.used + 16) image)) ≡ None) c.in_err-found.field-0.0)) c.read_lengths.ensures.frame.same_image c.in_err-found.ensures.refused in
+    let rest : IfSome x (λ image. RefusesOpening c.in_err-found.field-0.0 (opening image)) = broken x o c.args.names.now c.self.inside.used h c.in_err-found.field-0.0 same c.requires.so_far c.in_ok-lengths.ensures.lengths misses in
+    let p = err_from_is_err_and c.from_residual-in_err-found.result c.from_residual-in_err-found.ensures.1 in
+    rw (p.1, p.2) rest
 
 pub read_byte-requires : goal.read_byte-requires
 read_byte-requires g c =
     let f = fit_facts c.self.inside.used c.args.len c.in_ok-lengths.lengths c.in_ok-lengths.ensures.fit in
-    range_within _ _ 1 c.args.len (omega (arith, f)) (subst (λ x. IsLengthOf x c.args.len) (sym (c.read_range.ensures.frame.same_image ∙ c.read_lengths.ensures.frame.same_image)) c.requires.len)
+    range_within _ _ 1 c.args.len (omega (arith, f)) (subst (λ x. IsLengthOf x c.args.len) (sym (c.read_found.ensures.frame.same_image ∙ c.read_lengths.ensures.frame.same_image)) c.requires.len)
 
 pub overflow_add-gate_offset-2 : goal.overflow_add-gate_offset-2
 overflow_add-gate_offset-2 g c =
@@ -54,17 +61,17 @@ overflow_add-gate_offset-2 g c =
 
 pub note-requires-clause-keys : goal.note-requires-clause-keys
 note-requires-clause-keys g c =
-    c.deref-2.ensures.value ∙ c.in-Ok.ensures.taken.keys ∙ ap (λ (o : Opening). keys_next o c.in-Ok.found.batch.events) (sym c.reserve.ensures.same)
+    c.deref.ensures.value ∙ c.in_ok-found.ensures.found.taken.keys ∙ ap (λ (o : Opening). keys_next o c.in_ok-found.found.batch.events) (sym c.reserve.ensures.same)
 
 pub note-requires-clause-follows : goal.note-requires-clause-follows
 note-requires-clause-follows g c =
-    ap (λ (o : Opening). may_follow (event_total o.batches) (earliest_in 0 o.batches) c.in-Ok.found.batch) c.reserve.ensures.same ∙ c.in-Ok.ensures.taken.follows
+    ap (λ (o : Opening). may_follow (event_total o.batches) (earliest_in 0 o.batches) c.in_ok-found.found.batch) c.reserve.ensures.same ∙ c.in_ok-found.ensures.found.taken.follows
 
 pub note-requires-clause-listed : goal.note-requires-clause-listed
 note-requires-clause-listed g c =
-    let b : BatchEntry = c.in-Ok.found.batch in
-    (λ i. may_be_listed (last_list (first_in b.ends.first (c.reserve.ensures.same i).batches) (c.reserve.ensures.same i).records) b.ends.last (c.deref-3.ensures.value i))
-    ∙ c.in-Ok.ensures.taken.listed
+    let b : BatchEntry = c.in_ok-found.found.batch in
+    (λ i. may_be_listed (last_list (first_in b.ends.first (c.reserve.ensures.same i).batches) (c.reserve.ensures.same i).records) b.ends.last (c.deref-2.ensures.value i))
+    ∙ c.in_ok-found.ensures.found.taken.listed
 
 pub note-requires-clause-within : goal.note-requires-clause-within
 note-requires-clause-within g c =
@@ -84,12 +91,13 @@ returns-clause-so_far g c =
     let offset : ℕ = c.self.inside.used in
     let h : Lengths = c.in_ok-lengths.lengths in
     let l = c.in_ok-lengths.ensures.lengths in
-    let t : IfSome x (λ image. c.in_ok-text.text.items ≡ take h.directory (drop (offset + 16) image)) = subst (λ y. IfSome y (λ image. c.in_ok-text.text.items ≡ take h.directory (drop (offset + 16) image))) c.read_lengths.ensures.frame.same_image c.in_ok-text.ensures.bytes in
-    let takes : TakesDirectory o h.columns c.in_ok-text.text.items c.args.names.now c.read_directory.new.names c.in-Ok.found = subst (λ (b : List ℕ). TakesDirectory o h.columns b c.args.names.now c.read_directory.new.names c.in-Ok.found) c.deref.ensures.value c.in-Ok.ensures.taken in
-    let gate : IfSome x (λ image. c.in_ok-gate.gate ≡ slice_index image (offset + 16 + h.directory + h.columns)) = subst (λ y. IfSome y (λ image. c.in_ok-gate.gate ≡ slice_index image (offset + 16 + h.directory + h.columns))) (c.read_range.ensures.frame.same_image ∙ c.read_lengths.ensures.frame.same_image) c.in_ok-gate.ensures.byte in
-    let new : c.note.new.self.opening ≡ with_rows o c.in-Ok.found.batch c.in-Ok.found.rows.items (offset + 16 + h.directory) (offset + 16 + h.directory + h.columns + 1) = c.note.ensures ∙ (λ i. with_rows (c.reserve.ensures.same i) c.in-Ok.found.batch (c.deref-3.ensures.value i) (offset + 16 + h.directory) (offset + 16 + h.directory + h.columns + 1)) in
-    subst (λ (n : Opening). IfSome x (λ image. IsOpenedSoFar image n c.read_directory.new.names c.in_ok-gate.gate)) (sym new)
-    (next_on x o c.args.names.now c.read_directory.new.names offset c.args.len c.in_ok-gate.gate h c.in_ok-text.text.items c.in-Ok.found same c.in_ok-lengths.ensures.fit c.requires.so_far c.requires.len l t takes gate)
+    let finds : FindsDirectory (g.D.Disk.image c.read_lengths.new.disk) o h c.args.names.now c.read_found.new.names c.in_ok-found.found = c.in_ok-found.ensures.found in
+    let t : IfSome x (λ image. finds.bytes ≡ take h.directory (drop (offset + 16) image)) = subst (λ n. IfSome x (λ image. finds.bytes ≡ take h.directory (drop (n + 16) image))) (sym same) (subst (λ y. IfSome y (λ image. finds.bytes ≡ take h.directory (drop (o.used + 16) image))) c.read_lengths.ensures.frame.same_image finds.there) in
+    let takes = finds.taken in
+    let gate : IfSome x (λ image. c.in_ok-gate.gate ≡ slice_index image (offset + 16 + h.directory + h.columns)) = subst (λ y. IfSome y (λ image. c.in_ok-gate.gate ≡ slice_index image (offset + 16 + h.directory + h.columns))) (c.read_found.ensures.frame.same_image ∙ c.read_lengths.ensures.frame.same_image) c.in_ok-gate.ensures.byte in
+    let new : c.note.new.self.opening ≡ with_rows o c.in_ok-found.found.batch c.in_ok-found.found.rows.items (offset + 16 + h.directory) (offset + 16 + h.directory + h.columns + 1) = c.note.ensures ∙ (λ i. with_rows (c.reserve.ensures.same i) c.in_ok-found.found.batch (c.deref-2.ensures.value i) (offset + 16 + h.directory) (offset + 16 + h.directory + h.columns + 1)) in
+    subst (λ (n : Opening). IfSome x (λ image. IsOpenedSoFar image n c.read_found.new.names c.in_ok-gate.gate)) (sym new)
+    (next_on x o c.args.names.now c.read_found.new.names offset c.args.len c.in_ok-gate.gate h finds.bytes c.in_ok-found.found same c.in_ok-lengths.ensures.fit c.requires.so_far c.requires.len l t takes gate)
 
 pub returns-clause-taken : goal.returns-clause-taken
 returns-clause-taken g c = λ n start.
@@ -99,14 +107,106 @@ returns-clause-taken g c = λ n start.
     let offset : ℕ = c.self.inside.used in
     let h : Lengths = c.in_ok-lengths.lengths in
     let l = c.in_ok-lengths.ensures.lengths in
-    let t : IfSome x (λ image. c.in_ok-text.text.items ≡ take h.directory (drop (offset + 16) image)) = subst (λ y. IfSome y (λ image. c.in_ok-text.text.items ≡ take h.directory (drop (offset + 16) image))) c.read_lengths.ensures.frame.same_image c.in_ok-text.ensures.bytes in
-    let takes : TakesDirectory o h.columns c.in_ok-text.text.items c.args.names.now c.read_directory.new.names c.in-Ok.found = subst (λ (b : List ℕ). TakesDirectory o h.columns b c.args.names.now c.read_directory.new.names c.in-Ok.found) c.deref.ensures.value c.in-Ok.ensures.taken in
-    let gate : IfSome x (λ image. c.in_ok-gate.gate ≡ slice_index image (offset + 16 + h.directory + h.columns)) = subst (λ y. IfSome y (λ image. c.in_ok-gate.gate ≡ slice_index image (offset + 16 + h.directory + h.columns))) (c.read_range.ensures.frame.same_image ∙ c.read_lengths.ensures.frame.same_image) c.in_ok-gate.ensures.byte in
-    let new : c.note.new.self.opening ≡ with_rows o c.in-Ok.found.batch c.in-Ok.found.rows.items (offset + 16 + h.directory) (offset + 16 + h.directory + h.columns + 1) = c.note.ensures ∙ (λ i. with_rows (c.reserve.ensures.same i) c.in-Ok.found.batch (c.deref-3.ensures.value i) (offset + 16 + h.directory) (offset + 16 + h.directory + h.columns + 1)) in
-    let suits : Suits (keys_next o c.in-Ok.found.batch.events) c.in-Ok.found.rows.items = subst (λ (k : List Key). Suits k c.in-Ok.found.rows.items) takes.keys takes.suits in
-    let bytes = bytes_with o c.in-Ok.found.batch c.in-Ok.found.rows.items (offset + 16 + h.directory) (offset + 16 + h.directory + h.columns + 1) suits in
+    let finds : FindsDirectory (g.D.Disk.image c.read_lengths.new.disk) o h c.args.names.now c.read_found.new.names c.in_ok-found.found = c.in_ok-found.ensures.found in
+    let t : IfSome x (λ image. finds.bytes ≡ take h.directory (drop (offset + 16) image)) = subst (λ n. IfSome x (λ image. finds.bytes ≡ take h.directory (drop (n + 16) image))) (sym same) (subst (λ y. IfSome y (λ image. finds.bytes ≡ take h.directory (drop (o.used + 16) image))) c.read_lengths.ensures.frame.same_image finds.there) in
+    let takes = finds.taken in
+    let gate : IfSome x (λ image. c.in_ok-gate.gate ≡ slice_index image (offset + 16 + h.directory + h.columns)) = subst (λ y. IfSome y (λ image. c.in_ok-gate.gate ≡ slice_index image (offset + 16 + h.directory + h.columns))) (c.read_found.ensures.frame.same_image ∙ c.read_lengths.ensures.frame.same_image) c.in_ok-gate.ensures.byte in
+    let new : c.note.new.self.opening ≡ with_rows o c.in_ok-found.found.batch c.in_ok-found.found.rows.items (offset + 16 + h.directory) (offset + 16 + h.directory + h.columns + 1) = c.note.ensures ∙ (λ i. with_rows (c.reserve.ensures.same i) c.in_ok-found.found.batch (c.deref-2.ensures.value i) (offset + 16 + h.directory) (offset + 16 + h.directory + h.columns + 1)) in
+    let suits : Suits (keys_next o c.in_ok-found.found.batch.events) c.in_ok-found.found.rows.items = subst (λ (k : List Key). Suits k c.in_ok-found.found.rows.items) takes.keys takes.suits in
+    let bytes = bytes_with o c.in_ok-found.found.batch c.in_ok-found.found.rows.items (offset + 16 + h.directory) (offset + 16 + h.directory + h.columns + 1) suits in
     let sound : columns_in o.records + 18 ≤ o.used = subst (λ (v : IndexState). columns_in v.opening.records + 18 ≤ v.opening.used) c.self.view_is c.self.invariant.bytes in
-    let long : 1 ≤ h.directory = omega (arith, takes.long, c.in_ok-text.ensures.len) in
+    let long : 1 ≤ h.directory = omega (arith, takes.long, finds.len) in
     let all : opening_bytes c.note.new.self.opening ≡ opening_bytes o + 17 + h.directory = omega (arith, ap opening_bytes new, bytes, sound, takes.measured, same) in
-    taken_next (opening_bytes o) (opening_bytes c.note.new.self.opening) h.directory n (g.D.Disk.taken c.args.disk.now) (g.D.Disk.taken c.read_lengths.new.disk) (g.D.Disk.taken c.read_range.new.disk) (g.D.Disk.taken c.read_byte.new.disk) long all start
-    c.in_ok-lengths.ensures.taken c.in_ok-text.ensures.taken c.in_ok-gate.ensures.taken
+    taken_next (opening_bytes o) (opening_bytes c.note.new.self.opening) h.directory n (g.D.Disk.taken c.args.disk.now) (g.D.Disk.taken c.read_lengths.new.disk) (g.D.Disk.taken c.read_found.new.disk) (g.D.Disk.taken c.read_byte.new.disk) long all start
+    c.in_ok-lengths.ensures.taken c.in_ok-found.ensures.taken c.in_ok-gate.ensures.taken
+
+pub returns-in_err-lengths-clause-bounded : goal.returns-in_err-lengths-clause-bounded
+returns-in_err-lengths-clause-bounded g c =
+    let o : Opening = c.args.self.now.opening in
+    let offset : ℕ = c.self.inside.used in
+    let len : ℕ = c.args.len in
+    let start : ℕ = g.D.Disk.taken c.args.disk.now in
+    let same : offset ≡ o.used = ap (λ (v : IndexState). v.opening.used) c.self.view_is in
+    on_err_any c.from_residual.result (λ (t : ℕ) (s : start ≡ raised_by (opening_bytes o) t). lengths_most o offset len t start (g.D.Disk.taken c.read_lengths.new.disk) same c.requires.within c.in_err-lengths.ensures.bounded s)
+
+pub returns-in_err-found-clause-bounded : goal.returns-in_err-found-clause-bounded
+returns-in_err-found-clause-bounded g c =
+    let o : Opening = c.args.self.now.opening in
+    let offset : ℕ = c.self.inside.used in
+    let len : ℕ = c.args.len in
+    let start : ℕ = g.D.Disk.taken c.args.disk.now in
+    let same : offset ≡ o.used = ap (λ (v : IndexState). v.opening.used) c.self.view_is in
+    let h : Lengths = c.in_ok-lengths.lengths in
+    let f = fit_facts offset len h c.in_ok-lengths.ensures.fit in
+    on_err_any c.from_residual-in_err-found.result (λ (t : ℕ) (s : start ≡ raised_by (opening_bytes o) t). directory_most o offset h.directory h.columns len t start (g.D.Disk.taken c.read_lengths.new.disk) (g.D.Disk.taken c.read_found.new.disk) same f.0 c.in_ok-lengths.ensures.taken c.in_err-found.ensures.bounded s)
+
+pub returns-in_err-gate-clause-bounded : goal.returns-in_err-gate-clause-bounded
+returns-in_err-gate-clause-bounded g c =
+    let o : Opening = c.args.self.now.opening in
+    let offset : ℕ = c.self.inside.used in
+    let len : ℕ = c.args.len in
+    let start : ℕ = g.D.Disk.taken c.args.disk.now in
+    let same : offset ≡ o.used = ap (λ (v : IndexState). v.opening.used) c.self.view_is in
+    let h : Lengths = c.in_ok-lengths.lengths in
+    let f = fit_facts offset len h c.in_ok-lengths.ensures.fit in
+    on_err_any c.from_residual-in_err-gate.result (λ (t : ℕ) (s : start ≡ raised_by (opening_bytes o) t). gate_most o offset h.directory h.columns len t start (g.D.Disk.taken c.read_lengths.new.disk) (g.D.Disk.taken c.read_found.new.disk) (g.D.Disk.taken c.read_byte.new.disk) same f.0 c.in_ok-lengths.ensures.taken c.in_ok-found.ensures.taken c.in_err-gate.ensures.none_taken s)
+
+pub returns-in_err-reserve-clause-bounded : goal.returns-in_err-reserve-clause-bounded
+returns-in_err-reserve-clause-bounded g c =
+    let o : Opening = c.args.self.now.opening in
+    let offset : ℕ = c.self.inside.used in
+    let len : ℕ = c.args.len in
+    let start : ℕ = g.D.Disk.taken c.args.disk.now in
+    let same : offset ≡ o.used = ap (λ (v : IndexState). v.opening.used) c.self.view_is in
+    let h : Lengths = c.in_ok-lengths.lengths in
+    let f = fit_facts offset len h c.in_ok-lengths.ensures.fit in
+    on_err_any c.from_residual-in_err-reserve.result (λ (t : ℕ) (s : start ≡ raised_by (opening_bytes o) t). behind_most o offset h.directory h.columns len t start (g.D.Disk.taken c.read_lengths.new.disk) (g.D.Disk.taken c.read_found.new.disk) (g.D.Disk.taken c.read_byte.new.disk) same f.0 c.in_ok-lengths.ensures.taken c.in_ok-found.ensures.taken c.in_ok-gate.ensures.taken s)
+
+pub overflow_add-columns_offset : goal.overflow_add-columns_offset
+overflow_add-columns_offset g c =
+    let f = fit_facts c.self.inside.used c.args.len c.in_ok-lengths.lengths c.in_ok-lengths.ensures.fit in
+    omega (arith, f)
+
+pub overflow_add-gate_offset : goal.overflow_add-gate_offset
+overflow_add-gate_offset g c =
+    let f = fit_facts c.self.inside.used c.args.len c.in_ok-lengths.lengths c.in_ok-lengths.ensures.fit in
+    omega (arith, f)
+
+pub note-requires-clause-behind : goal.note-requires-clause-behind
+note-requires-clause-behind g c =
+    let same : c.self.inside.used ≡ c.args.self.now.opening.used = ap (λ (v : IndexState). v.opening.used) c.self.view_is in
+    omega (arith, same, ap (λ (o : Opening). o.used) c.reserve.ensures.same)
+
+pub note-requires-clause-names : goal.note-requires-clause-names
+note-requires-clause-names g c =
+    let takes = c.in_ok-found.ensures.found.taken in
+    omega (arith, ap (λ (o : Opening). name_total o.batches) c.reserve.ensures.same, c.requires.counted_names, takes.counted, takes.few)
+
+pub note-requires-clause-used : goal.note-requires-clause-used
+note-requires-clause-used g c =
+    ap (λ n. c.self.inside.used + 16 + c.in_ok-lengths.lengths.directory + n + 1) (ap bytes_of_rows c.deref-2.ensures.value ∙ c.in_ok-found.ensures.found.taken.measured)
+
+pub returns-clause-progress : goal.returns-clause-progress
+returns-clause-progress g c =
+    let same : c.self.inside.used ≡ c.args.self.now.opening.used = ap (λ (v : IndexState). v.opening.used) c.self.view_is in
+    omega (arith, same, ap (λ (o : Opening). o.used) c.note.ensures)
+
+pub returns-in_err-gate-clause-cause : goal.returns-in_err-gate-clause-cause
+returns-in_err-gate-clause-cause g c =
+    λ _. rose_after (g.D.Disk.faults c.args.disk.now) (g.D.Disk.faults c.read_lengths.new.disk) (g.D.Disk.faults c.read_found.new.disk) (g.D.Disk.faults c.read_byte.new.disk) c.read_lengths.ensures.frame.counted c.read_found.ensures.frame.counted c.in_err-gate.ensures.cause
+
+pub returns-in_err-found-clause-frame : goal.returns-in_err-found-clause-frame
+returns-in_err-found-clause-frame g c =
+    reads_then c.args.disk.now c.read_lengths.new.disk c.read_found.new.disk c.read_lengths.ensures.frame c.read_found.ensures.frame
+
+pub returns-in_err-gate-clause-frame : goal.returns-in_err-gate-clause-frame
+returns-in_err-gate-clause-frame g c =
+    reads_then c.args.disk.now c.read_found.new.disk c.read_byte.new.disk (reads_then c.args.disk.now c.read_lengths.new.disk c.read_found.new.disk c.read_lengths.ensures.frame c.read_found.ensures.frame) c.read_byte.ensures.frame
+
+pub returns-in_err-reserve-clause-frame : goal.returns-in_err-reserve-clause-frame
+returns-in_err-reserve-clause-frame g c =
+    reads_then c.args.disk.now c.read_found.new.disk c.read_byte.new.disk (reads_then c.args.disk.now c.read_lengths.new.disk c.read_found.new.disk c.read_lengths.ensures.frame c.read_found.ensures.frame) c.read_byte.ensures.frame
+
+pub returns-clause-frame : goal.returns-clause-frame
+returns-clause-frame g c =
+    reads_then c.args.disk.now c.read_found.new.disk c.read_byte.new.disk (reads_then c.args.disk.now c.read_lengths.new.disk c.read_found.new.disk c.read_lengths.ensures.frame c.read_found.ensures.frame) c.read_byte.ensures.frame

@@ -17,7 +17,7 @@ use Rattle.dg_file.specs.Index.{IndexState}
 use Rattle.dg_file.proofs.AddedSegments.{added_batch, added_or_not, added_segment, columns_end, index_is, needed_is, used_there}
 use Rattle.dg_file.proofs.NotedBatches.{follows_in}
 use Rattle.dg_file.proofs.SuitedRows.{suits_segment}
-use Rattle.dg_file.proofs.index.Index.commit.Goals as goal
+use Rattle.dg_file.proofs.index.Index.add.Goals as goal
 
 full_bytes : ℕ → Result (Unit {0}) CommitFault → ℕ
 full_bytes n (Ok x) = n
@@ -28,7 +28,7 @@ pub returns-then-limit-needed-clause-full : goal.returns-then-limit-needed-claus
 unfolding full_bytes
 returns-then-limit-needed-clause-full g c = λ n e.
     let used : c.self.inside.used ≡ c.args.self.now.opening.used = ap (λ (v : IndexState). v.opening.used) c.self.view_is in
-    let needed = needed_is c.self.inside.used c.size.result c.args.self.now.opening c.args.prepared.segment c.segment-segment.result.now used c.segment-segment.ensures c.size.ensures.size in
+    let needed = needed_is c.self.inside.used c.size.result c.args.self.now.opening c.args.prepared.now.segment c.segment-segment.result.now used c.segment-segment.ensures c.size.ensures.size in
     let same : c.self.inside.used + c.size.result ≡ n = ap (full_bytes n) e in
     (sym same ∙ needed, omega (arith, same, c.if-limit-needed.true), refl, refl, refl, refl)
 
@@ -37,28 +37,28 @@ append-requires-clause-head g c = c.head-head.ensures ∙ ap head_of (sym c.segm
 
 pub append-requires-clause-offset : goal.append-requires-clause-offset
 append-requires-clause-offset g c =
-    used_there (g.D.Disk.image c.args.disk.now) c.args.self.now.opening c.args.prepared.segment c.self.inside.used (ap (λ (v : IndexState). v.opening.used) c.self.view_is) c.requires.image
+    used_there (g.D.Disk.image c.args.disk.now) c.args.self.now.opening c.args.prepared.now.segment c.self.inside.used (ap (λ (v : IndexState). v.opening.used) c.self.view_is) c.requires.image
 
 pub returns-in_err-append-clause-part : goal.returns-in_err-append-clause-part
 returns-in_err-append-clause-part g c = λ _.
     let x = g.D.Disk.image c.args.disk.now in
     let y = g.D.Disk.image c.append.new.disk in
     let used : c.self.inside.used ≡ c.args.self.now.opening.used = ap (λ (v : IndexState). v.opening.used) c.self.view_is in
-    let needed = needed_is c.self.inside.used c.size.result c.args.self.now.opening c.args.prepared.segment c.segment-segment.result.now used c.segment-segment.ensures c.size.ensures.size in
-    let within : needed_for c.args.self.now.opening c.args.prepared.segment ≤ FILE_BYTES_MAX = subst (λ n. n ≤ FILE_BYTES_MAX) needed (omega (arith, c.if-limit-needed.false, c.requires.limit)) in
-    added_or_not x y c.args.self.now.opening c.args.prepared.segment c.self.inside.used used within c.requires.image
+    let needed = needed_is c.self.inside.used c.size.result c.args.self.now.opening c.args.prepared.now.segment c.segment-segment.result.now used c.segment-segment.ensures c.size.ensures.size in
+    let within : needed_for c.args.self.now.opening c.args.prepared.now.segment ≤ FILE_BYTES_MAX = subst (λ n. n ≤ FILE_BYTES_MAX) needed (omega (arith, c.if-limit-needed.false, c.requires.limit)) in
+    added_or_not x y c.args.self.now.opening c.args.prepared.now.segment c.self.inside.used used within c.requires.image
     (subst (λ (s : Segment). Moved x y (GatedOrNot c.self.inside.used (segment_bytes s))) c.segment-segment.ensures c.in_err-append.ensures.part)
 
 pub returns-in_err-append-clause-disk_fits : goal.returns-in_err-append-clause-disk_fits
 returns-in_err-append-clause-disk_fits g c = λ _.
     let used : c.self.inside.used ≡ c.args.self.now.opening.used = ap (λ (v : IndexState). v.opening.used) c.self.view_is in
-    let needed = needed_is c.self.inside.used c.size.result c.args.self.now.opening c.args.prepared.segment c.segment-segment.result.now used c.segment-segment.ensures c.size.ensures.size in
+    let needed = needed_is c.self.inside.used c.size.result c.args.self.now.opening c.args.prepared.now.segment c.segment-segment.result.now used c.segment-segment.ensures c.size.ensures.size in
     subst (λ n. n ≤ c.args.limit) needed (omega (arith, c.if-limit-needed.false))
 
 pub note-requires-clause-rows : goal.note-requires-clause-rows
 note-requires-clause-rows g c =
     let o : Opening = c.args.self.now.opening in
-    let s : Segment = c.args.prepared.segment in
+    let s : Segment = c.args.prepared.now.segment in
     let large = large_parameters o.params.l o.params.k (subst (λ (v : IndexState). are_parameters v.opening.params.l v.opening.params.k ≡ true) c.self.view_is c.self.invariant.parameters) in
     let few : event_total o.batches + s.events ≤ EVENTS_MAX = (follows_in (event_total o.batches) (earliest_in 0 o.batches) (directory_of s).batch c.requires.due.follows).all in
     subst (λ (r : List Row). Suits c.keys.result.now r) (sym c.rows.ensures) (subst (λ (k : List Key). Suits k (rows_in (directory_of s))) (sym (c.keys.ensures ∙ c.requires.room.keys)) (suits_segment o s large.0 few c.requires.due))
@@ -66,20 +66,20 @@ note-requires-clause-rows g c =
 pub note-requires-clause-listed : goal.note-requires-clause-listed
 note-requires-clause-listed g c =
     let o : Opening = c.args.self.now.opening in
-    let s : Segment = c.args.prepared.segment in
+    let s : Segment = c.args.prepared.now.segment in
     let batch : c.batch.result ≡ (directory_of s).batch = c.batch.ensures ∙ ap (λ (s : Segment). (directory_of s).batch) c.segment-segment.ensures in
     (λ i. may_be_listed (last_list (first_in (batch i).ends.first o.batches) o.records) (batch i).ends.last (c.rows.ensures i))
     ∙ listed_segment (last_list (first_in s.first o.batches) o.records) s.last s c.requires.due.listed
 
 pub note-requires-clause-used : goal.note-requires-clause-used
 note-requires-clause-used g c =
-    let end = columns_end c.args.prepared.segment c.head-head.result.now c.rows.result.now c.head-head.ensures c.rows.ensures in
+    let end = columns_end c.args.prepared.now.segment c.head-head.result.now c.rows.result.now c.head-head.ensures c.rows.ensures in
     omega (arith, end, c.size.ensures.size, ap (λ (s : Segment). length (segment_bytes s)) c.segment-segment.ensures)
 
 pub returns-clause-ok : goal.returns-clause-ok
 returns-clause-ok g c =
     let o : Opening = c.args.self.now.opening in
-    let s : Segment = c.args.prepared.segment in
+    let s : Segment = c.args.prepared.now.segment in
     let used : c.self.inside.used ≡ o.used = ap (λ (v : IndexState). v.opening.used) c.self.view_is in
     let needed = needed_is c.self.inside.used c.size.result o s c.segment-segment.result.now used c.segment-segment.ensures c.size.ensures.size in
     c.note.ensures ∙ index_is o s c.batch.result c.rows.result.now c.head-head.result.now c.self.inside.used (c.self.inside.used + c.size.result) (c.batch.ensures ∙ ap (λ (s : Segment). (directory_of s).batch) c.segment-segment.ensures) c.rows.ensures c.head-head.ensures used needed
@@ -89,7 +89,7 @@ returns-clause-opened g c =
     let x = g.D.Disk.image c.args.disk.now in
     let y = g.D.Disk.image c.append.new.disk in
     let o : Opening = c.args.self.now.opening in
-    let s : Segment = c.args.prepared.segment in
+    let s : Segment = c.args.prepared.now.segment in
     let used : c.self.inside.used ≡ o.used = ap (λ (v : IndexState). v.opening.used) c.self.view_is in
     let needed = needed_is c.self.inside.used c.size.result o s c.segment-segment.result.now used c.segment-segment.ensures c.size.ensures.size in
     let within : needed_for o s ≤ FILE_BYTES_MAX = subst (λ n. n ≤ FILE_BYTES_MAX) needed (omega (arith, c.if-limit-needed.false, c.requires.limit)) in
@@ -104,13 +104,13 @@ returns-clause-history g c =
     let x = g.D.Disk.image c.args.disk.now in
     let y = g.D.Disk.image c.append.new.disk in
     let used : c.self.inside.used ≡ c.args.self.now.opening.used = ap (λ (v : IndexState). v.opening.used) c.self.view_is in
-    let needed = needed_is c.self.inside.used c.size.result c.args.self.now.opening c.args.prepared.segment c.segment-segment.result.now used c.segment-segment.ensures c.size.ensures.size in
-    let within : needed_for c.args.self.now.opening c.args.prepared.segment ≤ FILE_BYTES_MAX = subst (λ n. n ≤ FILE_BYTES_MAX) needed (omega (arith, c.if-limit-needed.false, c.requires.limit)) in
-    added_batch x y c.args.self.now.opening c.args.prepared.segment c.self.inside.used used within c.requires.image
+    let needed = needed_is c.self.inside.used c.size.result c.args.self.now.opening c.args.prepared.now.segment c.segment-segment.result.now used c.segment-segment.ensures c.size.ensures.size in
+    let within : needed_for c.args.self.now.opening c.args.prepared.now.segment ≤ FILE_BYTES_MAX = subst (λ n. n ≤ FILE_BYTES_MAX) needed (omega (arith, c.if-limit-needed.false, c.requires.limit)) in
+    added_batch x y c.args.self.now.opening c.args.prepared.now.segment c.self.inside.used used within c.requires.image
     (subst (λ (s : Segment). Moved x y (Gated (c.self.inside.used - 1) 1 (segment_bytes s))) c.segment-segment.ensures c.in_ok-append.ensures.written)
 
 pub returns-clause-fits : goal.returns-clause-fits
 returns-clause-fits g c =
     let used : c.self.inside.used ≡ c.args.self.now.opening.used = ap (λ (v : IndexState). v.opening.used) c.self.view_is in
-    let needed = needed_is c.self.inside.used c.size.result c.args.self.now.opening c.args.prepared.segment c.segment-segment.result.now used c.segment-segment.ensures c.size.ensures.size in
+    let needed = needed_is c.self.inside.used c.size.result c.args.self.now.opening c.args.prepared.now.segment c.segment-segment.result.now used c.segment-segment.ensures c.size.ensures.size in
     subst (λ n. n ≤ c.args.limit) needed (omega (arith, c.if-limit-needed.false))
