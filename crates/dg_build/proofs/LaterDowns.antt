@@ -1,5 +1,5 @@
 -- The deltas from an interior node to its children but the first, one after another.
-use Rattle.std.proofs.Common.{◌≡◌, ℕ, ◌+◌, ◌<◌, ◌≤◌, false, cond, List, [], ◌∷◌, ◌++◌, Some, length, map, sym, ap, ◌∙◌, arith, append_assoc, length-append}
+use Rattle.std.proofs.Common.{◌≡◌, ◌+◌, ◌<◌, ◌≤◌, false, cond, List, [], ◌∷◌, ◌++◌, Some, length, map, sym, ap, ◌∙◌, arith, append_assoc, length-append}
 use Rattle.dg_graph.specs.Composition.{Delta, chained}
 use Rattle.dg_index.specs.FileOfHistory.{Segment, Stored}
 use Rattle.dg_build.specs.InteriorDeltas.{DiffersInDeltas, last_way, stored_delta}

@@ -59,9 +59,10 @@ fn add_batch(
     requires older { length older_sets.now ≡ length (older params.k (leaves params before) (leaves params (before + length events.now))) }
     requires bare { (segment.old.lists ≡ []) × (segment.old.deltas ≡ []) }
     ensures written { OnOk result (segment.new ≡ record segment.old {
-        lists = map (λ i. stored_cut (take params.l (drop (i * params.l) (recent.now ++ events.now)))) (numbers 0 (leaves params (before + length events.now) - leaves params before));
-        deltas = segment.new.deltas;
-        piece = stored (Events (drop (leaves params (before + length events.now) * params.l - before) events.now)) }) }
+      lists = map (λ i. stored_cut (take params.l (drop (i * params.l) (recent.now ++ events.now)))) (numbers 0 (leaves params (before + length events.now) - leaves params before));
+      deltas = segment.new.deltas;
+      piece = stored (Events (drop (leaves params (before + length events.now) * params.l - before) events.now));
+    }) }
     ensures count { OnOk result (length segment.new.deltas ≡ length (deltas_due params.k (leaves params before) (leaves params (before + length events.now)))) }
     ensures is { OnOk result ((past : List Event) → length past ≡ before → recent.now ≡ recent_of params past
         → (leaves params before / params.k < leaves params (before + length events.now) / params.k → now.now ≡ replay past)

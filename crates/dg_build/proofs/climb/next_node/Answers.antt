@@ -1,4 +1,4 @@
-use Rattle.std.proofs.Common.{◌≡◌, ℕ, ◌+◌, ◌-◌, ◌≤◌, ◌∷◌, List, length, get_or, take, drop, refl, arith, length-drop, length-take-le, ap}
+use Rattle.std.proofs.Common.{ℕ, ◌+◌, ◌-◌, ◌≤◌, List, length, get_or, take, drop, arith, length-drop, length-take-le, ap}
 use Rattle.std.proofs.lemmas.Result.{err_from_is_err_and}
 use Rattle.dg_graph.specs.Composition.{Delta}
 use Rattle.dg_index.specs.ExactSteps.{downs}

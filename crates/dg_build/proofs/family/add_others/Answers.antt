@@ -1,4 +1,4 @@
-use Rattle.std.proofs.Common.{◌<◌, ◌≤◌, length, map, refl, arith}
+use Rattle.std.proofs.Common.{length, map, refl, arith}
 use Rattle.std.proofs.lemmas.Result.{err_from_is_err_and, MatchResult-weaker}
 use Rattle.dg_graph.specs.Composition.{Delta, chained}
 use Rattle.dg_build.proofs.LaterDowns.{downs_first, downs_more, downs_done, last_done}
