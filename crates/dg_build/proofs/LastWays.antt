@@ -1,6 +1,6 @@
 -- The ways of a family, one after another, and the last of its downs.
-use Rattle.std.proofs.Common.{◌≡◌, ℕ, zero, suc, ◌+◌, ◌-◌, ◌≤◌, ◌<◌, List, [], ◌∷◌, ◌++◌, length, map, take, drop, refl, sym, ap, ◌∙◌, arith, append_assoc, length-append, length-drop}
-use Rattle.std.proofs.lemmas.List.{length-map, drop-drop}
+use Rattle.std.proofs.Common.{◌≡◌, ℕ, zero, suc, ◌+◌, ◌-◌, ◌≤◌, ◌<◌, List, [], ◌∷◌, ◌++◌, length, get_or, map, take, drop, refl, sym, ap, ◌∙◌, arith, append_assoc, length-append, length-drop, length-take-le, take-append-drop}
+use Rattle.std.proofs.lemmas.List.{length-map, drop-drop, take_at}
 use Rattle.dg_graph.specs.Composition.{chained, reversed, nothing, Delta}
 use Rattle.dg_index.specs.Hierarchy.{numbers}
 use Rattle.dg_index.specs.ExactSteps.{downs, ways_on, ways_of}
@@ -33,42 +33,80 @@ downs_length inner ways = ap suc (length-map ways (λ (d : Delta). chained (reve
 
 -- ---- way after way
 
--- so many of the ways are made, and the last of these is `way`; `left` is what is left of the row
-pub record WaysSoFar (count : ℕ) (row ways : List Delta) (way : Delta) (left : List Delta) : Type 0 where
-  pub within : length ways + 1 ≤ count
-  pub rest : left ≡ drop (length ways + 1) row
-  pub made : ways ++ (way ∷ ways_on way (take (count - (length ways + 1)) left)) ≡ ways_of (take count row)
+ways_on_more : (d step : Delta) (steps : List Delta) → ways_on d (steps ++ step ∷ []) ≡ ways_on d steps ++ chained (last_way (d ∷ ways_on d steps)) step ∷ []
+ways_on_more d step [] = refl
+ways_on_more d step (s ∷ steps) = ap (λ (l : List Delta). chained d s ∷ l) (ways_on_more (chained d s) step steps)
 
-pub ways_first : (count : ℕ) (row ways : List Delta) (way : Delta) (left : List Delta) → 1 ≤ count → ways ≡ [] → row ≡ way ∷ left → WaysSoFar count row ways way left
-ways_first count row ways way left some none is =
-    let n : length ways ≡ 0 = ap (λ (l : List Delta). length l) none in
-    let more : count ≡ suc (count - 1) = omega (arith, some) in
+ways_of_more : (step : Delta) (steps : List Delta) → 1 ≤ length steps → ways_of (steps ++ step ∷ []) ≡ ways_of steps ++ chained (last_way (ways_of steps)) step ∷ []
+ways_of_more step [] some = absurd (omega (arith, some))
+ways_of_more step (s ∷ steps) some = ap (λ (l : List Delta). s ∷ l) (ways_on_more s step steps)
+
+-- the last of them by its index
+last_got : (ways : List Delta) (d : Delta) → 1 ≤ length ways → get_or ways (length ways - 1) d ≡ last_way ways
+last_got [] d some = absurd (omega (arith, some))
+last_got (w ∷ []) d some = refl
+last_got (w ∷ v ∷ ways) d some =
+    ap (λ n. get_or (w ∷ v ∷ ways) n d) (let e : length (w ∷ v ∷ ways) - 1 ≡ suc (length ways) = omega arith in e) ∙ ap (λ n. get_or (v ∷ ways) n d) (let e : length ways ≡ length (v ∷ ways) - 1 = omega arith in e)
+    ∙ last_got (v ∷ ways) d (omega arith)
+
+-- so many of the ways are made; `left` is what is left of the row
+pub record WaysSoFar (count : ℕ) (row ways left : List Delta) : Type 0 where
+  pub some : 1 ≤ length ways
+  pub within : length ways ≤ count
+  pub rest : left ≡ drop (length ways) row
+  pub made : ways ≡ ways_of (take (length ways) row)
+
+pub ways_first : (count : ℕ) (row none ways : List Delta) (step : Delta) (left : List Delta) → 1 ≤ count → none ≡ [] → ways ≡ none ++ step ∷ [] → row ≡ step ∷ left → WaysSoFar count row ways left
+ways_first count row none ways step left some none_is ways_are is =
+    let one : ways ≡ step ∷ [] = ways_are ∙ ap (λ (l : List Delta). l ++ step ∷ []) none_is in
+    let n : length ways ≡ 1 = ap (λ (l : List Delta). length l) one in
     record {
+      some = omega (arith, n);
       within = omega (arith, some, n);
-      rest = sym (ap (λ (l : List Delta). drop 1 l) is) ∙ ap (λ m. drop m row) (let e : 1 ≡ length ways + 1 = omega (arith, n) in e);
-      made = (λ i. none i ++ (way ∷ ways_on way (take (count - (n i + 1)) left))) ∙ sym ((λ i. ways_of (take (more i) (is i))));
+      rest = sym (ap (λ (l : List Delta). drop 1 l) is) ∙ ap (λ m. drop m row) (sym n);
+      made = one ∙ sym (ap (λ (l : List Delta). ways_of (take 1 l)) is) ∙ ap (λ m. ways_of (take m row)) (sym n);
     }
 
 -- there is one more in the row
-pub one_left : (count : ℕ) (row ways : List Delta) (way : Delta) (left : List Delta) → count ≤ length row → length ways + 1 < count → WaysSoFar count row ways way left → 1 ≤ length left
-one_left count row ways way left long lt so = omega (arith, long, lt, ap (λ (l : List Delta). length l) so.rest, length-drop (length ways + 1) row)
+pub one_left : (count : ℕ) (row ways left : List Delta) → count ≤ length row → length ways < count → WaysSoFar count row ways left → 1 ≤ length left
+one_left count row ways left long lt so = omega (arith, long, lt, ap (λ (l : List Delta). length l) so.rest, length-drop (length ways) row)
 
-pub ways_more : (count : ℕ) (row ways ways2 : List Delta) (way step next : Delta) (left left2 : List Delta) → length ways + 1 < count → WaysSoFar count row ways way left
-    → left ≡ step ∷ left2 → next ≡ chained way step → ways2 ≡ ways ++ way ∷ [] → WaysSoFar count row ways2 next left2
-ways_more count row ways ways2 way step next left left2 lt so left_is next_is ways_are =
-    let n : length ways2 ≡ length ways + 1 = ap (λ (l : List Delta). length l) ways_are ∙ length-append ways (way ∷ []) in
-    let m : ℕ = count - (length ways2 + 1) in
-    let more : count - (length ways + 1) ≡ suc m = omega (arith, lt, n) in
+pub ways_more : (count : ℕ) (row ways ways2 : List Delta) (way step next : Delta) (left left2 : List Delta) → count ≤ length row → length ways < count → WaysSoFar count row ways left
+    → way ≡ get_or ways (length ways - 1) way → left ≡ step ∷ left2 → next ≡ chained way step → ways2 ≡ ways ++ next ∷ [] → WaysSoFar count row ways2 left2
+ways_more count row ways ways2 way step next left left2 long lt so way_is left_is next_is ways_are =
+    let n : length ways2 ≡ length ways + 1 = ap (λ (l : List Delta). length l) ways_are ∙ length-append ways (next ∷ []) in
+    let m : ℕ = length ways in
+    let front : List Delta = take m row in
+    let whole : row ≡ (front ++ step ∷ []) ++ left2 = sym (take-append-drop m row) ∙ ap (λ (l : List Delta). front ++ l) (sym so.rest ∙ left_is) ∙ sym (append_assoc front (step ∷ []) left2) in
+    let there : length front ≡ m = length-take-le m row (omega (arith, long, lt)) in
+    let cut : take (m + 1) row ≡ front ++ step ∷ [] = ap (take (m + 1)) whole ∙ take_at (front ++ step ∷ []) left2 (m + 1) (omega (arith, length-append front (step ∷ []), there)) in
+    let last : way ≡ last_way (ways_of front) = way_is ∙ last_got ways way so.some ∙ ap last_way so.made in
     record {
+      some = omega (arith, n);
       within = omega (arith, lt, n);
-      rest = sym (ap (λ (l : List Delta). drop 1 l) left_is) ∙ ap (drop 1) so.rest ∙ drop-drop 1 (length ways + 1) row ∙ ap (λ i. drop i row) (let e : length ways + 1 + 1 ≡ length ways2 + 1 = omega (arith, n) in e);
-      made = (λ i. ways_are i ++ (next_is i ∷ ways_on (next_is i) (take m left2))) ∙ append_assoc ways (way ∷ []) (chained way step ∷ ways_on (chained way step) (take m left2))
-          ∙ sym (λ i. ways ++ (way ∷ ways_on way (take (more i) (left_is i)))) ∙ so.made;
+      rest = sym (ap (λ (l : List Delta). drop 1 l) left_is) ∙ ap (drop 1) so.rest ∙ drop-drop 1 m row ∙ ap (λ i. drop i row) (let e : m + 1 ≡ length ways2 = omega (arith, n) in e);
+      made = ways_are ∙ (λ i. so.made i ++ (next_is ∙ ap (λ (d : Delta). chained d step) last) i ∷ []) ∙ sym (ways_of_more step front (omega (arith, there, so.some))) ∙ ap ways_of (sym cut)
+          ∙ ap (λ i. ways_of (take i row)) (let e : m + 1 ≡ length ways2 = omega (arith, n) in e);
     }
 
-pub ways_done : (count : ℕ) (row ways ways2 : List Delta) (way : Delta) (left : List Delta) → count ≤ length ways + 1 → WaysSoFar count row ways way left → ways2 ≡ ways ++ way ∷ [] → ways2 ≡ ways_of (take count row)
-ways_done count row ways ways2 way left le so ways_are =
-    ways_are ∙ sym (λ i. ways ++ (way ∷ ways_on way (take (let e : count - (length ways + 1) ≡ 0 = omega (arith, le) in e i) left))) ∙ so.made
+pub ways_done : (count : ℕ) (row ways left : List Delta) → count ≤ length ways → WaysSoFar count row ways left → ways ≡ ways_of (take count row)
+ways_done count row ways left le so = so.made ∙ ap (λ n. ways_of (take n row)) (let e : length ways ≡ count = omega (arith, le, so.within) in e)
 
-pub rest_done : (count : ℕ) (row ways : List Delta) (way : Delta) (left : List Delta) → count ≤ length ways + 1 → WaysSoFar count row ways way left → left ≡ drop count row
-rest_done count row ways way left le so = so.rest ∙ ap (λ n. drop n row) (let e : length ways + 1 ≡ count = omega (arith, le, so.within) in e)
+pub rest_done : (count : ℕ) (row ways left : List Delta) → count ≤ length ways → WaysSoFar count row ways left → left ≡ drop count row
+rest_done count row ways left le so = so.rest ∙ ap (λ n. drop n row) (let e : length ways ≡ count = omega (arith, le, so.within) in e)
+
+-- a row by its first step
+pub first_and_rest : (row : List Delta) (d : Delta) → 1 ≤ length row → row ≡ get_or row 0 d ∷ drop 1 row
+first_and_rest [] d some = absurd (omega (arith, some))
+first_and_rest (step ∷ row) d some = refl
+
+-- ---- down after down
+
+-- the last is not the first, where there is another
+pub last_behind : (first way : Delta) (left : List Delta) → 1 ≤ length left → last_way (chained first way ∷ map (λ (d : Delta). chained first d) left) ≡ last_way (map (λ (d : Delta). chained first d) left)
+last_behind first way [] some = absurd (omega (arith, some))
+last_behind first way (v ∷ left) some = refl
+
+pub none_left : (way : Delta) (left rest : List Delta) → left ≡ way ∷ rest → length left ≤ 1 → rest ≡ []
+none_left way left [] is few = refl
+none_left way left (v ∷ rest) is few = absurd (omega (arith, ap (λ (l : List Delta). length l) is, few))

@@ -10,3 +10,4 @@ pub mod ClosedLists
 pub mod ListTimes
 pub mod WholeSegment
 pub mod FirstList
+pub mod LaterDowns

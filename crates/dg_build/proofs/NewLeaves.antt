@@ -36,15 +36,20 @@ leaf_step p before more i tail cut d some is_tail changes cut_is net =
     let here : AreChangesOf at (closed_list p all j) = changes_front at p.l (drop (j * p.l) all) (changes_behind [] (j * p.l) all changes) in
     net at (IsSet-node p all 0 j) (subst (AreChangesOf at) (sym is) here) ∙ ap (between at) (ap (replay_from at) is ∙ sym (leaf_next p all j))
 
-pub leaf_first : (p : Params) (before more : List Event) (leaf node : List Element) (tail cut : List Event) (d : Delta) → 1 ≤ p.l → tail ≡ recent_of p before ++ more → AreChangesOf [] (before ++ more)
-    → cut ≡ take p.l tail → IsExactNet cut d → leaf ≡ set_at p (before ++ more) 0 (leaves p (length before)) → node ≡ applied d leaf → node ≡ set_at p (before ++ more) 0 (leaves p (length before) + 1)
-leaf_first p before more leaf node tail cut d some is_tail changes cut_is net leaf_is node_is =
+-- from a set of which the events are changes
+pub leads_on : (leaf : List Element) (list : List Event) (d : Delta) (next : List Element) → IsExactNet list d → next ≡ applied d leaf → IsSet leaf → AreChangesOf leaf list → next ≡ replay_from leaf list
+leads_on leaf list d next net is set changes = is ∙ ap (λ (e : Delta). applied e leaf) (net leaf set changes) ∙ between_leads_on leaf (replay_from leaf list) set (IsSet-replay leaf list set)
+
+pub leaf_first : (p : Params) (before more : List Event) (leaf node : List Element) (tail cut : List Event) → 1 ≤ p.l → tail ≡ recent_of p before ++ more → AreChangesOf [] (before ++ more)
+    → cut ≡ take p.l tail → leaf ≡ set_at p (before ++ more) 0 (leaves p (length before)) → (IsSet leaf → AreChangesOf leaf cut → node ≡ replay_from leaf cut) → node ≡ set_at p (before ++ more) 0 (leaves p (length before) + 1)
+leaf_first p before more leaf node tail cut some is_tail changes cut_is leaf_is leads =
     let all : List Event = before ++ more in
     let m : ℕ = leaves p (length before) in
-    let same : m + 0 ≡ m = omega arith in
-    let step = leaf_step p before more 0 tail cut d some is_tail changes (cut_is ∙ ap (λ n. take p.l (drop n tail)) (let e : 0 ≡ 0 * p.l = omega arith in e)) net
-    ∙ (λ i. between (set_at p all 0 (same i)) (set_at p all 0 (same i + 1))) in
-    node_is ∙ (λ i. applied (step i) (leaf_is i)) ∙ between_leads_on (set_at p all 0 m) (set_at p all 0 (m + 1)) (IsSet-node p all 0 m) (IsSet-node p all 0 (m + 1))
+    let at : List Element = set_at p all 0 m in
+    let is : cut ≡ closed_list p all m = cut_is ∙ ap (λ n. take p.l (drop n tail)) (let e : 0 ≡ 0 * p.l = omega arith in e) ∙ (λ x. take p.l (drop (0 * p.l) (is_tail x))) ∙ sym (list_cut p before more 0 (omega (arith, some)))
+    ∙ ap (closed_list p all) (let e : m + 0 ≡ m = omega arith in e) in
+    let here : AreChangesOf at (closed_list p all m) = changes_front at p.l (drop (m * p.l) all) (changes_behind [] (m * p.l) all changes) in
+    leads (subst IsSet (sym leaf_is) (IsSet-node p all 0 m)) (subst (AreChangesOf leaf) (sym is) (subst (λ s. AreChangesOf s (closed_list p all m)) (sym leaf_is) here)) ∙ (λ x. replay_from (leaf_is x) (is x)) ∙ sym (leaf_next p all m)
 
 pub record StepsSoFar (p : Params) (all : List Event) (m i : ℕ) (steps : List Delta) : Type 0 where
   pub are : steps ≡ steps_at p all 0 (m + 1) (i - 1)
@@ -63,14 +68,14 @@ steps_next p before more i tail cut d steps steps2 some far is_tail changes cut_
 
 -- ---- the last leaf that was there before
 
-pub leaf_back : (p : Params) (before more recent : List Event) (now leaf : List Element) (d : Delta) → 1 ≤ p.l → recent ≡ recent_of p before → now ≡ replay before → AreChangesOf [] (before ++ more)
-    → ((set : List Element) → IsSet set → AreChangesOf set recent → applied d (replay_from set recent) ≡ set) → leaf ≡ applied d now → leaf ≡ set_at p (before ++ more) 0 (leaves p (length before))
-leaf_back p before more recent now leaf d some recent_is now_is changes back leaf_is =
+pub leaf_back : (p : Params) (before more recent : List Event) (now leaf : List Element) → 1 ≤ p.l → recent ≡ recent_of p before → now ≡ replay before → AreChangesOf [] (before ++ more)
+    → ((set : List Element) → IsSet set → AreChangesOf set recent → now ≡ replay_from set recent → leaf ≡ set) → leaf ≡ set_at p (before ++ more) 0 (leaves p (length before))
+leaf_back p before more recent now leaf some recent_is now_is changes leads =
     let n : ℕ = leaves p (length before) * p.l in
     let at : List Element = replay (take n before) in
     let here : AreChangesOf at recent = subst (AreChangesOf at) (sym recent_is) (changes_behind [] n before (changes_cut [] before more changes).0) in
     let all : now ≡ replay_from at recent = now_is ∙ ap replay (sym (take-append-drop n before)) ∙ replay_append [] (take n before) (drop n before) ∙ ap (replay_from at) (sym recent_is) in
-    leaf_is ∙ ap (applied d) all ∙ back at (IsSet-replay [] (take n before) tt) here ∙ ap replay (sym (take-append-le n before more (div-mul-le_self (length before) p.l)))
+    leads at (IsSet-replay [] (take n before) tt) here all ∙ ap replay (sym (take-append-le n before more (div-mul-le_self (length before) p.l)))
 
 -- the new leaves up to those that the batch has
 pub new_up_to : (p : Params) (all : List Event) (n m after : ℕ) (first : List Element) (steps : List Delta) → n ≡ m → m < after → AreNewNodes p all 0 n (n + (after - m)) first steps → AreNewNodes p all 0 m after first steps

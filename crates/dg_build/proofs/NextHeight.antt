@@ -30,13 +30,20 @@ pub record Spells (old new : Segment) (tops downs : List Delta) (later : List St
   pub differs : DiffersInDeltas old new
   pub adds : new.deltas ≡ old.deltas ++ (map stored_delta (tops ++ downs) ++ later)
 
-pub spells : (old top mid new : Segment) (tops downs : List Delta) (later : List Stored) → top ≡ record old { deltas = old.deltas ++ map stored_delta tops } → mid ≡ record top { deltas = top.deltas ++ map stored_delta downs }
-    → DiffersInDeltas mid new → new.deltas ≡ mid.deltas ++ later → Spells old new tops downs later
-spells old top mid new tops downs later first downs_are differs adds = record {
-  differs = differs_on old mid new (differs_on old top mid (differs_by old top _ first) (differs_by top mid _ downs_are)) differs;
-  adds = adds ∙ (λ i. (downs_are i).deltas ++ later) ∙ (λ i. ((first i).deltas ++ map stored_delta downs) ++ later) ∙ ap (λ (l : List Stored). l ++ later) (append_assoc old.deltas (map stored_delta tops) (map stored_delta downs))
-      ∙ append_assoc old.deltas (map stored_delta tops ++ map stored_delta downs) later ∙ ap (λ (l : List Stored). old.deltas ++ (l ++ later)) (sym (map-append stored_delta tops downs));
+pub spells : (old mid new : Segment) (tops downs : List Delta) (later : List Stored) → mid ≡ record old { deltas = old.deltas ++ map stored_delta (tops ++ downs) } → DiffersInDeltas mid new → new.deltas ≡ mid.deltas ++ later
+    → Spells old new tops downs later
+spells old mid new tops downs later first differs adds = record {
+  differs = differs_on old mid new (differs_by old mid _ first) differs;
+  adds = adds ∙ (λ i. (first i).deltas ++ later) ∙ append_assoc old.deltas (map stored_delta (tops ++ downs)) later;
 }
+
+-- the top and then the downs
+pub added_both : (old top mid : Segment) (tops made downs : List Delta) → top ≡ record old { deltas = old.deltas ++ map stored_delta tops } → mid ≡ record top { deltas = top.deltas ++ map stored_delta made } → made ≡ downs
+    → mid ≡ record old { deltas = old.deltas ++ map stored_delta (tops ++ downs) }
+added_both old top mid tops made downs top_is mid_is made_is =
+    mid_is ∙ (λ i. record (top_is i) { deltas = (top_is i).deltas ++ map stored_delta made })
+    ∙ ap (λ (l : List Stored). record old { deltas = l })
+    (append_assoc old.deltas (map stored_delta tops) (map stored_delta made) ∙ ap (λ (l : List Stored). old.deltas ++ l) (sym (map-append stored_delta tops made)) ∙ ap (λ (l : List Delta). old.deltas ++ map stored_delta (tops ++ l)) made_is)
 
 -- ---- how many deltas
 
@@ -47,13 +54,20 @@ top_length false node = refl
 pub deltas_length : (old new : Segment) (made : List Delta) → new ≡ record old { deltas = old.deltas ++ map stored_delta made } → length new.deltas ≡ length old.deltas + length made
 deltas_length old new made is = ap (λ (s : Segment). length s.deltas) is ∙ length-append old.deltas (map stored_delta made) ∙ ap (λ n. length old.deltas + n) (length-map made stored_delta)
 
--- those up to the top, up to the first node, and all
-pub tops_added : (k q end : ℕ) (old top : Segment) (node : List Element) → q / k < end / k → top ≡ record old { deltas = old.deltas ++ map stored_delta (cond (q / k == 0) (between [] node ∷ []) []) }
-    → length top.deltas + k + (end / k - q / k - 1) * k ≡ length old.deltas + deltas_added k (q / k) (end / k)
-tops_added k q end old top node due is =
+-- those of the first node, and all
+first_of_all : (k q end : ℕ) → q / k < end / k → (end / k - q / k) * k ≡ (end / k - q / k - 1) * k + k
+first_of_all k q end due =
+    let e : end / k - q / k ≡ end / k - q / k - 1 + 1 = omega (arith, due) in
+    omega (arith, ap (λ n. n * k) e, add-mul (end / k - q / k - 1) 1 k)
+
+pub first_added : (k q end : ℕ) (old mid : Segment) (node : List Element) (made : List Delta) → q / k < end / k → length made ≡ k → mid ≡ record old { deltas = old.deltas ++ map stored_delta (cond (q / k == 0) (between [] node ∷ []) [] ++ made) }
+    → length mid.deltas + (end / k - q / k - 1) * k ≡ length old.deltas + deltas_added k (q / k) (end / k)
+first_added k q end old mid node made due long is =
     let tops : List Delta = cond (q / k == 0) (between [] node ∷ []) [] in
-    let split : (end / k - q / k) * k ≡ (end / k - q / k - 1) * k + 1 * k = ap (λ n. n * k) (let e : end / k - q / k ≡ end / k - q / k - 1 + 1 = omega (arith, due) in e) ∙ add-mul (end / k - q / k - 1) 1 k in
-    omega (arith, ap (λ (s : Segment). length s.deltas) is, length-append old.deltas (map stored_delta tops), length-map tops stored_delta, top_length (q / k == 0) node, split)
+    omega (arith, deltas_length old mid (tops ++ made) is, length-append tops made, long, top_length (q / k == 0) node, first_of_all k q end due)
+
+pub first_within : (k q end : ℕ) (node : List Element) → q / k < end / k → length (cond (q / k == 0) (between [] node ∷ []) []) + k ≤ deltas_added k (q / k) (end / k)
+first_within k q end node due = omega (arith, top_length (q / k == 0) node, first_of_all k q end due)
 
 pub top_within : (k q end : ℕ) (node : List Element) → length (cond (q / k == 0) (between [] node ∷ []) []) ≤ deltas_added k (q / k) (end / k)
 top_within k q end node = omega (arith, top_length (q / k == 0) node)

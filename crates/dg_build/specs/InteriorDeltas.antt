@@ -1,14 +1,15 @@
 -- The interior nodes of a height that a batch gives, and the deltas of each.
-use Rattle.std.specs.Prelude.{◌≡◌, ℕ, suc, ◌+◌, ◌-◌, ◌*◌, ◌/◌, ◌==◌, List, [], ◌∷◌, ◌++◌, map, get_or, if◌then◌else◌}
+use Rattle.std.specs.Prelude.{◌≡◌, ℕ, suc, ◌+◌, ◌-◌, ◌*◌, ◌/◌, ◌==◌, List, [], ◌∷◌, ◌++◌, map, take, get_or, if◌then◌else◌}
 use Rattle.std.specs.List.{flat_map}
 use Rattle.dg_graph.specs.declared.element.Element.{Element}
 use Rattle.dg_graph.specs.declared.event.Event.{Event}
 use Rattle.dg_history.specs.declared.params.Params.{Params}
-use Rattle.dg_graph.specs.Composition.{Delta, between, nothing}
+use Rattle.dg_graph.specs.Composition.{Delta, applied, between, nothing}
+use Rattle.dg_graph.specs.DifferentialFunction.{inward}
 use Rattle.dg_index.specs.Hierarchy.{numbers, children, set_at}
 use Rattle.dg_index.specs.IndexRecords.{Exact}
 use Rattle.dg_index.specs.FileOfHistory.{Segment, Stored, stored}
-use Rattle.dg_index.specs.ExactSteps.{steps_at}
+use Rattle.dg_index.specs.ExactSteps.{downs, steps_at, ways_of}
 
 -- the last of the deltas
 abbrev pub last_way : List Delta → Delta
@@ -75,3 +76,21 @@ pub record IsNextNode (p : Params) (events : List Event) (h j more : ℕ) (step 
 pub record Rises (p : Params) (events : List Event) (h q last : ℕ) (first : List Element) (steps : List Delta) (old new : Segment) : Type 0 where
   pub nodes : AreNewNodes p events (suc h) q last first steps
   pub adds : new.deltas ≡ old.deltas ++ map stored_delta (tops_and_downs p events h q last)
+
+-- ---- the node of the next group, by the steps between its children, which begin the row
+
+-- the delta to it from its first child
+abbrev pub inner_by : Params → List Delta → Delta
+inner_by p row = inward p.function (ways_of (take (p.k - 1) row))
+
+-- those from it to its children
+abbrev pub downs_by : Params → List Delta → List Delta
+downs_by p row = downs (inner_by p row) (ways_of (take (p.k - 1) row))
+
+-- its set, where the children are these older ones and then new ones, this one first
+abbrev pub set_by : Params → List Delta → List (List Element) → List Element → List Element
+set_by p row sets child = applied (inner_by p row) (get_or sets 0 child)
+
+-- the delta from the root to it, where no node of its height is before it
+abbrev pub top_to : ℕ → List Element → List Delta
+top_to below node = if below == 0 then between [] node ∷ [] else []

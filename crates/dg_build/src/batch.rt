@@ -1,17 +1,17 @@
 //! The segment of a batch.
 
-ghost use Rattle.std.specs.Prelude.{◌≡◌, ◌≤◌, ◌<◌, ◌+◌, ◌-◌, ◌*◌, ◌/◌, ◌^◌, ◌++◌, [], ℕ, List, length, map, drop, true, All, IfOk, IfErr};
+ghost use Rattle.std.specs.Prelude.{◌≡◌, ◌≤◌, ◌<◌, ◌+◌, ◌-◌, ◌*◌, ◌/◌, ◌^◌, ◌++◌, [], ℕ, List, length, map, take, drop, min, true, All, IfOk, IfErr, OnOk};
 ghost use Rattle.dg_graph.specs.declared.event.Event.{Event};
 ghost use Rattle.dg_graph.specs.ExactEvents.{AreChangesOf};
 ghost use Rattle.dg_graph.specs.Replay.{replay};
 ghost use Rattle.dg_history.specs.History.{first_time_of, last_time_from};
 ghost use Rattle.dg_columns.specs.NamesInRange.{NamesFit};
-ghost use Rattle.dg_index.specs.Hierarchy.{leaves, set_of};
-ghost use Rattle.dg_index.specs.IndexRecords.{deltas_due, recent_of};
-ghost use Rattle.dg_index.specs.FileOfHistory.{segment_of};
+ghost use Rattle.dg_index.specs.Hierarchy.{leaves, numbers, set_of};
+ghost use Rattle.dg_index.specs.IndexRecords.{Events, deltas_due, recent_of, record_among};
+ghost use Rattle.dg_index.specs.FileOfHistory.{segment_of, stored};
 ghost use Rattle.dg_index.specs.OlderNodes.{older};
 ghost use Rattle.dg_index.specs.OpenedIndex.{list_row, may_be_listed};
-ghost use Rattle.dg_build.specs.SpelledRecords.{IsFaultBelow, RisesFrom};
+ghost use Rattle.dg_build.specs.SpelledRecords.{IsFaultBelow, RisesFrom, stored_cut};
 ghost use Rattle.dg_build.specs.declared.fault.BuildFault.TheVariants.{Memory};
 
 use crate::fault::BuildFault;
@@ -30,6 +30,65 @@ fn behind(events: &[Event], count: usize) -> &[Event]
     ensures { result.now ≡ drop count events.now }
 {
     &events[count..]
+}
+
+// How many events of the batch are in the first list, which begins with the recent ones.
+fn first_count(l: usize, recent: &[Event], events: &[Event]) -> usize
+    ensures { result ≡ min (l - length recent.now) (length events.now) }
+{
+    l.saturating_sub(recent.len()).min(events.len())
+}
+
+// Gives the segment, which is without a list or a delta, those of the batch, and its piece.
+fn add_batch(
+    alloc: Global,
+    params: Params,
+    before: usize,
+    recent: &[Event],
+    events: &[Event],
+    now: &Set,
+    older_sets: &[Set],
+    segment: &mut Segment,
+) -> Result<(), BuildFault>
+    requires list { (1 ≤ params.l) × (params.l ≤ 65536) }
+    requires arity { 2 ≤ params.k }
+    requires recent { length recent.now ≡ before - leaves params before * params.l }
+    requires fits { before + length events.now < 2 ^ 32 }
+    requires recent_names { All (λ e. NamesFit e.body) recent.now }
+    requires event_names { All (λ e. NamesFit e.body) events.now }
+    requires older { length older_sets.now ≡ length (older params.k (leaves params before) (leaves params (before + length events.now))) }
+    requires bare { (segment.old.lists ≡ []) × (segment.old.deltas ≡ []) }
+    ensures written { OnOk result (segment.new ≡ record segment.old {
+      lists = map (λ i. stored_cut (take params.l (drop (i * params.l) (recent.now ++ events.now)))) (numbers 0 (leaves params (before + length events.now) - leaves params before));
+      deltas = segment.new.deltas;
+      piece = stored (Events (drop (leaves params (before + length events.now) * params.l - before) events.now));
+    }) }
+    ensures count { OnOk result (length segment.new.deltas ≡ length (deltas_due params.k (leaves params before) (leaves params (before + length events.now)))) }
+    ensures is { OnOk result ((past : List Event) → length past ≡ before → recent.now ≡ recent_of params past
+        → (leaves params before / params.k < leaves params (before + length events.now) / params.k → now.now ≡ replay past)
+        → AreChangesOf [] (past ++ events.now) → older_sets.now ≡ map (set_of params past) (older params.k (leaves params before) (leaves params (before + length events.now)))
+        → segment.new.deltas ≡ map (λ key. stored (record_among params (past ++ events.now) [] key)) (deltas_due params.k (leaves params before) (leaves params (before + length events.now)))) }
+    ensures fault { IfErr result (λ e. (past : List Event) → length past ≡ before → recent.now ≡ recent_of params past
+        → (leaves params before / params.k < leaves params (before + length events.now) / params.k → now.now ≡ replay past)
+        → AreChangesOf [] (past ++ events.now) → older_sets.now ≡ map (set_of params past) (older params.k (leaves params before) (leaves params (before + length events.now)))
+        → e ≡ Memory) }
+    ensures wide { IfErr result (λ e. IsFaultBelow (length (deltas_due params.k (leaves params before) (leaves params (before + length events.now)))) e) }
+{
+    let l = params.l as usize;
+    let m = before / l;
+    let after = (before + events.len()) / l;
+    // Only the first list reaches over the border between the recent events and the batch.
+    let cut = first_count(l, recent, events);
+    let later = behind(events, cut);
+    let list = first_list(alloc, recent, &events[..cut])?;
+    let first = list.as_slice();
+    add_lists(alloc, l, after - m, first, later, segment)?;
+    add_interior(
+        alloc, params, m, after, now, recent, first, later, older_sets, segment,
+    )?;
+    let piece = behind(events, (after * l).saturating_sub(before));
+    set_piece(alloc, piece, segment)?;
+    Ok(())
 }
 
 /// The segment of a batch of `events` behind `before` others: the columns of the lists that the batch
@@ -76,28 +135,16 @@ pub fn build(
         → e ≡ Memory) }
     ensures wide { IfErr result (λ e. IsFaultBelow (length (deltas_due params.k (leaves params before) (leaves params (before + length events.now)))) e) }
 {
-    let l = params.l as usize;
-    let m = before / l;
-    let after = (before + events.len()) / l;
-    // Only the first list reaches over the border between the recent events and the batch.
-    let cut = l.saturating_sub(recent.len()).min(events.len());
-    let later = behind(events, cut);
-    let first = first_list(alloc, recent, &events[..cut])?;
     let mut segment = segment;
-    add_lists(alloc, l, after - m, first.as_slice(), later, &mut segment)?;
-    add_interior(
+    add_batch(
         alloc,
         params,
-        m,
-        after,
-        now,
+        before,
         recent,
-        first.as_slice(),
-        later,
+        events,
+        now,
         older_sets,
         &mut segment,
     )?;
-    let piece = behind(events, (after * l).saturating_sub(before));
-    set_piece(alloc, piece, &mut segment)?;
     Ok(segment)
 }

@@ -1,14 +1,15 @@
 //! The interior nodes of a height, by the exact steps between their children.
 
-ghost use Rattle.std.specs.Prelude.{◌≡◌, ◌≤◌, ◌<◌, ◌+◌, ◌-◌, ◌*◌, ◌^◌, ◌∷◌, ℕ, List, length, take, drop, IfOk, IfErr, OnOk};
+ghost use Rattle.std.specs.Prelude.{◌≡◌, ◌≤◌, ◌<◌, ◌+◌, ◌-◌, ◌*◌, ◌^◌, ◌∷◌, ℕ, List, length, take, drop, get_or, IfOk, IfErr, OnOk};
 ghost use Rattle.dg_graph.specs.declared.event.Event.{Event};
+ghost use Rattle.dg_graph.specs.Composition.{chained};
 ghost use Rattle.dg_graph.specs.DifferentialFunction.{inward};
 ghost use Rattle.dg_index.specs.ExactSteps.{ways_of};
 ghost use Rattle.dg_build.specs.InteriorDeltas.{AreMade, DiffersInDeltas, IsBehind, IsNextNode};
 ghost use Rattle.dg_build.specs.SpelledRecords.{IsFaultBelow};
 ghost use Rattle.dg_build.specs.declared.fault.BuildFault.TheVariants.{Memory};
 
-use crate::family::{add_downs, next_step, ways};
+use crate::family::{add_downs, chain_on, next_step, ways};
 use crate::fault::BuildFault;
 use dg_delta::Delta;
 use dg_diff::inward;
@@ -45,6 +46,46 @@ pub(crate) fn interior_node(
     Ok(Interior { inner, ways })
 }
 
+// The exact step from a node to the first child of the next one, by the delta to its last child, and the step
+// at the front of the row, which is taken. An `Err` says that memory ran out.
+fn step_across(last: Delta, row: &mut VecDeque<Delta>) -> Result<Delta, AllocError>
+    requires { 1 ≤ length row.old.items }
+    ensures step { IfOk result (λ step. step ≡ chained last (get_or row.old.items 0 last)) }
+    ensures rest { OnOk result (row.new.items ≡ drop 1 row.old.items) }
+{
+    chain_on(&last, next_step(row))
+}
+
+// The exact step from a node to the next one, by that to the first child of this one, and the delta from the
+// child to it. An `Err` says that memory ran out.
+fn step_up(step: Delta, inner: &Delta) -> Result<Delta, AllocError>
+    ensures { IfOk result (λ whole. whole ≡ chained step inner.now) }
+{
+    step.chain(inner)
+}
+
+// Makes the interior node behind another one, by the delta from that one to its last child, and the exact
+// steps from that child on, which are taken from the front of the row. Answers it behind the exact step to it
+// from the other node. An `Err` says that memory ran out.
+fn linked_node(
+    alloc: Global,
+    params: Params,
+    last: Delta,
+    row: &mut VecDeque<Delta>,
+) -> Result<(Delta, Interior), AllocError>
+    requires arity { 2 ≤ params.k }
+    requires there { params.k ≤ length row.old.items }
+    ensures step { IfOk result (λ made. made.0 ≡ chained (chained last (get_or row.old.items 0 last)) made.1.inner) }
+    ensures inner { IfOk result (λ made. made.1.inner ≡ inward params.function (ways_of (take (params.k - 1) (drop 1 row.old.items)))) }
+    ensures ways { IfOk result (λ made. made.1.ways.items ≡ ways_of (take (params.k - 1) (drop 1 row.old.items))) }
+    ensures rest { IfOk result (λ made. row.new.items ≡ drop (params.k - 1) (drop 1 row.old.items)) }
+{
+    let step = step_across(last, row)?;
+    let node = interior_node(alloc, params, row)?;
+    let step = step_up(step, &node.inner)?;
+    Ok((step, node))
+}
+
 /// Makes the interior node behind another one, by the delta from that one to its last child, and the exact
 /// steps from that child on, which are taken from the front of the row. Gives the segment the deltas to its
 /// children. Answers the exact step from the one node to the other, and the delta to its own last child.
@@ -66,11 +107,8 @@ fn next_node(
         → length events < 2 ^ 32 → e ≡ Memory) }
     ensures wide { IfErr result (λ e. IsFaultBelow (length segment.old.deltas + params.k) e) }
 {
-    let mut step = last;
-    step = step.chain(&next_step(row))?;
-    let Interior { inner, ways } = interior_node(alloc, params, row)?;
-    step = step.chain(&inner)?;
-    let down = add_downs(alloc, inner, ways, segment)?;
+    let (step, node) = linked_node(alloc, params, last, row)?;
+    let down = add_downs(alloc, node.inner, node.ways, segment)?;
     Ok((step, down))
 }
 

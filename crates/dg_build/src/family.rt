@@ -1,10 +1,10 @@
 //! The children of an interior node, by exact deltas.
 
-ghost use Rattle.std.specs.Prelude.{◌≡◌, ◌≤◌, ◌++◌, ◌∷◌, length, map, take, drop, IfOk, IfErr, OnOk};
-ghost use Rattle.dg_graph.specs.Composition.{chained};
+ghost use Rattle.std.specs.Prelude.{◌≡◌, ◌≤◌, ◌++◌, ◌∷◌, [], false, List, length, map, take, drop, IfOk, IfErr, OnOk};
+ghost use Rattle.dg_graph.specs.Composition.{Delta, chained};
 ghost use Rattle.dg_index.specs.ExactSteps.{downs, ways_of};
 ghost use Rattle.dg_build.specs.InteriorDeltas.{last_way, stored_delta};
-ghost use Rattle.dg_build.specs.SpelledRecords.{IsFaultOfDeltas};
+ghost use Rattle.dg_build.specs.SpelledRecords.{is_wide, IsFaultOfDeltas};
 
 use crate::fault::BuildFault;
 use crate::records::add_delta;
@@ -21,6 +21,13 @@ pub(crate) fn next_step(row: &mut VecDeque<Delta>) -> Delta
     row.pop_front().unwrap()
 }
 
+// The exact delta over one and then a later one, which is let go of. An `Err` says that memory ran out.
+pub(crate) fn chain_on(delta: &Delta, later: Delta) -> Result<Delta, AllocError>
+    ensures { IfOk result (λ whole. whole ≡ chained delta.now later) }
+{
+    delta.chain(&later)
+}
+
 /// The exact delta from the first node of a chain to each other one, by the exact steps from each node to
 /// the next: so many steps are taken from the front of the row. An `Err` says that memory ran out.
 pub(crate) fn ways(
@@ -34,14 +41,30 @@ pub(crate) fn ways(
     ensures rest { OnOk result (row.new.items ≡ drop count row.old.items) }
 {
     let mut ways = Vec::with_capacity(alloc, count)?;
-    let mut way = next_step(row);
-    while ways.len() + 1 < count {
-        let next = way.chain(&next_step(row))?;
+    ways.push(next_step(row))?;
+    while ways.len() < count {
+        let way = chain_on(&ways[ways.len() - 1], next_step(row))?;
         ways.push(way)?;
-        way = next;
     }
-    ways.push(way)?;
     Ok(ways)
+}
+
+// Gives the segment the exact delta from an interior node to a child, by the one to the first child, and the way
+// from that child. Answers it.
+fn add_down(
+    alloc: Global,
+    to_first: &Delta,
+    way: Delta,
+    segment: &mut Segment,
+) -> Result<Delta, BuildFault>
+    ensures ok { IfOk result (λ down. segment.new ≡ record segment.old { deltas = segment.old.deltas ++ stored_delta (chained to_first.now way) ∷ [] }) }
+    ensures down { IfOk result (λ down. down ≡ chained to_first.now way) }
+    ensures narrow { IfOk result (λ down. is_wide (chained to_first.now way) ≡ false) }
+    ensures fault { IfErr result (λ e. (more : List Delta) → IsFaultOfDeltas (length segment.old.deltas) (chained to_first.now way ∷ more) e) }
+{
+    let down = chain_on(to_first, way)?;
+    add_delta(alloc, &down, segment)?;
+    Ok(down)
 }
 
 // Gives the segment the exact deltas from an interior node to its children but the first, by the one to the
@@ -52,18 +75,17 @@ fn add_others(
     ways: Vec<Delta>,
     segment: &mut Segment,
 ) -> Result<Delta, BuildFault>
+    requires { 1 ≤ length ways.items }
     ensures ok { IfOk result (λ last. segment.new ≡ record segment.old { deltas = segment.old.deltas ++ map stored_delta (map (λ d. chained to_first.now d) ways.items) }) }
     ensures last { IfOk result (λ last. last ≡ last_way (map (λ d. chained to_first.now d) ways.items)) }
     ensures fault { IfErr result (λ e. IsFaultOfDeltas (length segment.old.deltas) (map (λ d. chained to_first.now d) ways.items) e) }
 {
     let mut left = VecDeque::from_vec(ways);
-    let mut last = Delta::new(alloc);
     // Each is spelled as soon as it is made, and nothing is kept of it, nor of what it was made of.
-    while let Some(way) = left.pop_front() {
-        last = to_first.chain(&way)?;
-        add_delta(alloc, &last, segment)?;
+    while left.len() > 1 {
+        add_down(alloc, to_first, next_step(&mut left), segment)?;
     }
-    Ok(last)
+    add_down(alloc, to_first, next_step(&mut left), segment)
 }
 
 /// Gives the segment the exact deltas from an interior node to its children, by the one from the first child

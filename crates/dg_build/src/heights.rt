@@ -1,13 +1,13 @@
 //! The interior nodes that are due, height after height.
 
-ghost use Rattle.std.specs.Prelude.{◌≡◌, ◌≤◌, ◌<◌, ◌+◌, ◌-◌, ◌*◌, ◌/◌, ◌^◌, ◌==◌, ◌++◌, ◌∷◌, [], ℕ, List, length, map, IfOk, IfErr, OnOk, if◌then◌else◌};
+ghost use Rattle.std.specs.Prelude.{◌≡◌, ◌≤◌, ◌<◌, ◌+◌, ◌-◌, ◌*◌, ◌/◌, ◌^◌, ◌==◌, ◌++◌, ◌∷◌, ◌⊎◌, [], ℕ, List, length, map, drop, get_or, IfOk, IfErr, OnOk, if◌then◌else◌};
 ghost use Rattle.dg_graph.specs.declared.event.Event.{Event};
-ghost use Rattle.dg_graph.specs.Composition.{between};
+ghost use Rattle.dg_graph.specs.Composition.{applied, between};
 ghost use Rattle.dg_index.specs.Hierarchy.{leaves, set_of};
 ghost use Rattle.dg_index.specs.IndexRecords.{record_among, deltas_due};
 ghost use Rattle.dg_index.specs.FileOfHistory.{stored};
 ghost use Rattle.dg_index.specs.OlderNodes.{older};
-ghost use Rattle.dg_build.specs.InteriorDeltas.{AreNewNodes, AreOlderSets, DiffersInDeltas, Rises, deltas_added, stored_delta};
+ghost use Rattle.dg_build.specs.InteriorDeltas.{AreNewNodes, AreOlderSets, DiffersInDeltas, Rises, deltas_added, downs_by, last_way, set_by, stored_delta, top_to};
 ghost use Rattle.dg_build.specs.SpelledRecords.{IsFaultBelow, IsFaultOfDeltas};
 ghost use Rattle.dg_build.specs.declared.fault.BuildFault.TheVariants.{Memory};
 
@@ -20,7 +20,7 @@ use dg_delta::Delta;
 use dg_history::Params;
 use dg_segment::Segment;
 use dg_set::Set;
-use std::alloc::Global;
+use std::alloc::{AllocError, Global};
 use std::collections::VecDeque;
 
 /// The new nodes of a height.
@@ -47,6 +47,43 @@ fn add_top(
         add_delta(alloc, &top, segment)?;
     }
     Ok(())
+}
+
+// The set of a node, by the exact delta to it from its first child: the first of the older ones, or else the new
+// one, which is let go of. An `Err` says that memory ran out.
+fn first_set(inner: &Delta, older_sets: &[Set], child: Set) -> Result<Set, AllocError>
+    ensures { IfOk result (λ first. first ≡ applied inner.now (get_or older_sets.now 0 child)) }
+{
+    inner.apply(set_or(older_sets, 0, &child))
+}
+
+// Makes the first new node of a height, which is behind so many others, of its older children, its first new one,
+// and the exact steps between its children, which are taken from the front of the row. Gives the segment the
+// delta from the root to it, where it is the first of the height, and those to its children. Answers its set,
+// and the delta to its last child.
+fn first_node(
+    alloc: Global,
+    params: Params,
+    below: usize,
+    older_sets: &[Set],
+    child: Set,
+    row: &mut VecDeque<Delta>,
+    segment: &mut Segment,
+) -> Result<(Set, Delta), BuildFault>
+    requires arity { 2 ≤ params.k }
+    requires there { params.k - 1 ≤ length row.old.items }
+    ensures set { IfOk result (λ made. made.0 ≡ set_by params row.old.items older_sets.now child) }
+    ensures last { IfOk result (λ made. made.1 ≡ last_way (downs_by params row.old.items)) }
+    ensures rest { IfOk result (λ made. row.new.items ≡ drop (params.k - 1) row.old.items) }
+    ensures adds { IfOk result (λ made. segment.new ≡ record segment.old { deltas = segment.old.deltas ++ map stored_delta (top_to below made.0 ++ downs_by params row.old.items) }) }
+    ensures fault { IfErr result (λ e. IsFaultOfDeltas (length segment.old.deltas) (top_to below (set_by params row.old.items older_sets.now child)) e
+        ⊎ IsFaultOfDeltas (length segment.old.deltas + length (top_to below (set_by params row.old.items older_sets.now child))) (downs_by params row.old.items) e) }
+{
+    let Interior { inner, ways } = interior_node(alloc, params, row)?;
+    let first = first_set(&inner, older_sets, child)?;
+    add_top(alloc, below, &first, segment)?;
+    let last = add_downs(alloc, inner, ways, segment)?;
+    Ok((first, last))
 }
 
 /// Makes the new nodes of the next height, of those of this one, of which there were `q` and are `end`, and
@@ -77,14 +114,13 @@ fn rise(
     let k = params.k as usize;
     let below = q / k;
     let above = end / k;
-    let NewNodes { first: node, steps } = nodes;
-    let row = row_steps(alloc, older_sets, &node, steps, above * k - q - 1)?;
+    let NewNodes {
+        first: child,
+        steps,
+    } = nodes;
+    let row = row_steps(alloc, older_sets, &child, steps, above * k - q - 1)?;
     let mut row = VecDeque::from_vec(row);
-    let Interior { inner, ways } = interior_node(alloc, params, &mut row)?;
-    let first = inner.apply(set_or(older_sets, 0, &node))?;
-    drop(node);
-    add_top(alloc, below, &first, segment)?;
-    let last = add_downs(alloc, inner, ways, segment)?;
+    let (first, last) = first_node(alloc, params, below, older_sets, child, &mut row, segment)?;
     let steps = later_nodes(alloc, params, above - below - 1, last, row, segment)?;
     Ok(NewNodes { first, steps })
 }

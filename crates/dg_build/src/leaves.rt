@@ -1,9 +1,12 @@
 //! The new leaves of a batch, and the interior nodes above them.
 
 ghost use Rattle.std.specs.Prelude.{◌≡◌, ◌≤◌, ◌<◌, ◌+◌, ◌-◌, ◌*◌, ◌/◌, ◌^◌, ◌++◌, [], ℕ, List, length, map, IfOk, IfErr, OnOk};
+ghost use Rattle.dg_graph.specs.declared.element.Element.{Element};
 ghost use Rattle.dg_graph.specs.declared.event.Event.{Event};
+ghost use Rattle.dg_graph.specs.Elements.{IsSet};
 ghost use Rattle.dg_graph.specs.ExactEvents.{AreChangesOf};
-ghost use Rattle.dg_graph.specs.Replay.{replay};
+ghost use Rattle.dg_graph.specs.Replay.{replay, replay_from};
+ghost use Rattle.dg_index.specs.ExactSteps.{steps_at};
 ghost use Rattle.dg_index.specs.Hierarchy.{leaves, set_at, set_of};
 ghost use Rattle.dg_index.specs.IndexRecords.{record_among, deltas_due, recent_of};
 ghost use Rattle.dg_index.specs.FileOfHistory.{stored};
@@ -15,12 +18,46 @@ ghost use Rattle.dg_build.specs.declared.fault.BuildFault.TheVariants.{Memory};
 use crate::fault::BuildFault;
 use crate::first_list::list_at;
 use crate::heights::{NewNodes, add_heights};
+use dg_delta::Delta;
 use dg_event::Event;
 use dg_history::Params;
 use dg_list::{exact_net, net_back};
 use dg_segment::Segment;
 use dg_set::Set;
 use std::alloc::{AllocError, Global};
+
+// The first new leaf, from the last leaf that was there before, and the events of the list behind it. An `Err`
+// says that memory ran out.
+fn first_leaf(alloc: Global, leaf: Set, list: &[Event]) -> Result<Set, AllocError>
+    ensures { IfOk result (λ next. IsSet leaf → AreChangesOf leaf list.now → next ≡ replay_from leaf list.now) }
+{
+    let net = exact_net(alloc, list)?;
+    net.apply(&leaf)
+}
+
+// The exact steps from each of the first `count` new leaves to the next, by the events of the first list, and
+// the later ones. An `Err` says that memory ran out.
+fn leaf_steps(
+    alloc: Global,
+    params: Params,
+    count: usize,
+    first_list: &[Event],
+    later: &[Event],
+) -> Result<Vec<Delta>, AllocError>
+    requires some { 1 ≤ count }
+    requires first { length first_list.now ≡ params.l }
+    requires long { count * params.l ≤ length first_list.now + length later.now }
+    ensures long { IfOk result (λ steps. length steps.items + 1 ≡ count) }
+    ensures is { IfOk result (λ steps. (before more : List Event) → 1 ≤ params.l → first_list.now ++ later.now ≡ recent_of params before ++ more → AreChangesOf [] (before ++ more)
+        → steps.items ≡ steps_at params (before ++ more) 0 (leaves params (length before) + 1) (count - 1)) }
+{
+    let l = params.l as usize;
+    let mut steps = Vec::with_capacity(alloc, count - 1)?;
+    for i in 1..count {
+        steps.push(exact_net(alloc, list_at(first_list, later, l, i))?)?;
+    }
+    Ok(steps)
+}
 
 /// The first `count` new leaves, from the last leaf that was there before, and the events behind it: those of
 /// the first list, and the later ones. An `Err` says that memory ran out.
@@ -40,15 +77,18 @@ fn new_leaves(
         → leaf ≡ set_at params (before ++ more) 0 (leaves params (length before)) → AreChangesOf [] (before ++ more)
         → AreNewNodes params (before ++ more) 0 (leaves params (length before)) (leaves params (length before) + count) up.first up.steps.items) }
 {
-    let l = params.l as usize;
-    let net = exact_net(alloc, first_list)?;
-    let first = net.apply(&leaf)?;
-    drop(leaf);
-    let mut steps = Vec::with_capacity(alloc, count - 1)?;
-    for i in 1..count {
-        steps.push(exact_net(alloc, list_at(first_list, later, l, i))?)?;
-    }
+    let first = first_leaf(alloc, leaf, first_list)?;
+    let steps = leaf_steps(alloc, params, count, first_list, later)?;
     Ok(NewNodes { first, steps })
+}
+
+// The last leaf that was there before, from the current graph, and the events behind that leaf. An `Err` says
+// that memory ran out.
+fn last_leaf(alloc: Global, now: &Set, recent: &[Event]) -> Result<Set, AllocError>
+    ensures { IfOk result (λ leaf. (set : List Element) → IsSet set → AreChangesOf set recent.now → now.now ≡ replay_from set recent.now → leaf ≡ set) }
+{
+    let back = net_back(alloc, recent)?;
+    back.apply(now)
 }
 
 /// Gives the segment the deltas of all interior nodes that are due between `m` and `after` leaves, by the
@@ -86,9 +126,7 @@ pub(crate) fn add_interior(
     if m / k >= after / k {
         return Ok(());
     }
-    let back = net_back(alloc, recent)?;
-    let leaf = back.apply(now)?;
+    let leaf = last_leaf(alloc, now, recent)?;
     let fresh = new_leaves(alloc, params, after - m, leaf, first_list, later)?;
-    add_heights(alloc, params, m, after, fresh, older_sets, segment)?;
-    Ok(())
+    add_heights(alloc, params, m, after, fresh, older_sets, segment)
 }

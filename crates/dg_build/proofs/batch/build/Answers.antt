@@ -1,117 +1,42 @@
-use Rattle.std.proofs.Common.{◌≡◌, ℕ, ◌+◌, ◌-◌, ◌/◌, ◌++◌, [], List, drop, length, map, min, sym, ap, subst, ◌∙◌, arith, length-append}
-use Rattle.std.specs.List.{All}
-use Rattle.std.proofs.lemmas.List.Elements.{All-drop}
+use Rattle.std.proofs.Common.{ℕ, ◌+◌, ◌-◌, ◌/◌, ◌++◌, length, refl, ap, arith, length-append}
 use Rattle.std.proofs.lemmas.Result.{err_from_is_err_and}
-use Rattle.dg_columns.specs.NamesInRange.{NamesFit}
-use Rattle.dg_graph.specs.declared.event.Event.{Event}
-use Rattle.dg_index.specs.Hierarchy.{numbers}
-use Rattle.dg_index.specs.IndexRecords.{Events, deltas_due}
-use Rattle.dg_index.specs.FileOfHistory.{Segment, Stored, stored}
-use Rattle.dg_build.proofs.ClosedLists.{list_there, lists_long}
-use Rattle.dg_build.proofs.FirstList.{IsCut, is_cut}
-use Rattle.dg_build.proofs.HeightByHeight.{written_at}
+use Rattle.dg_index.specs.FileOfHistory.{Segment}
+use Rattle.dg_build.proofs.ClosedLists.{lists_long}
 use Rattle.dg_build.proofs.ListTimes.{lists_may}
-use Rattle.dg_build.proofs.NarrowDeltas.{below_more}
-use Rattle.dg_build.proofs.WholeSegment.{lists_within, written_whole, whole}
+use Rattle.dg_build.proofs.WholeSegment.{lists_within, whole}
 use Rattle.dg_build.proofs.batch.build.Goals as goal
-
-pub add_lists-requires-clause-first : goal.add_lists-requires-clause-first
-add_lists-requires-clause-first c =
-    let l : ℕ = c.args.params.l in
-    let e : c.min-cut.result ≡ min (l - length c.args.recent.now) (length c.args.events.now) = omega (arith, c.min-cut.ensures, c.saturating_sub.ensures) in
-    let cut : IsCut l c.args.before c.args.recent.now c.args.events.now c.as_slice.result.now c.behind-later.result.now =
-    is_cut l c.args.before c.min-cut.result c.args.recent.now c.args.events.now c.as_slice.result.now c.behind-later.result.now c.requires.list.0 c.requires.recent e (c.as_slice.ensures.value ∙ c.in_ok-first.ensures) c.behind-later.ensures in
-    cut.full
-
-pub add_lists-requires-clause-long : goal.add_lists-requires-clause-long
-add_lists-requires-clause-long c =
-    let l : ℕ = c.args.params.l in
-    let e : c.min-cut.result ≡ min (l - length c.args.recent.now) (length c.args.events.now) = omega (arith, c.min-cut.ensures, c.saturating_sub.ensures) in
-    let cut : IsCut l c.args.before c.args.recent.now c.args.events.now c.as_slice.result.now c.behind-later.result.now =
-    is_cut l c.args.before c.min-cut.result c.args.recent.now c.args.events.now c.as_slice.result.now c.behind-later.result.now c.requires.list.0 c.requires.recent e (c.as_slice.ensures.value ∙ c.in_ok-first.ensures) c.behind-later.ensures in
-    omega (arith, lists_within l c.args.before (length c.args.events.now) c.requires.list.0, c.requires.recent, cut.long)
-
-pub add_interior-requires-clause-first : goal.add_interior-requires-clause-first
-add_interior-requires-clause-first c closes =
-    let l : ℕ = c.args.params.l in
-    let e : c.min-cut.result ≡ min (l - length c.args.recent.now) (length c.args.events.now) = omega (arith, c.min-cut.ensures, c.saturating_sub.ensures) in
-    let cut : IsCut l c.args.before c.args.recent.now c.args.events.now c.as_slice-2.result.now c.behind-later.result.now =
-    is_cut l c.args.before c.min-cut.result c.args.recent.now c.args.events.now c.as_slice-2.result.now c.behind-later.result.now c.requires.list.0 c.requires.recent e (c.as_slice-2.ensures.value ∙ c.in_ok-first.ensures) c.behind-later.ensures in
-    cut.full (omega (arith, closes))
-
-pub add_interior-requires-clause-long : goal.add_interior-requires-clause-long
-add_interior-requires-clause-long c =
-    let l : ℕ = c.args.params.l in
-    let e : c.min-cut.result ≡ min (l - length c.args.recent.now) (length c.args.events.now) = omega (arith, c.min-cut.ensures, c.saturating_sub.ensures) in
-    let cut : IsCut l c.args.before c.args.recent.now c.args.events.now c.as_slice-2.result.now c.behind-later.result.now =
-    is_cut l c.args.before c.min-cut.result c.args.recent.now c.args.events.now c.as_slice-2.result.now c.behind-later.result.now c.requires.list.0 c.requires.recent e (c.as_slice-2.ensures.value ∙ c.in_ok-first.ensures) c.behind-later.ensures in
-    omega (arith, lists_within l c.args.before (length c.args.events.now) c.requires.list.0, c.requires.recent, cut.long)
-
-pub set_piece-requires-clause-names : goal.set_piece-requires-clause-names
-set_piece-requires-clause-names c =
-    subst (All (λ (e : Event). NamesFit e.body)) (sym c.behind-piece.ensures) (All-drop (λ (e : Event). NamesFit e.body) c.saturating_sub-2.result c.args.events.now c.requires.event_names)
 
 pub returns-clause-batch : goal.returns-clause-batch
 returns-clause-batch c =
-    let w = written_whole c.args.segment c.add_lists.new.segment c.add_interior.new.segment c.set_piece.new.segment _ _ c.requires.bare.0 c.in_ok-add_lists.ensures c.in_ok-add_interior.ensures.frame c.in_ok-set_piece.ensures in
-    (ap (λ (s : Segment). s.events) w.is, ap (λ (s : Segment). s.first) w.is, ap (λ (s : Segment). s.last) w.is, ap (λ (s : Segment). s.names) w.is)
+    let is = c.in_ok-add_batch.ensures.written in
+    (ap (λ (s : Segment). s.events) is, ap (λ (s : Segment). s.first) is, ap (λ (s : Segment). s.last) is, ap (λ (s : Segment). s.names) is)
 
 pub returns-clause-lists : goal.returns-clause-lists
-returns-clause-lists c =
-    let w = written_whole c.args.segment c.add_lists.new.segment c.add_interior.new.segment c.set_piece.new.segment _ _ c.requires.bare.0 c.in_ok-add_lists.ensures c.in_ok-add_interior.ensures.frame c.in_ok-set_piece.ensures in
-    lists_long c.args.params.l _ (c.as_slice.result.now ++ c.behind-later.result.now) c.set_piece.new.segment.lists (ap (λ (s : Segment). s.lists) w.is)
+returns-clause-lists c = lists_long c.args.params.l _ (c.args.recent.now ++ c.args.events.now) c.add_batch.new.segment.lists (ap (λ (s : Segment). s.lists) c.in_ok-add_batch.ensures.written)
 
 pub returns-clause-deltas : goal.returns-clause-deltas
-returns-clause-deltas c =
-    let w = written_whole c.args.segment c.add_lists.new.segment c.add_interior.new.segment c.set_piece.new.segment _ _ c.requires.bare.0 c.in_ok-add_lists.ensures c.in_ok-add_interior.ensures.frame c.in_ok-set_piece.ensures in
-    omega (arith, ap (λ (s : Segment). length s.deltas) w.is, c.in_ok-add_interior.ensures.count, ap (λ (s : Segment). length s.deltas) c.in_ok-add_lists.ensures, ap (λ (l : List Stored). length l) c.requires.bare.1)
+returns-clause-deltas c = c.in_ok-add_batch.ensures.count
 
 pub returns-clause-times : goal.returns-clause-times
 returns-clause-times c floor rises =
-    let w = written_whole c.args.segment c.add_lists.new.segment c.add_interior.new.segment c.set_piece.new.segment _ _ c.requires.bare.0 c.in_ok-add_lists.ensures c.in_ok-add_interior.ensures.frame c.in_ok-set_piece.ensures in
     let l : ℕ = c.args.params.l in
-    let e : c.min-cut.result ≡ min (l - length c.args.recent.now) (length c.args.events.now) = omega (arith, c.min-cut.ensures, c.saturating_sub.ensures) in
-    let cut : IsCut l c.args.before c.args.recent.now c.args.events.now c.as_slice.result.now c.behind-later.result.now =
-    is_cut l c.args.before c.min-cut.result c.args.recent.now c.args.events.now c.as_slice.result.now c.behind-later.result.now c.requires.list.0 c.requires.recent e (c.as_slice.ensures.value ∙ c.in_ok-first.ensures) c.behind-later.ensures in
     let n : ℕ = (c.args.before + length c.args.events.now) / l - c.args.before / l in
-    lists_may c.args.params.l n floor (c.args.recent.now ++ c.args.events.now) c.set_piece.new.segment.lists c.requires.list.0
-    (omega (arith, lists_within c.args.params.l c.args.before (length c.args.events.now) c.requires.list.0, c.requires.recent, length-append c.args.recent.now c.args.events.now))
-    rises (ap (λ (s : Segment). s.lists) w.is ∙ ap (λ (l : List Event). map (list_there c.args.params.l l) (numbers 0 n)) cut.is)
+    lists_may l n floor (c.args.recent.now ++ c.args.events.now) c.add_batch.new.segment.lists c.requires.list.0
+    (omega (arith, lists_within l c.args.before (length c.args.events.now) c.requires.list.0, c.requires.recent, length-append c.args.recent.now c.args.events.now))
+    rises (ap (λ (s : Segment). s.lists) c.in_ok-add_batch.ensures.written)
 
 pub returns-clause-is : goal.returns-clause-is
 returns-clause-is c past long is_recent is_now changes sets e1 e2 e3 =
-    let p = c.args.params in
     let more = c.args.events.now in
-    let some = c.requires.list.0 in
-    let front = ap (λ (l : List Event). l ++ more) is_recent in
-    let w = written_whole c.args.segment c.add_lists.new.segment c.add_interior.new.segment c.set_piece.new.segment _ _ c.requires.bare.0 c.in_ok-add_lists.ensures c.in_ok-add_interior.ensures.frame
-    (c.in_ok-set_piece.ensures ∙ ap (λ (l : List Event). record c.add_interior.new.segment { piece = stored (Events l) }) (c.behind-piece.ensures ∙ ap (λ n. drop n more) c.saturating_sub-2.ensures)) in
-    let l : ℕ = c.args.params.l in
-    let e : c.min-cut.result ≡ min (l - length c.args.recent.now) (length c.args.events.now) = omega (arith, c.min-cut.ensures, c.saturating_sub.ensures) in
-    let cut : IsCut l c.args.before c.args.recent.now c.args.events.now c.as_slice.result.now c.behind-later.result.now =
-    is_cut l c.args.before c.min-cut.result c.args.recent.now c.args.events.now c.as_slice.result.now c.behind-later.result.now c.requires.list.0 c.requires.recent e (c.as_slice.ensures.value ∙ c.in_ok-first.ensures) c.behind-later.ensures in
-    let made = c.in_ok-add_interior.ensures.is past more some (ap (λ n. n / p.l) long) is_recent ((λ i. (c.as_slice-2.ensures.value ∙ sym c.as_slice.ensures.value) i ++ c.behind-later.result.now) ∙ cut.is ∙ front) is_now changes sets in
-    let none : c.add_lists.new.segment.deltas ≡ [] = ap (λ (s : Segment). s.deltas) c.in_ok-add_lists.ensures ∙ c.requires.bare.1 in
-    whole p past more c.args.before (c.as_slice.result.now ++ c.behind-later.result.now) c.args.recent.now c.args.segment c.set_piece.new.segment c.add_interior.new.segment.deltas some long is_recent cut.is e1 e2 e3 w
-    (made ∙ ap (λ (l : List Stored). l ++ map (written_at p (past ++ more)) (deltas_due p.k (c.args.before / p.l) ((c.args.before + length more) / p.l))) none)
+    whole c.args.params past more c.args.before (c.args.recent.now ++ more) c.args.recent.now c.args.segment c.add_batch.new.segment c.add_batch.new.segment.deltas c.requires.list.0 long is_recent refl e1 e2 e3
+    (record { is = c.in_ok-add_batch.ensures.written }) (c.in_ok-add_batch.ensures.is past long is_recent is_now changes sets)
 
-pub returns-in_err-add_interior-clause-fault : goal.returns-in_err-add_interior-clause-fault
-returns-in_err-add_interior-clause-fault c =
-    let failed = err_from_is_err_and c.from_residual-in_err-add_interior.result c.from_residual-in_err-add_interior.ensures.1 in
-    rw (failed.1, failed.2) (λ past long is_recent is_now changes sets.
-    let p = c.args.params in
-    let more = c.args.events.now in
-    let front = ap (λ (l : List Event). l ++ more) is_recent in
-    let l : ℕ = c.args.params.l in
-    let e : c.min-cut.result ≡ min (l - length c.args.recent.now) (length c.args.events.now) = omega (arith, c.min-cut.ensures, c.saturating_sub.ensures) in
-    let cut : IsCut l c.args.before c.args.recent.now c.args.events.now c.as_slice-2.result.now c.behind-later.result.now =
-    is_cut l c.args.before c.min-cut.result c.args.recent.now c.args.events.now c.as_slice-2.result.now c.behind-later.result.now c.requires.list.0 c.requires.recent e (c.as_slice-2.ensures.value ∙ c.in_ok-first.ensures) c.behind-later.ensures in
-    c.in_err-add_interior.ensures.fault past more c.requires.list.0 (ap (λ n. n / p.l) long) is_recent (cut.is ∙ front) is_now changes sets
-    (omega (arith, length-append past more, long, c.requires.fits)))
+pub returns-in_err-add_batch-clause-fault : goal.returns-in_err-add_batch-clause-fault
+returns-in_err-add_batch-clause-fault c =
+    let failed = err_from_is_err_and c.from_residual.result c.from_residual.ensures.1 in
+    rw (failed.1, failed.2) c.in_err-add_batch.ensures.fault
 
-pub returns-in_err-add_interior-clause-wide : goal.returns-in_err-add_interior-clause-wide
-returns-in_err-add_interior-clause-wide c =
-    let failed = err_from_is_err_and c.from_residual-in_err-add_interior.result c.from_residual-in_err-add_interior.ensures.1 in
-    let n : ℕ = length (deltas_due c.args.params.k (c.args.before / c.args.params.l) ((c.args.before + length c.args.events.now) / c.args.params.l)) in
-    let none : length c.add_lists.new.segment.deltas ≡ 0 = ap (λ (s : Segment). length s.deltas) c.in_ok-add_lists.ensures ∙ ap (λ (l : List Stored). length l) c.requires.bare.1 in
-    rw (failed.1, failed.2) (below_more (length c.add_lists.new.segment.deltas + n) n c.in_err-add_interior.field-0.0 (omega (arith, none)) c.in_err-add_interior.ensures.wide)
+pub returns-in_err-add_batch-clause-wide : goal.returns-in_err-add_batch-clause-wide
+returns-in_err-add_batch-clause-wide c =
+    let failed = err_from_is_err_and c.from_residual.result c.from_residual.ensures.1 in
+    rw (failed.1, failed.2) c.in_err-add_batch.ensures.wide

@@ -2,8 +2,8 @@ use Rattle.std.proofs.Common.{◌-◌, length}
 use Rattle.dg_build.proofs.LastWays.{WaysSoFar}
 use Rattle.dg_build.proofs.family.ways.Given as goal
 
-abbrev pub decreases-loop-way : goal.decreases-loop-way
-decreases-loop-way l = l.count - length l.ways.items
+abbrev pub decreases-loop-ways : goal.decreases-loop-ways
+decreases-loop-ways l = l.count - length l.ways.items
 
-abbrev pub invariant-loop-way : goal.invariant-loop-way
-invariant-loop-way l = WaysSoFar l.count l.fn.row.items l.ways.items l.way l.row.items
+abbrev pub invariant-loop-ways : goal.invariant-loop-ways
+invariant-loop-ways l = WaysSoFar l.count l.fn.row.items l.ways.items l.row.items

@@ -1,5 +1,5 @@
 use Rattle.std.proofs.Common.{◌<◌, ◌++◌, List, map, ap, sym, ◌∙◌, length, arith, append-nil}
-use Rattle.std.proofs.lemmas.Result.{err_from_is_err_and}
+use Rattle.std.proofs.lemmas.Result.{MatchResult-weaker, on_ok_weaker}
 use Rattle.dg_history.specs.declared.node.Key.{Key}
 use Rattle.dg_index.specs.Hierarchy.{leaves}
 use Rattle.dg_build.proofs.HeightByHeight.{written_at}
@@ -28,24 +28,22 @@ returns-then-m-k-clause-is c before more some em is_recent is_tail is_now change
     sym (ap (λ (l : List Key). c.args.segment.now.deltas ++ map (written_at c.args.params (before ++ more)) l) (none_at_all c.args.params.k c.args.m c.args.after c.requires.arity c.if-m-k.true) ∙ append-nil c.args.segment.now.deltas)
 
 pub returns-clause-is : goal.returns-clause-is
-returns-clause-is c before more some em is_recent is_tail is_now changes sets =
+returns-clause-is c =
+    on_ok_weaker c.add_heights.result
+    (λ is before more some em is_recent is_tail is_now changes sets.
     let p = c.args.params in
     let lt : c.args.m < c.args.after = more_there p.k c.args.m c.args.after c.requires.arity c.if-m-k.false in
-    let leaf = leaf_back p before more c.args.recent.now c.args.now.now c.in_ok-leaf.leaf c.in_ok-back.back some is_recent (is_now c.if-m-k.false) changes c.in_ok-back.ensures.leads_back c.in_ok-leaf.ensures in
+    let leaf = leaf_back p before more c.args.recent.now c.args.now.now c.in_ok-leaf.leaf some is_recent (is_now c.if-m-k.false) changes c.in_ok-leaf.ensures in
     let new = c.in_ok-fresh.ensures.is before more some is_tail leaf changes in
-    c.in_ok-add_heights.ensures.is before more some em (new_up_to p (before ++ more) (leaves p (length before)) c.args.m c.args.after c.in_ok-fresh.fresh.first c.in_ok-fresh.fresh.steps.items em lt new) sets
+    is before more some em (new_up_to p (before ++ more) (leaves p (length before)) c.args.m c.args.after c.in_ok-fresh.fresh.first c.in_ok-fresh.fresh.steps.items em lt new) sets)
+    c.add_heights.ensures.is
 
-pub returns-in_err-add_heights-clause-fault : goal.returns-in_err-add_heights-clause-fault
-returns-in_err-add_heights-clause-fault c =
-    let failed = err_from_is_err_and c.from_residual-in_err-add_heights.result c.from_residual-in_err-add_heights.ensures.1 in
-    rw (failed.1, failed.2) (λ before more some em is_recent is_tail is_now changes sets few.
+pub returns-clause-fault : goal.returns-clause-fault
+returns-clause-fault c =
+    MatchResult-weaker c.add_heights.result c.add_heights.ensures.fault (λ _ none. none)
+    (λ e is before more some em is_recent is_tail is_now changes sets few.
     let p = c.args.params in
     let lt : c.args.m < c.args.after = more_there p.k c.args.m c.args.after c.requires.arity c.if-m-k.false in
-    let leaf = leaf_back p before more c.args.recent.now c.args.now.now c.in_ok-leaf.leaf c.in_ok-back.back some is_recent (is_now c.if-m-k.false) changes c.in_ok-back.ensures.leads_back c.in_ok-leaf.ensures in
+    let leaf = leaf_back p before more c.args.recent.now c.args.now.now c.in_ok-leaf.leaf some is_recent (is_now c.if-m-k.false) changes c.in_ok-leaf.ensures in
     let new = c.in_ok-fresh.ensures.is before more some is_tail leaf changes in
-    c.in_err-add_heights.ensures.fault before more some em (new_up_to p (before ++ more) (leaves p (length before)) c.args.m c.args.after c.in_ok-fresh.fresh.first c.in_ok-fresh.fresh.steps.items em lt new) sets few)
-
-pub returns-in_err-add_heights-clause-wide : goal.returns-in_err-add_heights-clause-wide
-returns-in_err-add_heights-clause-wide c =
-    let failed = err_from_is_err_and c.from_residual-in_err-add_heights.result c.from_residual-in_err-add_heights.ensures.1 in
-    rw (failed.1, failed.2) c.in_err-add_heights.ensures.wide
+    is before more some em (new_up_to p (before ++ more) (leaves p (length before)) c.args.m c.args.after c.in_ok-fresh.fresh.first c.in_ok-fresh.fresh.steps.items em lt new) sets few)

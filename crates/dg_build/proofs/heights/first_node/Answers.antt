@@ -1,0 +1,47 @@
+use Rattle.std.proofs.Common.{◌≡◌, ℕ, ◌+◌, ◌-◌, List, length, get_or, take, inl, inr, ap, subst, ◌∙◌, arith, length-take-le}
+use Rattle.std.proofs.lemmas.Result.{err_from_is_err_and}
+use Rattle.dg_graph.specs.Composition.{Delta, applied}
+use Rattle.dg_graph.specs.declared.element.Element.{Element}
+use Rattle.dg_index.specs.ExactSteps.{downs}
+use Rattle.dg_build.specs.InteriorDeltas.{downs_by, last_way, set_by, top_to}
+use Rattle.dg_build.specs.SpelledRecords.{IsFaultOfDeltas}
+use Rattle.dg_build.proofs.LastWays.{ways_length}
+use Rattle.dg_build.proofs.NextHeight.{added_both, deltas_length}
+use Rattle.dg_build.proofs.heights.first_node.Goals as goal
+
+pub add_downs-requires : goal.add_downs-requires
+add_downs-requires c =
+    let k : ℕ = c.args.params.k in
+    let row : List Delta = c.args.row.now.items in
+    omega (arith, c.requires.arity, ap (λ (l : List Delta). length l) c.in_ok-inner.ensures.ways, ways_length (take (k - 1) row), length-take-le (k - 1) row c.requires.there)
+
+pub returns-clause-set : goal.returns-clause-set
+returns-clause-set c = c.in_ok-first.ensures ∙ ap (λ (d : Delta). applied d (get_or c.args.older_sets.now 0 c.args.child)) c.in_ok-inner.ensures.inner
+
+pub returns-clause-last : goal.returns-clause-last
+returns-clause-last c = c.in_ok-last.ensures.last ∙ (λ i. last_way (downs (c.in_ok-inner.ensures.inner i) (c.in_ok-inner.ensures.ways i)))
+
+pub returns-clause-adds : goal.returns-clause-adds
+returns-clause-adds c =
+    let inner : Delta = c.in_ok-inner.field-0.inner in
+    added_both c.args.segment.now c.add_top.new.segment c.add_downs.new.segment (top_to c.args.below c.in_ok-first.first) (downs inner c.in_ok-inner.field-0.ways.items) (downs_by c.args.params c.args.row.now.items) c.in_ok-add_top.ensures.ok c.in_ok-last.ensures.ok
+    (λ i. downs (c.in_ok-inner.ensures.inner i) (c.in_ok-inner.ensures.ways i))
+
+pub returns-in_err-add_top-clause-fault : goal.returns-in_err-add_top-clause-fault
+returns-in_err-add_top-clause-fault c =
+    let failed = err_from_is_err_and c.from_residual-in_err-add_top.result c.from_residual-in_err-add_top.ensures.1 in
+    let is = c.in_ok-first.ensures ∙ ap (λ (d : Delta). applied d (get_or c.args.older_sets.now 0 c.args.child)) c.in_ok-inner.ensures.inner in
+    rw (failed.1, failed.2)
+    (inl (subst (λ (node : List Element). IsFaultOfDeltas (length c.args.segment.now.deltas) (top_to c.args.below node) c.in_err-add_top.field-0.0) is c.in_err-add_top.ensures.fault))
+
+pub returns-in_err-last-clause-fault : goal.returns-in_err-last-clause-fault
+returns-in_err-last-clause-fault c =
+    let failed = err_from_is_err_and c.from_residual-in_err-last.result c.from_residual-in_err-last.ensures.1 in
+    let is = c.in_ok-first.ensures ∙ ap (λ (d : Delta). applied d (get_or c.args.older_sets.now 0 c.args.child)) c.in_ok-inner.ensures.inner in
+    let old : ℕ = length c.args.segment.now.deltas in
+    let made_is : downs c.in_ok-inner.field-0.inner c.in_ok-inner.field-0.ways.items ≡ downs_by c.args.params c.args.row.now.items = (λ i. downs (c.in_ok-inner.ensures.inner i) (c.in_ok-inner.ensures.ways i)) in
+    let long : length c.add_top.new.segment.deltas ≡ old + length (top_to c.args.below (set_by c.args.params c.args.row.now.items c.args.older_sets.now c.args.child)) =
+    deltas_length c.args.segment.now c.add_top.new.segment (top_to c.args.below c.in_ok-first.first) c.in_ok-add_top.ensures.ok ∙ ap (λ (node : List Element). old + length (top_to c.args.below node)) is in
+    rw (failed.1, failed.2)
+    (inr (subst (λ n. IsFaultOfDeltas n (downs_by c.args.params c.args.row.now.items) c.in_err-last.field-0.0) long
+    (subst (λ (l : List Delta). IsFaultOfDeltas (length c.add_top.new.segment.deltas) l c.in_err-last.field-0.0) made_is c.in_err-last.ensures.fault)))
