@@ -1,5 +1,5 @@
 -- What holds of an index once it has the segment of one batch more: it may close lists, and go on.
-use Rattle.std.proofs.Common.{◌≡◌, ℕ, ◌+◌, ◌-◌, ◌*◌, ◌<◌, ◌≤◌, Bool, true, false, ◌&&◌, List, [], ◌∷◌, ◌++◌, Some, length, map, take, drop, refl, sym, ◌∙◌, ap, subst, arith, nat_le, length-append, length-drop, div-mul-le_self, mul-le-mul_right}
+use Rattle.std.proofs.Common.{◌≡◌, ℕ, ◌+◌, ◌-◌, ◌*◌, ◌≤◌, Bool, true, false, ◌&&◌, List, [], ◌∷◌, ◌++◌, Some, length, map, take, drop, refl, sym, ◌∙◌, ap, subst, arith, nat_le, length-append, length-drop, div-mul-le_self, mul-le-mul_right}
 use Rattle.std.specs.List.{All}
 use Rattle.std.proofs.lemmas.List.{length-map}
 use Rattle.std.proofs.lemmas.List.Elements.{All-append, All-drop}
@@ -7,7 +7,7 @@ use Rattle.std.proofs.lemmas.List.Sums.{sum_by_push}
 use borrow.Author.Tests.{leb-true, le-leb}
 use Rattle.dg_append.proofs.RisingTimes.{begins_first, from_first, last_of_both, rest_begins, rest_ends, rest_rises, rises_joined, rises_last}
 use Rattle.dg_append.specs.AddedBatches.{recent_behind}
-use Rattle.dg_append.specs.BatchSegments.{BeginsBehind, IsSegmentBehind, last_in_rows}
+use Rattle.dg_append.specs.BatchSegments.{BeginsBehind, IsSegmentBehind, MayFollow, last_in_rows}
 use Rattle.dg_build.specs.SpelledRecords.{RisesFrom}
 use Rattle.dg_columns.specs.NamesInRange.{NamesFit}
 use Rattle.dg_graph.specs.declared.event.Event.{Event}
@@ -92,19 +92,6 @@ left_goes_on f last t n lists tail r is may behind late =
         omega (arith, ap (last_time_from (last_in_rows f (map list_row lists))) some, rest_ends f n tail r (last_in_rows f (map list_row lists)) long, is, late)
 
 -- ---- events behind an index
-
--- These events may be a next batch behind the index, whose recent events may be followed.
-pub record MayFollow (o : Opening) (recent events : List Event) : Type 0 where
-  pub pos : 0 < o.params.l
-  pub some : 1 ≤ length events
-  pub few : length events ≤ BATCH_LINES_MAX
-  pub room : event_total o.batches + length events ≤ EVENTS_MAX
-  pub early : earliest_in 0 o.batches ≤ first_time_of events
-  pub later : first_time_of events ≤ last_time_from 0 events
-  pub last : last_time_from 0 events ≤ TIME_MAX
-  pub rises : RisesFrom (earliest_in 0 o.batches) events
-  pub counted : length recent ≡ recent_count o
-  pub goes_on : MayGoOn (Some o) recent
 
 module _ (o : Opening) (recent events : List Event) (m : MayFollow o recent events) where
   -- with the recent events before them they rise from the last list on

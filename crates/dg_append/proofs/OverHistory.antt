@@ -1,5 +1,5 @@
 -- What is kept of a history, over an image that stands for it.
-use Rattle.std.proofs.Common.{◌≡◌, ℕ, ◌≤◌, List as ListOf, [], ◌∷◌, ◌++◌, Option, Some, None, Result, Ok, Err, length, map, min, inr, sym, ◌∙◌, ap, subst, arith, length-take}
+use Rattle.std.proofs.Common.{◌≡◌, ℕ, ◌≤◌, List as ListOf, [], ◌∷◌, ◌++◌, Option, Some, None, Result, Ok, Err, length, map, min, inl, inr, sym, ◌∙◌, ap, subst, arith, length-take}
 use Rattle.std.specs.Prelude.{IfErr, IfOk, IfSome}
 use Rattle.std.specs.List.{sum}
 use Rattle.std.proofs.lemmas.Option.{same_Some}
@@ -7,14 +7,17 @@ use Rattle.dg_append.specs.AddedBatches.{batch_with}
 use Rattle.dg_append.specs.BatchSegments.{IsPast, IsUnmade, StandsForKept, StopsSegment}
 use Rattle.dg_append.specs.declared.fault.BatchFault.{BatchFault}
 use Rattle.dg_append.specs.declared.fault.BatchFault.TheVariants as fault
-use Rattle.dg_append.specs.OlderGroups.{AreUndamaged, IsBatchDamage, IsDueDelta, in_groups, older_children}
+use Rattle.dg_append.specs.Faults.{of_retrieval}
+use Rattle.dg_append.specs.OlderGroups.{AreUndamaged, IsBatchDamage, IsDueDelta, IsFirstOfGroups, in_groups, older_children}
 use Rattle.dg_fold.specs.BytesRead.{TakesAtMost}
 use Rattle.dg_fold.proofs.LegalHistories.{legal_is_indexed}
+use Rattle.dg_graph.specs.declared.element.Column.{Column}
 use Rattle.dg_graph.specs.declared.element.Element.{Element}
 use Rattle.dg_graph.specs.declared.event.Event.{Event}
 use Rattle.dg_graph.specs.Effect.{forwards}
 use Rattle.dg_graph.specs.ExactEvents.{AreChangesOf}
 use Rattle.dg_graph.specs.Replay.{replay_from}
+use Rattle.dg_history.specs.declared.node.Key.{Key}
 use Rattle.dg_history.specs.declared.node.NodeId.TheVariants.{Root}
 use Rattle.dg_history.specs.declared.params.Params.{Params}
 use Rattle.dg_history.specs.History.{Batch, History, events_of}
@@ -24,6 +27,9 @@ use Rattle.dg_index.specs.IndexRecords.{recent_of}
 use Rattle.dg_index.specs.OpenedIndex.{Opening, event_total, opened_of}
 use Rattle.dg_plan.specs.IndexGraph.{arcs_of}
 use Rattle.dg_plan.specs.Walks.{AreSingles}
+use Rattle.dg_retrieval.specs.declared.fault.RetrievalFault.{RetrievalFault}
+use Rattle.dg_retrieval.specs.declared.fault.RetrievalFault.TheVariants as retrieval
+use Rattle.dg_retrieval.specs.Retrieval.{IsNoDamage}
 use Rattle.dg_retrieval.specs.KeptGraph.{record_edges}
 use Rattle.dg_retrieval.specs.NodeSets.{IsIndexOver, sets_of}
 use Rattle.dg_retrieval.proofs.TreeWeights.{opened_events, opened_params}
@@ -112,3 +118,17 @@ module _ (o : Opening) (known : ℕ) (names : ListOf (ListOf ℕ)) (graph : List
       → IfSome told (λ image. (z : History) → StandsForKept z image o known names graph recent → (singles : ListOf ℕ) → AreSingles (arcs_of (record_edges o)) (Root ∷ []) (older_children o count) singles → TakesAtMost (sum singles) taken then_taken)
   kept_takes None count taken then_taken most = tt
   kept_takes (Some image) count taken then_taken most = λ z is. most z (index_over z image o known names graph recent is within)
+
+named_damage : (key : Key) (col : Column) → IsNoDamage (retrieval.Damaged key col) → ⊥
+named_damage key col (inl disk) = cc
+named_damage key col (inr memory) = cc
+
+-- the sets of the older children were not read
+pub unread_over : (told : Option (ListOf ℕ)) (o : Opening) (known : ℕ) (names : ListOf (ListOf ℕ)) (graph : ListOf Element) (recent : ListOf Event) (count : ℕ) (f : RetrievalFault) → known ≤ length names
+    → IfSome told (λ image. IsFirstOfGroups known o image (in_groups (older_children o count)) f) → IfSome told (λ image. (z : History) → IsIndexOver z image o known → IsNoDamage f)
+    → StopsSegment told o known names graph recent count (of_retrieval f)
+unread_over told o known names graph recent count retrieval.Disk within first never = tt
+unread_over told o known names graph recent count retrieval.Memory within first never = tt
+unread_over None o known names graph recent count (retrieval.Damaged key col) within first never = (tt, tt)
+unread_over (Some image) o known names graph recent count (retrieval.Damaged key col) within first never =
+    (inl first, λ z is. named_damage key col (never z (index_over z image o known names graph recent is within)))

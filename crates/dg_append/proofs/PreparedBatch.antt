@@ -5,9 +5,9 @@ use Rattle.std.specs.List.{All}
 use Rattle.std.proofs.lemmas.List.{length-map}
 use Rattle.std.proofs.lemmas.List.Elements.{All-nil, All-cons, All-head, All-tail}
 use borrow.Author.Tests.{leb-true}
-use Rattle.dg_append.proofs.BehindIndex.{MayFollow}
 use Rattle.dg_append.proofs.CompletedChanges.{AllCome, AreRight, all_come, are_right, as_many, last_after, made_right, times_fit}
 use Rattle.dg_append.specs.AddedBatches.{ComesToSegment, IsReady, IsSegmentOver}
+use Rattle.dg_append.specs.BatchSegments.{MayFollow}
 use Rattle.dg_append.specs.declared.front.Front.{Front}
 use Rattle.dg_append.specs.declared.front.Front.TheVariants.{Whole}
 use Rattle.dg_append.specs.Fronts.{ComeTo, IsFront, lines}
@@ -93,7 +93,7 @@ rises_right : (earliest : ℕ) (set : List Element) (events : List Event) → Ar
 rises_right earliest set [] h = tt
 rises_right earliest set (e ∷ events) h = (h.0, rises_right e.time (forwards set e) events h.2)
 
-may_name_parts : (names new : List (List ℕ)) → may_be_named names new ≡ true → length names + length new ≤ NAMES_MAX
+pub may_name_parts : (names new : List (List ℕ)) → may_be_named names new ≡ true → length names + length new ≤ NAMES_MAX
 may_name_parts names new h =
     leb-true (length names + length new) NAMES_MAX (both_parts (are_new names new) (nat_le (length names + length new) NAMES_MAX) h).1
 

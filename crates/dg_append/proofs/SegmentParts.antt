@@ -1,18 +1,21 @@
 -- The parts of which the segment of a batch is made.
-use Rattle.std.proofs.Common.{◌≡◌, ℕ, ◌+◌, ◌-◌, ◌/◌, ◌<◌, ◌≤◌, true, List, ◌++◌, length, map, sym, ap, subst, ◌∙◌}
+use Rattle.std.proofs.Common.{◌≡◌, ℕ, ◌+◌, ◌-◌, ◌*◌, ◌/◌, ◌<◌, ◌≤◌, true, List, ◌++◌, length, map, sym, ap, subst, ◌∙◌}
+use Rattle.dg_append.proofs.PreparedBatch.{InRange, in_range}
 use Rattle.dg_append.proofs.RisingTimes.{last_of_both}
 use Rattle.dg_append.specs.BatchSegments.{IsPast}
 use Rattle.dg_append.specs.OlderGroups.{older_children}
 use Rattle.dg_graph.specs.declared.element.Element.{Element}
 use Rattle.dg_graph.specs.declared.event.Event.{Event}
 use Rattle.dg_graph.specs.Replay.{replay}
+use Rattle.dg_history.specs.declared.node.NodeId.{NodeId}
 use Rattle.dg_history.specs.declared.params.Params.{Params}
-use Rattle.dg_history.specs.History.{last_time_from}
+use Rattle.dg_history.specs.History.{are_parameters, last_time_from}
 use Rattle.dg_index.specs.declared.entry.Row.{Row}
 use Rattle.dg_index.specs.Hierarchy.{leaves, set_of}
 use Rattle.dg_index.specs.IndexRecords.{deltas_due, recent_of}
 use Rattle.dg_index.specs.OlderNodes.{older}
 use Rattle.dg_index.specs.OpenedIndex.{Opening, delta_count, event_total, list_count, may_be_listed}
+use Rattle.dg_start.specs.StoredHistory.{recent_count}
 
 module _ (o : Opening) (p : Params) (before : ℕ) (params : p ≡ o.params) (counted : before ≡ event_total o.batches) where
   pub as_many_lists : (count : ℕ) → leaves p (before + count) - leaves p before ≡ list_count o count
@@ -23,6 +26,15 @@ module _ (o : Opening) (p : Params) (before : ℕ) (params : p ≡ o.params) (co
 
   pub older_are : (count : ℕ) → older p.k (leaves p before) (leaves p (before + count)) ≡ older_children o count
   older_are count = λ i. older (params i).k (leaves (params i) (counted i)) (leaves (params i) (counted i + count))
+
+  pub older_long : (count long : ℕ) → long ≡ length (older_children o count) → long ≡ length (older p.k (leaves p before) (leaves p (before + count)))
+  older_long count long is = is ∙ ap (λ (l : List NodeId). length l) (sym (older_are count))
+
+  pub recent_long : (long : ℕ) → long ≡ recent_count o → long ≡ before - leaves p before * p.l
+  recent_long long is = is ∙ (λ i. sym counted i - leaves (sym params i) (sym counted i) * (sym params i).l)
+
+  pub range_of : are_parameters o.params.l o.params.k ≡ true → InRange p.l p.k
+  range_of parameters = subst (λ (q : Params). InRange q.l q.k) (sym params) (in_range o.params.l o.params.k parameters)
 
   module _ (past recent : List Event) (graph : List Element) (events : List Event) (sets : List (List Element)) (is : IsPast o past recent graph events sets) where
     pub past_long : length past ≡ before

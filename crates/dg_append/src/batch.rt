@@ -17,10 +17,8 @@ ghost use Rattle.dg_start.specs.StoredHistory.{IsHeldBy, IsSoundHistory, index_o
 use crate::completed::prepare;
 use crate::fault::BatchFault;
 use crate::front::Front;
-use crate::making::make_segment;
-use crate::nets::{make_nets, pass_batch};
-use crate::recent::recent_behind;
-use crate::segment::{keep_segment, last_instant};
+use crate::keeping::keep_batch;
+use crate::segment::last_instant;
 use dg_disk::Disk;
 use dg_file::Index;
 use dg_graph::{Change, Event};
@@ -98,22 +96,18 @@ fn try_batch<R: Threads, D: Disk>(
     // The changes are dropped with this, and the events held where they are pending: one copy of the batch.
     prepare(&mut history.now, last, front, changes)?;
     let events = history.now.pending();
-    let left = recent_behind(alloc, index, &history.recent, events)?;
-    let segment = make_segment(
+    let left = keep_batch(
         rt,
         alloc,
-        index,
-        disk,
-        &history.names,
+        limit,
         known,
+        index,
+        &history.names,
         &history.recent,
-        pool,
         events,
-        &left,
+        pool,
+        disk,
     )?;
-    // Made only now, so that they take no memory while the segment is made.
-    let nets = make_nets(alloc, events, pool)?;
-    keep_segment(index, disk, segment, limit)?;
     let added = AddedBatch {
         events: events.len() as u64,
         total: index.events_len(),
@@ -121,7 +115,6 @@ fn try_batch<R: Threads, D: Disk>(
     };
     history.recent = left;
     history.now.commit();
-    pass_batch(pool, &nets);
     Ok(added)
 }
 

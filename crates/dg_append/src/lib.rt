@@ -7,6 +7,7 @@ mod batch;
 mod completed;
 mod fault;
 mod front;
+mod keeping;
 mod making;
 mod nets;
 mod older_children;

@@ -1,7 +1,7 @@
 //! How the current graph of a pool goes on with a batch: by the nets of the two halves of its events. They are not
 //! composed, so that a long batch takes no memory for what both of them name.
 
-ghost use Rattle.std.specs.Prelude.{◌≡◌, ℕ, List, IfOk};
+ghost use Rattle.std.specs.Prelude.{◌≡◌, ℕ, List, IfOk, OnOk};
 ghost use Rattle.dg_append.specs.BatchNets.{led_by};
 ghost use Rattle.dg_cells.specs.Rows.{AllHave};
 ghost use Rattle.dg_graph.specs.declared.element.Element.{Element};
@@ -21,6 +21,30 @@ pub(crate) struct Nets {
     pub(crate) later: Delta,
 }
 
+// The nets of the events' two halves.
+fn nets_of(alloc: Global, events: &[Event]) -> Result<Nets, AllocError>
+    ensures { IfOk result (λ nets. (set : List Element) → IsSet set → led_by nets.earlier nets.later set ≡ replay_from set events.now) }
+{
+    let (earlier, later) = events.split_at(events.len() / 2);
+    let earlier = whole_net(alloc, earlier)?;
+    let later = whole_net(alloc, later)?;
+    Ok(Nets { earlier, later })
+}
+
+// Makes a cell in the pool for each element that one of the nets brings. No graph changes.
+fn make_cells(pool: &mut Pool, nets: &Nets) -> Result<(), AllocError>
+    ensures graphs { SameGraphs pool.old pool.new }
+    ensures earlier { OnOk result (AllHave pool.new.rows nets.now.earlier.plus) }
+    ensures later { OnOk result (AllHave pool.new.rows nets.now.later.plus) }
+{
+    let earlier = nets.earlier.plus();
+    let later = nets.later.plus();
+    pool.reserve(earlier.items().len().saturating_add(later.items().len()))?;
+    pool.make_cells(earlier)?;
+    pool.make_cells(later)?;
+    Ok(())
+}
+
 /// The nets of the events, with a cell in the pool for each element that one of them brings. No graph changes. An
 /// `Err` says that memory ran out.
 pub(crate) fn make_nets(
@@ -33,19 +57,9 @@ pub(crate) fn make_nets(
     ensures later { IfOk result (λ nets. AllHave pool.new.rows nets.later.plus) }
     ensures leads { IfOk result (λ nets. (set : List Element) → IsSet set → led_by nets.earlier nets.later set ≡ replay_from set events.now) }
 {
-    let (earlier, later) = events.split_at(events.len() / 2);
-    let earlier = whole_net(alloc, earlier)?;
-    let later = whole_net(alloc, later)?;
-    pool.reserve(
-        earlier
-            .plus()
-            .items()
-            .len()
-            .saturating_add(later.plus().items().len()),
-    )?;
-    pool.make_cells(earlier.plus())?;
-    pool.make_cells(later.plus())?;
-    Ok(Nets { earlier, later })
+    let nets = nets_of(alloc, events)?;
+    make_cells(pool, &nets)?;
+    Ok(nets)
 }
 
 /// Takes the current graph of the pool on by the nets, the earlier first. No other graph changes.

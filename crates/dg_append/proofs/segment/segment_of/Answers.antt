@@ -1,5 +1,6 @@
-use Rattle.std.proofs.Common.{◌∙◌, ℕ, List, map, ap, subst}
-use Rattle.dg_append.proofs.SegmentParts.{as_many_deltas, as_many_lists, listed_by, past_graph, past_long, past_recent, past_sets}
+use Rattle.std.proofs.Common.{◌∙◌, ℕ, List, length, map, ap, subst}
+use Rattle.dg_append.proofs.PreparedBatch.{InRange}
+use Rattle.dg_append.proofs.SegmentParts.{as_many_deltas, as_many_lists, listed_by, older_long, past_graph, past_long, past_recent, past_sets, range_of, recent_long}
 use Rattle.dg_append.proofs.segment.segment_of.Goals as goal
 use Rattle.dg_append.specs.AddedBatches.{recent_behind}
 use Rattle.dg_append.specs.BatchSegments.{BeginsBehind, last_in_rows}
@@ -10,6 +11,21 @@ use Rattle.dg_index.specs.FileOfHistory.{segment_of}
 use Rattle.dg_index.specs.OpenedIndex.{Opening, event_total, list_row}
 use Rattle.dg_pool.specs.Graphs.{graph_now}
 use Rattle.dg_start.specs.StoredHistory.{floor_of}
+
+pub build-requires-clause-list : goal.build-requires-clause-list
+build-requires-clause-list c =
+    let p : InRange c.params-params.result.l c.params-params.result.k = range_of c.args.index.now.opening c.params-params.result c.events_len-before.result c.params-params.ensures c.events_len-before.ensures.events c.facts.ensures.parameters in
+    (p.list_some, p.list_most)
+
+pub build-requires-clause-arity : goal.build-requires-clause-arity
+build-requires-clause-arity c = (range_of c.args.index.now.opening c.params-params.result c.events_len-before.result c.params-params.ensures c.events_len-before.ensures.events c.facts.ensures.parameters).arity_some
+
+pub build-requires-clause-recent : goal.build-requires-clause-recent
+build-requires-clause-recent c = recent_long c.args.index.now.opening c.params-params.result c.events_len-before.result c.params-params.ensures c.events_len-before.ensures.events (length c.args.recent.now) c.requires.counted
+
+pub build-requires-clause-older : goal.build-requires-clause-older
+build-requires-clause-older c =
+    older_long c.args.index.now.opening c.params-params.result c.events_len-before.result c.params-params.ensures c.events_len-before.ensures.events (length c.args.events.now) (length c.args.older.now) c.requires.older
 
 pub returns-then-begins_behind-clause-behind : goal.returns-then-begins_behind-clause-behind
 returns-then-begins_behind-clause-behind c =

@@ -1,6 +1,6 @@
 use Rattle.std.proofs.Common.{◌≡◌, ◌++◌, ◌∙◌, List, sym, ap}
 use Rattle.std.proofs.lemmas.List.{take-append-drop}
-use Rattle.dg_append.proofs.nets.make_nets.Goals as goal
+use Rattle.dg_append.proofs.nets.nets_of.Goals as goal
 use Rattle.dg_delta.proofs.Deltas.{IsSet-applied}
 use Rattle.dg_fold.proofs.WalksLead.{replay_from-append}
 use Rattle.dg_graph.specs.declared.element.Element.{Element}
@@ -8,8 +8,8 @@ use Rattle.dg_graph.specs.declared.event.Event.{Event}
 use Rattle.dg_graph.specs.Composition.{applied}
 use Rattle.dg_graph.specs.Replay.{replay_from}
 
-pub returns-clause-leads : goal.returns-clause-leads
-returns-clause-leads c set is =
+pub returns : goal.returns
+returns c = λ set is.
     let front : List Event = c.split_at.result.0.now in
     let back : List Event = c.split_at.result.1.now in
     let events : List Event = c.args.events.now in
