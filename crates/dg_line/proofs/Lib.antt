@@ -7,6 +7,7 @@ pub mod Prefixes
 pub mod NumberPrefixes
 pub mod Symbols
 pub mod Verbs
+pub mod Readers
 pub mod Instants
 pub mod CommandGrammar
 pub mod ReplyLines

@@ -1,19 +1,20 @@
-ghost use Rattle.std.specs.Prelude.{◌≡◌, ◌+◌, ◌<◌, ◌≤◌, ◌⊎◌, List, ℕ, Some, None, IfOk, IsErrOf, OnOk, OnErr, length, take};
+ghost use Rattle.std.specs.Prelude.{drop, ◌≡◌, ◌+◌, ◌<◌, ◌≤◌, ◌⊎◌, List, ℕ, Some, None, IfOk, IsErrOf, OnOk, OnErr, length, take};
 ghost use Rattle.std.specs.Option.{option_map};
-ghost use Rattle.dg_history.specs.ChangeGrammar.{WhatByText, Plain, ChangeByText, what_by_text_of, change_with, direction_of, named, new_edge, one_id, change_by_text_of, setting_of, unset_of, what_in};
+ghost use Rattle.dg_history.specs.ChangeGrammar.{change_verbs, WhatByText, Plain, ChangeByText, what_by_text_of, change_with, direction_of, named, new_edge, one_id, change_by_text_of, setting_of, unset_of, what_in};
+ghost use Rattle.dg_graph.specs.Verbs.{look_up};
 ghost use Rattle.dg_graph.specs.Names.{added, number_in};
 ghost use Rattle.dg_line.specs.TextChange.{change_by_text, what_by_text, with_key};
 ghost use Rattle.dg_line.specs.declared.change.ChangeFault.TheVariants.{Memory};
 
 use crate::text_change::{TextAttribute, TextChange, TextKey, TextWhat};
-use crate::words::{Words, id, time};
+use crate::words::{Words, found, id, is, only_number, time};
 use dg_graph::{Change, What};
 use dg_names::{NAMES_MAX, Names, is_key, is_name};
 use std::alloc::AllocError;
 use thiserror::Error;
 
 /// Why a line has no change.
-#[derive(Clone, Copy, Debug, PartialEq, Eq, Error)]
+#[derive(Clone, Copy, Debug, Error)]
 pub enum ChangeFault {
     /// The line is not in the grammar of changes.
     #[error("the line is no change")]
@@ -149,8 +150,8 @@ fn parse_change(line: &[u8]) -> Option<TextChange>
     ensures { option_map change_by_text result ≡ change_by_text_of line.now }
 {
     let mut words = Words::of(line);
-    let time = time(words.next()?)?;
-    let what = parse_what(words)?;
+    let time = found!(time(found!(words.next())));
+    let what = found!(parse_what(words));
     Some(TextChange { time, what })
 }
 
@@ -158,52 +159,59 @@ fn parse_change(line: &[u8]) -> Option<TextChange>
 fn parse_what(mut words: Words) -> Option<TextWhat>
     ensures { option_map what_by_text result ≡ what_by_text_of words.entry }
 {
-    let verb = words.next()?;
-    if verb == b"+node".as_slice() {
+    let verb = found!(words.next());
+    if is(verb, b"+node") {
         Some(TextWhat::Plain(What::AddNode {
-            id: only_id(words)?,
+            id: found!(only_id(words)),
         }))
-    } else if verb == b"-node".as_slice() {
+    } else if is(verb, b"-node") {
         Some(TextWhat::Plain(What::RemoveNode {
-            id: only_id(words)?,
+            id: found!(only_id(words)),
         }))
-    } else if verb == b"+edge".as_slice() {
-        Some(TextWhat::Plain(new_edge(words)?))
-    } else if verb == b"-edge".as_slice() {
+    } else if is(verb, b"+edge") {
+        Some(TextWhat::Plain(found!(new_edge(words))))
+    } else if is(verb, b"-edge") {
         Some(TextWhat::Plain(What::RemoveEdge {
-            id: only_id(words)?,
+            id: found!(only_id(words)),
         }))
-    } else if verb == b"nset".as_slice() {
-        Some(TextWhat::SetNode(parse_attribute(words)?))
-    } else if verb == b"ndel".as_slice() {
-        Some(TextWhat::UnsetNode(parse_key(words)?))
-    } else if verb == b"eset".as_slice() {
-        Some(TextWhat::SetEdge(parse_attribute(words)?))
-    } else if verb == b"edel".as_slice() {
-        Some(TextWhat::UnsetEdge(parse_key(words)?))
+    } else {
+        parse_attribute_change(verb, words)
+    }
+}
+
+// What this verb and the words after it ask for, of those that stand behind `-edge` in the table.
+fn parse_attribute_change<'a>(verb: &[u8], words: Words<'a>) -> Option<TextWhat<'a>>
+    ensures { option_map what_by_text result ≡ look_up verb.now (drop 4 change_verbs) words.entry }
+{
+    if is(verb, b"nset") {
+        Some(TextWhat::SetNode(found!(parse_attribute(words))))
+    } else if is(verb, b"ndel") {
+        Some(TextWhat::UnsetNode(found!(parse_key(words))))
+    } else if is(verb, b"eset") {
+        Some(TextWhat::SetEdge(found!(parse_attribute(words))))
+    } else if is(verb, b"edel") {
+        Some(TextWhat::UnsetEdge(found!(parse_key(words))))
     } else {
         None
     }
 }
 
 // The id that is the only word.
-fn only_id(mut words: Words) -> Option<u64>
+fn only_id(words: Words) -> Option<u64>
     ensures { (make : ℕ → What) → option_map (λ n. Plain (make n)) result ≡ one_id make words.entry }
 {
-    let id = id(words.next()?)?;
-    words.end()?;
-    Some(id)
+    only_number(words, 0, u64::MAX)
 }
 
 // `ID SRC DST dir` or `ID SRC DST undir`, from the words after `+edge`.
 fn new_edge(mut words: Words) -> Option<What>
     ensures { option_map (λ what. Plain what) result ≡ new_edge words.entry }
 {
-    let edge = id(words.next()?)?;
-    let src = id(words.next()?)?;
-    let dst = id(words.next()?)?;
-    let directed = is_directed(words.next()?)?;
-    words.end()?;
+    let edge = found!(id(found!(words.next())));
+    let src = found!(id(found!(words.next())));
+    let dst = found!(id(found!(words.next())));
+    let directed = found!(is_directed(found!(words.next())));
+    found!(words.end());
     Some(What::AddEdge {
         id: edge,
         src,
@@ -216,10 +224,10 @@ fn new_edge(mut words: Words) -> Option<What>
 fn parse_attribute(mut words: Words) -> Option<TextAttribute>
     ensures { (make : ℕ → List ℕ → List ℕ → WhatByText) → option_map (λ a. make a.id a.key.now a.value.now) result ≡ setting_of make words.entry }
 {
-    let owner = words.next()?;
-    let key = words.next()?;
-    let value = words.rest()?;
-    let id = id(owner)?;
+    let owner = found!(words.next());
+    let key = found!(words.next());
+    let value = found!(words.rest());
+    let id = found!(id(owner));
     if is_key(key) && is_name(value) {
         Some(TextAttribute { id, key, value })
     } else {
@@ -231,9 +239,9 @@ fn parse_attribute(mut words: Words) -> Option<TextAttribute>
 fn parse_key(mut words: Words) -> Option<TextKey>
     ensures { (make : ℕ → List ℕ → WhatByText) → option_map (λ k. make k.id k.key.now) result ≡ unset_of make words.entry }
 {
-    let id = id(words.next()?)?;
-    let key = words.next()?;
-    words.end()?;
+    let id = found!(id(found!(words.next())));
+    let key = found!(words.next());
+    found!(words.end());
     if is_key(key) {
         Some(TextKey { id, key })
     } else {
@@ -245,9 +253,9 @@ fn parse_key(mut words: Words) -> Option<TextKey>
 fn is_directed(word: &[u8]) -> Option<bool>
     ensures { result ≡ direction_of word.now }
 {
-    if word == b"dir".as_slice() {
+    if is(word, b"dir") {
         Some(true)
-    } else if word == b"undir".as_slice() {
+    } else if is(word, b"undir") {
         Some(false)
     } else {
         None

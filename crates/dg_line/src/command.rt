@@ -1,14 +1,16 @@
-ghost use Rattle.std.specs.Prelude.{◌≡◌, ◌≤◌, ◌∷◌, IfErr, IfOk, IfSome, List, option_and_then, ℕ};
+ghost use Rattle.std.specs.Prelude.{drop, ◌≡◌, ◌≤◌, ◌∷◌, IfErr, IfOk, IfSome, List, option_and_then, ℕ};
 ghost use Rattle.std.specs.Result.{result_ok};
-ghost use Rattle.dg_graph.specs.Verbs.{none_more, one, read_by, two_words, three};
+ghost use Rattle.dg_graph.specs.Words.{number};
+ghost use Rattle.std.specs.Option.{option_map};
+ghost use Rattle.dg_graph.specs.Verbs.{look_up, none_more, one, read_by, two_words, three};
 ghost use Rattle.dg_history.specs.ChangeGrammar.{id_of, time_of};
-ghost use Rattle.dg_machine.specs.CommandGrammar.{IsColumn, CountIsInRange, columns_of, command_of, count_from_0, count_of, function_of, handle_of, held_node_verbs, n32_of, several_of, several_with, sweep_of, times_of};
+ghost use Rattle.dg_machine.specs.CommandGrammar.{command_verbs, IsColumn, CountIsInRange, columns_of, command_of, count_from_0, count_of, function_of, handle_of, held_node_verbs, n32_of, several_of, several_with, sweep_of, times_of};
 
 use crate::grammar::{
     CELLS, COLUMNS, COUNT, COUNT_FROM_0, FUNCTION, HANDLE, ID, N32, Symbol, TIME, longest_prefix,
 };
-use crate::words::{Words, id, n32, number, time};
-use dg_graph::{Columns, Function};
+use crate::words::{Words, found, id, is, n32, number, only_number, time};
+use dg_graph::{Columns, Function, TIME_MAX};
 use dg_history::{BATCH_LINES_MAX, NodeId};
 use dg_machine::{Command, FIRST_HANDLE, TIMES_MAX};
 use thiserror::Error;
@@ -56,8 +58,17 @@ const COMMANDS: &[&[Symbol]] = &[
     &[Symbol::OneOf(&[b"workload"]), ID, COUNT],
 ];
 
+/// The greatest number of 32 bits.
+const N32_MAX: u64 = u32::MAX as u64;
+
+/// The columns that have no attributes.
+const STRUCTURE: Columns = Columns {
+    nodes_attr: false,
+    edges_attr: false,
+};
+
 /// The line is in no command; the column, from 1, at which it leaves the grammar.
-#[derive(Clone, Copy, Debug, PartialEq, Eq, Error)]
+#[derive(Clone, Copy, Debug, Error)]
 #[error("the line leaves the grammar of commands at column {0}")]
 pub struct Syntax(pub u32);
 
@@ -91,42 +102,62 @@ fn command(line: &[u8]) -> Option<Command>
     ensures range { IfSome result (λ c. CountIsInRange c) }
 {
     let mut words = Words::of(line);
-    let verb = words.next()?;
-    if verb == b"create".as_slice() {
+    let verb = found!(words.next());
+    if is(verb, b"create") {
         create(words)
-    } else if verb == b"load".as_slice() {
+    } else if is(verb, b"load") {
         load(words)
-    } else if verb == b"append".as_slice() {
+    } else if is(verb, b"append") {
         append(words)
-    } else if verb == b"at".as_slice() {
+    } else if is(verb, b"at") {
         at(words)
-    } else if verb == b"several".as_slice() {
+    } else if is(verb, b"several") {
         several(words)
-    } else if verb == b"materialise".as_slice() {
+    } else if is(verb, b"materialise") {
         materialise(words)
-    } else if verb == b"list".as_slice() {
+    } else {
+        handle_command(verb, words)
+    }
+}
+
+// The command that this verb and the words after it are, of those that stand behind `materialise` in the table.
+fn handle_command(verb: &[u8], words: Words) -> Option<Command>
+    ensures command { result ≡ look_up verb.now (drop 6 command_verbs) words.entry }
+    ensures range { IfSome result (λ c. CountIsInRange c) }
+{
+    if is(verb, b"list") {
         list(words)
-    } else if verb == b"counts".as_slice() {
+    } else if is(verb, b"counts") {
         counts(words)
-    } else if verb == b"node".as_slice() {
+    } else if is(verb, b"node") {
         node(words)
-    } else if verb == b"neighbours".as_slice() {
+    } else if is(verb, b"neighbours") {
         neighbours(words)
-    } else if verb == b"release".as_slice() {
+    } else if is(verb, b"release") {
         release(words)
-    } else if verb == b"clean".as_slice() {
+    } else if is(verb, b"clean") {
         clean(words)
-    } else if verb == b"pool".as_slice() {
+    } else {
+        index_command(verb, words)
+    }
+}
+
+// The command that this verb and the words after it are, of those that stand behind `clean` in the table.
+fn index_command(verb: &[u8], words: Words) -> Option<Command>
+    ensures command { result ≡ look_up verb.now (drop 12 command_verbs) words.entry }
+    ensures range { IfSome result (λ c. CountIsInRange c) }
+{
+    if is(verb, b"pool") {
         pool(words)
-    } else if verb == b"plan".as_slice() {
+    } else if is(verb, b"plan") {
         plan(words)
-    } else if verb == b"certify".as_slice() {
+    } else if is(verb, b"certify") {
         certify(words)
-    } else if verb == b"verify".as_slice() {
+    } else if is(verb, b"verify") {
         verify(words)
-    } else if verb == b"tree".as_slice() {
+    } else if is(verb, b"tree") {
         tree(words)
-    } else if verb == b"workload".as_slice() {
+    } else if is(verb, b"workload") {
         workload(words)
     } else {
         None
@@ -138,41 +169,37 @@ fn create(mut words: Words) -> Option<Command>
     ensures command { result ≡ three n32_of n32_of function_of (λ l k function. Command.Create l k function) words.entry }
     ensures range { IfSome result (λ c. CountIsInRange c) }
 {
-    let l = n32(words.next()?)?;
-    let k = n32(words.next()?)?;
-    let function = function(words.next()?)?;
-    words.end()?;
+    let l = found!(n32(found!(words.next())));
+    let k = found!(n32(found!(words.next())));
+    let function = found!(function(found!(words.next())));
+    found!(words.end());
     Some(Command::Create { l, k, function })
 }
 
 // `load COUNT`, from the words after `load`.
-fn load(mut words: Words) -> Option<Command>
+fn load(words: Words) -> Option<Command>
     ensures command { result ≡ one count_of (λ count. Command.Load count) words.entry }
     ensures range { IfSome result (λ c. CountIsInRange c) }
 {
-    let count = count(words.next()?)?;
-    words.end()?;
+    let count = found!(one_number(words, 1, BATCH_LINES_MAX));
     Some(Command::Load { count })
 }
 
 // `append COUNT`, from the words after `append`.
-fn append(mut words: Words) -> Option<Command>
+fn append(words: Words) -> Option<Command>
     ensures command { result ≡ one count_of (λ count. Command.Append count) words.entry }
     ensures range { IfSome result (λ c. CountIsInRange c) }
 {
-    let count = count(words.next()?)?;
-    words.end()?;
+    let count = found!(one_number(words, 1, BATCH_LINES_MAX));
     Some(Command::Append { count })
 }
 
 // `at TIME COLS`, from the words after `at`.
-fn at(mut words: Words) -> Option<Command>
+fn at(words: Words) -> Option<Command>
     ensures command { result ≡ two_words time_of columns_of (λ t cols. Command.At t cols) words.entry }
     ensures range { IfSome result (λ c. CountIsInRange c) }
 {
-    let t = time(words.next()?)?;
-    let cols = columns(words.next()?)?;
-    words.end()?;
+    let (t, cols) = found!(number_and_columns(words, TIME_MAX));
     Some(Command::At { t, cols })
 }
 
@@ -181,8 +208,8 @@ fn several(mut words: Words) -> Option<Command>
     ensures command { result ≡ several_of words.entry }
     ensures range { IfSome result (λ c. CountIsInRange c) }
 {
-    let cols = columns(words.next()?)?;
-    let first = time(words.next()?)?;
+    let cols = found!(columns(found!(words.next())));
+    let first = found!(time(found!(words.next())));
     several_from(cols, first, words)
 }
 
@@ -195,7 +222,7 @@ fn several_from(cols: Columns, first: u64, mut words: Words) -> Option<Command>
     times[0] = first;
     let mut count = 1;
     while let Some(word) = words.next() {
-        let t = time(word)?;
+        let t = found!(time(word));
         if count == TIMES_MAX {
             return None;
         }
@@ -214,10 +241,10 @@ fn materialise(mut words: Words) -> Option<Command>
     ensures command { result ≡ read_by held_node_verbs words.entry }
     ensures range { IfSome result (λ c. CountIsInRange c) }
 {
-    let kind = words.next()?;
-    if kind == b"leaf".as_slice() {
+    let kind = found!(words.next());
+    if is(kind, b"leaf") {
         leaf(words)
-    } else if kind == b"inner".as_slice() {
+    } else if is(kind, b"inner") {
         inner(words)
     } else {
         None
@@ -225,15 +252,13 @@ fn materialise(mut words: Words) -> Option<Command>
 }
 
 // `materialise` with a leaf, from the words after `leaf`: its number and the columns.
-fn leaf(mut words: Words) -> Option<Command>
+fn leaf(words: Words) -> Option<Command>
     ensures command { result ≡ two_words n32_of columns_of (λ number cols. Command.Materialise (NodeId.Leaf number) cols) words.entry }
     ensures range { IfSome result (λ c. CountIsInRange c) }
 {
-    let number = n32(words.next()?)?;
-    let cols = columns(words.next()?)?;
-    words.end()?;
+    let (number, cols) = found!(number_and_columns(words, N32_MAX));
     Some(Command::Materialise {
-        node: NodeId::Leaf(number),
+        node: NodeId::Leaf(number as u32),
         cols,
     })
 }
@@ -243,65 +268,56 @@ fn inner(mut words: Words) -> Option<Command>
     ensures command { result ≡ three n32_of n32_of columns_of (λ height number cols. Command.Materialise (NodeId.Inner height number) cols) words.entry }
     ensures range { IfSome result (λ c. CountIsInRange c) }
 {
-    let height = n32(words.next()?)?;
-    let number = n32(words.next()?)?;
-    let cols = columns(words.next()?)?;
-    words.end()?;
+    let height = found!(n32(found!(words.next())));
+    let (number, cols) = found!(number_and_columns(words, N32_MAX));
     Some(Command::Materialise {
-        node: NodeId::Inner(height, number),
+        node: NodeId::Inner(height, number as u32),
         cols,
     })
 }
 
 // `list HANDLE`, from the words after `list`.
-fn list(mut words: Words) -> Option<Command>
+fn list(words: Words) -> Option<Command>
     ensures command { result ≡ one handle_of (λ handle. Command.List handle) words.entry }
     ensures range { IfSome result (λ c. CountIsInRange c) }
 {
-    let handle = handle(words.next()?)?;
-    words.end()?;
+    let handle = found!(one_number(words, FIRST_HANDLE, u32::MAX));
     Some(Command::List { handle })
 }
 
 // `counts HANDLE`, from the words after `counts`.
-fn counts(mut words: Words) -> Option<Command>
+fn counts(words: Words) -> Option<Command>
     ensures command { result ≡ one handle_of (λ handle. Command.Counts handle) words.entry }
     ensures range { IfSome result (λ c. CountIsInRange c) }
 {
-    let handle = handle(words.next()?)?;
-    words.end()?;
+    let handle = found!(one_number(words, FIRST_HANDLE, u32::MAX));
     Some(Command::Counts { handle })
 }
 
 // `node HANDLE ID`, from the words after `node`.
-fn node(mut words: Words) -> Option<Command>
+fn node(words: Words) -> Option<Command>
     ensures command { result ≡ two_words handle_of id_of (λ handle id. Command.Node handle id) words.entry }
     ensures range { IfSome result (λ c. CountIsInRange c) }
 {
-    let handle = handle(words.next()?)?;
-    let id = id(words.next()?)?;
-    words.end()?;
+    let (handle, id) = found!(handle_and_id(words));
     Some(Command::Node { handle, id })
 }
 
 // `neighbours HANDLE ID`, from the words after `neighbours`.
-fn neighbours(mut words: Words) -> Option<Command>
+fn neighbours(words: Words) -> Option<Command>
     ensures command { result ≡ two_words handle_of id_of (λ handle id. Command.Neighbours handle id) words.entry }
     ensures range { IfSome result (λ c. CountIsInRange c) }
 {
-    let handle = handle(words.next()?)?;
-    let id = id(words.next()?)?;
-    words.end()?;
+    let (handle, id) = found!(handle_and_id(words));
     Some(Command::Neighbours { handle, id })
 }
 
 // `release HANDLE`, from the words after `release`.
-fn release(mut words: Words) -> Option<Command>
+fn release(words: Words) -> Option<Command>
     ensures command { result ≡ one handle_of (λ handle. Command.Release handle) words.entry }
     ensures range { IfSome result (λ c. CountIsInRange c) }
 {
-    let handle = handle(words.next()?)?;
-    words.end()?;
+    let handle = found!(one_number(words, FIRST_HANDLE, u32::MAX));
     Some(Command::Release { handle })
 }
 
@@ -310,8 +326,8 @@ fn clean(mut words: Words) -> Option<Command>
     ensures command { result ≡ one sweep_of (λ sweep. sweep) words.entry }
     ensures range { IfSome result (λ c. CountIsInRange c) }
 {
-    let sweep = sweep(words.next()?)?;
-    words.end()?;
+    let sweep = found!(sweep(found!(words.next())));
+    found!(words.end());
     Some(sweep)
 }
 
@@ -320,18 +336,16 @@ fn pool(words: Words) -> Option<Command>
     ensures command { result ≡ none_more Command.Pool words.entry }
     ensures range { IfSome result (λ c. CountIsInRange c) }
 {
-    words.end()?;
+    found!(words.end());
     Some(Command::Pool)
 }
 
 // `plan TIME COLS`, from the words after `plan`.
-fn plan(mut words: Words) -> Option<Command>
+fn plan(words: Words) -> Option<Command>
     ensures command { result ≡ two_words time_of columns_of (λ t cols. Command.Plan t cols) words.entry }
     ensures range { IfSome result (λ c. CountIsInRange c) }
 {
-    let t = time(words.next()?)?;
-    let cols = columns(words.next()?)?;
-    words.end()?;
+    let (t, cols) = found!(number_and_columns(words, TIME_MAX));
     Some(Command::Plan { t, cols })
 }
 
@@ -340,10 +354,10 @@ fn certify(mut words: Words) -> Option<Command>
     ensures command { result ≡ three time_of columns_of count_from_0 (λ t cols count. Command.Certify t cols count) words.entry }
     ensures range { IfSome result (λ c. CountIsInRange c) }
 {
-    let t = time(words.next()?)?;
-    let cols = columns(words.next()?)?;
-    let count = count_from_0(words.next()?)?;
-    words.end()?;
+    let t = found!(time(found!(words.next())));
+    let cols = found!(columns(found!(words.next())));
+    let count = found!(count_from_0(found!(words.next())));
+    found!(words.end());
     Some(Command::Certify { t, cols, count })
 }
 
@@ -352,7 +366,7 @@ fn verify(words: Words) -> Option<Command>
     ensures command { result ≡ none_more Command.Verify words.entry }
     ensures range { IfSome result (λ c. CountIsInRange c) }
 {
-    words.end()?;
+    found!(words.end());
     Some(Command::Verify)
 }
 
@@ -361,7 +375,7 @@ fn tree(words: Words) -> Option<Command>
     ensures command { result ≡ none_more Command.Tree words.entry }
     ensures range { IfSome result (λ c. CountIsInRange c) }
 {
-    words.end()?;
+    found!(words.end());
     Some(Command::Tree)
 }
 
@@ -370,22 +384,41 @@ fn workload(mut words: Words) -> Option<Command>
     ensures command { result ≡ two_words id_of count_of (λ seed count. Command.Workload seed count) words.entry }
     ensures range { IfSome result (λ c. CountIsInRange c) }
 {
-    let seed = id(words.next()?)?;
-    let changes = count(words.next()?)?;
-    words.end()?;
+    let seed = found!(id(found!(words.next())));
+    let changes = found!(one_number(words, 1, BATCH_LINES_MAX));
     Some(Command::Workload {
         seed,
         count: changes,
     })
 }
 
-// The number of lines or of generated changes of a batch.
-fn count(word: &[u8]) -> Option<u32>
-    ensures count { result ≡ count_of word.now }
-    ensures range { IfSome result (λ n. (1 ≤ n) × (n ≤ BATCH_LINES_MAX)) }
+// The number from `low` to `high` that is the only word.
+fn one_number(words: Words, low: u32, high: u32) -> Option<u32>
+    ensures number { (make : ℕ → Command) → option_map make result ≡ one (number low high) make words.entry }
+    ensures range { IfSome result (λ n. (low ≤ n) × (n ≤ high)) }
 {
-    let count = number(word, 1, u64::from(BATCH_LINES_MAX))?;
-    Some(count as u32)
+    let number = found!(only_number(words, u64::from(low), u64::from(high)));
+    Some(number as u32)
+}
+
+// A number of at most `high`, and columns.
+fn number_and_columns(mut words: Words, high: u64) -> Option<(u64, Columns)>
+    ensures both { (make : ℕ → Columns → Command) → option_map (λ both. make both.0 both.1) result ≡ two_words (number 0 high) columns_of make words.entry }
+    ensures range { IfSome result (λ both. both.0 ≤ high) }
+{
+    let number = found!(number(found!(words.next()), 0, high));
+    let columns = found!(columns(found!(words.next())));
+    found!(words.end());
+    Some((number, columns))
+}
+
+// The number of a handle, and an id.
+fn handle_and_id(mut words: Words) -> Option<(u32, u64)>
+    ensures { (make : ℕ → ℕ → Command) → option_map (λ both. make both.0 both.1) result ≡ two_words handle_of id_of make words.entry }
+{
+    let handle = found!(handle(found!(words.next())));
+    let id = found!(only_number(words, 0, u64::MAX));
+    Some((handle, id))
 }
 
 // The number of lines that follow, where none may.
@@ -393,7 +426,7 @@ fn count_from_0(word: &[u8]) -> Option<u32>
     ensures count { result ≡ count_from_0 word.now }
     ensures range { IfSome result (λ n. n ≤ BATCH_LINES_MAX) }
 {
-    let count = number(word, 0, u64::from(BATCH_LINES_MAX))?;
+    let count = found!(number(word, 0, u64::from(BATCH_LINES_MAX)));
     Some(count as u32)
 }
 
@@ -401,7 +434,7 @@ fn count_from_0(word: &[u8]) -> Option<u32>
 fn handle(word: &[u8]) -> Option<u32>
     ensures { result ≡ handle_of word.now }
 {
-    let handle = number(word, u64::from(FIRST_HANDLE), u64::from(u32::MAX))?;
+    let handle = found!(number(word, u64::from(FIRST_HANDLE), u64::from(u32::MAX)));
     Some(handle as u32)
 }
 
@@ -410,10 +443,10 @@ fn sweep(word: &[u8]) -> Option<Command>
     ensures command { result ≡ sweep_of word.now }
     ensures range { IfSome result (λ c. CountIsInRange c) }
 {
-    if word == b"all".as_slice() {
+    if is(word, b"all") {
         return Some(Command::CleanAll);
     }
-    let cells = number(word, 1, u64::from(u32::MAX))?;
+    let cells = found!(number(word, 1, u64::from(u32::MAX)));
     Some(Command::Clean {
         cells: cells as u32,
     })
@@ -423,11 +456,11 @@ fn sweep(word: &[u8]) -> Option<Command>
 fn function(name: &[u8]) -> Option<Function>
     ensures { result ≡ function_of name.now }
 {
-    if name == b"intersection".as_slice() {
+    if is(name, b"intersection") {
         Some(Function::Intersection)
-    } else if name == b"union".as_slice() {
+    } else if is(name, b"union") {
         Some(Function::Union)
-    } else if name == b"balanced".as_slice() {
+    } else if is(name, b"balanced") {
         Some(Function::Balanced)
     } else {
         None
@@ -438,19 +471,24 @@ fn function(name: &[u8]) -> Option<Function>
 fn columns(word: &[u8]) -> Option<Columns>
     ensures { result ≡ columns_of word.now }
 {
-    let (nodes_attr, edges_attr) = if word == b"s".as_slice() {
-        (false, false)
-    } else if word == b"sn".as_slice() {
-        (true, false)
-    } else if word == b"se".as_slice() {
-        (false, true)
-    } else if word == b"sne".as_slice() {
-        (true, true)
+    if is(word, b"s") {
+        Some(STRUCTURE)
+    } else if is(word, b"sn") {
+        Some(Columns {
+            nodes_attr: true,
+            ..STRUCTURE
+        })
+    } else if is(word, b"se") {
+        Some(Columns {
+            edges_attr: true,
+            ..STRUCTURE
+        })
+    } else if is(word, b"sne") {
+        Some(Columns {
+            nodes_attr: true,
+            edges_attr: true,
+        })
     } else {
-        return None;
-    };
-    Some(Columns {
-        nodes_attr,
-        edges_attr,
-    })
+        None
+    }
 }

@@ -1,12 +1,13 @@
 ghost use Rattle.std.specs.Option.{option_map};
-ghost use Rattle.std.specs.Prelude.{◌≡◌, MatchOption, None, ℕ};
-ghost use Rattle.dg_graph.specs.Verbs.{one, read_by};
+ghost use Rattle.std.specs.Prelude.{drop, ◌≡◌, MatchOption, None, ℕ};
+ghost use Rattle.dg_graph.specs.Verbs.{look_up, one, read_by};
 ghost use Rattle.dg_history.specs.ChangeGrammar.{time_of};
 ghost use Rattle.dg_history.specs.declared.node.NodeId.{NodeId};
 ghost use Rattle.dg_plan.specs.declared.certificate.PlanLine.{PlanLine};
 ghost use Rattle.dg_machine.specs.CommandGrammar.{node_verbs, plan_line_of, step_of};
 
-use crate::words::{Words, n32, time};
+use crate::words::{Words, found, is, n32, only_number};
+use dg_graph::TIME_MAX;
 use dg_history::NodeId;
 use dg_plan::PlanLine;
 
@@ -17,10 +18,10 @@ pub fn read_plan_line(line: &[u8]) -> Option<PlanLine>
     ensures { result ≡ plan_line_of line.now }
 {
     let mut words = Words::of(line);
-    let verb = words.next()?;
-    if verb == b"step".as_slice() {
+    let verb = found!(words.next());
+    if is(verb, b"step") {
         step(words)
-    } else if verb == b"potential".as_slice() {
+    } else if is(verb, b"potential") {
         potential(words)
     } else {
         None
@@ -31,8 +32,8 @@ pub fn read_plan_line(line: &[u8]) -> Option<PlanLine>
 fn step(mut words: Words) -> Option<PlanLine>
     ensures { result ≡ step_of words.entry }
 {
-    let edge = n32(words.next()?)?;
-    let (head, weight) = node_and_number(words)?;
+    let edge = found!(n32(found!(words.next())));
+    let (head, weight) = found!(node_and_number(words));
     Some(PlanLine::Step { edge, head, weight })
 }
 
@@ -40,7 +41,7 @@ fn step(mut words: Words) -> Option<PlanLine>
 fn potential(words: Words) -> Option<PlanLine>
     ensures { result ≡ read_by (node_verbs (λ node value. PlanLine.Potential node value)) words.entry }
 {
-    let (node, value) = node_and_number(words)?;
+    let (node, value) = found!(node_and_number(words));
     Some(PlanLine::Potential { node, value })
 }
 
@@ -48,18 +49,16 @@ fn potential(words: Words) -> Option<PlanLine>
 fn node_and_number(mut words: Words) -> Option<(NodeId, u64)>
     ensures { (make : NodeId → ℕ → PlanLine) → option_map (λ both. make both.0 both.1) result ≡ read_by (node_verbs make) words.entry }
 {
-    let node = node(&mut words)?;
-    let number = only_number(words)?;
+    let node = found!(node(&mut words));
+    let number = found!(only_time(words));
     Some((node, number))
 }
 
 // The number that is the only word.
-fn only_number(mut words: Words) -> Option<u64>
+fn only_time(words: Words) -> Option<u64>
     ensures { (make : ℕ → PlanLine) → option_map make result ≡ one time_of make words.entry }
 {
-    let number = time(words.next()?)?;
-    words.end()?;
-    Some(number)
+    only_number(words, 0, TIME_MAX)
 }
 
 // The node of the first words: its kind and its numbers. What is left is to be a number.
@@ -68,20 +67,31 @@ fn node(words: &mut Words) -> Option<NodeId>
         ((make : NodeId → ℕ → PlanLine) → read_by (node_verbs make) words.old ≡ None)
         (λ node. (make : NodeId → ℕ → PlanLine) → read_by (node_verbs make) words.old ≡ one time_of (make node) words.new) }
 {
-    let kind = words.next()?;
-    if kind == b"root".as_slice() {
+    let kind = found!(words.next());
+    if is(kind, b"root") {
         Some(NodeId::Root)
-    } else if kind == b"now".as_slice() {
+    } else if is(kind, b"now") {
         Some(NodeId::Now)
-    } else if kind == b"recent".as_slice() {
+    } else if is(kind, b"recent") {
         Some(NodeId::Recent)
-    } else if kind == b"leaf".as_slice() {
-        Some(NodeId::Leaf(n32(words.next()?)?))
-    } else if kind == b"list".as_slice() {
-        Some(NodeId::List(n32(words.next()?)?))
-    } else if kind == b"inner".as_slice() {
-        let height = n32(words.next()?)?;
-        Some(NodeId::Inner(height, n32(words.next()?)?))
+    } else {
+        numbered_node(kind, words)
+    }
+}
+
+// The node of this kind and of the first words, where its kind has numbers.
+fn numbered_node(kind: &[u8], words: &mut Words) -> Option<NodeId>
+    ensures { MatchOption result
+        ((make : NodeId → ℕ → PlanLine) → look_up kind.now (drop 3 (node_verbs make)) words.old ≡ None)
+        (λ node. (make : NodeId → ℕ → PlanLine) → look_up kind.now (drop 3 (node_verbs make)) words.old ≡ one time_of (make node) words.new) }
+{
+    if is(kind, b"leaf") {
+        Some(NodeId::Leaf(found!(n32(found!(words.next())))))
+    } else if is(kind, b"list") {
+        Some(NodeId::List(found!(n32(found!(words.next())))))
+    } else if is(kind, b"inner") {
+        let height = found!(n32(found!(words.next())));
+        Some(NodeId::Inner(height, found!(n32(found!(words.next())))))
     } else {
         None
     }

@@ -1,6 +1,7 @@
 ghost use Rattle.std.specs.Prelude.{◌≡◌, ◌≢◌, ℕ, ◌+◌, ◌*◌, ◌-◌, ◌<◌, ◌≤◌, ◌^◌, List, [], ◌∷◌, length, decimal, Option, Some, None, IfSome, IfNone, IsTrue, ◌↔◌, MatchOption, slice_index};
 ghost use Rattle.std.specs.List.{position};
 ghost use Rattle.dg_graph.specs.Words.{words, number};
+ghost use Rattle.dg_graph.specs.Verbs.{is_word, one};
 ghost use Rattle.std.specs.Option.{option_map};
 ghost use Rattle.dg_history.specs.ChangeGrammar.{id_of, time_of};
 ghost use Rattle.dg_machine.specs.CommandGrammar.{n32_of};
@@ -8,6 +9,20 @@ ghost use Rattle.dg_line.specs.Space.{is_space, rest_of};
 
 use dg_graph::TIME_MAX;
 use std::marker::Model;
+
+/// What is found; where nothing is, the function that looks for it has no value. This is `?` at an
+/// `Option` without the two calls that `?` is: the readers of words are many, and a proof follows each
+/// call.
+macro_rules! found {
+    ($option:expr) => {
+        match $option {
+            Some(found) => found,
+            None => return None,
+        }
+    };
+}
+
+pub(crate) use found;
 
 /// What parts two words of a line.
 pub const SPACE: u8 = b' ';
@@ -91,7 +106,7 @@ pub fn number(word: &[u8], low: u64, high: u64) -> Option<u64>
     ensures number { result ≡ number low high word.now }
     ensures range { IfSome result (λ n. (low ≤ n) × (n ≤ high)) }
 {
-    let value = decimal_value(word)?;
+    let value = found!(decimal_value(word));
     if low <= value && value <= high {
         Some(value)
     } else {
@@ -103,7 +118,7 @@ pub fn number(word: &[u8], low: u64, high: u64) -> Option<u64>
 pub fn n32(word: &[u8]) -> Option<u32>
     ensures { result ≡ n32_of word.now }
 {
-    let value = number(word, 0, u64::from(u32::MAX))?;
+    let value = found!(number(word, 0, u64::from(u32::MAX)));
     Some(value as u32)
 }
 
@@ -119,6 +134,23 @@ pub fn id(word: &[u8]) -> Option<u64>
     ensures { result ≡ id_of word.now }
 {
     number(word, 0, u64::MAX)
+}
+
+/// The number from `low` to `high` that is the only word.
+pub fn only_number(mut words: Words, low: u64, high: u64) -> Option<u64>
+    ensures number { result ≡ one (number low high) (λ n. n) words.entry }
+    ensures range { IfSome result (λ n. (low ≤ n) × (n ≤ high)) }
+{
+    let number = found!(number(found!(words.next()), low, high));
+    found!(words.end());
+    Some(number)
+}
+
+/// Whether the word is this text.
+pub fn is(word: &[u8], text: &[u8]) -> bool
+    ensures { result ≡ is_word word.now text.now }
+{
+    word == text
 }
 
 // The number whose decimal text the word is, where it is at most `u64::MAX`.

@@ -6,28 +6,27 @@ use Rattle.dg_line.proofs.command.several_from.Goals as goal
 pub loop-word-init : goal.loop-word-init
 loop-word-init c = record { some = omega arith; few = omega arith; size = refl; read = read_none c.args.first c.args.words }
 
-pub returns-in_err-t-clause-command : goal.returns-in_err-t-clause-command
-returns-in_err-t-clause-command c =
-    c.from_residual.ensures
-    ∙ sym (read_other c.args.cols c.args.first c.args.words c.loop-word.times c.loop-word.count c.loop-word.words c.next.new.self c.in-Some.word.now
-    c.in-Some.ensures (sym c.time.ensures ∙ c.in_err-t.was) c.loop-word.invariant.read)
+pub returns-in-None-clause-command : goal.returns-in-None-clause-command
+returns-in-None-clause-command c =
+    sym (read_other c.args.cols c.args.first c.args.words c.loop-word.times c.loop-word.count c.loop-word.words c.next.new.self c.in-Some.word.now
+    c.in-Some.ensures (sym c.time.ensures ∙ c.in-None.is) c.loop-word.invariant.read)
 
 pub returns-then-count-eq-TIMES_MAX-clause-command : goal.returns-then-count-eq-TIMES_MAX-clause-command
 returns-then-count-eq-TIMES_MAX-clause-command c =
-    sym (read_past c.args.cols c.args.first c.args.words c.loop-word.times c.loop-word.count c.loop-word.words c.next.new.self c.in-Some.word.now c.in_ok-t.t
-    c.loop-word.invariant.size c.if-count-eq-TIMES_MAX.true c.in-Some.ensures (sym c.time.ensures ∙ c.in_ok-t.was) c.loop-word.invariant.read)
+    sym (read_past c.args.cols c.args.first c.args.words c.loop-word.times c.loop-word.count c.loop-word.words c.next.new.self c.in-Some.word.now c.in-Some-time.found
+    c.loop-word.invariant.size c.if-count-eq-TIMES_MAX.true c.in-Some.ensures (sym c.time.ensures ∙ c.in-Some-time.is) c.loop-word.invariant.read)
 
 pub loop-word-preserved : goal.loop-word-preserved
 loop-word-preserved c =
     let more = c.if-count-eq-TIMES_MAX.false in
-    let size : length (set c.loop-word.times c.loop-word.count c.in_ok-t.t) ≡ TIMES_MAX = length-set c.loop-word.times c.loop-word.count c.in_ok-t.t ∙ c.loop-word.invariant.size in
+    let size : length (set c.loop-word.times c.loop-word.count c.in-Some-time.found) ≡ TIMES_MAX = length-set c.loop-word.times c.loop-word.count c.in-Some-time.found ∙ c.loop-word.invariant.size in
     let below : c.loop-word.count < TIMES_MAX = omega arith in
     record {
       some = omega arith;
       few = omega arith;
       size = size;
-      read = read_more c.args.first c.args.words c.loop-word.times c.loop-word.count c.loop-word.words c.next.new.self c.in-Some.word.now c.in_ok-t.t
-          c.loop-word.invariant.size below c.in-Some.ensures (sym c.time.ensures ∙ c.in_ok-t.was) c.loop-word.invariant.read;
+      read = read_more c.args.first c.args.words c.loop-word.times c.loop-word.count c.loop-word.words c.next.new.self c.in-Some.word.now c.in-Some-time.found
+          c.loop-word.invariant.size below c.in-Some.ensures (sym c.time.ensures ∙ c.in-Some-time.is) c.loop-word.invariant.read;
     }
 
 pub returns-clause-command : goal.returns-clause-command

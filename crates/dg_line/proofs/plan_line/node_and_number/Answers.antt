@@ -1,16 +1,13 @@
-use Rattle.std.proofs.Common.{ℕ, sym, ap, ◌∙◌}
-use Rattle.std.specs.Option.{option_map}
-use Rattle.dg_history.specs.declared.node.NodeId.{NodeId}
+use Rattle.std.proofs.Common.{sym, ◌∙◌}
 use Rattle.dg_line.proofs.plan_line.node_and_number.Goals as goal
 
-pub returns-in_err-node : goal.returns-in_err-node
-returns-in_err-node c = λ make.
-    ap (option_map (λ (both : NodeId × ℕ). make both.0 both.1)) c.from_residual.ensures ∙ sym (c.in_err-node.ensures make)
+pub returns-in-None : goal.returns-in-None
+returns-in-None c = λ make.
+    sym (c.in-None.ensures make)
 
-pub returns-in_err-number : goal.returns-in_err-number
-returns-in_err-number c = λ make.
-    ap (option_map (λ (both : NodeId × ℕ). make both.0 both.1)) c.from_residual-in_err-number.ensures
-    ∙ c.in_err-number.ensures (make c.in_ok-node.node) ∙ sym (c.in_ok-node.ensures make)
+pub returns-in-None-only_time : goal.returns-in-None-only_time
+returns-in-None-only_time c = λ make.
+    c.in-None-only_time.ensures (make c.in-Some.found) ∙ sym (c.in-Some.ensures make)
 
 pub returns : goal.returns
-returns c = λ make. c.in_ok-number.ensures (make c.in_ok-node.node) ∙ sym (c.in_ok-node.ensures make)
+returns c = λ make. c.in-Some-only_time.ensures (make c.in-Some.found) ∙ sym (c.in-Some.ensures make)

@@ -1,0 +1,6 @@
+use Rattle.dg_history.specs.ChangeGrammar.{time_of}
+use Rattle.dg_line.proofs.Readers.{one_made}
+use Rattle.dg_line.proofs.plan_line.only_time.Goals as goal
+
+pub returns : goal.returns
+returns c = λ make. one_made time_of make c.args.words c.only_number.result c.only_number.ensures.number
