@@ -250,6 +250,7 @@ impl Session {
         match self.check(rt, disk) {
             Ok(()) => Ok(self),
             Err(fault) => {
+                // By a call, which spares a proof of what it drops from being written out here.
                 drop(self);
                 Err(fault)
             }
