@@ -1,6 +1,6 @@
 -- What a session that is checked begins with, or why it does not begin.
-use Rattle.std.proofs.Common.{◌≡◌, ◌⊎◌, inl, inr, ℕ, Bool, true, false, List, Option, Some, None, Result, Ok, Err, cond, refl, sym, ◌∙◌, ap, subst}
-use Rattle.std.specs.Prelude.{IfErr, IfSome, IsErr, IsErrAnd}
+use Rattle.std.proofs.Common.{◌≡◌, ◌⊎◌, inl, inr, ℕ, Bool, true, false, List, Option, Some, None, Result, Ok, Err, cond, sym, ◌∙◌, ap, subst}
+use Rattle.std.specs.Prelude.{IfErr, IfOk, IfSome, OnOk}
 use Rattle.dg_columns.specs.ColumnLaws.{AreBytes}
 use Rattle.dg_graph.specs.declared.element.Column.{Column}
 use Rattle.dg_history.specs.declared.node.Key.{Key}
@@ -15,8 +15,8 @@ use Rattle.dg_session.specs.declared.session_fault.SessionFault.{SessionFault}
 use Rattle.dg_session.specs.declared.session_fault.SessionFault.TheVariants as fault
 use Rattle.dg_session.specs.Parts.{Parts}
 use Rattle.dg_session.specs.Session.{StandsFor}
-use Rattle.dg_session.specs.SessionStart.{Begins, FailsCheck, IsSoundImage, IsStanding, IsUnsoundImage, RefusesSession}
-use Rattle.dg_session.proofs.Steps.{handed_out}
+use Rattle.dg_session.specs.SessionState.{SessionState}
+use Rattle.dg_session.specs.SessionStart.{Begins, FailsCheck, IsNew, IsSoundImage, IsStanding, IsUnsoundImage, RefusesSession}
 use Rattle.dg_sound.specs.declared.soundness.Soundness.TheVariants.{Sound, Unsound}
 use Rattle.dg_sound.specs.Soundness.{soundness_of}
 use Rattle.dg_sound_files.specs.SoundFiles.{SoundFilesStand, StandingFilesAreSound}
@@ -117,11 +117,6 @@ held_still p q mid after same image h =
 
 -- ---- no beginning
 
--- a file that is not started from begins no session
-pub not_started : {A : Type 0} (checked : Bool) (r : Result A SessionFault) (f : StartFault) (told : Option (List ℕ)) → IsErr r × IsErrAnd r (λ y. y ≡ fault.Start f) → IfSome told (λ image. RefusesStart f image)
-    → IfErr r (λ y. IfSome told (λ image. RefusesSession checked y image))
-not_started checked r f told h refuses = handed_out r (fault.Start f) (λ y. IfErr y (λ z. IfSome told (λ image. RefusesSession checked z image))) h refuses
-
 -- the disk failed, or memory lacked
 abbrev pub IsNoFault : SessionFault → Type 0
 IsNoFault f = (f ≡ fault.Start start_fault.Disk) ⊎ (f ≡ fault.Start start_fault.Memory)
@@ -130,13 +125,12 @@ no_fault : (f : StartFault) → (f ≡ start_fault.Disk) ⊎ (f ≡ start_fault.
 no_fault f (inl e) = inl (ap (λ x. fault.Start x) e)
 no_fault f (inr e) = inr (ap (λ x. fault.Start x) e)
 
-pub never_started : {A : Type 0} (r : Result A SessionFault) (f : StartFault) (told : Option (List ℕ)) → IsErr r × IsErrAnd r (λ y. y ≡ fault.Start f)
-    → IfSome told (λ image. (index : Option History) → StandsAs index image → (f ≡ start_fault.Disk) ⊎ (f ≡ start_fault.Memory))
-    → IfErr r (λ y. IfSome told (λ image. (index : Option History) → StandsAs index image → IsNoFault y))
-never_started r f told h never =
-    handed_out r (fault.Start f) (λ y. IfErr y (λ z. IfSome told (λ image. (index : Option History) → StandsAs index image → IsNoFault z))) h
-    (told_so told (λ image. (index : Option History) → StandsAs index image → (f ≡ start_fault.Disk) ⊎ (f ≡ start_fault.Memory))
-    (λ image. (index : Option History) → StandsAs index image → IsNoFault (fault.Start f)) (λ image none index stands. no_fault f (none index stands)) never)
+-- a file that is not started from begins no session
+pub never_started : (f : StartFault) (told : Option (List ℕ)) → IfSome told (λ image. (index : Option History) → StandsAs index image → (f ≡ start_fault.Disk) ⊎ (f ≡ start_fault.Memory))
+    → IfSome told (λ image. (index : Option History) → StandsAs index image → IsNoFault (fault.Start f))
+never_started f told never =
+    told_so told (λ image. (index : Option History) → StandsAs index image → (f ≡ start_fault.Disk) ⊎ (f ≡ start_fault.Memory))
+    (λ image. (index : Option History) → StandsAs index image → IsNoFault (fault.Start f)) (λ image none index stands. no_fault f (none index stands)) never
 
 refuses_so : (checked : Bool) (s : Option Started) (f : SessionFault) (image : List ℕ) → checked ≡ true → Starts image (Ok s) → FailsCheck f image → RefusesSession checked f image
 refuses_so checked s (fault.Start f) image is starts (inl e) = subst (λ (x : StartFault). RefusesStart x image) (sym e) tt
@@ -168,13 +162,44 @@ never_checked opened law f told mid same fails =
     told_so told (λ image. FailsCheck f image) (λ image. (index : Option History) → StandsAs index image → IsNoFault f) (λ image h index stands. never_fails opened law f image index stands h)
     (subst (λ (o : Option (List ℕ)). IfSome o (λ image. FailsCheck f image)) same fails)
 
--- what a `?` hands out of it
-pub fails_refused : {A : Type 0} (checked : Bool) (p : Parts) (r : Result A SessionFault) (f : SessionFault) (told mid : Option (List ℕ)) → IsErr r × IsErrAnd r (λ y. y ≡ f) → checked ≡ true → mid ≡ told
-    → IfSome told (λ image. Starts image (Ok (started_of p))) → IfSome mid (λ image. FailsCheck f image) → IfErr r (λ y. IfSome told (λ image. RefusesSession checked y image))
-fails_refused checked p r f told mid h is same starts fails =
-    handed_out r f (λ y. IfErr y (λ z. IfSome told (λ image. RefusesSession checked z image))) h (refused_checked checked (started_of p) f told mid is same starts fails)
+-- ---- what a session comes to that is checked
 
-pub fails_never : {A : Type 0} → ImagesAreOpened → StandingFilesAreSound → (r : Result A SessionFault) (f : SessionFault) (told mid : Option (List ℕ)) → IsErr r × IsErrAnd r (λ y. y ≡ f) → mid ≡ told
-    → IfSome mid (λ image. FailsCheck f image) → IfErr r (λ y. IfSome told (λ image. (index : Option History) → StandsAs index image → IsNoFault y))
-fails_never opened law r f told mid h same fails =
-    handed_out r f (λ y. IfErr y (λ z. IfSome told (λ image. (index : Option History) → StandsAs index image → IsNoFault z))) h (never_checked opened law f told mid same fails)
+pub checked_begins : (checked : Bool) (s : SessionState) (r : Result SessionState SessionFault) (told mid : Option (List ℕ)) → IfOk r (λ q. q ≡ s) → mid ≡ told
+    → IfSome told (λ image. Starts image (Ok (started_of s.parts))) → OnOk r (IfSome mid IsSoundImage) → IfOk r (λ q. IfSome told (λ image. Begins checked image (Ok (started_of q.parts))))
+checked_begins checked s (Ok q) told mid same image starts sound = begins_sound checked s.parts q.parts told mid (ap (λ (x : SessionState). x.parts) same) image starts sound
+checked_begins checked s (Err f) told mid same image starts sound = tt
+
+pub checked_new : (limits : Limits) (s : SessionState) (r : Result SessionState SessionFault) → IfOk r (λ q. q ≡ s) → IsNew limits s.parts → IfOk r (λ q. IsNew limits q.parts)
+checked_new limits s (Ok q) same new = subst (λ (x : SessionState). IsNew limits x.parts) (sym same) new
+checked_new limits s (Err f) same new = tt
+
+pub checked_stands : (limits : Limits) (s : SessionState) (r : Result SessionState SessionFault) (told : Option (List ℕ)) → IfOk r (λ q. q ≡ s)
+    → IfSome told (λ image. (index : Option History) → StandsAs index image → StandsFor s.parts image (machine_at limits index))
+    → IfOk r (λ q. IfSome told (λ image. (index : Option History) → StandsAs index image → StandsFor q.parts image (machine_at limits index)))
+checked_stands limits s (Ok q) told same stands = stands_still limits s.parts q.parts told (ap (λ (x : SessionState). x.parts) same) stands
+checked_stands limits s (Err f) told same stands = tt
+
+pub checked_held : (s : SessionState) (r : Result SessionState SessionFault) (mid after : Option (List ℕ)) → IfOk r (λ q. q ≡ s) → after ≡ mid → IfSome mid (λ image. IsHeldBy s.parts.index s.parts.names image)
+    → IfOk r (λ q. IfSome after (λ image. IsHeldBy q.parts.index q.parts.names image))
+checked_held s (Ok q) mid after same image held = held_still s.parts q.parts mid after (ap (λ (x : SessionState). x.parts) same) image held
+checked_held s (Err f) mid after same image held = tt
+
+pub checked_standing : (P : Type 0) → SoundFilesStand → (s : SessionState) (r : Result SessionState SessionFault) (told mid : Option (List ℕ)) → mid ≡ told → IfSome mid (λ image. IsHeldBy s.parts.index s.parts.names image)
+    → OnOk r (IfSome mid IsSoundImage) → OnOk r (P → IfSome told (λ image. AreBytes image → IsStanding image))
+checked_standing P law s (Ok q) told mid image held sound = λ p. stands_checked law s.parts told mid image held sound
+checked_standing P law s (Err f) told mid image held sound = tt
+
+-- of the bytes that the beginning alone reads nothing is said
+pub checked_takes : (P : Type 0) (checked : Bool) (r : Result SessionState SessionFault) → checked ≡ true → OnOk r (checked ≡ false → P)
+checked_takes P checked (Ok q) is = λ not. absurd (let bad : true ≡ false = sym is ∙ not in cc)
+checked_takes P checked (Err f) is = tt
+
+pub checked_refused : (checked : Bool) (s : SessionState) (r : Result SessionState SessionFault) (told mid : Option (List ℕ)) → checked ≡ true → mid ≡ told → IfSome told (λ image. Starts image (Ok (started_of s.parts)))
+    → IfErr r (λ f. IfSome mid (λ image. FailsCheck f image)) → IfErr r (λ f. IfSome told (λ image. RefusesSession checked f image))
+checked_refused checked s (Ok q) told mid is same starts fails = tt
+checked_refused checked s (Err f) told mid is same starts fails = refused_checked checked (started_of s.parts) f told mid is same starts fails
+
+pub checked_never : ImagesAreOpened → StandingFilesAreSound → (r : Result SessionState SessionFault) (told mid : Option (List ℕ)) → mid ≡ told → IfErr r (λ f. IfSome mid (λ image. FailsCheck f image))
+    → IfErr r (λ f. IfSome told (λ image. (index : Option History) → StandsAs index image → IsNoFault f))
+checked_never opened law (Ok q) told mid same fails = tt
+checked_never opened law (Err f) told mid same fails = never_checked opened law f told mid same fails

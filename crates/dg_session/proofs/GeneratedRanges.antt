@@ -1,5 +1,5 @@
 -- What generated changes ask for is in the ranges of the grammar of changes.
-use Rattle.std.proofs.Common.{◌≡◌, ℕ, zero, suc, ◌+◌, ◌*◌, ◌/◌, ◌%◌, ◌<◌, ◌≤◌, ◌^◌, Bool, true, false, not, ◌&&◌, ◌||◌, List, [], ◌∷◌, Option, Some, if◌then◌else◌, codes, decimal, length, nat_le, refl, ◌∙◌, ap, arith, mod-lt}
+use Rattle.std.proofs.Common.{◌≡◌, ℕ, zero, suc, ◌+◌, ◌*◌, ◌/◌, ◌%◌, ◌<◌, ◌≤◌, ◌^◌, Bool, true, false, not, ◌&&◌, ◌||◌, List, [], ◌∷◌, Some, if◌then◌else◌, codes, decimal, length, refl, ◌∙◌, ap, arith, mod-lt}
 use Rattle.std.specs.Prelude.{◌==◌, IfSome}
 use Rattle.std.specs.List.{All, list_any}
 use Rattle.std.specs.Str.Parse.{AllDigits}
@@ -7,10 +7,10 @@ use Rattle.std.proofs.lemmas.Fmt.{decimal_is_IsNumeral, length-decimal-le}
 use Rattle.std.proofs.lemmas.List.Elements.{All-nil, All-cons}
 use Rattle.std.proofs.lemmas.Str.Parse.{digit_from_value}
 use borrow.Author.Tests.{le-leb, lt-ltb}
-use Rattle.dg_graph.specs.declared.event.What.TheVariants.{AddNode, AddEdge, RemoveEdge}
-use Rattle.dg_graph.specs.declared.limits.TheConstants.{NAME_BYTES_MAX, TIME_MAX}
+use Rattle.dg_graph.specs.declared.event.What.TheVariants.{RemoveEdge}
+use Rattle.dg_graph.specs.declared.limits.TheConstants.{NAME_BYTES_MAX}
 use Rattle.dg_graph.specs.Names.{is_name}
-use Rattle.dg_history.specs.ChangeGrammar.{ChangeByText, WhatByText, Plain, Sets_node, Unsets_node, Sets_edge, Unsets_edge}
+use Rattle.dg_history.specs.ChangeGrammar.{WhatByText, Plain, Sets_node, Unsets_node, Unsets_edge}
 use Rattle.dg_history.specs.declared.limits.TheConstants.{BATCH_LINES_MAX}
 use Rattle.dg_machine.specs.GeneratedChanges.{generated, generated_change, generated_from, generated_what, lettered, next_number, part_of}
 use Rattle.dg_session.proofs.ChangeRanges.{AskedFits, SaidFits}

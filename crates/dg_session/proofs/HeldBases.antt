@@ -1,5 +1,5 @@
 -- What the handles that hold nodes list, and the edges by which they serve.
-use Rattle.std.proofs.Common.{◌≡◌, ℕ, Bool, true, false, cond, List as ListOf, [], ◌∷◌, ◌++◌, Option, Some, None, map, refl, sym, ◌∙◌, ap, subst, arith, ◌-◌}
+use Rattle.std.proofs.Common.{◌≡◌, ℕ, Bool, true, false, cond, List as ListOf, [], ◌∷◌, Option, Some, map, refl, sym, ◌∙◌, ap, subst, ◌-◌}
 use Rattle.std.specs.Prelude.{◌==◌, ◌&&◌, ◌||◌, filter, if◌then◌else◌, not, unwrap_or, Result, Ok, Err, IfOk}
 use Rattle.std.specs.List.{All, Contains, flat_map}
 use Rattle.std.proofs.lemmas.Bool.{false≢true}
@@ -19,7 +19,7 @@ use Rattle.dg_history.specs.History.{History, events_of}
 use Rattle.dg_index.specs.Hierarchy.{numbers, set_of}
 use Rattle.dg_index.specs.IndexRecords.{heights}
 use Rattle.dg_machine.specs.declared.stands.Stands.{Stands}
-use Rattle.dg_machine.specs.declared.stands.Stands.TheVariants.{Overlay, Base}
+use Rattle.dg_machine.specs.declared.stands.Stands.TheVariants.{Base}
 use Rattle.dg_machine.specs.MachineState.{elements, stands_at}
 use Rattle.dg_machine.specs.Planning.{includes}
 use Rattle.dg_plan.specs.declared.edge.Edge.{Edge}

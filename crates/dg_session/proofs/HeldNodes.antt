@@ -1,5 +1,5 @@
 -- The nodes that handles hold are nodes of the index after a batch, and of the graph in which plans are made.
-use Rattle.std.proofs.Common.{◌≡◌, ℕ, ◌+◌, ◌≤◌, ◌<◌, Bool, true, List as ListOf, [], ◌∷◌, ◌++◌, Option, Some, None, refl, sym, ◌∙◌, ap, subst, arith}
+use Rattle.std.proofs.Common.{◌≡◌, ℕ, ◌+◌, ◌<◌, true, List as ListOf, [], ◌∷◌, Option, Some, None, sym, ◌∙◌, ap, subst}
 use Rattle.std.specs.Prelude.{IfSome, is_some}
 use Rattle.std.specs.List.{All}
 use Rattle.std.proofs.lemmas.Bool.{false≢true}
@@ -10,7 +10,6 @@ use Rattle.dg_append.specs.declared.front.Front.{Front}
 use Rattle.dg_append.specs.AddedBatches.{AddsBatch}
 use Rattle.dg_file.specs.Index.{IndexState}
 use Rattle.dg_graph.specs.declared.event.Change.{Change}
-use Rattle.dg_history.specs.declared.node.NodeId.{NodeId}
 use Rattle.dg_index.specs.declared.entry.BatchEntry.{BatchEntry}
 use Rattle.dg_index.specs.FileOfHistory.{Segment}
 use Rattle.dg_index.specs.IndexGrowth.{index_with}

@@ -1,8 +1,8 @@
 -- The answer to the holding of a node.
-use Rattle.std.proofs.Common.{◌≡◌, ℕ, ◌+◌, ◌≤◌, Bool, true, false, not, List, [], ◌∷◌, Option, Some, None, refl, sym, ◌∙◌, ap, subst, nat_lt, length, arith}
+use Rattle.std.proofs.Common.{◌≡◌, ℕ, ◌+◌, ◌≤◌, true, false, not, List, [], ◌∷◌, Option, Some, None, refl, sym, ◌∙◌, ap, subst, nat_lt, length, arith}
 use Rattle.std.specs.Prelude.{◌&&◌, ◌++◌, IfErr, IfOk, IfSome, Result, Ok, Err, is_some}
 use Rattle.std.proofs.lemmas.List.Elements.{All-cons, All-nil}
-use borrow.Author.Tests.{le-ltb, lt-ltb, ltb-false}
+use borrow.Author.Tests.{ltb-false}
 use Rattle.dg_fold.specs.BytesRead.{Takes, TakesAtMost}
 use Rattle.dg_graph.specs.declared.element.Columns.{Columns}
 use Rattle.dg_graph.specs.declared.element.Element.{Element}
@@ -19,7 +19,7 @@ use Rattle.dg_machine.specs.declared.reply.Reply.{Reply}
 use Rattle.dg_machine.specs.declared.stands.Stands.{Stands}
 use Rattle.dg_machine.specs.declared.stands.Stands.TheVariants.{Base}
 use Rattle.dg_machine.specs.Answer.{accepted, headed, is_refusal, weight_told, with_handle}
-use Rattle.dg_machine.specs.MachineState.{MachineState, elements, events_in_index, history_in}
+use Rattle.dg_machine.specs.MachineState.{MachineState, elements, history_in}
 use Rattle.dg_machine.specs.Needs.{can_be_held, earliest, when}
 use Rattle.dg_machine.specs.Planning.{IsPlanned, Planned, no_plan, record_edges_in}
 use Rattle.dg_plan.specs.IndexGraph.{arcs_of}
@@ -35,7 +35,7 @@ use Rattle.dg_retrieval.specs.KeptGraph.{index_edges}
 use Rattle.dg_retrieval.specs.NodeSets.{IsIndexOver}
 use Rattle.dg_retrieval.specs.Retrieval.{IsNoDamage}
 use Rattle.dg_session.proofs.PlanStep.{records_edges_in}
-use Rattle.dg_session.proofs.Retrievals.{both_false, handles_taken, if_some, moved_with, reads_failed, retrieval_accepted, z_of}
+use Rattle.dg_session.proofs.Retrievals.{handles_taken, if_some, moved_with, reads_failed, retrieval_accepted, z_of}
 use Rattle.dg_session.proofs.StandsFor.{events_are, events_there, hit, is_of, last_passes, miss, not_false, one_image, one_told, params_are, passes}
 use Rattle.dg_session.specs.HeldIndex.{has_node_held}
 use Rattle.dg_session.specs.Parts.{Parts}

@@ -20,6 +20,7 @@ use dg_handles::{Handles, law_tie_is_kept};
 use dg_pool::Pool;
 use dg_start::StoredHistory;
 use std::alloc::Global;
+use std::mem;
 use std::thread::Threads;
 
 /// Adds the batch of these lines to the history, and takes the current graph of the pool past its events. No handle's
@@ -79,14 +80,31 @@ pub fn add_changes<R: Threads, D: Disk>(
     match add_batch(rt, alloc, limit, known, front, changes, history, pool, disk) {
         Ok(added) => Ok(added),
         Err(BatchFault::Store) => {
-            *history = StoredHistory::empty(alloc);
-            *pool = Pool::new(alloc);
-            handles.clear();
-            adjacency.forget();
+            forget_all(alloc, history, pool, handles, adjacency);
             Err(BatchFault::Store)
         }
         Err(fault) => Err(fault),
     }
+}
+
+// Forgets the history, the handles and their graphs, and the adjacency that is kept of one.
+fn forget_all(
+    alloc: Global,
+    history: &mut StoredHistory,
+    pool: &mut Pool,
+    handles: &mut Handles,
+    adjacency: &mut KeptAdjacency,
+)
+    ensures sound { IsSoundHistory (index_opening history.new.index) history.new.names history.new.now history.new.recent.items }
+    ensures pool { graph_now pool.new ≡ history.new.now.graph }
+    ensures tied { IsTied pool.new handles.new }
+    ensures nodes { HasNodes (index_opening history.new.index) handles.new.table }
+    ensures adjacency { KeepsAdjacency handles.new.table (slot_graphs pool.new handles.new.slots) adjacency.new }
+{
+    drop(mem::replace(history, StoredHistory::empty(alloc)));
+    drop(mem::replace(pool, Pool::new(alloc)));
+    handles.clear();
+    adjacency.forget();
 }
 
 // The lists of an index have events. Does nothing.

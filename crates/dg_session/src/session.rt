@@ -42,7 +42,7 @@ ghost use Rattle.dg_session.specs.SessionStart.{Begins, FailsCheck, IsNew, IsSou
 ghost use Rattle.dg_session.specs.Sweeps.{SweepsNothing, SweepsPool};
 ghost use Rattle.dg_session.specs.Verified.{IsOfFile, VerifiesFile};
 ghost use Rattle.dg_start.specs.SessionStart.{PlansLastLeaf, RefusesStart, Starts, start_bytes};
-ghost use Rattle.dg_start.specs.StoredHistory.{IsHeldBy, index_opening, started_with};
+ghost use Rattle.dg_start.specs.StoredHistory.{IsHeldBy, IsSoundHistory, KeepsHistory, index_opening, started_with};
 ghost use Rattle.dg_session.specs.declared.stop.Stop.TheVariants as stop;
 
 use crate::adding::add_changes;
@@ -181,12 +181,16 @@ impl Session {
         law_images_are_opened();
         law_standing_files_are_sound();
         law_sound_files_stand();
-        let mut session = Session::begin(rt, alloc, disk, limits)?;
-        if !checked {
-            return Ok(session);
+        match Session::begin(rt, alloc, disk, limits) {
+            Ok(session) => {
+                if checked {
+                    session.checked(rt, disk)
+                } else {
+                    Ok(session)
+                }
+            }
+            Err(fault) => Err(SessionFault::Start(fault)),
         }
-        session.check(rt, disk)?;
-        Ok(session)
     }
 
     // A session that is not checked.
@@ -217,25 +221,40 @@ impl Session {
         ensures disk { ReadsAndSyncs D.image D.faults D.write_faults disk.old disk.new }
     {
         let handles = Handles::new(alloc, limits.first_handle)?;
-        let OpenedFile { history, made } = open(
-            rt,
-            alloc,
-            disk,
-            |set| -> Result<Pool, AllocError>
-                ensures now { IfOk result (λ pool. graph_now pool ≡ set.now) }
-                ensures none { IfOk result (λ pool. (s : ℕ) → slot_graph pool s ≡ None) }
-            { Pool::from_set(alloc, set) },
-        )?;
-        let pool = past_events(made?, &history.recent)?;
-        Ok(Session {
-            limits,
-            history,
-            pool,
-            handles,
-            planner: KeptPlanner::new(),
-            adjacency: KeptAdjacency::new(),
-            alloc,
-        })
+        match open_overlaid(rt, alloc, disk) {
+            Ok(Overlaid { history, pool }) => Ok(Session {
+                limits,
+                history,
+                pool,
+                handles,
+                planner: KeptPlanner::new(),
+                adjacency: KeptAdjacency::new(),
+                alloc,
+            }),
+            Err(fault) => Err(fault),
+        }
+    }
+
+    // The session, where the file is what its own events determine, or there is no index, and else why there is none.
+    fn checked<R: Threads, D: Disk>(mut self, rt: &R, disk: &mut D) -> Result<Session, SessionFault>
+        requires image { IfSome (D.image disk.old) (λ image. IsHeldBy self.parts.index self.parts.names image) }
+        // the session
+        ensures same { IfOk result (λ session. session ≡ self) }
+        ensures sound { OnOk result (IfSome (D.image disk.old) (λ image. IsSoundImage image)) }
+        // why there is none
+        ensures fails { IfErr result (λ fault. IfSome (D.image disk.old) (λ image. FailsCheck fault image)) }
+        ensures cause { IsErrOf result (SessionFault.Start StartFault.Disk) → DiskRose (D.faults disk.old) (D.faults disk.new) }
+        // what it leaves
+        ensures disk { OnlyReads D.image D.faults D.write_faults disk.old disk.new }
+    {
+        match self.check(rt, disk) {
+            Ok(()) => Ok(self),
+            Err(fault) => {
+                // By a call, which spares a proof of what it drops from being written out here.
+                drop(self);
+                Err(fault)
+            }
+        }
     }
 
     // Nothing where the file is what its own events determine, or there is no index, and else why not.
@@ -1139,6 +1158,67 @@ fn first_of<'a>(times: &'a [u64], count: u8) -> &'a [u64]
     ensures count { length result.now ≡ count }
 {
     &times[..usize::from(count)]
+}
+
+// A history, and the pool in which its current graph is overlaid.
+#[derive(Drop)]
+struct Overlaid {
+    history: StoredHistory,
+    pool: Pool,
+}
+
+// The history of the file that the disk has, and its pool, which has no other graph than the current one.
+fn open_overlaid<R: Threads + Sync, D: Disk>(
+    rt: &R,
+    alloc: Global,
+    disk: &mut D,
+) -> Result<Overlaid, StartFault>
+    // the history
+    ensures started { IfOk result (λ made. IfSome (D.image disk.old) (λ image.
+        Starts image (Ok (started_with (index_opening made.history.index) made.history.names made.history.now.graph made.history.recent.items)))) }
+    ensures stands { IfOk result (λ made. IfSome (D.image disk.old) (λ image. (z : Option History) → StandsAs z image
+        → KeepsHistory z (index_opening made.history.index) made.history.names made.history.now.graph made.history.recent.items)) }
+    ensures sound { IfOk result (λ made. IsSoundHistory (index_opening made.history.index) made.history.names made.history.now made.history.recent.items) }
+    ensures held { IfOk result (λ made. IfSome (D.image disk.new) (λ image. IsHeldBy (index_opening made.history.index) made.history.names image)) }
+    // the pool
+    ensures now { IfOk result (λ made. graph_now made.pool ≡ made.history.now.graph) }
+    ensures none { IfOk result (λ made. (s : ℕ) → slot_graph made.pool s ≡ None) }
+    // the bytes read, over an image of a history
+    ensures takes { OnOk result (IfSome (D.image disk.old) (λ image. (z : History) → IsImageOf z image
+        → (steps : List ℕ) → PlansLastLeaf (opened_of z).index steps
+        → Takes (start_bytes (opened_of z).index steps) (D.taken disk.old) (D.taken disk.new))) }
+    // why there is none
+    ensures refused { IfErr result (λ fault. IfSome (D.image disk.old) (λ image. RefusesStart fault image)) }
+    ensures never { IfErr result (λ fault. IfSome (D.image disk.old) (λ image. (index : Option History)
+        → StandsAs index image → (fault ≡ StartFault.Disk) ⊎ (fault ≡ StartFault.Memory))) }
+    ensures cause { IsErrOf result StartFault.Disk → DiskRose (D.faults disk.old) (D.faults disk.new) }
+    // what it leaves
+    ensures disk { ReadsAndSyncs D.image D.faults D.write_faults disk.old disk.new }
+{
+    match open(
+        rt,
+        alloc,
+        disk,
+        |set| -> Result<Pool, AllocError>
+            ensures now { IfOk result (λ pool. graph_now pool ≡ set.now) }
+            ensures none { IfOk result (λ pool. (s : ℕ) → slot_graph pool s ≡ None) }
+        { Pool::from_set(alloc, set) },
+    ) {
+        Ok(OpenedFile { history, made }) => match made {
+            Ok(pool) => match past_events(pool, &history.recent) {
+                Ok(pool) => Ok(Overlaid { history, pool }),
+                Err(_) => {
+                    drop(history);
+                    Err(StartFault::Memory)
+                }
+            },
+            Err(_) => {
+                drop(history);
+                Err(StartFault::Memory)
+            }
+        },
+        Err(fault) => Err(fault),
+    }
 }
 
 // The pool, with its current graph past the events. An `Err` says that memory ran out.

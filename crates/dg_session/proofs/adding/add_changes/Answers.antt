@@ -1,6 +1,3 @@
-use Rattle.std.proofs.Common.{sym, subst}
-use Rattle.dg_handles.specs.Handles.{slot_graphs}
-use Rattle.dg_session.specs.KeptAdjacency.{KeepsAdjacency}
 use Rattle.dg_session.proofs.HeldNodes.{nodes_after}
 use Rattle.dg_session.proofs.KeptAdjacencies.{kept_on}
 use Rattle.dg_session.proofs.adding.add_changes.Goals as goal

@@ -1,9 +1,8 @@
-use Rattle.std.proofs.Common.{[], false, true, List, Option, Some, None, refl, sym, ◌∙◌, ap, subst}
+use Rattle.std.proofs.Common.{[], refl, sym, ◌∙◌, ap, subst}
 use Rattle.std.specs.Prelude.{is_some}
 use Rattle.dg_handles.specs.Handles.{slot_graphs}
 use Rattle.dg_machine.specs.declared.command.Command.TheVariants as command
 use Rattle.dg_machine.specs.declared.reply.Refusal.TheVariants as refusal
-use Rattle.dg_machine.specs.declared.stands.Stands.{Stands}
 use Rattle.dg_machine.specs.MachineState.{dependent_on, stands_at, without_handle}
 use Rattle.dg_session.specs.contracts.session.Session.{the_view}
 use Rattle.dg_session.specs.HeldIndex.{HasNodeOf, HasNodes}

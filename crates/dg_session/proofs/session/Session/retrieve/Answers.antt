@@ -1,12 +1,11 @@
 use Rattle.std.proofs.Common.{List as ListOf, ap, subst}
 use Rattle.std.specs.List.{All}
 use Rattle.std.specs.Prelude.{IfOk}
-use Rattle.dg_handles.specs.Handles.{BeginsOn}
 use Rattle.dg_plan.specs.declared.edge.Edge.{Edge}
 use Rattle.dg_index.specs.OpenedIndex.{event_total}
 use Rattle.dg_machine.specs.Planning.{bases_in}
 use Rattle.dg_retrieval.specs.Beginnings.{IsOffered}
-use Rattle.dg_retrieval.specs.KeptGraph.{kept_edges, kept_ground}
+use Rattle.dg_retrieval.specs.KeptGraph.{kept_ground}
 use Rattle.dg_session.specs.Parts.{Parts}
 use Rattle.dg_session.specs.SessionState.{SessionState}
 use Rattle.dg_session.proofs.DamageStep.{damage_over}

@@ -1,53 +1,51 @@
-use Rattle.std.proofs.Common.{ap}
-use Rattle.dg_session.specs.SessionState.{SessionState}
-use Rattle.dg_session.proofs.CheckedStart.{begins_sound, begins_unchecked, fails_never, fails_refused, held_still, never_started, not_started, stands_checked, stands_still}
+use Rattle.dg_session.proofs.CheckedStart.{begins_unchecked, checked_begins, checked_held, checked_new, checked_never, checked_refused, checked_standing, checked_stands, checked_takes, never_started}
 use Rattle.dg_session.proofs.session.Session.start.Goals as goal
 
 -- ---- it is not started from
 
-pub returns-in_err-session-clause-refused : goal.returns-in_err-session-clause-refused
-returns-in_err-session-clause-refused g c =
-    not_started c.args.checked c.from_residual.result c.in_err-session.field-0.0 (g.D.Disk.image c.args.disk.now) c.from_residual.ensures c.in_err-session.ensures.refused
-
-pub returns-in_err-session-clause-never : goal.returns-in_err-session-clause-never
-returns-in_err-session-clause-never g c =
-    never_started c.from_residual.result c.in_err-session.field-0.0 (g.D.Disk.image c.args.disk.now) c.from_residual.ensures c.in_err-session.ensures.never
+pub returns-in-Err-clause-never : goal.returns-in-Err-clause-never
+returns-in-Err-clause-never g c = never_started c.in-Err.fault (g.D.Disk.image c.args.disk.now) c.in-Err.ensures.never
 
 -- ---- it is not checked
 
-pub returns-then-not-checked-clause-started : goal.returns-then-not-checked-clause-started
-returns-then-not-checked-clause-started g c =
-    begins_unchecked c.args.checked c.in_ok-session.session.parts (g.D.Disk.image c.args.disk.now) c.if-not-checked.true c.in_ok-session.ensures.started
+pub returns-else-checked-clause-started : goal.returns-else-checked-clause-started
+returns-else-checked-clause-started g c =
+    begins_unchecked c.args.checked c.in-Ok.session.parts (g.D.Disk.image c.args.disk.now) c.if-checked.false c.in-Ok.ensures.started
 
--- ---- it fails its check
+-- ---- it is checked
 
-pub returns-in_err-check-clause-refused : goal.returns-in_err-check-clause-refused
-returns-in_err-check-clause-refused g c =
-    fails_refused c.args.checked c.in_ok-session.session.parts c.from_residual-in_err-check.result c.in_err-check.field-0.0 (g.D.Disk.image c.args.disk.now) (g.D.Disk.image c.begin.new.disk)
-    c.from_residual-in_err-check.ensures c.if-not-checked.false c.begin.ensures.disk.same_image c.in_ok-session.ensures.started c.in_err-check.ensures.fails
+pub returns-then-checked-clause-started : goal.returns-then-checked-clause-started
+returns-then-checked-clause-started g c =
+    checked_begins c.args.checked c.in-Ok.session c.checked.result (g.D.Disk.image c.args.disk.now) (g.D.Disk.image c.begin.new.disk)
+    c.checked.ensures.same c.begin.ensures.disk.same_image c.in-Ok.ensures.started c.checked.ensures.sound
 
-pub returns-in_err-check-clause-never : goal.returns-in_err-check-clause-never
-returns-in_err-check-clause-never g c =
-    fails_never c.law_images_are_opened.ensures c.law_standing_files_are_sound.ensures c.from_residual-in_err-check.result c.in_err-check.field-0.0 (g.D.Disk.image c.args.disk.now) (g.D.Disk.image c.begin.new.disk)
-    c.from_residual-in_err-check.ensures c.begin.ensures.disk.same_image c.in_err-check.ensures.fails
+pub returns-then-checked-clause-new : goal.returns-then-checked-clause-new
+returns-then-checked-clause-new g c =
+    checked_new c.args.limits c.in-Ok.session c.checked.result c.checked.ensures.same c.in-Ok.ensures.new
 
--- ---- it is sound
+pub returns-then-checked-clause-stands : goal.returns-then-checked-clause-stands
+returns-then-checked-clause-stands g c =
+    checked_stands c.args.limits c.in-Ok.session c.checked.result (g.D.Disk.image c.args.disk.now) c.checked.ensures.same c.in-Ok.ensures.stands
 
-pub returns-clause-started : goal.returns-clause-started
-returns-clause-started g c =
-    begins_sound c.args.checked c.in_ok-session.session.parts c.check.new.self.parts (g.D.Disk.image c.args.disk.now) (g.D.Disk.image c.begin.new.disk)
-    (ap (λ (s : SessionState). s.parts) c.check.ensures.same) c.begin.ensures.disk.same_image c.in_ok-session.ensures.started c.in_ok-check.ensures.sound
+pub returns-then-checked-clause-held : goal.returns-then-checked-clause-held
+returns-then-checked-clause-held g c =
+    checked_held c.in-Ok.session c.checked.result (g.D.Disk.image c.begin.new.disk) (g.D.Disk.image c.checked.new.disk)
+    c.checked.ensures.same c.checked.ensures.disk.same_image c.in-Ok.ensures.held
 
-pub returns-clause-stands : goal.returns-clause-stands
-returns-clause-stands g c =
-    stands_still c.args.limits c.in_ok-session.session.parts c.check.new.self.parts (g.D.Disk.image c.args.disk.now) (ap (λ (s : SessionState). s.parts) c.check.ensures.same) c.in_ok-session.ensures.stands
+pub returns-then-checked-clause-checked : goal.returns-then-checked-clause-checked
+returns-then-checked-clause-checked g c =
+    checked_standing _ c.law_sound_files_stand.ensures c.in-Ok.session c.checked.result (g.D.Disk.image c.args.disk.now) (g.D.Disk.image c.begin.new.disk)
+    c.begin.ensures.disk.same_image c.in-Ok.ensures.held c.checked.ensures.sound
 
-pub returns-clause-held : goal.returns-clause-held
-returns-clause-held g c =
-    held_still c.in_ok-session.session.parts c.check.new.self.parts (g.D.Disk.image c.begin.new.disk) (g.D.Disk.image c.check.new.disk)
-    (ap (λ (s : SessionState). s.parts) c.check.ensures.same) c.check.ensures.disk.same_image c.in_ok-session.ensures.held
+pub returns-then-checked-clause-takes : goal.returns-then-checked-clause-takes
+returns-then-checked-clause-takes g c = checked_takes _ c.args.checked c.checked.result c.if-checked.true
 
-pub returns-clause-checked : goal.returns-clause-checked
-returns-clause-checked g c = λ e.
-    stands_checked c.law_sound_files_stand.ensures c.in_ok-session.session.parts (g.D.Disk.image c.args.disk.now) (g.D.Disk.image c.begin.new.disk)
-    c.begin.ensures.disk.same_image c.in_ok-session.ensures.held c.in_ok-check.ensures.sound
+pub returns-then-checked-clause-refused : goal.returns-then-checked-clause-refused
+returns-then-checked-clause-refused g c =
+    checked_refused c.args.checked c.in-Ok.session c.checked.result (g.D.Disk.image c.args.disk.now) (g.D.Disk.image c.begin.new.disk)
+    c.if-checked.true c.begin.ensures.disk.same_image c.in-Ok.ensures.started c.checked.ensures.fails
+
+pub returns-then-checked-clause-never : goal.returns-then-checked-clause-never
+returns-then-checked-clause-never g c =
+    checked_never c.law_images_are_opened.ensures c.law_standing_files_are_sound.ensures c.checked.result (g.D.Disk.image c.args.disk.now) (g.D.Disk.image c.begin.new.disk)
+    c.begin.ensures.disk.same_image c.checked.ensures.fails

@@ -1,4 +1,4 @@
-use Rattle.std.proofs.Common.{◌≡◌, ℕ, List, [], Option, None, Err, refl, sym, ◌∙◌, ap, subst}
+use Rattle.std.proofs.Common.{◌≡◌, ℕ, List, [], Option, Err, refl, sym, ◌∙◌, ap, subst}
 use Rattle.dg_graph.specs.declared.element.Element.{Element}
 use Rattle.dg_machine.specs.declared.command.Command.TheVariants as command
 use Rattle.dg_machine.specs.declared.reply.Head.TheVariants as head
@@ -6,7 +6,6 @@ use Rattle.dg_machine.specs.declared.reply.Refusal.TheVariants as refusal
 use Rattle.dg_machine.specs.declared.reply.Reply.{Reply}
 use Rattle.dg_machine.specs.Answer.{headed}
 use Rattle.dg_machine.specs.Needs.{needs}
-use Rattle.dg_pool.specs.Graphs.{graph_now}
 use Rattle.dg_query.specs.Queries.{counts_of}
 use Rattle.dg_query.specs.declared.answers.Counts.{Counts}
 use Rattle.dg_session.specs.BatchCommand.{barred}
