@@ -1,8 +1,8 @@
 -- What an opening gives and why there is none, by the law of starts.
 use Rattle.std.proofs.Common.{◌≡◌, ◌⊎◌, inl, inr, ℕ, ◌+◌, Bool, true, false, if◌then◌else◌, add_assoc, List, [], Option, Some, None, Result, Ok, Err, length, refl, sym, ◌∙◌, ap, subst}
-use Rattle.std.specs.Prelude.{IfSome}
+use Rattle.std.specs.Prelude.{IfSome, MatchOption}
 use Rattle.dg_disk.specs.Counts.{raised_by}
-use Rattle.dg_file.specs.Index.{opening_bytes}
+use Rattle.dg_file.specs.Index.{IndexState, opening_bytes}
 use Rattle.dg_fold.specs.BytesRead.{Takes}
 use Rattle.dg_graph.specs.declared.element.Element.{Element}
 use Rattle.dg_graph.specs.declared.event.Event.{Event}
@@ -10,8 +10,9 @@ use Rattle.dg_history.specs.History.{History}
 use Rattle.dg_history.specs.declared.params.Params.{Params}
 use Rattle.dg_index.specs.ImageOfHistory.{IsImageOf, StandsAs, is_blank}
 use Rattle.dg_index.specs.ImageText.{params_in}
-use Rattle.dg_index.specs.OpenedIndex.{Unopened, No_index, Not_ours, Damaged_at, Opened, Opening, bare, opened_by, opened_of, opened_or, opening, read_on}
+use Rattle.dg_index.specs.OpenedIndex.{Unopened, No_index, Opened, Opening, bare, opened_by, opened_of, opened_or, opening, read_on}
 use Rattle.dg_index.proofs.OpenedHistories.{images_are_opened}
+use Rattle.dg_now.specs.Now.{NowState}
 use Rattle.dg_plan.specs.IndexGraph.{arcs_of}
 use Rattle.dg_plan.specs.Walks.{weight_of}
 use Rattle.dg_retrieval.specs.KeptGraph.{record_edges}
@@ -19,7 +20,7 @@ use Rattle.dg_retrieval.specs.NodeSets.{IsIndexOver}
 use Rattle.dg_start.specs.declared.fault.StartFault.{StartFault}
 use Rattle.dg_start.specs.declared.fault.StartFault.TheVariants as fault
 use Rattle.dg_start.specs.SessionStart.{PlansLastLeaf, RefusesStart, Started, Starts, StartsBy, recent_bytes, start_bytes}
-use Rattle.dg_start.specs.StoredHistory.{KeepsHistory, StartsAsItStands, started_with}
+use Rattle.dg_start.specs.StoredHistory.{AreCounted, IsSoundHistory, KeepsHistory, StartsAsItStands, started_with}
 use Rattle.dg_start.proofs.BytesTaken.{takes_both, takes_raised}
 use Rattle.dg_start.proofs.OpenedHistory.{behind}
 use Rattle.dg_start.proofs.Told.{if_told, of_told}
@@ -44,6 +45,24 @@ blank_is image h = by_test (is_blank image) refl h
 
 pub blank_starts : (image : List ℕ) → opening image ≡ Err No_index → Starts image (Ok None)
 blank_starts image h = subst (λ (r : Result Opened Unopened). StartsBy image r (Ok None)) (sym h) refl
+
+-- ---- what an opening finds
+
+-- what the image is opened as, where an index with these names was found, or none
+abbrev pub IsFound : Option IndexState → List (List ℕ) → List ℕ → Type 0
+IsFound found names image = MatchOption found (opening image ≡ Err No_index) (λ index. opening image ≡ Ok (record { index = index.opening; names = names }))
+
+pub none_found : (told : Option (List ℕ)) (found : Option IndexState) (names : List (List ℕ)) → found ≡ None → IfSome told (IsFound found names)
+    → IfSome told (λ image. opening image ≡ Err No_index)
+none_found told found names is h = subst (λ (f : Option IndexState). IfSome told (IsFound f names)) is h
+
+pub index_found : (told : Option (List ℕ)) (found : Option IndexState) (names : List (List ℕ)) (index : IndexState) → found ≡ Some index → IfSome told (IsFound found names)
+    → IfSome told (λ image. opening image ≡ Ok (record { index = index.opening; names = names }))
+index_found told found names index is h = subst (λ (f : Option IndexState). IfSome told (IsFound f names)) is h
+
+-- what is said of the index that was found
+pub of_index : (found : Option IndexState) (index : IndexState) (P : IndexState → Type 0) → found ≡ Some index → IfSome found P → P index
+of_index found index P is h = of_told found P index h is
 
 -- ---- by the law
 
@@ -72,6 +91,13 @@ module _ (law : StartsAsItStands) where
       let due = law z image stands (Ok (started_with index names graph recent)) (of_told told (λ image. Starts image (Ok (started_with index names graph recent))) image starts h) in
       keeps z index due.0 names due.1 graph due.2 recent due.3 (let e = due.4 in cc) none due.5)
 
+  -- a sound history, with which an image starts
+  pub keeps_sound : (told : Option (List ℕ)) (index : Option Opening) (names : List (List ℕ)) (now : NowState) (recent : List Event)
+      → IfSome told (λ image. Starts image (Ok (started_with index names now.graph recent))) → IsSoundHistory index names now recent
+      → IfSome told (λ image. (z : Option History) → StandsAs z image → KeepsHistory z index names now.graph recent)
+  keeps_sound told index names now recent starts sound =
+      keeps_history told index names now.graph recent starts (λ none. subst (λ (i : Option Opening). AreCounted i names now.graph recent) none sound.counted)
+
   -- an image that stands for a history, or for none, is not refused
   never : (z : Option History) (image : List ℕ) → StandsAs z image → (f : StartFault) → RefusesStart f image → (f ≡ fault.Disk) ⊎ (f ≡ fault.Memory)
   never z image stands fault.Disk h = inl refl
@@ -87,18 +113,6 @@ module _ (law : StartsAsItStands) where
   never_refused told f refused =
       if_told told (λ image. (z : Option History) → StandsAs z image → (f ≡ fault.Disk) ⊎ (f ≡ fault.Memory))
       (λ image h z stands. never z image stands f (of_told told (λ image. RefusesStart f image) image refused h))
-
--- ---- why an image is not opened
-
-pub foreign_refused : (told : Option (List ℕ)) → IfSome told (λ image. opening image ≡ Err Not_ours) → IfSome told (λ image. RefusesStart fault.Foreign image)
-foreign_refused told why =
-    if_told told (λ image. RefusesStart fault.Foreign image)
-    (λ image h. subst (λ (r : Result Opened Unopened). StartsBy image r (Err fault.Foreign)) (sym (of_told told (λ image. opening image ≡ Err Not_ours) image why h)) refl)
-
-pub damaged_refused : (told : Option (List ℕ)) (offset : ℕ) → IfSome told (λ image. opening image ≡ Err (Damaged_at offset)) → IfSome told (λ image. RefusesStart (fault.Damaged offset) image)
-damaged_refused told offset why =
-    if_told told (λ image. RefusesStart (fault.Damaged offset) image)
-    (λ image h. subst (λ (r : Result Opened Unopened). StartsBy image r (Err (fault.Damaged offset))) (sym (of_told told (λ image. opening image ≡ Err (Damaged_at offset)) image why h)) refl)
 
 -- ---- the bytes read
 

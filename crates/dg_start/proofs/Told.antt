@@ -1,6 +1,6 @@
 -- What is said of an image that a disk tells, and of what a call hands on.
 use Rattle.std.proofs.Common.{◌≡◌, ℕ, List, Option, Some, None, Result, Ok, Err, refl, sym, ◌∙◌, subst}
-use Rattle.std.specs.Prelude.{IfErr, IfSome, IsErr, IsErrAnd}
+use Rattle.std.specs.Prelude.{IfErr, IfSome, IsErr, IsErrAnd, OnOk}
 use Rattle.dg_index.specs.OpenedIndex.{Opening}
 use Rattle.dg_start.specs.Reading.{WhereTold}
 
@@ -15,6 +15,11 @@ if_told (Some y) P h = h y refl
 pub err_is : {A E : Type 0} (r : Result A E) (x : E) (P : E → Type 0) → IsErr r × IsErrAnd r (λ y. y ≡ x) → P x → IfErr r P
 err_is (Ok a) x P h p = tt
 err_is (Err e) x P h p = subst P (sym h.1) p
+
+-- a fact that holds however the call went
+pub on_ok : {A E : Type 0} (r : Result A E) (P : Type 0) → P → OnOk r P
+on_ok (Ok a) P p = p
+on_ok (Err e) P p = tt
 
 -- a fact of an image that is told
 pub told_weaker : (old new : Option (List ℕ)) (P Q : List ℕ → Type 0) → new ≡ old → ((x : List ℕ) → P x → Q x) → IfSome old P → IfSome new Q

@@ -1,18 +1,20 @@
 //! Opening an index file.
 
-ghost use Rattle.std.specs.Prelude.{◌≡◌, ◌⊎◌, ◌+◌, ℕ, List, [], Ok, Option, None, Some, IfErr, IfOk, IfSome, IsErrOf, OnOk, length};
+ghost use Rattle.std.specs.Prelude.{◌≡◌, ◌⊎◌, ◌+◌, ℕ, List, [], Ok, Err, Option, None, Some, IfErr, IfOk, IfSome, IsErrOf, MatchOption, OnOk, length};
 ghost use Rattle.std.specs.Fn.{FnOnceReturnsAt};
 ghost use Rattle.std.specs.List.{All};
 ghost use Rattle.dg_columns.specs.NamesInRange.{NamesFit};
-ghost use Rattle.dg_disk.specs.Counts.{Rose};
+ghost use Rattle.dg_disk.specs.Counts.{Rose, raised_by};
 ghost use Rattle.dg_disk.specs.Frame.{OnlyReads, ReadsAndSyncs};
+ghost use Rattle.dg_file.specs.Index.{opening_bytes};
 ghost use Rattle.dg_fold.specs.BytesRead.{Takes};
 ghost use Rattle.dg_history.specs.History.{History};
 ghost use Rattle.dg_index.specs.ImageOfHistory.{IsImageOf, StandsAs};
 ghost use Rattle.dg_graph.specs.declared.element.Element.{Element};
 ghost use Rattle.dg_graph.specs.declared.event.Event.{Event};
 ghost use Rattle.dg_graph.specs.Replay.{replay_from};
-ghost use Rattle.dg_index.specs.OpenedIndex.{opened_of, opening};
+ghost use Rattle.dg_index.specs.IndexGrowth.{name_total};
+ghost use Rattle.dg_index.specs.OpenedIndex.{No_index, opened_of, opening};
 ghost use Rattle.dg_plan.specs.IndexGraph.{arcs_of};
 ghost use Rattle.dg_plan.specs.Walks.{weight_of};
 ghost use Rattle.dg_retrieval.specs.KeptGraph.{record_edges};
@@ -109,6 +111,74 @@ fn blank<T, F: FnOnce(&Set) -> T>(alloc: Global, make: F) -> OpenedFile<T>
     }
 }
 
+// The index that the disk has, and none where there is no index. Fills `names` with the names of its batches.
+fn reopen<D: Disk>(
+    alloc: Global,
+    disk: &mut D,
+    names: &mut Names,
+) -> Result<Option<Index>, StartFault>
+    requires names { names.old ≡ [] }
+    ensures opened { IfOk result (λ found. IfSome (D.image disk.old) (λ image.
+        MatchOption found (opening image ≡ Err No_index) (λ index. opening image ≡ Ok (record { index = index.opening; names = names.new })))) }
+    ensures counted_names { IfOk result (λ found. IfSome found (λ index. length names.new ≡ name_total index.opening.batches)) }
+    ensures taken { IfOk result (λ found. IfSome found (λ index. D.taken disk.new ≡ raised_by (opening_bytes index.opening) (D.taken disk.old))) }
+    // why there is none
+    ensures refused { IfErr result (λ fault. IfSome (D.image disk.old) (λ image. RefusesStart fault image)) }
+    ensures cause { IsErrOf result StartFault.Disk → Rose (D.faults disk.old) (D.faults disk.new) }
+    // what it leaves
+    ensures disk { ReadsAndSyncs D.image D.faults D.write_faults disk.old disk.new }
+{
+    match Index::reopen(alloc, disk, names) {
+        Ok(index) => Ok(Some(index)),
+        Err(ReopenFault::Blank) => Ok(None),
+        Err(ReopenFault::Foreign) => Err(StartFault::Foreign),
+        Err(ReopenFault::Damaged(offset)) => Err(StartFault::Damaged(offset)),
+        Err(ReopenFault::Disk) => Err(StartFault::Disk),
+        Err(ReopenFault::Memory) => Err(StartFault::Memory),
+    }
+}
+
+// Starts over an index with these names.
+fn open_index<R: Threads + Sync, D: Disk, T: Drop, F: FnOnce(&Set) -> T>(
+    rt: &R,
+    alloc: Global,
+    disk: &mut D,
+    mut index: Index,
+    names: Names,
+    make: F,
+) -> Result<OpenedFile<T>, StartFault>
+    requires make { F.IsAlwaysCallable make }
+    requires image { IfSome (D.image disk.old) (λ image. opening image ≡ Ok (record { index = index.opening; names = names })) }
+    requires counted_names { length names ≡ name_total index.opening.batches }
+    // the history
+    ensures started { IfOk result (λ opened. IfSome (D.image disk.old) (λ image.
+        Starts image (Ok (started_with (index_opening opened.history.index) opened.history.names opened.history.now.graph opened.history.recent.items)))) }
+    ensures made { IfOk result (λ opened. (set : List Element) × FnOnceReturnsAt F.FnOnce make set opened.made
+        × (opened.history.now.graph ≡ replay_from set opened.history.recent.items)) }
+    ensures sound { IfOk result (λ opened. IsSoundHistory (index_opening opened.history.index) opened.history.names opened.history.now opened.history.recent.items) }
+    ensures held { IfOk result (λ opened. IfSome (D.image disk.new) (λ image. IsHeldBy (index_opening opened.history.index) opened.history.names image)) }
+    // the bytes read, over an image of a history
+    ensures takes { OnOk result (IfSome (D.image disk.old) (λ image. (z : History) → IsIndexOver z image index.opening (length names)
+        → (steps : List ℕ) → PlansLastLeaf index.opening steps
+        → Takes (recent_bytes index.opening + weight_of (arcs_of (record_edges index.opening)) steps) (D.taken disk.old) (D.taken disk.new))) }
+    // why there is none
+    ensures refused { IfErr result (λ fault. IfSome (D.image disk.old) (λ image. RefusesStart fault image)) }
+    ensures cause { IsErrOf result StartFault.Disk → Rose (D.faults disk.old) (D.faults disk.new) }
+    // what it leaves
+    ensures disk { OnlyReads D.image D.faults D.write_faults disk.old disk.new }
+{
+    let Current { now, recent, made } = read_current(rt, alloc, &mut index, disk, &names, make)?;
+    Ok(OpenedFile {
+        history: StoredHistory {
+            index: Some(index),
+            names,
+            now,
+            recent,
+        },
+        made,
+    })
+}
+
 /// Opens the index over the disk, if there is one: reads its recent events, composes the records along the plan of
 /// its last leaf, makes something of the graph that they come to, and takes that graph past the recent events, each of
 /// which some change comes to. Nothing else is read. The current graph keeps the graph of the last leaf, which is
@@ -149,22 +219,9 @@ pub fn open<R: Threads + Sync, D: Disk, T: Drop, F: FnOnce(&Set) -> T>(
 {
     law_images_start_as_they_stand();
     let mut names = Names::new(alloc);
-    let mut index = match Index::reopen(alloc, disk, &mut names) {
-        Ok(index) => index,
-        Err(ReopenFault::Blank) => return Ok(blank(alloc, make)),
-        Err(ReopenFault::Foreign) => return Err(StartFault::Foreign),
-        Err(ReopenFault::Damaged(offset)) => return Err(StartFault::Damaged(offset)),
-        Err(ReopenFault::Disk) => return Err(StartFault::Disk),
-        Err(ReopenFault::Memory) => return Err(StartFault::Memory),
+    let Some(index) = reopen(alloc, disk, &mut names)? else {
+        return Ok(blank(alloc, make));
     };
-    let Current { now, recent, made } = read_current(rt, alloc, &mut index, disk, &names, make)?;
-    Ok(OpenedFile {
-        history: StoredHistory {
-            index: Some(index),
-            names,
-            now,
-            recent,
-        },
-        made,
-    })
+    let opened = open_index(rt, alloc, disk, index, names, make)?;
+    Ok(opened)
 }

@@ -1,6 +1,6 @@
 ghost use Rattle.std.specs.Prelude.{◌≡◌, IfOk, false};
 ghost use Rattle.clap.specs.Words.{app_of, rule_of};
-ghost use Rattle.dg_words.specs.WrittenForm.{checked_rule, form, index_rule};
+ghost use Rattle.dg_words.specs.WrittenForm.{bare_program, checked_rule, form, index_rule};
 
 use clap::{Arg, ArgAction, Command, value_parser};
 use std::alloc::{AllocError, Global};
@@ -19,11 +19,17 @@ const PROGRAM: &str = "deltagraph";
 pub fn command<'a>(alloc: Global) -> Result<Command<'a>, AllocError>
     ensures shape { IfOk result (λ command. app_of command ≡ form) }
 {
-    let bare = Command::new(alloc, PROGRAM)
+    program(alloc).arg(index(alloc))?.arg(checked(alloc))
+}
+
+// The program, whose words begin after its name, with neither help nor version.
+fn program<'a>(alloc: Global) -> Command<'a>
+    ensures shape { app_of result ≡ bare_program }
+{
+    Command::new(alloc, PROGRAM)
         .no_binary_name(true)
         .disable_help_flag(true)
-        .disable_version_flag(true);
-    bare.arg(index(alloc))?.arg(checked(alloc))
+        .disable_version_flag(true)
 }
 
 // `INDEX`, one word that has to be there.
