@@ -1,6 +1,6 @@
 -- What is read of a record has numbers of names that can be spelled, as many events as are due, and times that do not fall.
-use Rattle.std.proofs.Common.{◌≡◌, ℕ, zero, suc, ◌+◌, ◌<◌, ◌≤◌, ◌^◌, Bool, true, false, List, [], ◌∷◌, ◌++◌, Option, Some, None, Result, Ok, Err, if◌then◌else◌, length, map, find, refl, sym, ◌∙◌, ap, subst, arith}
-use Rattle.std.specs.Prelude.{IfErr, IfOk, IfSome, ◌==◌, ◌&&◌, is_some, nat_le, option_and_then}
+use Rattle.std.proofs.Common.{◌≡◌, ℕ, zero, suc, ◌+◌, ◌<◌, ◌≤◌, ◌^◌, Bool, true, false, List, [], ◌∷◌, ◌++◌, Option, Some, None, if◌then◌else◌, length, map, find, refl, ap, subst, arith}
+use Rattle.std.specs.Prelude.{IfSome, ◌==◌, ◌&&◌, is_some, nat_le, option_and_then}
 use Rattle.std.specs.List.{All}
 use Rattle.std.specs.Option.{option_map}
 use Rattle.std.proofs.lemmas.List.Elements.{All-nil, All-cons, All-head, All-tail, All-append}
@@ -14,15 +14,10 @@ use Rattle.dg_graph.specs.declared.event.Body.TheVariants as body
 use Rattle.dg_graph.specs.declared.event.Event.{Event}
 use Rattle.dg_graph.specs.declared.placed.Placed.{Placed}
 use Rattle.dg_graph.specs.declared.element.Column.{Column}
-use Rattle.dg_graph.specs.declared.element.Column.TheVariants as column
 use Rattle.dg_history.specs.declared.node.Key.{Key}
 use Rattle.dg_history.specs.Keys.{same_key}
 use Rattle.dg_index.specs.declared.entry.Entry.{Entry}
 use Rattle.dg_index.specs.OpenedIndex.{Opening, column_at, entry_at, entry_or_none}
-use Rattle.dg_start.specs.declared.fault.StartFault.{StartFault}
-use Rattle.dg_start.specs.Reading.{WhereTold}
-use Rattle.dg_start.specs.RecentReading.{Source, and_start, events_in_source, merged_or_fault, placed_in_record}
-use Rattle.dg_start.specs.Refusals.{IsReason}
 use Rattle.dg_graph.specs.ColumnMerge.{at_positions, if_never_fall, merged, never_fall}
 
 abbrev pub PlacedFits : Placed → Type 0
@@ -131,40 +126,3 @@ column_there image bytes o k col held is = by (lookup (same_key k) o.records) he
     by : (e : Option Entry) → is_some e ≡ true → IfSome e (λ e. bytes ≡ column_at image e col) → bytes ≡ column_at image (entry_or_none e) col
     by None h is = cc
     by (Some e) h is = is
-
--- ---- the columns of a record together
-
--- what a column was read as, in an image and an index that were not changed
-pub column_read : (now told : Option (List ℕ)) (p o : Opening) (names : ℕ) (k : Key) (col : Column) (placed slice : List Placed) → now ≡ told → p ≡ o → slice ≡ placed
-    → WhereTold now (λ image. placed_in_record image names p k col ≡ Ok placed) → WhereTold told (λ image. placed_in_record image names o k col ≡ Ok slice)
-column_read now told p o names k col placed slice same_image same is h image here =
-    subst (λ (ps : List Placed). placed_in_record image names o k col ≡ Ok ps) (sym is)
-    (subst (λ (q : Opening). placed_in_record image names q k col ≡ Ok placed) same (h image (same_image ∙ here)))
-
-module _ (told : Option (List ℕ)) (names : ℕ) (o : Opening) (s : Source) (a b c : List Placed)
-    (read_a : WhereTold told (λ image. placed_in_record image names o s.key column.Structure ≡ Ok a))
-    (read_b : WhereTold told (λ image. placed_in_record image names o s.key column.NodeAttr ≡ Ok b))
-    (read_c : WhereTold told (λ image. placed_in_record image names o s.key column.EdgeAttr ≡ Ok c)) where
-  abbrev by_edges : List Placed → List Placed → Result (List Placed) StartFault → Result (List Event) StartFault
-  by_edges x y r = and_start r (λ z. merged_or_fault s.key (merged x y z s.count))
-
-  abbrev by_nodes : List ℕ → List Placed → Result (List Placed) StartFault → Result (List Event) StartFault
-  by_nodes image x r = and_start r (λ y. by_edges x y (placed_in_record image names o s.key column.EdgeAttr))
-
-  abbrev by_structure : List ℕ → Result (List Placed) StartFault → Result (List Event) StartFault
-  by_structure image r = and_start r (λ x. by_nodes image x (placed_in_record image names o s.key column.NodeAttr))
-
-  columns_together : (image : List ℕ) → told ≡ Some image → events_in_source image names o s ≡ merged_or_fault s.key (merged a b c s.count)
-  columns_together image h = ap (by_structure image) (read_a image h) ∙ ap (by_nodes image a) (read_b image h) ∙ ap (by_edges a b) (read_c image h)
-
-  -- the events that the columns come together to
-  pub source_merged : {V : Type 0} (items : V → List Event) (r : Result V StartFault) → IfOk r (λ v. merged a b c s.count ≡ Some (items v))
-      → IfOk r (λ v. WhereTold told (λ image. events_in_source image names o s ≡ Ok (items v)))
-  source_merged items (Ok v) is = λ image h. columns_together image h ∙ ap (merged_or_fault s.key) is
-  source_merged items (Err f) is = tt
-
-  -- why they come to none
-  pub source_not_merged : {V : Type 0} (r : Result V StartFault) → IfErr r (λ f. IsReason f (merged_or_fault s.key (merged a b c s.count)))
-      → IfErr r (λ f. WhereTold told (λ image. IsReason f (events_in_source image names o s)))
-  source_not_merged (Ok v) is = tt
-  source_not_merged (Err f) is = λ image h. subst (λ (due : Result (List Event) StartFault). IsReason f due) (sym (columns_together image h)) is

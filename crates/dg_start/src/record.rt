@@ -1,6 +1,6 @@
 //! Reading the events of a record of an index.
 
-ghost use Rattle.std.specs.Prelude.{◌≡◌, ◌≤◌, ◌<◌, ◌^◌, Ok, Some, IfOk, IfErr, IfSome, IsErrOf, OnOk, List, length, is_some, true};
+ghost use Rattle.std.specs.Prelude.{◌≡◌, ◌≤◌, Ok, IfOk, IfErr, IfSome, IsErrOf, OnOk, List, length, is_some, true};
 ghost use Rattle.std.specs.List.{All};
 ghost use Rattle.std.specs.Map.{lookup};
 ghost use Rattle.dg_build.specs.SpelledRecords.{RisesFrom};
@@ -12,10 +12,9 @@ ghost use Rattle.dg_fold.specs.BytesRead.{Takes, asked_length, kept_in};
 ghost use Rattle.dg_graph.specs.declared.event.Event.{Event};
 ghost use Rattle.dg_graph.specs.declared.limits.TheConstants.{NAMES_MAX};
 ghost use Rattle.dg_graph.specs.declared.placed.Placed.{Placed};
-ghost use Rattle.dg_graph.specs.ColumnMerge.{merged};
 ghost use Rattle.dg_history.specs.Keys.{same_key};
 ghost use Rattle.dg_plan.specs.HistoryGraph.{all_columns};
-ghost use Rattle.dg_start.specs.RecentReading.{events_in_source, merged_or_fault, placed_in_record};
+ghost use Rattle.dg_start.specs.RecentReading.{events_in_source, placed_in_record};
 ghost use Rattle.dg_start.specs.Reading.{CanBeRead, WhereTold, source_of};
 ghost use Rattle.dg_start.specs.Refusals.{IsReason};
 
@@ -60,34 +59,6 @@ fn read_column<D: Disk>(
     }
 }
 
-// So many events of a record, from its three columns. `StartFault::BadRecord` for structure where these do not come
-// together, `StartFault::Memory` for want of memory.
-fn merge_columns(
-    alloc: Global,
-    key: Key,
-    count: u64,
-    structure: &[Placed],
-    node_attrs: &[Placed],
-    edge_attrs: &[Placed],
-) -> Result<Vec<Event>, StartFault>
-    requires few { count < 2 ^ 32 }
-    requires structure_fits { All (λ (p : Placed). NamesFit p.event.body) structure.now }
-    requires node_attrs_fit { All (λ (p : Placed). NamesFit p.event.body) node_attrs.now }
-    requires edge_attrs_fit { All (λ (p : Placed). NamesFit p.event.body) edge_attrs.now }
-    ensures merged { IfOk result (λ events. merged structure.now node_attrs.now edge_attrs.now count ≡ Some events.items) }
-    ensures fit { IfOk result (λ events. All (λ (e : Event). NamesFit e.body) events.items) }
-    ensures many { IfOk result (λ events. length events.items ≡ count) }
-    ensures rises { IfOk result (λ events. RisesFrom 0 events.items) }
-    ensures refused { IfErr result (λ fault. IsReason fault (merged_or_fault key (merged structure.now node_attrs.now edge_attrs.now count))) }
-    ensures no_disk { IsErrOf result StartFault.Disk → ⊥ }
-{
-    match merge(alloc, structure, node_attrs, edge_attrs, count as u32) {
-        Ok(events) => Ok(events),
-        Err(MergeFault::Places) => Err(StartFault::BadRecord(key, Column::Structure)),
-        Err(MergeFault::Memory) => Err(StartFault::Memory),
-    }
-}
-
 /// The events of a record of an index that has so many names.
 ///
 /// `StartFault::BadRecord` for the first column that no events are spelled as, or for structure where
@@ -121,5 +92,9 @@ pub fn read_record<D: Disk>(
     let structure = read_column(alloc, index, disk, names, key, Column::Structure)?;
     let node_attrs = read_column(alloc, index, disk, names, key, Column::NodeAttr)?;
     let edge_attrs = read_column(alloc, index, disk, names, key, Column::EdgeAttr)?;
-    merge_columns(alloc, key, count, &structure, &node_attrs, &edge_attrs)
+    match merge(alloc, &structure, &node_attrs, &edge_attrs, count as u32) {
+        Ok(events) => Ok(events),
+        Err(MergeFault::Places) => Err(StartFault::BadRecord(key, Column::Structure)),
+        Err(MergeFault::Memory) => Err(StartFault::Memory),
+    }
 }
