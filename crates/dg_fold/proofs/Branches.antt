@@ -6,7 +6,6 @@ use Rattle.dg_graph.specs.declared.event.Event.{Event}
 use Rattle.dg_history.specs.declared.node.NodeId.{NodeId}
 use Rattle.std.proofs.lemmas.List.Elements.{All-append, All-push, All-nil, All-cons, All-head, All-tail}
 use Rattle.dg_history.specs.declared.node.NodeId.TheVariants.{Root}
-use Rattle.dg_graph.specs.Composition.{Delta, says}
 use Rattle.dg_plan.specs.declared.edge.Edge.{Edge}
 use Rattle.dg_fold.specs.declared.part.Part.{Part}
 use Rattle.dg_fold.specs.Steps.{PartedStep, paired, names_record}

@@ -1,9 +1,5 @@
-use Rattle.std.proofs.Common.{◌≡◌, map, sym, subst, ◌∙◌}
-use Rattle.dg_history.specs.declared.node.NodeId.{NodeId}
 use Rattle.dg_fold.specs.Steps.{paired}
 use Rattle.dg_fold.specs.Trees.{all_edges}
-use Rattle.dg_fold.specs.TreeSteps.{step_edges}
-use Rattle.dg_fold.specs.declared.tree.Branch.{Branch}
 use Rattle.dg_fold.proofs.Branches.{stepped_edges, to_led}
 use Rattle.dg_fold.proofs.Steps.{done_in}
 use Rattle.dg_fold.proofs.tree.compose_paths.Goals as goal
