@@ -1,4 +1,4 @@
-use Rattle.std.proofs.Common.{◌≡◌, ℕ, ◌+◌, ◌<◌, List, [], ◌∷◌, ◌++◌, length, take, sym, ap, subst, ◌∙◌, arith}
+use Rattle.std.proofs.Common.{false, ◌≡◌, ℕ, map, ◌+◌, ◌<◌, List, [], ◌∷◌, ◌++◌, length, take, sym, ap, subst, ◌∙◌, arith}
 use Rattle.std.specs.Prelude.{slice_index_or}
 use Rattle.std.specs.List.{Contains}
 use Rattle.std.proofs.lemmas.List.{length-take, map-append, take_more}
@@ -9,7 +9,7 @@ use Rattle.dg_plan.specs.EnteredRecords.{EntersOnce}
 use Rattle.dg_plan.specs.IndexGraph.{arcs_of}
 use Rattle.dg_plan.specs.Walks.{Graft, IsPlan, Leads, entered, steps_of, tree_weight}
 use Rattle.dg_plan.proofs.Trees.{tree_grows}
-use Rattle.dg_path.specs.Search.{Falls, CostsFit, IsTable, arcs, label_at}
+use Rattle.dg_path.specs.Search.{AreAdjacent, AreLinks, Falls, CostsFit, IsTable, arcs, label_at}
 use Rattle.dg_planner.specs.Order.{bare_ground, place_of}
 use Rattle.dg_planner.specs.Trees.{costs_now, node_graft, node_grafts}
 use Rattle.dg_planner.specs.Whole.{PlannerGraph}
@@ -150,3 +150,39 @@ returns-clause-once c =
     let grafts = node_grafts c.loop-i.grafts.items in
     subst (λ (s : PlannerGraph). EntersOnce s.edges (steps_of grafts)) c.self.view_is
     (c.self.invariant.once (Root ∷ []) (steps_of grafts) (tree_grows (arcs_of c.self.inside.edges.items) (Root ∷ []) (take c.loop-i.i c.args.targets.now) grafts inv.tree))
+
+pub graft_at-requires-clause-links : goal.graft_at-requires-clause-links
+graft_at-requires-clause-links c =
+    let g = bare_ground c.self.inside.form.leaves c.self.inside.form.arity c.self.inside.form.memory in
+    let links = c.self.inside.links.items in
+    let ready = c.loop-i.invariant.1 c.loop-i-test.true in
+    let now = costs_now c.self.inside.costs.items c.loop-i.grown.items in
+    let costs : c.costs_now-costs.result.now ≡ now =
+    c.costs_now-costs.ensures ∙ (λ k. costs_now (c.deref-in-loop-i.ensures.value k) (c.deref-in-loop-i-2.ensures.value k)) in
+    let len : length c.self.inside.costs.items ≡ length c.costs_now-costs.result.now = c.self.invariant.count ∙ (sym ready.count ∙ sym (ap length costs)) in
+    subst (λ ls. AreLinks ls (length c.costs_now-costs.result.now)) (sym c.deref-in-loop-i-4.ensures.value) (subst (AreLinks links) len c.self.invariant.links_are)
+
+pub graft_at-requires-clause-chained : goal.graft_at-requires-clause-chained
+graft_at-requires-clause-chained c =
+    let g = bare_ground c.self.inside.form.leaves c.self.inside.form.arity c.self.inside.form.memory in
+    let links = c.self.inside.links.items in
+    let ready = c.loop-i.invariant.1 c.loop-i-test.true in
+    let now = costs_now c.self.inside.costs.items c.loop-i.grown.items in
+    let costs : c.costs_now-costs.result.now ≡ now =
+    c.costs_now-costs.ensures ∙ (λ k. costs_now (c.deref-in-loop-i.ensures.value k) (c.deref-in-loop-i-2.ensures.value k)) in
+    let len : length c.self.inside.costs.items ≡ length c.costs_now-costs.result.now = c.self.invariant.count ∙ (sym ready.count ∙ sym (ap length costs)) in
+    let ins = c.self.inside.ins in
+    subst (λ ls. AreAdjacent false ls ins.first.items ins.next.items (length c.costs_now-costs.result.now)) (sym c.deref-in-loop-i-4.ensures.value)
+    (subst (AreAdjacent false links ins.first.items ins.next.items) len c.self.invariant.in_chains)
+
+pub graft_at-requires-clause-table : goal.graft_at-requires-clause-table
+graft_at-requires-clause-table c =
+    let g = bare_ground c.self.inside.form.leaves c.self.inside.form.arity c.self.inside.form.memory in
+    let links = c.self.inside.links.items in
+    let ready = c.loop-i.invariant.1 c.loop-i-test.true in
+    let now = costs_now c.self.inside.costs.items c.loop-i.grown.items in
+    let costs : c.costs_now-costs.result.now ≡ now =
+    c.costs_now-costs.ensures ∙ (λ k. costs_now (c.deref-in-loop-i.ensures.value k) (c.deref-in-loop-i-2.ensures.value k)) in
+    let len : length c.self.inside.costs.items ≡ length c.costs_now-costs.result.now = c.self.invariant.count ∙ (sym ready.count ∙ sym (ap length costs)) in
+    let from = map (place_of g) ((Root ∷ []) ++ entered (arcs_of c.self.inside.edges.items) (steps_of (node_grafts c.loop-i.grafts.items))) in
+    (from, subst (λ ls. IsTable (arcs ls) from c.costs_now-costs.result.now) (sym c.deref-in-loop-i-4.ensures.value) (subst (IsTable (arcs links) from) (sym costs) ready.table))
