@@ -6,7 +6,6 @@ use Rattle.dg_graph.specs.declared.event.Event.{Event}
 use Rattle.dg_history.specs.declared.node.NodeId.{NodeId}
 use Rattle.std.proofs.lemmas.List.Elements.{All-append, All-push, All-nil, All-cons, All-head, All-tail}
 use Rattle.dg_history.specs.declared.node.NodeId.TheVariants.{Root}
-use Rattle.dg_graph.specs.Composition.{Delta, says}
 use Rattle.dg_plan.specs.declared.edge.Edge.{Edge}
 use Rattle.dg_fold.specs.declared.part.Part.{Part}
 use Rattle.dg_fold.specs.Steps.{PartedStep, paired, names_record}
@@ -149,7 +148,7 @@ module _ (steps : List Stepped) (wanted : List NodeId) (branches : List Branch) 
     }
 
 -- the edges of steps that have their deltas
-stepped_edges : (names : ℕ) (recent : List Event) (edges : List Edge) (parts : List Part) (steps : List Stepped) → AreStepped names recent (paired edges parts) steps → step_edges steps ≡ edges
+pub stepped_edges : (names : ℕ) (recent : List Event) (edges : List Edge) (parts : List Part) (steps : List Stepped) → AreStepped names recent (paired edges parts) steps → step_edges steps ≡ edges
 stepped_edges names recent [] parts [] h = refl
 stepped_edges names recent [] parts (s ∷ steps) h = absurd h
 stepped_edges names recent (e ∷ edges) parts steps h =
@@ -174,24 +173,31 @@ none_enters (t ∷ steps) h s (inl is) (inl root) =
 none_enters (t ∷ steps) h s (inr there) (inl root) =
     none_enters steps (All-tail (λ (e : Edge). e.to ≢ Root) t.edge (step_edges steps) h) s there (inl root)
 
+-- what is known at first: Root alone
+abbrev pub only_root : List Known
+only_root = record { node = Root; begun = Root; delta = record { minus = []; plus = [] } } ∷ []
+
+root_reached : (steps : List Stepped) → AreReached steps only_root
+root_reached steps = All-cons (λ (x : Known). Reached steps x.node x.begun x.delta) _ [] ([], Begins, refl, λ x. refl) (All-nil (λ (x : Known). Reached steps x.node x.begun x.delta))
+
 -- nothing was gone along yet
-pub through_none : (names : ℕ) (recent : List Event) (wanted : List NodeId) (branches : List Branch) (edges : List Edge) (parts : List Part) (steps : List Stepped) (known ends : List Known)
-    → AreStepped names recent (paired edges parts) steps → edges ≡ all_edges branches → ends ≡ [] → AreReached steps known → IsNodeKnown Root known → Grow [] branches
+pub through_none : (wanted : List NodeId) (branches : List Branch) (steps : List Stepped) (known ends : List Known)
+    → step_edges steps ≡ all_edges branches → ends ≡ [] → known ≡ only_root → Grow [] branches
     → All (λ (e : Edge). e.to ≢ Root) (all_edges branches) → Through steps wanted branches 0 steps known ends
-through_none names recent wanted branches edges parts steps known ends h is none reached root grow on = record {
-  on = none_enters steps (subst (All (λ (e : Edge). e.to ≢ Root)) (sym (stepped_edges names recent edges parts steps h ∙ is)) on);
-  root = root;
+through_none wanted branches steps known ends is none root grow on = record {
+  on = none_enters steps (subst (All (λ (e : Edge). e.to ≢ Root)) (sym is) on);
+  root = subst (IsNodeKnown Root) (sym root) (inl refl);
   done = [];
   heads = λ e among one. absurd among;
   grow = grow;
   among = λ s e. e;
-  edges = stepped_edges names recent edges parts steps h ∙ is;
-  reached = reached;
+  edges = is;
+  reached = subst (AreReached steps) (sym root) (root_reached steps);
   ended = subst (AreReached steps) (sym none) (All-nil (λ (x : Known). Reached steps x.node x.begun x.delta));
   targets = ap (map (λ (k : Known). k.node)) none;
 }
 
-to_led : (names : ℕ) (recent : List Event) (all : List PartedStep) (steps : List Stepped) → AreStepped names recent all steps → (branches : List Branch) (ends : List Known)
+pub to_led : (names : ℕ) (recent : List Event) (all : List PartedStep) (steps : List Stepped) → AreStepped names recent all steps → (branches : List Branch) (ends : List Known)
     → AreReached steps ends → map (λ (k : Known). k.node) ends ≡ map (λ (b : Branch). b.to) branches → AreLed names recent all branches ends
 to_led names recent all steps h [] [] r to = tt
 to_led names recent all steps h [] (k ∷ ends) r to = absurd (let n = ap length to in omega arith)
@@ -203,22 +209,7 @@ to_led names recent all steps h (b ∷ branches) (k ∷ ends) r to =
       to_led names recent all steps h branches ends (All-tail (λ (x : Known). Reached steps x.node x.begun x.delta) k ends r) rest,
     )
 
-pub through_all : (names : ℕ) (recent : List Event) (wanted : List NodeId) (branches : List Branch) (edges : List Edge) (parts : List Part) (steps rest : List Stepped) (known ends : List Known) (i : ℕ)
-    → AreStepped names recent (paired edges parts) steps → edges ≡ all_edges branches → length branches ≡ i → Through steps wanted branches i rest known ends
-    → AreLed names recent (paired (all_edges branches) parts) branches ends
-through_all names recent wanted branches edges parts steps rest known ends i h is end g =
-    to_led names recent (paired (all_edges branches) parts) steps (subst (λ l. AreStepped names recent (paired l parts) steps) is h) branches ends
-    g.ended (g.targets ∙ ap (map (λ (b : Branch). b.to)) (take_all i branches (omega arith)))
-
--- Root is known from the start
-pub root_known : (steps : List Stepped) (old new : List Known) (d : Delta) → d ≡ record { minus = []; plus = [] } → old ≡ [] → new ≡ old ++ record { node = Root; begun = Root; delta = d } ∷ []
-    → AreReached steps new
-root_known steps old new d is none grown =
-    let k : Known = record { node = Root; begun = Root; delta = d } in
-    subst (AreReached steps) (sym (grown ∙ ap (λ l. l ++ k ∷ []) none))
-    (All-cons (λ (x : Known). Reached steps x.node x.begun x.delta) k [] ([], Begins, refl, λ x. ap (λ z. says z x) is) (All-nil (λ (x : Known). Reached steps x.node x.begun x.delta)))
-
-pub root_there : (old new : List Known) (d : Delta) → old ≡ [] → new ≡ old ++ record { node = Root; begun = Root; delta = d } ∷ [] → IsNodeKnown Root new
-root_there old new d none grown =
-    let k : Known = record { node = Root; begun = Root; delta = d } in
-    subst (IsNodeKnown Root) (sym (grown ∙ ap (λ l. l ++ k ∷ []) none)) (inl refl)
+-- the branches have all been gone along
+pub all_targets : (steps : List Stepped) (wanted : List NodeId) (branches : List Branch) (i : ℕ) (rest : List Stepped) (known ends : List Known)
+    → Through steps wanted branches i rest known ends → length branches ≤ i → map (λ (k : Known). k.node) ends ≡ map (λ (b : Branch). b.to) branches
+all_targets steps wanted branches i rest known ends g end = g.targets ∙ ap (map (λ (b : Branch). b.to)) (take_all i branches end)

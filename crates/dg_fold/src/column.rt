@@ -1,7 +1,7 @@
 //! The delta of a part, column by column.
 
 ghost use Rattle.std.specs.Prelude.{◌≡◌, true, false, map, ℕ, Option, Ok, Err, IfOk, IfErr};
-ghost use Rattle.dg_columns.specs.ReadFits.{IsIn};
+ghost use Rattle.dg_columns.specs.ReadFits.{IsIn, joined_columns};
 ghost use Rattle.dg_graph.specs.declared.element.Column.{Column};
 ghost use Rattle.dg_graph.specs.declared.placed.Placed.{Placed};
 ghost use Rattle.dg_index.specs.IndexRecords.{Exact};
@@ -131,7 +131,41 @@ fn exact_column(alloc: Global, names: u32, part: &Part, col: Column) -> Result<D
     }
 }
 
-// The delta of the part, which holds a delta: its columns follow one another, and no element is compared.
+// The attributes' columns of a part that holds a delta.
+#[derive(Drop)]
+struct Attributes {
+    node_attr: Delta,
+    edge_attr: Delta,
+}
+
+// The deltas that the attributes' columns of the part spell, which holds a delta.
+fn exact_attributes(alloc: Global, names: u32, part: &Part) -> Result<Attributes, FoldFault>
+    requires { is_events part.now.key ≡ false }
+    ensures node_attr { IfOk result (λ a. (way : Way) (until : Option ℕ) → part_column_in names (taken_as part.now way until) Column.NodeAttr ≡ Ok (taken way until (Exact a.node_attr))) }
+    ensures edge_attr { IfOk result (λ a. (way : Way) (until : Option ℕ) → part_column_in names (taken_as part.now way until) Column.EdgeAttr ≡ Ok (taken way until (Exact a.edge_attr))) }
+    ensures in_node_attr { IfOk result (λ a. IsIn Column.NodeAttr a.node_attr) }
+    ensures in_edge_attr { IfOk result (λ a. IsIn Column.EdgeAttr a.edge_attr) }
+    ensures err { IfErr result (λ f. (way : Way) (until : Option ℕ) → Folds (Err f) (beside (part_column_in names (taken_as part.now way until) Column.NodeAttr) (part_column_in names (taken_as part.now way until) Column.EdgeAttr))) }
+{
+    let node_attr = exact_column(alloc, names, part, Column::NodeAttr)?;
+    let edge_attr = exact_column(alloc, names, part, Column::EdgeAttr)?;
+    Ok(Attributes {
+        node_attr,
+        edge_attr,
+    })
+}
+
+// The columns of a delta follow one another, and no element is compared.
+fn columns_joined(structure: Delta, attributes: Attributes) -> Result<Delta, AllocError>
+    requires structure { IsIn Column.Structure structure }
+    requires node_attr { IsIn Column.NodeAttr attributes.node_attr }
+    requires edge_attr { IsIn Column.EdgeAttr attributes.edge_attr }
+    ensures { IfOk result (λ d. d ≡ joined_columns structure attributes.node_attr attributes.edge_attr) }
+{
+    join(structure, &attributes.node_attr, &attributes.edge_attr)
+}
+
+// The delta of the part, which holds a delta.
 fn exact_delta(
     alloc: Global,
     names: u32,
@@ -143,9 +177,8 @@ fn exact_delta(
     ensures { Folds result (deltas_in_part names (taken_as part.now way until)) }
 {
     let structure = exact_column(alloc, names, part, Column::Structure)?;
-    let node_attr = exact_column(alloc, names, part, Column::NodeAttr)?;
-    let edge_attr = exact_column(alloc, names, part, Column::EdgeAttr)?;
-    let delta = join(structure, &node_attr, &edge_attr)?;
+    let attributes = exact_attributes(alloc, names, part)?;
+    let delta = columns_joined(structure, attributes)?;
     Ok(turned(alloc, delta, way))
 }
 

@@ -1,17 +1,17 @@
 //! Composing along the paths of a tree.
 
-ghost use Rattle.std.specs.Prelude.{◌≡◌, ◌≢◌, ◌⊎◌, ◌<◌, [], ◌∷◌, List, length, map, IfOk, IfErr, IfSome, OnOk, IsSome, Ok};
+ghost use Rattle.std.specs.Prelude.{◌≡◌, ◌≢◌, ◌⊎◌, ◌<◌, [], ◌∷◌, ◌++◌, List, length, map, IfOk, IfErr, IfSome, OnOk, IsSome, Ok, Err};
 ghost use Rattle.std.specs.List.{All};
-ghost use Rattle.dg_graph.specs.Composition.{Delta};
+ghost use Rattle.dg_graph.specs.Composition.{Composes, Delta};
 ghost use Rattle.dg_plan.specs.declared.edge.Edge.{Edge};
 ghost use Rattle.dg_fold.specs.Steps.{paired, steps_in};
 ghost use Rattle.dg_fold.specs.declared.along.Stepped.{Stepped};
 ghost use Rattle.dg_fold.specs.declared.fault.FoldFault.TheVariants as fault;
 ghost use Rattle.dg_fold.specs.Trees.{LeadsToTarget, Grow, all_edges};
-ghost use Rattle.dg_fold.specs.TreeSteps.{IsAmongSteps, AreIn, IsReachedNode, AreReached, AreLed, FailsAt, EnterNone, known_node_at, IsNodeKnown, IsOneOf};
+ghost use Rattle.dg_fold.specs.TreeSteps.{IsAmongSteps, AreIn, IsReachedNode, AreReached, AreStepped, AreLed, step_edges, FailsAt, EnterNone, known_node_at, IsNodeKnown, IsOneOf};
 ghost use Rattle.dg_fold.specs.declared.tree.Branch.{Branch};
-ghost use Rattle.dg_fold.specs.Parts.{beside};
-ghost use Rattle.dg_fold.specs.Ends.{AreLedUntil, FailsIn, lasts_in};
+ghost use Rattle.dg_fold.specs.Parts.{beside, Folds};
+ghost use Rattle.dg_fold.specs.Ends.{AreLedUntil, FailsIn, last_in, lasts_in};
 ghost use Rattle.dg_history.specs.declared.node.NodeId.{NodeId};
 ghost use Rattle.dg_history.specs.declared.node.NodeId.TheVariants.{Root};
 
@@ -146,8 +146,76 @@ fn led(
     }
 }
 
-// For each branch what leads to its target. What is known of a node is held at one place, from which later branches
-// go on: it is copied only where a branch has no step.
+// The steps of all branches, in order.
+fn steps_of<R: Threads>(
+    rt: &R,
+    alloc: Global,
+    names: u32,
+    branches: &[Branch],
+    parts: &[Part],
+    recent: &[Event],
+) -> Result<Vec<Stepped>, FoldFault>
+    ensures ok { IfOk result (λ v. AreStepped names recent.now (paired (all_edges branches.now) parts.now) v.items) }
+    ensures err { IfErr result (λ f. FailsAt f names recent.now (paired (all_edges branches.now) parts.now)) }
+{
+    let edges = edges_of(alloc, branches)?;
+    stepped(rt, alloc, names, &edges, parts, recent)
+}
+
+// What is known before any step: that the way to Root has none.
+fn known_at_first(alloc: Global) -> Result<Vec<Known>, AllocError>
+    ensures { IfOk result (λ v. v.items ≡ record { node = Root; begun = Root; delta = record { minus = []; plus = [] } } ∷ []) }
+{
+    let mut known = Vec::new(alloc);
+    known.push(Known {
+        node: NodeId::Root,
+        begun: NodeId::Root,
+        delta: Delta::new(alloc),
+    })?;
+    Ok(known)
+}
+
+// Notes what is known behind one more branch.
+fn note(known: &mut Vec<Known>, ends: &mut Vec<Known>, gone: Gone) -> Result<(), AllocError>
+    ensures known { OnOk result (known.new.items ≡ known.old.items ++ gone.stops.items) }
+    ensures ends { OnOk result (ends.new.items ≡ ends.old.items ++ gone.end ∷ []) }
+{
+    let Gone { mut stops, end } = gone;
+    known.append(&mut stops)?;
+    ends.push(end)?;
+    Ok(())
+}
+
+// For each branch what leads to its target; these are the steps of all branches, in order. What is known of a node is
+// held at one place, from which later branches go on: it is copied only where a branch has no step.
+fn paths(
+    alloc: Global,
+    branches: &[Branch],
+    steps: Vec<Stepped>,
+    wanted: &[NodeId],
+) -> Result<Vec<Known>, AllocError>
+    requires lead { All LeadsToTarget branches.now }
+    requires grow { Grow [] branches.now }
+    requires on { All (λ (e : Edge). e.to ≢ Root) (all_edges branches.now) }
+    requires edges { step_edges steps.items ≡ all_edges branches.now }
+    requires wanted { wanted.now ≡ map (λ (b : Branch). b.from) branches.now }
+    ensures reached { IfOk result (λ v. AreReached steps.items v.items) }
+    ensures targets { IfOk result (λ v. map (λ (k : Known). k.node) v.items ≡ map (λ (b : Branch). b.to) branches.now) }
+{
+    let mut rest = steps;
+    let mut known = known_at_first(alloc)?;
+    let mut ends = Vec::new(alloc);
+    for branch in branches {
+        let more = rest.split_off(branch.edges.len())?;
+        let start = known_at(&known, &ends, branch.from);
+        let gone = led(alloc, start, branch, rest, wanted)?;
+        note(&mut known, &mut ends, gone)?;
+        rest = more;
+    }
+    Ok(ends)
+}
+
+// For each branch what leads to its target.
 fn compose_paths<R: Threads>(
     rt: &R,
     alloc: Global,
@@ -163,28 +231,33 @@ fn compose_paths<R: Threads>(
     ensures read { OnOk result ((list : List Delta) × (steps_in names recent.now (paired (all_edges branches.now) parts.now) ≡ Ok list)) }
     ensures err { IfErr result (λ f. FailsAt f names recent.now (paired (all_edges branches.now) parts.now)) }
 {
-    let edges = edges_of(alloc, branches)?;
-    let wanted = beginnings(alloc, branches)?;
-    let mut rest = match stepped(rt, alloc, names, &edges, parts, recent) {
+    let steps = match steps_of(rt, alloc, names, branches, parts, recent) {
         Ok(steps) => steps,
         Err(fault) => return Err(fault),
     };
-    let mut known = Vec::new(alloc);
-    known.push(Known {
-        node: NodeId::Root,
-        begun: NodeId::Root,
-        delta: Delta::new(alloc),
-    })?;
-    let mut ends = Vec::new(alloc);
-    for branch in branches {
-        let more = rest.split_off(branch.edges.len())?;
-        let start = known_at(&known, &ends, branch.from);
-        let Gone { mut stops, end } = led(alloc, start, branch, rest, &wanted)?;
-        known.append(&mut stops)?;
-        ends.push(end)?;
-        rest = more;
-    }
-    Ok(ends)
+    let wanted = beginnings(alloc, branches)?;
+    Ok(paths(alloc, branches, steps, &wanted)?)
+}
+
+// Goes on from a target with its last events.
+fn lead_on<R: Threads>(
+    rt: &R,
+    alloc: Global,
+    names: u32,
+    first: Known,
+    to: NodeId,
+    time: u64,
+    parts: &[Part],
+    recent: &[Event],
+) -> Result<Lead, FoldFault>
+    ensures begun { IfOk result (λ l. l.begun ≡ first.begun) }
+    ensures joined { IfOk result (λ l. (last : Delta) × Folds (Ok last) (last_in names recent.now parts.now to time) × Composes l.delta (first.delta ∷ last ∷ [])) }
+    ensures err { IfErr result (λ f. Folds (Err f) (last_in names recent.now parts.now to time)) }
+{
+    let last = last_delta(rt, alloc, names, to, time, parts, recent)?;
+    let Known { begun, delta, .. } = first;
+    let delta = joined(delta, last)?;
+    Ok(Lead { begun, delta })
 }
 
 /// For each branch of a tree, in order, the composition along the tree's path from the root to the branch's
@@ -216,13 +289,12 @@ pub fn compose_tree<R: Threads>(
     let mut leads = Vec::with_capacity(alloc, branches.len())?;
     let mut i = 0;
     for first in firsts {
-        let last = match last_delta(rt, alloc, names, branches[i].to, times[i], parts, recent) {
-            Ok(last) => last,
+        let to = branches[i].to;
+        let lead = match lead_on(rt, alloc, names, first, to, times[i], parts, recent) {
+            Ok(lead) => lead,
             Err(fault) => return Err(fault),
         };
-        let Known { begun, delta, .. } = first;
-        let delta = joined(delta, last)?;
-        leads.push(Lead { begun, delta })?;
+        leads.push(lead)?;
         i += 1;
     }
     Ok(leads)

@@ -29,13 +29,16 @@ use Rattle.dg_planner.proofs.Singles.{has_plan}
 pub sum_push : (xs : ListOf ℕ) (x : ℕ) → sum (xs ++ x ∷ []) ≡ sum xs + x
 sum_push xs x = sum_by_push (λ n. n) xs x
 
--- what is shown of the grafts, the singles and the weight of the targets so far
-pub record IsGrown (edges : ListOf Edge) (targets : ListOf NodeId) (grafts : ListOf (Graft NodeId)) (singles : ListOf ℕ) (weight : ℕ) : Type 0 where
+-- what is shown of the grafts and the weight of the targets so far
+pub record IsGrown (edges : ListOf Edge) (targets : ListOf NodeId) (grafts : ListOf (Graft NodeId)) (weight : ℕ) : Type 0 where
   pub tree : IsTree (arcs_of edges) (Root ∷ []) targets grafts
   pub weight_is : weight ≡ tree_weight (arcs_of edges) grafts
   pub light : weight ≤ length targets * FARTHEST
-  pub singles_are : AreSingles (arcs_of edges) (Root ∷ []) targets singles
-  pub singles_light : sum singles ≤ length targets * FARTHEST
+
+-- what is shown of the weights of the single plans of the targets so far
+pub record AreWeighed (edges : ListOf Edge) (targets : ListOf NodeId) (singles : ListOf ℕ) : Type 0 where
+  pub are : AreSingles (arcs_of edges) (Root ∷ []) targets singles
+  pub light : sum singles ≤ length targets * FARTHEST
 
 -- what is shown of the costs from the tree of these grafts, where a further target is planned by them
 pub record IsReady (g : Ground) (edges : ListOf Edge) (links : ListOf Link) (grafts : ListOf (Graft NodeId)) (costs : ListOf Label) : Type 0 where
@@ -45,8 +48,11 @@ pub record IsReady (g : Ground) (edges : ListOf Edge) (links : ListOf Link) (gra
   pub near : (v : ℕ) → v < length costs → (label_at costs v).weight ≤ FARTHEST
 
 -- before the first target
-pub none_grown : (edges : ListOf Edge) → IsGrown edges [] [] [] 0
-none_grown edges = record { tree = tt; weight_is = refl; light = omega arith; singles_are = tt; singles_light = omega arith }
+pub none_grown : (edges : ListOf Edge) → IsGrown edges [] [] 0
+none_grown edges = record { tree = tt; weight_is = refl; light = omega arith }
+
+pub none_weighed : (edges : ListOf Edge) → AreWeighed edges [] []
+none_weighed edges = record { are = tt; light = omega arith }
 
 zip_push : {A B : Type 0} (R : A → B → Type 0) (xs : ListOf A) (ys : ListOf B) (x : A) (y : B) → AllZip R xs ys → R x y → AllZip R (xs ++ x ∷ []) (ys ++ y ∷ [])
 zip_push R [] [] x y all last = (last, tt)
@@ -102,6 +108,14 @@ module _ (g : Ground) (edges : ListOf Edge) (starts : ListOf ℕ) (links : ListO
   pub single_light : (v : NodeId) → Contains (nodes_of g) v → (label_at costs (place_of g v)).weight ≤ FARTHEST
   single_light v vn = whole.near (place_of g v) (let p = place_within g v vn in let n = whole.count in omega arith)
 
+  -- one more target
+  pub one_weighed : (targets : ListOf NodeId) (singles : ListOf ℕ) → AreWeighed edges targets singles → (target : NodeId) → Contains (nodes_of g) target
+      → AreWeighed edges (targets ++ target ∷ []) (singles ++ (label_at costs (place_of g target)).weight ∷ [])
+  one_weighed targets singles had target vn = record {
+    are = zip_push _ targets singles target (label_at costs (place_of g target)).weight had.are (single_is target vn);
+    light = (let a = had.light in let b = single_light target vn in let n = length_push targets target in let s = sum_push singles (label_at costs (place_of g target)).weight in omega arith);
+  }
+
   places_more : (grafts : ListOf (Graft NodeId)) (x : Graft NodeId)
       → map (place_of g) ((Root ∷ []) ++ entered (arcs_of edges) (steps_of grafts)) ++ entered (arcs links) x.steps ≡ map (place_of g) ((Root ∷ []) ++ entered (arcs_of edges) (steps_of (grafts ++ x ∷ [])))
   places_more grafts x =
@@ -120,8 +134,8 @@ module _ (g : Ground) (edges : ListOf Edge) (starts : ListOf ℕ) (links : ListO
     near = λ v within. (let a = ready.near v (let l = len in omega arith) in let b = (falls v).0 in omega arith);
   }
 
-  module _ (targets : ListOf NodeId) (grafts : ListOf (Graft NodeId)) (singles : ListOf ℕ) (weight : ℕ) (now : ListOf Label)
-      (had : IsGrown edges targets grafts singles weight) (ready : IsReady g edges links grafts now)
+  module _ (targets : ListOf NodeId) (grafts : ListOf (Graft NodeId)) (weight : ℕ) (now : ListOf Label)
+      (had : IsGrown edges targets grafts weight) (ready : IsReady g edges links grafts now)
       (target : NodeId) (vn : Contains (nodes_of g) target) where
     pub near_now : (label_at now (place_of g target)).weight ≤ FARTHEST
     near_now = ready.near (place_of g target) (let p = place_within g target vn in let n = ready.count in omega arith)
@@ -152,22 +166,24 @@ module _ (g : Ground) (edges : ListOf Edge) (starts : ListOf ℕ) (links : ListO
           ∙ weight_is g edges starts links outs ins costs whole by_nodes.walk.0 x.steps target by_nodes.walk.2
 
       -- one more target
-      pub one_grown : IsGrown edges (targets ++ target ∷ []) (grafts ++ x ∷ []) (singles ++ (label_at costs (place_of g target)).weight ∷ []) (weight + (label_at now (place_of g target)).weight)
+      pub one_grown : IsGrown edges (targets ++ target ∷ []) (grafts ++ x ∷ []) (weight + (label_at now (place_of g target)).weight)
       unfolding tree_now
       one_grown = record {
         tree = tree_push (arcs_of edges) (Root ∷ []) targets grafts target x had.tree by_nodes (subst (Contains tree_now) (sym begins_at) by_nodes.walk.1) (subst (λ a. Leads (arcs_of edges) a x.steps target) (sym begins_at) by_nodes.walk.2);
         weight_is = (λ i. had.weight_is i + weighs i) ∙ sym (sum_by_push (λ (y : Graft NodeId). weight_of (arcs_of edges) y.steps) grafts x);
         light = (let a = had.light in let b = near_now in let n = length_push targets target in omega arith);
-        singles_are = zip_push _ targets singles target (label_at costs (place_of g target)).weight had.singles_are (single_is target vn);
-        singles_light = (let a = had.singles_light in let b = single_light target vn in let n = length_push targets target in let s = sum_push singles (label_at costs (place_of g target)).weight in omega arith);
       }
 
 -- with each part told otherwise
-pub grown_as : (edges : ListOf Edge) (targets targets' : ListOf NodeId) (grafts grafts' : ListOf (Graft NodeId)) (singles singles' : ListOf ℕ) (weight weight' : ℕ)
-    → targets' ≡ targets → grafts' ≡ grafts → singles' ≡ singles → weight' ≡ weight
-    → IsGrown edges targets grafts singles weight → IsGrown edges targets' grafts' singles' weight'
-grown_as edges targets targets' grafts grafts' singles singles' weight weight' a b c d h =
-    subst (λ x. IsGrown edges targets' grafts' singles' x) (sym d)
-    (subst (λ x. IsGrown edges targets' grafts' x weight) (sym c)
-    (subst (λ x. IsGrown edges targets' x singles weight) (sym b)
-    (subst (λ x. IsGrown edges x grafts singles weight) (sym a) h)))
+pub grown_as : (edges : ListOf Edge) (targets targets' : ListOf NodeId) (grafts grafts' : ListOf (Graft NodeId)) (weight weight' : ℕ)
+    → targets' ≡ targets → grafts' ≡ grafts → weight' ≡ weight
+    → IsGrown edges targets grafts weight → IsGrown edges targets' grafts' weight'
+grown_as edges targets targets' grafts grafts' weight weight' a b d h =
+    subst (λ x. IsGrown edges targets' grafts' x) (sym d)
+    (subst (λ x. IsGrown edges targets' x weight) (sym b)
+    (subst (λ x. IsGrown edges x grafts weight) (sym a) h))
+
+pub weighed_as : (edges : ListOf Edge) (targets targets' : ListOf NodeId) (singles singles' : ListOf ℕ) → targets' ≡ targets → singles' ≡ singles
+    → AreWeighed edges targets singles → AreWeighed edges targets' singles'
+weighed_as edges targets targets' singles singles' a c h =
+    subst (λ x. AreWeighed edges targets' x) (sym c) (subst (λ x. AreWeighed edges x singles) (sym a) h)

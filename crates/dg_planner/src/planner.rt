@@ -8,17 +8,17 @@ ghost use Rattle.dg_plan.specs.Walks.{AreSingles, IsPlan, IsPotential, IsTree, L
 ghost use Rattle.dg_shape.specs.Shapes.{IsShape};
 ghost use Rattle.dg_planner.specs.AskedLengths.{asked_length_of};
 ghost use Rattle.dg_planner.specs.Bases.{HasBases, ground_of, ground_with};
-ghost use Rattle.dg_planner.specs.Trees.{grafts_in};
+ghost use Rattle.dg_planner.specs.Trees.{grafts_in, node_grafts};
 
 use crate::Base;
 use crate::build::build_edges;
 use crate::links::make_links;
 use crate::nodes::list_nodes;
 use crate::places::{Form, level_starts, node_count, place};
-use crate::tree::{Graft, Tree, beginning, costs_now, grow_on, weight_at};
+use crate::tree::{Graft, Tree, costs_now, graft_at, grow_on, weight_at};
 use dg_graph::Columns;
 use dg_history::NodeId;
-use dg_path::{Adjacency, Cost, Link, Route, costs_from, plan_to, route_to, thread};
+use dg_path::{Adjacency, Cost, Link, Route, costs_from, route_to, thread};
 use dg_plan::Edge;
 use dg_shape::{Catalogue, Shape};
 use std::alloc::{AllocError, Global};
@@ -49,6 +49,20 @@ impl Model for Planner {
     ghost view = { λ p. record { nodes = nodes_of (bare_ground p.form.leaves p.form.arity p.form.memory); edges = p.edges.items } };
 
     ghost invariant = { λ p. IsWhole (bare_ground p.form.leaves p.form.arity p.form.memory) p.edges.items p.starts.items p.links.items p.outs p.ins p.costs.items };
+}
+
+// What the plan of each target from the root weighs, and what they weigh together.
+#[derive(Drop)]
+struct Singles {
+    weights: Vec<u64>,
+    sum: u64,
+}
+
+// What each target adds to a tree, and what they weigh together.
+#[derive(Drop)]
+struct Grown {
+    grafts: Vec<Graft>,
+    weight: u64,
 }
 
 impl Planner {
@@ -159,41 +173,74 @@ impl Planner {
         ensures shared { IfOk result (λ t. t.weight ≤ sum t.singles.items) }
         ensures once { IfOk result (λ t. EntersOnce self.now.edges (steps_of (grafts_in t))) }
     {
+        let Singles { weights, sum } = self.singles_of(alloc, targets)?;
+        let Grown { grafts, weight } = self.grafts_of(alloc, targets)?;
+        Ok(Tree {
+            grafts,
+            weight,
+            singles: weights,
+            sum,
+        })
+    }
+
+    // What the plan of each target from the root weighs.
+    fn singles_of(&self, alloc: Global, targets: &[NodeId]) -> Result<Singles, AllocError>
+        requires targets { All (Contains self.now.nodes) targets.now }
+        requires few { length targets.now ≤ 32 }
+        ensures are { IfOk result (λ s. AreSingles (arcs_of self.now.edges) (Root ∷ []) targets.now s.weights.items) }
+        ensures sum { IfOk result (λ s. s.sum ≡ sum s.weights.items) }
+    {
+        let mut weights = Vec::with_capacity(alloc, targets.len())?;
+        let mut sum = 0;
+        for target in targets {
+            let at = place(self.form, &self.starts, *target);
+            let single = weight_at(&self.costs, at);
+            weights.push(single)?;
+            sum += single;
+        }
+        Ok(Singles { weights, sum })
+    }
+
+    // The tree of the targets.
+    fn grafts_of(&self, alloc: Global, targets: &[NodeId]) -> Result<Grown, AllocError>
+        requires targets { All (Contains self.now.nodes) targets.now }
+        requires few { length targets.now ≤ 32 }
+        ensures tree { IfOk result (λ x. IsTree (arcs_of self.now.edges) (Root ∷ []) targets.now (node_grafts x.grafts.items)) }
+        ensures weight { IfOk result (λ x. x.weight ≡ tree_weight (arcs_of self.now.edges) (node_grafts x.grafts.items)) }
+        ensures once { IfOk result (λ x. EntersOnce self.now.edges (steps_of (node_grafts x.grafts.items))) }
+    {
         // The costs from the tree so far, once it has grown.
         let mut grown = Vec::new(alloc);
         let mut grafts = Vec::with_capacity(alloc, targets.len())?;
-        let mut singles = Vec::with_capacity(alloc, targets.len())?;
         let mut weight = 0;
-        let mut sum = 0;
         for (i, target) in targets.iter().enumerate() {
             let at = place(self.form, &self.starts, *target);
-            let single = weight_at(&self.costs, at);
-            singles.push(single)?;
-            sum += single;
             let costs = costs_now(&self.costs, &grown);
             let nearest = weight_at(costs, at);
             weight += nearest;
-            let steps = plan_to(
+            let graft = graft_at(
                 alloc,
+                &self.edges,
                 &self.links,
-                &self.ins.first,
-                &self.ins.next,
+                &self.ins,
                 costs,
                 at,
+                *target,
             )?;
             // Behind the last target no plan follows that needs the costs.
             if i + 1 < targets.len() {
                 let kept = &self.costs;
-                grow_on(alloc, &self.links, &self.outs, kept, &steps, &mut grown)?;
+                grow_on(
+                    alloc,
+                    &self.links,
+                    &self.outs,
+                    kept,
+                    &graft.steps,
+                    &mut grown,
+                )?;
             }
-            let from = beginning(&self.edges, &steps, *target);
-            grafts.push(Graft { from, steps })?;
+            grafts.push(graft)?;
         }
-        Ok(Tree {
-            grafts,
-            weight,
-            singles,
-            sum,
-        })
+        Ok(Grown { grafts, weight })
     }
 }

@@ -1,13 +1,14 @@
-ghost use Rattle.std.specs.Prelude.{true, ◌≡◌, ℕ, ◌<◌, List, ◌++◌, length, OnOk};
+ghost use Rattle.std.specs.Prelude.{true, false, ◌≡◌, ℕ, ◌<◌, ◌^◌, List, ◌++◌, length, IfOk, OnOk};
 ghost use Rattle.std.specs.List.{All};
 ghost use Rattle.dg_history.specs.declared.node.NodeId.{NodeId};
+ghost use Rattle.dg_path.specs.declared.search.TheConstants.{UNREACHED};
 ghost use Rattle.dg_path.specs.Search.{AreAdjacent, AreLinks, Falls, CostsFit, AreCostsSettled, IsTable, arcs, label_at};
 ghost use Rattle.dg_plan.specs.IndexGraph.{arcs_of};
-ghost use Rattle.dg_plan.specs.Walks.{Leads, entered};
+ghost use Rattle.dg_plan.specs.Walks.{IsPlan, Leads, entered};
 ghost use Rattle.dg_planner.specs.Trees.{costs_now};
 
 use dg_history::NodeId;
-use dg_path::{Adjacency, Cost, Link, grow};
+use dg_path::{Adjacency, Cost, Link, grow, plan_to};
 use dg_plan::Edge;
 use std::alloc::{AllocError, Global};
 
@@ -43,6 +44,32 @@ pub fn beginning(edges: &[Edge], steps: &[u32], target: NodeId) -> NodeId
         Some(step) => edges[*step as usize].from,
         None => target,
     }
+}
+
+/// What a target at a place adds to a tree from which these are the costs. An `Err` says that memory ran out.
+pub fn graft_at(
+    alloc: Global,
+    edges: &[Edge],
+    links: &[Link],
+    ins: &Adjacency,
+    costs: &[Cost],
+    at: u32,
+    target: NodeId,
+) -> Result<Graft, AllocError>
+    requires count { length links.now ≡ length edges.now }
+    requires node { at < length costs.now }
+    requires links { AreLinks links.now (length costs.now) }
+    requires few { length links.now < 2 ^ 32 }
+    requires chained { AreAdjacent false links.now ins.now.first.items ins.now.next.items (length costs.now) }
+    requires table { (starts : List ℕ) × IsTable (arcs links.now) starts costs.now }
+    requires near { (label_at costs.now at).weight < UNREACHED.weight }
+    ensures plan { IfOk result (λ x. (starts : List ℕ) → IsTable (arcs links.now) starts costs.now → IsPlan (arcs links.now) starts at x.steps.items) }
+    ensures steps { IfOk result (λ x. All (λ i. i < length links.now) x.steps.items) }
+    ensures begins { IfOk result (λ x. (a : NodeId) → Leads (arcs_of edges.now) a x.steps.items target → x.from ≡ a) }
+{
+    let steps = plan_to(alloc, links, &ins.first, &ins.next, costs, at)?;
+    let from = beginning(edges, &steps, target);
+    Ok(Graft { from, steps })
 }
 
 /// The least weight of the node at a place.

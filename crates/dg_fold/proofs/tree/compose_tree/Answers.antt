@@ -54,8 +54,8 @@ overflow_add-i g c =
     let at = old.invariant.0 in
     omega arith
 
-pub returns-in-Err-last_delta-clause-err : goal.returns-in-Err-last_delta-clause-err
-returns-in-Err-last_delta-clause-err g c =
+pub returns-in-Err-lead_on-clause-err : goal.returns-in-Err-lead_on-clause-err
+returns-in-Err-lead_on-clause-err g c =
     let old = c.loop-first in
     let gives = c.into_iter-first-iterator.ensures.into_iter_gives in
     let all = paired (all_edges c.args.branches.now) c.args.parts.now in
@@ -64,8 +64,8 @@ returns-in-Err-last_delta-clause-err g c =
     let h = turn.0 in
     let at = old.invariant.0 in
     until_fails c.args.names c.args.recent.now c.args.parts.now all c.args.branches.now c.args.times.now old.i
-    old.leads.items c.index-branches-i.result 0 c.requires.times (omega arith) old.invariant.1 c.in-Err-last_delta.fault c.in-Ok.ensures.read.0 c.in-Ok.ensures.read.1
-    c.in-Err-last_delta.ensures
+    old.leads.items c.index-branches-i.result 0 c.requires.times (omega arith) old.invariant.1 c.in-Err-lead_on.fault c.in-Ok.ensures.read.0 c.in-Ok.ensures.read.1
+    c.in-Err-lead_on.ensures.err
 
 pub loop-first-preserved : goal.loop-first-preserved
 loop-first-preserved g c =
@@ -79,13 +79,15 @@ loop-first-preserved g c =
     let h = turn.0 in
     let at = old.invariant.0 in
     let there : first ≡ get_or firsts old.i first = turn.1 ∙ ap (λ k. get_or firsts k first) (sym at) in
+    let lead = c.in-Ok-lead_on.lead in
+    let joined = c.in-Ok-lead_on.ensures.joined in
     let one_more = length_push old.yielded first in (
       omega arith,
       until_next c.args.names c.args.recent.now c.args.parts.now all c.args.branches.now c.args.times.now old.i
-          old.leads.items c.index-branches-i.result 0 c.requires.times (omega arith) old.invariant.1 firsts first c.in_ok-delta.delta c.in-Ok-last_delta.last
-          c.push.new.self.items c.in-Ok.ensures.ok c.in-Ok-last_delta.ensures
-          (subst (λ (d : Known). Composes c.in_ok-delta.delta (d.delta ∷ c.in-Ok-last_delta.last ∷ [])) there c.in_ok-delta.ensures)
-          (c.in_ok-push.ensures.items ∙ ap (λ (d : Known). old.leads.items ++ record { begun = d.begun; delta = c.in_ok-delta.delta } ∷ []) there),
+          old.leads.items c.index-branches-i.result 0 c.requires.times (omega arith) old.invariant.1 firsts first lead.delta joined.0
+          c.push.new.self.items c.in-Ok.ensures.ok joined.1
+          (subst (λ (d : Known). Composes lead.delta (d.delta ∷ joined.0 ∷ [])) there joined.2)
+          (c.in_ok-push.ensures.items ∙ ap (λ b. old.leads.items ++ record { begun = b; delta = lead.delta } ∷ []) (c.in-Ok-lead_on.ensures.begun ∙ ap (λ (d : Known). d.begun) there)),
     )
 
 pub returns-clause-ok : goal.returns-clause-ok
