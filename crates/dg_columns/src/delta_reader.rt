@@ -168,10 +168,7 @@ fn set_at(
     ensures apart { IfOk result (λ p. AreApart others.now p.0) }
 {
     let (items, end) = elements_at(alloc, bytes, start, count, col, names, others)?;
-    match Set::from_sorted(items) {
-        Ok(set) => Ok((set, end)),
-        Err(_) => unreachable!(),
-    }
+    Ok((Set::from_rising(items), end))
 }
 
 // The count of the elements to put in, which is not 0 where no element is taken out.
@@ -193,10 +190,7 @@ fn delta_of(minus: Set, plus: Set) -> Delta
     requires { AreApart minus plus }
     ensures { result ≡ record { minus = minus; plus = plus } }
 {
-    match Delta::from_sets(minus, plus) {
-        Some(delta) => delta,
-        None => unreachable!(),
-    }
+    Delta::from_sets(minus, plus).unwrap()
 }
 
 // The delta, where nothing is wrong with the bytes: each of its two sets is read by itself, and one

@@ -1,7 +1,6 @@
-//! Numbers at an offset of the bytes, the high byte first.
+//! Numbers at an offset of the bytes, the high byte first, where they fit in the bytes and are right.
 
-ghost use Rattle.std.specs.Prelude.{◌≡◌, ◌+◌, ◌≤◌, ◌&&◌, ◌==◌, not, nat_lt, nat_le, length, take, drop, OnOk};
-ghost use Rattle.std.specs.Int.{from_be_bytes, w8, w32, w64};
+ghost use Rattle.std.specs.Prelude.{◌≡◌, ◌+◌, ◌≤◌, ◌&&◌, ◌==◌, not, nat_lt, nat_le, length, OnOk};
 ghost use Rattle.dg_graph.specs.ColumnGrammar.{any_number, one_byte, two_bytes, four_bytes, eight_bytes};
 ghost use Rattle.dg_columns.specs.ReadOutcome.{IsReadAs};
 
@@ -13,12 +12,10 @@ pub(crate) fn byte_at(bytes: &[u8], offset: usize, low: u8, high: u8) -> Result<
     ensures number { IsReadAs (λ n. n) result (one_byte (λ n. nat_le low n && nat_le n high) bytes.now offset) }
     ensures fits { OnOk result (offset + 1 ≤ length bytes.now) }
 {
-    let (_, rest) = bytes.split_at(offset);
-    if rest.is_empty() {
+    if bytes.len() == offset {
         return Err(ReadFault::Damaged(offset as u64));
     }
-    let (front, _) = rest.split_at(1);
-    let number = u8::from_be_bytes([front[0]]);
+    let number = dg_numbers::byte_at(bytes, offset);
     if low <= number && number <= high {
         Ok(number)
     } else {
@@ -32,12 +29,10 @@ pub(crate) fn u16_at(bytes: &[u8], offset: usize) -> Result<u16, ReadFault>
     ensures number { IsReadAs (λ n. n) result (two_bytes any_number bytes.now offset) }
     ensures fits { OnOk result (offset + 2 ≤ length bytes.now) }
 {
-    let (_, rest) = bytes.split_at(offset);
-    if rest.len() < 2 {
+    if bytes.len() - offset < 2 {
         return Err(ReadFault::Damaged(offset as u64));
     }
-    let (front, _) = rest.split_at(2);
-    Ok(u16::from_be_bytes([front[0], front[1]]))
+    Ok(dg_numbers::u16_at(bytes, offset))
 }
 
 /// The number of four bytes.
@@ -46,12 +41,10 @@ pub(crate) fn u32_at(bytes: &[u8], offset: usize) -> Result<u32, ReadFault>
     ensures number { IsReadAs (λ n. n) result (four_bytes any_number bytes.now offset) }
     ensures fits { OnOk result (offset + 4 ≤ length bytes.now) }
 {
-    let (_, rest) = bytes.split_at(offset);
-    if rest.len() < 4 {
+    if bytes.len() - offset < 4 {
         return Err(ReadFault::Damaged(offset as u64));
     }
-    let (front, _) = rest.split_at(4);
-    Ok(u32::from_be_bytes([front[0], front[1], front[2], front[3]]))
+    Ok(dg_numbers::u32_at(bytes, offset))
 }
 
 /// The number of eight bytes.
@@ -60,14 +53,10 @@ pub(crate) fn u64_at(bytes: &[u8], offset: usize) -> Result<u64, ReadFault>
     ensures number { IsReadAs (λ n. n) result (eight_bytes any_number bytes.now offset) }
     ensures fits { OnOk result (offset + 8 ≤ length bytes.now) }
 {
-    let (_, rest) = bytes.split_at(offset);
-    if rest.len() < 8 {
+    if bytes.len() - offset < 8 {
         return Err(ReadFault::Damaged(offset as u64));
     }
-    let (front, _) = rest.split_at(8);
-    Ok(u64::from_be_bytes([
-        front[0], front[1], front[2], front[3], front[4], front[5], front[6], front[7],
-    ]))
+    Ok(dg_numbers::u64_at(bytes, offset))
 }
 
 /// The number of two bytes, not below `low`.
@@ -153,36 +142,4 @@ pub(crate) fn new_at(bytes: &[u8], offset: usize, names: u32, old: u32) -> Resul
     } else {
         Err(ReadFault::Damaged(offset as u64))
     }
-}
-
-/// The number of one byte, which is there.
-pub(crate) fn byte_here(bytes: &[u8], offset: usize) -> u8
-    requires { offset + 1 ≤ length bytes.now }
-    ensures { result ≡ from_be_bytes w8 (take 1 (drop offset bytes.now)) }
-{
-    let (_, rest) = bytes.split_at(offset);
-    let (front, _) = rest.split_at(1);
-    u8::from_be_bytes([front[0]])
-}
-
-/// The number of four bytes, which are there.
-pub(crate) fn u32_here(bytes: &[u8], offset: usize) -> u32
-    requires { offset + 4 ≤ length bytes.now }
-    ensures { result ≡ from_be_bytes w32 (take 4 (drop offset bytes.now)) }
-{
-    let (_, rest) = bytes.split_at(offset);
-    let (front, _) = rest.split_at(4);
-    u32::from_be_bytes([front[0], front[1], front[2], front[3]])
-}
-
-/// The number of eight bytes, which are there.
-pub(crate) fn u64_here(bytes: &[u8], offset: usize) -> u64
-    requires { offset + 8 ≤ length bytes.now }
-    ensures { result ≡ from_be_bytes w64 (take 8 (drop offset bytes.now)) }
-{
-    let (_, rest) = bytes.split_at(offset);
-    let (front, _) = rest.split_at(8);
-    u64::from_be_bytes([
-        front[0], front[1], front[2], front[3], front[4], front[5], front[6], front[7],
-    ])
 }

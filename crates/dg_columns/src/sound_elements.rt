@@ -10,9 +10,9 @@ use crate::delta_reader::{AttrFields, rises_from};
 use crate::delta_writer::element_size;
 use crate::edge::EdgeFields;
 use crate::layout::{EDGE, EDGE_SIZE, NODE, NODE_SIZE, SMALLEST_ELEMENT, VALUE_SIZE};
-use crate::numbers::{byte_here, u32_here, u64_here};
 use dg_delta::{Element, Set};
 use dg_graph::Column;
+use dg_numbers::{byte_at, u32_at, u64_at};
 use std::alloc::Global;
 
 // The fields of a value.
@@ -24,9 +24,9 @@ fn attr_here(bytes: &[u8], offset: usize, names: u32) -> Option<AttrFields>
     if bytes.len() - offset < VALUE_SIZE {
         return None;
     }
-    let id = u64_here(bytes, offset);
-    let key = u32_here(bytes, offset + 8);
-    let value = u32_here(bytes, offset + 12);
+    let id = u64_at(bytes, offset);
+    let key = u32_at(bytes, offset + 8);
+    let value = u32_at(bytes, offset + 12);
     if key < names && value < names {
         Some(AttrFields { id, key, value })
     } else {
@@ -43,10 +43,10 @@ fn edge_here(bytes: &[u8], offset: usize) -> Option<EdgeFields>
     if bytes.len() - offset < EDGE_SIZE - 1 {
         return None;
     }
-    let id = u64_here(bytes, offset);
-    let src = u64_here(bytes, offset + 8);
-    let dst = u64_here(bytes, offset + 16);
-    let directed = byte_here(bytes, offset + 24);
+    let id = u64_at(bytes, offset);
+    let src = u64_at(bytes, offset + 8);
+    let dst = u64_at(bytes, offset + 16);
+    let directed = byte_at(bytes, offset + 24);
     if directed <= 1 {
         Some(EdgeFields {
             id,
@@ -68,9 +68,9 @@ fn structure_here(bytes: &[u8], offset: usize, names: u32) -> Option<Element>
     if bytes.len() - offset < NODE_SIZE {
         return None;
     }
-    match byte_here(bytes, offset) {
+    match byte_at(bytes, offset) {
         NODE => {
-            let id = u64_here(bytes, offset + 1);
+            let id = u64_at(bytes, offset + 1);
             Some(Element::Node { id })
         }
         EDGE => {
@@ -156,9 +156,7 @@ fn elements_here(
         let element = next_here(bytes, offset, col, names, last)?;
         offset += element_size(&element);
         last = Some(element);
-        let Ok(()) = items.push(element) else {
-            return None;
-        };
+        items.push(element).ok()?;
     }
     Some((items, offset))
 }

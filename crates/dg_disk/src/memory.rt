@@ -318,7 +318,6 @@ fn put_piece(bytes: &mut Vec<u8>, offset: usize, piece: &[u8])
     ensures capacity { vec_capacity bytes.old ≤ vec_capacity bytes.new }
 {
     let inside = piece.len().min(bytes.len() - offset);
-    // There is room, so this cannot fail.
-    let _ = bytes.extend_from_slice(&piece[inside..]);
+    bytes.extend_from_slice(&piece[inside..]).unwrap();
     bytes[offset..offset + inside].copy_from_slice(&piece[..inside]);
 }

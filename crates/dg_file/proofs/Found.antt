@@ -14,7 +14,7 @@ use Rattle.dg_index.specs.OpenedIndex.{opened_by, opening, No_index, Not_ours}
 use Rattle.dg_index.proofs.DirectoryNames.{both}
 use Rattle.dg_index.proofs.ImageRanges.{Same, byte_same, four_same, piece_eight, same_fewer}
 use Rattle.dg_file.specs.declared.lengths.Lengths.{Lengths}
-use Rattle.dg_file.specs.declared.reading.Found.{Found}
+use Rattle.dg_file.specs.declared.reads.Found.{Found}
 use Rattle.dg_file.specs.Directories.{fit_in, gate_after, segment_lengths_at}
 use Rattle.dg_file.specs.Headers.{IsFoundIn}
 use Rattle.dg_file.specs.Images.{taken_after}

@@ -10,7 +10,7 @@ use Rattle.dg_index.specs.OpenedSoFar.{OpensOn}
 use Rattle.dg_index.proofs.OpenedSoFar.{opens_first, opens_next, opens_closed, opens_damaged}
 use Rattle.dg_file.specs.declared.fault.ReopenFault.{ReopenFault}
 use Rattle.dg_file.specs.declared.lengths.Lengths.{Lengths}
-use Rattle.dg_file.specs.declared.reading.Found.{Found}
+use Rattle.dg_file.specs.declared.reads.Found.{Found}
 use Rattle.dg_file.specs.declared.found_directory.FoundDirectory.{FoundDirectory}
 use Rattle.dg_file.specs.Headers.{IsFoundIn, Misses, IsOpenedSoFar}
 use Rattle.dg_file.specs.Directories.{segment_lengths_at, fit_in, directory_due, TakesDirectory}

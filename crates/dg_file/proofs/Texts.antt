@@ -9,7 +9,7 @@ use Rattle.dg_index.specs.ImageText.{two_at, name_at, names_at}
 use Rattle.dg_index.proofs.DirectoryNames.{both, in_front_of, names_more, new_append, new_first}
 use Rattle.dg_file.specs.Directories.{is_fresh, TakesName, TakesNames}
 
--- a text at a offset, behind a number that says its length
+-- a text at an offset, behind a number that says its length
 abbrev name_with : ℕ → ℕ → ℕ → List ℕ → Option (List ℕ × ℕ)
 name_with long at len rest =
     cond (nat_lt long (at + 2)) None (cond (nat_lt long (at + 2 + len)) None (Some (take len rest, at + 2 + len)))

@@ -9,7 +9,7 @@ use Rattle.dg_index.specs.OpenedIndex.{Opening}
 use Rattle.dg_index.specs.OpenedSoFar.{OpensOn}
 use Rattle.dg_file.specs.declared.fault.ReopenFault.{ReopenFault}
 use Rattle.dg_file.specs.declared.fault.ReopenFault.TheVariants as fault
-use Rattle.dg_file.specs.declared.reading.Found.{Found}
+use Rattle.dg_file.specs.declared.reads.Found.{Found}
 
 -- the header behind its gate, with a closed gate behind it
 abbrev pub header_rest : Params → List ℕ

@@ -5,10 +5,10 @@ ghost use Rattle.dg_history.specs.declared.limits.TheConstants.{EVENTS_MAX};
 ghost use Rattle.dg_index.specs.ImageText.{eight_at};
 ghost use Rattle.dg_index.specs.OpenedIndex.{may_follow};
 
-use crate::numbers::u64_at;
 use dg_graph::TIME_MAX;
 use dg_history::{BATCH_LINES_MAX, EVENTS_MAX};
 use dg_index::{BatchEntry, Ends};
+use dg_numbers::u64_at;
 
 /// The batch that a directory with so many names tells of.
 pub(crate) fn batch_at(bytes: &[u8], names: u32) -> BatchEntry

@@ -5,11 +5,11 @@ ghost use Rattle.std.specs.Option.{option_map};
 ghost use Rattle.dg_graph.specs.declared.limits.TheConstants.{NAMES_MAX};
 ghost use Rattle.dg_graph.specs.Names.{are_new};
 ghost use Rattle.dg_index.specs.ImageText.{name_at, names_at};
-ghost use Rattle.dg_file.specs.declared.directory_names.Untaken.TheVariants.{Memory};
+ghost use Rattle.dg_file.specs.declared.directory_names.DirectoryFault.TheVariants.{Memory};
 ghost use Rattle.dg_file.specs.Directories.{is_fresh, TakesName, TakesNames};
 
-use crate::numbers::u16_at;
 use dg_names::{Names, is_name};
+use dg_numbers::u16_at;
 use std::alloc::AllocError;
 
 /// The offset of the first name in a directory.
@@ -17,18 +17,18 @@ pub(crate) const NAMES_OFFSET: usize = 28;
 
 /// Why a directory was not taken.
 #[derive(Clone, Copy)]
-pub(crate) enum Untaken {
+pub(crate) enum DirectoryFault {
     // it breaks a rule
     Broken,
     // memory ran out
     Memory,
 }
 
-impl From<AllocError> for Untaken {
-    ghost from_gives = { λ _ untaken. untaken ≡ Memory };
+impl From<AllocError> for DirectoryFault {
+    ghost from_gives = { λ _ fault. fault ≡ Memory };
 
-    fn from(_failure: AllocError) -> Untaken {
-        Untaken::Memory
+    fn from(_failure: AllocError) -> DirectoryFault {
+        DirectoryFault::Memory
     }
 }
 
@@ -57,33 +57,37 @@ fn name_end(bytes: &[u8], at: usize) -> Option<usize>
 }
 
 // Adds the name at the offset to those that are there. Answers the offset behind it.
-fn read_name(bytes: &[u8], at: usize, names: &mut Names) -> Result<usize, Untaken>
+fn read_name(bytes: &[u8], at: usize, names: &mut Names) -> Result<usize, DirectoryFault>
     requires within { at ≤ length bytes.now }
     requires room { length names.old < NAMES_MAX }
     ensures taken { IfOk result (λ end. TakesName bytes.now at names.old names.new end) }
     ensures within { IfOk result (λ end. end ≤ length bytes.now) }
-    ensures broken { IsErrOf result Untaken.Broken → (n : List ℕ × ℕ) → name_at bytes.now at ≡ Some n → is_fresh names.old n.0 ≡ false }
+    ensures broken { IsErrOf result DirectoryFault.Broken → (n : List ℕ × ℕ) → name_at bytes.now at ≡ Some n → is_fresh names.old n.0 ≡ false }
 {
     let Some(end) = name_end(bytes, at) else {
-        return Err(Untaken::Broken);
+        return Err(DirectoryFault::Broken);
     };
     let text = &bytes[at + 2..end];
     if !is_fresh(text, names) {
-        return Err(Untaken::Broken);
+        return Err(DirectoryFault::Broken);
     }
     names.add(text)?;
     Ok(end)
 }
 
 /// Adds so many names, which stand in the directory one behind another, to those that are there. Answers
-/// the offset behind them. `Untaken::Broken` where one of them is none or no new one, `Untaken::Memory`
-/// for want of memory: then some of them may be added.
-pub(crate) fn read_names(bytes: &[u8], count: u32, names: &mut Names) -> Result<usize, Untaken>
+/// the offset behind them. `DirectoryFault::Broken` where one of them is none or no new one,
+/// `DirectoryFault::Memory` for want of memory: then some of them may be added.
+pub(crate) fn read_names(
+    bytes: &[u8],
+    count: u32,
+    names: &mut Names,
+) -> Result<usize, DirectoryFault>
     requires within { 28 ≤ length bytes.now }
     requires room { length names.old + count ≤ NAMES_MAX }
     ensures taken { IfOk result (λ end. TakesNames bytes.now count names.old names.new end) }
     ensures within { IfOk result (λ end. end ≤ length bytes.now) }
-    ensures broken { IsErrOf result Untaken.Broken → (t : List (List ℕ) × ℕ) → names_at count bytes.now 28 ≡ Some t → are_new names.old t.0 ≡ false }
+    ensures broken { IsErrOf result DirectoryFault.Broken → (t : List (List ℕ) × ℕ) → names_at count bytes.now 28 ≡ Some t → are_new names.old t.0 ≡ false }
 {
     let mut at = NAMES_OFFSET;
     for _ in 0..count {

@@ -5,8 +5,8 @@ ghost use Rattle.dg_index.specs.ImageText.{four_at};
 ghost use Rattle.dg_index.specs.OpenedIndex.{lengths_at, list_at, record_at, rows_at, may_be_listed};
 ghost use Rattle.dg_shape.specs.Additions.{bytes_of_rows};
 
-use crate::numbers::{u32_at, u64_at};
 use dg_index::{Ends, Row};
+use dg_numbers::{u32_at, u64_at};
 use std::alloc::{AllocError, Global};
 
 /// The bytes of the row of a list.

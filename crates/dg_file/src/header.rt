@@ -1,16 +1,16 @@
 //! The header of an index file: its gate, the magic text, the parameters, and the gate of the first
 //! segment.
 
-ghost use Rattle.std.specs.Prelude.{◌≡◌, ◌≤◌, List, [], ◌∷◌, ◌++◌, length, IfSome, Option, slice_index, codes, true, ◌&&◌, ◌==◌, not};
+ghost use Rattle.std.specs.Prelude.{◌≡◌, ◌≤◌, ◌+◌, List, [], ◌∷◌, ◌++◌, length, take, IfSome, Option, slice_index, codes, true, ◌&&◌, ◌==◌, not};
 ghost use Rattle.dg_index.specs.FileOfHistory.{function_byte};
 ghost use Rattle.dg_graph.specs.Columns.{four};
 ghost use Rattle.dg_history.specs.History.{are_parameters};
 ghost use Rattle.dg_index.specs.ImageText.{function_in, params_in};
 ghost use Rattle.dg_file.specs.Headers.{header_rest};
 
-use crate::numbers::{put_at, u32_at};
 use dg_graph::Function;
-use dg_history::{ARITY_MAX, ARITY_MIN, LEAF_MAX, LEAF_MIN, Params};
+use dg_history::{Params, are_parameters};
+use dg_numbers::u32_at;
 
 /// The bytes of a header with the gate behind it.
 pub(crate) const HEADER_BYTES: usize = 18;
@@ -47,6 +47,14 @@ fn function_of(byte: u8) -> Option<Function>
     }
 }
 
+// Puts the piece behind the first `at` bytes, over what is there.
+fn put_at(into: &mut [u8], at: usize, piece: &[u8])
+    requires { at + length piece.now ≤ length into.old }
+    ensures { take (at + length piece.now) into.new ≡ take at into.old ++ piece.now }
+{
+    into[at..at + piece.len()].copy_from_slice(piece);
+}
+
 /// The header behind its gate, with a closed gate behind it.
 pub(crate) fn header_behind_gate(params: Params) -> [u8; 17]
     ensures { result ≡ header_rest params }
@@ -76,11 +84,13 @@ pub(crate) fn params_of(header: &[u8]) -> Option<Params>
     if header[..8] != FRONT[..] {
         return None;
     }
-    let l = u32_at(header, 8);
-    let k = u32_at(header, 12);
-    let function = function_of(header[16])?;
-    if LEAF_MIN <= l && l <= LEAF_MAX && ARITY_MIN <= k && k <= ARITY_MAX {
-        Some(Params { l, k, function })
+    let params = Params {
+        l: u32_at(header, 8),
+        k: u32_at(header, 12),
+        function: function_of(header[16])?,
+    };
+    if are_parameters(params) {
+        Some(params)
     } else {
         None
     }

@@ -22,23 +22,23 @@ ghost use Rattle.dg_file.specs.Index.{HasSegmentRoom, opening_bytes};
 ghost use Rattle.dg_file.specs.Images.{BothTold, Fits, GainsBatch, GainsBatchOrNot, GainsSegment, IsMadeInPart, IsOpenedAs, RefusesOpening, taken_after};
 ghost use Rattle.dg_file.specs.Invariant.{listed_after, with_rows};
 
-use crate::appending::append;
+use crate::append::append;
+use crate::creation::write_header;
 use crate::directory_batch::{batch_at, may_follow};
-use crate::directory_names::{NAMES_OFFSET, Untaken, read_names};
+use crate::directory_names::{DirectoryFault, NAMES_OFFSET, read_names};
 use crate::directory_rows::{has_rows, is_measured, may_be_listed, rows_in};
 use crate::fault::{CommitFault, CreateFault, FetchFault, ReopenFault};
 use crate::found_directory::FoundDirectory;
 use crate::header::{HEADER_BYTES, OPEN};
 use crate::lengths::{LENGTHS_BYTES, Lengths};
-use crate::making::write_header;
-use crate::numbers::u32_at;
 use crate::prepared_segment::{PreparedSegment, Ready};
-use crate::reading::{read_byte, read_header, read_lengths, read_range};
+use crate::reads::{read_byte, read_header, read_lengths, read_range};
 use dg_disk::Disk;
 use dg_graph::{Column, NAMES_MAX};
 use dg_history::{Key, Params};
 use dg_index::{BatchEntry, Entry, Row};
 use dg_names::Names;
+use dg_numbers::u32_at;
 use dg_segment::Segment;
 use dg_shape::{Catalogue, column_length, column_offset, keys_due, leaves};
 use std::alloc::{AllocError, Global};
@@ -167,8 +167,7 @@ impl Index {
     {
         self.catalogue.add_all(keys, rows, offset);
         self.catalogue.add_batch(batch.ends);
-        // There is room, so this cannot fail.
-        let _ = self.batches.push(batch);
+        self.batches.push(batch).unwrap();
         self.events += batch.events;
         self.names += batch.names;
         self.earliest = batch.ends.last + 1;
@@ -177,42 +176,42 @@ impl Index {
     }
 
     // Reads the directory of a segment behind the bytes in use, with so many bytes of columns, and adds its
-    // names to those before it. `Untaken::Broken` where it may not stand there, `Untaken::Memory` for want
-    // of memory: then some of its names may be added.
+    // names to those before it. `DirectoryFault::Broken` where it may not stand there,
+    // `DirectoryFault::Memory` for want of memory: then some of its names may be added.
     fn read_directory(
         &self,
         bytes: &[u8],
         columns: u64,
         names: &mut Names,
-    ) -> Result<FoundDirectory, Untaken>
+    ) -> Result<FoundDirectory, DirectoryFault>
         ensures taken { IfOk result (λ found. TakesDirectory self.now.opening columns bytes.now names.old names.new found) }
-        ensures broken { IsErrOf result Untaken.Broken → directory_due (record { index = self.now.opening; names = names.old }) columns bytes.now ≡ None }
+        ensures broken { IsErrOf result DirectoryFault.Broken → directory_due (record { index = self.now.opening; names = names.old }) columns bytes.now ≡ None }
     {
         if bytes.len() < NAMES_OFFSET {
-            return Err(Untaken::Broken);
+            return Err(DirectoryFault::Broken);
         }
         let count = u32_at(bytes, COUNT_OFFSET);
         if NAMES_MAX - names.len() < count {
-            return Err(Untaken::Broken);
+            return Err(DirectoryFault::Broken);
         }
         let end = read_names(bytes, count, names)?;
         let batch = batch_at(bytes, count);
         if !may_follow(batch, self.events, self.earliest) {
-            return Err(Untaken::Broken);
+            return Err(DirectoryFault::Broken);
         }
         let lists = self.lists_next(batch.events);
         let keys = self.keys_next(batch.events)?;
         let deltas = keys.len() as u32 - lists - 1;
         if !has_rows(bytes, end, lists, deltas) {
-            return Err(Untaken::Broken);
+            return Err(DirectoryFault::Broken);
         }
         let rows = rows_in(self.alloc, bytes, end, lists, deltas)?;
         if !is_measured(&rows, columns) {
-            return Err(Untaken::Broken);
+            return Err(DirectoryFault::Broken);
         }
         let floor = self.floor(batch.ends.first);
         if !may_be_listed(&rows[..lists as usize], floor, batch.ends.last) {
-            return Err(Untaken::Broken);
+            return Err(DirectoryFault::Broken);
         }
         Ok(FoundDirectory { batch, keys, rows })
     }
@@ -335,8 +334,8 @@ impl Index {
         )?;
         let found = match self.read_directory(&text, lengths.columns, names) {
             Ok(found) => found,
-            Err(Untaken::Broken) => return Err(ReopenFault::Damaged(offset)),
-            Err(Untaken::Memory) => return Err(ReopenFault::Memory),
+            Err(DirectoryFault::Broken) => return Err(ReopenFault::Damaged(offset)),
+            Err(DirectoryFault::Memory) => return Err(ReopenFault::Memory),
         };
         Ok(found)
     }

@@ -3,8 +3,8 @@
 ghost use Rattle.std.specs.Prelude.{◌≡◌, ◌+◌, ◌≤◌, length};
 ghost use Rattle.dg_file.specs.Directories.{segment_lengths_at, fit_in};
 
-use crate::numbers::u64_at;
 use dg_history::FILE_BYTES_MAX;
+use dg_numbers::u64_at;
 
 /// The bytes of the two lengths in front of a directory.
 pub(crate) const LENGTHS_BYTES: usize = 16;

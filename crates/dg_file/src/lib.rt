@@ -1,7 +1,8 @@
 //! The index file of a history, over a disk: it is made, reopened, read, and given a batch.
 #![tactic(auto)]
 
-mod appending;
+mod append;
+mod creation;
 mod directory_batch;
 mod directory_names;
 mod directory_rows;
@@ -12,10 +13,8 @@ mod header;
 mod index;
 mod laws;
 mod lengths;
-mod making;
-mod numbers;
 mod prepared_segment;
-mod reading;
+mod reads;
 
 pub use fault::{CommitFault, CreateFault, FetchFault, ReopenFault};
 pub use index::Index;

@@ -16,7 +16,7 @@ use Rattle.dg_index.proofs.ImageRanges.{behind}
 
 -- ---- one name
 
--- a text at a offset, behind a number that says its length
+-- a text at an offset, behind a number that says its length
 abbrev name_with : ℕ → ℕ → ℕ → List ℕ → Option (List ℕ × ℕ)
 name_with long at len rest =
     cond (nat_lt long (at + 2)) None (cond (nat_lt long (at + 2 + len)) None (Some (take len rest, at + 2 + len)))

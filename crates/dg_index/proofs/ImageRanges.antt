@@ -1,4 +1,4 @@
--- Numbers and bytes at a offset of an image depend on the bytes up to there alone.
+-- Numbers and bytes at an offset of an image depend on the bytes up to there alone.
 use Rattle.std.proofs.Common.{◌≡◌, ℕ, zero, suc, ◌+◌, ◌^◌, ◌<◌, ◌≤◌, List, [], ◌∷◌, ◌++◌, length, get_or, take, drop, refl, sym, ap, ◌∙◌, arith}
 use Rattle.std.specs.Int.{w32, w64, from_be_bytes}
 use Rattle.std.proofs.lemmas.List.{take_at, drop_at, take-take, drop-take, drop-drop, get_or-take, length-drop}
@@ -38,7 +38,7 @@ piece_eight m at i image le = ap (from_be_bytes w64) (piece_range m at i 8 image
 pub piece_four : (m at i : ℕ) (image : List ℕ) → i + 4 ≤ m → four_at (take m (drop at image)) i ≡ four_at image (at + i)
 piece_four m at i image le = ap (from_be_bytes w32) (piece_range m at i 4 image le)
 
--- ---- a number that stands at a offset
+-- ---- a number that stands at an offset
 
 pub eight_read : (image : List ℕ) (at n : ℕ) (rest : List ℕ) → n < 2 ^ 64 → drop at image ≡ eight n ++ rest → eight_at image at ≡ n
 eight_read image at n rest lt is =

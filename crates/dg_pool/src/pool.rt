@@ -64,7 +64,7 @@ impl From<AllocError> for AttachFault {
 
 /// Live slots rest on the slot that was to be released; this is the least of them.
 #[derive(Clone, Copy, Debug, PartialEq, Eq, Error)]
-#[error("a live slot rests on it")]
+#[error("the live slot {} rests on it", .0.0)]
 pub struct InUse(pub Slot);
 
 /// How far a sweep has come.

@@ -18,10 +18,9 @@ pub(crate) fn put_columns(
     requires { vec_len into.old + length structure.now + length node_attrs.now + length edge_attrs.now ≤ vec_capacity into.old }
     ensures { into.new.items ≡ into.old.items ++ (structure.now ++ (node_attrs.now ++ edge_attrs.now)) }
 {
-    // There is room, so these cannot fail.
-    let _ = into.extend_from_slice(structure);
-    let _ = into.extend_from_slice(node_attrs);
-    let _ = into.extend_from_slice(edge_attrs);
+    into.extend_from_slice(structure).unwrap();
+    into.extend_from_slice(node_attrs).unwrap();
+    into.extend_from_slice(edge_attrs).unwrap();
 }
 
 /// Puts a number of eight bytes.

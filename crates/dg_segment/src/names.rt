@@ -76,8 +76,7 @@ fn put_name(into: &mut Vec<u8>, text: &[u8]) -> Result<(), AllocError>
 {
     into.reserve(NAME_LENGTH_BYTES + text.len())?;
     let len = text.len() as u16;
-    // There is room, so these cannot fail.
-    let _ = into.extend_from_slice(&len.to_be_bytes());
-    let _ = into.extend_from_slice(text);
+    into.extend_from_slice(&len.to_be_bytes()).unwrap();
+    into.extend_from_slice(text).unwrap();
     Ok(())
 }

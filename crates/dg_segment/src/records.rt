@@ -62,8 +62,7 @@ impl Records {
         self.rows.reserve(1)?;
         self.columns
             .reserve(structure.len() + node_attrs.len() + edge_attrs.len())?;
-        // There is room, so this cannot fail.
-        let _ = self.rows.push(Row { ends, lengths });
+        self.rows.push(Row { ends, lengths }).unwrap();
         put_columns(&mut self.columns, structure, node_attrs, edge_attrs);
         Ok(())
     }

@@ -1,15 +1,13 @@
 use Rattle.std.proofs.Common.{sym, subst, None}
-use Rattle.std.proofs.lemmas.Bool.{false≢true}
 use Rattle.dg_set.specs.Apart.{AreApart}
 use Rattle.dg_columns.proofs.ElementsAt.{elements_keep}
 use Rattle.dg_columns.proofs.delta_reader.set_at.Goals as goal
 
-pub unreachable-requires : goal.unreachable-requires
-unreachable-requires c =
-    let kept = elements_keep c.args.count c.args.col c.args.names c.args.bytes.now c.args.others.now c.args.start None c.in_ok-items.items.items c.in_ok-items.end c.in_ok-items.ensures.elements in
-    false≢true (c.in-Err.ensures.exact.1 kept.set)
+pub from_rising-requires : goal.from_rising-requires
+from_rising-requires c =
+    (elements_keep c.args.count c.args.col c.args.names c.args.bytes.now c.args.others.now c.args.start None c.in_ok-items.items.items c.in_ok-items.end c.in_ok-items.ensures.elements).set
 
 pub returns-clause-apart : goal.returns-clause-apart
 returns-clause-apart c =
     let kept = elements_keep c.args.count c.args.col c.args.names c.args.bytes.now c.args.others.now c.args.start None c.in_ok-items.items.items c.in_ok-items.end c.in_ok-items.ensures.elements in
-    subst (AreApart c.args.others.now) (sym c.in-Ok.ensures.ok) kept.apart
+    subst (AreApart c.args.others.now) (sym c.from_rising.ensures) kept.apart

@@ -1,4 +1,4 @@
-use Rattle.std.proofs.Common.{◌≡◌, ◌+◌, [], None, arith}
+use Rattle.std.proofs.Common.{◌≡◌, ◌+◌, [], None, sym, arith}
 use Rattle.dg_graph.specs.ColumnGrammar.{element_size, elements_at}
 use Rattle.dg_columns.proofs.ElementsAt.{goes_on}
 use Rattle.dg_columns.proofs.sound_elements.elements_here.Goals as goal
@@ -10,6 +10,6 @@ loop-preserved c =
     let total = elements_at c.args.count c.args.col c.args.names bytes [] c.args.start None in
     let next : c.loop.offset + c.element_size-offset.result ≡ c.loop.offset + element_size x = omega (arith, c.element_size-offset.ensures) in
     record {
-      so_far = rw c.in-Ok.ensures.items (goes_on c.args.col c.args.names bytes [] c.loop.items.items c.args.count c.loop.counter c.loop.offset c.loop.last total c.loop-test.true x _ next c.in_ok-element.ensures.element c.loop.invariant.so_far);
+      so_far = rw (c.push.ensures.items, sym c.in_ok-ok.ensures.variant) (goes_on c.args.col c.args.names bytes [] c.loop.items.items c.args.count c.loop.counter c.loop.offset c.loop.last total c.loop-test.true x _ next c.in_ok-element.ensures.element c.loop.invariant.so_far);
       within = omega (arith, c.in_ok-element.ensures.fits, c.element_size-offset.ensures);
     }

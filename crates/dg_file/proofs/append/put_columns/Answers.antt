@@ -4,7 +4,7 @@ use Rattle.dg_index.specs.FileOfHistory.{Segment, blobs, bytes_of, delta_blobs, 
 use Rattle.dg_file.specs.Growth.{Moved, Grown}
 use Rattle.dg_file.proofs.Moves.{offset_behind, keep_then, grow_then}
 use Rattle.dg_file.proofs.SegmentText.{columns_are}
-use Rattle.dg_file.proofs.appending.put_columns.Goals as goal
+use Rattle.dg_file.proofs.append.put_columns.Goals as goal
 
 -- the bytes of the three parts are those of all columns
 sum_is : (s : Segment) → length (list_blobs s.lists) + (length (delta_blobs s.deltas) + length (bytes_of s.piece)) ≡ length (blobs s)

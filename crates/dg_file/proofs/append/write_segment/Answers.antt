@@ -3,7 +3,7 @@ use Rattle.dg_index.specs.FileOfHistory.{Segment, blobs, head_of, segment_bytes}
 use Rattle.dg_file.specs.Growth.{Moved, Grown, KeepsFront}
 use Rattle.dg_file.proofs.Moves.{offset_behind, keep_then, grow_then, on_ok_any}
 use Rattle.dg_file.proofs.SegmentText.{text_is}
-use Rattle.dg_file.proofs.appending.write_segment.Goals as goal
+use Rattle.dg_file.proofs.append.write_segment.Goals as goal
 
 sum_is : (s : Segment) (head : List ℕ) → head ≡ head_of s → length head + length (blobs s) ≡ length (segment_bytes s)
 sum_is s head is = omega (arith, ap length is, length-append (head_of s) (blobs s), ap length (text_is s))

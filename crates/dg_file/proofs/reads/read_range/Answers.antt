@@ -1,7 +1,7 @@
 use Rattle.std.proofs.Common.{◌≡◌, length, take, drop, sym, ap, subst, ◌∙◌, arith}
 use Rattle.dg_disk.specs.Image.{HasRange}
 use Rattle.dg_file.proofs.Found.{some_all, range_filled, filled, taken_none, taken_some}
-use Rattle.dg_file.proofs.reading.read_range.Goals as goal
+use Rattle.dg_file.proofs.reads.read_range.Goals as goal
 
 pub read_at-requires : goal.read_at-requires
 read_at-requires g c = subst (λ n. HasRange (g.D.Disk.image c.args.disk.now) c.args.offset n) (sym (c.deref_mut.ensures.len ∙ c.in_ok-bytes.ensures.len)) c.requires
