@@ -92,7 +92,7 @@ module _ (o : Opening) (known : ℕ) (h : StoredHistory) (graph : List Element) 
       by : (told : Option (List ℕ)) → IfSome told (λ image. (z : History) → StandsForKept z image o known h.names graph recent → ⊥) → IfSome told (λ image. (z : History) → IsOverHistory z image o known h → ⊥)
       by None n = tt
       by (Some image) n = λ z over. n z (stands_for z image over)
-  not_added new limit before after front changes fault.Read p stops = stops.1
+  not_added new limit before after front changes fault.Read p stops = (stops.1, record { events = events; whole = p.whole; come = come_whole o known h front changes events p })
   not_added new limit before after front changes fault.Memory p stops = stops.1
   not_added new limit before after front changes fault.Store p stops = record { events = events; segment = stops.segment; comes = comes before front changes stops.segment p stops.built; gains = stops.gains; fits = stops.fits }
 

@@ -2,6 +2,7 @@
 
 ghost use Rattle.std.specs.Prelude.{◌≡◌, ◌≤◌, ◌<◌, ◌^◌, List, true, IfOk, IfErr, IfSome, IsErrOf, is_some, length, take, OnErr, OnOk, ℕ};
 ghost use Rattle.dg_append.specs.AddedBatches.{AddsBatch, FailsBatch, IsBack, IsReady, LeavesHistory, ReadsNothing, TakesOlder};
+ghost use Rattle.dg_append.specs.Faults.{OnlyReadFailed};
 ghost use Rattle.dg_disk.specs.Counts.{Rose};
 ghost use Rattle.dg_disk.specs.Frame.{GoesOn};
 ghost use Rattle.dg_graph.specs.Composition.{applied};
@@ -83,7 +84,7 @@ fn try_batch<R: Threads, D: Disk>(
     ensures unread { (front ≡ Front.Whole → ⊥) → D.taken disk.new ≡ D.taken disk.old }
     // causes
     ensures cause { IsErrOf result BatchFault.Store → Rose (D.write_faults disk.old) (D.write_faults disk.new) }
-    ensures read { IsErrOf result BatchFault.Read → Rose (D.faults disk.old) (D.faults disk.new) × (D.write_faults disk.new ≡ D.write_faults disk.old) }
+    ensures read { IsErrOf result BatchFault.Read → OnlyReadFailed D.faults D.write_faults disk.old disk.new }
     // what it leaves
     ensures disk { GoesOn D.image D.faults D.write_faults disk.old disk.new }
 {
@@ -162,7 +163,7 @@ pub fn add_batch<R: Threads, D: Disk>(
     ensures unread { (front ≡ Front.Whole → ⊥) → D.taken disk.new ≡ D.taken disk.old }
     // causes
     ensures cause { IsErrOf result BatchFault.Store → Rose (D.write_faults disk.old) (D.write_faults disk.new) }
-    ensures read { IsErrOf result BatchFault.Read → Rose (D.faults disk.old) (D.faults disk.new) × (D.write_faults disk.new ≡ D.write_faults disk.old) }
+    ensures read { IsErrOf result BatchFault.Read → OnlyReadFailed D.faults D.write_faults disk.old disk.new }
     // what it leaves
     ensures disk { GoesOn D.image D.faults D.write_faults disk.old disk.new }
 {

@@ -5,6 +5,7 @@ ghost use Rattle.std.specs.List.{All};
 ghost use Rattle.dg_append.specs.AddedBatches.{recent_behind};
 ghost use Rattle.dg_append.specs.BatchNets.{led_by};
 ghost use Rattle.dg_append.specs.BatchSegments.{IsBuiltOver, IsSegmentBehind, KeepsBatch, MayFollow, StopsBatch, StopsSegment, TakesSinglesOver};
+ghost use Rattle.dg_append.specs.Faults.{OnlyReadFailed};
 ghost use Rattle.dg_cells.specs.Rows.{AllHave};
 ghost use Rattle.dg_columns.specs.NamesInRange.{NamesFit};
 ghost use Rattle.dg_disk.specs.Counts.{Rose};
@@ -135,7 +136,7 @@ pub(crate) fn keep_batch<R: Threads, D: Disk>(
     // why it is not kept
     ensures fails { IfErr result (λ fault. StopsBatch limit known index.old.opening index.new.opening names.now (graph_now pool.old) recent.now events.now (D.image disk.old) (D.image disk.new) fault) }
     ensures cause { IsErrOf result BatchFault.Store → Rose (D.write_faults disk.old) (D.write_faults disk.new) }
-    ensures read { IsErrOf result BatchFault.Read → Rose (D.faults disk.old) (D.faults disk.new) × (D.write_faults disk.new ≡ D.write_faults disk.old) }
+    ensures read { IsErrOf result BatchFault.Read → OnlyReadFailed D.faults D.write_faults disk.old disk.new }
     // what it leaves
     ensures disk { GoesOn D.image D.faults D.write_faults disk.old disk.new }
 {
