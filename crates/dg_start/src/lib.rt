@@ -14,7 +14,7 @@ mod stored_history;
 mod testing;
 
 pub use event_source::EventSource;
-pub use fault::StartFault;
+pub use fault::{RecordFault, StartFault};
 pub use keys::has_key;
 pub use laws::{law_images_start_as_they_stand, law_starts_are_determined};
 pub use opening::{OpenedFile, open};

@@ -14,7 +14,7 @@ use crate::keys::has_key;
 use dg_graph::Event;
 use dg_index::Ends;
 use dg_names::Names;
-use dg_now::{FromFault, Now};
+use dg_now::Now;
 use dg_set::Set;
 use std::alloc::{AllocError, Global};
 
@@ -110,14 +110,9 @@ pub fn current_graph(
     ensures none { IfOk result (λ now. now.pending ≡ []) }
     ensures refused { IfErr result (RefusesEvents names.now first set (bounded (sources_in sources.now) events.now)) }
 {
-    let mut current = match Now::from_set(alloc, set) {
-        Ok(current) => current,
-        Err(FromFault::NotGraph) => return Err(StartFault::NotGraph),
-        Err(FromFault::Memory) => return Err(StartFault::Memory),
-    };
-    match first_wrong(&mut current, names, first, sources, events) {
-        Ok(None) => Ok(current),
-        Ok(Some(number)) => Err(StartFault::BadRecent(number)),
-        Err(AllocError) => Err(StartFault::Memory),
+    let mut current = Now::from_set(alloc, set)?;
+    match first_wrong(&mut current, names, first, sources, events)? {
+        None => Ok(current),
+        Some(number) => Err(StartFault::BadRecent(number)),
     }
 }

@@ -71,17 +71,16 @@ fn read_all<D: Disk>(
 }
 
 // Why verifying stops behind these events: for an event that may not stand there, or else for this.
-fn first_stop(alloc: Global, names: &Names, own: &OwnEvents, stop: Stop) -> Stop
-    ensures first { (due : Result (List Event) (Key × Column)) → IsStopBehind names.now own.now stop due → IsStop result due }
-    ensures disk { result ≡ Stop.Disk → stop ≡ Stop.Disk }
+fn first_stop(alloc: Global, names: &Names, own: &OwnEvents, stop: Stop) -> Result<Stop, AllocError>
+    ensures first { IfOk result (λ first. (due : Result (List Event) (Key × Column)) → IsStopBehind names.now own.now stop due → IsStop first due) }
+    ensures disk { IfOk result (λ first. first ≡ Stop.Disk → stop ≡ Stop.Disk) }
 {
     let Stop::Wrong(_, _) = stop else {
-        return stop;
+        return Ok(stop);
     };
-    match own.first_unfit(alloc, names) {
-        Ok(Some(key)) => Stop::Wrong(key, Column::Structure),
-        Ok(None) => stop,
-        Err(AllocError) => Stop::Memory,
+    match own.first_unfit(alloc, names)? {
+        Some(key) => Ok(Stop::Wrong(key, Column::Structure)),
+        None => Ok(stop),
     }
 }
 
@@ -158,7 +157,7 @@ fn compare_all<R: Threads, D: Disk>(
     index.facts();
     let mut own = OwnEvents::new(alloc);
     if let Err(stop) = read_all(alloc, index, disk, names, &mut own) {
-        return Err(first_stop(alloc, names, &own, stop));
+        return Err(first_stop(alloc, names, &own, stop)?);
     }
     let due = test_and_make(rt, alloc, index.params(), names, own)?;
     compare_deltas(index, disk, &due, DeltaKind::Top)?;

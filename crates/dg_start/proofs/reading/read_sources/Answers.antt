@@ -10,6 +10,7 @@ use Rattle.dg_index.specs.OpenedIndex.{Opening}
 use Rattle.dg_plan.specs.HistoryGraph.{all_columns}
 use Rattle.dg_start.specs.declared.event_source.EventSource.{EventSource}
 use Rattle.dg_start.specs.declared.fault.StartFault.{StartFault}
+use Rattle.dg_start.specs.Faults.{start_fault_of_record}
 use Rattle.dg_start.specs.RecentReading.{Source, events_in_source, events_in_sources}
 use Rattle.dg_start.specs.Reading.{WhereTold, source_of, sources_in}
 use Rattle.dg_start.specs.Refusals.{IsReason}
@@ -31,10 +32,10 @@ returns-in_err-more-clause-refused g c =
     let item : EventSource = get_or c.args.sources.now c.loop-source.source-index no_source in
     let next : IsNextSource all c.loop-source.source-index (source_of item) = next_source c.args.sources.now c.loop-source.source-index no_source c.loop-source-test.true in
     let told = g.D.Disk.image c.args.disk.now in
-    err_is c.from_residual.result c.in_err-more.field-0.0 (λ (f : StartFault). WhereTold told (λ image. IsReason f (events_in_sources image c.args.names o all))) c.from_residual.ensures
+    err_is c.from_residual.result (start_fault_of_record c.in_err-more.field-0.0) (λ (f : StartFault). WhereTold told (λ image. IsReason f (events_in_sources image c.args.names o all))) c.from_residual.ensures
     (source_refused told c.args.names o all c.loop-source.source-index (source_of item) next c.loop-source.events.items (g.D.Disk.taken c.args.disk.now) (g.D.Disk.taken c.loop-source.disk)
-    c.in_err-more.field-0.0 c.loop-source.invariant.so_far
-    (said_before (g.D.Disk.image c.loop-source.disk) told c.loop-source.index.opening o (λ image p. IsReason c.in_err-more.field-0.0 (events_in_source image c.args.names p (source_of item)))
+    (start_fault_of_record c.in_err-more.field-0.0) c.loop-source.invariant.so_far
+    (said_before (g.D.Disk.image c.loop-source.disk) told c.loop-source.index.opening o (λ image p. IsReason (start_fault_of_record c.in_err-more.field-0.0) (events_in_source image c.args.names p (source_of item)))
     c.loop-source.invariant.frame.same_image (ap (λ (x : IndexState). x.opening) c.loop-source.invariant.same) c.in_err-more.ensures.refused))
 
 pub loop-source-preserved : goal.loop-source-preserved
