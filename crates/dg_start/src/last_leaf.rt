@@ -76,16 +76,20 @@ pub fn last_set<R: Threads + Sync, D: Disk>(
     names: u32,
 ) -> Result<Set, StartFault>
     requires image { IfSome (D.image disk.old) (λ image. IsOpenedAs image index.old.opening) }
+
     // the set
     ensures led { IfOk result (λ set. IfSome (D.image disk.old) (λ image.
         IsLedByPlan names image index.old.opening (last_leaf index.old.opening) (Ok set))) }
+
     // the bytes read, over an image of a history
     ensures takes { OnOk result (IfSome (D.image disk.old) (λ image. (z : History) → IsIndexOver z image index.old.opening names
         → (steps : List ℕ) → PlansLastLeaf index.old.opening steps
         → Takes (weight_of (arcs_of (record_edges index.old.opening)) steps) (D.taken disk.old) (D.taken disk.new))) }
+
     // why there is none
     ensures refused { IfErr result (λ fault. IfSome (D.image disk.old) (λ image. RefusesPlan names image index.old.opening fault)) }
     ensures cause { IsErrOf result StartFault.Disk → Rose (D.faults disk.old) (D.faults disk.new) }
+
     // what it leaves
     ensures same { index.new ≡ index.old }
     ensures disk { OnlyReads D.image D.faults D.write_faults disk.old disk.new }

@@ -49,6 +49,7 @@ fn read_column<D: Disk>(
         (λ image. Takes (length (kept_in image index.old.opening key col)) (D.taken disk.old) (D.taken disk.new))) }
     ensures same { index.new ≡ index.old }
     ensures cause { IsErrOf result RecordFault.Disk → Rose (D.faults disk.old) (D.faults disk.new) }
+
     // what it leaves
     ensures disk { OnlyReads D.image D.faults D.write_faults disk.old disk.new }
 {
@@ -86,6 +87,7 @@ pub fn read_record<D: Disk>(
         (λ image. Takes (asked_length (kept_in image index.old.opening) all_columns source.key) (D.taken disk.old) (D.taken disk.new))) }
     ensures same { index.new ≡ index.old }
     ensures cause { IsErrOf result RecordFault.Disk → Rose (D.faults disk.old) (D.faults disk.new) }
+
     // what it leaves
     ensures disk { OnlyReads D.image D.faults D.write_faults disk.old disk.new }
 {

@@ -53,15 +53,18 @@ fn read_all<D: Disk>(
     requires none { own.old.events.items ≡ [] }
     requires image { IfSome (D.image disk.old) (λ image. opening image ≡ Ok (opened_with index.old.opening names.now)) }
     requires read { IsRead own.old }
+
     // the events
     ensures own { OnOk result (WhereTold (D.image disk.old)
         (λ image. own_events image (opened_with index.old.opening names.now) ≡ tested names.now own.new (Ok own.new.events.items))) }
     ensures read { OnOk result (IsRead own.new) }
     ensures many { OnOk result (length own.new.events.items ≡ event_total index.old.opening.batches) }
+
     // why there are none
     ensures stopped { IfErr result (λ stop. WhereTold (D.image disk.old)
         (λ image. IsStopBehind names.now own.new stop (own_events image (opened_with index.old.opening names.now)))) }
     ensures cause { IsErrOf result Stop.Disk → Rose (D.faults disk.old) (D.faults disk.new) }
+
     // what it leaves
     ensures same { index.new ≡ index.old }
     ensures disk { OnlyReads D.image D.faults D.write_faults disk.old disk.new }
@@ -150,6 +153,7 @@ fn compare_all<R: Threads, D: Disk>(
     ensures stopped { IfErr result (λ stop. WhereTold (D.image disk.old)
         (λ image. IsUnsound stop (soundness_of image (opened_with index.old.opening names.now)))) }
     ensures cause { IsErrOf result Stop.Disk → Rose (D.faults disk.old) (D.faults disk.new) }
+
     // what it leaves
     ensures same { index.new ≡ index.old }
     ensures disk { OnlyReads D.image D.faults D.write_faults disk.old disk.new }
@@ -189,6 +193,7 @@ pub fn verify<R: Threads, D: Disk>(
     requires image { IfSome (D.image disk.old) (λ image. opening image ≡ Ok (record { index = index.old.opening; names = names.now })) }
     ensures sound { IfOk result (λ s. IfSome (D.image disk.old) (λ image. s ≡ soundness_of image (record { index = index.old.opening; names = names.now }))) }
     ensures cause { IsErrOf result VerifyFault.Disk → Rose (D.faults disk.old) (D.faults disk.new) }
+
     // what it leaves
     ensures same { index.new ≡ index.old }
     ensures disk { OnlyReads D.image D.faults D.write_faults disk.old disk.new }
