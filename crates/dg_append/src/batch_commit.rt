@@ -62,12 +62,12 @@ fn make_batch<R: Threads, D: Disk>(
     requires follows { MayFollow index.old.opening recent.now events.now }
     requires within { known ≤ length names.now }
     requires recent_fit { All (λ e. NamesFit e.body) recent.now }
+    requires fit { All (λ e. NamesFit e.body) events.now }
     requires changes { AreChangesOf (graph_now pool.old) events.now }
 
     // what is made
     ensures left { IfOk result (λ made. made.left.items ≡ recent_behind index.old.opening.params (event_total index.old.opening.batches) recent.now events.now) }
     ensures behind { IfOk result (λ made. IsSegmentBehind index.old.opening (drop known names.now) recent.now events.now made.segment) }
-    ensures fit { OnOk result (All (λ e. NamesFit e.body) events.now) }
     ensures built { IfOk result (λ made. IsBuiltOver (D.image disk.old) index.old.opening known names.now (graph_now pool.old) recent.now events.now made.segment) }
     ensures earlier { IfOk result (λ made. AllHave pool.new.rows made.nets.earlier.plus) }
     ensures later { IfOk result (λ made. AllHave pool.new.rows made.nets.later.plus) }
@@ -123,13 +123,13 @@ pub(crate) fn keep_batch<R: Threads, D: Disk>(
     requires counted { length (take known names.now) ≡ name_total index.old.opening.batches }
     requires named { may_be_named (take known names.now) (drop known names.now) ≡ true }
     requires recent_fit { All (λ e. NamesFit e.body) recent.now }
+    requires fit { All (λ e. NamesFit e.body) events.now }
     requires set { IsSet (graph_now pool.old) }
     requires changes { AreChangesOf (graph_now pool.old) events.now }
 
     // what is kept
     ensures kept { OnOk result (KeepsBatch limit known index.old.opening index.new.opening names.now (graph_now pool.old) recent.now events.now (D.image disk.old) (D.image disk.new)) }
     ensures left { IfOk result (λ left. left.items ≡ recent_behind index.old.opening.params (event_total index.old.opening.batches) recent.now events.now) }
-    ensures fit { OnOk result (All (λ e. NamesFit e.body) events.now) }
 
     // the pool
     ensures passed { OnOk result (graph_now pool.new ≡ replay_from (graph_now pool.old) events.now) }

@@ -24,7 +24,6 @@ ghost use Rattle.dg_retrieval.specs.KeptGraph.{record_edges};
 ghost use Rattle.dg_start.specs.StoredHistory.{floor_of, recent_count};
 
 use crate::fault::BatchFault;
-use crate::name_range::are_spelled;
 use crate::older_sets::older_sets;
 use crate::segment::segment_of;
 use dg_disk::Disk;
@@ -59,10 +58,10 @@ pub(crate) fn make_segment<R: Threads, D: Disk>(
     requires within { known ≤ length names.now }
     requires counted { length recent.now ≡ recent_count index.old.opening }
     requires recent_fit { All (λ e. NamesFit e.body) recent.now }
+    requires fit { All (λ e. NamesFit e.body) events.now }
     requires rises { RisesFrom (floor_of index.old.opening (first_time_of events.now)) (recent.now ++ events.now) }
     requires changes { AreChangesOf (graph_now pool.now) events.now }
     ensures behind { IfOk result (λ s. IsSegmentBehind index.old.opening (drop known names.now) recent.now events.now s) }
-    ensures fit { OnOk result (All (λ e. NamesFit e.body) events.now) }
     ensures is { IfOk result (λ s. IfSome (D.image disk.old) (λ image. (z : History) → StandsForKept z image index.old.opening known names.now (graph_now pool.now) recent.now
         → s ≡ segment_of z.params (events_of z) (batch_with known names.now events.now))) }
 
@@ -79,10 +78,6 @@ pub(crate) fn make_segment<R: Threads, D: Disk>(
     ensures same { index.new ≡ index.old }
     ensures disk { OnlyReads D.image D.faults D.write_faults disk.old disk.new }
 {
-    // The values of a graph are numbers of names, so those before the events can be spelled too.
-    if !are_spelled(events) {
-        return Err(BatchFault::Memory);
-    }
     let older = older_sets(rt, alloc, index, disk, known, events.len() as u64)?;
     segment_of(alloc, index, names, known, recent, pool, events, &older)
 }

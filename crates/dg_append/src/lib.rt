@@ -9,7 +9,6 @@ mod batch_segment;
 mod completion;
 mod fault;
 mod front;
-mod name_range;
 mod nets;
 mod older_children;
 mod older_sets;

@@ -19,6 +19,7 @@ ghost use Rattle.dg_plan.specs.IndexGraph.{arcs_of};
 ghost use Rattle.dg_plan.specs.Walks.{weight_of};
 ghost use Rattle.dg_retrieval.specs.KeptGraph.{record_edges};
 ghost use Rattle.dg_retrieval.specs.NodeSets.{IsIndexOver};
+ghost use Rattle.dg_retrieval.specs.ValueRange.{ValuesFit};
 ghost use Rattle.dg_start.specs.SessionStart.{PlansLastLeaf, RefusesStart, Starts, recent_bytes, start_bytes};
 ghost use Rattle.dg_start.specs.StoredHistory.{IsHeldBy, IsSoundHistory, KeepsHistory, MayGoOn, index_opening, recent_count, started_with};
 
@@ -73,6 +74,7 @@ fn read_current<R: Threads + Sync, D: Disk, T: Drop, F: FnOnce(&Set) -> T>(
     ensures made { IfOk result (λ current. (set : List Element) × FnOnceReturnsAt F.FnOnce make set current.made
         × (current.now.graph ≡ replay_from set current.recent.items)) }
     ensures none { IfOk result (λ current. current.now.pending ≡ []) }
+    ensures values { IfOk result (λ current. ValuesFit current.now.graph) }
     ensures many { IfOk result (λ current. length current.recent.items ≡ recent_count index.old.opening) }
     ensures fit { IfOk result (λ current. All (λ (e : Event). NamesFit e.body) current.recent.items) }
     ensures goes_on { IfOk result (λ current. MayGoOn (Some index.old.opening) current.recent.items) }
