@@ -27,6 +27,8 @@ use Rattle.dg_now.specs.Now.{NowState}
 use Rattle.dg_plan.specs.IndexGraph.{arcs_of}
 use Rattle.dg_plan.specs.Walks.{AreSingles}
 use Rattle.dg_retrieval.specs.KeptGraph.{record_edges}
+use Rattle.dg_retrieval.specs.ValueRange.{ValuesFit}
+use Rattle.dg_retrieval.proofs.ValueRanges.{replay_fits}
 use Rattle.dg_start.specs.declared.stored_history.StoredHistory.{StoredHistory}
 use Rattle.dg_start.specs.StoredHistory.{AreCounted, IsHeldBy, IsKeptOf, IsSoundHistory, MayGoOn, index_opening}
 
@@ -92,7 +94,7 @@ module _ (o : Opening) (known : ℕ) (h : StoredHistory) (graph : List Element) 
       by : (told : Option (List ℕ)) → IfSome told (λ image. (z : History) → StandsForKept z image o known h.names graph recent → ⊥) → IfSome told (λ image. (z : History) → IsOverHistory z image o known h → ⊥)
       by None n = tt
       by (Some image) n = λ z over. n z (stands_for z image over)
-  not_added new limit before after front changes fault.Read p stops = stops.1
+  not_added new limit before after front changes fault.Read p stops = (stops.1, record { events = events; whole = p.whole; come = come_whole o known h front changes events p })
   not_added new limit before after front changes fault.Memory p stops = stops.1
   not_added new limit before after front changes fault.Store p stops = record { events = events; segment = stops.segment; comes = comes before front changes stops.segment p stops.built; gains = stops.gains; fits = stops.fits }
 
@@ -135,9 +137,9 @@ gains_held (Some x) (Some y) o new s names same h g = g names h
 
 -- the history with the batch is sound
 pub sound_after : (o : Opening) (limit known : ℕ) (old : StoredHistory) (front : Front) (changes : List Change) (events : List Event) (s : Segment) (before after : Option (List ℕ)) (told : Option Opening) (names : List (List ℕ)) (now : NowState) (recent : List Event)
-    → IsReady o known old front changes → IsPrepared o known old front changes events → IsSegmentBehind o (drop known old.names) old.recent.items events s → All (λ (e : Event). NamesFit e.body) events
+    → IsReady o known old front changes → IsPrepared o known old front changes events → IsSegmentBehind o (drop known old.names) old.recent.items events s
     → IsAdded o limit known old before after events s told names now recent → IsSoundHistory told names now recent
-sound_after o limit known old front changes events s before after told names now recent r p b fit a =
+sound_after o limit known old front changes events s before after told names now recent r p b a =
     let m : MayFollow o old.recent.items events = p.follows in
     let left : List Event = recent_behind o.params (event_total o.batches) old.recent.items events in
     let many_names : length (take known old.names) + length (drop known old.names) ≡ length old.names =
@@ -149,7 +151,8 @@ sound_after o limit known old front changes events s before after told names now
     record {
       pending = a.pending;
       counted = subst (λ (i : Option Opening). AreCounted i names now.graph recent) (sym a.index) counted;
-      fit = subst (λ (es : List Event). All (λ (e : Event). NamesFit e.body) es) (sym a.recent_is) (new_fit o old.recent.items events r.sound.fit fit);
+      values = subst ValuesFit (sym a.graph) (replay_fits old.now.graph events r.sound.values p.fit);
+      fit = subst (λ (es : List Event). All (λ (e : Event). NamesFit e.body) es) (sym a.recent_is) (new_fit o old.recent.items events r.sound.fit p.fit);
       goes_on = subst (λ (i : Option Opening). MayGoOn i recent) (sym a.index)
           (subst (λ (es : List Event). MayGoOn (Some (index_with o s)) es) (sym a.recent_is) (new_goes_on o old.recent.items events m (drop known old.names) s b));
     }

@@ -7,8 +7,8 @@ use Rattle.std.proofs.lemmas.List.Sums.{sum_by_push}
 use borrow.Author.Tests.{leb-true, le-leb}
 use Rattle.dg_append.proofs.RisingTimes.{begins_first, from_first, last_of_both, rest_begins, rest_ends, rest_rises, rises_joined, rises_last}
 use Rattle.dg_append.specs.AddedBatches.{recent_behind}
-use Rattle.dg_append.specs.BatchSegments.{BeginsBehind, IsSegmentBehind, MayFollow, last_in_rows}
-use Rattle.dg_build.specs.SpelledRecords.{RisesFrom}
+use Rattle.dg_append.specs.BatchSegments.{BeginsBehind, IsSegmentBehind, MayFollow}
+use Rattle.dg_build.specs.SpelledRecords.{RisesFrom, last_in_rows}
 use Rattle.dg_columns.specs.NamesInRange.{NamesFit}
 use Rattle.dg_graph.specs.declared.event.Event.{Event}
 use Rattle.dg_graph.specs.declared.limits.TheConstants.{NAMES_MAX, TIME_MAX}

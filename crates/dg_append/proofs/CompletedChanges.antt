@@ -1,10 +1,12 @@
 -- What is known of events that some changes come to.
-use Rattle.std.proofs.Common.{◌≡◌, ℕ, ◌+◌, ◌≤◌, Bool, true, false, not, ◌&&◌, List, [], ◌∷◌, Option, Some, None, Result, Ok, Err, if◌then◌else◌, length, find, refl, sym, ◌∙◌, ap, subst, nat_lt, arith}
-use Rattle.std.specs.Prelude.{IfSome, is_some, nat_eq}
+use Rattle.std.proofs.Common.{◌≡◌, ℕ, ◌+◌, ◌<◌, ◌≤◌, ◌^◌, Bool, true, false, not, ◌&&◌, ◌||◌, List, [], ◌∷◌, Option, Some, None, Result, Ok, Err, if◌then◌else◌, length, find, refl, sym, ◌∙◌, ap, subst, nat_lt, arith}
+use Rattle.std.specs.Prelude.{IfSome, is_some, nat_eq, option_and_then}
 use Rattle.std.specs.Option.{option_eq}
 use Rattle.std.specs.List.{All, list_any}
 use Rattle.std.proofs.lemmas.List.Elements.{All-nil, All-cons, All-head, All-tail}
 use borrow.Author.Tests.{ltb-false, eqb-true, eq-eqb}
+use Rattle.dg_append.specs.AddedBatches.{WhatNamesFit}
+use Rattle.dg_columns.specs.NamesInRange.{NamesFit}
 use Rattle.dg_graph.specs.declared.element.Element.{Element}
 use Rattle.dg_graph.specs.declared.element.Element.TheVariants as element
 use Rattle.dg_graph.specs.declared.event.Body.{Body}
@@ -16,11 +18,14 @@ use Rattle.dg_graph.specs.declared.event.What.TheVariants as what
 use Rattle.dg_graph.specs.declared.event.TheConstants.{REASON_NODE_EXISTS, REASON_NO_NODE, REASON_NODE_IN_USE, REASON_EDGE_EXISTS, REASON_NO_END, REASON_NO_EDGE, REASON_TIME}
 use Rattle.dg_graph.specs.declared.limits.TheConstants.{TIME_MAX}
 use Rattle.dg_graph.specs.CompletedChanges.{completed, event_of, go_on, on_value}
-use Rattle.dg_graph.specs.Completion.{has_node, is_edge, edge_of, needs_node, needs_edge, node_value, edge_value, edge_removal, value_removal, complete, is_change_of, is_found, is_value_change}
+use Rattle.dg_graph.specs.Completion.{has_node, is_edge, edge_of, needs_node, needs_edge, node_value, edge_value, edge_removal, value_removal, complete, is_change_of, is_found, is_value_change, is_node_value, is_edge_value, value_in, value_removal}
 use Rattle.dg_graph.specs.Effect.{forwards}
-use Rattle.dg_graph.proofs.Sets.{same_itself}
+use Rattle.dg_graph.specs.Elements.{has, same}
+use Rattle.dg_graph.proofs.Sets.{has_first, same_itself}
 use Rattle.dg_history.specs.History.{last_time_from}
 use Rattle.dg_list.specs.NetLaws.{AreMadeByChanges}
+use Rattle.dg_retrieval.proofs.ValueRanges.{forwards_fit}
+use Rattle.dg_retrieval.specs.ValueRange.{ValueFits, ValuesFit}
 
 -- the element that is found is one that was looked for
 pub find_is : {A : Type 0} (p : A → Bool) (xs : List A) (x : A) → find p xs ≡ Some x → p x ≡ true
@@ -227,3 +232,91 @@ times_fit earliest set (Some c ∷ changes) (e ∷ events) h f =
     let here : c.time ≤ TIME_MAX = All-head (λ c. IfSome c (λ (c : Change). c.time ≤ TIME_MAX)) (Some c) changes f in
     All-cons (λ (e : Event). e.time ≤ TIME_MAX) e events (omega (arith, here, h.0.time))
     (times_fit e.time (forwards set e) changes events h.1 (All-tail (λ c. IfSome c (λ (c : Change). c.time ≤ TIME_MAX)) (Some c) changes f))
+
+-- ---- the names of the events
+
+-- what is found in a set is one of its elements
+found_there : (p : Element → Bool) (set : List Element) (x : Element) → find p set ≡ Some x → has set x ≡ true
+found_there p [] x h = cc
+found_there p (y ∷ set) x h = go (p y) h (λ e. found_there p set x e)
+  where
+    later : (a b : Bool) → b ≡ true → (a || b) ≡ true
+    later true b e = refl
+    later false b e = e
+
+    go : (b : Bool) → (if b then Some y else find p set) ≡ Some x → (find p set ≡ Some x → has set x ≡ true) → has (y ∷ set) x ≡ true
+    go true e next = let s : y ≡ x = cc in subst (λ (z : Element). has (z ∷ set) x ≡ true) (sym s) (has_first x set)
+    go false e next = later (same x y) (has set x) (next e)
+
+-- so its value fits
+value_found : (p : Element → Bool) (set : List Element) → ValuesFit set → IfSome (option_and_then value_in (find p set)) (λ n. n < 2 ^ 30)
+value_found p set fit = by (find p set) refl
+  where
+    own : (x : Element) → ValueFits x → IfSome (value_in x) (λ n. n < 2 ^ 30)
+    own (element.Node id) f = tt
+    own (element.Edge id src dst directed) f = tt
+    own (element.NodeAttr id key value) f = f
+    own (element.EdgeAttr id key value) f = f
+
+    by : (o : Option Element) → find p set ≡ o → IfSome (option_and_then value_in o) (λ n. n < 2 ^ 30)
+    by None is = tt
+    by (Some x) is = own x (fit x (found_there p set x is))
+
+ok_fits : (x b : Body) → NamesFit x → (let r : Result Body ℕ = Ok x in r) ≡ Ok b → NamesFit b
+ok_fits x b f h = let s : x ≡ b = cc in subst NamesFit s f
+
+or_else : (t : Bool) (reason : ℕ) (r : Result Body ℕ) (b : Body) → (if t then Err reason else r) ≡ Ok b → r ≡ Ok b
+or_else true reason r b h = cc
+or_else false reason r b h = h
+
+if_so : (t : Bool) (reason : ℕ) (r : Result Body ℕ) (b : Body) → (if t then r else Err reason) ≡ Ok b → r ≡ Ok b
+if_so true reason r b h = h
+if_so false reason r b h = cc
+
+removal_fits : (needed : Bool) (found : Option Element) (b : Body) → edge_removal needed found ≡ Ok b → NamesFit b
+removal_fits needed None b h = cc
+removal_fits needed (Some (element.Node n)) b h = cc
+removal_fits needed (Some (element.NodeAttr n key value)) b h = cc
+removal_fits needed (Some (element.EdgeAttr n key value)) b h = cc
+removal_fits true (Some (element.Edge n src dst directed)) b h = cc
+removal_fits false (Some (element.Edge n src dst directed)) b h = ok_fits (body.EdgeRemoved n src dst directed) b tt h
+
+taken_fits : (make : Option ℕ → Option ℕ → Body) (found : Option ℕ) (b : Body) → IfSome found (λ n. n < 2 ^ 30) → ((value : ℕ) → value < 2 ^ 30 → NamesFit (make (Some value) None)) → value_removal make found ≡ Ok b → NamesFit b
+taken_fits make None b f made h = cc
+taken_fits make (Some value) b f made h = ok_fits (make (Some value) None) b (made value f) h
+
+what_fits : (w : What) (set : List Element) (b : Body) → ValuesFit set → WhatNamesFit w → complete w set ≡ Ok b → NamesFit b
+what_fits (what.AddNode id) set b fit names h = ok_fits (body.NodeAdded id) b tt (or_else (has_node set id) REASON_NODE_EXISTS (Ok (body.NodeAdded id)) b h)
+what_fits (what.RemoveNode id) set b fit names h =
+    let free : Result Body ℕ = Ok (body.NodeRemoved id) in
+    let used : Result Body ℕ = if list_any (needs_node id) set then Err REASON_NODE_IN_USE else free in
+    ok_fits (body.NodeRemoved id) b tt (or_else (list_any (needs_node id) set) REASON_NODE_IN_USE free b (or_else (not (has_node set id)) REASON_NO_NODE used b h))
+what_fits (what.AddEdge id src dst directed) set b fit names h =
+    let made : Result Body ℕ = Ok (body.EdgeAdded id src dst directed) in
+    let ends : Result Body ℕ = if has_node set src && has_node set dst then made else Err REASON_NO_END in
+    ok_fits (body.EdgeAdded id src dst directed) b tt (if_so (has_node set src && has_node set dst) REASON_NO_END made b (or_else (is_some (edge_of set id)) REASON_EDGE_EXISTS ends b h))
+what_fits (what.RemoveEdge id) set b fit names h = removal_fits (list_any (needs_edge id) set) (edge_of set id) b h
+what_fits (what.SetNode id key value) set b fit names h =
+    let x : Body = body.NodeAttr id key (node_value set id key) (Some value) in
+    ok_fits x b (names.0, value_found (is_node_value id key) set fit, names.1) (if_so (has_node set id) REASON_NO_NODE (Ok x) b h)
+what_fits (what.UnsetNode id key) set b fit names h =
+    taken_fits (λ old new. body.NodeAttr id key old new) (node_value set id key) b (value_found (is_node_value id key) set fit) (λ value few. (names, few, tt))
+    (if_so (has_node set id) REASON_NO_NODE (value_removal (λ old new. body.NodeAttr id key old new) (node_value set id key)) b h)
+what_fits (what.SetEdge id key value) set b fit names h =
+    let x : Body = body.EdgeAttr id key (edge_value set id key) (Some value) in
+    ok_fits x b (names.0, value_found (is_edge_value id key) set fit, names.1) (if_so (is_some (edge_of set id)) REASON_NO_EDGE (Ok x) b h)
+what_fits (what.UnsetEdge id key) set b fit names h =
+    taken_fits (λ old new. body.EdgeAttr id key old new) (edge_value set id key) b (value_found (is_edge_value id key) set fit) (λ value few. (names, few, tt))
+    (if_so (is_some (edge_of set id)) REASON_NO_EDGE (value_removal (λ old new. body.EdgeAttr id key old new) (edge_value set id key)) b h)
+
+-- the events of changes over a graph can be spelled, where the names of the changes and the values of the graph can be
+pub names_fit : (earliest : ℕ) (set : List Element) (changes : List (Option Change)) (events : List Event)
+    → AllCome earliest set changes events → ValuesFit set → All (λ c. IfSome c (λ (c : Change). WhatNamesFit c.what)) changes → All (λ (e : Event). NamesFit e.body) events
+names_fit earliest set [] [] h fit f = All-nil (λ (e : Event). NamesFit e.body)
+names_fit earliest set [] (e ∷ events) h fit f = absurd h
+names_fit earliest set (None ∷ changes) events h fit f = absurd h
+names_fit earliest set (Some c ∷ changes) [] h fit f = absurd h
+names_fit earliest set (Some c ∷ changes) (e ∷ events) h fit f =
+    let here : NamesFit e.body = what_fits c.what set e.body fit (All-head (λ c. IfSome c (λ (c : Change). WhatNamesFit c.what)) (Some c) changes f) h.0.body in
+    All-cons (λ (e : Event). NamesFit e.body) e events here
+    (names_fit e.time (forwards set e) changes events h.1 (forwards_fit set e fit here) (All-tail (λ c. IfSome c (λ (c : Change). WhatNamesFit c.what)) (Some c) changes f))

@@ -5,13 +5,14 @@ use Rattle.std.specs.List.{All}
 use Rattle.std.proofs.lemmas.List.{length-map}
 use Rattle.std.proofs.lemmas.List.Elements.{All-nil, All-cons, All-head, All-tail}
 use borrow.Author.Tests.{leb-true}
-use Rattle.dg_append.proofs.CompletedChanges.{AllCome, AreRight, all_come, are_right, as_many, last_after, made_right, times_fit}
-use Rattle.dg_append.specs.AddedBatches.{ComesToSegment, IsReady, IsSegmentOver}
+use Rattle.dg_append.proofs.CompletedChanges.{AllCome, AreRight, all_come, are_right, as_many, last_after, made_right, names_fit, times_fit}
+use Rattle.dg_append.specs.AddedBatches.{ComesToSegment, IsReady, IsSegmentOver, WhatNamesFit}
 use Rattle.dg_append.specs.BatchSegments.{MayFollow}
 use Rattle.dg_append.specs.declared.front.Front.{Front}
 use Rattle.dg_append.specs.declared.front.Front.TheVariants.{Whole}
 use Rattle.dg_append.specs.Fronts.{ComeTo, IsFront, lines}
 use Rattle.dg_build.specs.SpelledRecords.{RisesFrom}
+use Rattle.dg_columns.specs.NamesInRange.{NamesFit}
 use Rattle.dg_graph.specs.declared.element.Element.{Element}
 use Rattle.dg_graph.specs.declared.event.Change.{Change}
 use Rattle.dg_graph.specs.declared.event.Event.{Event}
@@ -104,6 +105,7 @@ pub record IsPrepared (o : Opening) (known : ℕ) (h : StoredHistory) (front : F
   pub many : length events ≡ length changes
   pub follows : MayFollow o h.recent.items events
   pub changes_are : AreChangesOf h.now.graph events
+  pub fit : All (λ (e : Event). NamesFit e.body) events
   pub few_names : length (take known h.names) + length (drop known h.names) ≤ NAMES_MAX
 
 prepared_whole : (o : Opening) (known : ℕ) (h : StoredHistory) (changes : List Change) (events : List Event) → are_parameters o.params.l o.params.k ≡ true → IsReady o known h Whole changes
@@ -135,6 +137,7 @@ prepared_whole o known h changes events parameters r graph comes =
         goes_on = r.sound.goes_on;
       };
       changes_are = changes_are_exact h.now.graph events graph (made_right earliest h.now.graph events right);
+      fit = names_fit earliest h.now.graph (lines changes) events come r.sound.values (on_lines (λ (c : Change). WhatNamesFit c.what) changes (r.fit refl));
       few_names = may_name_parts (take known h.names) (drop known h.names) (r.named refl);
     }
 

@@ -1,10 +1,12 @@
 -- Times that do not fall.
-use Rattle.std.proofs.Common.{◌≡◌, ℕ, zero, suc, ◌≤◌, List, [], ◌∷◌, ◌++◌, length, take, drop, refl, sym, ◌∙◌, ap, subst, arith}
+use Rattle.std.proofs.Common.{◌≡◌, ℕ, zero, suc, ◌≤◌, List, [], ◌∷◌, ◌++◌, length, map, take, drop, refl, sym, ◌∙◌, ap, subst, arith}
 use Rattle.std.proofs.lemmas.List.{take-append-drop}
 use Rattle.dg_append.specs.BatchSegments.{BeginsBehind}
-use Rattle.dg_build.specs.SpelledRecords.{RisesFrom}
+use Rattle.dg_build.specs.SpelledRecords.{RisesFrom, last_in_rows}
 use Rattle.dg_graph.specs.declared.event.Event.{Event}
 use Rattle.dg_history.specs.History.{first_time_of, last_time_from}
+use Rattle.dg_index.specs.FileOfHistory.{StoredList}
+use Rattle.dg_index.specs.OpenedIndex.{list_row}
 
 pub last_two : (t : ℕ) (xs ys : List Event) → last_time_from t (xs ++ ys) ≡ last_time_from (last_time_from t xs) ys
 last_two t [] ys = refl
@@ -39,6 +41,10 @@ rises_last t (e ∷ events) r = omega (arith, r.0, rises_last e.time events r.1)
 begins_later : (s t : ℕ) (events : List Event) → s ≤ t → RisesFrom t events → BeginsBehind s events
 begins_later s t [] le r = tt
 begins_later s t (e ∷ events) le r = omega (arith, le, r.0)
+
+pub begins_after : (floor : ℕ) (lists : List StoredList) (rest : List Event) → RisesFrom (last_in_rows floor (map list_row lists)) rest → BeginsBehind (last_in_rows 0 (map list_row lists)) rest
+begins_after floor [] rest r = begins_later 0 floor rest (omega arith) r
+begins_after floor (x ∷ lists) rest r = begins_later (last_in_rows x.last (map list_row lists)) (last_in_rows x.last (map list_row lists)) rest (omega arith) r
 
 pub begins_first : (t : ℕ) (events : List Event) → t ≤ first_time_of events → BeginsBehind t events
 begins_first t [] le = tt

@@ -120,6 +120,13 @@ pub record MeetsDamage (o : Opening) (known : ℕ) (old : StoredHistory) (before
   pub damage : IfSome before (λ image. IsBatchDamage known o image (length events) key col)
   pub never : IfSome before (λ image. (z : History) → IsOverHistory z image o known old → ⊥)
 
+-- The lines come to a batch, and a read failed while its older children were read: so it comes only behind lines that
+-- are refused for nothing.
+pub record FailsToRead (o : Opening) (old : StoredHistory) (changes : List Change) (front : Front) : Type 0 where
+  pub events : List Event  -- those of the batch
+  pub whole : front ≡ Whole  -- each line is a change
+  pub come : ComeTo o old.now.graph front changes (Ok events)  -- and no change is refused
+
 -- what a fault says of the batch and of the image
 abbrev pub FailsBatch : Opening → ℕ → ℕ → StoredHistory → Option (List ℕ) → Option (List ℕ) → List Change → Front → BatchFault → Type 0
 FailsBatch o limit known old before after changes front (fault.BadChange line reason) =
@@ -128,7 +135,7 @@ FailsBatch o limit known old before after changes front (fault.FileFull needed m
     (after ≡ before) × (most ≡ limit) × FillsFile o limit known old before changes front needed
 FailsBatch o limit known old before after changes front (fault.Damaged key col) =
     (after ≡ before) × MeetsDamage o known old before changes front key col
-FailsBatch o limit known old before after changes front fault.Read = after ≡ before
+FailsBatch o limit known old before after changes front fault.Read = (after ≡ before) × FailsToRead o old changes front
 FailsBatch o limit known old before after changes front fault.Memory = after ≡ before
 FailsBatch o limit known old before after changes front fault.Store = BreaksBatch o limit known old before after changes front
 

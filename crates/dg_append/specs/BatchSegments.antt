@@ -5,7 +5,7 @@ use Rattle.dg_append.specs.declared.fault.BatchFault.{BatchFault}
 use Rattle.dg_append.specs.declared.fault.BatchFault.TheVariants as fault
 use Rattle.dg_append.specs.AddedBatches.{batch_with, recent_behind}
 use Rattle.dg_append.specs.OlderGroups.{IsBatchDamage, IsDueDelta, older_children}
-use Rattle.dg_build.specs.SpelledRecords.{RisesFrom}
+use Rattle.dg_build.specs.SpelledRecords.{RisesFrom, last_in_rows}
 use Rattle.dg_file.specs.Images.{BothTold, GainsBatch, GainsBatchOrNot, GainsSegment}
 use Rattle.dg_fold.specs.BytesRead.{TakesAtMost}
 use Rattle.dg_graph.specs.declared.element.Column.TheVariants.{Structure}
@@ -17,22 +17,16 @@ use Rattle.dg_graph.specs.Replay.{replay}
 use Rattle.dg_history.specs.declared.limits.TheConstants.{BATCH_LINES_MAX, EVENTS_MAX}
 use Rattle.dg_history.specs.declared.node.NodeId.TheVariants.{Root}
 use Rattle.dg_history.specs.History.{History, events_of, first_time_of, last_time_from}
-use Rattle.dg_index.specs.declared.entry.Row.{Row}
 use Rattle.dg_index.specs.FileOfHistory.{Segment, segment_of}
 use Rattle.dg_index.specs.Hierarchy.{set_of}
 use Rattle.dg_index.specs.ImageOfHistory.{IsImageOf}
 use Rattle.dg_index.specs.IndexGrowth.{index_with, needed_for}
 use Rattle.dg_index.specs.IndexRecords.{recent_of}
-use Rattle.dg_index.specs.OpenedIndex.{Opening, delta_count, earliest_in, event_total, last_or, list_count, list_row, may_be_listed}
+use Rattle.dg_index.specs.OpenedIndex.{Opening, delta_count, earliest_in, event_total, list_count, list_row, may_be_listed}
 use Rattle.dg_plan.specs.IndexGraph.{arcs_of}
 use Rattle.dg_plan.specs.Walks.{AreSingles}
 use Rattle.dg_retrieval.specs.KeptGraph.{record_edges}
 use Rattle.dg_start.specs.StoredHistory.{IsKeptOf, MayGoOn, floor_of, recent_count}
-
--- the last time of the last of these rows that has times, where without one it is this
-abbrev pub last_in_rows : ℕ → ListOf Row → ℕ
-last_in_rows t [] = t
-last_in_rows t (r ∷ rows) = last_in_rows (last_or t r.ends) rows
 
 -- the first of the events is not earlier than this time
 abbrev pub BeginsBehind : ℕ → ListOf Event → Type 0

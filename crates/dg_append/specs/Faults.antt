@@ -1,6 +1,9 @@
--- Why a batch was not added, by why its changes were not completed or its older children not read.
+-- Why a batch was not added, by why its changes were not completed or its older children not read; and what the disk
+-- counted where a read failed.
+use Rattle.std.specs.Prelude.{◌≡◌, ℕ}
 use Rattle.dg_append.specs.declared.fault.BatchFault.{BatchFault}
 use Rattle.dg_append.specs.declared.fault.BatchFault.TheVariants as fault
+use Rattle.dg_disk.specs.Counts.{Rose}
 use Rattle.dg_now.specs.declared.fault.PrepareFault.{PrepareFault}
 use Rattle.dg_now.specs.declared.fault.PrepareFault.TheVariants as prepare_fault
 use Rattle.dg_retrieval.specs.declared.fault.RetrievalFault.{RetrievalFault}
@@ -16,3 +19,7 @@ abbrev pub of_retrieval : RetrievalFault → BatchFault
 of_retrieval retrieval_fault.Disk = fault.Read
 of_retrieval (retrieval_fault.Damaged key col) = fault.Damaged key col
 of_retrieval retrieval_fault.Memory = fault.Memory
+
+-- a read failed, and no write and no sync
+abbrev pub OnlyReadFailed : {D : Type 0} → (D → ℕ) → (D → ℕ) → D → D → Type 0
+OnlyReadFailed faults write_faults old new = Rose (faults old) (faults new) × (write_faults new ≡ write_faults old)

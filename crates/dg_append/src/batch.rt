@@ -2,6 +2,7 @@
 
 ghost use Rattle.std.specs.Prelude.{◌≡◌, ◌≤◌, ◌<◌, ◌^◌, List, true, IfOk, IfErr, IfSome, IsErrOf, is_some, length, take, OnErr, OnOk, ℕ};
 ghost use Rattle.dg_append.specs.AddedBatches.{AddsBatch, FailsBatch, IsBack, IsReady, LeavesHistory, ReadsNothing, TakesOlder};
+ghost use Rattle.dg_append.specs.Faults.{OnlyReadFailed};
 ghost use Rattle.dg_disk.specs.Counts.{Rose};
 ghost use Rattle.dg_disk.specs.Frame.{GoesOn};
 ghost use Rattle.dg_graph.specs.Composition.{applied};
@@ -14,10 +15,10 @@ ghost use Rattle.dg_now.specs.Now.{earliest_time_after};
 ghost use Rattle.dg_pool.specs.Graphs.{graph_now, slot_graph};
 ghost use Rattle.dg_start.specs.StoredHistory.{IsHeldBy, IsSoundHistory, index_opening};
 
-use crate::completed::prepare;
+use crate::batch_commit::keep_batch;
+use crate::completion::prepare;
 use crate::fault::BatchFault;
 use crate::front::Front;
-use crate::keeping::keep_batch;
 use crate::segment::last_instant;
 use dg_disk::Disk;
 use dg_file::Index;
@@ -65,6 +66,7 @@ fn try_batch<R: Threads, D: Disk>(
     requires limit { limit ≤ FILE_BYTES_MAX }
     requires image { IfSome (D.image disk.old) (λ image. IsHeldBy (index_opening history.old.index) (take known history.old.names) image) }
     requires pool { graph_now pool.old ≡ history.old.now.graph }
+
     // what is added, or why nothing is
     ensures adds { IfOk result (λ added. IfSome (index_opening history.old.index) (λ o.
         AddsBatch o limit known history.old history.new (D.image disk.old) (D.image disk.new) changes.items front added)) }
@@ -72,18 +74,22 @@ fn try_batch<R: Threads, D: Disk>(
     ensures fails { IfErr result (λ fault. IfSome (index_opening history.old.index) (λ o.
         FailsBatch o limit known history.old (D.image disk.old) (D.image disk.new) changes.items front fault)) }
     ensures leaves { IfErr result (λ fault. LeavesHistory fault history.old history.new) }
+
     // the pool
     ensures pool { OnOk result (graph_now pool.new ≡ history.new.now.graph) }
     ensures pool_back { OnErr result (graph_now pool.new ≡ graph_now pool.old) }
     ensures slots { (s : ℕ) → slot_graph pool.new s ≡ slot_graph pool.old s }
+
     // the bytes read
     ensures takes { IfSome (index_opening history.old.index) (λ o.
         TakesOlder (D.image disk.old) o known history.old (length changes.items) (D.taken disk.old) (D.taken disk.new)) }
     ensures nothing { IfErr result (λ fault. ReadsNothing fault (D.taken disk.old) (D.taken disk.new)) }
     ensures unread { (front ≡ Front.Whole → ⊥) → D.taken disk.new ≡ D.taken disk.old }
+
     // causes
     ensures cause { IsErrOf result BatchFault.Store → Rose (D.write_faults disk.old) (D.write_faults disk.new) }
-    ensures read { IsErrOf result BatchFault.Read → Rose (D.faults disk.old) (D.faults disk.new) × (D.write_faults disk.new ≡ D.write_faults disk.old) }
+    ensures read { IsErrOf result BatchFault.Read → OnlyReadFailed D.faults D.write_faults disk.old disk.new }
+
     // what it leaves
     ensures disk { GoesOn D.image D.faults D.write_faults disk.old disk.new }
 {
@@ -144,6 +150,7 @@ pub fn add_batch<R: Threads, D: Disk>(
     requires limit { limit ≤ FILE_BYTES_MAX }
     requires image { IfSome (D.image disk.old) (λ image. IsHeldBy (index_opening history.old.index) (take known history.old.names) image) }
     requires pool { graph_now pool.old ≡ history.old.now.graph }
+
     // what is added, or why nothing is
     ensures adds { IfOk result (λ added. IfSome (index_opening history.old.index) (λ o.
         AddsBatch o limit known history.old history.new (D.image disk.old) (D.image disk.new) changes.items front added)) }
@@ -151,18 +158,22 @@ pub fn add_batch<R: Threads, D: Disk>(
         FailsBatch o limit known history.old (D.image disk.old) (D.image disk.new) changes.items front fault)) }
     ensures back { IfErr result (λ fault. IsBack fault known history.old history.new) }
     ensures sound { IsSoundHistory (index_opening history.new.index) history.new.names history.new.now history.new.recent.items }
+
     // the pool
     ensures pool { OnOk result (graph_now pool.new ≡ history.new.now.graph) }
     ensures pool_back { OnErr result (graph_now pool.new ≡ graph_now pool.old) }
     ensures slots { (s : ℕ) → slot_graph pool.new s ≡ slot_graph pool.old s }
+
     // the bytes read
     ensures takes { IfSome (index_opening history.old.index) (λ o.
         TakesOlder (D.image disk.old) o known history.old (length changes.items) (D.taken disk.old) (D.taken disk.new)) }
     ensures nothing { IfErr result (λ fault. ReadsNothing fault (D.taken disk.old) (D.taken disk.new)) }
     ensures unread { (front ≡ Front.Whole → ⊥) → D.taken disk.new ≡ D.taken disk.old }
+
     // causes
     ensures cause { IsErrOf result BatchFault.Store → Rose (D.write_faults disk.old) (D.write_faults disk.new) }
-    ensures read { IsErrOf result BatchFault.Read → Rose (D.faults disk.old) (D.faults disk.new) × (D.write_faults disk.new ≡ D.write_faults disk.old) }
+    ensures read { IsErrOf result BatchFault.Read → OnlyReadFailed D.faults D.write_faults disk.old disk.new }
+
     // what it leaves
     ensures disk { GoesOn D.image D.faults D.write_faults disk.old disk.new }
 {

@@ -4,19 +4,18 @@
 #![tactic(auto)]
 
 mod batch;
-mod completed;
+mod batch_commit;
+mod batch_segment;
+mod completion;
 mod fault;
 mod front;
-mod keeping;
-mod making;
 mod nets;
 mod older_children;
 mod older_sets;
 mod recent;
 mod segment;
-mod spelled;
 
 pub use batch::{AddedBatch, add_batch};
 pub use fault::BatchFault;
 pub use front::Front;
-pub use older_sets::GROUP_MAX;
+pub use older_sets::{GROUP_MAX, group_limit};

@@ -31,6 +31,11 @@ use std::thread::Threads;
 /// The most nodes whose sets are taken by one tree.
 pub const GROUP_MAX: u32 = 32;
 
+/// The limit as a number, since code and definitions alike name the constant. Does nothing.
+pub fn group_limit()
+    ensures { GROUP_MAX ≡ 32 }
+{}
+
 // The shape of the index.
 fn shape_of(index: &Index) -> Shape
     ensures { result ≡ shape_with index.now.opening.params (event_total index.now.opening.batches) }
@@ -65,20 +70,24 @@ fn read_groups<R: Threads, D: Disk>(
     requires graph { planner.now.nodes ≡ record_nodes index.old.opening }
     requires nodes { All (Contains planner.now.nodes) nodes.now }
     requires leaves { All HasNoEvents nodes.now }
+
     // the sets
     ensures count { IfOk result (λ sets. length sets.items ≡ length nodes.now) }
     ensures sets { IfOk result (λ sets. IfSome (D.image disk.old) (λ image. (z : History) → IsIndexOver z image index.old.opening names
         → sets.items ≡ sets_of z nodes.now)) }
     ensures whole { OnOk result (IfSome (D.image disk.old) (λ image. AreUndamaged names index.old.opening image (in_groups nodes.now))) }
+
     // the bytes read, over an image of a history: at most those of the single plans
     ensures most { IfSome (D.image disk.old) (λ image. (z : History) → IsIndexOver z image index.old.opening names
         → (singles : List ℕ) → AreSingles (arcs_of (record_edges index.old.opening)) (Root ∷ []) nodes.now singles
         → TakesAtMost (sum singles) (D.taken disk.old) (D.taken disk.new)) }
+
     // why there are none
     ensures cause { IsErrOf result RetrievalFault.Disk → Rose (D.faults disk.old) (D.faults disk.new) }
     ensures damage { IfErr result (λ fault. IfSome (D.image disk.old) (λ image. IsFirstOfGroups names index.old.opening image (in_groups nodes.now) fault)) }
     ensures never { IfErr result (λ fault. IfSome (D.image disk.old) (λ image. (z : History) → IsIndexOver z image index.old.opening names
         → IsNoDamage fault)) }
+
     // what it leaves
     ensures same { index.new ≡ index.old }
     ensures disk { OnlyReads D.image D.faults D.write_faults disk.old disk.new }
@@ -111,20 +120,24 @@ pub(crate) fn older_sets<R: Threads, D: Disk>(
 ) -> Result<Vec<Set>, RetrievalFault>
     requires few { event_total index.old.opening.batches + count ≤ EVENTS_MAX }
     requires image { IfSome (D.image disk.old) (λ image. IsOpenedAs image index.old.opening) }
+
     // the sets
     ensures count { IfOk result (λ sets. length sets.items ≡ length (older_children index.old.opening count)) }
     ensures sets { IfOk result (λ sets. IfSome (D.image disk.old) (λ image. (z : History) → IsIndexOver z image index.old.opening names
         → sets.items ≡ sets_of z (older_children index.old.opening count))) }
     ensures whole { OnOk result (IfSome (D.image disk.old) (λ image. AreUndamaged names index.old.opening image (in_groups (older_children index.old.opening count)))) }
+
     // the bytes read, over an image of a history: at most those of the single plans
     ensures most { IfSome (D.image disk.old) (λ image. (z : History) → IsIndexOver z image index.old.opening names
         → (singles : List ℕ) → AreSingles (arcs_of (record_edges index.old.opening)) (Root ∷ []) (older_children index.old.opening count) singles
         → TakesAtMost (sum singles) (D.taken disk.old) (D.taken disk.new)) }
+
     // why there are none
     ensures cause { IsErrOf result RetrievalFault.Disk → Rose (D.faults disk.old) (D.faults disk.new) }
     ensures damage { IfErr result (λ fault. IfSome (D.image disk.old) (λ image. IsFirstOfGroups names index.old.opening image (in_groups (older_children index.old.opening count)) fault)) }
     ensures never { IfErr result (λ fault. IfSome (D.image disk.old) (λ image. (z : History) → IsIndexOver z image index.old.opening names
         → IsNoDamage fault)) }
+
     // what it leaves
     ensures same { index.new ≡ index.old }
     ensures disk { OnlyReads D.image D.faults D.write_faults disk.old disk.new }

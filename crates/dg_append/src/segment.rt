@@ -1,9 +1,9 @@
 //! The segment of a batch: it is made, and put into the index file.
 
-ghost use Rattle.std.specs.Prelude.{◌≡◌, ◌≤◌, ◌<◌, ◌+◌, ◌/◌, ◌++◌, List, [], length, drop, IfOk, IfErr, IfSome, IsErrOf, IsTrue, OnOk};
+ghost use Rattle.std.specs.Prelude.{◌≡◌, ◌≤◌, ◌<◌, ◌+◌, ◌/◌, ◌++◌, List, [], length, drop, IfOk, IfErr, IfSome, IsErrOf, OnOk};
 ghost use Rattle.std.specs.List.{All};
-ghost use Rattle.dg_append.specs.AddedBatches.{batch_with, recent_behind};
-ghost use Rattle.dg_append.specs.BatchSegments.{BeginsBehind, IsPast, IsSegmentBehind, IsUnmade, StopsKeeping, last_in_rows};
+ghost use Rattle.dg_append.specs.AddedBatches.{batch_with};
+ghost use Rattle.dg_append.specs.BatchSegments.{IsPast, IsSegmentBehind, IsUnmade, StopsKeeping};
 ghost use Rattle.dg_append.specs.OlderGroups.{IsDueDelta, leaves_after, leaves_before, older_children};
 ghost use Rattle.dg_build.specs.SpelledRecords.{RisesFrom};
 ghost use Rattle.dg_columns.specs.NamesInRange.{NamesFit};
@@ -26,7 +26,6 @@ use dg_disk::Disk;
 use dg_file::{CommitFault, Index};
 use dg_graph::{Column, Event};
 use dg_history::Key;
-use dg_index::Row;
 use dg_names::Names;
 use dg_pool::Pool;
 use dg_segment::Segment;
@@ -99,29 +98,6 @@ fn delta_key(alloc: Global, index: &Index, count: u64, place: usize) -> Result<K
     Ok(keys[lists as usize + place])
 }
 
-// The last time of the last list among the rows, or 0 where there is none.
-fn last_in(rows: &[Row]) -> u64
-    ensures { result ≡ last_in_rows 0 rows.now }
-{
-    let mut last = 0;
-    for row in rows {
-        if let Some(ends) = row.ends {
-            last = ends.last;
-        }
-    }
-    last
-}
-
-// Whether the first of the events is not earlier than this time.
-fn begins_behind(time: u64, events: &[Event]) -> bool
-    ensures { IsTrue result → BeginsBehind time events.now }
-{
-    match events.first() {
-        Some(first) => time <= first.time,
-        None => true,
-    }
-}
-
 // A segment of so many events, with its names, and without a list or a delta.
 fn begun(alloc: Global, names: &Names, known: u32, events: &[Event]) -> Result<Segment, AllocError>
     ensures parts { IfOk result (λ s. (s.events ≡ length events.now) × (s.first ≡ first_time_of events.now) × (s.last ≡ last_time_from 0 events.now) × (s.names ≡ drop known names.now)) }
@@ -134,9 +110,8 @@ fn begun(alloc: Global, names: &Names, known: u32, events: &[Event]) -> Result<S
 }
 
 /// The segment of a batch of these events behind those of the index, which brings the names from number `known` on.
-/// The current graph of `pool` is that before the batch, `recent` has the events behind the last closed list, and
-/// `left` those behind it once the batch is there. `older` has the sets of the older children of the interior nodes
-/// that the batch completes.
+/// The current graph of `pool` is that before the batch, and `recent` has the events behind the last closed list.
+/// `older` has the sets of the older children of the interior nodes that the batch completes.
 ///
 /// `Damaged` names a due delta that has more elements than its column can count, and its structure; `Memory` says that
 /// memory ran out.
@@ -148,7 +123,6 @@ pub(crate) fn segment_of(
     recent: &[Event],
     pool: &Pool,
     events: &[Event],
-    left: &[Event],
     older: &[Set],
 ) -> Result<Segment, BatchFault>
     requires few { event_total index.now.opening.batches + length events.now ≤ EVENTS_MAX }
@@ -157,7 +131,6 @@ pub(crate) fn segment_of(
     requires recent_fit { All (λ e. NamesFit e.body) recent.now }
     requires fit { All (λ e. NamesFit e.body) events.now }
     requires rises { RisesFrom (floor_of index.now.opening (first_time_of events.now)) (recent.now ++ events.now) }
-    requires left { left.now ≡ recent_behind index.now.opening.params (event_total index.now.opening.batches) recent.now events.now }
     requires older { length older.now ≡ length (older_children index.now.opening (length events.now)) }
     ensures behind { IfOk result (λ s. IsSegmentBehind index.now.opening (drop known names.now) recent.now events.now s) }
     ensures is { IfOk result (λ s. (past : List Event) → IsPast index.now.opening past recent.now (graph_now pool.now) events.now older.now
@@ -188,14 +161,7 @@ pub(crate) fn segment_of(
         older,
         segment,
     ) {
-        Ok(segment) => {
-            // The lists are cut from these events, whose times do not fall.
-            if begins_behind(last_in(segment.list_rows()), left) {
-                Ok(segment)
-            } else {
-                Err(BatchFault::Memory)
-            }
-        }
+        Ok(segment) => Ok(segment),
         Err(BuildFault::Memory) => Err(BatchFault::Memory),
         Err(BuildFault::Wide(place)) => {
             let key = delta_key(alloc, index, count, place)?;
@@ -223,9 +189,11 @@ pub(crate) fn keep_segment<D: Disk>(
     ensures opened { OnOk result (BothTold (D.image disk.old) (D.image disk.new) (GainsSegment index.old.opening segment index.new.opening)) }
     ensures gained { OnOk result (BothTold (D.image disk.old) (D.image disk.new) (GainsBatch segment)) }
     ensures fits { OnOk result (needed_for index.old.opening segment ≤ limit) }
+
     // why it is not kept
     ensures fails { IfErr result (λ fault. StopsKeeping index.old.opening index.new.opening segment limit (D.image disk.old) (D.image disk.new) fault) }
     ensures cause { IsErrOf result BatchFault.Store → Rose (D.write_faults disk.old) (D.write_faults disk.new) }
+
     // what it leaves
     ensures disk { OnlyWrites D.image D.faults D.write_faults D.taken disk.old disk.new }
 {

@@ -7,7 +7,7 @@ use Rattle.dg_history.specs.History.{last_time_from}
 use Rattle.dg_index.specs.Hierarchy.{numbers}
 use Rattle.dg_index.specs.OpenedIndex.{list_row, may_be_listed, within}
 use Rattle.dg_index.specs.FileOfHistory.{StoredList}
-use Rattle.dg_build.specs.SpelledRecords.{stored_cut, RisesFrom}
+use Rattle.dg_build.specs.SpelledRecords.{last_in_rows, stored_cut, RisesFrom}
 use Rattle.dg_build.proofs.ClosedLists.{list_there}
 
 rises_le : (floor : ℕ) (xs : List Event) → RisesFrom floor xs → floor ≤ last_time_from floor xs
@@ -61,9 +61,34 @@ listed (suc l) (suc n) floor (e ∷ es) some fits r =
     (ap (λ m. may_be_listed last m (map list_row (cuts (suc l) n back))) end
     ∙ listed (suc l) n last back some (omega (arith, fits, add-mul n 1 (suc l), length-drop l es)) r2.1)
 
+-- no event behind the lists is earlier than the last of them
+behind : (l n floor : ℕ) (tail : List Event) → 1 ≤ l → n * l ≤ length tail → RisesFrom floor tail → RisesFrom (last_in_rows floor (map list_row (cuts l n tail))) (drop (n * l) tail)
+unfolding cuts
+behind l zero floor tail some fits r = subst (λ m. RisesFrom floor (drop m tail)) (let e : 0 ≡ 0 * l = omega arith in e) r
+behind zero (suc n) floor tail some fits r = absurd (omega (arith, some))
+behind (suc l) (suc n) floor [] some fits r = absurd (omega (arith, fits, add-mul n 1 (suc l)))
+behind (suc l) (suc n) floor (e ∷ es) some fits r =
+    let front : List Event = take l es in
+    let back : List Event = drop l es in
+    let last : ℕ = last_time_from e.time front in
+    let r2 = rises_cut e.time front back (subst (RisesFrom e.time) (sym (take-append-drop l es)) r.1) in
+    let more : RisesFrom (last_in_rows last (map list_row (cuts (suc l) n back))) (drop (n * suc l) back) =
+    behind (suc l) n last back some (omega (arith, fits, add-mul n 1 (suc l), length-drop l es)) r2.1 in
+    let same : drop (n * suc l) back ≡ drop (suc n * suc l) (e ∷ es) =
+    drop-drop (n * suc l) (suc l) (e ∷ es) ∙ ap (λ m. drop m (e ∷ es)) (let e : suc l + n * suc l ≡ suc n * suc l = omega (arith, add-mul n 1 (suc l)) in e) in
+    subst (RisesFrom (last_in_rows last (map list_row (cuts (suc l) n back)))) same more
+
 -- the lists of a segment over any events whose times do not fall
 pub lists_may : (l n floor : ℕ) (tail : List Event) (out : List StoredList) → 1 ≤ l → n * l ≤ length tail → RisesFrom floor tail → out ≡ map (list_there l tail) (numbers 0 n)
     → may_be_listed floor (last_time_from floor tail) (map list_row out) ≡ true
 lists_may l n floor tail out some fits r is =
     ap (λ (x : List StoredList). may_be_listed floor (last_time_from floor tail) (map list_row x)) (is ∙ cuts_are l 0 n tail ∙ ap (λ m. cuts l n (drop m tail)) (let e : 0 * l ≡ 0 = omega arith in e))
     ∙ listed l n floor tail some fits r
+
+-- and the events behind them
+pub lists_behind : (l n floor : ℕ) (tail : List Event) (out : List StoredList) → 1 ≤ l → n * l ≤ length tail → RisesFrom floor tail → out ≡ map (list_there l tail) (numbers 0 n)
+    → RisesFrom (last_in_rows floor (map list_row out)) (drop (n * l) tail)
+lists_behind l n floor tail out some fits r is =
+    subst (λ (x : List StoredList). RisesFrom (last_in_rows floor (map list_row x)) (drop (n * l) tail))
+    (sym (is ∙ cuts_are l 0 n tail ∙ ap (λ m. cuts l n (drop m tail)) (let e : 0 * l ≡ 0 = omega arith in e)))
+    (behind l n floor tail some fits r)

@@ -3,8 +3,10 @@ use Rattle.std.specs.Prelude.{◌≡◌, ℕ, ◌+◌, ◌≤◌, ◌<◌, ◌^�
 use Rattle.dg_graph.specs.declared.event.Event.{Event}
 use Rattle.dg_graph.specs.Composition.{Delta}
 use Rattle.dg_history.specs.History.{first_time_of, last_time_from}
+use Rattle.dg_index.specs.declared.entry.Row.{Row}
 use Rattle.dg_index.specs.IndexRecords.{Events}
 use Rattle.dg_index.specs.FileOfHistory.{StoredList, stored}
+use Rattle.dg_index.specs.OpenedIndex.{last_or}
 use Rattle.dg_build.specs.declared.fault.BuildFault.{BuildFault}
 use Rattle.dg_build.specs.declared.fault.BuildFault.TheVariants.{Memory, Wide}
 
@@ -35,3 +37,8 @@ IsFaultBelow count (Wide at) = at < count
 abbrev pub RisesFrom : ℕ → List Event → Type 0
 RisesFrom floor [] = Unit {0}
 RisesFrom floor (e ∷ events) = (floor ≤ e.time) × RisesFrom e.time events
+
+-- the last time of the last of these rows that has times, where without one it is this
+abbrev pub last_in_rows : ℕ → List Row → ℕ
+last_in_rows t [] = t
+last_in_rows t (r ∷ rows) = last_in_rows (last_or t r.ends) rows

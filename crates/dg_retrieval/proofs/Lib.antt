@@ -14,3 +14,4 @@ pub mod ReachedGraphs
 pub mod RetrievedGraphs
 pub mod LedSets
 pub mod Retrieving
+pub mod ValueRanges

@@ -5,3 +5,4 @@ pub mod Branches
 pub mod Faults
 pub mod NodeSets
 pub mod TreeLeads
+pub mod ValueRange

@@ -1,6 +1,6 @@
 //! What leads to the set of a node of an index, by its records alone.
 
-ghost use Rattle.std.specs.Prelude.{◌≡◌, ℕ, false, List, ◌∷◌, [], IfErr, IfOk, IfSome, IsErrOf, OnOk};
+ghost use Rattle.std.specs.Prelude.{◌≡◌, ◌≤◌, ◌^◌, ℕ, false, List, ◌∷◌, [], IfErr, IfOk, IfSome, IsErrOf, OnOk};
 ghost use Rattle.std.specs.List.{Contains};
 ghost use Rattle.dg_disk.specs.Counts.{Rose};
 ghost use Rattle.dg_disk.specs.Frame.{OnlyReads};
@@ -16,6 +16,7 @@ ghost use Rattle.dg_plan.specs.Walks.{IsPlan, weight_of};
 ghost use Rattle.dg_retrieval.specs.KeptGraph.{index_edges, index_ground};
 ghost use Rattle.dg_retrieval.specs.NodeSets.{IsIndexOver, IsLedAlong, IsUndamaged};
 ghost use Rattle.dg_retrieval.specs.Retrieval.{IsFirstDamage, IsNoDamage};
+ghost use Rattle.dg_retrieval.specs.ValueRange.{ValuesFit};
 
 use crate::branches::edges_at;
 use crate::fault::RetrievalFault;
@@ -64,6 +65,7 @@ pub fn retrieve_node<R: Threads + Sync, D: Disk>(
     ensures set { IfOk result (λ r. IfSome (D.image disk.old) (λ image. (z : History) → IsIndexOver z image index.old.opening names
         → shown (applied r.delta []) cols ≡ shown (set_of z.params (events_of z) node) cols)) }
     ensures whole { OnOk result (IfSome (D.image disk.old) (λ image. IsUndamaged names planner.now.edges index.old.opening cols (node ∷ []) image)) }
+    ensures fit { IfOk result (λ r. names ≤ 2 ^ 30 → ValuesFit r.delta.plus) }
     // the bytes read, over an image of a history
     ensures takes { IfOk result (λ r. IfSome (D.image disk.old) (λ image. (z : History) → IsIndexOver z image index.old.opening names
         → Takes r.weight (D.taken disk.old) (D.taken disk.new))) }

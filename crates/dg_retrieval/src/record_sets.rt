@@ -1,6 +1,6 @@
 //! The sets of nodes of an index, by its records alone.
 
-ghost use Rattle.std.specs.Prelude.{◌≡◌, ℕ, ◌≤◌, List, ◌∷◌, [], Err, Ok, length, map, IfErr, IfOk, IfSome, IsErrOf, OnOk};
+ghost use Rattle.std.specs.Prelude.{◌≡◌, ℕ, ◌≤◌, ◌^◌, List, ◌∷◌, [], Err, Ok, length, map, IfErr, IfOk, IfSome, IsErrOf, OnOk};
 ghost use Rattle.std.specs.List.{All, Contains, sum};
 ghost use Rattle.dg_disk.specs.Counts.{Rose};
 ghost use Rattle.dg_disk.specs.Frame.{OnlyReads};
@@ -19,6 +19,7 @@ ghost use Rattle.dg_retrieval.specs.declared.graph_lead.GraphLead.{GraphLead};
 ghost use Rattle.dg_retrieval.specs.KeptGraph.{record_edges, record_nodes};
 ghost use Rattle.dg_retrieval.specs.NodeSets.{HasNoEvents, IsIndexOver, IsLedByPlan, IsUndamaged, sets_of};
 ghost use Rattle.dg_retrieval.specs.Retrieval.{IsFirstDamage, IsNoDamage};
+ghost use Rattle.dg_retrieval.specs.ValueRange.{ValuesFit};
 
 use crate::fault::RetrievalFault;
 use crate::graph_lead::GraphLead;
@@ -62,6 +63,7 @@ pub fn plan_set<R: Threads + Sync, D: Disk>(
     ensures led { IfOk result (λ set. IfSome (D.image disk.old) (λ image. IsLedByPlan names image index.old.opening node (Ok set))) }
     ensures set { IfOk result (λ set. IfSome (D.image disk.old) (λ image. (z : History) → IsIndexOver z image index.old.opening names
         → set ≡ set_of z.params (events_of z) node)) }
+    ensures fit { IfOk result (λ set. names ≤ 2 ^ 30 → ValuesFit set) }
     // the bytes read, over an image of a history
     ensures takes { OnOk result (IfSome (D.image disk.old) (λ image. (z : History) → IsIndexOver z image index.old.opening names
         → (steps : List ℕ) → IsPlan (arcs_of planner.now.edges) (Root ∷ []) node steps

@@ -6,6 +6,7 @@ ghost use Rattle.dg_start.specs.declared.fault.StartFault.TheVariants.{Memory};
 use dg_file::FetchFault;
 use dg_graph::Column;
 use dg_history::Key;
+use dg_now::FromFault;
 use dg_retrieval::RetrievalFault;
 use std::alloc::AllocError;
 use thiserror::Error;
@@ -38,6 +39,33 @@ pub enum StartFault {
     Memory,
 }
 
+/// Why the events of a record were not read.
+#[derive(Clone, Copy, Debug, PartialEq, Eq, Error)]
+pub enum RecordFault {
+    /// The record has a column that is in no spelling, or its columns do not come together.
+    #[error("the record {0:?} is damaged in {1:?}")]
+    BadRecord(Key, Column),
+    /// The disk failed.
+    #[error("the disk failed")]
+    Disk,
+    /// Want of memory.
+    #[error("out of memory")]
+    Memory,
+}
+
+impl From<FetchFault> for RecordFault {
+    ghost use Rattle.dg_start.specs.Faults.{of_fetch};
+
+    ghost from_gives = { λ read fault. fault ≡ of_fetch read };
+
+    fn from(read: FetchFault) -> RecordFault {
+        match read {
+            FetchFault::Disk => RecordFault::Disk,
+            FetchFault::Memory => RecordFault::Memory,
+        }
+    }
+}
+
 impl From<AllocError> for StartFault {
     ghost from_gives = { λ _ fault. fault ≡ Memory };
 
@@ -46,15 +74,29 @@ impl From<AllocError> for StartFault {
     }
 }
 
-impl From<FetchFault> for StartFault {
-    ghost use Rattle.dg_start.specs.Faults.{of_read};
+impl From<RecordFault> for StartFault {
+    ghost use Rattle.dg_start.specs.Faults.{start_fault_of_record};
 
-    ghost from_gives = { λ read fault. fault ≡ of_read read };
+    ghost from_gives = { λ read fault. fault ≡ start_fault_of_record read };
 
-    fn from(read: FetchFault) -> StartFault {
+    fn from(read: RecordFault) -> StartFault {
         match read {
-            FetchFault::Disk => StartFault::Disk,
-            FetchFault::Memory => StartFault::Memory,
+            RecordFault::BadRecord(key, col) => StartFault::BadRecord(key, col),
+            RecordFault::Disk => StartFault::Disk,
+            RecordFault::Memory => StartFault::Memory,
+        }
+    }
+}
+
+impl From<FromFault> for StartFault {
+    ghost use Rattle.dg_start.specs.Faults.{start_fault_of_set};
+
+    ghost from_gives = { λ made fault. fault ≡ start_fault_of_set made };
+
+    fn from(made: FromFault) -> StartFault {
+        match made {
+            FromFault::NotGraph => StartFault::NotGraph,
+            FromFault::Memory => StartFault::Memory,
         }
     }
 }

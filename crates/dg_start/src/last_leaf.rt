@@ -1,6 +1,6 @@
 //! The graph behind the last closed list of an index, by the records along its plan.
 
-ghost use Rattle.std.specs.Prelude.{◌≡◌, ◌≤◌, ◌+◌, ◌*◌, Ok, IfOk, IfErr, IfSome, IsErrOf, OnOk, List, ℕ};
+ghost use Rattle.std.specs.Prelude.{◌≡◌, ◌≤◌, ◌+◌, ◌*◌, ◌^◌, Ok, IfOk, IfErr, IfSome, IsErrOf, OnOk, List, ℕ};
 ghost use Rattle.dg_disk.specs.Counts.{Rose};
 ghost use Rattle.dg_disk.specs.Frame.{OnlyReads};
 ghost use Rattle.dg_file.specs.Images.{IsOpenedAs};
@@ -11,6 +11,7 @@ ghost use Rattle.dg_plan.specs.IndexGraph.{arcs_of, leaf};
 ghost use Rattle.dg_plan.specs.Walks.{weight_of};
 ghost use Rattle.dg_retrieval.specs.KeptGraph.{record_edges, record_nodes};
 ghost use Rattle.dg_retrieval.specs.NodeSets.{IsIndexOver, IsLedByPlan};
+ghost use Rattle.dg_retrieval.specs.ValueRange.{ValuesFit};
 ghost use Rattle.dg_start.specs.Refusals.{RefusesPlan};
 ghost use Rattle.dg_start.specs.SessionStart.{PlansLastLeaf, first_recent, last_leaf, lists_in};
 
@@ -76,16 +77,21 @@ pub fn last_set<R: Threads + Sync, D: Disk>(
     names: u32,
 ) -> Result<Set, StartFault>
     requires image { IfSome (D.image disk.old) (λ image. IsOpenedAs image index.old.opening) }
+
     // the set
     ensures led { IfOk result (λ set. IfSome (D.image disk.old) (λ image.
         IsLedByPlan names image index.old.opening (last_leaf index.old.opening) (Ok set))) }
+    ensures fit { IfOk result (λ set. names ≤ 2 ^ 30 → ValuesFit set) }
+
     // the bytes read, over an image of a history
     ensures takes { OnOk result (IfSome (D.image disk.old) (λ image. (z : History) → IsIndexOver z image index.old.opening names
         → (steps : List ℕ) → PlansLastLeaf index.old.opening steps
         → Takes (weight_of (arcs_of (record_edges index.old.opening)) steps) (D.taken disk.old) (D.taken disk.new))) }
+
     // why there is none
     ensures refused { IfErr result (λ fault. IfSome (D.image disk.old) (λ image. RefusesPlan names image index.old.opening fault)) }
     ensures cause { IsErrOf result StartFault.Disk → Rose (D.faults disk.old) (D.faults disk.new) }
+
     // what it leaves
     ensures same { index.new ≡ index.old }
     ensures disk { OnlyReads D.image D.faults D.write_faults disk.old disk.new }

@@ -2,19 +2,19 @@
 //! list is composed along its plan, and the current graph is made of the two. docs/MODEL.md has the definitions.
 #![tactic(auto)]
 
+mod current_graph;
 mod event_source;
 mod fault;
 mod keys;
 mod last_leaf;
 mod laws;
 mod opening;
-mod reading;
 mod record;
+mod source_events;
 mod stored_history;
-mod testing;
 
 pub use event_source::EventSource;
-pub use fault::StartFault;
+pub use fault::{RecordFault, StartFault};
 pub use keys::has_key;
 pub use laws::{law_images_start_as_they_stand, law_starts_are_determined};
 pub use opening::{OpenedFile, open};

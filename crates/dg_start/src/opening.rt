@@ -19,16 +19,17 @@ ghost use Rattle.dg_plan.specs.IndexGraph.{arcs_of};
 ghost use Rattle.dg_plan.specs.Walks.{weight_of};
 ghost use Rattle.dg_retrieval.specs.KeptGraph.{record_edges};
 ghost use Rattle.dg_retrieval.specs.NodeSets.{IsIndexOver};
+ghost use Rattle.dg_retrieval.specs.ValueRange.{ValuesFit};
 ghost use Rattle.dg_start.specs.SessionStart.{PlansLastLeaf, RefusesStart, Starts, recent_bytes, start_bytes};
 ghost use Rattle.dg_start.specs.StoredHistory.{IsHeldBy, IsSoundHistory, KeepsHistory, MayGoOn, index_opening, recent_count, started_with};
 
+use crate::current_graph::current_graph;
 use crate::event_source::recent_sources;
 use crate::fault::StartFault;
 use crate::last_leaf::{first_recent, last_set};
 use crate::laws::law_images_start_as_they_stand;
-use crate::reading::read_sources;
+use crate::source_events::read_sources;
 use crate::stored_history::StoredHistory;
-use crate::testing::current_graph;
 use dg_disk::Disk;
 use dg_file::{Index, ReopenFault};
 use dg_graph::Event;
@@ -66,22 +67,27 @@ fn read_current<R: Threads + Sync, D: Disk, T: Drop, F: FnOnce(&Set) -> T>(
 ) -> Result<Current<T>, StartFault>
     requires make { F.IsAlwaysCallable make }
     requires image { IfSome (D.image disk.old) (λ image. opening image ≡ Ok (record { index = index.old.opening; names = names.now })) }
+
     // the graph and the events
     ensures started { IfOk result (λ current. IfSome (D.image disk.old) (λ image.
         Starts image (Ok (started_with (Some index.old.opening) names.now current.now.graph current.recent.items)))) }
     ensures made { IfOk result (λ current. (set : List Element) × FnOnceReturnsAt F.FnOnce make set current.made
         × (current.now.graph ≡ replay_from set current.recent.items)) }
     ensures none { IfOk result (λ current. current.now.pending ≡ []) }
+    ensures values { IfOk result (λ current. ValuesFit current.now.graph) }
     ensures many { IfOk result (λ current. length current.recent.items ≡ recent_count index.old.opening) }
     ensures fit { IfOk result (λ current. All (λ (e : Event). NamesFit e.body) current.recent.items) }
     ensures goes_on { IfOk result (λ current. MayGoOn (Some index.old.opening) current.recent.items) }
+
     // the bytes read, over an image of a history
     ensures takes { OnOk result (IfSome (D.image disk.old) (λ image. (z : History) → IsIndexOver z image index.old.opening (length names.now)
         → (steps : List ℕ) → PlansLastLeaf index.old.opening steps
         → Takes (recent_bytes index.old.opening + weight_of (arcs_of (record_edges index.old.opening)) steps) (D.taken disk.old) (D.taken disk.new))) }
+
     // why there are none
     ensures refused { IfErr result (λ fault. IfSome (D.image disk.old) (λ image. RefusesStart fault image)) }
     ensures cause { IsErrOf result StartFault.Disk → Rose (D.faults disk.old) (D.faults disk.new) }
+
     // what it leaves
     ensures same { index.new ≡ index.old }
     ensures disk { OnlyReads D.image D.faults D.write_faults disk.old disk.new }
@@ -122,9 +128,11 @@ fn reopen<D: Disk>(
         MatchOption found (opening image ≡ Err No_index) (λ index. opening image ≡ Ok (record { index = index.opening; names = names.new })))) }
     ensures counted_names { IfOk result (λ found. IfSome found (λ index. length names.new ≡ name_total index.opening.batches)) }
     ensures taken { IfOk result (λ found. IfSome found (λ index. D.taken disk.new ≡ raised_by (opening_bytes index.opening) (D.taken disk.old))) }
+
     // why there is none
     ensures refused { IfErr result (λ fault. IfSome (D.image disk.old) (λ image. RefusesStart fault image)) }
     ensures cause { IsErrOf result StartFault.Disk → Rose (D.faults disk.old) (D.faults disk.new) }
+
     // what it leaves
     ensures disk { ReadsAndSyncs D.image D.faults D.write_faults disk.old disk.new }
 {
@@ -150,6 +158,7 @@ fn open_index<R: Threads + Sync, D: Disk, T: Drop, F: FnOnce(&Set) -> T>(
     requires make { F.IsAlwaysCallable make }
     requires image { IfSome (D.image disk.old) (λ image. opening image ≡ Ok (record { index = index.opening; names = names })) }
     requires counted_names { length names ≡ name_total index.opening.batches }
+
     // the history
     ensures started { IfOk result (λ opened. IfSome (D.image disk.old) (λ image.
         Starts image (Ok (started_with (index_opening opened.history.index) opened.history.names opened.history.now.graph opened.history.recent.items)))) }
@@ -157,13 +166,16 @@ fn open_index<R: Threads + Sync, D: Disk, T: Drop, F: FnOnce(&Set) -> T>(
         × (opened.history.now.graph ≡ replay_from set opened.history.recent.items)) }
     ensures sound { IfOk result (λ opened. IsSoundHistory (index_opening opened.history.index) opened.history.names opened.history.now opened.history.recent.items) }
     ensures held { IfOk result (λ opened. IfSome (D.image disk.new) (λ image. IsHeldBy (index_opening opened.history.index) opened.history.names image)) }
+
     // the bytes read, over an image of a history
     ensures takes { OnOk result (IfSome (D.image disk.old) (λ image. (z : History) → IsIndexOver z image index.opening (length names)
         → (steps : List ℕ) → PlansLastLeaf index.opening steps
         → Takes (recent_bytes index.opening + weight_of (arcs_of (record_edges index.opening)) steps) (D.taken disk.old) (D.taken disk.new))) }
+
     // why there is none
     ensures refused { IfErr result (λ fault. IfSome (D.image disk.old) (λ image. RefusesStart fault image)) }
     ensures cause { IsErrOf result StartFault.Disk → Rose (D.faults disk.old) (D.faults disk.new) }
+
     // what it leaves
     ensures disk { OnlyReads D.image D.faults D.write_faults disk.old disk.new }
 {
@@ -196,6 +208,7 @@ pub fn open<R: Threads + Sync, D: Disk, T: Drop, F: FnOnce(&Set) -> T>(
     make: F,
 ) -> Result<OpenedFile<T>, StartFault>
     requires make { F.IsAlwaysCallable make }
+
     // the history
     ensures started { IfOk result (λ opened. IfSome (D.image disk.old) (λ image.
         Starts image (Ok (started_with (index_opening opened.history.index) opened.history.names opened.history.now.graph opened.history.recent.items)))) }
@@ -205,15 +218,18 @@ pub fn open<R: Threads + Sync, D: Disk, T: Drop, F: FnOnce(&Set) -> T>(
         × (opened.history.now.graph ≡ replay_from set opened.history.recent.items)) }
     ensures sound { IfOk result (λ opened. IsSoundHistory (index_opening opened.history.index) opened.history.names opened.history.now opened.history.recent.items) }
     ensures held { IfOk result (λ opened. IfSome (D.image disk.new) (λ image. IsHeldBy (index_opening opened.history.index) opened.history.names image)) }
+
     // the bytes read, over an image of a history
     ensures takes { IfOk result (λ opened. IfSome (D.image disk.old) (λ image. (z : History) → IsImageOf z image
         → (steps : List ℕ) → PlansLastLeaf (opened_of z).index steps
         → Takes (start_bytes (opened_of z).index steps) (D.taken disk.old) (D.taken disk.new))) }
+
     // why there is none
     ensures refused { IfErr result (λ fault. IfSome (D.image disk.old) (λ image. RefusesStart fault image)) }
     ensures never { IfErr result (λ fault. IfSome (D.image disk.old) (λ image. (z : Option History) → StandsAs z image
         → (fault ≡ StartFault.Disk) ⊎ (fault ≡ StartFault.Memory))) }
     ensures cause { IsErrOf result StartFault.Disk → Rose (D.faults disk.old) (D.faults disk.new) }
+
     // what it leaves
     ensures disk { ReadsAndSyncs D.image D.faults D.write_faults disk.old disk.new }
 {

@@ -14,12 +14,13 @@ ghost use Rattle.dg_graph.specs.declared.limits.TheConstants.{NAMES_MAX};
 ghost use Rattle.dg_graph.specs.declared.placed.Placed.{Placed};
 ghost use Rattle.dg_history.specs.Keys.{same_key};
 ghost use Rattle.dg_plan.specs.HistoryGraph.{all_columns};
+ghost use Rattle.dg_start.specs.Faults.{start_fault_of_record};
 ghost use Rattle.dg_start.specs.RecentReading.{events_in_source, placed_in_record};
 ghost use Rattle.dg_start.specs.Reading.{CanBeRead, WhereTold, source_of};
 ghost use Rattle.dg_start.specs.Refusals.{IsReason};
 
 use crate::event_source::EventSource;
-use crate::fault::StartFault;
+use crate::fault::RecordFault;
 use dg_columns::{MergeFault, Placed, ReadFault, merge, read_events};
 use dg_disk::Disk;
 use dg_file::Index;
@@ -35,7 +36,7 @@ fn read_column<D: Disk>(
     names: u32,
     key: Key,
     col: Column,
-) -> Result<Vec<Placed>, StartFault>
+) -> Result<Vec<Placed>, RecordFault>
     requires held { is_some (lookup (same_key key) index.old.opening.records) ≡ true }
     requires names { names ≤ NAMES_MAX }
     requires image { IfSome (D.image disk.old) (λ image. IsOpenedAs image index.old.opening) }
@@ -43,34 +44,35 @@ fn read_column<D: Disk>(
         (λ image. placed_in_record image names index.old.opening key col ≡ Ok placed.items)) }
     ensures fit { IfOk result (λ placed. All (λ (p : Placed). NamesFit p.event.body) placed.items) }
     ensures refused { IfErr result (λ fault. WhereTold (D.image disk.old)
-        (λ image. IsReason fault (placed_in_record image names index.old.opening key col))) }
+        (λ image. IsReason (start_fault_of_record fault) (placed_in_record image names index.old.opening key col))) }
     ensures takes { OnOk result (WhereTold (D.image disk.old)
         (λ image. Takes (length (kept_in image index.old.opening key col)) (D.taken disk.old) (D.taken disk.new))) }
     ensures same { index.new ≡ index.old }
-    ensures cause { IsErrOf result StartFault.Disk → Rose (D.faults disk.old) (D.faults disk.new) }
+    ensures cause { IsErrOf result RecordFault.Disk → Rose (D.faults disk.old) (D.faults disk.new) }
+
     // what it leaves
     ensures disk { OnlyReads D.image D.faults D.write_faults disk.old disk.new }
 {
     let bytes = index.fetch(disk, key, col)?;
     match read_events(alloc, &bytes, col, names) {
         Ok(placed) => Ok(placed),
-        Err(ReadFault::Damaged(_)) => Err(StartFault::BadRecord(key, col)),
-        Err(ReadFault::Memory) => Err(StartFault::Memory),
+        Err(ReadFault::Damaged(_)) => Err(RecordFault::BadRecord(key, col)),
+        Err(ReadFault::Memory) => Err(RecordFault::Memory),
     }
 }
 
 /// The events of a record of an index that has so many names.
 ///
-/// `StartFault::BadRecord` for the first column that no events are spelled as, or for structure where
-/// the columns do not come together to as many events as are due; `StartFault::Disk` where the disk failed,
-/// `StartFault::Memory` for want of memory.
+/// `RecordFault::BadRecord` for the first column that no events are spelled as, or for structure where
+/// the columns do not come together to as many events as are due; `RecordFault::Disk` where the disk failed,
+/// `RecordFault::Memory` for want of memory.
 pub fn read_record<D: Disk>(
     alloc: Global,
     index: &mut Index,
     disk: &mut D,
     names: u32,
     source: EventSource,
-) -> Result<Vec<Event>, StartFault>
+) -> Result<Vec<Event>, RecordFault>
     requires readable { CanBeRead index.old.opening (source_of source) }
     requires names { names ≤ NAMES_MAX }
     requires image { IfSome (D.image disk.old) (λ image. IsOpenedAs image index.old.opening) }
@@ -80,11 +82,12 @@ pub fn read_record<D: Disk>(
     ensures many { IfOk result (λ events. length events.items ≡ source.count) }
     ensures rises { IfOk result (λ events. RisesFrom 0 events.items) }
     ensures refused { IfErr result (λ fault. WhereTold (D.image disk.old)
-        (λ image. IsReason fault (events_in_source image names index.old.opening (source_of source)))) }
+        (λ image. IsReason (start_fault_of_record fault) (events_in_source image names index.old.opening (source_of source)))) }
     ensures takes { OnOk result (WhereTold (D.image disk.old)
         (λ image. Takes (asked_length (kept_in image index.old.opening) all_columns source.key) (D.taken disk.old) (D.taken disk.new))) }
     ensures same { index.new ≡ index.old }
-    ensures cause { IsErrOf result StartFault.Disk → Rose (D.faults disk.old) (D.faults disk.new) }
+    ensures cause { IsErrOf result RecordFault.Disk → Rose (D.faults disk.old) (D.faults disk.new) }
+
     // what it leaves
     ensures disk { OnlyReads D.image D.faults D.write_faults disk.old disk.new }
 {
@@ -94,7 +97,7 @@ pub fn read_record<D: Disk>(
     let edge_attrs = read_column(alloc, index, disk, names, key, Column::EdgeAttr)?;
     match merge(alloc, &structure, &node_attrs, &edge_attrs, count as u32) {
         Ok(events) => Ok(events),
-        Err(MergeFault::Places) => Err(StartFault::BadRecord(key, Column::Structure)),
-        Err(MergeFault::Memory) => Err(StartFault::Memory),
+        Err(MergeFault::Places) => Err(RecordFault::BadRecord(key, Column::Structure)),
+        Err(MergeFault::Memory) => Err(RecordFault::Memory),
     }
 }

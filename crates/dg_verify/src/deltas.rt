@@ -50,6 +50,7 @@ fn compare_delta<D: Disk>(
     ensures stopped { IfErr result (λ stop. WhereTold (D.image disk.old)
         (λ image. IsWrong stop (keyed_column key (unlike_of image index.old.opening kind key structure.now node_attrs.now edge_attrs.now)))) }
     ensures cause { IsErrOf result Stop.Disk → Rose (D.faults disk.old) (D.faults disk.new) }
+
     // what it leaves
     ensures same { index.new ≡ index.old }
     ensures disk { OnlyReads D.image D.faults D.write_faults disk.old disk.new }
@@ -76,6 +77,7 @@ pub fn compare_deltas<D: Disk>(
     ensures stopped { IfErr result (λ stop. WhereTold (D.image disk.old)
         (λ image. IsWrong stop (first_unlike image index.old.opening kind due.now.keys.items due.now.segment.deltas))) }
     ensures cause { IsErrOf result Stop.Disk → Rose (D.faults disk.old) (D.faults disk.new) }
+
     // what it leaves
     ensures same { index.new ≡ index.old }
     ensures disk { OnlyReads D.image D.faults D.write_faults disk.old disk.new }

@@ -47,15 +47,18 @@ fn add_list<D: Disk>(
     requires closed { number < list_total index.old.opening }
     requires image { IfSome (D.image disk.old) (λ image. opening image ≡ Ok (opened_with index.old.opening names.now)) }
     requires read { IsRead own.old }
+
     // the events
     ensures listed { OnOk result (WhereTold (D.image disk.old)
         (λ image. tested names.now own.old (with_list image (opened_with index.old.opening names.now) own.old.events.items number) ≡ tested names.now own.new (Ok own.new.events.items))) }
     ensures read { OnOk result (IsRead own.new) }
     ensures many { OnOk result (length own.new.events.items ≡ length own.old.events.items + index.old.opening.params.l) }
+
     // why there are none
     ensures stopped { IfErr result (λ stop. WhereTold (D.image disk.old)
         (λ image. IsStopBehind names.now own.new stop (tested names.now own.old (with_list image (opened_with index.old.opening names.now) own.old.events.items number)))) }
     ensures cause { IsErrOf result Stop.Disk → Rose (D.faults disk.old) (D.faults disk.new) }
+
     // what it leaves
     ensures same { index.new ≡ index.old }
     ensures disk { OnlyReads D.image D.faults D.write_faults disk.old disk.new }
@@ -87,15 +90,18 @@ pub fn add_lists<D: Disk>(
     requires none { own.old.events.items ≡ [] }
     requires image { IfSome (D.image disk.old) (λ image. opening image ≡ Ok (opened_with index.old.opening names.now)) }
     requires read { IsRead own.old }
+
     // the events
     ensures listed { OnOk result (WhereTold (D.image disk.old)
         (λ image. listed_events image (opened_with index.old.opening names.now) ≡ tested names.now own.new (Ok own.new.events.items))) }
     ensures read { OnOk result (IsRead own.new) }
     ensures many { OnOk result (length own.new.events.items ≡ list_total index.old.opening * index.old.opening.params.l) }
+
     // why there are none
     ensures stopped { IfErr result (λ stop. WhereTold (D.image disk.old)
         (λ image. IsStopBehind names.now own.new stop (listed_events image (opened_with index.old.opening names.now)))) }
     ensures cause { IsErrOf result Stop.Disk → Rose (D.faults disk.old) (D.faults disk.new) }
+
     // what it leaves
     ensures same { index.new ≡ index.old }
     ensures disk { OnlyReads D.image D.faults D.write_faults disk.old disk.new }

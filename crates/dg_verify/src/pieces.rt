@@ -94,6 +94,7 @@ fn compare_older<D: Disk>(
     ensures stopped { IfErr result (λ stop. WhereTold (D.image disk.old)
         (λ image. IsStop stop (with_older image (opened_with index.old.opening []) events.now number before batch))) }
     ensures cause { IsErrOf result Stop.Disk → Rose (D.faults disk.old) (D.faults disk.new) }
+
     // what it leaves
     ensures same { index.new ≡ index.old }
     ensures disk { OnlyReads D.image D.faults D.write_faults disk.old disk.new }
@@ -132,6 +133,7 @@ fn add_recent<D: Disk>(
     ensures stopped { IfErr result (λ stop. WhereTold (D.image disk.old)
         (λ image. IsStopBehind names.now own.new stop (tested names.now own.old (with_recent image (opened_with index.old.opening names.now) own.old.events.items number before batch)))) }
     ensures cause { IsErrOf result Stop.Disk → Rose (D.faults disk.old) (D.faults disk.new) }
+
     // what it leaves
     ensures same { index.new ≡ index.old }
     ensures disk { OnlyReads D.image D.faults D.write_faults disk.old disk.new }
@@ -170,6 +172,7 @@ fn add_piece<D: Disk>(
     ensures stopped { IfErr result (λ stop. WhereTold (D.image disk.old)
         (λ image. IsStopBehind names.now own.new stop (tested names.now own.old (with_piece_events image (opened_with index.old.opening names.now) own.old.events.items number before batch)))) }
     ensures cause { IsErrOf result Stop.Disk → Rose (D.faults disk.old) (D.faults disk.new) }
+
     // what it leaves
     ensures same { index.new ≡ index.old }
     ensures disk { OnlyReads D.image D.faults D.write_faults disk.old disk.new }
@@ -198,15 +201,18 @@ pub fn add_pieces<D: Disk>(
     requires image { IfSome (D.image disk.old) (λ image. opening image ≡ Ok (opened_with index.old.opening names.now)) }
     requires read { IsRead own.old }
     requires so_far { AreSoFar index.old.opening 0 own.old.events.items }
+
     // the events
     ensures pieced { OnOk result (WhereTold (D.image disk.old)
         (λ image. tested names.now own.old (with_pieces image (opened_with index.old.opening names.now) own.old.events.items 0 0 index.old.opening.batches) ≡ tested names.now own.new (Ok own.new.events.items))) }
     ensures read { OnOk result (IsRead own.new) }
     ensures many { OnOk result (length own.new.events.items ≡ event_total index.old.opening.batches) }
+
     // why there are none
     ensures stopped { IfErr result (λ stop. WhereTold (D.image disk.old)
         (λ image. IsStopBehind names.now own.new stop (tested names.now own.old (with_pieces image (opened_with index.old.opening names.now) own.old.events.items 0 0 index.old.opening.batches)))) }
     ensures cause { IsErrOf result Stop.Disk → Rose (D.faults disk.old) (D.faults disk.new) }
+
     // what it leaves
     ensures same { index.new ≡ index.old }
     ensures disk { OnlyReads D.image D.faults D.write_faults disk.old disk.new }

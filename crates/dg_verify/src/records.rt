@@ -46,6 +46,7 @@ pub fn read_events<D: Disk>(
     ensures stopped { IfErr result (λ stop. WhereTold (D.image disk.old)
         (λ image. IsStop stop (keyed key (events_of_record image (opened_with index.old.opening names.now) key count)))) }
     ensures cause { IsErrOf result Stop.Disk → Rose (D.faults disk.old) (D.faults disk.new) }
+
     // what it leaves
     ensures same { index.new ≡ index.old }
     ensures disk { OnlyReads D.image D.faults D.write_faults disk.old disk.new }
@@ -68,6 +69,7 @@ fn is_column<D: Disk>(
     ensures is { IfOk result (λ is. WhereTold (D.image disk.old)
         (λ image. is ≡ bytes_eq (column_at image (entry_at index.old.opening key) col) due.now)) }
     ensures cause { IsErrOf result FetchFault.Disk → Rose (D.faults disk.old) (D.faults disk.new) }
+
     // what it leaves
     ensures same { index.new ≡ index.old }
     ensures disk { OnlyReads D.image D.faults D.write_faults disk.old disk.new }
@@ -95,6 +97,7 @@ pub fn compare_columns<D: Disk>(
     ensures stopped { IfErr result (λ stop. WhereTold (D.image disk.old)
         (λ image. IsWrong stop (keyed_column key (unlike image index.old.opening key structure.now node_attrs.now edge_attrs.now)))) }
     ensures cause { IsErrOf result Stop.Disk → Rose (D.faults disk.old) (D.faults disk.new) }
+
     // what it leaves
     ensures same { index.new ≡ index.old }
     ensures disk { OnlyReads D.image D.faults D.write_faults disk.old disk.new }

@@ -6,7 +6,7 @@ ghost use Rattle.dg_verify.specs.declared.stop.Stop.TheVariants.{Memory};
 use dg_file::FetchFault;
 use dg_graph::Column;
 use dg_history::Key;
-use dg_start::StartFault;
+use dg_start::RecordFault;
 use std::alloc::AllocError;
 
 /// Why verifying goes no further.
@@ -41,21 +41,16 @@ impl From<FetchFault> for Stop {
     }
 }
 
-impl From<StartFault> for Stop {
-    ghost use Rattle.dg_verify.specs.Stops.{stop_of_start};
+impl From<RecordFault> for Stop {
+    ghost use Rattle.dg_verify.specs.Stops.{stop_of_record};
 
-    ghost from_gives = { λ read stop. stop ≡ stop_of_start read };
+    ghost from_gives = { λ read stop. stop ≡ stop_of_record read };
 
-    // Reading a record has no other fault than these three.
-    fn from(read: StartFault) -> Stop {
+    fn from(read: RecordFault) -> Stop {
         match read {
-            StartFault::BadRecord(key, col) => Stop::Wrong(key, col),
-            StartFault::Disk => Stop::Disk,
-            StartFault::Memory
-            | StartFault::Foreign
-            | StartFault::Damaged(_)
-            | StartFault::NotGraph
-            | StartFault::BadRecent(_) => Stop::Memory,
+            RecordFault::BadRecord(key, col) => Stop::Wrong(key, col),
+            RecordFault::Disk => Stop::Disk,
+            RecordFault::Memory => Stop::Memory,
         }
     }
 }

@@ -53,15 +53,18 @@ fn read_all<D: Disk>(
     requires none { own.old.events.items ≡ [] }
     requires image { IfSome (D.image disk.old) (λ image. opening image ≡ Ok (opened_with index.old.opening names.now)) }
     requires read { IsRead own.old }
+
     // the events
     ensures own { OnOk result (WhereTold (D.image disk.old)
         (λ image. own_events image (opened_with index.old.opening names.now) ≡ tested names.now own.new (Ok own.new.events.items))) }
     ensures read { OnOk result (IsRead own.new) }
     ensures many { OnOk result (length own.new.events.items ≡ event_total index.old.opening.batches) }
+
     // why there are none
     ensures stopped { IfErr result (λ stop. WhereTold (D.image disk.old)
         (λ image. IsStopBehind names.now own.new stop (own_events image (opened_with index.old.opening names.now)))) }
     ensures cause { IsErrOf result Stop.Disk → Rose (D.faults disk.old) (D.faults disk.new) }
+
     // what it leaves
     ensures same { index.new ≡ index.old }
     ensures disk { OnlyReads D.image D.faults D.write_faults disk.old disk.new }
@@ -71,17 +74,16 @@ fn read_all<D: Disk>(
 }
 
 // Why verifying stops behind these events: for an event that may not stand there, or else for this.
-fn first_stop(alloc: Global, names: &Names, own: &OwnEvents, stop: Stop) -> Stop
-    ensures first { (due : Result (List Event) (Key × Column)) → IsStopBehind names.now own.now stop due → IsStop result due }
-    ensures disk { result ≡ Stop.Disk → stop ≡ Stop.Disk }
+fn first_stop(alloc: Global, names: &Names, own: &OwnEvents, stop: Stop) -> Result<Stop, AllocError>
+    ensures first { IfOk result (λ first. (due : Result (List Event) (Key × Column)) → IsStopBehind names.now own.now stop due → IsStop first due) }
+    ensures disk { IfOk result (λ first. first ≡ Stop.Disk → stop ≡ Stop.Disk) }
 {
     let Stop::Wrong(_, _) = stop else {
-        return stop;
+        return Ok(stop);
     };
-    match own.first_unfit(alloc, names) {
-        Ok(Some(key)) => Stop::Wrong(key, Column::Structure),
-        Ok(None) => stop,
-        Err(AllocError) => Stop::Memory,
+    match own.first_unfit(alloc, names)? {
+        Some(key) => Ok(Stop::Wrong(key, Column::Structure)),
+        None => Ok(stop),
     }
 }
 
@@ -151,6 +153,7 @@ fn compare_all<R: Threads, D: Disk>(
     ensures stopped { IfErr result (λ stop. WhereTold (D.image disk.old)
         (λ image. IsUnsound stop (soundness_of image (opened_with index.old.opening names.now)))) }
     ensures cause { IsErrOf result Stop.Disk → Rose (D.faults disk.old) (D.faults disk.new) }
+
     // what it leaves
     ensures same { index.new ≡ index.old }
     ensures disk { OnlyReads D.image D.faults D.write_faults disk.old disk.new }
@@ -158,7 +161,7 @@ fn compare_all<R: Threads, D: Disk>(
     index.facts();
     let mut own = OwnEvents::new(alloc);
     if let Err(stop) = read_all(alloc, index, disk, names, &mut own) {
-        return Err(first_stop(alloc, names, &own, stop));
+        return Err(first_stop(alloc, names, &own, stop)?);
     }
     let due = test_and_make(rt, alloc, index.params(), names, own)?;
     compare_deltas(index, disk, &due, DeltaKind::Top)?;
@@ -190,6 +193,7 @@ pub fn verify<R: Threads, D: Disk>(
     requires image { IfSome (D.image disk.old) (λ image. opening image ≡ Ok (record { index = index.old.opening; names = names.now })) }
     ensures sound { IfOk result (λ s. IfSome (D.image disk.old) (λ image. s ≡ soundness_of image (record { index = index.old.opening; names = names.now }))) }
     ensures cause { IsErrOf result VerifyFault.Disk → Rose (D.faults disk.old) (D.faults disk.new) }
+
     // what it leaves
     ensures same { index.new ≡ index.old }
     ensures disk { OnlyReads D.image D.faults D.write_faults disk.old disk.new }

@@ -35,6 +35,7 @@ keep_batch-requires g c =
       within = ready.within;
       counted = ready.sound.counted.0;
       named = ready.named p.whole;
+      fit = subst (λ (es : List Event). All (λ (e : Event). NamesFit e.body) es) (sym c.pending-events.ensures) p.fit;
       recent_fit = subst (λ (es : List Event). All (λ (e : Event). NamesFit e.body) es) (sym c.deref.ensures.value) ready.sound.fit;
       set = subst (λ (set : List Element). IsSet set) (sym c.requires.pool) c.facts-2.ensures.rises;
       changes = subst (λ (x : List Element × List Event). AreChangesOf x.0 x.1) (let e : (h.now.graph, events) ≡ (graph_now c.args.pool.now, c.pending-events.result.now) = λ i. (sym c.requires.pool i, sym c.pending-events.ensures i) in e) p.changes_are;
@@ -96,8 +97,7 @@ returns-clause-sound g c =
     h.names c.commit.new.self c.in_ok-left.left.items refl (c.commit.ensures.graph ∙ ap (λ (set : List Element). replay_from set events) c.prepare.ensures.same_graph) c.commit.ensures.none
     c.in_ok-left.ensures.left c.keep_batch.ensures.disk.told in
     sound_after o c.args.limit c.args.known h c.args.front c.args.changes.items events k.segment (g.D.Disk.image c.args.disk.now) (g.D.Disk.image c.keep_batch.new.disk) (Some c.keep_batch.new.index.opening) h.names c.commit.new.self c.in_ok-left.left.items
-    ready p (behind_kept o c.args.known h (graph_now c.args.pool.now) c.deref.result.now c.pending-events.result.now events c.requires.pool c.deref.ensures.value c.pending-events.ensures c.keep_batch.new.index.opening c.args.limit (g.D.Disk.image c.args.disk.now) (g.D.Disk.image c.keep_batch.new.disk) k)
-    (subst (λ (es : List Event). All (λ (e : Event). NamesFit e.body) es) c.pending-events.ensures c.in_ok-left.ensures.fit) added
+    ready p (behind_kept o c.args.known h (graph_now c.args.pool.now) c.deref.result.now c.pending-events.result.now events c.requires.pool c.deref.ensures.value c.pending-events.ensures c.keep_batch.new.index.opening c.args.limit (g.D.Disk.image c.args.disk.now) (g.D.Disk.image c.keep_batch.new.disk) k) added
 
 pub returns-clause-adds : goal.returns-clause-adds
 returns-clause-adds g c =

@@ -1,10 +1,7 @@
-use Rattle.std.proofs.Common.{◌≡◌, ℕ, ◌+◌, ◌-◌, ◌*◌, ◌∙◌, mul_comm}
-use Rattle.std.proofs.Math.Nat.{mul-sub}
+use Rattle.std.proofs.Common.{◌+◌, ◌-◌, ◌*◌, ◌∙◌}
+use Rattle.dg_append.proofs.SegmentParts.{less_times}
 use Rattle.dg_append.proofs.recent.closed_by.Goals as goal
 use Rattle.dg_index.specs.Hierarchy.{leaves}
-
-less_times : (a b n : ℕ) → (a - b) * n ≡ a * n - b * n
-less_times a b n = mul_comm (a - b) n ∙ mul-sub n a b ∙ (λ i. mul_comm n a i - mul_comm n b i)
 
 pub returns : goal.returns
 returns c =

@@ -1,14 +1,11 @@
-use Rattle.std.proofs.Common.{◌∙◌, ℕ, List, length, map, ap, subst}
+use Rattle.std.proofs.Common.{◌∙◌, ℕ, length, map}
 use Rattle.dg_append.proofs.PreparedBatch.{InRange}
-use Rattle.dg_append.proofs.SegmentParts.{as_many_deltas, as_many_lists, listed_by, older_long, past_graph, past_long, past_recent, past_sets, range_of, recent_long}
+use Rattle.dg_append.proofs.SegmentParts.{as_many_deltas, as_many_lists, begins_after_lists, listed_by, older_long, past_graph, past_long, past_recent, past_sets, range_of, recent_long}
 use Rattle.dg_append.proofs.segment.segment_of.Goals as goal
-use Rattle.dg_append.specs.AddedBatches.{recent_behind}
-use Rattle.dg_append.specs.BatchSegments.{BeginsBehind, last_in_rows}
-use Rattle.dg_graph.specs.declared.event.Event.{Event}
 use Rattle.dg_history.specs.declared.params.Params.{Params}
 use Rattle.dg_history.specs.History.{first_time_of}
 use Rattle.dg_index.specs.FileOfHistory.{segment_of}
-use Rattle.dg_index.specs.OpenedIndex.{Opening, event_total, list_row}
+use Rattle.dg_index.specs.OpenedIndex.{Opening, list_row}
 use Rattle.dg_pool.specs.Graphs.{graph_now}
 use Rattle.dg_start.specs.StoredHistory.{floor_of}
 
@@ -27,8 +24,8 @@ pub build-requires-clause-older : goal.build-requires-clause-older
 build-requires-clause-older c =
     older_long c.args.index.now.opening c.params-params.result c.events_len-before.result c.params-params.ensures c.events_len-before.ensures.events (length c.args.events.now) (length c.args.older.now) c.requires.older
 
-pub returns-then-begins_behind-clause-behind : goal.returns-then-begins_behind-clause-behind
-returns-then-begins_behind-clause-behind c =
+pub returns-in-Ok-clause-behind : goal.returns-in-Ok-clause-behind
+returns-in-Ok-clause-behind c =
     let o : Opening = c.args.index.now.opening in
     let parts = c.in_ok-segment.ensures.parts in
     let made = c.in-Ok.ensures.batch in
@@ -40,12 +37,12 @@ returns-then-begins_behind-clause-behind c =
       lists = c.in-Ok.ensures.lists ∙ as_many_lists o c.params-params.result c.events_len-before.result c.params-params.ensures c.events_len-before.ensures.events _;
       deltas = c.in-Ok.ensures.deltas ∙ as_many_deltas o c.params-params.result c.events_len-before.result c.params-params.ensures c.events_len-before.ensures.events _;
       listed = listed_by (floor_of o (first_time_of c.args.events.now)) c.args.recent.now c.args.events.now (map list_row c.in-Ok.segment.lists) c.requires.some (c.in-Ok.ensures.times (floor_of o (first_time_of c.args.events.now)) c.requires.rises);
-      behind = subst (λ (t : ℕ). BeginsBehind t (recent_behind o.params (event_total o.batches) c.args.recent.now c.args.events.now)) (c.last_in.ensures ∙ ap (last_in_rows 0) c.list_rows.ensures)
-          (subst (λ (left : List Event). BeginsBehind c.last_in.result left) c.requires.left (c.begins_behind.ensures c.if-begins_behind.true));
+      behind = begins_after_lists o c.params-params.result c.events_len-before.result c.params-params.ensures c.events_len-before.ensures.events (floor_of o (first_time_of c.args.events.now)) c.in-Ok.segment.lists c.args.recent.now c.args.events.now
+          (c.in-Ok.ensures.behind (floor_of o (first_time_of c.args.events.now)) c.requires.rises);
     }
 
-pub returns-then-begins_behind-clause-is : goal.returns-then-begins_behind-clause-is
-returns-then-begins_behind-clause-is c past is =
+pub returns-in-Ok-clause-is : goal.returns-in-Ok-clause-is
+returns-in-Ok-clause-is c past is =
     let o : Opening = c.args.index.now.opening in
     let p : Params = c.params-params.result in
     let n : ℕ = c.events_len-before.result in

@@ -2,7 +2,7 @@ use Rattle.std.proofs.Common.{ℕ, ◌+◌, ◌-◌, ◌/◌, ◌++◌, length, 
 use Rattle.std.proofs.lemmas.Result.{err_from_is_err_and}
 use Rattle.dg_index.specs.FileOfHistory.{Segment}
 use Rattle.dg_build.proofs.ClosedLists.{lists_long}
-use Rattle.dg_build.proofs.ListTimes.{lists_may}
+use Rattle.dg_build.proofs.ListTimes.{lists_behind, lists_may}
 use Rattle.dg_build.proofs.WholeSegment.{lists_within, whole}
 use Rattle.dg_build.proofs.batch.build.Goals as goal
 
@@ -22,6 +22,14 @@ returns-clause-times c floor rises =
     let l : ℕ = c.args.params.l in
     let n : ℕ = (c.args.before + length c.args.events.now) / l - c.args.before / l in
     lists_may l n floor (c.args.recent.now ++ c.args.events.now) c.add_batch.new.segment.lists c.requires.list.0
+    (omega (arith, lists_within l c.args.before (length c.args.events.now) c.requires.list.0, c.requires.recent, length-append c.args.recent.now c.args.events.now))
+    rises (ap (λ (s : Segment). s.lists) c.in_ok-add_batch.ensures.written)
+
+pub returns-clause-behind : goal.returns-clause-behind
+returns-clause-behind c floor rises =
+    let l : ℕ = c.args.params.l in
+    let n : ℕ = (c.args.before + length c.args.events.now) / l - c.args.before / l in
+    lists_behind l n floor (c.args.recent.now ++ c.args.events.now) c.add_batch.new.segment.lists c.requires.list.0
     (omega (arith, lists_within l c.args.before (length c.args.events.now) c.requires.list.0, c.requires.recent, length-append c.args.recent.now c.args.events.now))
     rises (ap (λ (s : Segment). s.lists) c.in_ok-add_batch.ensures.written)
 

@@ -8,6 +8,7 @@ use Rattle.dg_retrieval.specs.NodeSets.{IsIndexOver}
 use Rattle.dg_retrieval.specs.Retrieval.{IsFirstDamage, IsNoDamage}
 use Rattle.dg_retrieval.proofs.PlannedSets.{plan_damaged, plan_entered, plan_kept, plan_led, plan_most, plan_never, plan_set_is, plan_takes, plan_whole}
 use Rattle.dg_retrieval.proofs.Retrieving.{handed_out}
+use Rattle.dg_retrieval.proofs.ValueRanges.{folded_fits}
 use Rattle.dg_retrieval.proofs.node_lead.retrieve_node.Goals as goal
 
 pub fetch_walk-requires-clause-kept : goal.fetch_walk-requires-clause-kept
@@ -79,3 +80,6 @@ pub returns-clause-most : goal.returns-clause-most
 returns-clause-most g c =
     let along = c.deref-2.ensures.value ∙ c.in_ok-walk.ensures ∙ (λ i. edges_at (c.edges.ensures i) (c.deref.ensures.value i)) in
     plan_most c.args.index.now.opening c.args.cols c.args.planner.now.edges c.requires.edges c.args.node c.in_ok-route.route.steps.items c.in_ok-route.ensures.plan _ along c.args.names _ _ _ c.fetch_walk.ensures.most
+
+pub returns-clause-fit : goal.returns-clause-fit
+returns-clause-fit g c few = folded_fits c.args.names few c.deref-3.result.now c.in_ok-delta.delta c.in_ok-delta.ensures

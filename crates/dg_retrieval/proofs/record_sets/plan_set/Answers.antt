@@ -1,7 +1,8 @@
-use Rattle.std.proofs.Common.{◌∙◌}
+use Rattle.std.proofs.Common.{◌∙◌, subst, sym}
 use Rattle.dg_retrieval.proofs.PlannedSets.{from_nothing, set_damaged, set_is, set_led, set_takes}
 use Rattle.dg_retrieval.proofs.Retrieving.{fault_handed}
 use Rattle.dg_retrieval.proofs.record_sets.plan_set.Goals as goal
+use Rattle.dg_retrieval.specs.ValueRange.{ValuesFit}
 
 pub returns-in_err-lead-clause-damage : goal.returns-in_err-lead-clause-damage
 returns-in_err-lead-clause-damage g c key col is =
@@ -22,3 +23,6 @@ pub returns-clause-takes : goal.returns-clause-takes
 returns-clause-takes g c =
     set_takes c.args.names (g.D.Disk.image c.args.disk.now) c.args.index.now.opening c.args.planner.now.edges c.requires.edges c.args.node c.in_ok-lead.lead.weight _ _ c.in_ok-lead.ensures.plan
     c.in_ok-lead.ensures.takes
+
+pub returns-clause-fit : goal.returns-clause-fit
+returns-clause-fit g c few = subst ValuesFit (sym c.into_sets-set.ensures.plus) (c.in_ok-lead.ensures.fit few)

@@ -23,7 +23,7 @@ returns-clause-sound g c =
     let now : NowState = c.in_ok-now.field-0.now in
     let recent : List Event = c.in_ok-now.field-0.recent.items in
     subst (λ (i : IndexState). IsSoundHistory (Some i.opening) names now recent) {x = c.args.index} {y = c.read_current.new.index} (sym {a = c.read_current.new.index} {b = c.args.index} c.read_current.ensures.same)
-    (record { pending = c.in_ok-now.ensures.none; counted = (c.requires.counted_names, c.in_ok-now.ensures.many); fit = c.in_ok-now.ensures.fit; goes_on = c.in_ok-now.ensures.goes_on })
+    (record { pending = c.in_ok-now.ensures.none; counted = (c.requires.counted_names, c.in_ok-now.ensures.many); values = c.in_ok-now.ensures.values; fit = c.in_ok-now.ensures.fit; goes_on = c.in_ok-now.ensures.goes_on })
 
 pub returns-clause-held : goal.returns-clause-held
 returns-clause-held g c =

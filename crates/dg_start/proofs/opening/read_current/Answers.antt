@@ -1,4 +1,4 @@
-use Rattle.std.proofs.Common.{◌≡◌, ℕ, List, Ok, None, refl, ◌∙◌, ap, subst}
+use Rattle.std.proofs.Common.{◌≡◌, ℕ, List, Ok, None, refl, sym, ◌∙◌, ap, subst, arith}
 use Rattle.std.specs.Prelude.{IfSome, length}
 use Rattle.dg_file.specs.Index.{IndexState}
 use Rattle.dg_graph.specs.declared.element.Element.{Element}
@@ -11,6 +11,8 @@ use Rattle.dg_plan.specs.IndexGraph.{arcs_of}
 use Rattle.dg_plan.specs.Walks.{weight_of}
 use Rattle.dg_retrieval.specs.KeptGraph.{record_edges}
 use Rattle.dg_retrieval.specs.NodeSets.{IsIndexOver, IsLedByPlan}
+use Rattle.dg_retrieval.specs.ValueRange.{ValuesFit}
+use Rattle.dg_retrieval.proofs.ValueRanges.{replay_fits}
 use Rattle.dg_start.specs.declared.event_source.EventSource.{EventSource}
 use Rattle.dg_start.specs.declared.fault.StartFault.{StartFault}
 use Rattle.dg_start.specs.RecentReading.{events_in_sources, first_wrong_event}
@@ -89,6 +91,13 @@ returns-clause-started g c =
     (c.first_recent.ensures.number ∙ ap first_recent same) c.deref-2.ensures.value c.deref-3.ensures.value c.in_ok-now.ensures.right)
     c.in_ok-now.now.graph
     (c.in_ok-now.ensures.led ∙ ap (replay_from set) c.deref-3.ensures.value)
+
+pub returns-clause-values : goal.returns-clause-values
+returns-clause-values g c =
+    let recent : List Event = c.in_ok-recent.recent.items in
+    let set : List Element = c.in_ok-set.set in
+    subst ValuesFit (sym (c.in_ok-now.ensures.led ∙ ap (replay_from set) c.deref-3.ensures.value))
+    (replay_fits set recent (c.in_ok-set.ensures.fit (omega (arith, c.len-2.ensures.few))) c.in_ok-recent.ensures.fit)
 
 pub returns-clause-many : goal.returns-clause-many
 returns-clause-many g c =

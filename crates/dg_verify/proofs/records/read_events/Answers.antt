@@ -2,7 +2,7 @@ use Rattle.dg_sound.specs.OwnEvents.{events_of_record}
 use Rattle.dg_start.specs.Reading.{WhereTold}
 use Rattle.dg_start.proofs.Told.{err_is}
 use Rattle.dg_verify.specs.declared.stop.Stop.{Stop}
-use Rattle.dg_verify.specs.Stops.{stop_of_start}
+use Rattle.dg_verify.specs.Stops.{stop_of_record}
 use Rattle.dg_verify.specs.Verifying.{IsStop, keyed, opened_with}
 use Rattle.dg_verify.proofs.RecordsRead.{events_refused}
 use Rattle.dg_verify.proofs.records.read_events.Goals as goal
@@ -10,7 +10,7 @@ use Rattle.dg_verify.proofs.records.read_events.Goals as goal
 pub returns-in_err-read_record-clause-stopped : goal.returns-in_err-read_record-clause-stopped
 returns-in_err-read_record-clause-stopped g c =
     let o = c.args.index.now.opening in
-    err_is c.from_residual.result (stop_of_start c.in_err-read_record.field-0.0)
+    err_is c.from_residual.result (stop_of_record c.in_err-read_record.field-0.0)
     (λ (s : Stop). WhereTold (g.D.Disk.image c.args.disk.now) (λ image. IsStop s (keyed c.args.key (events_of_record image (opened_with o c.args.names.now) c.args.key c.args.count))))
     c.from_residual.ensures
     (λ image h. events_refused image c.args.names.now o (record { key = c.args.key; count = c.args.count; ends = record { first = 0; last = 0 } }) c.len.result c.len.ensures.len

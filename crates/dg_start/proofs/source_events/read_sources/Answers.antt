@@ -1,0 +1,70 @@
+use Rattle.std.proofs.Common.{◌≡◌, ◌++◌, List, Ok, get_or, sym, ◌∙◌, ap, subst, arith}
+use Rattle.std.specs.List.{All}
+use Rattle.std.proofs.lemmas.List.Elements.{All-append}
+use Rattle.dg_columns.specs.NamesInRange.{NamesFit}
+use Rattle.dg_file.specs.Images.{IsOpenedAs}
+use Rattle.dg_file.specs.Index.{IndexState}
+use Rattle.dg_fold.specs.BytesRead.{Takes, asked_length, kept_in}
+use Rattle.dg_graph.specs.declared.event.Event.{Event}
+use Rattle.dg_index.specs.OpenedIndex.{Opening}
+use Rattle.dg_plan.specs.HistoryGraph.{all_columns}
+use Rattle.dg_start.specs.declared.event_source.EventSource.{EventSource}
+use Rattle.dg_start.specs.declared.fault.StartFault.{StartFault}
+use Rattle.dg_start.specs.Faults.{start_fault_of_record}
+use Rattle.dg_start.specs.RecentReading.{Source, events_in_source, events_in_sources}
+use Rattle.dg_start.specs.Reading.{WhereTold, source_of, sources_in}
+use Rattle.dg_start.specs.Refusals.{IsReason}
+use Rattle.dg_start.proofs.ReadSources.{IsNextSource, added_so, next_source, no_source, source_read, source_refused}
+use Rattle.dg_start.proofs.Told.{err_is, said_before, told_weaker}
+use Rattle.dg_start.proofs.source_events.read_sources.Goals as goal
+
+pub read_record-requires-clause-image : goal.read_record-requires-clause-image
+read_record-requires-clause-image g c =
+    told_weaker (g.D.Disk.image c.args.disk.now) (g.D.Disk.image c.loop-source.disk) (λ image. IsOpenedAs image c.args.index.now.opening) (λ image. IsOpenedAs image c.loop-source.index.opening)
+    c.loop-source.invariant.frame.same_image
+    (λ image h. subst (λ (x : IndexState). IsOpenedAs image x.opening) (sym c.loop-source.invariant.same) h)
+    c.requires.image
+
+pub returns-in_err-more-clause-refused : goal.returns-in_err-more-clause-refused
+returns-in_err-more-clause-refused g c =
+    let o : Opening = c.args.index.now.opening in
+    let all : List Source = sources_in c.args.sources.now in
+    let item : EventSource = get_or c.args.sources.now c.loop-source.source-index no_source in
+    let next : IsNextSource all c.loop-source.source-index (source_of item) = next_source c.args.sources.now c.loop-source.source-index no_source c.loop-source-test.true in
+    let told = g.D.Disk.image c.args.disk.now in
+    err_is c.from_residual.result (start_fault_of_record c.in_err-more.field-0.0) (λ (f : StartFault). WhereTold told (λ image. IsReason f (events_in_sources image c.args.names o all))) c.from_residual.ensures
+    (source_refused told c.args.names o all c.loop-source.source-index (source_of item) next c.loop-source.events.items (g.D.Disk.taken c.args.disk.now) (g.D.Disk.taken c.loop-source.disk)
+    (start_fault_of_record c.in_err-more.field-0.0) c.loop-source.invariant.so_far
+    (said_before (g.D.Disk.image c.loop-source.disk) told c.loop-source.index.opening o (λ image p. IsReason (start_fault_of_record c.in_err-more.field-0.0) (events_in_source image c.args.names p (source_of item)))
+    c.loop-source.invariant.frame.same_image (ap (λ (x : IndexState). x.opening) c.loop-source.invariant.same) c.in_err-more.ensures.refused))
+
+pub loop-source-preserved : goal.loop-source-preserved
+loop-source-preserved g c =
+    let o : Opening = c.args.index.now.opening in
+    let all : List Source = sources_in c.args.sources.now in
+    let item : EventSource = get_or c.args.sources.now c.loop-source.source-index no_source in
+    let next : IsNextSource all c.loop-source.source-index (source_of item) = next_source c.args.sources.now c.loop-source.source-index no_source c.loop-source-test.true in
+    let told = g.D.Disk.image c.args.disk.now in
+    let same_opening : c.loop-source.index.opening ≡ o = ap (λ (x : IndexState). x.opening) c.loop-source.invariant.same in
+    let added : c.extend_from_slice.new.self.items ≡ c.loop-source.events.items ++ c.in_ok-more.more.items =
+    added_so c.loop-source.events.items c.in_ok-more.more.items c.extend_from_slice.new.self.items c.deref.result.now c.in_ok-extend_from_slice.ensures.items c.deref.ensures.value in
+    record {
+      same = c.read_record.ensures.same ∙ c.loop-source.invariant.same;
+      frame = record {
+        same_image = c.read_record.ensures.disk.same_image ∙ c.loop-source.invariant.frame.same_image;
+        counted = omega (arith, c.read_record.ensures.disk.counted, c.loop-source.invariant.frame.counted);
+        no_write_failed = c.read_record.ensures.disk.no_write_failed ∙ c.loop-source.invariant.frame.no_write_failed;
+      };
+      so_far =
+          source_read told c.args.names o all c.loop-source.source-index (source_of item) next c.loop-source.events.items c.in_ok-more.more.items c.extend_from_slice.new.self.items
+          (g.D.Disk.taken c.args.disk.now) (g.D.Disk.taken c.loop-source.disk) (g.D.Disk.taken c.read_record.new.disk) c.loop-source.invariant.so_far
+          (said_before (g.D.Disk.image c.loop-source.disk) told c.loop-source.index.opening o (λ image p. events_in_source image c.args.names p (source_of item) ≡ Ok c.in_ok-more.more.items)
+          c.loop-source.invariant.frame.same_image same_opening c.in_ok-more.ensures.read)
+          c.in_ok-more.ensures.many c.in_ok-more.ensures.rises
+          (said_before (g.D.Disk.image c.loop-source.disk) told c.loop-source.index.opening o
+          (λ image p. Takes (asked_length (kept_in image p) all_columns item.key) (g.D.Disk.taken c.loop-source.disk) (g.D.Disk.taken c.read_record.new.disk))
+          c.loop-source.invariant.frame.same_image same_opening c.in_ok-more.ensures.takes)
+          added;
+      fit = subst (λ (es : List Event). All (λ (e : Event). NamesFit e.body) es) (sym added)
+          (All-append (λ (e : Event). NamesFit e.body) c.loop-source.events.items c.in_ok-more.more.items c.loop-source.invariant.fit c.in_ok-more.ensures.fit);
+    }

@@ -1,0 +1,65 @@
+//! Reading the events of several records of an index.
+
+ghost use Rattle.std.specs.Prelude.{◌≡◌, ◌≤◌, Ok, IfOk, IfErr, IfSome, IsErrOf, OnOk, List, ℕ};
+ghost use Rattle.std.specs.List.{All};
+ghost use Rattle.dg_columns.specs.NamesInRange.{NamesFit};
+ghost use Rattle.dg_disk.specs.Counts.{Rose};
+ghost use Rattle.dg_disk.specs.Frame.{OnlyReads};
+ghost use Rattle.dg_file.specs.Images.{IsOpenedAs};
+ghost use Rattle.dg_fold.specs.BytesRead.{Takes};
+ghost use Rattle.dg_graph.specs.declared.event.Event.{Event};
+ghost use Rattle.dg_graph.specs.declared.limits.TheConstants.{NAMES_MAX};
+ghost use Rattle.dg_start.specs.RecentReading.{events_in_sources};
+ghost use Rattle.dg_start.specs.Reading.{ArePartedBy, CanBeRead, WhereTold, bounded, bytes_in_sources, source_of, sources_in};
+ghost use Rattle.dg_start.specs.Refusals.{IsReason};
+
+use crate::event_source::EventSource;
+use crate::fault::StartFault;
+use crate::record::read_record;
+use dg_disk::Disk;
+use dg_file::Index;
+use dg_graph::Event;
+use std::alloc::Global;
+
+/// The events of these records of an index that has so many names, one record after another.
+///
+/// `StartFault::BadRecord` for the first column that no events are spelled as, or for the structure of a record
+/// whose columns do not come together to as many events as are due; `StartFault::Disk` where the disk failed,
+/// `StartFault::Memory` for want of memory.
+pub fn read_sources<D: Disk>(
+    alloc: Global,
+    index: &mut Index,
+    disk: &mut D,
+    names: u32,
+    sources: &[EventSource],
+) -> Result<Vec<Event>, StartFault>
+    requires readable { All (λ s. CanBeRead index.old.opening (source_of s)) sources.now }
+    requires names { names ≤ NAMES_MAX }
+    requires image { IfSome (D.image disk.old) (λ image. IsOpenedAs image index.old.opening) }
+
+    // the events
+    ensures read { IfOk result (λ events. WhereTold (D.image disk.old)
+        (λ image. events_in_sources image names index.old.opening (sources_in sources.now) ≡ Ok (bounded (sources_in sources.now) events.items))) }
+    ensures parted { IfOk result (λ events. ArePartedBy (sources_in sources.now) events.items) }
+    ensures fit { IfOk result (λ events. All (λ (e : Event). NamesFit e.body) events.items) }
+
+    // the bytes read
+    ensures takes { OnOk result (WhereTold (D.image disk.old)
+        (λ image. Takes (bytes_in_sources image index.old.opening (sources_in sources.now)) (D.taken disk.old) (D.taken disk.new))) }
+
+    // why there are none
+    ensures refused { IfErr result (λ fault. WhereTold (D.image disk.old)
+        (λ image. IsReason fault (events_in_sources image names index.old.opening (sources_in sources.now)))) }
+    ensures cause { IsErrOf result StartFault.Disk → Rose (D.faults disk.old) (D.faults disk.new) }
+
+    // what it leaves
+    ensures same { index.new ≡ index.old }
+    ensures disk { OnlyReads D.image D.faults D.write_faults disk.old disk.new }
+{
+    let mut events = Vec::new(alloc);
+    for source in sources {
+        let more = read_record(alloc, index, disk, names, *source)?;
+        events.extend_from_slice(&more)?;
+    }
+    Ok(events)
+}
