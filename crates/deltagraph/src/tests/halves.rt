@@ -2,7 +2,7 @@ use dg_fold::{Bytes, Gate, Open, Part, compose_plan};
 use dg_graph::Element;
 use dg_history::Key;
 use dg_plan::Way;
-use std::alloc::Global;
+use std::alloc::{AllocError, Global};
 use std::process::Abort;
 use std::sync::atomic::{AtomicBool, Ordering};
 use std::test::Fail;
@@ -72,13 +72,7 @@ impl Gate for Meeting {
     }
 }
 
-fn part(
-    alloc: Global,
-    key: Key,
-    structure: &[u8],
-    node_attr: &[u8],
-    edge_attr: &[u8],
-) -> Result<Part, Fail> {
+fn part(alloc: Global, key: Key, structure: &[u8], node_attr: &[u8]) -> Result<Part, AllocError> {
     Ok(Part {
         key,
         way: Way::Forward,
@@ -86,16 +80,16 @@ fn part(
         bytes: Bytes {
             structure: Vec::from_slice(alloc, structure)?,
             node_attr: Vec::from_slice(alloc, node_attr)?,
-            edge_attr: Vec::from_slice(alloc, edge_attr)?,
+            edge_attr: Vec::new(alloc),
         },
     })
 }
 
 // The parts of the two lists.
-fn two_lists(alloc: Global) -> Result<Vec<Part>, Fail> {
+fn two_lists(alloc: Global) -> Result<Vec<Part>, AllocError> {
     let mut parts = Vec::new(alloc);
-    parts.push(part(alloc, Key::List(0), &NODES_ADDED, &[], &[])?)?;
-    parts.push(part(alloc, Key::List(1), &EDGE_ADDED, &ATTRIBUTE_SET, &[])?)?;
+    parts.push(part(alloc, Key::List(0), &NODES_ADDED, &[])?)?;
+    parts.push(part(alloc, Key::List(1), &EDGE_ADDED, &ATTRIBUTE_SET)?)?;
     Ok(parts)
 }
 

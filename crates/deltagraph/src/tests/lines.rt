@@ -1,3 +1,5 @@
+ghost use Rattle.std.specs.Prelude.{◌≤◌};
+
 use dg_io::{
     Failed, Line, LineFault, Lines, MemorySink, MemorySource, Sink, Source, StdSink, StdSource,
     write_whole,
@@ -5,6 +7,7 @@ use dg_io::{
 use std::alloc::{AllocError, Global};
 use std::io;
 use std::io::{ErrorKind, Read, Write};
+use std::process::Abort;
 use std::test::Fail;
 
 // More calls than any text of these tests needs.
@@ -15,34 +18,85 @@ const SHOWN_MAX: usize = 16;
 
 const NO_LIMIT: u64 = 1_000_000;
 
-// What `next` gives up to the end or the limit: a text and `/`, or `<its length>/` where it is long,
-// `*` for a line too long, `!` for a failed read, `#` for the limit and `.` for the end.
+// Puts what `next` gives: a text and `/`, or `<its length>/` where it is long, `*` for a line too long, `!` for a failed
+// read, `#` for the limit and `.` for the end. Says whether more may follow.
+fn put_next<S: Source>(
+    alloc: Global,
+    lines: &mut Lines,
+    source: &mut S,
+    all: &mut Vec<u8>,
+) -> Result<bool, AllocError> {
+    match lines.next(source) {
+        Ok(Line::Text(count)) => {
+            if count <= SHOWN_MAX {
+                all.extend_from_slice(lines.text())?;
+            } else {
+                all.extend_from_slice(format!(in alloc; "<{count}>")?.as_bytes())?;
+            }
+            all.push(b'/')?;
+            Ok(true)
+        }
+        Ok(Line::TooLong) => {
+            all.push(b'*')?;
+            Ok(true)
+        }
+        Err(LineFault::Read) => {
+            all.push(b'!')?;
+            Ok(true)
+        }
+        Ok(Line::End) => {
+            all.push(b'.')?;
+            Ok(false)
+        }
+        Err(LineFault::Limit) => {
+            all.push(b'#')?;
+            Ok(false)
+        }
+    }
+}
+
+// What `next` gives up to the end or the limit.
 fn shown<S: Source>(alloc: Global, source: &mut S, limit: u64) -> Result<Vec<u8>, AllocError> {
     let mut lines = Lines::new(limit);
     let mut all = Vec::new(alloc);
     for _ in 0..CALLS_MAX {
-        match lines.next(source) {
-            Ok(Line::Text(count)) => {
-                if count <= SHOWN_MAX {
-                    all.extend_from_slice(lines.text())?;
-                } else {
-                    all.extend_from_slice(format!(in alloc; "<{count}>")?.as_bytes())?;
-                }
-                all.push(b'/')?;
-            }
-            Ok(Line::TooLong) => all.push(b'*')?,
-            Err(LineFault::Read) => all.push(b'!')?,
-            Ok(Line::End) => {
-                all.push(b'.')?;
-                break;
-            }
-            Err(LineFault::Limit) => {
-                all.push(b'#')?;
-                break;
-            }
+        if !put_next(alloc, &mut lines, source, &mut all)? {
+            break;
         }
     }
     Ok(all)
+}
+
+// The source gives these lines up to the limit.
+fn gives<S: Source>(
+    abort: &impl Abort,
+    alloc: Global,
+    source: &mut S,
+    limit: u64,
+    wanted: &[u8],
+) -> Result<(), AllocError> {
+    let all = shown(alloc, source, limit)?;
+    assert_eq!(abort; all.as_slice(), wanted);
+    Ok(())
+}
+
+// A text in such chunks, of which some reads fail, gives these lines up to the limit, and so many bytes are left.
+fn cuts(
+    abort: &impl Abort,
+    alloc: Global,
+    text: &[u8],
+    chunk: usize,
+    fails: &[u64],
+    limit: u64,
+    wanted: &[u8],
+    left: usize,
+) -> Result<(), AllocError>
+    requires { 1 ≤ chunk }
+{
+    let mut source = MemorySource::new(alloc, text, chunk, fails)?;
+    gives(abort, alloc, &mut source, limit, wanted)?;
+    assert_eq!(abort; source.left().len(), left);
+    Ok(())
 }
 
 #[test]
@@ -59,20 +113,22 @@ fn cuts_texts_in_any_chunks(rt: HostRuntime) -> Result<(), Fail> {
     ];
     for chunk in [1, 7, 100_000] {
         for (text, wanted) in cases {
-            let mut source = MemorySource::new(rt.alloc(), text, chunk, &[])?;
-            assert_eq!(rt;
-                shown(rt.alloc(), &mut source, NO_LIMIT)?.as_slice(),
-                wanted,
-                "in chunks of {chunk}"
-            );
-            assert_eq!(rt; source.left().len(), 0);
+            cuts(&rt, rt.alloc(), text, chunk, &[], NO_LIMIT, wanted, 0)?;
         }
     }
     Ok(())
 }
 
+// So many bytes `x` and then the tail.
+fn long_text(alloc: Global, count: usize, tail: &[u8]) -> Result<Vec<u8>, AllocError> {
+    let mut text = vec![in alloc; b'x'; count]?;
+    text.extend_from_slice(tail)?;
+    Ok(text)
+}
+
 #[test]
 fn cuts_long_lines(rt: HostRuntime) -> Result<(), Fail> {
+    let alloc = rt.alloc();
     let cases: [(usize, &[u8], &[u8]); 9] = [
         (4096, b"\nyes", b"<4096>/yes/."),
         (4096, b"\r\nyes", b"<4096>/yes/."),
@@ -86,14 +142,8 @@ fn cuts_long_lines(rt: HostRuntime) -> Result<(), Fail> {
     ];
     for chunk in [997, 100_000] {
         for (count, tail, wanted) in cases {
-            let mut text = vec![in rt.alloc(); b'x'; count]?;
-            text.extend_from_slice(tail)?;
-            let mut source = MemorySource::new(rt.alloc(), &text, chunk, &[])?;
-            assert_eq!(rt;
-                shown(rt.alloc(), &mut source, NO_LIMIT)?.as_slice(),
-                wanted,
-                "{count} bytes"
-            );
+            let text = long_text(alloc, count, tail)?;
+            cuts(&rt, alloc, &text, chunk, &[], NO_LIMIT, wanted, 0)?;
         }
     }
     Ok(())
@@ -101,11 +151,17 @@ fn cuts_long_lines(rt: HostRuntime) -> Result<(), Fail> {
 
 #[test]
 fn goes_on_after_a_failed_read(rt: HostRuntime) -> Result<(), Fail> {
-    let mut source = MemorySource::new(rt.alloc(), b"ab\ncd", 1, &[1, 4, 5, 7])?;
-    assert_eq!(rt;
-        shown(rt.alloc(), &mut source, NO_LIMIT)?.as_slice(),
-        b"!ab/!!!cd/.".as_slice()
-    );
+    let fails = [1, 4, 5, 7];
+    cuts(
+        &rt,
+        rt.alloc(),
+        b"ab\ncd",
+        1,
+        &fails,
+        NO_LIMIT,
+        b"!ab/!!!cd/.",
+        0,
+    )?;
     Ok(())
 }
 
@@ -119,29 +175,47 @@ fn takes_fewer_bytes_than_the_limit(rt: HostRuntime) -> Result<(), Fail> {
         (6, b"ab/cd/.", 0),
     ];
     for (limit, wanted, left) in cases {
-        let mut source = MemorySource::new(rt.alloc(), b"ab\ncd", 100, &[])?;
-        assert_eq!(rt;
-            shown(rt.alloc(), &mut source, limit)?.as_slice(),
-            wanted,
-            "limit {limit}"
-        );
-        assert_eq!(rt; source.left().len(), left);
+        cuts(&rt, rt.alloc(), b"ab\ncd", 100, &[], limit, wanted, left)?;
     }
     Ok(())
+}
+
+// The sink takes the piece, or fails.
+fn answers<K: Sink>(abort: &impl Abort, sink: &mut K, piece: &[u8], answer: Result<(), Failed>) {
+    assert_eq!(abort; write_whole(sink, piece), answer);
+}
+
+fn is_written(abort: &impl Abort, written: &[u8], wanted: &[u8]) {
+    assert_eq!(abort; written, wanted);
+}
+
+// The sink takes the piece or fails, and then has these bytes.
+fn takes(
+    abort: &impl Abort,
+    sink: &mut MemorySink,
+    piece: &[u8],
+    answer: Result<(), Failed>,
+    written: &[u8],
+) {
+    answers(abort, sink, piece, answer);
+    is_written(abort, sink.written(), written);
 }
 
 #[test]
 fn a_sink_in_memory_takes_what_fits(rt: HostRuntime) -> Result<(), Fail> {
     let mut sink = MemorySink::new(rt.alloc(), 3, &[])?;
-    assert_eq!(rt; write_whole(&mut sink, b"ok load"), Err(Failed));
-    assert_eq!(rt; sink.written(), b"ok ".as_slice());
+    takes(&rt, &mut sink, b"ok load", Err(Failed), b"ok ");
     assert_eq!(rt; sink.write(b""), Ok(0));
     assert_eq!(rt; sink.write(b"x"), Err(Failed));
+    Ok(())
+}
+
+#[test]
+fn a_sink_in_memory_goes_on_after_a_failed_write(rt: HostRuntime) -> Result<(), Fail> {
     let mut failing = MemorySink::new(rt.alloc(), 8, &[1])?;
-    assert_eq!(rt; write_whole(&mut failing, b"ab"), Ok(()));
-    assert_eq!(rt; write_whole(&mut failing, b"cd"), Err(Failed));
-    assert_eq!(rt; write_whole(&mut failing, b"ef"), Ok(()));
-    assert_eq!(rt; failing.written(), b"abef".as_slice());
+    takes(&rt, &mut failing, b"ab", Ok(()), b"ab");
+    takes(&rt, &mut failing, b"cd", Err(Failed), b"ab");
+    takes(&rt, &mut failing, b"ef", Ok(()), b"abef");
     Ok(())
 }
 
@@ -174,18 +248,12 @@ impl Read for Faulty {
 fn reads_through_std(rt: HostRuntime) -> Result<(), Fail> {
     let text: &[u8] = b"ab\r\ncd";
     let mut source = StdSource::new(text);
-    assert_eq!(rt;
-        shown(rt.alloc(), &mut source, NO_LIMIT)?.as_slice(),
-        b"ab/cd/.".as_slice()
-    );
+    gives(&rt, rt.alloc(), &mut source, NO_LIMIT, b"ab/cd/.")?;
     let mut faulty = StdSource::new(Faulty {
         bytes: b"ab\ncd",
         calls: 0,
     });
-    assert_eq!(rt;
-        shown(rt.alloc(), &mut faulty, NO_LIMIT)?.as_slice(),
-        b"!ab/cd/.".as_slice()
-    );
+    gives(&rt, rt.alloc(), &mut faulty, NO_LIMIT, b"!ab/cd/.")?;
     Ok(())
 }
 
@@ -193,9 +261,9 @@ fn reads_through_std(rt: HostRuntime) -> Result<(), Fail> {
 fn writes_through_std(rt: HostRuntime) -> Result<(), Fail> {
     let mut room = [0u8; 5];
     let mut sink = StdSink::new(&mut room[..]);
-    assert_eq!(rt; write_whole(&mut sink, b"ok "), Ok(()));
-    assert_eq!(rt; write_whole(&mut sink, b"load"), Err(Failed));
-    assert_eq!(rt; room.as_slice(), b"ok lo".as_slice());
+    answers(&rt, &mut sink, b"ok ", Ok(()));
+    answers(&rt, &mut sink, b"load", Err(Failed));
+    is_written(&rt, &room, b"ok lo");
     Ok(())
 }
 
@@ -231,27 +299,30 @@ impl Write for Slow {
     }
 }
 
+// The write of `reply` where this flush fails: its answer, the bytes flushed and the flushes.
+fn flushes(
+    abort: &impl Abort,
+    fails: u32,
+    answer: Result<(), Failed>,
+    flushed: usize,
+    flushes: u32,
+) {
+    let mut slow = Slow {
+        calls: 0,
+        taken: 0,
+        flushed: 0,
+        flushes: 0,
+        fails,
+    };
+    answers(abort, &mut StdSink::new(&mut slow), b"reply", answer);
+    assert_eq!(abort; slow.flushed, flushed);
+    assert_eq!(abort; slow.flushes, flushes);
+}
+
 #[test]
-fn flushes_after_each_write(rt: HostRuntime) -> Result<(), Fail> {
-    // the flush that fails, and then the answer, the bytes flushed and the flushes
-    let cases: [(u32, Result<(), Failed>, usize, u32); 4] = [
-        (0, Ok(()), 5, 3),
-        (1, Err(Failed), 0, 1),
-        (2, Err(Failed), 2, 2),
-        (3, Err(Failed), 4, 3),
-    ];
-    for (fails, wanted, flushed, flushes) in cases {
-        let mut slow = Slow {
-            calls: 0,
-            taken: 0,
-            flushed: 0,
-            flushes: 0,
-            fails,
-        };
-        let mut sink = StdSink::new(&mut slow);
-        assert_eq!(rt; write_whole(&mut sink, b"reply"), wanted, "flush {fails}");
-        assert_eq!(rt; slow.flushed, flushed, "flush {fails}");
-        assert_eq!(rt; slow.flushes, flushes, "flush {fails}");
-    }
-    Ok(())
+fn flushes_after_each_write(rt: HostRuntime) {
+    flushes(&rt, 0, Ok(()), 5, 3);
+    flushes(&rt, 1, Err(Failed), 0, 1);
+    flushes(&rt, 2, Err(Failed), 2, 2);
+    flushes(&rt, 3, Err(Failed), 4, 3);
 }

@@ -8,7 +8,9 @@ use dg_io::{MemorySink, MemorySource};
 use dg_machine::{FIRST_HANDLE, Limits, SCRIPT_BYTES_MAX};
 use dg_run::{Status, serve_with};
 use dg_session::{SessionFault, StartFault};
-use std::alloc::Global;
+use std::alloc::{AllocError, Global};
+use std::ops::Range;
+use std::process::Abort;
 use std::test::Fail;
 use std::thread::Threads;
 
@@ -27,6 +29,20 @@ const CALLS_MAX: usize = 1000;
 // There is no index file.
 const NO_FILE: &[u8] = b"";
 
+// The calls of source and disk that fail, and how many bytes the sink takes.
+#[derive(Clone, Copy)]
+struct Faults<'a> {
+    source: &'a [u64],
+    disk: &'a [u64],
+    room: usize,
+}
+
+const NO_FAULTS: Faults<'static> = Faults {
+    source: &[],
+    disk: &[],
+    room: WHOLE,
+};
+
 // How a run ended, what it wrote, and the index file after it.
 #[derive(Drop)]
 struct Ran {
@@ -35,23 +51,22 @@ struct Ran {
     image: Vec<u8>,
 }
 
-// A run over the index file and the script, with reads of at most `chunk` bytes.
-fn run<R: Threads + Sync>(
-    rt: &R,
-    alloc: Global,
-    image: &[u8],
-    script: &[u8],
-    chunk: usize,
-    limits: Limits,
-) -> Result<Ran, Fail>
-    requires chunk { 0 < chunk }
-    requires limits { IsWithin limits }
-{
-    let words = ["history".to_string(alloc)?].to_vec(alloc)?;
-    run_by(rt, alloc, &words, image, script, chunk, limits)
+impl Ran {
+    fn new(
+        alloc: Global,
+        status: Status,
+        sink: &MemorySink,
+        disk: &MemoryDisk,
+    ) -> Result<Ran, AllocError> {
+        Ok(Ran {
+            status,
+            written: Vec::from_slice(alloc, sink.written())?,
+            image: Vec::from_slice(alloc, disk.image())?,
+        })
+    }
 }
 
-// The same by these words.
+// A run by these words over the index file and the script, with reads of at most `chunk` bytes.
 fn run_by<R: Threads + Sync>(
     rt: &R,
     alloc: Global,
@@ -60,19 +75,42 @@ fn run_by<R: Threads + Sync>(
     script: &[u8],
     chunk: usize,
     limits: Limits,
-) -> Result<Ran, Fail>
+    faults: &Faults,
+) -> Result<Ran, AllocError>
     requires chunk { 0 < chunk }
     requires limits { IsWithin limits }
 {
-    let mut source = MemorySource::new(alloc, script, chunk, &[])?;
-    let mut sink = MemorySink::new(alloc, WHOLE, &[])?;
-    let mut disk = MemoryDisk::new(alloc, image, ROOM, CALLS_MAX, &[])?;
+    let mut source = MemorySource::new(alloc, script, chunk, faults.source)?;
+    let mut sink = MemorySink::new(alloc, faults.room, &[])?;
+    let mut disk = MemoryDisk::new(alloc, image, ROOM, CALLS_MAX, faults.disk)?;
     let status = serve_with(rt, alloc, words, limits, &mut source, &mut sink, &mut disk);
-    Ok(Ran {
-        status,
-        written: Vec::from_slice(alloc, sink.written())?,
-        image: Vec::from_slice(alloc, disk.image())?,
-    })
+    Ran::new(alloc, status, &sink, &disk)
+}
+
+fn has_ended(abort: &impl Abort, ran: &Ran, status: Status, replies: &[u8], shows: &str) {
+    assert_eq!(abort; ran.written.as_slice(), replies, "{shows}");
+    assert_eq!(abort; ran.status, status, "{shows}");
+}
+
+// A run of the script over no file, which ends by this status with these replies.
+fn ends<R: Threads + Sync + Abort>(
+    rt: &R,
+    alloc: Global,
+    script: &[u8],
+    chunk: usize,
+    limits: Limits,
+    faults: &Faults,
+    status: Status,
+    replies: &[u8],
+    shows: &str,
+) -> Result<(), AllocError>
+    requires chunk { 0 < chunk }
+    requires limits { IsWithin limits }
+{
+    let words = ["history".to_string(alloc)?];
+    let ran = run_by(rt, alloc, &words, NO_FILE, script, chunk, limits, faults)?;
+    has_ended(rt, &ran, status, replies, shows);
+    Ok(())
 }
 
 // These limits, which are below the standard.
@@ -112,16 +150,17 @@ fn a_history_has_as_many_events_as_the_limit_however_the_script_is_cut(
     rt: HostRuntime,
 ) -> Result<(), Fail> {
     for chunk in [1, 7, WHOLE] {
-        let ran = run(
+        ends(
             &rt,
             rt.alloc(),
-            NO_FILE,
             FIVE_AND_MORE.as_bytes(),
             chunk,
             with_events(6),
+            &NO_FAULTS,
+            Status::Done,
+            FIVE_AND_MORE_REPLIES.as_bytes(),
+            "six events",
         )?;
-        assert_eq!(rt; ran.written.as_slice(), FIVE_AND_MORE_REPLIES.as_bytes());
-        assert_eq!(rt; ran.status, Status::Done);
     }
     Ok(())
 }
@@ -170,21 +209,17 @@ const ENDINGS: [Ending; 4] = [
 fn the_limit_ends_a_run_where_another_byte_is_needed(rt: HostRuntime) -> Result<(), Fail> {
     for case in ENDINGS.iter() {
         for chunk in [1, WHOLE] {
-            let ran = run(
+            ends(
                 &rt,
                 rt.alloc(),
-                NO_FILE,
                 case.script.as_bytes(),
                 chunk,
                 within(case.limit, NO_LIMIT),
-            )?;
-            assert_eq!(rt;
-                ran.written.as_slice(),
+                &NO_FAULTS,
+                case.status,
                 case.replies.as_bytes(),
-                "{}",
-                case.shows
-            );
-            assert_eq!(rt; ran.status, case.status, "{}", case.shows);
+                case.shows,
+            )?;
         }
     }
     Ok(())
@@ -198,64 +233,77 @@ const FIRST_REPLIES: &[u8] = b"ok create\nend\nok load 3 3 30\nend\n";
 
 #[test]
 fn an_index_file_has_as_many_bytes_as_the_limit(rt: HostRuntime) -> Result<(), Fail> {
-    let alloc = rt.alloc();
-    let ran = run(&rt, alloc, NO_FILE, FIRST, WHOLE, within(NO_LIMIT, 217))?;
-    assert_eq!(rt; ran.status, Status::Done);
-    assert_eq!(rt; ran.written.as_slice(), FIRST_REPLIES);
-    assert_eq!(rt; ran.image.len(), 217);
-
-    let full = run(&rt, alloc, NO_FILE, FIRST, WHOLE, within(NO_LIMIT, 216))?;
-    assert_eq!(rt; full.status, Status::Done);
-    assert_eq!(rt;
-        full.written.as_slice(),
-        b"ok create\nend\nrefused 13 file-full 217 216\nend\n".as_slice()
-    );
+    let cases: [(u32, &[u8]); 2] = [
+        (217, FIRST_REPLIES),
+        (216, b"ok create\nend\nrefused 13 file-full 217 216\nend\n"),
+    ];
+    for (limit, replies) in cases {
+        let limits = within(NO_LIMIT, limit);
+        ends(
+            &rt,
+            rt.alloc(),
+            FIRST,
+            WHOLE,
+            limits,
+            &NO_FAULTS,
+            Status::Done,
+            replies,
+            "a file of 217 bytes",
+        )?;
+    }
     Ok(())
 }
 
-// How a run of the script ends over a disk that fails at this call, and what it writes.
-fn run_over<R: Threads + Sync>(
+// Runs of the script over a disk that fails at one of these calls, from 0, end by this status with these replies.
+fn ends_where_the_disk_fails<R: Threads + Sync + Abort>(
     rt: &R,
     alloc: Global,
     script: &[u8],
-    call: u64,
-) -> Result<(Status, Vec<u8>), Fail> {
-    let words = ["history".to_string(alloc)?].to_vec(alloc)?;
-    let mut source = MemorySource::new(alloc, script, WHOLE, &[])?;
-    let mut sink = MemorySink::new(alloc, WHOLE, &[])?;
-    let mut disk = MemoryDisk::new(alloc, NO_FILE, ROOM, CALLS_MAX, &[call])?;
-    let limits = Limits::standard();
-    let status = serve_with(
-        rt,
-        alloc,
-        words.as_slice(),
-        limits,
-        &mut source,
-        &mut sink,
-        &mut disk,
-    );
-    Ok((status, Vec::from_slice(alloc, sink.written())?))
+    calls: Range<u64>,
+    status: Status,
+    replies: &[u8],
+) -> Result<(), AllocError> {
+    for call in calls {
+        let faults = Faults {
+            disk: &[call],
+            ..NO_FAULTS
+        };
+        let shows = format!(in alloc; "at call {call}")?;
+        let limits = Limits::standard();
+        ends(
+            rt, alloc, script, WHOLE, limits, &faults, status, replies, &shows,
+        )?;
+    }
+    Ok(())
 }
 
-// The first script makes two calls to open the file, three writes with a sync each to make the index, and
-// for its batch the writes of what stands before the columns, of the list, of the piece and of a closed gate, a
-// sync, the write of the open gate and a sync.
-const CALLS_OF_FIRST: u32 = 15;
+// More calls than a script of these tests makes.
+const CALLS_END: u64 = 40;
+
+// A run makes two calls to open the file, and `create` three writes with a sync each.
+const CALLS_OF_CREATE: u64 = 8;
+
+const REPLY_OF_CREATE: &[u8] = b"ok create\nend\n";
+
+// The batch of the first script makes the writes of what stands before the columns, of the list, of the piece and of
+// a closed gate, a sync, the write of the open gate and a sync.
+const CALLS_OF_FIRST: u64 = CALLS_OF_CREATE + 7;
 
 #[test]
-fn exactly_a_failed_call_of_the_disk_ends_a_run_by_the_disk(rt: HostRuntime) -> Result<(), Fail> {
-    for call in 0..40u32 {
-        let (status, written) = run_over(&rt, rt.alloc(), FIRST, u64::from(call))?;
-        assert!(rt;
-            FIRST_REPLIES.starts_with(written.as_slice()),
-            "at call {call}"
-        );
-        if call < CALLS_OF_FIRST {
-            assert_eq!(rt; status, Status::DiskFault, "at call {call}");
-        } else {
-            assert_eq!(rt; status, Status::Done, "at call {call}");
-            assert_eq!(rt; written.as_slice(), FIRST_REPLIES, "at call {call}");
-        }
+fn a_failed_call_of_the_disk_ends_a_run_with_the_replies_before_it(
+    rt: HostRuntime,
+) -> Result<(), Fail> {
+    let rows: [(Range<u64>, Status, &[u8]); 3] = [
+        (0..CALLS_OF_CREATE, Status::DiskFault, b""),
+        (
+            CALLS_OF_CREATE..CALLS_OF_FIRST,
+            Status::DiskFault,
+            REPLY_OF_CREATE,
+        ),
+        (CALLS_OF_FIRST..CALLS_END, Status::Done, FIRST_REPLIES),
+    ];
+    for (calls, status, replies) in rows {
+        ends_where_the_disk_fails(&rt, rt.alloc(), FIRST, calls, status, replies)?;
     }
     Ok(())
 }
@@ -266,104 +314,117 @@ const SCRIPT: &str = "create 2 2 union\nload 2\n10 +node 1\n20 +node 2\nat 10 s\
 const REPLIES: &str =
     "ok create\nend\nok load 2 2 20\nend\nok at 1 42\nend\nok list 1 1\nnode 1\nend\n";
 
+// Its batch leaves no event behind the last list, so its piece has no bytes to write.
+const CALLS_OF_BATCH: u64 = CALLS_OF_FIRST - 1;
+
 // Its replies where the read of the list fails, which is all that its retrieval reads.
 const REPLIES_UNREAD: &str =
     "ok create\nend\nok load 2 2 20\nend\nrefused 14 store-read\nend\nrefused 8 unknown-handle 1\nend\n";
 
 #[test]
 fn a_read_that_fails_refuses_its_command_alone(rt: HostRuntime) -> Result<(), Fail> {
-    let mut unread = None;
-    for call in 0..40u32 {
-        let (status, written) = run_over(&rt, rt.alloc(), SCRIPT.as_bytes(), u64::from(call))?;
-        if written.as_slice() == REPLIES_UNREAD.as_bytes() {
-            assert_eq!(rt; status, Status::Done, "at call {call}");
-            assert_eq!(rt; unread, None, "at call {call}");
-            unread = Some(call);
-        }
+    let rows: [(Range<u64>, Status, &[u8]); 3] = [
+        (
+            CALLS_OF_CREATE..CALLS_OF_BATCH,
+            Status::DiskFault,
+            REPLY_OF_CREATE,
+        ),
+        (
+            CALLS_OF_BATCH..CALLS_OF_BATCH + 1,
+            Status::Done,
+            REPLIES_UNREAD.as_bytes(),
+        ),
+        (
+            CALLS_OF_BATCH + 1..CALLS_END,
+            Status::Done,
+            REPLIES.as_bytes(),
+        ),
+    ];
+    for (calls, status, replies) in rows {
+        ends_where_the_disk_fails(&rt, rt.alloc(), SCRIPT.as_bytes(), calls, status, replies)?;
     }
-    assert!(rt; unread.is_some());
     Ok(())
 }
 
 #[test]
 fn a_failed_read_ends_a_run_with_the_replies_so_far(rt: HostRuntime) -> Result<(), Fail> {
-    let alloc = rt.alloc();
-    let words = ["history".to_string(alloc)?].to_vec(alloc)?;
-    let limits = Limits::standard();
     // The third read, of a byte each, fails: no command was whole. The second of the whole fails:
     // each was.
     for (chunk, fails, due) in [(1, 2u64, ""), (WHOLE, 1, REPLIES)] {
-        let mut source = MemorySource::new(alloc, SCRIPT.as_bytes(), chunk, &[fails])?;
-        let mut sink = MemorySink::new(alloc, WHOLE, &[])?;
-        let mut disk = MemoryDisk::new(alloc, NO_FILE, ROOM, CALLS_MAX, &[])?;
-        let status = serve_with(
+        let faults = Faults {
+            source: &[fails],
+            ..NO_FAULTS
+        };
+        ends(
             &rt,
-            alloc,
-            words.as_slice(),
-            limits,
-            &mut source,
-            &mut sink,
-            &mut disk,
-        );
-        assert_eq!(rt; status, Status::SourceFault);
-        assert_eq!(rt; sink.written(), due.as_bytes());
+            rt.alloc(),
+            SCRIPT.as_bytes(),
+            chunk,
+            Limits::standard(),
+            &faults,
+            Status::SourceFault,
+            due.as_bytes(),
+            "a failed read",
+        )?;
     }
     Ok(())
 }
 
 #[test]
 fn a_failed_write_ends_a_run_with_a_front_of_the_replies(rt: HostRuntime) -> Result<(), Fail> {
-    let alloc = rt.alloc();
-    let words = ["history".to_string(alloc)?].to_vec(alloc)?;
-    let limits = Limits::standard();
-    for room in [0, 3, 19, 20] {
-        let mut source = MemorySource::new(alloc, SCRIPT.as_bytes(), WHOLE, &[])?;
-        let mut sink = MemorySink::new(alloc, room, &[])?;
-        let mut disk = MemoryDisk::new(alloc, NO_FILE, ROOM, CALLS_MAX, &[])?;
-        let status = serve_with(
+    for front in ["", "ok ", "ok create\nend\nok lo", "ok create\nend\nok loa"] {
+        let faults = Faults {
+            room: front.len(),
+            ..NO_FAULTS
+        };
+        ends(
             &rt,
-            alloc,
-            words.as_slice(),
-            limits,
-            &mut source,
-            &mut sink,
-            &mut disk,
-        );
-        assert_eq!(rt; status, Status::SinkFault);
-        assert_eq!(rt; Some(sink.written()), REPLIES.as_bytes().get(..room));
+            rt.alloc(),
+            SCRIPT.as_bytes(),
+            WHOLE,
+            Limits::standard(),
+            &faults,
+            Status::SinkFault,
+            front.as_bytes(),
+            "a sink with less room",
+        )?;
     }
     Ok(())
 }
 
+// The status has this code, and this line on standard error.
+fn says(abort: &impl Abort, status: Status, code: u8, line: &str) {
+    assert_eq!(abort; status.code(), code);
+    assert_eq!(abort; status.message().unwrap_or(""), line);
+}
+
+// A run whose session does not begin for this fault is one whose index is refused.
+fn is_refusal(abort: &impl Abort, fault: SessionFault) {
+    let status = Status::from(fault);
+    assert_eq!(abort; status, Status::Refused(fault));
+    says(abort, status, 7, "the index is refused");
+}
+
 #[test]
 fn each_status_has_its_code_and_its_line(rt: HostRuntime) {
+    assert_eq!(rt; Status::Done.code(), 0);
+    assert!(rt; Status::Done.message().is_none());
     let usage = "usage: deltagraph [--cache N] [--checked] INDEX";
-    let statuses = [
-        (Status::Done, 0, None),
-        (Status::Words, 2, Some(usage)),
-        (Status::SourceFault, 3, Some("reading the script failed")),
-        (Status::SinkFault, 4, Some("writing failed")),
-        (Status::DiskFault, 5, Some("the index file failed")),
-        (Status::NoMemory, 6, Some("out of memory")),
-        (Status::ScriptLimit, 9, Some("the script is too long")),
-    ];
-    for (status, code, line) in statuses {
-        assert_eq!(rt; status.code(), code);
-        assert_eq!(rt; status.message(), line);
-    }
-    let faults = [
-        SessionFault::Start(StartFault::Foreign),
-        SessionFault::Start(StartFault::Damaged(18)),
+    says(&rt, Status::Words, 2, usage);
+    says(&rt, Status::SourceFault, 3, "reading the script failed");
+    says(&rt, Status::SinkFault, 4, "writing failed");
+    says(&rt, Status::DiskFault, 5, "the index file failed");
+    says(&rt, Status::NoMemory, 6, "out of memory");
+    says(&rt, Status::ScriptLimit, 9, "the script is too long");
+    is_refusal(&rt, SessionFault::Start(StartFault::Foreign));
+    is_refusal(&rt, SessionFault::Start(StartFault::Damaged(18)));
+    is_refusal(
+        &rt,
         SessionFault::Start(StartFault::BadRecord(Key::Piece(0), Column::Structure)),
-        SessionFault::Start(StartFault::NotGraph),
-        SessionFault::Start(StartFault::BadRecent(1)),
-        SessionFault::Unsound(Key::List(1), Column::Structure),
-    ];
-    for fault in faults {
-        assert_eq!(rt; Status::from(fault), Status::Refused(fault));
-        assert_eq!(rt; Status::from(fault).code(), 7);
-        assert_eq!(rt; Status::from(fault).message(), Some("the index is refused"));
-    }
+    );
+    is_refusal(&rt, SessionFault::Start(StartFault::NotGraph));
+    is_refusal(&rt, SessionFault::Start(StartFault::BadRecent(1)));
+    is_refusal(&rt, SessionFault::Unsound(Key::List(1), Column::Structure));
 }
 
 // A script that makes an index file of 496 bytes.
@@ -373,34 +434,98 @@ const FIVE: &[u8] =
 // What is asked of it.
 const QUESTIONS: &[u8] = b"at 30 s\nlist 1\n";
 
-// A byte of the structure of its second list, which has the number 1 and is not read by a start.
-const BYTE_OF_SECOND_LIST: usize = 296;
+const QUESTIONS_REPLIES: &[u8] =
+    b"ok at 1 40\nend\nok list 1 3\nnode 1\nnode 2\nedge 5 1 2 dir\nend\n";
+
+// The last byte of its first list, by which node 2 is added. With node 3 in its place the first event of the second list
+// adds an edge that lacks an end. A start reads neither list.
+const BYTE_OF_FIRST_LIST: usize = 296;
+
+// A run by these words of the script over this file, within the standard limits.
+fn asks<R: Threads + Sync>(
+    rt: &R,
+    alloc: Global,
+    words: &[String],
+    image: &[u8],
+    script: &[u8],
+) -> Result<Ran, AllocError> {
+    let limits = Limits::standard();
+    run_by(rt, alloc, words, image, script, WHOLE, limits, &NO_FAULTS)
+}
+
+// The file is taken, with these replies.
+fn takes<R: Threads + Sync + Abort>(
+    rt: &R,
+    alloc: Global,
+    words: &[String],
+    image: &[u8],
+) -> Result<(), AllocError> {
+    let ran = asks(rt, alloc, words, image, QUESTIONS)?;
+    has_ended(rt, &ran, Status::Done, QUESTIONS_REPLIES, "a sound file");
+    Ok(())
+}
+
+// The file, whose second list is not right, is refused, and stays.
+fn refuses<R: Threads + Sync + Abort>(
+    rt: &R,
+    alloc: Global,
+    words: &[String],
+    image: &[u8],
+) -> Result<(), AllocError> {
+    let ran = asks(rt, alloc, words, image, QUESTIONS)?;
+    let fault = SessionFault::Unsound(Key::List(1), Column::Structure);
+    has_ended(
+        rt,
+        &ran,
+        Status::Refused(fault),
+        b"",
+        "a file that is not sound",
+    );
+    assert_eq!(rt; ran.image.as_slice(), image);
+    Ok(())
+}
+
+fn two_words(alloc: Global, first: &str, second: &str) -> Result<[String; 2], AllocError> {
+    Ok([first.to_string(alloc)?, second.to_string(alloc)?])
+}
+
+// By the words `plain` a file is taken as it is, and by the others only where it is right.
+fn is_checked<R: Threads + Sync + Abort>(
+    rt: &R,
+    alloc: Global,
+    plain: &[String],
+    checked: &[String],
+) -> Result<(), AllocError> {
+    let mut made = asks(rt, alloc, plain, NO_FILE, FIVE)?;
+    assert_eq!(rt; made.image.len(), 496);
+    takes(rt, alloc, checked, &made.image)?;
+    made.image[BYTE_OF_FIRST_LIST] = 3;
+    let ran = asks(rt, alloc, plain, &made.image, b"")?;
+    has_ended(
+        rt,
+        &ran,
+        Status::Done,
+        b"",
+        "a file that is not sound, with plain words",
+    );
+    refuses(rt, alloc, checked, &made.image)
+}
 
 #[test]
 fn a_file_is_checked_where_a_word_says_so(rt: HostRuntime) -> Result<(), Fail> {
     let alloc = rt.alloc();
-    let limits = Limits::standard();
-    let made = run(&rt, alloc, NO_FILE, FIVE, WHOLE, limits)?;
-    assert_eq!(rt; made.image.len(), 496);
-    let plain = run(&rt, alloc, &made.image, QUESTIONS, WHOLE, limits)?;
-    let mut wrong = made.image.clone()?;
-    if let Some(byte) = wrong.get_mut(BYTE_OF_SECOND_LIST) {
-        *byte = 3;
-    }
-    let unchecked = run(&rt, alloc, &wrong, b"", WHOLE, limits)?;
-    assert_eq!(rt; unchecked.status, Status::Done);
-
-    for [first, second] in [["--checked", "history"], ["history", "--checked"]] {
-        let words = [first.to_string(alloc)?, second.to_string(alloc)?].to_vec(alloc)?;
-        let sound = run_by(&rt, alloc, &words, &made.image, QUESTIONS, WHOLE, limits)?;
-        assert_eq!(rt; sound.status, Status::Done);
-        assert_eq!(rt; sound.written, plain.written);
-
-        let refused = run_by(&rt, alloc, &words, &wrong, QUESTIONS, WHOLE, limits)?;
-        let fault = SessionFault::Unsound(Key::List(1), Column::Structure);
-        assert_eq!(rt; refused.status, Status::Refused(fault));
-        assert_eq!(rt; refused.written.as_slice(), b"".as_slice());
-        assert_eq!(rt; refused.image, wrong);
-    }
+    let plain = ["history".to_string(alloc)?];
+    is_checked(
+        &rt,
+        alloc,
+        &plain,
+        &two_words(alloc, "--checked", "history")?,
+    )?;
+    is_checked(
+        &rt,
+        alloc,
+        &plain,
+        &two_words(alloc, "history", "--checked")?,
+    )?;
     Ok(())
 }
