@@ -45,7 +45,7 @@ use Rattle.dg_machine.specs.declared.reply.Reply.{Reply}
 use Rattle.dg_machine.specs.Answer.{Answered, answer, headed, refuse}
 use Rattle.dg_machine.specs.CutImage.{IsCut, As_before, As_after}
 use Rattle.dg_machine.specs.MachineState.{MachineState, elements, history_in}
-use Rattle.dg_machine.specs.GeneratedChanges.{batch_of_changes, generated}
+use Rattle.dg_history.specs.GeneratedChanges.{batch_of_changes, generated}
 use Rattle.dg_machine.specs.Needs.{needs, refused}
 use Rattle.dg_machine.specs.Planning.{no_plan}
 use Rattle.dg_machine.specs.Run.{Step}

@@ -1,6 +1,6 @@
 ghost use Rattle.std.specs.Prelude.{◌≡◌, ◌+◌, ◌/◌, ◌^◌, ◌<◌, ◌≤◌, ◌⊎◌, IfOk, OnOk, OnErr, length, take};
 ghost use Rattle.dg_history.specs.ChangeGrammar.{change_with, named};
-ghost use Rattle.dg_machine.specs.GeneratedChanges.{next_number, part_of};
+ghost use Rattle.dg_history.specs.GeneratedChanges.{next_number, part_of};
 ghost use Rattle.dg_workload.specs.Place.{change_at, first_place, next_place};
 ghost use Rattle.dg_workload.specs.Request.{with_request_key};
 
