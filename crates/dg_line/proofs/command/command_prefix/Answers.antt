@@ -1,9 +1,9 @@
-use Rattle.std.proofs.Common.{◌≡◌, ◌+◌, ◌<◌, rules}
+use Rattle.std.proofs.Common.{◌+◌, refl}
 use Rattle.dg_line.proofs.CommandGrammar.{column_is, prefix_short}
-use Rattle.dg_line.proofs.command.column.Goals as goal
+use Rattle.dg_line.proofs.command.command_prefix.Goals as goal
 
 pub returns : goal.returns
-returns c =
-    let longest = c.longest_prefix-longest.result in
-    let short : longest < 2100 = prefix_short c.args.line.now longest c.longest_prefix-longest.ensures in
-    column_is c.args.line.now longest c.saturating_add.result c.longest_prefix-longest.ensures (let is : c.saturating_add.result ≡ longest + 1 = search rules in is)
+returns c = record {
+  column = column_is c.args.line.now c.longest_prefix.result (c.longest_prefix.result + 1) c.longest_prefix.ensures refl;
+  short = prefix_short c.args.line.now c.longest_prefix.result c.longest_prefix.ensures;
+}
