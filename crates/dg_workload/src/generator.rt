@@ -63,6 +63,7 @@ impl Generator {
     pub fn next(&mut self, names: &mut Names) -> Result<Change, AllocError>
         requires few { self.old.index < BATCH_LINES_MAX }
         requires room { length names.old + 2 ≤ NAMES_MAX }
+
         // The change, and the names with its texts.
         ensures change { IfOk result (λ change. change ≡ change_with names.old (change_at self.old)) }
         ensures named { OnOk result (names.new ≡ named names.old (change_at self.old).asked) }
