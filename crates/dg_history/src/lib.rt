@@ -8,4 +8,4 @@ mod params;
 
 pub use limits::{BATCH_LINES_MAX, EVENTS_MAX, FILE_BYTES_MAX, history_limits};
 pub use node::{Key, NodeId};
-pub use params::{ARITY_MAX, ARITY_MIN, LEAF_MAX, LEAF_MIN, Params};
+pub use params::{ARITY_MAX, ARITY_MIN, LEAF_MAX, LEAF_MIN, Params, are_parameters};

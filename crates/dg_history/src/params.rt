@@ -1,3 +1,6 @@
+ghost use Rattle.std.specs.Prelude.{◌≡◌};
+ghost use Rattle.dg_history.specs.History.{are_parameters};
+
 use dg_graph::Function;
 
 /// The least leaf list size.
@@ -21,4 +24,11 @@ pub struct Params {
     pub k: u32,
     /// How an interior node's set is made from those of its children.
     pub function: Function,
+}
+
+/// Whether the leaf list size and the arity are in their ranges.
+pub fn are_parameters(params: Params) -> bool
+    ensures { result ≡ are_parameters params.l params.k }
+{
+    LEAF_MIN <= params.l && params.l <= LEAF_MAX && ARITY_MIN <= params.k && params.k <= ARITY_MAX
 }
