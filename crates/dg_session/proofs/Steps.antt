@@ -242,6 +242,6 @@ refused_so c lines_before lines_after old before new after r why reply h is repl
       k.1,
       subst (λ (x : Reply). WhereBothTold before after (λ y z. Moves c k.0 old y new z x)) (sym reply_is) k.2.moves,
       λ r is of_read.
-      let both : head.Refused why ≡ head.Refused r = ap (λ (x : Reply). x.head) (sym reply_is) ∙ is in
-      k.2.reads (ap is_of_read (sym (same_refusal r why both)) ∙ of_read),
+          let both : head.Refused why ≡ head.Refused r = ap (λ (x : Reply). x.head) (sym reply_is) ∙ is in
+          k.2.reads (ap is_of_read (sym (same_refusal r why both)) ∙ of_read),
     )
