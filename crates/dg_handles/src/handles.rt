@@ -178,6 +178,7 @@ impl Handles {
         requires numbers { self.old.next + length times.now ≤ HANDLE_MAX + 1 }
         requires leads { length leads.now ≡ length times.now }
         requires bases { All (BeginsOn self.old.table cols) leads.now }
+
         // the handles and their graphs
         ensures table { OnOk result (self.new.table ≡ self.old.table ++ numbered self.old.next (overlays_on cols times.now (map (λ l. base_handle l.begins) leads.now))) }
         ensures next { OnOk result (self.new.next ≡ self.old.next + length times.now) }
@@ -185,6 +186,7 @@ impl Handles {
             ≡ slot_graphs pool.old self.old.slots ++ map (led_to (graph_now pool.old) (held_by self.old.table (slot_graphs pool.old self.old.slots)) cols) leads.now) }
         ensures tied { IsTied pool.new self.new }
         ensures now { graph_now pool.new ≡ graph_now pool.old }
+
         // what is left where there is none
         ensures err { OnErr result (self.new ≡ self.old) }
         ensures graphs_err { OnErr result (SameGraphs pool.old pool.new) }
@@ -208,6 +210,7 @@ impl Handles {
         requires tied { IsTied pool.old self.old }
         requires room { length self.old.table + 1 ≤ LIVE_HANDLES_MAX }
         requires numbers { self.old.next + 1 ≤ HANDLE_MAX + 1 }
+
         // the handle and its graph
         ensures table { OnOk result (self.new.table ≡ self.old.table ++ (self.old.next, stands.Base node cols) ∷ []) }
         ensures next { OnOk result (self.new.next ≡ self.old.next + 1) }
@@ -215,6 +218,7 @@ impl Handles {
             ≡ slot_graphs pool.old self.old.slots ++ shown (applied delta.now []) cols ∷ []) }
         ensures tied { IsTied pool.new self.new }
         ensures now { graph_now pool.new ≡ graph_now pool.old }
+
         // what is left where there is none
         ensures err { OnErr result (self.new ≡ self.old) }
         ensures graphs_err { OnErr result (SameGraphs pool.old pool.new) }

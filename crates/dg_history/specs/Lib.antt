@@ -3,3 +3,4 @@ pub mod History
 pub mod ChangeGrammar
 pub mod Batch
 pub mod LegalHistory
+pub mod GeneratedChanges

@@ -1,4 +1,4 @@
--- What a call that takes lines from a source does to both, whatever it answers.
+-- What a call does to the lines and the source that it takes from, and to the sink that it writes to, whatever it answers.
 use Rattle.std.specs.Prelude.{◌≡◌, ℕ, ◌+◌, ◌<◌, ◌≤◌, IsTrue, List, length, Option}
 use Rattle.dg_io.specs.Told.{Gives}
 use Rattle.dg_io.specs.LinesState.{LinesState, EndsWith, to_come}
@@ -12,3 +12,7 @@ pub record Advances (old : LinesState) (left : Option (List ℕ)) (faults : ℕ)
   pub within : (IsTrue old.ended → old.taken < old.limit) → IsTrue new.ended → new.taken < new.limit
   pub same_limit : new.limit ≡ old.limit
   pub counted : faults ≤ then_faults
+
+-- the count of a sink's failures has not fallen
+abbrev pub CountsOn : ℕ → ℕ → Type 0
+CountsOn old new = old ≤ new

@@ -1,4 +1,5 @@
 ghost use Rattle.std.specs.Prelude.{◌≡◌, ◌<◌, ◌≤◌, ℕ, List, length, take, IfOk, OnOk, OnErr, Option};
+ghost use Rattle.dg_io.specs.Frame.{CountsOn};
 ghost use Rattle.dg_io.specs.Told.{grown, GrowsByPart, CountRose};
 
 use crate::source::Failed;
@@ -32,7 +33,7 @@ pub fn write_whole<K: Sink>(sink: &mut K, piece: &[u8]) -> Result<(), Failed>
     ensures ok { OnOk result (K.written sink.new ≡ grown (K.written sink.old) piece.now) }
     ensures err { OnErr result (GrowsByPart (K.written sink.old) piece.now (K.written sink.new)) }
     ensures cause { OnErr result (CountRose (K.faults sink.old) (K.faults sink.new)) }
-    ensures counted { K.faults sink.old ≤ K.faults sink.new }
+    ensures counted { CountsOn (K.faults sink.old) (K.faults sink.new) }
 {
     let mut done = 0;
     while done < piece.len() {

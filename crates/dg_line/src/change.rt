@@ -39,6 +39,7 @@ impl From<AllocError> for ChangeFault {
 /// needs none.
 pub fn read_change(line: &[u8], names: &mut Names) -> Result<Change, ChangeFault>
     requires room { length names.old + 2 ≤ NAMES_MAX }
+
     // The change, and the names with its texts.
     ensures change { IfOk result (λ change. (said : ChangeByText) × (change_by_text_of line.now ≡ Some said) × (change ≡ change_with names.old said) × (names.new ≡ named names.old said.asked)) }
 
@@ -65,6 +66,7 @@ pub fn read_change(line: &[u8], names: &mut Names) -> Result<Change, ChangeFault
 // What is asked for, by the numbers of its texts in the names, which get those that they lack.
 fn numbered(what: TextWhat, names: &mut Names) -> Result<What, AllocError>
     requires room { length names.old + 2 ≤ NAMES_MAX }
+
     // What is asked for, and the names with its texts.
     ensures what { IfOk result (λ numbered. numbered ≡ what_in names.new (what_by_text what.entry)) }
     ensures named { OnOk result (names.new ≡ named names.old (what_by_text what.entry)) }
@@ -109,6 +111,7 @@ fn numbered(what: TextWhat, names: &mut Names) -> Result<What, AllocError>
 // The numbers of the key and of the value.
 fn both_numbers(attribute: TextAttribute, names: &mut Names) -> Result<(u32, u32), AllocError>
     requires room { length names.old + 2 ≤ NAMES_MAX }
+
     // The numbers, and the names with both texts.
     ensures named { OnOk result (names.new ≡ added (added names.old attribute.entry.key.now) attribute.entry.value.now) }
     ensures key { IfOk result (λ numbers. numbers.0 ≡ number_in names.new attribute.entry.key.now) }
@@ -130,6 +133,7 @@ fn both_numbers(attribute: TextAttribute, names: &mut Names) -> Result<(u32, u32
 // The number of the key.
 fn key_number(key: TextKey, names: &mut Names) -> Result<u32, AllocError>
     requires room { length names.old < NAMES_MAX }
+
     // The number, and the names with the key.
     ensures named { OnOk result (names.new ≡ added names.old key.entry.key.now) }
     ensures key { IfOk result (λ number. number ≡ number_in names.new key.entry.key.now) }

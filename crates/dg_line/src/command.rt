@@ -1,4 +1,4 @@
-ghost use Rattle.std.specs.Prelude.{drop, ◌≡◌, ◌≤◌, ◌∷◌, IfErr, IfOk, IfSome, List, option_and_then, ℕ};
+ghost use Rattle.std.specs.Prelude.{drop, ◌≡◌, ◌+◌, ◌<◌, ◌≤◌, ◌∷◌, IfErr, IfOk, IfSome, List, option_and_then, ℕ};
 ghost use Rattle.std.specs.Result.{result_ok};
 ghost use Rattle.dg_graph.specs.Words.{number};
 ghost use Rattle.std.specs.Option.{option_map};
@@ -58,6 +58,9 @@ const COMMANDS: &[&[Symbol]] = &[
     &[Symbol::OneOf(&[b"workload"]), ID, COUNT],
 ];
 
+/// Every command has fewer bytes: at most 100 words, of at most 20 bytes and a space each.
+const COMMAND_BYTES: usize = 2100;
+
 /// The greatest number of 32 bits.
 const N32_MAX: u64 = u32::MAX as u64;
 
@@ -92,8 +95,15 @@ pub fn read_command(line: &[u8]) -> Result<Command, Syntax>
 fn column(line: &[u8]) -> u32
     ensures { IsColumn line.now result }
 {
-    let longest = longest_prefix(COMMANDS, line);
-    u32::try_from(longest).unwrap_or(u32::MAX).saturating_add(1)
+    command_prefix(line) as u32 + 1
+}
+
+// The length of the longest prefix of the line that is a prefix of some command.
+fn command_prefix(line: &[u8]) -> usize
+    ensures column { IsColumn line.now (result + 1) }
+    ensures short { result < COMMAND_BYTES }
+{
+    longest_prefix(COMMANDS, line)
 }
 
 // The command that the line is.

@@ -1,5 +1,6 @@
 ghost use Rattle.std.specs.Prelude.{◌≡◌, ◌≤◌, ◌++◌, [], ◌∷◌, map, take, codes, decimal, OnOk, OnErr};
 ghost use Rattle.dg_machine.specs.ReplyText.{text, body_text, column_word, head_words, function_word, key_words, refusal_words, soundness_words, verdict_words};
+ghost use Rattle.dg_io.specs.Frame.{CountsOn};
 ghost use Rattle.dg_io.specs.Told.{grown, GrowsByPart, CountRose};
 ghost use Rattle.dg_line.specs.Buffered.{IsBuffered, word_bytes};
 
@@ -26,7 +27,7 @@ pub fn write_reply<K: Sink>(sink: &mut K, names: &Names, reply: &Reply) -> Resul
     ensures ok { OnOk result (K.written sink.new ≡ grown (K.written sink.old) (text names.now reply.now)) }
     ensures err { OnErr result (GrowsByPart (K.written sink.old) (text names.now reply.now) (K.written sink.new)) }
     ensures cause { OnErr result (CountRose (K.faults sink.old) (K.faults sink.new)) }
-    ensures counted { K.faults sink.old ≤ K.faults sink.new }
+    ensures counted { CountsOn (K.faults sink.old) (K.faults sink.new) }
 {
     let mut buffer = ReplyBuffer::new();
     let head = head_line(&reply.head);
@@ -45,7 +46,7 @@ fn put_body<K: Sink>(
     ensures ok { OnOk result (IsBuffered (K.written sink.old) (buffer.old ++ body_text names.now lines.now) (K.written sink.new) buffer.new) }
     ensures err { OnErr result (GrowsByPart (K.written sink.old) (buffer.old ++ body_text names.now lines.now) (K.written sink.new)) }
     ensures cause { OnErr result (CountRose (K.faults sink.old) (K.faults sink.new)) }
-    ensures counted { K.faults sink.old ≤ K.faults sink.new }
+    ensures counted { CountsOn (K.faults sink.old) (K.faults sink.new) }
 {
     for line in lines {
         buffer.make_room(sink)?;

@@ -1,5 +1,6 @@
 ghost use Rattle.std.specs.Prelude.{◌≡◌, ◌+◌, ◌≤◌, ℕ, List, [], ◌++◌, decimal, length, map, OnOk, OnErr};
 ghost use Rattle.dg_machine.specs.ReplyText.{text_line};
+ghost use Rattle.dg_io.specs.Frame.{CountsOn};
 ghost use Rattle.dg_io.specs.Told.{grown, GrowsByPart, CountRose};
 ghost use Rattle.dg_line.specs.Buffered.{IsBuffered, word_bytes};
 
@@ -64,7 +65,7 @@ impl ReplyBuffer {
         ensures ok { OnOk result (IsBuffered (K.written sink.old) (self.old ++ text_line (map word_bytes words.now)) (K.written sink.new) self.new) }
         ensures err { OnErr result (GrowsByPart (K.written sink.old) (self.old ++ text_line (map word_bytes words.now)) (K.written sink.new)) }
         ensures cause { OnErr result (CountRose (K.faults sink.old) (K.faults sink.new)) }
-        ensures counted { K.faults sink.old ≤ K.faults sink.new }
+        ensures counted { CountsOn (K.faults sink.old) (K.faults sink.new) }
     {
         let mut between = b"".as_slice();
         for word in words {
@@ -82,7 +83,7 @@ impl ReplyBuffer {
         ensures room { OnOk result (length self.new + BODY_LINE_BYTES ≤ BUFFER_BYTES) }
         ensures err { OnErr result (GrowsByPart (K.written sink.old) self.old (K.written sink.new)) }
         ensures cause { OnErr result (CountRose (K.faults sink.old) (K.faults sink.new)) }
-        ensures counted { K.faults sink.old ≤ K.faults sink.new }
+        ensures counted { CountsOn (K.faults sink.old) (K.faults sink.new) }
     {
         if self.held <= HELD_BYTES {
             return Ok(());
@@ -140,7 +141,7 @@ impl ReplyBuffer {
         ensures err { OnErr result (GrowsByPart (K.written sink.old) self.old (K.written sink.new)) }
         ensures kept { OnErr result (self.new ≡ self.old) }
         ensures cause { OnErr result (CountRose (K.faults sink.old) (K.faults sink.new)) }
-        ensures counted { K.faults sink.old ≤ K.faults sink.new }
+        ensures counted { CountsOn (K.faults sink.old) (K.faults sink.new) }
     {
         write_whole(sink, &self.bytes[..self.held])?;
         self.held = 0;
@@ -151,7 +152,7 @@ impl ReplyBuffer {
         ensures ok { OnOk result (IsBuffered (K.written sink.old) (self.old ++ word_bytes word.now) (K.written sink.new) self.new) }
         ensures err { OnErr result (GrowsByPart (K.written sink.old) (self.old ++ word_bytes word.now) (K.written sink.new)) }
         ensures cause { OnErr result (CountRose (K.faults sink.old) (K.faults sink.new)) }
-        ensures counted { K.faults sink.old ≤ K.faults sink.new }
+        ensures counted { CountsOn (K.faults sink.old) (K.faults sink.new) }
     {
         match word {
             Word::Text(text) => self.put(sink, text),
@@ -167,7 +168,7 @@ impl ReplyBuffer {
         ensures ok { OnOk result (IsBuffered (K.written sink.old) (self.old ++ piece.now) (K.written sink.new) self.new) }
         ensures err { OnErr result (GrowsByPart (K.written sink.old) (self.old ++ piece.now) (K.written sink.new)) }
         ensures cause { OnErr result (CountRose (K.faults sink.old) (K.faults sink.new)) }
-        ensures counted { K.faults sink.old ≤ K.faults sink.new }
+        ensures counted { CountsOn (K.faults sink.old) (K.faults sink.new) }
     {
         if piece.len() <= self.room() {
             self.hold(piece);

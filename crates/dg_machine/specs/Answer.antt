@@ -34,12 +34,12 @@ use Rattle.dg_machine.specs.declared.stands.Stands.{Stands}
 use Rattle.dg_machine.specs.declared.stands.Stands.TheVariants.{Overlay, Base}
 use Rattle.dg_machine.specs.MachineState.{MachineState, elements, elements_held, stands_at, history_in, without_handle}
 use Rattle.dg_machine.specs.CommandGrammar.{plan_line_in}
-use Rattle.dg_machine.specs.GeneratedChanges.{batch_of_changes, generated}
+use Rattle.dg_history.specs.GeneratedChanges.{batch_of_changes, generated}
 use Rattle.dg_query.specs.Queries.{counts_of, degree_of, neighbours_of, values_of}
 use Rattle.dg_sound.specs.declared.soundness.Soundness.TheVariants.{Sound}
 use Rattle.dg_sound.specs.Soundness.{record_total}
 use Rattle.dg_machine.specs.Needs.{needs, refused, is_followed}
-use Rattle.dg_machine.specs.Planning.{Planned, IsPlanned, edges_in, nodes_in, point_for, record_edges_in}
+use Rattle.dg_machine.specs.Planning.{Planned, IsPlanned, no_plan, edges_in, nodes_in, point_for, record_edges_in}
 
 pub record Answered : Type 0 where
   pub reply : Reply
@@ -279,7 +279,7 @@ abbrev pub store_read : Reply
 store_read = headed (head.Refused refusal.StoreRead)
 
 -- The command is begun: lines follow it, or it is not refused by what it needs. Every other refusal is decided
--- before any memory is taken and anything is read.
+-- before any memory is taken.
 abbrev pub is_begun : MachineState → Command → List ScriptLine → Bool
 is_begun m c lines = is_followed c || not (is_some (refused m c lines))
 
@@ -287,9 +287,16 @@ is_begun m c lines = is_followed c || not (is_some (refused m c lines))
 abbrev pub may_lack_memory : MachineState → Command → List ScriptLine → Bool
 may_lack_memory m c lines = (needs c).memory && is_begun m c lines
 
--- and a failed read by one that reads records of the file
+-- the reply is given behind all reads: it is no refusal, or that of a full file, whose length is known by then
+abbrev pub is_behind_reads : Head → Bool
+is_behind_reads (head.Refused (refusal.FileFull needed limit)) = true
+is_behind_reads h = not (is_refusal h)
+
+-- A failed read may be answered by a command that reads records of the file, and only in place of a reply that is given
+-- behind all reads: so a failed read never takes the place of a refusal that the script decides. What is planned does
+-- not matter to this.
 abbrev pub may_fail_to_read : MachineState → Command → List ScriptLine → Bool
-may_fail_to_read m c lines = (needs c).reads && is_begun m c lines
+may_fail_to_read m c lines = (needs c).reads && is_behind_reads (answer m c lines no_plan).reply.head
 
 -- the weight that the reply to a retrieval tells
 abbrev pub weight_told : Head → ℕ

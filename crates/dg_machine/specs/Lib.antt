@@ -3,7 +3,6 @@ pub mod ReplyText
 pub mod MachineState
 pub mod Needs
 pub mod Planning
-pub mod GeneratedChanges
 pub mod Answer
 pub mod Script
 pub mod Run

@@ -28,7 +28,7 @@ use Rattle.dg_run.specs.Served.{Gained, Remains, Served}
 use Rattle.dg_run.specs.Statuses.{ending_of, is_unbegun, IsBegun}
 use Rattle.dg_run.specs.Turns.{ScriptAnswered}
 use Rattle.dg_run.proofs.Completes.{completes_of}
-use Rattle.dg_run.proofs.RunSoFar.{at_some, if_some, served_nothing}
+use Rattle.dg_run.proofs.RunSoFar.{at_some, if_some, remains_from, served_nothing}
 use Rattle.dg_run.proofs.Starts.{EndsFor, where_some, ends_for, unbegun, unbegun_gains, untouched_end, disk_failed, lies, refused_so, ends_so, never_so, begins_ok}
 
 untouched_here : (start : Outside) → IsUntouched start start
@@ -42,7 +42,7 @@ IsLeft s start now image = AreBytes image → IsStanding image ⊎ (IsUntouched 
 words_promise : (limits : Limits) (checked : Bool) (start : Outside) → Promised limits false checked status.Words start start
 words_promise limits checked start = record {
   served = if_some start.image (λ x. (index : Option History) → StandsAs index x → Served (machine_at limits index) status.Words start start)
-      (λ x is index stands. served_nothing status.Words (machine_at limits index) start start x is stands refl refl refl (λ e. cc) (λ nil. nil) (omega arith));
+      (λ x is index stands. served_nothing status.Words (machine_at limits index) start start x is stands (untouched_here start) (λ e. cc) (λ nil. nil) (omega arith));
   checked = λ e. if_some start.image (IsLeft status.Words start start) (λ x is bytes. inr (untouched_here start, inl refl));
   told = refl;
   words = λ e. refl;
@@ -68,7 +68,7 @@ bad_words limits are_written checked start is = subst (λ (b : Bool). Promised l
 pub unread_words : (limits : Limits) (are_written checked : Bool) (start : Outside) → Promised limits are_written checked status.NoMemory start start
 unread_words limits are_written checked start = record {
   served = if_some start.image (λ x. (index : Option History) → StandsAs index x → Served (machine_at limits index) status.NoMemory start start)
-      (λ x is index stands. served_nothing status.NoMemory (machine_at limits index) start start x is stands refl refl refl (λ e. cc) (λ nil. nil) (omega arith));
+      (λ x is index stands. served_nothing status.NoMemory (machine_at limits index) start start x is stands (untouched_here start) (λ e. cc) (λ nil. nil) (omega arith));
   checked = λ e. if_some start.image (IsLeft status.NoMemory start start) (λ x is bytes. inr (untouched_here start, inl refl));
   told = refl;
   words = λ e. absurd (cc);
@@ -101,7 +101,7 @@ no_session determined limits checked s f start now is same counted cause refuses
     let not = unbegun s f end in
     let failed : s ≡ status.DiskFault → DiskRose start.disk_faults now.disk_faults = λ e. cause (disk_failed s f end e) in record {
       served = if_some start.image (λ x. (index : Option History) → StandsAs index x → Served (machine_at limits index) s start now)
-          (λ x here index stands. served_nothing s (machine_at limits index) start now x here stands same.left same.written same.image not.done
+          (λ x here index stands. served_nothing s (machine_at limits index) start now x here stands same not.done
           (λ nil. unbegun_gains s f start.written now.written end nil) counted);
       checked = λ e. if_some start.image (IsLeft s start now) (λ x here bytes. inr (same, untouched_end s f end));
       told = ap (λ (o : Option (List ℕ)). is_some o) same.image;
@@ -174,7 +174,11 @@ session_promise determined limits checked session s start mid now left source wr
       front = subst (λ (o : Option (List ℕ)). option_map script o ≡ option_map (λ rest. one.entries ++ rest) one.more) left one.front;
       whole = one.whole;
       gained = subst (λ (o : Option (List ℕ)). Gained s o (texts_of one.answers) now.written) written one.gained;
-      stands = subst (λ (o : Option (List ℕ)). IfSome now.image (λ i. Remains s (last_state (machine_at limits index) one.answers) one.more o i)) image one.stands;
+      stands =
+          where_some now.image (λ i. Remains s (last_state (machine_at limits index) one.answers) one.more mid now i)
+          (λ i. Remains s (last_state (machine_at limits index) one.answers) one.more start now i)
+          (λ i. remains_from s (last_state (machine_at limits index) one.answers) one.more start mid now i
+          (record { left = left; source_faults = source; written = written; sink_faults = sink; image = image })) one.stands;
       failed = omega (arith, counted, one.failed);
     }) in
     let done : s ≡ status.Done → IfSome start.left (λ script. length script < limits.script_bytes) =

@@ -25,7 +25,7 @@ use Rattle.dg_session.specs.Session.{WhereBothTold, StandsFor}
 use Rattle.dg_start.specs.StoredHistory.{KeepsHistory}
 use Rattle.dg_run.specs.declared.status.Status.{Status}
 use Rattle.dg_run.specs.declared.status.Status.TheVariants as status
-use Rattle.dg_run.specs.Outside.{Outside}
+use Rattle.dg_run.specs.Outside.{Outside, IsUntouched}
 use Rattle.dg_run.specs.Served.{Served, Gained, Remains, Kept, Cut_off}
 use Rattle.dg_run.specs.Turns.{Breaks, Replies, asked}
 
@@ -206,9 +206,9 @@ ServedOver session s start now = (image : List ℕ) (m : MachineState) → start
 -- a run that ends between two entries
 pub over_cut : (s : Status) (start now : Outside) (begun session : Parts) (more : Option (List Entry))
     → GoingOver start.image start.left start.written start.disk_faults begun session now.image more now.written now.disk_faults → is_some now.image ≡ is_some start.image
-    → (s ≡ status.Done → IfSome more (λ rest. rest ≡ [])) → ((due : List ℕ) → now.written ≡ grown start.written due → Gained s start.written due now.written)
+    → (s ≡ status.DiskFault → ⊥) → (s ≡ status.Done → IfSome more (λ rest. rest ≡ [])) → ((due : List ℕ) → now.written ≡ grown start.written due → Gained s start.written due now.written)
     → ServedOver begun s start now
-over_cut s start now begun session more going told whole gained = λ x m a stands.
+over_cut s start now begun session more going told calm whole gained = λ x m a stands.
     let here = told_as start.image now.image x told a in
     let run = going x here.0 a here.1 m stands in record {
       entries = run.entries;
@@ -218,7 +218,7 @@ over_cut s start now begun session more going told whole gained = λ x m a stand
       front = run.front;
       whole = whole;
       gained = gained (texts_of run.answers) run.gained;
-      stands = subst (λ (o : Option (List ℕ)). IfSome o (λ image. Remains s (last_state m run.answers) more start.image image)) (sym here.1) (Kept run.stands.image_stands);
+      stands = subst (λ (o : Option (List ℕ)). IfSome o (λ image. Remains s (last_state m run.answers) more start now image)) (sym here.1) (Kept run.stands.image_stands (λ e. absurd (calm e)));
       failed = run.failed;
     }
 
@@ -245,7 +245,7 @@ over_broken start now begun session image more rest n going told then_told break
       whole = λ done. cc;
       gained = run.gained;
       stands =
-          subst (λ (o : Option (List ℕ)). IfSome o (λ image. Remains status.DiskFault (last_state m run.answers) more start.image image)) (sym here.1)
+          subst (λ (o : Option (List ℕ)). IfSome o (λ image. Remains status.DiskFault (last_state m run.answers) more start now image)) (sym here.1)
           (Cut_off e first.0 mid.0 refl first.1 run.stands.image_stands run.unmade cut);
       failed = omega (arith, le, run.failed);
     }
@@ -285,8 +285,8 @@ over_part start now begun old new image more rest written n e r going told then_
           subst (λ (due : List ℕ). GrowsByPart start.written due now.written) all
           (part_later start.written written now.written (texts_of run.answers) (text new.names r) run.gained part);
       stands =
-          subst (λ (o : Option (List ℕ)). IfSome o (λ image. Remains status.SinkFault (last_state m next.answers) rest start.image image)) (sym here.1)
-          (Kept next.stands.image_stands);
+          subst (λ (o : Option (List ℕ)). IfSome o (λ image. Remains status.SinkFault (last_state m next.answers) rest start now image)) (sym here.1)
+          (Kept next.stands.image_stands (λ e. cc));
       failed = next.failed;
     }
 
@@ -297,22 +297,38 @@ if_some (Some x) P each = each x refl
 pub at_some : (o : Option (List ℕ)) (P : List ℕ → Type 0) (x : List ℕ) → IfSome o P → o ≡ Some x → P x
 at_some o P x all is = let here : IfSome (Some x) P = subst (λ (p : Option (List ℕ)). IfSome p P) is all in here
 
+untouched_from : (start mid now : Outside) → IsUntouched start mid → IsUntouched mid now → IsUntouched start now
+untouched_from start mid now a b = record {
+  left = b.left ∙ a.left;
+  source_faults = b.source_faults ∙ a.source_faults;
+  written = b.written ∙ a.written;
+  sink_faults = b.sink_faults ∙ a.sink_faults;
+  image = b.image ∙ a.image;
+}
+
 -- nothing was answered
 pub served_nothing : (s : Status) (m : MachineState) (start now : Outside) (image : List ℕ) → start.image ≡ Some image → StandsAs m.index image
-    → now.left ≡ start.left → now.written ≡ start.written → now.image ≡ start.image
+    → IsUntouched start now
     → (s ≡ status.Done → ⊥) → (now.written ≡ grown start.written [] → Gained s start.written [] now.written) → start.disk_faults ≤ now.disk_faults → Served m s start now
-served_nothing s m start now image is stands left written same undone gained counted = record {
+served_nothing s m start now image is stands same undone gained counted = record {
   entries = [];
   answers = [];
   run = tt;
   more = option_map script start.left;
   front = map-nothing (option_map script start.left);
   whole = λ done. absurd (undone done);
-  gained = gained (written ∙ grown-nil start.written);
+  gained = gained (same.written ∙ grown-nil start.written);
   stands =
-      subst (λ (o : Option (List ℕ)). IfSome o (λ i. Remains s m (option_map script start.left) start.image i)) (sym (same ∙ is)) (Kept stands);
+      subst (λ (o : Option (List ℕ)). IfSome o (λ i. Remains s m (option_map script start.left) start now i)) (sym (same.image ∙ is)) (Kept stands (λ e. same));
   failed = omega (arith, counted);
 }
+
+-- the same from an earlier start, from which nothing was touched
+pub remains_from : (s : Status) (m : MachineState) (more : Option (List Entry)) (start mid now : Outside) (image : List ℕ) → IsUntouched start mid → Remains s m more mid now image
+    → Remains s m more start now image
+remains_from s m more start mid now image same (Kept stands untouched) = Kept stands (λ e. untouched_from start mid now same (untouched e))
+remains_from s m more start mid now image same (Cut_off e rest before failed first stands unmade cut) =
+    Cut_off e rest before failed first stands (λ none. sym same.image ∙ unmade none) cut
 
 -- before anything is read, the entries to come are those of the script
 pub asked_first : (r : LinesState) (left : Option (List ℕ)) (limit : ℕ)

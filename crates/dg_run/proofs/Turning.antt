@@ -69,7 +69,7 @@ broken_turn start before after line text command old image now same comes means 
   script.Asked command stops.0,
   told_asked start before after (Text line) command stops.0 comes
       (subst (λ (l : List ℕ). Means (meaning.Command command) l) same means) stops.1,
-  stops.2,
+  stops.3,
 )
 
 -- the turn at a line that is too long

@@ -12,7 +12,7 @@ use Rattle.dg_machine.specs.Run.{Run, failed_reads, last_state, texts_of}
 use Rattle.dg_machine.specs.Script.{Entry, script}
 use Rattle.dg_run.specs.declared.status.Status.{Status}
 use Rattle.dg_run.specs.declared.status.Status.TheVariants as status
-use Rattle.dg_run.specs.Outside.{Outside}
+use Rattle.dg_run.specs.Outside.{Outside, IsUntouched}
 
 -- the source tells what it has left, and there is no entry in it
 abbrev pub HasNoEntry : Option (List ℕ) → Type 0
@@ -29,13 +29,14 @@ Gained status.NoMemory before due after = after ≡ grown before due
 Gained (status.Refused fault) before due after = after ≡ grown before due
 Gained status.ScriptLimit before due after = after ≡ grown before due
 
--- The image now, where a run over an image that was `first` ended in the state m with these entries still to
--- come: it stands for the index of m; or the disk failed, and the first of these entries was cut off over an
--- image that stood for the index of m, and that was the first image where there is no index yet.
-pub data Remains (s : Status) (m : MachineState) (more : Option (List Entry)) (first : Option (List ℕ)) (now : List ℕ) : Type 0 where
-  Kept : StandsAs m.index now → Remains s m more first now
+-- What is left in the image, where a run ended in the state m with these entries still to come: it stands for the index
+-- of m, and where the disk failed, it did so before the run began; or the disk failed later, and the first of these
+-- entries was cut off over an image that stood for the index of m, and that was the image at the start where there is no
+-- index yet.
+pub data Remains (s : Status) (m : MachineState) (more : Option (List Entry)) (start now : Outside) (image : List ℕ) : Type 0 where
+  Kept : StandsAs m.index image → (s ≡ status.DiskFault → IsUntouched start now) → Remains s m more start now image
   Cut_off : (e : Entry) (rest : List Entry) (before : List ℕ) → s ≡ status.DiskFault → IfSome more (λ entries. entries ≡ e ∷ rest)
-      → StandsAs m.index before → (m.index ≡ None → first ≡ Some before) → IsCut m e before now → Remains s m more first now
+      → StandsAs m.index before → (m.index ≡ None → start.image ≡ Some before) → IsCut m e before image → Remains s m more start now image
 
 -- What the sink gained is the texts of the replies of a run of the machine from m over the first
 -- entries of the script; with `Done` over all of them. The index file keeps what the run came to. No more replies
@@ -48,5 +49,5 @@ pub record Served (m : MachineState) (s : Status) (start now : Outside) : Type 0
   pub front : option_map script start.left ≡ option_map (λ rest. entries ++ rest) more
   pub whole : s ≡ status.Done → IfSome more (λ rest. rest ≡ [])
   pub gained : Gained s start.written (texts_of answers) now.written
-  pub stands : IfSome now.image (λ image. Remains s (last_state m answers) more start.image image)
+  pub stands : IfSome now.image (λ image. Remains s (last_state m answers) more start now image)
   pub failed : raised_by (failed_reads answers) start.disk_faults ≤ now.disk_faults

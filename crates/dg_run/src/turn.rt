@@ -5,6 +5,7 @@ ghost use Rattle.dg_io.specs.Frame.{Advances};
 ghost use Rattle.dg_io.specs.Told.{CountRose};
 ghost use Rattle.dg_io.specs.LinesState.{told, to_come, NeedsByte};
 ghost use Rattle.dg_machine.specs.Answer.{headed};
+ghost use Rattle.dg_session.specs.Session.{IsAsBefore};
 ghost use Rattle.dg_start.specs.StoredHistory.{IsHeldBy};
 ghost use Rattle.dg_run.specs.Turns.{Breaks, BreaksAt, EndsAt, TurnTakes, GoesOnward, HasRanges, Means, ReadsToReply, TellsFailedReads, Turns, TurnsAt, asked};
 
@@ -65,8 +66,8 @@ pub fn next_turn<R: Threads + Sync, S: Source, D: Disk>(
     ensures unread { IfOk result (λ turn. ReadsToReply turn (D.taken disk.old) (D.taken disk.new)) }
 
     // why it stops
-    ensures stop { IsErrOf result Stop.Read → (session.new.parts ≡ session.old.parts) × (D.image disk.new ≡ D.image disk.old) }
-    ensures stop_limit { IsErrOf result Stop.Limit → (session.new.parts ≡ session.old.parts) × (D.image disk.new ≡ D.image disk.old) }
+    ensures stop { IsErrOf result Stop.Read → IsAsBefore session.old.parts (D.image disk.old) session.new.parts (D.image disk.new) }
+    ensures stop_limit { IsErrOf result Stop.Limit → IsAsBefore session.old.parts (D.image disk.old) session.new.parts (D.image disk.new) }
     ensures store { IsErrOf result Stop.Store → Breaks (asked lines.old (S.left source.old)) (asked lines.new (S.left source.new)) session.old.parts (D.image disk.old) (D.image disk.new) }
     ensures read { IsErrOf result Stop.Read → CountRose (S.faults source.old) (S.faults source.new) }
     ensures limit { IsErrOf result Stop.Limit → (lines.new.taken ≡ lines.new.limit) × NeedsByte lines.new }
@@ -103,8 +104,8 @@ fn turn_of<R: Threads + Sync, S: Source, D: Disk>(
     ensures no_index { OnOk result (session.new.parts.index ≡ None → (session.old.parts.index ≡ None) × (D.image disk.new ≡ D.image disk.old)) }
 
     // why it stops
-    ensures stop { IsErrOf result Stop.Read → (session.new.parts ≡ session.old.parts) × (D.image disk.new ≡ D.image disk.old) }
-    ensures stop_limit { IsErrOf result Stop.Limit → (session.new.parts ≡ session.old.parts) × (D.image disk.new ≡ D.image disk.old) }
+    ensures stop { IsErrOf result Stop.Read → IsAsBefore session.old.parts (D.image disk.old) session.new.parts (D.image disk.new) }
+    ensures stop_limit { IsErrOf result Stop.Limit → IsAsBefore session.old.parts (D.image disk.old) session.new.parts (D.image disk.new) }
     ensures store { IsErrOf result Stop.Store → BreaksAt lines.old.text (told lines.old (S.left source.old)) (told lines.new (S.left source.new)) session.old.parts (D.image disk.old) (D.image disk.new) }
     ensures read { IsErrOf result Stop.Read → CountRose (S.faults source.old) (S.faults source.new) }
     ensures limit { IsErrOf result Stop.Limit → (lines.new.taken ≡ lines.new.limit) × NeedsByte lines.new }

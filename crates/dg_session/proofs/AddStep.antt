@@ -6,7 +6,7 @@ use Rattle.std.proofs.lemmas.Bool.{false≢true}
 use Rattle.std.proofs.lemmas.List.{length-map, take-append-drop}
 use Rattle.std.proofs.Math.ListN.{get_or-map}
 use borrow.Author.Tests.{le-leb, lt-ltb, le-ltb, ltb-false}
-use Rattle.dg_append.specs.AddedBatches.{AddsBatch, BreaksBatch, ComesToSegment, FailsBatch, FillsFile, IsAsKnown, IsBack, IsOverHistory, IsReady, batch_with, recent_behind}
+use Rattle.dg_append.specs.AddedBatches.{AddsBatch, BreaksBatch, ComesToSegment, FailsBatch, FailsToRead, FillsFile, IsAsKnown, IsBack, IsOverHistory, IsReady, batch_with, recent_behind}
 use Rattle.dg_append.specs.Fronts.{ComeTo, IsFront, lines}
 use Rattle.dg_append.specs.declared.batch.AddedBatch.{AddedBatch}
 use Rattle.dg_append.specs.declared.fault.BatchFault.{BatchFault}
@@ -42,15 +42,15 @@ use Rattle.dg_machine.specs.declared.reply.Head.TheVariants as head
 use Rattle.dg_machine.specs.declared.reply.Refusal.{Refusal}
 use Rattle.dg_machine.specs.declared.reply.Refusal.TheVariants as refusal
 use Rattle.dg_machine.specs.declared.reply.Reply.{Reply}
-use Rattle.dg_machine.specs.Answer.{Answered, answer, headed, refuse}
+use Rattle.dg_machine.specs.Answer.{Answered, answer, headed, is_behind_reads, refuse}
 use Rattle.dg_machine.specs.CutImage.{IsCut, As_before, As_after}
 use Rattle.dg_machine.specs.MachineState.{MachineState, elements, history_in}
-use Rattle.dg_machine.specs.GeneratedChanges.{batch_of_changes, generated}
+use Rattle.dg_history.specs.GeneratedChanges.{batch_of_changes, generated}
 use Rattle.dg_machine.specs.Needs.{needs, refused}
 use Rattle.dg_machine.specs.Planning.{no_plan}
 use Rattle.dg_machine.specs.Run.{Step}
 use Rattle.dg_machine.specs.Script.{Asked, Follows}
-use Rattle.dg_session.proofs.Additions.{Lines_of, Origin, Seed, accepted_made, adding, asked_fit, asked_from, head_over, lacks, ok_head, reads_records, unplanned, with_made, writes}
+use Rattle.dg_session.proofs.Additions.{Lines_of, Origin, Seed, accepted_made, adding, asked_fit, asked_from, behind_head, head_over, lacks, ok_head, reads_records, unplanned, with_made, writes}
 use Rattle.dg_session.proofs.EventRanges.{ChangeFits, what_spelled}
 use Rattle.dg_session.proofs.GeneratedRanges.{generated_length}
 use Rattle.dg_session.proofs.HeldHistory.{count_is}
@@ -260,6 +260,14 @@ by_room m z from b full =
       reply = headed (head_over from (replay (events_of z ++ b.events)) (length b.events) (length (events_of z) + length b.events) (last_time_from 0 b.events));
       state = record m { index = Some (with_batch z b) };
     }
+
+-- a batch that is refused for no change is refused for a full file alone
+behind_reads : (m : MachineState) (z : History) (from : Origin) (b : Batch) → is_behind_reads (with_made m z from (Ok b)).reply.head ≡ true
+behind_reads m z from b = by (nat_lt m.limits.file_bytes (size (with_batch z b)))
+  where
+    by : (full : Bool) → is_behind_reads (by_room m z from b full).reply.head ≡ true
+    by true = refl
+    by false = behind_head from (replay (events_of z ++ b.events)) (length b.events) (length (events_of z) + length b.events) (last_time_from 0 b.events)
 
 -- after a fault the session keeps what it kept; after a failure of a write or sync nothing is said
 abbrev pub StaysAs : BatchFault → Parts → Parts → Type 0
@@ -611,10 +619,15 @@ module _ (from : Origin) (got : List ScriptLine) (p : Parts) (count known limit 
         (λ m image at s.
         let z = is_of p free.index image m free.there s in
         absurd (one_told before (λ x. (z : History) → IsOverHistory z x free.index known c → ⊥) image f.1.never at z.0 (over image m z.0 z.1)))
-        (λ h. reads_records from count)
+        (λ h. (reads_records from count, a.not_refused))
     batch_failed fault.Read fails q q_is =
-        let f : after ≡ before = of_here (index_opening c.index) free.index (λ o. FailsBatch o limit known c before after b.changes.items b.front fault.Read) opening_there fails in
-        failing_denies (adding from count) got p q before after q_is f (reads_records from count) a.not_refused
+        let f = of_here (index_opening c.index) free.index (λ o. FailsBatch o limit known c before after b.changes.items b.front fault.Read) opening_there fails in
+        let d : FailsToRead free.index c b.changes.items b.front = f.1 in
+        failing_denies (adding from count) got p q before after q_is f.0 (reads_records from count) a.not_refused
+        (λ m image s.
+        let z = is_of p free.index image m free.there s in
+        ap (λ (x : Answered). is_behind_reads x.reply.head) (answer_with image m z.0 (Ok d.events) s z.1 d.come)
+        ∙ behind_reads m z.0 from (batch_in z.0 Due d.events))
     batch_failed fault.Memory fails q q_is =
         let f : after ≡ before = of_here (index_opening c.index) free.index (λ o. FailsBatch o limit known c before after b.changes.items b.front fault.Memory) opening_there fails in
         lacking_denies (adding from count) got p q before after q_is f (lacks from count) a.not_refused
@@ -622,5 +635,6 @@ module _ (from : Origin) (got : List ScriptLine) (p : Parts) (count known limit 
         let d : BreaksBatch free.index limit known c before after b.changes.items b.front =
         of_here (index_opening c.index) free.index (λ o. BreaksBatch o limit known c before after b.changes.items b.front) opening_there fails in (
           writes from count,
+          a.not_refused,
           λ y z ey ez. add_cuts before d.events d.segment d.comes y z ey d.fits (both_told before after (GainsBatchOrNot d.segment) d.gains y z ey ez),
         )

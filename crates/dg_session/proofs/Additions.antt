@@ -9,8 +9,8 @@ use Rattle.dg_machine.specs.declared.command.Command.{Command}
 use Rattle.dg_machine.specs.declared.command.Command.TheVariants as command
 use Rattle.dg_machine.specs.declared.reply.Head.{Head}
 use Rattle.dg_machine.specs.declared.reply.Head.TheVariants as head
-use Rattle.dg_machine.specs.Answer.{Answered, accepted, graph_with, is_refusal, with_new}
-use Rattle.dg_machine.specs.GeneratedChanges.{batch_of_changes, generated}
+use Rattle.dg_machine.specs.Answer.{Answered, accepted, graph_with, is_behind_reads, is_refusal, with_new}
+use Rattle.dg_history.specs.GeneratedChanges.{batch_of_changes, generated}
 use Rattle.dg_machine.specs.MachineState.{MachineState, history_in}
 use Rattle.dg_machine.specs.Needs.{is_writing, needs}
 use Rattle.dg_machine.specs.Planning.{IsPlanned, no_plan}
@@ -77,6 +77,11 @@ pub ok_head : (from : Origin) (graph : List Element) (events total last : ℕ) �
 ok_head (Lines_of Load) graph events total last = refl
 ok_head (Lines_of Append) graph events total last = refl
 ok_head (Seed seed) graph events total last = refl
+
+pub behind_head : (from : Origin) (graph : List Element) (events total last : ℕ) → is_behind_reads (head_over from graph events total last) ≡ true
+behind_head (Lines_of Load) graph events total last = refl
+behind_head (Lines_of Append) graph events total last = refl
+behind_head (Seed seed) graph events total last = refl
 
 -- what they ask for fits its ranges
 pub asked_fit : (from : Origin) (count : ℕ) (got : List ScriptLine) → count ≤ BATCH_LINES_MAX → AskedFit (asked_from from count got)

@@ -123,6 +123,7 @@ pub create_fails : (p q : Parts) (params : Params) (before after : Option (List 
 create_fails p q params before after fault.Memory none same memory part = lacking_denies (making params) [] p q before after same (memory refl) refl none
 create_fails p q params before after fault.Disk none same memory part = (
   refl,
+  none,
   λ x y a b. create_cuts p params x y none (both_told before after (λ x y. IsMadeInPart params x y) (part refl) x y a b),
 )
 

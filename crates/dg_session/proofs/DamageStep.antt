@@ -92,7 +92,7 @@ come_to_none c got p before q after (Ok reply) no_reads comes =
     let a : Accepts c got p before q after reply = comes in accepted_tells_none c p before reply.head a.accepted
 come_to_none c got p before q after (Err (halt.Refusal r)) no_reads comes =
     let d : Denies c got p before q after r = comes in
-    tells_no_damage c p before r (not_true (is_of_read r) (λ e. false≢true (sym no_reads ∙ d.reads e)))
+    tells_no_damage c p before r (not_true (is_of_read r) (λ e. let may = d.reads e in false≢true (sym no_reads ∙ may.0)))
 come_to_none c got p before q after (Err (halt.Stop s)) no_reads comes = tt
 
 -- a command that reads no records is not refused for damage

@@ -12,7 +12,7 @@ use Rattle.dg_graph.specs.declared.limits.TheConstants.{NAME_BYTES_MAX}
 use Rattle.dg_graph.specs.Names.{is_name}
 use Rattle.dg_history.specs.ChangeGrammar.{WhatByText, Plain, Sets_node, Unsets_node, Unsets_edge}
 use Rattle.dg_history.specs.declared.limits.TheConstants.{BATCH_LINES_MAX}
-use Rattle.dg_machine.specs.GeneratedChanges.{generated, generated_change, generated_from, generated_what, lettered, next_number, part_of}
+use Rattle.dg_history.specs.GeneratedChanges.{generated, generated_change, generated_from, generated_what, lettered, next_number, part_of}
 use Rattle.dg_session.proofs.ChangeRanges.{AskedFits, SaidFits}
 use Rattle.dg_session.proofs.NamesAfter.{no_end}
 

@@ -44,7 +44,7 @@ pub fails_no_read : (c : Command) (got : List ScriptLine) (p : Parts) (before : 
     → ComesTo c got p before q after r → r ≡ Err (halt.Refusal refusal.StoreRead) → ⊥
 fails_no_read c got p before q after r no_reads comes is =
     let d : Denies c got p before q after refusal.StoreRead = subst (ComesTo c got p before q after) is comes in
-    false≢true (sym no_reads ∙ d.reads refl)
+    let may = d.reads refl in false≢true (sym no_reads ∙ may.0)
 
 store_read_refuses : (h : Head) → is_refusal h ≡ false → is_store_read h ≡ true → ⊥
 store_read_refuses (head.Refused _) accepts e = false≢true (sym accepts)

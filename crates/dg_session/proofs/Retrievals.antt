@@ -47,7 +47,7 @@ use Rattle.dg_session.proofs.HeldBases.{bases_are_held}
 use Rattle.dg_session.proofs.PlanStep.{edges_are, point_here, point_is}
 use Rattle.dg_session.proofs.PointNodes.{IsSoundIndex, point_there}
 use Rattle.dg_session.proofs.StandsFor.{events_there, handle_taken, hit, instants_are, miss, is_of, last_passes, not_false, one_told, passes, refused_is}
-use Rattle.dg_session.proofs.Steps.{accepted_is, accepted_steps, failing_denies, lacking_denies}
+use Rattle.dg_session.proofs.Steps.{AcceptedBehindReads, accepted_is, accepted_steps, failing_accepted, lacking_denies}
 use Rattle.dg_session.specs.Halt.{retrieval_halt}
 use Rattle.dg_session.specs.contracts.session.Session.{the_view}
 use Rattle.dg_session.specs.declared.session.Session.TheInside.{Inside}
@@ -299,14 +299,14 @@ no_damage : (key : Key) (col : Column) → IsNoDamage (retrieval_fault.Damaged k
 no_damage key col h = ⊎_elim (λ (e : retrieval_fault.Damaged key col ≡ retrieval_fault.Disk). absurd cc) (λ (e : retrieval_fault.Damaged key col ≡ retrieval_fault.Memory). absurd cc) h
 
 -- a retrieval that fails is refused by a failed read or by want of memory, since an image of a history is not damaged
-pub retrieval_failed : (c : Command) (p q : Parts) (before after : Option (List ℕ)) (f : RetrievalFault) → (needs c).memory ≡ true → (needs c).reads ≡ true → refused_by p 0 (needs c) ≡ None
+pub retrieval_failed : (c : Command) (p q : Parts) (before after : Option (List ℕ)) (f : RetrievalFault) → (needs c).memory ≡ true → (needs c).reads ≡ true → AcceptedBehindReads c [] → refused_by p 0 (needs c) ≡ None
     → q ≡ p → after ≡ before → IfSome before (λ image. (m : MachineState) → StandsFor p image m → IsNoDamage f) → ComesTo c [] p before q after (Err (retrieval_halt f))
-retrieval_failed c p q before after retrieval_fault.Disk memory reads none same same_image never = failing_denies c [] p q before after same same_image reads none
-retrieval_failed c p q before after retrieval_fault.Memory memory reads none same same_image never = lacking_denies c [] p q before after same same_image memory none
-retrieval_failed c p q before after (retrieval_fault.Damaged key col) memory reads none same same_image never = record {
+retrieval_failed c p q before after retrieval_fault.Disk memory reads behind none same same_image never = failing_accepted c [] p q before after same same_image reads none behind
+retrieval_failed c p q before after retrieval_fault.Memory memory reads behind none same same_image never = lacking_denies c [] p q before after same same_image memory none
+retrieval_failed c p q before after (retrieval_fault.Damaged key col) memory reads behind none same same_image never = record {
   moves = λ x y a b m s. absurd (no_damage key col (one_told before (λ image. (k : MachineState) → StandsFor p image k → IsNoDamage (retrieval_fault.Damaged key col)) x never a m s));
   as_before = record { same = same; same_image = same_image };
-  reads = λ h. reads;
+  reads = λ h. (reads, none);
 }
 
 -- ---- the bytes read

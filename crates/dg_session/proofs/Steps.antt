@@ -9,7 +9,7 @@ use Rattle.dg_machine.specs.declared.reply.Head.TheVariants as head
 use Rattle.dg_machine.specs.declared.reply.Refusal.{Refusal}
 use Rattle.dg_machine.specs.declared.reply.Refusal.TheVariants as refusal
 use Rattle.dg_machine.specs.declared.reply.Reply.{Reply}
-use Rattle.dg_machine.specs.Answer.{Answered, IsPlannedBy, accepted, answer, answer_by, headed, is_begun, no_memory, is_refusal, store_read}
+use Rattle.dg_machine.specs.Answer.{Answered, IsPlannedBy, accepted, answer, answer_by, headed, is_begun, is_behind_reads, no_memory, is_refusal, store_read}
 use Rattle.dg_machine.specs.CutImage.{IsAccepted}
 use Rattle.dg_machine.specs.MachineState.{MachineState, stands_at, dependent_on}
 use Rattle.dg_history.specs.History.{are_parameters, in_range}
@@ -25,7 +25,7 @@ use Rattle.dg_session.specs.Parts.{Parts}
 use Rattle.dg_session.specs.declared.halt.Halt.{Halt}
 use Rattle.dg_session.specs.declared.halt.Halt.TheVariants as halt
 use Rattle.dg_session.specs.declared.stop.Stop.TheVariants as stop
-use Rattle.dg_session.specs.Session.{ComesTo, Denies, Moves, StandsFor, Steps, TakesLines, WhereBothTold, is_of_read, is_too_full, refused_by}
+use Rattle.dg_session.specs.Session.{ComesTo, Denies, MayRead, Moves, StandsFor, Steps, TakesLines, WhereBothTold, is_of_read, is_too_full, refused_by}
 
 -- ---- of the machine
 
@@ -58,9 +58,17 @@ pub lacking_steps : (m : MachineState) (c : Command) (lines : List ScriptLine) �
     → Step m (Asked c lines) no_memory m
 lacking_steps m c lines memory none = Lacks_memory c lines (λ i. memory i && begun m c lines none i)
 
-pub failing_steps : (m : MachineState) (c : Command) (lines : List ScriptLine) → (needs c).reads ≡ true → refused m c lines ≡ None
+-- a failed read may take the place of the answer
+abbrev pub IsBehindReads : Command → List ScriptLine → MachineState → Type 0
+IsBehindReads c lines m = is_behind_reads (answer m c lines no_plan).reply.head ≡ true
+
+failing_steps : (m : MachineState) (c : Command) (lines : List ScriptLine) → (needs c).reads ≡ true → IsBehindReads c lines m
     → Step m (Asked c lines) store_read m
-failing_steps m c lines reads none = Fails_to_read c lines (λ i. reads i && begun m c lines none i)
+failing_steps m c lines reads behind = Fails_to_read c lines (λ i. reads i && behind i)
+
+-- where the command is accepted, a failed read may take the place of what it answers then
+abbrev pub AcceptedBehindReads : Command → List ScriptLine → Type 0
+AcceptedBehindReads c lines = (m : MachineState) → is_behind_reads (accepted m c lines no_plan).reply.head ≡ true
 
 -- a command whose answer is no refusal may be cut off
 pub is_accepted : (m : MachineState) (c : Command) (lines : List ScriptLine) (a : Answered) → answer m c lines no_plan ≡ a → is_refusal a.reply.head ≡ false
@@ -72,7 +80,7 @@ is_accepted m c lines a is accepted = ap (λ (x : Answered). is_refusal x.reply.
 -- a refusal that the machine may give over the image that the disk tells, where nothing has changed
 pub denied_at : (c : Command) (got : List ScriptLine) (old new : Parts) (before after : Option (List ℕ)) (r : Refusal) → new ≡ old → after ≡ before
     → ((m : MachineState) (image : List ℕ) → before ≡ Some image → StandsFor old image m → Step m (Asked c got) (headed (head.Refused r)) m)
-    → (is_of_read r ≡ true → (needs c).reads ≡ true) → Denies c got old before new after r
+    → (is_of_read r ≡ true → MayRead c got old) → Denies c got old before new after r
 denied_at c got old new before after r same same_image step reads = record {
   moves = λ x y a b m s. (m, step m x a s, stands_on old new x y m same (one_image before after x y same_image a b) s);
   as_before = record { same = same; same_image = same_image };
@@ -82,7 +90,7 @@ denied_at c got old new before after r same same_image step reads = record {
 -- over any image
 pub denied : (c : Command) (got : List ScriptLine) (old new : Parts) (before after : Option (List ℕ)) (r : Refusal) → new ≡ old → after ≡ before
     → ((m : MachineState) (image : List ℕ) → StandsFor old image m → Step m (Asked c got) (headed (head.Refused r)) m)
-    → (is_of_read r ≡ true → (needs c).reads ≡ true) → Denies c got old before new after r
+    → (is_of_read r ≡ true → MayRead c got old) → Denies c got old before new after r
 denied c got old new before after r same same_image step reads =
     denied_at c got old new before after r same same_image (λ m image at s. step m image s) reads
 
@@ -146,9 +154,17 @@ lacking_denies c got old new before after same same_image memory none =
 
 -- by a failed read of the index file
 pub failing_denies : (c : Command) (got : List ScriptLine) (old new : Parts) (before after : Option (List ℕ)) → new ≡ old → after ≡ before
-    → (needs c).reads ≡ true → refused_by old (length got) (needs c) ≡ None → Denies c got old before new after refusal.StoreRead
-failing_denies c got old new before after same same_image reads none =
-    denied c got old new before after refusal.StoreRead same same_image (λ m image s. failing_steps m c got reads (sym (refused_is old image m c got s) ∙ none)) (λ h. reads)
+    → (needs c).reads ≡ true → refused_by old (length got) (needs c) ≡ None
+    → ((m : MachineState) (image : List ℕ) → StandsFor old image m → IsBehindReads c got m) → Denies c got old before new after refusal.StoreRead
+failing_denies c got old new before after same same_image reads none behind =
+    denied c got old new before after refusal.StoreRead same same_image (λ m image s. failing_steps m c got reads (behind m image s)) (λ h. (reads, none))
+
+-- and of a command that is accepted where it is not refused by what it needs
+pub failing_accepted : (c : Command) (got : List ScriptLine) (old new : Parts) (before after : Option (List ℕ)) → new ≡ old → after ≡ before
+    → (needs c).reads ≡ true → refused_by old (length got) (needs c) ≡ None → AcceptedBehindReads c got → Denies c got old before new after refusal.StoreRead
+failing_accepted c got old new before after same same_image reads none behind =
+    failing_denies c got old new before after same same_image reads none
+    (λ m image s. ap (λ (o : Option Refusal). is_behind_reads (answer_by o m c got no_plan).reply.head) (sym (refused_is old image m c got s) ∙ none) ∙ behind m)
 
 -- a reply of a command that is not refused, by a plan for it, and the state that the session then stands for
 pub moved_by : (c : Command) (got : List ScriptLine) (plan : Planned) (old new : Parts) (before after : Option (List ℕ)) (reply : Reply)
@@ -199,11 +215,23 @@ alone c x lines old before new after r is none h =
     subst (λ (y : Command). Comes y (following y) lines lines old before new after r) (sym is)
     ([], subst (λ (n : ℕ). TakesLines n lines [] lines r) (sym none) (takes_none lines r), h)
 
+-- a reply that is no refusal tells of no read
+tells_of_none : (reply : Reply) (P : Type 0) (r : Refusal) → is_refusal reply.head ≡ false → reply.head ≡ head.Refused r → P
+tells_of_none reply P r accepts is = absurd (false≢true (sym accepts ∙ ap is_refusal is))
+
+same_refusal : (r why : Refusal) → head.Refused why ≡ head.Refused r → r ≡ why
+same_refusal r why is = cc
+
 -- the reply, where there is one
 pub answered : (c : Command) (lines_before lines_after : Option (List ScriptLine)) (old : Parts) (before : Option (List ℕ)) (new : Parts) (after : Option (List ℕ)) (r : Result Reply Halt) (reply : Reply)
     → Comes c (following c) lines_before lines_after old before new after r → r ≡ Ok reply → Steps c lines_before lines_after old before new after reply
 answered c lines_before lines_after old before new after r reply h is =
-    let k = subst (Comes c (following c) lines_before lines_after old before new after) is h in (k.0, k.1, k.2.moves)
+    let k = subst (Comes c (following c) lines_before lines_after old before new after) is h in (
+      k.0,
+      k.1,
+      k.2.moves,
+      λ why is of_read. tells_of_none reply (MayRead c k.0 old) why k.2.accepted is,
+    )
 
 pub refused_so : (c : Command) (lines_before lines_after : Option (List ScriptLine)) (old : Parts) (before : Option (List ℕ)) (new : Parts) (after : Option (List ℕ)) (r : Result Reply Halt) (why : Refusal) (reply : Reply)
     → Comes c (following c) lines_before lines_after old before new after r → r ≡ Err (halt.Refusal why) → reply ≡ headed (head.Refused why)
@@ -213,4 +241,7 @@ refused_so c lines_before lines_after old before new after r why reply h is repl
       k.0,
       k.1,
       subst (λ (x : Reply). WhereBothTold before after (λ y z. Moves c k.0 old y new z x)) (sym reply_is) k.2.moves,
+      λ r is of_read.
+          let both : head.Refused why ≡ head.Refused r = ap (λ (x : Reply). x.head) (sym reply_is) ∙ is in
+          k.2.reads (ap is_of_read (sym (same_refusal r why both)) ∙ of_read),
     )

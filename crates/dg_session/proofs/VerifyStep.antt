@@ -22,7 +22,7 @@ use Rattle.dg_sound_files.specs.SoundFiles.{StandingFilesAreSound}
 use Rattle.dg_session.proofs.OpenedHistory.{behind}
 use Rattle.dg_session.proofs.Retrievals.{every_some}
 use Rattle.dg_session.proofs.StandsFor.{IsOf, hit, is_of, miss, one_image, one_told, stands_on}
-use Rattle.dg_session.proofs.Steps.{failing_denies, lacking_denies, moved}
+use Rattle.dg_session.proofs.Steps.{failing_accepted, lacking_denies, moved}
 use Rattle.dg_session.specs.declared.halt.Halt.{Halt}
 use Rattle.dg_session.specs.Damage.{DamageIn}
 use Rattle.dg_session.specs.Halt.{verify_halt}
@@ -91,7 +91,7 @@ sound_over p o names told (Ok s) there same sound =
 -- the file was not verified
 pub verify_failed : (p q : Parts) (before after : Option (List ℕ)) (f : VerifyFault) → is_some p.index ≡ true → q ≡ p → after ≡ before
     → ComesTo command.Verify [] p before q after (Err (verify_halt f))
-verify_failed p q before after fault.Disk there same same_image = failing_denies command.Verify [] p q before after same same_image refl (verify_free p there)
+verify_failed p q before after fault.Disk there same same_image = failing_accepted command.Verify [] p q before after same same_image refl (verify_free p there) (λ m. refl)
 verify_failed p q before after fault.Memory there same same_image = lacking_denies command.Verify [] p q before after same same_image refl (verify_free p there)
 
 pub failed_damage : (p : Parts) (image : Option (List ℕ)) (f : VerifyFault) → DamageIn command.Verify p image (Err (verify_halt f))

@@ -4,7 +4,7 @@ use Rattle.dg_append.specs.declared.front.Front.TheVariants.{Whole}
 use Rattle.dg_graph.specs.declared.event.Change.{Change}
 use Rattle.dg_graph.specs.declared.limits.TheConstants.{NAMES_MAX}
 use Rattle.dg_history.specs.Batch.{changes_after, names_after}
-use Rattle.dg_machine.specs.GeneratedChanges.{generated}
+use Rattle.dg_history.specs.GeneratedChanges.{generated}
 use Rattle.dg_session.specs.declared.batch_lines.BatchLines.{BatchLines}
 
 -- The batch has the first changes of the seed, so many of them, and the names have grown by theirs.

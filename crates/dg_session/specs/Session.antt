@@ -59,18 +59,6 @@ Moves command got old before new after reply =
 abbrev pub CutsOff : Command → List ScriptLine → Parts → List ℕ → List ℕ → Type 0
 CutsOff command got old before after = (m : MachineState) → StandsFor old before m → IsCut m (Asked command got) before after
 
--- the command and the lines that follow it make such a step, where the disk tells its image
-abbrev pub Steps : Command → Option (List ScriptLine) → Option (List ScriptLine) → Parts → Option (List ℕ) → Parts → Option (List ℕ) → Reply → Type 0
-Steps command lines_before lines_after old before new after reply =
-    (got : List ScriptLine) × Follows (following command) lines_before got lines_after
-    × WhereBothTold before after (λ image then_image. Moves command got old image new then_image reply)
-
--- the command and the lines that follow it were cut off so, where the disk tells its image
-abbrev pub Stops : Command → Option (List ScriptLine) → Option (List ScriptLine) → Parts → Option (List ℕ) → Option (List ℕ) → Type 0
-Stops command lines_before lines_after old before after =
-    (got : List ScriptLine) × Follows (following command) lines_before got lines_after
-    × WhereBothTold before after (λ image then_image. CutsOff command got old image then_image)
-
 -- so many more events, or the names that so many lines may bring, are too many
 abbrev pub is_too_full : Parts → ℕ → Bool
 is_too_full p count = nat_lt p.limits.events (events_held p.index + count) || nat_lt NAMES_MAX (length p.names + 2 * count)
@@ -96,6 +84,32 @@ refusals_by there p read n =
 abbrev pub refused_by : Parts → ℕ → Needs → Option Refusal
 refused_by p read n = earliest (refusals_by (is_some p.index) p read n)
 
+-- the refusal tells of a read of the index file: it failed, or gave a column that is in no spelling
+abbrev pub is_of_read : Refusal → Bool
+is_of_read refusal.StoreRead = true
+is_of_read (refusal.Damaged key col) = true
+is_of_read r = false
+
+-- The command is not refused by what the session keeps, whatever the image is, and it reads records.
+abbrev pub MayRead : Command → List ScriptLine → Parts → Type 0
+MayRead command got old = ((needs command).reads ≡ true) × (refused_by old (length got) (needs command) ≡ None)
+
+-- The command and the lines that follow it make such a step, where the disk tells its image. A reply that tells of a read
+-- takes the place of no refusal by what the session keeps, whatever the image is.
+abbrev pub Steps : Command → Option (List ScriptLine) → Option (List ScriptLine) → Parts → Option (List ℕ) → Parts → Option (List ℕ) → Reply → Type 0
+Steps command lines_before lines_after old before new after reply =
+    (got : List ScriptLine) × Follows (following command) lines_before got lines_after
+    × WhereBothTold before after (λ image then_image. Moves command got old image new then_image reply)
+    × ((r : Refusal) → reply.head ≡ head.Refused r → is_of_read r ≡ true → MayRead command got old)
+
+-- The command and the lines that follow it were cut off so, where the disk tells its image. The command is not refused by
+-- what the session keeps, whatever the image is.
+abbrev pub Stops : Command → Option (List ScriptLine) → Option (List ScriptLine) → Parts → Option (List ℕ) → Option (List ℕ) → Type 0
+Stops command lines_before lines_after old before after =
+    (got : List ScriptLine) × Follows (following command) lines_before got lines_after
+    × (refused_by old (length got) (needs command) ≡ None)
+    × WhereBothTold before after (λ image then_image. CutsOff command got old image then_image)
+
 -- what a retrieval of these instants needs, as so many handles
 abbrev pub retrieval_needs : List ℕ → ℕ → Needs
 retrieval_needs instants handles = record nothing_more { index = true; instants = instants; handles = handles }
@@ -117,17 +131,11 @@ pub record IsAsBefore (old : Parts) (before : Option (List ℕ)) (new : Parts) (
   pub same : new ≡ old
   pub same_image : after ≡ before
 
--- the refusal tells of a read of the index file: it failed, or gave a column that is in no spelling
-abbrev pub is_of_read : Refusal → Bool
-is_of_read refusal.StoreRead = true
-is_of_read (refusal.Damaged key col) = true
-is_of_read r = false
-
 -- The command and these lines are refused so.
 pub record Denies (command : Command) (got : List ScriptLine) (old : Parts) (before : Option (List ℕ)) (new : Parts) (after : Option (List ℕ)) (r : Refusal) : Type 0 where
   pub moves : WhereBothTold before after (λ image then_image. Moves command got old image new then_image (headed (head.Refused r)))
   pub as_before : IsAsBefore old before new after
-  pub reads : is_of_read r ≡ true → (needs command).reads ≡ true
+  pub reads : is_of_read r ≡ true → MayRead command got old
 
 -- what the command and these lines come to
 abbrev pub ComesTo : Command → List ScriptLine → Parts → Option (List ℕ) → Parts → Option (List ℕ) → Result Reply Halt → Type 0
@@ -136,7 +144,8 @@ ComesTo command got old before new after (Err (halt.Refusal r)) = Denies command
 ComesTo command got old before new after (Err (halt.Stop stop.Read)) = IsAsBefore old before new after
 ComesTo command got old before new after (Err (halt.Stop stop.Limit)) = IsAsBefore old before new after
 ComesTo command got old before new after (Err (halt.Stop stop.Store)) =
-    (is_writing command ≡ true) × WhereBothTold before after (λ image then_image. CutsOff command got old image then_image)
+    (is_writing command ≡ true) × (refused_by old (length got) (needs command) ≡ None)
+    × WhereBothTold before after (λ image then_image. CutsOff command got old image then_image)
 
 -- the lines are those that follow, unless the script ended within them
 abbrev pub TakesLines : {A : Type 0} → ℕ → Option (List ScriptLine) → List ScriptLine → Option (List ScriptLine) → Result A Halt → Type 0

@@ -97,6 +97,7 @@ fn read_lines<S: Source>(
     source: &mut S,
 ) -> Result<BatchLines, Stop>
     requires room { is_wanted ≡ true → length names.old + 2 * count ≤ NAMES_MAX }
+
     // the lines
     ensures reads { IfOk result (λ batch. (got : List ScriptLine)
         × Follows count (told lines.old (S.left source.old)) got (told lines.new (S.left source.new))
@@ -105,10 +106,12 @@ fn read_lines<S: Source>(
     ensures within { IfOk result (λ batch. vec_len batch.changes ≤ batch.read) }
     ensures kept { take (length names.old) names.new ≡ names.old }
     ensures few { IfOk result (λ batch. batch.front ≡ Front.Whole → length names.new ≤ NAMES_MAX) }
+
     // why it stops
     ensures read { IsErrOf result Stop.Read → CountRose (S.faults source.old) (S.faults source.new) }
     ensures limit { IsErrOf result Stop.Limit → (lines.new.taken ≡ lines.new.limit) × NeedsByte lines.new }
     ensures no_store { IsErrOf result Stop.Store → ⊥ }
+
     // what it takes
     ensures advances { Advances lines.old (S.left source.old) (S.faults source.old)
         lines.new (S.left source.new) (S.faults source.new) }
@@ -163,13 +166,16 @@ pub fn read_batch<S: Source>(
     source: &mut S,
 ) -> Result<BatchLines, Halt>
     requires room { barred ≡ None → length names.old + 2 * count ≤ NAMES_MAX }
+
     // the lines
     ensures reads { ReadsBatch count barred (told lines.old (S.left source.old)) (told lines.new (S.left source.new))
         names.old names.new result }
+
     // why it stops
     ensures read { IsErrOf result (Halt.Stop Stop.Read) → CountRose (S.faults source.old) (S.faults source.new) }
     ensures limit { IsErrOf result (Halt.Stop Stop.Limit) → (lines.new.taken ≡ lines.new.limit) × NeedsByte lines.new }
     ensures no_store { IsErrOf result (Halt.Stop Stop.Store) → ⊥ }
+
     // what it takes
     ensures advances { Advances lines.old (S.left source.old) (S.faults source.old)
         lines.new (S.left source.new) (S.faults source.new) }

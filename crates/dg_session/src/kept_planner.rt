@@ -5,7 +5,7 @@ ghost use Rattle.std.specs.Prelude.{◌≡◌, true, None, OnOk, Some};
 ghost use Rattle.dg_session.specs.HeldIndex.{HasNodes};
 ghost use Rattle.dg_session.specs.KeptPlanner.{IsGraphFor, IsKeptFor, KeepsColumns};
 
-use crate::planning::planner_of;
+use crate::plans::planner_of;
 use dg_file::Index;
 use dg_graph::Columns;
 use dg_handles::Handles;

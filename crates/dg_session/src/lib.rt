@@ -3,7 +3,7 @@
 //! docs/MODEL.md the machine that says what is due.
 #![tactic(auto)]
 
-mod adding;
+mod addition;
 mod batch_command;
 mod batch_lines;
 mod generated_batch;
@@ -12,13 +12,12 @@ mod kept_adjacency;
 mod kept_planner;
 mod laws;
 mod plan_lines;
-mod planning;
+mod plans;
 mod queries;
 mod record_listing;
-mod retrieving;
+mod retrieval;
 mod session;
 mod session_fault;
-mod snapshot;
 mod stop;
 
 pub use dg_start::StartFault;

@@ -55,10 +55,12 @@ pub fn read_plan_lines<S: Source>(
     ensures reads { IfOk result (λ written. (got : List ScriptLine)
         × Follows count (told lines.old (S.left source.old)) got (told lines.new (S.left source.new))
         × ReadsPlanLines got written) }
+
     // why it stops
     ensures read { IsErrOf result Stop.Read → CountRose (S.faults source.old) (S.faults source.new) }
     ensures limit { IsErrOf result Stop.Limit → (lines.new.taken ≡ lines.new.limit) × NeedsByte lines.new }
     ensures no_store { IsErrOf result Stop.Store → ⊥ }
+
     // what it takes
     ensures advances { Advances lines.old (S.left source.old) (S.faults source.old)
         lines.new (S.left source.new) (S.faults source.new) }

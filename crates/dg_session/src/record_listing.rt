@@ -10,7 +10,7 @@ ghost use Rattle.dg_index.specs.OpenedIndex.{event_total};
 ghost use Rattle.dg_session.specs.RecordListing.{down_keys, held_line, listing_of};
 ghost use Rattle.dg_shape.specs.Shapes.{IsShape, made_with};
 
-use crate::planning::shape_of;
+use crate::plans::shape_of;
 use dg_file::Index;
 use dg_history::{Key, Params};
 use dg_machine::{BodyLine, BodyLines, Head, Reply};

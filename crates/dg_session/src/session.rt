@@ -19,7 +19,7 @@ ghost use Rattle.dg_machine.specs.Answer.{headed, is_refusal};
 ghost use Rattle.dg_machine.specs.CommandGrammar.{CountIsInRange};
 ghost use Rattle.dg_machine.specs.declared.stands.Stands.TheVariants as Stands;
 ghost use Rattle.dg_machine.specs.Needs.{following, is_base, is_writing, needs};
-ghost use Rattle.dg_history.specs.History.{History, are_parameters, in_range};
+ghost use Rattle.dg_history.specs.History.{History, in_range};
 ghost use Rattle.dg_index.specs.ImageOfHistory.{IsImageOf, StandsAs};
 ghost use Rattle.dg_index.specs.OpenedIndex.{opened_of};
 ghost use Rattle.dg_machine.specs.MachineState.{IsWithin, MachineState, stands_at, machine_at};
@@ -36,7 +36,7 @@ ghost use Rattle.dg_session.specs.HeldIndex.{events_held, span_held};
 ghost use Rattle.dg_session.specs.Damage.{DamageIn, DamageIs, NamesDamage, NamesNodeDamage};
 ghost use Rattle.dg_session.specs.Parts.{Parts};
 ghost use Rattle.dg_session.specs.Reads.{IsNodeHeld, IsRetrieved, Reads, ReadsIn, bases_of, listed_by, with_new_handles};
-ghost use Rattle.dg_session.specs.Session.{ComesTo, StandsFor, Steps, Stops, TakesLines, is_too_full, node_needs, refused_by, retrieval_needs};
+ghost use Rattle.dg_session.specs.Session.{ComesTo, IsAsBefore, StandsFor, Steps, Stops, TakesLines, is_too_full, node_needs, refused_by, retrieval_needs};
 ghost use Rattle.dg_session.specs.SessionState.{handles_of};
 ghost use Rattle.dg_session.specs.SessionStart.{Begins, FailsCheck, IsNew, IsSoundImage, IsStanding, RefusesSession};
 ghost use Rattle.dg_session.specs.Sweeps.{SweepsNothing, SweepsPool};
@@ -45,7 +45,7 @@ ghost use Rattle.dg_start.specs.SessionStart.{PlansLastLeaf, RefusesStart, Start
 ghost use Rattle.dg_start.specs.StoredHistory.{IsHeldBy, IsSoundHistory, KeepsHistory, index_opening, started_with};
 ghost use Rattle.dg_session.specs.declared.stop.Stop.TheVariants as stop;
 
-use crate::adding::add_changes;
+use crate::addition::add_changes;
 use crate::batch_command::BatchCommand;
 use crate::batch_lines::read_batch;
 use crate::generated_batch::generated_batch;
@@ -53,19 +53,18 @@ use crate::halt::Halt;
 use crate::kept_adjacency::KeptAdjacency;
 use crate::kept_planner::KeptPlanner;
 use crate::plan_lines::read_plan_lines;
-use crate::planning::{has_node, judge, plan_reply};
-use crate::queries::{neighbours_reply, node_reply};
+use crate::plans::{has_node, judge, plan_reply, span};
+use crate::queries::{listing, neighbours_reply, node_reply};
 use crate::record_listing::tree_reply;
-use crate::retrieving::{handle_lines, leads_at, node_lead};
+use crate::retrieval::{handle_lines, leads_at, node_lead};
 use crate::session_fault::SessionFault;
-use crate::snapshot::{listing, span};
 use crate::stop::Stop;
 use dg_delta::Delta;
 use dg_disk::Disk;
 use dg_file::Index;
 use dg_graph::{Columns, Event, NAMES_MAX};
 use dg_handles::{Handles, law_tie_is_kept, law_union_of_handles};
-use dg_history::{ARITY_MAX, ARITY_MIN, LEAF_MAX, LEAF_MIN, NodeId, Params};
+use dg_history::{NodeId, Params, are_parameters};
 use dg_index::law_images_are_opened;
 use dg_io::{Lines, Source};
 use dg_machine::{
@@ -158,6 +157,7 @@ impl Session {
         limits: Limits,
     ) -> Result<Session, SessionFault>
         requires limits { IsWithin limits }
+
         // the session
         ensures started { IfOk result (λ session. IfSome (D.image disk.old) (λ image.
             Begins checked image (Ok (started_with session.parts.index session.parts.names session.parts.graph session.parts.recent)))) }
@@ -166,30 +166,29 @@ impl Session {
             → StandsAs index image → StandsFor session.parts image (machine_at limits index))) }
         ensures held { IfOk result (λ session. IfSome (D.image disk.new) (λ image. IsHeldBy session.parts.index session.parts.names image)) }
         ensures checked { OnOk result (checked ≡ true → IfSome (D.image disk.old) (λ image. AreBytes image → IsStanding image)) }
+
         // the bytes read, over an image of a history that is not checked
         ensures takes { OnOk result (checked ≡ false → IfSome (D.image disk.old) (λ image. (z : History) → IsImageOf z image
             → (steps : List ℕ) → PlansLastLeaf (opened_of z).index steps
             → Takes (start_bytes (opened_of z).index steps) (D.taken disk.old) (D.taken disk.new))) }
+
         // why there is none
         ensures refused { IfErr result (λ fault. IfSome (D.image disk.old) (λ image. RefusesSession checked fault image)) }
         ensures never { IfErr result (λ fault. IfSome (D.image disk.old) (λ image. (index : Option History)
             → StandsAs index image → (fault ≡ SessionFault.Start StartFault.Disk) ⊎ (fault ≡ SessionFault.Start StartFault.Memory))) }
         ensures cause { IsErrOf result (SessionFault.Start StartFault.Disk) → DiskRose (D.faults disk.old) (D.faults disk.new) }
+
         // what it leaves
         ensures disk { ReadsAndSyncs D.image D.faults D.write_faults disk.old disk.new }
     {
         law_images_are_opened();
         law_standing_files_are_sound();
         law_sound_files_stand();
-        match Session::begin(rt, alloc, disk, limits) {
-            Ok(session) => {
-                if checked {
-                    session.checked(rt, disk)
-                } else {
-                    Ok(session)
-                }
-            }
-            Err(fault) => Err(SessionFault::Start(fault)),
+        let session = Session::begin(rt, alloc, disk, limits)?;
+        if checked {
+            session.checked(rt, disk)
+        } else {
+            Ok(session)
         }
     }
 
@@ -201,6 +200,7 @@ impl Session {
         limits: Limits,
     ) -> Result<Session, StartFault>
         requires limits { IsWithin limits }
+
         // the session
         ensures started { IfOk result (λ session. IfSome (D.image disk.old) (λ image.
             Starts image (Ok (started_with session.parts.index session.parts.names session.parts.graph session.parts.recent)))) }
@@ -208,15 +208,18 @@ impl Session {
         ensures stands { IfOk result (λ session. IfSome (D.image disk.old) (λ image. (index : Option History)
             → StandsAs index image → StandsFor session.parts image (machine_at limits index))) }
         ensures held { IfOk result (λ session. IfSome (D.image disk.new) (λ image. IsHeldBy session.parts.index session.parts.names image)) }
+
         // the bytes read, over an image of a history
         ensures takes { OnOk result (IfSome (D.image disk.old) (λ image. (z : History) → IsImageOf z image
             → (steps : List ℕ) → PlansLastLeaf (opened_of z).index steps
             → Takes (start_bytes (opened_of z).index steps) (D.taken disk.old) (D.taken disk.new))) }
+
         // why there is none
         ensures refused { IfErr result (λ fault. IfSome (D.image disk.old) (λ image. RefusesStart fault image)) }
         ensures never { IfErr result (λ fault. IfSome (D.image disk.old) (λ image. (index : Option History)
             → StandsAs index image → (fault ≡ StartFault.Disk) ⊎ (fault ≡ StartFault.Memory))) }
         ensures cause { IsErrOf result StartFault.Disk → DiskRose (D.faults disk.old) (D.faults disk.new) }
+
         // what it leaves
         ensures disk { ReadsAndSyncs D.image D.faults D.write_faults disk.old disk.new }
     {
@@ -238,12 +241,15 @@ impl Session {
     // The session, where the file is what its own events determine, or there is no index, and else why there is none.
     fn checked<R: Threads, D: Disk>(mut self, rt: &R, disk: &mut D) -> Result<Session, SessionFault>
         requires image { IfSome (D.image disk.old) (λ image. IsHeldBy self.parts.index self.parts.names image) }
+
         // the session
         ensures same { IfOk result (λ session. session ≡ self) }
         ensures sound { OnOk result (IfSome (D.image disk.old) (λ image. IsSoundImage image)) }
+
         // why there is none
         ensures fails { IfErr result (λ fault. IfSome (D.image disk.old) (λ image. FailsCheck fault image)) }
         ensures cause { IsErrOf result (SessionFault.Start StartFault.Disk) → DiskRose (D.faults disk.old) (D.faults disk.new) }
+
         // what it leaves
         ensures disk { OnlyReads D.image D.faults D.write_faults disk.old disk.new }
     {
@@ -261,9 +267,11 @@ impl Session {
     fn check<R: Threads, D: Disk>(&mut self, rt: &R, disk: &mut D) -> Result<(), SessionFault>
         requires image { IfSome (D.image disk.old) (λ image. IsHeldBy self.old.parts.index self.old.parts.names image) }
         ensures sound { OnOk result (IfSome (D.image disk.old) (λ image. IsSoundImage image)) }
+
         // why not
         ensures fails { IfErr result (λ fault. IfSome (D.image disk.old) (λ image. FailsCheck fault image)) }
         ensures cause { IsErrOf result (SessionFault.Start StartFault.Disk) → DiskRose (D.faults disk.old) (D.faults disk.new) }
+
         // what it leaves
         ensures same { self.new ≡ self.old }
         ensures disk { OnlyReads D.image D.faults D.write_faults disk.old disk.new }
@@ -317,18 +325,20 @@ impl Session {
     ) -> Result<Reply, Stop>
         requires command { CountIsInRange command.now }
         requires image { IfSome (D.image disk.old) (λ image. IsHeldBy self.old.parts.index self.old.parts.names image) }
+
         // the reply
         ensures step { IfOk result (λ reply. Steps command.now
             (told lines.old (S.left source.old)) (told lines.new (S.left source.new))
             self.old.parts (D.image disk.old) self.new.parts (D.image disk.new) reply) }
         ensures held { OnOk result (IfSome (D.image disk.new) (λ image. IsHeldBy self.new.parts.index self.new.parts.names image)) }
         ensures refused { IfOk result (λ reply. is_refusal reply.head ≡ true
-            → (self.new.parts ≡ self.old.parts) × (D.image disk.new ≡ D.image disk.old)) }
+            → IsAsBefore self.old.parts (D.image disk.old) self.new.parts (D.image disk.new)) }
         ensures quiet { is_writing command.now ≡ false → D.image disk.new ≡ D.image disk.old }
         ensures no_index { OnOk result (self.new.parts.index ≡ None → (self.old.parts.index ≡ None) × (D.image disk.new ≡ D.image disk.old)) }
+
         // why it stops
-        ensures stop { IsErrOf result Stop.Read → (self.new.parts ≡ self.old.parts) × (D.image disk.new ≡ D.image disk.old) }
-        ensures stop_limit { IsErrOf result Stop.Limit → (self.new.parts ≡ self.old.parts) × (D.image disk.new ≡ D.image disk.old) }
+        ensures stop { IsErrOf result Stop.Read → IsAsBefore self.old.parts (D.image disk.old) self.new.parts (D.image disk.new) }
+        ensures stop_limit { IsErrOf result Stop.Limit → IsAsBefore self.old.parts (D.image disk.old) self.new.parts (D.image disk.new) }
         ensures store { IsErrOf result Stop.Store → Stops command.now
             (told lines.old (S.left source.old)) (told lines.new (S.left source.new))
             self.old.parts (D.image disk.old) (D.image disk.new) }
@@ -341,6 +351,7 @@ impl Session {
         ensures damaged { IfOk result (λ reply. DamageIs command.now self.old.parts (D.image disk.old) reply.head) }
         ensures verified { IfOk result (λ reply. VerifiesFile command.now self.old.parts (D.image disk.old) reply.head) }
         ensures swept { IfOk result (λ reply. SweepsPool command.now self.old.pool self.new.pool reply.head) }
+
         // what it takes and leaves
         ensures reads { IfOk result (λ reply. Reads command.now self.old.parts (D.image disk.old) reply.head (D.taken disk.old) (D.taken disk.new)) }
         ensures lines { Advances lines.old (S.left source.old) (S.faults source.old)
@@ -365,10 +376,12 @@ impl Session {
     ) -> Result<Reply, Halt>
         requires command { CountIsInRange command.now }
         requires image { IfSome (D.image disk.old) (λ image. IsHeldBy self.old.parts.index self.old.parts.names image) }
+
         // what it comes to
         ensures comes { (got : List ScriptLine)
             × TakesLines (following command.now) (told lines.old (S.left source.old)) got (told lines.new (S.left source.new)) result
             × ComesTo command.now got self.old.parts (D.image disk.old) self.new.parts (D.image disk.new) result }
+
         // why it stops
         ensures store { IsErrOf result (Halt.Stop Stop.Store) → DiskRose (D.write_faults disk.old) (D.write_faults disk.new) }
         ensures read { IsErrOf result (Halt.Stop Stop.Read) → CountRose (S.faults source.old) (S.faults source.new) }
@@ -379,6 +392,7 @@ impl Session {
         ensures verified { IfOk result (λ reply. VerifiesFile command.now self.old.parts (D.image disk.old) reply.head) }
         ensures swept { IfOk result (λ reply. SweepsPool command.now self.old.pool self.new.pool reply.head) }
         ensures unswept { IfErr result (λ halt. SweepsNothing command.now) }
+
         // what it takes and leaves
         ensures reads { ReadsIn command.now self.old.parts (D.image disk.old) result (D.taken disk.old) (D.taken disk.new) }
         ensures lines { Advances lines.old (S.left source.old) (S.faults source.old)
@@ -461,10 +475,16 @@ impl Session {
     // An empty index with these parameters.
     fn create<D: Disk>(&mut self, disk: &mut D, params: Params) -> Result<Reply, Halt>
         requires image { IfSome (D.image disk.old) (λ image. IsHeldBy self.old.parts.index self.old.parts.names image) }
+
+        // what it comes to
         ensures comes { ComesTo (Command.Create params.l params.k params.function) [] self.old.parts (D.image disk.old) self.new.parts (D.image disk.new) result }
+
+        // why it stops
         ensures store { IsErrOf result (Halt.Stop Stop.Store) → DiskRose (D.write_faults disk.old) (D.write_faults disk.new) }
         ensures no_read { IsErrOf result (Halt.Stop Stop.Read) → ⊥ }
         ensures no_limit { IsErrOf result (Halt.Stop Stop.Limit) → ⊥ }
+
+        // what it reads and leaves
         ensures reads { ReadsIn (Command.Create params.l params.k params.function) self.old.parts (D.image disk.old) result (D.taken disk.old) (D.taken disk.new) }
         ensures disk { GoesOn D.image D.faults D.write_faults disk.old disk.new }
     {
@@ -518,10 +538,12 @@ impl Session {
         requires some { 1 ≤ count }
         requires few { count ≤ BATCH_LINES_MAX }
         requires image { IfSome (D.image disk.old) (λ image. IsHeldBy self.old.parts.index self.old.parts.names image) }
+
         // what it comes to
         ensures comes { (got : List ScriptLine)
             × TakesLines count (told lines.old (S.left source.old)) got (told lines.new (S.left source.new)) result
             × ComesTo (command_with which count) got self.old.parts (D.image disk.old) self.new.parts (D.image disk.new) result }
+
         // why it stops
         ensures store { IsErrOf result (Halt.Stop Stop.Store) → DiskRose (D.write_faults disk.old) (D.write_faults disk.new) }
         ensures read { IsErrOf result (Halt.Stop Stop.Read) → CountRose (S.faults source.old) (S.faults source.new) }
@@ -529,6 +551,7 @@ impl Session {
         ensures store_read { IsErrOf result (Halt.Refusal Refusal.StoreRead)
             → DiskRose (D.faults disk.old) (D.faults disk.new) × (D.write_faults disk.new ≡ D.write_faults disk.old) }
         ensures damaged { DamageIn (command_with which count) self.old.parts (D.image disk.old) result }
+
         // what it takes and leaves
         ensures reads { ReadsIn (command_with which count) self.old.parts (D.image disk.old) result (D.taken disk.old) (D.taken disk.new) }
         ensures lines { Advances lines.old (S.left source.old) (S.faults source.old)
@@ -572,8 +595,10 @@ impl Session {
         requires some { 1 ≤ count }
         requires few { count ≤ BATCH_LINES_MAX }
         requires image { IfSome (D.image disk.old) (λ image. IsHeldBy self.old.parts.index self.old.parts.names image) }
+
         // what it comes to
         ensures comes { ComesTo (Command.Workload seed count) [] self.old.parts (D.image disk.old) self.new.parts (D.image disk.new) result }
+
         // why it stops
         ensures store { IsErrOf result (Halt.Stop Stop.Store) → DiskRose (D.write_faults disk.old) (D.write_faults disk.new) }
         ensures no_read { IsErrOf result (Halt.Stop Stop.Read) → ⊥ }
@@ -581,6 +606,7 @@ impl Session {
         ensures store_read { IsErrOf result (Halt.Refusal Refusal.StoreRead)
             → DiskRose (D.faults disk.old) (D.faults disk.new) × (D.write_faults disk.new ≡ D.write_faults disk.old) }
         ensures damaged { DamageIn (Command.Workload seed count) self.old.parts (D.image disk.old) result }
+
         // what it takes and leaves
         ensures reads { ReadsIn (Command.Workload seed count) self.old.parts (D.image disk.old) result (D.taken disk.old) (D.taken disk.new) }
         ensures disk { GoesOn D.image D.faults D.write_faults disk.old disk.new }
@@ -619,11 +645,17 @@ impl Session {
     // Whether the file is what its own events determine, as the reply.
     fn verify<R: Threads, D: Disk>(&mut self, rt: &R, disk: &mut D) -> Result<Reply, Halt>
         requires image { IfSome (D.image disk.old) (λ image. IsHeldBy self.old.parts.index self.old.parts.names image) }
+
+        // what it comes to
         ensures comes { ComesTo Command.Verify [] self.old.parts (D.image disk.old) self.new.parts (D.image disk.new) result }
         ensures no_stop { (stop : Stop) → result ≡ Err (Halt.Stop stop) → ⊥ }
+        ensures verified { IfOk result (λ reply. VerifiesFile Command.Verify self.old.parts (D.image disk.old) reply.head) }
+
+        // why it is refused for a read
         ensures store_read { IsErrOf result (Halt.Refusal Refusal.StoreRead) → DiskRose (D.faults disk.old) (D.faults disk.new) }
         ensures damaged { DamageIn Command.Verify self.old.parts (D.image disk.old) result }
-        ensures verified { IfOk result (λ reply. VerifiesFile Command.Verify self.old.parts (D.image disk.old) reply.head) }
+
+        // what it reads and leaves
         ensures reads { ReadsIn Command.Verify self.old.parts (D.image disk.old) result (D.taken disk.old) (D.taken disk.new) }
         ensures disk { OnlyReads D.image D.faults D.write_faults disk.old disk.new }
     {
@@ -643,6 +675,7 @@ impl Session {
         requires image { IfSome (D.image disk.old) (λ image. IsHeldBy self.old.parts.index self.old.parts.names image) }
         ensures sound { IfOk result (λ soundness. IsOfFile self.old.parts (D.image disk.old) soundness) }
         ensures cause { IsErrOf result VerifyFault.Disk → DiskRose (D.faults disk.old) (D.faults disk.new) }
+
         // what it leaves
         ensures same { self.new ≡ self.old }
         ensures disk { OnlyReads D.image D.faults D.write_faults disk.old disk.new }
@@ -699,21 +732,25 @@ impl Session {
         requires few { length times.now ≤ TIMES_MAX }
         requires free { refused_by self.old.parts 0 (retrieval_needs times.now (length times.now)) ≡ None }
         requires image { IfSome (D.image disk.old) (λ image. IsHeldBy self.old.parts.index self.old.parts.names image) }
+
         // what is retrieved
         ensures retrieved { IfOk result (λ r. IfSome (D.image disk.old) (λ image. (m : MachineState) → StandsFor self.old.parts image m
             → IsRetrieved m times.now cols r.weight r.singles.items (bases_of r.leads.items) (map (led_to self.old.parts.graph (listed_by self.old.parts) cols) r.leads.items))) }
         ensures bases { IfOk result (λ r. All (BeginsOn self.old.parts.table cols) r.leads.items) }
         ensures count { IfOk result (λ r. length r.leads.items ≡ length times.now) }
         ensures sum { IfOk result (λ r. r.sum ≡ sum r.singles.items) }
+
         // the bytes read
         ensures takes { IfOk result (λ r. IfSome (D.image disk.old) (λ image. (m : MachineState) → StandsFor self.old.parts image m
             → Takes r.weight (D.taken disk.old) (D.taken disk.new))) }
         ensures most { IfSome (D.image disk.old) (λ image. (m : MachineState) → StandsFor self.old.parts image m
             → TakesAtMostTree (edges_in m cols) (points_for m times.now) (D.taken disk.old) (D.taken disk.new)) }
+
         // why nothing is retrieved
         ensures cause { IsErrOf result RetrievalFault.Disk → DiskRose (D.faults disk.old) (D.faults disk.new) }
         ensures damage { IfErr result (λ fault. NamesDamage self.old.parts (D.image disk.old) (times.now, cols) fault) }
         ensures never { IfErr result (λ fault. IfSome (D.image disk.old) (λ image. (m : MachineState) → StandsFor self.old.parts image m → IsNoDamage fault)) }
+
         // what it leaves
         ensures same { self.new ≡ self.old }
         ensures disk { OnlyReads D.image D.faults D.write_faults disk.old disk.new }
@@ -763,10 +800,16 @@ impl Session {
         disk: &mut D,
     ) -> Result<Reply, Halt>
         requires image { IfSome (D.image disk.old) (λ image. IsHeldBy self.old.parts.index self.old.parts.names image) }
+
+        // what it comes to
         ensures comes { ComesTo (Command.At t cols) [] self.old.parts (D.image disk.old) self.new.parts (D.image disk.new) result }
         ensures no_stop { (stop : Stop) → result ≡ Err (Halt.Stop stop) → ⊥ }
+
+        // why it is refused for a read
         ensures store_read { IsErrOf result (Halt.Refusal Refusal.StoreRead) → DiskRose (D.faults disk.old) (D.faults disk.new) }
         ensures damaged { DamageIn (Command.At t cols) self.old.parts (D.image disk.old) result }
+
+        // what it reads and leaves
         ensures reads { ReadsIn (Command.At t cols) self.old.parts (D.image disk.old) result (D.taken disk.old) (D.taken disk.new) }
         ensures disk { OnlyReads D.image D.faults D.write_faults disk.old disk.new }
     {
@@ -792,10 +835,16 @@ impl Session {
         requires some { 1 ≤ count }
         requires few { count ≤ TIMES_MAX }
         requires image { IfSome (D.image disk.old) (λ image. IsHeldBy self.old.parts.index self.old.parts.names image) }
+
+        // what it comes to
         ensures comes { ComesTo (Command.Several cols times count) [] self.old.parts (D.image disk.old) self.new.parts (D.image disk.new) result }
         ensures no_stop { (stop : Stop) → result ≡ Err (Halt.Stop stop) → ⊥ }
+
+        // why it is refused for a read
         ensures store_read { IsErrOf result (Halt.Refusal Refusal.StoreRead) → DiskRose (D.faults disk.old) (D.faults disk.new) }
         ensures damaged { DamageIn (Command.Several cols times count) self.old.parts (D.image disk.old) result }
+
+        // what it reads and leaves
         ensures reads { ReadsIn (Command.Several cols times count) self.old.parts (D.image disk.old) result (D.taken disk.old) (D.taken disk.new) }
         ensures disk { OnlyReads D.image D.faults D.write_faults disk.old disk.new }
     {
@@ -846,19 +895,23 @@ impl Session {
     ) -> Result<NodeLead, RetrievalFault>
         requires free { refused_by self.old.parts 0 (node_needs node) ≡ None }
         requires image { IfSome (D.image disk.old) (λ image. IsHeldBy self.old.parts.index self.old.parts.names image) }
+
         // what is led to
         ensures held { IfOk result (λ r. IfSome (D.image disk.old) (λ image. (m : MachineState) → StandsFor self.old.parts image m
             → IsNodeHeld m node cols r.weight (shown (applied r.delta []) cols))) }
+
         // the bytes read
         ensures takes { IfOk result (λ r. IfSome (D.image disk.old) (λ image. (m : MachineState) → StandsFor self.old.parts image m
             → Takes r.weight (D.taken disk.old) (D.taken disk.new))) }
         ensures most { IfSome (D.image disk.old) (λ image. (m : MachineState) → StandsFor self.old.parts image m
             → (steps : List ℕ) → IsPlan (arcs_of (record_edges_in m cols)) (Root ∷ []) node steps
             → TakesAtMost (weight_of (arcs_of (record_edges_in m cols)) steps) (D.taken disk.old) (D.taken disk.new)) }
+
         // why nothing is
         ensures cause { IsErrOf result RetrievalFault.Disk → DiskRose (D.faults disk.old) (D.faults disk.new) }
         ensures damage { IfErr result (λ fault. NamesNodeDamage self.old.parts (D.image disk.old) (node, cols) fault) }
         ensures never { IfErr result (λ fault. IfSome (D.image disk.old) (λ image. (m : MachineState) → StandsFor self.old.parts image m → IsNoDamage fault)) }
+
         // what it leaves
         ensures same { self.new ≡ self.old }
         ensures disk { OnlyReads D.image D.faults D.write_faults disk.old disk.new }
@@ -896,10 +949,16 @@ impl Session {
         disk: &mut D,
     ) -> Result<Reply, Halt>
         requires image { IfSome (D.image disk.old) (λ image. IsHeldBy self.old.parts.index self.old.parts.names image) }
+
+        // what it comes to
         ensures comes { ComesTo (Command.Materialise node cols) [] self.old.parts (D.image disk.old) self.new.parts (D.image disk.new) result }
         ensures no_stop { (stop : Stop) → result ≡ Err (Halt.Stop stop) → ⊥ }
+
+        // why it is refused for a read
         ensures store_read { IsErrOf result (Halt.Refusal Refusal.StoreRead) → DiskRose (D.faults disk.old) (D.faults disk.new) }
         ensures damaged { DamageIn (Command.Materialise node cols) self.old.parts (D.image disk.old) result }
+
+        // what it reads and leaves
         ensures reads { ReadsIn (Command.Materialise node cols) self.old.parts (D.image disk.old) result (D.taken disk.old) (D.taken disk.new) }
         ensures disk { OnlyReads D.image D.faults D.write_faults disk.old disk.new }
     {
@@ -1043,14 +1102,17 @@ impl Session {
         source: &mut S,
     ) -> Result<Reply, Halt>
         requires few { count ≤ BATCH_LINES_MAX }
+
         // what it comes to
         ensures comes { (image : Option (List ℕ)) → (got : List ScriptLine)
             × TakesLines count (told lines.old (S.left source.old)) got (told lines.new (S.left source.new)) result
             × ComesTo (Command.Certify t cols count) got self.old.parts image self.new.parts image result }
+
         // why it stops
         ensures read { IsErrOf result (Halt.Stop Stop.Read) → CountRose (S.faults source.old) (S.faults source.new) }
         ensures limit { IsErrOf result (Halt.Stop Stop.Limit) → (lines.new.taken ≡ lines.new.limit) × NeedsByte lines.new }
         ensures no_store { IsErrOf result (Halt.Stop Stop.Store) → ⊥ }
+
         // what it takes
         ensures lines { Advances lines.old (S.left source.old) (S.faults source.old)
             lines.new (S.left source.new) (S.faults source.new) }
@@ -1080,13 +1142,6 @@ impl Session {
         let reply = tree_reply(self.alloc, index)?;
         Ok(reply)
     }
-}
-
-// Whether the leaf list size and the arity are in their ranges.
-fn are_parameters(params: Params) -> bool
-    ensures { result ≡ are_parameters params.l params.k }
-{
-    LEAF_MIN <= params.l && params.l <= LEAF_MAX && ARITY_MIN <= params.k && params.k <= ARITY_MAX
 }
 
 // The graph of a handle that stands for an instant, or why no node of it is asked for.
@@ -1180,18 +1235,22 @@ fn open_overlaid<R: Threads + Sync, D: Disk>(
         → KeepsHistory z (index_opening made.history.index) made.history.names made.history.now.graph made.history.recent.items)) }
     ensures sound { IfOk result (λ made. IsSoundHistory (index_opening made.history.index) made.history.names made.history.now made.history.recent.items) }
     ensures held { IfOk result (λ made. IfSome (D.image disk.new) (λ image. IsHeldBy (index_opening made.history.index) made.history.names image)) }
+
     // the pool
     ensures now { IfOk result (λ made. graph_now made.pool ≡ made.history.now.graph) }
     ensures none { IfOk result (λ made. (s : ℕ) → slot_graph made.pool s ≡ None) }
+
     // the bytes read, over an image of a history
     ensures takes { OnOk result (IfSome (D.image disk.old) (λ image. (z : History) → IsImageOf z image
         → (steps : List ℕ) → PlansLastLeaf (opened_of z).index steps
         → Takes (start_bytes (opened_of z).index steps) (D.taken disk.old) (D.taken disk.new))) }
+
     // why there is none
     ensures refused { IfErr result (λ fault. IfSome (D.image disk.old) (λ image. RefusesStart fault image)) }
     ensures never { IfErr result (λ fault. IfSome (D.image disk.old) (λ image. (index : Option History)
         → StandsAs index image → (fault ≡ StartFault.Disk) ⊎ (fault ≡ StartFault.Memory))) }
     ensures cause { IsErrOf result StartFault.Disk → DiskRose (D.faults disk.old) (D.faults disk.new) }
+
     // what it leaves
     ensures disk { ReadsAndSyncs D.image D.faults D.write_faults disk.old disk.new }
 {

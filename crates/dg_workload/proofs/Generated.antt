@@ -4,7 +4,7 @@ use Rattle.std.proofs.lemmas.List.{map-append, length-take, take-take}
 use Rattle.dg_graph.specs.declared.event.Change.{Change}
 use Rattle.dg_history.specs.Batch.{changes_after, names_after}
 use Rattle.dg_history.specs.ChangeGrammar.{change_with, named}
-use Rattle.dg_machine.specs.GeneratedChanges.{generated_from}
+use Rattle.dg_history.specs.GeneratedChanges.{generated_from}
 use Rattle.dg_workload.specs.Place.{Place, change_at, next_place}
 
 -- the change at this place is the first of those that are left

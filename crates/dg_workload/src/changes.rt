@@ -1,6 +1,6 @@
 ghost use Rattle.std.specs.Prelude.{◌≡◌, ◌+◌, ◌*◌, ◌≤◌, IfOk, OnOk, Some, length, map, take};
 ghost use Rattle.dg_history.specs.Batch.{changes_after, names_after};
-ghost use Rattle.dg_machine.specs.GeneratedChanges.{generated};
+ghost use Rattle.dg_history.specs.GeneratedChanges.{generated};
 
 use crate::generator::Generator;
 use dg_graph::{Change, NAMES_MAX};

@@ -1,6 +1,6 @@
 ghost use Rattle.std.specs.Prelude.{◌≡◌, ◌+◌, ◌/◌, ◌^◌, ◌<◌, ◌≤◌, ◌⊎◌, IfOk, OnOk, OnErr, length, take};
 ghost use Rattle.dg_history.specs.ChangeGrammar.{change_with, named};
-ghost use Rattle.dg_machine.specs.GeneratedChanges.{next_number, part_of};
+ghost use Rattle.dg_history.specs.GeneratedChanges.{next_number, part_of};
 ghost use Rattle.dg_workload.specs.Place.{change_at, first_place, next_place};
 ghost use Rattle.dg_workload.specs.Request.{with_request_key};
 
@@ -63,6 +63,7 @@ impl Generator {
     pub fn next(&mut self, names: &mut Names) -> Result<Change, AllocError>
         requires few { self.old.index < BATCH_LINES_MAX }
         requires room { length names.old + 2 ≤ NAMES_MAX }
+
         // The change, and the names with its texts.
         ensures change { IfOk result (λ change. change ≡ change_with names.old (change_at self.old)) }
         ensures named { OnOk result (names.new ≡ named names.old (change_at self.old).asked) }

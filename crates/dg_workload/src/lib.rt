@@ -1,6 +1,6 @@
 //! The changes of the command `workload`: a sequence of numbers that follows a seed, and for each index
 //! the change that its number leads to. The texts of these changes get their numbers in the list of
-//! names of a history. `dg_machine/specs/GeneratedChanges.antt` says which change each is.
+//! names of a history. `dg_history/specs/GeneratedChanges.antt` says which change each is.
 #![tactic(auto)]
 
 mod changes;

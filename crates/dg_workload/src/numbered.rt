@@ -16,6 +16,7 @@ use std::alloc::AllocError;
 /// a new last one.
 pub fn numbered(request: Request, names: &mut Names) -> Result<What, AllocError>
     requires room { length names.old + 2 ≤ NAMES_MAX }
+
     // What is asked for, and the names with its texts.
     ensures what { IfOk result (λ numbered. numbered ≡ what_in names.new (request_by_text request)) }
     ensures named { OnOk result (names.new ≡ named names.old (request_by_text request)) }
@@ -56,6 +57,7 @@ fn both_numbers(key: &[u8], value: &[u8], names: &mut Names) -> Result<(u32, u32
     requires short_key { length key.now ≤ NAME_BYTES_MAX }
     requires short_value { length value.now ≤ NAME_BYTES_MAX }
     requires room { length names.old + 2 ≤ NAMES_MAX }
+
     // The numbers, and the names with both texts.
     ensures named { OnOk result (names.new ≡ added (added names.old key.now) value.now) }
     ensures key { IfOk result (λ numbers. numbers.0 ≡ number_in names.new key.now) }
@@ -77,6 +79,7 @@ fn both_numbers(key: &[u8], value: &[u8], names: &mut Names) -> Result<(u32, u32
 // The number of a key.
 fn key_number(key: Key, names: &mut Names) -> Result<u32, AllocError>
     requires room { length names.old < NAMES_MAX }
+
     // The number, and the names with the key.
     ensures named { OnOk result (names.new ≡ added names.old (key_text key)) }
     ensures number { IfOk result (λ number. number ≡ number_in names.new (key_text key)) }

@@ -2,7 +2,7 @@
 
 ghost use Rattle.std.specs.Prelude.{◌≡◌, ◌+◌, ◌*◌, ◌%◌, ◌^◌, ◌<◌, codes};
 ghost use Rattle.dg_history.specs.ChangeGrammar.{Sets_node};
-ghost use Rattle.dg_machine.specs.GeneratedChanges.{generated_what, lettered};
+ghost use Rattle.dg_history.specs.GeneratedChanges.{generated_what, lettered};
 ghost use Rattle.dg_workload.specs.Request.{request_by_text};
 
 use dg_graph::What;

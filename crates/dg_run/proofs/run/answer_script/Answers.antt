@@ -85,7 +85,7 @@ returns-in-Ok-End g c =
       answered = record {
         served = over_cut status.Done _ _ _ c.next_turn.new.session.parts _
             (over_skip _ _ _ _ _ l.session.parts c.next_turn.new.session.parts _ _ (asked l.lines (g.S.Source.left l.source)) _ _ _ _ l.invariant.going refl turn.2 turn.3 c.next_turn.ensures.disk.counted)
-            (c.next_turn.ensures.disk.told ∙ l.invariant.told) (λ done. turn.0) (λ due is. is);
+            (c.next_turn.ensures.disk.told ∙ l.invariant.told) (λ failed. cc) (λ done. turn.0) (λ due is. is);
         told = c.next_turn.ensures.disk.told ∙ l.invariant.told;
         begun = tt;
         done = λ e. done_within c.args.limit c.new-lines.result c.next_turn.new.lines _ _ _ _ lines c.new-lines.ensures (rw c.in-Ok-End.field-0-is at c.in-Ok-End.ensures.end);
@@ -104,8 +104,8 @@ returns-in-Err-Read g c =
     let stop = c.next_turn.ensures.stop is in record {
       answered = record {
         served = over_cut status.SourceFault _ _ _ c.next_turn.new.session.parts _
-            (over_skip _ _ _ _ _ l.session.parts c.next_turn.new.session.parts _ _ (asked l.lines (g.S.Source.left l.source)) _ _ _ _ l.invariant.going refl stop.0 stop.1 c.next_turn.ensures.disk.counted)
-            (c.next_turn.ensures.disk.told ∙ l.invariant.told) (λ done. cc) (λ due is. is);
+            (over_skip _ _ _ _ _ l.session.parts c.next_turn.new.session.parts _ _ (asked l.lines (g.S.Source.left l.source)) _ _ _ _ l.invariant.going refl stop.same stop.same_image c.next_turn.ensures.disk.counted)
+            (c.next_turn.ensures.disk.told ∙ l.invariant.told) (λ failed. cc) (λ done. cc) (λ due is. is);
         told = c.next_turn.ensures.disk.told ∙ l.invariant.told;
         begun = tt;
         done = λ e. cc;
@@ -126,8 +126,8 @@ returns-in-Err-Limit g c =
     let lines = advances_both c.new-lines.result l.lines c.next_turn.new.lines _ _ _ _ _ _ l.invariant.lines c.next_turn.ensures.lines in record {
       answered = record {
         served = over_cut status.ScriptLimit _ _ _ c.next_turn.new.session.parts _
-            (over_skip _ _ _ _ _ l.session.parts c.next_turn.new.session.parts _ _ (asked l.lines (g.S.Source.left l.source)) _ _ _ _ l.invariant.going refl stop.0 stop.1 c.next_turn.ensures.disk.counted)
-            (c.next_turn.ensures.disk.told ∙ l.invariant.told) (λ done. cc) (λ due is. is);
+            (over_skip _ _ _ _ _ l.session.parts c.next_turn.new.session.parts _ _ (asked l.lines (g.S.Source.left l.source)) _ _ _ _ l.invariant.going refl stop.same stop.same_image c.next_turn.ensures.disk.counted)
+            (c.next_turn.ensures.disk.told ∙ l.invariant.told) (λ failed. cc) (λ done. cc) (λ due is. is);
         told = c.next_turn.ensures.disk.told ∙ l.invariant.told;
         begun = tt;
         done = λ e. cc;

@@ -29,7 +29,7 @@ pub returns-in_err-leads-clause-comes : goal.returns-in_err-leads-clause-comes
 returns-in_err-leads-clause-comes g c =
     handed_out c.from_residual.result (retrieval_halt c.in_err-leads.field-0.0)
     (ComesTo (command.At c.args.t c.args.cols) [] c.args.self.now.parts (g.D.Disk.image c.args.disk.now) c.retrieve.new.self.parts (g.D.Disk.image c.retrieve.new.disk)) c.from_residual.ensures
-    (retrieval_failed (command.At c.args.t c.args.cols) c.args.self.now.parts c.retrieve.new.self.parts (g.D.Disk.image c.args.disk.now) (g.D.Disk.image c.retrieve.new.disk) c.in_err-leads.field-0.0 refl refl
+    (retrieval_failed (command.At c.args.t c.args.cols) c.args.self.now.parts c.retrieve.new.self.parts (g.D.Disk.image c.args.disk.now) (g.D.Disk.image c.retrieve.new.disk) c.in_err-leads.field-0.0 refl refl (λ m. refl)
     (sym c.refused_retrieval.ensures ∙ c.in_default.is) (ap (λ (x : SessionState). x.parts) c.retrieve.ensures.same) c.retrieve.ensures.disk.same_image c.in_err-leads.ensures.never)
 
 pub returns-in_err-leads-clause-reads : goal.returns-in_err-leads-clause-reads

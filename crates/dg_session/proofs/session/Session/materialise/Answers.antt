@@ -34,7 +34,7 @@ pub returns-in_err-delta-clause-comes : goal.returns-in_err-delta-clause-comes
 returns-in_err-delta-clause-comes g c =
     handed_out c.from_residual.result (retrieval_halt c.in_err-delta.field-0.0)
     (ComesTo (command.Materialise c.args.node c.args.cols) [] c.args.self.now.parts (g.D.Disk.image c.args.disk.now) c.lead_to_node.new.self.parts (g.D.Disk.image c.lead_to_node.new.disk)) c.from_residual.ensures
-    (retrieval_failed (command.Materialise c.args.node c.args.cols) c.args.self.now.parts c.lead_to_node.new.self.parts (g.D.Disk.image c.args.disk.now) (g.D.Disk.image c.lead_to_node.new.disk) c.in_err-delta.field-0.0 refl refl (sym c.refused_node.ensures ∙ c.in_default.is)
+    (retrieval_failed (command.Materialise c.args.node c.args.cols) c.args.self.now.parts c.lead_to_node.new.self.parts (g.D.Disk.image c.args.disk.now) (g.D.Disk.image c.lead_to_node.new.disk) c.in_err-delta.field-0.0 refl refl (λ m. refl) (sym c.refused_node.ensures ∙ c.in_default.is)
     (ap (λ (x : SessionState). x.parts) c.lead_to_node.ensures.same) c.lead_to_node.ensures.disk.same_image c.in_err-delta.ensures.never)
 
 pub returns-in_err-delta-clause-reads : goal.returns-in_err-delta-clause-reads

@@ -39,7 +39,7 @@ returns-in_err-retrieved-clause-comes g c =
     let none : refused_by p 0 (retrieval_needs (take c.args.count c.args.times) (length (take c.args.count c.args.times))) ≡ None = ap (λ ts. refused_by p 0 (retrieval_needs ts (length ts))) (sym asked) ∙ sym c.refused_retrieval.ensures ∙ c.in_default.is in
     handed_out c.from_residual.result (retrieval_halt c.in_err-retrieved.field-0.0)
     (ComesTo (command.Several c.args.cols c.args.times c.args.count) [] p (g.D.Disk.image c.args.disk.now) c.retrieve.new.self.parts (g.D.Disk.image c.retrieve.new.disk)) c.from_residual.ensures
-    (retrieval_failed (command.Several c.args.cols c.args.times c.args.count) p c.retrieve.new.self.parts (g.D.Disk.image c.args.disk.now) (g.D.Disk.image c.retrieve.new.disk) c.in_err-retrieved.field-0.0 refl refl
+    (retrieval_failed (command.Several c.args.cols c.args.times c.args.count) p c.retrieve.new.self.parts (g.D.Disk.image c.args.disk.now) (g.D.Disk.image c.retrieve.new.disk) c.in_err-retrieved.field-0.0 refl refl (λ m. refl)
     (needed p c.args.cols c.args.times c.args.count number c.requires.some ∙ none) (ap (λ (x : SessionState). x.parts) c.retrieve.ensures.same) c.retrieve.ensures.disk.same_image c.in_err-retrieved.ensures.never)
 
 pub returns-in_err-retrieved-clause-reads : goal.returns-in_err-retrieved-clause-reads

@@ -1,49 +1,59 @@
-use Rattle.dg_session.proofs.CheckedStart.{begins_unchecked, checked_begins, checked_held, checked_new, checked_never, checked_refused, checked_standing, checked_stands, checked_takes, never_started}
+use Rattle.std.proofs.Common.{List, Option}
+use Rattle.std.specs.Prelude.{IfErr, IfSome}
+use Rattle.dg_history.specs.History.{History}
+use Rattle.dg_index.specs.ImageOfHistory.{StandsAs}
+use Rattle.dg_session.proofs.CheckedStart.{IsNoFault, begins_unchecked, checked_begins, checked_held, checked_new, checked_never, checked_refused, checked_standing, checked_stands, checked_takes, never_started}
+use Rattle.dg_session.proofs.Steps.{handed_out}
+use Rattle.dg_session.specs.declared.session_fault.SessionFault.TheVariants as fault
 use Rattle.dg_session.proofs.session.Session.start.Goals as goal
 
 -- ---- it is not started from
 
-pub returns-in-Err-clause-never : goal.returns-in-Err-clause-never
-returns-in-Err-clause-never g c = never_started c.in-Err.fault (g.D.Disk.image c.args.disk.now) c.in-Err.ensures.never
+pub returns-in_err-session-clause-never : goal.returns-in_err-session-clause-never
+returns-in_err-session-clause-never g c =
+    let told = g.D.Disk.image c.args.disk.now in
+    handed_out c.from_residual.result (fault.Start c.in_err-session.field-0.0)
+    (λ r. IfErr r (λ f. IfSome told (λ image. (index : Option History) → StandsAs index image → IsNoFault f))) c.from_residual.ensures
+    (never_started c.in_err-session.field-0.0 told c.in_err-session.ensures.never)
 
 -- ---- it is not checked
 
 pub returns-else-checked-clause-started : goal.returns-else-checked-clause-started
 returns-else-checked-clause-started g c =
-    begins_unchecked c.args.checked c.in-Ok.session.parts (g.D.Disk.image c.args.disk.now) c.if-checked.false c.in-Ok.ensures.started
+    begins_unchecked c.args.checked c.in_ok-session.session.parts (g.D.Disk.image c.args.disk.now) c.if-checked.false c.in_ok-session.ensures.started
 
 -- ---- it is checked
 
 pub returns-then-checked-clause-started : goal.returns-then-checked-clause-started
 returns-then-checked-clause-started g c =
-    checked_begins c.args.checked c.in-Ok.session c.checked.result (g.D.Disk.image c.args.disk.now) (g.D.Disk.image c.begin.new.disk)
-    c.checked.ensures.same c.begin.ensures.disk.same_image c.in-Ok.ensures.started c.checked.ensures.sound
+    checked_begins c.args.checked c.in_ok-session.session c.checked.result (g.D.Disk.image c.args.disk.now) (g.D.Disk.image c.begin.new.disk)
+    c.checked.ensures.same c.begin.ensures.disk.same_image c.in_ok-session.ensures.started c.checked.ensures.sound
 
 pub returns-then-checked-clause-new : goal.returns-then-checked-clause-new
 returns-then-checked-clause-new g c =
-    checked_new c.args.limits c.in-Ok.session c.checked.result c.checked.ensures.same c.in-Ok.ensures.new
+    checked_new c.args.limits c.in_ok-session.session c.checked.result c.checked.ensures.same c.in_ok-session.ensures.new
 
 pub returns-then-checked-clause-stands : goal.returns-then-checked-clause-stands
 returns-then-checked-clause-stands g c =
-    checked_stands c.args.limits c.in-Ok.session c.checked.result (g.D.Disk.image c.args.disk.now) c.checked.ensures.same c.in-Ok.ensures.stands
+    checked_stands c.args.limits c.in_ok-session.session c.checked.result (g.D.Disk.image c.args.disk.now) c.checked.ensures.same c.in_ok-session.ensures.stands
 
 pub returns-then-checked-clause-held : goal.returns-then-checked-clause-held
 returns-then-checked-clause-held g c =
-    checked_held c.in-Ok.session c.checked.result (g.D.Disk.image c.begin.new.disk) (g.D.Disk.image c.checked.new.disk)
-    c.checked.ensures.same c.checked.ensures.disk.same_image c.in-Ok.ensures.held
+    checked_held c.in_ok-session.session c.checked.result (g.D.Disk.image c.begin.new.disk) (g.D.Disk.image c.checked.new.disk)
+    c.checked.ensures.same c.checked.ensures.disk.same_image c.in_ok-session.ensures.held
 
 pub returns-then-checked-clause-checked : goal.returns-then-checked-clause-checked
 returns-then-checked-clause-checked g c =
-    checked_standing _ c.law_sound_files_stand.ensures c.in-Ok.session c.checked.result (g.D.Disk.image c.args.disk.now) (g.D.Disk.image c.begin.new.disk)
-    c.begin.ensures.disk.same_image c.in-Ok.ensures.held c.checked.ensures.sound
+    checked_standing _ c.law_sound_files_stand.ensures c.in_ok-session.session c.checked.result (g.D.Disk.image c.args.disk.now) (g.D.Disk.image c.begin.new.disk)
+    c.begin.ensures.disk.same_image c.in_ok-session.ensures.held c.checked.ensures.sound
 
 pub returns-then-checked-clause-takes : goal.returns-then-checked-clause-takes
 returns-then-checked-clause-takes g c = checked_takes _ c.args.checked c.checked.result c.if-checked.true
 
 pub returns-then-checked-clause-refused : goal.returns-then-checked-clause-refused
 returns-then-checked-clause-refused g c =
-    checked_refused c.args.checked c.in-Ok.session c.checked.result (g.D.Disk.image c.args.disk.now) (g.D.Disk.image c.begin.new.disk)
-    c.if-checked.true c.begin.ensures.disk.same_image c.in-Ok.ensures.started c.checked.ensures.fails
+    checked_refused c.args.checked c.in_ok-session.session c.checked.result (g.D.Disk.image c.args.disk.now) (g.D.Disk.image c.begin.new.disk)
+    c.if-checked.true c.begin.ensures.disk.same_image c.in_ok-session.ensures.started c.checked.ensures.fails
 
 pub returns-then-checked-clause-never : goal.returns-then-checked-clause-never
 returns-then-checked-clause-never g c =

@@ -1,0 +1,11 @@
+use Rattle.dg_session.proofs.HeldNodes.{nodes_after}
+use Rattle.dg_session.proofs.KeptAdjacencies.{kept_on}
+use Rattle.dg_session.proofs.addition.add_changes.Goals as goal
+
+pub returns-in-Ok-clause-nodes : goal.returns-in-Ok-clause-nodes
+returns-in-Ok-clause-nodes g c =
+    nodes_after c.args.history.now.index _ _ _ c.add_batch.new.history _ _ _ _ _ c.args.handles.now.table c.requires.index c.have_lists.ensures c.in-Ok.ensures.adds c.requires.nodes
+
+pub returns-in-Ok-clause-adjacency : goal.returns-in-Ok-clause-adjacency
+returns-in-Ok-clause-adjacency g c =
+    kept_on c.args.pool.now c.add_batch.new.pool c.args.handles.now c.args.adjacency.now c.add_batch.ensures.slots c.requires.adjacency
