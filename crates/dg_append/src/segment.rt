@@ -84,10 +84,15 @@ fn completed_set(
     }
 }
 
-// The key of the delta at this place, from 0, among those that a batch of so many events gives.
-fn delta_key(alloc: Global, index: &Index, count: u64, place: usize) -> Result<Key, AllocError>
+// The key of the delta at this index, from 0, among those that a batch of so many events gives.
+fn delta_key(
+    alloc: Global,
+    index: &Index,
+    count: u64,
+    delta_index: usize,
+) -> Result<Key, AllocError>
     requires few { event_total index.now.opening.batches + count ≤ EVENTS_MAX }
-    requires place { place < length (deltas_due index.now.opening.params.k (leaves_before index.now.opening) (leaves_after index.now.opening count)) }
+    requires delta_index { delta_index < length (deltas_due index.now.opening.params.k (leaves_before index.now.opening) (leaves_after index.now.opening count)) }
     ensures { IfOk result (λ key. IsDueDelta index.now.opening count key) }
 {
     index.facts();
@@ -95,7 +100,7 @@ fn delta_key(alloc: Global, index: &Index, count: u64, place: usize) -> Result<K
     let events = index.events_len();
     let lists = leaves(params, events + count) - leaves(params, events);
     let keys = keys_due(alloc, params, events, count, 0)?;
-    Ok(keys[lists as usize + place])
+    Ok(keys[lists as usize + delta_index])
 }
 
 // A segment of so many events, with its names, and without a list or a delta.
@@ -163,8 +168,8 @@ pub(crate) fn segment_of(
     ) {
         Ok(segment) => Ok(segment),
         Err(BuildFault::Memory) => Err(BatchFault::Memory),
-        Err(BuildFault::Wide(place)) => {
-            let key = delta_key(alloc, index, count, place)?;
+        Err(BuildFault::Wide(delta_index)) => {
+            let key = delta_key(alloc, index, count, delta_index)?;
             Err(BatchFault::Damaged(key, Column::Structure))
         }
     }

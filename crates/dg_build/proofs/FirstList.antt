@@ -2,7 +2,7 @@
 use Rattle.std.proofs.Common.{◌≡◌, ℕ, ◌+◌, ◌-◌, ◌*◌, ◌/◌, ◌<◌, ◌≤◌, List, ◌++◌, length, take, drop, min, sym, ap, ◌∙◌, arith, append_assoc, add-mul, div-lt_iff_lt-mul, length-append, length-drop, length-take-le, mul-le-mul_right, take-append-drop}
 use Rattle.std.proofs.lemmas.List.{drop_at, drop-drop}
 use Rattle.dg_graph.specs.declared.event.Event.{Event}
-use Rattle.dg_build.proofs.WholeSegment.{lists_within}
+use Rattle.dg_build.proofs.SpelledRecordSegments.{lists_within}
 
 -- the recent events and those of the batch, cut behind the first list
 pub record IsCut (l before : ℕ) (recent events first later : List Event) : Type 0 where

@@ -1,4 +1,4 @@
--- The elements in an order of cells, by places.
+-- The elements in an order of cells, by positions.
 use Rattle.std.proofs.Common.{arith, ◌≡◌, ℕ, suc, zero, ◌+◌, ◌-◌, ◌<◌, ◌≤◌, Bool, true, false, List, [], ◌∷◌, ◌++◌, Option, Some, None, IsSome, length, get_or, take, refl, sym, ap, ◌∙◌, subst, ◌⊎◌, inl, inr, length-append}
 use Rattle.std.specs.List.{cons_option, All}
 use Rattle.std.proofs.lemmas.Bool.{cases_eq, cases_lt, true≢false}
@@ -11,9 +11,9 @@ use Rattle.dg_graph.proofs.Sets.{before_trans}
 use Rattle.dg_set.proofs.Indices.{before_at}
 use Rattle.dg_cells.specs.declared.row.Row.{Row}
 use Rattle.dg_cells.specs.Rows.{cell_at}
-use Rattle.dg_cells.specs.Pieces.{strung, nth_piece, numbers_before, IsPiece, IsPlace}
+use Rattle.dg_cells.specs.Pieces.{strung, nth_piece, numbers_before, IsPiece, IsPosition}
 use Rattle.dg_cells.specs.Order.{cell_element, elements_in, AreCells, IsOrder, IsLower, is_cell_before, is_index_before, is_piece_before}
-use Rattle.dg_cells.proofs.Strung.{number_there}
+use Rattle.dg_cells.proofs.PieceEdits.{number_there}
 
 abbrev pub IsCell : List (Option Row) → ℕ → Type 0
 IsCell rows n = IsSome (cell_at rows n)
@@ -73,7 +73,7 @@ all_above xs m x d s e k low l = at (cases_eq k m)
     at (inl f) = ap (λ n. before (get_or xs n d) x) f ∙ e
     at (inr f) = by (before (get_or xs k d) x) refl (omega arith)
 
--- the element before a place and the element at it say that it belongs there
+-- the element before a position and the element at it say that it belongs there
 pub lower_between : (rows : List (Option Row)) (order : List ℕ) (x : Element) (at : ℕ) → IsOrder rows order → at ≤ length order → (0 < at → is_index_before rows order x (at - 1) ≡ true) → (at < length order → is_index_before rows order x at ≡ false) → IsLower x (elements_in rows order) at
 lower_between rows order x at o h low high =
     let xs = elements_in rows order in
@@ -108,7 +108,7 @@ pub numbers_before_all : (ps : List (List ℕ)) → numbers_before ps (length ps
 numbers_before_all ps = ap (λ l. length (strung l)) (take_all (length ps) ps (omega arith))
 
 -- what the search over the pieces and then in a piece has found
-module _ (rows : List (Option Row)) (ps : List (List ℕ)) (x : Element) (p i : ℕ) (ordered : IsOrder rows (strung ps)) (pieces : All IsPiece ps) (place : IsPlace ps p i)
+module _ (rows : List (Option Row)) (ps : List (List ℕ)) (x : Element) (p i : ℕ) (ordered : IsOrder rows (strung ps)) (pieces : All IsPiece ps) (position : IsPosition ps p i)
     (low_piece : i ≡ 0 → 0 < p → is_piece_before rows ps x (p - 1) ≡ true) (low_in : 0 < i → is_index_before rows (nth_piece ps p) x (i - 1) ≡ true) (high_in : p < length ps → is_index_before rows (nth_piece ps p) x i ≡ false) where
   flat : ℕ
   flat = numbers_before ps p + i
@@ -121,12 +121,12 @@ module _ (rows : List (Option Row)) (ps : List (List ℕ)) (x : Element) (p i : 
   within_all = at (cases_lt p (length ps))
     where
       at : ((p < length ps) ⊎ (length ps ≤ p)) → numbers_before ps p + i ≤ length (strung ps)
-      at (inl h) = let there = (number_there ps p i h (place.inside h)).0 in omega arith
+      at (inl h) = let there = (number_there ps p i h (position.inside h)).0 in omega arith
       at (inr h) =
           let all = numbers_before_all ps in
-          let within = place.within in
+          let within = position.within in
           let is : p ≡ length ps = omega arith in
-          let none = place.end is in
+          let none = position.end is in
           let same = ap (numbers_before ps) is in
           omega arith
 
@@ -141,15 +141,15 @@ module _ (rows : List (Option Row)) (ps : List (List ℕ)) (x : Element) (p i : 
         where
           by : ((p < length ps) ⊎ (length ps ≤ p)) → is_index_before rows (strung ps) x (numbers_before ps p + i - 1) ≡ true
           by (inl inside) =
-              let index = place.inside inside in
+              let index = position.inside inside in
               let is : numbers_before ps p + (i - 1) ≡ numbers_before ps p + i - 1 = omega arith in
               subst (λ (k : ℕ). is_index_before rows (strung ps) x k ≡ true) is (in_whole p (i - 1) true inside (omega arith) (low_in g))
-          by (inr past) = let within = place.within in let none = place.end (omega arith) in absurd (omega arith)
+          by (inr past) = let within = position.within in let none = position.end (omega arith) in absurd (omega arith)
       at (inr g) = by (cases_lt 0 p)
         where
           by : ((0 < p) ⊎ (p ≤ 0)) → is_index_before rows (strung ps) x (numbers_before ps p + i - 1) ≡ true
           by (inl later) =
-              let within = place.within in
+              let within = position.within in
               let inside : p - 1 < length ps = omega arith in
               let some = (All-get_or IsPiece ps (p - 1) [] inside pieces).some in
               let more = numbers_before_more ps (p - 1) inside in
@@ -163,25 +163,25 @@ module _ (rows : List (Option Row)) (ps : List (List ℕ)) (x : Element) (p i : 
   high_all h = at (cases_lt p (length ps))
     where
       at : ((p < length ps) ⊎ (length ps ≤ p)) → is_index_before rows (strung ps) x (numbers_before ps p + i) ≡ false
-      at (inl g) = in_whole p i false g (place.inside g) (high_in g)
+      at (inl g) = in_whole p i false g (position.inside g) (high_in g)
       at (inr g) =
           let all = numbers_before_all ps in
-          let within = place.within in
+          let within = position.within in
           let is : p ≡ length ps = omega arith in
           let same = ap (numbers_before ps) is in
           absurd (omega arith)
 
-  pub place_lower : IsLower x (elements_in rows (strung ps)) (numbers_before ps p + i)
-  place_lower = lower_between rows (strung ps) x (numbers_before ps p + i) ordered within_all low_all high_all
+  pub position_lower : IsLower x (elements_in rows (strung ps)) (numbers_before ps p + i)
+  position_lower = lower_between rows (strung ps) x (numbers_before ps p + i) ordered within_all low_all high_all
 
--- a place before the end is in a piece
-pub inside_piece : (ps : List (List ℕ)) (p i : ℕ) → IsPlace ps p i → numbers_before ps p + i < length (strung ps) → p < length ps
-inside_piece ps p i place h = by (cases_lt p (length ps))
+-- a position before the end is in a piece
+pub inside_piece : (ps : List (List ℕ)) (p i : ℕ) → IsPosition ps p i → numbers_before ps p + i < length (strung ps) → p < length ps
+inside_piece ps p i position h = by (cases_lt p (length ps))
   where
     by : ((p < length ps) ⊎ (length ps ≤ p)) → p < length ps
     by (inl g) = g
     by (inr g) =
-        let within = place.within in
+        let within = position.within in
         let is : p ≡ length ps = omega arith in
         let same = ap (numbers_before ps) is in
         let all = numbers_before_all ps in

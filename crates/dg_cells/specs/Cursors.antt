@@ -1,4 +1,4 @@
--- The rows of the occupied cells in element order, and places among them.
+-- The rows of the occupied cells in element order, and positions among them.
 use Rattle.std.specs.Prelude.{ℕ, List, [], ◌∷◌, Option, Some, None, length, map, count_by, if◌then◌else◌}
 use Rattle.dg_graph.specs.declared.element.Element.{Element}
 use Rattle.dg_graph.specs.Elements.{before}
@@ -25,15 +25,15 @@ abbrev pub ordered_elements : List (Option Row) → List Element
 ordered_elements rows = map (λ (r : Row). r.element) (ordered rows)
 
 -- how many occupied cells stand before the row's element; all do before none
-abbrev pub place_of_row : List (Option Row) → Option Row → ℕ
-place_of_row rows None = length (ordered rows)
-place_of_row rows (Some r) = count_by (λ y. before y r.element) (ordered_elements rows)
+abbrev pub index_of_row : List (Option Row) → Option Row → ℕ
+index_of_row rows None = length (ordered rows)
+index_of_row rows (Some r) = count_by (λ y. before y r.element) (ordered_elements rows)
 
 -- what stands in the cell with a number, if there is one
 abbrev pub row_at : List (Option Row) → Option ℕ → Option Row
 row_at rows None = None
 row_at rows (Some n) = cell_at rows n
 
--- the place of a cursor among the occupied cells; past the last one where its cell is vacant
-abbrev pub cursor_place : List (Option Row) → Cursor → ℕ
-cursor_place rows c = place_of_row rows (row_at rows c.cell)
+-- the position of a cursor among the occupied cells; past the last one where its cell is vacant
+abbrev pub cursor_index : List (Option Row) → Cursor → ℕ
+cursor_index rows c = index_of_row rows (row_at rows c.cell)

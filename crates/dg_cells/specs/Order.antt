@@ -26,7 +26,7 @@ pub record IsOrder (rows : List (Option Row)) (order : List ℕ) : Type 0 where
   pub live : AreCells rows order
   pub rises : IsSet (elements_in rows order)
 
--- x belongs at this place: what stands before it is before x, and what stands from it on is not
+-- x belongs at this position: what stands before it is before x, and what stands from it on is not
 pub record IsLower (x : Element) (xs : List Element) (at : ℕ) : Type 0 where
   pub within : at ≤ length xs
   pub low : (k : ℕ) (d : Element) → k < at → before (slice_index_or xs k d) x ≡ true

@@ -29,7 +29,7 @@ pub record IsHalved (old new : List (List ℕ)) (n : ℕ) : Type 0 where
   pub before_second : numbers_before new (n + 1) ≡ numbers_before old n + 512
 
 -- an index within a piece, or the end, which is past the last piece
-pub record IsPlace (pieces : List (List ℕ)) (piece index : ℕ) : Type 0 where
+pub record IsPosition (pieces : List (List ℕ)) (piece index : ℕ) : Type 0 where
   pub within : piece ≤ length pieces
   pub inside : piece < length pieces → index < length (nth_piece pieces piece)
   pub end : piece ≡ length pieces → index ≡ 0

@@ -5,15 +5,15 @@ ghost use Rattle.dg_cells.specs.Rows.{cell_at, is_current, pair, Writes, SetsCur
 ghost use Rattle.std.specs.Prelude.{◌+◌, min, slice_get};
 ghost use Rattle.dg_graph.specs.Elements.{IsSet};
 ghost use Rattle.dg_cells.specs.Order.{IsLower};
-ghost use Rattle.dg_cells.specs.Cursors.{ordered, ordered_elements, cursor_place};
+ghost use Rattle.dg_cells.specs.Cursors.{ordered, ordered_elements, cursor_index};
 ghost use Rattle.std.specs.Option.{option_map};
 
+use crate::cell_fill::fill;
+use crate::cell_merge::merge;
 use crate::cursors::{self, Cursor};
-use crate::filling::fill;
 use crate::listing::{add, add_each, number_at, unlist};
-use crate::merging::merge;
 use crate::pieces::Pieces;
-use crate::places::{START, row_in, seek};
+use crate::positions::{START, row_in, seek};
 use crate::row::{Row, is_current, pair, set_current, set_pair, without_bits};
 use dg_graph::Element;
 use std::alloc::{AllocError, Global};
@@ -90,8 +90,8 @@ impl Cells {
         ensures found { IfSome result (Holds self.now element.now) }
         ensures lacks { IfNone result (Lacks self.now element.now) }
     {
-        let place = seek(&self.rows, &self.order, START, element);
-        match number_at(&self.rows, &self.order, place, element) {
+        let position = seek(&self.rows, &self.order, START, element);
+        match number_at(&self.rows, &self.order, position, element) {
             Some(n) => Some(n as usize),
             None => None,
         }
@@ -241,14 +241,14 @@ impl Cells {
 
     /// The cursor at the first of the occupied cells in the order of their elements.
     pub fn first(&self) -> Cursor
-        ensures { cursor_place self.now result ≡ 0 }
+        ensures { cursor_index self.now result ≡ 0 }
     {
         cursors::first(&self.rows, &self.order)
     }
 
     /// The cursor at the first occupied cell whose element is not before this one. O(log n).
     pub fn seek(&self, element: &Element) -> Cursor
-        ensures { IsLower element.now (ordered_elements self.now) (cursor_place self.now result) }
+        ensures { IsLower element.now (ordered_elements self.now) (cursor_index self.now result) }
     {
         self.seek_near(self.first(), element)
     }
@@ -256,17 +256,17 @@ impl Cells {
     /// The cursor that `seek` gives. It takes the fewer steps the less it is behind `near`, which may be
     /// any cursor.
     pub fn seek_near(&self, near: Cursor, element: &Element) -> Cursor
-        ensures { IsLower element.now (ordered_elements self.now) (cursor_place self.now result) }
+        ensures { IsLower element.now (ordered_elements self.now) (cursor_index self.now result) }
     {
         cursors::seek_from(&self.rows, &self.order, near, element)
     }
 
     /// The number of the cell at which the cursor stands; none past the last occupied cell.
     pub fn at(&self, cursor: Cursor) -> Option<usize>
-        ensures found { IfSome result (λ n. slice_get (ordered self.now) (cursor_place self.now cursor) ≡ cell_at self.now n) }
+        ensures found { IfSome result (λ n. slice_get (ordered self.now) (cursor_index self.now cursor) ≡ cell_at self.now n) }
         ensures there { IfSome result (λ n. IsSome (cell_at self.now n)) }
         ensures number { IfSome result (λ n. cursor.cell ≡ Some n) }
-        ensures end { IfNone result (cursor_place self.now cursor ≡ length (ordered self.now)) }
+        ensures end { IfNone result (cursor_index self.now cursor ≡ length (ordered self.now)) }
     {
         cursors::at(&self.rows, &self.order, cursor)
     }
@@ -274,7 +274,7 @@ impl Cells {
     /// The cursor at the next occupied cell in the order of the elements. O(1), unless cells came or went
     /// since the cursor was made, and O(log n) then.
     pub fn after(&self, cursor: Cursor) -> Cursor
-        ensures { cursor_place self.now result ≡ min (cursor_place self.now cursor + 1) (length (ordered self.now)) }
+        ensures { cursor_index self.now result ≡ min (cursor_index self.now cursor + 1) (length (ordered self.now)) }
     {
         cursors::after(&self.rows, &self.order, cursor)
     }
@@ -282,9 +282,9 @@ impl Cells {
     /// What stands in the cell at which the cursor stands, and the cursor that `after` gives; none past the
     /// last occupied cell. O(1), unless cells came or went since the cursor was made, and O(log n) then.
     pub fn step(&self, cursor: Cursor) -> Option<(&Row, Cursor)>
-        ensures found { IfSome result (λ s. slice_get (ordered self.now) (cursor_place self.now cursor) ≡ Some s.0.now) }
-        ensures next { IfSome result (λ s. cursor_place self.now s.1 ≡ min (cursor_place self.now cursor + 1) (length (ordered self.now))) }
-        ensures end { IfNone result (cursor_place self.now cursor ≡ length (ordered self.now)) }
+        ensures found { IfSome result (λ s. slice_get (ordered self.now) (cursor_index self.now cursor) ≡ Some s.0.now) }
+        ensures next { IfSome result (λ s. cursor_index self.now s.1 ≡ min (cursor_index self.now cursor + 1) (length (ordered self.now))) }
+        ensures end { IfNone result (cursor_index self.now cursor ≡ length (ordered self.now)) }
     {
         cursors::step(&self.rows, &self.order, cursor)
     }

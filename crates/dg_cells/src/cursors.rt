@@ -1,77 +1,80 @@
 //! A walk over the occupied cells in the order of their elements.
 ghost use Rattle.std.specs.Prelude.{◌≡◌, ℕ, ◌+◌, ◌<◌, ◌≤◌, true, Option, Some, None, length, min, is_some, IfSome, IfNone, IsSome, slice_get, slice_index_or};
 ghost use Rattle.dg_cells.specs.Rows.{cell_at};
-ghost use Rattle.dg_cells.specs.Pieces.{strung, nth_piece, numbers_before, IsPlace};
+ghost use Rattle.dg_cells.specs.Pieces.{strung, nth_piece, numbers_before, IsPosition};
 ghost use Rattle.dg_cells.specs.Order.{IsListed, IsLower};
-ghost use Rattle.dg_cells.specs.Cursors.{ordered, ordered_elements, cursor_place};
+ghost use Rattle.dg_cells.specs.Cursors.{ordered, ordered_elements, cursor_index};
 
 use crate::pieces::Pieces;
-use crate::places::{Place, START, element, row_in, seek};
+use crate::positions::{Position, START, element, row_in, seek};
 use crate::row::Row;
 use dg_graph::Element;
 
-/// A place in the order of the occupied cells: at one of them, or past the last.
+/// A position in the order of the occupied cells: at one of them, or past the last.
 #[derive(Clone, Copy)]
 pub struct Cursor {
     /// The number of the cell; none past the last one.
     pub cell: Option<usize>,
     // Where the number was in the order.
-    place: Place,
+    position: Position,
 }
 
-// The cursor at a place.
-fn cursor_at(rows: &[Option<Row>], order: &Pieces, place: Place) -> Cursor
+// The cursor at a position.
+fn cursor_at(rows: &[Option<Row>], order: &Pieces, position: Position) -> Cursor
     requires listed { IsListed rows.now (strung order.now) }
-    requires place { IsPlace order.now place.piece place.index }
-    ensures { cursor_place rows.now result ≡ numbers_before order.now place.piece + place.index }
+    requires position { IsPosition order.now position.piece position.index }
+    ensures { cursor_index rows.now result ≡ numbers_before order.now position.piece + position.index }
 {
     let _ = rows;
-    match order.number(place.piece, place.index) {
+    match order.number(position.piece, position.index) {
         Some(n) => Cursor {
             cell: Some(n as usize),
-            place,
+            position,
         },
-        None => Cursor { cell: None, place },
+        None => Cursor {
+            cell: None,
+            position,
+        },
     }
 }
 
-// Whether the number is at the place.
-fn is_number_at(order: &Pieces, place: Place, n: usize) -> bool
-    ensures piece { result ≡ true → place.piece < length order.now }
-    ensures index { result ≡ true → place.index < length (nth_piece order.now place.piece) }
-    ensures number { result ≡ true → slice_index_or (strung order.now) (numbers_before order.now place.piece + place.index) 0 ≡ n }
+// Whether the number is at the position.
+fn is_number_at(order: &Pieces, position: Position, n: usize) -> bool
+    ensures piece { result ≡ true → position.piece < length order.now }
+    ensures index { result ≡ true → position.index < length (nth_piece order.now position.piece) }
+    ensures number { result ≡ true → slice_index_or (strung order.now) (numbers_before order.now position.piece + position.index) 0 ≡ n }
 {
-    if place.piece >= order.len() {
+    if position.piece >= order.len() {
         return false;
     }
-    let piece = order.piece(place.piece);
-    place.index < piece.len() && piece[place.index] as usize == n
+    let piece = order.piece(position.piece);
+    position.index < piece.len() && piece[position.index] as usize == n
 }
 
-// The number behind this one in its piece, where this one is at the place.
-fn next_number(order: &Pieces, place: Place, n: usize) -> Option<u32>
-    ensures piece { IfSome result (λ _. place.piece < length order.now) }
-    ensures index { IfSome result (λ _. place.index + 1 < length (nth_piece order.now place.piece)) }
-    ensures most { IfSome result (λ _. place.index < 1024) }
-    ensures number { IfSome result (λ _. slice_index_or (nth_piece order.now place.piece) place.index 0 ≡ n) }
-    ensures next { IfSome result (λ m. slice_index_or (nth_piece order.now place.piece) (place.index + 1) 0 ≡ m) }
+// The number behind this one in its piece, where this one is at the position.
+fn next_number(order: &Pieces, position: Position, n: usize) -> Option<u32>
+    ensures piece { IfSome result (λ _. position.piece < length order.now) }
+    ensures index { IfSome result (λ _. position.index + 1 < length (nth_piece order.now position.piece)) }
+    ensures most { IfSome result (λ _. position.index < 1024) }
+    ensures number { IfSome result (λ _. slice_index_or (nth_piece order.now position.piece) position.index 0 ≡ n) }
+    ensures next { IfSome result (λ m. slice_index_or (nth_piece order.now position.piece) (position.index + 1) 0 ≡ m) }
 {
-    if place.piece >= order.len() {
+    if position.piece >= order.len() {
         return None;
     }
-    let piece = order.piece(place.piece);
-    if place.index < piece.len()
-        && piece[place.index] as usize == n
-        && place.index + 1 < piece.len()
+    let piece = order.piece(position.piece);
+    if position.index < piece.len()
+        && piece[position.index] as usize == n
+        && position.index + 1 < piece.len()
     {
-        Some(piece[place.index + 1])
+        Some(piece[position.index + 1])
     } else {
         None
     }
 }
 
-// The place of an occupied cell, which is looked for where it was.
-fn locate(rows: &[Option<Row>], order: &Pieces, n: usize, was: Place) -> Place
+// The position of an occupied cell, which is looked for where it was.
+fn locate(rows: &[Option<Row>], order: &Pieces, n: usize, was: Position) -> Position
     requires listed { IsListed rows.now (strung order.now) }
     requires there { IsSome (cell_at rows.now n) }
     ensures piece { result.piece < length order.now }
@@ -85,23 +88,23 @@ fn locate(rows: &[Option<Row>], order: &Pieces, n: usize, was: Place) -> Place
     }
 }
 
-// The place behind a number.
-fn next(order: &Pieces, place: Place) -> Place
-    requires piece { place.piece < length order.now }
-    requires index { place.index < length (nth_piece order.now place.piece) }
-    ensures place { IsPlace order.now result.piece result.index }
-    ensures next { numbers_before order.now result.piece + result.index ≡ numbers_before order.now place.piece + place.index + 1 }
+// The position behind a number.
+fn next(order: &Pieces, position: Position) -> Position
+    requires piece { position.piece < length order.now }
+    requires index { position.index < length (nth_piece order.now position.piece) }
+    ensures position { IsPosition order.now result.piece result.index }
+    ensures next { numbers_before order.now result.piece + result.index ≡ numbers_before order.now position.piece + position.index + 1 }
 {
     order.facts();
     let _pieces = order.len();
-    if place.index + 1 < order.piece(place.piece).len() {
-        Place {
-            piece: place.piece,
-            index: place.index + 1,
+    if position.index + 1 < order.piece(position.piece).len() {
+        Position {
+            piece: position.piece,
+            index: position.index + 1,
         }
     } else {
-        Place {
-            piece: place.piece + 1,
+        Position {
+            piece: position.piece + 1,
             index: 0,
         }
     }
@@ -112,20 +115,20 @@ fn behind(rows: &[Option<Row>], order: &Pieces, n: usize, cursor: Cursor) -> Cur
     requires listed { IsListed rows.now (strung order.now) }
     requires there { IsSome (cell_at rows.now n) }
     requires number { cursor.cell ≡ Some n }
-    ensures { cursor_place rows.now result ≡ min (cursor_place rows.now cursor + 1) (length (ordered rows.now)) }
+    ensures { cursor_index rows.now result ≡ min (cursor_index rows.now cursor + 1) (length (ordered rows.now)) }
 {
-    match next_number(order, cursor.place, n) {
+    match next_number(order, cursor.position, n) {
         Some(m) => Cursor {
             cell: Some(m as usize),
-            place: Place {
-                piece: cursor.place.piece,
-                index: cursor.place.index + 1,
+            position: Position {
+                piece: cursor.position.piece,
+                index: cursor.position.index + 1,
             },
         },
         None => cursor_at(
             rows,
             order,
-            next(order, locate(rows, order, n, cursor.place)),
+            next(order, locate(rows, order, n, cursor.position)),
         ),
     }
 }
@@ -139,7 +142,7 @@ fn is_occupied(rows: &[Option<Row>], n: usize) -> bool
 /// The cursor at the first occupied cell.
 pub(crate) fn first(rows: &[Option<Row>], order: &Pieces) -> Cursor
     requires { IsListed rows.now (strung order.now) }
-    ensures { cursor_place rows.now result ≡ 0 }
+    ensures { cursor_index rows.now result ≡ 0 }
 {
     order.facts();
     cursor_at(rows, order, START)
@@ -148,18 +151,18 @@ pub(crate) fn first(rows: &[Option<Row>], order: &Pieces) -> Cursor
 /// The cursor at the first cell whose element is not before this one.
 pub(crate) fn seek_from(rows: &[Option<Row>], order: &Pieces, near: Cursor, x: &Element) -> Cursor
     requires { IsListed rows.now (strung order.now) }
-    ensures { IsLower x.now (ordered_elements rows.now) (cursor_place rows.now result) }
+    ensures { IsLower x.now (ordered_elements rows.now) (cursor_index rows.now result) }
 {
-    cursor_at(rows, order, seek(rows, order, near.place, x))
+    cursor_at(rows, order, seek(rows, order, near.position, x))
 }
 
 /// The number of the cell at which the cursor stands.
 pub(crate) fn at(rows: &[Option<Row>], order: &Pieces, cursor: Cursor) -> Option<usize>
     requires { IsListed rows.now (strung order.now) }
-    ensures found { IfSome result (λ n. slice_get (ordered rows.now) (cursor_place rows.now cursor) ≡ cell_at rows.now n) }
+    ensures found { IfSome result (λ n. slice_get (ordered rows.now) (cursor_index rows.now cursor) ≡ cell_at rows.now n) }
     ensures there { IfSome result (λ n. IsSome (cell_at rows.now n)) }
     ensures number { IfSome result (λ n. cursor.cell ≡ Some n) }
-    ensures end { IfNone result (cursor_place rows.now cursor ≡ length (ordered rows.now)) }
+    ensures end { IfNone result (cursor_index rows.now cursor ≡ length (ordered rows.now)) }
 {
     let _ = order;
     match cursor.cell {
@@ -171,13 +174,13 @@ pub(crate) fn at(rows: &[Option<Row>], order: &Pieces, cursor: Cursor) -> Option
 /// The cursor at the next occupied cell.
 pub(crate) fn after(rows: &[Option<Row>], order: &Pieces, cursor: Cursor) -> Cursor
     requires { IsListed rows.now (strung order.now) }
-    ensures { cursor_place rows.now result ≡ min (cursor_place rows.now cursor + 1) (length (ordered rows.now)) }
+    ensures { cursor_index rows.now result ≡ min (cursor_index rows.now cursor + 1) (length (ordered rows.now)) }
 {
     match at(rows, order, cursor) {
         Some(n) => behind(rows, order, n, cursor),
         None => Cursor {
             cell: None,
-            place: cursor.place,
+            position: cursor.position,
         },
     }
 }
@@ -189,9 +192,9 @@ pub(crate) fn step<'a>(
     cursor: Cursor,
 ) -> Option<(&'a Row, Cursor)>
     requires { IsListed rows.now (strung order.now) }
-    ensures found { IfSome result (λ s. slice_get (ordered rows.now) (cursor_place rows.now cursor) ≡ Some s.0.now) }
-    ensures next { IfSome result (λ s. cursor_place rows.now s.1 ≡ min (cursor_place rows.now cursor + 1) (length (ordered rows.now))) }
-    ensures end { IfNone result (cursor_place rows.now cursor ≡ length (ordered rows.now)) }
+    ensures found { IfSome result (λ s. slice_get (ordered rows.now) (cursor_index rows.now cursor) ≡ Some s.0.now) }
+    ensures next { IfSome result (λ s. cursor_index rows.now s.1 ≡ min (cursor_index rows.now cursor + 1) (length (ordered rows.now))) }
+    ensures end { IfNone result (cursor_index rows.now cursor ≡ length (ordered rows.now)) }
 {
     match cursor.cell {
         Some(n) => match row_in(rows, n) {

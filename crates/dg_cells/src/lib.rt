@@ -1,13 +1,13 @@
 //! The cells of a pool of graphs: numbered, each with an element of its own and 256 bits.
 #![tactic(auto)]
 
+mod cell_fill;
+mod cell_merge;
 mod cells;
 mod cursors;
-mod filling;
 mod listing;
-mod merging;
 mod pieces;
-mod places;
+mod positions;
 mod row;
 
 pub use cells::Cells;

@@ -4,33 +4,33 @@ ghost use Rattle.std.specs.Vec.{vec_capacity};
 ghost use Rattle.dg_graph.specs.Elements.{has};
 ghost use Rattle.dg_cells.specs.declared.row.Row.{Row};
 ghost use Rattle.dg_cells.specs.Rows.{cell_at, Holds, Lacks, CellsGrow, AreNumbers, AreAmong};
-ghost use Rattle.dg_cells.specs.Pieces.{strung, numbers_before, IsPlace};
+ghost use Rattle.dg_cells.specs.Pieces.{strung, numbers_before, IsPosition};
 ghost use Rattle.dg_cells.specs.Order.{elements_in, IsLower, IsListed, Puts};
 
 use crate::pieces::Pieces;
-use crate::places::{Place, START, behind, element, seek, stands_at};
+use crate::positions::{Position, START, behind, element, seek, stands_at};
 use crate::row::{Row, bare};
 use dg_event::compare;
 use dg_graph::Element;
 use std::alloc::AllocError;
 
-/// The number of the element's cell, which stands at this place if it has one.
+/// The number of the element's cell, which stands at this position if it has one.
 pub(crate) fn number_at(
     rows: &[Option<Row>],
     order: &Pieces,
-    place: Place,
+    position: Position,
     x: &Element,
 ) -> Option<u32>
     requires listed { IsListed rows.now (strung order.now) }
-    requires place { IsPlace order.now place.piece place.index }
-    requires lower { IsLower x.now (elements_in rows.now (strung order.now)) (numbers_before order.now place.piece + place.index) }
+    requires position { IsPosition order.now position.piece position.index }
+    requires lower { IsLower x.now (elements_in rows.now (strung order.now)) (numbers_before order.now position.piece + position.index) }
     ensures found { IfSome result (Holds rows.now x.now) }
-    ensures inside { IsSome result → place.piece < length order.now }
-    ensures number { IfSome result (λ n. (numbers_before order.now place.piece + place.index < length (strung order.now)) × (slice_index_or (strung order.now) (numbers_before order.now place.piece + place.index) 0 ≡ n)) }
+    ensures inside { IsSome result → position.piece < length order.now }
+    ensures number { IfSome result (λ n. (numbers_before order.now position.piece + position.index < length (strung order.now)) × (slice_index_or (strung order.now) (numbers_before order.now position.piece + position.index) 0 ≡ n)) }
     ensures lacks { IfNone result (Lacks rows.now x.now) }
     ensures absent { IfNone result (has (elements_in rows.now (strung order.now)) x.now ≡ false) }
 {
-    match order.number(place.piece, place.index) {
+    match order.number(position.piece, position.index) {
         Some(n) => {
             if compare(x, &element(rows, n as usize)).is_eq() {
                 Some(n)
@@ -100,9 +100,9 @@ pub(crate) fn add(
     rows: &mut Vec<Option<Row>>,
     order: &mut Pieces,
     free: &mut Vec<u32>,
-    near: Place,
+    near: Position,
     x: &Element,
-) -> Result<(Place, u32), AllocError>
+) -> Result<(Position, u32), AllocError>
     requires { IsListed rows.old.items (strung order.old) }
     ensures listed { IsListed rows.new.items (strung order.new) }
     ensures grows { CellsGrow rows.old.items rows.new.items }
@@ -113,15 +113,15 @@ pub(crate) fn add(
     if let Some(n) = stands_at(rows, order, near, x) {
         return Ok((behind(near), n));
     }
-    let place = seek(rows, order, near, x);
-    if let Some(n) = number_at(rows, order, place, x) {
-        return Ok((behind(place), n));
+    let position = seek(rows, order, near, x);
+    if let Some(n) = number_at(rows, order, position, x) {
+        return Ok((behind(position), n));
     }
     let n = vacancy(rows, free)?;
-    order.insert(place.piece, place.index, n)?;
+    order.insert(position.piece, position.index, n)?;
     put(rows, n as usize, bare(*x));
     use_up(free, n);
-    Ok((behind(place), n))
+    Ok((behind(position), n))
 }
 
 /// Gives each of the elements a cell with no bit, unless it has one; quickest where they rise. Writes down the
@@ -158,10 +158,10 @@ pub(crate) fn unlist(rows: &[Option<Row>], order: &mut Pieces, n: usize) -> u32
     ensures listed { IsListed (slice_set rows.now n None) (strung order.new) }
 {
     let x = element(rows, n);
-    let place = seek(rows, order, START, &x);
-    let Some(number) = number_at(rows, order, place, &x) else {
+    let position = seek(rows, order, START, &x);
+    let Some(number) = number_at(rows, order, position, &x) else {
         unreachable!()
     };
-    order.remove(place.piece, place.index);
+    order.remove(position.piece, position.index);
     number
 }

@@ -1,7 +1,7 @@
 //! A list of numbers, kept in short pieces.
 ghost use Rattle.std.specs.Prelude.{◌≡◌, ℕ, ◌+◌, ◌<◌, ◌≤◌, List, [], ◌∷◌, ◌++◌, length, take, drop, OnOk, OnErr, IfOk, MatchOption, slice_index_or};
 ghost use Rattle.std.specs.List.{insert, remove, All};
-ghost use Rattle.dg_cells.specs.Pieces.{strung, nth_piece, numbers_before, IsHalved, IsPiece, IsPlace};
+ghost use Rattle.dg_cells.specs.Pieces.{strung, nth_piece, numbers_before, IsHalved, IsPiece, IsPosition};
 
 use std::alloc::{AllocError, Global};
 use std::marker::Model;
@@ -66,9 +66,9 @@ impl Pieces {
         self.pieces[n].as_slice()
     }
 
-    /// The number at a place; none at the end.
+    /// The number at a position; none at the end.
     pub(crate) fn number(&self, piece: usize, index: usize) -> Option<u32>
-        requires { IsPlace self.now piece index }
+        requires { IsPosition self.now piece index }
         ensures { MatchOption result
             (length (strung self.now) ≡ numbers_before self.now piece + index)
             (λ n. (numbers_before self.now piece + index < length (strung self.now)) × (slice_index_or (strung self.now) (numbers_before self.now piece + index) 0 ≡ n)) }
@@ -137,14 +137,14 @@ impl Pieces {
         self.push(&[number])
     }
 
-    /// Puts a number at a place. An `Err` says that memory ran out, and the numbers are as they were.
+    /// Puts a number at a position. An `Err` says that memory ran out, and the numbers are as they were.
     pub(crate) fn insert(
         &mut self,
         piece: usize,
         index: usize,
         number: u32,
     ) -> Result<(), AllocError>
-        requires { IsPlace self.old piece index }
+        requires { IsPosition self.old piece index }
         ensures ok { OnOk result (strung self.new ≡ insert (strung self.old) (numbers_before self.old piece + index) number) }
         ensures err { OnErr result (strung self.new ≡ strung self.old) }
     {
@@ -182,7 +182,7 @@ impl Pieces {
         self.pieces.remove(piece);
     }
 
-    /// Takes out the number at a place.
+    /// Takes out the number at a position.
     pub(crate) fn remove(&mut self, piece: usize, index: usize)
         requires piece { piece < length self.old }
         requires index { index < length (nth_piece self.old piece) }

@@ -1,5 +1,5 @@
-pub mod SameNodes
+pub mod InstantPointNodes
 pub mod PotentialsByNode
-pub mod ClaimedLines
-pub mod Certified
-pub mod Verdicts
+pub mod WrittenLineClaims
+pub mod WrittenLineCertificates
+pub mod CertificateLineVerdicts

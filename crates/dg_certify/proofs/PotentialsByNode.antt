@@ -6,7 +6,7 @@ use Rattle.dg_history.specs.declared.node.NodeId.{NodeId}
 use Rattle.dg_history.specs.contracts.node.NodeIdPartialEq.TheImpl as of_nodes
 use Rattle.dg_plan.specs.CertificateLines.{potential_in}
 use Rattle.dg_plan.specs.InstantPoint.{same_node}
-use Rattle.dg_certify.proofs.SameNodes.{derived_is, derived_look}
+use Rattle.dg_certify.proofs.InstantPointNodes.{derived_is, derived_look}
 
 found : (b : Bool) (value other : ℕ) (o : Option ℕ) (rest : ℕ) → unwrap_or o other ≡ rest → unwrap_or (cond b (Some value) o) other ≡ cond b value rest
 found true value other o rest e = refl

@@ -7,7 +7,7 @@ ghost use Rattle.dg_plan.specs.CertificateLines.{no_claim, claim_with, claimed, 
 ghost use Rattle.dg_plan.specs.InstantPoint.{same_node};
 ghost use Rattle.dg_certify.specs.Claims.{claim_of, read_of, line_step, with_step};
 
-use crate::same_node::place_of;
+use crate::same_node::index_of;
 use dg_graph::TIME_MAX;
 use dg_history::NodeId;
 use dg_plan::PlanLine;
@@ -29,7 +29,7 @@ pub(crate) struct Claim {
     // The sum of the weights of the steps, in bytes.
     pub(crate) weight: u64,
     pub(crate) potentials: Vec<(NodeId, u64)>,
-    // The first place, in the order of nodes, at which the node of the next potential may stand.
+    // The first index, in the order of nodes, at which the node of the next potential may stand.
     next: usize,
 }
 
@@ -104,7 +104,7 @@ impl Claim {
         Ok(true)
     }
 
-    // Takes a potential, unless its node stands nowhere from the next place on, or it is not below the
+    // Takes a potential, unless its node stands nowhere from the next index on, or it is not below the
     // weight of the steps.
     fn take_potential(
         &mut self,
@@ -117,7 +117,7 @@ impl Claim {
         ensures within { OnOk result (self.new.next ≤ length nodes.now) }
         ensures kept { OnOk result ((self.new.weight ≡ self.old.weight) × (self.new.steps ≡ self.old.steps)) }
     {
-        let Some(past) = place_of(&nodes[self.next..], node) else {
+        let Some(past) = index_of(&nodes[self.next..], node) else {
             return Ok(false);
         };
         if self.weight <= value {

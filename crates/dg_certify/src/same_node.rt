@@ -10,8 +10,8 @@ pub(crate) fn is_same(node: NodeId, other: NodeId) -> bool
     node == other
 }
 
-/// The first place at which the node stands.
-pub(crate) fn place_of(nodes: &[NodeId], node: NodeId) -> Option<usize>
+/// The first index at which the node stands.
+pub(crate) fn index_of(nodes: &[NodeId], node: NodeId) -> Option<usize>
     ensures { result ≡ position (same_node node) nodes.now }
 {
     nodes.iter().position(|other| is_same(node, *other))

@@ -16,7 +16,7 @@ use dg_plan::{Edge, PlanLine, Verdict};
 use std::alloc::{AllocError, Global};
 
 /// What is said of the certificate that the lines write, over the graph with these edges and nodes.
-/// Edges are numbered by their places; potentials come in the order of `nodes`; a `None` is a line in
+/// Edges are numbered by their indices; potentials come in the order of `nodes`; a `None` is a line in
 /// no form. An `Err` says that memory ran out. The time is linear in the lines, the edges and the nodes
 /// together, with one look-up by hash for each potential that is asked of.
 pub fn certify(

@@ -1,16 +1,16 @@
 pub mod FieldGroups
-pub mod PlacedFrom
-pub mod WriteEach
-pub mod ElementsAt
-pub mod SoundDelta
+pub mod FieldEvents
+pub mod ColumnWrites
+pub mod FieldElements
+pub mod ColumnGrammarDeltas
 pub mod Fields
-mod NextHere
-pub mod HaveOneSpelling
-pub mod EventsAreReadBack
-pub mod DeltasAreReadBack
+mod FieldNextElement
+pub mod ColumnLawSpelling
+pub mod ColumnLawEvents
+pub mod ColumnLawDeltas
 pub mod Rows
 pub mod MergeWalk
-pub mod DeltaReadFits
-pub mod PartsAreJoinedBack
-pub mod EventsReadFit
-pub mod EventsAreMergedBack
+pub mod ReadFitsDeltas
+pub mod ReadFitsParts
+pub mod ReadFitsEvents
+pub mod ColumnLawMerges

@@ -17,7 +17,7 @@ pub enum MergeFault {
     /// The positions of the events are not those from 0 to one less than the length of the list, each
     /// once; or the times fall somewhere in the order of the positions.
     #[error("the columns are not those of one list of events")]
-    Places,
+    Positions,
     /// Memory ran out.
     #[error("out of memory")]
     Memory,
@@ -137,16 +137,16 @@ fn fill(row: &mut [Option<Event>], placed: &[Placed])
 // The events of the slots, where none is empty and the times do not fall.
 fn in_order(alloc: Global, row: &[Option<Event>]) -> Result<Vec<Event>, MergeFault>
     ensures ok { IfOk result (λ events. option_and_then if_never_fall (events_in_row row.now) ≡ Some events.items) }
-    ensures places { IsErrOf result MergeFault.Places → option_and_then if_never_fall (events_in_row row.now) ≡ None }
+    ensures positions { IsErrOf result MergeFault.Positions → option_and_then if_never_fall (events_in_row row.now) ≡ None }
 {
     let mut events = Vec::with_capacity(alloc, row.len())?;
     let mut earliest = 0;
     for slot in row {
         let Some(event) = *slot else {
-            return Err(MergeFault::Places);
+            return Err(MergeFault::Positions);
         };
         if event.time < earliest {
-            return Err(MergeFault::Places);
+            return Err(MergeFault::Positions);
         }
         earliest = event.time;
         events.push(event)?;
@@ -155,7 +155,7 @@ fn in_order(alloc: Global, row: &[Option<Event>]) -> Result<Vec<Event>, MergeFau
 }
 
 /// The events of the three columns as one list of `len` events, in the order of their positions.
-/// `Places` says that the columns have no such list: there are more or fewer events, a position is
+/// `Positions` says that the columns have no such list: there are more or fewer events, a position is
 /// missing, taken twice or not below `len`, or the times fall. `Memory` says that memory ran out.
 pub fn merge(
     alloc: Global,
@@ -165,11 +165,11 @@ pub fn merge(
     len: u32,
 ) -> Result<Vec<Event>, MergeFault>
     ensures ok { IfOk result (λ events. merged structure.now node_attrs.now edge_attrs.now len ≡ Some events.items) }
-    ensures places { IsErrOf result MergeFault.Places → merged structure.now node_attrs.now edge_attrs.now len ≡ None }
+    ensures positions { IsErrOf result MergeFault.Positions → merged structure.now node_attrs.now edge_attrs.now len ≡ None }
 {
     let len = len as usize;
     if structure.len() + node_attrs.len() + edge_attrs.len() != len {
-        return Err(MergeFault::Places);
+        return Err(MergeFault::Positions);
     }
     if let Some(events) = merge_rising(alloc, structure, node_attrs, edge_attrs, len)? {
         return Ok(events);

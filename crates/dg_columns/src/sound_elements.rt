@@ -114,7 +114,7 @@ fn element_here(bytes: &[u8], offset: usize, col: Column, names: u32) -> Option<
 }
 
 // The element at the offset, which comes after the last one.
-#[tactic(auto, using(crate::proofs::NextHere::next_is))]
+#[tactic(auto, using(crate::proofs::FieldNextElement::next_is))]
 fn next_here(
     bytes: &[u8],
     offset: usize,

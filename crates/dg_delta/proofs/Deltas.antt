@@ -5,7 +5,7 @@ use Rattle.dg_graph.specs.Elements.{IsSet, has}
 use Rattle.dg_graph.specs.Sets.{unioned, without_all}
 use Rattle.dg_graph.specs.Composition.{Delta, IsDelta, between, applied, chained, Says, In, Out, As_it_was, says, then_says, composition, Composes}
 use Rattle.dg_graph.proofs.Sets.{same_members, has-unioned, has-without_all, IsSet-unioned, IsSet-without_all}
-use Rattle.dg_graph.proofs.ExactDeltas.{has-cancelled}
+use Rattle.dg_graph.proofs.DifferentialFunctionDeltas.{has-cancelled}
 use Rattle.dg_set.specs.Apart.{AreApart}
 use Rattle.dg_delta.specs.Deltas.{composed, applied_in_turn, is_in_after}
 use Rattle.dg_delta.specs.DeltaLaws.{BetweenLeadsOn, ReversedLeadsBack, DecidesEachElement, AppliesOneAfterTheOther, AppliesEachInTurn, SayTheSameAreEqual, IsAssociative, CanBeCut}

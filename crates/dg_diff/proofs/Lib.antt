@@ -1,2 +1,2 @@
-pub mod Combined
-pub mod Inwards
+pub mod DifferentialFunctionElements
+pub mod DifferentialFunctionDeltas

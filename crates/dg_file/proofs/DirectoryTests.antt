@@ -11,14 +11,14 @@ use Rattle.dg_index.specs.ImageText.{four_at, eight_at, names_at}
 use Rattle.dg_index.specs.OpenedIndex.{may_be_named, Opening, Opened, Directory, list_count, delta_count, keys_next, list_at, record_at, rows_at, rows_in, directory_with, may_follow, may_be_listed, may_stand, if_it_may, event_total, earliest_in, last_list, first_in}
 use Rattle.dg_index.specs.declared.entry.BatchEntry.{BatchEntry}
 use Rattle.dg_index.specs.declared.entry.Row.{Row}
-use Rattle.dg_index.proofs.KeptColumns.{Each}
-use Rattle.dg_file.proofs.SuitedRows.{IsTimed, IsUntimed, suits_due}
+use Rattle.dg_index.proofs.IndexRecordColumns.{Each}
+use Rattle.dg_file.proofs.OpenedIndexKeys.{IsTimed, IsUntimed, suits_due}
 use Rattle.dg_file.specs.declared.found_directory.FoundDirectory.{FoundDirectory}
 use Rattle.dg_file.specs.Directories.{TakesNames, directory_due, TakesDirectory}
 use Rattle.dg_shape.specs.Additions.{bytes_of_rows, Suits}
-use Rattle.dg_index.proofs.DirectoryNames.{both}
-use Rattle.dg_file.proofs.ListedRows.{listed_read}
-use Rattle.dg_file.proofs.Texts.{names_length, end_in, names_first, name_far}
+use Rattle.dg_index.proofs.ImageTextNames.{both}
+use Rattle.dg_file.proofs.OpenedIndexLists.{listed_read}
+use Rattle.dg_file.proofs.DirectoryTexts.{names_length, end_in, names_first, name_far}
 
 -- what the bytes say that has so many lists and deltas, whose names are read as these and end at the offset
 abbrev pub said : ℕ → ℕ → List ℕ → List (List ℕ) × ℕ → Directory

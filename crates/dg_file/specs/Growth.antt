@@ -8,21 +8,21 @@ Moved None (Some after) P = ⊥
 Moved (Some before) None P = ⊥
 Moved (Some before) (Some after) P = P before after
 
--- the bytes before the place are as they were, and the bytes reach up to it
-pub record KeepsFront (place : ℕ) (before after : List ℕ) : Type 0 where
-  pub same : take place after ≡ take place before
-  pub reach : place ≤ length after
+-- the bytes before the offset are as they were, and the bytes reach up to it
+pub record KeepsFront (offset : ℕ) (before after : List ℕ) : Type 0 where
+  pub same : take offset after ≡ take offset before
+  pub reach : offset ≤ length after
 
--- the bytes reached up to the place, and now the piece stands behind those before it
-pub record Grown (place : ℕ) (piece before after : List ℕ) : Type 0 where
-  pub reached : place ≤ length before
+-- the bytes reached up to the offset, and now the piece stands behind those before it
+pub record Grown (offset : ℕ) (piece before after : List ℕ) : Type 0 where
+  pub reached : offset ≤ length before
   pub rest : List ℕ
-  pub is : after ≡ take place before ++ (piece ++ rest)
+  pub is : after ≡ take offset before ++ (piece ++ rest)
 
--- behind the bytes before the place stand this gate, the text and a closed gate
-pub record Gated (place gate : ℕ) (text before after : List ℕ) : Type 0 where
+-- behind the bytes before the offset stand this gate, the text and a closed gate
+pub record Gated (offset gate : ℕ) (text before after : List ℕ) : Type 0 where
   pub rest : List ℕ
-  pub is : after ≡ take place before ++ gate ∷ (text ++ 0 ∷ rest)
+  pub is : after ≡ take offset before ++ gate ∷ (text ++ 0 ∷ rest)
 
 -- what a failure leaves: the gate is as it was, or it has any byte and the text is behind it
 abbrev pub GatedOrNot : ℕ → List ℕ → List ℕ → List ℕ → Type 0

@@ -25,7 +25,7 @@ IsMadeInPart params old new =
 abbrev pub RefusesOpening : ReopenFault → Result Opened Unopened → Type 0
 RefusesOpening fault.Blank due = due ≡ Err No_index
 RefusesOpening fault.Foreign due = due ≡ Err Not_ours
-RefusesOpening (fault.Damaged place) due = due ≡ Err (Damaged_at place)
+RefusesOpening (fault.Damaged offset) due = due ≡ Err (Damaged_at offset)
 RefusesOpening fault.Disk due = Unit {0}
 RefusesOpening fault.Memory due = Unit {0}
 

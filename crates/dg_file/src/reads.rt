@@ -98,7 +98,7 @@ pub(crate) fn read_lengths<D: Disk>(
 }
 
 /// Reads the byte at the offset.
-#[tactic(auto, using(crate::proofs::Found::found_byte))]
+#[tactic(auto, using(crate::proofs::ImageParts::found_byte))]
 pub(crate) fn read_byte<D: Disk>(disk: &mut D, offset: u64) -> Result<u8, Failed>
     requires { HasRange (D.image disk.old) offset 1 }
     ensures byte { IfOk result (λ byte. IfSome (D.image disk.old) (λ image. byte ≡ slice_index image offset)) }

@@ -22,8 +22,8 @@ use Rattle.dg_history.specs.History.{History, Batch, events_of}
 use Rattle.dg_index.specs.EverAdded.{ever}
 use Rattle.dg_index.specs.Hierarchy.{parent, set_at, leaves}
 use Rattle.dg_index.specs.IndexRecords.{Events, Exact, piece_at, record_among}
-use Rattle.dg_index.proofs.InteriorNodes.{IsSet-node}
-use Rattle.dg_index.proofs.NodeBounds.{ever_few, fewer, node_within, piece_short}
+use Rattle.dg_index.proofs.HierarchySteps.{IsSet-node}
+use Rattle.dg_index.proofs.EverAddedBounds.{ever_few, fewer, node_within, piece_short}
 use Rattle.dg_fold.specs.Parts.{RecordFits}
 use Rattle.dg_fold.specs.Fitting.{RecordsFit}
 

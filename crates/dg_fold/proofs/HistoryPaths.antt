@@ -12,7 +12,7 @@ use Rattle.dg_history.specs.declared.node.NodeId.TheVariants as node
 use Rattle.dg_history.specs.History.{History, events_of}
 use Rattle.dg_index.specs.Hierarchy.{set_of}
 use Rattle.dg_index.specs.IndexRecords.{column_in, record_among}
-use Rattle.dg_index.proofs.InteriorNodes.{IsSet-node}
+use Rattle.dg_index.proofs.HierarchySteps.{IsSet-node}
 use Rattle.dg_plan.specs.declared.edge.Edge.{Edge}
 use Rattle.dg_plan.specs.declared.edge.Via.{Via}
 use Rattle.dg_plan.specs.declared.edge.Via.TheVariants as via
@@ -26,10 +26,10 @@ use Rattle.dg_fold.specs.PathIndependence.{begun_at, contents, IsSoundEdge, IsWa
 use Rattle.dg_plan.specs.TreePaths.{edges_at}
 use Rattle.dg_fold.specs.Steps.{PartedStep, names_record, paired, StepHolds, PartHolds}
 use Rattle.dg_fold.proofs.Fittings.{records_fit}
-use Rattle.dg_fold.proofs.Parted.{plans_lead}
-use Rattle.dg_fold.proofs.SoundEdges.{edges_are_sound}
+use Rattle.dg_fold.proofs.PathIndependencePlans.{plans_lead}
+use Rattle.dg_fold.proofs.PathIndependenceEdges.{edges_are_sound}
 use Rattle.dg_fold.proofs.Steps.{part_of, paired_first}
-use Rattle.dg_fold.proofs.StepWalks.{steps_are_walks}
+use Rattle.dg_fold.proofs.PathIndependenceSteps.{steps_are_walks}
 
 -- the set of each node is a set
 pub node_set : (z : History) (n : NodeId) → IsSet (set_of z.params (events_of z) n)

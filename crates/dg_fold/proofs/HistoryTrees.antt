@@ -17,7 +17,7 @@ use Rattle.dg_history.specs.declared.node.NodeId.TheVariants.{Root, Now, Recent,
 use Rattle.dg_history.specs.History.{History, events_of}
 use Rattle.dg_history.specs.Keys.{same_key}
 use Rattle.dg_index.specs.IndexRecords.{Record, Events, closed_list, column_in, record_among, recent_of}
-use Rattle.dg_index.proofs.KeptColumns.{same_key_exact}
+use Rattle.dg_index.proofs.IndexRecordColumns.{same_key_exact}
 use Rattle.dg_plan.specs.declared.edge.Edge.{Edge}
 use Rattle.dg_plan.specs.declared.edge.Via.{Via}
 use Rattle.dg_plan.specs.declared.edge.Via.TheVariants as via
@@ -33,14 +33,14 @@ use Rattle.dg_fold.specs.Parts.{beside, bytes_in, is_events, taken_as, PartHasRe
 use Rattle.dg_fold.specs.PathIndependence.{contents, Contents, IsSoundEdge}
 use Rattle.dg_fold.specs.Steps.{FoldGoesOn, By_part, By_events, PartedStep, paired, part_deltas, step_by, steps_in, StepHolds, PartHolds}
 use Rattle.dg_fold.specs.Trees.{IsAmong, IsStepOf, PathIn, Begins_at_root, Steps_on}
-use Rattle.dg_fold.proofs.Columns.{parts_are_read}
+use Rattle.dg_fold.proofs.PartColumns.{parts_are_read}
 use Rattle.dg_fold.proofs.Fittings.{records_fit}
 use Rattle.dg_fold.proofs.HistoryPaths.{edges_paired, node_set, parts_hold}
-use Rattle.dg_fold.proofs.Leading.{trees_reach}
-use Rattle.dg_fold.proofs.SoundEdges.{edges_are_sound}
+use Rattle.dg_fold.proofs.PathIndependenceTrees.{trees_reach}
+use Rattle.dg_fold.proofs.PathIndependenceEdges.{edges_are_sound}
 use Rattle.dg_fold.specs.HistoryTrees.{HistoryTreesReach, HoldsNoList}
 use Rattle.dg_fold.specs.PointSplits.{next_of}
-use Rattle.dg_fold.proofs.ListEdges.{EntersAs, Reads, all_read}
+use Rattle.dg_fold.proofs.IndexGraphLists.{EntersAs, Reads, all_read}
 use Rattle.dg_fold.proofs.PointSplits.{points_split}
 
 -- ---- one of several edges

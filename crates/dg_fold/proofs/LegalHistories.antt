@@ -25,7 +25,7 @@ use Rattle.dg_history.specs.declared.params.TheConstants.{LEAF_MIN, LEAF_MAX, AR
 use Rattle.dg_history.specs.History.{Batch, are_parameters, events_of, names_of, span_of, earliest_next}
 use Rattle.dg_history.specs.LegalHistory.{FitsBody, FitsEvent, AreLegalAfter}
 use Rattle.dg_index.proofs.HistoryTimes.{events_rise}
-use Rattle.dg_index.proofs.OpenedHistories.{Rises}
+use Rattle.dg_index.proofs.OpenedIndexHistories.{Rises}
 use Rattle.dg_list.specs.NetLaws.{AreMadeByChanges}
 use Rattle.dg_list.proofs.Completion.{both, found_in}
 use Rattle.dg_list.proofs.NetLaws.{changes_are_exact}

@@ -15,7 +15,7 @@ use Rattle.dg_history.specs.History.{History, events_of}
 use Rattle.dg_index.specs.Hierarchy.{leaves}
 use Rattle.dg_plan.specs.InstantPoint.{point}
 use Rattle.dg_fold.specs.PointSplits.{SplitsAt, PointsSplit, next_of}
-use Rattle.dg_fold.proofs.InstantsPart.{instants_part}
+use Rattle.dg_fold.proofs.PathIndependenceInstants.{instants_part}
 
 same_of : (m n : ℕ) → (m == n) ≡ true → m ≡ n
 same_of m n e = grind (arith, nat_tests)

@@ -11,9 +11,9 @@ use Rattle.dg_plan.specs.declared.edge.Via.{Via}
 use Rattle.dg_plan.specs.declared.edge.Via.TheVariants as via
 use Rattle.dg_fold.specs.Parts.{beside, Folds}
 use Rattle.dg_fold.specs.Steps.{PartedStep, names_record, paired, step_by, steps_in}
-use Rattle.dg_fold.specs.declared.along.Stepped.{Stepped}
+use Rattle.dg_fold.specs.declared.branch_walk.Stepped.{Stepped}
 use Rattle.dg_fold.specs.TreeSteps.{AreStepped, FailsAt}
-use Rattle.dg_fold.proofs.Paths.{Due, beside_associates}
+use Rattle.dg_fold.proofs.TreeStepPaths.{Due, beside_associates}
 
 -- What is known when so many edges have been gone over.
 pub record Going (names : ℕ) (recent : List Event) (edges : List Edge) (parts : List Part) (i : ℕ) (rest : List Part) (steps : List Stepped) : Type 0 where

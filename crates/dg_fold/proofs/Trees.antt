@@ -5,9 +5,9 @@ use Rattle.std.proofs.lemmas.List.Elements.{All-get_or, All-pop, All-push, All-h
 use Rattle.dg_history.specs.declared.node.NodeId.{NodeId}
 use Rattle.dg_history.specs.declared.node.NodeId.TheVariants.{Root}
 use Rattle.dg_graph.specs.Composition.{Delta, Composes}
-use Rattle.dg_list.proofs.Nets.{composes_halves}
-use Rattle.dg_fold.specs.declared.along.Stepped.{Stepped}
-use Rattle.dg_fold.specs.declared.along.Known.{Known}
+use Rattle.dg_list.proofs.ReplayNets.{composes_halves}
+use Rattle.dg_fold.specs.declared.branch_walk.Stepped.{Stepped}
+use Rattle.dg_fold.specs.declared.branch_walk.Known.{Known}
 use Rattle.dg_fold.specs.PathIndependence.{begun_at}
 use Rattle.dg_fold.specs.TreeSteps.{IsAmongSteps, AreIn, Walks, Path, Begins, Goes_on, Reached, IsReachedNode, AreReached, step_edges, step_deltas, last_of, known_node_at, IsNodeKnown, IsOneOf, EnterNone}
 
@@ -292,9 +292,9 @@ not_known_more n d known i h none other one =
 pub not_known : (n : NodeId) (known : List Known) (i : ℕ) → length known ≤ i → (IsNodeKnown n (take i known) → ⊥) → IsNodeKnown n known → ⊥
 not_known n known i h none one = none (subst (IsNodeKnown n) (sym (take_all i known h)) one)
 
--- a known node, which is at this place
-pub at_place : (known : List Known) (i : ℕ) (k : Known) (n : NodeId) → i < length known → k ≡ get_or known i k → known_node_at known i ≡ n → k.node ≡ n
-at_place known i k n within is at = ap (λ (x : Known). x.node) is ∙ sym (node_there known i k within) ∙ at
+-- a known node, which is at this index
+pub at_index : (known : List Known) (i : ℕ) (k : Known) (n : NodeId) → i < length known → k ≡ get_or known i k → known_node_at known i ≡ n → k.node ≡ n
+at_index known i k n within is at = ap (λ (x : Known). x.node) is ∙ sym (node_there known i k within) ∙ at
 
-pub reached_place : (all : List Stepped) (known : List Known) (i : ℕ) (k : Known) → i < length known → k ≡ get_or known i k → AreReached all known → IsReachedNode all k
-reached_place all known i k within is h = subst (λ (x : Known). Reached all x.node x.begun x.delta) (sym is) (reached_there all known i k h within)
+pub reached_at_index : (all : List Stepped) (known : List Known) (i : ℕ) (k : Known) → i < length known → k ≡ get_or known i k → AreReached all known → IsReachedNode all k
+reached_at_index all known i k within is h = subst (λ (x : Known). Reached all x.node x.begun x.delta) (sym is) (reached_there all known i k h within)

@@ -6,8 +6,8 @@ use Rattle.dg_graph.specs.Composition.{Delta, Composes}
 use Rattle.dg_history.specs.declared.node.NodeId.{NodeId}
 use Rattle.dg_history.specs.declared.node.NodeId.TheVariants.{Root}
 use Rattle.dg_plan.specs.declared.edge.Edge.{Edge}
-use Rattle.dg_fold.specs.declared.along.Known.{Known}
-use Rattle.dg_fold.specs.declared.along.Stepped.{Stepped}
+use Rattle.dg_fold.specs.declared.branch_walk.Known.{Known}
+use Rattle.dg_fold.specs.declared.branch_walk.Stepped.{Stepped}
 use Rattle.dg_fold.specs.declared.fault.FoldFault.{FoldFault}
 use Rattle.dg_fold.specs.declared.fault.FoldFault.TheVariants as fault
 use Rattle.dg_fold.specs.declared.tree.Branch.{Branch}

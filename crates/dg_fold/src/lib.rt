@@ -2,7 +2,7 @@
 //! each path of a tree. docs/MODEL.md has the definitions.
 #![tactic(auto)]
 
-mod along;
+mod branch_walk;
 mod column;
 mod ends;
 mod fault;
@@ -14,8 +14,8 @@ mod net;
 mod part;
 mod plan;
 mod record;
-mod stepping;
 mod tree;
+mod tree_step;
 
 pub use dg_delta::Delta;
 pub use fault::FoldFault;

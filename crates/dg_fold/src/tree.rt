@@ -5,7 +5,7 @@ ghost use Rattle.std.specs.List.{All};
 ghost use Rattle.dg_graph.specs.Composition.{Composes, Delta};
 ghost use Rattle.dg_plan.specs.declared.edge.Edge.{Edge};
 ghost use Rattle.dg_fold.specs.Steps.{paired, steps_in};
-ghost use Rattle.dg_fold.specs.declared.along.Stepped.{Stepped};
+ghost use Rattle.dg_fold.specs.declared.branch_walk.Stepped.{Stepped};
 ghost use Rattle.dg_fold.specs.declared.fault.FoldFault.TheVariants as fault;
 ghost use Rattle.dg_fold.specs.Trees.{LeadsToTarget, Grow, all_edges};
 ghost use Rattle.dg_fold.specs.TreeSteps.{IsAmongSteps, AreIn, IsReachedNode, AreReached, AreStepped, AreLed, step_edges, FailsAt, EnterNone, known_node_at, IsNodeKnown, IsOneOf};
@@ -15,12 +15,12 @@ ghost use Rattle.dg_fold.specs.Ends.{AreLedUntil, FailsIn, last_in, lasts_in};
 ghost use Rattle.dg_history.specs.declared.node.NodeId.{NodeId};
 ghost use Rattle.dg_history.specs.declared.node.NodeId.TheVariants.{Root};
 
-use crate::along::{Known, Stepped, go_along, is_same};
+use crate::branch_walk::{Known, Stepped, go_along, is_same};
 use crate::ends::last_delta;
 use crate::fault::FoldFault;
 use crate::net::joined;
 use crate::part::Part;
-use crate::stepping::stepped;
+use crate::tree_step::stepped;
 use dg_delta::Delta;
 use dg_graph::Event;
 use dg_history::NodeId;
@@ -55,7 +55,7 @@ fn edges_of(alloc: Global, branches: &[Branch]) -> Result<Vec<Edge>, AllocError>
 }
 
 /// The offset of a node among those that are known.
-fn place_of(known: &[Known], node: NodeId) -> Option<usize>
+fn known_index(known: &[Known], node: NodeId) -> Option<usize>
     ensures found { IsNodeKnown node known.now → IsSome result }
     ensures within { IfSome result (λ i. i < length known.now) }
     ensures node { IfSome result (λ i. known_node_at known.now i ≡ node) }
@@ -74,7 +74,7 @@ fn known_among(known: &[Known], node: NodeId) -> &Known
     ensures node { result.now.node ≡ node }
     ensures reached { (all : List Stepped) → AreReached all known.entry.now → IsReachedNode all result.now }
 {
-    match place_of(known, node) {
+    match known_index(known, node) {
         Some(i) => &known[i],
         None => unreachable!(),
     }
@@ -86,7 +86,7 @@ fn known_at<'a>(known: &'a [Known], ends: &'a [Known], node: NodeId) -> &'a Know
     ensures node { result.now.node ≡ node }
     ensures reached { (all : List Stepped) → AreReached all known.entry.now → AreReached all ends.entry.now → IsReachedNode all result.now }
 {
-    match place_of(known, node) {
+    match known_index(known, node) {
         Some(i) => &known[i],
         None => known_among(ends, node),
     }
@@ -187,7 +187,7 @@ fn note(known: &mut Vec<Known>, ends: &mut Vec<Known>, gone: Gone) -> Result<(),
 }
 
 // For each branch what leads to its target; these are the steps of all branches, in order. What is known of a node is
-// held at one place, from which later branches go on: it is copied only where a branch has no step.
+// held at one index, from which later branches go on: it is copied only where a branch has no step.
 fn paths(
     alloc: Global,
     branches: &[Branch],

@@ -1,5 +1,5 @@
 pub mod Sets
 pub mod ColumnRows
 pub mod GrammarRows
-pub mod ExactDeltas
+pub mod DifferentialFunctionDeltas
 pub mod ExactEvents

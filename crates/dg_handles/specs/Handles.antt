@@ -133,7 +133,7 @@ pub record IsTied (p : PoolState) (h : HandlesState) : Type 0 where
 -- live is free.
 pub record IsSweptWhole (p : PoolState) : Type 0 where
   pub cells : cells_of p ≡ pool_union p
-  pub place : p.place ≡ 0
+  pub swept : p.sweep_index ≡ 0
   pub free : (s : ℕ) → is_live (slot_at p.slots s) ≡ false → slot_at p.slots s ≡ state.Free
 
 -- ---- laws

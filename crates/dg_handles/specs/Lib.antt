@@ -1,3 +1,3 @@
 pub mod Attached
 pub mod Handles
-pub mod Places
+pub mod FirstEntry

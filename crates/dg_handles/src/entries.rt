@@ -3,7 +3,7 @@
 ghost use Rattle.std.specs.Prelude.{◌≡◌, ◌+◌, ◌≤◌, [], ◌∷◌, ◌++◌, IfNone, IfOk, IfSome, length, map, vec_capacity, vec_len};
 ghost use Rattle.dg_handles.specs.Attached.{numbers_of};
 ghost use Rattle.dg_handles.specs.Handles.{numbered, overlays_on};
-ghost use Rattle.dg_handles.specs.Places.{IsFirst, NoneIs};
+ghost use Rattle.dg_handles.specs.FirstEntry.{IsFirst, NoneIs};
 ghost use Rattle.dg_machine.specs.MachineState.{dependent_on, is_overlay_on};
 ghost use Rattle.dg_machine.specs.Planning.{bases_in, includes, usable};
 ghost use Rattle.dg_machine.specs.declared.limits.TheConstants.{HANDLE_MAX};
@@ -25,14 +25,14 @@ pub(crate) struct Entry {
     pub(crate) slot: Slot,
 }
 
-/// The place of the first entry with this handle.
-pub(crate) fn place_of(entries: &[Entry], handle: u32) -> Option<usize>
+/// The index of the first entry with this handle.
+pub(crate) fn index_of_handle(entries: &[Entry], handle: u32) -> Option<usize>
     ensures some { IfSome result (IsFirst handle (map (λ e. e.handle) entries.now)) }
     ensures none { IfNone result (NoneIs handle (map (λ e. e.handle) entries.now)) }
 {
-    for (place, entry) in entries.iter().enumerate() {
+    for (entry_index, entry) in entries.iter().enumerate() {
         if entry.handle == handle {
-            return Some(place);
+            return Some(entry_index);
         }
     }
     None

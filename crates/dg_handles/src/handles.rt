@@ -16,7 +16,7 @@ ghost use Rattle.dg_pool.specs.Graphs.{PoolState, SameGraphs, graph_now, slot_gr
 ghost use Rattle.dg_retrieval.specs.Beginnings.{base_handle, led_to};
 
 use crate::attach::{attach, detach, detach_all};
-use crate::entries::{Entry, bases, dependent, enter, place_of};
+use crate::entries::{Entry, bases, dependent, enter, index_of_handle};
 use dg_delta::Delta;
 use dg_graph::Columns;
 use dg_history::NodeId;
@@ -88,8 +88,8 @@ impl Handles {
     pub fn stands(&self, handle: u32) -> Option<Stands>
         ensures { result ≡ stands_at handle self.now.table }
     {
-        let place = place_of(&self.entries, handle)?;
-        Some(self.entries[place].stands)
+        let entry_index = index_of_handle(&self.entries, handle)?;
+        Some(self.entries[entry_index].stands)
     }
 
     /// The first live handle that stands for an overlay on this one. Takes no memory.
@@ -118,8 +118,8 @@ impl Handles {
     fn slot(&self, handle: u32) -> Option<Slot>
         ensures { option_map (λ s. s.0) result ≡ slot_of handle self.now.table self.now.slots }
     {
-        let place = place_of(&self.entries, handle)?;
-        Some(self.entries[place].slot)
+        let entry_index = index_of_handle(&self.entries, handle)?;
+        Some(self.entries[entry_index].slot)
     }
 
     // What a graph rests on in the pool that begins so. Nothing for a handle that is not live.
@@ -239,8 +239,8 @@ impl Handles {
         ensures graph { result ≡ graph_among handle self.now.table (slot_graphs pool.now self.now.slots) }
         ensures there { is_some result ≡ is_some (stands_at handle self.now.table) }
     {
-        let place = place_of(&self.entries, handle)?;
-        Some(View::of(pool, self.entries[place].slot))
+        let entry_index = index_of_handle(&self.entries, handle)?;
+        Some(View::of(pool, self.entries[entry_index].slot))
     }
 
     /// Gives the handle up, on which no live one rests, and ends its slot. Answers whether it was live; otherwise
@@ -256,10 +256,10 @@ impl Handles {
         ensures tied { IsTied pool.new self.new }
         ensures now { graph_now pool.new ≡ graph_now pool.old }
     {
-        let Some(place) = place_of(&self.entries, handle) else {
+        let Some(entry_index) = index_of_handle(&self.entries, handle) else {
             return false;
         };
-        let entry = self.entries.remove(place);
+        let entry = self.entries.remove(entry_index);
         detach(pool, entry.slot);
         true
     }

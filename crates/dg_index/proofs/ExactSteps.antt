@@ -4,7 +4,7 @@ use Rattle.dg_graph.specs.declared.element.Element.{Element}
 use Rattle.dg_graph.specs.Composition.{Delta, between, chained}
 use Rattle.dg_graph.specs.Elements.{IsSet}
 use Rattle.dg_index.specs.ExactSteps.{ways_on, downs}
-use Rattle.dg_graph.proofs.ExactDeltas.{AreSets, chained_between}
+use Rattle.dg_graph.proofs.DifferentialFunctionDeltas.{AreSets, chained_between}
 
 -- the exact deltas from each set to the next one
 abbrev pub steps_between : List Element → List (List Element) → List Delta

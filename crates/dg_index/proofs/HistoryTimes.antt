@@ -4,8 +4,8 @@ use Rattle.dg_graph.specs.declared.event.Event.{Event}
 use Rattle.dg_graph.specs.Replay.{replay}
 use Rattle.dg_history.specs.History.{History, Batch, events_of, names_of, span_of, last_time_from, earliest_next}
 use Rattle.dg_history.specs.LegalHistory.{IsLegal, AreLegalAfter}
-use Rattle.dg_index.proofs.KeptColumns.{events_among}
-use Rattle.dg_index.proofs.OpenedHistories.{Rises, completed_rises, rises_join, rises_later, last_earliest}
+use Rattle.dg_index.proofs.IndexRecordColumns.{events_among}
+use Rattle.dg_index.proofs.OpenedIndexHistories.{Rises, completed_rises, rises_join, rises_later, last_earliest}
 
 rise_behind : (names : List (List ℕ)) (before : List Event) (batches : List Batch) → Rises 0 before → AreLegalAfter names before batches → Rises 0 (before ++ events_among batches)
 rise_behind names before [] rises legal = subst (Rises 0) (sym (append-nil before)) rises

@@ -10,9 +10,9 @@ use Rattle.dg_index.specs.OpenedIndex.{Unopened, No_index, Damaged_at, Directory
 use Rattle.dg_index.specs.ImageText.{params_in, params_with, function_in, eight_at, gate_behind, is_within}
 use Rattle.dg_index.specs.FileOfHistory.{Segment, segment_bytes}
 use Rattle.dg_index.specs.OpenedSoFar.{OpensOn}
-use Rattle.dg_index.proofs.DirectoryDecoding.{stands_next, read_next, read_end}
-use Rattle.dg_index.proofs.ImageRanges.{Same, same_fewer, four_same, eight_same, byte_same, range_same, behind, byte_read}
-use Rattle.dg_index.proofs.DirectoryNames.{both}
+use Rattle.dg_index.proofs.OpenedIndexDirectories.{stands_next, read_next, read_end}
+use Rattle.dg_index.proofs.ImageTextRanges.{Same, same_fewer, four_same, eight_same, byte_same, range_same, behind, byte_read}
+use Rattle.dg_index.proofs.ImageTextNames.{both}
 
 -- a turn behind an open gate
 turn : (k : ℕ) (image : List ℕ) (x : Opened) (d : Option Directory) → get_or image (x.index.used - 1) 0 ≡ 1 → directory_next x image ≡ d → read_on (suc k) image x ≡ go_on_with image x (read_on k image) d

@@ -12,7 +12,7 @@ use Rattle.dg_graph.specs.Replay.{replay, events_until, replay_at}
 use Rattle.dg_index.specs.Hierarchy.{leaves}
 use Rattle.dg_index.specs.IndexRecords.{piece_of, recent_of}
 use Rattle.dg_index.specs.RecentEvents.{recent_pieces}
-use Rattle.dg_index.proofs.StableRecords.{recent_closed, recent_kept, leaves_more}
+use Rattle.dg_index.proofs.HierarchyStability.{recent_closed, recent_kept, leaves_more}
 
 abbrev pub together : List (List Event) → List Event
 together pieces = flat_map (λ (l : List Event). l) pieces

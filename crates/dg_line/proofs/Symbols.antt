@@ -15,9 +15,9 @@ use Rattle.dg_graph.specs.Words.{words}
 use Rattle.dg_line.specs.Space.{is_space}
 use Rattle.dg_line.specs.Prefixes.{IsLongestPrefix}
 use Rattle.dg_line.specs.Symbols.{Terminal, One_of, Number, IsWordOf, IsLineOf, IsLineOfOne, is_short_word, is_well_formed}
-use Rattle.dg_line.proofs.Any.{both_true, any_none, any_cases, any_left, any_either, contains_none, contains_cases}
-use Rattle.dg_line.proofs.Numbers.{own}
-use Rattle.dg_line.proofs.NumberPrefixes.{told, is_number}
+use Rattle.dg_line.proofs.ListElements.{both_true, any_none, any_cases, any_left, any_either, contains_none, contains_cases}
+use Rattle.dg_line.proofs.WordNumbers.{own}
+use Rattle.dg_line.proofs.SymbolNumbers.{told, is_number}
 use Rattle.dg_line.proofs.Prefixes.{Parted, Plain, stops, goes_on, same_prefix, no_prefix, either}
 
 not_true : (b : Bool) → not b ≡ true → b ≡ false

@@ -19,7 +19,7 @@ const NAMES_BYTES: usize = 2 * NAME_BYTES_MAX + 2;
 const SIDE_BYTES: usize = 4;
 
 /// The most bytes of the words of a node or a key, each behind a space.
-const PLACE_BYTES: usize = 48;
+const NODE_BYTES: usize = 48;
 
 /// Holds the line of a body behind what is held. The names are those whose numbers the line has.
 pub fn hold_body_line(buffer: &mut ReplyBuffer, names: &Names, line: &BodyLine)
@@ -181,9 +181,9 @@ fn hold_sizes(buffer: &mut ReplyBuffer, key: Key, structure: u64, nodes: u64, ed
 
 // The words of a node, each behind a space.
 fn hold_node(buffer: &mut ReplyBuffer, node: NodeId)
-    requires { HasBufferRoom buffer.old PLACE_BYTES }
+    requires { HasBufferRoom buffer.old NODE_BYTES }
     ensures put { buffer.new ≡ buffer.old ++ spaced (node_words node) }
-    ensures len { length buffer.new ≤ length buffer.old + PLACE_BYTES }
+    ensures len { length buffer.new ≤ length buffer.old + NODE_BYTES }
 {
     match node {
         NodeId::Root => buffer.hold(b" root"),
@@ -200,9 +200,9 @@ fn hold_node(buffer: &mut ReplyBuffer, node: NodeId)
 
 // The words of a record's key, each behind a space.
 fn hold_key(buffer: &mut ReplyBuffer, key: Key)
-    requires { HasBufferRoom buffer.old PLACE_BYTES }
+    requires { HasBufferRoom buffer.old NODE_BYTES }
     ensures put { buffer.new ≡ buffer.old ++ spaced (key_words key) }
-    ensures len { length buffer.new ≤ length buffer.old + PLACE_BYTES }
+    ensures len { length buffer.new ≤ length buffer.old + NODE_BYTES }
 {
     match key {
         Key::List(number) => buffer.hold_with(b" list ", u64::from(number)),

@@ -18,7 +18,7 @@ use Rattle.dg_set.specs.Apart.{AreApart}
 use Rattle.dg_delta.proofs.Deltas.{word, and_then_associates, can_be_cut}
 use Rattle.dg_list.specs.EventMarks.{word_of, taken_out, marks_of, earlier, names_first, goes, lasts}
 use Rattle.dg_list.specs.declared.marks.Mark.{Mark}
-use Rattle.dg_list.proofs.Nets.{one_delta}
+use Rattle.dg_list.proofs.ReplayNets.{one_delta}
 
 pub earlier_ranks : IsStrictWeakOrder earlier
 earlier_ranks = ranks_by element_total (λ (m : Mark). m.element)

@@ -1,7 +1,7 @@
-pub mod Nets
+pub mod ReplayNets
 pub mod Completion
 pub mod Graph
 pub mod NetLaws
 pub mod EventMarks
-pub mod Changes
-pub mod ExactNets
+pub mod ExactEventCuts
+pub mod ExactEventNets

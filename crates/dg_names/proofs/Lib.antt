@@ -1,1 +1,1 @@
-pub mod NumberOf
+pub mod NameLimitNumbers

@@ -16,7 +16,7 @@ use Rattle.dg_now.specs.declared.element_id.ElementId.TheVariants.{Node, Edge, N
 use Rattle.dg_now.specs.contracts.element_id.ElementIdPartialEq.TheImpl as of_ids
 use Rattle.dg_now.specs.HeldGraph.{element_entry_at, held_at, more_at, fewer_at, has_entry, collected, ids_of, elements_of, KeepsHeld, KeepsUses, HeldGraphIsSound}
 use Rattle.dg_now.specs.ElementIds.{element_id_of, at, needs_id, same_id}
-use Rattle.dg_now.proofs.UsesAt.{count_put, count_out, any_count, count_any}
+use Rattle.dg_now.proofs.HeldGraphUses.{count_put, count_out, any_count, count_any}
 use Rattle.dg_now.proofs.ElementIds.{both, either, at_has, at_is, at_from, at_lacks, one_of_each_id, put_graph, out_graph, put_itself, put_keeps, put_from, out_from, out_keeps}
 
 -- ---- ids

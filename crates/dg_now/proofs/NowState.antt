@@ -9,7 +9,7 @@ use Rattle.dg_now.specs.EventEffect.{Led, rewound, element_before_all}
 use Rattle.dg_now.specs.Now.{NowState}
 use Rattle.dg_now.specs.ElementIds.{at}
 use Rattle.dg_now.proofs.EventEffect.{rewound_back}
-use Rattle.dg_now.proofs.CompleteAll.{first_is}
+use Rattle.dg_now.proofs.EventEffectChanges.{first_is}
 
 -- no events led anywhere
 pub led_none : (h : HeldGraphState) → IsGraph h.set → Led h.set [] h

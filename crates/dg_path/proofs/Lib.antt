@@ -1,5 +1,5 @@
-pub mod Searching
-pub mod Threads
-pub mod Tables
-pub mod Planting
-pub mod Shown
+pub mod SearchLinks
+pub mod SearchThreads
+pub mod SearchTables
+pub mod SearchStarts
+pub mod SearchPlans

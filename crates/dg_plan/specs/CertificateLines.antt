@@ -16,7 +16,7 @@ pub record WrittenStep : Type 0 where
   pub head : NodeId
   pub weight : ℕ
 
--- What the lines so far claim: steps, the sum of their weights, and potentials; and the first place, in the
+-- What the lines so far claim: steps, the sum of their weights, and potentials; and the first index, in the
 -- order of nodes, at which the node of the next potential may stand.
 pub record Claim : Type 0 where
   pub steps : List WrittenStep
@@ -27,7 +27,7 @@ pub record Claim : Type 0 where
 abbrev pub no_claim : Claim
 no_claim = record { steps = []; weight = 0; potentials = []; next = 0 }
 
--- the claim with the potential of a node that stands so many nodes past the next place, unless there is none
+-- the claim with the potential of a node that stands so many nodes past the next index, unless there is none
 abbrev pub with_potential : Claim → NodeId → ℕ → Option ℕ → Option Claim
 with_potential c node value None = None
 with_potential c node value (Some past) =

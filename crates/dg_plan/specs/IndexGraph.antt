@@ -1,4 +1,4 @@
--- The index graph: its nodes in their order, and its edges, each numbered by its place in the list.
+-- The index graph: its nodes in their order, and its edges, each numbered by its index in the list.
 use Rattle.std.specs.Prelude.{◌≤◌, ℕ, suc, zero, ◌+◌, ◌-◌, ◌*◌, ◌/◌, ◌^◌, Bool, true, false, not, cond, List as ListOf, [], ◌∷◌, ◌++◌, map, filter}
 use Rattle.std.specs.List.{flat_map, sum_by}
 use Rattle.dg_index.specs.Hierarchy.{numbers}

@@ -1,14 +1,14 @@
 mod PlanRows
-pub mod AskedBytes
-pub mod Standing
-pub mod Starts
-pub mod ListedNodes
-pub mod Ends
-pub mod NodePlans
-pub mod Made
-pub mod Singles
-pub mod Grown
-pub mod HistoryGraph
-pub mod InstantCounts
-pub mod HistoryPoints
-pub mod ExistingNodes
+pub mod AskedLengthSums
+pub mod OrderPlaces
+pub mod OrderHeights
+pub mod HierarchyNodes
+pub mod OrderEnds
+pub mod OrderPlans
+pub mod WholeArcs
+pub mod SearchPlans
+pub mod TreeGrowth
+pub mod HistoryLawGraphs
+pub mod ReplayInstants
+pub mod HistoryLawPoints
+pub mod IndexNodeExistence

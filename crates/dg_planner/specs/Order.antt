@@ -1,4 +1,4 @@
--- The place of a node in the order of nodes.
+-- The index of a node in the order of nodes.
 use Rattle.std.specs.Prelude.{◌≤◌, ◌<◌, Bool, List as ListOf, length, slice_index, ◌≡◌, ℕ, ◌+◌, ◌-◌, ◌^◌, cond, filter, map, nat_le, []}
 use Rattle.std.specs.Bool.{⊤}
 use Rattle.std.specs.List.{sum_by}
@@ -13,20 +13,20 @@ use Rattle.dg_plan.specs.IndexGraph.{Ground, inners_at}
 abbrev pub inners_below : ℕ → ℕ → ℕ → ℕ
 inners_below leaves arity h = sum_by (inners_at leaves arity) (filter (λ x. nat_le (arity ^ x) leaves) (numbers 1 (h - 1)))
 
--- the place of the first leaf
+-- the index of the first leaf
 abbrev pub first_leaf : Bool → ℕ
 first_leaf memory = cond memory 3 1
 
-abbrev pub place_in : ℕ → ℕ → Bool → NodeId → ℕ
-place_in leaves arity memory Root = 0
-place_in leaves arity memory Now = 1
-place_in leaves arity memory Recent = 2
-place_in leaves arity memory (Leaf j) = first_leaf memory + (j - 1)
-place_in leaves arity memory (List i) = first_leaf memory + leaves + i
-place_in leaves arity memory (Inner h j) = first_leaf memory + leaves + leaves + inners_below leaves arity h + (j - 1)
+abbrev pub node_index_in : ℕ → ℕ → Bool → NodeId → ℕ
+node_index_in leaves arity memory Root = 0
+node_index_in leaves arity memory Now = 1
+node_index_in leaves arity memory Recent = 2
+node_index_in leaves arity memory (Leaf j) = first_leaf memory + (j - 1)
+node_index_in leaves arity memory (List i) = first_leaf memory + leaves + i
+node_index_in leaves arity memory (Inner h j) = first_leaf memory + leaves + leaves + inners_below leaves arity h + (j - 1)
 
-abbrev pub place_of : Ground → NodeId → ℕ
-place_of g node = place_in g.leaves g.arity g.memory node
+abbrev pub index_of : Ground → NodeId → ℕ
+index_of g node = node_index_in g.leaves g.arity g.memory node
 
 -- a graph of this form with no bases, whose records weigh nothing: it has the same nodes as any other
 abbrev pub bare_ground : ℕ → ℕ → Bool → Ground

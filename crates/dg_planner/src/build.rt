@@ -8,7 +8,7 @@ ghost use Rattle.dg_index.specs.IndexRecords.{heights};
 ghost use Rattle.dg_plan.specs.IndexGraph.{Ground, inners_at, leaf, level_node, is_root, edge, kept, list_edges, child_edges, inner_edges, level_edges, first_edges, recent_edges, edges_of, top_edge, base_edge};
 
 use crate::lengths::asked_length;
-use crate::places::Form;
+use crate::node_order::Form;
 use dg_graph::Columns;
 use dg_history::{Key, NodeId};
 use dg_plan::{Edge, Via, Way};

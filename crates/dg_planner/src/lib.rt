@@ -7,8 +7,8 @@ mod build;
 mod laws;
 mod lengths;
 mod links;
+mod node_order;
 mod nodes;
-mod places;
 mod planner;
 mod tree;
 

@@ -3,12 +3,12 @@ ghost use Rattle.std.specs.List.{All};
 ghost use Rattle.dg_planner.specs.Order.{AreStarts, HasEnds};
 ghost use Rattle.dg_planner.specs.Links.{link_in};
 
-use crate::places::{Form, place};
+use crate::node_order::{Form, node_index};
 use dg_path::Link;
 use dg_plan::Edge;
 use std::alloc::{AllocError, Global};
 
-/// The edges by the places of their ends in the order of nodes.
+/// The edges by the indices of their ends in the order of nodes.
 pub fn make_links(
     alloc: Global,
     form: Form,
@@ -27,7 +27,7 @@ pub fn make_links(
     Ok(links)
 }
 
-// One edge by the places of its ends.
+// One edge by the indices of its ends.
 fn link_of(form: Form, starts: &[u32], edge: &Edge) -> Link
     requires leaves { form.leaves < 2 ^ 28 }
     requires starts { AreStarts form.leaves form.arity starts.now }
@@ -35,8 +35,8 @@ fn link_of(form: Form, starts: &[u32], edge: &Edge) -> Link
     ensures { result ≡ link_in form.leaves form.arity form.memory edge.now }
 {
     Link {
-        tail: place(form, starts, edge.from),
-        head: place(form, starts, edge.to),
+        tail: node_index(form, starts, edge.from),
+        head: node_index(form, starts, edge.to),
         weight: edge.weight,
     }
 }

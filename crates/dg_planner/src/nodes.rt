@@ -6,7 +6,7 @@ ghost use Rattle.dg_index.specs.IndexRecords.{heights};
 ghost use Rattle.dg_plan.specs.IndexGraph.{nodes_of};
 ghost use Rattle.dg_planner.specs.Order.{bare_ground, inners_of};
 
-use crate::places::Form;
+use crate::node_order::Form;
 use dg_history::NodeId;
 use std::alloc::{AllocError, Global};
 

@@ -13,8 +13,8 @@ ghost use Rattle.dg_planner.specs.Trees.{grafts_in, node_grafts};
 use crate::Base;
 use crate::build::build_edges;
 use crate::links::make_links;
+use crate::node_order::{Form, level_starts, node_count, node_index};
 use crate::nodes::list_nodes;
-use crate::places::{Form, level_starts, node_count, place};
 use crate::tree::{Graft, Tree, costs_now, graft_at, grow_on, weight_at};
 use dg_graph::Columns;
 use dg_history::NodeId;
@@ -31,7 +31,7 @@ pub struct Planner {
     edges: Vec<Edge>,
     // How many interior nodes are below each height.
     starts: Vec<u32>,
-    // The edges by the places of their ends in the order of nodes, and those that leave and enter each node.
+    // The edges by the indices of their ends in the order of nodes, and those that leave and enter each node.
     links: Vec<Link>,
     outs: Adjacency,
     ins: Adjacency,
@@ -131,7 +131,7 @@ impl Planner {
         })
     }
 
-    /// The edges, in their order: the number of each is its place.
+    /// The edges, in their order: the number of each is its index.
     pub fn edges(&self) -> &[Edge]
         ensures { result.now ≡ self.now.edges }
     {
@@ -156,8 +156,8 @@ impl Planner {
         ensures least { IfOk result (λ r. (others : List ℕ) → Leads (arcs_of self.now.edges) Root others target → r.weight ≤ weight_of (arcs_of self.now.edges) others) }
         ensures steps { IfOk result (λ r. All (λ i. i < length self.now.edges) r.steps.items) }
     {
-        let place = place(self.form, &self.starts, target);
-        route_to(alloc, &self.links, &self.ins, &self.costs, place)
+        let node_index = node_index(self.form, &self.starts, target);
+        route_to(alloc, &self.links, &self.ins, &self.costs, node_index)
     }
 
     /// The tree of several targets, 32 at the most: for each in order the plan that begins at the nearest
@@ -193,7 +193,7 @@ impl Planner {
         let mut weights = Vec::with_capacity(alloc, targets.len())?;
         let mut sum = 0;
         for target in targets {
-            let at = place(self.form, &self.starts, *target);
+            let at = node_index(self.form, &self.starts, *target);
             let single = weight_at(&self.costs, at);
             weights.push(single)?;
             sum += single;
@@ -214,7 +214,7 @@ impl Planner {
         let mut grafts = Vec::with_capacity(alloc, targets.len())?;
         let mut weight = 0;
         for (i, target) in targets.iter().enumerate() {
-            let at = place(self.form, &self.starts, *target);
+            let at = node_index(self.form, &self.starts, *target);
             let costs = costs_now(&self.costs, &grown);
             let nearest = weight_at(costs, at);
             weight += nearest;

@@ -46,7 +46,7 @@ pub fn beginning(edges: &[Edge], steps: &[u32], target: NodeId) -> NodeId
     }
 }
 
-/// What a target at a place adds to a tree from which these are the costs. An `Err` says that memory ran out.
+/// What a target at an index adds to a tree from which these are the costs. An `Err` says that memory ran out.
 pub fn graft_at(
     alloc: Global,
     edges: &[Edge],
@@ -72,12 +72,12 @@ pub fn graft_at(
     Ok(Graft { from, steps })
 }
 
-/// The least weight of the node at a place.
-pub fn weight_at(costs: &[Cost], place: u32) -> u64
-    requires { place < length costs.now }
-    ensures { result ≡ (label_at costs.now place).weight }
+/// The least weight of the node at an index.
+pub fn weight_at(costs: &[Cost], node_index: u32) -> u64
+    requires { node_index < length costs.now }
+    ensures { result ≡ (label_at costs.now node_index).weight }
 {
-    costs[place as usize].weight
+    costs[node_index as usize].weight
 }
 
 /// The costs from a tree so far: those that are kept from the root, until it has grown.

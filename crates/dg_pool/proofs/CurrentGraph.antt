@@ -21,9 +21,9 @@ use Rattle.dg_pool.specs.declared.slots.SlotState.{SlotState}
 use Rattle.dg_pool.specs.declared.slots.SlotState.TheVariants as state
 use Rattle.dg_cells.specs.Rows.{HasCell, cell_at, CellsAreApart, Writes, is_current, pair, SetsPair, SetsCurrent, Lacks}
 use Rattle.dg_pool.specs.Graphs.{slot_at, pair_at, is_on_now, is_live, is_listed, ListsOnNow, pinned, Pins, Keeps, AreSlots, IsBased, IsBaseFor, slot_says, pair_says, in_base, in_slot, given, picked, graph_as, HaveCells, changed, all_changed}
-use Rattle.dg_cells.proofs.Changed.{cell_past, cell_there}
-use Rattle.dg_pool.proofs.Picked.{picked_same, picked_more, picked_set, picked_decides, picked_nothing}
-use Rattle.dg_cells.proofs.Changed.{cell_written, comes_written, apart_by}
+use Rattle.dg_cells.proofs.RowChanges.{cell_past, cell_there}
+use Rattle.dg_pool.proofs.GraphSets.{picked_same, picked_more, picked_set, picked_decides, picked_nothing}
+use Rattle.dg_cells.proofs.RowChanges.{cell_written, comes_written, apart_by}
 
 -- ---- two writes of one cell
 

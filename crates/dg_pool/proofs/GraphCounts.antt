@@ -12,7 +12,7 @@ use Rattle.dg_query.specs.declared.answers.Counts.{Counts}
 use Rattle.dg_pool.specs.Graphs.{given, picked}
 use Rattle.dg_query.specs.Queries.{is_a_node, is_an_edge, is_a_node_attr, is_an_edge_attr, counts_of}
 use Rattle.dg_pool.specs.Counts.{kind_count, one_more, one_less}
-use Rattle.dg_pool.proofs.KindCounts.{count-put, count-take_out, count-cons}
+use Rattle.dg_pool.proofs.SetCounts.{count-put, count-take_out, count-cons}
 
 counts_by : (n e a b n2 e2 a2 b2 : ℕ) → n ≡ n2 → e ≡ e2 → a ≡ a2 → b ≡ b2 → let c : Counts = record { nodes = n; edges = e; node_attrs = a; edge_attrs = b } in let d : Counts = record { nodes = n2; edges = e2; node_attrs = a2; edge_attrs = b2 } in c ≡ d
 counts_by n e a b n2 e2 a2 b2 p q r s = λ i. record { nodes = p i; edges = q i; node_attrs = r i; edge_attrs = s i }

@@ -12,9 +12,9 @@ use Rattle.dg_cells.specs.declared.row.Row.{Row}
 use Rattle.dg_cells.specs.Rows.{cell_at, CellsAreApart, Lacks}
 use Rattle.dg_pool.specs.Graphs.{picked, PoolState, AreSlots}
 use Rattle.dg_pool.specs.Sweeps.{passes_test, is_needed, union_of}
-use Rattle.dg_pool.proofs.Unions.{union_decides, union_lacks, IsSet-union_of}
-use Rattle.dg_pool.proofs.PoolInvariant.{row_or_none}
-use Rattle.dg_pool.proofs.Picked.{picked_lacks, gives, picked_set, picked_decides, picked_nothing}
+use Rattle.dg_pool.proofs.SweepUnions.{union_decides, union_lacks, IsSet-union_of}
+use Rattle.dg_pool.proofs.GraphInvariant.{row_or_none}
+use Rattle.dg_pool.proofs.GraphSets.{picked_lacks, gives, picked_set, picked_decides, picked_nothing}
 
 right : (a b : Bool) → (a || b) ≡ false → b ≡ false
 right true b e = cc

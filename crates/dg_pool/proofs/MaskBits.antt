@@ -53,7 +53,7 @@ module _ (row : Row) (mask : List ℕ) (w : ℕ) where
       ∙ ap (λ n. min n (bit_at (get_or mask w 0) i)) (bit_at_and (get_or row.bits w 0) (get_or row.bits w 0 / 2 ^ 1) i
       ∙ ap (min (bit_at (get_or row.bits w 0) i)) (sym (bit_at-suc (get_or row.bits w 0) i)))
 
-  -- the slot with this place in the word
+  -- the slot with this index in the word
   module _ (s : ℕ) (in_word : s / 32 ≡ w) where
     mask_is : word_bit mask (2 * s) ≡ eqb (bit_at (get_or mask w 0) (2 * (s % 32))) 1
     mask_is =
@@ -120,8 +120,8 @@ module _ (row : Row) (mask : List ℕ) (w : ℕ) where
           by (inl e) =
               let s = 32 * w + t / 2 in
               let in_word : s / 32 ≡ w = omega arith in
-              let place : 2 * (s % 32) ≡ t = omega arith in
-              let first = first_is s in_word ∙ ap (λ i. eqb (bit_at (get_or row.bits w 0) i) 1) place ∙ ap (λ n. eqb n 1) ones.0 in
-              let second = second_is s in_word ∙ ap (λ i. eqb (bit_at (get_or row.bits w 0) (suc i)) 1) place ∙ ap (λ n. eqb n 1) ones.1 in
-              let there = mask_is s in_word ∙ ap (λ i. eqb (bit_at (get_or mask w 0) i) 1) place ∙ ap (λ n. eqb n 1) ones.2 in
+              let sweep_index : 2 * (s % 32) ≡ t = omega arith in
+              let first = first_is s in_word ∙ ap (λ i. eqb (bit_at (get_or row.bits w 0) i) 1) sweep_index ∙ ap (λ n. eqb n 1) ones.0 in
+              let second = second_is s in_word ∙ ap (λ i. eqb (bit_at (get_or row.bits w 0) (suc i)) 1) sweep_index ∙ ap (λ n. eqb n 1) ones.1 in
+              let there = mask_is s in_word ∙ ap (λ i. eqb (bit_at (get_or mask w 0) i) 1) sweep_index ∙ ap (λ n. eqb n 1) ones.2 in
               (s, omega arith, there, λ i. (first i, second i))

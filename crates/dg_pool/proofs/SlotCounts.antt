@@ -19,9 +19,9 @@ use Rattle.dg_pool.specs.Sweeps.{members_as}
 use Rattle.dg_pool.specs.Slots.{BaseFits, IsBaseWith, base_members, moved_over}
 use Rattle.dg_query.specs.Queries.{is_a_node, is_an_edge, is_a_node_attr, is_an_edge_attr, counts_of}
 use Rattle.dg_pool.specs.Counts.{counts_after, counts_at, base_counts, AreCountsOf}
-use Rattle.dg_pool.proofs.Picked.{picked_set, picked_decides, picked_nothing, picked_lacks, gives}
-use Rattle.dg_pool.proofs.PoolInvariant.{row_or_none}
-use Rattle.dg_pool.proofs.KindCounts.{count-applied, count-without_all, count-filter_alike, count-filter_all, count-filter_none}
+use Rattle.dg_pool.proofs.GraphSets.{picked_set, picked_decides, picked_nothing, picked_lacks, gives}
+use Rattle.dg_pool.proofs.GraphInvariant.{row_or_none}
+use Rattle.dg_pool.proofs.SetCounts.{count-applied, count-without_all, count-filter_alike, count-filter_all, count-filter_none}
 
 -- what a count is after some are lost and others gained
 pub record SumsTo (was lost gained new : ℕ) : Type 0 where

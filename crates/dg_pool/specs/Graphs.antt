@@ -1,4 +1,4 @@
--- The pool: its cells, its slots and the place of the sweep; and the graphs that it has by them.
+-- The pool: its cells, its slots and the index of the sweep; and the graphs that it has by them.
 use Rattle.std.specs.Prelude.{◌≡◌, ℕ, ◌≤◌, ◌<◌, ◌==◌, Bool, true, false, not, ◌&&◌, cond, if◌then◌else◌, List, [], ◌∷◌, Option, Some, None, slice_index_or, length, IfSome}
 use Rattle.std.specs.List.{list_any}
 use Rattle.std.specs.Option.{option_map}
@@ -20,7 +20,7 @@ use Rattle.dg_cells.specs.Rows.{is_current, pair, cell_at, CellsAreApart, HasCel
 pub record PoolState : Type 0 where
   pub rows : List (Option Row)
   pub slots : List SlotState
-  pub place : ℕ
+  pub sweep_index : ℕ
 
 -- what two bits say of an element, beside the base: in, out, or as in the base
 abbrev pub pair_says : Bool × Bool → Says
@@ -107,17 +107,17 @@ pub record AreSlots (slots : List SlotState) : Type 0 where
   pub bases : (s : ℕ) → 1 ≤ s → IsBased slots (slot_at slots s)
 
 -- A free slot has no bit. One that was released when the present sweep began has none in the cells
--- before its place.
+-- before its index.
 abbrev pub IsClean : List (Option Row) → ℕ → ℕ → SlotState → Type 0
-IsClean rows place s state.Free = (n : ℕ) → pair_at s (cell_at rows n) ≡ (false, false)
-IsClean rows place s (state.Released true) = (n : ℕ) → n < place → pair_at s (cell_at rows n) ≡ (false, false)
-IsClean rows place s (state.Released false) = Unit {0}
-IsClean rows place s (state.Live b cols) = Unit {0}
+IsClean rows sweep_index s state.Free = (n : ℕ) → pair_at s (cell_at rows n) ≡ (false, false)
+IsClean rows sweep_index s (state.Released true) = (n : ℕ) → n < sweep_index → pair_at s (cell_at rows n) ≡ (false, false)
+IsClean rows sweep_index s (state.Released false) = Unit {0}
+IsClean rows sweep_index s (state.Live b cols) = Unit {0}
 
 pub record IsPool (p : PoolState) : Type 0 where
   pub slots : AreSlots p.slots
   pub apart : CellsAreApart p.rows
-  pub clean : (s : ℕ) → 1 ≤ s → IsClean p.rows p.place s (slot_at p.slots s)
+  pub clean : (s : ℕ) → 1 ≤ s → IsClean p.rows p.sweep_index s (slot_at p.slots s)
 
 abbrev pub is_live : SlotState → Bool
 is_live state.Free = false

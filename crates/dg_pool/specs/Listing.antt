@@ -4,7 +4,7 @@ use Rattle.dg_graph.specs.declared.element.Element.{Element}
 use Rattle.dg_graph.specs.Elements.{before}
 use Rattle.dg_cells.specs.declared.row.Row.{Row}
 use Rattle.dg_cells.specs.declared.cursors.Cursor.{Cursor}
-use Rattle.dg_cells.specs.Cursors.{ordered, cursor_place, row_at}
+use Rattle.dg_cells.specs.Cursors.{ordered, cursor_index, row_at}
 use Rattle.dg_pool.specs.Graphs.{PoolState, slot_graph}
 use Rattle.dg_pool.specs.Sweeps.{element_of, members_as}
 
@@ -23,4 +23,4 @@ members_from p s c = not_before (members_as (slot_graph p s)) (element_under p c
 
 -- the elements of the cells from a cursor on that pass the test
 abbrev pub passing_from : (Row → Bool) → List (Option Row) → Cursor → List Element
-passing_from test rows c = map (λ (r : Row). r.element) (filter test (drop (cursor_place rows c) (ordered rows)))
+passing_from test rows c = map (λ (r : Row). r.element) (filter test (drop (cursor_index rows c) (ordered rows)))

@@ -105,9 +105,9 @@ union_of p = unioned (graph_now p) (live_union p.rows 0 p.slots)
 abbrev pub cells_of : PoolState → List Element
 cells_of p = picked (λ r. true) p.rows
 
--- where a sweep stands at no place, it begins
+-- where a sweep stands at no index, it begins
 abbrev pub started : ℕ → SlotState → SlotState
-started place slot = if place == 0 then begun slot else slot
+started sweep_index slot = if sweep_index == 0 then begun slot else slot
 
 -- what a sweep leaves of a cell, by the union of the live graphs
 abbrev pub remains_in : List Element → Option Row → Option Element
@@ -123,16 +123,16 @@ pub record PassesCells (old new : PoolState) (from until : ℕ) : Type 0 where
 
 -- A sweep that goes on for so many cells, and whether it has passed all.
 pub record LeavesCells (old new : PoolState) (count : ℕ) : Type 0 where
-  pub passes : PassesCells old new old.place new.place
-  pub taken : cells_below old.rows new.place ≡ cells_below old.rows old.place + count
-  pub left : IsSome (cell_at new.rows new.place)
-  pub slots : (s : ℕ) → slot_at new.slots s ≡ started old.place (slot_at old.slots s)
+  pub passes : PassesCells old new old.sweep_index new.sweep_index
+  pub taken : cells_below old.rows new.sweep_index ≡ cells_below old.rows old.sweep_index + count
+  pub left : IsSome (cell_at new.rows new.sweep_index)
+  pub slots : (s : ℕ) → slot_at new.slots s ≡ started old.sweep_index (slot_at old.slots s)
 
 pub record PassesAllCells (old new : PoolState) (count : ℕ) : Type 0 where
-  pub passes : PassesCells old new old.place (length old.rows)
-  pub most : cells_below old.rows (length old.rows) ≤ cells_below old.rows old.place + count
-  pub place : new.place ≡ 0
-  pub slots : (s : ℕ) → slot_at new.slots s ≡ ended (started old.place (slot_at old.slots s))
+  pub passes : PassesCells old new old.sweep_index (length old.rows)
+  pub most : cells_below old.rows (length old.rows) ≤ cells_below old.rows old.sweep_index + count
+  pub sweep_index : new.sweep_index ≡ 0
+  pub slots : (s : ℕ) → slot_at new.slots s ≡ ended (started old.sweep_index (slot_at old.slots s))
 
 abbrev pub IsSweep : PoolState → PoolState → ℕ → Swept → Type 0
 IsSweep old new count answer.Done = PassesAllCells old new count

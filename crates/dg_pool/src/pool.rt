@@ -40,7 +40,7 @@ pub struct Pool {
     // of each live slot, and first of the current graph
     counts: [Counts; 128],
     // the number of the next cell that a sweep passes; 0 is the beginning
-    place: usize,
+    sweep_index: usize,
 }
 
 /// Why a graph got no slot.
@@ -82,9 +82,9 @@ impl Model for Pool {
 
     ghost Value = { PoolState };
 
-    ghost view = { λ p. record { rows = p.cells; slots = p.slots; place = p.place } };
+    ghost view = { λ p. record { rows = p.cells; slots = p.slots; sweep_index = p.sweep_index } };
 
-    ghost invariant = { λ p. IsCountedPool (record { rows = p.cells; slots = p.slots; place = p.place }) p.counts };
+    ghost invariant = { λ p. IsCountedPool (record { rows = p.cells; slots = p.slots; sweep_index = p.sweep_index }) p.counts };
 }
 
 impl Pool {
@@ -94,13 +94,13 @@ impl Pool {
         ensures slots { (s : ℕ) → slot_graph result s ≡ None }
         ensures free { (s : ℕ) → slot_at result.slots s ≡ state.Free }
         ensures cells { cells_of result ≡ [] }
-        ensures place { result.place ≡ 0 }
+        ensures sweep_index { result.sweep_index ≡ 0 }
     {
         Pool {
             cells: Cells::new(alloc),
             slots: all_free(),
             counts: no_counts(),
-            place: 0,
+            sweep_index: 0,
         }
     }
 
@@ -111,7 +111,7 @@ impl Pool {
         ensures slots { IfOk result (λ p. (s : ℕ) → slot_graph p s ≡ None) }
         ensures free { IfOk result (λ p. (s : ℕ) → slot_at p.slots s ≡ state.Free) }
         ensures cells { IfOk result (λ p. cells_of p ≡ set.now) }
-        ensures place { IfOk result (λ p. p.place ≡ 0) }
+        ensures sweep_index { IfOk result (λ p. p.sweep_index ≡ 0) }
     {
         let cells = Cells::from_rising(alloc, set.items(), true)?;
         cells.facts();
@@ -121,7 +121,7 @@ impl Pool {
             cells,
             slots: all_free(),
             counts,
-            place: 0,
+            sweep_index: 0,
         })
     }
 
@@ -188,15 +188,20 @@ impl Pool {
         ensures graphs { SameGraphs self.old self.new }
         ensures sweep { IsSweep self.old self.new cells result }
     {
-        start(&mut self.slots, self.place);
-        let place = sweep(&mut self.cells, &self.slots, self.place, u64::from(cells));
+        start(&mut self.slots, self.sweep_index);
+        let sweep_index = sweep(
+            &mut self.cells,
+            &self.slots,
+            self.sweep_index,
+            u64::from(cells),
+        );
         self.cells.facts();
-        if place < self.cells.len() {
-            self.place = place;
+        if sweep_index < self.cells.len() {
+            self.sweep_index = sweep_index;
             return Swept::More;
         }
         end(&mut self.slots);
-        self.place = 0;
+        self.sweep_index = 0;
         Swept::Done
     }
 
@@ -206,7 +211,7 @@ impl Pool {
     pub fn clean_all(&mut self)
         ensures graphs { SameGraphs self.old self.new }
         ensures cells { cells_of self.new ≡ union_of self.new }
-        ensures place { self.new.place ≡ 0 }
+        ensures sweep_index { self.new.sweep_index ≡ 0 }
         ensures free { (s : ℕ) → is_live (slot_at self.new.slots s) ≡ false → slot_at self.new.slots s ≡ state.Free }
     {
         begin(&mut self.slots);
@@ -214,7 +219,7 @@ impl Pool {
         sweep(&mut self.cells, &self.slots, 0, count);
         self.cells.facts();
         end(&mut self.slots);
-        self.place = 0;
+        self.sweep_index = 0;
     }
 
     // The least free slot, after a whole sweep where none is free.

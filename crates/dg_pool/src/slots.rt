@@ -70,12 +70,12 @@ pub(crate) fn begin(slots: &mut [SlotState; 128])
     }
 }
 
-/// A sweep begins, where none stands at a place.
-pub(crate) fn start(slots: &mut [SlotState; 128], place: usize)
-    ensures slots { (s : ℕ) → slot_at slots.new s ≡ started place (slot_at slots.old s) }
+/// A sweep begins, where none stands at an index.
+pub(crate) fn start(slots: &mut [SlotState; 128], sweep_index: usize)
+    ensures slots { (s : ℕ) → slot_at slots.new s ≡ started sweep_index (slot_at slots.old s) }
     ensures count { length slots.new ≡ 128 }
 {
-    if place == 0 {
+    if sweep_index == 0 {
         begin(slots);
     }
 }

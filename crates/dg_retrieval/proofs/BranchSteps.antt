@@ -9,7 +9,7 @@ use Rattle.dg_plan.specs.Walks.{Graft}
 use Rattle.dg_planner.specs.declared.tree.Graft.{Graft as PlannedGraft}
 use Rattle.dg_planner.specs.Trees.{node_graft, node_grafts}
 use Rattle.dg_retrieval.specs.Branches.{AreBranches, IsBranch}
-use Rattle.dg_retrieval.proofs.TreeBranches.{branches_more}
+use Rattle.dg_retrieval.proofs.BranchTrees.{branches_more}
 
 -- with the branch of one graft more
 pub branches_step : (edges : ListOf Edge) (targets : ListOf NodeId) (xs : ListOf PlannedGraft) (done next : ListOf Branch) (i : ℕ) (x : PlannedGraft) (b : Branch) → length xs ≡ length targets

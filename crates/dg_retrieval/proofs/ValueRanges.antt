@@ -8,8 +8,8 @@ use Rattle.std.proofs.lemmas.Bool.{leb-true, eqb-false, false≢true}
 use Rattle.std.proofs.lemmas.List.{reverse-append}
 use Rattle.std.proofs.lemmas.List.Elements.{All-nil, All-cons, All-head, All-tail, All-append, All-filter}
 use Rattle.dg_columns.specs.NamesInRange.{NamesFit, ValueNamesFit}
-use Rattle.dg_columns.proofs.DeltaReadFits.{name_bound}
-use Rattle.dg_columns.proofs.ElementsAt.{bind_ok, elements_are, ok_is, passed}
+use Rattle.dg_columns.proofs.ReadFitsDeltas.{name_bound}
+use Rattle.dg_columns.proofs.FieldElements.{bind_ok, elements_are, ok_is, passed}
 use Rattle.dg_columns.proofs.Fields.{field_ok}
 use Rattle.dg_fold.specs.declared.part.Part.{Part}
 use Rattle.dg_fold.specs.Parts.{Folds, and_then, beside, bytes_in, deltas_in_part, fault_named, is_events, part_column_in, parts_in, record_in}

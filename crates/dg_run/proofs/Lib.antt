@@ -1,6 +1,6 @@
-pub mod EndOfRun
-pub mod Completes
-pub mod Turning
-pub mod RunSoFar
-pub mod Starts
-pub mod Promises
+pub mod LinesStateEnds
+pub mod PromisedEnds
+pub mod TurnLines
+pub mod ServedRuns
+pub mod StatusStarts
+pub mod PromisedRuns

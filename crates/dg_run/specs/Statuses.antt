@@ -21,7 +21,7 @@ code_of status.ScriptLimit = 9
 abbrev pub ending_of : SessionFault → Status
 ending_of (Start fault.Disk) = status.DiskFault
 ending_of (Start fault.Foreign) = status.Refused (Start fault.Foreign)
-ending_of (Start (fault.Damaged place)) = status.Refused (Start (fault.Damaged place))
+ending_of (Start (fault.Damaged offset)) = status.Refused (Start (fault.Damaged offset))
 ending_of (Start (fault.BadRecord key col)) = status.Refused (Start (fault.BadRecord key col))
 ending_of (Start fault.NotGraph) = status.Refused (Start fault.NotGraph)
 ending_of (Start (fault.BadRecent number)) = status.Refused (Start (fault.BadRecent number))

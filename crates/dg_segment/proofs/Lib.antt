@@ -1,4 +1,4 @@
-pub mod PackedColumns
-pub mod TextsInBytes
-pub mod SegmentSizes
-pub mod DirectoryTexts
+pub mod PackedRecordColumns
+pub mod NewNameBytes
+pub mod SegmentPartSizes
+pub mod DirectoryPartTexts

@@ -23,7 +23,7 @@ use Rattle.dg_plan.specs.declared.edge.Edge.{Edge}
 use Rattle.dg_retrieval.specs.declared.node_lead.NodeLead.{NodeLead}
 use Rattle.dg_retrieval.specs.KeptGraph.{index_edges, kept_edges}
 use Rattle.dg_retrieval.specs.Retrieval.{IsFirstDamage}
-use Rattle.dg_session.proofs.Retrievals.{IsSession}
+use Rattle.dg_session.proofs.SessionRetrievals.{IsSession}
 use Rattle.dg_session.specs.declared.halt.Halt.{Halt}
 use Rattle.dg_session.specs.declared.halt.Halt.TheVariants as halt
 use Rattle.dg_session.specs.Damage.{DamageIn, DamageIs, Graphs, IsMetBy, NamesDamage, NamesNodeDamage, Node_set, ReadsFor, reads_for}

@@ -8,7 +8,7 @@ use Rattle.dg_handles.specs.Handles.{HandlesState, graph_among, slot_graphs, gra
 use Rattle.dg_machine.specs.declared.stands.Stands.{Stands}
 use Rattle.dg_machine.specs.MachineState.{without_handle}
 use Rattle.dg_pool.specs.Graphs.{PoolState, SameGraphs, slot_graph}
-use Rattle.dg_session.proofs.PoolStep.{graphs_same}
+use Rattle.dg_session.proofs.SessionPoolStep.{graphs_same}
 use Rattle.dg_session.specs.KeptAdjacency.{KeepsAdjacency, KeepsAlone, ServesFor, kept_but}
 use Rattle.dg_view.specs.declared.ends.EdgeEnd.{EdgeEnd}
 use Rattle.dg_view.specs.EdgeEnds.{IsAdjacencyOf}

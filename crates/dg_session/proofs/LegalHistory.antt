@@ -18,9 +18,9 @@ use Rattle.dg_history.specs.LegalHistory.{FitsEvent, IsLegal, IsLegalBatch, AreL
 use Rattle.dg_graph.specs.Names.{are_new}
 use Rattle.dg_graph.specs.Replay.{replay}
 use Rattle.dg_session.proofs.CompletedChanges.{AllCome, all_come, as_many}
-use Rattle.dg_session.proofs.EventRanges.{BodyFits, ChangeFits, ElementFits, HasKey, WhatFits, body_more, changes_fit, events_fit, events_keys, from_legal, has_key_more, legal_body, lines_grow, replay_fits, times_fit}
+use Rattle.dg_session.proofs.LegalHistoryRanges.{BodyFits, ChangeFits, ElementFits, HasKey, WhatFits, body_more, changes_fit, events_fit, events_keys, from_legal, has_key_more, legal_body, lines_grow, replay_fits, times_fit}
 use Rattle.dg_session.proofs.NamesAfter.{Grows, changes_length, grown_drop, grown_long, grows_none, new_joined}
-use Rattle.dg_session.proofs.ChangeRanges.{SaidFits}
+use Rattle.dg_session.proofs.ChangeGrammarRanges.{SaidFits}
 use Rattle.dg_append.specs.Fronts.{lines}
 
 -- ---- batches, with more names

@@ -12,7 +12,7 @@ use Rattle.dg_graph.specs.declared.limits.TheConstants.{KEY_BYTES_MAX, NAME_BYTE
 use Rattle.dg_history.specs.Batch.{changes_after, names_after}
 use Rattle.dg_history.specs.ChangeGrammar.{ChangeByText, named, change_with}
 use Rattle.dg_graph.specs.Names.{number_of, added, number_in, number_or, name_text, is_name, is_key, are_new}
-use Rattle.dg_names.proofs.NumberOf.{number_stands, no_number}
+use Rattle.dg_names.proofs.NameLimitNumbers.{number_stands, no_number}
 
 -- ---- lines one after another
 

@@ -34,16 +34,16 @@ use Rattle.dg_plan.specs.InstantPoint.{point}
 use Rattle.dg_plan.specs.Walks.{IsPlan, IsPotential, weight_of}
 use Rattle.dg_planner.specs.Bases.{ground_of}
 use Rattle.dg_planner.specs.HistoryLaws.{first_time_in}
-use Rattle.dg_planner.proofs.HistoryGraph.{edges_are as edges_of_records, graph_of_history}
-use Rattle.dg_planner.proofs.HistoryPoints.{points_of_history}
+use Rattle.dg_planner.proofs.HistoryLawGraphs.{edges_are as edges_of_records, graph_of_history}
+use Rattle.dg_planner.proofs.HistoryLawPoints.{points_of_history}
 use Rattle.dg_shape.specs.Points.{point_of}
-use Rattle.dg_session.proofs.HeldHistory.{count_is, kept_span_is, span_is}
-use Rattle.dg_session.proofs.OpenedHistory.{behind}
-use Rattle.dg_session.proofs.StandsFor.{IsOf, by_first, is_of, miss, one_image, opening_of, stands_on}
+use Rattle.dg_session.proofs.HeldIndexHistory.{count_is, kept_span_is, span_is}
+use Rattle.dg_session.proofs.OpenedIndexHistory.{behind}
+use Rattle.dg_session.proofs.PartStates.{IsOf, by_first, is_of, miss, one_image, opening_of, stands_on}
 use Rattle.dg_session.specs.declared.halt.Halt.TheVariants as halt
 use Rattle.dg_session.specs.declared.stop.Stop.{Stop}
 use Rattle.dg_session.specs.declared.stop.Stop.TheVariants as stop
-use Rattle.dg_session.proofs.Steps.{Comes, lacking_denies, moved, moved_by, refused_denies}
+use Rattle.dg_session.proofs.SessionSteps.{Comes, lacking_denies, moved, moved_by, refused_denies}
 use Rattle.dg_session.specs.BatchLines.{first_refusal}
 use Rattle.dg_session.specs.Parts.{Parts}
 use Rattle.dg_retrieval.specs.KeptGraph.{holding, index_edges, kept_edges, kept_nodes, record_edges, shape_with}

@@ -22,11 +22,11 @@ use Rattle.dg_index.specs.Hierarchy.{children, leaves, numbers}
 use Rattle.dg_index.specs.IndexKeys.{AreKept, keys_among}
 use Rattle.dg_index.specs.IndexRecords.{deltas_due, deltas_due_at, deltas_of, inner_due, lists_due}
 use Rattle.dg_index.specs.OpenedIndex.{Opening, event_total, span_in}
-use Rattle.dg_index.proofs.KeptColumns.{Each, each_append, each_flat, each_map, each_number}
-use Rattle.dg_index.proofs.OpenedHistories.{large_parameters}
-use Rattle.dg_index.proofs.StableRecords.{leaves_more}
+use Rattle.dg_index.proofs.IndexRecordColumns.{Each, each_append, each_flat, each_map, each_number}
+use Rattle.dg_index.proofs.OpenedIndexHistories.{large_parameters}
+use Rattle.dg_index.proofs.HierarchyStability.{leaves_more}
 use Rattle.dg_plan.specs.IndexGraph.{inner_nodes}
-use Rattle.dg_plan.proofs.ReachedNodes.{contains_mapped, contains_number}
+use Rattle.dg_plan.proofs.IndexGraphReachability.{contains_mapped, contains_number}
 use Rattle.dg_planner.specs.HistoryLaws.{first_time_in}
 use Rattle.dg_retrieval.specs.KeptGraph.{kept_ground, kept_nodes}
 use Rattle.dg_shape.specs.Entries.{Holdings}

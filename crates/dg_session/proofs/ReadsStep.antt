@@ -12,7 +12,7 @@ use Rattle.dg_machine.specs.declared.reply.Reply.{Reply}
 use Rattle.dg_machine.specs.Answer.{is_refusal}
 use Rattle.dg_machine.specs.Needs.{needs}
 use Rattle.dg_machine.specs.Run.{is_store_read}
-use Rattle.dg_session.proofs.Retrievals.{every_some, if_some}
+use Rattle.dg_session.proofs.SessionRetrievals.{every_some, if_some}
 use Rattle.dg_session.specs.declared.halt.Halt.{Halt}
 use Rattle.dg_session.specs.declared.halt.Halt.TheVariants as halt
 use Rattle.dg_session.specs.Parts.{Parts}

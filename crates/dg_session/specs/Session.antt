@@ -95,7 +95,7 @@ abbrev pub MayRead : Command → List ScriptLine → Parts → Type 0
 MayRead command got old = ((needs command).reads ≡ true) × (refused_by old (length got) (needs command) ≡ None)
 
 -- The command and the lines that follow it make such a step, where the disk tells its image. A reply that tells of a read
--- takes the place of no refusal by what the session keeps, whatever the image is.
+-- takes the index of no refusal by what the session keeps, whatever the image is.
 abbrev pub Steps : Command → Option (List ScriptLine) → Option (List ScriptLine) → Parts → Option (List ℕ) → Parts → Option (List ℕ) → Reply → Type 0
 Steps command lines_before lines_after old before new after reply =
     (got : List ScriptLine) × Follows (following command) lines_before got lines_after

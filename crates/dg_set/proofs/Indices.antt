@@ -48,7 +48,7 @@ derived_is (EdgeAttr id key value) (EdgeAttr id2 key2 value2) =
 pub compared : (x y : Element) (o r : Ordering) → r ≡ derived.ghosts.cmp x y → r ≡ o → element_cmp x y ≡ o
 compared x y o r e h = sym (derived_is x y) ∙ sym e ∙ h
 
--- ---- places
+-- ---- indices
 
 pub adjacent : (xs : List Element) (k : ℕ) (d : Element) → IsSet xs → suc k < length xs → IsTrue (before (get_or xs k d) (get_or xs (suc k) d))
 adjacent [] k d s h = absurd (omega arith)
@@ -104,28 +104,28 @@ put-first x (y ∷ xs) h = ap (λ o. put_by o x y xs) (Less_from_test (element_c
 pub put-past : (x y : Element) (xs : List Element) → IsTrue (before y x) → put x (y ∷ xs) ≡ y ∷ put x xs
 put-past x y xs h = ap (λ o. put_by o x y xs) (Greater_from_before y x h)
 
-abbrev IsPlace : Element → List Element → ℕ → Type 0
-IsPlace x xs at = (at ≤ length xs) × ((k : ℕ) (d : Element) → k < at → IsTrue (before (get_or xs k d) x)) × ((k : ℕ) (d : Element) → at ≤ k → k < length xs → IsTrue (before x (get_or xs k d)))
+abbrev IsIndex : Element → List Element → ℕ → Type 0
+IsIndex x xs at = (at ≤ length xs) × ((k : ℕ) (d : Element) → k < at → IsTrue (before (get_or xs k d) x)) × ((k : ℕ) (d : Element) → at ≤ k → k < length xs → IsTrue (before x (get_or xs k d)))
 
-IsPlace-tail : (x y : Element) (xs : List Element) (at : ℕ) → IsPlace x (y ∷ xs) (suc at) → IsPlace x xs at
-IsPlace-tail x y xs at p =
+IsIndex-tail : (x y : Element) (xs : List Element) (at : ℕ) → IsIndex x (y ∷ xs) (suc at) → IsIndex x xs at
+IsIndex-tail x y xs at p =
     (omega arith, λ k d h. p.1 (suc k) d (omega arith), λ k d h g. p.2 (suc k) d (omega arith) (omega arith))
 
-put_at : (x : Element) (xs : List Element) (at : ℕ) → IsPlace x xs at → put x xs ≡ take at xs ++ x ∷ drop at xs
+put_at : (x : Element) (xs : List Element) (at : ℕ) → IsIndex x xs at → put x xs ≡ take at xs ++ x ∷ drop at xs
 put_at x xs zero p =
     put-first x xs (IsBelowFirst-from_index x xs (λ k d h. p.2 k d (omega arith) h))
 put_at x [] (suc at) p = absurd (omega arith)
 put_at x (y ∷ xs) (suc at) p =
-    put-past x y xs (p.1 0 y (omega arith)) ∙ ap (λ l. y ∷ l) (put_at x xs at (IsPlace-tail x y xs at p))
+    put-past x y xs (p.1 0 y (omega arith)) ∙ ap (λ l. y ∷ l) (put_at x xs at (IsIndex-tail x y xs at p))
 
-lacks_at : (x : Element) (xs : List Element) (at : ℕ) → IsSet xs → IsPlace x xs at → has xs x ≡ false
+lacks_at : (x : Element) (xs : List Element) (at : ℕ) → IsSet xs → IsIndex x xs at → has xs x ≡ false
 lacks_at x xs zero s p =
     lacks_below x xs (IsBelowFirst-from_index x xs (λ k d h. p.2 k d (omega arith) h)) s
 lacks_at x [] (suc at) s p = refl
 lacks_at x (y ∷ xs) (suc at) s p =
-    or_from (same x y) (has xs x) (differs_back y x (p.1 0 y (omega arith))) (lacks_at x xs at s.1 (IsPlace-tail x y xs at p))
+    or_from (same x y) (has xs x) (differs_back y x (p.1 0 y (omega arith))) (lacks_at x xs at s.1 (IsIndex-tail x y xs at p))
 
-belongs : (x : Element) (xs : List Element) (at : ℕ) → IsSet xs → IsPlace x xs at → BelongsAt x xs at
+belongs : (x : Element) (xs : List Element) (at : ℕ) → IsSet xs → IsIndex x xs at → BelongsAt x xs at
 belongs x xs at s p =
     let added = put_at x xs at p in
     let absent = lacks_at x xs at s p in

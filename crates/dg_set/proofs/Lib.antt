@@ -1,4 +1,4 @@
 pub mod Indices
-pub mod Merges
-pub mod Replaced
+pub mod SetMerges
+pub mod SetReplacements
 pub mod Apart

@@ -1,5 +1,5 @@
-pub mod Records
-pub mod AddedRecords
-mod DueKeys
-mod Nodes
-pub mod BegunLists
+pub mod EntryRecords
+pub mod AdditionRecords
+mod HierarchyRecords
+mod ShapeNodes
+pub mod PointLists

@@ -35,11 +35,11 @@ parent_of p n node.Now = None
 parent_of p n node.Recent = None
 parent_of p n (node.List i) = None
 
--- the child at a place, counted from 1, among those of an interior node that exists
+-- the child at a number, counted from 1, among those of an interior node that exists
 abbrev pub child_of : Params → ℕ → NodeId → ℕ → Option NodeId
-child_of p n (node.Inner h j) place = cond (exists p n (node.Inner h j) && (nat_le 1 place && nat_le place p.k)) (Some (node_of_height (h - 1) (get_or (children p.k j) (place - 1) 0))) None
-child_of p n node.Root place = None
-child_of p n node.Now place = None
-child_of p n node.Recent place = None
-child_of p n (node.Leaf c) place = None
-child_of p n (node.List i) place = None
+child_of p n (node.Inner h j) child_number = cond (exists p n (node.Inner h j) && (nat_le 1 child_number && nat_le child_number p.k)) (Some (node_of_height (h - 1) (get_or (children p.k j) (child_number - 1) 0))) None
+child_of p n node.Root child_number = None
+child_of p n node.Now child_number = None
+child_of p n node.Recent child_number = None
+child_of p n (node.Leaf c) child_number = None
+child_of p n (node.List i) child_number = None

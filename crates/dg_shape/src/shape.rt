@@ -38,7 +38,7 @@ fn number_above(arity: u32, number: u32) -> u32
     (number - 1) / arity + 1
 }
 
-// The child at this place, from 1, among those of the node with the number `above` at a height.
+// The child at this number, from 1, among those of the node with the number `above` at a height.
 fn child_at(arity: u32, height: u32, above: u32, number: u32) -> Option<NodeId>
     requires height { 1 ≤ height }
     requires above { 1 ≤ above }
@@ -126,8 +126,8 @@ impl Shape {
         }
     }
 
-    /// The child of an interior node at this place among its own, from 1. `None` exactly where the node
-    /// is no interior node or is not there, and where the place is 0 or above the arity.
+    /// The child of an interior node at this number among its own, from 1. `None` exactly where the node
+    /// is no interior node or is not there, and where the number is 0 or above the arity.
     pub fn child(&self, node: NodeId, number: u32) -> Option<NodeId>
         requires { IsShape self.now }
         ensures { (f : Function) → result ≡ child_of (made_with f self.now) self.now.events node number }

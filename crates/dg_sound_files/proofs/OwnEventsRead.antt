@@ -22,13 +22,13 @@ use Rattle.dg_index.specs.Hierarchy.{leaves, numbers}
 use Rattle.dg_index.specs.IndexRecords.{closed_list}
 use Rattle.dg_index.specs.OpenedIndex.{Opened, column_at, entry_at, event_total}
 use Rattle.dg_index.specs.declared.entry.BatchEntry.{BatchEntry}
-use Rattle.dg_index.proofs.DirectoryNames.{both}
-use Rattle.dg_index.proofs.KeptColumns.{Each, each_append}
-use Rattle.dg_index.proofs.StableRecords.{leaves_more}
+use Rattle.dg_index.proofs.ImageTextNames.{both}
+use Rattle.dg_index.proofs.IndexRecordColumns.{Each, each_append}
+use Rattle.dg_index.proofs.HierarchyStability.{leaves_more}
 use Rattle.dg_columns.specs.ColumnLaws.{AreBytes, EventsHaveOneSpelling}
 use Rattle.dg_columns.specs.ReadFits.{EventsThatAreReadFit}
 use Rattle.dg_sound.specs.OwnEvents.{events_of_record, are_completions, events_may_follow, are_ends, have_ends, if_right, with_record, with_list, with_lists, list_total, piece_start, piece_length, is_recent, has_batch_ends, is_column_of, if_columns, with_older, with_recent, with_piece_events, with_pieces}
-use Rattle.dg_sound_files.proofs.RecordsOfEvents.{ok_same, and_then_is, events_are_of}
+use Rattle.dg_sound_files.proofs.OwnEventColumns.{ok_same, and_then_is, events_are_of}
 
 -- ---- parts of lists
 

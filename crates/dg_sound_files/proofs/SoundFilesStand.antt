@@ -11,8 +11,8 @@ use Rattle.dg_history.specs.LegalHistory.{AreLegalAfter, FitsEvent, IsLegal}
 use Rattle.dg_index.specs.ImageOfHistory.{IsImageOf}
 use Rattle.dg_index.specs.OpenedIndex.{Opened, Directory, bare, event_total}
 use Rattle.dg_index.specs.declared.entry.BatchEntry.{BatchEntry}
-use Rattle.dg_index.proofs.KeptColumns.{Each, events_among}
-use Rattle.dg_index.proofs.OpenedHistories.{large_parameters}
+use Rattle.dg_index.proofs.IndexRecordColumns.{Each, events_among}
+use Rattle.dg_index.proofs.OpenedIndexHistories.{large_parameters}
 use Rattle.dg_columns.specs.ColumnLaws.{AreBytes, EventsHaveOneSpelling}
 use Rattle.dg_columns.specs.ReadFits.{EventsThatAreReadFit}
 use Rattle.dg_columns.proofs.Fields.{IsBytes, bytes_from_all}
@@ -20,16 +20,16 @@ use Rattle.dg_sound.specs.declared.soundness.Soundness.TheVariants.{Sound}
 use Rattle.dg_sound.specs.OwnEvents.{are_completions, list_total, listed_events, own_events, with_pieces}
 use Rattle.dg_sound_files.specs.SoundFiles.{SoundFilesStand}
 use Rattle.dg_sound.specs.Soundness.{delta_keys, first_wrong, history_of, if_read, judged_events, own_batches, record_total, sound_unless}
-use Rattle.dg_sound_files.proofs.ChainFacts.{chain_few, chain_few_names, chain_follow, chain_named, chain_new}
-use Rattle.dg_sound_files.proofs.FilesInBytes.{IsOpened, is_opened, stands_as_file}
-use Rattle.dg_sound_files.proofs.OwnBatches.{HaveEnds, own_agree, own_events_whole, own_names_whole}
-use Rattle.dg_sound_files.proofs.OwnDeltas.{IsRightDelta, all_right}
+use Rattle.dg_sound_files.proofs.OpenedIndexBatches.{chain_few, chain_few_names, chain_follow, chain_named, chain_new}
+use Rattle.dg_sound_files.proofs.OpenedIndexFiles.{IsOpened, is_opened, stands_as_file}
+use Rattle.dg_sound_files.proofs.SoundnessBatches.{HaveEnds, own_agree, own_events_whole, own_names_whole}
+use Rattle.dg_sound_files.proofs.SoundnessDueDeltas.{IsRightDelta, all_right}
 use Rattle.dg_sound_files.proofs.OwnEventsRead.{AreRightPieces, AreSound, IsRightList, ListsRead, lists_read, no_events, pieces_read}
-use Rattle.dg_sound_files.proofs.OwnLegality.{legal_after}
-use Rattle.dg_sound_files.proofs.RecordsKept.{IsGood, PieceColumns, all_kept, good_deltas, good_list}
-use Rattle.dg_sound_files.proofs.ReadChains.{batch_entries, chain_batches, chain_names, new_names}
-use Rattle.dg_sound_files.proofs.RecordsOfEvents.{and_then_is}
-use Rattle.dg_sound_files.proofs.SegmentsInBytes.{Agree}
+use Rattle.dg_sound_files.proofs.OwnEventLegality.{legal_after}
+use Rattle.dg_sound_files.proofs.SoundnessRecords.{IsGood, PieceColumns, all_kept, good_deltas, good_list}
+use Rattle.dg_sound_files.proofs.OpenedIndexDirectories.{batch_entries, chain_batches, chain_names, new_names}
+use Rattle.dg_sound_files.proofs.OwnEventColumns.{and_then_is}
+use Rattle.dg_sound_files.proofs.OpenedIndexSegments.{Agree}
 
 -- ---- what is read of a sound image
 

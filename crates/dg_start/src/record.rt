@@ -97,7 +97,7 @@ pub fn read_record<D: Disk>(
     let edge_attrs = read_column(alloc, index, disk, names, key, Column::EdgeAttr)?;
     match merge(alloc, &structure, &node_attrs, &edge_attrs, count as u32) {
         Ok(events) => Ok(events),
-        Err(MergeFault::Places) => Err(RecordFault::BadRecord(key, Column::Structure)),
+        Err(MergeFault::Positions) => Err(RecordFault::BadRecord(key, Column::Structure)),
         Err(MergeFault::Memory) => Err(RecordFault::Memory),
     }
 }

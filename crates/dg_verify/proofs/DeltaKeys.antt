@@ -13,8 +13,8 @@ use Rattle.dg_index.specs.FileOfHistory.{stored}
 use Rattle.dg_index.specs.Hierarchy.{children, leaves, numbers}
 use Rattle.dg_index.specs.IndexRecords.{deltas_due, deltas_due_at, deltas_of, heights, inner_due, lists_due, record_among}
 use Rattle.dg_index.specs.OpenedIndex.{Opened}
-use Rattle.dg_index.proofs.DueNodes.{children_follow, numbers_length}
-use Rattle.dg_index.proofs.KeptColumns.{power_some}
+use Rattle.dg_index.proofs.HierarchyCounts.{children_follow, numbers_length}
+use Rattle.dg_index.proofs.IndexRecordColumns.{power_some}
 use Rattle.dg_sound.specs.Soundness.{delta_keys, first_wrong, or_later, record_total, wrong_column}
 use Rattle.dg_verify.specs.declared.deltas.DeltaKind.{DeltaKind}
 use Rattle.dg_verify.specs.declared.deltas.DeltaKind.TheVariants as delta

@@ -1,4 +1,4 @@
 pub mod Rows
-pub mod Searching
-pub mod Attributes
+pub mod WalkSearches
+pub mod WalkAttributes
 pub mod EdgeEnds

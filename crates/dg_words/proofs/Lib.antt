@@ -1,2 +1,2 @@
 mod Examples
-pub mod FormMatches
+pub mod WrittenFormMatches

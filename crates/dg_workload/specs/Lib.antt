@@ -1,2 +1,2 @@
 pub mod Request
-pub mod Place
+pub mod Position

@@ -1,11 +1,11 @@
 ghost use Rattle.std.specs.Prelude.{◌≡◌, ◌+◌, ◌/◌, ◌^◌, ◌<◌, ◌≤◌, ◌⊎◌, IfOk, OnOk, OnErr, length, take};
 ghost use Rattle.dg_history.specs.ChangeGrammar.{change_with, named};
 ghost use Rattle.dg_history.specs.GeneratedChanges.{next_number, part_of};
-ghost use Rattle.dg_workload.specs.Place.{change_at, first_place, next_place};
+ghost use Rattle.dg_workload.specs.Position.{change_at, first_position, next_position};
 ghost use Rattle.dg_workload.specs.Request.{with_request_key};
 
-use crate::numbered::numbered;
 use crate::request::requested;
+use crate::text_numbers::numbered;
 use dg_graph::{Change, NAMES_MAX};
 use dg_history::BATCH_LINES_MAX;
 use dg_names::Names;
@@ -30,7 +30,7 @@ const CHANGES_OF_INSTANT: u32 = 2;
 /// How many changes a group has.
 const CHANGES_OF_GROUP: u32 = 8;
 
-/// The changes of a seed, one after the other. A generator is seen as its place: the index of the change
+/// The changes of a seed, one after the other. A generator is seen as its position: the index of the change
 /// that comes next, from 0, and the number behind which it comes.
 #[derive(Drop)]
 pub struct Generator {
@@ -39,9 +39,9 @@ pub struct Generator {
 }
 
 impl Model for Generator {
-    ghost use Rattle.dg_workload.specs.Place.{Place};
+    ghost use Rattle.dg_workload.specs.Position.{Position};
 
-    ghost Value = { Place };
+    ghost Value = { Position };
 
     ghost view = { λ generator. record { index = generator.index; number = generator.number } };
 }
@@ -49,7 +49,7 @@ impl Model for Generator {
 impl Generator {
     /// The generator before the first change of the seed.
     pub fn new(seed: u64) -> Generator
-        ensures { result ≡ first_place seed }
+        ensures { result ≡ first_position seed }
     {
         Generator {
             index: 0,
@@ -67,7 +67,7 @@ impl Generator {
         // The change, and the names with its texts.
         ensures change { IfOk result (λ change. change ≡ change_with names.old (change_at self.old)) }
         ensures named { OnOk result (names.new ≡ named names.old (change_at self.old).asked) }
-        ensures place { self.new ≡ next_place self.old }
+        ensures position { self.new ≡ next_position self.old }
 
         // No memory for a name that is new.
         ensures new_name { OnErr result (length names.old < length (named names.old (change_at self.old).asked)) }

@@ -5,8 +5,8 @@
 
 mod changes;
 mod generator;
-mod numbered;
 mod request;
+mod text_numbers;
 mod texts;
 
 pub use changes::generated_changes;

@@ -1,4 +1,4 @@
-use Rattle.dg_append.proofs.PreparedBatch.{last_small, last_told}
+use Rattle.dg_append.proofs.FrontEvents.{last_small, last_told}
 use Rattle.dg_append.proofs.batch.last_of.Goals as goal
 
 pub returns-clause-last : goal.returns-clause-last

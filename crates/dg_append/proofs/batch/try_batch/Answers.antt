@@ -1,8 +1,8 @@
 use Rattle.std.proofs.Common.{◌≡◌, ◌+◌, ◌∙◌, List, Some, length, take, refl, sym, ap, subst}
 use Rattle.std.specs.Prelude.{IfSome}
 use Rattle.std.specs.List.{All}
-use Rattle.dg_append.proofs.BatchOutcome.{IsAdded, added_is, added_kept, batch_added, batch_adds, behind_kept, comes_kept, err_is, index_stays, not_added, nothing_read, sound_after, takes_over, total_kept}
-use Rattle.dg_append.proofs.PreparedBatch.{IsPrepared, here, is_prepared, of_here}
+use Rattle.dg_append.proofs.AddedBatchOutcomes.{IsAdded, added_is, added_kept, batch_added, batch_adds, behind_kept, comes_kept, err_is, index_stays, not_added, nothing_read, sound_after, takes_over, total_kept}
+use Rattle.dg_append.proofs.FrontEvents.{IsPrepared, here, is_prepared, of_here}
 use Rattle.dg_append.proofs.batch.try_batch.Goals as goal
 use Rattle.dg_append.specs.AddedBatches.{IsReady, LeavesHistory, ReadsNothing}
 use Rattle.dg_append.specs.BatchSegments.{KeepsBatch, MayFollow}

@@ -1,8 +1,8 @@
 use Rattle.std.proofs.Common.{◌∙◌, ℕ, List, Option, length, take, drop, sym, ap, subst, arith}
 use Rattle.std.specs.Prelude.{is_some}
-use Rattle.dg_append.proofs.BatchOutcome.{err_is, fits_here, keeps_batch, opened_as, stops_kept, stops_made}
-use Rattle.dg_append.proofs.BehindIndex.{segment_due}
-use Rattle.dg_append.proofs.PreparedBatch.{may_name_parts}
+use Rattle.dg_append.proofs.AddedBatchOutcomes.{err_is, fits_here, keeps_batch, opened_as, stops_kept, stops_made}
+use Rattle.dg_append.proofs.BatchSegmentIndex.{segment_due}
+use Rattle.dg_append.proofs.FrontEvents.{may_name_parts}
 use Rattle.dg_append.proofs.batch_commit.keep_batch.Goals as goal
 use Rattle.dg_append.specs.BatchNets.{led_by}
 use Rattle.dg_append.specs.BatchSegments.{TakesSinglesOver}

@@ -1,4 +1,4 @@
-use Rattle.dg_append.proofs.BehindIndex.{tail_rises}
+use Rattle.dg_append.proofs.BatchSegmentIndex.{tail_rises}
 use Rattle.dg_append.proofs.batch_commit.make_batch.Goals as goal
 
 pub recent_behind-requires : goal.recent_behind-requires

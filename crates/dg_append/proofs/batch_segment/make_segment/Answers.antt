@@ -1,7 +1,7 @@
 use Rattle.std.proofs.Common.{◌≡◌, ◌≤◌, ◌+◌, ◌++◌, ◌∙◌, List, length, drop, sym, ap, subst}
 use Rattle.std.specs.Prelude.{IfOk}
-use Rattle.dg_append.proofs.BatchOutcome.{err_is}
-use Rattle.dg_append.proofs.OverHistory.{kept_takes, made_over, unmade_over, unread_over}
+use Rattle.dg_append.proofs.AddedBatchOutcomes.{err_is}
+use Rattle.dg_append.proofs.BatchSegmentHistory.{kept_takes, made_over, unmade_over, unread_over}
 use Rattle.dg_append.proofs.batch_segment.make_segment.Goals as goal
 use Rattle.dg_append.specs.BatchSegments.{IsSegmentBehind}
 use Rattle.dg_append.specs.Faults.{of_retrieval}

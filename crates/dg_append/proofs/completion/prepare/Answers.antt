@@ -1,5 +1,5 @@
 use Rattle.std.proofs.Common.{sym, subst}
-use Rattle.dg_append.proofs.IsFront.{form_refused}
+use Rattle.dg_append.proofs.FrontRefusals.{form_refused}
 use Rattle.dg_append.proofs.completion.prepare.Goals as goal
 use Rattle.dg_append.specs.Fronts.{IsFront}
 use Rattle.dg_now.specs.Now.{earliest_time_after}

@@ -2,7 +2,7 @@ use Rattle.std.proofs.Common.{◌≡◌, ◌++◌, ◌∙◌, List, sym, ap}
 use Rattle.std.proofs.lemmas.List.{take-append-drop}
 use Rattle.dg_append.proofs.nets.nets_of.Goals as goal
 use Rattle.dg_delta.proofs.Deltas.{IsSet-applied}
-use Rattle.dg_fold.proofs.WalksLead.{replay_from-append}
+use Rattle.dg_fold.proofs.PathIndependenceWalks.{replay_from-append}
 use Rattle.dg_graph.specs.declared.element.Element.{Element}
 use Rattle.dg_graph.specs.declared.event.Event.{Event}
 use Rattle.dg_graph.specs.Composition.{applied}

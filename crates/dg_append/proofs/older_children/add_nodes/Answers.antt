@@ -1,5 +1,5 @@
 use Rattle.std.proofs.Common.{◌+◌, ◌-◌, ◌++◌, ◌∷◌, [], ap, ◌∙◌, arith}
-use Rattle.dg_append.proofs.OlderHeights.{next_node}
+use Rattle.dg_append.proofs.OlderNodeHeights.{next_node}
 use Rattle.dg_append.proofs.older_children.add_nodes.Goals as goal
 use Rattle.dg_history.specs.declared.node.NodeId.{NodeId}
 use Rattle.dg_index.specs.OlderNodes.{node_at}

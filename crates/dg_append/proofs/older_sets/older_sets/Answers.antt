@@ -1,9 +1,9 @@
 use Rattle.std.proofs.Common.{◌≡◌, ◌∙◌, ℕ, true, List, length, subst, sym}
 use Rattle.std.specs.List.{All, Contains}
 use Rattle.std.specs.Prelude.{IfErr, IfOk, IfSome, OnOk}
-use Rattle.dg_append.proofs.NodeGroups.{TakesSingles}
-use Rattle.dg_append.proofs.OlderThere.{older_bare, older_there}
-use Rattle.dg_append.proofs.PreparedBatch.{in_range}
+use Rattle.dg_append.proofs.OlderGroupSets.{TakesSingles}
+use Rattle.dg_append.proofs.OlderGroupNodes.{older_bare, older_there}
+use Rattle.dg_append.proofs.FrontEvents.{in_range}
 use Rattle.dg_append.proofs.older_sets.older_sets.Goals as goal
 use Rattle.dg_append.specs.OlderGroups.{AreUndamaged, IsFirstOfGroups, in_groups, leaves_after, older_children}
 use Rattle.dg_history.specs.declared.node.NodeId.{NodeId}

@@ -1,8 +1,8 @@
 use Rattle.std.proofs.Common.{◌≡◌, ◌+◌, ◌-◌, ◌∙◌, ℕ, List, Some, None, inr, length, take, drop, refl, ap, subst, arith, rules, sym}
 use Rattle.std.proofs.lemmas.List.Elements.{All-drop, All-take}
 use Rattle.std.proofs.lemmas.Result.{err_from_is_err_and}
-use Rattle.dg_append.proofs.BatchOutcome.{err_is}
-use Rattle.dg_append.proofs.NodeGroups.{Call, GroupsAreRead, HasDamage, TakesSingles, all_read, first_damage, group_read, none_more_read, none_read, one_read, size_next}
+use Rattle.dg_append.proofs.AddedBatchOutcomes.{err_is}
+use Rattle.dg_append.proofs.OlderGroupSets.{Call, GroupsAreRead, HasDamage, TakesSingles, all_read, first_damage, group_read, none_more_read, none_read, one_read, size_next}
 use Rattle.dg_append.proofs.older_sets.read_groups.Goals as goal
 use Rattle.dg_file.specs.Images.{IsOpenedAs}
 use Rattle.dg_file.specs.Index.{IndexState}

@@ -1,5 +1,5 @@
 use Rattle.std.proofs.Common.{◌≡◌, ◌-◌, length}
-use Rattle.dg_append.proofs.NodeGroups.{GroupsAreRead}
+use Rattle.dg_append.proofs.OlderGroupSets.{GroupsAreRead}
 use Rattle.dg_append.proofs.older_sets.read_groups.Given as goal
 use Rattle.dg_disk.specs.Frame.{OnlyReads}
 

@@ -1,5 +1,5 @@
 use Rattle.std.proofs.Common.{◌+◌, ◌-◌, ◌*◌, ◌∙◌}
-use Rattle.dg_append.proofs.SegmentParts.{less_times}
+use Rattle.dg_append.proofs.BatchSegmentParts.{less_times}
 use Rattle.dg_append.proofs.recent.closed_by.Goals as goal
 use Rattle.dg_index.specs.Hierarchy.{leaves}
 

@@ -1,6 +1,6 @@
 use Rattle.std.proofs.Common.{◌≡◌, ◌∙◌, sym, ap, Some, None, slice_get, drop}
 use Rattle.std.specs.Option.{option_copied}
-use Rattle.dg_append.proofs.AddNames.{name_more, names_done, with_names}
+use Rattle.dg_append.proofs.BatchSegmentNames.{name_more, names_done, with_names}
 use Rattle.dg_append.proofs.segment.add_names.Goals as goal
 
 pub loop-text-preserved : goal.loop-text-preserved

@@ -1,4 +1,4 @@
-use Rattle.dg_append.proofs.LastEvent.{last_instant_is}
+use Rattle.dg_append.proofs.HistoryLastTime.{last_instant_is}
 use Rattle.dg_append.proofs.segment.last_instant.Goals as goal
 
 pub returns-in-Some : goal.returns-in-Some

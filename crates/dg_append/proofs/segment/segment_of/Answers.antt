@@ -1,6 +1,6 @@
 use Rattle.std.proofs.Common.{◌∙◌, ℕ, length, map}
-use Rattle.dg_append.proofs.PreparedBatch.{InRange}
-use Rattle.dg_append.proofs.SegmentParts.{as_many_deltas, as_many_lists, begins_after_lists, listed_by, older_long, past_graph, past_long, past_recent, past_sets, range_of, recent_long}
+use Rattle.dg_append.proofs.FrontEvents.{InRange}
+use Rattle.dg_append.proofs.BatchSegmentParts.{as_many_deltas, as_many_lists, begins_after_lists, listed_by, older_long, past_graph, past_long, past_recent, past_sets, range_of, recent_long}
 use Rattle.dg_append.proofs.segment.segment_of.Goals as goal
 use Rattle.dg_history.specs.declared.params.Params.{Params}
 use Rattle.dg_history.specs.History.{first_time_of}

@@ -7,11 +7,11 @@ use Rattle.dg_graph.specs.declared.event.Event.{Event}
 use Rattle.dg_index.specs.Hierarchy.{numbers}
 use Rattle.dg_index.specs.IndexRecords.{Events, deltas_due}
 use Rattle.dg_index.specs.FileOfHistory.{Segment, Stored, stored}
-use Rattle.dg_build.proofs.ClosedLists.{list_there}
+use Rattle.dg_build.proofs.SpelledRecordLists.{list_there}
 use Rattle.dg_build.proofs.FirstList.{IsCut, is_cut}
-use Rattle.dg_build.proofs.HeightByHeight.{written_at}
-use Rattle.dg_build.proofs.NarrowDeltas.{below_more}
-use Rattle.dg_build.proofs.WholeSegment.{lists_within, written_whole}
+use Rattle.dg_build.proofs.InteriorDeltaHeights.{written_at}
+use Rattle.dg_build.proofs.SpelledRecordDeltas.{below_more}
+use Rattle.dg_build.proofs.SpelledRecordSegments.{lists_within, written_whole}
 use Rattle.dg_build.proofs.batch.add_batch.Goals as goal
 
 pub add_lists-requires-clause-first : goal.add_lists-requires-clause-first

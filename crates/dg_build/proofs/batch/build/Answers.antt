@@ -1,9 +1,9 @@
 use Rattle.std.proofs.Common.{ℕ, ◌+◌, ◌-◌, ◌/◌, ◌++◌, length, refl, ap, arith, length-append}
 use Rattle.std.proofs.lemmas.Result.{err_from_is_err_and}
 use Rattle.dg_index.specs.FileOfHistory.{Segment}
-use Rattle.dg_build.proofs.ClosedLists.{lists_long}
-use Rattle.dg_build.proofs.ListTimes.{lists_behind, lists_may}
-use Rattle.dg_build.proofs.WholeSegment.{lists_within, whole}
+use Rattle.dg_build.proofs.SpelledRecordLists.{lists_long}
+use Rattle.dg_build.proofs.SpelledRecordTimes.{lists_behind, lists_may}
+use Rattle.dg_build.proofs.SpelledRecordSegments.{lists_within, whole}
 use Rattle.dg_build.proofs.batch.build.Goals as goal
 
 pub returns-clause-batch : goal.returns-clause-batch

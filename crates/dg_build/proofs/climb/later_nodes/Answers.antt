@@ -2,9 +2,9 @@ use Rattle.std.proofs.Common.{◌≡◌, ℕ, ◌+◌, ◌-◌, ◌*◌, ◌<◌
 use Rattle.std.proofs.lemmas.Result.{err_from_is_err_and}
 use Rattle.dg_graph.specs.Composition.{Delta}
 use Rattle.dg_build.specs.InteriorDeltas.{AreMade}
-use Rattle.dg_build.proofs.NarrowDeltas.{below_more}
-use Rattle.dg_build.proofs.NextHeight.{differs_not, differs_on}
-use Rattle.dg_build.proofs.NodeGroups.{NodesSoFar, nodes_first, nodes_more, so_many, row_left, row_after}
+use Rattle.dg_build.proofs.SpelledRecordDeltas.{below_more}
+use Rattle.dg_build.proofs.InteriorDeltaNodes.{differs_not, differs_on}
+use Rattle.dg_build.proofs.InteriorDeltaGroups.{NodesSoFar, nodes_first, nodes_more, so_many, row_left, row_after}
 use Rattle.dg_build.proofs.climb.later_nodes.Goals as goal
 
 pub loop-alloc-init : goal.loop-alloc-init

@@ -1,7 +1,7 @@
 use Rattle.std.proofs.Common.{◌≡◌, ℕ, List, ◌+◌, ◌-◌, ◌*◌, ◌≤◌, length}
 use Rattle.dg_graph.specs.declared.event.Event.{Event}
 use Rattle.dg_build.specs.InteriorDeltas.{DiffersInDeltas, IsBehind}
-use Rattle.dg_build.proofs.NodeGroups.{NodesSoFar}
+use Rattle.dg_build.proofs.InteriorDeltaGroups.{NodesSoFar}
 use Rattle.dg_build.proofs.climb.later_nodes.Given as goal
 
 abbrev pub decreases-loop-alloc : goal.decreases-loop-alloc

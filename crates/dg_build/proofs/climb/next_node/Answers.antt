@@ -2,10 +2,10 @@ use Rattle.std.proofs.Common.{ℕ, ◌+◌, ◌-◌, ◌≤◌, List, length, ge
 use Rattle.std.proofs.lemmas.Result.{err_from_is_err_and}
 use Rattle.dg_graph.specs.Composition.{Delta}
 use Rattle.dg_index.specs.ExactSteps.{downs}
-use Rattle.dg_build.proofs.LastWays.{first_and_rest, ways_length}
-use Rattle.dg_build.proofs.NarrowDeltas.{below_end, below_more, downs_memory}
-use Rattle.dg_build.proofs.NextHeight.{deltas_length, differs_by}
-use Rattle.dg_build.proofs.NodeGroups.{made_length, next_is, next_made, rest_is}
+use Rattle.dg_build.proofs.InteriorDeltaWays.{first_and_rest, ways_length}
+use Rattle.dg_build.proofs.SpelledRecordDeltas.{below_end, below_more, downs_memory}
+use Rattle.dg_build.proofs.InteriorDeltaNodes.{deltas_length, differs_by}
+use Rattle.dg_build.proofs.InteriorDeltaGroups.{made_length, next_is, next_made, rest_is}
 use Rattle.dg_build.proofs.climb.next_node.Goals as goal
 
 pub add_downs-requires : goal.add_downs-requires

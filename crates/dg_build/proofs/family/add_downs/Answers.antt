@@ -1,9 +1,9 @@
 use Rattle.std.proofs.Common.{◌≡◌, IfOk, ◌∷◌, [], length, map, subst}
 use Rattle.std.proofs.lemmas.Result.{err_from_is_err_and, MatchResult-weaker}
 use Rattle.dg_graph.specs.Composition.{Delta, chained, reversed}
-use Rattle.dg_build.proofs.LastWays.{last_down}
-use Rattle.dg_build.proofs.NarrowDeltas.{first_fault, later_fault}
-use Rattle.dg_build.proofs.NextHeight.{deltas_length}
+use Rattle.dg_build.proofs.InteriorDeltaWays.{last_down}
+use Rattle.dg_build.proofs.SpelledRecordDeltas.{first_fault, later_fault}
+use Rattle.dg_build.proofs.InteriorDeltaNodes.{deltas_length}
 use Rattle.dg_build.proofs.family.add_downs.Goals as goal
 
 pub returns-in_err-add_delta-clause-fault : goal.returns-in_err-add_delta-clause-fault

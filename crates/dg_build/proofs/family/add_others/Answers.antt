@@ -1,8 +1,8 @@
 use Rattle.std.proofs.Common.{length, map, refl, arith}
 use Rattle.std.proofs.lemmas.Result.{err_from_is_err_and, MatchResult-weaker}
 use Rattle.dg_graph.specs.Composition.{Delta, chained}
-use Rattle.dg_build.proofs.LaterDowns.{downs_first, downs_more, downs_done, last_done}
-use Rattle.dg_build.proofs.NarrowDeltas.{others_fault}
+use Rattle.dg_build.proofs.InteriorDeltaDowns.{downs_first, downs_more, downs_done, last_done}
+use Rattle.dg_build.proofs.SpelledRecordDeltas.{others_fault}
 use Rattle.dg_build.proofs.family.add_others.Goals as goal
 
 pub loop-left-init : goal.loop-left-init

@@ -1,5 +1,5 @@
 use Rattle.std.proofs.Common.{length}
-use Rattle.dg_build.proofs.LaterDowns.{DownsSoFar}
+use Rattle.dg_build.proofs.InteriorDeltaDowns.{DownsSoFar}
 use Rattle.dg_build.proofs.family.add_others.Given as goal
 
 abbrev pub decreases-loop-left : goal.decreases-loop-left

@@ -1,5 +1,5 @@
 use Rattle.std.proofs.Common.{◌≡◌, ◌-◌, ◌<◌, length, get_or, ap, ◌∙◌, arith}
-use Rattle.dg_build.proofs.LastWays.{ways_first, one_left, ways_more, ways_done, rest_done}
+use Rattle.dg_build.proofs.InteriorDeltaWays.{ways_first, one_left, ways_more, ways_done, rest_done}
 use Rattle.dg_build.proofs.family.ways.Goals as goal
 
 pub loop-ways-init : goal.loop-ways-init

@@ -1,5 +1,5 @@
 use Rattle.std.proofs.Common.{◌-◌, length}
-use Rattle.dg_build.proofs.LastWays.{WaysSoFar}
+use Rattle.dg_build.proofs.InteriorDeltaWays.{WaysSoFar}
 use Rattle.dg_build.proofs.family.ways.Given as goal
 
 abbrev pub decreases-loop-ways : goal.decreases-loop-ways

@@ -2,9 +2,9 @@ use Rattle.std.proofs.Common.{ℕ, ◌+◌, ◌-◌, ◌*◌, ◌/◌, ◌≤◌
 use Rattle.std.proofs.lemmas.Result.{err_from_is_err_and}
 use Rattle.dg_index.specs.IndexRecords.{deltas_due}
 use Rattle.dg_build.specs.InteriorDeltas.{deltas_added}
-use Rattle.dg_build.proofs.HeightByHeight.{counts_first, counts_next, counts_within, counts_done, older_left, older_here, rises_first, rises_next, rises_done}
-use Rattle.dg_build.proofs.NarrowDeltas.{below_more}
-use Rattle.dg_build.proofs.NextHeight.{differs_not, differs_on}
+use Rattle.dg_build.proofs.InteriorDeltaHeights.{counts_first, counts_next, counts_within, counts_done, older_left, older_here, rises_first, rises_next, rises_done}
+use Rattle.dg_build.proofs.SpelledRecordDeltas.{below_more}
+use Rattle.dg_build.proofs.InteriorDeltaNodes.{differs_not, differs_on}
 use Rattle.dg_build.proofs.heights.add_heights.Goals as goal
 
 pub overflow_add-next : goal.overflow_add-next

@@ -3,7 +3,7 @@ use Rattle.dg_graph.specs.declared.event.Event.{Event}
 use Rattle.dg_index.specs.Hierarchy.{leaves, set_of}
 use Rattle.dg_index.specs.OlderNodes.{older}
 use Rattle.dg_build.specs.InteriorDeltas.{AreNewNodes, DiffersInDeltas}
-use Rattle.dg_build.proofs.HeightByHeight.{CountsSoFar, RisesSoFar}
+use Rattle.dg_build.proofs.InteriorDeltaHeights.{CountsSoFar, RisesSoFar}
 use Rattle.dg_build.proofs.heights.add_heights.Given as goal
 
 abbrev pub decreases-loop-q : goal.decreases-loop-q

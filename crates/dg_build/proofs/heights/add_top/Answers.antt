@@ -2,7 +2,7 @@ use Rattle.std.proofs.Common.{List, [], length, ap, ◌∙◌}
 use Rattle.std.proofs.lemmas.Result.{err_from_is_err_and}
 use Rattle.dg_graph.specs.declared.element.Element.{Element}
 use Rattle.dg_graph.specs.Composition.{between}
-use Rattle.dg_build.proofs.NarrowDeltas.{top_fault}
+use Rattle.dg_build.proofs.SpelledRecordDeltas.{top_fault}
 use Rattle.dg_build.proofs.heights.add_top.Goals as goal
 
 pub returns-in_err-add_delta-clause-fault : goal.returns-in_err-add_delta-clause-fault

@@ -5,8 +5,8 @@ use Rattle.dg_graph.specs.declared.element.Element.{Element}
 use Rattle.dg_index.specs.ExactSteps.{downs}
 use Rattle.dg_build.specs.InteriorDeltas.{downs_by, last_way, set_by, top_to}
 use Rattle.dg_build.specs.SpelledRecords.{IsFaultOfDeltas}
-use Rattle.dg_build.proofs.LastWays.{ways_length}
-use Rattle.dg_build.proofs.NextHeight.{added_both, deltas_length}
+use Rattle.dg_build.proofs.InteriorDeltaWays.{ways_length}
+use Rattle.dg_build.proofs.InteriorDeltaNodes.{added_both, deltas_length}
 use Rattle.dg_build.proofs.heights.first_node.Goals as goal
 
 pub add_downs-requires : goal.add_downs-requires

@@ -6,10 +6,10 @@ use Rattle.dg_graph.specs.declared.element.Element.{Element}
 use Rattle.dg_index.specs.Hierarchy.{numbers}
 use Rattle.dg_build.specs.InteriorDeltas.{deltas_added, downs_by, downs_of, inner_by, set_by, stored_delta, top_to}
 use Rattle.dg_build.specs.SpelledRecords.{IsFaultOfDeltas}
-use Rattle.dg_build.proofs.NarrowDeltas.{below_end, below_more, downs_memory, top_memory}
-use Rattle.dg_build.proofs.NextHeight.{differs_by, differs_on, first_added, first_within, node_there, rises, spells, top_within}
-use Rattle.dg_build.proofs.NodeGroups.{downs_there, first_behind, inner_there, made_length, row_behind}
-use Rattle.dg_build.proofs.RowSteps.{row_is, row_long, first_long}
+use Rattle.dg_build.proofs.SpelledRecordDeltas.{below_end, below_more, downs_memory, top_memory}
+use Rattle.dg_build.proofs.InteriorDeltaNodes.{differs_by, differs_on, first_added, first_within, node_there, rises, spells, top_within}
+use Rattle.dg_build.proofs.InteriorDeltaGroups.{downs_there, first_behind, inner_there, made_length, row_behind}
+use Rattle.dg_build.proofs.InteriorDeltaSteps.{row_is, row_long, first_long}
 use Rattle.dg_build.proofs.heights.rise.Goals as goal
 
 pub first_node-requires-clause-there : goal.first_node-requires-clause-there

@@ -2,9 +2,9 @@ use Rattle.std.proofs.Common.{◌<◌, ◌++◌, List, map, ap, sym, ◌∙◌, 
 use Rattle.std.proofs.lemmas.Result.{MatchResult-weaker, on_ok_weaker}
 use Rattle.dg_history.specs.declared.node.Key.{Key}
 use Rattle.dg_index.specs.Hierarchy.{leaves}
-use Rattle.dg_build.proofs.HeightByHeight.{written_at}
-use Rattle.dg_build.proofs.NextHeight.{differs_not}
-use Rattle.dg_build.proofs.NewLeaves.{leaf_back, new_up_to, none_at_all, more_there}
+use Rattle.dg_build.proofs.InteriorDeltaHeights.{written_at}
+use Rattle.dg_build.proofs.InteriorDeltaNodes.{differs_not}
+use Rattle.dg_build.proofs.InteriorDeltaLeaves.{leaf_back, new_up_to, none_at_all, more_there}
 use Rattle.dg_build.proofs.leaves.add_interior.Goals as goal
 
 pub new_leaves-requires-clause-some : goal.new_leaves-requires-clause-some

@@ -1,5 +1,5 @@
 use Rattle.std.proofs.lemmas.Result.{MatchResult-weaker}
-use Rattle.dg_build.proofs.NewLeaves.{leads_on}
+use Rattle.dg_build.proofs.InteriorDeltaLeaves.{leads_on}
 use Rattle.dg_build.proofs.leaves.first_leaf.Goals as goal
 
 pub returns : goal.returns

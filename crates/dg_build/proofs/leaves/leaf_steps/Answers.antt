@@ -4,7 +4,7 @@ use Rattle.dg_graph.specs.Composition.{Delta}
 use Rattle.dg_index.specs.Hierarchy.{leaves}
 use Rattle.dg_index.specs.ExactSteps.{steps_at}
 use Rattle.dg_build.proofs.FirstList.{list_within}
-use Rattle.dg_build.proofs.NewLeaves.{steps_next}
+use Rattle.dg_build.proofs.InteriorDeltaLeaves.{steps_next}
 use Rattle.dg_build.proofs.leaves.leaf_steps.Goals as goal
 
 pub loop-i-preserved : goal.loop-i-preserved

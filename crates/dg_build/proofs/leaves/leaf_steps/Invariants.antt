@@ -3,7 +3,7 @@ use Rattle.dg_graph.specs.declared.event.Event.{Event}
 use Rattle.dg_graph.specs.ExactEvents.{AreChangesOf}
 use Rattle.dg_index.specs.Hierarchy.{leaves}
 use Rattle.dg_index.specs.IndexRecords.{recent_of}
-use Rattle.dg_build.proofs.NewLeaves.{StepsSoFar}
+use Rattle.dg_build.proofs.InteriorDeltaLeaves.{StepsSoFar}
 use Rattle.dg_build.proofs.leaves.leaf_steps.Given as goal
 
 abbrev pub invariant-loop-i : goal.invariant-loop-i

@@ -2,7 +2,7 @@ use Rattle.std.proofs.Common.{◌≡◌, ℕ, ◌+◌, ◌-◌, ◌++◌, ap, sy
 use Rattle.std.proofs.lemmas.List.{take_at}
 use Rattle.dg_index.specs.Hierarchy.{leaves}
 use Rattle.dg_index.specs.ExactSteps.{steps_at}
-use Rattle.dg_build.proofs.NewLeaves.{leaf_first}
+use Rattle.dg_build.proofs.InteriorDeltaLeaves.{leaf_first}
 use Rattle.dg_build.proofs.leaves.new_leaves.Goals as goal
 
 pub returns-clause-is : goal.returns-clause-is

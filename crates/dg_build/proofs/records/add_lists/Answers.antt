@@ -1,5 +1,5 @@
 use Rattle.std.proofs.Common.{◌++◌}
-use Rattle.dg_build.proofs.ClosedLists.{lists_next}
+use Rattle.dg_build.proofs.SpelledRecordLists.{lists_next}
 use Rattle.dg_build.proofs.records.add_lists.Goals as goal
 
 pub loop-i-preserved : goal.loop-i-preserved

@@ -1,4 +1,4 @@
-use Rattle.dg_build.proofs.ClosedLists.{last_is}
+use Rattle.dg_build.proofs.SpelledRecordLists.{last_is}
 use Rattle.dg_build.proofs.records.last_time.Goals as goal
 
 pub returns-else-is_empty : goal.returns-else-is_empty

@@ -3,7 +3,7 @@ use Rattle.dg_graph.specs.declared.element.Element.{Element}
 use Rattle.dg_cells.specs.Pieces.{strung, numbers_before}
 use Rattle.dg_cells.specs.Order.{IsLower}
 use Rattle.dg_cells.specs.Cursors.{ordered_elements}
-use Rattle.dg_cells.proofs.Ordered.{elements_are}
+use Rattle.dg_cells.proofs.CursorRows.{elements_are}
 use Rattle.dg_cells.proofs.cursors.seek_from.Goals as goal
 
 pub returns : goal.returns

@@ -1,8 +1,8 @@
 use Rattle.std.proofs.Common.{◌+◌}
 use Rattle.dg_graph.specs.declared.element.Element.TheVariants as kind
 use Rattle.dg_cells.specs.Rows.{AreAmong}
-use Rattle.dg_cells.proofs.Growing.{grows_then, among_more, has_whole}
-use Rattle.dg_cells.proofs.Numbered.{numbered_more}
+use Rattle.dg_cells.proofs.RowGrowth.{grows_then, among_more, has_whole}
+use Rattle.dg_cells.proofs.RowNumbers.{numbered_more}
 use Rattle.dg_cells.proofs.listing.add_each.Goals as goal
 use Rattle.dg_cells.proofs.listing.add_each.Goals.{After-add}
 

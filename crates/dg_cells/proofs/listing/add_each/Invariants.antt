@@ -2,7 +2,7 @@ use Rattle.std.proofs.Common.{take}
 use Rattle.dg_cells.specs.Pieces.{strung}
 use Rattle.dg_cells.specs.Order.{IsListed}
 use Rattle.dg_cells.specs.Rows.{CellsGrow, AreAmong}
-use Rattle.dg_cells.proofs.Numbered.{Numbered}
+use Rattle.dg_cells.proofs.RowNumbers.{Numbered}
 use Rattle.dg_cells.proofs.listing.add_each.Given as goal
 
 abbrev pub invariant-loop-x : goal.invariant-loop-x

@@ -6,8 +6,8 @@ use Rattle.dg_plan.specs.IndexGraph.{arcs_of}
 use Rattle.dg_plan.specs.Walks.{Leads, weight_of}
 use Rattle.dg_certify.specs.Claims.{claim_of, read_of}
 use Rattle.dg_certify.specs.WrittenLines.{written_steps}
-use Rattle.dg_certify.proofs.Certified.{Certify, valid_lines_certify, valid_lines_are_least}
-use Rattle.dg_certify.proofs.Verdicts.{weaker}
+use Rattle.dg_certify.proofs.WrittenLineCertificates.{Certify, valid_lines_certify, valid_lines_are_least}
+use Rattle.dg_certify.proofs.CertificateLineVerdicts.{weaker}
 use Rattle.dg_certify.proofs.verdict.certify.Goals as goal
 
 -- what was said of what was read is what is said of the lines

@@ -3,7 +3,7 @@ use Rattle.dg_history.specs.declared.node.NodeId.TheVariants.{Root}
 use Rattle.dg_plan.specs.CertificateLines.{bad_step, potential_in, verdict_on}
 use Rattle.dg_certify.specs.Claims.{line_step}
 use Rattle.dg_certify.specs.Potentials.{potential_at}
-use Rattle.dg_certify.proofs.Verdicts.{same_potentials, valid, not_tight}
+use Rattle.dg_certify.proofs.CertificateLineVerdicts.{same_potentials, valid, not_tight}
 use Rattle.dg_certify.proofs.verdict.verdict_on.Goals as goal
 use Rattle.dg_certify.proofs.verdict.verdict_on.Goals.{in-Some-first_bad_node, in-None, in-None-2}
 

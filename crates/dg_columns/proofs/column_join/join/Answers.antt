@@ -1,7 +1,7 @@
 use Rattle.std.proofs.Common.{subst, sym}
 use Rattle.dg_graph.specs.Composition.{IsDelta}
 use Rattle.dg_delta.specs.Deltas.{joined}
-use Rattle.dg_columns.proofs.PartsAreJoinedBack.{two_joined, three_joined}
+use Rattle.dg_columns.proofs.ReadFitsParts.{two_joined, three_joined}
 use Rattle.dg_columns.proofs.column_join.join.Goals as goal
 
 pub join-requires : goal.join-requires

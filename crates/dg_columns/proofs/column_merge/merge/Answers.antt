@@ -27,8 +27,8 @@ pub returns-clause-ok : goal.returns-clause-ok
 returns-clause-ok c =
     subst (λ (list : Option (List Event)). IfOk c.in_order.result (λ events. list ≡ Some events.items)) (sym (row_is_merged c)) c.in_order.ensures.ok
 
-pub returns-clause-places : goal.returns-clause-places
-returns-clause-places c = λ places. row_is_merged c ∙ c.in_order.ensures.places places
+pub returns-clause-positions : goal.returns-clause-positions
+returns-clause-positions c = λ positions. row_is_merged c ∙ c.in_order.ensures.positions positions
 
 pub returns-in-Some-clause-ok : goal.returns-in-Some-clause-ok
 returns-in-Some-clause-ok c =

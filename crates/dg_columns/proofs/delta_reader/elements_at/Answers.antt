@@ -1,7 +1,7 @@
 use Rattle.std.proofs.Common.{◌≡◌, ◌+◌, None, arith}
 use Rattle.std.proofs.lemmas.Result.{err_from_is_err_and}
 use Rattle.dg_graph.specs.ColumnGrammar.{element_size, elements_at}
-use Rattle.dg_columns.proofs.ElementsAt.{goes_on, stops}
+use Rattle.dg_columns.proofs.FieldElements.{goes_on, stops}
 use Rattle.dg_columns.proofs.delta_reader.elements_at.Goals as goal
 
 pub returns-in_err-element-clause-elements : goal.returns-in_err-element-clause-elements

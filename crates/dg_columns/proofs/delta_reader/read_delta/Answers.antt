@@ -1,6 +1,6 @@
 use Rattle.std.proofs.Common.{arith}
 use Rattle.std.proofs.lemmas.Result.{IfOk-weaker}
-use Rattle.dg_columns.proofs.DeltaReadFits.{delta_fits, all_from_bytes}
+use Rattle.dg_columns.proofs.ReadFitsDeltas.{delta_fits, all_from_bytes}
 use Rattle.dg_columns.proofs.delta_reader.read_delta.Goals as goal
 
 pub returns-clause-fits : goal.returns-clause-fits

@@ -1,6 +1,6 @@
 use Rattle.std.proofs.Common.{sym, subst, None}
 use Rattle.dg_set.specs.Apart.{AreApart}
-use Rattle.dg_columns.proofs.ElementsAt.{elements_keep}
+use Rattle.dg_columns.proofs.FieldElements.{elements_keep}
 use Rattle.dg_columns.proofs.delta_reader.set_at.Goals as goal
 
 pub from_rising-requires : goal.from_rising-requires

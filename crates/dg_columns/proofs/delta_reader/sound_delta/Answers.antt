@@ -6,7 +6,7 @@ use Rattle.dg_graph.specs.Composition.{Delta}
 use Rattle.dg_set.specs.Apart.{AreApart}
 use Rattle.dg_columns.specs.declared.fault.ReadFault.{ReadFault}
 use Rattle.dg_columns.specs.ReadOutcome.{IsReadAs}
-use Rattle.dg_columns.proofs.SoundDelta.{delta_from}
+use Rattle.dg_columns.proofs.ColumnGrammarDeltas.{delta_from}
 use Rattle.dg_columns.proofs.delta_reader.sound_delta.Goals as goal
 
 -- what a call gave that did not fail

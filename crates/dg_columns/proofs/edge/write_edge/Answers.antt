@@ -1,7 +1,7 @@
 use Rattle.std.proofs.Common.{◌≡◌, rules}
 use Rattle.dg_graph.specs.Columns.{eight}
 use Rattle.dg_graph.specs.Elements.{bit}
-use Rattle.dg_columns.proofs.WriteEach.{edge_written}
+use Rattle.dg_columns.proofs.ColumnWrites.{edge_written}
 use Rattle.dg_columns.proofs.edge.write_edge.Goals as goal
 
 pub returns : goal.returns

@@ -1,7 +1,7 @@
 use Rattle.std.proofs.Common.{◌≡◌, ◌+◌, arith}
 use Rattle.std.proofs.lemmas.Result.{err_from_is_err_and}
 use Rattle.dg_graph.specs.ColumnGrammar.{body_size, events_at}
-use Rattle.dg_columns.proofs.PlacedFrom.{goes_on, stops}
+use Rattle.dg_columns.proofs.FieldEvents.{goes_on, stops}
 use Rattle.dg_columns.proofs.event_reader.placed_from.Goals as goal
 
 pub returns-in_err-event : goal.returns-in_err-event

@@ -1,6 +1,6 @@
 use Rattle.std.proofs.Common.{◌≡◌, ◌-◌, ◌≤◌, length}
 use Rattle.dg_graph.specs.ColumnGrammar.{events_at}
-use Rattle.dg_columns.proofs.PlacedFrom.{with_front}
+use Rattle.dg_columns.proofs.FieldEvents.{with_front}
 use Rattle.dg_columns.proofs.event_reader.placed_from.Given as goal
 
 abbrev pub invariant-loop : goal.invariant-loop

@@ -1,7 +1,7 @@
 use Rattle.std.proofs.Common.{arith}
 use Rattle.std.proofs.lemmas.Result.{IfOk-weaker}
-use Rattle.dg_columns.proofs.DeltaReadFits.{all_from_bytes}
-use Rattle.dg_columns.proofs.EventsReadFit.{events_that_are_read_fit}
+use Rattle.dg_columns.proofs.ReadFitsDeltas.{all_from_bytes}
+use Rattle.dg_columns.proofs.ReadFitsEvents.{events_that_are_read_fit}
 use Rattle.dg_columns.proofs.event_reader.read_events.Goals as goal
 
 pub returns-clause-fits : goal.returns-clause-fits

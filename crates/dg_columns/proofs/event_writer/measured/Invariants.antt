@@ -1,6 +1,6 @@
 use Rattle.std.proofs.Common.{◌≡◌, ◌+◌, ◌*◌, ◌≤◌, length}
 use Rattle.dg_graph.specs.Columns.{placed_in}
-use Rattle.dg_columns.proofs.WriteEach.{placed_after}
+use Rattle.dg_columns.proofs.ColumnWrites.{placed_after}
 use Rattle.dg_columns.proofs.event_writer.measured.Given as goal
 
 abbrev pub invariant-loop-event : goal.invariant-loop-event

@@ -1,7 +1,7 @@
 use Rattle.std.proofs.Common.{◌≡◌, ◌++◌}
 use Rattle.std.specs.List.{flat_map}
 use Rattle.dg_graph.specs.Columns.{placed_bytes, placed_in}
-use Rattle.dg_columns.proofs.WriteEach.{placed_after}
+use Rattle.dg_columns.proofs.ColumnWrites.{placed_after}
 use Rattle.dg_columns.proofs.event_writer.write_each.Given as goal
 
 abbrev pub invariant-loop-position : goal.invariant-loop-position

@@ -1,4 +1,4 @@
-use Rattle.dg_columns.proofs.PartsAreJoinedBack.{parts_back}
+use Rattle.dg_columns.proofs.ReadFitsParts.{parts_back}
 use Rattle.dg_columns.proofs.laws.law_parts_are_joined_back.Goals as goal
 
 pub returns : goal.returns

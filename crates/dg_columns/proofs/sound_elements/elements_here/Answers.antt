@@ -1,6 +1,6 @@
 use Rattle.std.proofs.Common.{◌≡◌, ◌+◌, [], None, sym, arith}
 use Rattle.dg_graph.specs.ColumnGrammar.{element_size, elements_at}
-use Rattle.dg_columns.proofs.ElementsAt.{goes_on}
+use Rattle.dg_columns.proofs.FieldElements.{goes_on}
 use Rattle.dg_columns.proofs.sound_elements.elements_here.Goals as goal
 
 pub loop-preserved : goal.loop-preserved

@@ -1,6 +1,6 @@
 use Rattle.std.proofs.Common.{◌≡◌, ◌-◌, ◌≤◌, [], length, None}
 use Rattle.dg_graph.specs.ColumnGrammar.{elements_at}
-use Rattle.dg_columns.proofs.ElementsAt.{after_front}
+use Rattle.dg_columns.proofs.FieldElements.{after_front}
 use Rattle.dg_columns.proofs.sound_elements.elements_here.Given as goal
 
 abbrev pub invariant-loop : goal.invariant-loop

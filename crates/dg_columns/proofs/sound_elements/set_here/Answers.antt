@@ -1,5 +1,5 @@
 use Rattle.std.proofs.Common.{[], None}
-use Rattle.dg_columns.proofs.ElementsAt.{elements_keep}
+use Rattle.dg_columns.proofs.FieldElements.{elements_keep}
 use Rattle.dg_columns.proofs.sound_elements.set_here.Goals as goal
 
 pub from_rising-requires : goal.from_rising-requires

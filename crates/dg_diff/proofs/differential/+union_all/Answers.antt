@@ -1,5 +1,5 @@
 use Rattle.std.proofs.lemmas.Result.{IfOk-weaker}
-use Rattle.dg_diff.proofs.Combined.{union_two, union_three, union_halves}
+use Rattle.dg_diff.proofs.DifferentialFunctionElements.{union_two, union_three, union_halves}
 use Rattle.dg_diff.proofs.differential.+union_all.Goals as goal
 
 pub returns-then-sets-eq2 : goal.returns-then-sets-eq2

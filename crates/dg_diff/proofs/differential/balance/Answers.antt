@@ -1,7 +1,7 @@
 use Rattle.std.proofs.lemmas.Result.{IfOk-weaker}
 use Rattle.dg_graph.specs.DifferentialFunction.{part}
 use Rattle.dg_graph.specs.Sets.{without_all}
-use Rattle.dg_diff.proofs.Combined.{balanced, in_half}
+use Rattle.dg_diff.proofs.DifferentialFunctionElements.{balanced, in_half}
 use Rattle.dg_diff.proofs.differential.balance.Goals as goal
 
 pub returns : goal.returns

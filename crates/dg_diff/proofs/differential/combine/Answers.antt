@@ -1,7 +1,7 @@
 use Rattle.std.proofs.Common.{ap, ◌∙◌}
 use Rattle.std.proofs.lemmas.Result.{IfOk-weaker}
 use Rattle.dg_graph.specs.Elements.{has}
-use Rattle.dg_diff.proofs.Combined.{combined_one, balanced_ends}
+use Rattle.dg_diff.proofs.DifferentialFunctionElements.{combined_one, balanced_ends}
 use Rattle.dg_diff.proofs.differential.combine.Goals as goal
 
 pub returns-then-sets-eq1 : goal.returns-then-sets-eq1

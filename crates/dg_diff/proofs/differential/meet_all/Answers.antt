@@ -1,5 +1,5 @@
 use Rattle.std.proofs.Common.{◌+◌, arith}
-use Rattle.dg_diff.proofs.Combined.{past_two, met_first, met_more}
+use Rattle.dg_diff.proofs.DifferentialFunctionElements.{past_two, met_first, met_more}
 use Rattle.dg_diff.proofs.differential.meet_all.Goals as goal
 
 pub loop-set-init : goal.loop-set-init

@@ -2,7 +2,7 @@ use Rattle.std.proofs.Common.{subst}
 use Rattle.std.proofs.lemmas.Result.{IfOk-weaker}
 use Rattle.dg_graph.specs.Elements.{IsSet}
 use Rattle.dg_diff.specs.Sides.{on_side}
-use Rattle.dg_diff.proofs.Inwards.{all_halves}
+use Rattle.dg_diff.proofs.DifferentialFunctionDeltas.{all_halves}
 use Rattle.dg_diff.proofs.interior.+all.Goals as goal
 
 pub returns : goal.returns

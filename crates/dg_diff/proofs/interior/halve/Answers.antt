@@ -1,7 +1,7 @@
 use Rattle.std.proofs.Common.{◌∙◌, filter, sym, ap}
 use Rattle.dg_graph.specs.DifferentialFunction.{part}
 use Rattle.dg_graph.specs.Elements.{has}
-use Rattle.dg_diff.proofs.Inwards.{apart_halved}
+use Rattle.dg_diff.proofs.DifferentialFunctionDeltas.{apart_halved}
 use Rattle.dg_diff.proofs.interior.halve.Goals as goal
 
 pub of-requires : goal.of-requires

@@ -1,7 +1,7 @@
 use Rattle.std.proofs.Common.{◌∙◌, sym, ap}
 use Rattle.std.proofs.lemmas.Result.{IfOk-weaker}
 use Rattle.dg_graph.specs.DifferentialFunction.{halved, inward}
-use Rattle.dg_diff.proofs.Inwards.{halved_last_is}
+use Rattle.dg_diff.proofs.DifferentialFunctionDeltas.{halved_last_is}
 use Rattle.dg_diff.proofs.interior.inward.Goals as goal
 
 pub returns-in-Balanced : goal.returns-in-Balanced

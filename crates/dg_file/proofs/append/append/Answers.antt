@@ -2,7 +2,7 @@ use Rattle.std.proofs.Common.{◌-◌, ◌≤◌, length, inl, arith}
 use Rattle.std.proofs.lemmas.Result.{on_ok_weaker, on_err_weaker}
 use Rattle.dg_index.specs.FileOfHistory.{segment_bytes}
 use Rattle.dg_file.specs.Growth.{KeepsFront, GatedOrNot}
-use Rattle.dg_file.proofs.Moves.{moved_after, moved_weaker, on_err_any, gate_opened, gate_left}
+use Rattle.dg_file.proofs.GrowthMoves.{moved_after, moved_weaker, on_err_any, gate_opened, gate_left}
 use Rattle.dg_file.proofs.append.append.Goals as goal
 
 pub put_down-requires : goal.put_down-requires

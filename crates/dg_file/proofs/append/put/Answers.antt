@@ -1,7 +1,7 @@
 use Rattle.std.proofs.Common.{◌≡◌, ◌≤◌, [], length, refl, sym, ◌∙◌}
 use Rattle.std.proofs.lemmas.Bool.{eqb-true}
 use Rattle.std.proofs.lemmas.List.{nil_from_length}
-use Rattle.dg_file.proofs.Moves.{moved_same, moved_put, moved_part, none_grows, none_keeps, put_grows, put_keeps}
+use Rattle.dg_file.proofs.GrowthMoves.{moved_same, moved_put, moved_part, none_grows, none_keeps, put_grows, put_keeps}
 use Rattle.dg_file.proofs.append.put.Goals as goal
 
 pub returns-then-is_empty-clause-written : goal.returns-then-is_empty-clause-written

@@ -2,7 +2,7 @@ use Rattle.std.proofs.Common.{◌≡◌, ℕ, ◌+◌, ◌++◌, List, length, a
 use Rattle.std.proofs.lemmas.Result.{IfOk-weaker, on_ok_weaker}
 use Rattle.dg_index.specs.FileOfHistory.{Segment, blobs, bytes_of, delta_blobs, list_blobs}
 use Rattle.dg_file.specs.Growth.{Moved, Grown}
-use Rattle.dg_file.proofs.Moves.{offset_behind, keep_then, grow_then}
+use Rattle.dg_file.proofs.GrowthMoves.{offset_behind, keep_then, grow_then}
 use Rattle.dg_file.proofs.SegmentText.{columns_are}
 use Rattle.dg_file.proofs.append.put_columns.Goals as goal
 

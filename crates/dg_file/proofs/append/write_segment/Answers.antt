@@ -1,7 +1,7 @@
 use Rattle.std.proofs.Common.{◌≡◌, ℕ, ◌+◌, ◌++◌, ◌∷◌, List, [], length, sym, ap, subst, ◌∙◌, append_assoc, arith, length-append}
 use Rattle.dg_index.specs.FileOfHistory.{Segment, blobs, head_of, segment_bytes}
 use Rattle.dg_file.specs.Growth.{Moved, Grown, KeepsFront}
-use Rattle.dg_file.proofs.Moves.{offset_behind, keep_then, grow_then, on_ok_any}
+use Rattle.dg_file.proofs.GrowthMoves.{offset_behind, keep_then, grow_then, on_ok_any}
 use Rattle.dg_file.proofs.SegmentText.{text_is}
 use Rattle.dg_file.proofs.append.write_segment.Goals as goal
 

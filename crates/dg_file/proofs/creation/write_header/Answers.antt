@@ -1,7 +1,7 @@
 use Rattle.std.proofs.Common.{length, ap, arith}
 use Rattle.std.proofs.lemmas.Result.{on_ok_weaker, on_err_weaker}
-use Rattle.dg_file.proofs.Moves.{on_err_any}
-use Rattle.dg_file.proofs.Creations.{offset_zero, offset_one, made_first, made_first_part, made_second, made_second_part, made_third, made_third_part}
+use Rattle.dg_file.proofs.GrowthMoves.{on_err_any}
+use Rattle.dg_file.proofs.GrowthCreations.{offset_zero, offset_one, made_first, made_first_part, made_second, made_second_part, made_third, made_third_part}
 use Rattle.dg_file.proofs.creation.write_header.Goals as goal
 
 pub put_down-requires : goal.put_down-requires

@@ -1,5 +1,5 @@
 use Rattle.std.proofs.Common.{sym, ◌∙◌}
-use Rattle.dg_file.proofs.Texts.{fresh_short, name_taken, name_stale, name_lacks}
+use Rattle.dg_file.proofs.DirectoryTexts.{fresh_short, name_taken, name_stale, name_lacks}
 use Rattle.dg_file.proofs.directory_names.read_name.Goals as goal
 
 pub add-requires-clause-short : goal.add-requires-clause-short

@@ -1,7 +1,7 @@
 use Rattle.std.proofs.Common.{◌≡◌, [], ◌∷◌, Err, length, ap, arith, length-append}
 use Rattle.std.proofs.lemmas.Result.{err_from_is_err_and}
 use Rattle.dg_file.specs.declared.directory_names.DirectoryFault.TheVariants.{Broken}
-use Rattle.dg_file.proofs.Texts.{taken_first, taken_next, taken_last, taken_wrong}
+use Rattle.dg_file.proofs.DirectoryTexts.{taken_first, taken_next, taken_last, taken_wrong}
 use Rattle.dg_file.proofs.directory_names.read_names.Goals as goal
 
 pub loop-init : goal.loop-init

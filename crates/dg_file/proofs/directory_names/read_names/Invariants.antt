@@ -1,5 +1,5 @@
 use Rattle.std.proofs.Common.{◌≡◌, ◌+◌, ◌-◌, ◌≤◌, length}
-use Rattle.dg_file.proofs.Texts.{TakenSoFar}
+use Rattle.dg_file.proofs.DirectoryTexts.{TakenSoFar}
 use Rattle.dg_file.proofs.directory_names.read_names.Given as goal
 
 abbrev pub invariant-loop : goal.invariant-loop

@@ -1,7 +1,7 @@
 use Rattle.std.proofs.Common.{◌+◌, ◌-◌, ◌<◌, ap, ◌∙◌, arith, ◌++◌, ◌∷◌, []}
 use Rattle.dg_index.specs.declared.entry.Row.{Row}
 use Rattle.dg_index.specs.OpenedIndex.{list_at}
-use Rattle.dg_file.proofs.NextRows.{next_row}
+use Rattle.dg_file.proofs.OpenedIndexRows.{next_row}
 use Rattle.dg_file.proofs.directory_rows.add_lists.Goals as goal
 
 pub loop-preserved : goal.loop-preserved

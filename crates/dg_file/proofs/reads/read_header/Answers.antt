@@ -1,6 +1,6 @@
 use Rattle.std.proofs.Common.{refl, sym, subst, ◌∙◌, arith}
 use Rattle.dg_disk.specs.Image.{IsLengthOf, IsRangeOf}
-use Rattle.dg_file.proofs.Found.{range_within, blank_short_image, blank_closed_image, foreign_image, found_image}
+use Rattle.dg_file.proofs.ImageParts.{range_within, blank_short_image, blank_closed_image, foreign_image, found_image}
 use Rattle.dg_file.proofs.reads.read_header.Goals as goal
 
 pub read_at-requires : goal.read_at-requires

@@ -1,6 +1,6 @@
 use Rattle.std.proofs.Common.{◌≡◌, false, refl, sym, ◌∙◌, arith}
 use Rattle.dg_index.specs.ImageText.{is_within}
-use Rattle.dg_file.proofs.Found.{some_weaker, range_within, within_short, within_wrong, found_lengths}
+use Rattle.dg_file.proofs.ImageParts.{some_weaker, range_within, within_short, within_wrong, found_lengths}
 use Rattle.dg_file.proofs.reads.read_lengths.Goals as goal
 
 pub read_at-requires : goal.read_at-requires

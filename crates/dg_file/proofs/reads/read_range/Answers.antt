@@ -1,6 +1,6 @@
 use Rattle.std.proofs.Common.{◌≡◌, length, take, drop, sym, ap, subst, ◌∙◌, arith}
 use Rattle.dg_disk.specs.Image.{HasRange}
-use Rattle.dg_file.proofs.Found.{some_all, range_filled, filled, taken_none, taken_some}
+use Rattle.dg_file.proofs.ImageParts.{some_all, range_filled, filled, taken_none, taken_some}
 use Rattle.dg_file.proofs.reads.read_range.Goals as goal
 
 pub read_at-requires : goal.read_at-requires

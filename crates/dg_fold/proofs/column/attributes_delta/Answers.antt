@@ -1,5 +1,5 @@
 use Rattle.dg_graph.specs.declared.element.Column.TheVariants.{NodeAttr, EdgeAttr}
-use Rattle.dg_fold.proofs.Folding.{folds_both}
+use Rattle.dg_fold.proofs.PartCompositions.{folds_both}
 use Rattle.dg_fold.specs.Parts.{taken_as, part_column_in}
 use Rattle.dg_fold.proofs.column.attributes_delta.Goals as goal
 

@@ -4,7 +4,7 @@ use Rattle.dg_graph.specs.ColumnGrammar.{events_in}
 use Rattle.dg_index.specs.IndexRecords.{Events}
 use Rattle.dg_fold.specs.PathIndependence.{taken}
 use Rattle.dg_fold.specs.Parts.{taken_as}
-use Rattle.dg_fold.proofs.Folding.{folds_events}
+use Rattle.dg_fold.proofs.PartCompositions.{folds_events}
 use Rattle.dg_fold.proofs.column.events_column.Goals as goal
 
 pub returns-in_ok-net_of-in-Ok : goal.returns-in_ok-net_of-in-Ok

@@ -1,5 +1,5 @@
 use Rattle.dg_graph.specs.declared.element.Column.TheVariants.{Structure, NodeAttr, EdgeAttr}
-use Rattle.dg_fold.proofs.Folding.{folds_both}
+use Rattle.dg_fold.proofs.PartCompositions.{folds_both}
 use Rattle.dg_fold.specs.Parts.{taken_as, part_column_in, beside}
 use Rattle.dg_fold.proofs.column.events_delta.Goals as goal
 

@@ -1,7 +1,7 @@
 use Rattle.std.proofs.Common.{sym, ap, ◌∙◌}
 use Rattle.dg_graph.specs.ColumnGrammar.{delta_in}
 use Rattle.dg_fold.specs.Parts.{taken_as}
-use Rattle.dg_fold.proofs.Folding.{exact_is}
+use Rattle.dg_fold.proofs.PartCompositions.{exact_is}
 use Rattle.dg_fold.proofs.column.exact_column.Goals as goal
 
 pub returns-in-Ok-clause-ok : goal.returns-in-Ok-clause-ok

@@ -1,5 +1,5 @@
 use Rattle.dg_fold.specs.Parts.{taken_as}
-use Rattle.dg_fold.proofs.JoinedColumns.{folds_columns}
+use Rattle.dg_fold.proofs.PartDeltas.{folds_columns}
 use Rattle.dg_fold.proofs.column.exact_delta.Goals as goal
 
 pub returns : goal.returns

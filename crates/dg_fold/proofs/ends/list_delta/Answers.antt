@@ -1,7 +1,7 @@
 use Rattle.std.proofs.Common.{sym, subst, ◌∙◌}
 use Rattle.dg_fold.specs.Parts.{Folds}
 use Rattle.dg_fold.specs.Ends.{part_until}
-use Rattle.dg_fold.proofs.Ending.{found}
+use Rattle.dg_fold.proofs.EndTargets.{found}
 use Rattle.dg_fold.proofs.ends.list_delta.Goals as goal
 
 pub returns-then-is_list : goal.returns-then-is_list

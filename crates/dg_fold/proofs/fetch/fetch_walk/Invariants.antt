@@ -1,6 +1,6 @@
 use Rattle.std.proofs.Common.{◌≡◌}
 use Rattle.dg_disk.specs.Frame.{OnlyReads}
-use Rattle.dg_fold.proofs.Fetching.{SoFar}
+use Rattle.dg_fold.proofs.BytesReadGrowth.{SoFar}
 use Rattle.dg_fold.proofs.fetch.fetch_walk.Given as goal
 
 abbrev pub invariant-loop-edge : goal.invariant-loop-edge

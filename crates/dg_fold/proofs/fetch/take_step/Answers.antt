@@ -5,7 +5,7 @@ use Rattle.dg_graph.specs.declared.element.Column.{Column}
 use Rattle.dg_fold.specs.declared.part.Part.{Part}
 use Rattle.dg_fold.specs.BytesRead.{AreParts, asked_column, kept_in, named_by}
 use Rattle.dg_fold.specs.Parts.{bytes_in}
-use Rattle.dg_fold.proofs.Fetching.{own_bytes, part_more}
+use Rattle.dg_fold.proofs.BytesReadGrowth.{own_bytes, part_more}
 use Rattle.dg_fold.proofs.fetch.take_step.Goals as goal
 
 pub returns-in_ok-add-in-Paid-clause-parts : goal.returns-in_ok-add-in-Paid-clause-parts

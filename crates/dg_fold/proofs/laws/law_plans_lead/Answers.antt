@@ -1,4 +1,4 @@
-use Rattle.dg_fold.proofs.Parted.{plans_lead}
+use Rattle.dg_fold.proofs.PathIndependencePlans.{plans_lead}
 use Rattle.dg_fold.proofs.laws.law_plans_lead.Goals as goal
 
 pub returns : goal.returns

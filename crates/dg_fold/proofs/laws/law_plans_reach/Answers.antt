@@ -1,4 +1,4 @@
-use Rattle.dg_fold.proofs.Parted.{plans_reach}
+use Rattle.dg_fold.proofs.PathIndependencePlans.{plans_reach}
 use Rattle.dg_fold.proofs.laws.law_plans_reach.Goals as goal
 
 pub returns : goal.returns

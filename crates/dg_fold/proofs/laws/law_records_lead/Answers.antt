@@ -1,4 +1,4 @@
-use Rattle.dg_fold.proofs.RecordsLead.{records_lead}
+use Rattle.dg_fold.proofs.PathIndependenceRecords.{records_lead}
 use Rattle.dg_fold.proofs.laws.law_records_lead.Goals as goal
 
 pub returns : goal.returns

@@ -1,4 +1,4 @@
-use Rattle.dg_fold.proofs.Leading.{trees_lead}
+use Rattle.dg_fold.proofs.PathIndependenceTrees.{trees_lead}
 use Rattle.dg_fold.proofs.laws.law_trees_lead.Goals as goal
 
 pub returns : goal.returns

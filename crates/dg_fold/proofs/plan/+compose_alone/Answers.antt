@@ -1,7 +1,7 @@
 use Rattle.std.proofs.Common.{sym, subst, ap, ◌∙◌}
 use Rattle.std.specs.Option.{option_copied}
 use Rattle.dg_fold.specs.Parts.{parts_in, Folds}
-use Rattle.dg_fold.proofs.Folding.{one_part, one_only, cut_anywhere}
+use Rattle.dg_fold.proofs.PartCompositions.{one_part, one_only, cut_anywhere}
 use Rattle.dg_fold.proofs.plan.+compose_alone.Goals as goal
 
 pub returns : goal.returns

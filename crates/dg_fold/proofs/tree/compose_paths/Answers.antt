@@ -1,6 +1,6 @@
 use Rattle.dg_fold.specs.Steps.{paired}
 use Rattle.dg_fold.specs.Trees.{all_edges}
-use Rattle.dg_fold.proofs.Branches.{stepped_edges, to_led}
+use Rattle.dg_fold.proofs.TreeStepBranches.{stepped_edges, to_led}
 use Rattle.dg_fold.proofs.Steps.{done_in}
 use Rattle.dg_fold.proofs.tree.compose_paths.Goals as goal
 

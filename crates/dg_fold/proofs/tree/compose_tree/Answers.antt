@@ -3,10 +3,10 @@ use Rattle.std.proofs.lemmas.Iterator.Adapters.{YieldsList-from_vec}
 use Rattle.std.proofs.lemmas.Iterator.Consumers.{YieldsList-turn, YieldsList-end}
 use Rattle.std.proofs.lemmas.List.{length_push}
 use Rattle.dg_graph.specs.Composition.{Composes}
-use Rattle.dg_fold.specs.declared.along.Known.{Known}
+use Rattle.dg_fold.specs.declared.branch_walk.Known.{Known}
 use Rattle.dg_fold.specs.Steps.{paired}
 use Rattle.dg_fold.specs.Trees.{all_edges}
-use Rattle.dg_fold.proofs.Ending.{led_length, until_none, until_fails, until_next, until_all}
+use Rattle.dg_fold.proofs.EndTargets.{led_length, until_none, until_fails, until_next, until_all}
 use Rattle.dg_fold.proofs.tree.compose_tree.Goals as goal
 
 pub loop-first-init : goal.loop-first-init

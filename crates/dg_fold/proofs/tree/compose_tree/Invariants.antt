@@ -1,7 +1,7 @@
 use Rattle.std.proofs.Common.{◌≡◌, length}
 use Rattle.dg_fold.specs.Steps.{paired}
 use Rattle.dg_fold.specs.Trees.{all_edges}
-use Rattle.dg_fold.proofs.Ending.{Until}
+use Rattle.dg_fold.proofs.EndTargets.{Until}
 use Rattle.dg_fold.proofs.tree.compose_tree.Given as goal
 
 abbrev pub invariant-loop-first : goal.invariant-loop-first

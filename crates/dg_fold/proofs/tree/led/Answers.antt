@@ -1,7 +1,7 @@
 use Rattle.std.proofs.Common.{◌≡◌, sym, ap, subst, ◌∙◌, length}
-use Rattle.dg_fold.specs.declared.along.Known.{Known}
+use Rattle.dg_fold.specs.declared.branch_walk.Known.{Known}
 use Rattle.dg_fold.specs.TreeSteps.{IsNodeKnown, last_of}
-use Rattle.dg_fold.proofs.Branches.{walk_begins}
+use Rattle.dg_fold.proofs.TreeStepBranches.{walk_begins}
 use Rattle.dg_fold.proofs.Trees.{popped_to, popped_known, popped_reached, no_stops}
 use Rattle.dg_fold.proofs.tree.led.Goals as goal
 

@@ -2,7 +2,7 @@ use Rattle.std.proofs.Common.{◌≡◌, ◌⊎◌, ◌++◌, [], sym, ap, subst
 use Rattle.std.proofs.lemmas.List.{take-append-drop}
 use Rattle.dg_fold.specs.TreeSteps.{AreReached, IsNodeKnown}
 use Rattle.dg_fold.specs.declared.tree.Branch.{Branch}
-use Rattle.dg_fold.proofs.Branches.{through_none, all_targets, through_next, room, own_edges, own_among, begins_known}
+use Rattle.dg_fold.proofs.TreeStepBranches.{through_none, all_targets, through_next, room, own_edges, own_among, begins_known}
 use Rattle.dg_fold.proofs.tree.paths.Goals as goal
 
 pub loop-branch-init : goal.loop-branch-init

@@ -1,4 +1,4 @@
-use Rattle.dg_fold.proofs.Branches.{Through}
+use Rattle.dg_fold.proofs.TreeStepBranches.{Through}
 use Rattle.dg_fold.proofs.tree.paths.Given as goal
 
 abbrev pub invariant-loop-branch : goal.invariant-loop-branch

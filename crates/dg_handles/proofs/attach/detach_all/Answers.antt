@@ -1,5 +1,5 @@
 use Rattle.std.proofs.Common.{◌∙◌}
-use Rattle.dg_handles.proofs.Detaching.{detached_more, still_live, still_unused}
+use Rattle.dg_handles.proofs.AttachedEnds.{detached_more, still_live, still_unused}
 use Rattle.dg_handles.proofs.attach.detach_all.Goals as goal
 
 pub detach-requires-clause-live : goal.detach-requires-clause-live

@@ -1,5 +1,5 @@
 use Rattle.std.proofs.Common.{arith, ◌≡◌, ◌+◌, get_or, refl, sym, ap, ◌∙◌}
-use Rattle.dg_handles.proofs.Entering.{slots_more, table_more}
+use Rattle.dg_handles.proofs.HandleAdditions.{slots_more, table_more}
 use Rattle.dg_machine.specs.declared.stands.Stands.TheVariants.{Overlay}
 use Rattle.dg_retrieval.specs.Beginnings.{base_handle}
 use Rattle.dg_retrieval.specs.declared.graph_lead.GraphLead.{GraphLead}

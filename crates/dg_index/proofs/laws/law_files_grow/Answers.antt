@@ -1,4 +1,4 @@
-use Rattle.dg_index.proofs.FileGrowth.{file_more}
+use Rattle.dg_index.proofs.OpenedIndexGrowth.{file_more}
 use Rattle.dg_index.proofs.laws.law_files_grow.Goals as goal
 
 pub returns : goal.returns

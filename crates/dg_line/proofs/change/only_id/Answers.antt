@@ -1,5 +1,5 @@
 use Rattle.dg_history.specs.ChangeGrammar.{Plain, id_of}
-use Rattle.dg_line.proofs.Readers.{one_made}
+use Rattle.dg_line.proofs.VerbReaders.{one_made}
 use Rattle.dg_line.proofs.change.only_id.Goals as goal
 
 pub returns : goal.returns

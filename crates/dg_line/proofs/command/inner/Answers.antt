@@ -1,7 +1,7 @@
 use Rattle.dg_history.specs.declared.node.NodeId.TheVariants as node
 use Rattle.dg_machine.specs.declared.command.Command.TheVariants as command
 use Rattle.dg_machine.specs.CommandGrammar.{columns_of, n32_of}
-use Rattle.dg_line.proofs.Readers.{three_step}
+use Rattle.dg_line.proofs.VerbReaders.{three_step}
 use Rattle.dg_line.proofs.command.inner.Goals as goal
 
 pub returns-in-None-number_and_columns-clause-command : goal.returns-in-None-number_and_columns-clause-command

@@ -1,6 +1,6 @@
 use Rattle.std.proofs.Common.{◌≡◌, ◌<◌, ◌∙◌, arith, length, refl, set, sym, length-set}
 use Rattle.dg_machine.specs.declared.command.TheConstants.{TIMES_MAX}
-use Rattle.dg_line.proofs.Instants.{read_none, read_more, read_past, read_other, read_all}
+use Rattle.dg_line.proofs.CommandGrammarInstants.{read_none, read_more, read_past, read_other, read_all}
 use Rattle.dg_line.proofs.command.several_from.Goals as goal
 
 pub loop-word-init : goal.loop-word-init

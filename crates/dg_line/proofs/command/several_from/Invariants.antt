@@ -1,6 +1,6 @@
 use Rattle.std.proofs.Common.{◌≡◌, ◌≤◌, length}
 use Rattle.dg_machine.specs.declared.command.TheConstants.{TIMES_MAX}
-use Rattle.dg_line.proofs.Instants.{AreRead}
+use Rattle.dg_line.proofs.CommandGrammarInstants.{AreRead}
 use Rattle.dg_line.proofs.command.several_from.Given as goal
 
 abbrev pub invariant-loop-word : goal.invariant-loop-word

@@ -1,7 +1,7 @@
 use Rattle.dg_machine.specs.declared.command.Command.TheVariants as command
 use Rattle.dg_history.specs.ChangeGrammar.{id_of}
 use Rattle.dg_machine.specs.CommandGrammar.{count_of}
-use Rattle.dg_line.proofs.Readers.{two_step}
+use Rattle.dg_line.proofs.VerbReaders.{two_step}
 use Rattle.dg_line.proofs.command.workload.Goals as goal
 
 pub returns-in-None-one_number-clause-command : goal.returns-in-None-one_number-clause-command

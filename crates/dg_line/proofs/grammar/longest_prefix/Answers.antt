@@ -4,7 +4,7 @@ use Rattle.std.proofs.lemmas.List.{get_or-map, length-map, take_all}
 use Rattle.dg_line.specs.declared.grammar.Symbol.{Symbol}
 use Rattle.dg_line.specs.Prefixes.{IsLongestPrefix}
 use Rattle.dg_line.specs.Symbols.{Terminal, IsLineOf, IsLineOfOne, is_well_formed, row_of, rows_of}
-use Rattle.dg_line.proofs.Any.{any_none, passes_at}
+use Rattle.dg_line.proofs.ListElements.{any_none, passes_at}
 use Rattle.dg_line.proofs.Prefixes.{no_prefix}
 use Rattle.dg_line.proofs.Symbols.{rows_more}
 use Rattle.dg_line.proofs.grammar.longest_prefix.Goals as goal

@@ -2,8 +2,8 @@ use Rattle.std.proofs.Common.{◌≡◌, ℕ, ◌⊎◌, inl, inr, ◌∙◌, Bo
 use Rattle.std.proofs.lemmas.Bool.{false≢true}
 use Rattle.dg_line.specs.Prefixes.{IsLongestPrefix}
 use Rattle.dg_line.specs.Symbols.{Number, IsWordOf}
-use Rattle.dg_line.proofs.Numbers.{more_digits, more_value}
-use Rattle.dg_line.proofs.NumberPrefixes.{number_stops, number_whole, after_zero, at_no_digit, too_great, too_small, text_more}
+use Rattle.dg_line.proofs.WordNumbers.{more_digits, more_value}
+use Rattle.dg_line.proofs.SymbolNumbers.{number_stops, number_whole, after_zero, at_no_digit, too_great, too_small, text_more}
 use Rattle.dg_line.proofs.grammar.number_prefix.Goals as goal
 use Rattle.dg_line.proofs.grammar.number_prefix.Goals.{else-prefix-via-then-prefix+else-value-eq0, else-prefix-via-else-prefix}
 

@@ -4,7 +4,7 @@ use Rattle.std.proofs.lemmas.Bool.{false≢true}
 use Rattle.std.proofs.lemmas.List.{get_or-map, length-map, take_all}
 use Rattle.dg_line.specs.Prefixes.{IsLongestPrefix}
 use Rattle.dg_line.specs.Symbols.{word_texts}
-use Rattle.dg_line.proofs.Any.{contains_none}
+use Rattle.dg_line.proofs.ListElements.{contains_none}
 use Rattle.dg_line.proofs.Prefixes.{no_prefix, words_more}
 use Rattle.dg_line.proofs.grammar.words_prefix.Goals as goal
 

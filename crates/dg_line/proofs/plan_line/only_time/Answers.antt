@@ -1,5 +1,5 @@
 use Rattle.dg_history.specs.ChangeGrammar.{time_of}
-use Rattle.dg_line.proofs.Readers.{one_made}
+use Rattle.dg_line.proofs.VerbReaders.{one_made}
 use Rattle.dg_line.proofs.plan_line.only_time.Goals as goal
 
 pub returns : goal.returns

@@ -2,7 +2,7 @@ use Rattle.std.proofs.Common.{◌≡◌, ◌<◌, arith, get_or, length, take, r
 use Rattle.std.specs.Str.Parse.{AllDigits, digits_value}
 use Rattle.std.proofs.lemmas.Bool.{eqb-true, eqb-false, false≢true}
 use Rattle.std.proofs.lemmas.List.{take_all}
-use Rattle.dg_line.proofs.Numbers.{if_none, not_empty, no_zero_before, text_of_value, more_digits, more_value, stops_at}
+use Rattle.dg_line.proofs.WordNumbers.{if_none, not_empty, no_zero_before, text_of_value, more_digits, more_value, stops_at}
 use Rattle.dg_line.proofs.words.decimal_value.Goals as goal
 
 pub returns-then-is_empty-clause-none : goal.returns-then-is_empty-clause-none

@@ -1,5 +1,5 @@
 use Rattle.std.proofs.Common.{arith, sym}
-use Rattle.dg_line.proofs.Numbers.{number_within, number_outside, no_number}
+use Rattle.dg_line.proofs.WordNumbers.{number_within, number_outside, no_number}
 use Rattle.dg_line.proofs.words.number.Goals as goal
 use Rattle.dg_line.proofs.words.number.Goals.{else-low-value-via-then-low-value+else-value-high, else-low-value-via-else-low-value}
 

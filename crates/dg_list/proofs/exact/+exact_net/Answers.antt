@@ -1,6 +1,6 @@
 use Rattle.std.proofs.Common.{sym}
 use Rattle.std.proofs.lemmas.Result.{IfOk-weaker}
-use Rattle.dg_list.proofs.ExactNets.{net_halves}
+use Rattle.dg_list.proofs.ExactEventNets.{net_halves}
 use Rattle.dg_list.proofs.exact.+exact_net.Goals as goal
 
 pub returns : goal.returns

@@ -1,6 +1,6 @@
 use Rattle.std.proofs.Common.{◌∙◌, option_to_list, sym, ap}
 use Rattle.dg_graph.specs.Sets.{without_all}
-use Rattle.dg_list.proofs.ExactNets.{kept_all, taken_out}
+use Rattle.dg_list.proofs.ExactEventNets.{kept_all, taken_out}
 use Rattle.dg_list.proofs.exact.cancel.Goals as goal
 
 pub returns-in-None-clause-after : goal.returns-in-None-clause-after

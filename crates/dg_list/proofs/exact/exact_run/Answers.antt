@@ -1,7 +1,7 @@
 use Rattle.std.proofs.Common.{sym, subst, []}
 use Rattle.dg_graph.specs.declared.event.Body.TheVariants as body
 use Rattle.dg_graph.specs.declared.event.Event.{Event}
-use Rattle.dg_list.proofs.ExactNets.{NetSoFar, net_first, net_noted}
+use Rattle.dg_list.proofs.ExactEventNets.{NetSoFar, net_first, net_noted}
 use Rattle.dg_list.proofs.exact.exact_run.Goals as goal
 
 pub loop-event-init : goal.loop-event-init

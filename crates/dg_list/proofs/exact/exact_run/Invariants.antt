@@ -1,4 +1,4 @@
-use Rattle.dg_list.proofs.ExactNets.{NetSoFar}
+use Rattle.dg_list.proofs.ExactEventNets.{NetSoFar}
 use Rattle.dg_list.proofs.exact.exact_run.Given as goal
 
 abbrev pub invariant-loop-event : goal.invariant-loop-event

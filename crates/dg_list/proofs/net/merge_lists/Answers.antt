@@ -2,7 +2,7 @@ use Rattle.std.proofs.Common.{◌++◌, map, filter, None}
 use Rattle.std.proofs.lemmas.Result.{IfOk-weaker}
 use Rattle.dg_graph.specs.ExactEvents.{effect_of}
 use Rattle.dg_list.specs.Lists.{counts}
-use Rattle.dg_list.proofs.Nets.{composes_halves, cut_whole, replays}
+use Rattle.dg_list.proofs.ReplayNets.{composes_halves, cut_whole, replays}
 use Rattle.dg_list.proofs.net.merge_lists.Goals as goal
 
 pub returns-clause-composes : goal.returns-clause-composes

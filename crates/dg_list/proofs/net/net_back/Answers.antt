@@ -2,7 +2,7 @@ use Rattle.std.proofs.Common.{reverse}
 use Rattle.std.proofs.lemmas.Result.{IfOk-weaker}
 use Rattle.dg_graph.specs.declared.event.Event.{Event}
 use Rattle.dg_graph.specs.Effect.{removed_by, added_by}
-use Rattle.dg_list.proofs.Nets.{leads_back}
+use Rattle.dg_list.proofs.ReplayNets.{leads_back}
 use Rattle.dg_list.proofs.EventMarks.{events_net}
 use Rattle.dg_list.proofs.net.net_back.Goals as goal
 

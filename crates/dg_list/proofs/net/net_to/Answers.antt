@@ -1,6 +1,6 @@
 use Rattle.std.proofs.lemmas.Result.{IfOk-weaker}
 use Rattle.dg_graph.specs.Replay.{events_until}
-use Rattle.dg_list.proofs.Nets.{replays}
+use Rattle.dg_list.proofs.ReplayNets.{replays}
 use Rattle.dg_list.proofs.net.net_to.Goals as goal
 
 pub returns-clause-applies : goal.returns-clause-applies

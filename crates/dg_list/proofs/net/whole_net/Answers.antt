@@ -3,7 +3,7 @@ use Rattle.std.proofs.lemmas.Result.{IfOk-weaker}
 use Rattle.dg_graph.specs.declared.event.Event.{Event}
 use Rattle.dg_graph.specs.Composition.{Composes}
 use Rattle.dg_graph.specs.ExactEvents.{effect_of}
-use Rattle.dg_list.proofs.Nets.{all_count, replays}
+use Rattle.dg_list.proofs.ReplayNets.{all_count, replays}
 use Rattle.dg_list.proofs.net.whole_net.Goals as goal
 
 pub returns-clause-composes : goal.returns-clause-composes

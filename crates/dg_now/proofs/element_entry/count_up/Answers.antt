@@ -3,7 +3,7 @@ use Rattle.std.proofs.lemmas.Bool.{false≢true}
 use Rattle.dg_now.specs.declared.element_entry.ElementEntry.{ElementEntry}
 use Rattle.dg_now.specs.HeldGraph.{element_entry_at, more_at, fewer_at}
 use Rattle.dg_now.proofs.HeldGraph.{derived_entry}
-use Rattle.dg_now.proofs.ElementEntries.{Writes, writes_is, keeps_held, counts_up, element_found, more_found, fewer_found, lacks_entry}
+use Rattle.dg_now.proofs.HeldGraphWrites.{Writes, writes_is, keeps_held, counts_up, element_found, more_found, fewer_found, lacks_entry}
 use Rattle.dg_now.proofs.element_entry.count_up.Goals as goal
 use Rattle.dg_now.proofs.element_entry.count_up.Goals.{In-Some}
 

@@ -6,7 +6,7 @@ use Rattle.dg_now.specs.declared.element_entry.ElementEntry.{ElementEntry}
 use Rattle.dg_now.specs.contracts.element_id.ElementIdPartialEq.TheImpl as of_ids
 use Rattle.dg_now.specs.HeldGraph.{element_entry_at}
 use Rattle.dg_now.proofs.HeldGraph.{derived_entry}
-use Rattle.dg_now.proofs.ElementEntries.{Writes, from_ok, writes_is, has_after, held_after, keeps_uses, more_found, fewer_found, more_missing, fewer_missing, room_left}
+use Rattle.dg_now.proofs.HeldGraphWrites.{Writes, from_ok, writes_is, has_after, held_after, keeps_uses, more_found, fewer_found, more_missing, fewer_missing, room_left}
 use Rattle.dg_now.proofs.element_entry.set_element.Goals as goal
 use Rattle.dg_now.proofs.element_entry.set_element.Goals.{In-Some, In_default, After-unwrap}
 

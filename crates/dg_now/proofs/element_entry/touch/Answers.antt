@@ -4,9 +4,9 @@ use Rattle.dg_now.specs.declared.element_entry.ElementEntry.{ElementEntry}
 use Rattle.dg_now.specs.declared.element_id.ElementId.{ElementId}
 use Rattle.dg_now.specs.HeldGraph.{element_entry_at, has_entry}
 use Rattle.dg_now.specs.ElementIds.{same_id}
-use Rattle.dg_now.proofs.EventOf.{none_from}
+use Rattle.dg_now.proofs.EventEffectCompletions.{none_from}
 use Rattle.dg_now.proofs.HeldGraph.{derived_entry, same_id_itself}
-use Rattle.dg_now.proofs.ElementEntries.{Writes, writes_is, has_after, has_entry_is, keeps_held, keeps_uses, element_missing, more_missing, fewer_missing}
+use Rattle.dg_now.proofs.HeldGraphWrites.{Writes, writes_is, has_after, has_entry_is, keeps_held, keeps_uses, element_missing, more_missing, fewer_missing}
 use Rattle.dg_now.proofs.element_entry.touch.Goals as goal
 use Rattle.dg_now.proofs.element_entry.touch.Goals.{In_ok-insert}
 

@@ -1,7 +1,7 @@
 use Rattle.std.proofs.Common.{◌≡◌, ◌+◌, ◌==◌, ltb, leb, arith, rules}
 use Rattle.std.proofs.lemmas.List.Sorted.{IsPartitionPoint-from_clause, IsPartitionedBy-leb, IsPartitionedBy-ltb}
 use Rattle.std.specs.List.{count_by}
-use Rattle.dg_now.proofs.Searches.{equal_counted}
+use Rattle.dg_now.proofs.SortedSearches.{equal_counted}
 use Rattle.dg_now.proofs.ends.count_sorted.Goals as goal
 use Rattle.dg_now.proofs.ends.count_sorted.Goals.{After-partition_point-2}
 

@@ -4,8 +4,8 @@ use Rattle.std.proofs.lemmas.List.Sorted.{IsNonDecreasingBy-from_sort, sum_by-Is
 use Rattle.std.specs.List.{count_by}
 use Rattle.dg_graph.specs.Elements.{bit}
 use Rattle.dg_now.specs.Sorted.{has_end}
-use Rattle.dg_now.proofs.IsGraph.{past}
-use Rattle.dg_now.proofs.Searches.{count_more}
+use Rattle.dg_now.proofs.SortedGraphs.{past}
+use Rattle.dg_now.proofs.SortedSearches.{count_more}
 use Rattle.dg_now.proofs.ends.sorted_ends.Goals as goal
 
 pub returns : goal.returns

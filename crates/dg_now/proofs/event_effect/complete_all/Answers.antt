@@ -4,9 +4,9 @@ use Rattle.dg_graph.specs.declared.event.Event.{Event}
 use Rattle.dg_graph.specs.declared.event.What.TheVariants as what
 use Rattle.dg_graph.specs.CompletedChanges.{completed}
 use Rattle.dg_now.specs.EventEffect.{Led}
-use Rattle.dg_now.proofs.EventOf.{event_happens}
+use Rattle.dg_now.proofs.EventEffectCompletions.{event_happens}
 use Rattle.dg_now.proofs.EventEffect.{led_is_graph}
-use Rattle.dg_now.proofs.CompleteAll.{onto, all_changes, goes_on_at, led_more, led_still}
+use Rattle.dg_now.proofs.EventEffectChanges.{onto, all_changes, goes_on_at, led_more, led_still}
 use Rattle.dg_now.proofs.event_effect.complete_all.Goals as goal
 
 -- what an index past the list reads as

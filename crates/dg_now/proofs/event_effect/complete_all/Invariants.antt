@@ -2,7 +2,7 @@ use Rattle.std.proofs.Common.{◌≡◌, ◌+◌, ◌≤◌, length, drop}
 use Rattle.std.specs.Vec.{vec_capacity}
 use Rattle.dg_graph.specs.CompletedChanges.{completed}
 use Rattle.dg_now.specs.EventEffect.{Led}
-use Rattle.dg_now.proofs.CompleteAll.{onto, all_changes}
+use Rattle.dg_now.proofs.EventEffectChanges.{onto, all_changes}
 use Rattle.dg_now.proofs.event_effect.complete_all.Given as goal
 
 abbrev pub invariant-loop-change : goal.invariant-loop-change

@@ -1,7 +1,7 @@
 use Rattle.std.proofs.Common.{List, [], ◌∷◌, ◌++◌, subst}
 use Rattle.dg_graph.specs.declared.event.Event.{Event}
 use Rattle.dg_now.specs.EventEffect.{Led, rewound}
-use Rattle.dg_now.proofs.CompleteAll.{last_came, last_known, led_less}
+use Rattle.dg_now.proofs.EventEffectChanges.{last_came, last_known, led_less}
 use Rattle.dg_now.proofs.event_effect.undo.Goals as goal
 use Rattle.dg_now.proofs.event_effect.undo.Goals.{In-Some}
 

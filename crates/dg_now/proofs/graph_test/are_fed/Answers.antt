@@ -1,7 +1,7 @@
 use Rattle.std.proofs.Common.{◌&&◌, ◌∙◌, sym}
 use Rattle.std.specs.List.{list_all}
 use Rattle.dg_now.specs.Sorted.{has_ends}
-use Rattle.dg_now.proofs.IsGraph.{all_needs}
+use Rattle.dg_now.proofs.SortedGraphs.{all_needs}
 use Rattle.dg_now.proofs.graph_test.are_fed.Goals as goal
 
 pub returns-then-values_are_held : goal.returns-then-values_are_held

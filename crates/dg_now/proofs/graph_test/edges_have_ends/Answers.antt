@@ -3,7 +3,7 @@ use Rattle.std.proofs.lemmas.List.{take_all}
 use Rattle.std.proofs.lemmas.List.Folds.{list_all_at}
 use Rattle.std.specs.List.{list_all}
 use Rattle.dg_now.specs.Sorted.{has_ends}
-use Rattle.dg_now.proofs.IsGraph.{all_more, past}
+use Rattle.dg_now.proofs.SortedGraphs.{all_more, past}
 use Rattle.dg_now.proofs.graph_test.edges_have_ends.Goals as goal
 
 pub returns : goal.returns

@@ -2,7 +2,7 @@ use Rattle.std.proofs.Common.{refl, sym, ◌∙◌, arith}
 use Rattle.std.proofs.lemmas.Bool.{false≢true}
 use Rattle.dg_now.specs.ElementIds.{same_id}
 use Rattle.dg_now.proofs.HeldGraph.{equal_ids, unequal_ids}
-use Rattle.dg_now.proofs.IsGraph.{ids_differ, index_meets, neighbours_more}
+use Rattle.dg_now.proofs.SortedGraphs.{ids_differ, index_meets, neighbours_more}
 use Rattle.dg_now.proofs.graph_test.ids_differ.Goals as goal
 
 pub returns-then-eq : goal.returns-then-eq

@@ -1,4 +1,4 @@
-use Rattle.dg_now.proofs.IsGraph.{NeighboursDiffer}
+use Rattle.dg_now.proofs.SortedGraphs.{NeighboursDiffer}
 use Rattle.dg_now.proofs.graph_test.ids_differ.Given as goal
 
 abbrev pub invariant-loop-index : goal.invariant-loop-index

@@ -1,7 +1,7 @@
 use Rattle.std.proofs.Common.{sym, ◌∙◌}
 use Rattle.std.proofs.lemmas.Bool.{true≢false, false≢true}
 use Rattle.dg_now.proofs.ElementIds.{one_of_each_id}
-use Rattle.dg_now.proofs.IsGraph.{graph_passes, graph_fed}
+use Rattle.dg_now.proofs.SortedGraphs.{graph_passes, graph_fed}
 use Rattle.dg_now.proofs.graph_test.is_graph.Goals as goal
 
 pub returns-then-not-ids_differ : goal.returns-then-not-ids_differ

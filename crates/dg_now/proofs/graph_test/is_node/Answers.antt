@@ -1,5 +1,5 @@
 use Rattle.std.proofs.Common.{◌∙◌}
-use Rattle.dg_now.proofs.Searches.{among}
+use Rattle.dg_now.proofs.SortedSearches.{among}
 use Rattle.dg_now.proofs.graph_test.is_node.Goals as goal
 
 pub returns-else-stands_as_numbered : goal.returns-else-stands_as_numbered

@@ -1,7 +1,7 @@
 use Rattle.std.proofs.Common.{map, ap, ◌∙◌, arith}
 use Rattle.std.proofs.lemmas.List.{get_or_default}
 use Rattle.dg_graph.specs.declared.element.Element.TheVariants as element
-use Rattle.dg_now.proofs.IsGraph.{nodes_more, are_nodes, no_later_node, past}
+use Rattle.dg_now.proofs.SortedGraphs.{nodes_more, are_nodes, no_later_node, past}
 use Rattle.dg_now.proofs.graph_test.node_ids.Goals as goal
 use Rattle.dg_now.proofs.graph_test.node_ids.Goals.{else-loop-element-test, then-loop-element-test+in_default}
 

@@ -3,7 +3,7 @@ use Rattle.std.proofs.lemmas.List.{take_all}
 use Rattle.std.proofs.lemmas.List.Folds.{list_all_at}
 use Rattle.std.specs.List.{list_all}
 use Rattle.dg_now.specs.Sorted.{IsFirstFrom, is_held, holder_of, least}
-use Rattle.dg_now.proofs.IsGraph.{HoldersPast, all_more, held_is, holders_next, holders_still, past}
+use Rattle.dg_now.proofs.SortedGraphs.{HoldersPast, all_more, held_is, holders_next, holders_still, past}
 use Rattle.dg_now.proofs.graph_test.values_are_held.Goals as goal
 use Rattle.dg_now.proofs.graph_test.values_are_held.Goals.{in-Some+else-is_none, in_default}
 

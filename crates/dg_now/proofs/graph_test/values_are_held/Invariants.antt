@@ -1,7 +1,7 @@
 use Rattle.std.proofs.Common.{◌≡◌, ◌≤◌, true, length, take}
 use Rattle.std.specs.List.{list_all}
 use Rattle.dg_now.specs.Sorted.{is_held}
-use Rattle.dg_now.proofs.IsGraph.{HoldersPast}
+use Rattle.dg_now.proofs.SortedGraphs.{HoldersPast}
 use Rattle.dg_now.proofs.graph_test.values_are_held.Given as goal
 
 abbrev pub invariant-loop-element : goal.invariant-loop-element

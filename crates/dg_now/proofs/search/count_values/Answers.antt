@@ -2,7 +2,7 @@ use Rattle.std.proofs.Common.{arith, rules, length-drop, subst}
 use Rattle.std.proofs.lemmas.List.{take_all}
 use Rattle.std.proofs.lemmas.List.Sorted.{IsPartitionPoint-from_clause}
 use Rattle.dg_now.specs.Sorted.{IsFirstFrom, is_value_at}
-use Rattle.dg_now.proofs.Searches.{values_counted}
+use Rattle.dg_now.proofs.SortedSearches.{values_counted}
 use Rattle.dg_now.proofs.search.count_values.Goals as goal
 
 pub returns : goal.returns

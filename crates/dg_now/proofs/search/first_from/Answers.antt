@@ -1,4 +1,4 @@
-use Rattle.dg_now.proofs.Searches.{first_found, first_missed}
+use Rattle.dg_now.proofs.SortedSearches.{first_found, first_missed}
 use Rattle.dg_now.proofs.search.first_from.Goals as goal
 
 pub returns-in-Ok : goal.returns-in-Ok

@@ -5,7 +5,7 @@ use Rattle.dg_graph.specs.declared.element.Element.{Element}
 use Rattle.dg_graph.specs.declared.element.Element.TheVariants as element
 use Rattle.dg_now.specs.ElementIds.{element_id_of}
 use Rattle.dg_now.proofs.HeldGraph.{equal_ids, unequal_ids, same_id_from}
-use Rattle.dg_now.proofs.Searches.{found_here, found_none}
+use Rattle.dg_now.proofs.SortedSearches.{found_here, found_none}
 use Rattle.dg_now.proofs.search.found_at.Goals as goal
 use Rattle.dg_now.proofs.search.found_at.Goals.{else-index-items-via-then-index-items+else-eq, else-index-items-via-else-index-items}
 

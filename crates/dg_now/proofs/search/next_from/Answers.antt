@@ -1,5 +1,5 @@
 use Rattle.std.proofs.Common.{sym, ◌∙◌}
-use Rattle.dg_now.proofs.Searches.{first_here, compared_not_before, compared_before}
+use Rattle.dg_now.proofs.SortedSearches.{first_here, compared_not_before, compared_before}
 use Rattle.dg_now.proofs.search.next_from.Goals as goal
 
 pub returns-then-is_ge : goal.returns-then-is_ge

@@ -4,7 +4,7 @@ use Rattle.std.proofs.lemmas.List.{get_or_read}
 use Rattle.std.proofs.lemmas.Option.{slice_get-get_or}
 use Rattle.dg_path.specs.declared.search.Link.{Link}
 use Rattle.dg_path.specs.Search.{AreThreaded, end_of}
-use Rattle.dg_path.proofs.Threads.{one_threaded, end_within}
+use Rattle.dg_path.proofs.SearchThreads.{one_threaded, end_within}
 use Rattle.dg_path.proofs.adjacency.thread.Goals as goal
 
 pub loop-i-preserved : goal.loop-i-preserved

@@ -5,7 +5,7 @@ use Rattle.std.proofs.lemmas.Option.{slice_get-get_or, slice_get_within, same_So
 use Rattle.dg_path.specs.declared.search.Link.{Link}
 use Rattle.dg_path.specs.declared.search.Cost.{Cost as Label}
 use Rattle.dg_path.specs.Search.{IsNext, Meets}
-use Rattle.dg_path.proofs.Searching.{next_here}
+use Rattle.dg_path.proofs.SearchLinks.{next_here}
 use Rattle.dg_path.proofs.plan.best.Goals as goal
 
 abbrev none : Link

@@ -9,7 +9,7 @@ use Rattle.dg_path.specs.declared.search.TheConstants.{UNREACHED}
 use Rattle.dg_plan.specs.Walks.{Leads, IsBest}
 use Rattle.dg_path.specs.Search.{arcs, label_at, IsLink}
 use Rattle.std.proofs.lemmas.List.Sorted.{All-permutation, IsPermutation-reverse}
-use Rattle.dg_path.proofs.Tables.{best_within, some_meets, best_of, plan_of, longer, tail_costs_less}
+use Rattle.dg_path.proofs.SearchTables.{best_within, some_meets, best_of, plan_of, longer, tail_costs_less}
 use Rattle.dg_path.proofs.plan.plan_to.Goals as goal
 
 abbrev none : Link

@@ -5,8 +5,8 @@ use Rattle.dg_path.specs.declared.search.Cost.{Cost as Label}
 use Rattle.dg_path.specs.declared.search.TheConstants.{UNREACHED}
 use Rattle.dg_plan.specs.Walks.{Cost, IsLeast}
 use Rattle.dg_path.specs.Search.{arcs, label_at, cost_at}
-use Rattle.dg_path.proofs.Tables.{least_at, weight_is, potential_is, certificate_is}
-use Rattle.dg_plan.proofs.LeastWalks.{plan_is_least}
+use Rattle.dg_path.proofs.SearchTables.{least_at, weight_is, potential_is, certificate_is}
+use Rattle.dg_plan.proofs.WalkLeastCosts.{plan_is_least}
 use Rattle.dg_path.proofs.route.route_to.Goals as goal
 
 pub returns-clause-plan : goal.returns-clause-plan

@@ -6,7 +6,7 @@ use Rattle.std.proofs.lemmas.Option.{slice_get-get_or}
 use Rattle.dg_path.specs.declared.search.Link.{Link}
 use Rattle.dg_path.specs.declared.search.TheConstants.{UNREACHED}
 use Rattle.dg_path.specs.Search.{IsNext}
-use Rattle.dg_path.proofs.Searching.{one_more, next_here}
+use Rattle.dg_path.proofs.SearchLinks.{one_more, next_here}
 use Rattle.dg_path.proofs.search.relax.Goals as goal
 
 abbrev none : Link

@@ -3,8 +3,8 @@ use Rattle.std.specs.BinaryHeap.{heap_items}
 use Rattle.std.specs.declared.cmp.Reverse.{Reverse}
 use Rattle.dg_path.specs.declared.search.Waiting.{Waiting}
 use Rattle.dg_path.specs.Search.{AreLinks, arcs, cost_at}
-use Rattle.dg_plan.proofs.Costs.{at_most_along}
-use Rattle.dg_path.proofs.Searching.{stale, fresh, all_settled, out_of_date}
+use Rattle.dg_plan.proofs.WalkCosts.{at_most_along}
+use Rattle.dg_path.proofs.SearchLinks.{stale, fresh, all_settled, out_of_date}
 use Rattle.dg_path.proofs.search.settle.Goals as goal
 
 pub returns-clause-settled : goal.returns-clause-settled

@@ -1,6 +1,6 @@
 use Rattle.std.proofs.Common.{refl}
 use Rattle.std.specs.BinaryHeap.{heap_items}
-use Rattle.dg_path.proofs.Planting.{planted}
+use Rattle.dg_path.proofs.SearchStarts.{planted}
 use Rattle.dg_path.proofs.table.add_start.Goals as goal
 
 pub returns : goal.returns

@@ -1,7 +1,7 @@
 use Rattle.std.proofs.Common.{◌≡◌, [], ◌∷◌, length, replicate, sym, subst, ◌∙◌, arith, rules}
 use Rattle.dg_path.specs.declared.search.TheConstants.{UNREACHED}
 use Rattle.dg_path.specs.Search.{arcs, IsTable}
-use Rattle.dg_path.proofs.Planting.{far_table, put_back}
+use Rattle.dg_path.proofs.SearchStarts.{far_table, put_back}
 use Rattle.dg_path.proofs.table.costs_from.Goals as goal
 
 pub returns-clause-table : goal.returns-clause-table

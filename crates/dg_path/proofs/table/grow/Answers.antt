@@ -5,7 +5,7 @@ use Rattle.std.proofs.lemmas.List.{take_all}
 use Rattle.std.proofs.lemmas.Option.{slice_get-get_or}
 use Rattle.dg_plan.specs.Walks.{entered}
 use Rattle.dg_path.specs.Search.{arcs, WithStarts}
-use Rattle.dg_path.proofs.Planting.{table_after, known_after, on_ok_from, on_ok_of, falls_after, more_planted, entered_more}
+use Rattle.dg_path.proofs.SearchStarts.{table_after, known_after, on_ok_from, on_ok_of, falls_after, more_planted, entered_more}
 use Rattle.dg_path.proofs.table.grow.Goals as goal
 
 pub loop-step-preserved : goal.loop-step-preserved

@@ -1,6 +1,6 @@
 use Rattle.std.proofs.Common.{[], ◌∷◌}
 use Rattle.dg_path.specs.Search.{arcs}
-use Rattle.dg_path.proofs.Planting.{table_after, known_after, on_ok_from}
+use Rattle.dg_path.proofs.SearchStarts.{table_after, known_after, on_ok_from}
 use Rattle.dg_path.proofs.table.start_at.Goals as goal
 
 pub settle-requires-clause-waits : goal.settle-requires-clause-waits

@@ -1,4 +1,4 @@
-use Rattle.dg_path.proofs.Tables.{first_tail}
+use Rattle.dg_path.proofs.SearchTables.{first_tail}
 use Rattle.dg_path.proofs.tree.first_node.Goals as goal
 
 pub returns-in-Some : goal.returns-in-Some

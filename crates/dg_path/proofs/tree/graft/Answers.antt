@@ -6,8 +6,8 @@ use Rattle.std.proofs.lemmas.List.Elements.{All-weaker}
 use Rattle.dg_path.specs.declared.search.Cost.{Cost as Label}
 use Rattle.dg_plan.specs.Walks.{Arc, Leads, IsTree, IsPlan, Graft, entered, steps_of}
 use Rattle.dg_path.specs.Search.{arcs, cost_at, CostsFit, Falls, IsTable, IsTarget, graft_of, grafts_of}
-use Rattle.dg_plan.proofs.Costs.{at_most_itself}
-use Rattle.dg_plan.proofs.Trees.{tree_push, nodes_more}
+use Rattle.dg_plan.proofs.WalkCosts.{at_most_itself}
+use Rattle.dg_plan.proofs.WalkTrees.{tree_push, nodes_more}
 use Rattle.dg_path.proofs.tree.graft.Goals as goal
 use Rattle.dg_path.proofs.tree.graft.Goals.{then-i-targets+in_ok-grow, else-i-targets}
 

@@ -1,4 +1,4 @@
-use Rattle.dg_plan.proofs.LeastWalks.{certified}
+use Rattle.dg_plan.proofs.WalkLeastCosts.{certified}
 use Rattle.dg_plan.proofs.laws.law_certificates_hold.Goals as goal
 
 pub returns : goal.returns

@@ -6,7 +6,7 @@ use Rattle.std.proofs.lemmas.Grind.{pow_more}
 use Rattle.std.proofs.Math.Nat.{one-le-pow}
 use Rattle.dg_index.specs.Hierarchy.{numbers}
 use Rattle.dg_plan.specs.IndexGraph.{kept, inner_edges, level_edges}
-use Rattle.dg_plan.proofs.Numbers.{above_exponent, all_heights, height_more, level_more, is_level, power_one, grows_more}
+use Rattle.dg_plan.proofs.IndexGraphNumbers.{above_exponent, all_heights, height_more, level_more, is_level, power_one, grows_more}
 use Rattle.dg_planner.specs.AskedLengths.{asked_length_of}
 use Rattle.dg_planner.proofs.build.add_levels.Goals as goal
 

@@ -1,6 +1,6 @@
 use Rattle.std.proofs.Common.{◌++◌, ap, ◌∙◌, arith}
 use Rattle.dg_plan.specs.IndexGraph.{kept, list_edges}
-use Rattle.dg_plan.proofs.Numbers.{added_more}
+use Rattle.dg_plan.proofs.IndexGraphNumbers.{added_more}
 use Rattle.dg_planner.specs.AskedLengths.{asked_length_of}
 use Rattle.dg_planner.proofs.build.add_lists.Goals as goal
 

@@ -9,7 +9,7 @@ use Rattle.dg_plan.specs.declared.edge.Via.TheVariants as via
 use Rattle.dg_plan.specs.declared.edge.Way.TheVariants.{Forward}
 use Rattle.dg_index.specs.Hierarchy.{numbers}
 use Rattle.dg_plan.specs.IndexGraph.{edge, kept, top_edge}
-use Rattle.dg_plan.proofs.Numbers.{above_exponent, all_heights, height_more, top_more, power_one, grows_more}
+use Rattle.dg_plan.proofs.IndexGraphNumbers.{above_exponent, all_heights, height_more, top_more, power_one, grows_more}
 use Rattle.dg_planner.specs.AskedLengths.{asked_length_of}
 use Rattle.dg_planner.proofs.build.add_tops.Goals as goal
 

@@ -1,4 +1,4 @@
-use Rattle.dg_planner.proofs.HistoryGraph.{graph_of_history}
+use Rattle.dg_planner.proofs.HistoryLawGraphs.{graph_of_history}
 use Rattle.dg_planner.proofs.laws.law_graph_of_history.Goals as goal
 
 pub returns : goal.returns

@@ -1,4 +1,4 @@
-use Rattle.dg_planner.proofs.ExistingNodes.{nodes_are_listed}
+use Rattle.dg_planner.proofs.IndexNodeExistence.{nodes_are_listed}
 use Rattle.dg_planner.proofs.laws.law_nodes_are_listed.Goals as goal
 
 pub returns : goal.returns

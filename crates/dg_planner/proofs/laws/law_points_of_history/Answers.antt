@@ -1,4 +1,4 @@
-use Rattle.dg_planner.proofs.HistoryPoints.{points_of_history}
+use Rattle.dg_planner.proofs.HistoryLawPoints.{points_of_history}
 use Rattle.dg_planner.proofs.laws.law_points_of_history.Goals as goal
 
 pub returns : goal.returns

@@ -6,9 +6,9 @@ use Rattle.std.proofs.lemmas.Grind.{pow_more}
 use Rattle.std.proofs.Math.Nat.{one-le-pow}
 use Rattle.dg_history.specs.declared.node.NodeId.TheVariants.{Inner}
 use Rattle.dg_index.specs.Hierarchy.{numbers}
-use Rattle.dg_plan.proofs.Numbers.{above_exponent, all_heights, height_more, power_one, grows_more}
+use Rattle.dg_plan.proofs.IndexGraphNumbers.{above_exponent, all_heights, height_more, power_one, grows_more}
 use Rattle.dg_planner.specs.Order.{inners_of}
-use Rattle.dg_planner.proofs.ListedNodes.{height_added}
+use Rattle.dg_planner.proofs.HierarchyNodes.{height_added}
 use Rattle.dg_planner.proofs.nodes.add_inners.Goals as goal
 
 pub loop-width-init : goal.loop-width-init

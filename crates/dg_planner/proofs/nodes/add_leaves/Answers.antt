@@ -1,6 +1,6 @@
 use Rattle.std.proofs.Common.{◌+◌, ◌++◌, ◌∷◌, [], ap, ◌∙◌, arith}
 use Rattle.dg_history.specs.declared.node.NodeId.TheVariants.{Leaf}
-use Rattle.dg_planner.proofs.ListedNodes.{number_more}
+use Rattle.dg_planner.proofs.HierarchyNodes.{number_more}
 use Rattle.dg_planner.proofs.nodes.add_leaves.Goals as goal
 
 pub loop-n-preserved : goal.loop-n-preserved

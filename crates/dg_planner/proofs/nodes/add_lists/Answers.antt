@@ -1,6 +1,6 @@
 use Rattle.std.proofs.Common.{◌++◌, ◌∷◌, [], ap, ◌∙◌, arith}
 use Rattle.dg_history.specs.declared.node.NodeId.TheVariants.{List}
-use Rattle.dg_planner.proofs.ListedNodes.{number_more}
+use Rattle.dg_planner.proofs.HierarchyNodes.{number_more}
 use Rattle.dg_planner.proofs.nodes.add_lists.Goals as goal
 
 pub loop-i-preserved : goal.loop-i-preserved

@@ -1,4 +1,4 @@
-use Rattle.dg_planner.proofs.NodePlans.{first_from}
+use Rattle.dg_planner.proofs.OrderPlans.{first_from}
 use Rattle.dg_planner.proofs.tree.beginning.Goals as goal
 
 pub returns-in-Some : goal.returns-in-Some

@@ -1,6 +1,6 @@
 use Rattle.std.proofs.Common.{◌≡◌, ◌<◌, List, [], ◌∷◌, ◌++◌, Result, Ok, Err, length, refl, sym, ap, subst, ◌∙◌, arith}
 use Rattle.std.specs.Prelude.{OnOk}
-use Rattle.dg_path.proofs.Planting.{put_back}
+use Rattle.dg_path.proofs.SearchStarts.{put_back}
 use Rattle.dg_path.specs.declared.search.Cost.{Cost as Label}
 use Rattle.dg_path.specs.Search.{IsTable, arcs}
 use Rattle.dg_plan.specs.Walks.{entered}

@@ -5,4 +5,4 @@ use Rattle.dg_path.specs.declared.search.TheConstants.{UNREACHED}
 use Rattle.dg_planner.proofs.tree.weight_at.Goals as goal
 
 pub returns : goal.returns
-returns c = ap (λ (l : Label). l.weight) (get_or_default c.args.costs.now c.args.place (record { weight = 0; edges = 0 }) UNREACHED c.requires)
+returns c = ap (λ (l : Label). l.weight) (get_or_default c.args.costs.now c.args.node_index (record { weight = 0; edges = 0 }) UNREACHED c.requires)

@@ -1,5 +1,5 @@
 use Rattle.dg_pool.specs.Counts.{no_elements}
-use Rattle.dg_pool.proofs.Repeated.{all_same}
+use Rattle.dg_pool.proofs.Repetition.{all_same}
 use Rattle.dg_pool.proofs.counts.no_counts.Goals as goal
 
 pub returns-clause-none : goal.returns-clause-none

@@ -6,7 +6,7 @@ use Rattle.dg_cells.specs.Rows.{cell_at, Writes, Holds, Lacks, is_current, SetsC
 use Rattle.dg_pool.specs.Graphs.{Pins, picked, changed}
 use Rattle.dg_query.specs.Queries.{counts_of}
 use Rattle.dg_pool.specs.Counts.{kind_count, one_more, one_less}
-use Rattle.dg_pool.proofs.Picked.{picked_set, picked_decides}
+use Rattle.dg_pool.proofs.GraphSets.{picked_set, picked_decides}
 use Rattle.dg_pool.proofs.GraphCounts.{counts-put, counts-take_out, kind-one_more, kind-most, kind-least, picked_most}
 use Rattle.dg_pool.proofs.CurrentGraph.{Changes, changes_join, changes_keep, changes_now, writes_join, unchanged, not_there, keeps_itself, one_row, differs_from, same_as, apart_written}
 use Rattle.dg_pool.proofs.current.change.Goals as goal

@@ -7,7 +7,7 @@ use Rattle.dg_graph.specs.Elements.{same}
 use Rattle.dg_graph.proofs.Sets.{same_itself}
 use Rattle.dg_cells.specs.Rows.{is_current}
 use Rattle.dg_pool.specs.Graphs.{picked, changed, all_changed}
-use Rattle.dg_pool.proofs.Picked.{picked_set}
+use Rattle.dg_pool.proofs.GraphSets.{picked_set}
 use Rattle.dg_pool.proofs.CurrentGraph.{keeps_itself, keeps_then, has_still, changed_more, changed_none}
 use Rattle.dg_pool.proofs.current.change_all.Goals as goal
 

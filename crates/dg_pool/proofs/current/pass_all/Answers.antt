@@ -9,7 +9,7 @@ use Rattle.dg_pool.specs.Graphs.{HaveCells, picked}
 use Rattle.dg_pool.proofs.CurrentGraph.{keeps_then, have_still}
 use Rattle.dg_pool.proofs.current.pass_all.Goals as goal
 
--- what a place past the list reads as
+-- what an index past the list reads as
 abbrev past : Event
 past = record { time = 0; body = body.NodeAdded 0 }
 

@@ -1,9 +1,9 @@
 use Rattle.std.proofs.Common.{◌≡◌, true, sym, ap, ◌∙◌}
 use Rattle.dg_cells.specs.declared.row.Row.{Row}
 use Rattle.dg_pool.specs.Graphs.{in_base}
-use Rattle.dg_pool.proofs.Picked.{picked_decides}
+use Rattle.dg_pool.proofs.GraphSets.{picked_decides}
 use Rattle.dg_pool.proofs.CurrentGraph.{one_row}
-use Rattle.dg_pool.proofs.MarkedCells.{marks_here}
+use Rattle.dg_pool.proofs.SlotMarks.{marks_here}
 use Rattle.dg_pool.proofs.marks.mark_cell.Goals as goal
 
 pub returns-clause-marks : goal.returns-clause-marks

@@ -5,7 +5,7 @@ use Rattle.dg_graph.specs.declared.element.Element.TheVariants as kind
 use Rattle.dg_graph.specs.Elements.{has}
 use Rattle.dg_cells.specs.Rows.{Holds}
 use Rattle.dg_pool.specs.Graphs.{picked, in_base}
-use Rattle.dg_pool.proofs.MarkedCells.{marks_then, base_marked, marked_holds, moved_on, moved_off, moved_most}
+use Rattle.dg_pool.proofs.SlotMarks.{marks_then, base_marked, marked_holds, moved_on, moved_off, moved_most}
 use Rattle.dg_pool.proofs.marks.mark_cells.Goals as goal
 use Rattle.dg_pool.proofs.marks.mark_cells.Goals.{then-had-own, else-had-own, In-loop-index}
 

@@ -1,7 +1,7 @@
 use Rattle.std.proofs.Common.{Option, ℕ, IfSome, IfNone, sym, subst}
 use Rattle.dg_cells.specs.Rows.{Holds, Lacks}
 use Rattle.dg_pool.specs.Graphs.{in_base}
-use Rattle.dg_pool.proofs.Picked.{picked_nothing}
+use Rattle.dg_pool.proofs.GraphSets.{picked_nothing}
 use Rattle.dg_pool.proofs.marks.mark_one.Goals as goal
 use Rattle.dg_pool.proofs.marks.mark_one.Goals.{In-Some}
 

@@ -3,9 +3,9 @@ use Rattle.std.proofs.lemmas.Option.{slice_get_within}
 use Rattle.std.proofs.lemmas.List.{append_assoc}
 use Rattle.dg_graph.specs.declared.element.Element.{Element}
 use Rattle.dg_cells.specs.Rows.{is_current}
-use Rattle.dg_cells.specs.Cursors.{ordered, cursor_place}
+use Rattle.dg_cells.specs.Cursors.{ordered, cursor_index}
 use Rattle.dg_pool.specs.Listing.{passing_from}
-use Rattle.dg_pool.proofs.OrderedCells.{el, picked_in_order, passing_step}
+use Rattle.dg_pool.proofs.ListingSets.{el, picked_in_order, passing_step}
 use Rattle.dg_pool.proofs.members.list_now.Goals as goal
 
 pub loop-row-init : goal.loop-row-init
@@ -18,7 +18,7 @@ loop-row-init c =
 
 pub loop-row-smaller : goal.loop-row-smaller
 loop-row-smaller c =
-    let within = slice_get_within (ordered c.args.cells.now) (cursor_place c.args.cells.now c.loop-row.cursor) c.in-Some.row.now c.in-Some.ensures.found in
+    let within = slice_get_within (ordered c.args.cells.now) (cursor_index c.args.cells.now c.loop-row.cursor) c.in-Some.row.now c.in-Some.ensures.found in
     let next = c.in-Some.ensures.next in
     omega arith
 

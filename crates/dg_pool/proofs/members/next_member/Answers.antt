@@ -1,9 +1,9 @@
 use Rattle.std.proofs.Common.{arith, ◌≡◌, ◌∷◌, cond, sym, ap, ◌∙◌}
 use Rattle.std.proofs.lemmas.Option.{slice_get_within}
-use Rattle.dg_cells.specs.Cursors.{ordered, cursor_place}
+use Rattle.dg_cells.specs.Cursors.{ordered, cursor_index}
 use Rattle.dg_pool.specs.Sweeps.{in_state}
 use Rattle.dg_pool.specs.Listing.{passing_from}
-use Rattle.dg_pool.proofs.OrderedCells.{passing_step, passing_end}
+use Rattle.dg_pool.proofs.ListingSets.{passing_step, passing_end}
 use Rattle.dg_pool.proofs.members.next_member.Goals as goal
 use Rattle.dg_pool.proofs.members.next_member.Goals.{In-Some}
 
@@ -18,7 +18,7 @@ returns-then-has_member-clause-some c =
 
 pub loop-row-smaller : goal.loop-row-smaller
 loop-row-smaller c =
-    let within = slice_get_within (ordered c.args.cells.now) (cursor_place c.args.cells.now c.loop-row.cursor) c.in-Some.row.now c.in-Some.ensures.found in
+    let within = slice_get_within (ordered c.args.cells.now) (cursor_index c.args.cells.now c.loop-row.cursor) c.in-Some.row.now c.in-Some.ensures.found in
     let next = c.in-Some.ensures.next in
     omega arith
 

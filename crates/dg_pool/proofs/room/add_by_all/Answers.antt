@@ -1,10 +1,10 @@
 use Rattle.dg_graph.specs.declared.event.Event.{Event}
 use Rattle.dg_graph.specs.declared.event.Body.TheVariants as body
-use Rattle.dg_pool.proofs.MarkedCells.{grows_then}
-use Rattle.dg_pool.proofs.EventCells.{have_next}
+use Rattle.dg_pool.proofs.SlotMarks.{grows_then}
+use Rattle.dg_pool.proofs.GraphEventCells.{have_next}
 use Rattle.dg_pool.proofs.room.add_by_all.Goals as goal
 
--- what a place past the list reads as
+-- what an index past the list reads as
 abbrev past : Event
 past = record { time = 0; body = body.NodeAdded 0 }
 

@@ -1,5 +1,5 @@
 use Rattle.dg_pool.specs.declared.slots.SlotState.TheVariants as states
-use Rattle.dg_pool.proofs.Repeated.{all_same}
+use Rattle.dg_pool.proofs.Repetition.{all_same}
 use Rattle.dg_pool.proofs.slots.all_free.Goals as goal
 
 pub returns-clause-free : goal.returns-clause-free

@@ -1,6 +1,6 @@
 use Rattle.std.proofs.Common.{sym, ◌∙◌}
 use Rattle.dg_graph.specs.declared.element.Column.TheVariants as column
-use Rattle.dg_pool.proofs.SweptCells.{needed_by_mask}
+use Rattle.dg_pool.proofs.SweepCells.{needed_by_mask}
 use Rattle.dg_pool.proofs.sweep.is_needed.Goals as goal
 
 pub returns-in-Structure : goal.returns-in-Structure

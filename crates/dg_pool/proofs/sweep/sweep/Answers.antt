@@ -1,7 +1,7 @@
 use Rattle.std.proofs.Common.{◌≡◌, ◌+◌, ◌<◌, sym, ap, ◌∙◌, subst, arith, length, is_some}
 use Rattle.dg_cells.specs.Rows.{cell_at}
 use Rattle.dg_pool.specs.Sweeps.{CellsSwept}
-use Rattle.dg_pool.proofs.SweptCells.{swept_then, swept_vacant, below_more, below_same, none_from}
+use Rattle.dg_pool.proofs.SweepCells.{swept_then, swept_vacant, below_more, below_same, none_from}
 use Rattle.dg_pool.proofs.sweep.sweep.Goals as goal
 use Rattle.dg_pool.proofs.sweep.sweep.Goals.{then-is_some+else-left-eq0, else-is_some}
 

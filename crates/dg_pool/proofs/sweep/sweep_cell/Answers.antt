@@ -2,7 +2,7 @@ use Rattle.std.proofs.Common.{◌≡◌, ◌+◌, Some, sym, ap, ◌∙◌, subs
 use Rattle.dg_cells.specs.Rows.{cell_at, ClearsBits}
 use Rattle.dg_pool.specs.Sweeps.{CellsSwept, Clears, is_needed}
 use Rattle.dg_pool.proofs.CurrentGraph.{one_row, writes_weaker}
-use Rattle.dg_pool.proofs.SweptCells.{swept_kept, swept_given, cleared_by_mask}
+use Rattle.dg_pool.proofs.SweepCells.{swept_kept, swept_given, cleared_by_mask}
 use Rattle.dg_pool.proofs.sweep.sweep_cell.Goals as goal
 
 pub returns-then-is_needed-clause-swept : goal.returns-then-is_needed-clause-swept

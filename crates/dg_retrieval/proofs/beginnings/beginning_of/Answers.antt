@@ -4,7 +4,7 @@ use Rattle.std.proofs.lemmas.Iterator.Consumers.{YieldsList-turn}
 use Rattle.std.proofs.lemmas.List.{length_push}
 use Rattle.dg_plan.specs.IndexGraph.{is_root}
 use Rattle.dg_retrieval.specs.Beginnings.{begun_behind}
-use Rattle.dg_retrieval.proofs.FoundBeginnings.{found_at}
+use Rattle.dg_retrieval.proofs.BeginningLeads.{found_at}
 use Rattle.dg_retrieval.proofs.beginnings.beginning_of.Goals as goal
 
 pub returns-then-is_root : goal.returns-then-is_root

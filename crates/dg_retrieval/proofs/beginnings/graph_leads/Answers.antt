@@ -5,7 +5,7 @@ use Rattle.std.proofs.lemmas.Iterator.Adapters.{YieldsList-from_vec}
 use Rattle.std.proofs.lemmas.Iterator.Consumers.{YieldsList-end, YieldsList-turn}
 use Rattle.std.proofs.lemmas.List.{length_push, take_all}
 use Rattle.dg_retrieval.specs.Beginnings.{lead_by}
-use Rattle.dg_retrieval.proofs.FoundBeginnings.{leads_more}
+use Rattle.dg_retrieval.proofs.BeginningLeads.{leads_more}
 use Rattle.dg_retrieval.proofs.beginnings.graph_leads.Goals as goal
 
 pub loop-lead-preserved : goal.loop-lead-preserved

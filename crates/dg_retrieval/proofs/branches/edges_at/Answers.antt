@@ -1,7 +1,7 @@
 use Rattle.std.proofs.Common.{ℕ, ◌++◌, sym, ◌∙◌, ap}
 use Rattle.std.specs.Option.{option_to_list}
 use Rattle.std.proofs.lemmas.List.{append-nil}
-use Rattle.dg_retrieval.proofs.TreeBranches.{edges_at_more}
+use Rattle.dg_retrieval.proofs.BranchTrees.{edges_at_more}
 use Rattle.dg_retrieval.proofs.branches.edges_at.Goals as goal
 use Rattle.dg_retrieval.proofs.branches.edges_at.Goals.{in-Some+in_ok-push, in_default}
 

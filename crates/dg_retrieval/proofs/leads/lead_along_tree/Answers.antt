@@ -14,8 +14,8 @@ use Rattle.dg_retrieval.specs.Branches.{AreBranches}
 use Rattle.dg_retrieval.specs.Faults.{of_fold}
 use Rattle.dg_retrieval.specs.NodeSets.{IsIndexOver}
 use Rattle.dg_retrieval.specs.Retrieval.{IsFirstDamage, IsNoDamage}
-use Rattle.dg_retrieval.proofs.Retrieving.{all_entered, all_kept, all_off_root, bases_of, branches_as, count_of, damage_of, grafts_many, handed_out, leads_of, most_of, never_of, offered_of, shared_of, takes_of, whole_of}
-use Rattle.dg_retrieval.proofs.TreeBranches.{branches_grow, branches_lead, branches_many}
+use Rattle.dg_retrieval.proofs.TreeLeadReads.{all_entered, all_kept, all_off_root, bases_of, branches_as, count_of, damage_of, grafts_many, handed_out, leads_of, most_of, never_of, offered_of, shared_of, takes_of, whole_of}
+use Rattle.dg_retrieval.proofs.BranchTrees.{branches_grow, branches_lead, branches_many}
 use Rattle.dg_retrieval.proofs.leads.lead_along_tree.Goals as goal
 
 pub branches_of-requires : goal.branches_of-requires

@@ -6,8 +6,8 @@ use Rattle.dg_plan.specs.TreePaths.{edges_at}
 use Rattle.dg_retrieval.specs.Faults.{of_fold}
 use Rattle.dg_retrieval.specs.NodeSets.{IsIndexOver}
 use Rattle.dg_retrieval.specs.Retrieval.{IsFirstDamage, IsNoDamage}
-use Rattle.dg_retrieval.proofs.PlannedSets.{plan_damaged, plan_entered, plan_kept, plan_led, plan_most, plan_never, plan_set_is, plan_takes, plan_whole}
-use Rattle.dg_retrieval.proofs.Retrieving.{handed_out}
+use Rattle.dg_retrieval.proofs.NodeSetPlans.{plan_damaged, plan_entered, plan_kept, plan_led, plan_most, plan_never, plan_set_is, plan_takes, plan_whole}
+use Rattle.dg_retrieval.proofs.TreeLeadReads.{handed_out}
 use Rattle.dg_retrieval.proofs.ValueRanges.{folded_fits}
 use Rattle.dg_retrieval.proofs.node_lead.retrieve_node.Goals as goal
 

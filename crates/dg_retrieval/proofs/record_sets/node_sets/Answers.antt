@@ -1,6 +1,6 @@
 use Rattle.std.proofs.Common.{map, ap, ◌∙◌}
 use Rattle.dg_planner.specs.Trees.{grafts_in}
-use Rattle.dg_retrieval.proofs.LedSets.{from_nothing, sets_are}
+use Rattle.dg_retrieval.proofs.NodeSetLeads.{from_nothing, sets_are}
 use Rattle.dg_retrieval.proofs.record_sets.node_sets.Goals as goal
 
 pub returns-clause-sets : goal.returns-clause-sets

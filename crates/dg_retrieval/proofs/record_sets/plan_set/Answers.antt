@@ -1,6 +1,6 @@
 use Rattle.std.proofs.Common.{◌∙◌, subst, sym}
-use Rattle.dg_retrieval.proofs.PlannedSets.{from_nothing, set_damaged, set_is, set_led, set_takes}
-use Rattle.dg_retrieval.proofs.Retrieving.{fault_handed}
+use Rattle.dg_retrieval.proofs.NodeSetPlans.{from_nothing, set_damaged, set_is, set_led, set_takes}
+use Rattle.dg_retrieval.proofs.TreeLeadReads.{fault_handed}
 use Rattle.dg_retrieval.proofs.record_sets.plan_set.Goals as goal
 use Rattle.dg_retrieval.specs.ValueRange.{ValuesFit}
 

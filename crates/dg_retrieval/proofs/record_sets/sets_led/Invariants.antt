@@ -1,5 +1,5 @@
 use Rattle.std.proofs.Common.{◌≡◌, take, map}
-use Rattle.dg_retrieval.proofs.LedSets.{from_nothing}
+use Rattle.dg_retrieval.proofs.NodeSetLeads.{from_nothing}
 use Rattle.dg_retrieval.proofs.record_sets.sets_led.Given as goal
 
 abbrev pub invariant-loop-lead : goal.invariant-loop-lead

@@ -3,7 +3,7 @@ use Rattle.dg_history.specs.declared.node.NodeId.TheVariants.{Root}
 use Rattle.dg_index.specs.OpenedIndex.{event_total}
 use Rattle.dg_plan.specs.IndexGraph.{arcs_of}
 use Rattle.dg_planner.specs.Trees.{grafts_in}
-use Rattle.dg_retrieval.proofs.RetrievedGraphs.{leads_come, singles_many}
+use Rattle.dg_retrieval.proofs.RetrievalGraphs.{leads_come, singles_many}
 use Rattle.dg_retrieval.proofs.retrieval.retrieve.Goals as goal
 
 pub returns-clause-count : goal.returns-clause-count

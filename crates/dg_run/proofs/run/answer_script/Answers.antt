@@ -4,8 +4,8 @@ use Rattle.dg_io.specs.Told.{CountRose, grown, GrowsByPart}
 use Rattle.dg_machine.specs.ReplyText.{text}
 use Rattle.dg_run.specs.declared.status.Status.TheVariants as status
 use Rattle.dg_run.specs.Turns.{asked}
-use Rattle.dg_run.proofs.EndOfRun.{done_within, limit_taken}
-use Rattle.dg_run.proofs.RunSoFar.{asked_first, at_err, at_ok, over_first, over_skip, over_on, over_cut, over_broken, over_part, silent_on, silent_skip}
+use Rattle.dg_run.proofs.LinesStateEnds.{done_within, limit_taken}
+use Rattle.dg_run.proofs.ServedRuns.{asked_first, at_err, at_ok, over_first, over_skip, over_on, over_cut, over_broken, over_part, silent_on, silent_skip}
 use Rattle.dg_run.proofs.run.answer_script.Goals as goal
 
 pub loop-reply-init : goal.loop-reply-init

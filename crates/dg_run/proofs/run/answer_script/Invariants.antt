@@ -6,7 +6,7 @@ use Rattle.dg_io.specs.LinesState.{to_come}
 use Rattle.dg_machine.specs.Script.{script}
 use Rattle.dg_start.specs.StoredHistory.{IsHeldBy}
 use Rattle.dg_run.specs.Turns.{asked}
-use Rattle.dg_run.proofs.RunSoFar.{GoingOver, StaysSilent}
+use Rattle.dg_run.proofs.ServedRuns.{GoingOver, StaysSilent}
 use Rattle.dg_run.proofs.run.answer_script.Given as goal
 
 abbrev pub invariant-loop-reply : goal.invariant-loop-reply

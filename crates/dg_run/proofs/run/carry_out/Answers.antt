@@ -1,5 +1,5 @@
 use Rattle.std.proofs.Common.{refl, ◌∙◌, ap, Err, arith}
-use Rattle.dg_run.proofs.Promises.{no_session, session_promise}
+use Rattle.dg_run.proofs.PromisedRuns.{no_session, session_promise}
 use Rattle.dg_run.proofs.run.carry_out.Goals as goal
 
 pub returns-in-Err : goal.returns-in-Err

@@ -1,4 +1,4 @@
-use Rattle.dg_run.proofs.Promises.{bad_words, unread_words}
+use Rattle.dg_run.proofs.PromisedRuns.{bad_words, unread_words}
 use Rattle.dg_run.proofs.run.serve_with.Goals as goal
 
 pub returns-in-Ok-None : goal.returns-in-Ok-None

@@ -1,6 +1,6 @@
 use Rattle.dg_io.specs.LinesState.{told}
 use Rattle.dg_io.proofs.FrameLemmas.{advances_both}
-use Rattle.dg_run.proofs.Turning.{long_turn}
+use Rattle.dg_run.proofs.TurnLines.{long_turn}
 use Rattle.dg_run.proofs.turn.next_turn.Goals as goal
 
 pub returns-in-Ok-TooLong-clause-turn : goal.returns-in-Ok-TooLong-clause-turn

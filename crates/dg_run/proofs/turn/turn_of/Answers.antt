@@ -1,5 +1,5 @@
 use Rattle.std.proofs.Common.{refl, rules}
-use Rattle.dg_run.proofs.Turning.{leaves_turn, command_turn, broken_turn}
+use Rattle.dg_run.proofs.TurnLines.{leaves_turn, command_turn, broken_turn}
 use Rattle.dg_run.proofs.turn.turn_of.Goals as goal
 
 pub returns-in-Other-clause-turn : goal.returns-in-Other-clause-turn

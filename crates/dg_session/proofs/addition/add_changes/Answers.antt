@@ -1,4 +1,4 @@
-use Rattle.dg_session.proofs.HeldNodes.{nodes_after}
+use Rattle.dg_session.proofs.HeldIndexNodes.{nodes_after}
 use Rattle.dg_session.proofs.KeptAdjacencies.{kept_on}
 use Rattle.dg_session.proofs.addition.add_changes.Goals as goal
 

@@ -1,7 +1,7 @@
 use Rattle.std.proofs.Common.{arith}
 use Rattle.dg_io.specs.LinesState.{told}
 use Rattle.dg_io.proofs.FrameLemmas.{advances_both}
-use Rattle.dg_session.proofs.ReadLines.{gathering_kept, gathering_passed, kept_twice}
+use Rattle.dg_session.proofs.BatchLineCollection.{gathering_kept, gathering_passed, kept_twice}
 use Rattle.dg_session.proofs.batch_lines.read_lines.Goals as goal
 use Rattle.dg_session.proofs.batch_lines.read_lines.Goals.{else-loop-read-test, then-loop-read-test+in_ok-line+then-is_end}
 

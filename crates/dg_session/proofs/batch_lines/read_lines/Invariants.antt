@@ -3,7 +3,7 @@ use Rattle.dg_io.specs.LinesState.{told}
 use Rattle.dg_graph.specs.declared.limits.TheConstants.{NAMES_MAX}
 use Rattle.dg_append.specs.declared.front.Front.TheVariants.{Whole}
 use Rattle.dg_io.specs.Frame.{Advances}
-use Rattle.dg_session.proofs.ReadLines.{Gathering}
+use Rattle.dg_session.proofs.BatchLineCollection.{Gathering}
 use Rattle.dg_session.proofs.batch_lines.read_lines.Given as goal
 
 abbrev pub invariant-loop-read : goal.invariant-loop-read

@@ -1,4 +1,4 @@
-use Rattle.dg_session.proofs.CheckedStart.{begins_determined}
+use Rattle.dg_session.proofs.SessionStartChecks.{begins_determined}
 use Rattle.dg_session.proofs.laws.law_begins_are_determined.Goals as goal
 
 pub returns : goal.returns

@@ -2,7 +2,7 @@ use Rattle.std.proofs.Common.{sym, ◌∙◌, arith}
 use Rattle.std.proofs.lemmas.Bool.{false≢true}
 use Rattle.dg_io.specs.LinesState.{told}
 use Rattle.dg_io.proofs.FrameLemmas.{advances_both}
-use Rattle.dg_session.proofs.ReadPlanLines.{gathering_kept, gathering_passed}
+use Rattle.dg_session.proofs.PlanLineCollection.{gathering_kept, gathering_passed}
 use Rattle.dg_session.proofs.plan_lines.read_plan_lines.Goals as goal
 use Rattle.dg_session.proofs.plan_lines.read_plan_lines.Goals.{else-loop-read-test, then-loop-read-test+in_ok-line+then-is_end}
 

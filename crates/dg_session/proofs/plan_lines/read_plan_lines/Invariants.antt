@@ -1,7 +1,7 @@
 use Rattle.std.proofs.Common.{◌-◌, ◌≤◌}
 use Rattle.dg_io.specs.LinesState.{told}
 use Rattle.dg_io.specs.Frame.{Advances}
-use Rattle.dg_session.proofs.ReadPlanLines.{Gathering}
+use Rattle.dg_session.proofs.PlanLineCollection.{Gathering}
 use Rattle.dg_session.proofs.plan_lines.read_plan_lines.Given as goal
 
 abbrev pub invariant-loop-read : goal.invariant-loop-read

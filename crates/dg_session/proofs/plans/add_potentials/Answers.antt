@@ -4,7 +4,7 @@ use Rattle.std.proofs.lemmas.List.{append-nil}
 use Rattle.std.proofs.lemmas.Bool.{leb-true, leb-false}
 use Rattle.dg_history.specs.declared.node.NodeId.TheVariants.{Root}
 use Rattle.dg_machine.specs.Answer.{potential_lines}
-use Rattle.dg_session.proofs.ShownPlans.{line_hidden, line_shown, nodes_done, potential_more, potentials_done}
+use Rattle.dg_session.proofs.AnswerPlans.{line_hidden, line_shown, nodes_done, potential_more, potentials_done}
 use Rattle.dg_session.proofs.plans.add_potentials.Goals as goal
 use Rattle.dg_session.proofs.plans.add_potentials.Goals.{then-potentials-i+in_ok-push, else-potentials-i}
 

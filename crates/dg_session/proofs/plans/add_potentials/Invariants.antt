@@ -1,4 +1,4 @@
-use Rattle.dg_session.proofs.ShownPlans.{PotentialsSoFar}
+use Rattle.dg_session.proofs.AnswerPlans.{PotentialsSoFar}
 use Rattle.dg_session.proofs.plans.add_potentials.Given as goal
 
 abbrev pub invariant-loop-i : goal.invariant-loop-i

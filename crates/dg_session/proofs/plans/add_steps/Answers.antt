@@ -1,7 +1,7 @@
 use Rattle.std.proofs.Common.{ℕ, ◌++◌, get_or, sym, ◌∙◌, ap}
 use Rattle.std.proofs.lemmas.List.{append-nil}
 use Rattle.dg_machine.specs.Answer.{step_if}
-use Rattle.dg_session.proofs.ShownPlans.{step_more}
+use Rattle.dg_session.proofs.AnswerPlans.{step_more}
 use Rattle.dg_session.proofs.plans.add_steps.Goals as goal
 use Rattle.dg_session.proofs.plans.add_steps.Goals.{in-Some+in_ok-push, in_default}
 

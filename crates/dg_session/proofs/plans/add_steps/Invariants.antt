@@ -1,4 +1,4 @@
-use Rattle.dg_session.proofs.ShownPlans.{StepsSoFar}
+use Rattle.dg_session.proofs.AnswerPlans.{StepsSoFar}
 use Rattle.dg_session.proofs.plans.add_steps.Given as goal
 
 abbrev pub invariant-loop-step : goal.invariant-loop-step

@@ -2,7 +2,7 @@ use Rattle.std.proofs.Common.{◌≡◌, ◌/◌, [], List, map, sym, subst, ap,
 use Rattle.std.specs.Prelude.{IfOk}
 use Rattle.dg_history.specs.declared.node.NodeId.{NodeId}
 use Rattle.dg_index.specs.OpenedIndex.{Opening, event_total}
-use Rattle.dg_index.proofs.OpenedHistories.{large_parameters}
+use Rattle.dg_index.proofs.OpenedIndexHistories.{large_parameters}
 use Rattle.dg_machine.specs.Planning.{bases_in}
 use Rattle.dg_plan.specs.declared.edge.Edge.{Edge}
 use Rattle.dg_plan.specs.IndexGraph.{Ground, edges_of, nodes_of}

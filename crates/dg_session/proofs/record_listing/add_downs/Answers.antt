@@ -6,9 +6,9 @@ use Rattle.std.proofs.lemmas.Grind.{pow_more}
 use Rattle.std.proofs.Math.Nat.{one-le-pow, pow-le-pow_right}
 use Rattle.dg_history.specs.declared.node.Key.TheVariants as key
 use Rattle.dg_index.specs.Hierarchy.{numbers}
-use Rattle.dg_plan.proofs.Numbers.{above_exponent, all_heights, grows_more, height_more, power_one}
+use Rattle.dg_plan.proofs.IndexGraphNumbers.{above_exponent, all_heights, grows_more, height_more, power_one}
 use Rattle.dg_session.specs.RecordListing.{down_keys, held_line}
-use Rattle.dg_session.proofs.ListedRecords.{level_more}
+use Rattle.dg_session.proofs.RecordListingLines.{level_more}
 use Rattle.dg_session.proofs.record_listing.add_downs.Goals as goal
 
 pub loop-width-init : goal.loop-width-init

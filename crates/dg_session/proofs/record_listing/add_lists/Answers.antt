@@ -1,7 +1,7 @@
 use Rattle.std.proofs.Common.{◌∷◌, [], ◌++◌, ◌∙◌, arith}
 use Rattle.dg_history.specs.declared.node.Key.TheVariants as key
 use Rattle.dg_session.specs.RecordListing.{held_line}
-use Rattle.dg_session.proofs.ListedRecords.{numbered_more}
+use Rattle.dg_session.proofs.RecordListingLines.{numbered_more}
 use Rattle.dg_session.proofs.record_listing.add_lists.Goals as goal
 
 pub loop-list-preserved : goal.loop-list-preserved

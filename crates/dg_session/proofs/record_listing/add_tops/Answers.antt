@@ -5,9 +5,9 @@ use Rattle.std.proofs.lemmas.Grind.{pow_more}
 use Rattle.std.proofs.Math.Nat.{one-le-pow}
 use Rattle.dg_history.specs.declared.node.Key.TheVariants as key
 use Rattle.dg_index.specs.Hierarchy.{numbers}
-use Rattle.dg_plan.proofs.Numbers.{above_exponent, all_heights, grows_more, height_more, power_one}
+use Rattle.dg_plan.proofs.IndexGraphNumbers.{above_exponent, all_heights, grows_more, height_more, power_one}
 use Rattle.dg_session.specs.RecordListing.{held_line}
-use Rattle.dg_session.proofs.ListedRecords.{listed_more}
+use Rattle.dg_session.proofs.RecordListingLines.{listed_more}
 use Rattle.dg_session.proofs.record_listing.add_tops.Goals as goal
 
 pub loop-width-init : goal.loop-width-init

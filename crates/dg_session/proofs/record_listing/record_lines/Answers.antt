@@ -1,6 +1,6 @@
 use Rattle.dg_shape.specs.Shapes.{made_with}
 use Rattle.dg_session.specs.RecordListing.{held_line}
-use Rattle.dg_session.proofs.ListedRecords.{all_listed}
+use Rattle.dg_session.proofs.RecordListingLines.{all_listed}
 use Rattle.dg_session.proofs.record_listing.record_lines.Goals as goal
 
 pub returns : goal.returns

@@ -2,7 +2,7 @@ use Rattle.std.proofs.Common.{◌≡◌, Bool, true, false, length, arith, refl}
 use Rattle.std.specs.Prelude.{nat_le}
 use Rattle.std.proofs.lemmas.Bool.{leb-true, leb-false}
 use Rattle.dg_machine.specs.Answer.{handle_lines}
-use Rattle.dg_session.proofs.HandleLines.{singles_done, times_done}
+use Rattle.dg_session.proofs.AnswerHandles.{singles_done, times_done}
 use Rattle.dg_session.proofs.retrieval.handle_lines.Goals as goal
 
 pub returns : goal.returns

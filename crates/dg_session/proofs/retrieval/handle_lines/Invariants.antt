@@ -1,4 +1,4 @@
-use Rattle.dg_session.proofs.HandleLines.{LinesSoFar}
+use Rattle.dg_session.proofs.AnswerHandles.{LinesSoFar}
 use Rattle.dg_session.proofs.retrieval.handle_lines.Given as goal
 
 abbrev pub invariant-loop-i : goal.invariant-loop-i

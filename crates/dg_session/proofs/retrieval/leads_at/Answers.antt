@@ -7,7 +7,7 @@ use Rattle.dg_history.specs.History.{History}
 use Rattle.dg_index.specs.OpenedIndex.{Opening, event_total}
 use Rattle.dg_retrieval.specs.KeptGraph.{kept_nodes}
 use Rattle.dg_retrieval.specs.Retrieval.{ArePoints, IsFirstDamage, IsNoDamage, IsOver, TakesAtMostTree}
-use Rattle.dg_session.proofs.Retrievals.{points_there}
+use Rattle.dg_session.proofs.SessionRetrievals.{points_there}
 use Rattle.dg_session.proofs.retrieval.leads_at.Goals as goal
 
 pub retrieve-requires-clause-targets : goal.retrieve-requires-clause-targets

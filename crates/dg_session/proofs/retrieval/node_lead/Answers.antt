@@ -6,7 +6,7 @@ use Rattle.dg_history.specs.declared.node.NodeId.{NodeId}
 use Rattle.dg_history.specs.declared.node.NodeId.TheVariants.{Root}
 use Rattle.dg_history.specs.History.{History}
 use Rattle.dg_index.specs.OpenedIndex.{Opening, event_total}
-use Rattle.dg_index.proofs.OpenedHistories.{large_parameters}
+use Rattle.dg_index.proofs.OpenedIndexHistories.{large_parameters}
 use Rattle.dg_plan.specs.declared.edge.Edge.{Edge}
 use Rattle.dg_plan.specs.IndexGraph.{arcs_of}
 use Rattle.dg_plan.specs.Walks.{IsPlan, weight_of}

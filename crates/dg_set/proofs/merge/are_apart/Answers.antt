@@ -4,7 +4,7 @@ use Rattle.std.proofs.lemmas.Bool.{false≢true}
 use Rattle.dg_graph.specs.declared.element.Element.TheVariants.{Node}
 use Rattle.dg_graph.specs.Sets.{met}
 use Rattle.dg_set.proofs.Indices.{compared}
-use Rattle.dg_set.proofs.Merges.{kept_Less, kept_Equal, kept_Greater, met_done}
+use Rattle.dg_set.proofs.SetMerges.{kept_Less, kept_Equal, kept_Greater, met_done}
 use Rattle.dg_set.proofs.Apart.{apart_from_met, not_apart}
 use Rattle.dg_set.proofs.merge.are_apart.Goals as goal
 

@@ -3,7 +3,7 @@ use Rattle.std.specs.declared.cmp.Ordering.TheVariants.{Less, Equal, Greater}
 use Rattle.dg_graph.specs.declared.element.Element.TheVariants.{Node}
 use Rattle.dg_graph.specs.Sets.{met}
 use Rattle.dg_set.proofs.Indices.{compared}
-use Rattle.dg_set.proofs.Merges.{pushed, passed, kept_Less, kept_Equal, kept_Greater, met_done}
+use Rattle.dg_set.proofs.SetMerges.{pushed, passed, kept_Less, kept_Equal, kept_Greater, met_done}
 use Rattle.dg_set.proofs.merge.meet.Goals as goal
 use Rattle.dg_set.proofs.merge.meet.Goals.{then-loop-i-test+else-j-right, else-loop-i-test}
 

@@ -4,7 +4,7 @@ use Rattle.std.proofs.lemmas.List.{take_rest}
 use Rattle.dg_graph.specs.declared.element.Element.TheVariants.{Node}
 use Rattle.dg_graph.specs.Sets.{without_all}
 use Rattle.dg_set.proofs.Indices.{compared}
-use Rattle.dg_set.proofs.Merges.{pushed, passed, kept_Less, kept_Equal, kept_Greater, without_done}
+use Rattle.dg_set.proofs.SetMerges.{pushed, passed, kept_Less, kept_Equal, kept_Greater, without_done}
 use Rattle.dg_set.proofs.merge.minus.Goals as goal
 use Rattle.dg_set.proofs.merge.minus.Goals.{then-loop-i-test+else-j-right, else-loop-i-test}
 

@@ -4,7 +4,7 @@ use Rattle.std.proofs.lemmas.List.{take_rest}
 use Rattle.dg_graph.specs.declared.element.Element.TheVariants.{Node}
 use Rattle.dg_graph.specs.Sets.{unioned}
 use Rattle.dg_set.proofs.Indices.{compared}
-use Rattle.dg_set.proofs.Merges.{pushed, unioned_Less, unioned_Equal, unioned_Greater, unioned_done}
+use Rattle.dg_set.proofs.SetMerges.{pushed, unioned_Less, unioned_Equal, unioned_Greater, unioned_done}
 use Rattle.dg_set.proofs.merge.union.Goals as goal
 use Rattle.dg_set.proofs.merge.union.Goals.{then-loop-i-test+else-j-right, else-loop-i-test}
 

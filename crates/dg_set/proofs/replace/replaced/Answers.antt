@@ -1,8 +1,8 @@
 use Rattle.std.proofs.Common.{length, arith, ap, sym, ◌++◌, ◌∙◌, ◌<◌}
 use Rattle.std.proofs.lemmas.List.{take_rest}
 use Rattle.dg_graph.specs.declared.element.Element.TheVariants.{Node}
-use Rattle.dg_set.proofs.Merges.{pushed, passed}
-use Rattle.dg_set.proofs.Replaced.{replaced_kept, replaced_lost, replaced_past, replaced_shared, replaced_gained, replaced_done}
+use Rattle.dg_set.proofs.SetMerges.{pushed, passed}
+use Rattle.dg_set.proofs.SetReplacements.{replaced_kept, replaced_lost, replaced_past, replaced_shared, replaced_gained, replaced_done}
 use Rattle.dg_set.proofs.replace.replaced.Goals as goal
 
 pub loop-i-preserved-in-Less-order_at : goal.loop-i-preserved-in-Less-order_at

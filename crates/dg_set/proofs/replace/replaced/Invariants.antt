@@ -1,6 +1,6 @@
 use Rattle.std.proofs.Common.{◌≡◌, ◌+◌, ◌-◌, ◌≤◌, ◌++◌, length}
 use Rattle.dg_graph.specs.Sets.{unioned, without_all}
-use Rattle.dg_set.proofs.Replaced.{to_replace}
+use Rattle.dg_set.proofs.SetReplacements.{to_replace}
 use Rattle.dg_set.proofs.replace.replaced.Given as goal
 
 abbrev pub invariant-loop-i : goal.invariant-loop-i

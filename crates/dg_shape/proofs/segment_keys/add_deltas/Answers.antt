@@ -2,7 +2,7 @@ use Rattle.std.proofs.Common.{◌≡◌, ◌+◌, ◌-◌, ◌/◌, ◌≤◌, �
 use Rattle.std.specs.List.{flat_map}
 use Rattle.dg_index.specs.Hierarchy.{numbers}
 use Rattle.dg_index.specs.IndexRecords.{deltas_of, deltas_due_at}
-use Rattle.dg_shape.proofs.DueKeys.{next_flat, end_flat, none_more, higher_up, first_up, half_fewer, half_less, height_few}
+use Rattle.dg_shape.proofs.HierarchyRecords.{next_flat, end_flat, none_more, higher_up, first_up, half_fewer, half_less, height_few}
 use Rattle.dg_shape.proofs.segment_keys.add_deltas.Goals as goal
 
 pub loop-low-init : goal.loop-low-init

@@ -1,6 +1,6 @@
 use Rattle.std.proofs.Common.{◌+◌, ◌-◌, arith}
 use Rattle.dg_history.specs.declared.node.Key.TheVariants as key
-use Rattle.dg_shape.proofs.DueKeys.{next_map}
+use Rattle.dg_shape.proofs.HierarchyRecords.{next_map}
 use Rattle.dg_shape.proofs.segment_keys.add_downs.Goals as goal
 
 pub loop-c-preserved : goal.loop-c-preserved

@@ -1,6 +1,6 @@
 use Rattle.std.proofs.Common.{◌+◌, ◌-◌, arith}
 use Rattle.dg_index.specs.IndexRecords.{deltas_of}
-use Rattle.dg_shape.proofs.DueKeys.{next_flat}
+use Rattle.dg_shape.proofs.HierarchyRecords.{next_flat}
 use Rattle.dg_shape.proofs.segment_keys.add_nodes.Goals as goal
 
 pub loop-node-preserved : goal.loop-node-preserved

@@ -1,5 +1,5 @@
 use Rattle.std.proofs.Common.{arith}
-use Rattle.dg_shape.proofs.Nodes.{child_there}
+use Rattle.dg_shape.proofs.ShapeNodes.{child_there}
 use Rattle.dg_shape.proofs.shape.child_at.Goals as goal
 
 pub returns : goal.returns

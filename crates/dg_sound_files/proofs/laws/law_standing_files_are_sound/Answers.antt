@@ -1,4 +1,4 @@
-use Rattle.dg_sound_files.proofs.StandingFiles.{standing_files_are_sound}
+use Rattle.dg_sound_files.proofs.SoundFileHistories.{standing_files_are_sound}
 use Rattle.dg_sound_files.proofs.laws.law_standing_files_are_sound.Goals as goal
 
 pub returns : goal.returns

@@ -14,8 +14,8 @@ use Rattle.dg_start.specs.declared.fault.StartFault.{StartFault}
 use Rattle.dg_start.specs.Faults.{start_fault_of}
 use Rattle.dg_start.specs.Refusals.{RefusesPlan}
 use Rattle.dg_start.specs.SessionStart.{last_leaf}
-use Rattle.dg_start.proofs.LastSets.{leaf_there, refused_so}
-use Rattle.dg_start.proofs.Told.{err_is}
+use Rattle.dg_start.proofs.SessionStartSets.{leaf_there, refused_so}
+use Rattle.dg_start.proofs.ReadingOutcomes.{err_is}
 use Rattle.dg_start.proofs.last_leaf.last_set.Goals as goal
 
 pub plan_set-requires-clause-node : goal.plan_set-requires-clause-node

@@ -1,4 +1,4 @@
-use Rattle.dg_start.proofs.StartsAsItStands.{starts_as_it_stands}
+use Rattle.dg_start.proofs.SessionStartHistory.{starts_as_it_stands}
 use Rattle.dg_start.proofs.laws.law_images_start_as_they_stand.Goals as goal
 
 pub returns : goal.returns

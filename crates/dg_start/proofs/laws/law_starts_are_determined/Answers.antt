@@ -1,4 +1,4 @@
-use Rattle.dg_start.proofs.OneStart.{starts_are_determined}
+use Rattle.dg_start.proofs.SessionStartUniqueness.{starts_are_determined}
 use Rattle.dg_start.proofs.laws.law_starts_are_determined.Goals as goal
 
 pub returns : goal.returns

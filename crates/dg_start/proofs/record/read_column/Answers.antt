@@ -1,5 +1,5 @@
-use Rattle.dg_start.proofs.BytesTaken.{takes_column}
-use Rattle.dg_start.proofs.ReadRecord.{read_fits}
+use Rattle.dg_start.proofs.ReadingBytes.{takes_column}
+use Rattle.dg_start.proofs.ColumnMergeRecords.{read_fits}
 use Rattle.dg_start.proofs.record.read_column.Goals as goal
 
 pub returns-in-Ok-clause-fit : goal.returns-in-Ok-clause-fit

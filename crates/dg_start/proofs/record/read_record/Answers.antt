@@ -1,7 +1,7 @@
 use Rattle.std.proofs.Common.{List, subst, sym}
 use Rattle.std.specs.List.{All}
 use Rattle.dg_graph.specs.declared.placed.Placed.{Placed}
-use Rattle.dg_start.proofs.ReadRecord.{PlacedFits, merged_fit}
+use Rattle.dg_start.proofs.ColumnMergeRecords.{PlacedFits, merged_fit}
 use Rattle.dg_start.proofs.record.read_record.Goals as goal
 
 pub returns-in-Ok-clause-fit : goal.returns-in-Ok-clause-fit

@@ -14,8 +14,8 @@ use Rattle.dg_start.specs.Faults.{start_fault_of_record}
 use Rattle.dg_start.specs.RecentReading.{Source, events_in_source, events_in_sources}
 use Rattle.dg_start.specs.Reading.{WhereTold, source_of, sources_in}
 use Rattle.dg_start.specs.Refusals.{IsReason}
-use Rattle.dg_start.proofs.ReadSources.{IsNextSource, added_so, next_source, no_source, source_read, source_refused}
-use Rattle.dg_start.proofs.Told.{err_is, said_before, told_weaker}
+use Rattle.dg_start.proofs.RecentReadingSources.{IsNextSource, added_so, next_source, no_source, source_read, source_refused}
+use Rattle.dg_start.proofs.ReadingOutcomes.{err_is, said_before, told_weaker}
 use Rattle.dg_start.proofs.source_events.read_sources.Goals as goal
 
 pub read_record-requires-clause-image : goal.read_record-requires-clause-image

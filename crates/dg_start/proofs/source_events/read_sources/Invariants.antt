@@ -4,7 +4,7 @@ use Rattle.dg_columns.specs.NamesInRange.{NamesFit}
 use Rattle.dg_disk.specs.Frame.{OnlyReads}
 use Rattle.dg_graph.specs.declared.event.Event.{Event}
 use Rattle.dg_start.specs.Reading.{sources_in}
-use Rattle.dg_start.proofs.ReadSources.{ReadSoFar}
+use Rattle.dg_start.proofs.RecentReadingSources.{ReadSoFar}
 use Rattle.dg_start.proofs.source_events.read_sources.Given as goal
 
 abbrev pub invariant-loop-source : goal.invariant-loop-source

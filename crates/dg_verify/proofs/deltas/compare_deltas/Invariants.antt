@@ -1,7 +1,7 @@
 use Rattle.std.proofs.Common.{◌≡◌, drop}
 use Rattle.dg_disk.specs.Frame.{OnlyReads}
 use Rattle.dg_index.specs.FileOfHistory.{delta_blobs}
-use Rattle.dg_verify.proofs.ComparedDeltas.{DeltasGoOn}
+use Rattle.dg_verify.proofs.DeltaComparisons.{DeltasGoOn}
 use Rattle.dg_verify.proofs.deltas.compare_deltas.Given as goal
 
 abbrev pub invariant-loop-number : goal.invariant-loop-number

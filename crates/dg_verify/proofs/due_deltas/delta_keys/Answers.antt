@@ -1,7 +1,7 @@
 use Rattle.std.proofs.Common.{◌≡◌, ◌-◌, length, drop, take, ap, ◌∙◌, arith}
 use Rattle.dg_index.specs.Hierarchy.{leaves}
 use Rattle.dg_index.specs.IndexRecords.{deltas_due}
-use Rattle.dg_verify.proofs.MadeDeltas.{between, lists_within, some_keys}
+use Rattle.dg_verify.proofs.DeltaSegments.{between, lists_within, some_keys}
 use Rattle.dg_verify.proofs.Outcomes.{if_ok}
 use Rattle.dg_verify.proofs.due_deltas.delta_keys.Goals as goal
 

@@ -2,7 +2,7 @@ use Rattle.std.proofs.Common.{◌≡◌, ◌*◌, length}
 use Rattle.dg_disk.specs.Frame.{OnlyReads}
 use Rattle.dg_verify.specs.Testing.{IsRead}
 use Rattle.dg_verify.specs.Verifying.{opened_with}
-use Rattle.dg_verify.proofs.ReadLists.{ListsGoOn}
+use Rattle.dg_verify.proofs.TestingLists.{ListsGoOn}
 use Rattle.dg_verify.proofs.lists.add_lists.Given as goal
 
 abbrev pub invariant-loop-number : goal.invariant-loop-number

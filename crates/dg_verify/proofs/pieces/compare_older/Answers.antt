@@ -5,7 +5,7 @@ use Rattle.dg_start.specs.Reading.{WhereTold}
 use Rattle.dg_verify.specs.declared.stop.Stop.{Stop}
 use Rattle.dg_verify.specs.Verifying.{IsStop, IsWrong, keyed_column, opened_with, unlike}
 use Rattle.dg_verify.proofs.Outcomes.{if_err, on_ok}
-use Rattle.dg_verify.proofs.ReadPieces.{older_alike, older_stops}
+use Rattle.dg_verify.proofs.TestingPieces.{older_alike, older_stops}
 use Rattle.dg_verify.proofs.pieces.compare_older.Goals as goal
 
 pub returns-clause-alike : goal.returns-clause-alike

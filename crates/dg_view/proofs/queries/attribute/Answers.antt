@@ -5,7 +5,7 @@ use Rattle.dg_pool.specs.Graphs.{slot_graph}
 use Rattle.dg_pool.specs.Sweeps.{members_as}
 use Rattle.dg_pool.specs.Listing.{members_from}
 use Rattle.dg_view.specs.Walk.{NoneBefore}
-use Rattle.dg_view.proofs.Attributes.{least_none, least_some}
+use Rattle.dg_view.proofs.WalkAttributes.{least_none, least_some}
 use Rattle.dg_view.proofs.queries.attribute.Goals as goal
 
 pub returns-in-Some : goal.returns-in-Some

@@ -4,7 +4,7 @@ use Rattle.dg_pool.specs.Graphs.{slot_graph}
 use Rattle.dg_pool.specs.Sweeps.{members_as}
 use Rattle.dg_query.specs.Queries.{edge_at, degree_of}
 use Rattle.dg_pool.specs.Listing.{members_from}
-use Rattle.dg_view.proofs.Searching.{edges_from_first, no_edges_behind, most_edges, one_counted, all_counted}
+use Rattle.dg_view.proofs.WalkSearches.{edges_from_first, no_edges_behind, most_edges, one_counted, all_counted}
 use Rattle.dg_view.proofs.queries.degree.Goals as goal
 
 pub loop-element-init : goal.loop-element-init

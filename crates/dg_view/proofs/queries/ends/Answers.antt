@@ -6,7 +6,7 @@ use Rattle.dg_query.specs.Queries.{edge_at, neighbours_of}
 use Rattle.dg_pool.specs.Listing.{members_from}
 use Rattle.dg_view.specs.EdgeEnds.{edges_ending_at}
 use Rattle.dg_view.proofs.EdgeEnds.{one_walked}
-use Rattle.dg_view.proofs.Searching.{nothing_left, edges_from_first, no_edges_behind}
+use Rattle.dg_view.proofs.WalkSearches.{nothing_left, edges_from_first, no_edges_behind}
 use Rattle.dg_view.proofs.queries.ends.Goals.{in-Some+then-not-is_structure, in_default}
 use Rattle.dg_view.proofs.queries.ends.Goals as goal
 

@@ -3,7 +3,7 @@ use Rattle.std.proofs.lemmas.List.{append_assoc}
 use Rattle.dg_pool.specs.Graphs.{slot_graph}
 use Rattle.dg_pool.specs.Sweeps.{members_as}
 use Rattle.dg_pool.specs.Listing.{members_from}
-use Rattle.dg_view.proofs.Searching.{nothing_left}
+use Rattle.dg_view.proofs.WalkSearches.{nothing_left}
 use Rattle.dg_view.proofs.queries.list.Goals as goal
 
 pub loop-element-init : goal.loop-element-init

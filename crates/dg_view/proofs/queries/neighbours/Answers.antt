@@ -4,7 +4,7 @@ use Rattle.dg_pool.specs.Graphs.{slot_graph}
 use Rattle.dg_pool.specs.Sweeps.{members_as}
 use Rattle.dg_query.specs.Queries.{edge_at, neighbours_of}
 use Rattle.dg_pool.specs.Listing.{members_from}
-use Rattle.dg_view.proofs.Searching.{nothing_left, edges_from_first, no_edges_behind}
+use Rattle.dg_view.proofs.WalkSearches.{nothing_left, edges_from_first, no_edges_behind}
 use Rattle.dg_view.proofs.queries.neighbours.Goals.{in-Some+then-not-is_structure, in_default}
 use Rattle.dg_view.proofs.queries.neighbours.Goals as goal
 

@@ -6,8 +6,8 @@ use Rattle.dg_pool.specs.Sweeps.{members_as}
 use Rattle.dg_query.specs.Queries.{value_at, values_of}
 use Rattle.dg_pool.specs.Listing.{members_from}
 use Rattle.dg_view.specs.Walk.{NoneBefore}
-use Rattle.dg_view.proofs.Attributes.{values_from_first, no_values_behind}
-use Rattle.dg_view.proofs.Searching.{nothing_left}
+use Rattle.dg_view.proofs.WalkAttributes.{values_from_first, no_values_behind}
+use Rattle.dg_view.proofs.WalkSearches.{nothing_left}
 use Rattle.dg_view.proofs.queries.values.Goals.{in-Some+in_default-value_at, in_default}
 use Rattle.dg_view.proofs.queries.values.Goals as goal
 

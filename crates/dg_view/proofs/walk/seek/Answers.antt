@@ -4,7 +4,7 @@ use Rattle.dg_graph.proofs.Sets.{IsSet-filter}
 use Rattle.dg_pool.specs.Graphs.{slot_graph}
 use Rattle.dg_pool.specs.Sweeps.{members_as}
 use Rattle.dg_view.specs.Walk.{NoneBefore}
-use Rattle.dg_view.proofs.Attributes.{none_before}
+use Rattle.dg_view.proofs.WalkAttributes.{none_before}
 use Rattle.dg_view.proofs.walk.seek.Goals as goal
 
 pub returns-clause-from : goal.returns-clause-from

@@ -1,6 +1,6 @@
 use Rattle.std.proofs.Common.{◌∙◌, ◌==◌, ap, length, map, string_bytes, sym}
 use Rattle.clap.specs.Words.{App, Kinds, fault_of, is_simple_and_free}
-use Rattle.dg_words.proofs.FormMatches.{finds}
+use Rattle.dg_words.proofs.WrittenFormMatches.{finds}
 use Rattle.dg_words.specs.WrittenForm.{is_written_form}
 use Rattle.dg_words.proofs.words.parse.Goals as goal
 

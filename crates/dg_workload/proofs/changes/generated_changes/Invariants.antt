@@ -7,7 +7,7 @@ use Rattle.dg_workload.proofs.changes.generated_changes.Given as goal
 -- What is generated and what is left to generate come to the whole.
 abbrev pub invariant-loop : goal.invariant-loop
 invariant-loop l = record {
-  place : l.generator.index ≡ l.counter;
+  position : l.generator.index ≡ l.counter;
   many : length l.changes.items ≡ l.counter;
   room : length l.names + 2 * (l.count - l.counter) ≤ NAMES_MAX;
   changes : map Some l.changes.items ++ changes_after l.names (generated_from (l.count - l.counter) l.generator.index l.generator.number)

@@ -1,5 +1,5 @@
 use Rattle.std.proofs.Common.{ℕ, ap, Vec, Global}
-use Rattle.dg_cells.proofs.Numbered.{all_numbered, numbers_as}
+use Rattle.dg_cells.proofs.RowNumbers.{all_numbered, numbers_as}
 use Rattle.dg_cells.proofs.cells.Cells.add_numbered.Goals as goal
 use Rattle.dg_cells.proofs.cells.Cells.add_numbered.Goals.{then-items-len+in_ok-merge, else-items-len+in_ok-add_each}
 

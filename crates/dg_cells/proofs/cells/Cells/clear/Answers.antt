@@ -2,8 +2,8 @@ use Rattle.std.proofs.Common.{sym, subst, List, Option, IsSome}
 use Rattle.dg_cells.specs.declared.row.Row.{Row}
 use Rattle.dg_cells.specs.Rows.{cell_at}
 use Rattle.dg_cells.specs.Pieces.{strung}
-use Rattle.dg_cells.proofs.Changed.{read_there}
-use Rattle.dg_cells.proofs.Listed.{listed_rewritten}
+use Rattle.dg_cells.proofs.RowChanges.{read_there}
+use Rattle.dg_cells.proofs.OrderEdits.{listed_rewritten}
 use Rattle.dg_cells.proofs.cells.Cells.clear.Goals as goal
 
 pub invariant_of-self : goal.invariant_of-self

@@ -5,7 +5,7 @@ use Rattle.dg_cells.specs.declared.row.Row.{Row}
 use Rattle.dg_cells.specs.Rows.{cell_at}
 use Rattle.dg_cells.specs.Pieces.{strung}
 use Rattle.dg_cells.specs.Cursors.{ordered, ordered_elements}
-use Rattle.dg_cells.proofs.Ordered.{rises_ordered, each_ordered, only_ordered}
+use Rattle.dg_cells.proofs.CursorRows.{rises_ordered, each_ordered, only_ordered}
 use Rattle.dg_cells.proofs.cells.Cells.order_facts.Goals as goal
 
 pub returns-clause-rises : goal.returns-clause-rises

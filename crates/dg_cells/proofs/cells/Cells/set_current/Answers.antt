@@ -5,8 +5,8 @@ use Rattle.dg_cells.specs.declared.cells.Cells.TheInside.{Inside}
 use Rattle.dg_cells.specs.Rows.{cell_at}
 use Rattle.dg_cells.specs.Pieces.{strung}
 use Rattle.dg_cells.specs.Order.{IsListed}
-use Rattle.dg_cells.proofs.Changed.{read_same, read_there}
-use Rattle.dg_cells.proofs.Listed.{listed_rewritten}
+use Rattle.dg_cells.proofs.RowChanges.{read_same, read_there}
+use Rattle.dg_cells.proofs.OrderEdits.{listed_rewritten}
 use Rattle.dg_cells.proofs.cells.Cells.set_current.Goals as goal
 use Rattle.dg_cells.proofs.cells.Cells.set_current.Goals.{in-Some, in_default}
 

@@ -3,7 +3,7 @@ use Rattle.std.specs.List.{insert, All}
 use Rattle.std.proofs.lemmas.List.Edits.{length-insert}
 use Rattle.std.proofs.lemmas.List.Elements.{All-set}
 use Rattle.dg_cells.specs.Pieces.{strung, nth_piece, IsPiece}
-use Rattle.dg_cells.proofs.Strung.{inserted, read_as, written_as, unwritten_as, length_as}
+use Rattle.dg_cells.proofs.PieceEdits.{inserted, read_as, written_as, unwritten_as, length_as}
 use Rattle.dg_cells.proofs.Exits.{on_err}
 use Rattle.dg_cells.proofs.pieces.Pieces.insert_within.Goals as goal
 use Rattle.dg_cells.proofs.pieces.Pieces.insert_within.Goals.{After-insert}

@@ -1,7 +1,7 @@
 use Rattle.std.proofs.Common.{◌≡◌, ℕ, ◌<◌, List, length, get_or, sym, ap, ◌∙◌, arith, Vec, Global}
 use Rattle.std.proofs.lemmas.List.{get_or_read}
 use Rattle.dg_cells.specs.Pieces.{nth_piece}
-use Rattle.dg_cells.proofs.Strung.{number_there, read_as, length_as}
+use Rattle.dg_cells.proofs.PieceEdits.{number_there, read_as, length_as}
 use Rattle.dg_cells.proofs.pieces.Pieces.number.Goals as goal
 
 abbrev numbers : Vec ℕ Global → List ℕ

@@ -1,5 +1,5 @@
 use Rattle.std.proofs.Common.{◌≤◌, length, arith}
-use Rattle.dg_cells.proofs.Strung.{strung_more}
+use Rattle.dg_cells.proofs.PieceEdits.{strung_more}
 use Rattle.dg_cells.proofs.pieces.Pieces.of_numbers.Goals as goal
 
 pub loop-at-preserved : goal.loop-at-preserved

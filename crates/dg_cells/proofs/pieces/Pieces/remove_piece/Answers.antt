@@ -1,7 +1,7 @@
 use Rattle.std.proofs.Common.{ℕ, List, map, sym, ap, ◌∙◌, subst, Vec, Global}
 use Rattle.std.specs.List.{remove, All}
 use Rattle.dg_cells.specs.Pieces.{strung, IsPiece}
-use Rattle.dg_cells.proofs.Strung.{map_remove, pieces_removed, piece_gone}
+use Rattle.dg_cells.proofs.PieceEdits.{map_remove, pieces_removed, piece_gone}
 use Rattle.dg_cells.proofs.pieces.Pieces.remove_piece.Goals as goal
 
 abbrev numbers : Vec ℕ Global → List ℕ

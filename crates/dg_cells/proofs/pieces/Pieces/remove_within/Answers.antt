@@ -3,7 +3,7 @@ use Rattle.std.specs.List.{remove, All}
 use Rattle.std.proofs.lemmas.List.Edits.{length-remove}
 use Rattle.std.proofs.lemmas.List.Elements.{All-set, All-get_or}
 use Rattle.dg_cells.specs.Pieces.{strung, nth_piece, IsPiece}
-use Rattle.dg_cells.proofs.Strung.{removed, read_as, written_as, length_as}
+use Rattle.dg_cells.proofs.PieceEdits.{removed, read_as, written_as, length_as}
 use Rattle.dg_cells.proofs.pieces.Pieces.remove_within.Goals as goal
 use Rattle.dg_cells.proofs.pieces.Pieces.remove_within.Goals.{After-remove}
 

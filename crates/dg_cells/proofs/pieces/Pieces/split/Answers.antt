@@ -3,7 +3,7 @@ use Rattle.std.specs.List.{insert, All}
 use Rattle.std.proofs.lemmas.List.{take_rest}
 use Rattle.std.proofs.lemmas.List.Edits.{get_or-insert_below, length-insert}
 use Rattle.dg_cells.specs.Pieces.{nth_piece, IsPiece}
-use Rattle.dg_cells.proofs.Strung.{halved, is_halved, map_insert, pieces_halved, read_as, written_as, length_as}
+use Rattle.dg_cells.proofs.PieceEdits.{halved, is_halved, map_insert, pieces_halved, read_as, written_as, length_as}
 use Rattle.dg_cells.proofs.pieces.Pieces.split.Goals as goal
 use Rattle.dg_cells.proofs.pieces.Pieces.split.Goals.{After-truncate}
 

@@ -6,17 +6,17 @@ use Rattle.dg_index.specs.declared.entry.Row.{Row}
 use Rattle.dg_index.specs.FileOfHistory.{Segment, head_of, segment_bytes}
 use Rattle.dg_index.specs.IndexGrowth.{index_with, needed_for}
 use Rattle.dg_index.specs.OpenedIndex.{Opening, directory_of, earliest_in, event_total, first_in, last_list, may_be_listed, rows_in}
-use Rattle.dg_file.proofs.ListedRows.{listed_segment}
-use Rattle.dg_index.proofs.OpenedHistories.{large_parameters}
+use Rattle.dg_file.proofs.OpenedIndexLists.{listed_segment}
+use Rattle.dg_index.proofs.OpenedIndexHistories.{large_parameters}
 use Rattle.dg_shape.specs.Additions.{Suits}
 use Rattle.dg_file.specs.declared.fault.CommitFault.{CommitFault}
 use Rattle.dg_file.specs.declared.fault.CommitFault.TheVariants.{FileFull, Disk}
 use Rattle.dg_file.specs.Growth.{Moved, Gated, GatedOrNot}
 use Rattle.dg_file.specs.Images.{BothTold, GainsSegment}
 use Rattle.dg_file.specs.Index.{IndexState}
-use Rattle.dg_file.proofs.AddedSegments.{added_batch, added_or_not, added_segment, columns_end, index_is, needed_is, used_there}
-use Rattle.dg_file.proofs.NotedBatches.{follows_in}
-use Rattle.dg_file.proofs.SuitedRows.{suits_segment}
+use Rattle.dg_file.proofs.ImageSegments.{added_batch, added_or_not, added_segment, columns_end, index_is, needed_is, used_there}
+use Rattle.dg_file.proofs.InvariantBatches.{follows_in}
+use Rattle.dg_file.proofs.OpenedIndexKeys.{suits_segment}
 use Rattle.dg_file.proofs.index.Index.add.Goals as goal
 
 full_bytes : ℕ → Result (Unit {0}) CommitFault → ℕ

@@ -1,6 +1,6 @@
 use Rattle.std.proofs.Common.{refl}
 use Rattle.dg_index.specs.OpenedIndex.{Opening}
-use Rattle.dg_file.proofs.RisingLists.{lists_rise}
+use Rattle.dg_file.proofs.InvariantLists.{lists_rise}
 use Rattle.dg_file.proofs.index.Index.catalogue.Goals as goal
 
 pub returns-clause-rise : goal.returns-clause-rise

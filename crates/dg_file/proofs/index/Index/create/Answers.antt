@@ -3,8 +3,8 @@ use Rattle.dg_history.specs.History.{empty_history}
 use Rattle.dg_index.specs.ImageOfHistory.{IsImageOf}
 use Rattle.dg_index.specs.OpenedIndex.{opening, opened_of}
 use Rattle.dg_file.specs.Images.{IsMadeInPart}
-use Rattle.dg_index.proofs.OpenedHistories.{images_are_opened}
-use Rattle.dg_file.proofs.Moves.{moved_after, moved_both}
+use Rattle.dg_index.proofs.OpenedIndexHistories.{images_are_opened}
+use Rattle.dg_file.proofs.GrowthMoves.{moved_after, moved_both}
 use Rattle.dg_file.proofs.index.Index.create.Goals as goal
 
 pub returns-clause-opened : goal.returns-clause-opened

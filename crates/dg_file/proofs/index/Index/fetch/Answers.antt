@@ -10,7 +10,7 @@ use Rattle.dg_index.specs.OpenedIndex.{Opening, column_at}
 use Rattle.dg_shape.specs.Entries.{offset_in, IsInRange}
 use Rattle.dg_file.specs.Images.{taken_after}
 use Rattle.dg_file.specs.Index.{IndexState}
-use Rattle.dg_file.proofs.FetchedColumns.{column_there, column_read, ok_both}
+use Rattle.dg_file.proofs.ImageColumns.{column_there, column_read, ok_both}
 use Rattle.dg_file.proofs.index.Index.fetch.Goals as goal
 
 pub unwrap-entry-requires : goal.unwrap-entry-requires

@@ -3,7 +3,7 @@ use Rattle.std.specs.Prelude.{slice_get}
 use Rattle.dg_index.specs.declared.entry.BatchEntry.{BatchEntry}
 use Rattle.dg_index.specs.IndexGrowth.{last_time_in}
 use Rattle.dg_file.specs.Index.{IndexState}
-use Rattle.dg_file.proofs.NotedBatches.{last_is}
+use Rattle.dg_file.proofs.InvariantBatches.{last_is}
 use Rattle.dg_file.proofs.index.Index.last_time.Goals as goal
 
 pub returns : goal.returns

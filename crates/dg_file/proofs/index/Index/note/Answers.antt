@@ -9,8 +9,8 @@ use Rattle.dg_shape.specs.Entries.{spanned}
 use Rattle.dg_file.specs.Index.{IndexState}
 use Rattle.dg_file.specs.Invariant.{IndexIsSound, listed_after, with_rows}
 use Rattle.dg_index.specs.IndexGrowth.{name_total}
-use Rattle.dg_shape.proofs.AddedRecords.{suits_length}
-use Rattle.dg_file.proofs.NotedBatches.{noted_sound, room_for}
+use Rattle.dg_shape.proofs.AdditionRecords.{suits_length}
+use Rattle.dg_file.proofs.InvariantBatches.{noted_sound, room_for}
 use Rattle.dg_file.proofs.index.Index.note.Goals as goal
 
 pub add_all-requires-clause-room : goal.add_all-requires-clause-room

@@ -4,8 +4,8 @@ use Rattle.dg_disk.specs.Image.{HasRange}
 use Rattle.dg_index.specs.OpenedIndex.{Opening, Opened}
 use Rattle.dg_file.specs.Directories.{TakesDirectory, directory_due}
 use Rattle.dg_file.specs.Index.{IndexState}
-use Rattle.dg_file.proofs.Found.{some_weaker}
-use Rattle.dg_file.proofs.TakenBytes.{after_most}
+use Rattle.dg_file.proofs.ImageParts.{some_weaker}
+use Rattle.dg_file.proofs.IndexBytes.{after_most}
 use Rattle.dg_file.proofs.index.Index.read_found.Goals as goal
 
 pub read_range-requires : goal.read_range-requires

@@ -14,11 +14,11 @@ use Rattle.dg_file.specs.Index.{IndexState, opening_bytes}
 use Rattle.dg_file.specs.Images.{RefusesOpening}
 use Rattle.dg_index.specs.declared.entry.BatchEntry.{BatchEntry}
 use Rattle.dg_file.specs.Invariant.{with_rows}
-use Rattle.dg_file.proofs.Found.{fit_facts, range_within}
-use Rattle.dg_file.proofs.NextSegments.{outside, broken, next_on, taken_next}
-use Rattle.dg_file.proofs.NotedBatches.{bytes_with}
-use Rattle.dg_file.proofs.Moves.{on_err_any}
-use Rattle.dg_file.proofs.TakenBytes.{behind_most, directory_most, gate_most, lengths_most, reads_then, rose_after}
+use Rattle.dg_file.proofs.ImageParts.{fit_facts, range_within}
+use Rattle.dg_file.proofs.HeaderSegments.{outside, broken, next_on, taken_next}
+use Rattle.dg_file.proofs.InvariantBatches.{bytes_with}
+use Rattle.dg_file.proofs.GrowthMoves.{on_err_any}
+use Rattle.dg_file.proofs.IndexBytes.{behind_most, directory_most, gate_most, lengths_most, reads_then, rose_after}
 use Rattle.dg_disk.specs.Counts.{raised_by}
 use Rattle.dg_file.proofs.index.Index.read_next.Goals as goal
 

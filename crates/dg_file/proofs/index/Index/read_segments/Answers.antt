@@ -1,4 +1,4 @@
-use Rattle.dg_file.proofs.NextSegments.{ended}
+use Rattle.dg_file.proofs.HeaderSegments.{ended}
 use Rattle.dg_file.proofs.index.Index.read_segments.Goals as goal
 
 pub returns-clause-opened : goal.returns-clause-opened

@@ -3,10 +3,10 @@ use Rattle.std.specs.Prelude.{IfSome}
 use Rattle.dg_index.specs.OpenedIndex.{Opening}
 use Rattle.dg_file.specs.Headers.{IsFoundIn}
 use Rattle.dg_file.specs.Index.{opening_bytes}
-use Rattle.dg_file.proofs.Found.{found_length, some_weaker}
-use Rattle.dg_file.proofs.Moves.{on_err_any}
+use Rattle.dg_file.proofs.ImageParts.{found_length, some_weaker}
+use Rattle.dg_file.proofs.GrowthMoves.{on_err_any}
 use Rattle.dg_index.specs.IndexGrowth.{name_total}
-use Rattle.dg_file.proofs.NextSegments.{begun}
+use Rattle.dg_file.proofs.HeaderSegments.{begun}
 use Rattle.dg_file.proofs.index.Index.reopen.Goals as goal
 
 pub read_segments-requires-clause-so_far : goal.read_segments-requires-clause-so_far

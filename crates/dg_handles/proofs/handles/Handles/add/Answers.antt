@@ -5,10 +5,10 @@ use Rattle.std.proofs.Math.ListN.{length-map}
 use Rattle.dg_graph.specs.declared.element.Element.{Element}
 use Rattle.dg_handles.specs.Attached.{AreAttached, graph_led, numbers_of}
 use Rattle.dg_handles.specs.Handles.{BeginsOn, HandlesState, IsTied, slot_graphs, members_at, numbered, overlays_on}
-use Rattle.dg_handles.proofs.Attaching.{held_kept, members_led, overlays_held, stays, tied_more, with_more}
-use Rattle.dg_handles.proofs.Beside.{Entries}
-use Rattle.dg_handles.proofs.Entering.{entry_of, number_of, overlays_many, rise_more}
-use Rattle.dg_handles.proofs.Tying.{tie_is_kept}
+use Rattle.dg_handles.proofs.AttachedSlots.{held_kept, members_led, overlays_held, stays, tied_more, with_more}
+use Rattle.dg_handles.proofs.HandleEntries.{Entries}
+use Rattle.dg_handles.proofs.HandleAdditions.{entry_of, number_of, overlays_many, rise_more}
+use Rattle.dg_handles.proofs.HandleTies.{tie_is_kept}
 use Rattle.dg_machine.specs.declared.stands.Stands.{Stands}
 use Rattle.dg_pool.specs.declared.slots.Slot.{Slot}
 use Rattle.dg_retrieval.specs.Beginnings.{base_handle}

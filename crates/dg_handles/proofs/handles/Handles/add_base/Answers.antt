@@ -6,10 +6,10 @@ use Rattle.dg_graph.specs.declared.element.Element.{Element}
 use Rattle.dg_graph.specs.Elements.{shown}
 use Rattle.dg_handles.specs.Attached.{AreAttached}
 use Rattle.dg_handles.specs.Handles.{HandlesState, IsTied, slot_graphs, members_at}
-use Rattle.dg_handles.proofs.Attaching.{attached_more, attached_none, held_kept, some_free, tied_more}
-use Rattle.dg_handles.proofs.Beside.{Entries}
-use Rattle.dg_handles.proofs.Entering.{entry_of, number_of, rise_more}
-use Rattle.dg_handles.proofs.Tying.{tie_is_kept}
+use Rattle.dg_handles.proofs.AttachedSlots.{attached_more, attached_none, held_kept, some_free, tied_more}
+use Rattle.dg_handles.proofs.HandleEntries.{Entries}
+use Rattle.dg_handles.proofs.HandleAdditions.{entry_of, number_of, rise_more}
+use Rattle.dg_handles.proofs.HandleTies.{tie_is_kept}
 use Rattle.dg_machine.specs.declared.stands.Stands.TheVariants as stands
 use Rattle.dg_pool.specs.declared.slots.Base.TheVariants as base
 use Rattle.dg_pool.specs.Graphs.{SlotGraph}

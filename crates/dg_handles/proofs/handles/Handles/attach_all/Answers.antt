@@ -5,7 +5,7 @@ use Rattle.dg_graph.specs.Composition.{applied}
 use Rattle.dg_graph.specs.Elements.{shown}
 use Rattle.dg_handles.specs.Attached.{AreAttached, IsAttached, NoneRestsOn, graph_led, numbers_of, resting}
 use Rattle.dg_handles.specs.Handles.{BeginsOn}
-use Rattle.dg_handles.proofs.Attaching.{attached_lead, attached_live, attached_still, fits, none_on_new, some_free}
+use Rattle.dg_handles.proofs.AttachedSlots.{attached_lead, attached_live, attached_still, fits, none_on_new, some_free}
 use Rattle.dg_pool.specs.declared.slots.Base.{Base}
 use Rattle.dg_pool.specs.declared.slots.Slot.{Slot}
 use Rattle.dg_pool.specs.Graphs.{is_listed, slot_graph}

@@ -1,6 +1,6 @@
 use Rattle.std.proofs.Common.{All, subst}
 use Rattle.dg_handles.specs.Handles.{HandlesState, HoldsNode}
-use Rattle.dg_handles.proofs.Serving.{bases_in_entries}
+use Rattle.dg_handles.proofs.HandleBases.{bases_in_entries}
 use Rattle.dg_machine.specs.Planning.{bases_in}
 use Rattle.dg_handles.proofs.handles.Handles.facts.Goals as goal
 

@@ -8,7 +8,7 @@ use Rattle.dg_io.proofs.LinesStateLemmas.{cuts_at, answer_for}
 use Rattle.dg_io.proofs.BufferLemmas.{range_past, range_front, range_take}
 use Rattle.dg_io.proofs.lines.Lines.cut_at.Goals as goal
 
--- the cut, by the places in the buffer
+-- the cut, by the offsets in the buffer
 cut_range : (buffer was : List ℕ) (start end index count taken limit : ℕ) (long ended : Bool) (answer : Line) (old : LinesState)
     → record { held = slice_range buffer start end; long = long; ended = ended; taken = taken; limit = limit; text = was } ≡ old → answer ≡ answer_for long count
     → end ≤ length buffer → IsFirstFeed old.held index → count ≤ length (slice_range buffer start (start + index))

@@ -7,7 +7,7 @@ use Rattle.dg_io.proofs.LinesStateLemmas.{cuts_last, last_for}
 use Rattle.dg_io.proofs.BufferLemmas.{range_none}
 use Rattle.dg_io.proofs.lines.Lines.cut_last.Goals as goal
 
--- the cut, by the places in the buffer
+-- the cut, by the offsets in the buffer
 last_range : (buffer was : List ℕ) (start end taken limit : ℕ) (long ended : Bool) (answer : Line) (old : LinesState)
     → record { held = slice_range buffer start end; long = long; ended = ended; taken = taken; limit = limit; text = was } ≡ old → answer ≡ last_for long (end - start)
     → start ≤ end → end ≤ length buffer → old.ended ≡ true → has_feed old.held ≡ false

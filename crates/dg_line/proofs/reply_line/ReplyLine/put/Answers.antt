@@ -1,5 +1,5 @@
 use Rattle.std.proofs.Common.{◌<◌, length, arith}
-use Rattle.dg_line.proofs.ReplyLines.{word_more}
+use Rattle.dg_line.proofs.BufferedLines.{word_more}
 use Rattle.dg_line.proofs.reply_line.ReplyLine.put.Goals as goal
 
 pub returns-clause-words : goal.returns-clause-words

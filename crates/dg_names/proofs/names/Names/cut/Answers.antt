@@ -1,6 +1,6 @@
 use Rattle.std.proofs.Common.{List, ℕ, subst}
 use Rattle.dg_names.specs.NameLimits.{AreFew, AreShort}
-use Rattle.dg_names.proofs.NumberOf.{names_cut, fits_cut}
+use Rattle.dg_names.proofs.NameLimitNumbers.{names_cut, fits_cut}
 use Rattle.dg_names.proofs.names.Names.cut.Goals as goal
 
 pub invariant_of-self : goal.invariant_of-self

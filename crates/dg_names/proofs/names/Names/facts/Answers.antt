@@ -1,7 +1,7 @@
 use Rattle.std.proofs.Common.{subst}
 use Rattle.std.specs.List.{IsDistinct}
 use Rattle.std.specs.Str.{bytes_eq}
-use Rattle.dg_names.proofs.NumberOf.{distinct-map, number_here, one_number}
+use Rattle.dg_names.proofs.NameLimitNumbers.{distinct-map, number_here, one_number}
 use Rattle.dg_names.proofs.names.Names.facts.Goals as goal
 
 are_distinct : (c : goal.After-len) → IsDistinct bytes_eq c.args.self.now

@@ -1,6 +1,6 @@
 use Rattle.std.proofs.Common.{List, ℕ, ◌≤◌, length, subst, sym}
 use Rattle.dg_graph.specs.declared.limits.TheConstants.{NAME_BYTES_MAX}
-use Rattle.dg_names.proofs.NumberOf.{short_key}
+use Rattle.dg_names.proofs.NameLimitNumbers.{short_key}
 use Rattle.dg_names.proofs.names.Names.text.Goals as goal
 
 pub returns-clause-short : goal.returns-clause-short

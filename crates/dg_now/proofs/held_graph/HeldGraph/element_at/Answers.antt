@@ -2,7 +2,7 @@ use Rattle.std.proofs.Common.{◌≡◌, Some, None, sym, ap, ◌∙◌}
 use Rattle.dg_now.specs.HeldGraph.{HeldGraphState, element_entry_at}
 use Rattle.dg_now.specs.ElementIds.{at}
 use Rattle.dg_now.proofs.HeldGraph.{derived_entry, kept_at}
-use Rattle.dg_now.proofs.ElementEntries.{element_found, element_missing}
+use Rattle.dg_now.proofs.HeldGraphWrites.{element_found, element_missing}
 use Rattle.dg_now.proofs.held_graph.HeldGraph.element_at.Goals as goal
 
 pub returns-in-Some : goal.returns-in-Some

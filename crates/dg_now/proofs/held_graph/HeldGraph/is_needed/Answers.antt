@@ -4,7 +4,7 @@ use Rattle.std.specs.List.{list_any}
 use Rattle.dg_now.specs.HeldGraph.{HeldGraphState, element_entry_at}
 use Rattle.dg_now.specs.ElementIds.{needs_id}
 use Rattle.dg_now.proofs.HeldGraph.{derived_entry, needed_is}
-use Rattle.dg_now.proofs.ElementEntries.{more_found, fewer_found, more_missing, fewer_missing}
+use Rattle.dg_now.proofs.HeldGraphWrites.{more_found, fewer_found, more_missing, fewer_missing}
 use Rattle.dg_now.proofs.held_graph.HeldGraph.is_needed.Goals as goal
 
 pub returns-then-entry : goal.returns-then-entry

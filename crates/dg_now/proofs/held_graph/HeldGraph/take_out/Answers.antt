@@ -5,7 +5,7 @@ use Rattle.dg_now.specs.declared.element_id.ElementId.{ElementId}
 use Rattle.dg_now.specs.HeldGraph.{HeldGraphState, more_at, fewer_at, held_at, elements_of}
 use Rattle.dg_now.specs.ElementIds.{element_id_of, needs_id, same_id}
 use Rattle.dg_now.proofs.HeldGraph.{Changes, out_elements, out_sound}
-use Rattle.dg_now.proofs.ElementEntries.{fewer_fits}
+use Rattle.dg_now.proofs.HeldGraphWrites.{fewer_fits}
 use Rattle.dg_now.proofs.held_graph.HeldGraph.take_out.Goals as goal
 use Rattle.dg_now.proofs.held_graph.HeldGraph.take_out.Goals.{After-count_out}
 

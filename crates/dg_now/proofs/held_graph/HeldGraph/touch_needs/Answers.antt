@@ -5,7 +5,7 @@ use Rattle.dg_now.specs.declared.element_id.ElementId.{ElementId}
 use Rattle.dg_now.specs.HeldGraph.{HeldGraphState, HeldGraphIsSound, knows, has_entry, elements_of}
 use Rattle.dg_now.specs.ElementIds.{needs_id}
 use Rattle.dg_now.proofs.HeldGraph.{same_elements, same_sound}
-use Rattle.dg_now.proofs.ElementEntries.{needs_known}
+use Rattle.dg_now.proofs.HeldGraphWrites.{needs_known}
 use Rattle.dg_now.proofs.held_graph.HeldGraph.touch_needs.Goals as goal
 
 nothing : (xs : List Element) → length xs ≡ 0 → xs ≡ []

@@ -6,7 +6,7 @@ use Rattle.dg_now.specs.Now.{NowState}
 use Rattle.dg_now.specs.ElementIds.{at, same_id}
 use Rattle.dg_now.specs.contracts.element_id.ElementIdPartialEq.TheImpl as of_ids
 use Rattle.dg_now.proofs.HeldGraph.{derived_is}
-use Rattle.dg_now.proofs.CompleteAll.{first_here, first_none}
+use Rattle.dg_now.proofs.EventEffectChanges.{first_here, first_none}
 use Rattle.dg_now.proofs.NowState.{start_at}
 use Rattle.dg_now.proofs.now.Now.element_at.Goals as goal
 

@@ -4,7 +4,7 @@ use Rattle.dg_graph.specs.Graph.{IsGraph}
 use Rattle.dg_now.specs.EventEffect.{CanHappen, Led, rewound}
 use Rattle.dg_now.specs.HeldGraph.{HeldGraphState}
 use Rattle.dg_now.specs.Now.{NowState}
-use Rattle.dg_now.proofs.EventOf.{followed_still}
+use Rattle.dg_now.proofs.EventEffectCompletions.{followed_still}
 use Rattle.dg_now.proofs.EventEffect.{led_is_graph, graph_forwards}
 use Rattle.dg_now.proofs.NowState.{led_none}
 use Rattle.dg_now.proofs.now.Now.follow.Goals as goal

@@ -2,7 +2,7 @@ use Rattle.std.proofs.Common.{◌+◌, sym, ap, ◌∙◌}
 use Rattle.std.specs.List.{count_by}
 use Rattle.dg_now.specs.ElementIds.{needs_id}
 use Rattle.dg_now.specs.Sorted.{is_value_at}
-use Rattle.dg_now.proofs.Searches.{uses_of_node}
+use Rattle.dg_now.proofs.SortedSearches.{uses_of_node}
 use Rattle.dg_now.proofs.sorted_graph.SortedGraph.uses.Goals as goal
 
 pub returns-in-Node : goal.returns-in-Node

@@ -8,18 +8,18 @@ use Rattle.dg_path.specs.declared.search.Cost.{Cost as Label}
 use Rattle.dg_plan.specs.EnteredRecords.{EntersOnce}
 use Rattle.dg_plan.specs.IndexGraph.{arcs_of}
 use Rattle.dg_plan.specs.Walks.{Graft, IsPlan, Leads, entered, steps_of, tree_weight}
-use Rattle.dg_plan.proofs.Trees.{tree_grows}
+use Rattle.dg_plan.proofs.WalkTrees.{tree_grows}
 use Rattle.dg_path.specs.Search.{AreAdjacent, AreLinks, Falls, CostsFit, IsTable, arcs, label_at}
-use Rattle.dg_planner.specs.Order.{bare_ground, place_of}
+use Rattle.dg_planner.specs.Order.{bare_ground, index_of}
 use Rattle.dg_planner.specs.Trees.{costs_now, node_graft, node_grafts}
 use Rattle.dg_planner.specs.Whole.{PlannerGraph}
-use Rattle.dg_planner.proofs.Grown.{IsReady, grown_as, near_now, one_grown, one_ready}
-use Rattle.dg_planner.proofs.NodePlans.{link_count, node_is, place_within}
+use Rattle.dg_planner.proofs.TreeGrowth.{IsReady, grown_as, near_now, one_grown, one_ready}
+use Rattle.dg_planner.proofs.OrderPlans.{link_count, node_is, node_index_within}
 use Rattle.dg_planner.proofs.planner.Planner.grafts_of.Goals as goal
 use Rattle.dg_planner.proofs.planner.Planner.grafts_of.Goals.{then-i-targets+in_ok-grow_on, else-i-targets}
 
-pub place-at-requires-clause-node : goal.place-at-requires-clause-node
-place-at-requires-clause-node c =
+pub node_index-at-requires-clause-node : goal.node_index-at-requires-clause-node
+node_index-at-requires-clause-node c =
     let i = c.loop-i.i in
     node_is (bare_ground c.self.inside.form.leaves c.self.inside.form.arity c.self.inside.form.memory) c.self.invariant.low (slice_index_or c.args.targets.now i Root)
     (subst (λ (s : PlannerGraph). Contains s.nodes (slice_index_or c.args.targets.now i Root)) (sym c.self.view_is) (c.requires.targets i Root c.loop-i-test.true))
@@ -28,8 +28,8 @@ pub weight_at-nearest-requires : goal.weight_at-nearest-requires
 weight_at-nearest-requires c =
     let target = slice_index_or c.args.targets.now c.loop-i.i Root in
     let vn = subst (λ (s : PlannerGraph). Contains s.nodes target) (sym c.self.view_is) (c.requires.targets c.loop-i.i Root c.loop-i-test.true) in
-    let p = place_within (bare_ground c.self.inside.form.leaves c.self.inside.form.arity c.self.inside.form.memory) target vn in
-    let e = c.place-at.ensures in
+    let p = node_index_within (bare_ground c.self.inside.form.leaves c.self.inside.form.arity c.self.inside.form.memory) target vn in
+    let e = c.node_index-at.ensures in
     let d = ap length (c.costs_now-costs.ensures ∙ (λ k. costs_now (c.deref-in-loop-i.ensures.value k) (c.deref-in-loop-i-2.ensures.value k))) in
     let n = (c.loop-i.invariant.1 c.loop-i-test.true).count in
     omega arith
@@ -44,8 +44,8 @@ overflow_add-weight c =
     let near = near_now _ _ _ _ _ _ _ c.self.invariant _ _ _ _ c.loop-i.invariant.0 (c.loop-i.invariant.1 within) target vn in
     let costs : c.costs_now-costs.result.now ≡ costs_now c.self.inside.costs.items c.loop-i.grown.items =
     c.costs_now-costs.ensures ∙ (λ k. costs_now (c.deref-in-loop-i.ensures.value k) (c.deref-in-loop-i-2.ensures.value k)) in
-    let now : c.weight_at-nearest.result ≡ (label_at (costs_now c.self.inside.costs.items c.loop-i.grown.items) (place_of g target)).weight =
-    c.weight_at-nearest.ensures ∙ (λ k. (label_at (costs k) (c.place-at.ensures k)).weight) in
+    let now : c.weight_at-nearest.result ≡ (label_at (costs_now c.self.inside.costs.items c.loop-i.grown.items) (index_of g target)).weight =
+    c.weight_at-nearest.ensures ∙ (λ k. (label_at (costs k) (c.node_index-at.ensures k)).weight) in
     let light = c.loop-i.invariant.0.light in
     let len = length-take i c.args.targets.now in
     let few = c.requires.few in
@@ -55,8 +55,8 @@ pub graft_at-requires-clause-node : goal.graft_at-requires-clause-node
 graft_at-requires-clause-node c =
     let target = slice_index_or c.args.targets.now c.loop-i.i Root in
     let vn = subst (λ (s : PlannerGraph). Contains s.nodes target) (sym c.self.view_is) (c.requires.targets c.loop-i.i Root c.loop-i-test.true) in
-    let p = place_within (bare_ground c.self.inside.form.leaves c.self.inside.form.arity c.self.inside.form.memory) target vn in
-    let e = c.place-at.ensures in
+    let p = node_index_within (bare_ground c.self.inside.form.leaves c.self.inside.form.arity c.self.inside.form.memory) target vn in
+    let e = c.node_index-at.ensures in
     let d = ap length (c.costs_now-costs.ensures ∙ (λ k. costs_now (c.deref-in-loop-i.ensures.value k) (c.deref-in-loop-i-2.ensures.value k))) in
     let n = (c.loop-i.invariant.1 c.loop-i-test.true).count in
     omega arith
@@ -71,8 +71,8 @@ graft_at-requires-clause-near c =
     let near = near_now _ _ _ _ _ _ _ c.self.invariant _ _ _ _ c.loop-i.invariant.0 (c.loop-i.invariant.1 within) target vn in
     let costs : c.costs_now-costs.result.now ≡ costs_now c.self.inside.costs.items c.loop-i.grown.items =
     c.costs_now-costs.ensures ∙ (λ k. costs_now (c.deref-in-loop-i.ensures.value k) (c.deref-in-loop-i-2.ensures.value k)) in
-    let now : (label_at c.costs_now-costs.result.now c.place-at.result).weight ≡ (label_at (costs_now c.self.inside.costs.items c.loop-i.grown.items) (place_of g target)).weight =
-    λ k. (label_at (costs k) (c.place-at.ensures k)).weight in
+    let now : (label_at c.costs_now-costs.result.now c.node_index-at.result).weight ≡ (label_at (costs_now c.self.inside.costs.items c.loop-i.grown.items) (index_of g target)).weight =
+    λ k. (label_at (costs k) (c.node_index-at.ensures k)).weight in
     omega arith
 
 -- the costs from the tree with the steps, where a target follows
@@ -118,9 +118,9 @@ loop-i-preserved c =
     let vn = subst (λ (s : PlannerGraph). Contains s.nodes target) (sym c.self.view_is) (c.requires.targets i Root within) in
     let costs : c.costs_now-costs.result.now ≡ now =
     c.costs_now-costs.ensures ∙ (λ k. costs_now (c.deref-in-loop-i.ensures.value k) (c.deref-in-loop-i-2.ensures.value k)) in
-    let plan : (from : List ℕ) → IsTable (arcs links) from now → IsPlan (arcs links) from (place_of g target) steps = λ from t.
-    subst (λ p. IsPlan (arcs links) from p steps) c.place-at.ensures
-    (subst (λ ls. IsPlan (arcs ls) from c.place-at.result steps) c.deref-in-loop-i-4.ensures.value
+    let plan : (from : List ℕ) → IsTable (arcs links) from now → IsPlan (arcs links) from (index_of g target) steps = λ from t.
+    subst (λ p. IsPlan (arcs links) from p steps) c.node_index-at.ensures
+    (subst (λ ls. IsPlan (arcs ls) from c.node_index-at.result steps) c.deref-in-loop-i-4.ensures.value
     (c.in_ok-graft.ensures.plan from
     (subst (λ cs. IsTable (arcs c.deref-in-loop-i-4.result.now) from cs) (sym costs)
     (subst (λ ls. IsTable (arcs ls) from now) (sym c.deref-in-loop-i-4.ensures.value) t)))) in
@@ -131,7 +131,7 @@ loop-i-preserved c =
       grown_as edges _ _ _ _ _ _
           (take_more c.args.targets.now i Root within)
           grafts
-          (ap (λ w. c.loop-i.weight + w) (c.weight_at-nearest.ensures ∙ (λ k. (label_at (costs k) (c.place-at.ensures k)).weight)))
+          (ap (λ w. c.loop-i.weight + w) (c.weight_at-nearest.ensures ∙ (λ k. (label_at (costs k) (c.node_index-at.ensures k)).weight)))
           one,
       λ follows. subst (λ gs. IsReady g edges links gs (costs_now kept c.if-i-targets.grown.items)) (sym grafts) (ready c follows),
     )
@@ -184,5 +184,5 @@ graft_at-requires-clause-table c =
     let costs : c.costs_now-costs.result.now ≡ now =
     c.costs_now-costs.ensures ∙ (λ k. costs_now (c.deref-in-loop-i.ensures.value k) (c.deref-in-loop-i-2.ensures.value k)) in
     let len : length c.self.inside.costs.items ≡ length c.costs_now-costs.result.now = c.self.invariant.count ∙ (sym ready.count ∙ sym (ap length costs)) in
-    let from = map (place_of g) ((Root ∷ []) ++ entered (arcs_of c.self.inside.edges.items) (steps_of (node_grafts c.loop-i.grafts.items))) in
+    let from = map (index_of g) ((Root ∷ []) ++ entered (arcs_of c.self.inside.edges.items) (steps_of (node_grafts c.loop-i.grafts.items))) in
     (from, subst (λ ls. IsTable (arcs ls) from c.costs_now-costs.result.now) (sym c.deref-in-loop-i-4.ensures.value) (subst (IsTable (arcs links) from) (sym costs) ready.table))

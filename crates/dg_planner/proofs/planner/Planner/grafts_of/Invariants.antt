@@ -1,7 +1,7 @@
 use Rattle.std.proofs.Common.{◌<◌, length, take}
 use Rattle.dg_planner.specs.Order.{bare_ground}
 use Rattle.dg_planner.specs.Trees.{costs_now, node_grafts}
-use Rattle.dg_planner.proofs.Grown.{IsGrown, IsReady}
+use Rattle.dg_planner.proofs.TreeGrowth.{IsGrown, IsReady}
 use Rattle.dg_planner.proofs.planner.Planner.grafts_of.Given as goal
 
 -- the costs are those from the tree where a target follows

@@ -4,7 +4,7 @@ use Rattle.dg_plan.specs.EnteredRecords.{EntersOnce}
 use Rattle.dg_plan.specs.Walks.{Grows}
 use Rattle.dg_history.specs.declared.node.NodeId.{NodeId}
 use Rattle.dg_plan.specs.IndexGraph.{Ground, arcs_of, edges_of, nodes_of}
-use Rattle.dg_plan.proofs.EnteredOnce.{enters_once}
+use Rattle.dg_plan.proofs.EnteredRecordTrees.{enters_once}
 use Rattle.dg_path.specs.declared.search.Link.{Link}
 use Rattle.dg_path.specs.Search.{AreLinks, arcs, IsTable, AreAdjacent}
 use Rattle.dg_planner.specs.AskedLengths.{asked_length_of}
@@ -12,9 +12,9 @@ use Rattle.dg_planner.specs.Bases.{ground_with, HasBases}
 use Rattle.dg_planner.specs.Links.{link_in}
 use Rattle.dg_planner.specs.Order.{HasEnds, count_in}
 use Rattle.dg_planner.specs.Whole.{IsBetween}
-use Rattle.dg_planner.proofs.Standing.{counted}
-use Rattle.dg_planner.proofs.Ends.{ends_in, has_ends, links_are}
-use Rattle.dg_planner.proofs.Made.{all_near, arcs_are}
+use Rattle.dg_planner.proofs.OrderPlaces.{counted}
+use Rattle.dg_planner.proofs.OrderEnds.{ends_in, has_ends, links_are}
+use Rattle.dg_planner.proofs.WholeArcs.{all_near, arcs_are}
 use Rattle.dg_planner.proofs.planner.Planner.make.Goals as goal
 
 -- links that are those of the graph, for as many nodes

@@ -5,7 +5,7 @@ use Rattle.dg_plan.specs.IndexGraph.{edges_of, nodes_of}
 use Rattle.dg_planner.specs.AskedLengths.{asked_length_of}
 use Rattle.dg_planner.specs.Bases.{HasBases, ground_with}
 use Rattle.dg_planner.specs.Whole.{PlannerGraph}
-use Rattle.dg_planner.proofs.AskedBytes.{lists_within, one_within}
+use Rattle.dg_planner.proofs.AskedLengthSums.{lists_within, one_within}
 use Rattle.dg_planner.proofs.planner.Planner.new.Goals as goal
 
 pub make-requires-clause-bases : goal.make-requires-clause-bases

@@ -7,31 +7,31 @@ use Rattle.dg_plan.specs.Walks.{IsPlan, IsPotential, Leads, weight_of}
 use Rattle.dg_path.specs.declared.route.Route.{Route}
 use Rattle.dg_path.specs.declared.search.Cost.{Cost as Label}
 use Rattle.dg_path.specs.Search.{IsTarget, arcs}
-use Rattle.dg_planner.specs.Order.{bare_ground, place_of}
+use Rattle.dg_planner.specs.Order.{bare_ground, index_of}
 use Rattle.dg_planner.specs.Whole.{PlannerGraph}
-use Rattle.dg_planner.proofs.NodePlans.{is_target, node_is, ok_both, ok_more, plan_is, plan_within, potentials_are, walk_by_places, weight_is}
+use Rattle.dg_planner.proofs.OrderPlans.{is_target, node_is, ok_both, ok_more, plan_is, plan_within, potentials_are, walk_by_indices, weight_is}
 use Rattle.dg_planner.proofs.planner.Planner.plan.Goals as goal
 
-pub place-place-requires-clause-node : goal.place-place-requires-clause-node
-place-place-requires-clause-node c =
+pub node_index-node_index-requires-clause-node : goal.node_index-node_index-requires-clause-node
+node_index-node_index-requires-clause-node c =
     node_is (bare_ground c.self.inside.form.leaves c.self.inside.form.arity c.self.inside.form.memory) c.self.invariant.low c.args.target
     (subst (λ (s : PlannerGraph). Contains s.nodes c.args.target) (sym c.self.view_is) c.requires.target)
 
 pub route_to-requires-clause-target : goal.route_to-requires-clause-target
 route_to-requires-clause-target c =
     let vn = subst (λ (s : PlannerGraph). Contains s.nodes c.args.target) (sym c.self.view_is) c.requires.target in
-    subst (λ cs. IsTarget cs c.place-place.result) (sym c.deref-3.ensures.value)
-    (subst (IsTarget c.self.inside.costs.items) (sym c.place-place.ensures) (is_target _ _ _ _ _ _ _ c.self.invariant c.args.target vn))
+    subst (λ cs. IsTarget cs c.node_index-node_index.result) (sym c.deref-3.ensures.value)
+    (subst (IsTarget c.self.inside.costs.items) (sym c.node_index-node_index.ensures) (is_target _ _ _ _ _ _ _ c.self.invariant c.args.target vn))
 
 pub returns-clause-plan : goal.returns-clause-plan
 returns-clause-plan c =
     let vn = subst (λ (s : PlannerGraph). Contains s.nodes c.args.target) (sym c.self.view_is) c.requires.target in
     let g = bare_ground c.self.inside.form.leaves c.self.inside.form.arity c.self.inside.form.memory in
-    let here : IfOk c.route_to.result (λ (r : Route). IsPlan (arcs c.self.inside.links.items) (0 ∷ []) (place_of g c.args.target) r.steps.items) =
-    subst (λ ls. IfOk c.route_to.result (λ (r : Route). IsPlan (arcs ls) (0 ∷ []) (place_of g c.args.target) r.steps.items)) c.deref-2.ensures.value
-    (subst (λ p. IfOk c.route_to.result (λ (r : Route). IsPlan (arcs c.deref-2.result.now) (0 ∷ []) p r.steps.items)) c.place-place.ensures c.route_to.ensures.plan) in
+    let here : IfOk c.route_to.result (λ (r : Route). IsPlan (arcs c.self.inside.links.items) (0 ∷ []) (index_of g c.args.target) r.steps.items) =
+    subst (λ ls. IfOk c.route_to.result (λ (r : Route). IsPlan (arcs ls) (0 ∷ []) (index_of g c.args.target) r.steps.items)) c.deref-2.ensures.value
+    (subst (λ p. IfOk c.route_to.result (λ (r : Route). IsPlan (arcs c.deref-2.result.now) (0 ∷ []) p r.steps.items)) c.node_index-node_index.ensures c.route_to.ensures.plan) in
     subst (λ (s : PlannerGraph). IfOk c.route_to.result (λ (r : Route). IsPlan (arcs_of s.edges) (Root ∷ []) c.args.target r.steps.items)) c.self.view_is
-    (ok_more (λ (r : Route). IsPlan (arcs c.self.inside.links.items) (0 ∷ []) (place_of g c.args.target) r.steps.items) (λ (r : Route). IsPlan (arcs_of c.self.inside.edges.items) (Root ∷ []) c.args.target r.steps.items) c.route_to.result here
+    (ok_more (λ (r : Route). IsPlan (arcs c.self.inside.links.items) (0 ∷ []) (index_of g c.args.target) r.steps.items) (λ (r : Route). IsPlan (arcs_of c.self.inside.edges.items) (Root ∷ []) c.args.target r.steps.items) c.route_to.result here
     (λ r p. plan_is _ _ _ _ _ _ _ c.self.invariant c.args.target r.steps.items vn p))
 
 pub returns-clause-steps : goal.returns-clause-steps
@@ -73,12 +73,12 @@ returns-clause-least c =
     let g = bare_ground c.self.inside.form.leaves c.self.inside.form.arity c.self.inside.form.memory in
     let links = c.self.inside.links.items in
     let edges = c.self.inside.edges.items in
-    let here : IfOk c.route_to.result (λ (r : Route). (others : List ℕ) → Leads (arcs links) 0 others (place_of g c.args.target) → r.weight ≤ weight_of (arcs links) others) =
-    subst (λ ls. IfOk c.route_to.result (λ (r : Route). (others : List ℕ) → Leads (arcs ls) 0 others (place_of g c.args.target) → r.weight ≤ weight_of (arcs ls) others)) c.deref-2.ensures.value
-    (subst (λ p. IfOk c.route_to.result (λ (r : Route). (others : List ℕ) → Leads (arcs c.deref-2.result.now) 0 others p → r.weight ≤ weight_of (arcs c.deref-2.result.now) others)) c.place-place.ensures c.route_to.ensures.least) in
+    let here : IfOk c.route_to.result (λ (r : Route). (others : List ℕ) → Leads (arcs links) 0 others (index_of g c.args.target) → r.weight ≤ weight_of (arcs links) others) =
+    subst (λ ls. IfOk c.route_to.result (λ (r : Route). (others : List ℕ) → Leads (arcs ls) 0 others (index_of g c.args.target) → r.weight ≤ weight_of (arcs ls) others)) c.deref-2.ensures.value
+    (subst (λ p. IfOk c.route_to.result (λ (r : Route). (others : List ℕ) → Leads (arcs c.deref-2.result.now) 0 others p → r.weight ≤ weight_of (arcs c.deref-2.result.now) others)) c.node_index-node_index.ensures c.route_to.ensures.least) in
     subst (λ (s : PlannerGraph). IfOk c.route_to.result (λ (r : Route). (others : List ℕ) → Leads (arcs_of s.edges) Root others c.args.target → r.weight ≤ weight_of (arcs_of s.edges) others)) c.self.view_is
-    (ok_more (λ (r : Route). (others : List ℕ) → Leads (arcs links) 0 others (place_of g c.args.target) → r.weight ≤ weight_of (arcs links) others)
+    (ok_more (λ (r : Route). (others : List ℕ) → Leads (arcs links) 0 others (index_of g c.args.target) → r.weight ≤ weight_of (arcs links) others)
     (λ (r : Route). (others : List ℕ) → Leads (arcs_of edges) Root others c.args.target → r.weight ≤ weight_of (arcs_of edges) others) c.route_to.result here
-    (λ r least others leads. (let low = least others (walk_by_places _ _ _ _ _ _ _ c.self.invariant others c.args.target leads) in
+    (λ r least others leads. (let low = least others (walk_by_indices _ _ _ _ _ _ _ c.self.invariant others c.args.target leads) in
     let same = weight_is _ _ _ _ _ _ _ c.self.invariant Root others c.args.target leads in
     omega arith)))

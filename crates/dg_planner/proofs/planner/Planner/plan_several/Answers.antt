@@ -1,7 +1,7 @@
 use Rattle.std.proofs.Common.{[], ◌∷◌, arith}
 use Rattle.dg_history.specs.declared.node.NodeId.TheVariants.{Root}
 use Rattle.dg_plan.specs.IndexGraph.{arcs_of}
-use Rattle.dg_plan.proofs.Trees.{tree_weighs}
+use Rattle.dg_plan.proofs.WalkTrees.{tree_weighs}
 use Rattle.dg_planner.specs.Trees.{node_grafts}
 use Rattle.dg_planner.proofs.planner.Planner.plan_several.Goals as goal
 

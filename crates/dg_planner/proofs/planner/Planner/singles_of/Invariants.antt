@@ -1,6 +1,6 @@
 use Rattle.std.proofs.Common.{◌≡◌, take}
 use Rattle.std.specs.List.{sum}
-use Rattle.dg_planner.proofs.Grown.{AreWeighed}
+use Rattle.dg_planner.proofs.TreeGrowth.{AreWeighed}
 use Rattle.dg_planner.proofs.planner.Planner.singles_of.Given as goal
 
 abbrev pub invariant-loop-target : goal.invariant-loop-target

@@ -6,10 +6,10 @@ use Rattle.dg_pool.specs.declared.slots.SlotState.TheVariants as state
 use Rattle.dg_cells.specs.Rows.{cell_at, MarksCell, AllHave, AreNumbers}
 use Rattle.dg_pool.specs.Graphs.{PoolState, SlotGraph, picked, in_base, in_slot, slot_graph, graph_now, slot_at}
 use Rattle.dg_pool.specs.Slots.{BaseFits, base_members, moved_over, is_free}
-use Rattle.dg_pool.proofs.PoolInvariant.{free_is}
-use Rattle.dg_pool.proofs.KeptCounts.{counted_still, counted_attached}
-use Rattle.dg_pool.proofs.NewSlot.{grown_pool, grown_now, grown_seen, MarkedCell, join_cells, marked_now, new_members, grown_base, free_no_base, attached_pool, attached_slot, attached_others, named_only}
-use Rattle.dg_pool.proofs.MarkedCells.{base_marked, marked_numbers}
+use Rattle.dg_pool.proofs.GraphInvariant.{free_is}
+use Rattle.dg_pool.proofs.CountPreservation.{counted_still, counted_attached}
+use Rattle.dg_pool.proofs.SlotGraphs.{grown_pool, grown_now, grown_seen, MarkedCell, join_cells, marked_now, new_members, grown_base, free_no_base, attached_pool, attached_slot, attached_others, named_only}
+use Rattle.dg_pool.proofs.SlotMarks.{base_marked, marked_numbers}
 use Rattle.dg_pool.proofs.GraphCounts.{picked_most}
 use Rattle.dg_pool.proofs.SlotCounts.{base_counts_are, nodes_sum, edges_sum, node_attrs_sum, edge_attrs_sum, counts_sum, fits_in}
 use Rattle.std.specs.List.{count_by}
@@ -25,10 +25,10 @@ invariant_of-self c =
     let rows = c.self.inside.cells in
     let grown = c.make_rising.new.cells in
     let slots = c.self.inside.slots in
-    let place = c.self.inside.place in
+    let sweep_index = c.self.inside.sweep_index in
     record {
-      pool = grown_pool rows grown slots place c.make_rising.ensures.grows c.make_rising.ensures.apart c.self.invariant.pool;
-      counted = counted_still (record { rows = rows; slots = slots; place = place }) (record { rows = grown; slots = slots; place = place }) c.self.inside.counts
+      pool = grown_pool rows grown slots sweep_index c.make_rising.ensures.grows c.make_rising.ensures.apart c.self.invariant.pool;
+      counted = counted_still (record { rows = rows; slots = slots; sweep_index = sweep_index }) (record { rows = grown; slots = slots; sweep_index = sweep_index }) c.self.inside.counts
           (record { now = grown_now rows grown c.make_rising.ensures.grows; slots = λ t. grown_seen rows grown c.make_rising.ensures.grows t (slot_at slots t) })
           c.self.invariant.counted;
     }
@@ -44,7 +44,7 @@ returns-in_err-numbers-clause-now c =
 
 -- the state before
 abbrev before : After-mark_cells-gained → PoolState
-before c = record { rows = c.self.inside.cells; slots = c.self.inside.slots; place = c.self.inside.place }
+before c = record { rows = c.self.inside.cells; slots = c.self.inside.slots; sweep_index = c.self.inside.sweep_index }
 
 marked : (c : After-mark_cells-gained) (n : ℕ) → MarkedCell c.args.slot c.args.delta.now (cell_at c.make_rising.new.cells n) (cell_at c.mark_cells-gained.new.cells n)
 marked c n =
@@ -74,26 +74,26 @@ abbrev graph : After-mark_cells-gained → SlotGraph
 graph c = record { base = c.args.base; cols = c.args.cols; members = shown (applied c.args.delta.now (base_members (before c) c.args.base)) c.args.cols }
 
 abbrev after : After-mark_cells-gained → PoolState
-after c = record { rows = c.mark_cells-gained.new.cells; slots = set c.self.inside.slots c.args.slot (state.Live c.args.base c.args.cols); place = c.self.inside.place }
+after c = record { rows = c.mark_cells-gained.new.cells; slots = set c.self.inside.slots c.args.slot (state.Live c.args.base c.args.cols); sweep_index = c.self.inside.sweep_index }
 
 members : (c : After-mark_cells-gained) → picked (in_slot c.args.slot c.args.base c.args.cols) c.mark_cells-gained.new.cells ≡ (graph c).members
 members c =
-    new_members c.self.inside.slots c.args.slot c.args.delta.now c.self.inside.cells c.make_rising.new.cells c.mark_cells-gained.new.cells c.self.inside.place c.self.invariant.pool
+    new_members c.self.inside.slots c.args.slot c.args.delta.now c.self.inside.cells c.make_rising.new.cells c.mark_cells-gained.new.cells c.self.inside.sweep_index c.self.invariant.pool
     c.requires.free.low c.requires.free.within (free c) c.make_rising.ensures.grows (there c) c.make_rising.ensures.apart c.mark_cells-gained.ensures.apart (marked c) c.args.base c.args.cols (fits c)
 
 slot_is : (c : After-mark_cells-gained) → slot_graph (after c) c.args.slot ≡ Some (graph c)
 slot_is c =
-    attached_slot c.self.inside.slots c.args.slot c.args.delta.now c.self.inside.cells c.make_rising.new.cells c.mark_cells-gained.new.cells c.self.inside.place c.self.invariant.pool
+    attached_slot c.self.inside.slots c.args.slot c.args.delta.now c.self.inside.cells c.make_rising.new.cells c.mark_cells-gained.new.cells c.self.inside.sweep_index c.self.invariant.pool
     c.requires.free.low c.requires.free.within (free c) c.make_rising.ensures.grows (there c) c.make_rising.ensures.apart c.mark_cells-gained.ensures.apart (marked c) c.args.base c.args.cols (fits c)
 
 others_are : (c : After-mark_cells-gained) (t : ℕ) → (t ≡ c.args.slot → ⊥) → slot_graph (after c) t ≡ slot_graph (before c) t
 others_are c t other =
-    attached_others c.self.inside.slots c.args.slot c.args.delta.now c.self.inside.cells c.make_rising.new.cells c.mark_cells-gained.new.cells c.self.inside.place c.self.invariant.pool
+    attached_others c.self.inside.slots c.args.slot c.args.delta.now c.self.inside.cells c.make_rising.new.cells c.mark_cells-gained.new.cells c.self.inside.sweep_index c.self.invariant.pool
     c.requires.free.low c.requires.free.within (free c) c.make_rising.ensures.grows (there c) c.make_rising.ensures.apart c.mark_cells-gained.ensures.apart (marked c) c.args.base c.args.cols (fits c) t other
 
 now_is : (c : After-mark_cells-gained) → graph_now (after c) ≡ graph_now (before c)
 now_is c =
-    marked_now c.self.inside.slots c.args.slot c.args.delta.now c.self.inside.cells c.make_rising.new.cells c.mark_cells-gained.new.cells c.self.inside.place c.self.invariant.pool
+    marked_now c.self.inside.slots c.args.slot c.args.delta.now c.self.inside.cells c.make_rising.new.cells c.mark_cells-gained.new.cells c.self.inside.sweep_index c.self.invariant.pool
     c.requires.free.low c.requires.free.within (free c) c.make_rising.ensures.grows (there c) c.make_rising.ensures.apart c.mark_cells-gained.ensures.apart (marked c)
 
 -- the elements that the base has by its bits
@@ -168,7 +168,7 @@ invariant_of-self-2 c =
     c.counts_after.ensures ∙ (λ i. counts_after (base i) (less i) (more i) c.args.cols)
     ∙ counts_sum (before a) c.self.invariant.pool.apart c.args.base c.args.cols (fits a) c.args.delta.now c.minus.ensures.delta in
     record {
-      pool = attached_pool c.self.inside.slots c.args.slot c.args.delta.now c.self.inside.cells c.make_rising.new.cells c.mark_cells-gained.new.cells c.self.inside.place c.self.invariant.pool
+      pool = attached_pool c.self.inside.slots c.args.slot c.args.delta.now c.self.inside.cells c.make_rising.new.cells c.mark_cells-gained.new.cells c.self.inside.sweep_index c.self.invariant.pool
           c.requires.free.low c.requires.free.within (free a) c.make_rising.ensures.grows (there a) c.make_rising.ensures.apart c.mark_cells-gained.ensures.apart (marked a) c.args.base c.args.cols (fits a);
       counted = counted_attached (before a) (after a) c.self.inside.counts c.args.slot c.counts_after.result (graph a) c.requires.free.low c.requires.free.within (now_is a) (others_are a) (slot_is a) counts c.self.invariant.counted;
     }
@@ -188,5 +188,5 @@ returns-clause-now c = now_is (goal.at.returns-clause-now c).After-mark_cells-ga
 pub returns-clause-explicit : goal.returns-clause-explicit
 returns-clause-explicit c =
     let a = (goal.at.returns-clause-explicit c).After-mark_cells-gained in
-    named_only c.self.inside.slots c.args.slot c.args.delta.now c.self.inside.cells c.make_rising.new.cells c.mark_cells-gained.new.cells c.self.inside.place c.self.invariant.pool
+    named_only c.self.inside.slots c.args.slot c.args.delta.now c.self.inside.cells c.make_rising.new.cells c.mark_cells-gained.new.cells c.self.inside.sweep_index c.self.invariant.pool
     c.requires.free.low c.requires.free.within (free a) c.make_rising.ensures.grows (there a) c.make_rising.ensures.apart c.mark_cells-gained.ensures.apart (marked a)

@@ -1,7 +1,7 @@
 use Rattle.dg_cells.specs.Rows.{is_current}
 use Rattle.dg_pool.specs.Graphs.{slot_at}
-use Rattle.dg_pool.proofs.Picked.{picked_set}
-use Rattle.dg_pool.proofs.Unions.{IsSet-members}
+use Rattle.dg_pool.proofs.GraphSets.{picked_set}
+use Rattle.dg_pool.proofs.SweepUnions.{IsSet-members}
 use Rattle.dg_pool.proofs.pool.Pool.facts.Goals as goal
 
 pub returns-clause-sets : goal.returns-clause-sets

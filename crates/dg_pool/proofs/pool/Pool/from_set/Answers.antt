@@ -1,7 +1,7 @@
 use Rattle.std.proofs.Common.{◌≡◌, true, ap, ◌∙◌}
 use Rattle.dg_cells.specs.Rows.{new_rows}
 use Rattle.dg_query.specs.Queries.{counts_of}
-use Rattle.dg_pool.proofs.WholeSet.{now_whole, cells_whole, whole_pool}
+use Rattle.dg_pool.proofs.GraphWholeSet.{now_whole, cells_whole, whole_pool}
 use Rattle.dg_pool.proofs.pool.Pool.from_set.Goals as goal
 use Rattle.dg_pool.proofs.pool.Pool.from_set.Goals.{After-all_free}
 

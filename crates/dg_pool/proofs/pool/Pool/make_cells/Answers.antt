@@ -1,8 +1,8 @@
 use Rattle.std.proofs.Common.{ap, subst, ◌∙◌}
 use Rattle.dg_pool.specs.Graphs.{CellsStay, PoolState, slot_graph, graph_now, slot_at}
-use Rattle.dg_pool.proofs.KeptCounts.{counted_still}
-use Rattle.dg_pool.proofs.MarkedCells.{has_grown}
-use Rattle.dg_pool.proofs.NewSlot.{grown_pool, grown_now, grown_seen}
+use Rattle.dg_pool.proofs.CountPreservation.{counted_still}
+use Rattle.dg_pool.proofs.SlotMarks.{has_grown}
+use Rattle.dg_pool.proofs.SlotGraphs.{grown_pool, grown_now, grown_seen}
 use Rattle.dg_pool.proofs.pool.Pool.make_cells.Goals as goal
 
 pub invariant_of-self : goal.invariant_of-self
@@ -10,10 +10,10 @@ invariant_of-self c =
     let rows = c.self.inside.cells in
     let grown = c.make_all.new.cells in
     let slots = c.self.inside.slots in
-    let place = c.self.inside.place in
+    let sweep_index = c.self.inside.sweep_index in
     record {
-      pool = grown_pool rows grown slots place c.make_all.ensures.grows c.make_all.ensures.apart c.self.invariant.pool;
-      counted = counted_still (record { rows = rows; slots = slots; place = place }) (record { rows = grown; slots = slots; place = place }) c.self.inside.counts
+      pool = grown_pool rows grown slots sweep_index c.make_all.ensures.grows c.make_all.ensures.apart c.self.invariant.pool;
+      counted = counted_still (record { rows = rows; slots = slots; sweep_index = sweep_index }) (record { rows = grown; slots = slots; sweep_index = sweep_index }) c.self.inside.counts
           (record { now = grown_now rows grown c.make_all.ensures.grows; slots = λ t. grown_seen rows grown c.make_all.ensures.grows t (slot_at slots t) })
           c.self.invariant.counted;
     }

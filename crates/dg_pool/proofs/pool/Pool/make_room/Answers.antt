@@ -1,7 +1,7 @@
 use Rattle.std.proofs.Common.{ap, ◌∙◌}
 use Rattle.dg_pool.specs.Graphs.{PoolState, slot_graph, graph_now, slot_at}
-use Rattle.dg_pool.proofs.KeptCounts.{counted_still}
-use Rattle.dg_pool.proofs.NewSlot.{grown_pool, grown_now, grown_seen}
+use Rattle.dg_pool.proofs.CountPreservation.{counted_still}
+use Rattle.dg_pool.proofs.SlotGraphs.{grown_pool, grown_now, grown_seen}
 use Rattle.dg_pool.proofs.pool.Pool.make_room.Goals as goal
 
 pub invariant_of-self : goal.invariant_of-self
@@ -9,11 +9,11 @@ invariant_of-self c =
     let rows = c.self.inside.cells in
     let grown = c.add_by_all-made.new.cells in
     let slots = c.self.inside.slots in
-    let place = c.self.inside.place in
+    let sweep_index = c.self.inside.sweep_index in
     let grows = c.add_by_all-made.ensures.grows in
     record {
-      pool = grown_pool rows grown slots place grows c.facts.ensures c.self.invariant.pool;
-      counted = counted_still (record { rows = rows; slots = slots; place = place }) (record { rows = grown; slots = slots; place = place }) c.self.inside.counts
+      pool = grown_pool rows grown slots sweep_index grows c.facts.ensures c.self.invariant.pool;
+      counted = counted_still (record { rows = rows; slots = slots; sweep_index = sweep_index }) (record { rows = grown; slots = slots; sweep_index = sweep_index }) c.self.inside.counts
           (record { now = grown_now rows grown grows; slots = λ t. grown_seen rows grown grows t (slot_at slots t) })
           c.self.invariant.counted;
     }

@@ -3,7 +3,7 @@ use Rattle.dg_graph.specs.Elements.{has}
 use Rattle.dg_cells.specs.Rows.{cell_at}
 use Rattle.dg_pool.specs.Graphs.{PoolState, slot_graph, graph_as, slot_at}
 use Rattle.dg_pool.specs.Sweeps.{in_state, members_as}
-use Rattle.dg_pool.proofs.Unions.{has-members, lacks-members}
+use Rattle.dg_pool.proofs.SweepUnions.{has-members, lacks-members}
 use Rattle.dg_pool.proofs.CurrentGraph.{one_row}
 use Rattle.dg_pool.proofs.pool.Pool.member.Goals as goal
 

@@ -2,7 +2,7 @@ use Rattle.std.proofs.Common.{◌≡◌, Some, sym, ap, ◌∙◌}
 use Rattle.dg_graph.specs.Elements.{has}
 use Rattle.dg_cells.specs.Rows.{cell_at, is_current}
 use Rattle.dg_pool.specs.Graphs.{PoolState, graph_now}
-use Rattle.dg_pool.proofs.Picked.{picked_decides, picked_nothing}
+use Rattle.dg_pool.proofs.GraphSets.{picked_decides, picked_nothing}
 use Rattle.dg_pool.proofs.CurrentGraph.{one_row}
 use Rattle.dg_pool.proofs.pool.Pool.member_now.Goals as goal
 

@@ -1,12 +1,12 @@
 use Rattle.std.proofs.Common.{◌≡◌, ◌∷◌, [], IfSome, IfNone, subst}
 use Rattle.dg_pool.specs.Graphs.{PoolState}
 use Rattle.dg_pool.specs.Listing.{members_from}
-use Rattle.dg_pool.proofs.OrderedCells.{next_some, next_none}
+use Rattle.dg_pool.proofs.ListingSets.{next_some, next_none}
 use Rattle.dg_pool.proofs.pool.Pool.next_member.Goals as goal
 
 pub returns-clause-some : goal.returns-clause-some
 returns-clause-some c =
-    let p : PoolState = record { rows = c.self.inside.cells; slots = c.self.inside.slots; place = c.self.inside.place } in
+    let p : PoolState = record { rows = c.self.inside.cells; slots = c.self.inside.slots; sweep_index = c.self.inside.sweep_index } in
     let f = c.order_facts.ensures in
     let s = c.args.slot.0 in
     subst (λ (q : PoolState). IfSome c.next_member.result (λ m. members_from q s c.args.from ≡ m.0 ∷ members_from q s m.1)) c.self.view_is
@@ -14,7 +14,7 @@ returns-clause-some c =
 
 pub returns-clause-none : goal.returns-clause-none
 returns-clause-none c =
-    let p : PoolState = record { rows = c.self.inside.cells; slots = c.self.inside.slots; place = c.self.inside.place } in
+    let p : PoolState = record { rows = c.self.inside.cells; slots = c.self.inside.slots; sweep_index = c.self.inside.sweep_index } in
     let f = c.order_facts.ensures in
     let s = c.args.slot.0 in
     subst (λ (q : PoolState). IfNone c.next_member.result (members_from q s c.args.from ≡ [])) c.self.view_is

@@ -6,5 +6,5 @@ use Rattle.dg_pool.proofs.pool.Pool.union_len.Goals as goal
 
 pub returns : goal.returns
 returns c =
-    let p : PoolState = record { rows = c.self.inside.cells; slots = c.self.inside.slots; place = c.self.inside.place } in
+    let p : PoolState = record { rows = c.self.inside.cells; slots = c.self.inside.slots; sweep_index = c.self.inside.sweep_index } in
     c.count_needed.ensures ∙ sym (ap length (union_is p c.self.invariant.pool.slots c.self.invariant.pool.apart)) ∙ ap (λ (q : PoolState). length (union_of q)) c.self.view_is

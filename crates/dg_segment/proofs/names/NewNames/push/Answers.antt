@@ -1,5 +1,5 @@
 use Rattle.std.proofs.Common.{ℕ, List, [], ◌∷◌, ◌++◌, ap, ◌∙◌}
-use Rattle.dg_segment.proofs.TextsInBytes.{names_more, texts_more}
+use Rattle.dg_segment.proofs.NewNameBytes.{names_more, texts_more}
 use Rattle.dg_segment.proofs.names.NewNames.push.Goals as goal
 
 pub invariant_of-self-2 : goal.invariant_of-self-2

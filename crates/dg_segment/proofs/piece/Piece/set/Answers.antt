@@ -2,7 +2,7 @@ use Rattle.std.proofs.Common.{ℕ, List, ◌++◌, refl, ap, ◌∙◌}
 use Rattle.dg_index.specs.FileOfHistory.{Stored, bytes_of}
 use Rattle.dg_index.specs.OpenedIndex.{lengths_of}
 use Rattle.dg_segment.specs.PackedRecords.{stored_at}
-use Rattle.dg_segment.proofs.PackedColumns.{packed_alone, stored_alone}
+use Rattle.dg_segment.proofs.PackedRecordColumns.{packed_alone, stored_alone}
 use Rattle.dg_segment.proofs.piece.Piece.set.Goals as goal
 
 pub invariant_of-self-2 : goal.invariant_of-self-2

@@ -2,7 +2,7 @@ use Rattle.std.proofs.Common.{◌<◌, ℕ, cond, List, [], ◌∷◌, ◌++◌,
 use Rattle.std.specs.Prelude.{vec_capacity, vec_len}
 use Rattle.dg_index.specs.FileOfHistory.{bytes_of}
 use Rattle.dg_segment.specs.PackedRecords.{StoredRecord, stored_row}
-use Rattle.dg_segment.proofs.PackedColumns.{packed_more, unpacked_more}
+use Rattle.dg_segment.proofs.PackedRecordColumns.{packed_more, unpacked_more}
 use Rattle.dg_segment.proofs.records.Records.push.Goals as goal
 
 pub invariant_of-self-2 : goal.invariant_of-self-2

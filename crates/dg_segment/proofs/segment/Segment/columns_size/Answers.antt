@@ -1,6 +1,6 @@
 use Rattle.std.proofs.Common.{length, ap, arith}
 use Rattle.dg_index.specs.FileOfHistory.{Segment, blobs}
-use Rattle.dg_segment.proofs.SegmentSizes.{parts_blobs, parts_size}
+use Rattle.dg_segment.proofs.SegmentPartSizes.{parts_blobs, parts_size}
 use Rattle.dg_segment.proofs.segment.Segment.columns_size.Goals as goal
 
 pub overflow_add-result-2 : goal.overflow_add-result-2

@@ -1,6 +1,6 @@
 use Rattle.std.proofs.Common.{sym, ap, ◌∙◌}
 use Rattle.dg_index.specs.FileOfHistory.{Segment, delta_blobs}
-use Rattle.dg_segment.proofs.SegmentSizes.{delta_columns}
+use Rattle.dg_segment.proofs.SegmentPartSizes.{delta_columns}
 use Rattle.dg_segment.proofs.segment.Segment.delta_columns.Goals as goal
 
 pub returns : goal.returns

@@ -2,7 +2,7 @@ use Rattle.std.proofs.Common.{length, ap, arith}
 use Rattle.std.proofs.lemmas.List.{length-map}
 use Rattle.dg_index.specs.FileOfHistory.{Segment, blobs, directory}
 use Rattle.dg_segment.specs.PackedRecords.{stored_row}
-use Rattle.dg_segment.proofs.SegmentSizes.{parts_blobs, parts_directory, parts_size}
+use Rattle.dg_segment.proofs.SegmentPartSizes.{parts_blobs, parts_directory, parts_size}
 use Rattle.dg_segment.proofs.segment.Segment.directory_size.Goals as goal
 
 pub returns-clause-size : goal.returns-clause-size

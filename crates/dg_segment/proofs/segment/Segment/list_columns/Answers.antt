@@ -1,6 +1,6 @@
 use Rattle.std.proofs.Common.{sym, ap, ◌∙◌}
 use Rattle.dg_index.specs.FileOfHistory.{Segment, list_blobs}
-use Rattle.dg_segment.proofs.SegmentSizes.{list_columns}
+use Rattle.dg_segment.proofs.SegmentPartSizes.{list_columns}
 use Rattle.dg_segment.proofs.segment.Segment.list_columns.Goals as goal
 
 pub returns : goal.returns

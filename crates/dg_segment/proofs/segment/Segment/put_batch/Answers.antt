@@ -3,7 +3,7 @@ use Rattle.std.specs.List.{flat_map}
 use Rattle.dg_graph.specs.Columns.{eight, four}
 use Rattle.dg_index.specs.FileOfHistory.{name_bytes, Segment}
 use Rattle.dg_segment.specs.DirectoryParts.{batch_text}
-use Rattle.dg_segment.proofs.DirectoryTexts.{five_put}
+use Rattle.dg_segment.proofs.DirectoryPartTexts.{five_put}
 use Rattle.dg_segment.proofs.segment.Segment.put_batch.Goals as goal
 
 pub returns : goal.returns

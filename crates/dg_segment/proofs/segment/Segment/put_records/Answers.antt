@@ -6,7 +6,7 @@ use Rattle.dg_index.specs.FileOfHistory.{Segment, Stored, StoredList, lengths_by
 use Rattle.dg_segment.specs.DirectoryParts.{records_text}
 use Rattle.dg_segment.specs.PackedRecords.{row_text}
 use Rattle.dg_segment.specs.SegmentParts.{delta_of, list_of}
-use Rattle.dg_segment.proofs.DirectoryTexts.{delta_table, list_table, pairs_put}
+use Rattle.dg_segment.proofs.DirectoryPartTexts.{delta_table, list_table, pairs_put}
 use Rattle.dg_segment.proofs.segment.Segment.put_records.Goals as goal
 
 table : List Row → List ℕ

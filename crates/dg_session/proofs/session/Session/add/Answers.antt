@@ -11,10 +11,10 @@ use Rattle.dg_session.specs.Parts.{Parts}
 use Rattle.dg_session.specs.Reads.{Reads, ReadsIn}
 use Rattle.dg_session.specs.Session.{Accepts, ComesTo}
 use Rattle.dg_session.specs.contracts.session.Session.{the_view}
-use Rattle.dg_session.proofs.AddReads.{ReadsNoMore, added_reads, failed_damage, failed_reads, reads_no_more, unread_damage, unread_reads}
-use Rattle.dg_session.proofs.Additions.{Lines_of}
-use Rattle.dg_session.proofs.AddStep.{IsAsked, batch_added, batch_failed, failed_stays, is_asked, is_ready, kept_handles, takes_failed, unread_comes, with_handles, with_history}
-use Rattle.dg_session.proofs.Steps.{Comes, handed_out}
+use Rattle.dg_session.proofs.BatchCommandReads.{ReadsNoMore, added_reads, failed_damage, failed_reads, reads_no_more, unread_damage, unread_reads}
+use Rattle.dg_session.proofs.BatchCommandForms.{Lines_of}
+use Rattle.dg_session.proofs.BatchCommandStep.{IsAsked, batch_added, batch_failed, failed_stays, is_asked, is_ready, kept_handles, takes_failed, unread_comes, with_handles, with_history}
+use Rattle.dg_session.proofs.SessionSteps.{Comes, handed_out}
 use Rattle.dg_start.specs.declared.stored_history.StoredHistory.{StoredHistory}
 use Rattle.dg_session.proofs.session.Session.add.Goals as goal
 

@@ -8,8 +8,8 @@ use Rattle.dg_session.specs.Parts.{Parts}
 use Rattle.dg_session.specs.Session.{node_needs, refused_by}
 use Rattle.dg_session.specs.SessionState.{SessionState}
 use Rattle.dg_session.proofs.KeptAdjacencies.{kept_after as adjacency_after}
-use Rattle.dg_session.proofs.MaterialiseStep.{found_free}
-use Rattle.dg_session.proofs.NewHandles.{node_after}
+use Rattle.dg_session.proofs.SessionNodeStep.{found_free}
+use Rattle.dg_session.proofs.HeldIndexHandles.{node_after}
 use Rattle.dg_session.proofs.session.Session.add_base.Goals as goal
 
 pub invariant_of-self : goal.invariant_of-self

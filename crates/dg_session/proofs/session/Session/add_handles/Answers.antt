@@ -11,7 +11,7 @@ use Rattle.dg_session.specs.Parts.{Parts}
 use Rattle.dg_session.specs.Reads.{bases_of, listed_by, with_new_handles}
 use Rattle.dg_session.specs.SessionState.{SessionState}
 use Rattle.dg_session.proofs.KeptAdjacencies.{kept_after as adjacency_after}
-use Rattle.dg_session.proofs.NewHandles.{kept_after, nodes_after, on_three, overlays_length}
+use Rattle.dg_session.proofs.HeldIndexHandles.{kept_after, nodes_after, on_three, overlays_length}
 use Rattle.dg_session.proofs.session.Session.add_handles.Goals as goal
 
 pub returns-clause-added : goal.returns-clause-added

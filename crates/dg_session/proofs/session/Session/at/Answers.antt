@@ -14,10 +14,10 @@ use Rattle.dg_session.specs.Halt.{retrieval_halt}
 use Rattle.dg_session.specs.Parts.{Parts}
 use Rattle.dg_session.specs.Reads.{ReadsIn, bases_of, listed_by, with_new_handles}
 use Rattle.dg_session.specs.Session.{ComesTo}
-use Rattle.dg_session.proofs.AtStep.{at_answers, at_fails}
+use Rattle.dg_session.proofs.SessionInstantStep.{at_answers, at_fails}
 use Rattle.dg_session.proofs.DamageStep.{damage_in, tells_no_damage}
-use Rattle.dg_session.proofs.Retrievals.{reads_failing, retrieval_failed}
-use Rattle.dg_session.proofs.Steps.{handed_out, lacking_denies, refused_denies, refused_not_read}
+use Rattle.dg_session.proofs.SessionRetrievals.{reads_failing, retrieval_failed}
+use Rattle.dg_session.proofs.SessionSteps.{handed_out, lacking_denies, refused_denies, refused_not_read}
 use Rattle.dg_session.proofs.session.Session.at.Goals as goal
 
 pub returns-in-Some-clause-comes : goal.returns-in-Some-clause-comes

@@ -10,7 +10,7 @@ use Rattle.dg_session.specs.Reads.{ReadsIn}
 use Rattle.dg_session.specs.Verified.{VerifiesFile}
 use Rattle.dg_session.proofs.DamageStep.{never_for_damage}
 use Rattle.dg_session.proofs.ReadsStep.{fails_no_read, reads_nothing}
-use Rattle.dg_session.proofs.Steps.{Comes, alone}
+use Rattle.dg_session.proofs.SessionSteps.{Comes, alone}
 use Rattle.dg_session.proofs.session.Session.carry_out.Goals as goal
 
 pub add-requires-clause-some : goal.add-requires-clause-some

@@ -18,7 +18,7 @@ use Rattle.dg_session.specs.declared.halt.Halt.TheVariants as halt
 use Rattle.dg_session.specs.Parts.{Parts}
 use Rattle.dg_retrieval.specs.KeptGraph.{kept_edges}
 use Rattle.dg_session.proofs.PlanStep.{certificate_answers, certificate_lacks, certificate_out, certificate_short, certificate_stopped, enough_read}
-use Rattle.dg_session.proofs.Steps.{Comes, handed_out}
+use Rattle.dg_session.proofs.SessionSteps.{Comes, handed_out}
 use Rattle.dg_session.proofs.session.Session.certify.Goals as goal
 
 pub returns-in_err-written-clause-comes : goal.returns-in_err-written-clause-comes

@@ -3,7 +3,7 @@ use Rattle.dg_session.specs.contracts.session.Session.{the_view}
 use Rattle.dg_session.specs.Parts.{Parts}
 use Rattle.dg_session.specs.SessionState.{SessionState}
 use Rattle.dg_session.proofs.KeptAdjacencies.{kept_on}
-use Rattle.dg_session.proofs.PoolStep.{clean_answers, graphs_same}
+use Rattle.dg_session.proofs.SessionPoolStep.{clean_answers, graphs_same}
 use Rattle.dg_session.proofs.session.Session.clean.Goals as goal
 
 pub returns-clause-comes : goal.returns-clause-comes

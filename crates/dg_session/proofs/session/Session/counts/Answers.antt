@@ -2,8 +2,8 @@ use Rattle.std.proofs.Common.{◌∙◌, ap, false, refl}
 use Rattle.dg_machine.specs.declared.command.Command.TheVariants as command
 use Rattle.dg_machine.specs.declared.reply.Head.TheVariants as head
 use Rattle.dg_machine.specs.Answer.{counting, headed}
-use Rattle.dg_session.proofs.AskedGraphs.{counts_asks}
-use Rattle.dg_session.proofs.AskStep.{ask_answers, ask_unknown}
+use Rattle.dg_session.proofs.AnswerQueries.{counts_asks}
+use Rattle.dg_session.proofs.SessionQueryStep.{ask_answers, ask_unknown}
 use Rattle.dg_session.proofs.session.Session.counts.Goals as goal
 
 pub returns-in_err-graph_of-clause-comes : goal.returns-in_err-graph_of-clause-comes

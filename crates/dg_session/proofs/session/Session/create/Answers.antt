@@ -11,9 +11,9 @@ use Rattle.dg_session.specs.Parts.{Parts}
 use Rattle.dg_session.specs.Session.{ComesTo, refused_by}
 use Rattle.dg_start.specs.StoredHistory.{index_opening}
 use Rattle.dg_session.specs.contracts.session.Session.{the_view}
-use Rattle.dg_session.proofs.CreateStep.{create_answers, create_fails, create_reads, creation_free, making, no_names}
+use Rattle.dg_session.proofs.SessionCreationStep.{create_answers, create_fails, create_reads, creation_free, making, no_names}
 use Rattle.dg_session.proofs.ReadsStep.{reads_freely, reads_nothing}
-use Rattle.dg_session.proofs.Steps.{handed_out, refused_denies}
+use Rattle.dg_session.proofs.SessionSteps.{handed_out, refused_denies}
 use Rattle.dg_session.proofs.session.Session.create.Goals as goal
 
 pub returns-in-Some-clause-comes : goal.returns-in-Some-clause-comes

@@ -2,8 +2,8 @@ use Rattle.std.proofs.Common.{refl, ap}
 use Rattle.dg_session.specs.Parts.{Parts}
 use Rattle.dg_session.specs.SessionState.{SessionState}
 use Rattle.dg_session.proofs.DamageStep.{node_damage_over}
-use Rattle.dg_session.proofs.MaterialiseStep.{held_over, node_most, node_never, node_taken}
-use Rattle.dg_session.proofs.Retrievals.{IsSession, is_session}
+use Rattle.dg_session.proofs.SessionNodeStep.{held_over, node_most, node_never, node_taken}
+use Rattle.dg_session.proofs.SessionRetrievals.{IsSession, is_session}
 use Rattle.dg_session.proofs.session.Session.lead_to_node.Goals as goal
 
 pub returns-clause-held : goal.returns-clause-held

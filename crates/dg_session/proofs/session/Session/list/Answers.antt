@@ -7,8 +7,8 @@ use Rattle.dg_machine.specs.declared.reply.BodyLine.TheVariants as line
 use Rattle.dg_machine.specs.declared.reply.Head.TheVariants as head
 use Rattle.dg_machine.specs.declared.reply.Reply.{Reply}
 use Rattle.dg_machine.specs.Answer.{listing}
-use Rattle.dg_session.proofs.AskedGraphs.{list_asks}
-use Rattle.dg_session.proofs.AskStep.{ask_answers, ask_lacks, ask_unknown}
+use Rattle.dg_session.proofs.AnswerQueries.{list_asks}
+use Rattle.dg_session.proofs.SessionQueryStep.{ask_answers, ask_lacks, ask_unknown}
 use Rattle.dg_session.proofs.session.Session.list.Goals as goal
 
 pub returns-in_err-graph-clause-comes : goal.returns-in_err-graph-clause-comes

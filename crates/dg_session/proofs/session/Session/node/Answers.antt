@@ -9,10 +9,10 @@ use Rattle.dg_session.specs.declared.halt.Halt.TheVariants as halt
 use Rattle.dg_session.specs.Parts.{Parts}
 use Rattle.dg_session.specs.Session.{Accepts, ComesTo}
 use Rattle.dg_session.specs.SessionState.{SessionState}
-use Rattle.dg_session.proofs.AskedGraphs.{node_asks}
-use Rattle.dg_session.proofs.AskStep.{ask_answers, ask_lacks}
+use Rattle.dg_session.proofs.AnswerQueries.{node_asks}
+use Rattle.dg_session.proofs.SessionQueryStep.{ask_answers, ask_lacks}
 use Rattle.dg_session.proofs.KeptAdjacencies.{kept_alone, serves}
-use Rattle.dg_session.proofs.Steps.{handed_out, refused_denies}
+use Rattle.dg_session.proofs.SessionSteps.{handed_out, refused_denies}
 use Rattle.dg_session.proofs.session.Session.node.Goals as goal
 
 pub returns-in_err-graph-clause-comes : goal.returns-in_err-graph-clause-comes

@@ -11,7 +11,7 @@ use Rattle.dg_session.specs.Parts.{Parts}
 use Rattle.dg_session.specs.Plans.{IsPlanReply}
 use Rattle.dg_session.specs.Session.{Accepts, ComesTo}
 use Rattle.dg_session.proofs.PlanStep.{free_at, plan_answers}
-use Rattle.dg_session.proofs.Steps.{handed_out, lacking_denies, refused_denies}
+use Rattle.dg_session.proofs.SessionSteps.{handed_out, lacking_denies, refused_denies}
 use Rattle.dg_session.proofs.session.Session.plan.Goals as goal
 
 pub returns-in_err-index-clause-comes : goal.returns-in_err-index-clause-comes

@@ -2,7 +2,7 @@ use Rattle.std.proofs.Common.{◌∷◌, length, ◌∙◌, ap}
 use Rattle.dg_machine.specs.MachineState.{union_of_sets}
 use Rattle.dg_handles.specs.Handles.{slot_graphs}
 use Rattle.dg_session.specs.SessionState.{SessionState}
-use Rattle.dg_session.proofs.PoolStep.{pool_answers}
+use Rattle.dg_session.proofs.SessionPoolStep.{pool_answers}
 use Rattle.dg_session.proofs.session.Session.pool_size.Goals as goal
 
 pub returns : goal.returns

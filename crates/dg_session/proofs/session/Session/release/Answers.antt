@@ -11,8 +11,8 @@ use Rattle.dg_session.specs.KeptPlanner.{IsKeptFor}
 use Rattle.dg_session.specs.Parts.{Parts}
 use Rattle.dg_session.specs.SessionState.{SessionState}
 use Rattle.dg_session.proofs.KeptAdjacencies.{kept_without as adjacency_without}
-use Rattle.dg_session.proofs.ReleaseStep.{all_without, kept_without, parts_without, release_answers, release_refused, release_used}
-use Rattle.dg_session.proofs.Steps.{refused_denies}
+use Rattle.dg_session.proofs.SessionReleaseStep.{all_without, kept_without, parts_without, release_answers, release_refused, release_used}
+use Rattle.dg_session.proofs.SessionSteps.{refused_denies}
 use Rattle.dg_start.specs.StoredHistory.{index_opening}
 use Rattle.dg_session.proofs.session.Session.release.Goals as goal
 

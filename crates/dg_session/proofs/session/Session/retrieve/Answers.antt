@@ -9,9 +9,9 @@ use Rattle.dg_retrieval.specs.KeptGraph.{kept_ground}
 use Rattle.dg_session.specs.Parts.{Parts}
 use Rattle.dg_session.specs.SessionState.{SessionState}
 use Rattle.dg_session.proofs.DamageStep.{damage_over}
-use Rattle.dg_session.proofs.HeldBases.{all_begin_on}
-use Rattle.dg_session.proofs.PlannedGraphs.{IsPlanningIn, holds_in, planning_in}
-use Rattle.dg_session.proofs.Retrievals.{IsSession, instants_inside, is_session, most_read, never_damaged, retrieved_over, taken_over}
+use Rattle.dg_session.proofs.HandleBases.{all_begin_on}
+use Rattle.dg_session.proofs.KeptPlannerGraphs.{IsPlanningIn, holds_in, planning_in}
+use Rattle.dg_session.proofs.SessionRetrievals.{IsSession, instants_inside, is_session, most_read, never_damaged, retrieved_over, taken_over}
 use Rattle.dg_session.proofs.session.Session.retrieve.Goals as goal
 
 pub leads_at-requires-clause-there : goal.leads_at-requires-clause-there

@@ -17,10 +17,10 @@ use Rattle.dg_session.specs.Halt.{retrieval_halt}
 use Rattle.dg_session.specs.Parts.{Parts}
 use Rattle.dg_session.specs.Reads.{IsRetrieved, ReadsIn, bases_of, listed_by, with_new_handles}
 use Rattle.dg_session.specs.Session.{ComesTo, StandsFor, refused_by, retrieval_needs}
-use Rattle.dg_session.proofs.SeveralStep.{needed, several_answers, several_fails}
+use Rattle.dg_session.proofs.SessionSeveralStep.{needed, several_answers, several_fails}
 use Rattle.dg_session.proofs.DamageStep.{damage_in, tells_no_damage}
-use Rattle.dg_session.proofs.Retrievals.{reads_failing, retrieval_failed}
-use Rattle.dg_session.proofs.Steps.{handed_out, lacking_denies, refused_denies, refused_not_read}
+use Rattle.dg_session.proofs.SessionRetrievals.{reads_failing, retrieval_failed}
+use Rattle.dg_session.proofs.SessionSteps.{handed_out, lacking_denies, refused_denies, refused_not_read}
 use Rattle.dg_session.proofs.session.Session.several.Goals as goal
 
 pub returns-in-Some-clause-comes : goal.returns-in-Some-clause-comes

@@ -1,6 +1,6 @@
 use Rattle.std.proofs.Common.{◌∙◌, sym, ap}
 use Rattle.dg_session.specs.SessionState.{SessionState}
-use Rattle.dg_session.proofs.VerifyStep.{sound_over}
+use Rattle.dg_session.proofs.VerifiedStep.{sound_over}
 use Rattle.dg_session.proofs.session.Session.soundness.Goals as goal
 use Rattle.dg_start.specs.StoredHistory.{index_opening}
 

@@ -2,8 +2,8 @@ use Rattle.std.proofs.Common.{List, Option}
 use Rattle.std.specs.Prelude.{IfErr, IfSome}
 use Rattle.dg_history.specs.History.{History}
 use Rattle.dg_index.specs.ImageOfHistory.{StandsAs}
-use Rattle.dg_session.proofs.CheckedStart.{IsNoFault, begins_unchecked, checked_begins, checked_held, checked_new, checked_never, checked_refused, checked_standing, checked_stands, checked_takes, never_started}
-use Rattle.dg_session.proofs.Steps.{handed_out}
+use Rattle.dg_session.proofs.SessionStartChecks.{IsNoFault, begins_unchecked, checked_begins, checked_held, checked_new, checked_never, checked_refused, checked_standing, checked_stands, checked_takes, never_started}
+use Rattle.dg_session.proofs.SessionSteps.{handed_out}
 use Rattle.dg_session.specs.declared.session_fault.SessionFault.TheVariants as fault
 use Rattle.dg_session.proofs.session.Session.start.Goals as goal
 

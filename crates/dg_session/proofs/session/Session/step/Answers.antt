@@ -8,8 +8,8 @@ use Rattle.dg_session.specs.Damage.{DamageIs}
 use Rattle.dg_session.specs.Reads.{Reads, reply_head}
 use Rattle.dg_session.proofs.DamageStep.{damage_in_reply}
 use Rattle.dg_session.proofs.ReadsStep.{accepted_reads, reads_in_reply, store_read_is}
-use Rattle.dg_session.proofs.Steps.{answered, refused_so}
-use Rattle.dg_session.proofs.VerifyStep.{refused_verifies, verified_reply}
+use Rattle.dg_session.proofs.SessionSteps.{answered, refused_so}
+use Rattle.dg_session.proofs.VerifiedStep.{refused_verifies, verified_reply}
 use Rattle.dg_session.specs.Verified.{VerifiesFile}
 use Rattle.dg_session.proofs.session.Session.step.Goals as goal
 use Rattle.dg_session.proofs.session.Session.step.Goals.{in-Ok, in-Err-Refusal, in-Err-Stop}

@@ -4,8 +4,8 @@ use Rattle.dg_machine.specs.declared.command.Command.TheVariants as command
 use Rattle.dg_machine.specs.declared.reply.Refusal.TheVariants as refusal
 use Rattle.dg_session.specs.declared.halt.Halt.TheVariants as halt
 use Rattle.dg_session.specs.Session.{ComesTo}
-use Rattle.dg_session.proofs.Steps.{handed_out, lacking_denies, refused_denies}
-use Rattle.dg_session.proofs.TreeStep.{tree_answers, tree_free, tree_refused}
+use Rattle.dg_session.proofs.SessionSteps.{handed_out, lacking_denies, refused_denies}
+use Rattle.dg_session.proofs.RecordListingStep.{tree_answers, tree_free, tree_refused}
 use Rattle.dg_session.proofs.session.Session.tree.Goals as goal
 
 pub returns-in_err-index-clause-comes : goal.returns-in_err-index-clause-comes

@@ -12,8 +12,8 @@ use Rattle.dg_session.specs.Reads.{Reads, ReadsIn}
 use Rattle.dg_session.specs.Session.{ComesTo}
 use Rattle.dg_session.specs.SessionState.{SessionState}
 use Rattle.dg_session.specs.Verified.{VerifiesFile}
-use Rattle.dg_session.proofs.Steps.{handed_out, refused_denies}
-use Rattle.dg_session.proofs.VerifyStep.{failed_damage, failed_reads, verify_answers, verify_failed, verify_reads, verify_refused}
+use Rattle.dg_session.proofs.SessionSteps.{handed_out, refused_denies}
+use Rattle.dg_session.proofs.VerifiedStep.{failed_damage, failed_reads, verify_answers, verify_failed, verify_reads, verify_refused}
 use Rattle.dg_session.proofs.session.Session.verify.Goals as goal
 
 pub returns-in_err-index-clause-comes : goal.returns-in_err-index-clause-comes

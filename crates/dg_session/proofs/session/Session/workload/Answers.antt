@@ -19,11 +19,11 @@ use Rattle.dg_session.specs.Reads.{Reads, ReadsIn}
 use Rattle.dg_session.specs.Session.{Accepts, ComesTo}
 use Rattle.dg_session.specs.SessionState.{SessionState}
 use Rattle.dg_session.specs.contracts.session.Session.{the_view}
-use Rattle.dg_session.proofs.Additions.{Seed, head_over}
-use Rattle.dg_session.proofs.AddReads.{ReadsNoMore, added_reads, failed_damage, failed_reads, reads_no_more, unread_reads}
-use Rattle.dg_session.proofs.AddStep.{IsAsked, batch_added, batch_failed, failed_stays, is_generated, is_ready, kept_handles, none_bars, with_handles, with_history}
+use Rattle.dg_session.proofs.BatchCommandForms.{Seed, head_over}
+use Rattle.dg_session.proofs.BatchCommandReads.{ReadsNoMore, added_reads, failed_damage, failed_reads, reads_no_more, unread_reads}
+use Rattle.dg_session.proofs.BatchCommandStep.{IsAsked, batch_added, batch_failed, failed_stays, is_generated, is_ready, kept_handles, none_bars, with_handles, with_history}
 use Rattle.dg_session.proofs.DamageStep.{tells_no_damage}
-use Rattle.dg_session.proofs.Steps.{handed_out, lacking_denies, refused_denies, refused_not_read}
+use Rattle.dg_session.proofs.SessionSteps.{handed_out, lacking_denies, refused_denies, refused_not_read}
 use Rattle.dg_start.specs.declared.stored_history.StoredHistory.{StoredHistory}
 use Rattle.dg_session.proofs.session.Session.workload.Goals as goal
 

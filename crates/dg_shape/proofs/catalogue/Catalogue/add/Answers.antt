@@ -5,7 +5,7 @@ use Rattle.dg_index.specs.IndexGrowth.{columns_in}
 use Rattle.dg_index.specs.OpenedIndex.{total}
 use Rattle.dg_shape.specs.declared.catalogue.TheConstants.{BYTES_MAX}
 use Rattle.dg_shape.specs.Entries.{Holdings}
-use Rattle.dg_shape.proofs.Records.{from_ok, look_up_is, still_sound, added_held, added_others, added_bytes}
+use Rattle.dg_shape.proofs.EntryRecords.{from_ok, look_up_is, still_sound, added_held, added_others, added_bytes}
 use Rattle.dg_shape.proofs.catalogue.Catalogue.add.Goals as goal
 
 -- the record that is added

@@ -5,7 +5,7 @@ use Rattle.dg_history.specs.declared.node.Key.TheVariants as key
 use Rattle.dg_index.specs.declared.entry.Row.{Row}
 use Rattle.dg_index.specs.OpenedIndex.{laid}
 use Rattle.dg_shape.specs.Additions.{IsRoomFor}
-use Rattle.dg_shape.proofs.AddedRecords.{lacks, next_room, next_laid}
+use Rattle.dg_shape.proofs.AdditionRecords.{lacks, next_room, next_laid}
 use Rattle.dg_shape.proofs.catalogue.Catalogue.add_all.Goals as goal
 
 no_row : Row

@@ -2,7 +2,7 @@ use Rattle.std.proofs.Common.{◌≡◌, ap, subst, ◌∙◌}
 use Rattle.std.specs.List.{All}
 use Rattle.dg_shape.specs.Entries.{Holdings, EndsIfList}
 use Rattle.dg_shape.specs.Held.{entry_of}
-use Rattle.dg_shape.proofs.Records.{ends_held, look_up_is}
+use Rattle.dg_shape.proofs.EntryRecords.{ends_held, look_up_is}
 use Rattle.dg_shape.proofs.catalogue.Catalogue.entry.Goals as goal
 
 pub returns-clause-ends : goal.returns-clause-ends

@@ -1,6 +1,6 @@
 use Rattle.std.proofs.Common.{subst}
 use Rattle.dg_shape.specs.Entries.{Holdings, RecordsAreSound}
-use Rattle.dg_shape.proofs.Records.{held_sound}
+use Rattle.dg_shape.proofs.EntryRecords.{held_sound}
 use Rattle.dg_shape.proofs.catalogue.Catalogue.facts.Goals as goal
 
 pub returns-clause-held : goal.returns-clause-held

@@ -1,6 +1,6 @@
 use Rattle.std.proofs.Common.{ℕ, ◌+◌, ◌-◌, ◌/◌, sym, ◌∙◌, arith}
 use Rattle.dg_history.specs.declared.node.Key.TheVariants as key
-use Rattle.dg_shape.proofs.BegunLists.{earlier_begun, later_not_begun, none_beyond, begun_is}
+use Rattle.dg_shape.proofs.PointLists.{earlier_begun, later_not_begun, none_beyond, begun_is}
 use Rattle.dg_shape.proofs.catalogue.Catalogue.lists_begun.Goals as goal
 
 pub loop-low-init : goal.loop-low-init

@@ -1,7 +1,7 @@
 use Rattle.std.proofs.Common.{sym, ◌∙◌, arith}
 use Rattle.dg_graph.specs.declared.function.Function.TheVariants.{Intersection}
 use Rattle.dg_shape.specs.Shapes.{made_with}
-use Rattle.dg_shape.proofs.Nodes.{arity_two, inner_there, no_child, inner_child}
+use Rattle.dg_shape.proofs.ShapeNodes.{arity_two, inner_there, no_child, inner_child}
 use Rattle.dg_shape.proofs.shape.Shape.child.Goals as goal
 
 pub returns-then-not-exists : goal.returns-then-not-exists

@@ -1,7 +1,7 @@
 use Rattle.std.proofs.Common.{◌*◌, ◌/◌, ◌^◌, ◌&&◌, sym, ap, ◌∙◌}
 use Rattle.std.proofs.lemmas.Bool.{le-leb}
 use Rattle.std.specs.Prelude.{nat_le}
-use Rattle.dg_shape.proofs.Nodes.{arity_two, at_height}
+use Rattle.dg_shape.proofs.ShapeNodes.{arity_two, at_height}
 use Rattle.dg_shape.proofs.shape.Shape.has_at.Goals as goal
 
 pub returns-then-number-ge1 : goal.returns-then-number-ge1

@@ -1,7 +1,7 @@
 use Rattle.std.proofs.Common.{◌≡◌, ◌/◌, sym, ◌∙◌, arith}
 use Rattle.dg_graph.specs.declared.function.Function.TheVariants.{Intersection}
-use Rattle.dg_shape.proofs.DueKeys.{higher_up}
-use Rattle.dg_shape.proofs.Nodes.{none_higher, height_zero}
+use Rattle.dg_shape.proofs.HierarchyRecords.{higher_up}
+use Rattle.dg_shape.proofs.ShapeNodes.{none_higher, height_zero}
 use Rattle.dg_shape.proofs.shape.Shape.nodes_at.Goals as goal
 
 pub loop-below-init : goal.loop-below-init

@@ -1,0 +1,72 @@
+-- The parts of which the segment of a batch is made.
+use Rattle.std.proofs.Common.{◌≡◌, ℕ, ◌+◌, ◌-◌, ◌*◌, ◌/◌, ◌<◌, ◌≤◌, true, List, ◌++◌, length, map, sym, ap, subst, ◌∙◌, drop, mul_comm}
+use Rattle.std.proofs.Math.Nat.{mul-sub}
+use Rattle.dg_append.proofs.FrontEvents.{InRange, in_range}
+use Rattle.dg_append.proofs.HistoryTimes.{begins_after, last_of_both}
+use Rattle.dg_append.specs.AddedBatches.{recent_behind}
+use Rattle.dg_append.specs.BatchSegments.{BeginsBehind, IsPast}
+use Rattle.dg_append.specs.OlderGroups.{older_children}
+use Rattle.dg_build.specs.SpelledRecords.{RisesFrom, last_in_rows}
+use Rattle.dg_graph.specs.declared.element.Element.{Element}
+use Rattle.dg_graph.specs.declared.event.Event.{Event}
+use Rattle.dg_graph.specs.Replay.{replay}
+use Rattle.dg_history.specs.declared.node.NodeId.{NodeId}
+use Rattle.dg_history.specs.declared.params.Params.{Params}
+use Rattle.dg_history.specs.History.{are_parameters, last_time_from}
+use Rattle.dg_index.specs.declared.entry.Row.{Row}
+use Rattle.dg_index.specs.FileOfHistory.{StoredList}
+use Rattle.dg_index.specs.Hierarchy.{leaves, set_of}
+use Rattle.dg_index.specs.IndexRecords.{deltas_due, recent_of}
+use Rattle.dg_index.specs.OlderNodes.{older}
+use Rattle.dg_index.specs.OpenedIndex.{Opening, delta_count, event_total, list_count, list_row, may_be_listed}
+use Rattle.dg_start.specs.StoredHistory.{recent_count}
+
+pub less_times : (a b n : ℕ) → (a - b) * n ≡ a * n - b * n
+less_times a b n = mul_comm (a - b) n ∙ mul-sub n a b ∙ (λ i. mul_comm n a i - mul_comm n b i)
+
+module _ (o : Opening) (p : Params) (before : ℕ) (params : p ≡ o.params) (counted : before ≡ event_total o.batches) where
+  pub as_many_lists : (count : ℕ) → leaves p (before + count) - leaves p before ≡ list_count o count
+  as_many_lists count = λ i. leaves (params i) (counted i + count) - leaves (params i) (counted i)
+
+  pub as_many_deltas : (count : ℕ) → length (deltas_due p.k (leaves p before) (leaves p (before + count))) ≡ delta_count o count
+  as_many_deltas count = λ i. length (deltas_due (params i).k (leaves (params i) (counted i)) (leaves (params i) (counted i + count)))
+
+  -- none of the events behind the lists is earlier than the last of these
+  pub begins_after_lists : (floor : ℕ) (lists : List StoredList) (recent events : List Event)
+      → RisesFrom (last_in_rows floor (map list_row lists)) (drop ((leaves p (before + length events) - leaves p before) * p.l) (recent ++ events))
+      → BeginsBehind (last_in_rows 0 (map list_row lists)) (recent_behind o.params (event_total o.batches) recent events)
+  begins_after_lists floor lists recent events rises =
+      let many : (leaves p (before + length events) - leaves p before) * p.l ≡ leaves o.params (event_total o.batches + length events) * o.params.l - leaves o.params (event_total o.batches) * o.params.l =
+      less_times (leaves p (before + length events)) (leaves p before) p.l ∙ (λ i. leaves (params i) (counted i + length events) * (params i).l - leaves (params i) (counted i) * (params i).l) in
+      subst (λ n. BeginsBehind (last_in_rows 0 (map list_row lists)) (drop n (recent ++ events))) many (begins_after floor lists _ rises)
+
+  pub older_are : (count : ℕ) → older p.k (leaves p before) (leaves p (before + count)) ≡ older_children o count
+  older_are count = λ i. older (params i).k (leaves (params i) (counted i)) (leaves (params i) (counted i + count))
+
+  pub older_long : (count long : ℕ) → long ≡ length (older_children o count) → long ≡ length (older p.k (leaves p before) (leaves p (before + count)))
+  older_long count long is = is ∙ ap (λ (l : List NodeId). length l) (sym (older_are count))
+
+  pub recent_long : (long : ℕ) → long ≡ recent_count o → long ≡ before - leaves p before * p.l
+  recent_long long is = is ∙ (λ i. sym counted i - leaves (sym params i) (sym counted i) * (sym params i).l)
+
+  pub range_of : are_parameters o.params.l o.params.k ≡ true → InRange p.l p.k
+  range_of parameters = subst (λ (q : Params). InRange q.l q.k) (sym params) (in_range o.params.l o.params.k parameters)
+
+  module _ (past recent : List Event) (graph : List Element) (events : List Event) (sets : List (List Element)) (is : IsPast o past recent graph events sets) where
+    pub past_long : length past ≡ before
+    past_long = is.long ∙ sym counted
+
+    pub past_recent : recent ≡ recent_of p past
+    past_recent = is.recent_is ∙ ap (λ (q : Params). recent_of q past) (sym params)
+
+    pub past_graph : (low high : ℕ) (set : List Element) → low ≡ leaves p before → high ≡ leaves p (before + length events) → (low / p.k < high / p.k → set ≡ graph)
+        → leaves p before / p.k < leaves p (before + length events) / p.k → set ≡ replay past
+    past_graph low high set low_is high_is taken due =
+        taken (subst (λ n. n / p.k < high / p.k) (sym low_is) (subst (λ n. leaves p before / p.k < n / p.k) (sym high_is) due)) ∙ is.graph_is
+
+    pub past_sets : sets ≡ map (set_of p past) (older p.k (leaves p before) (leaves p (before + length events)))
+    past_sets = is.sets_are ∙ (λ i. map (set_of (sym params i) past) (sym (older_are (length events)) i))
+
+-- the last time of the recent events and those behind them is that of these
+pub listed_by : (floor : ℕ) (recent events : List Event) (rows : List Row) → 1 ≤ length events → may_be_listed floor (last_time_from floor (recent ++ events)) rows ≡ true → may_be_listed floor (last_time_from 0 events) rows ≡ true
+listed_by floor recent events rows some may = ap (λ t. may_be_listed floor t rows) (sym (last_of_both floor recent events some)) ∙ may

@@ -1,0 +1,88 @@
+//! The steps of a tree, each with its delta.
+
+ghost use Rattle.std.specs.Prelude.{◌≡◌, drop, slice_get, if◌then◌else◌, IfOk, IfErr};
+ghost use Rattle.dg_fold.specs.Parts.{Folds};
+ghost use Rattle.dg_fold.specs.Steps.{names_record, part_deltas, paired, step_by};
+ghost use Rattle.dg_fold.specs.TreeSteps.{AreStepped, FailsAt};
+
+use crate::branch_walk::Stepped;
+use crate::column::part_delta;
+use crate::fault::FoldFault;
+use crate::net::net_of;
+use crate::part::Part;
+use dg_delta::Delta;
+use dg_graph::Event;
+use dg_plan::{Edge, Via};
+use std::alloc::Global;
+use std::thread::Threads;
+
+// The delta of the first of the parts, or the one that changes nothing.
+fn first_delta<R: Threads>(
+    rt: &R,
+    alloc: Global,
+    names: u32,
+    parts: &[Part],
+) -> Result<Delta, FoldFault>
+    ensures { Folds result (part_deltas names (slice_get parts.now 0)) }
+{
+    match parts.first() {
+        Some(part) => part_delta(rt, alloc, names, part),
+        None => Ok(Delta::new(alloc)),
+    }
+}
+
+// What an edge does; where it names a record, its part is the first.
+fn step_delta<R: Threads>(
+    rt: &R,
+    alloc: Global,
+    names: u32,
+    via: Via,
+    parts: &[Part],
+    recent: &[Event],
+) -> Result<Delta, FoldFault>
+    ensures { Folds result (step_by names recent.now via (slice_get parts.now 0)) }
+{
+    match via {
+        Via::Now | Via::Base(_) => Ok(Delta::new(alloc)),
+        Via::Recent(way) => Ok(net_of(rt, alloc, recent, way, None)?),
+        Via::Paid(_, _) | Via::Held(_, _) => first_delta(rt, alloc, names, parts),
+    }
+}
+
+// The parts of the edges behind this one.
+fn parts_behind(via: Via, parts: &[Part]) -> &[Part]
+    ensures { result.now ≡ (if names_record via then drop 1 parts.now else parts.now) }
+{
+    match via {
+        Via::Now | Via::Base(_) | Via::Recent(_) => parts,
+        Via::Paid(_, _) | Via::Held(_, _) => match parts.split_first() {
+            Some((_, more)) => more,
+            None => parts,
+        },
+    }
+}
+
+/// The deltas of the edges, one after another; the parts are those of the edges that name a record.
+pub(crate) fn stepped<R: Threads>(
+    rt: &R,
+    alloc: Global,
+    names: u32,
+    edges: &[Edge],
+    parts: &[Part],
+    recent: &[Event],
+) -> Result<Vec<Stepped>, FoldFault>
+    ensures ok { IfOk result (λ v. AreStepped names recent.now (paired edges.now parts.now) v.items) }
+    ensures err { IfErr result (λ f. FailsAt f names recent.now (paired edges.now parts.now)) }
+{
+    let mut steps = Vec::new(alloc);
+    let mut rest = parts;
+    for edge in edges {
+        let delta = match step_delta(rt, alloc, names, edge.via, rest, recent) {
+            Ok(delta) => delta,
+            Err(fault) => return Err(fault),
+        };
+        rest = parts_behind(edge.via, rest);
+        steps.push(Stepped { edge: *edge, delta })?;
+    }
+    Ok(steps)
+}

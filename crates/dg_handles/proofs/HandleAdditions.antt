@@ -1,0 +1,116 @@
+-- How the entries of new handles are added, one after another, and how the numbers of handles rise.
+use Rattle.std.proofs.Common.{arith, ◌≡◌, ℕ, zero, suc, ◌+◌, ◌<◌, ◌≤◌, List, [], ◌∷◌, ◌++◌, Option, None, length, map, take, get_or, remove, length-take-le, append_assoc, refl, sym, ap, ◌∙◌, subst}
+use Rattle.std.proofs.lemmas.List.{map_more, map_push, take_more}
+use Rattle.std.proofs.Math.ListN.{length-map}
+use Rattle.dg_graph.specs.declared.element.Columns.{Columns}
+use Rattle.dg_handles.specs.declared.entries.Entry.{Entry}
+use Rattle.dg_handles.specs.Attached.{numbers_of}
+use Rattle.dg_handles.specs.Handles.{RiseWithin, numbered, overlays_on}
+use Rattle.dg_handles.proofs.HandleEntries.{Entries, handles_in}
+use Rattle.dg_machine.specs.declared.stands.Stands.{Stands}
+use Rattle.dg_machine.specs.declared.stands.Stands.TheVariants.{Overlay}
+use Rattle.dg_pool.specs.declared.slots.Slot.{Slot}
+use Rattle.dg_retrieval.specs.Beginnings.{base_handle}
+use Rattle.dg_retrieval.specs.declared.graph_lead.GraphLead.{GraphLead}
+
+-- ---- overlays, one more
+
+overlays_push : (cols : Columns) (times : List ℕ) (ons : List (Option ℕ)) (t : ℕ) (on : Option ℕ) → length ons ≡ length times
+    → overlays_on cols (times ++ t ∷ []) (ons ++ on ∷ []) ≡ overlays_on cols times ons ++ Overlay t cols on ∷ []
+overlays_push cols [] [] t on many = refl
+overlays_push cols [] (o ∷ ons) t on many = absurd (omega (arith, many))
+overlays_push cols (u ∷ times) [] t on many = absurd (omega (arith, many))
+overlays_push cols (u ∷ times) (o ∷ ons) t on many = ap (λ l. Overlay u cols o ∷ l) (overlays_push cols times ons t on (omega (arith, many)))
+
+overlays_length : (cols : Columns) (times : List ℕ) (ons : List (Option ℕ)) → length ons ≡ length times → length (overlays_on cols times ons) ≡ length times
+overlays_length cols [] ons many = refl
+overlays_length cols (t ∷ times) [] many = absurd (omega (arith, many))
+overlays_length cols (t ∷ times) (on ∷ ons) many = ap suc (overlays_length cols times ons (omega (arith, many)))
+
+numbered_push : (next : ℕ) (xs : List Stands) (x : Stands) → numbered next (xs ++ x ∷ []) ≡ numbered next xs ++ (next + length xs, x) ∷ []
+numbered_push next [] x = ap (λ n. (n, x) ∷ []) (let same : next ≡ next + 0 = omega arith in same)
+numbered_push next (y ∷ xs) x =
+    let number : next + 1 + length xs ≡ next + length (y ∷ xs) = omega arith in
+    ap (λ l. (next, y) ∷ l) (numbered_push (next + 1) xs x) ∙ ap (λ n. (next, y) ∷ (numbered (next + 1) xs ++ (n, x) ∷ [])) number
+
+abbrev pub entry_of : Entry → ℕ × Stands
+entry_of e = (e.handle, e.stands)
+
+abbrev begun_on : GraphLead → Option ℕ
+begun_on l = base_handle l.begins
+
+pub table_more : (next : ℕ) (cols : Columns) (times : List ℕ) (leads : List GraphLead) (lead : GraphLead) (first now after : List Entry) (e : Entry) (i : ℕ) → i < length times → length leads ≡ length times
+    → lead ≡ get_or leads i lead → entry_of e ≡ (next + i, Overlay (get_or times i 0) cols (base_handle lead.begins))
+    → after ≡ now ++ e ∷ [] → map entry_of now ≡ map entry_of first ++ numbered next (overlays_on cols (take i times) (map begun_on (take i leads)))
+    → map entry_of after ≡ map entry_of first ++ numbered next (overlays_on cols (take (i + 1) times) (map begun_on (take (i + 1) leads)))
+table_more next cols times leads lead first now after e i within many lead_is is added so_far =
+    let x : Stands = Overlay (get_or times i 0) cols (base_handle lead.begins) in
+    let ons : List (Option ℕ) = map begun_on (take i leads) in
+    let done : List Stands = overlays_on cols (take i times) ons in
+    let taken : length (take i times) ≡ i = length-take-le i times (omega (arith, within)) in
+    let beside : length ons ≡ length (take i times) = length-map (take i leads) begun_on ∙ length-take-le i leads (omega (arith, within, many)) ∙ sym taken in
+    let len : length done ≡ i = overlays_length cols (take i times) ons beside ∙ taken in
+    let leads_more : map begun_on (take (i + 1) leads) ≡ ons ++ base_handle lead.begins ∷ [] =
+    map_more begun_on leads i lead (omega (arith, within, many)) ∙ ap (λ (l : GraphLead). ons ++ begun_on l ∷ []) (sym lead_is) in
+    ap (map entry_of) added ∙ map_push entry_of now e
+    ∙ (λ k. so_far k ++ is k ∷ [])
+    ∙ append_assoc (map entry_of first) (numbered next done) ((next + i, x) ∷ [])
+    ∙ ap (λ n. map entry_of first ++ (numbered next done ++ (next + n, x) ∷ [])) (sym len)
+    ∙ ap (λ l. map entry_of first ++ l) (sym (numbered_push next done x) ∙ ap (numbered next) (sym (overlays_push cols (take i times) ons (get_or times i 0) (base_handle lead.begins) beside)
+    ∙ (λ k. overlays_on cols (sym (take_more times i 0 within) k) (sym leads_more k))))
+
+abbrev pub number_of : Entry → ℕ
+number_of e = e.slot.0
+
+pub slots_more : (slots : List Slot) (first now after : List Entry) (e : Entry) (i : ℕ) (d : Slot) → i < length slots → e.slot ≡ get_or slots i d
+    → after ≡ now ++ e ∷ [] → map number_of now ≡ map number_of first ++ numbers_of (take i slots)
+    → map number_of after ≡ map number_of first ++ numbers_of (take (i + 1) slots)
+slots_more slots first now after e i d within is added so_far =
+    let k : Slot = get_or slots i d in
+    ap (map number_of) added ∙ map_push number_of now e
+    ∙ (λ j. so_far j ++ (is j).0 ∷ [])
+    ∙ append_assoc (map number_of first) (numbers_of (take i slots)) (k.0 ∷ [])
+    ∙ ap (λ l. map number_of first ++ l) (sym (map_more (λ (s : Slot). s.0) slots i d within))
+
+-- ---- the numbers of handles
+
+pub numbers_are : (entries : List Entry) → map (λ (e : Entry). e.handle) entries ≡ handles_in (map entry_of entries)
+numbers_are [] = refl
+numbers_are (e ∷ entries) = ap (λ l. e.handle ∷ l) (numbers_are entries)
+
+rise_lower : (low mid high : ℕ) (xs : List ℕ) → low ≤ mid → RiseWithin mid high xs → RiseWithin low high xs
+rise_lower low mid high [] le rises = omega (arith, le, rises)
+rise_lower low mid high (x ∷ xs) le rises = (omega (arith, le, rises.0), rises.1)
+
+rise_append : (low mid high : ℕ) (xs ys : List ℕ) → RiseWithin low mid xs → RiseWithin mid high ys → RiseWithin low high (xs ++ ys)
+rise_append low mid high [] ys rises more = rise_lower low mid high ys rises more
+rise_append low mid high (x ∷ xs) ys rises more = (rises.0, rise_append (x + 1) mid high xs ys rises.1 more)
+
+pub rise_remove : (low high : ℕ) (xs : List ℕ) (i : ℕ) → RiseWithin low high xs → RiseWithin low high (remove xs i)
+rise_remove low high [] zero rises = rises
+rise_remove low high [] (suc i) rises = rises
+rise_remove low high (x ∷ xs) zero rises = rise_lower low (x + 1) high xs (omega (arith, rises.0)) rises.1
+rise_remove low high (x ∷ xs) (suc i) rises = (rises.0, rise_remove (x + 1) high xs i rises.1)
+
+rise_numbered : (next : ℕ) (xs : List Stands) → RiseWithin next (next + length xs) (handles_in (numbered next xs))
+rise_numbered next [] = omega arith
+rise_numbered next (x ∷ xs) =
+    let same : next + 1 + length xs ≡ next + length (x ∷ xs) = omega arith in
+    (omega arith, subst (λ (high : ℕ). RiseWithin (next + 1) high (handles_in (numbered (next + 1) xs))) same (rise_numbered (next + 1) xs))
+
+handles-append : (table more : Entries) → handles_in (table ++ more) ≡ handles_in table ++ handles_in more
+handles-append [] more = refl
+handles-append (e ∷ table) more = ap (λ l. e.0 ∷ l) (handles-append table more)
+
+-- the numbers still rise where new ones come behind them
+pub rise_more : (entries after : List Entry) (next last : ℕ) (new : List Stands) → RiseWithin 0 next (map (λ (e : Entry). e.handle) entries) → map entry_of after ≡ map entry_of entries ++ numbered next new
+    → last ≡ next + length new → RiseWithin 0 last (map (λ (e : Entry). e.handle) after)
+rise_more entries after next last new rises is len =
+    subst (RiseWithin 0 last) (sym (numbers_are after ∙ ap handles_in is ∙ handles-append (map entry_of entries) (numbered next new)))
+    (subst (λ (high : ℕ). RiseWithin 0 high (handles_in (map entry_of entries) ++ handles_in (numbered next new))) (sym len)
+    (rise_append 0 next (next + length new) (handles_in (map entry_of entries)) (handles_in (numbered next new))
+    (subst (RiseWithin 0 next) (numbers_are entries) rises) (rise_numbered next new)))
+
+-- as many overlays as instants
+pub overlays_many : (cols : Columns) (times : List ℕ) (leads : List GraphLead) → length leads ≡ length times → length (overlays_on cols times (map begun_on leads)) ≡ length times
+overlays_many cols times leads many = overlays_length cols times (map begun_on leads) (length-map leads begun_on ∙ many)

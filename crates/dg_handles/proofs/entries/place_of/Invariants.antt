@@ -1,5 +1,0 @@
-use Rattle.std.proofs.Common.{◌≡◌, ℕ, ◌<◌, map, slice_index}
-use Rattle.dg_handles.proofs.entries.place_of.Given as goal
-
-abbrev pub invariant-loop-place : goal.invariant-loop-place
-invariant-loop-place l = (k : ℕ) → k < l.place → slice_index (map (λ e. e.handle) l.entries) k ≡ l.handle → ⊥

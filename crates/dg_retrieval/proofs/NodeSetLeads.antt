@@ -1,0 +1,147 @@
+-- The sets of nodes, by what leads to them along a tree over the records of an index.
+use Rattle.std.proofs.Common.{◌≡◌, ℕ, true, false, List as ListOf, [], ◌∷◌, Option, Result, Ok, Err, IfSome, append-nil, length, map, refl, sym, ap, subst, ◌∙◌}
+use Rattle.std.specs.List.{All, AllZip}
+use Rattle.std.proofs.lemmas.Bool.{false≢true}
+use Rattle.std.proofs.lemmas.List.Elements.{All-head, All-map, All-nil, All-push, All-tail}
+use Rattle.std.proofs.lemmas.Option.{IfSome_then}
+use Rattle.dg_fold.specs.declared.part.Part.{Part}
+use Rattle.dg_fold.specs.declared.tree.Branch.{Branch}
+use Rattle.dg_fold.specs.declared.tree.Lead.{Lead}
+use Rattle.dg_fold.specs.Ends.{AreLedUntil, LeadsUntil, last_in}
+use Rattle.dg_fold.specs.Parts.{Folds, beside}
+use Rattle.dg_fold.specs.PathIndependence.{begun_at}
+use Rattle.dg_fold.specs.Steps.{PartedStep, paired, step_by, steps_in, names_record}
+use Rattle.dg_fold.specs.Trees.{IsStepOf, LeadsTo, PathIn, all_edges}
+use Rattle.dg_fold.specs.Trees.PathIn.{Begins_at_root, Steps_on}
+use Rattle.dg_graph.specs.declared.element.Column.{Column}
+use Rattle.dg_graph.specs.declared.element.Element.{Element}
+use Rattle.dg_graph.specs.declared.event.Event.{Event}
+use Rattle.dg_graph.specs.Composition.{Delta, applied}
+use Rattle.dg_graph.specs.Elements.{shown}
+use Rattle.dg_history.specs.declared.node.Key.{Key}
+use Rattle.dg_history.specs.declared.node.NodeId.{NodeId}
+use Rattle.dg_history.specs.declared.node.NodeId.TheVariants as node
+use Rattle.dg_history.specs.History.{History, events_of, names_of}
+use Rattle.dg_index.specs.Hierarchy.{set_of}
+use Rattle.dg_index.specs.IndexRecords.{recent_of}
+use Rattle.dg_index.specs.OpenedIndex.{Opening}
+use Rattle.dg_plan.specs.declared.edge.Edge.{Edge}
+use Rattle.dg_plan.specs.declared.edge.Via.{Via}
+use Rattle.dg_plan.specs.declared.edge.Via.TheVariants as via
+use Rattle.dg_plan.specs.HistoryGraph.{all_columns}
+use Rattle.dg_plan.specs.Walks.{Graft, steps_of}
+use Rattle.dg_retrieval.specs.declared.graph_lead.GraphLead.{GraphLead}
+use Rattle.dg_retrieval.specs.Beginnings.{LeadsAs}
+use Rattle.dg_retrieval.specs.KeptGraph.{record_edges, record_ground}
+use Rattle.dg_retrieval.specs.NodeSets.{HasNoEvents, IsIndexOver, sets_of}
+use Rattle.dg_retrieval.specs.TreeLeads.{AreTreeLeads}
+use Rattle.dg_retrieval.proofs.HistoryTreeLaws.{ReachesNodes, nodes_reach}
+use Rattle.dg_retrieval.proofs.KeptGraphWalks.{walk_all, walk_among, walk_records}
+use Rattle.dg_retrieval.proofs.KeptGraphRecords.{graph_of_index}
+use Rattle.dg_retrieval.proofs.BeginningGraphs.{ends_are}
+use Rattle.dg_retrieval.proofs.StepRecords.{TakesRecord, all_shown, begins_there, edges_take}
+use Rattle.dg_retrieval.proofs.BeginningBases.{step_has}
+use Rattle.dg_retrieval.proofs.BranchTrees.{branches_hold}
+
+-- ---- without recent events
+
+-- the step takes a record
+abbrev StepTakes : PartedStep → Type 0
+StepTakes s = TakesRecord s.0
+
+step_alike : (names : ℕ) (recent : ListOf Event) (v : Via) (part : Option Part) → names_record v ≡ true → step_by names [] v part ≡ step_by names recent v part
+step_alike names recent via.Now part takes = refl
+step_alike names recent (via.Base handle) part takes = refl
+step_alike names recent (via.Paid key way) part takes = refl
+step_alike names recent (via.Held key way) part takes = refl
+step_alike names recent (via.Recent way) part takes = absurd (false≢true takes)
+
+-- what such steps come to is the same whatever the recent events
+steps_alike : (names : ℕ) (recent : ListOf Event) (steps : ListOf PartedStep) → All StepTakes steps → steps_in names [] steps ≡ steps_in names recent steps
+steps_alike names recent [] all = refl
+steps_alike names recent (s ∷ steps) all =
+    let one = step_alike names recent s.0.via s.1 (All-head StepTakes s steps all) in
+    let rest = steps_alike names recent steps (All-tail StepTakes s steps all) in
+    λ i. beside (one i) (rest i)
+
+-- so is each step of a path by such steps
+path_takes : (all : ListOf PartedStep) → ((s : PartedStep) → IsStepOf s all → StepTakes s) → (v : NodeId) (path : ListOf PartedStep) → PathIn all v path → All StepTakes path
+path_takes all takes v path Begins_at_root = All-nil StepTakes
+path_takes all takes v path (Steps_on s before among way) = All-push StepTakes before s (path_takes all takes s.0.from before way) (takes s among)
+
+none_more : (a : Result (ListOf Delta) (Key × Column)) → beside a (Ok []) ≡ a
+none_more (Ok xs) = ap Ok (append-nil xs)
+none_more (Err x) = refl
+
+-- a node without events of its own goes on with none
+no_last : (names : ℕ) (parts : ListOf Part) (v : NodeId) (t : ℕ) → HasNoEvents v → last_in names [] parts v t ≡ Ok []
+no_last names parts node.Root t bare = refl
+no_last names parts node.Now t bare = refl
+no_last names parts node.Recent t bare = elim bare [ ]
+no_last names parts (node.Leaf j) t bare = refl
+no_last names parts (node.List i) t bare = elim bare [ ]
+no_last names parts (node.Inner h j) t bare = refl
+
+-- ---- over a history
+
+head_of : {A : Type 0} {x y : A} {xs ys : ListOf A} → x ∷ xs ≡ y ∷ ys → x ≡ y
+head_of is = cc
+
+tail_of : {A : Type 0} {x y : A} {xs ys : ListOf A} → x ∷ xs ≡ y ∷ ys → xs ≡ ys
+tail_of is = cc
+
+-- a delta, applied to the empty graph
+abbrev pub from_nothing : GraphLead → ListOf Element
+from_nothing l = applied l.delta []
+
+module _ (names : ℕ) (z : History) (walk : ListOf Edge) (parts : ListOf Part) (take : All TakesRecord walk) (reaches : ReachesNodes names z all_columns walk parts) where
+  -- what leads to a node gives its set
+  one_led : (v : NodeId) (t : ℕ) (begun : NodeId) (d : Delta) → HasNoEvents v → LeadsUntil names [] parts (paired walk parts) v t begun d → applied d [] ≡ set_of z.params (events_of z) v
+  one_led v t begun d bare led =
+      let recent : ListOf Event = recent_of z.params (events_of z) in
+      let takes = path_takes (paired walk parts) (step_has TakesRecord walk parts take) v led.0 led.1 in
+      let same : beside (steps_in names [] led.0) (last_in names [] parts v t) ≡ steps_in names recent led.0 =
+      ap (beside (steps_in names [] led.0)) (no_last names parts v t bare) ∙ none_more (steps_in names [] led.0) ∙ steps_alike names recent led.0 takes in
+      let leads : LeadsTo names recent (paired walk parts) v d = (led.0, led.1, subst (Folds (Ok d)) same led.3) in
+      let begins : shown [] all_columns ≡ shown (set_of z.params (events_of z) (begun_at node.Root (map (λ (s : PartedStep). s.0) led.0))) all_columns =
+      ap (λ n. shown (set_of z.params (events_of z) n) all_columns) (sym (begins_there node.Root (map (λ (s : PartedStep). s.0) led.0) (All-map TakesRecord (λ (s : PartedStep). s.0) led.0 takes))) in
+      sym (all_shown (applied d [])) ∙ reaches v d leads [] (tt, begins) ∙ all_shown (set_of z.params (events_of z) v)
+
+  all_led : (edges : ListOf Edge) (branches : ListOf Branch) (times : ListOf ℕ) (targets : ListOf NodeId) (paths : ListOf Lead) (leads : ListOf GraphLead) → map (λ (b : Branch). b.to) branches ≡ targets
+      → All HasNoEvents targets → AreLedUntil names [] parts (paired walk parts) branches times paths → AllZip (LeadsAs edges) paths leads → map from_nothing leads ≡ sets_of z targets
+  all_led edges [] times [] [] [] ends bare led alike = refl
+  all_led edges [] times [] [] (g ∷ leads) ends bare led alike = elim alike [ ]
+  all_led edges [] times [] (l ∷ paths) leads ends bare led alike = elim led [ ]
+  all_led edges [] times (v ∷ targets) paths leads ends bare led alike = absurd cc
+  all_led edges (b ∷ branches) [] targets paths leads ends bare led alike = elim led [ ]
+  all_led edges (b ∷ branches) (t ∷ times) targets [] leads ends bare led alike = elim led [ ]
+  all_led edges (b ∷ branches) (t ∷ times) [] (l ∷ paths) leads ends bare led alike = absurd cc
+  all_led edges (b ∷ branches) (t ∷ times) (v ∷ targets) (l ∷ paths) [] ends bare led alike = elim alike [ ]
+  all_led edges (b ∷ branches) (t ∷ times) (v ∷ targets) (l ∷ paths) (g ∷ leads) ends bare led alike =
+      let here : b.to ≡ v = head_of ends in
+      let one : from_nothing g ≡ set_of z.params (events_of z) v =
+      ap (λ (d : Delta). applied d []) alike.0.delta
+      ∙ one_led v t l.begun l.delta (All-head HasNoEvents v targets bare) (subst (λ (n : NodeId). LeadsUntil names [] parts (paired walk parts) n t l.begun l.delta) here led.0) in
+      let rest = all_led edges branches times targets paths leads (tail_of ends) (All-tail HasNoEvents v targets bare) led.1 alike.1 in
+      λ i. one i ∷ rest i
+
+module _ (o : Opening) (edges : ListOf Edge) (is : edges ≡ record_edges o) (targets : ListOf NodeId) (bare : All HasNoEvents targets) (grafts : ListOf (Graft NodeId)) (names : ℕ)
+    (times : ListOf ℕ) (leads : ListOf GraphLead) where
+  gives : (im : ListOf ℕ) → AreTreeLeads names [] edges o all_columns targets grafts times leads im → (z : History) → IsIndexOver z im o names → map from_nothing leads ≡ sets_of z targets
+  gives im led z over =
+      let branches = led.0 in
+      let are = led.1 in
+      let parts = led.2 in
+      let walk : ListOf Edge = all_edges branches in
+      let along = branches_hold edges targets grafts branches are in
+      let reaches =
+      nodes_reach z over.stands.legal (record_ground o) (graph_of_index z o over.opened all_columns false []) all_columns walk
+      (walk_among o all_columns false [] edges is (steps_of grafts) walk along) parts (walk_records o all_columns false [] edges is (steps_of grafts) walk along z im over.stands over.opened parts led.3) in
+      all_led (length (names_of z)) z walk parts (walk_all o all_columns false [] edges is (steps_of grafts) walk along TakesRecord (edges_take (record_ground o) refl refl)) reaches
+      edges branches times targets led.4 leads (ends_are edges targets grafts branches are) bare
+      (subst (λ n. AreLedUntil n [] parts (paired walk parts) branches times led.4) over.names led.5) led.6
+
+  -- over an image of a history, they are the sets of the nodes
+  pub sets_are : (image : Option (ListOf ℕ)) → IfSome image (λ im. AreTreeLeads names [] edges o all_columns targets grafts times leads im)
+      → (sets : ListOf (ListOf Element)) → sets ≡ map from_nothing leads → IfSome image (λ im. (z : History) → IsIndexOver z im o names → sets ≡ sets_of z targets)
+  sets_are image led sets come = IfSome_then image led (λ im there z over. come ∙ gives im there z over)

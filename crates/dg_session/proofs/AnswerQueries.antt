@@ -1,0 +1,35 @@
+-- What each command asks of a handle's graph.
+use Rattle.std.proofs.Common.{◌≡◌, ℕ, Bool, true, false, cond, map, refl}
+use Rattle.dg_graph.specs.declared.element.Element.TheVariants as element
+use Rattle.dg_graph.specs.Elements.{has}
+use Rattle.dg_machine.specs.declared.command.Command.TheVariants as command
+use Rattle.dg_machine.specs.declared.reply.BodyLine.TheVariants as line
+use Rattle.dg_machine.specs.declared.reply.Head.TheVariants as head
+use Rattle.dg_machine.specs.declared.reply.Reply.{Reply}
+use Rattle.dg_machine.specs.Answer.{counting, headed, is_refusal, listing, neighbours_reply, node_reply}
+use Rattle.dg_query.specs.Queries.{degree_of, values_of}
+use Rattle.dg_session.proofs.SessionQueryStep.{Asks}
+
+pub list_asks : (handle : ℕ) → Asks (command.List handle) handle false (listing handle)
+list_asks handle = record { unplanned = λ m. refl; needed = λ p. refl; due = λ m. refl; accepts = λ g. refl }
+
+pub counts_asks : (handle : ℕ) → Asks (command.Counts handle) handle false (counting handle)
+counts_asks handle = record { unplanned = λ m. refl; needed = λ p. refl; due = λ m. refl; accepts = λ g. refl }
+
+-- of two replies, neither of which is a refusal, one is none
+either : (b : Bool) (x y : Reply) → is_refusal x.head ≡ false → is_refusal y.head ≡ false → is_refusal (cond b x y).head ≡ false
+either true x y p q = p
+either false x y p q = q
+
+pub node_asks : (handle id : ℕ) → Asks (command.Node handle id) handle true (node_reply handle id)
+node_asks handle id = record {
+  unplanned = λ m. refl;
+  needed = λ p. refl;
+  due = λ m. refl;
+  accepts = λ g.
+      either (has g (element.Node id)) (record { head = head.NodeThere handle id (degree_of g id); body = map (λ v. line.Attribute v) (values_of g id) })
+      (headed (head.NodeAbsent handle id)) refl refl;
+}
+
+pub neighbours_asks : (handle id : ℕ) → Asks (command.Neighbours handle id) handle true (neighbours_reply handle id)
+neighbours_asks handle id = record { unplanned = λ m. refl; needed = λ p. refl; due = λ m. refl; accepts = λ g. refl }

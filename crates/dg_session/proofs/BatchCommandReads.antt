@@ -1,0 +1,220 @@
+-- Which bytes a command that adds a batch has read, and which damage it tells of.
+use Rattle.std.proofs.Common.{◌≡◌, ℕ, true, false, List, [], ◌∷◌, Option, Some, Ok, Err, length, refl, sym, ◌∙◌, ap, subst, arith}
+use Rattle.std.specs.Prelude.{IfSome}
+use Rattle.std.specs.List.{sum}
+use Rattle.std.proofs.lemmas.Bool.{false≢true}
+use Rattle.std.proofs.lemmas.List.{length-map}
+use Rattle.dg_append.specs.AddedBatches.{FailsBatch, IsOverHistory, MeetsDamage, ReadsNothing, TakesOlder}
+use Rattle.dg_append.specs.Fronts.{ComeTo, IsFront, lines}
+use Rattle.dg_append.specs.OlderGroups.{IsBatchDamage, older_children}
+use Rattle.dg_append.specs.declared.fault.BatchFault.{BatchFault}
+use Rattle.dg_append.specs.declared.fault.BatchFault.TheVariants as fault
+use Rattle.dg_append.specs.declared.front.Front.{Front}
+use Rattle.dg_append.specs.declared.front.Front.TheVariants.{Whole, Form, Unkept}
+use Rattle.dg_fold.specs.BytesRead.{TakesAtMost}
+use Rattle.dg_graph.specs.declared.element.Column.{Column}
+use Rattle.dg_graph.specs.declared.element.Element.{Element}
+use Rattle.dg_graph.specs.declared.event.Change.{Change}
+use Rattle.dg_graph.specs.declared.event.Event.{Event}
+use Rattle.dg_graph.specs.Lines.{ScriptLine}
+use Rattle.dg_history.specs.declared.node.Key.{Key}
+use Rattle.dg_history.specs.declared.node.NodeId.{NodeId}
+use Rattle.dg_history.specs.declared.node.NodeId.TheVariants.{Root}
+use Rattle.dg_history.specs.History.{History}
+use Rattle.dg_index.specs.OpenedIndex.{Opening, earliest_in}
+use Rattle.dg_machine.specs.declared.reply.Head.{Head}
+use Rattle.dg_machine.specs.declared.reply.Head.TheVariants as head
+use Rattle.dg_machine.specs.declared.reply.Refusal.{Refusal}
+use Rattle.dg_machine.specs.declared.reply.Refusal.TheVariants as refusal
+use Rattle.dg_machine.specs.MachineState.{MachineState}
+use Rattle.dg_machine.specs.Needs.{needs}
+use Rattle.dg_machine.specs.Planning.{record_edges_in}
+use Rattle.dg_plan.specs.declared.edge.Edge.{Edge}
+use Rattle.dg_plan.specs.HistoryGraph.{all_columns}
+use Rattle.dg_plan.specs.IndexGraph.{arcs_of}
+use Rattle.dg_plan.specs.Walks.{AreSingles}
+use Rattle.dg_retrieval.specs.KeptGraph.{record_edges}
+use Rattle.dg_session.proofs.BatchCommandForms.{Lines_of, Origin, Seed, adding, head_over}
+use Rattle.dg_session.proofs.BatchCommandStep.{IsAsked, many_changes, of_here, opening_there, over, refused_first}
+use Rattle.dg_session.proofs.CompletedChanges.{all_come, as_many}
+use Rattle.dg_session.proofs.DamageStep.{tells_no_damage}
+use Rattle.dg_session.proofs.PlanStep.{older_are, records_edges_are}
+use Rattle.dg_session.proofs.SessionRetrievals.{every_some, if_some}
+use Rattle.dg_session.proofs.PartStates.{is_of}
+use Rattle.dg_session.proofs.SessionSteps.{refused_not_read}
+use Rattle.dg_session.specs.BatchCommand.{barred, command_with}
+use Rattle.dg_session.specs.BatchLines.{IsBarred, ReadsBatch, first_refusal}
+use Rattle.dg_session.specs.Damage.{DamageIn, DamageIs, NamesBatchDamage}
+use Rattle.dg_session.specs.declared.batch_command.BatchCommand.{BatchCommand}
+use Rattle.dg_session.specs.declared.batch_command.BatchCommand.TheVariants.{Load, Append}
+use Rattle.dg_session.specs.declared.batch_lines.BatchLines.{BatchLines}
+use Rattle.dg_session.specs.declared.halt.Halt.{Halt}
+use Rattle.dg_session.specs.declared.halt.Halt.TheVariants as halt
+use Rattle.dg_session.specs.Halt.{batch_halt}
+use Rattle.dg_session.specs.Parts.{Parts}
+use Rattle.dg_session.specs.Reads.{Reads, ReadsBy, ReadsIn, ReadsOlder, reply_head, is_early, is_quiet, older_for}
+use Rattle.dg_session.specs.Session.{StandsFor, is_of_read}
+use Rattle.dg_start.specs.declared.stored_history.StoredHistory.{StoredHistory}
+use Rattle.dg_start.specs.StoredHistory.{index_opening}
+
+-- ---- the bytes read
+
+-- over an image that stands for a state no more was read than the older children
+abbrev pub ReadsNoMore : Parts → Option (List ℕ) → ℕ → ℕ → ℕ → Type 0
+ReadsNoMore p image count before after = IfSome image (λ bytes. (m : MachineState) → StandsFor p bytes m → ReadsOlder m count before after)
+
+read_by : (from : Origin) (m : MachineState) (count : ℕ) (got : List ScriptLine) (h : Head) (before after : ℕ) → ReadsOlder m count before after → ReadsBy m (adding from count) got h before after
+read_by (Lines_of Load) m count got h before after reads = reads
+read_by (Lines_of Append) m count got h before after reads = reads
+read_by (Seed seed) m count got h before after reads = reads
+
+not_quiet : (from : Origin) (count : ℕ) → is_quiet (adding from count) ≡ false
+not_quiet (Lines_of Load) count = refl
+not_quiet (Lines_of Append) count = refl
+not_quiet (Seed seed) count = refl
+
+batch_reads : (from : Origin) (count : ℕ) (p : Parts) (image : Option (List ℕ)) (h : Head) (before after : ℕ) → ReadsNoMore p image count before after → (is_early h ≡ true → after ≡ before)
+    → Reads (adding from count) p image h before after
+batch_reads from count p image h before after older early = record {
+  told = λ reads. if_some image (λ bytes. (m : MachineState) → StandsFor p bytes m → ReadsOlder m count before after)
+      (λ bytes. (m : MachineState) → StandsFor p bytes m → (got : List ScriptLine) → ReadsBy m (adding from count) got h before after)
+      (λ bytes f m s got. read_by from m count got h before after (f m s)) older;
+  early = early;
+  nothing = λ quiet. absurd (false≢true (sym (not_quiet from count) ∙ quiet));
+}
+
+nothing_read : (p : Parts) (image : Option (List ℕ)) (count before after : ℕ) → after ≡ before → ReadsNoMore p image count before after
+nothing_read p image count before after same =
+    every_some image (λ bytes. (m : MachineState) → StandsFor p bytes m → ReadsOlder m count before after)
+    (λ bytes m s singles are. let most : TakesAtMost (sum singles) before before = omega arith in subst (TakesAtMost (sum singles) before) (sym same) most)
+
+-- there is no batch to be completed, and nothing was read
+pub unread_reads : (from : Origin) (count : ℕ) (p : Parts) (image : Option (List ℕ)) (h : Halt) (taken : ℕ) → ReadsIn (adding from count) p image (Err h) taken taken
+unread_reads from count p image h taken =
+    every_some (reply_head (Err h)) (λ x. Reads (adding from count) p image x taken taken)
+    (λ x. batch_reads from count p image x taken taken (nothing_read p image count taken taken refl) (λ e. refl))
+
+early_told : (f : BatchFault) (before after : ℕ) → ReadsNothing f before after → IfSome (reply_head (Err (batch_halt f))) (λ h. is_early h ≡ true → after ≡ before)
+early_told (fault.BadChange line reason) before after none = λ e. none
+early_told (fault.FileFull n most) before after none = λ e. absurd (false≢true e)
+early_told (fault.Damaged key col) before after none = λ e. absurd (false≢true e)
+early_told fault.Read before after none = λ e. absurd (false≢true e)
+early_told fault.Memory before after none = λ e. absurd (false≢true e)
+early_told fault.Store before after none = tt
+
+pub failed_reads : (from : Origin) (count : ℕ) (p : Parts) (image : Option (List ℕ)) (f : BatchFault) (before after : ℕ) → ReadsNoMore p image count before after → ReadsNothing f before after
+    → ReadsIn (adding from count) p image (Err (batch_halt f)) before after
+failed_reads from count p image f before after older none =
+    if_some (reply_head (Err (batch_halt f))) (λ h. is_early h ≡ true → after ≡ before) (λ h. Reads (adding from count) p image h before after)
+    (λ h early. batch_reads from count p image h before after older early) (early_told f before after none)
+
+not_early : (from : Origin) (graph : List Element) (events total last : ℕ) → is_early (head_over from graph events total last) ≡ false
+not_early (Lines_of Load) graph events total last = refl
+not_early (Lines_of Append) graph events total last = refl
+not_early (Seed seed) graph events total last = refl
+
+pub added_reads : (from : Origin) (count : ℕ) (p : Parts) (image : Option (List ℕ)) (graph : List Element) (events total last before after : ℕ) → ReadsNoMore p image count before after
+    → Reads (adding from count) p image (head_over from graph events total last) before after
+added_reads from count p image graph events total last before after older =
+    batch_reads from count p image (head_over from graph events total last) before after older (λ e. absurd (false≢true (sym (not_early from graph events total last) ∙ e)))
+
+-- ---- why nothing is told of a read
+
+-- the lines are no batch to be completed
+barred_no_read : (which : BatchCommand) (count : ℕ) (p : Parts) (names grown : List (List ℕ)) (before after : Option (List ScriptLine)) (bar : Option Refusal) (r : Refusal)
+    → bar ≡ barred which p count → IsBarred count bar before after names grown r → is_of_read r ≡ false
+barred_no_read which count p names grown before after bar r bar_is b =
+    refused_not_read p (length b.got) (needs (command_with which count)) r
+    (refused_first which p count (length b.got) ∙ ap (first_refusal (length b.got) count) (sym bar_is) ∙ b.refused)
+
+pub unread_damage : (which : BatchCommand) (count : ℕ) (p : Parts) (names grown : List (List ℕ)) (before after : Option (List ScriptLine)) (bar : Option Refusal) (image : Option (List ℕ)) (h : Halt)
+    → bar ≡ barred which p count → ReadsBatch count bar before after names grown (Err h) → DamageIn (command_with which count) p image (Err h)
+unread_damage which count p names grown before after bar image (halt.Refusal r) bar_is b =
+    tells_no_damage (command_with which count) p image r (barred_no_read which count p names grown before after bar r bar_is b)
+unread_damage which count p names grown before after bar image (halt.Stop s) bar_is b = tt
+
+pub unread_is_no_read : (which : BatchCommand) (count : ℕ) (p : Parts) (names grown : List (List ℕ)) (before after : Option (List ScriptLine)) (bar : Option Refusal) (h : Halt)
+    → bar ≡ barred which p count → ReadsBatch count bar before after names grown (Err h) → h ≡ halt.Refusal refusal.StoreRead → ⊥
+unread_is_no_read which count p names grown before after bar (halt.Refusal r) bar_is b is =
+    let e : r ≡ refusal.StoreRead = cc in
+    false≢true (sym (barred_no_read which count p names grown before after bar r bar_is b) ∙ ap is_of_read e)
+unread_is_no_read which count p names grown before after bar (halt.Stop s) bar_is b is = cc
+
+-- the refusal of a failed read comes from a failed read
+pub read_fault : (f : BatchFault) → batch_halt f ≡ halt.Refusal refusal.StoreRead → f ≡ fault.Read
+read_fault (fault.BadChange line reason) e = absurd cc
+read_fault (fault.FileFull n most) e = absurd cc
+read_fault (fault.Damaged key col) e = absurd cc
+read_fault fault.Read e = refl
+read_fault fault.Memory e = absurd cc
+read_fault fault.Store e = absurd cc
+
+names_it : (from : Origin) (count : ℕ) (p : Parts) (image : Option (List ℕ)) (key : Key) (col : Column) → NamesBatchDamage p image count key col → DamageIs (adding from count) p image (head.Refused (refusal.Damaged key col))
+names_it (Lines_of Load) count p image key col d = d
+names_it (Lines_of Append) count p image key col d = d
+names_it (Seed seed) count p image key col d = d
+
+module _ (from : Origin) (got : List ScriptLine) (p : Parts) (count known limit : ℕ) (c : StoredHistory) (b : BatchLines) (a : IsAsked from got p count known limit c b) where
+  abbrev o : Opening
+  o = a.free.index
+
+  there : p.index ≡ Some o
+  there = a.free.there
+
+  here : index_opening c.index ≡ Some o
+  here = opening_there from got p count known limit c b a
+
+  -- what is said of the changes that are kept holds of all that is asked for
+  pub reads_no_more : (told : Option (List ℕ)) (before after : ℕ) → IfSome (index_opening c.index) (λ o. TakesOlder told o known c (length b.changes.items) before after)
+      → ((b.front ≡ Whole → ⊥) → after ≡ before) → ReadsNoMore p told count before after
+  reads_no_more told before after takes unread = by b.front refl
+    where
+      singles_are : (m : MachineState) (image : List ℕ) (singles : List ℕ) → b.front ≡ Whole → StandsFor p image m → AreSingles (arcs_of (record_edges_in m all_columns)) (Root ∷ []) (older_for m count) singles
+          → AreSingles (arcs_of (record_edges o)) (Root ∷ []) (older_children o (length b.changes.items)) singles
+      singles_are m image singles whole s are =
+          let many : length b.changes.items ≡ count = many_changes from got p count known limit c b a whole in
+          let nodes : older_for m count ≡ older_children o (length b.changes.items) = sym (older_are p o image m there s count) ∙ ap (older_children o) (sym many) in
+          subst (λ (es : List Edge). AreSingles (arcs_of es) (Root ∷ []) (older_children o (length b.changes.items)) singles) (sym (records_edges_are p o image m there s))
+          (subst (λ (ns : List NodeId). AreSingles (arcs_of (record_edges_in m all_columns)) (Root ∷ []) ns singles) nodes are)
+
+      by_whole : b.front ≡ Whole → ReadsNoMore p told count before after
+      by_whole whole =
+          if_some told
+          (λ image. (z : History) → IsOverHistory z image o known c → (singles : List ℕ) → AreSingles (arcs_of (record_edges o)) (Root ∷ []) (older_children o (length b.changes.items)) singles → TakesAtMost (sum singles) before after)
+          (λ image. (m : MachineState) → StandsFor p image m → ReadsOlder m count before after)
+          (λ image t m s singles are.
+          let found = is_of p o image m there s in
+          t found.0 (over from got p count known limit c b a image m found.0 found.1) singles (singles_are m image singles whole s are))
+          (of_here (index_opening c.index) o (λ o. TakesOlder told o known c (length b.changes.items) before after) here takes)
+
+      by : (x : Front) → b.front ≡ x → ReadsNoMore p told count before after
+      by Whole is = by_whole is
+      by Form is = nothing_read p told count before after (unread (λ w. let e : Form ≡ Whole = sym is ∙ w in cc))
+      by Unkept is = nothing_read p told count before after (unread (λ w. let e : Unkept ≡ Whole = sym is ∙ w in cc))
+
+  -- ---- damage
+
+  -- the lines come to as many events as there are lines
+  many_events : (events : List Event) → b.front ≡ Whole → ComeTo o c.now.graph b.front b.changes.items (Ok events) → length events ≡ count
+  many_events events whole come =
+      let are : IsFront b.front b.changes.items (lines b.changes.items) = subst (λ (x : Front). IsFront x b.changes.items (lines b.changes.items)) (sym whole) refl in
+      as_many (earliest_in 0 o.batches) c.now.graph (lines b.changes.items) events (all_come 1 (earliest_in 0 o.batches) c.now.graph (lines b.changes.items) events (come (lines b.changes.items) are))
+      ∙ length-map b.changes.items (λ (x : Change). Some x) ∙ many_changes from got p count known limit c b a whole
+
+  meets : (told : Option (List ℕ)) (key : Key) (col : Column) → MeetsDamage o known c told b.changes.items b.front key col → NamesBatchDamage p told count key col
+  meets told key col d = (
+    o,
+    there,
+    subst (λ (n : ℕ). IfSome told (λ image. IsBatchDamage n o image count key col)) a.known_is
+        (subst (λ (n : ℕ). IfSome told (λ image. IsBatchDamage known o image n key col)) (many_events d.events d.whole d.come) d.damage),
+  )
+
+  pub failed_damage : (told after : Option (List ℕ)) (f : BatchFault) → IfSome (index_opening c.index) (λ o. FailsBatch o limit known c told after b.changes.items b.front f) → DamageIn (adding from count) p told (Err (batch_halt f))
+  failed_damage told after (fault.Damaged key col) fails =
+      names_it from count p told key col
+      (meets told key col (of_here (index_opening c.index) o (λ o. FailsBatch o limit known c told after b.changes.items b.front (fault.Damaged key col)) here fails).1)
+  failed_damage told after (fault.BadChange line reason) fails = tt
+  failed_damage told after (fault.FileFull n most) fails = tt
+  failed_damage told after fault.Read fails = tt
+  failed_damage told after fault.Memory fails = tt
+  failed_damage told after fault.Store fails = tt

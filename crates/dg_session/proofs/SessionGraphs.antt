@@ -1,0 +1,131 @@
+-- A batch leaves what the live handles list as it is, since its events are later than every instant of the history.
+use Rattle.std.proofs.Common.{◌≡◌, ℕ, ◌+◌, ◌*◌, ◌^◌, ◌<◌, ◌≤◌, Bool, true, false, cond, List, [], ◌∷◌, ◌++◌, length, map, refl, sym, subst, ap, ◌∙◌, arith, length-append}
+use native.Mathlib.Nat.{pow-zero}
+use Rattle.std.specs.Prelude.{◌&&◌, nat_le}
+use Rattle.std.specs.List.{All}
+use Rattle.std.proofs.lemmas.Bool.{leb-true, lt-leb, le-leb, false≢true}
+use Rattle.std.proofs.lemmas.List.Elements.{All-head, All-tail, All-nil, All-cons}
+use Rattle.dg_graph.specs.declared.element.Element.{Element}
+use Rattle.dg_graph.specs.declared.event.Event.{Event}
+use Rattle.dg_graph.specs.Elements.{shown}
+use Rattle.dg_graph.specs.Replay.{events_until, replay_at}
+use Rattle.dg_history.specs.declared.node.NodeId.{NodeId}
+use Rattle.dg_history.specs.declared.node.NodeId.TheVariants.{Root, Now, Recent, Leaf, List as EventList, Inner}
+use Rattle.dg_history.specs.declared.params.Params.{Params}
+use Rattle.dg_history.specs.History.{History, Batch, earliest_next, events_of, in_range, last_time_from, span_of, with_batch}
+use Rattle.dg_index.proofs.OpenedIndexHistories.{Rises, rises_last, rises_later}
+use Rattle.dg_index.proofs.RecentEvents.{replay_at_more}
+use Rattle.dg_index.proofs.HierarchyStability.{leaves_more, stable}
+use Rattle.dg_index.specs.Hierarchy.{leaves, set_of}
+use Rattle.dg_machine.specs.declared.stands.Stands.{Stands}
+use Rattle.dg_machine.specs.declared.stands.Stands.TheVariants.{Overlay, Base}
+use Rattle.dg_machine.specs.MachineState.{elements}
+use Rattle.dg_machine.specs.Needs.{can_be_held}
+use Rattle.dg_session.proofs.LegalHistory.{events_with}
+use Rattle.dg_session.specs.Session.{is_reached}
+
+-- ---- instants
+
+both : (a b : Bool) → (a && b) ≡ true → (a ≡ true) × (b ≡ true)
+both true b e = (refl, e)
+both false b e = absurd (false≢true e)
+
+-- the next batch begins behind every instant of the history
+before_next : (events : List Event) (t : ℕ) → in_range (span_of events) t ≡ true → t < earliest_next (span_of events)
+before_next [] t r = absurd (false≢true r)
+before_next (e ∷ events) t r =
+    let parts = both (nat_le e.time t) (nat_le t (last_time_from e.time events)) r in
+    omega (arith, leb-true t (last_time_from e.time events) parts.1)
+
+-- no event is up to an instant before the first of them
+none_until : (s t : ℕ) (events : List Event) → Rises s events → t < s → events_until events t ≡ []
+none_until s t [] rises late = refl
+none_until s t (e ∷ events) rises late =
+    let later : t < e.time = omega (arith, rises.0, late) in
+    ap (λ b. cond b (e ∷ events_until events t) (events_until events t)) (lt-leb e.time t later) ∙ none_until e.time t events rises.1 later
+
+last_with : (t : ℕ) (events more : List Event) → last_time_from t (events ++ more) ≡ last_time_from (last_time_from t events) more
+last_with t [] more = refl
+last_with t (e ∷ events) more = last_with e.time events more
+
+-- an instant of the history is one of the history with the batch
+range_more : (events more : List Event) (t : ℕ) → Rises (earliest_next (span_of events)) more → in_range (span_of events) t ≡ true → in_range (span_of (events ++ more)) t ≡ true
+range_more [] more t rises r = absurd (false≢true r)
+range_more (e ∷ events) more t rises r =
+    let parts = both (nat_le e.time t) (nat_le t (last_time_from e.time events)) r in
+    let last : ℕ = last_time_from e.time events in
+    let up : last ≤ last_time_from last more = rises_last last more (rises_later last (last + 1) more (omega arith) rises) in
+    let within : t ≤ last_time_from e.time (events ++ more) = omega (arith, leb-true t last parts.1, up, last_with e.time events more) in
+    ap (λ (b : Bool). b && nat_le t (last_time_from e.time (events ++ more))) parts.0 ∙ le-leb t (last_time_from e.time (events ++ more)) within
+
+-- ---- nodes
+
+-- a node that can be held is there with more events
+module _ (p : Params) (pos : 0 < p.l) (n more : ℕ) where
+  few : leaves p n ≤ leaves p (n + more)
+  few = leaves_more p.l n more pos
+
+  pub held_more : (v : NodeId) → can_be_held p n v ≡ true → can_be_held p (n + more) v ≡ true
+  held_more Root r = r
+  held_more Now r = r
+  held_more Recent r = r
+  held_more (EventList i) r = r
+  held_more (Leaf j) r =
+      let parts = both (nat_le 1 j) (nat_le j (leaves p n)) r in
+      ap (λ (b : Bool). b && nat_le j (leaves p (n + more))) parts.0
+      ∙ le-leb j (leaves p (n + more)) (omega (arith, few, leb-true j (leaves p n) parts.1))
+  held_more (Inner h j) r =
+      let parts = both (nat_le 1 h) (nat_le 1 j && nat_le (j * p.k ^ h) (leaves p n)) r in
+      let rest = both (nat_le 1 j) (nat_le (j * p.k ^ h) (leaves p n)) parts.1 in
+      ap (λ (b : Bool). b && (nat_le 1 j && nat_le (j * p.k ^ h) (leaves p (n + more)))) parts.0
+      ∙ ap (λ (b : Bool). b && nat_le (j * p.k ^ h) (leaves p (n + more))) rest.0
+      ∙ le-leb (j * p.k ^ h) (leaves p (n + more)) (omega (arith, few, leb-true (j * p.k ^ h) (leaves p n) rest.1))
+
+-- and has the same set
+module _ (p : Params) (pos : 0 < p.l) (events more : List Event) where
+  pub set_more : (v : NodeId) → can_be_held p (length events) v ≡ true → set_of p (events ++ more) v ≡ set_of p events v
+  set_more Root r = absurd (false≢true r)
+  set_more Now r = absurd (false≢true r)
+  set_more Recent r = absurd (false≢true r)
+  set_more (EventList i) r = absurd (false≢true r)
+  set_more (Leaf j) r =
+      let parts = both (nat_le 1 j) (nat_le j (leaves p (length events))) r in
+      let one : p.k ^ 0 ≡ 1 = pow-zero p.k in
+      stable p events more pos 0 j (leb-true 1 j parts.0) (subst (λ n. j * n ≤ leaves p (length events)) (sym one) (omega (arith, leb-true j (leaves p (length events)) parts.1)))
+  set_more (Inner h j) r =
+      let parts = both (nat_le 1 h) (nat_le 1 j && nat_le (j * p.k ^ h) (leaves p (length events))) r in
+      let rest = both (nat_le 1 j) (nat_le (j * p.k ^ h) (leaves p (length events))) parts.1 in
+      stable p events more pos h j (leb-true 1 j rest.0) (leb-true (j * p.k ^ h) (leaves p (length events)) rest.1)
+
+-- ---- handles
+
+module _ (z : History) (pos : 0 < z.params.l) (b : Batch) (rises : Rises (earliest_next (span_of (events_of z))) b.events) where
+  pub elements_more : (s : Stands) → is_reached z s ≡ true → elements (with_batch z b) s ≡ elements z s
+  elements_more (Overlay t cols on) r =
+      ap (λ (es : List Event). shown (replay_at es t) cols) (events_with z b)
+      ∙ ap (λ (es : List Element). shown es cols)
+      (replay_at_more (events_of z) b.events t (none_until (earliest_next (span_of (events_of z))) t b.events rises (before_next (events_of z) t r)))
+  elements_more (Base node cols) r =
+      ap (λ (es : List Event). shown (set_of z.params es node) cols) (events_with z b)
+      ∙ ap (λ (es : List Element). shown es cols) (set_more z.params pos (events_of z) b.events node r)
+
+  pub reached_more : (s : Stands) → is_reached z s ≡ true → is_reached (with_batch z b) s ≡ true
+  reached_more (Overlay t cols on) r = ap (λ (es : List Event). in_range (span_of es) t) (events_with z b) ∙ range_more (events_of z) b.events t rises r
+  reached_more (Base node cols) r =
+      ap (λ (es : List Event). can_be_held z.params (length es) node) (events_with z b)
+      ∙ ap (λ n. can_be_held z.params n node) (length-append (events_of z) b.events)
+      ∙ held_more z.params pos (length (events_of z)) (length b.events) node r
+
+  -- of every live handle
+  pub graphs_more : (table : List (ℕ × Stands)) → All (λ (e : ℕ × Stands). is_reached z e.1 ≡ true) table
+      → map (λ (e : ℕ × Stands). elements z e.1) table ≡ map (λ (e : ℕ × Stands). elements (with_batch z b) e.1) table
+  graphs_more [] r = refl
+  graphs_more (e ∷ table) r =
+      λ i. sym (elements_more e.1 (All-head (λ (e : ℕ × Stands). is_reached z e.1 ≡ true) e table r)) i
+      ∷ graphs_more table (All-tail (λ (e : ℕ × Stands). is_reached z e.1 ≡ true) e table r) i
+
+  pub all_reached_more : (table : List (ℕ × Stands)) → All (λ (e : ℕ × Stands). is_reached z e.1 ≡ true) table → All (λ (e : ℕ × Stands). is_reached (with_batch z b) e.1 ≡ true) table
+  all_reached_more [] r = All-nil (λ (e : ℕ × Stands). is_reached (with_batch z b) e.1 ≡ true)
+  all_reached_more (e ∷ table) r =
+      All-cons (λ (e : ℕ × Stands). is_reached (with_batch z b) e.1 ≡ true) e table (reached_more e.1 (All-head (λ (e : ℕ × Stands). is_reached z e.1 ≡ true) e table r))
+      (all_reached_more table (All-tail (λ (e : ℕ × Stands). is_reached z e.1 ≡ true) e table r))

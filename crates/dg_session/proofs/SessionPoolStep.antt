@@ -1,0 +1,59 @@
+-- The answers of commands that clean the pool, or tell its size.
+use Rattle.std.proofs.Common.{◌≡◌, ℕ, false, List, [], ◌∷◌, Option, None, length, refl, sym, ◌∙◌, ap, subst}
+use Rattle.std.specs.Prelude.{IfSome}
+use Rattle.dg_handles.specs.Handles.{slot_graphs}
+use Rattle.dg_machine.specs.declared.command.Command.{Command}
+use Rattle.dg_machine.specs.declared.command.Command.TheVariants as command
+use Rattle.dg_machine.specs.declared.reply.Head.TheVariants as head
+use Rattle.dg_machine.specs.declared.reply.Reply.{Reply}
+use Rattle.dg_machine.specs.Answer.{accepted, headed, is_refusal, say}
+use Rattle.dg_machine.specs.MachineState.{MachineState, elements_held, union_of_sets}
+use Rattle.dg_machine.specs.Needs.{needs}
+use Rattle.dg_machine.specs.Planning.{no_plan}
+use Rattle.dg_pool.specs.Graphs.{PoolState, slot_graph}
+use Rattle.dg_pool.specs.Sweeps.{members_as}
+use Rattle.dg_session.proofs.PartStates.{kept, one_image, stands_on}
+use Rattle.dg_session.proofs.SessionSteps.{IsUnplanned, moved}
+use Rattle.dg_session.specs.Parts.{Parts}
+use Rattle.dg_session.specs.Session.{Accepts, StandsFor, refused_by}
+use Rattle.dg_start.specs.StoredHistory.{IsHeldBy}
+
+-- a pool whose slots have the same graphs
+pub graphs_same : (old new : PoolState) → ((s : ℕ) → slot_graph new s ≡ slot_graph old s) → (slots : List ℕ) → slot_graphs new slots ≡ slot_graphs old slots
+graphs_same old new same [] = refl
+graphs_same old new same (s ∷ slots) = λ i. members_as (same s i) ∷ graphs_same old new same slots i
+
+-- a command that needs nothing and changes nothing that the machine knows
+stays : (c : Command) (p q : Parts) (image : Option (List ℕ)) (reply : Reply) → IsUnplanned c → refused_by p 0 (needs c) ≡ None → q ≡ p
+    → ((m : MachineState) (x : List ℕ) → StandsFor p x m → accepted m c [] no_plan ≡ say m reply) → is_refusal reply.head ≡ false → Accepts c [] p image q image reply
+stays c p q image reply unplanned free same due accepts = record {
+  moves =
+      moved c [] p q image image reply unplanned free
+      (λ m x y a b s none. (m, due m x s, stands_on p q x y m same (one_image image image x y refl a b) s));
+  accepted = accepts;
+  held = λ h. subst (λ (x : Parts). IfSome image (λ bytes. IsHeldBy x.index x.names bytes)) (sym same) h;
+  no_index = λ h. (ap (λ (x : Parts). x.index) (sym same) ∙ h, refl);
+  quiet = λ h. refl;
+}
+
+-- the elements that the current graph and the handles have together are those of the machine's
+held_are : (p : Parts) (x : List ℕ) (m : MachineState) → StandsFor p x m → union_of_sets (p.graph ∷ p.graphs) ≡ elements_held m
+held_are p x m s = ap (λ (y : Parts). union_of_sets (y.graph ∷ y.graphs)) (kept p x m s)
+
+pub clean_answers : (p q : Parts) (cells : ℕ) (image : Option (List ℕ)) (reply : Reply) → q ≡ p → reply ≡ headed head.Cleaned → Accepts (command.Clean cells) [] p image q image reply
+clean_answers p q cells image reply same is =
+    stays (command.Clean cells) p q image reply (λ m. refl) refl same (λ m x s. ap (say m) (sym is)) (ap (λ (r : Reply). is_refusal r.head) is)
+
+pub clean_all_answers : (p q : Parts) (cells : ℕ) (image : Option (List ℕ)) (reply : Reply) → q ≡ p → cells ≡ length (union_of_sets (p.graph ∷ p.graphs)) → reply ≡ headed (head.CleanedAll cells)
+    → Accepts command.CleanAll [] p image q image reply
+clean_all_answers p q cells image reply same size is =
+    stays command.CleanAll p q image reply (λ m. refl) refl same
+    (λ m x s. ap (λ n. say m (headed (head.CleanedAll n))) (ap length (sym (held_are p x m s)) ∙ sym size) ∙ ap (say m) (sym is)) (ap (λ (r : Reply). is_refusal r.head) is)
+
+pub pool_answers : (p : Parts) (live size : ℕ) (image : Option (List ℕ)) (reply : Reply) → live ≡ length p.table → size ≡ length (union_of_sets (p.graph ∷ p.graphs))
+    → reply ≡ headed (head.Pool live size) → Accepts command.Pool [] p image p image reply
+pool_answers p live size image reply live_is size_is is =
+    stays command.Pool p p image reply (λ m. refl) refl refl
+    (λ m x s.
+    (λ i. say m (headed (head.Pool (length (sym s.table i)) (length (sym (held_are p x m s) i)))))
+    ∙ (λ i. say m (headed (head.Pool (sym live_is i) (sym size_is i)))) ∙ ap (say m) (sym is)) (ap (λ (r : Reply). is_refusal r.head) is)

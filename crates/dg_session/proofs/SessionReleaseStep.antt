@@ -1,0 +1,144 @@
+-- The answer to a release.
+use Rattle.std.proofs.Common.{◌≡◌, ℕ, Bool, true, false, ◌==◌, not, List, [], ◌∷◌, ◌++◌, Option, Some, None, if◌then◌else◌, map, refl, sym, ◌∙◌, ap, subst}
+use Rattle.std.specs.Prelude.{IfSome, is_some}
+use Rattle.std.specs.List.{All}
+use Rattle.std.proofs.lemmas.Bool.{false≢true}
+use Rattle.std.proofs.lemmas.List.Elements.{All-cons, All-head, All-tail}
+use Rattle.dg_graph.specs.declared.element.Columns.{Columns}
+use Rattle.dg_graph.specs.declared.element.Element.{Element}
+use Rattle.dg_handles.specs.Handles.{graphs_without}
+use Rattle.dg_history.specs.declared.node.NodeId.{NodeId}
+use Rattle.dg_history.specs.History.{History}
+use Rattle.dg_machine.specs.declared.command.Command.TheVariants as command
+use Rattle.dg_machine.specs.declared.reply.Head.TheVariants as head
+use Rattle.dg_machine.specs.declared.reply.Refusal.{Refusal}
+use Rattle.dg_machine.specs.declared.reply.Refusal.TheVariants as refusal
+use Rattle.dg_machine.specs.declared.reply.Reply.{Reply}
+use Rattle.dg_machine.specs.declared.stands.Stands.{Stands}
+use Rattle.dg_machine.specs.declared.stands.Stands.TheVariants.{Overlay, Base}
+use Rattle.dg_machine.specs.Answer.{Answered, headed, is_refusal}
+use Rattle.dg_machine.specs.MachineState.{MachineState, dependent_on, elements, stands_at, history_in, without_handle}
+use Rattle.dg_index.specs.OpenedIndex.{Opening, event_total}
+use Rattle.dg_machine.specs.Needs.{earliest, is_base, needs, of}
+use Rattle.dg_machine.specs.Planning.{bases_in, usable}
+use Rattle.dg_planner.specs.Whole.{PlannerGraph}
+use Rattle.dg_retrieval.specs.KeptGraph.{kept_edges}
+use Rattle.dg_session.specs.KeptPlanner.{IsGraphFor, IsKeptFor}
+use Rattle.dg_session.proofs.PartStates.{hit, kept, miss, one_image, parts_of, stands}
+use Rattle.dg_session.proofs.SessionSteps.{moved}
+use Rattle.dg_session.specs.Parts.{Parts}
+use Rattle.dg_session.specs.Session.{Accepts, StandsFor, is_reached, refused_by}
+use Rattle.dg_start.specs.StoredHistory.{IsHeldBy}
+
+-- what holds of all handles holds of those without one
+pub all_without : (P : ℕ × Stands → Type 0) (handle : ℕ) (table : List (ℕ × Stands)) → All P table → All P (without_handle handle table)
+all_without P handle [] h = h
+all_without P handle (e ∷ table) h = by (e.0 == handle) (all_without P handle table (All-tail P e table h))
+  where
+    by : (here : Bool) → All P (without_handle handle table) → All P (if here then table else e ∷ without_handle handle table)
+    by true rest = All-tail P e table h
+    by false rest = All-cons P e (without_handle handle table) (All-head P e table h) rest
+
+-- ---- the planner that is kept
+
+none_usable : (cols : Columns) (e : ℕ × Stands) → is_base (Some e.1) ≡ false → usable cols e ≡ []
+none_usable cols (handle, Overlay t others on) overlay = refl
+none_usable cols (handle, Base node all) overlay = absurd (false≢true (sym overlay))
+
+-- without an overlay the same handles can serve
+bases_without : (cols : Columns) (handle : ℕ) (table : List (ℕ × Stands)) (s : Stands) → stands_at handle table ≡ Some s → is_base (Some s) ≡ false
+    → bases_in cols (without_handle handle table) ≡ bases_in cols table
+bases_without cols handle [] s is overlay = refl
+bases_without cols handle (e ∷ table) s is overlay = by (e.0 == handle) (λ r. bases_without cols handle table s r overlay) is
+  where
+    by : (here : Bool) → (stands_at handle table ≡ Some s → bases_in cols (without_handle handle table) ≡ bases_in cols table)
+        → (if here then Some e.1 else stands_at handle table) ≡ Some s
+        → bases_in cols (if here then table else e ∷ without_handle handle table) ≡ usable cols e ++ bases_in cols table
+    by true rest e_is = ap (λ (xs : List (ℕ × NodeId)). xs ++ bases_in cols table) (sym (none_usable cols e (ap is_base e_is ∙ overlay)))
+    by false rest e_is = ap (λ (xs : List (ℕ × NodeId)). usable cols e ++ xs) (rest e_is)
+
+-- what is kept is kept for each table with the same bases
+same_kept : (index : Option Opening) (table others : List (ℕ × Stands)) (kept : Option (Columns × PlannerGraph)) → ((cols : Columns) → bases_in cols others ≡ bases_in cols table)
+    → IsKeptFor index table kept → IsKeptFor index others kept
+same_kept index table others None same h = tt
+same_kept None table others (Some k) same h = h
+same_kept (Some o) table others (Some k) same h = graph h
+  where
+    graph : IsGraphFor o table k.0 k.1 → IsGraphFor o others k.0 k.1
+    graph g = record { edges = g.edges ∙ ap (λ (b : List (ℕ × NodeId)). kept_edges o (event_total o.batches) k.0 b) (sym (same k.0)); nodes = g.nodes }
+
+-- a planner that is forgotten with a base is kept for the handles without one
+pub kept_without : (index : Option Opening) (handle : ℕ) (table : List (ℕ × Stands)) (s : Stands) (old new : Option (Columns × PlannerGraph)) → stands_at handle table ≡ Some s
+    → (is_base (Some s) ≡ true → new ≡ None) → (is_base (Some s) ≡ false → new ≡ old) → IsKeptFor index table old → IsKeptFor index (without_handle handle table) new
+kept_without index handle table s old new is base overlay h = by (is_base (Some s)) refl
+  where
+    by : (b : Bool) → is_base (Some s) ≡ b → IsKeptFor index (without_handle handle table) new
+    by true e = subst (λ (k : Option (Columns × PlannerGraph)). IsKeptFor index (without_handle handle table) k) (sym (base e)) tt
+    by false e =
+        subst (λ (k : Option (Columns × PlannerGraph)). IsKeptFor index (without_handle handle table) k) (sym (overlay e))
+        (same_kept index table (without_handle handle table) old (λ cols. bases_without cols handle table s is e) h)
+
+-- ---- what is left
+
+-- the graphs of the handles without one are theirs
+graphs_left : (z : History) (handle : ℕ) (table : List (ℕ × Stands))
+    → graphs_without handle table (map (λ (e : ℕ × Stands). elements z e.1) table) ≡ map (λ (e : ℕ × Stands). elements z e.1) (without_handle handle table)
+graphs_left z handle [] = refl
+graphs_left z handle (e ∷ table) = by (e.0 == handle) (graphs_left z handle table)
+  where
+    all : List (List Element)
+    all = map (λ (e : ℕ × Stands). elements z e.1) table
+
+    by : (here : Bool) → graphs_without handle table all ≡ map (λ (e : ℕ × Stands). elements z e.1) (without_handle handle table)
+        → (if here then all else elements z e.1 ∷ graphs_without handle table all) ≡ map (λ (e : ℕ × Stands). elements z e.1) (if here then table else e ∷ without_handle handle table)
+    by true rest = refl
+    by false rest = λ i. elements z e.1 ∷ rest i
+
+-- what a session keeps without the handle
+abbrev pub parts_without : ℕ → Parts → Parts
+parts_without handle p = record p { table = without_handle handle p.table; graphs = graphs_without handle p.table p.graphs }
+
+-- the state without the handle
+abbrev state_without : ℕ → MachineState → MachineState
+state_without handle m = record m { table = without_handle handle m.table }
+
+stands_without : (p q : Parts) (image : List ℕ) (m : MachineState) (handle : ℕ) → StandsFor p image m → q ≡ parts_without handle p → StandsFor q image (state_without handle m)
+stands_without p q image m handle s is =
+    stands q image (state_without handle m)
+    (is ∙ ap (parts_without handle) (kept p image m s)
+    ∙ (λ i. let x : Parts = record (parts_of m) { table = without_handle handle m.table; graphs = graphs_left (history_in m.index) handle m.table i } in x))
+    s.image_stands
+    (all_without (λ (e : ℕ × Stands). is_reached (history_in m.index) e.1 ≡ true) handle m.table s.reached)
+    (λ none. ap (without_handle handle) (s.no_handles none))
+
+pub release_refused : (p : Parts) (handle : ℕ) → is_some (stands_at handle p.table) ≡ false → refused_by p 0 (needs (command.Release handle)) ≡ Some (refusal.UnknownHandle handle)
+release_refused p handle none = hit (not (is_some (stands_at handle p.table))) (refusal.UnknownHandle handle) _ (ap not none)
+
+-- the refusal by a handle that rests on this one, if there is one
+abbrev by_dependent : Option ℕ → Option Refusal
+by_dependent d = earliest (of d (λ h. refusal.InUse h ∷ []) ++ [])
+
+pub release_used : (p : Parts) (handle dependent : ℕ) → is_some (stands_at handle p.table) ≡ true → dependent_on handle p.table ≡ Some dependent
+    → refused_by p 0 (needs (command.Release handle)) ≡ Some (refusal.InUse dependent)
+release_used p handle dependent some is =
+    miss (not (is_some (stands_at handle p.table))) (refusal.UnknownHandle handle) _ (ap not some) ∙ ap by_dependent is
+
+pub release_free : (p : Parts) (handle : ℕ) → is_some (stands_at handle p.table) ≡ true → dependent_on handle p.table ≡ None → refused_by p 0 (needs (command.Release handle)) ≡ None
+release_free p handle some unused =
+    miss (not (is_some (stands_at handle p.table))) (refusal.UnknownHandle handle) _ (ap not some) ∙ ap by_dependent unused
+
+pub release_answers : (p q : Parts) (handle : ℕ) (image : Option (List ℕ)) (reply : Reply) → is_some (stands_at handle p.table) ≡ true → dependent_on handle p.table ≡ None
+    → q ≡ parts_without handle p → reply ≡ headed (head.Released handle) → Accepts (command.Release handle) [] p image q image reply
+release_answers p q handle image reply live unused is reply_is = record {
+  moves =
+      moved (command.Release handle) [] p q image image reply (λ m. refl) (release_free p handle live unused)
+      (λ m x y a b s free. (
+        state_without handle m,
+        (λ i. let r : Answered = record { reply = sym reply_is i; state = state_without handle m } in r),
+        stands_without p q y m handle (subst (λ z. StandsFor p z m) (one_image image image x y refl a b) s) is,
+      ));
+  accepted = ap (λ (r : Reply). is_refusal r.head) reply_is;
+  held = λ h. subst (λ (x : Parts). IfSome image (λ bytes. IsHeldBy x.index x.names bytes)) (sym is) h;
+  no_index = λ h. (ap (λ (x : Parts). x.index) (sym is) ∙ h, refl);
+  quiet = λ h. refl;
+}

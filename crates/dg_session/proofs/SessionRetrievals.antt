@@ -1,0 +1,431 @@
+-- What a retrieval gives of the state that a session stands for, and how its answer is a step of the machine.
+use Rattle.std.proofs.Common.{◌≡◌, ⊎_elim, ℕ, suc, ◌+◌, ◌≤◌, ◌<◌, Bool, true, false, not, List, [], ◌∷◌, ◌++◌, Option, Some, None, Err, length, map, refl, sym, ◌∙◌, ap, subst, arith, nat_lt, append_assoc}
+use Rattle.std.specs.Prelude.{IfErr, IfOk, IfSome, Result, Ok, is_some, ◌||◌, ◌&&◌}
+use Rattle.std.specs.List.{All, Contains, list_any}
+use Rattle.std.proofs.lemmas.Bool.{false≢true}
+use Rattle.std.proofs.lemmas.List.{append-nil, length-map}
+use Rattle.std.proofs.lemmas.List.Elements.{All-cons, All-head, All-nil, All-tail}
+use borrow.Author.Tests.{le-ltb, lt-ltb, ltb-false}
+use Rattle.dg_fold.specs.BytesRead.{Takes, TakesAtMost}
+use Rattle.dg_graph.specs.declared.element.Column.{Column}
+use Rattle.dg_graph.specs.declared.element.Columns.{Columns}
+use Rattle.dg_graph.specs.declared.element.Element.{Element}
+use Rattle.dg_graph.specs.declared.event.Event.{Event}
+use Rattle.dg_graph.specs.Lines.{ScriptLine}
+use Rattle.dg_handles.specs.Handles.{HoldsNode, held_by, numbered, overlays_on}
+use Rattle.dg_history.specs.declared.node.Key.{Key}
+use Rattle.dg_history.specs.declared.node.NodeId.{NodeId}
+use Rattle.dg_history.specs.declared.node.NodeId.TheVariants.{Root}
+use Rattle.dg_history.specs.History.{History, events_of, in_range, span_of}
+use Rattle.dg_index.specs.OpenedIndex.{Opening, event_total}
+use Rattle.dg_machine.specs.declared.command.Command.{Command}
+use Rattle.dg_machine.specs.declared.limits.TheConstants.{HANDLE_MAX, LIVE_HANDLES_MAX}
+use Rattle.dg_machine.specs.declared.reply.Head.{Head}
+use Rattle.dg_machine.specs.declared.reply.Head.TheVariants as head
+use Rattle.dg_machine.specs.declared.reply.Refusal.{Refusal}
+use Rattle.dg_machine.specs.declared.reply.Refusal.TheVariants as refusal
+use Rattle.dg_machine.specs.declared.reply.Reply.{Reply}
+use Rattle.dg_machine.specs.declared.stands.Stands.{Stands}
+use Rattle.dg_machine.specs.declared.stands.Stands.TheVariants.{Overlay}
+use Rattle.dg_machine.specs.Answer.{Answered, IsPlannedBy, accepted, is_refusal, overlays, weight_told, with_handle, with_handles}
+use Rattle.dg_machine.specs.MachineState.{MachineState, elements, history_in}
+use Rattle.dg_machine.specs.Needs.{earliest, needs, refused, when}
+use Rattle.dg_machine.specs.Planning.{IsPlanned, Planned, bases_in, edges_in, point_for, points_for}
+use Rattle.dg_plan.specs.declared.edge.Edge.{Edge}
+use Rattle.dg_plan.specs.IndexGraph.{arcs_of}
+use Rattle.dg_plan.specs.InstantPoint.{point}
+use Rattle.dg_plan.specs.Walks.{AreSingles}
+use Rattle.dg_file.specs.Index.{IndexState}
+use Rattle.dg_retrieval.specs.declared.retrieval.Retrieved.{Retrieved}
+use Rattle.dg_retrieval.specs.declared.fault.RetrievalFault.{RetrievalFault}
+use Rattle.dg_retrieval.specs.declared.fault.RetrievalFault.TheVariants as retrieval_fault
+use Rattle.dg_retrieval.specs.declared.graph_lead.GraphLead.{GraphLead}
+use Rattle.dg_retrieval.specs.KeptGraph.{kept_edges, kept_ground, kept_nodes}
+use Rattle.dg_retrieval.specs.Beginnings.{base_handle, led_to}
+use Rattle.dg_retrieval.specs.Retrieval.{AreHeld, ArePoints, IsNoDamage, IsOver, IsTreeOf, TakesAtMostTree, graphs_at}
+use Rattle.dg_session.proofs.HandleBases.{bases_are_held}
+use Rattle.dg_session.proofs.PlanStep.{edges_are, point_here, point_is}
+use Rattle.dg_session.proofs.PointNodes.{IsSoundIndex, point_there}
+use Rattle.dg_session.proofs.PartStates.{events_there, handle_taken, hit, instants_are, miss, is_of, last_passes, not_false, one_told, passes, refused_is}
+use Rattle.dg_session.proofs.SessionSteps.{AcceptedBehindReads, accepted_is, accepted_steps, failing_accepted, lacking_denies}
+use Rattle.dg_session.specs.Halt.{retrieval_halt}
+use Rattle.dg_session.specs.contracts.session.Session.{the_view}
+use Rattle.dg_session.specs.declared.session.Session.TheInside.{Inside}
+use Rattle.dg_session.specs.HeldIndex.{point_over, points_over, span_held}
+use Rattle.dg_session.specs.Parts.{Parts}
+use Rattle.dg_session.specs.Reads.{IsRetrieved, Reads, ReadsAsTold, ReadsBy, ReadsIn, bases_of, is_early, listed_by, with_new_handles}
+use Rattle.dg_start.specs.StoredHistory.{IsHeldBy, index_opening}
+use Rattle.dg_session.specs.Session.{Accepts, ComesTo, Moves, StandsFor, WhereBothTold, is_reached, refused_by, retrieval_needs}
+
+-- ---- what is refused
+
+-- the instant does not lie between these
+abbrev pub is_out : Option (ℕ × ℕ) → ℕ → Bool
+is_out span t = not (in_range span t)
+
+-- what a retrieval that is not refused finds: an index, instants that are in its history, and room for the handles
+pub retrieval_free : (p : Parts) (times : List ℕ) → 1 ≤ length times → refused_by p 0 (retrieval_needs times (length times)) ≡ None
+    → (is_some p.index ≡ true) × (list_any (is_out (span_held p.index)) times ≡ false) × (length p.table + length times ≤ LIVE_HANDLES_MAX)
+    × (p.next + length times ≤ HANDLE_MAX + 1)
+retrieval_free p times some none =
+    let n : ℕ = length times in
+    let a = passes (not (is_some p.index)) refusal.NoIndex _ none in
+    let b = passes (list_any (is_out (span_held p.index)) times) (refusal.OutOfRange (span_held p.index)) _ a.1 in
+    let c = passes (nat_lt 0 n && nat_lt LIVE_HANDLES_MAX (length p.table + n)) (refusal.PoolFull (length p.table) n) _ b.1 in
+    let d = last_passes (nat_lt 0 n && nat_lt (HANDLE_MAX + 1) (p.next + n)) refusal.HandlesSpent c.1 in
+    let room : nat_lt LIVE_HANDLES_MAX (length p.table + n) ≡ false = ap (λ x. x && nat_lt LIVE_HANDLES_MAX (length p.table + n)) (sym (lt-ltb 0 n some)) ∙ c.0 in
+    let left : nat_lt (HANDLE_MAX + 1) (p.next + n) ≡ false = ap (λ x. x && nat_lt (HANDLE_MAX + 1) (p.next + n)) (sym (lt-ltb 0 n some)) ∙ d in (
+      not_false (is_some p.index) a.0,
+      b.0,
+      omega (arith, ltb-false LIVE_HANDLES_MAX (length p.table + n) room),
+      omega (arith, ltb-false (HANDLE_MAX + 1) (p.next + n) left),
+    )
+
+-- the first that holds of them is that the pool is full
+pub pool_refused : (p : Parts) (times : List ℕ) (live : ℕ) → is_some p.index ≡ true → list_any (is_out (span_held p.index)) times ≡ false → live ≡ length p.table → live ≤ LIVE_HANDLES_MAX
+    → LIVE_HANDLES_MAX < live + length times → refused_by p 0 (retrieval_needs times (length times)) ≡ Some (refusal.PoolFull live (length times))
+pool_refused p times live there out live_is most full =
+    let n : ℕ = length times in
+    let many : nat_lt LIVE_HANDLES_MAX (length p.table + n) ≡ true = lt-ltb LIVE_HANDLES_MAX (length p.table + n) (omega (arith, live_is, full)) in
+    let some : nat_lt 0 n ≡ true = lt-ltb 0 n (omega (arith, most, full)) in
+    miss (not (is_some p.index)) refusal.NoIndex _ (ap (λ b. not b) there)
+    ∙ miss (list_any (is_out (span_held p.index)) times) (refusal.OutOfRange (span_held p.index)) _ out
+    ∙ hit (nat_lt 0 n && nat_lt LIVE_HANDLES_MAX (length p.table + n)) (refusal.PoolFull (length p.table) n) _ (λ i. some i && many i)
+    ∙ ap (λ k. Some (refusal.PoolFull k n)) (sym live_is)
+
+pub both_false : (a b : Bool) → b ≡ false → (a && b) ≡ false
+both_false true b h = h
+both_false false b h = refl
+
+-- there is room, and the first that holds is that no handle is left
+pub handles_refused : (p : Parts) (times : List ℕ) (next : ℕ) → is_some p.index ≡ true → list_any (is_out (span_held p.index)) times ≡ false → length p.table + length times ≤ LIVE_HANDLES_MAX
+    → next ≡ p.next → next ≤ HANDLE_MAX + 1 → HANDLE_MAX + 1 < next + length times → refused_by p 0 (retrieval_needs times (length times)) ≡ Some refusal.HandlesSpent
+handles_refused p times next there out room next_is most spent =
+    let n : ℕ = length times in
+    let some : nat_lt 0 n ≡ true = lt-ltb 0 n (omega (arith, most, spent)) in
+    let many : nat_lt (HANDLE_MAX + 1) (p.next + n) ≡ true = lt-ltb (HANDLE_MAX + 1) (p.next + n) (omega (arith, next_is, spent)) in
+    miss (not (is_some p.index)) refusal.NoIndex _ (ap (λ b. not b) there)
+    ∙ miss (list_any (is_out (span_held p.index)) times) (refusal.OutOfRange (span_held p.index)) _ out
+    ∙ miss (nat_lt 0 n && nat_lt LIVE_HANDLES_MAX (length p.table + n)) (refusal.PoolFull (length p.table) n) _ (both_false (nat_lt 0 n) _ (le-ltb LIVE_HANDLES_MAX (length p.table + n) room))
+    ∙ ap (λ b. earliest (when b refusal.HandlesSpent)) (λ i. some i && many i)
+
+-- none holds
+pub nothing_refused : (p : Parts) (times : List ℕ) → is_some p.index ≡ true → list_any (is_out (span_held p.index)) times ≡ false → length p.table + length times ≤ LIVE_HANDLES_MAX
+    → p.next + length times ≤ HANDLE_MAX + 1 → refused_by p 0 (retrieval_needs times (length times)) ≡ None
+nothing_refused p times there out room left =
+    let n : ℕ = length times in
+    miss (not (is_some p.index)) refusal.NoIndex _ (ap (λ b. not b) there)
+    ∙ miss (list_any (is_out (span_held p.index)) times) (refusal.OutOfRange (span_held p.index)) _ out
+    ∙ miss (nat_lt 0 n && nat_lt LIVE_HANDLES_MAX (length p.table + n)) (refusal.PoolFull (length p.table) n) _ (both_false (nat_lt 0 n) _ (le-ltb LIVE_HANDLES_MAX (length p.table + n) room))
+    ∙ ap (λ b. earliest (when b refusal.HandlesSpent)) (both_false (nat_lt 0 n) _ (le-ltb (HANDLE_MAX + 1) (p.next + n) left))
+
+pub there_is : (i : Option Opening) → is_some i ≡ true → (o : Opening) × (i ≡ Some o)
+there_is None h = absurd (false≢true h)
+there_is (Some o) h = (o, refl)
+
+-- ---- the instants
+
+or_left : (a b : Bool) → (a || b) ≡ false → a ≡ false
+or_left true b h = sym (sym h)
+or_left false b h = refl
+
+or_right : (a b : Bool) → (a || b) ≡ false → b ≡ false
+or_right true b h = absurd (false≢true (sym h))
+or_right false b h = h
+
+-- what holds of each instant that is not out holds of all of them
+pub each_in : {A : Type 0} (out : ℕ → Bool) (P : A → Type 0) (f : ℕ → A) (times : List ℕ) → ((t : ℕ) → out t ≡ false → P (f t)) → list_any out times ≡ false → All P (map f times)
+each_in out P f [] each h = All-nil P
+each_in out P f (t ∷ times) each h =
+    All-cons P (f t) (map f times) (each t (or_left (out t) (list_any out times) h)) (each_in out P f times each (or_right (out t) (list_any out times) h))
+
+-- and what is equal at each of them is equal
+each_same : {A : Type 0} (out : ℕ → Bool) (f g : ℕ → A) (times : List ℕ) → ((t : ℕ) → out t ≡ false → f t ≡ g t) → list_any out times ≡ false → map f times ≡ map g times
+each_same out f g [] each h = refl
+each_same out f g (t ∷ times) each h =
+    λ i. each t (or_left (out t) (list_any out times) h) i ∷ each_same out f g times each (or_right (out t) (list_any out times) h) i
+
+-- the points of instants that are in the history are nodes of the graph
+pub points_there : (o : Opening) (recent : List Event) (cols : Columns) (times : List ℕ) → IsSoundIndex o → list_any (is_out (span_held (Some o))) times ≡ false
+    → All (Contains (kept_nodes o (event_total o.batches) cols)) (points_over o recent times)
+points_there o recent cols times sound =
+    each_in (is_out (span_held (Some o))) (Contains (kept_nodes o (event_total o.batches) cols)) (point_over o recent) times
+    (λ t h. point_there o recent t cols sound (not_false (in_range (span_held (Some o)) t) h))
+
+-- a retrieval that is not refused is of instants that are between those that the index tells
+pub instants_inside : (p : Parts) (o : Opening) (times : List ℕ) → p.index ≡ Some o → 1 ≤ length times → refused_by p 0 (retrieval_needs times (length times)) ≡ None
+    → list_any (is_out (span_held (Some o))) times ≡ false
+instants_inside p o times there some none =
+    ap (λ (i : Option Opening). list_any (is_out (span_held i)) times) (sym there) ∙ (retrieval_free p times some none).1
+
+-- ---- the state that the session stands for
+
+module _ (p : Parts) (o : Opening) (image : List ℕ) (m : MachineState) (there : p.index ≡ Some o) (s : StandsFor p image m) where
+  abbrev pub z_of : History
+  z_of = (is_of p o image m there s).0
+
+  points_are : (times : List ℕ) → list_any (is_out (span_held (Some o))) times ≡ false → points_over o p.recent times ≡ points_for m times
+  points_are times =
+      each_same (is_out (span_held (Some o))) (point_over o p.recent) (point_for m) times
+      (λ t h. point_is p o image m there s t (not_false (in_range (span_held (Some o)) t) h))
+
+  -- the image stands for its history, and what is in memory is of that history
+  pub is_over : IsOver z_of image o (length p.names) p.graph p.recent
+  is_over = record {
+    stands = (is_of p o image m there s).1.stands;
+    opened = (is_of p o image m there s).1.opened;
+    names = ap length (is_of p o image m there s).1.names;
+    now = (is_of p o image m there s).1.graph;
+    recent = (is_of p o image m there s).1.recent;
+  }
+
+  pub at_points : (times : List ℕ) → list_any (is_out (span_held (Some o))) times ≡ false → ArePoints z_of (points_over o p.recent times) times
+  at_points times =
+      each_same (is_out (span_held (Some o))) (point_over o p.recent) (point z_of.params (events_of z_of)) times
+      (λ t h. point_here p o image m there s t (not_false (in_range (span_held (Some o)) t) h))
+
+  mapped : (times : List ℕ) (bases : List (Option ℕ)) (cols : Columns) → length bases ≡ length times → graphs_at z_of times cols ≡ map (elements z_of) (overlays_on cols times bases)
+  mapped [] bases cols many = refl
+  mapped (t ∷ times) [] cols many = absurd (omega arith)
+  mapped (t ∷ times) (b ∷ bases) cols many = λ i. elements z_of (Overlay t cols b) ∷ mapped times bases cols (omega arith) i
+
+  -- the graphs as of the instants are those that new handles list
+  listed : (times : List ℕ) (bases : List (Option ℕ)) (cols : Columns) → length bases ≡ length times → graphs_at z_of times cols ≡ map (elements (history_in m.index)) (overlays_on cols times bases)
+  listed times bases cols many =
+      mapped times bases cols many ∙ sym (ap (λ (i : Option History). map (elements (history_in i)) (overlays_on cols times bases)) (is_of p o image m there s).1.index)
+
+  pub is_retrieved : (times : List ℕ) (cols : Columns) (weight : ℕ) (singles : List ℕ) (bases : List (Option ℕ)) (graphs : List (List Element)) → list_any (is_out (span_held (Some o))) times ≡ false
+      → IsTreeOf (kept_edges o (event_total o.batches) cols (bases_in cols p.table)) (points_over o p.recent times) weight bases
+      → AreSingles (arcs_of (kept_edges o (event_total o.batches) cols (bases_in cols p.table))) (Root ∷ []) (points_over o p.recent times) singles
+      → length bases ≡ length times → graphs ≡ graphs_at z_of times cols → IsRetrieved m times cols weight singles bases graphs
+  is_retrieved times cols weight singles bases graphs inside tree plans many graphs_are = record {
+    tree = subst (λ (ns : List NodeId). IsTreeOf (edges_in m cols) ns weight bases) (points_are times inside) (subst (λ (es : List Edge). IsTreeOf es (points_over o p.recent times) weight bases) (edges_are p o image m there s cols) tree);
+    single_plans =
+        subst (λ (ns : List NodeId). AreSingles (arcs_of (edges_in m cols)) (Root ∷ []) ns singles) (points_are times inside)
+        (subst (λ (es : List Edge). AreSingles (arcs_of es) (Root ∷ []) (points_over o p.recent times) singles) (edges_are p o image m there s cols) plans);
+    listed = graphs_are ∙ listed times bases cols many;
+  }
+
+-- ---- new handles
+
+pub handles_taken : (p q : Parts) (image : List ℕ) (m : MachineState) (all : List Stands) → StandsFor p image m → is_some p.index ≡ true
+    → All (λ (x : Stands). is_reached (history_in m.index) x ≡ true) all → q ≡ with_new_handles p all (map (elements (history_in m.index)) all)
+    → StandsFor q image (with_handles m all)
+handles_taken p q image m [] s there reached is = subst (λ (x : Parts). StandsFor x image m) (sym (is ∙ same)) s
+  where
+    no_more : p.next + 0 ≡ p.next
+    no_more = omega arith
+
+    same : with_new_handles p [] [] ≡ p
+    same = λ i. record p { table = append-nil p.table i; graphs = append-nil p.graphs i; next = no_more i }
+handles_taken p q image m (x ∷ all) s there reached is =
+    handles_taken one q image (with_handle m x) all
+    (handle_taken p one image m x graph s there (All-head reaches x all reached) refl refl)
+    there (All-tail reaches x all reached) (is ∙ same)
+  where
+    reaches : Stands → Type 0
+    reaches y = is_reached (history_in m.index) y ≡ true
+
+    graph : List Element
+    graph = elements (history_in m.index) x
+
+    one : Parts
+    one = record p { table = p.table ++ (p.next, x) ∷ []; graphs = p.graphs ++ graph ∷ []; next = p.next + 1 }
+
+    more : List (List Element)
+    more = map (elements (history_in m.index)) all
+
+    count : p.next + suc (length all) ≡ p.next + 1 + length all
+    count = omega arith
+
+    same : with_new_handles p (x ∷ all) (graph ∷ more) ≡ with_new_handles one all more
+    same = λ i. record p {
+      table = sym (append_assoc p.table ((p.next, x) ∷ []) (numbered (p.next + 1) all)) i;
+      graphs = sym (append_assoc p.graphs (graph ∷ []) more) i;
+      next = count i;
+    }
+
+-- the instants of a retrieval that is not refused are in the history
+pub instants_reached : (p : Parts) (image : List ℕ) (m : MachineState) (times : List ℕ) (bases : List (Option ℕ)) (cols : Columns) → StandsFor p image m → list_any (is_out (span_held p.index)) times ≡ false
+    → All (λ (x : Stands). is_reached (history_in m.index) x ≡ true) (overlays_on cols times bases)
+instants_reached p image m [] bases cols s h = All-nil (λ (x : Stands). is_reached (history_in m.index) x ≡ true)
+instants_reached p image m (t ∷ times) [] cols s h = All-nil (λ (x : Stands). is_reached (history_in m.index) x ≡ true)
+instants_reached p image m (t ∷ times) (b ∷ bases) cols s h =
+    All-cons (λ (x : Stands). is_reached (history_in m.index) x ≡ true) (Overlay t cols b) (overlays_on cols times bases)
+    (ap (λ (es : List Event). in_range (span_of es) t) (events_there m.index) ∙ ap (λ (ends : Option (ℕ × ℕ)). in_range ends t) (sym (instants_are p image m s))
+    ∙ not_false (in_range (span_held p.index) t) (or_left (is_out (span_held p.index) t) (list_any (is_out (span_held p.index)) times) h))
+    (instants_reached p image m times bases cols s (or_right (is_out (span_held p.index) t) (list_any (is_out (span_held p.index)) times) h))
+
+-- the overlays on the bases that a function gives for the points of the instants
+pub overlays_same : (cols : Columns) (point : ℕ → NodeId) (base : NodeId → Option ℕ) (times : List ℕ)
+    → overlays_on cols times (map base (map point times)) ≡ overlays cols (λ t. base (point t)) times
+overlays_same cols point base [] = refl
+overlays_same cols point base (t ∷ times) = λ i. Overlay t cols (base (point t)) ∷ overlays_same cols point base times i
+
+-- the state that the session stands for with the new handles
+pub handles_stand : (p q : Parts) (x y : List ℕ) (m : MachineState) (times : List ℕ) (cols : Columns) (weight : ℕ) (singles : List ℕ) (bases : List (Option ℕ)) (graphs : List (List Element))
+    → StandsFor p x m → x ≡ y → 1 ≤ length times → refused_by p 0 (retrieval_needs times (length times)) ≡ None → IsRetrieved m times cols weight singles bases graphs
+    → q ≡ with_new_handles p (overlays_on cols times bases) graphs → StandsFor q y (with_handles m (overlays_on cols times bases))
+handles_stand p q x y m times cols weight singles bases graphs s same some none r is =
+    let free = retrieval_free p times some none in
+    handles_taken p q y m (overlays_on cols times bases) (subst (λ image. StandsFor p image m) same s) free.0 (instants_reached p x m times bases cols s free.1)
+    (is ∙ ap (λ gs. with_new_handles p (overlays_on cols times bases) gs) r.listed)
+
+-- ---- the step
+
+-- a reply of a command that is not refused, by what is planned for it in the state, and the state that the session then stands for
+pub moved_with : (c : Command) (old new : Parts) (before after : Option (List ℕ)) (reply : Reply) → refused_by old 0 (needs c) ≡ None
+    → ((m : MachineState) (x y : List ℕ) → before ≡ Some x → after ≡ Some y → StandsFor old x m
+    → (plan : Planned) × (k : MachineState) × IsPlanned m c plan × (accepted m c [] plan ≡ record { reply = reply; state = k }) × StandsFor new y k)
+    → WhereBothTold before after (λ x y. Moves c [] old x new y reply)
+moved_with c old new before after reply none step x y a b m s =
+    let free : refused m c [] ≡ None = sym (refused_is old x m c [] s) ∙ none in
+    let k = step m x y a b s in
+    (k.1, accepted_steps m c [] k.0 (record { reply = reply; state = k.1 }) free k.2 (accepted_is m c [] k.0 (record { reply = reply; state = k.1 }) free k.3), k.4)
+
+-- a retrieval that gives new handles
+pub retrieval_accepted : (c : Command) (p q : Parts) (before after : Option (List ℕ)) (new : List Stands) (graphs : List (List Element)) (reply : Reply)
+    → WhereBothTold before after (λ x y. Moves c [] p x q y reply) → is_refusal reply.head ≡ false → after ≡ before → q ≡ with_new_handles p new graphs
+    → Accepts c [] p before q after reply
+retrieval_accepted c p q before after new graphs reply moves accepts same is = record {
+  moves = moves;
+  accepted = accepts;
+  held = λ h. subst (λ (x : Parts). IfSome after (λ image. IsHeldBy x.index x.names image)) (sym is) (subst (λ (o : Option (List ℕ)). IfSome o (λ image. IsHeldBy p.index p.names image)) (sym same) h);
+  no_index = λ h. (ap (λ (x : Parts). x.index) (sym is) ∙ h, same);
+  quiet = λ h. same;
+}
+
+no_damage : (key : Key) (col : Column) → IsNoDamage (retrieval_fault.Damaged key col) → ⊥
+no_damage key col h = ⊎_elim (λ (e : retrieval_fault.Damaged key col ≡ retrieval_fault.Disk). absurd cc) (λ (e : retrieval_fault.Damaged key col ≡ retrieval_fault.Memory). absurd cc) h
+
+-- a retrieval that fails is refused by a failed read or by want of memory, since an image of a history is not damaged
+pub retrieval_failed : (c : Command) (p q : Parts) (before after : Option (List ℕ)) (f : RetrievalFault) → (needs c).memory ≡ true → (needs c).reads ≡ true → AcceptedBehindReads c [] → refused_by p 0 (needs c) ≡ None
+    → q ≡ p → after ≡ before → IfSome before (λ image. (m : MachineState) → StandsFor p image m → IsNoDamage f) → ComesTo c [] p before q after (Err (retrieval_halt f))
+retrieval_failed c p q before after retrieval_fault.Disk memory reads behind none same same_image never = failing_accepted c [] p q before after same same_image reads none behind
+retrieval_failed c p q before after retrieval_fault.Memory memory reads behind none same same_image never = lacking_denies c [] p q before after same same_image memory none
+retrieval_failed c p q before after (retrieval_fault.Damaged key col) memory reads behind none same same_image never = record {
+  moves = λ x y a b m s. absurd (no_damage key col (one_told before (λ image. (k : MachineState) → StandsFor p image k → IsNoDamage (retrieval_fault.Damaged key col)) x never a m s));
+  as_before = record { same = same; same_image = same_image };
+  reads = λ h. (reads, none);
+}
+
+-- ---- the bytes read
+
+pub if_some : {A : Type 0} (o : Option A) (P Q : A → Type 0) → ((x : A) → P x → Q x) → IfSome o P → IfSome o Q
+if_some None P Q f h = tt
+if_some (Some x) P Q f h = f x h
+
+pub every_some : {A : Type 0} (o : Option A) (P : A → Type 0) → ((x : A) → P x) → IfSome o P
+every_some None P f = tt
+every_some (Some x) P f = f x
+
+-- a command that reads and fails has read at most what its answer would tell
+pub reads_failed : (c : Command) (p : Parts) (image : Option (List ℕ)) (h : Head) (before after : ℕ) → (needs c).reads ≡ true → is_refusal h ≡ true → is_early h ≡ false
+    → ((m : MachineState) (got : List ScriptLine) → ReadsAsTold (is_refusal h) m c got h before after → ReadsBy m c got h before after)
+    → ((got : List ScriptLine) → refused_by p (length got) (needs c) ≡ None)
+    → IfSome image (λ bytes. (m : MachineState) → StandsFor p bytes m → (got : List ScriptLine) (plan : Planned) → IsPlanned m c plan → TakesAtMost (weight_told (accepted m c got plan).reply.head) before after)
+    → Reads c p image h before after
+reads_failed c p image h before after reads refuses late as_told none most = record {
+  told = λ e. if_some image (λ x. (m : MachineState) → StandsFor p x m → (got : List ScriptLine) (plan : Planned) → IsPlanned m c plan → TakesAtMost (weight_told (accepted m c got plan).reply.head) before after) _
+      (λ x t m s got.
+      let free : refused m c got ≡ None = sym (refused_is p x m c got s) ∙ none got in
+      as_told m got
+      (subst (λ b. ReadsAsTold b m c got h before after) (sym refuses)
+      (λ plan planned.
+      subst (λ (a : Answered). TakesAtMost (weight_told a.reply.head) before after) (sym (accepted_is m c got plan (accepted m c got plan) free refl))
+      (t m s got plan (subst (λ (o : Option Refusal). IsPlannedBy o m c plan) free planned))))) most;
+  early = λ e. absurd (false≢true (sym late ∙ e));
+  nothing = λ q. absurd (false≢true (sym (ap (λ b. not b && not (needs c).writes) reads) ∙ q));
+}
+
+-- whatever the fault is
+pub reads_failing : (c : Command) (p : Parts) (image : Option (List ℕ)) (f : RetrievalFault) (before after : ℕ) → ((h : Head) → is_refusal h ≡ true → is_early h ≡ false → Reads c p image h before after)
+    → ReadsIn c p image (Err (retrieval_halt f)) before after
+reads_failing c p image retrieval_fault.Disk before after each = each (head.Refused refusal.StoreRead) refl refl
+reads_failing c p image retrieval_fault.Memory before after each = each (head.Refused refusal.OutOfMemory) refl refl
+reads_failing c p image (retrieval_fault.Damaged key col) before after each = each (head.Refused (refusal.Damaged key col)) refl refl
+
+-- ---- a retrieval over what the session has in memory
+
+-- the index, the number of names and the recent events are the session's
+pub record IsSession (p : Parts) (o : Opening) (names : ℕ) (recent : List Event) : Type 0 where
+  pub there : p.index ≡ Some o
+  pub count : names ≡ length p.names
+  pub all : recent ≡ p.recent
+
+pub is_session : (p : Parts) (s : Inside) (index : IndexState) (names : ℕ) (recent : List Event) → (the_view s).parts ≡ p → s.history.index ≡ Some index
+    → names ≡ length s.history.names → recent ≡ s.history.recent.items → IsSession p index.opening names recent
+is_session p s index names recent view there count all = record {
+  there = sym (ap (λ (x : Parts). x.index) view) ∙ ap index_opening there;
+  count = count ∙ ap (λ (x : Parts). length x.names) view;
+  all = all ∙ ap (λ (x : Parts). x.recent) view;
+}
+
+module _ (p : Parts) (o : Opening) (times : List ℕ) (cols : Columns) (told : Option (List ℕ)) (names : ℕ) (recent : List Event) (is : IsSession p o names recent)
+    (inside : list_any (is_out (span_held (Some o))) times ≡ false)
+    (edges : List Edge) (edges_is : edges ≡ kept_edges o (event_total o.batches) cols (bases_in cols p.table)) (hold : All (HoldsNode p.table cols) (bases_in cols p.table)) where
+  over_session : (image : List ℕ) (m : MachineState) (s : StandsFor p image m) → IsOver (z_of p o image m is.there s) image o names p.graph recent
+  over_session image m s =
+      subst (λ es. IsOver (z_of p o image m is.there s) image o names p.graph es) (sym is.all)
+      (subst (λ n. IsOver (z_of p o image m is.there s) image o n p.graph p.recent) (sym is.count) (is_over p o image m is.there s))
+
+  points_of_session : (image : List ℕ) (m : MachineState) (s : StandsFor p image m) → ArePoints (z_of p o image m is.there s) (points_over o recent times) times
+  points_of_session image m s = ap (λ es. points_over o es times) is.all ∙ at_points p o image m is.there s times inside
+
+  -- the handles that can serve list what is shown of their nodes
+  held_there : (image : List ℕ) (m : MachineState) (s : StandsFor p image m) → AreHeld (z_of p o image m is.there s) edges cols (listed_by p)
+  held_there image m s =
+      let z : History = z_of p o image m is.there s in
+      let graphs : p.graphs ≡ map (λ (e : ℕ × Stands). elements z e.1) p.table =
+      s.graphs ∙ (λ i. map (λ (e : ℕ × Stands). elements (history_in ((is_of p o image m is.there s).1.index i)) e.1) (sym s.table i)) in
+      subst (λ (gs : List (List Element)). AreHeld z edges cols (held_by p.table gs)) (sym graphs)
+      (subst (λ (es : List Edge). AreHeld z es cols (held_by p.table (map (λ (e : ℕ × Stands). elements z e.1) p.table))) (sym edges_is)
+      (bases_are_held z p.table cols (kept_ground o (event_total o.batches) cols (bases_in cols p.table)) hold))
+
+  pub retrieved_over : (r : Result Retrieved RetrievalFault)
+      → IfOk r (λ x. length x.leads.items ≡ length times)
+      → IfOk r (λ x. IsTreeOf edges (points_over o recent times) x.weight (bases_of x.leads.items))
+      → IfOk r (λ x. AreSingles (arcs_of edges) (Root ∷ []) (points_over o recent times) x.singles.items)
+      → IfOk r (λ x. IfSome told (λ image. (z : History) (now : List Element) (held : ℕ → List Element) → IsOver z image o names now recent → AreHeld z edges cols held
+      → ArePoints z (points_over o recent times) times → map (led_to now held cols) x.leads.items ≡ graphs_at z times cols))
+      → IfOk r (λ x. IfSome told (λ image. (m : MachineState) → StandsFor p image m → IsRetrieved m times cols x.weight x.singles.items (bases_of x.leads.items) (map (led_to p.graph (listed_by p) cols) x.leads.items)))
+  retrieved_over (Err f) count tree singles graphs = tt
+  retrieved_over (Ok x) count tree singles graphs =
+      if_some told (λ image. (z : History) (now : List Element) (held : ℕ → List Element) → IsOver z image o names now recent → AreHeld z edges cols held
+      → ArePoints z (points_over o recent times) times → map (led_to now held cols) x.leads.items ≡ graphs_at z times cols)
+      (λ image. (m : MachineState) → StandsFor p image m → IsRetrieved m times cols x.weight x.singles.items (bases_of x.leads.items) (map (led_to p.graph (listed_by p) cols) x.leads.items))
+      (λ image f m s.
+      is_retrieved p o image m is.there s times cols x.weight x.singles.items (bases_of x.leads.items) (map (led_to p.graph (listed_by p) cols) x.leads.items) inside
+      (subst (λ es. IsTreeOf es (points_over o p.recent times) x.weight (bases_of x.leads.items)) edges_is (subst (λ es. IsTreeOf edges (points_over o es times) x.weight (bases_of x.leads.items)) is.all tree))
+      (subst (λ es. AreSingles (arcs_of es) (Root ∷ []) (points_over o p.recent times) x.singles.items) edges_is (subst (λ es. AreSingles (arcs_of edges) (Root ∷ []) (points_over o es times) x.singles.items) is.all singles))
+      (length-map x.leads.items (λ (l : GraphLead). base_handle l.begins) ∙ count)
+      (f (z_of p o image m is.there s) p.graph (listed_by p) (over_session image m s) (held_there image m s) (points_of_session image m s))) graphs
+
+  pub taken_over : (r : Result Retrieved RetrievalFault) (before after : ℕ)
+      → IfOk r (λ x. IfSome told (λ image. (z : History) (now : List Element) → IsOver z image o names now recent → Takes x.weight before after))
+      → IfOk r (λ x. IfSome told (λ image. (m : MachineState) → StandsFor p image m → Takes x.weight before after))
+  taken_over (Err f) before after takes = tt
+  taken_over (Ok x) before after takes =
+      if_some told (λ image. (z : History) (now : List Element) → IsOver z image o names now recent → Takes x.weight before after)
+      (λ image. (m : MachineState) → StandsFor p image m → Takes x.weight before after)
+      (λ image f m s. f (z_of p o image m is.there s) p.graph (over_session image m s)) takes
+
+  pub most_read : (before after : ℕ)
+      → IfSome told (λ image. (z : History) (now : List Element) → IsOver z image o names now recent → TakesAtMostTree edges (points_over o recent times) before after)
+      → IfSome told (λ image. (m : MachineState) → StandsFor p image m → TakesAtMostTree (edges_in m cols) (points_for m times) before after)
+  most_read before after most =
+      if_some told (λ image. (z : History) (now : List Element) → IsOver z image o names now recent → TakesAtMostTree edges (points_over o recent times) before after)
+      (λ image. (m : MachineState) → StandsFor p image m → TakesAtMostTree (edges_in m cols) (points_for m times) before after)
+      (λ image f m s.
+      subst (λ (ns : List NodeId). TakesAtMostTree (edges_in m cols) ns before after) (points_are p o image m is.there s times inside)
+      (subst (λ (es : List Edge). TakesAtMostTree es (points_over o p.recent times) before after) (edges_is ∙ edges_are p o image m is.there s cols)
+      (subst (λ es. TakesAtMostTree edges (points_over o es times) before after) is.all (f (z_of p o image m is.there s) p.graph (over_session image m s))))) most
+
+  pub never_damaged : (r : Result Retrieved RetrievalFault)
+      → IfErr r (λ f. IfSome told (λ image. (z : History) (now : List Element) → IsOver z image o names now recent → ArePoints z (points_over o recent times) times → IsNoDamage f))
+      → IfErr r (λ f. IfSome told (λ image. (m : MachineState) → StandsFor p image m → IsNoDamage f))
+  never_damaged (Ok x) never = tt
+  never_damaged (Err f) never =
+      if_some told (λ image. (z : History) (now : List Element) → IsOver z image o names now recent → ArePoints z (points_over o recent times) times → IsNoDamage f)
+      (λ image. (m : MachineState) → StandsFor p image m → IsNoDamage f)
+      (λ image h m s. h (z_of p o image m is.there s) p.graph (over_session image m s) (points_of_session image m s)) never

@@ -1,0 +1,247 @@
+-- How a step comes from what is refused, for every command alike.
+use Rattle.std.proofs.Common.{◌≡◌, ℕ, ◌+◌, ◌++◌, nat_lt, Bool, true, false, List, [], Option, Some, None, Result, Ok, Err, length, refl, sym, ◌∙◌, ap, subst, ◌∷◌}
+use Rattle.std.specs.Prelude.{IfSome, not, is_some, ◌||◌, ◌&&◌, IsErr, IsErrAnd}
+use Rattle.std.specs.List.{list_any}
+use Rattle.std.proofs.lemmas.Bool.{false≢true}
+use Rattle.dg_graph.specs.Lines.{ScriptLine}
+use Rattle.dg_machine.specs.declared.command.Command.{Command}
+use Rattle.dg_machine.specs.declared.reply.Head.TheVariants as head
+use Rattle.dg_machine.specs.declared.reply.Refusal.{Refusal}
+use Rattle.dg_machine.specs.declared.reply.Refusal.TheVariants as refusal
+use Rattle.dg_machine.specs.declared.reply.Reply.{Reply}
+use Rattle.dg_machine.specs.Answer.{Answered, IsPlannedBy, accepted, answer, answer_by, headed, is_begun, is_behind_reads, no_memory, is_refusal, store_read}
+use Rattle.dg_machine.specs.CutImage.{IsAccepted}
+use Rattle.dg_machine.specs.MachineState.{MachineState, stands_at, dependent_on}
+use Rattle.dg_history.specs.History.{are_parameters, in_range}
+use Rattle.dg_machine.specs.declared.limits.TheConstants.{HANDLE_MAX, LIVE_HANDLES_MAX}
+use Rattle.dg_machine.specs.Needs.{Needs, earliest, following, is_followed, needs, of, refused, when, is_base}
+use Rattle.dg_machine.specs.Planning.{Planned, IsPlanned, no_plan}
+use Rattle.dg_machine.specs.Run.{Step, Answers, Fails_to_read, Lacks_memory}
+use Rattle.dg_machine.specs.Script.{Asked}
+use Rattle.dg_session.proofs.BatchLineCollection.{follows_none}
+use Rattle.dg_session.proofs.PartStates.{one_image, refused_is, stands_on}
+use Rattle.dg_session.specs.HeldIndex.{events_held, span_held, has_node_held}
+use Rattle.dg_session.specs.Parts.{Parts}
+use Rattle.dg_session.specs.declared.halt.Halt.{Halt}
+use Rattle.dg_session.specs.declared.halt.Halt.TheVariants as halt
+use Rattle.dg_session.specs.declared.stop.Stop.TheVariants as stop
+use Rattle.dg_session.specs.Session.{ComesTo, Denies, MayRead, Moves, StandsFor, Steps, TakesLines, WhereBothTold, is_of_read, is_too_full, refused_by}
+
+-- ---- of the machine
+
+pub refused_steps : (m : MachineState) (c : Command) (lines : List ScriptLine) (r : Refusal) → refused m c lines ≡ Some r
+    → Step m (Asked c lines) (headed (head.Refused r)) m
+refused_steps m c lines r is =
+    subst (λ (o : Option Refusal). Step m (Asked c lines) (answer_by o m c lines no_plan).reply (answer_by o m c lines no_plan).state) is
+    (Answers c lines no_plan (subst (λ (o : Option Refusal). IsPlannedBy o m c no_plan) (sym is) tt))
+
+-- the answer of a command that is not refused by what it needs
+pub accepted_is : (m : MachineState) (c : Command) (lines : List ScriptLine) (p : Planned) (a : Answered) → refused m c lines ≡ None → accepted m c lines p ≡ a
+    → answer m c lines p ≡ a
+accepted_is m c lines p a none is = ap (λ (o : Option Refusal). answer_by o m c lines p) none ∙ is
+
+-- with what is planned for it
+pub accepted_steps : (m : MachineState) (c : Command) (lines : List ScriptLine) (p : Planned) (a : Answered) → refused m c lines ≡ None → IsPlanned m c p → answer m c lines p ≡ a
+    → Step m (Asked c lines) a.reply a.state
+accepted_steps m c lines p a none planned is =
+    subst (λ (x : Answered). Step m (Asked c lines) x.reply x.state) is (Answers c lines p (subst (λ (o : Option Refusal). IsPlannedBy o m c p) (sym none) planned))
+
+-- a command that is not refused by what it needs is begun
+begun : (m : MachineState) (c : Command) (lines : List ScriptLine) → refused m c lines ≡ None → is_begun m c lines ≡ true
+begun m c lines none = ap (λ (o : Option Refusal). is_followed c || not (is_some o)) none ∙ or_true (is_followed c)
+  where
+    or_true : (a : Bool) → (a || true) ≡ true
+    or_true true = refl
+    or_true false = refl
+
+pub lacking_steps : (m : MachineState) (c : Command) (lines : List ScriptLine) → (needs c).memory ≡ true → refused m c lines ≡ None
+    → Step m (Asked c lines) no_memory m
+lacking_steps m c lines memory none = Lacks_memory c lines (λ i. memory i && begun m c lines none i)
+
+-- a failed read may take the index of the answer
+abbrev pub IsBehindReads : Command → List ScriptLine → MachineState → Type 0
+IsBehindReads c lines m = is_behind_reads (answer m c lines no_plan).reply.head ≡ true
+
+failing_steps : (m : MachineState) (c : Command) (lines : List ScriptLine) → (needs c).reads ≡ true → IsBehindReads c lines m
+    → Step m (Asked c lines) store_read m
+failing_steps m c lines reads behind = Fails_to_read c lines (λ i. reads i && behind i)
+
+-- where the command is accepted, a failed read may take the index of what it answers then
+abbrev pub AcceptedBehindReads : Command → List ScriptLine → Type 0
+AcceptedBehindReads c lines = (m : MachineState) → is_behind_reads (accepted m c lines no_plan).reply.head ≡ true
+
+-- a command whose answer is no refusal may be cut off
+pub is_accepted : (m : MachineState) (c : Command) (lines : List ScriptLine) (a : Answered) → answer m c lines no_plan ≡ a → is_refusal a.reply.head ≡ false
+    → IsAccepted m (Asked c lines)
+is_accepted m c lines a is accepted = ap (λ (x : Answered). is_refusal x.reply.head) is ∙ accepted
+
+-- ---- of the session
+
+-- a refusal that the machine may give over the image that the disk tells, where nothing has changed
+pub denied_at : (c : Command) (got : List ScriptLine) (old new : Parts) (before after : Option (List ℕ)) (r : Refusal) → new ≡ old → after ≡ before
+    → ((m : MachineState) (image : List ℕ) → before ≡ Some image → StandsFor old image m → Step m (Asked c got) (headed (head.Refused r)) m)
+    → (is_of_read r ≡ true → MayRead c got old) → Denies c got old before new after r
+denied_at c got old new before after r same same_image step reads = record {
+  moves = λ x y a b m s. (m, step m x a s, stands_on old new x y m same (one_image before after x y same_image a b) s);
+  as_before = record { same = same; same_image = same_image };
+  reads = reads;
+}
+
+-- over any image
+pub denied : (c : Command) (got : List ScriptLine) (old new : Parts) (before after : Option (List ℕ)) (r : Refusal) → new ≡ old → after ≡ before
+    → ((m : MachineState) (image : List ℕ) → StandsFor old image m → Step m (Asked c got) (headed (head.Refused r)) m)
+    → (is_of_read r ≡ true → MayRead c got old) → Denies c got old before new after r
+denied c got old new before after r same same_image step reads =
+    denied_at c got old new before after r same same_image (λ m image at s. step m image s) reads
+
+-- the first of these refusals tells of no read
+abbrev IsNotOfRead : Option Refusal → Type 0
+IsNotOfRead o = IfSome o (λ s. is_of_read s ≡ false)
+
+when_not_read : (b : Bool) (r : Refusal) (rest : List Refusal) → is_of_read r ≡ false → IsNotOfRead (earliest rest) → IsNotOfRead (earliest (when b r ++ rest))
+when_not_read true r rest other more = other
+when_not_read false r rest other more = more
+
+of_not_read : {A : Type 0} (x : Option A) (f : A → Bool) (r : A → Refusal) (rest : List Refusal) → ((a : A) → is_of_read (r a) ≡ false) → IsNotOfRead (earliest rest)
+    → IsNotOfRead (earliest (of x (λ a. when (f a) (r a)) ++ rest))
+of_not_read None f r rest other more = more
+of_not_read (Some a) f r rest other more = when_not_read (f a) (r a) rest (other a) more
+
+used_not_read : (x : Option ℕ) (f : ℕ → Option ℕ) (rest : List Refusal) → IsNotOfRead (earliest rest) → IsNotOfRead (earliest (of x (λ h. of (f h) (λ d. refusal.InUse d ∷ [])) ++ rest))
+used_not_read None f rest more = more
+used_not_read (Some h) f rest more = by (f h)
+  where
+    by : (d : Option ℕ) → IsNotOfRead (earliest (of d (λ h. refusal.InUse h ∷ []) ++ rest))
+    by None = more
+    by (Some d) = refl
+
+last_not_read : (b : Bool) (r : Refusal) → is_of_read r ≡ false → IsNotOfRead (earliest (when b r))
+last_not_read true r other = other
+last_not_read false r other = tt
+
+-- what a command needs is refused as no read of the file
+never_read : (p : Parts) (read : ℕ) (n : Needs) → IsNotOfRead (refused_by p read n)
+never_read p read n =
+    of_not_read n.lines (λ count. nat_lt read count) (λ count. refusal.ShortBatch read count) _ (λ count. refl)
+    (when_not_read (n.index && not (is_some p.index)) refusal.NoIndex _ refl
+    (of_not_read n.parameters (λ x. is_some p.index) (λ x. refusal.IndexExists) _ (λ x. refl)
+    (of_not_read n.parameters (λ x. not (are_parameters x.0 x.1)) (λ x. refusal.Parameters) _ (λ x. refl)
+    (when_not_read (n.unloaded && is_some (span_held p.index)) refusal.AlreadyLoaded _ refl
+    (when_not_read (nat_lt 0 n.changes && is_too_full p n.changes) (refusal.HistoryFull (events_held p.index) n.changes) _ refl
+    (when_not_read (list_any (λ t. not (in_range (span_held p.index) t)) n.instants) (refusal.OutOfRange (span_held p.index)) _ refl
+    (of_not_read n.handle (λ h. not (is_some (stands_at h p.table))) (λ h. refusal.UnknownHandle h) _ (λ h. refl)
+    (of_not_read n.handle (λ h. n.overlay && is_base (stands_at h p.table)) (λ h. refusal.NotAnOverlay h) _ (λ h. refl)
+    (used_not_read n.unused (λ h. dependent_on h p.table) _
+    (of_not_read n.node (λ v. not (has_node_held p.index v)) (λ v. refusal.UnknownNode) _ (λ v. refl)
+    (when_not_read (nat_lt 0 n.handles && nat_lt LIVE_HANDLES_MAX (length p.table + n.handles)) (refusal.PoolFull (length p.table) n.handles) _ refl
+    (last_not_read (nat_lt 0 n.handles && nat_lt (HANDLE_MAX + 1) (p.next + n.handles)) refusal.HandlesSpent refl))))))))))))
+
+pub refused_not_read : (p : Parts) (read : ℕ) (n : Needs) (r : Refusal) → refused_by p read n ≡ Some r → is_of_read r ≡ false
+refused_not_read p read n r is = subst IsNotOfRead is (never_read p read n)
+
+-- by what it needs
+pub refused_denies : (c : Command) (got : List ScriptLine) (old new : Parts) (before after : Option (List ℕ)) (r : Refusal) → new ≡ old → after ≡ before
+    → refused_by old (length got) (needs c) ≡ Some r → Denies c got old before new after r
+refused_denies c got old new before after r same same_image is =
+    denied c got old new before after r same same_image (λ m image s. refused_steps m c got r (sym (refused_is old image m c got s) ∙ is))
+    (λ h. absurd (false≢true (sym (refused_not_read old (length got) (needs c) r is) ∙ h)))
+
+-- by want of memory
+pub lacking_denies : (c : Command) (got : List ScriptLine) (old new : Parts) (before after : Option (List ℕ)) → new ≡ old → after ≡ before
+    → (needs c).memory ≡ true → refused_by old (length got) (needs c) ≡ None → Denies c got old before new after refusal.OutOfMemory
+lacking_denies c got old new before after same same_image memory none =
+    denied c got old new before after refusal.OutOfMemory same same_image (λ m image s. lacking_steps m c got memory (sym (refused_is old image m c got s) ∙ none)) (λ h. absurd (false≢true h))
+
+-- by a failed read of the index file
+pub failing_denies : (c : Command) (got : List ScriptLine) (old new : Parts) (before after : Option (List ℕ)) → new ≡ old → after ≡ before
+    → (needs c).reads ≡ true → refused_by old (length got) (needs c) ≡ None
+    → ((m : MachineState) (image : List ℕ) → StandsFor old image m → IsBehindReads c got m) → Denies c got old before new after refusal.StoreRead
+failing_denies c got old new before after same same_image reads none behind =
+    denied c got old new before after refusal.StoreRead same same_image (λ m image s. failing_steps m c got reads (behind m image s)) (λ h. (reads, none))
+
+-- and of a command that is accepted where it is not refused by what it needs
+pub failing_accepted : (c : Command) (got : List ScriptLine) (old new : Parts) (before after : Option (List ℕ)) → new ≡ old → after ≡ before
+    → (needs c).reads ≡ true → refused_by old (length got) (needs c) ≡ None → AcceptedBehindReads c got → Denies c got old before new after refusal.StoreRead
+failing_accepted c got old new before after same same_image reads none behind =
+    failing_denies c got old new before after same same_image reads none
+    (λ m image s. ap (λ (o : Option Refusal). is_behind_reads (answer_by o m c got no_plan).reply.head) (sym (refused_is old image m c got s) ∙ none) ∙ behind m)
+
+-- a reply of a command that is not refused, by a plan for it, and the state that the session then stands for
+pub moved_by : (c : Command) (got : List ScriptLine) (plan : Planned) (old new : Parts) (before after : Option (List ℕ)) (reply : Reply)
+    → refused_by old (length got) (needs c) ≡ None
+    → ((m : MachineState) (x y : List ℕ) → before ≡ Some x → after ≡ Some y → StandsFor old x m → refused m c got ≡ None
+    → (k : MachineState) × IsPlanned m c plan × (accepted m c got plan ≡ record { reply = reply; state = k }) × StandsFor new y k)
+    → WhereBothTold before after (λ x y. Moves c got old x new y reply)
+moved_by c got plan old new before after reply none step x y a b m s =
+    let free : refused m c got ≡ None = sym (refused_is old x m c got s) ∙ none in
+    let k = step m x y a b s free in
+    (k.0, accepted_steps m c got plan (record { reply = reply; state = k.0 }) free k.1 (accepted_is m c got plan (record { reply = reply; state = k.0 }) free k.2), k.3)
+
+-- nothing is planned for the command
+abbrev pub IsUnplanned : Command → Type 0
+IsUnplanned c = (m : MachineState) → IsPlanned m c no_plan
+
+-- the same of a command that has no plan
+pub moved : (c : Command) (got : List ScriptLine) (old new : Parts) (before after : Option (List ℕ)) (reply : Reply) → IsUnplanned c
+    → refused_by old (length got) (needs c) ≡ None
+    → ((m : MachineState) (x y : List ℕ) → before ≡ Some x → after ≡ Some y → StandsFor old x m → refused m c got ≡ None
+    → (k : MachineState) × (accepted m c got no_plan ≡ record { reply = reply; state = k }) × StandsFor new y k)
+    → WhereBothTold before after (λ x y. Moves c got old x new y reply)
+moved c got old new before after reply unplanned none step =
+    moved_by c got no_plan old new before after reply none (λ m x y a b s free. let k = step m x y a b s free in (k.0, unplanned m, k.1, k.2))
+
+-- what a `?` hands out
+pub handed_out : {A E : Type 0} (r : Result A E) (x : E) (P : Result A E → Type 0) → IsErr r × IsErrAnd r (λ y. y ≡ x) → P (Err x) → P r
+handed_out (Ok a) x P h p = cc
+handed_out (Err e) x P h p = subst (λ y. P (Err y)) (sym h.1) p
+
+-- ---- the command and the lines that follow it
+
+-- what the command comes to with the lines that it takes
+abbrev pub Comes : Command → ℕ → Option (List ScriptLine) → Option (List ScriptLine) → Parts → Option (List ℕ) → Parts → Option (List ℕ) → Result Reply Halt → Type 0
+Comes c count lines_before lines_after old before new after r = (got : List ScriptLine) × TakesLines count lines_before got lines_after r × ComesTo c got old before new after r
+
+takes_none : {A : Type 0} (lines : Option (List ScriptLine)) (r : Result A Halt) → TakesLines 0 lines [] lines r
+takes_none lines (Ok x) = follows_none lines
+takes_none lines (Err (halt.Refusal r)) = follows_none lines
+takes_none lines (Err (halt.Stop stop.Read)) = tt
+takes_none lines (Err (halt.Stop stop.Limit)) = tt
+takes_none lines (Err (halt.Stop stop.Store)) = follows_none lines
+
+-- no lines follow the command
+pub alone : (c x : Command) (lines : Option (List ScriptLine)) (old : Parts) (before : Option (List ℕ)) (new : Parts) (after : Option (List ℕ)) (r : Result Reply Halt) → c ≡ x → following x ≡ 0
+    → ComesTo x [] old before new after r → Comes c (following c) lines lines old before new after r
+alone c x lines old before new after r is none h =
+    subst (λ (y : Command). Comes y (following y) lines lines old before new after r) (sym is)
+    ([], subst (λ (n : ℕ). TakesLines n lines [] lines r) (sym none) (takes_none lines r), h)
+
+-- a reply that is no refusal tells of no read
+tells_of_none : (reply : Reply) (P : Type 0) (r : Refusal) → is_refusal reply.head ≡ false → reply.head ≡ head.Refused r → P
+tells_of_none reply P r accepts is = absurd (false≢true (sym accepts ∙ ap is_refusal is))
+
+same_refusal : (r why : Refusal) → head.Refused why ≡ head.Refused r → r ≡ why
+same_refusal r why is = cc
+
+-- the reply, where there is one
+pub answered : (c : Command) (lines_before lines_after : Option (List ScriptLine)) (old : Parts) (before : Option (List ℕ)) (new : Parts) (after : Option (List ℕ)) (r : Result Reply Halt) (reply : Reply)
+    → Comes c (following c) lines_before lines_after old before new after r → r ≡ Ok reply → Steps c lines_before lines_after old before new after reply
+answered c lines_before lines_after old before new after r reply h is =
+    let k = subst (Comes c (following c) lines_before lines_after old before new after) is h in (
+      k.0,
+      k.1,
+      k.2.moves,
+      λ why is of_read. tells_of_none reply (MayRead c k.0 old) why k.2.accepted is,
+    )
+
+pub refused_so : (c : Command) (lines_before lines_after : Option (List ScriptLine)) (old : Parts) (before : Option (List ℕ)) (new : Parts) (after : Option (List ℕ)) (r : Result Reply Halt) (why : Refusal) (reply : Reply)
+    → Comes c (following c) lines_before lines_after old before new after r → r ≡ Err (halt.Refusal why) → reply ≡ headed (head.Refused why)
+    → Steps c lines_before lines_after old before new after reply
+refused_so c lines_before lines_after old before new after r why reply h is reply_is =
+    let k = subst (Comes c (following c) lines_before lines_after old before new after) is h in (
+      k.0,
+      k.1,
+      subst (λ (x : Reply). WhereBothTold before after (λ y z. Moves c k.0 old y new z x)) (sym reply_is) k.2.moves,
+      λ r is of_read.
+          let both : head.Refused why ≡ head.Refused r = ap (λ (x : Reply). x.head) (sym reply_is) ∙ is in
+          k.2.reads (ap is_of_read (sym (same_refusal r why both)) ∙ of_read),
+    )

@@ -1,0 +1,91 @@
+-- What the tests of directories that stand one behind another say of batches and names.
+use Rattle.std.proofs.Common.{◌≡◌, ℕ, ◌+◌, ◌≤◌, true, List, [], ◌∷◌, ◌++◌, length, drop, refl, subst, ◌∙◌, arith, length-append}
+use Rattle.std.specs.Prelude.{◌==◌, ◌&&◌, nat_le}
+use Rattle.std.proofs.lemmas.Bool.{leb-true}
+use Rattle.std.proofs.lemmas.List.Sums.{sum_by_push}
+use Rattle.dg_graph.specs.declared.limits.TheConstants.{NAMES_MAX}
+use Rattle.dg_graph.specs.Names.{are_new}
+use Rattle.dg_history.specs.declared.limits.TheConstants.{BATCH_LINES_MAX, EVENTS_MAX}
+use Rattle.dg_index.specs.ImageText.{eight_at}
+use Rattle.dg_index.specs.OpenedIndex.{Opened, Directory, earliest_in, event_total, may_be_named, may_follow, rows_in}
+use Rattle.dg_index.specs.declared.entry.BatchEntry.{BatchEntry}
+use Rattle.dg_index.proofs.ImageTextNames.{both, new_append}
+use Rattle.dg_index.proofs.IndexRecordColumns.{Each}
+use Rattle.dg_index.proofs.OpenedSoFar.{one_more}
+use Rattle.dg_columns.proofs.Fields.{IsBytes, IsBytes-drop, IsBytes-take}
+use Rattle.dg_sound_files.proofs.ImageTextDirectories.{IsSpelt, directories_are_spelt}
+use Rattle.dg_sound_files.proofs.OpenedIndexColumns.{sum_of}
+use Rattle.dg_sound_files.proofs.SoundnessBatches.{IsNamed}
+use Rattle.dg_sound_files.proofs.OpenedIndexDirectories.{Chain, StandsNext, batch_entries, new_names, text_next}
+
+-- the directory that stands next is spelt
+pub next_spelt : (image : List ℕ) (y : Opened) (d : Directory) → IsBytes image → StandsNext y image d → IsSpelt y.index (text_next y image) d
+next_spelt image y d fits next =
+    directories_are_spelt y.index (text_next y image) d (IsBytes-take (eight_at image y.index.used) (drop (y.index.used + 16) image) (IsBytes-drop (y.index.used + 16) image fits)) next.read
+
+pub chain_named : (image : List ℕ) (ds : List Directory) (y x : Opened) → IsBytes image → Chain image y ds x → Each IsNamed ds
+chain_named image [] y x fits c = tt
+chain_named image (d ∷ ds) y x fits c = ((next_spelt image y d fits c.1).names, chain_named image ds (one_more image y d) x fits c.2)
+
+-- ---- what may stand
+
+record Passes (y : Opened) (d : Directory) : Type 0 where
+  follows : may_follow (event_total y.index.batches) (earliest_in 0 y.index.batches) d.batch ≡ true
+  new : are_new y.names d.names ≡ true
+  few_names : length y.names + length d.names ≤ NAMES_MAX
+  few : event_total y.index.batches + d.batch.events ≤ EVENTS_MAX
+
+passes : (image : List ℕ) (y : Opened) (d : Directory) → StandsNext y image d → Passes y d
+passes image y d next =
+    let a = both (sum_of (rows_in d) == eight_at image (y.index.used + 8)) _ next.may in
+    let b = both (may_follow (event_total y.index.batches) (earliest_in 0 y.index.batches) d.batch) _ a.1 in
+    let c = both (may_be_named y.names d.names) _ b.1 in
+    let n = both (are_new y.names d.names) _ c.0 in
+    let f1 = both (nat_le 1 d.batch.events) _ b.0 in
+    let f2 = both (nat_le d.batch.events BATCH_LINES_MAX) _ f1.1 in
+    let f3 = both (nat_le (event_total y.index.batches + d.batch.events) EVENTS_MAX) _ f2.1 in
+    record {
+      follows = b.0;
+      new = n.0;
+      few_names = leb-true (length y.names + length d.names) NAMES_MAX n.1;
+      few = leb-true (event_total y.index.batches + d.batch.events) EVENTS_MAX f3.0;
+    }
+
+pub chain_new : (image : List ℕ) (ds : List Directory) (y x : Opened) → Chain image y ds x → are_new y.names (new_names ds) ≡ true
+chain_new image [] y x c = refl
+chain_new image (d ∷ ds) y x c =
+    let p = passes image y d c.1 in
+    let more = chain_new image ds (one_more image y d) x c.2 in
+    new_append y.names d.names (new_names ds) ∙ (λ i. p.new i && more i)
+
+pub chain_few_names : (image : List ℕ) (ds : List Directory) (y x : Opened) → length y.names ≤ NAMES_MAX → Chain image y ds x → length x.names ≤ NAMES_MAX
+chain_few_names image [] y x le c = subst (λ (x : Opened). length x.names ≤ NAMES_MAX) c.0 le
+chain_few_names image (d ∷ ds) y x le c =
+    let p = passes image y d c.1 in
+    chain_few_names image ds (one_more image y d) x (omega (arith, p.few_names, length-append y.names d.names)) c.2
+
+pub chain_few : (image : List ℕ) (ds : List Directory) (y x : Opened) → event_total y.index.batches ≤ EVENTS_MAX → Chain image y ds x → event_total x.index.batches ≤ EVENTS_MAX
+chain_few image [] y x le c = subst (λ (x : Opened). event_total x.index.batches ≤ EVENTS_MAX) c.0 le
+chain_few image (d ∷ ds) y x le c =
+    let p = passes image y d c.1 in
+    chain_few image ds (one_more image y d) x (omega (arith, p.few, sum_by_push (λ (b : BatchEntry). b.events) y.index.batches d.batch)) c.2
+
+-- ---- the batches follow one another
+
+-- each of the batches may follow those before it
+abbrev pub AllFollow : ℕ → ℕ → List BatchEntry → Type 0
+AllFollow count earliest [] = Unit {0}
+AllFollow count earliest (b ∷ more) = (may_follow count earliest b ≡ true) × AllFollow (count + b.events) (b.ends.last + 1) more
+
+earliest_more : (t : ℕ) (xs : List BatchEntry) (b : BatchEntry) → earliest_in t (xs ++ b ∷ []) ≡ b.ends.last + 1
+earliest_more t [] b = refl
+earliest_more t (x ∷ xs) b = earliest_more (x.ends.last + 1) xs b
+
+pub chain_follow : (image : List ℕ) (ds : List Directory) (y x : Opened) → Chain image y ds x → AllFollow (event_total y.index.batches) (earliest_in 0 y.index.batches) (batch_entries ds)
+chain_follow image [] y x c = tt
+chain_follow image (d ∷ ds) y x c =
+    let more = chain_follow image ds (one_more image y d) x c.2 in (
+      (passes image y d c.1).follows,
+      subst (λ n. AllFollow n (d.batch.ends.last + 1) (batch_entries ds)) (sum_by_push (λ (b : BatchEntry). b.events) y.index.batches d.batch)
+          (subst (λ t. AllFollow (event_total (y.index.batches ++ d.batch ∷ [])) t (batch_entries ds)) (earliest_more 0 y.index.batches d.batch) more),
+    )

@@ -1,0 +1,91 @@
+-- How many bytes a start reads, over an image of a history.
+use Rattle.std.proofs.Common.{◌≡◌, ℕ, ◌+◌, ◌==◌, Bool, true, false, if◌then◌else◌, List, [], ◌∷◌, Option, Some, None, length, is_some, refl, sym, ◌∙◌, ap, subst, arith}
+use Rattle.std.specs.Prelude.{IfSome, slice_index, sum_by}
+use Rattle.std.specs.List.{All}
+use Rattle.std.specs.Map.{lookup}
+use Rattle.std.proofs.lemmas.Bool.{eqb-true, false≢true}
+use Rattle.std.proofs.lemmas.List.Elements.{All-head, All-tail}
+use Rattle.std.proofs.lemmas.List.Sums.{sum_by-cons}
+use Rattle.dg_disk.specs.Counts.{raised_by}
+use Rattle.dg_file.specs.Images.{taken_after}
+use Rattle.dg_fold.specs.BytesRead.{Takes, asked_length, kept_in}
+use Rattle.dg_graph.specs.declared.element.Column.{Column}
+use Rattle.dg_graph.specs.declared.element.Column.TheVariants.{Structure, NodeAttr, EdgeAttr}
+use Rattle.dg_history.specs.declared.node.Key.{Key}
+use Rattle.dg_history.specs.History.{History}
+use Rattle.dg_history.specs.Keys.{same_key}
+use Rattle.dg_index.specs.declared.entry.Entry.{Entry}
+use Rattle.dg_index.specs.ImageOfHistory.{IsImageOf}
+use Rattle.dg_index.specs.IndexRecords.{column_in}
+use Rattle.dg_index.specs.OpenedIndex.{Opening, column_at, entry_at, entry_or_none, opened_of, total}
+use Rattle.dg_index.proofs.OpenedIndexRecords.{IsTold, told_at}
+use Rattle.dg_index.proofs.IndexRecordColumns.{columns_are_kept}
+use Rattle.dg_plan.specs.HistoryGraph.{all_columns}
+use Rattle.dg_start.specs.declared.event_source.EventSource.{EventSource}
+use Rattle.dg_start.specs.Reading.{CanBeRead, WhereTold, bytes_in_sources, source_of, sources_in}
+use Rattle.dg_start.specs.RecentReading.{Source, recent_sources}
+use Rattle.dg_start.specs.SessionStart.{recent_bytes}
+use Rattle.dg_start.proofs.ColumnMergeRecords.{column_there}
+
+-- ---- counts
+
+-- bytes, and then more
+pub takes_both : (m n a b c : ℕ) → Takes m a b → Takes n b c → Takes (m + n) a c
+takes_both m n a b c f g = omega arith
+
+pub takes_raised : (n a b : ℕ) → b ≡ raised_by n a → Takes n a b
+takes_raised n a b is = omega (arith, is)
+
+-- ---- the recent pieces
+
+module _ (z : History) (image : List ℕ) (stands : IsImageOf z image) (o : Opening) (opened : o ≡ (opened_of z).index) where
+  -- a record that is held has as many bytes as the index tells
+  record_bytes : (k : Key) → is_some (lookup (same_key k) o.records) ≡ true → asked_length (kept_in image o) all_columns k ≡ total (entry_at o k).lengths
+  record_bytes k held = by (lookup (same_key k) o.records) refl held
+    where
+      by : (e : Option Entry) → lookup (same_key k) o.records ≡ e → is_some e ≡ true → asked_length (kept_in image o) all_columns k ≡ total (entry_at o k).lengths
+      by None is some = absurd (false≢true some)
+      by (Some e) is some =
+          let there : lookup (same_key k) (opened_of z).index.records ≡ Some e = ap (λ (x : Opening). lookup (same_key k) x.records) (sym opened) ∙ is in
+          let told : IsTold z (k, e) = told_at z stands.legal k e there in
+          let column : (col : Column) → length (kept_in image o k col) ≡ length (column_in z k col) =
+          λ col. ap (λ (x : Option Entry). length (column_at image (entry_or_none x) col)) is ∙ ap length (columns_are_kept z image stands k e there col) in
+          let lengths : (i : ℕ) → slice_index (entry_at o k).lengths i ≡ slice_index e.lengths i = λ i. ap (λ (x : Option Entry). slice_index (entry_or_none x).lengths i) is in
+          let first : slice_index (entry_at o k).lengths 0 ≡ length (column_in z k Structure) = lengths 0 ∙ ap (λ l. slice_index l 0) told.0 in
+          let second : slice_index (entry_at o k).lengths 1 ≡ length (column_in z k NodeAttr) = lengths 1 ∙ ap (λ l. slice_index l 1) told.0 in
+          let third : slice_index (entry_at o k).lengths 2 ≡ length (column_in z k EdgeAttr) = lengths 2 ∙ ap (λ l. slice_index l 2) told.0 in
+          omega (arith, column Structure, column NodeAttr, column EdgeAttr, first, second, third)
+
+  abbrev Readable : EventSource → Type 0
+  Readable s = CanBeRead o (source_of s)
+
+  sources_bytes : (found : List EventSource) → All Readable found → bytes_in_sources image o (sources_in found) ≡ sum_by (λ (s : Source). total (entry_at o s.key).lengths) (sources_in found)
+  sources_bytes [] all = refl
+  sources_bytes (s ∷ found) all =
+      let here : CanBeRead o (source_of s) = All-head Readable s found all in
+      sum_by-cons (λ (s : Source). asked_length (kept_in image o) all_columns s.key) (source_of s) (sources_in found)
+      ∙ (λ i. record_bytes s.key here.held i + sources_bytes found (All-tail Readable s found all) i)
+      ∙ sym (sum_by-cons (λ (s : Source). total (entry_at o s.key).lengths) (source_of s) (sources_in found))
+
+  pub recent_taken : (found : List EventSource) → sources_in found ≡ recent_sources o → All Readable found → bytes_in_sources image o (sources_in found) ≡ recent_bytes o
+  recent_taken found are all = sources_bytes found all ∙ ap (sum_by (λ (s : Source). total (entry_at o s.key).lengths)) are
+
+-- a column that was fetched
+pub takes_after : (n a b : ℕ) → b ≡ taken_after n a → Takes n a b
+takes_after n a b is = by (n == 0) refl is
+  where
+    by : (none : Bool) → (n == 0) ≡ none → b ≡ (if none then a else raised_by n a) → Takes n a b
+    by true e h = let zero : n ≡ 0 = eqb-true n 0 e in omega (arith, zero, h)
+    by false e h = omega (arith, h)
+
+pub takes_column : (told : Option (List ℕ)) (o : Opening) (k : Key) (col : Column) (bytes : List ℕ) (before after : ℕ) → is_some (lookup (same_key k) o.records) ≡ true
+    → IfSome told (λ image. IfSome (lookup (same_key k) o.records) (λ e. bytes ≡ column_at image e col)) → after ≡ taken_after (length bytes) before
+    → WhereTold told (λ image. Takes (length (kept_in image o k col)) before after)
+takes_column told o k col bytes before after held is taken image h =
+    let here : IfSome (lookup (same_key k) o.records) (λ e. bytes ≡ column_at image e col) = subst (λ (t : Option (List ℕ)). IfSome t (λ image. IfSome (lookup (same_key k) o.records) (λ e. bytes ≡ column_at image e col))) h is in
+    subst (λ n. Takes n before after) (ap length (column_there image bytes o k col held here)) (takes_after (length bytes) before after taken)
+
+-- the three columns of a record
+pub takes_record : (image : List ℕ) (o : Opening) (k : Key) (a b c d : ℕ) → Takes (length (kept_in image o k Structure)) a b → Takes (length (kept_in image o k NodeAttr)) b c
+    → Takes (length (kept_in image o k EdgeAttr)) c d → Takes (asked_length (kept_in image o) all_columns k) a d
+takes_record image o k a b c d f g h = omega (arith, f, g, h)

@@ -1,0 +1,151 @@
+-- What an opening gives and why there is none, by the law of starts.
+use Rattle.std.proofs.Common.{◌≡◌, ◌⊎◌, inl, inr, ℕ, ◌+◌, Bool, true, false, if◌then◌else◌, add_assoc, List, [], Option, Some, None, Result, Ok, Err, length, refl, sym, ◌∙◌, ap, subst}
+use Rattle.std.specs.Prelude.{IfSome, MatchOption}
+use Rattle.dg_disk.specs.Counts.{raised_by}
+use Rattle.dg_file.specs.Index.{IndexState, opening_bytes}
+use Rattle.dg_fold.specs.BytesRead.{Takes}
+use Rattle.dg_graph.specs.declared.element.Element.{Element}
+use Rattle.dg_graph.specs.declared.event.Event.{Event}
+use Rattle.dg_history.specs.History.{History}
+use Rattle.dg_history.specs.declared.params.Params.{Params}
+use Rattle.dg_index.specs.ImageOfHistory.{IsImageOf, StandsAs, is_blank}
+use Rattle.dg_index.specs.ImageText.{params_in}
+use Rattle.dg_index.specs.OpenedIndex.{Unopened, No_index, Opened, Opening, bare, opened_by, opened_of, opened_or, opening, read_on}
+use Rattle.dg_index.proofs.OpenedIndexHistories.{images_are_opened}
+use Rattle.dg_now.specs.Now.{NowState}
+use Rattle.dg_plan.specs.IndexGraph.{arcs_of}
+use Rattle.dg_plan.specs.Walks.{weight_of}
+use Rattle.dg_retrieval.specs.KeptGraph.{record_edges}
+use Rattle.dg_retrieval.specs.NodeSets.{IsIndexOver}
+use Rattle.dg_start.specs.declared.fault.StartFault.{StartFault}
+use Rattle.dg_start.specs.declared.fault.StartFault.TheVariants as fault
+use Rattle.dg_start.specs.SessionStart.{PlansLastLeaf, RefusesStart, Started, Starts, StartsBy, recent_bytes, start_bytes}
+use Rattle.dg_start.specs.StoredHistory.{AreCounted, IsSoundHistory, KeepsHistory, StartsAsItStands, started_with}
+use Rattle.dg_start.proofs.ReadingBytes.{takes_both, takes_raised}
+use Rattle.dg_start.proofs.OpenedIndexHistory.{behind}
+use Rattle.dg_start.proofs.ReadingOutcomes.{if_told, of_told}
+
+-- ---- a blank image
+
+not_blank_with : (r : Result Opened ℕ) → opened_or r ≡ Err No_index → ⊥
+not_blank_with (Ok x) h = cc
+not_blank_with (Err offset) h = cc
+
+not_blank : (image : List ℕ) (params : Option Params) → opened_by image params ≡ Err No_index → ⊥
+not_blank image None h = cc
+not_blank image (Some params) h = not_blank_with (read_on (length image) image (bare params)) h
+
+-- only a blank image has no index
+pub blank_is : (image : List ℕ) → opening image ≡ Err No_index → is_blank image ≡ true
+blank_is image h = by_test (is_blank image) refl h
+  where
+    by_test : (b : Bool) → is_blank image ≡ b → (if b then Err No_index else opened_by image (params_in image)) ≡ Err No_index → is_blank image ≡ true
+    by_test true is h = is
+    by_test false is h = absurd (not_blank image (params_in image) h)
+
+pub blank_starts : (image : List ℕ) → opening image ≡ Err No_index → Starts image (Ok None)
+blank_starts image h = subst (λ (r : Result Opened Unopened). StartsBy image r (Ok None)) (sym h) refl
+
+-- ---- what an opening finds
+
+-- what the image is opened as, where an index with these names was found, or none
+abbrev pub IsFound : Option IndexState → List (List ℕ) → List ℕ → Type 0
+IsFound found names image = MatchOption found (opening image ≡ Err No_index) (λ index. opening image ≡ Ok (record { index = index.opening; names = names }))
+
+pub none_found : (told : Option (List ℕ)) (found : Option IndexState) (names : List (List ℕ)) → found ≡ None → IfSome told (IsFound found names)
+    → IfSome told (λ image. opening image ≡ Err No_index)
+none_found told found names is h = subst (λ (f : Option IndexState). IfSome told (IsFound f names)) is h
+
+pub index_found : (told : Option (List ℕ)) (found : Option IndexState) (names : List (List ℕ)) (index : IndexState) → found ≡ Some index → IfSome told (IsFound found names)
+    → IfSome told (λ image. opening image ≡ Ok (record { index = index.opening; names = names }))
+index_found told found names index is h = subst (λ (f : Option IndexState). IfSome told (IsFound f names)) is h
+
+-- what is said of the index that was found
+pub of_index : (found : Option IndexState) (index : IndexState) (P : IndexState → Type 0) → found ≡ Some index → IfSome found P → P index
+of_index found index P is h = of_told found P index h is
+
+-- ---- by the law
+
+module _ (law : StartsAsItStands) where
+  -- the parts that are kept are those of the history for which the image stands, or there is none
+  keeps : (z : Option History) (index other : Option Opening) (names names' : List (List ℕ)) (graph graph' : List Element) (recent recent' : List Event)
+      → started_with index names graph recent ≡ started_with other names' graph' recent' → (index ≡ None → (names ≡ []) × (graph ≡ []) × (recent ≡ []))
+      → KeepsHistory z other names' graph' recent' → KeepsHistory z index names graph recent
+  keeps None None None names names' graph graph' recent recent' e none k =
+      let empty = none refl in
+      (refl, empty.0, empty.1, empty.2)
+  keeps (Some z) None None names names' graph graph' recent recent' e none k = (let f = k.index_is in cc)
+  keeps z None (Some o) names names' graph graph' recent recent' e none k = cc
+  keeps z (Some o) None names names' graph graph' recent recent' e none k = cc
+  keeps z (Some o) (Some p) names names' graph graph' recent recent' e none k =
+      let s : (let a : Started = record { opened = record { index = o; names = names }; graph = graph; recent = recent } in a)
+      ≡ (let b : Started = record { opened = record { index = p; names = names' }; graph = graph'; recent = recent' } in b) = cc in
+      subst (λ (x : Started). KeepsHistory z (Some x.opened.index) x.opened.names x.graph x.recent) (sym s) k
+
+  pub keeps_history : (told : Option (List ℕ)) (index : Option Opening) (names : List (List ℕ)) (graph : List Element) (recent : List Event)
+      → IfSome told (λ image. Starts image (Ok (started_with index names graph recent))) → (index ≡ None → (names ≡ []) × (graph ≡ []) × (recent ≡ []))
+      → IfSome told (λ image. (z : Option History) → StandsAs z image → KeepsHistory z index names graph recent)
+  keeps_history told index names graph recent starts none =
+      if_told told (λ image. (z : Option History) → StandsAs z image → KeepsHistory z index names graph recent)
+      (λ image h z stands.
+      let due = law z image stands (Ok (started_with index names graph recent)) (of_told told (λ image. Starts image (Ok (started_with index names graph recent))) image starts h) in
+      keeps z index due.0 names due.1 graph due.2 recent due.3 (let e = due.4 in cc) none due.5)
+
+  -- a sound history, with which an image starts
+  pub keeps_sound : (told : Option (List ℕ)) (index : Option Opening) (names : List (List ℕ)) (now : NowState) (recent : List Event)
+      → IfSome told (λ image. Starts image (Ok (started_with index names now.graph recent))) → IsSoundHistory index names now recent
+      → IfSome told (λ image. (z : Option History) → StandsAs z image → KeepsHistory z index names now.graph recent)
+  keeps_sound told index names now recent starts sound =
+      keeps_history told index names now.graph recent starts (λ none. subst (λ (i : Option Opening). AreCounted i names now.graph recent) none sound.counted)
+
+  -- an image that stands for a history, or for none, is not refused
+  never : (z : Option History) (image : List ℕ) → StandsAs z image → (f : StartFault) → RefusesStart f image → (f ≡ fault.Disk) ⊎ (f ≡ fault.Memory)
+  never z image stands fault.Disk h = inl refl
+  never z image stands fault.Foreign h = (let e = (law z image stands (Err fault.Foreign) h).4 in cc)
+  never z image stands (fault.Damaged offset) h = (let e = (law z image stands (Err (fault.Damaged offset)) h).4 in cc)
+  never z image stands (fault.BadRecord key col) h = (let e = (law z image stands (Err (fault.BadRecord key col)) h).4 in cc)
+  never z image stands fault.NotGraph h = (let e = (law z image stands (Err fault.NotGraph) h).4 in cc)
+  never z image stands (fault.BadRecent number) h = (let e = (law z image stands (Err (fault.BadRecent number)) h).4 in cc)
+  never z image stands fault.Memory h = inr refl
+
+  pub never_refused : (told : Option (List ℕ)) (f : StartFault) → IfSome told (λ image. RefusesStart f image)
+      → IfSome told (λ image. (z : Option History) → StandsAs z image → (f ≡ fault.Disk) ⊎ (f ≡ fault.Memory))
+  never_refused told f refused =
+      if_told told (λ image. (z : Option History) → StandsAs z image → (f ≡ fault.Disk) ⊎ (f ≡ fault.Memory))
+      (λ image h z stands. never z image stands f (of_told told (λ image. RefusesStart f image) image refused h))
+
+-- ---- the bytes read
+
+-- an image of a history is opened as the index of the history
+index_over : (z : History) (image : List ℕ) (o : Opening) (names : List (List ℕ)) → IsImageOf z image → opening image ≡ Ok (record { index = o; names = names }) → IsIndexOver z image o (length names)
+index_over z image o names stands opened =
+    let x : Opened = record { index = o; names = names } in
+    let same : x ≡ opened_of z = (let e = images_are_opened z image stands in cc) in
+    record {
+      stands = stands;
+      opened = ap (λ (y : Opened). y.index) same;
+      names = ap (λ (y : Opened). length y.names) same ∙ ap length (behind z stands.legal).names_are;
+    }
+
+pub none_taken : (told : Option (List ℕ)) (before after : ℕ) → IfSome told (λ image. opening image ≡ Err No_index)
+    → IfSome told (λ image. (z : History) → IsImageOf z image → (steps : List ℕ) → PlansLastLeaf (opened_of z).index steps → Takes (start_bytes (opened_of z).index steps) before after)
+none_taken told before after blank =
+    if_told told (λ image. (z : History) → IsImageOf z image → (steps : List ℕ) → PlansLastLeaf (opened_of z).index steps → Takes (start_bytes (opened_of z).index steps) before after)
+    (λ image h z stands steps plan.
+    absurd (let e : opening image ≡ Err No_index = of_told told (λ image. opening image ≡ Err No_index) image blank h in let f = images_are_opened z image stands in cc))
+
+pub open_takes : (told : Option (List ℕ)) (o : Opening) (names : List (List ℕ)) (before now after : ℕ) → IfSome told (λ image. opening image ≡ Ok (record { index = o; names = names }))
+    → now ≡ raised_by (opening_bytes o) before
+    → IfSome told (λ image. (z : History) → IsIndexOver z image o (length names) → (steps : List ℕ) → PlansLastLeaf o steps → Takes (recent_bytes o + weight_of (arcs_of (record_edges o)) steps) now after)
+    → IfSome told (λ image. (z : History) → IsImageOf z image → (steps : List ℕ) → PlansLastLeaf (opened_of z).index steps → Takes (start_bytes (opened_of z).index steps) before after)
+open_takes told o names before now after opened first later =
+    if_told told (λ image. (z : History) → IsImageOf z image → (steps : List ℕ) → PlansLastLeaf (opened_of z).index steps → Takes (start_bytes (opened_of z).index steps) before after)
+    (λ image h z stands steps plan.
+    let over : IsIndexOver z image o (length names) = index_over z image o names stands (of_told told (λ image. opening image ≡ Ok (record { index = o; names = names })) image opened h) in
+    let more : Takes (recent_bytes o + weight_of (arcs_of (record_edges o)) steps) now after =
+    of_told told (λ image. (z : History) → IsIndexOver z image o (length names) → (steps : List ℕ) → PlansLastLeaf o steps → Takes (recent_bytes o + weight_of (arcs_of (record_edges o)) steps) now after) image later h z over steps
+    (subst (λ (p : Opening). PlansLastLeaf p steps) (sym over.opened) plan) in
+    let all : Takes (opening_bytes o + (recent_bytes o + weight_of (arcs_of (record_edges o)) steps)) before after =
+    takes_both (opening_bytes o) (recent_bytes o + weight_of (arcs_of (record_edges o)) steps) before now after (takes_raised (opening_bytes o) before now first) more in
+    let sum : opening_bytes o + (recent_bytes o + weight_of (arcs_of (record_edges o)) steps) ≡ start_bytes o steps = sym (add_assoc (opening_bytes o) (recent_bytes o) (weight_of (arcs_of (record_edges o)) steps)) in
+    subst (λ (p : Opening). Takes (start_bytes p steps) before after) over.opened (subst (λ k. Takes k before after) sum all))
