@@ -8,7 +8,7 @@ use std::test::Fail;
 // More calls than any test makes.
 const CALLS_MAX: usize = 1000;
 
-// The calls of any disk. Each stands here once, since the caller of a call has to prove what it says.
+// The calls of any disk. Each stands here once, so that the proof of no test goes through all that a call promises.
 fn len_of<D: Disk>(disk: &mut D) -> Result<u64, Failed> {
     disk.len()
 }
