@@ -25,7 +25,7 @@ use Rattle.dg_fold.specs.Parts.{is_events, are_events, RecordFits}
 use Rattle.dg_fold.specs.PathIndependence.{begun_at, contents, IsSoundEdge, IsWalk}
 use Rattle.dg_plan.specs.TreePaths.{edges_at}
 use Rattle.dg_fold.specs.Steps.{PartedStep, names_record, paired, StepHolds, PartHolds}
-use Rattle.dg_fold.proofs.Fittings.{records_fit}
+use Rattle.dg_fold.proofs.RecordFits.{records_fit}
 use Rattle.dg_fold.proofs.PathIndependencePlans.{plans_lead}
 use Rattle.dg_fold.proofs.PathIndependenceEdges.{edges_are_sound}
 use Rattle.dg_fold.proofs.Steps.{part_of, paired_first}

@@ -34,7 +34,7 @@ use Rattle.dg_fold.specs.PathIndependence.{contents, Contents, IsSoundEdge}
 use Rattle.dg_fold.specs.Steps.{FoldGoesOn, By_part, By_events, PartedStep, paired, part_deltas, step_by, steps_in, StepHolds, PartHolds}
 use Rattle.dg_fold.specs.Trees.{IsAmong, IsStepOf, PathIn, Begins_at_root, Steps_on}
 use Rattle.dg_fold.proofs.PartColumns.{parts_are_read}
-use Rattle.dg_fold.proofs.Fittings.{records_fit}
+use Rattle.dg_fold.proofs.RecordFits.{records_fit}
 use Rattle.dg_fold.proofs.HistoryPaths.{edges_paired, node_set, parts_hold}
 use Rattle.dg_fold.proofs.PathIndependenceTrees.{trees_reach}
 use Rattle.dg_fold.proofs.PathIndependenceEdges.{edges_are_sound}

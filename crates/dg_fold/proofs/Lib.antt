@@ -8,7 +8,7 @@ pub mod PartCompositions
 pub mod PartDeltas
 pub mod PartColumns
 pub mod PathIndependencePlans
-pub mod Fittings
+pub mod RecordFits
 pub mod Trees
 pub mod TreeStepPaths
 pub mod Steps

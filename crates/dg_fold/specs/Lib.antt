@@ -1,7 +1,7 @@
 pub mod PathIndependence
 pub mod Parts
 pub mod Steps
-pub mod Fitting
+pub mod RecordFits
 pub mod BytesRead
 pub mod Trees
 pub mod TreeSteps

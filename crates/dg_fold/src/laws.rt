@@ -1,7 +1,7 @@
 //! The laws of path independence. Each function does nothing.
 
 ghost use Rattle.dg_fold.specs.Ends.{TreesReach};
-ghost use Rattle.dg_fold.specs.Fitting.{RecordsFit};
+ghost use Rattle.dg_fold.specs.RecordFits.{RecordsFit};
 ghost use Rattle.dg_fold.specs.HistoryPaths.{HistoryPathsLead};
 ghost use Rattle.dg_fold.specs.HistoryTrees.{HistoryTreesReach, KeptPartsAreTheRecords, LegalIsIndexed};
 ghost use Rattle.dg_fold.specs.Parts.{PartsAreRead};

@@ -15,7 +15,7 @@ use Rattle.dg_plan.specs.declared.edge.Via.TheVariants as via
 use Rattle.dg_index.specs.Hierarchy.{numbers}
 use Rattle.dg_index.specs.IndexRecords.{heights}
 use Rattle.dg_plan.specs.IndexGraph.{edge, Ground, inners_at, leaf, level_node, is_root, base_edge, top_edge, list_edges, child_edges, inner_edges, level_edges, first_edges, recent_edges, edges_of, inner_nodes, nodes_of, IsReached, lists_before}
-use Rattle.dg_planner.specs.Order.{IsGraphNode, HasEnds, index_of}
+use Rattle.dg_planner.specs.Order.{IsGraphNode, HasEnds, node_index_of}
 use Rattle.dg_planner.specs.Links.{link_in}
 use Rattle.dg_path.specs.Search.{IsLink, AreLinks}
 use Rattle.dg_planner.proofs.OrderPlaces.{stands}
@@ -174,7 +174,7 @@ module _ (g : Ground) (low : 2 ≤ g.arity) (bases_in : All (λ (b : ℕ × Node
   pub has_ends : All (HasEnds g.leaves g.arity) (edges_of g)
   has_ends = All-weaker Ends (HasEnds g.leaves g.arity) (λ e ends. (All-contains (IsGraphNode g.leaves g.arity) (nodes_of g) e.from nodes_are ends.0, All-contains (IsGraphNode g.leaves g.arity) (nodes_of g) e.to nodes_are ends.1)) (edges_of g) ends_in
 
-  node_index_below : (v : NodeId) → Contains (nodes_of g) v → index_of g v < length (nodes_of g)
+  node_index_below : (v : NodeId) → Contains (nodes_of g) v → node_index_of g v < length (nodes_of g)
   node_index_below v c =
       let there : slice_get (nodes_of g) c.0 ≡ Some v = slice_get-get_or (nodes_of g) c.0 v c.1 ∙ ap (λ z. Some z) c.2 in
       let s = stands g c.0 v there in

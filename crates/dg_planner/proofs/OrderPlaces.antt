@@ -11,7 +11,7 @@ use Rattle.dg_history.specs.declared.node.NodeId.TheVariants.{Root, Now, Recent,
 use Rattle.dg_index.specs.Hierarchy.{numbers}
 use Rattle.dg_index.specs.IndexRecords.{heights}
 use Rattle.dg_plan.specs.IndexGraph.{Ground, inners_at, inner_nodes, nodes_of}
-use Rattle.dg_planner.specs.Order.{count_in, inners_below, first_leaf, index_of}
+use Rattle.dg_planner.specs.Order.{count_in, inners_below, first_leaf, node_index_of}
 use Rattle.dg_plan.proofs.IndexGraphNumbers.{numbers_more}
 
 -- the elements of the list are numbered from a base on
@@ -57,33 +57,33 @@ module _ (g : Ground) where
   levels_length : (hs : ListOf ℕ) → length (flat_map level hs) ≡ sum_by (inners_at g.leaves g.arity) hs
   levels_length hs = length-flat_map level hs ∙ (λ i. sum_by (λ h. level_length h i) hs)
 
-  level_numbered : (n : ℕ) → Numbered (index_of g) (base + length (flat_map level (filter test (numbers 1 n)))) (level (n + 1))
+  level_numbered : (n : ℕ) → Numbered (node_index_of g) (base + length (flat_map level (filter test (numbers 1 n)))) (level (n + 1))
   unfolding base level test
   level_numbered n =
-      map_numbered (index_of g) (λ j. Inner (n + 1) j) (base + length (flat_map level (filter test (numbers 1 n)))) 1 (inners_at g.leaves g.arity (n + 1)) (λ i within.
+      map_numbered (node_index_of g) (λ j. Inner (n + 1) j) (base + length (flat_map level (filter test (numbers 1 n)))) 1 (inners_at g.leaves g.arity (n + 1)) (λ i within.
       let len : length (flat_map level (filter test (numbers 1 n))) ≡ sum_by (inners_at g.leaves g.arity) (filter test (numbers 1 n)) = levels_length (filter test (numbers 1 n)) in
       let same : inners_below g.leaves g.arity (n + 1) ≡ sum_by (inners_at g.leaves g.arity) (filter test (numbers 1 n)) = ap (λ k. sum_by (inners_at g.leaves g.arity) (filter test (numbers 1 k))) (let h : n + 1 - 1 ≡ n = omega arith in h) in
       omega arith)
 
-  levels_numbered : (n : ℕ) → Numbered (index_of g) base (flat_map level (filter test (numbers 1 n)))
-  levels_numbered zero = none_numbered (index_of g) base
+  levels_numbered : (n : ℕ) → Numbered (node_index_of g) base (flat_map level (filter test (numbers 1 n)))
+  levels_numbered zero = none_numbered (node_index_of g) base
   levels_numbered (suc n) =
       let split : filter test (numbers 1 (suc n)) ≡ filter test (numbers 1 n) ++ cond (test (n + 1)) ((n + 1) ∷ []) [] =
       ap (filter test) (ap (numbers 1) (sym (add-one n)) ∙ (numbers_more 1 n ∙ ap (λ k. numbers 1 n ++ k ∷ []) (let h : 1 + n ≡ n + 1 = omega arith in h))) ∙ filter-append test (numbers 1 n) ((n + 1) ∷ []) in
-      subst (λ hs. Numbered (index_of g) base (flat_map level hs)) (sym split) (by (levels_numbered n) (test (n + 1)))
+      subst (λ hs. Numbered (node_index_of g) base (flat_map level hs)) (sym split) (by (levels_numbered n) (test (n + 1)))
     where
-      by : Numbered (index_of g) base (flat_map level (filter test (numbers 1 n))) → (b : Bool) → Numbered (index_of g) base (flat_map level (filter test (numbers 1 n) ++ cond b ((n + 1) ∷ []) []))
-      by had true = subst (Numbered (index_of g) base) (sym (flat_map-append level (filter test (numbers 1 n)) ((n + 1) ∷ [])))
-          (both_numbered (index_of g) base (flat_map level (filter test (numbers 1 n))) (level (n + 1) ++ []) had (subst (Numbered (index_of g) (base + length (flat_map level (filter test (numbers 1 n))))) (sym (append-nil (level (n + 1)))) (level_numbered n)))
-      by had false = subst (λ hs. Numbered (index_of g) base (flat_map level hs)) (sym (append-nil (filter test (numbers 1 n)))) had
+      by : Numbered (node_index_of g) base (flat_map level (filter test (numbers 1 n))) → (b : Bool) → Numbered (node_index_of g) base (flat_map level (filter test (numbers 1 n) ++ cond b ((n + 1) ∷ []) []))
+      by had true = subst (Numbered (node_index_of g) base) (sym (flat_map-append level (filter test (numbers 1 n)) ((n + 1) ∷ [])))
+          (both_numbered (node_index_of g) base (flat_map level (filter test (numbers 1 n))) (level (n + 1) ++ []) had (subst (Numbered (node_index_of g) (base + length (flat_map level (filter test (numbers 1 n))))) (sym (append-nil (level (n + 1)))) (level_numbered n)))
+      by had false = subst (λ hs. Numbered (node_index_of g) base (flat_map level hs)) (sym (append-nil (filter test (numbers 1 n)))) had
 
   -- a node stands at its index
-  pub stands : Numbered (index_of g) 0 (nodes_of g)
+  pub stands : Numbered (node_index_of g) 0 (nodes_of g)
   unfolding base level test
   stands =
-      one_numbered (index_of g) 0 Root _ refl
-      (subst (λ b. Numbered (index_of g) b (cond g.memory (Now ∷ Recent ∷ []) [] ++ rest)) (let h : 1 ≡ 0 + 1 = omega arith in h)
-      (both_numbered (index_of g) 1 (cond g.memory (Now ∷ Recent ∷ []) []) rest (by_memory g.memory) (subst (λ b. Numbered (index_of g) b rest) (long g.memory) rest_numbered)))
+      one_numbered (node_index_of g) 0 Root _ refl
+      (subst (λ b. Numbered (node_index_of g) b (cond g.memory (Now ∷ Recent ∷ []) [] ++ rest)) (let h : 1 ≡ 0 + 1 = omega arith in h)
+      (both_numbered (node_index_of g) 1 (cond g.memory (Now ∷ Recent ∷ []) []) rest (by_memory g.memory) (subst (λ b. Numbered (node_index_of g) b rest) (long g.memory) rest_numbered)))
     where
       lists : ListOf NodeId
       lists = map (λ i. List i) (numbers 0 g.leaves)
@@ -91,27 +91,27 @@ module _ (g : Ground) where
       rest : ListOf NodeId
       rest = map (λ j. Leaf j) (numbers 1 g.leaves) ++ (map (λ i. List i) (numbers 0 g.leaves) ++ inner_nodes g)
 
-      by_memory : (m : Bool) → Numbered (index_of g) 1 (cond m (Now ∷ Recent ∷ []) [])
-      by_memory true = one_numbered (index_of g) 1 Now (Recent ∷ []) refl (one_numbered (index_of g) (1 + 1) Recent [] refl (none_numbered (index_of g) (1 + 1 + 1)))
-      by_memory false = none_numbered (index_of g) 1
+      by_memory : (m : Bool) → Numbered (node_index_of g) 1 (cond m (Now ∷ Recent ∷ []) [])
+      by_memory true = one_numbered (node_index_of g) 1 Now (Recent ∷ []) refl (one_numbered (node_index_of g) (1 + 1) Recent [] refl (none_numbered (node_index_of g) (1 + 1 + 1)))
+      by_memory false = none_numbered (node_index_of g) 1
 
       long : (m : Bool) → cond m 3 1 ≡ 1 + length (cond m (Now ∷ Recent ∷ []) [])
       long true = refl
       long false = refl
 
-      rest_numbered : Numbered (index_of g) (first_leaf g.memory) rest
+      rest_numbered : Numbered (node_index_of g) (first_leaf g.memory) rest
       rest_numbered =
           let m : length (map (λ j. Leaf j) (numbers 1 g.leaves)) ≡ g.leaves = length-map (numbers 1 g.leaves) (λ j. Leaf j) ∙ length-numbers 1 g.leaves in
           let n : length (map (λ i. List i) (numbers 0 g.leaves)) ≡ g.leaves = length-map (numbers 0 g.leaves) (λ i. List i) ∙ length-numbers 0 g.leaves in
-          both_numbered (index_of g) (first_leaf g.memory) (map (λ j. Leaf j) (numbers 1 g.leaves)) (map (λ i. List i) (numbers 0 g.leaves) ++ inner_nodes g)
-          (map_numbered (index_of g) (λ j. Leaf j) (first_leaf g.memory) 1 g.leaves (λ i within. omega arith))
-          (both_numbered (index_of g) (first_leaf g.memory + length (map (λ j. Leaf j) (numbers 1 g.leaves))) (map (λ i. List i) (numbers 0 g.leaves)) (inner_nodes g)
-          (map_numbered (index_of g) (λ i. List i) (first_leaf g.memory + length (map (λ j. Leaf j) (numbers 1 g.leaves))) 0 g.leaves (λ i within. omega arith))
-          (subst (λ b. Numbered (index_of g) b (inner_nodes g)) (let h : first_leaf g.memory + g.leaves + g.leaves ≡ first_leaf g.memory + length (map (λ j. Leaf j) (numbers 1 g.leaves)) + length (map (λ i. List i) (numbers 0 g.leaves)) = omega arith in h)
+          both_numbered (node_index_of g) (first_leaf g.memory) (map (λ j. Leaf j) (numbers 1 g.leaves)) (map (λ i. List i) (numbers 0 g.leaves) ++ inner_nodes g)
+          (map_numbered (node_index_of g) (λ j. Leaf j) (first_leaf g.memory) 1 g.leaves (λ i within. omega arith))
+          (both_numbered (node_index_of g) (first_leaf g.memory + length (map (λ j. Leaf j) (numbers 1 g.leaves))) (map (λ i. List i) (numbers 0 g.leaves)) (inner_nodes g)
+          (map_numbered (node_index_of g) (λ i. List i) (first_leaf g.memory + length (map (λ j. Leaf j) (numbers 1 g.leaves))) 0 g.leaves (λ i within. omega arith))
+          (subst (λ b. Numbered (node_index_of g) b (inner_nodes g)) (let h : first_leaf g.memory + g.leaves + g.leaves ≡ first_leaf g.memory + length (map (λ j. Leaf j) (numbers 1 g.leaves)) + length (map (λ i. List i) (numbers 0 g.leaves)) = omega arith in h)
           (levels_numbered g.leaves)))
 
   -- so no two nodes have one index
-  pub apart_indices : (x y : NodeId) → Contains (nodes_of g) x → Contains (nodes_of g) y → index_of g x ≡ index_of g y → x ≡ y
+  pub apart_indices : (x y : NodeId) → Contains (nodes_of g) x → Contains (nodes_of g) y → node_index_of g x ≡ node_index_of g y → x ≡ y
   apart_indices x y a b same =
       let p : slice_get (nodes_of g) a.0 ≡ Some x = slice_get-get_or (nodes_of g) a.0 x a.1 ∙ ap (λ z. Some z) a.2 in
       let q : slice_get (nodes_of g) b.0 ≡ Some y = slice_get-get_or (nodes_of g) b.0 y b.1 ∙ ap (λ z. Some z) b.2 in

@@ -15,7 +15,7 @@ use Rattle.dg_path.specs.declared.adjacency.Adjacency.{Adjacency}
 use Rattle.dg_path.specs.declared.search.Link.{Link}
 use Rattle.dg_path.specs.declared.search.Cost.{Cost as Label}
 use Rattle.dg_path.specs.Search.{IsTarget, arc, arcs}
-use Rattle.dg_planner.specs.Order.{IsGraphNode, bare_ground, index_of}
+use Rattle.dg_planner.specs.Order.{IsGraphNode, bare_ground, node_index_of}
 use Rattle.dg_planner.specs.Whole.{IsBetween, IsWhole}
 use Rattle.dg_planner.proofs.OrderPlaces.{apart_indices, stands}
 use Rattle.dg_planner.proofs.OrderEnds.{nodes_are}
@@ -59,7 +59,7 @@ pub node_is : (g : Ground) → 2 ≤ g.arity → (v : NodeId) → Contains (node
 node_is g low v c = All-contains (IsGraphNode g.leaves g.arity) (nodes_of g) v (nodes_are (bare_ground g.leaves g.arity g.memory) low (All-nil _)) c
 
 -- its index is below the number of nodes
-pub node_index_within : (g : Ground) (v : NodeId) → Contains (nodes_of g) v → index_of g v < length (nodes_of g)
+pub node_index_within : (g : Ground) (v : NodeId) → Contains (nodes_of g) v → node_index_of g v < length (nodes_of g)
 node_index_within g v c = let s = stands g c.0 v (slice_get-get_or (nodes_of g) c.0 v c.1 ∙ ap (λ z. Some z) c.2) in let h = c.1 in omega arith
 
 root_in : (g : Ground) (a : NodeId) → Contains (Root ∷ []) a → Contains (nodes_of g) a
@@ -78,30 +78,30 @@ module _ (g : Ground) (edges : ListOf Edge) (starts : ListOf ℕ) (links : ListO
       subst (λ (x : Arc NodeId). Contains (nodes_of g) x.from × Contains (nodes_of g) x.to) e.2 ends
 
   -- each node has a cost
-  pub is_target : (v : NodeId) → Contains (nodes_of g) v → IsTarget costs (index_of g v)
+  pub is_target : (v : NodeId) → Contains (nodes_of g) v → IsTarget costs (node_index_of g v)
   is_target v vn =
-      let within : index_of g v < length costs = (let p = node_index_within g v vn in let n = whole.count in omega arith) in
-      record { within = within; near = (let n = whole.near (index_of g v) within in omega arith) }
+      let within : node_index_of g v < length costs = (let p = node_index_within g v vn in let n = whole.count in omega arith) in
+      record { within = within; near = (let n = whole.near (node_index_of g v) within in omega arith) }
 
   -- the plan by indices is the plan
-  pub plan_is : (v : NodeId) (steps : ListOf ℕ) → Contains (nodes_of g) v → IsPlan (arcs links) (0 ∷ []) (index_of g v) steps → IsPlan (arcs_of edges) (Root ∷ []) v steps
+  pub plan_is : (v : NodeId) (steps : ListOf ℕ) → Contains (nodes_of g) v → IsPlan (arcs links) (0 ∷ []) (node_index_of g v) steps → IsPlan (arcs_of edges) (Root ∷ []) v steps
   plan_is v steps vn p =
-      plan_named (index_of g) (arcs_of edges) (nodes_of g) (apart_indices g) inside (Root ∷ []) (root_in g) v steps vn
-      (subst (λ h. IsPlan h (0 ∷ []) (index_of g v) steps) whole.named p)
+      plan_named (node_index_of g) (arcs_of edges) (nodes_of g) (apart_indices g) inside (Root ∷ []) (root_in g) v steps vn
+      (subst (λ h. IsPlan h (0 ∷ []) (node_index_of g v) steps) whole.named p)
 
   -- a walk weighs the same by indices
   pub weight_is : (a : NodeId) (steps : ListOf ℕ) (v : NodeId) → Leads (arcs_of edges) a steps v → weight_of (arcs links) steps ≡ weight_of (arcs_of edges) steps
-  weight_is a steps v leads = ap (λ h. weight_of h steps) whole.named ∙ ap (λ (c : Cost). c.0) (cost_renamed (index_of g) (arcs_of edges) a steps v leads)
+  weight_is a steps v leads = ap (λ h. weight_of h steps) whole.named ∙ ap (λ (c : Cost). c.0) (cost_renamed (node_index_of g) (arcs_of edges) a steps v leads)
 
-  pub walk_by_indices : (steps : ListOf ℕ) (v : NodeId) → Leads (arcs_of edges) Root steps v → Leads (arcs links) 0 steps (index_of g v)
-  walk_by_indices steps v leads = subst (λ h. Leads h 0 steps (index_of g v)) (sym whole.named) (walk_renamed (index_of g) (arcs_of edges) Root steps v leads)
+  pub walk_by_indices : (steps : ListOf ℕ) (v : NodeId) → Leads (arcs_of edges) Root steps v → Leads (arcs links) 0 steps (node_index_of g v)
+  walk_by_indices steps v leads = subst (λ h. Leads h 0 steps (node_index_of g v)) (sym whole.named) (walk_renamed (node_index_of g) (arcs_of edges) Root steps v leads)
 
   -- and so is a potential
-  pub potential_is : (weight : ℕ) (v : NodeId) (p : ℕ) → Contains (nodes_of g) v → IsPotential (arcs links) (0 ∷ []) weight (index_of g v) p → IsPotential (arcs_of edges) (Root ∷ []) weight v p
+  pub potential_is : (weight : ℕ) (v : NodeId) (p : ℕ) → Contains (nodes_of g) v → IsPotential (arcs links) (0 ∷ []) weight (node_index_of g v) p → IsPotential (arcs_of edges) (Root ∷ []) weight v p
   potential_is weight v p vn h = (
     h.0,
-    least_named (index_of g) (arcs_of edges) (nodes_of g) (apart_indices g) inside (Root ∷ []) (root_in g) v h.0 vn
-        (subst (λ a. IsLeast a (0 ∷ []) (index_of g v) h.0) whole.named h.1),
+    least_named (node_index_of g) (arcs_of edges) (nodes_of g) (apart_indices g) inside (Root ∷ []) (root_in g) v h.0 vn
+        (subst (λ a. IsLeast a (0 ∷ []) (node_index_of g v) h.0) whole.named h.1),
     h.2,
   )
 
@@ -111,11 +111,11 @@ module _ (g : Ground) (edges : ListOf Edge) (starts : ListOf ℕ) (links : ListO
   potentials_are weight potentials len are =
       zip_from (IsPotential (arcs_of edges) (Root ∷ []) weight) (nodes_of g) potentials (len ∙ whole.count) (λ k v p there is.
       let within = slice_get_within (nodes_of g) k v there in
-      let node_index : index_of g v ≡ k = stands g k v there ∙ omega arith in
+      let node_index : node_index_of g v ≡ k = stands g k v there ∙ omega arith in
       let vn : Contains (nodes_of g) v = (k, within, get_or_from_slice_get (nodes_of g) k v v there) in
-      let this : slice_index potentials (index_of g v) ≡ p = ap (slice_index potentials) node_index ∙ get_or_from_slice_get potentials k p 0 is in
-      subst (IsPotential (arcs_of edges) (Root ∷ []) weight v) this (potential_is weight v (slice_index potentials (index_of g v)) vn (are (index_of g v) (is_target v vn))))
+      let this : slice_index potentials (node_index_of g v) ≡ p = ap (slice_index potentials) node_index ∙ get_or_from_slice_get potentials k p 0 is in
+      subst (IsPotential (arcs_of edges) (Root ∷ []) weight v) this (potential_is weight v (slice_index potentials (node_index_of g v)) vn (are (node_index_of g v) (is_target v vn))))
 
   -- there are as many links as edges
   pub link_count : length links ≡ length edges
-  link_count = sym (length-map links arc) ∙ (ap length whole.named ∙ (length-map (arcs_of edges) (renamed_arc (index_of g)) ∙ length-map edges arc_of))
+  link_count = sym (length-map links arc) ∙ (ap length whole.named ∙ (length-map (arcs_of edges) (renamed_arc (node_index_of g)) ∙ length-map edges arc_of))

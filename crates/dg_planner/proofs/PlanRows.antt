@@ -8,11 +8,11 @@ use Rattle.dg_plan.specs.Walks.{IsBest, IsPlan, renamed}
 use Rattle.dg_path.specs.Search.{arcs}
 use Rattle.dg_path.proofs.SearchPlans.{is_table, first_is_best}
 use Rattle.dg_plan.specs.IndexGraph.{edges_of, arcs_of}
-use Rattle.dg_planner.specs.Order.{index_of}
+use Rattle.dg_planner.specs.Order.{node_index_of}
 use Rattle.dg_plan.proofs.GraphRows.{p}
 
 abbrev links : ListOf Link
-links = map (λ (e : Edge). record { tail = index_of p e.from; head = index_of p e.to; weight = e.weight }) (edges_of p)
+links = map (λ (e : Edge). record { tail = node_index_of p e.from; head = node_index_of p e.to; weight = e.weight }) (edges_of p)
 
 abbrev cost : ℕ → ℕ → Label
 cost weight edges = record { weight = weight; edges = edges }
@@ -24,7 +24,7 @@ costs = cost 0 0 ∷ cost 0 1 ∷ cost 0 2 ∷ cost 26 2 ∷ cost 0 3 ∷ cost 4
 table_shown : is_table links costs ≡ true
 table_shown = refl
 
-named : arcs links ≡ renamed (index_of p) (arcs_of (edges_of p))
+named : arcs links ≡ renamed (node_index_of p) (arcs_of (edges_of p))
 named = refl
 
 best_1 : IsBest (arcs links) (0 ∷ []) 1

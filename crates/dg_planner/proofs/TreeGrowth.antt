@@ -19,7 +19,7 @@ use Rattle.dg_path.specs.declared.search.Link.{Link}
 use Rattle.dg_path.specs.declared.search.Cost.{Cost as Label}
 use Rattle.dg_path.specs.Search.{Falls, CostsFit, IsTable, arcs, label_at}
 use Rattle.dg_path.proofs.SearchTables as tables
-use Rattle.dg_planner.specs.Order.{index_of}
+use Rattle.dg_planner.specs.Order.{node_index_of}
 use Rattle.dg_planner.specs.Whole.{FARTHEST, IsWhole}
 use Rattle.dg_planner.proofs.OrderPlaces.{apart_indices}
 use Rattle.dg_planner.proofs.OrderPlans.{inside, is_target, node_index_within, plan_is, weight_is}
@@ -44,7 +44,7 @@ pub record AreWeighed (edges : ListOf Edge) (targets : ListOf NodeId) (singles :
 pub record IsReady (g : Ground) (edges : ListOf Edge) (links : ListOf Link) (grafts : ListOf (Graft NodeId)) (costs : ListOf Label) : Type 0 where
   pub count : length costs ≡ length (nodes_of g)
   pub fits : CostsFit costs
-  pub table : IsTable (arcs links) (map (index_of g) ((Root ∷ []) ++ entered (arcs_of edges) (steps_of grafts))) costs
+  pub table : IsTable (arcs links) (map (node_index_of g) ((Root ∷ []) ++ entered (arcs_of edges) (steps_of grafts))) costs
   pub near : (v : ℕ) → v < length costs → (label_at costs v).weight ≤ FARTHEST
 
 -- before the first target
@@ -94,33 +94,33 @@ module _ (g : Ground) (edges : ListOf Edge) (starts : ListOf ℕ) (links : ListO
   none_ready = record { count = whole.count; fits = whole.fits; table = whole.table; near = whole.near }
 
   -- what a single plan weighs stands in the table of the root
-  single_is : (v : NodeId) → Contains (nodes_of g) v → (steps : ListOf ℕ) × IsPlan (arcs_of edges) (Root ∷ []) v steps × ((label_at costs (index_of g v)).weight ≡ weight_of (arcs_of edges) steps)
+  single_is : (v : NodeId) → Contains (nodes_of g) v → (steps : ListOf ℕ) × IsPlan (arcs_of edges) (Root ∷ []) v steps × ((label_at costs (node_index_of g v)).weight ≡ weight_of (arcs_of edges) steps)
   single_is v vn =
       let near = (is_target g edges starts links outs ins costs whole v vn).near in
-      let p = has_plan links costs (0 ∷ []) whole.table (index_of g v) near in
+      let p = has_plan links costs (0 ∷ []) whole.table (node_index_of g v) near in
       let plan = plan_is g edges starts links outs ins costs whole v p.0 vn p.1 in (
         p.0,
         plan,
-        tables.weight_is links costs (0 ∷ []) whole.table (index_of g v) near p.0 p.1 ∙ weight_is g edges starts links outs ins costs whole plan.walk.0 p.0 v plan.walk.2,
+        tables.weight_is links costs (0 ∷ []) whole.table (node_index_of g v) near p.0 p.1 ∙ weight_is g edges starts links outs ins costs whole plan.walk.0 p.0 v plan.walk.2,
       )
 
   -- what a single plan weighs is no more than the farthest node
-  pub single_light : (v : NodeId) → Contains (nodes_of g) v → (label_at costs (index_of g v)).weight ≤ FARTHEST
-  single_light v vn = whole.near (index_of g v) (let p = node_index_within g v vn in let n = whole.count in omega arith)
+  pub single_light : (v : NodeId) → Contains (nodes_of g) v → (label_at costs (node_index_of g v)).weight ≤ FARTHEST
+  single_light v vn = whole.near (node_index_of g v) (let p = node_index_within g v vn in let n = whole.count in omega arith)
 
   -- one more target
   pub one_weighed : (targets : ListOf NodeId) (singles : ListOf ℕ) → AreWeighed edges targets singles → (target : NodeId) → Contains (nodes_of g) target
-      → AreWeighed edges (targets ++ target ∷ []) (singles ++ (label_at costs (index_of g target)).weight ∷ [])
+      → AreWeighed edges (targets ++ target ∷ []) (singles ++ (label_at costs (node_index_of g target)).weight ∷ [])
   one_weighed targets singles had target vn = record {
-    are = zip_push _ targets singles target (label_at costs (index_of g target)).weight had.are (single_is target vn);
-    light = (let a = had.light in let b = single_light target vn in let n = length_push targets target in let s = sum_push singles (label_at costs (index_of g target)).weight in omega arith);
+    are = zip_push _ targets singles target (label_at costs (node_index_of g target)).weight had.are (single_is target vn);
+    light = (let a = had.light in let b = single_light target vn in let n = length_push targets target in let s = sum_push singles (label_at costs (node_index_of g target)).weight in omega arith);
   }
 
   indices_more : (grafts : ListOf (Graft NodeId)) (x : Graft NodeId)
-      → map (index_of g) ((Root ∷ []) ++ entered (arcs_of edges) (steps_of grafts)) ++ entered (arcs links) x.steps ≡ map (index_of g) ((Root ∷ []) ++ entered (arcs_of edges) (steps_of (grafts ++ x ∷ [])))
+      → map (node_index_of g) ((Root ∷ []) ++ entered (arcs_of edges) (steps_of grafts)) ++ entered (arcs links) x.steps ≡ map (node_index_of g) ((Root ∷ []) ++ entered (arcs_of edges) (steps_of (grafts ++ x ∷ [])))
   indices_more grafts x =
-      ap (λ t. map (index_of g) ((Root ∷ []) ++ entered (arcs_of edges) (steps_of grafts)) ++ t) (ap (λ h. entered h x.steps) whole.named ∙ entered_renamed (index_of g) (arcs_of edges) x.steps)
-      ∙ (sym (map-append (index_of g) ((Root ∷ []) ++ entered (arcs_of edges) (steps_of grafts)) (entered (arcs_of edges) x.steps)) ∙ ap (map (index_of g)) (nodes_more (arcs_of edges) (Root ∷ []) grafts x))
+      ap (λ t. map (node_index_of g) ((Root ∷ []) ++ entered (arcs_of edges) (steps_of grafts)) ++ t) (ap (λ h. entered h x.steps) whole.named ∙ entered_renamed (node_index_of g) (arcs_of edges) x.steps)
+      ∙ (sym (map-append (node_index_of g) ((Root ∷ []) ++ entered (arcs_of edges) (steps_of grafts)) (entered (arcs_of edges) x.steps)) ∙ ap (map (node_index_of g)) (nodes_more (arcs_of edges) (Root ∷ []) grafts x))
 
   -- the costs from the tree with one more graft
   pub one_ready : (grafts : ListOf (Graft NodeId)) (now : ListOf Label) → IsReady g edges links grafts now → (x : Graft NodeId) (new : ListOf Label)
@@ -130,43 +130,43 @@ module _ (g : Ground) (edges : ListOf Edge) (starts : ListOf ℕ) (links : ListO
   one_ready grafts now ready x new len fits falls table = record {
     count = len ∙ ready.count;
     fits = fits;
-    table = subst (λ s. IsTable (arcs links) s new) (indices_more grafts x) (table (map (index_of g) ((Root ∷ []) ++ entered (arcs_of edges) (steps_of grafts))) ready.table);
+    table = subst (λ s. IsTable (arcs links) s new) (indices_more grafts x) (table (map (node_index_of g) ((Root ∷ []) ++ entered (arcs_of edges) (steps_of grafts))) ready.table);
     near = λ v within. (let a = ready.near v (let l = len in omega arith) in let b = (falls v).0 in omega arith);
   }
 
   module _ (targets : ListOf NodeId) (grafts : ListOf (Graft NodeId)) (weight : ℕ) (now : ListOf Label)
       (had : IsGrown edges targets grafts weight) (ready : IsReady g edges links grafts now)
       (target : NodeId) (vn : Contains (nodes_of g) target) where
-    pub near_now : (label_at now (index_of g target)).weight ≤ FARTHEST
-    near_now = ready.near (index_of g target) (let p = node_index_within g target vn in let n = ready.count in omega arith)
+    pub near_now : (label_at now (node_index_of g target)).weight ≤ FARTHEST
+    near_now = ready.near (node_index_of g target) (let p = node_index_within g target vn in let n = ready.count in omega arith)
 
     module _ (x : Graft NodeId)
-        (plan : (from : ListOf ℕ) → IsTable (arcs links) from now → IsPlan (arcs links) from (index_of g target) x.steps)
+        (plan : (from : ListOf ℕ) → IsTable (arcs links) from now → IsPlan (arcs links) from (node_index_of g target) x.steps)
         (begins : (a : NodeId) → Leads (arcs_of edges) a x.steps target → x.from ≡ a) where
       tree_now : ListOf NodeId
       tree_now = (Root ∷ []) ++ entered (arcs_of edges) (steps_of grafts)
 
-      by_indices : IsPlan (arcs links) (map (index_of g) tree_now) (index_of g target) x.steps
+      by_indices : IsPlan (arcs links) (map (node_index_of g) tree_now) (node_index_of g target) x.steps
       unfolding tree_now
-      by_indices = plan (map (index_of g) tree_now) ready.table
+      by_indices = plan (map (node_index_of g) tree_now) ready.table
 
       by_nodes : IsPlan (arcs_of edges) tree_now target x.steps
       unfolding tree_now
       by_nodes =
-          plan_named (index_of g) (arcs_of edges) (nodes_of g) (apart_indices g) (inside g edges starts links outs ins costs whole) tree_now (tree_in (steps_of grafts)) target x.steps vn
-          (subst (λ h. IsPlan h (map (index_of g) tree_now) (index_of g target) x.steps) whole.named by_indices)
+          plan_named (node_index_of g) (arcs_of edges) (nodes_of g) (apart_indices g) (inside g edges starts links outs ins costs whole) tree_now (tree_in (steps_of grafts)) target x.steps vn
+          (subst (λ h. IsPlan h (map (node_index_of g) tree_now) (node_index_of g target) x.steps) whole.named by_indices)
 
       begins_at : x.from ≡ by_nodes.walk.0
       begins_at = begins by_nodes.walk.0 by_nodes.walk.2
 
-      pub weighs : (label_at now (index_of g target)).weight ≡ weight_of (arcs_of edges) x.steps
+      pub weighs : (label_at now (node_index_of g target)).weight ≡ weight_of (arcs_of edges) x.steps
       unfolding tree_now
       weighs =
-          tables.weight_is links now (map (index_of g) tree_now) ready.table (index_of g target) (let n = near_now in omega arith) x.steps by_indices
+          tables.weight_is links now (map (node_index_of g) tree_now) ready.table (node_index_of g target) (let n = near_now in omega arith) x.steps by_indices
           ∙ weight_is g edges starts links outs ins costs whole by_nodes.walk.0 x.steps target by_nodes.walk.2
 
       -- one more target
-      pub one_grown : IsGrown edges (targets ++ target ∷ []) (grafts ++ x ∷ []) (weight + (label_at now (index_of g target)).weight)
+      pub one_grown : IsGrown edges (targets ++ target ∷ []) (grafts ++ x ∷ []) (weight + (label_at now (node_index_of g target)).weight)
       unfolding tree_now
       one_grown = record {
         tree = tree_push (arcs_of edges) (Root ∷ []) targets grafts target x had.tree by_nodes (subst (Contains tree_now) (sym begins_at) by_nodes.walk.1) (subst (λ a. Leads (arcs_of edges) a x.steps target) (sym begins_at) by_nodes.walk.2);

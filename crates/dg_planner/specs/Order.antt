@@ -25,8 +25,8 @@ node_index_in leaves arity memory (Leaf j) = first_leaf memory + (j - 1)
 node_index_in leaves arity memory (List i) = first_leaf memory + leaves + i
 node_index_in leaves arity memory (Inner h j) = first_leaf memory + leaves + leaves + inners_below leaves arity h + (j - 1)
 
-abbrev pub index_of : Ground → NodeId → ℕ
-index_of g node = node_index_in g.leaves g.arity g.memory node
+abbrev pub node_index_of : Ground → NodeId → ℕ
+node_index_of g node = node_index_in g.leaves g.arity g.memory node
 
 -- a graph of this form with no bases, whose records weigh nothing: it has the same nodes as any other
 abbrev pub bare_ground : ℕ → ℕ → Bool → Ground

@@ -10,7 +10,7 @@ use Rattle.dg_path.specs.declared.search.Link.{Link}
 use Rattle.dg_path.specs.declared.search.Cost.{Cost as Label}
 use Rattle.dg_path.specs.declared.adjacency.Adjacency.{Adjacency}
 use Rattle.dg_path.specs.Search.{AreLinks, AreAdjacent, CostsFit, IsTable, arcs, label_at}
-use Rattle.dg_planner.specs.Order.{AreStarts, index_of}
+use Rattle.dg_planner.specs.Order.{AreStarts, node_index_of}
 
 -- the graph of a planner: its nodes and its edges, each in their order
 pub record PlannerGraph : Type 0 where
@@ -38,7 +38,7 @@ pub record IsWhole (g : Ground) (edges : List Edge) (starts : List ℕ) (links :
   pub links_are : AreLinks links (length costs)
   pub count : length costs ≡ length (nodes_of g)
   pub few : length links < 2 ^ 32
-  pub named : arcs links ≡ renamed (index_of g) (arcs_of edges)
+  pub named : arcs links ≡ renamed (node_index_of g) (arcs_of edges)
   pub out_chains : AreAdjacent true links outs.first.items outs.next.items (length costs)
   pub in_chains : AreAdjacent false links ins.first.items ins.next.items (length costs)
   pub table : IsTable (arcs links) (0 ∷ []) costs

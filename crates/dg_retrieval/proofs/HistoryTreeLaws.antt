@@ -3,7 +3,7 @@ use Rattle.std.proofs.Common.{◌≡◌, ℕ, List as ListOf, Ok, length, subst,
 use Rattle.std.proofs.lemmas.List.Elements.{All-contains, All-weaker}
 use Rattle.dg_history.specs.declared.node.Key.{Key}
 use Rattle.dg_history.specs.declared.node.NodeId.TheVariants.{Root}
-use Rattle.dg_fold.proofs.Fittings.{records_fit}
+use Rattle.dg_fold.proofs.RecordFits.{records_fit}
 use Rattle.dg_fold.proofs.HistoryPaths.{edges_paired, node_set, parts_hold}
 use Rattle.dg_fold.proofs.HistoryTrees.{history_trees_reach}
 use Rattle.dg_fold.proofs.PathIndependenceTrees.{trees_lead}

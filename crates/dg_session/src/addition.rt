@@ -2,6 +2,7 @@
 
 ghost use Rattle.std.specs.Prelude.{◌≡◌, ◌≤◌, ◌<◌, ℕ, true, IfErr, IfOk, IfSome, IsErrOf, OnOk, is_some, length, take};
 ghost use Rattle.dg_append.specs.AddedBatches.{AddsBatch, FailsBatch, IsBack, IsReady, ReadsNothing, TakesOlder};
+ghost use Rattle.dg_append.specs.Faults.{OnlyReadFailed};
 ghost use Rattle.dg_disk.specs.Counts.{Rose};
 ghost use Rattle.dg_disk.specs.Frame.{GoesOn};
 ghost use Rattle.dg_handles.specs.Handles.{IsTied, slot_graphs};
@@ -74,7 +75,7 @@ pub fn add_changes<R: Threads, D: Disk>(
 
     // causes
     ensures cause { IsErrOf result BatchFault.Store → Rose (D.write_faults disk.old) (D.write_faults disk.new) }
-    ensures read { IsErrOf result BatchFault.Read → Rose (D.faults disk.old) (D.faults disk.new) × (D.write_faults disk.new ≡ D.write_faults disk.old) }
+    ensures read { IsErrOf result BatchFault.Read → OnlyReadFailed D.faults D.write_faults disk.old disk.new }
 
     // what it leaves
     ensures disk { GoesOn D.image D.faults D.write_faults disk.old disk.new }

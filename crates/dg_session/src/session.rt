@@ -1,6 +1,7 @@
 ghost use Rattle.std.specs.Prelude.{◌≡◌, ◌⊎◌, ℕ, ◌+◌, ◌<◌, ◌≤◌, IfErr, IfSome, IsErrOf, OnErr, OnOk, List, [], ◌∷◌, ◌++◌, Ok, Option, None, Some, is_some, true, false, not, length, map, take, IfOk};
 ghost use Rattle.std.specs.List.{All, list_any, sum};
 ghost use Rattle.dg_columns.specs.ColumnLaws.{AreBytes};
+ghost use Rattle.dg_append.specs.Faults.{OnlyReadFailed};
 ghost use Rattle.dg_disk.specs.Counts.{Rose as DiskRose};
 ghost use Rattle.dg_disk.specs.Frame.{GoesOn, OnlyReads, ReadsAndSyncs};
 ghost use Rattle.dg_fold.specs.BytesRead.{Takes, TakesAtMost};
@@ -347,7 +348,7 @@ impl Session {
         ensures read { IsErrOf result Stop.Read → CountRose (S.faults source.old) (S.faults source.new) }
         ensures limit { IsErrOf result Stop.Limit → (lines.new.taken ≡ lines.new.limit) × NeedsByte lines.new }
         ensures store_read { IfOk result (λ reply. is_store_read reply.head ≡ true
-            → DiskRose (D.faults disk.old) (D.faults disk.new) × (D.write_faults disk.new ≡ D.write_faults disk.old)) }
+            → OnlyReadFailed D.faults D.write_faults disk.old disk.new) }
         ensures damaged { IfOk result (λ reply. DamageIs command.now self.old.parts (D.image disk.old) reply.head) }
         ensures verified { IfOk result (λ reply. VerifiesFile command.now self.old.parts (D.image disk.old) reply.head) }
         ensures swept { IfOk result (λ reply. SweepsPool command.now self.old.pool self.new.pool reply.head) }
@@ -387,7 +388,7 @@ impl Session {
         ensures read { IsErrOf result (Halt.Stop Stop.Read) → CountRose (S.faults source.old) (S.faults source.new) }
         ensures limit { IsErrOf result (Halt.Stop Stop.Limit) → (lines.new.taken ≡ lines.new.limit) × NeedsByte lines.new }
         ensures store_read { IsErrOf result (Halt.Refusal Refusal.StoreRead)
-            → DiskRose (D.faults disk.old) (D.faults disk.new) × (D.write_faults disk.new ≡ D.write_faults disk.old) }
+            → OnlyReadFailed D.faults D.write_faults disk.old disk.new }
         ensures damaged { DamageIn command.now self.old.parts (D.image disk.old) result }
         ensures verified { IfOk result (λ reply. VerifiesFile command.now self.old.parts (D.image disk.old) reply.head) }
         ensures swept { IfOk result (λ reply. SweepsPool command.now self.old.pool self.new.pool reply.head) }
@@ -549,7 +550,7 @@ impl Session {
         ensures read { IsErrOf result (Halt.Stop Stop.Read) → CountRose (S.faults source.old) (S.faults source.new) }
         ensures limit { IsErrOf result (Halt.Stop Stop.Limit) → (lines.new.taken ≡ lines.new.limit) × NeedsByte lines.new }
         ensures store_read { IsErrOf result (Halt.Refusal Refusal.StoreRead)
-            → DiskRose (D.faults disk.old) (D.faults disk.new) × (D.write_faults disk.new ≡ D.write_faults disk.old) }
+            → OnlyReadFailed D.faults D.write_faults disk.old disk.new }
         ensures damaged { DamageIn (command_with which count) self.old.parts (D.image disk.old) result }
 
         // what it takes and leaves
@@ -604,7 +605,7 @@ impl Session {
         ensures no_read { IsErrOf result (Halt.Stop Stop.Read) → ⊥ }
         ensures no_limit { IsErrOf result (Halt.Stop Stop.Limit) → ⊥ }
         ensures store_read { IsErrOf result (Halt.Refusal Refusal.StoreRead)
-            → DiskRose (D.faults disk.old) (D.faults disk.new) × (D.write_faults disk.new ≡ D.write_faults disk.old) }
+            → OnlyReadFailed D.faults D.write_faults disk.old disk.new }
         ensures damaged { DamageIn (Command.Workload seed count) self.old.parts (D.image disk.old) result }
 
         // what it takes and leaves

@@ -1,8 +1,8 @@
-pub mod ReadingTimes
-pub mod ReadingBytes
+pub mod EventSourceTimes
+pub mod EventSourceBytes
 pub mod SessionStartOutcomes
-pub mod ReadingSources
-pub mod RecentReadingFaults
+pub mod EventSourceSources
+pub mod RecentEventFaults
 pub mod SessionStartSets
 pub mod NetLawEvents
 pub mod SessionStartUniqueness
@@ -10,9 +10,9 @@ pub mod OpenedIndexHistory
 pub mod SessionStartOpenings
 pub mod KeptGraphPlans
 pub mod ColumnMergeRecords
-pub mod RecentReadingSources
-pub mod RecentReadingHistory
-pub mod RecentReadingTimes
+pub mod RecentEventSources
+pub mod RecentEventHistory
+pub mod RecentEventTimes
 pub mod SessionStartHistory
-pub mod ReadingTests
-pub mod ReadingOutcomes
+pub mod EventSourceTests
+pub mod EventSourceOutcomes

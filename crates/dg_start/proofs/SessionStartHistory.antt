@@ -22,14 +22,14 @@ use Rattle.dg_list.proofs.NetLaws.{changes_keep_graphs}
 use Rattle.dg_plan.specs.IndexGraph.{leaf}
 use Rattle.dg_retrieval.specs.NodeSets.{IsLedByPlan}
 use Rattle.dg_start.specs.declared.fault.StartFault.{StartFault}
-use Rattle.dg_start.specs.RecentReading.{events_read, first_wrong_event, recent_in_image}
+use Rattle.dg_start.specs.RecentEvents.{events_read, first_wrong_event, recent_in_image}
 use Rattle.dg_start.specs.SessionStart.{Bad_event, Bad_piece, Bad_plan, Good, Not_graph, Started, Starts, StartsBy, StartsIndex, first_recent, last_leaf}
 use Rattle.dg_start.specs.StoredHistory.{StartsAsItStands}
 use Rattle.dg_start.proofs.NetLawEvents.{batches_made, made_before}
 use Rattle.dg_start.proofs.OpenedIndexHistory.{behind}
 use Rattle.dg_start.proofs.KeptGraphPlans.{plan_leads}
-use Rattle.dg_start.proofs.RecentReadingHistory.{all_read, all_recent, none_is_wrong, recent_pairs}
-use Rattle.dg_start.proofs.ReadingTests.{replay_more}
+use Rattle.dg_start.proofs.RecentEventHistory.{all_read, all_recent, none_is_wrong, recent_pairs}
+use Rattle.dg_start.proofs.EventSourceTests.{replay_more}
 
 -- the empty set is a graph
 empty_graph : IsGraph []

@@ -21,9 +21,9 @@ use Rattle.dg_start.specs.declared.fault.StartFault.{StartFault}
 use Rattle.dg_start.specs.declared.fault.StartFault.TheVariants as fault
 use Rattle.dg_start.specs.SessionStart.{PlansLastLeaf, RefusesStart, Started, Starts, StartsBy, recent_bytes, start_bytes}
 use Rattle.dg_start.specs.StoredHistory.{AreCounted, IsSoundHistory, KeepsHistory, StartsAsItStands, started_with}
-use Rattle.dg_start.proofs.ReadingBytes.{takes_both, takes_raised}
+use Rattle.dg_start.proofs.EventSourceBytes.{takes_both, takes_raised}
 use Rattle.dg_start.proofs.OpenedIndexHistory.{behind}
-use Rattle.dg_start.proofs.ReadingOutcomes.{if_told, of_told}
+use Rattle.dg_start.proofs.EventSourceOutcomes.{if_told, of_told}
 
 -- ---- a blank image
 

@@ -20,15 +20,15 @@ use Rattle.dg_retrieval.specs.NodeSets.{IsIndexOver, IsLedByPlan}
 use Rattle.dg_start.specs.declared.event_source.EventSource.{EventSource}
 use Rattle.dg_start.specs.declared.fault.StartFault.{StartFault}
 use Rattle.dg_start.specs.declared.fault.StartFault.TheVariants as fault
-use Rattle.dg_start.specs.RecentReading.{events_in_sources, events_read, first_wrong_event, recent_in_image, recent_sources}
-use Rattle.dg_start.specs.Reading.{ArePartedBy, CanBeRead, WhereTold, bounded, bytes_in_sources, source_of, sources_in}
+use Rattle.dg_start.specs.RecentEvents.{events_in_sources, events_read, first_wrong_event, recent_in_image, recent_sources}
+use Rattle.dg_start.specs.EventSources.{ArePartedBy, CanBeRead, WhereTold, bounded, bytes_in_sources, source_of, sources_in}
 use Rattle.dg_start.specs.Refusals.{IsReason, RefusesEvents, RefusesPlan}
 use Rattle.dg_start.specs.SessionStart.{Bad_event, Bad_piece, Bad_plan, Good, Not_graph, PlansLastLeaf, RefusesStart, Started, Starts, StartsBy, StartsIndex, first_recent, last_leaf, recent_bytes}
 use Rattle.dg_start.specs.StoredHistory.{MayGoOn, recent_count, started_with}
-use Rattle.dg_start.proofs.ReadingTimes.{are_of, parted_length, untag_bounded}
-use Rattle.dg_start.proofs.ReadingBytes.{recent_taken, takes_both}
-use Rattle.dg_start.proofs.RecentReadingTimes.{are_within, may_go_on, recent_counts}
-use Rattle.dg_start.proofs.ReadingOutcomes.{if_told, of_told}
+use Rattle.dg_start.proofs.EventSourceTimes.{are_of, parted_length, untag_bounded}
+use Rattle.dg_start.proofs.EventSourceBytes.{recent_taken, takes_both}
+use Rattle.dg_start.proofs.RecentEventTimes.{are_within, may_go_on, recent_counts}
+use Rattle.dg_start.proofs.EventSourceOutcomes.{if_told, of_told}
 
 -- what is said of a number, sources and events that are the same
 pub tested_before : (P : ℕ → List EventSource → List Event → Type 0) (a b : ℕ) (found then_found : List EventSource) (recent then_recent : List Event) → b ≡ a → then_found ≡ found → then_recent ≡ recent

@@ -27,7 +27,7 @@ use Rattle.dg_retrieval.specs.KeptGraph.{record_edges}
 use Rattle.dg_retrieval.specs.NodeSets.{IsLedByPlan, set_after}
 use Rattle.dg_start.specs.declared.fault.StartFault.{StartFault}
 use Rattle.dg_start.specs.declared.fault.StartFault.TheVariants as fault
-use Rattle.dg_start.specs.RecentReading.{events_read, first_wrong_event, recent_in_image}
+use Rattle.dg_start.specs.RecentEvents.{events_read, first_wrong_event, recent_in_image}
 use Rattle.dg_start.specs.SessionStart.{Bad_event, Bad_piece, Bad_plan, Good, Not_graph, Started, StartsAreDetermined, StartsBy, StartsIndex, first_recent, last_leaf}
 
 -- ---- parts of the same bytes come to the same

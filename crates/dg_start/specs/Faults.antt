@@ -12,9 +12,9 @@ use Rattle.dg_start.specs.declared.fault.StartFault.{StartFault}
 use Rattle.dg_start.specs.declared.fault.StartFault.TheVariants as fault
 
 -- the same cause
-abbrev pub of_fetch : FetchFault → RecordFault
-of_fetch fetch_fault.Disk = record_fault.Disk
-of_fetch fetch_fault.Memory = record_fault.Memory
+abbrev pub record_fault_of_fetch : FetchFault → RecordFault
+record_fault_of_fetch fetch_fault.Disk = record_fault.Disk
+record_fault_of_fetch fetch_fault.Memory = record_fault.Memory
 
 -- the same cause
 abbrev pub start_fault_of_record : RecordFault → StartFault

@@ -1,5 +1,5 @@
-pub mod RecentReading
-pub mod Reading
+pub mod RecentEvents
+pub mod EventSources
 pub mod SessionStart
 pub mod Refusals
 pub mod Faults

@@ -8,7 +8,7 @@ use Rattle.dg_index.specs.OpenedIndex.{Opening}
 use Rattle.dg_retrieval.specs.NodeSets.{IsLedByPlan}
 use Rattle.dg_start.specs.declared.fault.StartFault.{StartFault}
 use Rattle.dg_start.specs.declared.fault.StartFault.TheVariants as fault
-use Rattle.dg_start.specs.RecentReading.{first_wrong_event}
+use Rattle.dg_start.specs.RecentEvents.{first_wrong_event}
 use Rattle.dg_start.specs.SessionStart.{last_leaf}
 
 -- The fault is the reason of what is due of the recent records. Of a failure of the disk and of want of memory

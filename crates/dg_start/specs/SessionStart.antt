@@ -18,7 +18,7 @@ use Rattle.dg_retrieval.specs.KeptGraph.{record_edges}
 use Rattle.dg_retrieval.specs.NodeSets.{IsLedByPlan}
 use Rattle.dg_start.specs.declared.fault.StartFault.{StartFault}
 use Rattle.dg_start.specs.declared.fault.StartFault.TheVariants as fault
-use Rattle.dg_start.specs.RecentReading.{Source, events_read, first_wrong_event, recent_in_image, recent_sources}
+use Rattle.dg_start.specs.RecentEvents.{Source, events_read, first_wrong_event, recent_in_image, recent_sources}
 
 -- what a session starts with: the index and the names as the directories tell them, the current graph, and the
 -- events behind the last closed list

@@ -4,8 +4,8 @@ ghost use Rattle.std.specs.Prelude.{◌≡◌, ◌<◌, ◌+◌, ◌^◌, [], If
 ghost use Rattle.dg_graph.specs.Effect.{forwards};
 ghost use Rattle.dg_graph.specs.Graph.{IsGraph};
 ghost use Rattle.dg_graph.specs.Replay.{replay_from};
-ghost use Rattle.dg_start.specs.RecentReading.{first_wrong_event, is_right};
-ghost use Rattle.dg_start.specs.Reading.{ArePartedBy, FirstWrong, bounded, sources_in};
+ghost use Rattle.dg_start.specs.RecentEvents.{first_wrong_event, is_right};
+ghost use Rattle.dg_start.specs.EventSources.{ArePartedBy, FirstWrong, bounded, sources_in};
 ghost use Rattle.dg_start.specs.Refusals.{RefusesEvents};
 
 use crate::event_source::EventSource;

@@ -7,8 +7,8 @@ ghost use Rattle.dg_history.specs.Keys.{same_key};
 ghost use Rattle.dg_history.specs.declared.limits.TheConstants.{EVENTS_MAX};
 ghost use Rattle.dg_index.specs.Hierarchy.{leaves};
 ghost use Rattle.dg_index.specs.OpenedIndex.{event_total};
-ghost use Rattle.dg_start.specs.Reading.{CanBeRead, source_of};
-ghost use Rattle.dg_start.specs.RecentReading.{piece_source, recent_sources};
+ghost use Rattle.dg_start.specs.EventSources.{CanBeRead, source_of};
+ghost use Rattle.dg_start.specs.RecentEvents.{piece_source, recent_sources};
 
 use dg_file::Index;
 use dg_history::Key;

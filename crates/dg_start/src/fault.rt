@@ -54,9 +54,9 @@ pub enum RecordFault {
 }
 
 impl From<FetchFault> for RecordFault {
-    ghost use Rattle.dg_start.specs.Faults.{of_fetch};
+    ghost use Rattle.dg_start.specs.Faults.{record_fault_of_fetch};
 
-    ghost from_gives = { λ read fault. fault ≡ of_fetch read };
+    ghost from_gives = { λ read fault. fault ≡ record_fault_of_fetch read };
 
     fn from(read: FetchFault) -> RecordFault {
         match read {

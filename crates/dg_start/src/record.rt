@@ -15,8 +15,8 @@ ghost use Rattle.dg_graph.specs.declared.placed.Placed.{Placed};
 ghost use Rattle.dg_history.specs.Keys.{same_key};
 ghost use Rattle.dg_plan.specs.HistoryGraph.{all_columns};
 ghost use Rattle.dg_start.specs.Faults.{start_fault_of_record};
-ghost use Rattle.dg_start.specs.RecentReading.{events_in_source, placed_in_record};
-ghost use Rattle.dg_start.specs.Reading.{CanBeRead, WhereTold, source_of};
+ghost use Rattle.dg_start.specs.RecentEvents.{events_in_source, placed_in_record};
+ghost use Rattle.dg_start.specs.EventSources.{CanBeRead, WhereTold, source_of};
 ghost use Rattle.dg_start.specs.Refusals.{IsReason};
 
 use crate::event_source::EventSource;

@@ -9,8 +9,8 @@ ghost use Rattle.dg_file.specs.Images.{IsOpenedAs};
 ghost use Rattle.dg_fold.specs.BytesRead.{Takes};
 ghost use Rattle.dg_graph.specs.declared.event.Event.{Event};
 ghost use Rattle.dg_graph.specs.declared.limits.TheConstants.{NAMES_MAX};
-ghost use Rattle.dg_start.specs.RecentReading.{events_in_sources};
-ghost use Rattle.dg_start.specs.Reading.{ArePartedBy, CanBeRead, WhereTold, bounded, bytes_in_sources, source_of, sources_in};
+ghost use Rattle.dg_start.specs.RecentEvents.{events_in_sources};
+ghost use Rattle.dg_start.specs.EventSources.{ArePartedBy, CanBeRead, WhereTold, bounded, bytes_in_sources, source_of, sources_in};
 ghost use Rattle.dg_start.specs.Refusals.{IsReason};
 
 use crate::event_source::EventSource;

@@ -7,12 +7,12 @@ use Rattle.dg_index.specs.declared.entry.Row.{Row}
 use Rattle.dg_index.specs.FileOfHistory.{Stored, bytes_of, delta_blobs}
 use Rattle.dg_index.specs.OpenedIndex.{Opening, record_row}
 use Rattle.dg_sound.specs.Soundness.{or_later}
-use Rattle.dg_start.specs.Reading.{WhereTold}
+use Rattle.dg_start.specs.EventSources.{WhereTold}
 use Rattle.dg_verify.specs.declared.deltas.DeltaKind.{DeltaKind}
 use Rattle.dg_verify.specs.declared.stop.Stop.{Stop}
 use Rattle.dg_verify.specs.declared.stop.Stop.TheVariants as stop
 use Rattle.dg_verify.specs.Deltas.{first_unlike, unlike_of}
-use Rattle.dg_verify.specs.Verifying.{IsWrong, keyed_column}
+use Rattle.dg_verify.specs.Verification.{IsWrong, keyed_column}
 
 -- ---- the columns of the next record
 

@@ -6,7 +6,7 @@ use Rattle.dg_history.specs.History.{are_parameters}
 use Rattle.dg_index.specs.OpenedIndex.{Opening, event_total}
 use Rattle.dg_index.specs.declared.entry.BatchEntry.{BatchEntry}
 use Rattle.dg_sound.specs.OwnEvents.{is_recent, list_total}
-use Rattle.dg_verify.proofs.TestingCompletions.{both}
+use Rattle.dg_verify.proofs.EventTestCompletions.{both}
 
 -- the list size and the arity are in their ranges
 pub record InRange (l k : ℕ) : Type 0 where

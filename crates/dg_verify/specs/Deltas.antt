@@ -17,7 +17,7 @@ use Rattle.dg_sound.specs.Soundness.{or_later}
 use Rattle.dg_verify.specs.declared.deltas.DeltaKind.{DeltaKind}
 use Rattle.dg_verify.specs.declared.deltas.DeltaKind.TheVariants as delta
 use Rattle.dg_verify.specs.declared.due_deltas.DueDeltas.{DueDeltas}
-use Rattle.dg_verify.specs.Verifying.{unlike}
+use Rattle.dg_verify.specs.Verification.{unlike}
 
 -- These tops and downs were made of the events. Where each of the events is exact after those before it, they are those
 -- that are due, and there are none only for want of memory.

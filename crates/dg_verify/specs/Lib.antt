@@ -1,4 +1,4 @@
 pub mod Stops
-pub mod Testing
-pub mod Verifying
+pub mod EventTests
+pub mod Verification
 pub mod Deltas

@@ -4,9 +4,9 @@ ghost use Rattle.std.specs.Prelude.{◌≡◌, IfErr, IfSome, IsErrOf, None, OnO
 ghost use Rattle.dg_disk.specs.Counts.{Rose};
 ghost use Rattle.dg_disk.specs.Frame.{OnlyReads};
 ghost use Rattle.dg_file.specs.Images.{IsOpenedAs};
-ghost use Rattle.dg_start.specs.Reading.{WhereTold};
+ghost use Rattle.dg_start.specs.EventSources.{WhereTold};
 ghost use Rattle.dg_verify.specs.Deltas.{first_unlike, has_kind, unlike_of};
-ghost use Rattle.dg_verify.specs.Verifying.{IsWrong, keyed_column};
+ghost use Rattle.dg_verify.specs.Verification.{IsWrong, keyed_column};
 
 use crate::due_deltas::DueDeltas;
 use crate::records::compare_columns;

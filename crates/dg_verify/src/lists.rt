@@ -6,9 +6,9 @@ ghost use Rattle.dg_disk.specs.Frame.{OnlyReads};
 ghost use Rattle.dg_history.specs.declared.node.Key.TheVariants as key;
 ghost use Rattle.dg_index.specs.OpenedIndex.{entry_at, opening};
 ghost use Rattle.dg_sound.specs.OwnEvents.{have_ends, list_total, listed_events, with_list};
-ghost use Rattle.dg_start.specs.Reading.{WhereTold};
-ghost use Rattle.dg_verify.specs.Testing.{IsRead, IsStopBehind, tested};
-ghost use Rattle.dg_verify.specs.Verifying.{opened_with};
+ghost use Rattle.dg_start.specs.EventSources.{WhereTold};
+ghost use Rattle.dg_verify.specs.EventTests.{IsRead, IsStopBehind, tested};
+ghost use Rattle.dg_verify.specs.Verification.{opened_with};
 
 use crate::own_events::OwnEvents;
 use crate::records::read_events;

@@ -7,7 +7,7 @@ ghost use Rattle.dg_graph.specs.declared.event.Event.{Event};
 ghost use Rattle.dg_graph.specs.Completion.{completes};
 ghost use Rattle.dg_graph.specs.Effect.{forwards};
 ghost use Rattle.dg_sound.specs.OwnEvents.{if_right, with_record};
-ghost use Rattle.dg_verify.specs.Testing.{IsRead, first_unfit, followed, key_at, tested};
+ghost use Rattle.dg_verify.specs.EventTests.{IsRead, first_unfit, followed, key_at, tested};
 
 use dg_graph::Event;
 use dg_history::Key;

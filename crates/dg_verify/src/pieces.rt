@@ -10,9 +10,9 @@ ghost use Rattle.dg_graph.specs.declared.event.Event.{Event};
 ghost use Rattle.dg_history.specs.declared.limits.TheConstants.{EVENTS_MAX};
 ghost use Rattle.dg_index.specs.OpenedIndex.{event_total, opening};
 ghost use Rattle.dg_sound.specs.OwnEvents.{has_batch_ends, is_recent, list_total, piece_length, piece_start, with_older, with_piece_events, with_pieces, with_recent};
-ghost use Rattle.dg_start.specs.Reading.{WhereTold};
-ghost use Rattle.dg_verify.specs.Testing.{IsRead, IsStopBehind, tested};
-ghost use Rattle.dg_verify.specs.Verifying.{AreSoFar, IsStop, opened_with};
+ghost use Rattle.dg_start.specs.EventSources.{WhereTold};
+ghost use Rattle.dg_verify.specs.EventTests.{IsRead, IsStopBehind, tested};
+ghost use Rattle.dg_verify.specs.Verification.{AreSoFar, IsStop, opened_with};
 
 use crate::own_events::OwnEvents;
 use crate::records::{compare_columns, read_events};

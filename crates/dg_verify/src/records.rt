@@ -11,8 +11,8 @@ ghost use Rattle.dg_graph.specs.declared.event.Event.{Event};
 ghost use Rattle.dg_history.specs.Keys.{same_key};
 ghost use Rattle.dg_index.specs.OpenedIndex.{column_at, entry_at, opening};
 ghost use Rattle.dg_sound.specs.OwnEvents.{events_of_record};
-ghost use Rattle.dg_start.specs.Reading.{WhereTold};
-ghost use Rattle.dg_verify.specs.Verifying.{IsStop, IsWrong, keyed, keyed_column, opened_with, unlike};
+ghost use Rattle.dg_start.specs.EventSources.{WhereTold};
+ghost use Rattle.dg_verify.specs.Verification.{IsStop, IsWrong, keyed, keyed_column, opened_with, unlike};
 
 use crate::stop::Stop;
 use dg_disk::Disk;

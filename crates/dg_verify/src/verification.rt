@@ -18,10 +18,10 @@ ghost use Rattle.dg_index.specs.OpenedIndex.{event_total, opening};
 ghost use Rattle.dg_sound.specs.OwnEvents.{own_events};
 ghost use Rattle.dg_sound.specs.Soundness.{soundness_of};
 ghost use Rattle.dg_sound.specs.declared.soundness.Soundness.TheVariants.{Sound};
-ghost use Rattle.dg_start.specs.Reading.{WhereTold};
+ghost use Rattle.dg_start.specs.EventSources.{WhereTold};
 ghost use Rattle.dg_verify.specs.Deltas.{AreMadeOf};
-ghost use Rattle.dg_verify.specs.Testing.{IsRead, IsStopBehind, IsUnfit, first_unfit, tested};
-ghost use Rattle.dg_verify.specs.Verifying.{IsStop, IsUnsound, opened_with};
+ghost use Rattle.dg_verify.specs.EventTests.{IsRead, IsStopBehind, IsUnfit, first_unfit, tested};
+ghost use Rattle.dg_verify.specs.Verification.{IsStop, IsUnsound, opened_with};
 
 use crate::deltas::{DeltaKind, compare_deltas};
 use crate::due_deltas::{DueDeltas, due_deltas};

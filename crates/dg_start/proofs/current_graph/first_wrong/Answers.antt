@@ -1,9 +1,9 @@
 use Rattle.std.proofs.Common.{◌≡◌, ℕ, ◌+◌, ◌-◌, List, take, drop, get_or, refl, sym, ◌∙◌, ap, arith}
 use Rattle.dg_graph.specs.declared.event.Event.{Event}
 use Rattle.dg_start.specs.declared.event_source.EventSource.{EventSource}
-use Rattle.dg_start.specs.Reading.{source_of, sources_in}
-use Rattle.dg_start.proofs.RecentReadingSources.{IsNextSource, next_source, no_source}
-use Rattle.dg_start.proofs.ReadingTests.{next_within, none_is, right_so_far, wrong_here}
+use Rattle.dg_start.specs.EventSources.{source_of, sources_in}
+use Rattle.dg_start.proofs.RecentEventSources.{IsNextSource, next_source, no_source}
+use Rattle.dg_start.proofs.EventSourceTests.{next_within, none_is, right_so_far, wrong_here}
 use Rattle.dg_start.proofs.current_graph.first_wrong.Goals as goal
 
 pub overflow_add-end : goal.overflow_add-end

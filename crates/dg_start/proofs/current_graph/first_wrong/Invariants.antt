@@ -1,6 +1,6 @@
 use Rattle.std.proofs.Common.{◌≡◌, []}
-use Rattle.dg_start.specs.Reading.{sources_in}
-use Rattle.dg_start.proofs.ReadingTests.{TestedSoFar}
+use Rattle.dg_start.specs.EventSources.{sources_in}
+use Rattle.dg_start.proofs.EventSourceTests.{TestedSoFar}
 use Rattle.dg_start.proofs.current_graph.first_wrong.Given as goal
 
 abbrev pub invariant-loop-source : goal.invariant-loop-source

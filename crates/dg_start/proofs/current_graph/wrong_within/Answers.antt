@@ -1,6 +1,6 @@
 use Rattle.std.proofs.Common.{sym, ◌∙◌, arith}
 use Rattle.dg_graph.specs.declared.event.Body.TheVariants.{NodeAdded}
-use Rattle.dg_start.proofs.RecentReadingFaults.{led_here, right_here, wrong_here}
+use Rattle.dg_start.proofs.RecentEventFaults.{led_here, right_here, wrong_here}
 use Rattle.dg_start.proofs.current_graph.wrong_within.Goals as goal
 
 pub returns-then-not-is_right-clause-wrong : goal.returns-then-not-is_right-clause-wrong

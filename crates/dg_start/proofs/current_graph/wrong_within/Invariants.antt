@@ -2,7 +2,7 @@ use Rattle.std.proofs.Common.{◌≡◌, ◌+◌, ◌++◌, List, [], map, drop}
 use Rattle.dg_graph.specs.declared.event.Event.{Event}
 use Rattle.dg_index.specs.declared.entry.Ends.{Ends}
 use Rattle.dg_graph.specs.Replay.{replay_from}
-use Rattle.dg_start.specs.RecentReading.{first_wrong_event}
+use Rattle.dg_start.specs.RecentEvents.{first_wrong_event}
 use Rattle.dg_start.proofs.current_graph.wrong_within.Given as goal
 
 abbrev pub invariant-loop-event : goal.invariant-loop-event

@@ -2,7 +2,7 @@ use Rattle.std.proofs.Common.{◌≡◌, ◌+◌, ◌-◌, ◌*◌, ◌/◌, ◌
 use Rattle.std.specs.Prelude.{◌==◌}
 use Rattle.dg_history.specs.declared.params.Params.{Params}
 use Rattle.dg_index.specs.Hierarchy.{leaves}
-use Rattle.dg_start.proofs.ReadingSources.{all_pieces, batch_there, batch_within, none_left, one_piece, piece_readable, readable_kept}
+use Rattle.dg_start.proofs.EventSourceSources.{all_pieces, batch_there, batch_within, none_left, one_piece, piece_readable, readable_kept}
 use Rattle.dg_start.proofs.event_source.recent_sources.Goals as goal
 
 pub piece_source-piece-requires-clause-few : goal.piece_source-piece-requires-clause-few

@@ -1,8 +1,8 @@
 use Rattle.std.proofs.Common.{◌-◌, length}
 use Rattle.std.specs.List.{All}
 use Rattle.dg_start.specs.declared.event_source.EventSource.{EventSource}
-use Rattle.dg_start.specs.Reading.{CanBeRead, source_of}
-use Rattle.dg_start.proofs.ReadingSources.{PiecesSoFar}
+use Rattle.dg_start.specs.EventSources.{CanBeRead, source_of}
+use Rattle.dg_start.proofs.EventSourceSources.{PiecesSoFar}
 use Rattle.dg_start.proofs.event_source.recent_sources.Given as goal
 
 abbrev pub invariant-loop-batch : goal.invariant-loop-batch

@@ -15,7 +15,7 @@ use Rattle.dg_start.specs.Faults.{start_fault_of}
 use Rattle.dg_start.specs.Refusals.{RefusesPlan}
 use Rattle.dg_start.specs.SessionStart.{last_leaf}
 use Rattle.dg_start.proofs.SessionStartSets.{leaf_there, refused_so}
-use Rattle.dg_start.proofs.ReadingOutcomes.{err_is}
+use Rattle.dg_start.proofs.EventSourceOutcomes.{err_is}
 use Rattle.dg_start.proofs.last_leaf.last_set.Goals as goal
 
 pub plan_set-requires-clause-node : goal.plan_set-requires-clause-node

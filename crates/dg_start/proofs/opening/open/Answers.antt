@@ -15,7 +15,7 @@ use Rattle.dg_start.specs.declared.fault.StartFault.TheVariants as fault
 use Rattle.dg_start.specs.SessionStart.{PlansLastLeaf, RefusesStart, Starts, recent_bytes}
 use Rattle.dg_start.specs.StoredHistory.{IsHeldBy, index_opening, started_with}
 use Rattle.dg_start.proofs.SessionStartOpenings.{blank_is, blank_starts, index_found, keeps_history, keeps_sound, never_refused, none_found, none_taken, of_index, open_takes}
-use Rattle.dg_start.proofs.ReadingOutcomes.{err_is, told_weaker}
+use Rattle.dg_start.proofs.EventSourceOutcomes.{err_is, told_weaker}
 use Rattle.dg_start.proofs.opening.open.Goals as goal
 
 pub returns-in_err-index-clause-never : goal.returns-in_err-index-clause-never

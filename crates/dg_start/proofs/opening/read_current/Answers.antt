@@ -15,12 +15,12 @@ use Rattle.dg_retrieval.specs.ValueRange.{ValuesFit}
 use Rattle.dg_retrieval.proofs.ValueRanges.{replay_fits}
 use Rattle.dg_start.specs.declared.event_source.EventSource.{EventSource}
 use Rattle.dg_start.specs.declared.fault.StartFault.{StartFault}
-use Rattle.dg_start.specs.RecentReading.{events_in_sources, first_wrong_event}
-use Rattle.dg_start.specs.Reading.{ArePartedBy, bounded, bytes_in_sources, sources_in}
+use Rattle.dg_start.specs.RecentEvents.{events_in_sources, first_wrong_event}
+use Rattle.dg_start.specs.EventSources.{ArePartedBy, bounded, bytes_in_sources, sources_in}
 use Rattle.dg_start.specs.Refusals.{IsReason, RefusesEvents, RefusesPlan}
 use Rattle.dg_start.specs.SessionStart.{PlansLastLeaf, RefusesStart, first_recent, last_leaf}
 use Rattle.dg_start.proofs.SessionStartOutcomes.{current_takes, event_refused, is_started, plan_refused, record_refused, recent_goes_on, recent_many, tested_before}
-use Rattle.dg_start.proofs.ReadingOutcomes.{err_is, seen_before}
+use Rattle.dg_start.proofs.EventSourceOutcomes.{err_is, seen_before}
 use Rattle.dg_start.proofs.opening.read_current.Goals as goal
 
 pub returns-in_err-recent-clause-refused : goal.returns-in_err-recent-clause-refused

@@ -1,4 +1,4 @@
-use Rattle.dg_start.proofs.ReadingBytes.{takes_column}
+use Rattle.dg_start.proofs.EventSourceBytes.{takes_column}
 use Rattle.dg_start.proofs.ColumnMergeRecords.{read_fits}
 use Rattle.dg_start.proofs.record.read_column.Goals as goal
 

@@ -11,11 +11,11 @@ use Rattle.dg_plan.specs.HistoryGraph.{all_columns}
 use Rattle.dg_start.specs.declared.event_source.EventSource.{EventSource}
 use Rattle.dg_start.specs.declared.fault.StartFault.{StartFault}
 use Rattle.dg_start.specs.Faults.{start_fault_of_record}
-use Rattle.dg_start.specs.RecentReading.{Source, events_in_source, events_in_sources}
-use Rattle.dg_start.specs.Reading.{WhereTold, source_of, sources_in}
+use Rattle.dg_start.specs.RecentEvents.{Source, events_in_source, events_in_sources}
+use Rattle.dg_start.specs.EventSources.{WhereTold, source_of, sources_in}
 use Rattle.dg_start.specs.Refusals.{IsReason}
-use Rattle.dg_start.proofs.RecentReadingSources.{IsNextSource, added_so, next_source, no_source, source_read, source_refused}
-use Rattle.dg_start.proofs.ReadingOutcomes.{err_is, said_before, told_weaker}
+use Rattle.dg_start.proofs.RecentEventSources.{IsNextSource, added_so, next_source, no_source, source_read, source_refused}
+use Rattle.dg_start.proofs.EventSourceOutcomes.{err_is, said_before, told_weaker}
 use Rattle.dg_start.proofs.source_events.read_sources.Goals as goal
 
 pub read_record-requires-clause-image : goal.read_record-requires-clause-image

@@ -3,8 +3,8 @@ use Rattle.std.specs.List.{All}
 use Rattle.dg_columns.specs.NamesInRange.{NamesFit}
 use Rattle.dg_disk.specs.Frame.{OnlyReads}
 use Rattle.dg_graph.specs.declared.event.Event.{Event}
-use Rattle.dg_start.specs.Reading.{sources_in}
-use Rattle.dg_start.proofs.RecentReadingSources.{ReadSoFar}
+use Rattle.dg_start.specs.EventSources.{sources_in}
+use Rattle.dg_start.proofs.RecentEventSources.{ReadSoFar}
 use Rattle.dg_start.proofs.source_events.read_sources.Given as goal
 
 abbrev pub invariant-loop-source : goal.invariant-loop-source

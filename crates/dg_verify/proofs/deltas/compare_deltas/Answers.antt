@@ -5,11 +5,11 @@ use Rattle.dg_history.specs.declared.node.Key.{Key}
 use Rattle.dg_index.specs.declared.entry.Row.{Row}
 use Rattle.dg_index.specs.FileOfHistory.{Stored}
 use Rattle.dg_index.specs.OpenedIndex.{Opening, record_row}
-use Rattle.dg_start.specs.Reading.{WhereTold}
-use Rattle.dg_start.proofs.ReadingOutcomes.{err_is, said_before}
+use Rattle.dg_start.specs.EventSources.{WhereTold}
+use Rattle.dg_start.proofs.EventSourceOutcomes.{err_is, said_before}
 use Rattle.dg_verify.specs.declared.stop.Stop.{Stop}
 use Rattle.dg_verify.specs.Deltas.{first_unlike, unlike_of}
-use Rattle.dg_verify.specs.Verifying.{IsWrong, keyed_column}
+use Rattle.dg_verify.specs.Verification.{IsWrong, keyed_column}
 use Rattle.dg_verify.proofs.DeltaComparisons.{IsAt, behind_record, delta_stops, edges_are, edges_within, next_key, next_row, nodes_are, nodes_within, one_compared, structure_is, structure_within}
 use Rattle.dg_verify.proofs.deltas.compare_deltas.Goals as goal
 

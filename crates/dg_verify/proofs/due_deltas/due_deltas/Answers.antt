@@ -4,7 +4,7 @@ use Rattle.dg_build.specs.declared.fault.BuildFault.TheVariants.{Memory}
 use Rattle.dg_graph.specs.ExactEvents.{AreChangesOf}
 use Rattle.dg_index.specs.FileOfHistory.{Segment}
 use Rattle.dg_index.specs.Hierarchy.{leaves, set_of}
-use Rattle.dg_start.proofs.ReadingOutcomes.{err_is}
+use Rattle.dg_start.proofs.EventSourceOutcomes.{err_is}
 use Rattle.dg_verify.proofs.DeltaSegments.{deltas_made, no_older, none_recent}
 use Rattle.dg_verify.proofs.due_deltas.due_deltas.Goals as goal
 

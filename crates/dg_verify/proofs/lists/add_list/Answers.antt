@@ -3,15 +3,15 @@ use Rattle.dg_history.specs.declared.node.Key.TheVariants as key
 use Rattle.dg_history.specs.declared.params.Params.{Params}
 use Rattle.dg_index.specs.OpenedIndex.{entry_at}
 use Rattle.dg_sound.specs.OwnEvents.{events_of_record, have_ends, with_list}
-use Rattle.dg_start.specs.Reading.{WhereTold}
-use Rattle.dg_start.proofs.ReadingOutcomes.{err_is}
+use Rattle.dg_start.specs.EventSources.{WhereTold}
+use Rattle.dg_start.proofs.EventSourceOutcomes.{err_is}
 use Rattle.dg_verify.specs.declared.stop.Stop.{Stop}
-use Rattle.dg_verify.specs.Testing.{IsStopBehind, tested}
-use Rattle.dg_verify.specs.Verifying.{IsStop, keyed, opened_with}
+use Rattle.dg_verify.specs.EventTests.{IsStopBehind, tested}
+use Rattle.dg_verify.specs.Verification.{IsStop, keyed, opened_with}
 use Rattle.dg_verify.proofs.OpenedIndexParameters.{in_range}
-use Rattle.dg_verify.proofs.TestingLists.{list_held}
-use Rattle.dg_verify.proofs.VerifyingRecords.{record_stops}
-use Rattle.dg_verify.proofs.TestingRecords.{stops_behind}
+use Rattle.dg_verify.proofs.EventTestLists.{list_held}
+use Rattle.dg_verify.proofs.VerificationRecords.{record_stops}
+use Rattle.dg_verify.proofs.EventTestRecords.{stops_behind}
 use Rattle.dg_verify.proofs.lists.add_list.Goals as goal
 
 pub read_events-requires-clause-held : goal.read_events-requires-clause-held

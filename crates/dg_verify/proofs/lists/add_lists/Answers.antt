@@ -3,12 +3,12 @@ use Rattle.std.specs.Prelude.{Ok}
 use Rattle.dg_file.specs.Index.{IndexState}
 use Rattle.dg_index.specs.OpenedIndex.{Opening}
 use Rattle.dg_sound.specs.OwnEvents.{listed_events, with_list}
-use Rattle.dg_start.specs.Reading.{WhereTold}
-use Rattle.dg_start.proofs.ReadingOutcomes.{err_is, said_before}
+use Rattle.dg_start.specs.EventSources.{WhereTold}
+use Rattle.dg_start.proofs.EventSourceOutcomes.{err_is, said_before}
 use Rattle.dg_verify.specs.declared.stop.Stop.{Stop}
-use Rattle.dg_verify.specs.Testing.{IsStopBehind, tested}
-use Rattle.dg_verify.specs.Verifying.{opened_with}
-use Rattle.dg_verify.proofs.TestingLists.{all_listed, list_stops, many_more, one_listed}
+use Rattle.dg_verify.specs.EventTests.{IsStopBehind, tested}
+use Rattle.dg_verify.specs.Verification.{opened_with}
+use Rattle.dg_verify.proofs.EventTestLists.{all_listed, list_stops, many_more, one_listed}
 use Rattle.dg_verify.proofs.lists.add_lists.Goals as goal
 
 pub returns-in_err-add_list-clause-stopped : goal.returns-in_err-add_list-clause-stopped

@@ -1,8 +1,8 @@
 use Rattle.std.proofs.Common.{◌≡◌, ◌*◌, length}
 use Rattle.dg_disk.specs.Frame.{OnlyReads}
-use Rattle.dg_verify.specs.Testing.{IsRead}
-use Rattle.dg_verify.specs.Verifying.{opened_with}
-use Rattle.dg_verify.proofs.TestingLists.{ListsGoOn}
+use Rattle.dg_verify.specs.EventTests.{IsRead}
+use Rattle.dg_verify.specs.Verification.{opened_with}
+use Rattle.dg_verify.proofs.EventTestLists.{ListsGoOn}
 use Rattle.dg_verify.proofs.lists.add_lists.Given as goal
 
 abbrev pub invariant-loop-number : goal.invariant-loop-number

@@ -1,5 +1,5 @@
 use Rattle.std.proofs.Common.{◌≡◌, ◌+◌, [], drop}
-use Rattle.dg_verify.specs.Testing.{followed}
+use Rattle.dg_verify.specs.EventTests.{followed}
 use Rattle.dg_verify.proofs.own_events.followed.Given as goal
 
 abbrev pub invariant-loop-count : goal.invariant-loop-count

@@ -1,5 +1,5 @@
 use Rattle.std.proofs.Common.{◌≡◌, drop}
-use Rattle.dg_verify.specs.Testing.{key_at}
+use Rattle.dg_verify.specs.EventTests.{key_at}
 use Rattle.dg_verify.proofs.own_events.key_at.Given as goal
 
 abbrev pub invariant-loop-read : goal.invariant-loop-read

@@ -1,5 +1,5 @@
 use Rattle.std.proofs.Common.{◌+◌, sym, ◌∙◌}
-use Rattle.dg_verify.specs.Verifying.{AreSoFar}
+use Rattle.dg_verify.specs.Verification.{AreSoFar}
 use Rattle.dg_verify.proofs.Outcomes.{on_ok_so}
 use Rattle.dg_verify.proofs.OpenedIndexParameters.{in_range, older_count}
 use Rattle.dg_verify.proofs.pieces.add_piece.Goals as goal

@@ -2,14 +2,14 @@ use Rattle.std.proofs.Common.{◌≡◌, ◌+◌, ◌-◌, ◌<◌, ◌≤◌, S
 use Rattle.dg_file.specs.Index.{IndexState}
 use Rattle.dg_index.specs.OpenedIndex.{Opening, event_total}
 use Rattle.dg_sound.specs.OwnEvents.{with_piece_events, with_pieces}
-use Rattle.dg_start.specs.Reading.{WhereTold}
-use Rattle.dg_start.proofs.ReadingSources.{batch_there, batch_within, none_left}
-use Rattle.dg_start.proofs.ReadingOutcomes.{err_is, said_before}
+use Rattle.dg_start.specs.EventSources.{WhereTold}
+use Rattle.dg_start.proofs.EventSourceSources.{batch_there, batch_within, none_left}
+use Rattle.dg_start.proofs.EventSourceOutcomes.{err_is, said_before}
 use Rattle.dg_verify.specs.declared.stop.Stop.{Stop}
-use Rattle.dg_verify.specs.Testing.{IsStopBehind, tested}
-use Rattle.dg_verify.specs.Verifying.{AreSoFar, opened_with}
+use Rattle.dg_verify.specs.EventTests.{IsStopBehind, tested}
+use Rattle.dg_verify.specs.Verification.{AreSoFar, opened_with}
 use Rattle.dg_verify.proofs.OpenedIndexParameters.{all_count, in_range}
-use Rattle.dg_verify.proofs.TestingPieces.{all_counted, all_pieced, one_pieced, piece_stops}
+use Rattle.dg_verify.proofs.EventTestPieces.{all_counted, all_pieced, one_pieced, piece_stops}
 use Rattle.dg_verify.proofs.pieces.add_pieces.Goals as goal
 
 pub add_piece-requires-clause-few : goal.add_piece-requires-clause-few

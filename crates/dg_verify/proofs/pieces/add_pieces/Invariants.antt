@@ -1,8 +1,8 @@
 use Rattle.std.proofs.Common.{◌≡◌, ◌-◌, length}
 use Rattle.dg_disk.specs.Frame.{OnlyReads}
-use Rattle.dg_verify.specs.Testing.{IsRead}
-use Rattle.dg_verify.specs.Verifying.{AreSoFar, opened_with}
-use Rattle.dg_verify.proofs.TestingPieces.{PiecesGoOn}
+use Rattle.dg_verify.specs.EventTests.{IsRead}
+use Rattle.dg_verify.specs.Verification.{AreSoFar, opened_with}
+use Rattle.dg_verify.proofs.EventTestPieces.{PiecesGoOn}
 use Rattle.dg_verify.proofs.pieces.add_pieces.Given as goal
 
 abbrev pub invariant-loop-batch : goal.invariant-loop-batch

@@ -2,14 +2,14 @@ use Rattle.std.proofs.Common.{◌≡◌, ℕ, true, false, List, Ok, sym, ◌∙
 use Rattle.dg_graph.specs.declared.event.Event.{Event}
 use Rattle.dg_history.specs.declared.node.Key.TheVariants as key
 use Rattle.dg_sound.specs.OwnEvents.{events_of_record, has_batch_ends, piece_length, with_recent}
-use Rattle.dg_start.specs.Reading.{WhereTold}
-use Rattle.dg_start.proofs.ReadingSources.{batch_there, piece_held}
-use Rattle.dg_start.proofs.ReadingOutcomes.{err_is}
+use Rattle.dg_start.specs.EventSources.{WhereTold}
+use Rattle.dg_start.proofs.EventSourceSources.{batch_there, piece_held}
+use Rattle.dg_start.proofs.EventSourceOutcomes.{err_is}
 use Rattle.dg_verify.specs.declared.stop.Stop.{Stop}
-use Rattle.dg_verify.specs.Testing.{IsStopBehind, tested}
-use Rattle.dg_verify.specs.Verifying.{IsStop, keyed, opened_with}
-use Rattle.dg_verify.proofs.VerifyingRecords.{record_stops}
-use Rattle.dg_verify.proofs.TestingRecords.{read_behind, stops_behind}
+use Rattle.dg_verify.specs.EventTests.{IsStopBehind, tested}
+use Rattle.dg_verify.specs.Verification.{IsStop, keyed, opened_with}
+use Rattle.dg_verify.proofs.VerificationRecords.{record_stops}
+use Rattle.dg_verify.proofs.EventTestRecords.{read_behind, stops_behind}
 use Rattle.dg_verify.proofs.pieces.add_recent.Goals as goal
 
 pub read_events-requires-clause-held : goal.read_events-requires-clause-held

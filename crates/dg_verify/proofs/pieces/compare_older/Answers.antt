@@ -1,11 +1,11 @@
 use Rattle.std.proofs.Common.{◌≡◌, [], Ok, None, drop, take, sym, ◌∙◌}
 use Rattle.dg_history.specs.declared.node.Key.TheVariants as key
 use Rattle.dg_sound.specs.OwnEvents.{piece_length, piece_start, with_older}
-use Rattle.dg_start.specs.Reading.{WhereTold}
+use Rattle.dg_start.specs.EventSources.{WhereTold}
 use Rattle.dg_verify.specs.declared.stop.Stop.{Stop}
-use Rattle.dg_verify.specs.Verifying.{IsStop, IsWrong, keyed_column, opened_with, unlike}
+use Rattle.dg_verify.specs.Verification.{IsStop, IsWrong, keyed_column, opened_with, unlike}
 use Rattle.dg_verify.proofs.Outcomes.{if_err, on_ok}
-use Rattle.dg_verify.proofs.TestingPieces.{older_alike, older_stops}
+use Rattle.dg_verify.proofs.EventTestPieces.{older_alike, older_stops}
 use Rattle.dg_verify.proofs.pieces.compare_older.Goals as goal
 
 pub returns-clause-alike : goal.returns-clause-alike

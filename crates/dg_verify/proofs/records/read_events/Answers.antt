@@ -1,10 +1,10 @@
 use Rattle.dg_sound.specs.OwnEvents.{events_of_record}
-use Rattle.dg_start.specs.Reading.{WhereTold}
-use Rattle.dg_start.proofs.ReadingOutcomes.{err_is}
+use Rattle.dg_start.specs.EventSources.{WhereTold}
+use Rattle.dg_start.proofs.EventSourceOutcomes.{err_is}
 use Rattle.dg_verify.specs.declared.stop.Stop.{Stop}
 use Rattle.dg_verify.specs.Stops.{stop_of_record}
-use Rattle.dg_verify.specs.Verifying.{IsStop, keyed, opened_with}
-use Rattle.dg_verify.proofs.VerifyingRecords.{events_refused}
+use Rattle.dg_verify.specs.Verification.{IsStop, keyed, opened_with}
+use Rattle.dg_verify.proofs.VerificationRecords.{events_refused}
 use Rattle.dg_verify.proofs.records.read_events.Goals as goal
 
 pub returns-in_err-read_record-clause-stopped : goal.returns-in_err-read_record-clause-stopped

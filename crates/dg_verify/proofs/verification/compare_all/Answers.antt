@@ -8,16 +8,16 @@ use Rattle.dg_index.specs.IndexRecords.{deltas_due, record_among}
 use Rattle.dg_index.specs.OpenedIndex.{Opening, event_total}
 use Rattle.dg_sound.specs.OwnEvents.{own_events}
 use Rattle.dg_sound.specs.Soundness.{soundness_of}
-use Rattle.dg_start.specs.Reading.{WhereTold}
-use Rattle.dg_start.proofs.ReadingOutcomes.{err_is, said_before}
+use Rattle.dg_start.specs.EventSources.{WhereTold}
+use Rattle.dg_start.proofs.EventSourceOutcomes.{err_is, said_before}
 use Rattle.dg_verify.specs.declared.deltas.DeltaKind.TheVariants as delta
 use Rattle.dg_verify.specs.declared.own_events.OwnEvents.{OwnEvents}
 use Rattle.dg_verify.specs.declared.stop.Stop.{Stop}
 use Rattle.dg_verify.specs.Deltas.{first_unlike}
-use Rattle.dg_verify.specs.Verifying.{IsUnsound, IsWrong, opened_with}
+use Rattle.dg_verify.specs.Verification.{IsUnsound, IsWrong, opened_with}
 use Rattle.dg_verify.proofs.OpenedIndexParameters.{in_range}
-use Rattle.dg_verify.proofs.TestingRecords.{all_tested}
-use Rattle.dg_verify.proofs.VerifyingOutcomes.{all_sound, downs_unsound, tops_unsound}
+use Rattle.dg_verify.proofs.EventTestRecords.{all_tested}
+use Rattle.dg_verify.proofs.VerificationOutcomes.{all_sound, downs_unsound, tops_unsound}
 use Rattle.dg_verify.proofs.verification.compare_all.Goals as goal
 
 pub returns-in_err-compare_deltas-clause-stopped : goal.returns-in_err-compare_deltas-clause-stopped

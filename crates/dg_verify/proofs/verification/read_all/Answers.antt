@@ -2,15 +2,15 @@ use Rattle.std.proofs.Common.{◌≡◌, Ok, sym, ◌∙◌, ap}
 use Rattle.dg_file.specs.Index.{IndexState}
 use Rattle.dg_index.specs.OpenedIndex.{Opening}
 use Rattle.dg_sound.specs.OwnEvents.{own_events, with_pieces}
-use Rattle.dg_start.specs.Reading.{WhereTold}
-use Rattle.dg_start.proofs.ReadingOutcomes.{said_before}
+use Rattle.dg_start.specs.EventSources.{WhereTold}
+use Rattle.dg_start.proofs.EventSourceOutcomes.{said_before}
 use Rattle.dg_verify.specs.declared.own_events.OwnEvents.{OwnEvents}
 use Rattle.dg_verify.specs.declared.stop.Stop.{Stop}
-use Rattle.dg_verify.specs.Testing.{IsStopBehind, tested}
-use Rattle.dg_verify.specs.Verifying.{opened_with}
+use Rattle.dg_verify.specs.EventTests.{IsStopBehind, tested}
+use Rattle.dg_verify.specs.Verification.{opened_with}
 use Rattle.dg_verify.proofs.Outcomes.{if_err, on_ok}
-use Rattle.dg_verify.proofs.TestingPieces.{own_by_pieces}
-use Rattle.dg_verify.proofs.TestingRecords.{stops_so}
+use Rattle.dg_verify.proofs.EventTestPieces.{own_by_pieces}
+use Rattle.dg_verify.proofs.EventTestRecords.{stops_so}
 use Rattle.dg_verify.proofs.verification.read_all.Goals as goal
 
 pub returns-clause-own : goal.returns-clause-own

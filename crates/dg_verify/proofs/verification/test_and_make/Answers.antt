@@ -8,8 +8,8 @@ use Rattle.dg_index.specs.FileOfHistory.{stored}
 use Rattle.dg_index.specs.Hierarchy.{leaves}
 use Rattle.dg_index.specs.IndexRecords.{deltas_due, record_among}
 use Rattle.dg_verify.specs.declared.due_deltas.DueDeltas.{DueDeltas}
-use Rattle.dg_verify.specs.Testing.{first_unfit}
-use Rattle.dg_verify.proofs.TestingExactness.{are_exact}
+use Rattle.dg_verify.specs.EventTests.{first_unfit}
+use Rattle.dg_verify.proofs.EventTestExactness.{are_exact}
 use Rattle.dg_verify.proofs.Outcomes.{both_ok, if_err, if_ok, of_ok}
 use Rattle.dg_verify.proofs.verification.test_and_make.Goals as goal
 

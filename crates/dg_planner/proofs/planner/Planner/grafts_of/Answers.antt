@@ -10,7 +10,7 @@ use Rattle.dg_plan.specs.IndexGraph.{arcs_of}
 use Rattle.dg_plan.specs.Walks.{Graft, IsPlan, Leads, entered, steps_of, tree_weight}
 use Rattle.dg_plan.proofs.WalkTrees.{tree_grows}
 use Rattle.dg_path.specs.Search.{AreAdjacent, AreLinks, Falls, CostsFit, IsTable, arcs, label_at}
-use Rattle.dg_planner.specs.Order.{bare_ground, index_of}
+use Rattle.dg_planner.specs.Order.{bare_ground, node_index_of}
 use Rattle.dg_planner.specs.Trees.{costs_now, node_graft, node_grafts}
 use Rattle.dg_planner.specs.Whole.{PlannerGraph}
 use Rattle.dg_planner.proofs.TreeGrowth.{IsReady, grown_as, near_now, one_grown, one_ready}
@@ -44,7 +44,7 @@ overflow_add-weight c =
     let near = near_now _ _ _ _ _ _ _ c.self.invariant _ _ _ _ c.loop-i.invariant.0 (c.loop-i.invariant.1 within) target vn in
     let costs : c.costs_now-costs.result.now ≡ costs_now c.self.inside.costs.items c.loop-i.grown.items =
     c.costs_now-costs.ensures ∙ (λ k. costs_now (c.deref-in-loop-i.ensures.value k) (c.deref-in-loop-i-2.ensures.value k)) in
-    let now : c.weight_at-nearest.result ≡ (label_at (costs_now c.self.inside.costs.items c.loop-i.grown.items) (index_of g target)).weight =
+    let now : c.weight_at-nearest.result ≡ (label_at (costs_now c.self.inside.costs.items c.loop-i.grown.items) (node_index_of g target)).weight =
     c.weight_at-nearest.ensures ∙ (λ k. (label_at (costs k) (c.node_index-at.ensures k)).weight) in
     let light = c.loop-i.invariant.0.light in
     let len = length-take i c.args.targets.now in
@@ -71,7 +71,7 @@ graft_at-requires-clause-near c =
     let near = near_now _ _ _ _ _ _ _ c.self.invariant _ _ _ _ c.loop-i.invariant.0 (c.loop-i.invariant.1 within) target vn in
     let costs : c.costs_now-costs.result.now ≡ costs_now c.self.inside.costs.items c.loop-i.grown.items =
     c.costs_now-costs.ensures ∙ (λ k. costs_now (c.deref-in-loop-i.ensures.value k) (c.deref-in-loop-i-2.ensures.value k)) in
-    let now : (label_at c.costs_now-costs.result.now c.node_index-at.result).weight ≡ (label_at (costs_now c.self.inside.costs.items c.loop-i.grown.items) (index_of g target)).weight =
+    let now : (label_at c.costs_now-costs.result.now c.node_index-at.result).weight ≡ (label_at (costs_now c.self.inside.costs.items c.loop-i.grown.items) (node_index_of g target)).weight =
     λ k. (label_at (costs k) (c.node_index-at.ensures k)).weight in
     omega arith
 
@@ -118,7 +118,7 @@ loop-i-preserved c =
     let vn = subst (λ (s : PlannerGraph). Contains s.nodes target) (sym c.self.view_is) (c.requires.targets i Root within) in
     let costs : c.costs_now-costs.result.now ≡ now =
     c.costs_now-costs.ensures ∙ (λ k. costs_now (c.deref-in-loop-i.ensures.value k) (c.deref-in-loop-i-2.ensures.value k)) in
-    let plan : (from : List ℕ) → IsTable (arcs links) from now → IsPlan (arcs links) from (index_of g target) steps = λ from t.
+    let plan : (from : List ℕ) → IsTable (arcs links) from now → IsPlan (arcs links) from (node_index_of g target) steps = λ from t.
     subst (λ p. IsPlan (arcs links) from p steps) c.node_index-at.ensures
     (subst (λ ls. IsPlan (arcs ls) from c.node_index-at.result steps) c.deref-in-loop-i-4.ensures.value
     (c.in_ok-graft.ensures.plan from
@@ -184,5 +184,5 @@ graft_at-requires-clause-table c =
     let costs : c.costs_now-costs.result.now ≡ now =
     c.costs_now-costs.ensures ∙ (λ k. costs_now (c.deref-in-loop-i.ensures.value k) (c.deref-in-loop-i-2.ensures.value k)) in
     let len : length c.self.inside.costs.items ≡ length c.costs_now-costs.result.now = c.self.invariant.count ∙ (sym ready.count ∙ sym (ap length costs)) in
-    let from = map (index_of g) ((Root ∷ []) ++ entered (arcs_of c.self.inside.edges.items) (steps_of (node_grafts c.loop-i.grafts.items))) in
+    let from = map (node_index_of g) ((Root ∷ []) ++ entered (arcs_of c.self.inside.edges.items) (steps_of (node_grafts c.loop-i.grafts.items))) in
     (from, subst (λ ls. IsTable (arcs ls) from c.costs_now-costs.result.now) (sym c.deref-in-loop-i-4.ensures.value) (subst (IsTable (arcs links) from) (sym costs) ready.table))

@@ -7,7 +7,7 @@ use Rattle.dg_plan.specs.Walks.{IsPlan, IsPotential, Leads, weight_of}
 use Rattle.dg_path.specs.declared.route.Route.{Route}
 use Rattle.dg_path.specs.declared.search.Cost.{Cost as Label}
 use Rattle.dg_path.specs.Search.{IsTarget, arcs}
-use Rattle.dg_planner.specs.Order.{bare_ground, index_of}
+use Rattle.dg_planner.specs.Order.{bare_ground, node_index_of}
 use Rattle.dg_planner.specs.Whole.{PlannerGraph}
 use Rattle.dg_planner.proofs.OrderPlans.{is_target, node_is, ok_both, ok_more, plan_is, plan_within, potentials_are, walk_by_indices, weight_is}
 use Rattle.dg_planner.proofs.planner.Planner.plan.Goals as goal
@@ -27,11 +27,11 @@ pub returns-clause-plan : goal.returns-clause-plan
 returns-clause-plan c =
     let vn = subst (λ (s : PlannerGraph). Contains s.nodes c.args.target) (sym c.self.view_is) c.requires.target in
     let g = bare_ground c.self.inside.form.leaves c.self.inside.form.arity c.self.inside.form.memory in
-    let here : IfOk c.route_to.result (λ (r : Route). IsPlan (arcs c.self.inside.links.items) (0 ∷ []) (index_of g c.args.target) r.steps.items) =
-    subst (λ ls. IfOk c.route_to.result (λ (r : Route). IsPlan (arcs ls) (0 ∷ []) (index_of g c.args.target) r.steps.items)) c.deref-2.ensures.value
+    let here : IfOk c.route_to.result (λ (r : Route). IsPlan (arcs c.self.inside.links.items) (0 ∷ []) (node_index_of g c.args.target) r.steps.items) =
+    subst (λ ls. IfOk c.route_to.result (λ (r : Route). IsPlan (arcs ls) (0 ∷ []) (node_index_of g c.args.target) r.steps.items)) c.deref-2.ensures.value
     (subst (λ p. IfOk c.route_to.result (λ (r : Route). IsPlan (arcs c.deref-2.result.now) (0 ∷ []) p r.steps.items)) c.node_index-node_index.ensures c.route_to.ensures.plan) in
     subst (λ (s : PlannerGraph). IfOk c.route_to.result (λ (r : Route). IsPlan (arcs_of s.edges) (Root ∷ []) c.args.target r.steps.items)) c.self.view_is
-    (ok_more (λ (r : Route). IsPlan (arcs c.self.inside.links.items) (0 ∷ []) (index_of g c.args.target) r.steps.items) (λ (r : Route). IsPlan (arcs_of c.self.inside.edges.items) (Root ∷ []) c.args.target r.steps.items) c.route_to.result here
+    (ok_more (λ (r : Route). IsPlan (arcs c.self.inside.links.items) (0 ∷ []) (node_index_of g c.args.target) r.steps.items) (λ (r : Route). IsPlan (arcs_of c.self.inside.edges.items) (Root ∷ []) c.args.target r.steps.items) c.route_to.result here
     (λ r p. plan_is _ _ _ _ _ _ _ c.self.invariant c.args.target r.steps.items vn p))
 
 pub returns-clause-steps : goal.returns-clause-steps
@@ -73,11 +73,11 @@ returns-clause-least c =
     let g = bare_ground c.self.inside.form.leaves c.self.inside.form.arity c.self.inside.form.memory in
     let links = c.self.inside.links.items in
     let edges = c.self.inside.edges.items in
-    let here : IfOk c.route_to.result (λ (r : Route). (others : List ℕ) → Leads (arcs links) 0 others (index_of g c.args.target) → r.weight ≤ weight_of (arcs links) others) =
-    subst (λ ls. IfOk c.route_to.result (λ (r : Route). (others : List ℕ) → Leads (arcs ls) 0 others (index_of g c.args.target) → r.weight ≤ weight_of (arcs ls) others)) c.deref-2.ensures.value
+    let here : IfOk c.route_to.result (λ (r : Route). (others : List ℕ) → Leads (arcs links) 0 others (node_index_of g c.args.target) → r.weight ≤ weight_of (arcs links) others) =
+    subst (λ ls. IfOk c.route_to.result (λ (r : Route). (others : List ℕ) → Leads (arcs ls) 0 others (node_index_of g c.args.target) → r.weight ≤ weight_of (arcs ls) others)) c.deref-2.ensures.value
     (subst (λ p. IfOk c.route_to.result (λ (r : Route). (others : List ℕ) → Leads (arcs c.deref-2.result.now) 0 others p → r.weight ≤ weight_of (arcs c.deref-2.result.now) others)) c.node_index-node_index.ensures c.route_to.ensures.least) in
     subst (λ (s : PlannerGraph). IfOk c.route_to.result (λ (r : Route). (others : List ℕ) → Leads (arcs_of s.edges) Root others c.args.target → r.weight ≤ weight_of (arcs_of s.edges) others)) c.self.view_is
-    (ok_more (λ (r : Route). (others : List ℕ) → Leads (arcs links) 0 others (index_of g c.args.target) → r.weight ≤ weight_of (arcs links) others)
+    (ok_more (λ (r : Route). (others : List ℕ) → Leads (arcs links) 0 others (node_index_of g c.args.target) → r.weight ≤ weight_of (arcs links) others)
     (λ (r : Route). (others : List ℕ) → Leads (arcs_of edges) Root others c.args.target → r.weight ≤ weight_of (arcs_of edges) others) c.route_to.result here
     (λ r least others leads. (let low = least others (walk_by_indices _ _ _ _ _ _ _ c.self.invariant others c.args.target leads) in
     let same = weight_is _ _ _ _ _ _ _ c.self.invariant Root others c.args.target leads in

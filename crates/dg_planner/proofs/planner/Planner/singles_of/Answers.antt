@@ -6,7 +6,7 @@ use Rattle.dg_history.specs.declared.node.NodeId.TheVariants.{Root}
 use Rattle.dg_plan.specs.IndexGraph.{arcs_of, nodes_of}
 use Rattle.dg_plan.specs.Walks.{AreSingles}
 use Rattle.dg_path.specs.Search.{label_at}
-use Rattle.dg_planner.specs.Order.{bare_ground, index_of}
+use Rattle.dg_planner.specs.Order.{bare_ground, node_index_of}
 use Rattle.dg_planner.specs.Whole.{PlannerGraph}
 use Rattle.dg_planner.proofs.TreeGrowth.{one_weighed, single_light, sum_push, weighed_as}
 use Rattle.dg_planner.proofs.OrderPlans.{node_is, node_index_within}
@@ -39,7 +39,7 @@ overflow_add-sum c =
     let target = slice_index_or c.args.targets.now i Root in
     let vn : Contains (nodes_of g) target = subst (λ (s : PlannerGraph). Contains s.nodes target) (sym c.self.view_is) (c.requires.targets i Root c.loop-target-test.true) in
     let near = single_light _ _ _ _ _ _ _ c.self.invariant target vn in
-    let now : c.weight_at-single.result ≡ (label_at c.self.inside.costs.items (index_of g target)).weight =
+    let now : c.weight_at-single.result ≡ (label_at c.self.inside.costs.items (node_index_of g target)).weight =
     c.weight_at-single.ensures ∙ (λ k. (label_at (c.deref-in-loop-target.ensures.value k) (c.node_index-at.ensures k)).weight) in
     let light = c.loop-target.invariant.0.light in
     let is = c.loop-target.invariant.1 in

@@ -1,6 +1,6 @@
 use Rattle.std.proofs.Common.{◌≡◌, ℕ, [], ◌∷◌, ◌++◌, length, ◌∙◌, ap, arith}
 use Rattle.dg_verify.specs.declared.own_events.OwnEvents.{OwnEvents}
-use Rattle.dg_verify.proofs.TestingRecords.{one_record, read_more, record_of}
+use Rattle.dg_verify.proofs.EventTestRecords.{one_record, read_more, record_of}
 use Rattle.dg_verify.proofs.own_events.OwnEvents.add.Goals as goal
 
 pub returns-clause-read : goal.returns-clause-read

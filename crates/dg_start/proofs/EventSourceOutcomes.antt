@@ -2,7 +2,7 @@
 use Rattle.std.proofs.Common.{◌≡◌, ℕ, List, Option, Some, None, Result, Ok, Err, refl, sym, ◌∙◌, subst}
 use Rattle.std.specs.Prelude.{IfErr, IfSome, IsErr, IsErrAnd, OnOk}
 use Rattle.dg_index.specs.OpenedIndex.{Opening}
-use Rattle.dg_start.specs.Reading.{WhereTold}
+use Rattle.dg_start.specs.EventSources.{WhereTold}
 
 pub of_told : {A : Type 0} (o : Option A) (P : A → Type 0) (x : A) → IfSome o P → o ≡ Some x → P x
 of_told o P x h e = subst (λ (y : Option _). IfSome y P) e h

@@ -6,9 +6,9 @@ use Rattle.dg_graph.specs.declared.element.Element.{Element}
 use Rattle.dg_graph.specs.declared.event.Event.{Event}
 use Rattle.dg_graph.specs.Effect.{forwards}
 use Rattle.dg_graph.specs.Replay.{replay_from}
-use Rattle.dg_start.specs.RecentReading.{Source, first_wrong_event}
-use Rattle.dg_start.specs.Reading.{ArePartedBy, FirstWrong, bounded, or_later_number}
-use Rattle.dg_start.proofs.RecentReadingSources.{IsNextSource}
+use Rattle.dg_start.specs.RecentEvents.{Source, first_wrong_event}
+use Rattle.dg_start.specs.EventSources.{ArePartedBy, FirstWrong, bounded, or_later_number}
+use Rattle.dg_start.proofs.RecentEventSources.{IsNextSource}
 
 pub replay_more : (set : List Element) (a b : List Event) → replay_from set (a ++ b) ≡ replay_from (replay_from set a) b
 replay_more set [] b = refl

@@ -4,8 +4,8 @@ use Rattle.dg_graph.specs.ExactEvents.{AreChangesOf}
 use Rattle.dg_graph.specs.Graph.{IsGraph}
 use Rattle.dg_list.specs.NetLaws.{ChangesAreExact}
 use Rattle.dg_verify.specs.declared.own_events.OwnEvents.{OwnEvents}
-use Rattle.dg_verify.specs.Testing.{IsRead, first_unfit}
-use Rattle.dg_verify.proofs.TestingRecords.{are_made}
+use Rattle.dg_verify.specs.EventTests.{IsRead, first_unfit}
+use Rattle.dg_verify.proofs.EventTestRecords.{are_made}
 
 -- the empty set is a graph
 empty_graph : IsGraph []

@@ -22,8 +22,8 @@ use Rattle.dg_index.proofs.OpenedIndexRecords.{IsTold, told_at}
 use Rattle.dg_index.proofs.IndexRecordColumns.{columns_are_kept}
 use Rattle.dg_plan.specs.HistoryGraph.{all_columns}
 use Rattle.dg_start.specs.declared.event_source.EventSource.{EventSource}
-use Rattle.dg_start.specs.Reading.{CanBeRead, WhereTold, bytes_in_sources, source_of, sources_in}
-use Rattle.dg_start.specs.RecentReading.{Source, recent_sources}
+use Rattle.dg_start.specs.EventSources.{CanBeRead, WhereTold, bytes_in_sources, source_of, sources_in}
+use Rattle.dg_start.specs.RecentEvents.{Source, recent_sources}
 use Rattle.dg_start.specs.SessionStart.{recent_bytes}
 use Rattle.dg_start.proofs.ColumnMergeRecords.{column_there}
 

@@ -17,9 +17,9 @@ use Rattle.dg_verify.specs.declared.own_events.OwnEvents.{OwnEvents}
 use Rattle.dg_verify.specs.declared.own_events.ReadRecord.{ReadRecord}
 use Rattle.dg_verify.specs.declared.stop.Stop.{Stop}
 use Rattle.dg_verify.specs.declared.stop.Stop.TheVariants as stop
-use Rattle.dg_verify.specs.Testing.{IsRead, IsStopBehind, IsUnfit, first_unfit, followed, key_at, tested, unless}
-use Rattle.dg_verify.specs.Verifying.{IsStop}
-use Rattle.dg_verify.proofs.TestingCompletions.{all_right, at_most, made_so, more_followed, same_followed, some_wrong}
+use Rattle.dg_verify.specs.EventTests.{IsRead, IsStopBehind, IsUnfit, first_unfit, followed, key_at, tested, unless}
+use Rattle.dg_verify.specs.Verification.{IsStop}
+use Rattle.dg_verify.proofs.EventTestCompletions.{all_right, at_most, made_so, more_followed, same_followed, some_wrong}
 
 -- ---- what follows behind them
 

@@ -16,10 +16,10 @@ use Rattle.dg_verify.specs.declared.own_events.OwnEvents.{OwnEvents}
 use Rattle.dg_verify.specs.declared.stop.Stop.{Stop}
 use Rattle.dg_verify.specs.declared.stop.Stop.TheVariants as stop
 use Rattle.dg_verify.specs.Deltas.{first_unlike, has_kind}
-use Rattle.dg_verify.specs.Testing.{IsUnfit, first_unfit, tested}
-use Rattle.dg_verify.specs.Verifying.{IsStop, IsUnsound, IsWrong}
+use Rattle.dg_verify.specs.EventTests.{IsUnfit, first_unfit, tested}
+use Rattle.dg_verify.specs.Verification.{IsStop, IsUnsound, IsWrong}
 use Rattle.dg_verify.proofs.DeltaKeys.{or_behind, total_is, wrong_by_kinds, wrong_of_kind}
-use Rattle.dg_verify.proofs.TestingRecords.{unfit_stops}
+use Rattle.dg_verify.proofs.EventTestRecords.{unfit_stops}
 
 unsound_so : (image : List ℕ) (x : Opened) (s : Stop) (r : Result (List Event) (Key × Column)) → IsStop s r → IsUnsound s (judged_events image x r)
 unsound_so image x (stop.Wrong k col) r h = ap (judged_events image x) h

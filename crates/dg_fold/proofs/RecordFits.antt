@@ -25,7 +25,7 @@ use Rattle.dg_index.specs.IndexRecords.{Events, Exact, piece_at, record_among}
 use Rattle.dg_index.proofs.HierarchySteps.{IsSet-node}
 use Rattle.dg_index.proofs.EverAddedBounds.{ever_few, fewer, node_within, piece_short}
 use Rattle.dg_fold.specs.Parts.{RecordFits}
-use Rattle.dg_fold.specs.Fitting.{RecordsFit}
+use Rattle.dg_fold.specs.RecordFits.{RecordsFit}
 
 -- ---- the elements that events add
 

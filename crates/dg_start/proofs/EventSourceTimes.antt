@@ -6,8 +6,8 @@ use Rattle.std.proofs.lemmas.List.Sums.{sum_by-cons}
 use Rattle.dg_build.specs.SpelledRecords.{RisesFrom}
 use Rattle.dg_graph.specs.declared.event.Event.{Event}
 use Rattle.dg_index.specs.declared.entry.Ends.{Ends}
-use Rattle.dg_start.specs.RecentReading.{Source}
-use Rattle.dg_start.specs.Reading.{ArePartedBy, bounded}
+use Rattle.dg_start.specs.RecentEvents.{Source}
+use Rattle.dg_start.specs.EventSources.{ArePartedBy, bounded}
 
 abbrev pub tagged : Ends → List Event → List (Ends × Event)
 tagged ends events = map (λ (e : Event). (ends, e)) events

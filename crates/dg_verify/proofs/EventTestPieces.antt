@@ -11,13 +11,13 @@ use Rattle.dg_history.specs.declared.node.Key.TheVariants as key
 use Rattle.dg_index.specs.OpenedIndex.{Opened, Opening, event_total}
 use Rattle.dg_index.specs.declared.entry.BatchEntry.{BatchEntry}
 use Rattle.dg_sound.specs.OwnEvents.{and_own, has_batch_ends, if_columns, is_column_of, listed_events, own_events, piece_length, piece_start, with_older, with_piece_events, with_pieces}
-use Rattle.dg_start.specs.Reading.{WhereTold}
+use Rattle.dg_start.specs.EventSources.{WhereTold}
 use Rattle.dg_verify.specs.declared.own_events.OwnEvents.{OwnEvents}
 use Rattle.dg_verify.specs.declared.stop.Stop.{Stop}
 use Rattle.dg_verify.specs.declared.stop.Stop.TheVariants as stop
-use Rattle.dg_verify.specs.Testing.{IsStopBehind, tested}
-use Rattle.dg_verify.specs.Verifying.{IsStop, IsWrong, keyed_column, opened_with, unlike}
-use Rattle.dg_verify.proofs.TestingRecords.{stops_on, stops_so, tested_then, then_behind}
+use Rattle.dg_verify.specs.EventTests.{IsStopBehind, tested}
+use Rattle.dg_verify.specs.Verification.{IsStop, IsWrong, keyed_column, opened_with, unlike}
+use Rattle.dg_verify.proofs.EventTestRecords.{stops_on, stops_so, tested_then, then_behind}
 
 from_here : (batches : List BatchEntry) (n : ℕ) (b : BatchEntry) → slice_get batches n ≡ Some b → drop n batches ≡ b ∷ drop (n + 1) batches
 from_here [] n b there = cc

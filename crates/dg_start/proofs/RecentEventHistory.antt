@@ -49,12 +49,12 @@ use Rattle.dg_index.proofs.RecentEvents.{together}
 use Rattle.dg_index.proofs.RecentEventPieces.{batches_of, noted, recent_read}
 use Rattle.dg_list.specs.NetLaws.{AreMadeByChanges}
 use Rattle.dg_start.specs.declared.fault.StartFault.{StartFault}
-use Rattle.dg_start.specs.RecentReading.{Source, and_start, events_in_source, events_in_sources, first_wrong_event, is_right, merged_or_fault, piece_source, placed_in_record, recent_in_image, spelled_or_fault}
-use Rattle.dg_start.proofs.ReadingTimes.{tagged, untag, untagged}
-use Rattle.dg_start.proofs.ReadingSources.{piece_held}
+use Rattle.dg_start.specs.RecentEvents.{Source, and_start, events_in_source, events_in_sources, first_wrong_event, is_right, merged_or_fault, piece_source, placed_in_record, recent_in_image, spelled_or_fault}
+use Rattle.dg_start.proofs.EventSourceTimes.{tagged, untag, untagged}
+use Rattle.dg_start.proofs.EventSourceSources.{piece_held}
 use Rattle.dg_start.proofs.NetLawEvents.{batches_made, events_among, made_behind}
 use Rattle.dg_start.proofs.OpenedIndexHistory.{behind}
-use Rattle.dg_start.proofs.RecentReadingTimes.{AreWithin}
+use Rattle.dg_start.proofs.RecentEventTimes.{AreWithin}
 
 -- ---- what is known of the events of a legal history
 

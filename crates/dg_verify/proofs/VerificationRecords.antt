@@ -14,12 +14,12 @@ use Rattle.dg_start.specs.declared.fault.RecordFault.TheVariants as record_fault
 use Rattle.dg_start.specs.declared.fault.StartFault.{StartFault}
 use Rattle.dg_start.specs.declared.fault.StartFault.TheVariants as fault
 use Rattle.dg_start.specs.Faults.{start_fault_of_record}
-use Rattle.dg_start.specs.RecentReading.{Source, and_start, events_in_source, merged_or_fault, spelled_or_fault}
+use Rattle.dg_start.specs.RecentEvents.{Source, and_start, events_in_source, merged_or_fault, spelled_or_fault}
 use Rattle.dg_start.specs.Refusals.{IsReason}
 use Rattle.dg_verify.specs.declared.stop.Stop.{Stop}
 use Rattle.dg_verify.specs.declared.stop.Stop.TheVariants as stop
 use Rattle.dg_verify.specs.Stops.{stop_of_record}
-use Rattle.dg_verify.specs.Verifying.{IsStop, keyed, opened_with}
+use Rattle.dg_verify.specs.Verification.{IsStop, keyed, opened_with}
 
 -- a record that is not right, as a fault of starting
 abbrev as_started : {A : Type 0} → Key → Result A Column → Result A StartFault

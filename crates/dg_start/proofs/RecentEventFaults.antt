@@ -6,7 +6,7 @@ use Rattle.dg_graph.specs.declared.event.Event.{Event}
 use Rattle.dg_graph.specs.Effect.{forwards}
 use Rattle.dg_graph.specs.Replay.{replay_from}
 use Rattle.dg_index.specs.declared.entry.Ends.{Ends}
-use Rattle.dg_start.specs.RecentReading.{is_right, first_wrong_event}
+use Rattle.dg_start.specs.RecentEvents.{is_right, first_wrong_event}
 
 pub wrong_here : (names : List (List ℕ)) (s : Ends) (n i : ℕ) (set : List Element) (events : List Event) (d : Event) (more : List (Ends × Event))
     → i < length events → is_right names set (s, get_or events i d) ≡ false

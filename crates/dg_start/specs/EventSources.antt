@@ -10,7 +10,7 @@ use Rattle.dg_index.specs.declared.entry.Ends.{Ends}
 use Rattle.dg_index.specs.OpenedIndex.{Opening}
 use Rattle.dg_plan.specs.HistoryGraph.{all_columns}
 use Rattle.dg_start.specs.declared.event_source.EventSource.{EventSource}
-use Rattle.dg_start.specs.RecentReading.{Source, first_wrong_event}
+use Rattle.dg_start.specs.RecentEvents.{Source, first_wrong_event}
 
 -- where the events of a source stand
 abbrev pub source_of : EventSource → Source

@@ -12,11 +12,11 @@ use Rattle.dg_plan.specs.HistoryGraph.{all_columns}
 use Rattle.dg_start.specs.declared.event_source.EventSource.{EventSource}
 use Rattle.dg_start.specs.declared.fault.StartFault.{StartFault}
 use Rattle.dg_start.specs.declared.fault.StartFault.TheVariants as fault
-use Rattle.dg_start.specs.RecentReading.{Source, and_start, events_in_source, events_in_sources}
-use Rattle.dg_start.specs.Reading.{ArePartedBy, WhereTold, bounded, bytes_in_sources, source_of, sources_in}
+use Rattle.dg_start.specs.RecentEvents.{Source, and_start, events_in_source, events_in_sources}
+use Rattle.dg_start.specs.EventSources.{ArePartedBy, WhereTold, bounded, bytes_in_sources, source_of, sources_in}
 use Rattle.dg_start.specs.Refusals.{IsReason}
-use Rattle.dg_start.proofs.ReadingBytes.{takes_both}
-use Rattle.dg_start.proofs.ReadingTimes.{bounded_more, parted_more, tagged}
+use Rattle.dg_start.proofs.EventSourceBytes.{takes_both}
+use Rattle.dg_start.proofs.EventSourceTimes.{bounded_more, parted_more, tagged}
 
 -- ---- sources by their index
 

@@ -12,7 +12,7 @@ use Rattle.dg_graph.specs.Replay.{replay_from}
 use Rattle.dg_history.specs.History.{last_time_from}
 use Rattle.dg_list.specs.NetLaws.{AreMadeByChanges}
 use Rattle.dg_sound.specs.OwnEvents.{are_completions}
-use Rattle.dg_verify.specs.Testing.{followed}
+use Rattle.dg_verify.specs.EventTests.{followed}
 
 pub both : (a b : Bool) → (a && b) ≡ true → (a ≡ true) × (b ≡ true)
 both true b h = (refl, h)

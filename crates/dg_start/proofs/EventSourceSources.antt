@@ -18,10 +18,10 @@ use Rattle.dg_index.specs.IndexKeys.{AreKept, among, keys_among}
 use Rattle.dg_index.specs.IndexRecords.{lists_due, deltas_due}
 use Rattle.dg_index.specs.OpenedIndex.{Opening, event_total}
 use Rattle.dg_index.specs.RecentEvents.{RecentPiece, pieces_ahead}
-use Rattle.dg_start.specs.RecentReading.{piece_source}
+use Rattle.dg_start.specs.RecentEvents.{piece_source}
 use Rattle.dg_index.proofs.IndexKeyRecords.{among_append, found}
 use Rattle.dg_start.specs.declared.event_source.EventSource.{EventSource}
-use Rattle.dg_start.specs.Reading.{CanBeRead, source_of}
+use Rattle.dg_start.specs.EventSources.{CanBeRead, source_of}
 
 -- ---- what is held
 

@@ -9,11 +9,11 @@ use Rattle.dg_index.specs.IndexKeys.{AreKept, among}
 use Rattle.dg_index.specs.OpenedIndex.{Opened, Opening}
 use Rattle.dg_index.proofs.IndexKeyRecords.{exists_held, found}
 use Rattle.dg_sound.specs.OwnEvents.{and_own, list_total, listed_events, with_list, with_lists}
-use Rattle.dg_start.specs.Reading.{WhereTold}
+use Rattle.dg_start.specs.EventSources.{WhereTold}
 use Rattle.dg_verify.specs.declared.own_events.OwnEvents.{OwnEvents}
 use Rattle.dg_verify.specs.declared.stop.Stop.{Stop}
-use Rattle.dg_verify.specs.Testing.{IsRead, IsStopBehind, tested, unless}
-use Rattle.dg_verify.proofs.TestingRecords.{none_unfit, stops_on, stops_so, then_behind}
+use Rattle.dg_verify.specs.EventTests.{IsRead, IsStopBehind, tested, unless}
+use Rattle.dg_verify.proofs.EventTestRecords.{none_unfit, stops_on, stops_so, then_behind}
 
 -- a closed list is held
 pub list_held : (o : Opening) (i : ℕ) → 0 < o.params.l → 2 ≤ o.params.k → AreKept o → i < list_total o → is_some (lookup (same_key (key.List i)) o.records) ≡ true
