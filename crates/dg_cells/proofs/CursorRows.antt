@@ -13,8 +13,7 @@ use Rattle.dg_graph.specs.declared.element.Element.TheVariants as kind
 use Rattle.dg_graph.specs.Elements.{before, same, has, IsSet, put, with_one}
 use Rattle.std.proofs.lemmas.Cmp.{tied_itself}
 use Rattle.dg_graph.proofs.Sets.{element_total, Greater_from_before, same_itself, element_exact, has-put, IsSet-put, same_members}
-use Rattle.dg_cells.specs.declared.row.Row.{Row}
-use Rattle.dg_cells.specs.Rows.{cell_at, CellsAreApart}
+use Rattle.dg_cells.specs.Rows.{Row, cell_at, CellsAreApart}
 use Rattle.dg_cells.specs.Order.{cell_element, elements_in, AreCells, IsListed, IsLower}
 use Rattle.dg_cells.specs.Cursors.{put_row, ordered, ordered_elements, index_of_row}
 use Rattle.dg_cells.proofs.Orders.{IsCell, length-elements_in, element_there, rises_at}

@@ -1,4 +1,3 @@
-pub mod Bits
 pub mod RowChanges
 pub mod Exits
 pub mod OrderNumbers

@@ -11,8 +11,7 @@ use Rattle.dg_graph.specs.declared.element.Element.TheVariants as kind
 use Rattle.dg_graph.specs.Elements.{element_cmp, before, same, has, IsSet, put, take_out}
 use Rattle.dg_graph.proofs.Sets.{differs_back, lacks_below, before_from_Greater, same_itself, element_exact, has-put, has-take_out, IsSet-put, IsSet-take_out, take_out-absent}
 use Rattle.dg_set.proofs.Indices.{before_at, put-first, put-past}
-use Rattle.dg_cells.specs.declared.row.Row.{Row}
-use Rattle.dg_cells.specs.Rows.{cell_at, CellsAreApart, Lacks}
+use Rattle.dg_cells.specs.Rows.{Row, cell_at, CellsAreApart, Lacks}
 use Rattle.dg_cells.specs.Order.{cell_element, elements_in, AreCells, IsLower, IsListed, Puts}
 use Rattle.dg_cells.proofs.RowChanges.{cell_past, cell_written, cell_there, apart_by, comes_written}
 use Rattle.dg_cells.proofs.Orders.{IsCell, length-elements_in, element_there}

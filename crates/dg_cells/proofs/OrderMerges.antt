@@ -11,8 +11,7 @@ use Rattle.dg_graph.specs.Sets.{unioned}
 use Rattle.dg_graph.proofs.Sets.{before_trans, element_exact, differs_back, put-there, has-unioned, IsSet-unioned}
 use Rattle.dg_set.proofs.Indices.{put-first}
 use Rattle.dg_set.proofs.SetMerges.{unioned_less, IsBelowFirst-unioned, IsSet-drop, rest_is_set}
-use Rattle.dg_cells.specs.declared.row.Row.{Row}
-use Rattle.dg_cells.specs.Rows.{cell_at, CellsAreApart, CellsGrow, AreAmong, IsBare}
+use Rattle.dg_cells.specs.Rows.{Row, cell_at, CellsAreApart, CellsGrow, AreAmong, IsBare}
 use Rattle.dg_cells.specs.Order.{cell_element, elements_in, AreCells, IsOrder, IsLower, IsListed, Puts, is_noted, AreNoted}
 use Rattle.dg_cells.proofs.Orders.{IsCell, length-elements_in, element_there, rises_at}
 use Rattle.dg_cells.proofs.OrderEdits.{KeepsElements, element_is, elements_as, cells_as, elements_append, elements_drop, elements_take, has_at, lacks_lower, after_from}

@@ -11,8 +11,7 @@ use Rattle.dg_graph.specs.declared.element.Element.{Element}
 use Rattle.dg_graph.specs.declared.element.Element.TheVariants as kind
 use Rattle.dg_graph.specs.Elements.{before, has, IsSet}
 use Rattle.dg_graph.proofs.Sets.{element_total}
-use Rattle.dg_cells.specs.declared.row.Row.{Row}
-use Rattle.dg_cells.specs.Rows.{cell_at, new_row, new_rows}
+use Rattle.dg_cells.specs.Rows.{Row, cell_at, new_row, new_rows}
 use Rattle.dg_cells.specs.Order.{cell_element, elements_in, AreCells, IsListed}
 use Rattle.dg_cells.proofs.RowChanges.{cell_there}
 use Rattle.dg_cells.proofs.OrderEdits.{has_at}

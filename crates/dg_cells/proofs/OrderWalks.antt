@@ -6,8 +6,7 @@ use Rattle.std.proofs.lemmas.List.{get_or_default}
 use Rattle.dg_graph.specs.declared.element.Element.{Element}
 use Rattle.dg_graph.specs.Elements.{before, IsSet}
 use Rattle.dg_graph.specs.Sets.{unioned}
-use Rattle.dg_cells.specs.declared.row.Row.{Row}
-use Rattle.dg_cells.specs.Rows.{cell_at, CellsAreApart, CellsGrow, AreAmong, IsBare}
+use Rattle.dg_cells.specs.Rows.{Row, cell_at, CellsAreApart, CellsGrow, AreAmong, IsBare}
 use Rattle.dg_cells.specs.Order.{cell_element, elements_in, AreCells, AreNoted, IsListed, IsLower, Puts, is_noted, is_index_before}
 use Rattle.dg_cells.proofs.Orders.{length-elements_in, element_there, before_there, rises_at}
 use Rattle.dg_cells.proofs.RowGrowth.{grows_then, among_more, among_wider}

@@ -9,8 +9,7 @@ use Rattle.dg_graph.specs.declared.element.Element.{Element}
 use Rattle.dg_graph.specs.Elements.{before, IsSet}
 use Rattle.dg_graph.proofs.Sets.{before_trans}
 use Rattle.dg_set.proofs.Indices.{before_at}
-use Rattle.dg_cells.specs.declared.row.Row.{Row}
-use Rattle.dg_cells.specs.Rows.{cell_at}
+use Rattle.dg_cells.specs.Rows.{Row, cell_at}
 use Rattle.dg_cells.specs.Pieces.{strung, nth_piece, numbers_before, IsPiece, IsPosition}
 use Rattle.dg_cells.specs.Order.{cell_element, elements_in, AreCells, IsOrder, IsLower, is_cell_before, is_index_before, is_piece_before}
 use Rattle.dg_cells.proofs.PieceEdits.{number_there}

@@ -2,8 +2,7 @@
 use Rattle.std.proofs.Common.{arith, is_some, IfNone, IsSome, ◌≡◌, ℕ, suc, zero, ◌<◌, true, false, List, [], ◌∷◌, Option, Some, None, length, get_or, set, refl, sym, ap, ◌∙◌, ◌⊎◌, inl, inr}
 use Rattle.std.proofs.lemmas.Bool.{cases_eq}
 use Rattle.std.proofs.lemmas.List.{get_or-set_other, get_or-set_same}
-use Rattle.dg_cells.specs.declared.row.Row.{Row}
-use Rattle.dg_cells.specs.Rows.{cell_at, CellsAreApart}
+use Rattle.dg_cells.specs.Rows.{Row, cell_at, CellsAreApart}
 use Rattle.dg_graph.specs.Elements.{same}
 
 -- the cells that are read after a write

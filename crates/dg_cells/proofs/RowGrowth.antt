@@ -1,12 +1,11 @@
 -- Cells that grow more than once.
-use Rattle.std.proofs.Common.{◌≡◌, ℕ, suc, zero, ◌+◌, ◌<◌, Bool, true, false, ◌||◌, List, [], ◌∷◌, ◌++◌, Option, Some, None, length, get_or, take, refl, sym, ap, ◌∙◌, subst}
-use Rattle.std.proofs.lemmas.Bool.{or_left, or_right}
+use Rattle.std.proofs.Common.{arith, IsSome, ◌≡◌, ℕ, suc, zero, ◌+◌, ◌<◌, ◌⊎◌, inl, inr, Bool, true, false, ◌||◌, List, [], ◌∷◌, ◌++◌, Option, Some, None, length, get_or, take, refl, sym, ap, ◌∙◌, subst}
+use Rattle.std.proofs.lemmas.Bool.{cases_eq, or_left, or_right}
 use Rattle.std.proofs.lemmas.List.{take_more}
 use Rattle.dg_graph.specs.declared.element.Element.{Element}
 use Rattle.dg_graph.specs.Elements.{same, has}
 use Rattle.dg_graph.proofs.Sets.{same_itself}
-use Rattle.dg_cells.specs.declared.row.Row.{Row}
-use Rattle.dg_cells.specs.Rows.{cell_at, CellsGrow, IsBare, AreAmong}
+use Rattle.dg_cells.specs.Rows.{Row, cell_at, CellsGrow, Reuses, IsBare, AreAmong}
 
 pub grows_then : (a b c : List (Option Row)) → CellsGrow a b → CellsGrow b c → CellsGrow a c
 grows_then a b c first second = record {
@@ -20,6 +19,33 @@ grows_then a b c first second = record {
         let both : Some q ≡ Some r = sym (second.kept n q g) ∙ f in
         let is : q ≡ r = cc in
         subst IsBare is (first.bare n q e g)
+
+-- ---- vacant cells are used first
+
+pub reuses_itself : (rows : List (Option Row)) → Reuses rows rows
+reuses_itself rows = record { longer = omega arith; full = λ more n low. absurd (omega (arith, more)) }
+
+pub reuses_as : (a b c : List (Option Row)) → c ≡ b → Reuses a b → Reuses a c
+reuses_as a b c e reuses = subst (λ (l : List (Option Row)). Reuses a l) (sym e) reuses
+
+pub reuses_then : (a b c : List (Option Row)) → CellsGrow b c → Reuses a b → Reuses b c → Reuses a c
+reuses_then a b c grows first second = record {
+  longer = omega (arith, first.longer, second.longer);
+  full = λ more n low. by (cases_eq (length b) (length c)) more n low;
+}
+  where
+    kept : (n : ℕ) → IsSome (cell_at b n) → (o : Option Row) → cell_at b n ≡ o → IsSome (cell_at c n)
+    kept n there None e = let no : IsSome {T = Row} None = subst IsSome e there in cc
+    kept n there (Some r) e = subst IsSome (sym (grows.kept n r e)) refl
+
+    by : (length b ≡ length c) ⊎ (length b ≡ length c → ⊥) → length a < length c → (n : ℕ) → n < length c → IsSome (cell_at c n)
+    by (inl e) more n low = kept n (first.full (omega (arith, e, more)) n (omega (arith, e, low))) (cell_at b n) refl
+    by (inr d) more n low = second.full (by_length d) n low
+      where
+        by_length : (length b ≡ length c → ⊥) → length b < length c
+        by_length d = let on = second.longer in omega (arith, on, d)
+
+-- ---- the elements of the new cells
 
 has_push : (xs : List Element) (y q : Element) → has (xs ++ y ∷ []) q ≡ (has xs q || same q y)
 has_push [] y q = at (same q y)

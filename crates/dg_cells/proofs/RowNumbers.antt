@@ -5,8 +5,7 @@ use Rattle.std.proofs.lemmas.List.{get_or_append_left, get_or_push, get_or_defau
 use Rattle.dg_graph.specs.declared.element.Element.{Element}
 use Rattle.dg_graph.specs.Elements.{same, has}
 use Rattle.dg_graph.proofs.Sets.{element_exact}
-use Rattle.dg_cells.specs.declared.row.Row.{Row}
-use Rattle.dg_cells.specs.Rows.{cell_at, Holds, HasCell, AllHave, CellsGrow, AreNumbers}
+use Rattle.dg_cells.specs.Rows.{Row, cell_at, Holds, HasCell, AllHave, CellsGrow, AreNumbers}
 use Rattle.dg_cells.specs.Order.{cell_element}
 use Rattle.dg_cells.proofs.OrderEdits.{element_is}
 

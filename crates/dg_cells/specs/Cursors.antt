@@ -2,8 +2,7 @@
 use Rattle.std.specs.Prelude.{ℕ, List, [], ◌∷◌, Option, Some, None, length, map, count_by, if◌then◌else◌}
 use Rattle.dg_graph.specs.declared.element.Element.{Element}
 use Rattle.dg_graph.specs.Elements.{before}
-use Rattle.dg_cells.specs.declared.row.Row.{Row}
-use Rattle.dg_cells.specs.Rows.{cell_at}
+use Rattle.dg_cells.specs.Rows.{Row, cell_at}
 use Rattle.dg_cells.specs.declared.cursors.Cursor.{Cursor}
 
 -- the rows with one more, before the first whose element it is before

@@ -3,8 +3,8 @@ use Rattle.std.specs.Prelude.{◌≡◌, ℕ, ◌-◌, ◌≤◌, ◌<◌, ◌==
 use Rattle.std.specs.List.{cons_option, All, list_any}
 use Rattle.dg_graph.specs.declared.element.Element.{Element}
 use Rattle.dg_graph.specs.Elements.{before, has, IsSet}
-use Rattle.dg_cells.specs.declared.row.Row.{Row}
-use Rattle.dg_cells.specs.Rows.{cell_at, CellsAreApart}
+use Rattle.dg_arena.specs.Cells as arena
+use Rattle.dg_cells.specs.Rows.{Row, cell_at, CellsAreApart}
 use Rattle.dg_cells.specs.Pieces.{nth_piece}
 
 -- the element of a cell, if it is occupied
@@ -52,10 +52,8 @@ abbrev pub is_piece_before : List (Option Row) → List (List ℕ) → Element �
 is_piece_before rows pieces x n = is_index_before rows (nth_piece pieces n) x (length (nth_piece pieces n) - 1)
 
 -- a vacant cell, or a new one, gets this row, and all others stay
-pub record Puts (old new : List (Option Row)) (n : ℕ) (r : Row) : Type 0 where
-  pub vacant : cell_at old n ≡ None
-  pub put : cell_at new n ≡ Some r
-  pub others : (m : ℕ) → (m ≡ n → ⊥) → cell_at new m ≡ cell_at old m
+abbrev pub Puts : List (Option Row) → List (Option Row) → ℕ → Row → Type 0
+Puts = arena.Puts
 
 -- the number is among these
 abbrev pub is_noted : List ℕ → ℕ → Bool

@@ -1,13 +1,17 @@
 -- Cells, and the bits of a cell.
-use Rattle.std.specs.Prelude.{◌≡◌, ℕ, ◌+◌, ◌*◌, ◌/◌, ◌%◌, ◌≤◌, ◌<◌, ◌==◌, Bool, true, false, ◌&&◌, not, cond, if◌then◌else◌, List, [], ◌∷◌, map, Option, Some, None, length, slice_index_or, slice_set}
-use Rattle.std.specs.Int.{bit_at}
+use Rattle.std.specs.Prelude.{◌≡◌, ℕ, ◌+◌, ◌*◌, ◌≤◌, ◌<◌, ◌==◌, Bool, true, false, cond, if◌then◌else◌, List, [], ◌∷◌, map, Option, Some, None, length, slice_index_or, slice_set}
 use Rattle.dg_graph.specs.declared.element.Element.{Element}
 use Rattle.dg_graph.specs.Elements.{same, has, bit}
-use Rattle.dg_cells.specs.declared.row.Row.{Row}
+use Rattle.dg_arena.specs.declared.row.Row as declared
+use Rattle.dg_arena.specs.Cells as arena
+
+-- an element and its bits
+abbrev pub Row : Type 0
+Row = declared.Row Element
 
 -- the cell has the bit
 abbrev pub has_bit : Row → ℕ → Bool
-has_bit r b = bit_at (slice_index_or r.bits (b / 64) 0) (b % 64) == 1
+has_bit = arena.has_bit
 
 -- bit 0 says that the current graph has the element
 abbrev pub is_current : Row → Bool
@@ -31,16 +35,15 @@ pub record SetsPair (s : ℕ) (p : Bool × Bool) (old new : Row) : Type 0 where
 
 -- the bit is set in the words
 abbrev pub word_bit : List ℕ → ℕ → Bool
-word_bit words b = bit_at (slice_index_or words (b / 64) 0) (b % 64) == 1
+word_bit = arena.word_bit
 
 -- the bits of the mask are off, and all others as they were
-pub record ClearsBits (mask : List ℕ) (old new : Row) : Type 0 where
-  pub element : new.element ≡ old.element
-  pub bits : (b : ℕ) → has_bit new b ≡ (has_bit old b && not (word_bit mask b))
+abbrev pub ClearsBits : List ℕ → Row → Row → Type 0
+ClearsBits = arena.ClearsBits
 
 -- what stands in a cell
 abbrev pub cell_at : List (Option Row) → ℕ → Option Row
-cell_at rows n = slice_index_or rows n None
+cell_at = arena.cell_at
 
 -- one cell is written so, and all others stay
 pub record Writes (old new : List (Option Row)) (n : ℕ) (How : Row → Row → Type 0) : Type 0 where
@@ -76,6 +79,10 @@ IsBare r = (b : ℕ) → has_bit r b ≡ false
 pub record CellsGrow (old new : List (Option Row)) : Type 0 where
   pub kept : (n : ℕ) (r : Row) → cell_at old n ≡ Some r → cell_at new n ≡ Some r
   pub bare : (n : ℕ) (r : Row) → cell_at old n ≡ None → cell_at new n ≡ Some r → IsBare r
+
+-- vacant cells are used before the list gets longer
+abbrev pub Reuses : List (Option Row) → List (Option Row) → Type 0
+Reuses = arena.Reuses
 
 -- a cell of one of these elements has this pair for the slot, and all else is as it was
 pub record MarksRow (s : ℕ) (p : Bool × Bool) (items : List Element) (old new : Row) : Type 0 where

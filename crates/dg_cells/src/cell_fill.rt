@@ -7,17 +7,19 @@ ghost use Rattle.dg_cells.specs.Pieces.{strung};
 ghost use Rattle.dg_cells.specs.Order.{IsListed};
 
 use crate::pieces::Pieces;
-use crate::row::{Row, new_row};
+use crate::row::new_row;
+use dg_arena::Rows;
 use dg_graph::Element;
 use std::alloc::{AllocError, Global};
 
 // A cell for each of the elements, in their order.
-fn new_rows(alloc: Global, items: &[Element], current: bool) -> Result<Vec<Option<Row>>, AllocError>
+fn new_rows(alloc: Global, items: &[Element], current: bool) -> Result<Rows<Element>, AllocError>
     ensures { IfOk result (λ rows. rows.items ≡ new_rows current items.now) }
 {
-    let mut rows = Vec::with_capacity(alloc, items.len())?;
+    let mut rows = Rows::new(alloc);
+    rows.reserve(items.len())?;
     for x in items {
-        rows.push(Some(new_row(*x, current)))?;
+        rows.insert(new_row(*x, current));
     }
     Ok(rows)
 }
@@ -40,7 +42,7 @@ pub(crate) fn fill(
     alloc: Global,
     items: &[Element],
     current: bool,
-) -> Result<(Vec<Option<Row>>, Pieces), AllocError>
+) -> Result<(Rows<Element>, Pieces), AllocError>
     requires { IsSet items.now }
     ensures rows { IfOk result (λ both. both.0.items ≡ new_rows current items.now) }
     ensures listed { IfOk result (λ both. IsListed both.0.items (strung both.1)) }

@@ -1,8 +1,7 @@
 //! The cells of the pool.
 ghost use Rattle.std.specs.Prelude.{◌≡◌, ℕ, ◌<◌, ◌≤◌, ◌==◌, Bool, true, false, List, Option, Some, None, [], ◌∷◌, ◌++◌, length, IfSome, IfNone, IsSome, IfOk, OnErr, OnOk, slice_set};
-ghost use Rattle.dg_cells.specs.declared.row.Row.{Row};
-ghost use Rattle.dg_cells.specs.Rows.{cell_at, is_current, pair, Writes, SetsCurrent, SetsPair, ClearsBits, Holds, Lacks, CellsAreApart, CellsGrow, HasCell, AllHave, AreNumbers, AreAmong, new_rows};
-ghost use Rattle.std.specs.Prelude.{◌+◌, min, slice_get};
+ghost use Rattle.dg_cells.specs.Rows.{Row, cell_at, is_current, pair, Writes, SetsCurrent, SetsPair, ClearsBits, Holds, Lacks, CellsAreApart, CellsGrow, Reuses, HasCell, AllHave, AreNumbers, AreAmong, new_rows};
+ghost use Rattle.std.specs.Prelude.{◌+◌, ◌^◌, min, slice_get};
 ghost use Rattle.dg_graph.specs.Elements.{IsSet};
 ghost use Rattle.dg_cells.specs.Order.{IsLower};
 ghost use Rattle.dg_cells.specs.Cursors.{ordered, ordered_elements, cursor_index};
@@ -14,7 +13,8 @@ use crate::cursors::{self, Cursor};
 use crate::listing::{add, add_each, number_at, unlist};
 use crate::pieces::Pieces;
 use crate::positions::{START, row_in, seek};
-use crate::row::{Row, is_current, pair, set_current, set_pair, without_bits};
+use crate::row::{Row, is_current, pair, set_current, set_pair};
+use dg_arena::{Rows, without_bits};
 use dg_graph::Element;
 use std::alloc::{AllocError, Global};
 use std::marker::Model;
@@ -23,14 +23,13 @@ use std::marker::Model;
 /// ones are kept in the order of their elements, and vacated numbers are used again.
 #[derive(Drop)]
 pub struct Cells {
-    rows: Vec<Option<Row>>,
+    rows: Rows<Element>,
     order: Pieces,
-    free: Vec<u32>,
 }
 
 impl Model for Cells {
     ghost use Rattle.std.specs.Prelude.{List, Option};
-    ghost use Rattle.dg_cells.specs.declared.row.Row.{Row};
+    ghost use Rattle.dg_cells.specs.Rows.{Row};
 
     ghost Value = { List (Option Row) };
 
@@ -51,9 +50,8 @@ impl Cells {
         ensures { result ≡ [] }
     {
         Cells {
-            rows: Vec::new(alloc),
+            rows: Rows::new(alloc),
             order: Pieces::new(alloc),
-            free: Vec::new(alloc),
         }
     }
 
@@ -64,11 +62,7 @@ impl Cells {
         ensures { IfOk result (λ cells. cells ≡ new_rows current items.now) }
     {
         let (rows, order) = fill(alloc, items, current)?;
-        Ok(Cells {
-            rows,
-            order,
-            free: Vec::new(alloc),
-        })
+        Ok(Cells { rows, order })
     }
 
     /// No element has two cells. Does nothing.
@@ -101,11 +95,7 @@ impl Cells {
     pub fn row(&self, n: usize) -> Option<Row>
         ensures { result ≡ cell_at self.now n }
     {
-        if n < self.rows.len() {
-            self.rows[n]
-        } else {
-            None
-        }
+        self.rows.get(n).copied()
     }
 
     /// What stands in the cell, as `row` gives it, with no copy.
@@ -121,9 +111,9 @@ impl Cells {
         requires { IsSome (cell_at self.old n) }
         ensures { Writes self.old self.new n (SetsCurrent on) }
     {
-        if let Some(row) = &mut self.rows[n] {
-            set_current(row, on);
-        }
+        let mut row = self.rows.row(n);
+        set_current(&mut row, on);
+        self.rows.write(n, row);
     }
 
     /// Writes the two bits of a slot in an occupied cell.
@@ -133,9 +123,9 @@ impl Cells {
         requires high { slot ≤ 127 }
         ensures { Writes self.old self.new n (SetsPair slot (explicit, own)) }
     {
-        if let Some(row) = &mut self.rows[n] {
-            set_pair(row, slot, explicit, own);
-        }
+        let mut row = self.rows.row(n);
+        set_pair(&mut row, slot, explicit, own);
+        self.rows.write(n, row);
     }
 
     /// The 256 bits of an occupied cell, from the lowest on.
@@ -143,10 +133,7 @@ impl Cells {
         requires { IsSome (cell_at self.now n) }
         ensures { IfSome (cell_at self.now n) (λ r. result ≡ r.bits) }
     {
-        match self.rows[n] {
-            Some(row) => row.bits,
-            None => unreachable!(),
-        }
+        self.rows.bits(n)
     }
 
     /// Puts off the bits of an occupied cell that are set in the mask.
@@ -154,21 +141,18 @@ impl Cells {
         requires { IsSome (cell_at self.old n) }
         ensures { Writes self.old self.new n (ClearsBits mask) }
     {
-        if let Some(row) = self.rows[n] {
-            self.rows[n] = Some(without_bits(row, mask));
-        }
+        let row = self.rows.row(n);
+        self.rows.write(n, without_bits(row, mask));
     }
 
-    /// Vacates the cell. Its number is used again.
+    /// Vacates the cell. Its number is used again. Takes no memory.
     pub fn give(&mut self, n: usize)
         requires { n < length self.old }
         ensures { self.new ≡ slice_set self.old n None }
     {
-        if self.rows[n].is_some() {
-            let number = unlist(&self.rows, &mut self.order, n);
-            self.rows[n] = None;
-            // With no memory to note it, the number is not used again.
-            let _ = self.free.push(number);
+        if self.rows.get(n).is_some() {
+            unlist(&self.rows, &mut self.order, n);
+            self.rows.give(n);
         }
     }
 
@@ -178,22 +162,18 @@ impl Cells {
         ensures grows { CellsGrow self.old self.new }
         ensures there { OnOk result (HasCell self.new element) }
         ensures fresh { (n : ℕ) (r : Row) → cell_at self.old n ≡ None → cell_at self.new n ≡ Some r → r.element ≡ element }
+        ensures reuses { Reuses self.old self.new }
         ensures err { OnErr result (self.new ≡ self.old) }
     {
-        add(
-            &mut self.rows,
-            &mut self.order,
-            &mut self.free,
-            START,
-            &element,
-        )?;
+        add(&mut self.rows, &mut self.order, START, &element)?;
         Ok(())
     }
 
-    /// Takes the memory for so many more cells, so that as many come without a copy of those that are there. No
-    /// cell comes. An `Err` says that there is none.
+    /// Takes the memory for so many more cells. No cell comes. An `Err` says that there is none, or that there would
+    /// be more than 2^32 cells.
     pub fn reserve(&mut self, more: usize) -> Result<(), AllocError>
-        ensures { self.new ≡ self.old }
+        ensures same { self.new ≡ self.old }
+        ensures most { OnOk result (more ≤ 2 ^ 32) }
     {
         self.rows.reserve(more)
     }
@@ -207,24 +187,13 @@ impl Cells {
         ensures numbers { IfOk result (λ numbers. AreNumbers self.new items.now numbers.items) }
         ensures there { OnOk result (AllHave self.new items.now) }
         ensures among { AreAmong self.old self.new items.now }
+        ensures reuses { OnOk result (Reuses self.old self.new) }
     {
         let mut numbers = Vec::with_capacity(*self.rows.allocator(), items.len())?;
         if items.len() > self.rows.len() / MANY {
-            merge(
-                &mut self.rows,
-                &mut self.order,
-                &mut self.free,
-                items,
-                &mut numbers,
-            )?;
+            merge(&mut self.rows, &mut self.order, items, &mut numbers)?;
         } else {
-            add_each(
-                &mut self.rows,
-                &mut self.order,
-                &mut self.free,
-                items,
-                &mut numbers,
-            )?;
+            add_each(&mut self.rows, &mut self.order, items, &mut numbers)?;
         }
         Ok(numbers)
     }

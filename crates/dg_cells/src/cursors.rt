@@ -8,6 +8,7 @@ ghost use Rattle.dg_cells.specs.Cursors.{ordered, ordered_elements, cursor_index
 use crate::pieces::Pieces;
 use crate::positions::{Position, START, element, row_in, seek};
 use crate::row::Row;
+use dg_arena::Rows;
 use dg_graph::Element;
 
 /// A position in the order of the occupied cells: at one of them, or past the last.
@@ -20,10 +21,10 @@ pub struct Cursor {
 }
 
 // The cursor at a position.
-fn cursor_at(rows: &[Option<Row>], order: &Pieces, position: Position) -> Cursor
-    requires listed { IsListed rows.now (strung order.now) }
+fn cursor_at(rows: &Rows<Element>, order: &Pieces, position: Position) -> Cursor
+    requires listed { IsListed rows.now.items (strung order.now) }
     requires position { IsPosition order.now position.piece position.index }
-    ensures { cursor_index rows.now result ≡ numbers_before order.now position.piece + position.index }
+    ensures { cursor_index rows.now.items result ≡ numbers_before order.now position.piece + position.index }
 {
     let _ = rows;
     match order.number(position.piece, position.index) {
@@ -74,9 +75,9 @@ fn next_number(order: &Pieces, position: Position, n: usize) -> Option<u32>
 }
 
 // The position of an occupied cell, which is looked for where it was.
-fn locate(rows: &[Option<Row>], order: &Pieces, n: usize, was: Position) -> Position
-    requires listed { IsListed rows.now (strung order.now) }
-    requires there { IsSome (cell_at rows.now n) }
+fn locate(rows: &Rows<Element>, order: &Pieces, n: usize, was: Position) -> Position
+    requires listed { IsListed rows.now.items (strung order.now) }
+    requires there { IsSome (cell_at rows.now.items n) }
     ensures piece { result.piece < length order.now }
     ensures index { result.index < length (nth_piece order.now result.piece) }
     ensures number { slice_index_or (strung order.now) (numbers_before order.now result.piece + result.index) 0 ≡ n }
@@ -111,11 +112,11 @@ fn next(order: &Pieces, position: Position) -> Position
 }
 
 // The cursor behind one that stands at an occupied cell.
-fn behind(rows: &[Option<Row>], order: &Pieces, n: usize, cursor: Cursor) -> Cursor
-    requires listed { IsListed rows.now (strung order.now) }
-    requires there { IsSome (cell_at rows.now n) }
+fn behind(rows: &Rows<Element>, order: &Pieces, n: usize, cursor: Cursor) -> Cursor
+    requires listed { IsListed rows.now.items (strung order.now) }
+    requires there { IsSome (cell_at rows.now.items n) }
     requires number { cursor.cell ≡ Some n }
-    ensures { cursor_index rows.now result ≡ min (cursor_index rows.now cursor + 1) (length (ordered rows.now)) }
+    ensures { cursor_index rows.now.items result ≡ min (cursor_index rows.now.items cursor + 1) (length (ordered rows.now.items)) }
 {
     match next_number(order, cursor.position, n) {
         Some(m) => Cursor {
@@ -133,36 +134,36 @@ fn behind(rows: &[Option<Row>], order: &Pieces, n: usize, cursor: Cursor) -> Cur
     }
 }
 
-fn is_occupied(rows: &[Option<Row>], n: usize) -> bool
-    ensures { result ≡ is_some (cell_at rows.now n) }
+fn is_occupied(rows: &Rows<Element>, n: usize) -> bool
+    ensures { result ≡ is_some (cell_at rows.now.items n) }
 {
-    n < rows.len() && rows[n].is_some()
+    rows.get(n).is_some()
 }
 
 /// The cursor at the first occupied cell.
-pub(crate) fn first(rows: &[Option<Row>], order: &Pieces) -> Cursor
-    requires { IsListed rows.now (strung order.now) }
-    ensures { cursor_index rows.now result ≡ 0 }
+pub(crate) fn first(rows: &Rows<Element>, order: &Pieces) -> Cursor
+    requires { IsListed rows.now.items (strung order.now) }
+    ensures { cursor_index rows.now.items result ≡ 0 }
 {
     order.facts();
     cursor_at(rows, order, START)
 }
 
 /// The cursor at the first cell whose element is not before this one.
-pub(crate) fn seek_from(rows: &[Option<Row>], order: &Pieces, near: Cursor, x: &Element) -> Cursor
-    requires { IsListed rows.now (strung order.now) }
-    ensures { IsLower x.now (ordered_elements rows.now) (cursor_index rows.now result) }
+pub(crate) fn seek_from(rows: &Rows<Element>, order: &Pieces, near: Cursor, x: &Element) -> Cursor
+    requires { IsListed rows.now.items (strung order.now) }
+    ensures { IsLower x.now (ordered_elements rows.now.items) (cursor_index rows.now.items result) }
 {
     cursor_at(rows, order, seek(rows, order, near.position, x))
 }
 
 /// The number of the cell at which the cursor stands.
-pub(crate) fn at(rows: &[Option<Row>], order: &Pieces, cursor: Cursor) -> Option<usize>
-    requires { IsListed rows.now (strung order.now) }
-    ensures found { IfSome result (λ n. slice_get (ordered rows.now) (cursor_index rows.now cursor) ≡ cell_at rows.now n) }
-    ensures there { IfSome result (λ n. IsSome (cell_at rows.now n)) }
+pub(crate) fn at(rows: &Rows<Element>, order: &Pieces, cursor: Cursor) -> Option<usize>
+    requires { IsListed rows.now.items (strung order.now) }
+    ensures found { IfSome result (λ n. slice_get (ordered rows.now.items) (cursor_index rows.now.items cursor) ≡ cell_at rows.now.items n) }
+    ensures there { IfSome result (λ n. IsSome (cell_at rows.now.items n)) }
     ensures number { IfSome result (λ n. cursor.cell ≡ Some n) }
-    ensures end { IfNone result (cursor_index rows.now cursor ≡ length (ordered rows.now)) }
+    ensures end { IfNone result (cursor_index rows.now.items cursor ≡ length (ordered rows.now.items)) }
 {
     let _ = order;
     match cursor.cell {
@@ -172,9 +173,9 @@ pub(crate) fn at(rows: &[Option<Row>], order: &Pieces, cursor: Cursor) -> Option
 }
 
 /// The cursor at the next occupied cell.
-pub(crate) fn after(rows: &[Option<Row>], order: &Pieces, cursor: Cursor) -> Cursor
-    requires { IsListed rows.now (strung order.now) }
-    ensures { cursor_index rows.now result ≡ min (cursor_index rows.now cursor + 1) (length (ordered rows.now)) }
+pub(crate) fn after(rows: &Rows<Element>, order: &Pieces, cursor: Cursor) -> Cursor
+    requires { IsListed rows.now.items (strung order.now) }
+    ensures { cursor_index rows.now.items result ≡ min (cursor_index rows.now.items cursor + 1) (length (ordered rows.now.items)) }
 {
     match at(rows, order, cursor) {
         Some(n) => behind(rows, order, n, cursor),
@@ -187,14 +188,14 @@ pub(crate) fn after(rows: &[Option<Row>], order: &Pieces, cursor: Cursor) -> Cur
 
 /// What stands in the cell at which the cursor stands, and the cursor at the next occupied cell.
 pub(crate) fn step<'a>(
-    rows: &'a [Option<Row>],
+    rows: &'a Rows<Element>,
     order: &Pieces,
     cursor: Cursor,
 ) -> Option<(&'a Row, Cursor)>
-    requires { IsListed rows.now (strung order.now) }
-    ensures found { IfSome result (λ s. slice_get (ordered rows.now) (cursor_index rows.now cursor) ≡ Some s.0.now) }
-    ensures next { IfSome result (λ s. cursor_index rows.now s.1 ≡ min (cursor_index rows.now cursor + 1) (length (ordered rows.now))) }
-    ensures end { IfNone result (cursor_index rows.now cursor ≡ length (ordered rows.now)) }
+    requires { IsListed rows.now.items (strung order.now) }
+    ensures found { IfSome result (λ s. slice_get (ordered rows.now.items) (cursor_index rows.now.items cursor) ≡ Some s.0.now) }
+    ensures next { IfSome result (λ s. cursor_index rows.now.items s.1 ≡ min (cursor_index rows.now.items cursor + 1) (length (ordered rows.now.items))) }
+    ensures end { IfNone result (cursor_index rows.now.items cursor ≡ length (ordered rows.now.items)) }
 {
     match cursor.cell {
         Some(n) => match row_in(rows, n) {

@@ -7,6 +7,7 @@ ghost use Rattle.dg_cells.specs.Order.{cell_element, elements_in, AreCells, IsOr
 
 use crate::pieces::Pieces;
 use crate::row::Row;
+use dg_arena::Rows;
 use dg_event::compare;
 use dg_graph::Element;
 use std::cmp::Ordering;
@@ -30,51 +31,43 @@ pub(crate) fn behind(position: Position) -> Position {
 }
 
 /// What stands in the cell.
-pub(crate) fn row_in(rows: &[Option<Row>], n: usize) -> Option<&Row>
-    ensures there { IfSome result (λ r. cell_at rows.now n ≡ Some r.now) }
-    ensures vacant { IfNone result (cell_at rows.now n ≡ None) }
+pub(crate) fn row_in(rows: &Rows<Element>, n: usize) -> Option<&Row>
+    ensures there { IfSome result (λ r. cell_at rows.now.items n ≡ Some r.now) }
+    ensures vacant { IfNone result (cell_at rows.now.items n ≡ None) }
 {
-    if n < rows.len() {
-        rows[n].as_ref()
-    } else {
-        None
-    }
+    rows.get(n)
 }
 
 /// The element of an occupied cell.
-pub(crate) fn element(rows: &[Option<Row>], n: usize) -> Element
-    requires { IsSome (cell_at rows.now n) }
-    ensures { cell_element (cell_at rows.now n) ≡ Some result }
+pub(crate) fn element(rows: &Rows<Element>, n: usize) -> Element
+    requires { IsSome (cell_at rows.now.items n) }
+    ensures { cell_element (cell_at rows.now.items n) ≡ Some result }
 {
-    match rows[n] {
+    match rows.get(n) {
         Some(row) => row.element,
         None => unreachable!(),
     }
 }
 
 // Whether the cell has the element.
-fn has_element(rows: &[Option<Row>], n: usize, x: &Element) -> bool
-    ensures has { result ≡ true → Holds rows.now x.now n }
-    ensures has_not { result ≡ false → cell_element (cell_at rows.now n) ≡ Some x.now → ⊥ }
+fn has_element(rows: &Rows<Element>, n: usize, x: &Element) -> bool
+    ensures has { result ≡ true → Holds rows.now.items x.now n }
+    ensures has_not { result ≡ false → cell_element (cell_at rows.now.items n) ≡ Some x.now → ⊥ }
 {
-    if n < rows.len() {
-        match &rows[n] {
-            Some(row) => compare(x, &row.element).is_eq(),
-            None => false,
-        }
-    } else {
-        false
+    match rows.get(n) {
+        Some(row) => compare(x, &row.element).is_eq(),
+        None => false,
     }
 }
 
 /// The number at this position, if its cell has the element.
 pub(crate) fn stands_at(
-    rows: &[Option<Row>],
+    rows: &Rows<Element>,
     pieces: &Pieces,
     position: Position,
     x: &Element,
 ) -> Option<u32>
-    ensures { IfSome result (Holds rows.now x.now) }
+    ensures { IfSome result (Holds rows.now.items x.now) }
 {
     if position.piece >= pieces.len() {
         return None;
@@ -88,22 +81,22 @@ pub(crate) fn stands_at(
 }
 
 // How the cell's element compares with this one.
-fn compare_at(rows: &[Option<Row>], n: usize, x: &Element) -> Ordering
-    requires { IsSome (cell_at rows.now n) }
-    ensures less { is_lt result ≡ is_cell_before x.now (cell_at rows.now n) }
-    ensures equal { is_eq result ≡ true → cell_element (cell_at rows.now n) ≡ Some x.now }
-    ensures differs { is_eq result ≡ false → cell_element (cell_at rows.now n) ≡ Some x.now → ⊥ }
+fn compare_at(rows: &Rows<Element>, n: usize, x: &Element) -> Ordering
+    requires { IsSome (cell_at rows.now.items n) }
+    ensures less { is_lt result ≡ is_cell_before x.now (cell_at rows.now.items n) }
+    ensures equal { is_eq result ≡ true → cell_element (cell_at rows.now.items n) ≡ Some x.now }
+    ensures differs { is_eq result ≡ false → cell_element (cell_at rows.now.items n) ≡ Some x.now → ⊥ }
 {
-    match &rows[n] {
+    match rows.get(n) {
         Some(row) => compare(&row.element, x),
         None => unreachable!(),
     }
 }
 
 // Whether the cell's element is before this one.
-fn is_before(rows: &[Option<Row>], n: usize, x: &Element) -> bool
-    requires { IsSome (cell_at rows.now n) }
-    ensures { result ≡ is_cell_before x.now (cell_at rows.now n) }
+fn is_before(rows: &Rows<Element>, n: usize, x: &Element) -> bool
+    requires { IsSome (cell_at rows.now.items n) }
+    ensures { result ≡ is_cell_before x.now (cell_at rows.now.items n) }
 {
     compare_at(rows, n, x).is_lt()
 }
@@ -130,10 +123,10 @@ fn next_step(step: usize) -> usize {
 }
 
 // The position from which to look: the given one, if it is not too far on.
-fn start_within(rows: &[Option<Row>], order: &[u32], near: usize, x: &Element) -> usize
-    requires { AreCells rows.now order.now }
+fn start_within(rows: &Rows<Element>, order: &[u32], near: usize, x: &Element) -> usize
+    requires { AreCells rows.now.items order.now }
     ensures within { result ≤ length order.now }
-    ensures low { 0 < result → is_index_before rows.now order.now x.now (result - 1) ≡ true }
+    ensures low { 0 < result → is_index_before rows.now.items order.now x.now (result - 1) ≡ true }
 {
     if 0 < near && near <= order.len() && is_before(rows, order[near - 1] as usize, x) {
         near
@@ -145,21 +138,21 @@ fn start_within(rows: &[Option<Row>], order: &[u32], near: usize, x: &Element) -
 /// Where the element stands or belongs among cells of which those up to `from` are before it, and whether
 /// it stands there.
 pub(crate) fn seek_on(
-    rows: &[Option<Row>],
+    rows: &Rows<Element>,
     order: &[u32],
     from: usize,
     x: &Element,
 ) -> (usize, bool)
-    requires cells { AreCells rows.now order.now }
+    requires cells { AreCells rows.now.items order.now }
     requires within { from ≤ length order.now }
-    requires low { 0 < from → is_index_before rows.now order.now x.now (from - 1) ≡ true }
+    requires low { 0 < from → is_index_before rows.now.items order.now x.now (from - 1) ≡ true }
     ensures on { from ≤ result.0 }
     ensures within { result.0 ≤ length order.now }
-    ensures low { 0 < result.0 → is_index_before rows.now order.now x.now (result.0 - 1) ≡ true }
-    ensures high { result.0 < length order.now → is_index_before rows.now order.now x.now result.0 ≡ false }
+    ensures low { 0 < result.0 → is_index_before rows.now.items order.now x.now (result.0 - 1) ≡ true }
+    ensures high { result.0 < length order.now → is_index_before rows.now.items order.now x.now result.0 ≡ false }
     ensures inside { result.1 ≡ true → result.0 < length order.now }
-    ensures is { result.1 ≡ true → cell_element (cell_at rows.now (slice_index_or order.now result.0 0)) ≡ Some x.now }
-    ensures is_not { result.1 ≡ false → result.0 < length order.now → cell_element (cell_at rows.now (slice_index_or order.now result.0 0)) ≡ Some x.now → ⊥ }
+    ensures is { result.1 ≡ true → cell_element (cell_at rows.now.items (slice_index_or order.now result.0 0)) ≡ Some x.now }
+    ensures is_not { result.1 ≡ false → result.0 < length order.now → cell_element (cell_at rows.now.items (slice_index_or order.now result.0 0)) ≡ Some x.now → ⊥ }
 {
     let mut low = from;
     let mut high = order.len();
@@ -180,11 +173,11 @@ pub(crate) fn seek_on(
 }
 
 /// Where the element stands or belongs among the cells of a piece.
-pub(crate) fn seek_within(rows: &[Option<Row>], order: &[u32], near: usize, x: &Element) -> usize
-    requires { AreCells rows.now order.now }
+pub(crate) fn seek_within(rows: &Rows<Element>, order: &[u32], near: usize, x: &Element) -> usize
+    requires { AreCells rows.now.items order.now }
     ensures within { result ≤ length order.now }
-    ensures low { 0 < result → is_index_before rows.now order.now x.now (result - 1) ≡ true }
-    ensures high { result < length order.now → is_index_before rows.now order.now x.now result ≡ false }
+    ensures low { 0 < result → is_index_before rows.now.items order.now x.now (result - 1) ≡ true }
+    ensures high { result < length order.now → is_index_before rows.now.items order.now x.now result ≡ false }
 {
     let from = start_within(rows, order, near, x);
     let (index, _there) = seek_on(rows, order, from, x);
@@ -192,20 +185,20 @@ pub(crate) fn seek_within(rows: &[Option<Row>], order: &[u32], near: usize, x: &
 }
 
 // Whether all elements of the piece are before this one.
-fn is_piece_before(rows: &[Option<Row>], pieces: &Pieces, n: usize, x: &Element) -> bool
-    requires cells { AreCells rows.now (strung pieces.now) }
+fn is_piece_before(rows: &Rows<Element>, pieces: &Pieces, n: usize, x: &Element) -> bool
+    requires cells { AreCells rows.now.items (strung pieces.now) }
     requires within { n < length pieces.now }
-    ensures { result ≡ is_piece_before rows.now pieces.now x.now n }
+    ensures { result ≡ is_piece_before rows.now.items pieces.now x.now n }
 {
     let piece = pieces.piece(n);
     is_before(rows, piece[piece.len() - 1] as usize, x)
 }
 
 // The piece from which to look: the given one, if it is not too far on.
-fn start_piece(rows: &[Option<Row>], pieces: &Pieces, near: usize, x: &Element) -> usize
-    requires { AreCells rows.now (strung pieces.now) }
+fn start_piece(rows: &Rows<Element>, pieces: &Pieces, near: usize, x: &Element) -> usize
+    requires { AreCells rows.now.items (strung pieces.now) }
     ensures within { result ≤ length pieces.now }
-    ensures low { 0 < result → is_piece_before rows.now pieces.now x.now (result - 1) ≡ true }
+    ensures low { 0 < result → is_piece_before rows.now.items pieces.now x.now (result - 1) ≡ true }
 {
     if 0 < near && near <= pieces.len() && is_piece_before(rows, pieces, near - 1, x) {
         near
@@ -215,11 +208,11 @@ fn start_piece(rows: &[Option<Row>], pieces: &Pieces, near: usize, x: &Element) 
 }
 
 // The piece where the element stands or belongs; the end where all are before it.
-fn seek_piece(rows: &[Option<Row>], pieces: &Pieces, near: usize, x: &Element) -> usize
-    requires { AreCells rows.now (strung pieces.now) }
+fn seek_piece(rows: &Rows<Element>, pieces: &Pieces, near: usize, x: &Element) -> usize
+    requires { AreCells rows.now.items (strung pieces.now) }
     ensures within { result ≤ length pieces.now }
-    ensures low { 0 < result → is_piece_before rows.now pieces.now x.now (result - 1) ≡ true }
-    ensures high { result < length pieces.now → is_piece_before rows.now pieces.now x.now result ≡ false }
+    ensures low { 0 < result → is_piece_before rows.now.items pieces.now x.now (result - 1) ≡ true }
+    ensures high { result < length pieces.now → is_piece_before rows.now.items pieces.now x.now result ≡ false }
 {
     let mut low = start_piece(rows, pieces, near, x);
     let mut high = pieces.len();
@@ -238,12 +231,12 @@ fn seek_piece(rows: &[Option<Row>], pieces: &Pieces, near: usize, x: &Element) -
 
 // The index in the piece of `near` where the element stands or belongs, if it is behind the first number
 // of the piece and not behind the last.
-fn seek_beside(rows: &[Option<Row>], pieces: &Pieces, near: Position, x: &Element) -> Option<usize>
-    requires { AreCells rows.now (strung pieces.now) }
+fn seek_beside(rows: &Rows<Element>, pieces: &Pieces, near: Position, x: &Element) -> Option<usize>
+    requires { AreCells rows.now.items (strung pieces.now) }
     ensures piece { IsSome result → near.piece < length pieces.now }
     ensures within { IfSome result (λ i. (0 < i) × (i < length (nth_piece pieces.now near.piece))) }
-    ensures low { IfSome result (λ i. is_index_before rows.now (nth_piece pieces.now near.piece) x.now (i - 1) ≡ true) }
-    ensures high { IfSome result (λ i. is_index_before rows.now (nth_piece pieces.now near.piece) x.now i ≡ false) }
+    ensures low { IfSome result (λ i. is_index_before rows.now.items (nth_piece pieces.now near.piece) x.now (i - 1) ≡ true) }
+    ensures high { IfSome result (λ i. is_index_before rows.now.items (nth_piece pieces.now near.piece) x.now i ≡ false) }
 {
     if near.index == 0 || near.piece >= pieces.len() {
         return None;
@@ -267,10 +260,10 @@ fn index_in(near: Position, piece: usize) -> usize {
 
 /// Where the element stands in the order of the cells, or belongs. It takes the fewer steps the less
 /// it is behind `near`.
-pub(crate) fn seek(rows: &[Option<Row>], pieces: &Pieces, near: Position, x: &Element) -> Position
-    requires { IsOrder rows.now (strung pieces.now) }
+pub(crate) fn seek(rows: &Rows<Element>, pieces: &Pieces, near: Position, x: &Element) -> Position
+    requires { IsOrder rows.now.items (strung pieces.now) }
     ensures position { IsPosition pieces.now result.piece result.index }
-    ensures lower { IsLower x.now (elements_in rows.now (strung pieces.now)) (numbers_before pieces.now result.piece + result.index) }
+    ensures lower { IsLower x.now (elements_in rows.now.items (strung pieces.now)) (numbers_before pieces.now result.piece + result.index) }
 {
     pieces.facts();
     if let Some(index) = seek_beside(rows, pieces, near, x) {

@@ -6,8 +6,7 @@ use Rattle.dg_graph.specs.declared.element.Element.{Element}
 use Rattle.dg_graph.specs.Elements.{IsSet, has, with_one}
 use Rattle.dg_graph.specs.Sets.{unioned}
 use Rattle.dg_graph.proofs.Sets.{IsSet-put, IsSet-unioned, has-unioned, same_members}
-use Rattle.dg_cells.specs.declared.row.Row.{Row}
-use Rattle.dg_cells.specs.Rows.{is_current}
+use Rattle.dg_cells.specs.Rows.{Row, is_current}
 use Rattle.dg_handles.specs.Handles.{HandlesState, IsTied, UnionOfHandles, slot_graphs, members_at}
 use Rattle.dg_handles.proofs.HandleTies.{some_nowhere}
 use Rattle.dg_machine.specs.MachineState.{union_of_sets}

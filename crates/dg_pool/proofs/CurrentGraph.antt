@@ -13,13 +13,12 @@ use Rattle.dg_graph.specs.Elements.{IsSet, has, put, take_out, asks, column_of, 
 use Rattle.dg_graph.specs.Sets.{unioned, without_all}
 use Rattle.dg_graph.proofs.Sets.{take_out-put, take_out-absent, put-there, same_itself, same_members, has-put, has-take_out, has-unioned, has-without_all, IsSet-put, IsSet-take_out, IsSet-unioned, IsSet-without_all}
 use Rattle.dg_delta.specs.Deltas.{is_in_after}
-use Rattle.dg_cells.specs.declared.row.Row.{Row}
 use Rattle.dg_pool.specs.declared.slots.Base.{Base}
 use Rattle.dg_pool.specs.declared.slots.Slot.{Slot}
 use Rattle.dg_pool.specs.declared.slots.Base.TheVariants as base
 use Rattle.dg_pool.specs.declared.slots.SlotState.{SlotState}
 use Rattle.dg_pool.specs.declared.slots.SlotState.TheVariants as state
-use Rattle.dg_cells.specs.Rows.{HasCell, cell_at, CellsAreApart, Writes, is_current, pair, SetsPair, SetsCurrent, Lacks}
+use Rattle.dg_cells.specs.Rows.{Row, HasCell, cell_at, CellsAreApart, Writes, is_current, pair, SetsPair, SetsCurrent, Lacks}
 use Rattle.dg_pool.specs.Graphs.{slot_at, pair_at, is_on_now, is_live, is_listed, ListsOnNow, pinned, Pins, Keeps, AreSlots, IsBased, IsBaseFor, slot_says, pair_says, in_base, in_slot, given, picked, graph_as, HaveCells, changed, all_changed}
 use Rattle.dg_cells.proofs.RowChanges.{cell_past, cell_there}
 use Rattle.dg_pool.proofs.GraphSets.{picked_same, picked_more, picked_set, picked_decides, picked_nothing}

@@ -8,8 +8,7 @@ use Rattle.std.proofs.lemmas.Bool.{true≢false, or_left, or_right, or_from}
 use Rattle.dg_graph.specs.declared.element.Element.{Element}
 use Rattle.dg_graph.specs.Elements.{IsSet, has, same, before, element_cmp}
 use Rattle.dg_graph.proofs.Sets.{same_back, differs_back, before_from_Greater, lacks_below}
-use Rattle.dg_cells.specs.declared.row.Row.{Row}
-use Rattle.dg_cells.specs.Rows.{cell_at, Lacks}
+use Rattle.dg_cells.specs.Rows.{Row, cell_at, Lacks}
 use Rattle.dg_cells.specs.Order.{IsLower}
 use Rattle.dg_cells.specs.Cursors.{ordered, ordered_elements}
 

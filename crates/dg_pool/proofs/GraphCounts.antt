@@ -7,7 +7,7 @@ use Rattle.dg_graph.specs.declared.element.Element.{Element}
 use Rattle.dg_graph.specs.declared.element.Element.TheVariants.{Node, Edge, NodeAttr, EdgeAttr}
 use Rattle.dg_graph.specs.Elements.{IsSet, has, put, take_out, with_one, element_cmp}
 use Rattle.dg_graph.proofs.Sets.{put_by}
-use Rattle.dg_cells.specs.declared.row.Row.{Row}
+use Rattle.dg_cells.specs.Rows.{Row}
 use Rattle.dg_query.specs.declared.answers.Counts.{Counts}
 use Rattle.dg_pool.specs.Graphs.{given, picked}
 use Rattle.dg_query.specs.Queries.{is_a_node, is_an_edge, is_a_node_attr, is_an_edge_attr, counts_of}

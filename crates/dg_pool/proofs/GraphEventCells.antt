@@ -4,8 +4,7 @@ use Rattle.std.proofs.lemmas.List.{take_more}
 use Rattle.dg_graph.specs.declared.element.Element.{Element}
 use Rattle.dg_graph.specs.declared.event.Event.{Event}
 use Rattle.dg_graph.specs.Effect.{added_by}
-use Rattle.dg_cells.specs.declared.row.Row.{Row}
-use Rattle.dg_cells.specs.Rows.{CellsGrow, HasCell}
+use Rattle.dg_cells.specs.Rows.{Row, CellsGrow, HasCell}
 use Rattle.dg_pool.specs.Graphs.{HaveCells}
 use Rattle.dg_pool.proofs.SlotMarks.{has_grown}
 

@@ -6,13 +6,12 @@ use Rattle.dg_graph.specs.declared.element.Element.{Element}
 use Rattle.dg_graph.specs.declared.element.Columns.{Columns}
 use Rattle.dg_graph.specs.Elements.{has, same}
 use Rattle.dg_graph.proofs.Sets.{same_members, element_exact}
-use Rattle.dg_cells.specs.declared.row.Row.{Row}
 use Rattle.dg_pool.specs.declared.slots.Base.{Base}
 use Rattle.dg_pool.specs.declared.slots.Slot.{Slot}
 use Rattle.dg_pool.specs.declared.slots.Base.TheVariants as base
 use Rattle.dg_pool.specs.declared.slots.SlotState.{SlotState}
 use Rattle.dg_pool.specs.declared.slots.SlotState.TheVariants as state
-use Rattle.dg_cells.specs.Rows.{cell_at, CellsAreApart, Lacks}
+use Rattle.dg_cells.specs.Rows.{Row, cell_at, CellsAreApart, Lacks}
 use Rattle.dg_pool.specs.Graphs.{slot_at, pair_at, is_live, AreSlots, IsBased, IsBaseFor, IsClean, IsPool, SameGraphs, graph_as, picked}
 use Rattle.dg_pool.specs.Sweeps.{is_swept, is_needed, CellsSwept, remains, element_of, begun, ended, started, union_of, cells_of, remains_in, PassesCells}
 use Rattle.dg_pool.specs.Slots.{rests_on, NoneOn, is_free}

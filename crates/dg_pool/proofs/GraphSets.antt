@@ -4,8 +4,7 @@ use Rattle.std.proofs.lemmas.Bool.{or_left, or_right, or_from}
 use Rattle.dg_graph.specs.declared.element.Element.{Element}
 use Rattle.dg_graph.specs.Elements.{IsSet, has, put, with_one, same}
 use Rattle.dg_graph.proofs.Sets.{IsSet-put, has-put, or_swap, same_members, same_itself, element_exact}
-use Rattle.dg_cells.specs.declared.row.Row.{Row}
-use Rattle.dg_cells.specs.Rows.{cell_at, Lacks, CellsAreApart}
+use Rattle.dg_cells.specs.Rows.{Row, cell_at, Lacks, CellsAreApart}
 use Rattle.dg_pool.specs.Graphs.{given, picked}
 
 pub IsSet-with_one : (s : List Element) (o : Option Element) → IsSet s → IsSet (with_one s o)

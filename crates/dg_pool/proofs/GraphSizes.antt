@@ -8,8 +8,7 @@ use Rattle.std.proofs.lemmas.List.Sums.{sum_by-cons}
 use Rattle.dg_graph.specs.declared.element.Element.{Element}
 use Rattle.dg_graph.specs.Elements.{has, put, with_one, same, element_cmp}
 use Rattle.dg_graph.proofs.Sets.{put_by, element_exact, same_members}
-use Rattle.dg_cells.specs.declared.row.Row.{Row}
-use Rattle.dg_cells.specs.Rows.{cell_at, CellsAreApart, Lacks}
+use Rattle.dg_cells.specs.Rows.{Row, cell_at, CellsAreApart, Lacks}
 use Rattle.dg_pool.specs.Graphs.{picked, PoolState, AreSlots}
 use Rattle.dg_pool.specs.Sweeps.{passes_test, is_needed, union_of}
 use Rattle.dg_pool.proofs.SweepUnions.{union_decides, union_lacks, IsSet-union_of}

@@ -6,8 +6,7 @@ use Rattle.std.proofs.lemmas.List.{get_or-set_same, length-set}
 use Rattle.dg_graph.specs.declared.element.Element.{Element}
 use Rattle.dg_graph.specs.Elements.{IsSet, bit, with_one}
 use Rattle.dg_set.proofs.Indices.{put-first}
-use Rattle.dg_cells.specs.declared.row.Row.{Row}
-use Rattle.dg_cells.specs.Rows.{cell_at, has_bit, is_current, CellsAreApart, new_row, new_rows}
+use Rattle.dg_cells.specs.Rows.{Row, cell_at, has_bit, is_current, CellsAreApart, new_row, new_rows}
 use Rattle.dg_query.specs.declared.answers.Counts.{Counts}
 use Rattle.dg_query.specs.Queries.{counts_of}
 use Rattle.dg_pool.specs.declared.slots.SlotState.{SlotState}

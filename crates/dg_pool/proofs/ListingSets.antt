@@ -9,9 +9,8 @@ use Rattle.std.proofs.lemmas.List.Sums.{sum_by-cons}
 use Rattle.dg_graph.specs.declared.element.Element.{Element}
 use Rattle.dg_graph.specs.Elements.{IsSet, IsBelowFirst, has, same, before, with_one}
 use Rattle.dg_graph.proofs.Sets.{same_members, same_itself, element_exact, before_trans, IsBelowFirst-trans}
-use Rattle.dg_cells.specs.declared.row.Row.{Row}
 use Rattle.dg_cells.specs.declared.cursors.Cursor.{Cursor}
-use Rattle.dg_cells.specs.Rows.{cell_at, CellsAreApart, Lacks}
+use Rattle.dg_cells.specs.Rows.{Row, cell_at, CellsAreApart, Lacks}
 use Rattle.dg_cells.specs.Order.{IsLower}
 use Rattle.dg_cells.specs.Cursors.{ordered, ordered_elements, cursor_index, index_of_row, row_at}
 use Rattle.dg_pool.specs.declared.slots.SlotState.{SlotState}

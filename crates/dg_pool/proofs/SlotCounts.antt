@@ -7,8 +7,7 @@ use Rattle.dg_graph.specs.declared.element.Columns.{Columns}
 use Rattle.dg_graph.specs.Elements.{IsSet, has, asks, column_of, shown}
 use Rattle.dg_graph.specs.Composition.{Delta, IsDelta, applied}
 use Rattle.dg_delta.specs.Deltas.{is_in_after}
-use Rattle.dg_cells.specs.declared.row.Row.{Row}
-use Rattle.dg_cells.specs.Rows.{cell_at, CellsAreApart, Lacks, is_current}
+use Rattle.dg_cells.specs.Rows.{Row, cell_at, CellsAreApart, Lacks, is_current}
 use Rattle.dg_query.specs.declared.answers.Counts.{Counts}
 use Rattle.dg_pool.specs.declared.slots.Base.{Base}
 use Rattle.dg_pool.specs.declared.slots.Base.TheVariants as base

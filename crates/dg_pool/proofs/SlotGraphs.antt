@@ -9,12 +9,11 @@ use Rattle.dg_graph.specs.Composition.{Delta, In, Out, As_it_was, says, applied}
 use Rattle.dg_graph.proofs.Sets.{same_members, has-filter, IsSet-filter, same_itself}
 use Rattle.dg_delta.specs.Deltas.{is_in_after}
 use Rattle.dg_delta.proofs.Deltas.{decides_each_element, IsSet-applied}
-use Rattle.dg_cells.specs.declared.row.Row.{Row}
 use Rattle.dg_pool.specs.declared.slots.Base.{Base}
 use Rattle.dg_pool.specs.declared.slots.Base.TheVariants as base
 use Rattle.dg_pool.specs.declared.slots.SlotState.{SlotState}
 use Rattle.dg_pool.specs.declared.slots.SlotState.TheVariants as state
-use Rattle.dg_cells.specs.Rows.{cell_at, is_current, pair, CellsAreApart, Lacks, CellsGrow, IsBare, MarksCell, MarksRow, AllHave}
+use Rattle.dg_cells.specs.Rows.{Row, cell_at, is_current, pair, CellsAreApart, Lacks, CellsGrow, IsBare, MarksCell, MarksRow, AllHave}
 use Rattle.dg_pool.specs.Graphs.{slot_at, pair_at, is_live, AreSlots, IsBased, IsBaseFor, IsClean, IsPool, PoolState, slot_says, pair_says, in_base, in_slot, given, picked, graph_as, slot_graph}
 use Rattle.dg_pool.specs.Sweeps.{members_as}
 use Rattle.dg_pool.specs.Slots.{base_members, BaseFits, IsBaseWith, IsNoBase}

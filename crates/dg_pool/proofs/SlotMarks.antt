@@ -8,8 +8,7 @@ use mathlib.Core.Bool.{beq}
 use Rattle.dg_graph.specs.declared.element.Element.{Element}
 use Rattle.dg_graph.specs.Elements.{has, same}
 use Rattle.dg_graph.proofs.Sets.{element_exact, same_itself}
-use Rattle.dg_cells.specs.declared.row.Row.{Row}
-use Rattle.dg_cells.specs.Rows.{cell_at, CellsAreApart, Holds, HasCell, CellsGrow, IsBare, AreNumbers, Marks, MarksCell, MarksRow, SetsPair, Writes, pair}
+use Rattle.dg_cells.specs.Rows.{Row, cell_at, CellsAreApart, Holds, HasCell, CellsGrow, IsBare, AreNumbers, Marks, MarksCell, MarksRow, SetsPair, Writes, pair}
 use Rattle.dg_delta.specs.Deltas.{is_in_after}
 use Rattle.dg_pool.specs.declared.slots.Base.{Base}
 use Rattle.dg_pool.specs.declared.slots.Base.TheVariants as base

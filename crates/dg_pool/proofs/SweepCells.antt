@@ -8,12 +8,11 @@ use Rattle.dg_graph.specs.declared.element.Column.{Column}
 use Rattle.dg_graph.specs.declared.element.Columns.{Columns}
 use Rattle.dg_graph.specs.Elements.{asks, column_of}
 use Rattle.dg_delta.specs.Deltas.{is_in_after}
-use Rattle.dg_cells.specs.declared.row.Row.{Row}
 use Rattle.dg_pool.specs.declared.slots.Base.{Base}
 use Rattle.dg_pool.specs.declared.slots.Base.TheVariants as base
 use Rattle.dg_pool.specs.declared.slots.SlotState.{SlotState}
 use Rattle.dg_pool.specs.declared.slots.SlotState.TheVariants as state
-use Rattle.dg_cells.specs.Rows.{cell_at, Writes, ClearsBits, has_bit, word_bit, is_current, pair}
+use Rattle.dg_cells.specs.Rows.{Row, cell_at, Writes, ClearsBits, has_bit, word_bit, is_current, pair}
 use Rattle.dg_pool.specs.Graphs.{slot_at, pair_at, is_live, AreSlots, IsBased, IsBaseFor, slot_says, pair_says, in_base, in_slot, given, graph_as, PoolState}
 use Rattle.dg_pool.specs.Masks.{is_asking, IsAskingMask, IsSweptMask}
 use Rattle.dg_pool.proofs.MaskBits.{word_bit-past}

@@ -7,11 +7,10 @@ use Rattle.dg_graph.specs.Elements.{IsSet, has, asks, column_of}
 use Rattle.dg_graph.specs.Sets.{unioned}
 use Rattle.dg_graph.proofs.Sets.{has-unioned, IsSet-unioned}
 use Rattle.dg_delta.specs.Deltas.{is_in_after}
-use Rattle.dg_cells.specs.declared.row.Row.{Row}
 use Rattle.dg_pool.specs.declared.slots.Base.{Base}
 use Rattle.dg_pool.specs.declared.slots.SlotState.{SlotState}
 use Rattle.dg_pool.specs.declared.slots.SlotState.TheVariants as state
-use Rattle.dg_cells.specs.Rows.{cell_at, is_current, pair, CellsAreApart, Lacks}
+use Rattle.dg_cells.specs.Rows.{Row, cell_at, is_current, pair, CellsAreApart, Lacks}
 use Rattle.dg_pool.specs.Graphs.{slot_at, AreSlots, pair_says, in_base, in_slot, graph_as, graph_now, PoolState, SameGraphs}
 use Rattle.dg_pool.specs.Sweeps.{in_state, wants, wanted_from, is_needed, members_as, live_union, union_of}
 use Rattle.dg_pool.proofs.GraphSets.{picked_set, picked_decides, picked_nothing}

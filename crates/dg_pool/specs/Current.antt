@@ -3,8 +3,7 @@ use Rattle.std.specs.Prelude.{◌≡◌, ℕ, List, Option}
 use Rattle.dg_graph.specs.declared.element.Element.{Element}
 use Rattle.dg_query.specs.declared.answers.Counts.{Counts}
 use Rattle.dg_query.specs.Queries.{counts_of}
-use Rattle.dg_cells.specs.declared.row.Row.{Row}
-use Rattle.dg_cells.specs.Rows.{is_current}
+use Rattle.dg_cells.specs.Rows.{Row, is_current}
 use Rattle.dg_pool.specs.declared.slots.SlotState.{SlotState}
 use Rattle.dg_pool.specs.Graphs.{AreSlots, ListsOnNow, Keeps, picked}
 

@@ -10,12 +10,11 @@ use Rattle.dg_graph.specs.Elements.{put, take_out, with_one, asks, column_of}
 use Rattle.dg_graph.specs.Sets.{unioned, without_all}
 use Rattle.dg_graph.specs.Composition.{Says, In, Out, As_it_was}
 use Rattle.dg_delta.specs.Deltas.{is_in_after}
-use Rattle.dg_cells.specs.declared.row.Row.{Row}
 use Rattle.dg_pool.specs.declared.slots.Base.{Base}
 use Rattle.dg_pool.specs.declared.slots.Base.TheVariants as base
 use Rattle.dg_pool.specs.declared.slots.SlotState.{SlotState}
 use Rattle.dg_pool.specs.declared.slots.SlotState.TheVariants as state
-use Rattle.dg_cells.specs.Rows.{is_current, pair, cell_at, CellsAreApart, HasCell}
+use Rattle.dg_cells.specs.Rows.{Row, is_current, pair, cell_at, CellsAreApart, HasCell}
 
 pub record PoolState : Type 0 where
   pub rows : List (Option Row)

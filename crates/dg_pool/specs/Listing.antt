@@ -2,7 +2,7 @@
 use Rattle.std.specs.Prelude.{ℕ, Bool, not, List, [], Option, Some, None, drop, filter, map}
 use Rattle.dg_graph.specs.declared.element.Element.{Element}
 use Rattle.dg_graph.specs.Elements.{before}
-use Rattle.dg_cells.specs.declared.row.Row.{Row}
+use Rattle.dg_cells.specs.Rows.{Row}
 use Rattle.dg_cells.specs.declared.cursors.Cursor.{Cursor}
 use Rattle.dg_cells.specs.Cursors.{ordered, cursor_index, row_at}
 use Rattle.dg_pool.specs.Graphs.{PoolState, slot_graph}

@@ -11,8 +11,7 @@ use Rattle.dg_pool.specs.Graphs.{PoolState, SlotGraph, slot_graph, graph_now, In
 use Rattle.dg_pool.specs.Sweeps.{members_as}
 use Rattle.dg_graph.specs.Composition.{Delta}
 use Rattle.dg_graph.specs.Elements.{has}
-use Rattle.dg_cells.specs.declared.row.Row.{Row}
-use Rattle.dg_cells.specs.Rows.{cell_at, pair}
+use Rattle.dg_cells.specs.Rows.{Row, cell_at, pair}
 
 -- the slot is live, and its base is this one
 abbrev pub rests_on : ℕ → SlotState → Bool

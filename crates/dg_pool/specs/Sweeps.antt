@@ -7,10 +7,9 @@ use Rattle.dg_pool.specs.declared.pool.Swept.{Swept}
 use Rattle.dg_pool.specs.declared.pool.Swept.TheVariants as answer
 use Rattle.dg_graph.specs.Sets.{unioned}
 use Rattle.dg_delta.specs.Deltas.{is_in_after}
-use Rattle.dg_cells.specs.declared.row.Row.{Row}
 use Rattle.dg_pool.specs.declared.slots.SlotState.{SlotState}
 use Rattle.dg_pool.specs.declared.slots.SlotState.TheVariants as state
-use Rattle.dg_cells.specs.Rows.{cell_at, is_current, pair}
+use Rattle.dg_cells.specs.Rows.{Row, cell_at, is_current, pair}
 use Rattle.dg_pool.specs.Graphs.{PoolState, slot_at, pair_at, slot_says, in_slot, picked, graph_now, graph_as, SlotGraph}
 
 -- a slot's graph has the cell's element

@@ -1,7 +1,6 @@
 //! How many cells there are, and how many of them are needed.
 ghost use Rattle.std.specs.Prelude.{◌≡◌, true, length};
-ghost use Rattle.dg_cells.specs.declared.row.Row.{Row};
-ghost use Rattle.dg_cells.specs.Rows.{CellsAreApart};
+ghost use Rattle.dg_cells.specs.Rows.{Row, CellsAreApart};
 ghost use Rattle.dg_pool.specs.Graphs.{AreSlots, picked};
 ghost use Rattle.dg_pool.specs.Sweeps.{is_needed};
 

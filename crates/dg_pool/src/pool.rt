@@ -1,11 +1,11 @@
 //! The pool of graphs.
-ghost use Rattle.std.specs.Prelude.{◌≡◌, ◌<◌, ◌≤◌, ℕ, true, false, [], ◌∷◌, None, Some, IfSome, IfOk, IfErr, IfNone, OnErr, OnOk, IsErrOf, length};
+ghost use Rattle.std.specs.Prelude.{◌≡◌, ◌<◌, ◌≤◌, ◌^◌, ℕ, true, false, [], ◌∷◌, None, Some, IfSome, IfOk, IfErr, IfNone, OnErr, OnOk, IsErrOf, length};
 ghost use Rattle.dg_graph.specs.Replay.{replay_from};
 ghost use Rattle.dg_pool.specs.declared.slots.SlotState.TheVariants as state;
 ghost use Rattle.dg_pool.specs.declared.pool.AttachFault.TheVariants.{Memory};
 ghost use Rattle.dg_pool.specs.Graphs.{PoolState, graph_now, slot_graph, CellsStay, HaveCells, SameGraphs, slot_at, is_live};
 ghost use Rattle.dg_pool.specs.Sweeps.{union_of, cells_of, IsSweep, members_as};
-ghost use Rattle.dg_cells.specs.Rows.{AllHave};
+ghost use Rattle.dg_cells.specs.Rows.{AllHave, Reuses};
 ghost use Rattle.dg_query.specs.Queries.{counts_of};
 ghost use Rattle.dg_pool.specs.Listing.{members_from, not_before};
 ghost use Rattle.dg_pool.specs.Slots.{IsLive, live_count, IsLeastOn, NoneOn, IsLeastFree, AllLive, BaseFits, base_members, is_free, NamesOnly};
@@ -181,8 +181,7 @@ impl Pool {
     /// Passes the next `cells` cells, or all that are left, by rising number from where the last sweep
     /// stopped, and gives back those whose element is in no live graph. `Done` where no cell is left:
     /// the slots that were released before this sweep began are free then, and the next sweep begins at
-    /// the first cell. No graph changes. The numbers of the cells given back are noted where memory is
-    /// there, and never used again otherwise.
+    /// the first cell. No graph changes. The cells given back are used again. Takes no memory.
     pub fn clean(&mut self, cells: u32) -> Swept
         requires { 1 ≤ cells }
         ensures graphs { SameGraphs self.old self.new }
@@ -206,8 +205,8 @@ impl Pool {
     }
 
     /// A whole sweep from the first cell on, wherever a sweep stood. The cells that are left are those
-    /// of the union of the live graphs, and each slot that is not live is free. No graph changes. Numbers
-    /// are noted as by `clean`.
+    /// of the union of the live graphs, and each slot that is not live is free. No graph changes. Takes no
+    /// memory.
     pub fn clean_all(&mut self)
         ensures graphs { SameGraphs self.old self.new }
         ensures cells { cells_of self.new ≡ union_of self.new }
@@ -287,10 +286,10 @@ impl Pool {
         Ok(Slot(slot))
     }
 
-    /// Takes the memory for so many more cells, so that as many come without a copy of those that are there.
-    /// Nothing changes. An `Err` says that there is none.
+    /// Takes the memory for so many more cells. Nothing changes. An `Err` says that there is none, or that there would be more than 2^32 cells.
     pub fn reserve(&mut self, cells: usize) -> Result<(), AllocError>
-        ensures { self.new ≡ self.old }
+        ensures same { self.new ≡ self.old }
+        ensures most { OnOk result (cells ≤ 2 ^ 32) }
     {
         self.cells.reserve(cells)
     }
@@ -301,6 +300,7 @@ impl Pool {
         ensures graphs { SameGraphs self.old self.new }
         ensures cells { CellsStay self.old.rows self.new.rows }
         ensures there { OnOk result (AllHave self.new.rows elements.now) }
+        ensures reuses { OnOk result (Reuses self.old.rows self.new.rows) }
     {
         make_all(&mut self.cells, elements.items())
     }
@@ -310,6 +310,7 @@ impl Pool {
     pub fn make_room(&mut self, events: &[Event]) -> Result<(), AllocError>
         ensures graphs { SameGraphs self.old self.new }
         ensures room { OnOk result (HaveCells self.new.rows events.now) }
+        ensures reuses { Reuses self.old.rows self.new.rows }
     {
         let made = add_by_all(&mut self.cells, events);
         self.cells.facts();

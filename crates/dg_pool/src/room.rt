@@ -2,7 +2,7 @@
 ghost use Rattle.std.specs.Prelude.{◌≡◌, true, OnOk, IfOk, IfSome};
 ghost use Rattle.dg_graph.specs.Effect.{added_by};
 ghost use Rattle.dg_graph.specs.Elements.{IsSet};
-ghost use Rattle.dg_cells.specs.Rows.{CellsGrow, HasCell, AllHave, AreNumbers, CellsAreApart};
+ghost use Rattle.dg_cells.specs.Rows.{CellsGrow, Reuses, HasCell, AllHave, AreNumbers, CellsAreApart};
 ghost use Rattle.dg_pool.specs.Graphs.{HaveCells};
 
 use dg_cells::Cells;
@@ -18,6 +18,7 @@ pub(crate) fn make_rising(cells: &mut Cells, items: &[Element]) -> Result<Vec<u3
     ensures there { OnOk result (AllHave cells.new items.now) }
     ensures numbers { IfOk result (λ numbers. AreNumbers cells.new items.now numbers.items) }
     ensures apart { CellsAreApart cells.new }
+    ensures reuses { OnOk result (Reuses cells.old cells.new) }
 {
     let made = cells.add_numbered(items);
     cells.facts();
@@ -30,6 +31,7 @@ pub(crate) fn make_all(cells: &mut Cells, items: &[Element]) -> Result<(), Alloc
     ensures grows { CellsGrow cells.old cells.new }
     ensures there { OnOk result (AllHave cells.new items.now) }
     ensures apart { CellsAreApart cells.new }
+    ensures reuses { OnOk result (Reuses cells.old cells.new) }
 {
     let _numbers = make_rising(cells, items)?;
     Ok(())
@@ -39,6 +41,7 @@ pub(crate) fn make_all(cells: &mut Cells, items: &[Element]) -> Result<(), Alloc
 fn add_by(cells: &mut Cells, event: &Event) -> Result<(), AllocError>
     ensures grows { CellsGrow cells.old cells.new }
     ensures there { OnOk result (IfSome (added_by event.now.body) (HasCell cells.new)) }
+    ensures reuses { Reuses cells.old cells.new }
 {
     match effect(event).1 {
         Some(element) => cells.add(element),
@@ -51,6 +54,7 @@ fn add_by(cells: &mut Cells, event: &Event) -> Result<(), AllocError>
 pub(crate) fn add_by_all(cells: &mut Cells, events: &[Event]) -> Result<(), AllocError>
     ensures grows { CellsGrow cells.old cells.new }
     ensures there { OnOk result (HaveCells cells.new events.now) }
+    ensures reuses { Reuses cells.old cells.new }
 {
     for event in events {
         add_by(cells, event)?;

@@ -1,7 +1,6 @@
 use Rattle.std.proofs.Common.{◌≡◌, List, Option, length, sym, ap, ◌∙◌, subst}
 use Rattle.std.specs.List.{range_with_len}
-use Rattle.dg_cells.specs.declared.row.Row.{Row}
-use Rattle.dg_cells.specs.Rows.{new_rows}
+use Rattle.dg_cells.specs.Rows.{Row, new_rows}
 use Rattle.dg_cells.specs.Pieces.{strung}
 use Rattle.dg_cells.specs.Order.{IsListed}
 use Rattle.dg_cells.proofs.OrderNumbers.{listed_new}

@@ -1,14 +1,14 @@
-use Rattle.std.proofs.Common.{◌≡◌, Some, ℕ, ◌+◌, ◌-◌, List, [], ◌∷◌, ◌++◌, Option, drop, take, get_or, sym, ap, ◌∙◌, subst, arith, Vec, Global}
+use Rattle.std.proofs.Common.{◌≡◌, Some, ℕ, ◌+◌, List, [], ◌∷◌, ◌++◌, Option, drop, take, get_or, sym, ap, ◌∙◌, subst, arith, Vec, Global}
 use Rattle.std.proofs.lemmas.List.{take_rest, drop_all}
 use Rattle.dg_graph.specs.declared.element.Element.{Element}
 use Rattle.dg_graph.specs.declared.element.Element.TheVariants as kind
 use Rattle.dg_graph.specs.Sets.{unioned}
-use Rattle.dg_cells.specs.declared.row.Row.{Row}
-use Rattle.dg_cells.specs.Rows.{cell_at, AreAmong}
-use Rattle.dg_cells.specs.Order.{cell_element, elements_in, AreNoted, IsLower, IsListed, is_index_before}
+use Rattle.dg_arena.specs.Cells.{CellMap}
+use Rattle.dg_cells.specs.Rows.{Row, cell_at, AreAmong}
+use Rattle.dg_cells.specs.Order.{cell_element, elements_in, AreNoted, IsLower, IsListed}
 use Rattle.dg_cells.proofs.Orders.{lower_between}
 use Rattle.dg_cells.proofs.OrderEdits.{elements_as}
-use Rattle.dg_cells.proofs.RowGrowth.{among_more, has_whole}
+use Rattle.dg_cells.proofs.RowGrowth.{among_more, has_whole, reuses_as, reuses_then}
 use Rattle.dg_cells.proofs.OrderMerges.{order_grown, keeps_grown, puts_grows, puts_fresh, noted_more, listed_all}
 use Rattle.dg_cells.proofs.OrderWalks.{Passed, walked_as, walked_there, walked_absent, passed_there, passed_low}
 use Rattle.dg_cells.proofs.RowNumbers.{numbered_as, numbered_more, numbered_all, grows_itself, holds_by}
@@ -22,11 +22,10 @@ position c =
     let order = c.args.order.now in
     let y = get_or c.args.items.now c.loop-x.x-index (kind.Node 0) in
     let at = c.seek_on-at.result.0 in
-    let value = c.deref.ensures.value in
     subst (λ (l : List Element). IsLower y l at) (elements_as old mid (keeps_grown old mid c.loop-x.invariant.walked.grows) order c.requires.listed.in_order.live)
     (lower_between mid order y at (order_grown old mid order c.loop-x.invariant.walked.grows c.requires.listed.in_order) c.seek_on-at.ensures.within
-    (λ h. ap (λ (l : List (Option Row)). is_index_before l order y (at - 1)) (sym value) ∙ c.seek_on-at.ensures.low h)
-    (λ h. ap (λ (l : List (Option Row)). is_index_before l order y at) (sym value) ∙ c.seek_on-at.ensures.high h))
+    c.seek_on-at.ensures.low
+    c.seek_on-at.ensures.high)
 
 -- what came is among all items
 whole : (old new : List (Option Row)) (items : List Element) (j : ℕ) → AreAmong old new (take j items) → AreAmong old new items
@@ -79,8 +78,7 @@ returns-clause-among c = whole c.args.rows.now.items c.loop-x.rows.items c.args.
 pub seek_on-at-requires-clause-low : goal.seek_on-at-requires-clause-low
 seek_on-at-requires-clause-low c = λ h.
     let inv = c.loop-x.invariant in
-    ap (λ (l : List (Option Row)). is_index_before l c.args.order.now (get_or c.args.items.now c.loop-x.x-index (kind.Node 0)) (c.loop-x.near - 1)) c.deref.ensures.value
-    ∙ passed_low c.args.rows.now.items c.loop-x.rows.items c.args.order.now c.args.items.now c.loop-x.x-index c.loop-x.near (kind.Node 0) c.requires.listed.in_order.live inv.walked.grows c.loop-x-test.true inv.passed h
+    passed_low c.args.rows.now.items c.loop-x.rows.items c.args.order.now c.args.items.now c.loop-x.x-index c.loop-x.near (kind.Node 0) c.requires.listed.in_order.live inv.walked.grows c.loop-x-test.true inv.passed h
 
 pub loop-x-preserved : goal.loop-x-preserved
 loop-x-preserved c =
@@ -97,26 +95,26 @@ loop-x-preserved c =
     let inv = c.loop-x.invariant in
     let y : Element = get_or items j (kind.Node 0) in
     let here = position (goal.at.loop-x-preserved c).After-seek_on-at in
-    let same_rows = c.deref.ensures.value in
     let low = inv.on in
     let on = c.seek_on-at.ensures.on in
     elim c.if-there.branch [
       | then-there+in_ok-push w ↦
           let inside = c.seek_on-at.ensures.inside w.if-there.true in
-          let is : cell_element (cell_at mid (get_or order at 0)) ≡ Some y = ap (λ (l : List (Option Row)). cell_element (cell_at l (get_or order at 0))) (sym same_rows) ∙ c.seek_on-at.ensures.is w.if-there.true in
+          let is : cell_element (cell_at mid (get_or order at 0)) ≡ Some y = c.seek_on-at.ensures.is w.if-there.true in
           let first = w.i-is in
           let last = w.near-is in
           record {
             walked = walked_as old order items (j + 1) mid c.if-there.rows.items out c.if-there.out.items taken c.if-there.taken.items i c.if-there.i
-                (ap (λ (v : Vec (Option Row) Global). v.items) w.rows-is)
+                (ap (λ (m : CellMap Element). m.items) w.rows-is)
                 (ap (λ (v : Vec ℕ Global). v.items) w.out-is)
                 (ap (λ (v : Vec ℕ Global). v.items) w.taken-is)
                 w.i-is
                 (walked_there old mid order out taken items i j at (kind.Node 0) c.requires.listed c.requires.items c.loop-x-test.true inv.walked here inside is);
             passed = subst (Passed old order items (j + 1)) (sym w.near-is) (passed_there old mid order out taken items i j at (kind.Node 0) c.requires.listed c.requires.items c.loop-x-test.true inv.walked here inside is);
             on = omega arith;
+            reuses = reuses_as old mid c.if-there.rows.items (ap (λ (m : CellMap Element). m.items) w.rows-is) inv.reuses;
             numbered = numbered_as mid c.if-there.rows.items items (j + 1) w.push.new.self.items c.if-there.numbers.items
-                (ap (λ (v : Vec (Option Row) Global). v.items) w.rows-is)
+                (ap (λ (m : CellMap Element). m.items) w.rows-is)
                 (ap (λ (v : Vec ℕ Global). v.items) w.numbers-is)
                 (numbered_more mid mid items j numbers w.push.new.self.items (get_or order at 0) (kind.Node 0) c.loop-x-test.true (grows_itself mid) (holds_by mid y (get_or order at 0) is) w.in_ok-push.ensures.items inv.numbered);
           }
@@ -127,19 +125,20 @@ loop-x-preserved c =
           let first = w.i-is in
           let last = w.near-is in
           let walked = walked_absent old mid order out taken items i j at (kind.Node 0) c.requires.listed c.requires.items c.loop-x-test.true inv.walked here new w.push-else-there.new.self.items w.cell_for.new.taken.items n puts.0 puts.1 puts.3 puts.2
-          (λ h e. c.seek_on-at.ensures.is_not w.if-there.false h (ap (λ (l : List (Option Row)). cell_element (cell_at l (get_or order at 0))) same_rows ∙ e))
+          (λ h e. c.seek_on-at.ensures.is_not w.if-there.false h (e))
           (w.in_ok-push-2.ensures.items ∙ ap (λ (l : List ℕ). l ++ n ∷ []) w.in_ok-extend_from_slice.ensures.items)
           w.in_ok-number.ensures.noted in
           record {
             walked = walked_as old order items (j + 1) new c.if-there.rows.items w.push-else-there.new.self.items c.if-there.out.items w.cell_for.new.taken.items c.if-there.taken.items at c.if-there.i
-                (ap (λ (v : Vec (Option Row) Global). v.items) w.rows-is)
+                (ap (λ (m : CellMap Element). m.items) w.rows-is)
                 (ap (λ (v : Vec ℕ Global). v.items) w.out-is)
                 (ap (λ (v : Vec ℕ Global). v.items) w.taken-is)
                 w.i-is walked;
             passed = subst (Passed old order items (j + 1)) (sym w.near-is) (record { within = walked.within; past = walked.past });
             on = omega arith;
+            reuses = reuses_as old new c.if-there.rows.items (ap (λ (m : CellMap Element). m.items) w.rows-is) (reuses_then old mid new (puts_grows mid new n puts.0 puts.3 puts.2) inv.reuses w.cell_for.ensures.reuses);
             numbered = numbered_as new c.if-there.rows.items items (j + 1) w.push-else-there-2.new.self.items c.if-there.numbers.items
-                (ap (λ (v : Vec (Option Row) Global). v.items) w.rows-is)
+                (ap (λ (m : CellMap Element). m.items) w.rows-is)
                 (ap (λ (v : Vec ℕ Global). v.items) w.numbers-is)
                 (numbered_more mid new items j numbers w.push-else-there-2.new.self.items n (kind.Node 0) c.loop-x-test.true (puts_grows mid new n puts.0 puts.3 puts.2) (record { row = puts.0; there = puts.3.put; element = puts.1 }) w.in_ok-push-3.ensures.items inv.numbered);
           }

@@ -1,7 +1,6 @@
 use Rattle.std.proofs.Common.{ℕ, Option, sym, ap, ◌∙◌}
 use Rattle.std.specs.Prelude.{slice_get}
-use Rattle.dg_cells.specs.declared.row.Row.{Row}
-use Rattle.dg_cells.specs.Rows.{cell_at}
+use Rattle.dg_cells.specs.Rows.{Row, cell_at}
 use Rattle.dg_cells.specs.Pieces.{strung}
 use Rattle.dg_cells.specs.Cursors.{ordered, row_at, index_of_row}
 use Rattle.dg_cells.proofs.CursorRows.{index_of_cell, row_there, position_is}
@@ -10,7 +9,7 @@ use Rattle.dg_cells.proofs.cursors.at.Goals as goal
 
 pub returns-then-is_occupied-clause-found : goal.returns-then-is_occupied-clause-found
 returns-then-is_occupied-clause-found c =
-    let rows = c.args.rows.now in
+    let rows = c.args.rows.now.items in
     let order = strung c.args.order.now in
     let n = c.in-Some.n in
     let row = some_row (cell_at rows n) (sym c.is_occupied.ensures ∙ c.if-is_occupied.true) in

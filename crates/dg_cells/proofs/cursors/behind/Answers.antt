@@ -1,7 +1,6 @@
 use Rattle.std.proofs.Common.{◌≡◌, ℕ, ◌+◌, ◌<◌, List, Option, length, get_or, min, ap, ◌∙◌, subst, arith}
 use Rattle.std.proofs.lemmas.List.Elements.{All-get_or}
-use Rattle.dg_cells.specs.declared.row.Row.{Row}
-use Rattle.dg_cells.specs.Rows.{cell_at}
+use Rattle.dg_cells.specs.Rows.{Row, cell_at}
 use Rattle.dg_cells.specs.Pieces.{strung, nth_piece, numbers_before}
 use Rattle.dg_cells.specs.Order.{IsListed}
 use Rattle.dg_cells.specs.Cursors.{ordered, row_at, index_of_row}
@@ -24,7 +23,7 @@ position_in rows ps p i n listed h g e =
 
 pub returns-in-Some : goal.returns-in-Some
 returns-in-Some c =
-    let rows = c.args.rows.now in
+    let rows = c.args.rows.now.items in
     let ps = c.args.order.now in
     let p = c.args.cursor.position.piece in
     let i = c.args.cursor.position.index in
@@ -40,7 +39,7 @@ returns-in-Some c =
 
 pub returns-in-None : goal.returns-in-None
 returns-in-None c =
-    let rows = c.args.rows.now in
+    let rows = c.args.rows.now.items in
     let ps = c.args.order.now in
     let n = c.args.n in
     let p = c.locate.result.piece in

@@ -10,11 +10,11 @@ use Rattle.dg_cells.proofs.cursors.cursor_at.Goals as goal
 
 pub returns-in-Some : goal.returns-in-Some
 returns-in-Some c =
-    let rows = c.args.rows.now in
+    let rows = c.args.rows.now.items in
     let order = strung c.args.order.now in
     let at = numbers_before c.args.order.now c.args.position.piece + c.args.position.index in
     let row = some_row (cell_at rows c.in-Some.n) (subst (IsCell rows) c.in-Some.ensures.1 (All-get_or (IsCell rows) order at 0 c.in-Some.ensures.0 c.requires.listed.in_order.live)) in
     ap (index_of_row rows) row.1 ∙ position_is rows order c.requires.listed at c.in-Some.n row.0 c.in-Some.ensures.0 c.in-Some.ensures.1 row.1
 
 pub returns-in-None : goal.returns-in-None
-returns-in-None c = position_past c.args.rows.now (strung c.args.order.now) c.requires.listed ∙ c.in-None.ensures
+returns-in-None c = position_past c.args.rows.now.items (strung c.args.order.now) c.requires.listed ∙ c.in-None.ensures

@@ -1,6 +1,6 @@
 use Rattle.std.proofs.Common.{ℕ, Option, ap, ◌∙◌}
 use Rattle.std.specs.Prelude.{slice_get}
-use Rattle.dg_cells.specs.declared.row.Row.{Row}
+use Rattle.dg_cells.specs.Rows.{Row}
 use Rattle.dg_cells.specs.Pieces.{strung}
 use Rattle.dg_cells.specs.Cursors.{ordered, row_at, index_of_row}
 use Rattle.dg_cells.proofs.CursorRows.{index_of_cell, row_there, position_is}
@@ -8,7 +8,7 @@ use Rattle.dg_cells.proofs.cursors.step.Goals as goal
 
 pub returns-in-Some-row_in-clause-found : goal.returns-in-Some-row_in-clause-found
 returns-in-Some-row_in-clause-found c =
-    let rows = c.args.rows.now in
+    let rows = c.args.rows.now.items in
     let order = strung c.args.order.now in
     let n = c.in-Some.n in
     let row = c.in-Some-row_in.row.now in

@@ -1,7 +1,7 @@
 use Rattle.std.proofs.Common.{◌+◌}
 use Rattle.dg_graph.specs.declared.element.Element.TheVariants as kind
-use Rattle.dg_cells.specs.Rows.{AreAmong}
-use Rattle.dg_cells.proofs.RowGrowth.{grows_then, among_more, has_whole}
+use Rattle.dg_cells.specs.Rows.{AreAmong, Reuses}
+use Rattle.dg_cells.proofs.RowGrowth.{grows_then, reuses_then, among_more, has_whole}
 use Rattle.dg_cells.proofs.RowNumbers.{numbered_more}
 use Rattle.dg_cells.proofs.listing.add_each.Goals as goal
 use Rattle.dg_cells.proofs.listing.add_each.Goals.{After-add}
@@ -18,6 +18,16 @@ returns-in_err-behind-clause-among c = whole (goal.at.returns-in_err-behind-clau
 pub returns-in_err-push-clause-among : goal.returns-in_err-push-clause-among
 returns-in_err-push-clause-among c = whole (goal.at.returns-in_err-push-clause-among c).After-add
 
+-- the vacant cells were used first, with the next element too
+reuses : (c : After-add) → Reuses c.args.rows.now.items c.add.new.rows.items
+reuses c = reuses_then c.args.rows.now.items c.loop-x.rows.items c.add.new.rows.items c.add.ensures.grows c.loop-x.invariant.reuses c.add.ensures.reuses
+
+pub returns-in_err-behind-clause-reuses : goal.returns-in_err-behind-clause-reuses
+returns-in_err-behind-clause-reuses c = reuses (goal.at.returns-in_err-behind-clause-reuses c).After-add
+
+pub returns-in_err-push-clause-reuses : goal.returns-in_err-push-clause-reuses
+returns-in_err-push-clause-reuses c = reuses (goal.at.returns-in_err-push-clause-reuses c).After-add
+
 pub loop-x-preserved : goal.loop-x-preserved
 loop-x-preserved c =
     let first = c.args.rows.now.items in
@@ -29,6 +39,7 @@ loop-x-preserved c =
     record {
       listed = c.add.ensures.listed;
       grows = grows_then first old new inv.grows c.add.ensures.grows;
+      reuses = reuses_then first old new c.add.ensures.grows inv.reuses c.add.ensures.reuses;
       numbered = numbered_more old new items c.loop-x.x-index c.loop-x.numbers.items c.push.new.self.items c.in_ok-behind.number (kind.Node 0) c.loop-x-test.true c.add.ensures.grows c.in_ok-behind.ensures.there c.in_ok-push.ensures.items inv.numbered;
       among = among_more first old new items i (kind.Node 0) c.loop-x-test.true c.add.ensures.grows inv.among c.add.ensures.fresh;
     }

@@ -11,7 +11,7 @@ use Rattle.dg_cells.proofs.listing.number_at.Goals as goal
 
 pub returns-else-is_eq-clause-absent : goal.returns-else-is_eq-clause-absent
 returns-else-is_eq-clause-absent c =
-    let rows = c.args.rows.now in
+    let rows = c.args.rows.now.items in
     let order = strung c.args.order.now in
     let x = c.args.x.now in
     let at = numbers_before c.args.order.now c.args.position.piece + c.args.position.index in
@@ -23,14 +23,14 @@ returns-else-is_eq-clause-absent c =
 
 pub returns-else-is_eq-clause-lacks : goal.returns-else-is_eq-clause-lacks
 returns-else-is_eq-clause-lacks c =
-    lacks_of c.args.rows.now (strung c.args.order.now) c.args.x.now 0 c.requires.listed (returns-else-is_eq-clause-absent c)
+    lacks_of c.args.rows.now.items (strung c.args.order.now) c.args.x.now 0 c.requires.listed (returns-else-is_eq-clause-absent c)
 
 pub returns-in-None-clause-absent : goal.returns-in-None-clause-absent
 returns-in-None-clause-absent c =
     let end : length (strung c.args.order.now) ≡ numbers_before c.args.order.now c.args.position.piece + c.args.position.index = c.in-None.ensures in
-    absent_from c.args.rows.now (strung c.args.order.now) c.args.x.now (numbers_before c.args.order.now c.args.position.piece + c.args.position.index) c.requires.listed c.requires.lower
+    absent_from c.args.rows.now.items (strung c.args.order.now) c.args.x.now (numbers_before c.args.order.now c.args.position.piece + c.args.position.index) c.requires.listed c.requires.lower
     (λ h. absurd (omega arith))
 
 pub returns-in-None-clause-lacks : goal.returns-in-None-clause-lacks
 returns-in-None-clause-lacks c =
-    lacks_of c.args.rows.now (strung c.args.order.now) c.args.x.now 0 c.requires.listed (returns-in-None-clause-absent c)
+    lacks_of c.args.rows.now.items (strung c.args.order.now) c.args.x.now 0 c.requires.listed (returns-in-None-clause-absent c)

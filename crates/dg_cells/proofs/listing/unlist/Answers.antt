@@ -7,7 +7,7 @@ use Rattle.dg_cells.proofs.listing.unlist.Goals as goal
 
 pub returns-clause-listed : goal.returns-clause-listed
 returns-clause-listed c =
-    let rows = c.args.rows.now in
+    let rows = c.args.rows.now.items in
     let order = strung c.args.order.now in
     let n = c.args.n in
     let at = numbers_before c.args.order.now c.seek-position.result.piece + c.seek-position.result.index in

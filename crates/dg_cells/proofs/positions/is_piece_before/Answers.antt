@@ -6,7 +6,7 @@ use Rattle.dg_cells.proofs.positions.is_piece_before.Goals as goal
 
 pub is_before-requires : goal.is_before-requires
 is_before-requires c =
-    let rows = c.args.rows.now in
+    let rows = c.args.rows.now.items in
     let piece = c.piece-piece.result.now in
     let some = c.piece-piece.ensures.piece.some in
     let len = ap length c.piece-piece.ensures.value in

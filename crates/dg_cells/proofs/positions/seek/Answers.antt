@@ -16,7 +16,7 @@ pub returns-then-piece-len-clause-lower : goal.returns-then-piece-len-clause-low
 returns-then-piece-len-clause-lower c =
     let p = c.seek_piece-piece.result in
     let end : p ≡ length c.args.pieces.now = omega arith in
-    position_lower c.args.rows.now c.args.pieces.now c.args.x.now p 0 c.requires c.facts.ensures
+    position_lower c.args.rows.now.items c.args.pieces.now c.args.x.now p 0 c.requires c.facts.ensures
     (record { within = c.seek_piece-piece.ensures.within; inside = λ h. absurd (omega arith); end = λ _. refl })
     (λ _. c.seek_piece-piece.ensures.low) (λ h. absurd (omega arith)) (λ h. absurd (omega arith))
 
@@ -25,11 +25,11 @@ seek_within-index-requires c =
     let p = c.seek_piece-piece.result in
     let within = c.seek_piece-piece.ensures.within in
     let past = c.if-piece-len.false in
-    subst (AreCells c.args.rows.now) (sym c.piece.ensures.value) (cells_of_piece c.args.rows.now c.args.pieces.now p c.requires.live (omega arith))
+    subst (AreCells c.args.rows.now.items) (sym c.piece.ensures.value) (cells_of_piece c.args.rows.now.items c.args.pieces.now p c.requires.live (omega arith))
 
 pub returns-clause-lower : goal.returns-clause-lower
 returns-clause-lower c =
-    let rows = c.args.rows.now in
+    let rows = c.args.rows.now.items in
     let ps = c.args.pieces.now in
     let x = c.args.x.now in
     let p = c.seek_piece-piece.result in
@@ -55,6 +55,6 @@ returns-in-Some-clause-lower c =
     let i = c.in-Some.index in
     let within = c.in-Some.ensures.within in
     let inside = c.in-Some.ensures.piece refl in
-    position_lower c.args.rows.now c.args.pieces.now c.args.x.now c.args.near.piece i c.requires c.facts.ensures
+    position_lower c.args.rows.now.items c.args.pieces.now c.args.x.now c.args.near.piece i c.requires c.facts.ensures
     (record { within = omega arith; inside = λ _. within.1; end = λ e. absurd (omega arith) })
     (λ none. absurd (let some = within.0 in omega arith)) (λ _. c.in-Some.ensures.low) (λ _. c.in-Some.ensures.high)

@@ -8,4 +8,4 @@ seek_within-index-requires c =
     let past = c.if-near-len.false in
     let len = c.len.ensures in
     let inside : c.args.near.piece < length c.args.pieces.now = omega arith in
-    subst (AreCells c.args.rows.now) (sym c.piece-piece.ensures.value) (cells_of_piece c.args.rows.now c.args.pieces.now c.args.near.piece c.requires inside)
+    subst (AreCells c.args.rows.now.items) (sym c.piece-piece.ensures.value) (cells_of_piece c.args.rows.now.items c.args.pieces.now c.args.near.piece c.requires inside)

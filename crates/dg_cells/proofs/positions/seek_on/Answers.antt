@@ -8,4 +8,4 @@ returns-clause-high c = λ h.
     let turn = inv.in_turn in
     let past = c.loop-low-test.false in
     let end : c.loop-low.low ≡ c.loop-low.high = omega arith in
-    ap (is_index_before c.args.rows.now c.args.order.now c.args.x.now) end ∙ inv.above (omega arith)
+    ap (is_index_before c.args.rows.now.items c.args.order.now c.args.x.now) end ∙ inv.above (omega arith)

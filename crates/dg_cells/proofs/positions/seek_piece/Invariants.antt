@@ -6,8 +6,8 @@ abbrev pub invariant-loop-low : goal.invariant-loop-low
 invariant-loop-low l = record {
   in_turn : l.low ≤ l.high;
   end : l.high ≤ length l.pieces;
-  below : 0 < l.low → is_piece_before l.rows l.pieces l.x (l.low - 1) ≡ true;
-  above : l.high < length l.pieces → is_piece_before l.rows l.pieces l.x l.high ≡ false;
+  below : 0 < l.low → is_piece_before l.rows.items l.pieces l.x (l.low - 1) ≡ true;
+  above : l.high < length l.pieces → is_piece_before l.rows.items l.pieces l.x l.high ≡ false;
 }
 
 abbrev pub decreases-loop-low : goal.decreases-loop-low

@@ -1,7 +1,6 @@
 use Rattle.std.proofs.Common.{◌≡◌, ℕ, ◌*◌, ◌+◌, cond, eqb, refl, sym, ap, ◌∙◌, arith, ◌⊎◌, inl, inr, Bool}
 use Rattle.std.proofs.lemmas.Bool.{cases_eq, eq-eqb, ne_eqb}
-use Rattle.dg_cells.specs.declared.row.Row.{Row}
-use Rattle.dg_cells.specs.Rows.{has_bit, pair}
+use Rattle.dg_cells.specs.Rows.{Row, has_bit, pair}
 use Rattle.dg_cells.proofs.row.set_pair.Goals as goal
 
 module _ (old mid new : Row) (s : ℕ) (explicit own : Bool) (first : (c : ℕ) → has_bit mid c ≡ cond (eqb c (2 * s)) explicit (has_bit old c)) (second : (c : ℕ) → has_bit new c ≡ cond (eqb c (2 * s + 1)) own (has_bit mid c)) where

@@ -1,8 +1,7 @@
 use Rattle.std.proofs.Common.{◌≡◌, ◌+◌, ◌≤◌, ℕ, Bool, true, false, not, cond, length, List, Option, Some, IfSome, IfNone, sym, ap, ◌∙◌, subst, arith}
 use Rattle.dg_graph.specs.declared.element.Element.{Element}
 use Rattle.dg_graph.specs.Elements.{IsSet, has, put}
-use Rattle.dg_cells.specs.declared.row.Row.{Row}
-use Rattle.dg_cells.specs.Rows.{cell_at, Writes, Holds, Lacks, is_current, SetsCurrent}
+use Rattle.dg_cells.specs.Rows.{Row, cell_at, Writes, Holds, Lacks, is_current, SetsCurrent}
 use Rattle.dg_pool.specs.Graphs.{Pins, picked, changed}
 use Rattle.dg_query.specs.Queries.{counts_of}
 use Rattle.dg_pool.specs.Counts.{kind_count, one_more, one_less}

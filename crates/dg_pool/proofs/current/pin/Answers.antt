@@ -1,7 +1,6 @@
 use Rattle.std.proofs.Common.{◌≡◌, ℕ, ◌+◌, ◌&&◌, ◌++◌, [], ◌∷◌, not, List, Option, true, sym, ap, ◌∙◌, subst, take, get_or}
 use Rattle.std.proofs.lemmas.List.{take_more, take_all}
-use Rattle.dg_cells.specs.declared.row.Row.{Row}
-use Rattle.dg_cells.specs.Rows.{pair, Writes, is_current, SetsPair}
+use Rattle.dg_cells.specs.Rows.{Row, pair, Writes, is_current, SetsPair}
 use Rattle.dg_pool.specs.Graphs.{Pins, slot_at, is_on_now}
 use Rattle.dg_pool.proofs.CurrentGraph.{PinsListed, pins_one, pins_none, pins_all, writes_join, writes_weaker, one_row}
 use Rattle.dg_pool.proofs.current.pin.Goals as goal

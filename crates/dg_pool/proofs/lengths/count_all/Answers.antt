@@ -1,7 +1,7 @@
 use Rattle.std.proofs.Common.{true, sym, ap, ◌∙◌, arith}
 use Rattle.std.specs.List.{count_by}
 use Rattle.std.proofs.lemmas.List.{take_all}
-use Rattle.dg_cells.specs.declared.row.Row.{Row}
+use Rattle.dg_cells.specs.Rows.{Row}
 use Rattle.dg_pool.specs.Sweeps.{passes_test}
 use Rattle.dg_pool.proofs.GraphSizes.{length-picked}
 use Rattle.dg_pool.proofs.lengths.count_all.Goals as goal

@@ -1,6 +1,6 @@
 use Rattle.std.proofs.Common.{◌≡◌, true, take}
 use Rattle.std.specs.List.{count_by}
-use Rattle.dg_cells.specs.declared.row.Row.{Row}
+use Rattle.dg_cells.specs.Rows.{Row}
 use Rattle.dg_pool.specs.Sweeps.{passes_test}
 use Rattle.dg_pool.proofs.lengths.count_all.Given as goal
 

@@ -1,5 +1,5 @@
 use Rattle.std.proofs.Common.{◌≡◌, true, sym, ap, ◌∙◌}
-use Rattle.dg_cells.specs.declared.row.Row.{Row}
+use Rattle.dg_cells.specs.Rows.{Row}
 use Rattle.dg_pool.specs.Graphs.{in_base}
 use Rattle.dg_pool.proofs.GraphSets.{picked_decides}
 use Rattle.dg_pool.proofs.CurrentGraph.{one_row}

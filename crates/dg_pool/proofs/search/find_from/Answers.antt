@@ -5,7 +5,7 @@ use Rattle.std.specs.Option.{option_map}
 use Rattle.std.proofs.lemmas.List.{length-map}
 use Rattle.std.proofs.lemmas.Option.{slice_get_past, slice_get-map}
 use Rattle.dg_graph.specs.Elements.{same}
-use Rattle.dg_cells.specs.declared.row.Row.{Row}
+use Rattle.dg_cells.specs.Rows.{Row}
 use Rattle.dg_cells.specs.Cursors.{ordered, ordered_elements, cursor_index}
 use Rattle.dg_pool.proofs.CursorSearch.{not_there_at, lacks_from_order}
 use Rattle.dg_pool.proofs.search.find_from.Goals as goal

@@ -1,8 +1,7 @@
 use Rattle.std.proofs.Common.{◌≡◌, ℕ, Option, Some, List, subst}
 use Rattle.std.specs.Prelude.{slice_get}
 use Rattle.dg_graph.specs.Elements.{IsSet}
-use Rattle.dg_cells.specs.declared.row.Row.{Row}
-use Rattle.dg_cells.specs.Rows.{cell_at}
+use Rattle.dg_cells.specs.Rows.{Row, cell_at}
 use Rattle.dg_cells.specs.Pieces.{strung}
 use Rattle.dg_cells.specs.Cursors.{ordered, ordered_elements}
 use Rattle.dg_cells.proofs.CursorRows.{rises_ordered, each_ordered, only_ordered}

@@ -1,4 +1,6 @@
 use Rattle.std.proofs.Common.{ap, subst, ◌∙◌}
+use Rattle.std.specs.Prelude.{OnOk}
+use Rattle.dg_cells.specs.Rows.{Reuses}
 use Rattle.dg_pool.specs.Graphs.{CellsStay, PoolState, slot_graph, graph_now, slot_at}
 use Rattle.dg_pool.proofs.CountPreservation.{counted_still}
 use Rattle.dg_pool.proofs.SlotMarks.{has_grown}
@@ -28,3 +30,7 @@ pub returns-clause-cells : goal.returns-clause-cells
 returns-clause-cells c =
     subst (λ (p : PoolState). CellsStay p.rows c.make_all.new.cells) c.self.view_is
     (has_grown c.self.inside.cells c.make_all.new.cells c.make_all.ensures.grows)
+
+pub returns-clause-reuses : goal.returns-clause-reuses
+returns-clause-reuses c =
+    subst (λ (p : PoolState). OnOk c.make_all.result (Reuses p.rows c.make_all.new.cells)) c.self.view_is c.make_all.ensures.reuses

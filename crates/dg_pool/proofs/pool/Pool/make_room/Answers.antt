@@ -1,4 +1,5 @@
-use Rattle.std.proofs.Common.{ap, ◌∙◌}
+use Rattle.std.proofs.Common.{ap, subst, ◌∙◌}
+use Rattle.dg_cells.specs.Rows.{Reuses}
 use Rattle.dg_pool.specs.Graphs.{PoolState, slot_graph, graph_now, slot_at}
 use Rattle.dg_pool.proofs.CountPreservation.{counted_still}
 use Rattle.dg_pool.proofs.SlotGraphs.{grown_pool, grown_now, grown_seen}
@@ -27,3 +28,6 @@ returns-clause-graphs c =
       now = grown_now rows grown grows ∙ ap graph_now c.self.view_is;
       slots = λ t. grown_seen rows grown grows t (slot_at c.self.inside.slots t) ∙ ap (λ (p : PoolState). slot_graph p t) c.self.view_is;
     }
+
+pub returns-clause-reuses : goal.returns-clause-reuses
+returns-clause-reuses c = subst (λ (p : PoolState). Reuses p.rows c.add_by_all-made.new.cells) c.self.view_is c.add_by_all-made.ensures.reuses

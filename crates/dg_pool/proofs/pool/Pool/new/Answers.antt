@@ -1,6 +1,5 @@
 use Rattle.std.proofs.Common.{◌≡◌, [], List, Option, None, Some, sym, ap, ◌∙◌, subst}
-use Rattle.dg_cells.specs.declared.row.Row.{Row}
-use Rattle.dg_cells.specs.Rows.{CellsAreApart, cell_at}
+use Rattle.dg_cells.specs.Rows.{Row, CellsAreApart, cell_at}
 use Rattle.dg_pool.specs.Graphs.{IsBased, IsClean, pair_at, graph_as, picked}
 use Rattle.dg_query.specs.Queries.{counts_of}
 use Rattle.dg_cells.specs.Rows.{is_current}

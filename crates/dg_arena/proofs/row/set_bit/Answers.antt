@@ -1,11 +1,11 @@
 use Rattle.std.proofs.Common.{◌/◌, ◌%◌, ◌^◌, ◌*◌, ◌-◌, get_or, ap, ◌∙◌, sym, eqb, w64, arith}
 use Rattle.std.specs.Prelude.{bit_and, bit_or}
 use Rattle.std.proofs.lemmas.Nat.Bits.{bit_at_set_same, bit_at_set_other, bit_at_clear_same, bit_at_clear_other}
-use Rattle.dg_cells.proofs.Bits.{written}
-use Rattle.dg_cells.proofs.row.set_bit.Goals as goal
+use Rattle.dg_arena.proofs.Bits.{written}
+use Rattle.dg_arena.proofs.row.set_bit.Goals as goal
 
 pub returns-then-on-clause-bits : goal.returns-then-on-clause-bits
-returns-then-on-clause-bits c =
+returns-then-on-clause-bits g c =
     let bs = c.args.row.now.bits in
     let k = c.args.bit % 64 in
     let old = get_or bs (c.args.bit / 64) 0 in
@@ -15,7 +15,7 @@ returns-then-on-clause-bits c =
     (λ i h d. bit_at_set_other w64 old k (omega arith) i d)
 
 pub returns-else-on-clause-bits : goal.returns-else-on-clause-bits
-returns-else-on-clause-bits c =
+returns-else-on-clause-bits g c =
     let bs = c.args.row.now.bits in
     let k = c.args.bit % 64 in
     let old = get_or bs (c.args.bit / 64) 0 in

@@ -1,0 +1,16 @@
+//! Numbered cells in chunks of raw memory, each with a value and 256 bits.
+#![tactic(auto)]
+
+mod cell;
+mod chunk;
+mod raw;
+mod row;
+mod rows;
+mod store;
+
+pub use cell::{Cell, Link};
+pub use chunk::Chunk;
+pub use raw::{Places, Start, Title};
+pub use row::{Row, has_bit, set_bit, without_bits};
+pub use rows::Rows;
+pub use store::Store;
