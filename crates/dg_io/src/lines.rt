@@ -13,7 +13,7 @@ use std::marker::Model;
 use thiserror::Error;
 
 /// The bytes of the buffer. At most `WAITING_BYTES_MAX` of them are held at a read.
-const BUFFER_BYTES: usize = 65_536;
+const BUFFER_BYTES: usize = 16_384;
 
 /// The most bytes that are held where no line feed is among them: those of a longest line, and the
 /// carriage return that may be dropped. With more the line is too long, however it goes on.

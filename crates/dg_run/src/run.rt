@@ -91,6 +91,8 @@ fn carry_out<R: Threads + Sync, S: Source, K: Sink, D: Disk>(
 }
 
 // Answers the script by the session, of which at most so many bytes may be taken.
+// Its frame is large, and stands on the stack only while it runs.
+#[inline(never)]
 fn answer_script<R: Threads + Sync, S: Source, K: Sink, D: Disk>(
     rt: &R,
     alloc: Global,
