@@ -8,9 +8,3 @@ raised_by n count = min (count + n) 18446744073709551615
 -- the count rose, or stands at the last value
 abbrev pub Rose : ℕ → ℕ → Type 0
 Rose old new = raised_by 1 old ≤ new
-
--- what a disk over a file counts
-pub record Counts : Type 0 where
-  pub faults : ℕ  -- the calls that failed
-  pub write_faults : ℕ  -- the writes and syncs that failed
-  pub taken : ℕ  -- the bytes read

@@ -7,7 +7,7 @@ ghost use Rattle.dg_start.specs.declared.fault.StartFault.TheVariants as start_f
 
 use dg_graph::Column;
 use dg_history::Key;
-use dg_start::StartFault;
+use dg_start::{RecordColumn, StartFault};
 use dg_verify::VerifyFault;
 use std::alloc::AllocError;
 use thiserror::Error;
@@ -20,7 +20,7 @@ pub enum SessionFault {
     Start(StartFault),
     /// With `checked`: the first record, in the order of keys, and its first column, that is not what the
     /// file's own events determine.
-    #[error("the record {0:?} is not what the events of the file determine, in {1:?}")]
+    #[error("unsound at {record}: it is not what the events of the file determine", record = RecordColumn(*.0, *.1))]
     Unsound(Key, Column),
 }
 

@@ -9,7 +9,29 @@ use dg_history::Key;
 use dg_now::FromFault;
 use dg_retrieval::RetrievalFault;
 use std::alloc::AllocError;
+use std::fmt;
+use std::fmt::{Display, Formatter};
 use thiserror::Error;
+
+/// A column of a record, named as in replies: `record list 3, column s`.
+#[derive(Clone, Copy)]
+pub struct RecordColumn(pub Key, pub Column);
+
+impl Display for RecordColumn {
+    fn fmt<W: fmt::Write>(&self, f: &mut Formatter<W>) -> fmt::Result {
+        match self.0 {
+            Key::List(number) => write!(f, "record list {number}")?,
+            Key::Piece(number) => write!(f, "record piece {number}")?,
+            Key::Top(height) => write!(f, "record top {height}")?,
+            Key::Down(height, child) => write!(f, "record down {height} {child}")?,
+        }
+        f.write_str(match self.1 {
+            Column::Structure => ", column s",
+            Column::NodeAttr => ", column n",
+            Column::EdgeAttr => ", column e",
+        })
+    }
+}
 
 /// Why an index file is not started from. docs/FORMATS.md says of each where it comes, in the order in
 /// which they are tested.
@@ -19,20 +41,20 @@ pub enum StartFault {
     #[error("the disk failed")]
     Disk,
     /// The file is no index.
-    #[error("the file is no index")]
+    #[error("foreign: it is no index of this program")]
     Foreign,
     /// A segment breaks the format; the offset of its first byte.
-    #[error("the segment at byte {0} breaks the format")]
+    #[error("damaged at offset {0}: the segment there breaks the format")]
     Damaged(u64),
     /// A record that the start reads has a column that is in no spelling, or the columns of a recent piece do not
     /// come together.
-    #[error("the record {0:?} is damaged in {1:?}")]
+    #[error("damaged in {record}", record = RecordColumn(*.0, *.1))]
     BadRecord(Key, Column),
     /// The records along the plan of the last leaf come to a set that is no graph.
-    #[error("the records of the last leaf come to no graph")]
+    #[error("damaged: the records of the last leaf come to no graph")]
     NotGraph,
     /// A recent event is not what some change comes to, or is out of its time; its number in the history, from 1.
-    #[error("event {0} of the history is none that a change comes to")]
+    #[error("damaged at event {0}: it is none that a change comes to")]
     BadRecent(u64),
     /// Want of memory.
     #[error("out of memory")]
@@ -43,7 +65,7 @@ pub enum StartFault {
 #[derive(Clone, Copy, Debug, PartialEq, Eq, Error)]
 pub enum RecordFault {
     /// The record has a column that is in no spelling, or its columns do not come together.
-    #[error("the record {0:?} is damaged in {1:?}")]
+    #[error("damaged in {record}", record = RecordColumn(*.0, *.1))]
     BadRecord(Key, Column),
     /// The disk failed.
     #[error("the disk failed")]

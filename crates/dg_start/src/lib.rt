@@ -14,7 +14,7 @@ mod source_events;
 mod stored_history;
 
 pub use event_source::EventSource;
-pub use fault::{RecordFault, StartFault};
+pub use fault::{RecordColumn, RecordFault, StartFault};
 pub use keys::has_key;
 pub use laws::{law_images_start_as_they_stand, law_starts_are_determined};
 pub use opening::{OpenedFile, open};

@@ -1,6 +1,7 @@
 ghost use Rattle.dg_disk.specs.Image.{HasOffset, HasRange};
 
-use dg_disk::{Disk, Failed, FileDisk, MemoryDisk};
+use dg_disk::{Disk, Failed, MemoryDisk};
+use dg_file_disk::FileDisk;
 use std::fs::{File, Files};
 use std::process::Abort;
 use std::test::Fail;

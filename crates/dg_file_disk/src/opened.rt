@@ -1,0 +1,135 @@
+//! A file that is open: its bytes, its lock, and what this run knows of it.
+
+use crate::reason::Reason;
+use crate::stamp::Stamp;
+use std::fs::{File, TryLockError};
+use std::io;
+use std::io::ErrorKind;
+use std::os::unix::fs::FileExt;
+
+// The number of the error by which some file systems say that they know no locks, where others say that the call is
+// unsupported.
+const NO_LOCKS_AVAILABLE: i32 = 37;
+
+/// A file that is open, and what this run knows of it.
+#[derive(Drop)]
+pub struct Opened {
+    file: File,
+    // why it is open for reading alone, where it is
+    read_only: Option<io::Error>,
+    // the file as this run has seen or left it
+    stamp: Stamp,
+    // whether it is locked for this run, where its file system knows locks
+    is_held: bool,
+    // whether something was written since the last sync
+    is_written: bool,
+    // whether a sync has made sure that the file is found after a crash
+    is_found: bool,
+}
+
+impl Opened {
+    /// A file that was just opened, for reading alone where there is a reason.
+    pub fn new(file: File, read_only: Option<io::Error>) -> io::Result<Opened> {
+        let stamp = Stamp::of(&file.metadata()?);
+        Ok(Opened {
+            file,
+            read_only,
+            stamp,
+            is_held: false,
+            is_written: false,
+            is_found: false,
+        })
+    }
+
+    /// The length of the file in bytes.
+    pub fn len(&self) -> io::Result<u64> {
+        Ok(self.file.metadata()?.len())
+    }
+
+    /// Fills the slice. A file that ends before is an error.
+    pub fn read(&self, offset: u64, into: &mut [u8]) -> io::Result<()> {
+        self.file.read_exact_at(into, offset)
+    }
+
+    /// Writes the whole piece. A write that takes nothing of what is left is an error.
+    pub fn write(&mut self, offset: u64, piece: &[u8]) -> io::Result<()> {
+        self.is_written = true;
+        self.file.write_all_at(piece, offset)
+    }
+
+    /// Brings the file's bytes and length to the device. As long as it may be new it brings also all else that is kept
+    /// about it.
+    pub fn sync(&mut self) -> io::Result<()> {
+        let synced = if self.is_found {
+            self.file.sync_data()
+        } else {
+            self.file.sync_all()
+        };
+        match synced {
+            // It is on the device as it is.
+            Err(error) if self.read_only.is_some() && has_no_sync(&error) => return Ok(()),
+            synced => synced?,
+        }
+        if self.is_written {
+            self.stamp = Stamp::of(&self.file.metadata()?);
+            self.is_written = false;
+        }
+        Ok(())
+    }
+
+    /// Locks the file against other runs that write, to the end of this one. It fails where another run has done so, and
+    /// where the file is open for reading alone.
+    pub fn hold(&mut self) -> Result<(), Reason> {
+        if let Some(error) = self.read_only {
+            return Err(Reason::ReadOnly(error));
+        }
+        if self.is_held {
+            return Ok(());
+        }
+        match self.file.try_lock() {
+            Err(TryLockError::WouldBlock) => return Err(Reason::InUse),
+            Err(TryLockError::Error(error)) if !lacks_locks(&error) => return Err(error.into()),
+            _ => {}
+        }
+        self.is_held = true;
+        Ok(())
+    }
+
+    /// The file as this run has seen or left it.
+    pub fn stamp(&self) -> &Stamp {
+        &self.stamp
+    }
+
+    /// Whether something was written since the last sync.
+    pub fn is_written(&self) -> bool {
+        self.is_written
+    }
+
+    /// Whether this run may write the file.
+    pub fn is_writable(&self) -> bool {
+        self.read_only.is_none()
+    }
+
+    /// Whether a sync has made sure that the file is found after a crash.
+    pub fn is_found(&self) -> bool {
+        self.is_found
+    }
+
+    /// Notes that the file is found after a crash.
+    pub fn note_found(&mut self) {
+        self.is_found = true;
+    }
+}
+
+// Whether the error says that the file's system brings nothing to a device, as one that is only read.
+fn has_no_sync(error: &io::Error) -> bool {
+    match error.kind() {
+        ErrorKind::InvalidInput | ErrorKind::ReadOnlyFilesystem | ErrorKind::Unsupported => true,
+        _ => false,
+    }
+}
+
+// Whether the error says that the file system knows no locks.
+fn lacks_locks(error: &io::Error) -> bool {
+    error.kind() == ErrorKind::Unsupported || error.raw_os_error() == Some(NO_LOCKS_AVAILABLE)
+}
