@@ -1,0 +1,179 @@
+"""A client of deltagraph, a store for the whole history of a graph, whose every answer is proved.
+
+    import deltagraph
+
+    with deltagraph.open("history.dg") as store:
+        store.create()
+        store.load([(10, "+node", 1), (20, "+node", 2), deltagraph.AddEdge(30, 5, 1, 2)])
+        with store.at(20) as then:
+            print(then.counts())
+
+It runs the program, which needs to be built or on the PATH, and speaks its script language (docs/SCRIPT.md).
+"""
+from __future__ import annotations
+
+import os
+from typing import Union
+
+from .calendar import Calendar, NoDate
+from .changes import (
+    AddEdge,
+    AddNode,
+    AnyChange,
+    Change,
+    InvalidChange,
+    LargeInstant,
+    RemoveEdge,
+    RemoveNode,
+    SetEdge,
+    SetNode,
+    UnsetEdge,
+    UnsetNode,
+)
+from .failures import (
+    Closed,
+    DeltagraphError,
+    DiskFault,
+    IndexRefused,
+    Killed,
+    NoMemory,
+    ProgramEnded,
+    ProgramMissing,
+    ScriptLimit,
+    SinkFault,
+    SourceFault,
+    WrongProgram,
+    WrongWords,
+)
+from .process import Program
+from .refusals import (
+    AlreadyLoaded,
+    BadChange,
+    Damaged,
+    FileFull,
+    HandlesSpent,
+    HistoryFull,
+    IndexExists,
+    InUse,
+    LineLong,
+    NoIndex,
+    NotAnOverlay,
+    OutOfMemory,
+    OutOfRange,
+    Parameters,
+    PoolFull,
+    Refused,
+    ShortBatch,
+    StoreRead,
+    Syntax,
+    UnknownHandle,
+    UnknownNode,
+)
+from .replies import (
+    Counts,
+    Edge,
+    EdgeAttribute,
+    Generated,
+    Loaded,
+    Neighbour,
+    Node,
+    NodeAttribute,
+    Plan,
+    Pool,
+    Potential,
+    Record,
+    Span,
+    Step,
+    Tree,
+    Verdict,
+    Verification,
+)
+from .snapshot import EdgeTable, Snapshot, Snapshots
+from .store import Store
+
+__version__ = "0.1.0"
+__all__ = [
+    "AddEdge",
+    "AddNode",
+    "AlreadyLoaded",
+    "AnyChange",
+    "BadChange",
+    "Calendar",
+    "Change",
+    "Closed",
+    "Counts",
+    "Damaged",
+    "DeltagraphError",
+    "DiskFault",
+    "Edge",
+    "EdgeAttribute",
+    "EdgeTable",
+    "FileFull",
+    "Generated",
+    "HandlesSpent",
+    "HistoryFull",
+    "IndexExists",
+    "IndexRefused",
+    "InUse",
+    "InvalidChange",
+    "Killed",
+    "LargeInstant",
+    "LineLong",
+    "Loaded",
+    "Neighbour",
+    "NoDate",
+    "Node",
+    "NodeAttribute",
+    "NoIndex",
+    "NoMemory",
+    "NotAnOverlay",
+    "open",
+    "OutOfMemory",
+    "OutOfRange",
+    "Parameters",
+    "Plan",
+    "Pool",
+    "PoolFull",
+    "Potential",
+    "Program",
+    "ProgramEnded",
+    "ProgramMissing",
+    "Record",
+    "Refused",
+    "RemoveEdge",
+    "RemoveNode",
+    "ScriptLimit",
+    "SetEdge",
+    "SetNode",
+    "ShortBatch",
+    "SinkFault",
+    "Snapshot",
+    "Snapshots",
+    "SourceFault",
+    "Span",
+    "Step",
+    "Store",
+    "StoreRead",
+    "Syntax",
+    "Tree",
+    "UnknownHandle",
+    "UnknownNode",
+    "UnsetEdge",
+    "UnsetNode",
+    "Verdict",
+    "Verification",
+    "WrongProgram",
+    "WrongWords",
+]
+
+
+def open(index: Union[str, "os.PathLike[str]"], program: Program = None, checked: bool = False) -> Store:
+    """A session over an index file, best in a `with`.
+
+    `program` is the program or its words; without it $DELTAGRAPH, `deltagraph` on the PATH, or the one built in the
+    checkout that this package lies in. With `checked` the file is verified first, and refused where it is not sound.
+
+    A file that is not there is made by `Store.create`, and by nothing else. Raises `ProgramMissing`, `WrongProgram`,
+    `IndexRefused` for a file that is no index or a damaged one, and other `ProgramEnded`.
+    """
+    return Store(index, program, checked)

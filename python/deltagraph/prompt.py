@@ -1,0 +1,312 @@
+"""The front end: commands of the script language, and some of its own, at a prompt or from a script.
+
+In a script the replies are the program's own, byte for byte, on standard output, and what is wrong is told in words on
+standard error; a command that the front end itself does not understand is answered by `refused 0 unsent`. At a prompt
+the line `end` of a reply is left out, and instants are shown as dates where there is a calendar.
+"""
+from __future__ import annotations
+
+import os
+import re
+import sys
+from collections import Counter
+from typing import Callable, Iterator, Optional, Protocol
+
+from .failures import DeltagraphError, ProgramEnded
+from .process import Reply
+from .refusals import BadChange, OutOfRange, Refused, refusal
+from .store import Store
+from .words import NUMBER, bytes_of, lines_after, text_of
+
+HELP = """\
+The commands are those of the script language (docs/SCRIPT.md), as
+  at TIME COLS    the graph as of an instant, as a handle; COLS is s, sn, se or sne
+  several COLS TIMES    list HANDLE    counts HANDLE    node HANDLE ID    neighbours HANDLE ID    release HANDLE
+  load COUNT, append COUNT    with the changes in the COUNT lines that follow
+TIME is an instant, first or last of the history, or a date where there is a calendar. HANDLE may be last, which is the
+last one that was given. And there are
+  find NAME [@TIME]        the nodes with this value, and its keys, as of the last instant or of TIME
+  diff TIME TIME [COLS]    what the second graph has not (-) and has (+) beside the first
+  top COUNT degree TIME    the nodes of the highest degrees, with their names
+  :dates ZERO UNIT         says which date instant 0 is, and the unit: seconds, days, ...; :dates alone tells it
+  :help    :quit"""
+
+OF_HANDLES = ("list", "counts", "node", "neighbours", "release")
+OF_TIMES = ("at", "plan", "certify")
+WITH_LAST = {"load": 4, "append": 4, "workload": 3}  # the word of a head line that is an instant
+
+LONGEST_SHOWN = 200  # letters, of a line that is told
+
+STATUS_REFUSED = 1  # with --strict
+STATUS_SINK = 4  # as of the program
+
+AN_INSTANT = re.compile(NUMBER, re.ASCII)
+
+
+class SinkFailed(DeltagraphError):
+    """What was to be printed could not be written."""
+
+
+class Wrong(DeltagraphError):
+    """A command of the front end in another form than it has."""
+
+
+class Lines(Protocol):
+    """Where lines come from."""
+
+    def read(self, prompt: str) -> Optional[bytes]:
+        """The next line without its end, or None at the end of all."""
+
+
+class Script:
+    """Lines from a file or a pipe."""
+
+    def __init__(self, file: Iterator[bytes]) -> None:
+        self._file = file
+
+    def read(self, prompt: str) -> Optional[bytes]:
+        line = next(self._file, None)
+        if line is None or not line.endswith(b"\n"):
+            return line
+        return line[:-2] if line.endswith(b"\r\n") else line[:-1]
+
+
+class Typed:
+    """Lines from a terminal, with editing and a history where there is `readline`."""
+
+    def read(self, prompt: str) -> Optional[bytes]:
+        try:
+            return bytes_of(input(prompt))
+        except EOFError:
+            print()
+            return None
+
+
+class FrontEnd:
+    """A session of a person or a script with a store."""
+
+    def __init__(self, store: Store, lines: Lines, typed: bool, strict: bool) -> None:
+        self.store, self.typed, self.strict = store, typed, strict
+        self._lines, self._over = lines, False
+        self._number = 0  # of the last line that was read
+        self._last: Optional[str] = None  # the last handle that was given
+        self._own: dict[str, Callable[[str], None]] = {
+            "find": self.find,
+            "diff": self.diff,
+            "top": self.top,
+            ":dates": self.dates,
+            ":help": self.help,
+            "help": self.help,
+        }
+
+    def run(self) -> int:
+        """Carries all lines out, and gives the status."""
+        while True:
+            try:
+                read = self._read("deltagraph> ")
+                if read is None or read in (b":quit", b"quit", b"exit"):
+                    return 0
+                if not read or read.startswith(b"#"):
+                    continue
+                wrong = self._obey(text_of(read), self._number)
+            except KeyboardInterrupt:
+                if not self.typed:
+                    raise
+                print("interrupted", file=sys.stderr)
+                continue
+            if wrong and self.strict:
+                return STATUS_REFUSED
+
+    def _read(self, prompt: str) -> Optional[bytes]:
+        line = None if self._over else self._lines.read(prompt)
+        self._over = line is None
+        self._number += 1
+        return line
+
+    def _obey(self, text: str, number: int) -> bool:
+        """Carries a command out, and says whether it was refused."""
+        try:
+            word, _, rest = text.partition(" ")
+            if word in self._own:
+                self._own[word](rest)
+            else:
+                self._command(text)
+            return False
+        except Refused as refused:
+            if not self.typed:
+                self._write(bytes_of(refused.head + "\nend\n"))
+            if isinstance(refused, BadChange):
+                number, text = number + refused.line, refused.text
+            self._tell(number, text, self._words(refused))
+        except (Wrong, ValueError, OSError) as error:
+            if not self.typed:
+                self._write(b"refused 0 unsent\nend\n")
+            self._tell(number, text, str(error))
+        return True
+
+    def _tell(self, number: int, text: str, words: str) -> None:
+        place = "" if self.typed else f"line {number}, "
+        shown = text if len(text) <= LONGEST_SHOWN else text[:LONGEST_SHOWN] + ".."
+        print(f"{place}`{shown}`: {words}", file=sys.stderr, flush=True)
+
+    def _words(self, refused: Refused) -> str:
+        calendar = self.store.calendar
+        words = refused.words()
+        if isinstance(refused, BadChange):
+            words = refused.told
+        if isinstance(refused, OutOfRange) and calendar and refused.first is not None and refused.last is not None:
+            words = f"the history goes from {calendar.text(refused.first)} to {calendar.text(refused.last)}"
+        return f"{words} ({refused.head})"
+
+    # Commands of the script language.
+
+    def _command(self, text: str) -> None:
+        command = self._translated(text)
+        count = lines_after(command)
+        following: list[bytes] = []
+        while len(following) < count:
+            line = self._read("... ")
+            if line is None:
+                break
+            following.append(line)
+        body = b"".join(line + b"\n" for line in following)
+        reply = self.store.send(command, body, short=len(following) < count)
+        try:
+            self._show(reply, following)
+        except BaseException:
+            reply.drop()
+            raise
+
+    def _translated(self, text: str) -> str:
+        """The command with numbers in place of dates, `first` and `last`."""
+        words = text.split(" ")
+        if words[0] in OF_HANDLES and words[1:2] == ["last"]:
+            if self._last is None:
+                raise Wrong("no handle was given yet; `at TIME COLS` gives one")
+            words[1] = self._last
+        elif words[0] in OF_TIMES:
+            words[1:2] = map(self._instant, words[1:2])
+        elif words[0] == "several":
+            words[2:] = map(self._instant, words[2:])
+        return " ".join(words)
+
+    def _instant(self, word: str) -> str:
+        """The instant of a word that stands for one; another word stays, for the program to refuse."""
+        if word in ("first", "last"):
+            span = self.store.span()
+            if span is None:
+                raise Wrong("the history has no event yet")
+            return str(span.last if word == "last" else span.first)
+        return str(self.store.instant(word)) if re.match(r"[0-9]{4}-", word) else word
+
+    def _show(self, reply: Reply, following: list[bytes]) -> None:
+        head = reply.head()
+        if head[0] == "refused":
+            refused = refusal(head, reply.command)
+            if isinstance(refused, BadChange):
+                refused.text = text_of(following[refused.line - 1])
+            raise refused
+        if head[1] in ("at", "materialise"):
+            self._last = head[2]
+        calendar = self.store.calendar if self.typed else None
+        if calendar and head[1] in WITH_LAST:
+            place = WITH_LAST[head[1]]
+            head[place] = calendar.text(int(head[place]))
+        self._write(bytes_of(" ".join(head) + "\n"))
+        for piece in reply.pieces():
+            if head[1] == "several":
+                lines = [line.split(" ") for line in text_of(piece).split("\n")[:-1]]
+                self._last = lines[-1][1]
+                if calendar:
+                    dated = [[word, handle, calendar.text(int(time)), of] for word, handle, time, of in lines]
+                    piece = bytes_of("".join(" ".join(words) + "\n" for words in dated))
+            self._write(piece)
+        self._end()
+
+    # Commands of the front end.
+
+    def find(self, rest: str) -> None:
+        """`find NAME [@TIME]`: a line for each node and key with this value."""
+        name, mark, time = rest.rpartition(" @")
+        if not mark or not (time in ("first", "last") or AN_INSTANT.fullmatch(time) or re.match(r"[0-9]{4}-", time)):
+            name, time = rest, "last"
+        if not name:
+            raise Wrong("it is `find NAME` or `find NAME @TIME`")
+        with self.store.at(int(self._whole(time)), "sn") as graph:
+            found = [f"{node} {key} {value}" for node, key, value in graph.node_attributes() if value == name]
+        self._answer(f"ok find {len(found)}", found)
+
+    def diff(self, rest: str) -> None:
+        """`diff TIME TIME [COLS]`: the elements that only the first graph has, and those that only the second has."""
+        words = rest.split(" ")
+        if len(words) not in (2, 3):
+            raise Wrong("it is `diff TIME TIME` or `diff TIME TIME COLS`")
+        columns = words[2] if len(words) == 3 else "sne"
+        times = [int(self._whole(word)) for word in words[:2]]
+        with self.store.several(times, columns) as (before, after):
+            gone = dict.fromkeys(before.lines())
+            come = []
+            for line in after.lines():
+                if line in gone:
+                    del gone[line]
+                else:
+                    come.append(line)
+        lines = [f"- {text_of(line)}" for line in gone] + [f"+ {text_of(line)}" for line in come]
+        self._answer(f"ok diff {len(gone)} {len(come)}", lines)
+
+    def top(self, rest: str) -> None:
+        """`top COUNT degree TIME`: a line for each node, its degree and its value for the key `name`."""
+        words = rest.split(" ")
+        if len(words) != 3 or words[1] != "degree" or not AN_INSTANT.fullmatch(words[0]):
+            raise Wrong("it is `top COUNT degree TIME`")
+        degrees: Counter[int] = Counter()
+        with self.store.at(int(self._whole(words[2])), "sn") as graph:
+            for _, source, target, _ in graph.edges():
+                degrees[source] += 1
+                degrees[target] += target != source
+            found = sorted(degrees.items(), key=lambda of: (-of[1], of[0]))[: int(words[0])]
+            nodes = [graph.node(node) for node, _ in found]
+        lines = [f"{node.id} {node.degree} {node.attributes.get('name', '')}".rstrip() for node in nodes if node]
+        self._answer(f"ok top {len(lines)}", lines)
+
+    def dates(self, rest: str) -> None:
+        """`:dates ZERO UNIT`: the date of instant 0, and the unit of instants."""
+        if rest:
+            zero, _, unit = rest.rpartition(" ")
+            self.store.set_calendar(zero, unit)
+        calendar = self.store.calendar
+        told = "none" if calendar is None else f"{calendar.text(0)} {calendar.unit}"
+        self._answer(f"ok :dates {told}", [])
+
+    def help(self, rest: str) -> None:
+        """`:help`."""
+        self._answer("ok :help", HELP.split("\n"))
+
+    def _whole(self, word: str) -> str:
+        instant = self._instant(word)
+        if not AN_INSTANT.fullmatch(instant):
+            raise Wrong(f"`{word}` is no instant")
+        return instant
+
+    # What is printed.
+
+    def _answer(self, head: str, lines: list[str]) -> None:
+        self._write(bytes_of("".join(line + "\n" for line in [head, *lines])))
+        self._end()
+
+    def _end(self) -> None:
+        if not self.typed:
+            self._write(b"end\n")
+
+    def _write(self, data: bytes) -> None:
+        left = memoryview(data)
+        try:
+            while left:
+                left = left[os.write(1, left) :]
+        except OSError as error:
+            raise SinkFailed(f"writing failed: {error.strerror}") from error
+
+
+def ended_status(ended: ProgramEnded) -> int:
+    """The status of the front end where the program ended: its own, or for a signal what a shell makes of it."""
+    return 128 - ended.status if ended.status < 0 else ended.status or 1

@@ -1,0 +1,314 @@
+"""The refusals of docs/SCRIPT.md, each with an exception of its own, and what they say in words."""
+from __future__ import annotations
+
+from typing import TYPE_CHECKING, Optional, Sequence
+
+from .failures import DeltagraphError
+
+if TYPE_CHECKING:
+    from .changes import Change
+
+REASONS = {
+    1: ("time", "its time is not later than the history's last time, or is earlier than that of the change before it"),
+    2: ("node-exists", "the node is in the graph already"),
+    3: ("no-node", "the node is not in the graph"),
+    4: ("node-in-use", "an edge of the graph ends at the node, or the node has an attribute"),
+    5: ("edge-exists", "an edge of this id is in the graph already"),
+    6: ("no-edge", "no edge of this id is in the graph"),
+    7: ("edge-in-use", "the edge has an attribute"),
+    8: ("no-end", "its source or its target is not in the graph"),
+    9: ("no-attribute", "there is no value for this key"),
+    10: ("form", "the line is too long, or is no change"),
+}
+
+
+class Refused(DeltagraphError):
+    """A command was refused, and changed nothing.
+
+    `number` and `name` are those of the refusal, `rest` the words behind them, and `command` the command's line.
+    Refusals that this package does not know have this class.
+    """
+
+    def __init__(self, head: Sequence[str], command: str) -> None:
+        self.number, self.name, self.rest, self.command = int(head[1]), head[2], list(head[3:]), command
+        super().__init__()
+
+    def words(self) -> str:
+        """What is wrong, in words."""
+        return "it was refused"
+
+    @property
+    def head(self) -> str:
+        """The head line of the reply."""
+        return " ".join(["refused", str(self.number), self.name, *self.rest])
+
+    def __str__(self) -> str:
+        return f"`{self.command}`: {self.words()} ({self.head})"
+
+
+class Syntax(Refused):
+    """1: the line is no command; `column`, from 1, is where it stops being one."""
+
+    @property
+    def column(self) -> int:
+        return int(self.rest[0])
+
+    def words(self) -> str:
+        return f"this is no command from column {self.column} on"
+
+
+class NoIndex(Refused):
+    """2: there is no index."""
+
+    def words(self) -> str:
+        return "there is no index in the file; `create` makes one"
+
+
+class IndexExists(Refused):
+    """3: `create`, and there is an index."""
+
+    def words(self) -> str:
+        return "there is an index in the file already"
+
+
+class Parameters(Refused):
+    """4: `create` with leaf lists of other than 2 to 65,536 events, or an arity of other than 2 to 64."""
+
+    def words(self) -> str:
+        return "leaf lists have 2 to 65536 events, and the arity is 2 to 64"
+
+
+class ShortBatch(Refused):
+    """5: the script ended before the lines of a batch or of a certificate: `read` of `asked`."""
+
+    @property
+    def read(self) -> int:
+        return int(self.rest[0])
+
+    @property
+    def asked(self) -> int:
+        return int(self.rest[1])
+
+    def words(self) -> str:
+        return f"{self.asked} lines had to follow, and there were {self.read}"
+
+
+class BadChange(Refused):
+    """6: a change of a batch is refused, and none of its batch holds.
+
+    `line`, from 1, is the change's place in its batch, `reason` the number of the reason and `reason_name` its name.
+    What `Store.load` and `Store.append` raise also has `added`, how many changes of the call hold in earlier batches;
+    `position`, from 1, the change's place in the call; `text`, its line; and `change`, itself, or None for a line that
+    is no change.
+    """
+
+    added: int = 0
+    text: str = ""
+    change: Optional["Change"] = None
+
+    @property
+    def line(self) -> int:
+        return int(self.rest[0])
+
+    @property
+    def position(self) -> int:
+        return self.added + self.line
+
+    @property
+    def reason(self) -> int:
+        return int(self.rest[1])
+
+    @property
+    def reason_name(self) -> str:
+        return REASONS.get(self.reason, ("unknown", ""))[0]
+
+    @property
+    def told(self) -> str:
+        """The reason in words."""
+        return REASONS.get(self.reason, ("", f"it has reason {self.reason} against it"))[1]
+
+    def words(self) -> str:
+        text = f", `{self.text}`," if self.text else ""
+        before = f" {self.added} changes before its batch are in the index." if self.added else ""
+        return f"change {self.position}{text} cannot be: {self.told}.{before}"
+
+
+class OutOfRange(Refused):
+    """7: an instant is not in the history. `first` and `last` are its ends, or None where it has no event."""
+
+    @property
+    def first(self) -> Optional[int]:
+        return None if self.rest == ["empty"] else int(self.rest[0])
+
+    @property
+    def last(self) -> Optional[int]:
+        return None if self.rest == ["empty"] else int(self.rest[1])
+
+    def words(self) -> str:
+        if self.first is None:
+            return "the history has no event yet"
+        return f"the history goes from {self.first} to {self.last}"
+
+
+class UnknownHandle(Refused):
+    """8: no such handle lives: it was released, or never given. `handle` is its number."""
+
+    @property
+    def handle(self) -> int:
+        return int(self.rest[0])
+
+    def words(self) -> str:
+        return f"there is no handle {self.handle}"
+
+
+class PoolFull(Refused):
+    """9: `live` handles and those `asked` for are more than 127."""
+
+    @property
+    def live(self) -> int:
+        return int(self.rest[0])
+
+    @property
+    def asked(self) -> int:
+        return int(self.rest[1])
+
+    def words(self) -> str:
+        return f"{self.live} handles live, {self.asked} more are asked for, and there is room for 127; release some"
+
+
+class InUse(Refused):
+    """10: `release` of a base on which the live handle `handle` rests."""
+
+    @property
+    def handle(self) -> int:
+        return int(self.rest[0])
+
+    def words(self) -> str:
+        return f"handle {self.handle} rests on it"
+
+
+class UnknownNode(Refused):
+    """11: `materialise` of a node that the index does not have."""
+
+    def words(self) -> str:
+        return "the index has no such node"
+
+
+class HistoryFull(Refused):
+    """12: the history has `held` events, and with the `batch` it would have too many, or too many names."""
+
+    @property
+    def held(self) -> int:
+        return int(self.rest[0])
+
+    @property
+    def batch(self) -> int:
+        return int(self.rest[1])
+
+    def words(self) -> str:
+        return f"the history has {self.held} events, and {self.batch} more are too many, or their names are"
+
+
+class FileFull(Refused):
+    """13: the index would need `needed` bytes, and has at most `limit`."""
+
+    @property
+    def needed(self) -> int:
+        return int(self.rest[0])
+
+    @property
+    def limit(self) -> int:
+        return int(self.rest[1])
+
+    def words(self) -> str:
+        return f"the index would have {self.needed} bytes, and has at most {self.limit}"
+
+
+class StoreRead(Refused):
+    """14: a read of the index file failed."""
+
+    def words(self) -> str:
+        return "a read of the index file failed"
+
+
+class Damaged(Refused):
+    """15: column `column` (s, n or e) of the record `key` of the index is damaged."""
+
+    @property
+    def key(self) -> str:
+        return " ".join(self.rest[:-1])
+
+    @property
+    def column(self) -> str:
+        return self.rest[-1]
+
+    def words(self) -> str:
+        return f"column {self.column} of the record `{self.key}` is damaged"
+
+
+class OutOfMemory(Refused):
+    """16: memory is wanting."""
+
+    def words(self) -> str:
+        return "there is too little memory"
+
+
+class NotAnOverlay(Refused):
+    """17: `node` or `neighbours` of a handle that holds a node of the index, and no graph."""
+
+    @property
+    def handle(self) -> int:
+        return int(self.rest[0])
+
+    def words(self) -> str:
+        return f"handle {self.handle} holds a node of the index, and not a graph as of an instant"
+
+
+class LineLong(Refused):
+    """18: the line of the command has more than 4,096 bytes."""
+
+    def words(self) -> str:
+        return "the line has more than 4096 bytes"
+
+
+class HandlesSpent(Refused):
+    """19: all numbers of handles were given."""
+
+    def words(self) -> str:
+        return "all numbers of handles were given; begin a new session"
+
+
+class AlreadyLoaded(Refused):
+    """20: `load` or `workload`, and the history has an event."""
+
+    def words(self) -> str:
+        return "the history has events already; `append` adds more"
+
+
+OF_NUMBER: dict[int, type[Refused]] = {
+    1: Syntax,
+    2: NoIndex,
+    3: IndexExists,
+    4: Parameters,
+    5: ShortBatch,
+    6: BadChange,
+    7: OutOfRange,
+    8: UnknownHandle,
+    9: PoolFull,
+    10: InUse,
+    11: UnknownNode,
+    12: HistoryFull,
+    13: FileFull,
+    14: StoreRead,
+    15: Damaged,
+    16: OutOfMemory,
+    17: NotAnOverlay,
+    18: LineLong,
+    19: HandlesSpent,
+    20: AlreadyLoaded,
+}
+
+
+def refusal(head: Sequence[str], command: str) -> Refused:
+    """The exception of a refusal's head line."""
+    return OF_NUMBER.get(int(head[1]), Refused)(head, command)
