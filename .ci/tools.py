@@ -9,17 +9,24 @@ from __future__ import annotations
 import csv
 import gzip
 import importlib
+import importlib.machinery
+import importlib.util
 import io
+import json
 import os
+import pty
 import random
 import re
+import signal
 import subprocess
 import sys
 import traceback
 import xml.etree.ElementTree as xml
 from collections import Counter
+from datetime import datetime, timezone
+from html.parser import HTMLParser
 from pathlib import Path
-from typing import Any, NamedTuple, Optional, Sequence
+from typing import Any, NamedTuple, Optional, Sequence, Union
 
 ROOT = Path(__file__).resolve().parent.parent
 sys.path.insert(0, str(ROOT / "tools"))
@@ -47,16 +54,31 @@ class Tests:
     def same(self, name: str, found: object, due: object) -> None:
         self.check(name, found == due, f"found {found!r}, and not {due!r}")
 
-    def file(self, name: str, text: str) -> str:
+    def file(self, name: str, text: Union[str, bytes]) -> str:
         path = self.folder / name
-        path.write_bytes(program.bytes_of(text))
+        path.write_bytes(program.bytes_of(text) if isinstance(text, str) else text)
         return str(path)
+
+    def one_line(self, name: str, ran: subprocess.CompletedProcess[bytes], status: int, *parts: str) -> None:
+        """A tool ended with a status and one line on standard error that has these parts."""
+        told = program.text_of(ran.stderr)
+        fits = told.count("\n") == 1 and "Traceback" not in told and all(part in told for part in parts)
+        self.check(name, ran.returncode == status and fits, (ran.returncode, told))
 
     def run(self, tool: str, *words: str, script: bytes = b"") -> subprocess.CompletedProcess[bytes]:
         # The time zone of the machine has no say.
-        environment = {**os.environ, "DELTAGRAPH": self.built, "PYTHONDONTWRITEBYTECODE": "1", "TZ": "JST-9"}
-        command = [sys.executable, str(ROOT / tool), *words]
+        command, environment = self.command(tool, *words)
         return subprocess.run(command, input=script, capture_output=True, env=environment, cwd=self.folder)
+
+    def command(self, tool: str, *words: str) -> tuple[list[str], dict[str, str]]:
+        environment = {**os.environ, "DELTAGRAPH": self.built, "PYTHONDONTWRITEBYTECODE": "1", "TZ": "JST-9"}
+        return [sys.executable, str(ROOT / tool), *words], environment
+
+    def shell(self, line: str, tool: str, *words: str) -> subprocess.CompletedProcess[bytes]:
+        """A tool in a line of bash, as `"$@" > /dev/full`."""
+        command, environment = self.command(tool, *words)
+        bash = ["bash", "-c", line, "bash", *command]
+        return subprocess.run(bash, capture_output=True, env=environment, cwd=self.folder, stdin=subprocess.DEVNULL)
 
     def load(self, index: str, script: bytes) -> bytes:
         """The replies of the program to a script over an index that is made for it."""
@@ -178,6 +200,7 @@ def convert_random(tests: Tests, seed: int) -> None:
     path = tests.file("edges.csv", file_of(rng, rows, columns, header))
     words = ["--header"] if header else ["--columns", ",".join(columns)]
     words += ["--undirected"] * undirected + ["--repeat", repeat, "--batch", str(rng.choice([1, 5, 1000]))]
+    words += ["--comments", "%#"]
     ran = tests.run("tools/edges2script", *words, "--create", "4", "2", "union", path)
     replies = tests.load("index", ran.stdout)
     name = f"random edges, seed {seed}"
@@ -212,7 +235,16 @@ def at(time: int, lines: Sequence[str]) -> list[str]:
     return [f"{time} {line}" for line in lines]
 
 
-SCRIPTS: list[tuple[str, list[str], str, list[str]]] = [
+def noted(clock: str) -> list[str]:
+    """A_TO_B with a note of what instants are at its first node."""
+    return [*A_TO_B[:2], f"nset 1 clock {clock}", *A_TO_B[2:]]
+
+
+def loop_of(name: str) -> list[str]:
+    return ["5 +node 1", f"5 nset 1 name {name}", "5 +edge 1 1 1 dir"]
+
+
+SCRIPTS: list[tuple[str, list[str], Union[str, bytes], list[str]]] = [
     ("white space", [], "a b 5\n", at(5, A_TO_B)),
     ("tabs and spaces, with a byte order mark", [], "\ufeff a\t b  5\r\n", at(5, A_TO_B)),
     ("commas", [], "a, b,5", at(5, A_TO_B)),
@@ -225,7 +257,7 @@ SCRIPTS: list[tuple[str, list[str], str, list[str]]] = [
         ["5 +node 1", "5 nset 1 name a x", "5 +edge 1 1 1 dir"],
     ),
     ("the order of time", [], "b c 7\na b 5\n", at(5, A_TO_B) + at(7, ["+node 3", "nset 3 name c", "+edge 2 2 3 dir"])),
-    ("KONECT", ["--columns", "source,target,weight,time"], "% sym\na b -1 5\n", at(5, A_TO_B + ["eset 1 weight -1"])),
+    ("KONECT", ["--form", "konect"], "% sym\na b -1 5\n", at(5, A_TO_B + ["eset 1 weight -1"])),
     ("a column that is skipped", ["--columns", "source,_,target,time"], "a 9 b 5\n", at(5, A_TO_B)),
     (
         "SocioPatterns, with classes",
@@ -264,18 +296,70 @@ SCRIPTS: list[tuple[str, list[str], str, list[str]]] = [
     ("real numbers", ["--scale", "1000"], "a b 1.0059\n", at(1005, A_TO_B)),
     ("a scale that is a fraction", ["--scale", "1/60"], "a b 3e2\n", at(5, A_TO_B)),
     ("a shift", ["--shift", "-1000"], "a b 1005\n", at(1005 - 1000, A_TO_B)),
-    ("a year", ["--time", "iso"], "a,b,1971\n", at(31536000, A_TO_B)),
-    ("a month", ["--time", "iso"], "a,b,1970-02\n", at(2678400, A_TO_B)),
-    ("a day", ["--time", "iso"], "a,b,1970-01-02\n", at(86400, A_TO_B)),
-    ("a moment in another zone", ["--time", "iso"], "a,b,1970-01-01T01:00:05+01:00\n", at(5, A_TO_B)),
-    ("a moment in UTC", ["--time", "iso", "--scale", "10"], "a,b,1970-01-01 00:00:00.500Z\n", at(5, A_TO_B)),
-    ("dates before 1970", ["--time", "iso"], "a,b,1969-12-30T23:59:59\n", at(86399, A_TO_B)),
+    ("a year", ["--times", "iso"], "a,b,1971\n", at(31536000, A_TO_B)),
+    ("a month", ["--times", "iso"], "a,b,1970-02\n", at(2678400, A_TO_B)),
+    ("a day", ["--times", "iso"], "a,b,1970-01-02\n", at(86400, A_TO_B)),
+    ("a moment in another zone", ["--times", "iso"], "a,b,1970-01-01T01:00:05+01:00\n", at(5, A_TO_B)),
+    (
+        "a moment in UTC",
+        ["--times", "iso", "--scale", "10"],
+        "a,b,1970-01-01 00:00:00.500Z\n",
+        at(5, noted("seconds since 1970 times 10 and 0 more")),
+    ),
+    (
+        "dates before 1970",
+        ["--times", "iso"],
+        "a,b,1969-12-30T23:59:59\n",
+        at(86399, noted("seconds since 1970 times 1 and 172800 more")),
+    ),
+    ("without a note of the clock", ["--times", "iso", "--no-clock"], "a,b,1969-12-31\n", at(0, A_TO_B)),
     (
         "what ends when it begins",
         ["--columns", "source,target,time,end"],
         "c d 5 5\na b 5 6\n",
         at(5, A_TO_B) + ["6 -edge 1"],
     ),
+    ("SNAP", ["--form", "snap"], "# FromNodeId\tToNodeId\na\tb\t5\n", at(5, A_TO_B)),
+    ("SNAP with weights", ["--form", "snap"], "a,b,-9,5\n", at(5, A_TO_B + ["eset 1 weight -9"])),
+    (
+        "SocioPatterns as it comes",
+        ["--form", "sociopatterns"],
+        "20\ta\tb\n40\tb\ta\n",
+        at(20, A_TO_B[:4] + ["+edge 1 1 2 undir"]) + ["60 -edge 1"],
+    ),
+    ("a name that begins with a comment's sign", [], "#a,#a,5\n", loop_of("#a")),
+    ("comments that are asked for", ["--comments", "#%"], "# x\na,b,5\n % y\n", at(5, A_TO_B)),
+    ("Latin-1", ["--encoding", "latin-1"], b"M\xfcller,M\xfcller,5\n", loop_of("Müller")),
+    ("bytes that are kept", ["--encoding", "bytes"], b"M\xfcller,M\xfcller,5\n", loop_of("M\udcfcller")),
+    ("UTF-16", ["--encoding", "utf-16"], "ü,ü,5\n".encode("utf-16"), loop_of("ü")),
+    ("a line feed in a quoted field", ["--join-lines", "--separator", "comma"], '"a\nb","a\nb",5\n', loop_of("a b")),
+    ("a line feed in a field that is skipped", ["--columns", "source,_,target,time"], 'a,"x\ny",b,5\n', at(5, A_TO_B)),
+    ("quotes that are letters", ["--no-quotes"], '"a,"a,5\n', loop_of('"a')),
+    (
+        "a header with names of its own",
+        ["--source", "from", "--target", "to", "--time", "date", "--times", "iso", "--weight", "edge weight"],
+        "to,from,edge weight,date\nb,a,2.5,1970-01-02\n",
+        at(86400, A_TO_B + ["eset 1 weight 2.5"]),
+    ),
+    (
+        "a weight beside other values",
+        ["--weight", "w"],
+        "source,target,time,w,kind\na,b,5,2.5,x\n",
+        at(5, A_TO_B + ["eset 1 weight 2.5", "eset 1 kind x"]),
+    ),
+    (
+        "values that are chosen",
+        ["--values", "kind,source.team=the team"],
+        "source,target,time,kind,other,the team\na,b,5,x,y,z\n",
+        at(5, A_TO_B[:2] + ["nset 1 team z"] + A_TO_B[2:] + ["eset 1 kind x"]),
+    ),
+    (
+        "an end that belongs to it",
+        ["--columns", "source,target,time,end", "--closed"],
+        "a b 5 7\n",
+        at(5, A_TO_B) + ["8 -edge 1"],
+    ),
+    ("whole numbers with a point", [], "a,b,5.0\n", at(5, A_TO_B)),
     ("what is later", ["--after", "5"], "a b 5\nb c 7\n", ["7 +node 3", "7 nset 3 name c", "7 +edge 2 2 3 dir"]),
 ]
 
@@ -339,10 +423,10 @@ TABLES: list[tuple[str, list[str], str, str, list[str]]] = [
     ),
 ]
 
-WRONG: list[tuple[str, list[str], str, str]] = [
-    ("no whole number", [], "# x\na b 5\na b 5.5\n", "edges:3: '5.5' is no whole number"),
+WRONG: list[tuple[str, list[str], Union[str, bytes], str]] = [
+    ("no whole number", ["--comments", "#"], "# x\na b 5\na b 5.5\n", "edges:3: '5.5' is no whole number"),
     ("no number", ["--scale", "1"], "a b x\n", "edges:1: 'x' is no number"),
-    ("no date", ["--time", "iso"], "a b 1970-02-30\n", "edges:1: '1970-02-30' is no date"),
+    ("no date", ["--times", "iso"], "a b 1970-02-30\n", "edges:1: '1970-02-30' is no date"),
     ("a negative time", [], "a b 5\na b -5\n", "edges:2: the instant -5 is not from 0 to 2^63-1"),
     ("a time that is too late", [], "a b 9223372036854775808\n", "edges:1: the instant 9223372036854775808"),
     ("a contact that ends too late", ["--contact", "9"], "a b 9223372036854775800\n", "edges:1: the instant"),
@@ -377,6 +461,75 @@ WRONG: list[tuple[str, list[str], str, str]] = [
         "edges:1: neither the edge nor its ends have a time",
     ),
     ("a carriage return", [], "a\rb,b,5\n", "edges:1: a carriage return within a text"),
+    (
+        "a comment that is not asked for",
+        [],
+        "# FromNodeId ToNodeId\na b 5\n",
+        "edges:1: 'ToNodeId' is no whole number; a comment?",
+    ),
+    (
+        "a comment of more fields",
+        [],
+        "a b 5\n% sym of 3 and 4\n",
+        "edges:2: 6 fields, and 3 columns (source,target,time); a comment? (--comments '%')",
+    ),
+    ("a line feed", ["--separator", "comma"], '"a\nb",b,5\n', "edges:1: a line feed within a text (--join-lines"),
+    (
+        "Latin-1 that is not told",
+        [],
+        b"a,b,5\nM\xfcller,b,5\n",
+        "edges:2: a byte that is not in utf-8 (--encoding latin-1",
+    ),
+    (
+        "UTF-16 that is not told",
+        [],
+        "a,b,5\n".encode("utf-16"),
+        "edges:1: a byte that is not in utf-8 (--encoding utf-16)",
+    ),
+    ("tabs", ["--separator", "comma"], "a b\tc d\t5\n", "--separator tab"),
+    (
+        "tabs, and names with spaces",
+        [],
+        "a b\tc d\t5\n",
+        "edges:1: 5 fields, and 3 columns (source,target,time); parted",
+    ),
+    (
+        "semicolons that are not told",
+        [],
+        "a;b;5\n",
+        "edges:1: 1 fields, and 3 columns (source,target,time); parted otherwise? (--separator semicolon)",
+    ),
+    ("a decimal comma", ["--separator", "tab", "--scale", "1"], "a\tb\t1,5\n", "'1,5' is no number (a point is wanted"),
+    (
+        "a header that is not told",
+        [],
+        "from,to,when\na,b,5\n",
+        "edges:1: 'when' is no whole number; names of columns? (--header)",
+    ),
+    ("words for what times are", ["--time", "iso"], "source,target,when\na,b,5\n", "edges:1: no column is named iso"),
+    ("a weight that is not there", ["--weight", "w"], "source,target,time\na,b,5\n", "edges:1: no column is named w"),
+    (
+        "the key of the clock",
+        ["--times", "iso", "--columns", "source,target,time,source.clock"],
+        "a,b,1970,x\n",
+        "the key clock tells what instants are (--no-clock)",
+    ),
+    ("a column that is no key", ["--header"], "source,target,time,edge weight\n", "'edge weight' is no key"),
+    ("a date without dashes", ["--times", "iso"], "a,b,20200101\n", "edges:1: '20200101' is no date"),
+    ("a week", ["--times", "iso"], "a,b,2020-W05-1\n", "edges:1: '2020-W05-1' is no date"),
+    ("a leap second", ["--times", "iso"], "a,b,2016-12-31T23:59:60Z\n", "is no date"),
+    ("no JSON", ["--form", "jsonl"], '{"source": "a"\n', "edges:1: no object of JSON"),
+    ("JSON that is too deep", ["--form", "jsonl"], "[" * 100_000 + "\n", "edges:1: no object of JSON"),
+    (
+        "a list in JSON",
+        ["--form", "jsonl"],
+        '{"source":"a","target":"b","time":5,"tags":[1]}\n',
+        "the value of tags is no text",
+    ),
+    ("no XML", ["--form", "gexf"], "<gexf>", "edges: no XML"),
+    ("leaves that are too small", ["--create", "1", "4", "union"], "a b 5\n", "--create is 2 to 65536"),
+    ("no function", ["--create", "4", "4", "foo"], "a b 5\n", "one of intersection, union, balanced"),
+    ("no encoding", ["--encoding", "latin-99"], "a b 5\n", "is no encoding"),
 ]
 
 
@@ -397,8 +550,10 @@ def convert_forms(tests: Tests) -> None:
     (tests.folder / "edges.gz").write_bytes(gzip.compress(b"a b 5\n"))
     tests.same("a packed file", changes_of(tests.run("tools/edges2script", "edges.gz")), at(5, A_TO_B))
     tests.same("standard input", changes_of(tests.run("tools/edges2script", "-", script=b"a b 5\n")), at(5, A_TO_B))
-    shifted = tests.run("tools/edges2script", "--time", "iso", tests.file("edges", "a b 1969-12-30\n"))
-    tests.same("a shift is told", shifted.stdout.split(b"\n")[0], b"# Times are seconds since 1970, and 172800 more.")
+    shifted = tests.run("tools/edges2script", "--times", "iso", tests.file("edges", "a b 1969-12-30\n"))
+    tests.same(
+        "a shift is told", shifted.stdout.split(b"\n")[0], b"# Times are seconds since 1970 times 1 and 172800 more."
+    )
 
 
 def changes_of(ran: subprocess.CompletedProcess[bytes]) -> list[str]:
@@ -610,6 +765,509 @@ def drawn(tests: Tests, words: list[str], series: list[str], due: list[list[str]
         tests.same(f"an SVG tells its points {words} {name}", marks, told)
 
 
+# What goes wrong: a line and a status, and no more.
+
+TOOLS_ON_INDEX = [
+    ["tools/snapshot", "index", "last"],
+    ["tools/growth", "index"],
+    ["tools/timeline", "index", "--points", "2"],
+]
+
+
+def failures(tests: Tests) -> None:
+    tests.load("index", tests.run("tools/edges2script", tests.file("edges", "a b 5\n" * 3000)).stdout)
+    for words in [["tools/edges2script", "edges"], *TOOLS_ON_INDEX]:
+        name = words[0]
+        full = tests.shell('"$@" > /dev/full', *words)
+        tests.one_line(f"{name} on a full disk", full, 1, "standard output: No space left on device")
+        tests.one_line(f"{name} with a closed output", tests.shell('"$@" >&-', *words), 1, "standard output is closed")
+        closed = tests.shell('"$@" 2>&- | wc -c', *words)
+        tests.check(f"{name} with closed errors", closed.returncode == 0 and int(closed.stdout) > 0, closed)
+        piped = tests.shell('"$@" | head -c 1 > /dev/null; exit ${PIPESTATUS[0]}', *words)
+        tests.check(
+            f"{name} into a reader that ends", piped.stderr.count(b"\n") <= 1 and b"Trace" not in piped.stderr, piped
+        )
+        tests.one_line(
+            f"{name} with wrong words", tests.shell('"$@" --foo 2>&1 | tail -n 1 >&2; exit 2', *words), 2, "--foo"
+        )
+    for words in TOOLS_ON_INDEX[:1] + TOOLS_ON_INDEX[2:]:
+        ran = tests.run(*words, "--output", "no/folder")
+        tests.one_line(f"{words[0]} into no folder", ran, 1, "no/folder: No such file or directory")
+        ran = tests.run(*words, "--output", "/dev/full")
+        tests.one_line(f"{words[0]} into a full file", ran, 1, "/dev/full: No space left on device")
+    tests.one_line(
+        "an SVG into no folder", tests.run("tools/growth", "index", "--svg", "no/svg"), 1, "no/svg: No such file"
+    )
+    tests.file("foreign", "not an index of any kind\n")
+    (tests.folder / "folder").mkdir()
+    for index, reason in (
+        ("foreign", "the index is refused"),
+        ("folder", "the index file failed"),
+        ("none", "no such file"),
+    ):
+        for words in TOOLS_ON_INDEX:
+            ran = tests.run(words[0], index, *words[2:])
+            tests.one_line(f"{words[0]} over {index}", ran, 1, f"{index}: {reason}")
+    tests.check("a question makes no index", not (tests.folder / "none").exists())
+    ran = tests.run("tools/snapshot", "index", "last", "--program", "./nowhere")
+    tests.one_line("no program", ran, 1, "./nowhere: No such file or directory")
+    tests.one_line("a folder as edges", tests.run("tools/edges2script", "folder"), 2, "folder: Is a directory")
+    tests.one_line("closed input", tests.shell('"$@" <&-', "tools/edges2script", "-"), 2, "-: standard input is closed")
+    for name in ("x.gz", "x.gexf.gz", "x.graphml.gz"):
+        ran = tests.run("tools/edges2script", tests.file(name, "a b 5\n"))
+        tests.one_line(f"no gzip: {name}", ran, 2, f"{name}: Not a gzipped file")
+    cut = gzip.compress(b"a b 5\n" * 1000)[:-9]
+    tests.one_line("a gzip that is cut", tests.run("tools/edges2script", tests.file("x.gz", cut)), 2, "x.gz: ")
+    interrupted(tests)
+
+
+def interrupted(tests: Tests) -> None:
+    """A tool that waits for its input is interrupted."""
+    command, environment = tests.command("tools/edges2script", "--progress", "-")
+    pipe = subprocess.PIPE
+    # What is started in the background of a shell ignores interruptions.
+    listen = lambda: signal.signal(signal.SIGINT, signal.SIG_DFL)  # noqa: E731
+    process = subprocess.Popen(
+        command, stdin=pipe, stdout=pipe, stderr=pipe, env=environment, cwd=tests.folder, preexec_fn=listen
+    )
+    assert process.stderr is not None
+    process.stderr.readline()  # it has begun to read
+    process.send_signal(signal.SIGINT)
+    out, told = process.communicate()
+    found = process.returncode, out, told
+    tests.same("an interruption", found, (130, b"", b"edges2script: interrupted\n"))
+
+
+# Large files.
+
+
+def large(tests: Tests) -> None:
+    peaks = []
+    for count in (20_000, 200_000):
+        tests.file("edges", "".join(f"n{i % 97} n{i % 89} {i // 2}\n" for i in range(count)))
+        peaks.append(peak_of(tests, "edges2script", "--batch", "1000", "edges"))
+    tests.check("memory does not grow with a file in order", peaks[1] < peaks[0] + 4096, peaks)
+    rng = random.Random(5)
+    lines = [f"n{rng.randrange(50)} n{rng.randrange(50)} {i}\n" for i in range(5000)]
+    due = tests.run("tools/edges2script", tests.file("edges", "".join(lines))).stdout
+    rng.shuffle(lines)
+    shuffled = tests.run("tools/edges2script", "--progress", tests.file("edges", "".join(lines)))
+    tests.same("lines in no order are sorted", shuffled.stdout == due, True)
+    stages = [b"edges2script: reading", b"edges2script: sorting by time", b"edges2script: writing"]
+    tests.same("progress where it is asked for", shuffled.stderr.split(b"\n")[:3], stages)
+    unsorted = tests.shell('PATH=/nowhere "$@"', "tools/edges2script", "edges")
+    tests.one_line("no sort", unsorted, 1, "the lines are not in the order of their times, and there is no `sort`")
+    tests.one_line(
+        "no progress where it is not", tests.run("tools/edges2script", "edges"), 0, "edges2script: nodes: 50"
+    )
+    on_terminal(tests)
+    same = "".join(f"n{i} m{i} 2010\n" for i in range(210_000))
+    one = tests.run("tools/edges2script", tests.file("edges", "a b 2009\n" + same + "a b 2011\n"))
+    tests.one_line("too many changes at one instant", one, 2, "instant 2010", "1,050,000 changes", "--spread 2")
+    tests.same("nothing is written", one.stdout, b"")
+    spread = tests.run("tools/edges2script", "--spread", "2", "edges").stdout.split(b"\n")
+    times = Counter(line.split(b" ")[0] for line in spread)
+    found = [times[time] for time in (b"4018", b"4020", b"4021", b"4022")]
+    tests.same("an instant that is spread", found, [6, 1 << 20, 1_050_000 - (1 << 20), 1])
+    note = b"4018 nset 1 clock times of the file times 1 and 0 more, spread over 2"
+    tests.check("a spread is noted", note in spread, spread[:5])
+
+
+WATCHED = """\
+import atexit, runpy, sys
+def told():
+    with open("/proc/self/status") as status, open("peak", "w") as out:
+        out.write(next(line.split()[1] for line in status if line.startswith("VmHWM:")))
+atexit.register(told)
+sys.argv = sys.argv[1:]
+sys.path.insert(0, sys.argv[0].rpartition("/")[0])
+runpy.run_path(sys.argv[0], run_name="__main__")
+"""
+
+
+def peak_of(tests: Tests, tool: str, *words: str) -> int:
+    """The peak of a tool's memory in KiB, from Linux; elsewhere nothing."""
+    if not os.path.exists("/proc/self/status"):
+        return 0
+    (_, *command), environment = tests.command(f"tools/{tool}", *words)
+    watched = [sys.executable, "-c", WATCHED, *command]
+    ran = subprocess.run(watched, stdout=subprocess.DEVNULL, env=environment, cwd=tests.folder, stderr=subprocess.PIPE)
+    tests.same(f"{tool} over a large file", ran.returncode, 0)
+    return int((tests.folder / "peak").read_text())
+
+
+def on_terminal(tests: Tests) -> None:
+    ours, theirs = pty.openpty()
+    command, environment = tests.command("tools/edges2script", "edges")
+    subprocess.run(command, stdout=subprocess.DEVNULL, stderr=theirs, env=environment, cwd=tests.folder)
+    os.close(theirs)
+    told = os.read(ours, 1 << 16)
+    os.close(ours)
+    # One line in place of another, and at the end the summary alone.
+    stages = b"edges2script: reading\r\x1b[Kedges2script: sorting by time\r\x1b[Kedges2script: writing\r\x1b[K"
+    tests.check("progress on a terminal", told.startswith(stages + b"edges2script: nodes: 50"), told)
+
+
+def spread_in_parts(tests: Tests) -> None:
+    """The script of an instant with more changes than a small limit, cut by the tool and answered by the program."""
+    loader = importlib.machinery.SourceFileLoader("edges2script", str(ROOT / "tools" / "edges2script"))
+    spec = importlib.util.spec_from_loader("edges2script", loader)
+    assert spec is not None
+    tool: Any = importlib.util.module_from_spec(spec)
+    sys.modules["edges2script"] = tool
+    loader.exec_module(tool)
+    longest, program.LARGEST_BATCH = program.LARGEST_BATCH, 4
+    rows = [f"n{i} m{i} 7\n" for i in range(5)] + ["n0 m1 8\n"]
+    words, sys.argv = sys.argv, ["edges2script", "--spread", "10", tests.file("edges", "".join(rows))]
+    written = io.BytesIO()
+    out, sys.stdout = sys.stdout, io.TextIOWrapper(written)
+    try:
+        tool.write_script(tool.words())
+        script = written.getvalue()
+    finally:
+        sys.argv, sys.stdout, program.LARGEST_BATCH = words, out, longest
+    replies = tests.load("index", script)
+    heads = [line for line in program.text_of(replies).split("\n") if line.startswith(("ok load", "ok append"))]
+    # Five edges with two nodes each, and their texts, and a note, are 26 changes; the last two are in a batch with the
+    # one of the next time.
+    due = ["ok load 4 4 70"] + [f"ok append 4 {4 * i + 4} {70 + i}" for i in range(1, 6)]
+    tests.same("parts of an instant", heads, due + ["ok append 3 27 80"])
+    with tests.reader("index") as reader:
+        tests.same("a time of the file", (reader.instant("@7"), reader.instant("@8")), (79, 89))
+        graph = reader.graph(reader.at(79, "sne"))
+        found = sorted(
+            (graph.name(edge.source, "name"), graph.name(edge.target, "name")) for edge in graph.edges.values()
+        )
+        tests.same("the graph behind all parts", found, [(f"n{i}", f"m{i}") for i in range(5)])
+
+
+# Dates.
+
+
+def dates(tests: Tests) -> None:
+    rows = "a,b,1955-03-01\nb,c,1975-06-01\n"
+    tests.load("index", tests.run("tools/edges2script", "--times", "iso", tests.file("edges", rows)).stdout)
+    for date, due in (("1955-03-01", 1), ("1975-05-31", 1), ("1975-06-01", 2), ("1955-03-02T06:00:00+02:00", 1)):
+        table = tests.run("tools/snapshot", "index", date, "--format", "edges").stdout.decode()
+        tests.same(f"edges as of {date}", len(table.split("\n")) - 2, due)
+    ran = tests.run("tools/growth", "index", "--dates", "--svg", "growth.svg", "--from", "1960-01-01")
+    drawing = xml.parse(tests.folder / "growth.svg").getroot() if ran.returncode == 0 else xml.Element("none")
+    texts = [text.text or "" for text in drawing.iter(f"{SVG}text")]
+    years = [int(text) for text in texts if re.fullmatch("19[0-9]{2}", text)]
+    tests.check("years before 1970", len(years) > 2 and 1960 <= min(years) <= max(years) <= 1975, texts)
+    with tests.reader("index") as reader:
+        clock, ends = reader.clock(), reader.range()
+        due_days = [datetime(1955, 3, 1, tzinfo=timezone.utc), datetime(1975, 6, 1, tzinfo=timezone.utc)]
+        tests.same("the index tells what instants are", [clock.moment(end) for end in ends], due_days)
+    for text in ("1975-13-01", "yesterday", "1975/06/01", "-5"):
+        tests.one_line(f"no date: {text}", tests.run("tools/snapshot", "index", "--", text), 2, repr(text))
+    late = tests.run("tools/snapshot", "index", "1990-01-01")
+    tests.one_line("a date that is out of range", late, 1, "out-of-range")
+    script = "create 4 2 union\nload 1\n86400 +node 1\nappend 1\n864000 +node 2\n"
+    tests.load("plain", script.encode())
+    plain = tests.run("tools/snapshot", "plain", "1970-01-03", "--format", "nodes").stdout
+    tests.same("a date where instants are seconds since 1970", plain, b"node\n1\n")
+
+
+# Other forms of files.
+
+JSON_LINES = """\
+{"source": "a", "target": "b", "time": 5, "weight": 1.50, "kind": null, "seen": true}
+{"source": "b", "target": "c", "time": 7, "end": 9}
+"""
+
+GRAPHML_FILE = """\
+<?xml version="1.0"?>
+<graphml xmlns="http://graphml.graphdrawing.org/xmlns">
+  <key id="d0" for="edge" attr.name="timeset" attr.type="string"/>
+  <key id="d1" for="node" attr.name="team" attr.type="string"><default>red</default></key>
+  <graph edgedefault="undirected">
+    <node id="a"/><node id="b"><data key="d1">blue</data></node>
+    <edge source="a" target="b"><data key="d0">&lt;[5.0, 7.0]; [9.0, Infinity]&gt;</data></edge>
+    <edge source="b" target="a" directed="true"><data key="d0">&lt;[6.0, 8.0, 10.0]&gt;</data></edge>
+  </graph>
+</graphml>
+"""
+
+# As Gephi writes it: spells, timestamps, dates, values that change.
+GEXF_FILE = """\
+<?xml version='1.0' encoding='UTF-8'?>
+<gexf xmlns="http://gexf.net/1.3" version="1.3" xmlns:viz="http://gexf.net/1.3/viz">
+  <graph defaultedgetype="directed" timeformat="date" timerepresentation="interval" mode="dynamic">
+    <attributes class="node" mode="dynamic"><attribute id="size" title="size" type="integer"/></attributes>
+    <nodes>
+      <node id="7" label="Ada" start="1970-01-02">
+        <attvalues><attvalue for="size" value="1" start="1970-01-02" end="1970-01-04"/>
+          <attvalue for="size" value="2" start="1970-01-04" end="Infinity"/></attvalues>
+        <viz:size value="10.0"/>
+      </node>
+      <node id="8" label="Bob"/>
+    </nodes>
+    <edges>
+      <edge id="0" source="7" target="8" weight="2.0">
+        <spells><spell start="1970-01-03" end="1970-01-05"/><spell start="1970-01-07"/></spells>
+      </edge>
+      <edge id="1" source="8" target="7" type="undirected" timestamp="1970-01-06"/>
+    </edges>
+  </graph>
+</gexf>
+"""
+
+DAY = 86_400  # seconds
+
+FORMS: list[tuple[str, str, list[str], str, list[str]]] = [
+    (
+        "JSON lines",
+        "edges.jsonl",
+        [],
+        JSON_LINES,
+        at(5, A_TO_B + ["eset 1 weight 1.50", "eset 1 seen true"])
+        + at(7, ["+node 3", "nset 3 name c", "+edge 2 2 3 dir"])
+        + ["9 -edge 2"],
+    ),
+    (
+        "JSON lines with names of their own",
+        "edges",
+        ["--form", "jsonl", "--source", "from", "--target", "to", "--time", "at", "--values", ""],
+        '{"from": "a", "to": "b", "at": "5", "x": 1}\n',
+        at(5, A_TO_B),
+    ),
+    (
+        "GraphML with intervals and moments",
+        "edges.graphml",
+        [],
+        GRAPHML_FILE,
+        at(5, ["+node 1", "nset 1 name a", "nset 1 team red", "+node 2", "nset 2 name b", "nset 2 team blue"])
+        + ["5 +edge 1 1 2 undir", "6 +edge 2 2 1 dir", "7 -edge 1", "7 -edge 2", "8 +edge 3 2 1 dir"]
+        + ["9 +edge 4 1 2 undir", "9 -edge 3", "10 +edge 5 2 1 dir", "11 -edge 5"],
+    ),
+    (
+        "GEXF with spells",
+        "edges.gexf",
+        [],
+        GEXF_FILE,
+        at(DAY, ["+node 1", "nset 1 name Ada", "nset 1 size 1"])
+        + at(2 * DAY, ["+node 2", "nset 2 name Bob", "+edge 1 1 2 dir", "eset 1 weight 2.0"])
+        + [f"{3 * DAY} nset 1 size 2", f"{4 * DAY} edel 1 weight", f"{4 * DAY} -edge 1"]
+        + [f"{5 * DAY} +edge 2 2 1 undir", f"{5 * DAY + 1} -edge 2"]
+        + at(6 * DAY, ["+edge 3 1 2 dir", "eset 3 weight 2.0"]),
+    ),
+]
+
+
+def other_forms(tests: Tests) -> None:
+    for name, file, words, text, due in FORMS:
+        tests.same(name, changes_of(tests.run("tools/edges2script", *words, tests.file(file, text))), due)
+    closed = tests.run("tools/edges2script", "--closed", "--form", "jsonl", tests.file("edges", JSON_LINES))
+    tests.same("an end of JSON that belongs to it", changes_of(closed)[-1], "10 -edge 2")
+    text = "# x\na b 5\n# y\n"
+    told = tests.run("tools/edges2script", "--comments", "#", tests.file("edges", text)).stderr
+    tests.check("comments are counted", b"comments skipped: 2 lines" in told, told)
+    told = tests.run("tools/edges2script", tests.file("edges", "#tag,b,10\n")).stderr
+    tests.check("what looks like comments is counted", b"taken as they are: 1 lines that begin with #" in told, told)
+    fifo = tests.shell('"$@" <(printf "b c 7\\n") <(printf "a b 5\\n")', "tools/edges2script")
+    tests.same("pipes that are read twice", changes_of(fifo)[0], "5 +node 1")
+    written_by_networkx(tests)
+
+
+def written_by_networkx(tests: Tests) -> None:
+    """Files with times that networkx writes are read, and what is written of them is read by networkx."""
+    try:
+        networkx: Any = importlib.import_module("networkx")
+    except ImportError:
+        print("no networkx here: GraphML and GEXF are read and written by the tests alone")
+        return
+    graph = networkx.MultiDiGraph()
+    rng = random.Random(8)
+    names = ["Ada", "Bob & <Co>", "é漢", 'a "b"', "e"]
+    for edge in range(30):
+        begin = rng.randrange(20)
+        ends = rng.choice(names), rng.choice(names)
+        graph.add_edge(
+            *ends, key=edge, id=edge, time=begin, start=begin, end=begin + rng.randrange(1, 9), weight=edge / 4
+        )
+    graph.graph["mode"] = "dynamic"
+    networkx.write_graphml(graph, tests.folder / "given.graphml")
+    for _, _, values in graph.edges(data=True):
+        del values["time"]
+    networkx.write_gexf(graph, tests.folder / "given.gexf", version="1.2draft")
+    rows = [(s, t, v["start"], v["end"], v["weight"]) for s, t, v in graph.edges(data=True)]
+    for form in ("graphml", "gexf"):
+        script = tests.run("tools/edges2script", f"given.{form}")
+        tests.load("index", script.stdout)
+        with tests.reader("index") as reader:
+            first, last = reader.range()
+        for instant in range(first, last + 1, 3):
+            due = sorted((s, t, w) for s, t, begin, end, w in rows if begin <= instant < end)
+            words = [str(instant), "--numbers", "--ids", "name", "--output", "then." + form, "--format", form]
+            ran = tests.run("tools/snapshot", "index", *words)
+            read = getattr(networkx, f"read_{form}")(tests.folder / f"then.{form}")
+            found = sorted((s, t, values["weight"]) for s, t, values in read.edges(data=True))
+            tests.same(f"{form} from networkx, and back, at {instant}", (ran.returncode, found), (0, due))
+    mixed_by_networkx(tests, networkx)
+
+
+def mixed_by_networkx(tests: Tests, networkx: Any) -> None:
+    """A graph with edges of both kinds, which networkx reads once they are made of one."""
+    _, edges = odd_history(tests, True)
+    both = sum(1 for edge, (s, t, _) in edges.items() if edge % 2 and s != t)
+    for form in ("graphml", "gexf"):
+        for kind, due in (("directed", len(edges) + both), ("undirected", len(edges))):
+            path = str(tests.folder / f"one.{form}")
+            tests.run("tools/snapshot", "index", "last", "--as", kind, "--format", form, "--output", path)
+            read = getattr(networkx, f"read_{form}")(path)
+            found = read.is_directed(), read.number_of_edges()
+            tests.same(f"{form} of one kind: {kind}", found, (kind == "directed", due))
+    same = "create 4 2 union\nload 4\n5 +node 1\n5 +node 2\n5 nset 1 name a\n5 nset 2 name a\n"
+    tests.load("same", same.encode())
+    tests.one_line(
+        "two nodes of one name", tests.run("tools/snapshot", "same", "5", "--ids", "name"), 2, "2 nodes are named"
+    )
+    tests.load("odd", "create 4 2 union\nload 2\n5 +node 1\n5 nset 1 name a\x01b\n".encode())
+    told = tests.run("tools/snapshot", "odd", "5")
+    tests.one_line("what XML has no place for is told", told, 0, "U+FFFD in 1 texts")
+
+
+# The page.
+
+
+class PageParts(HTMLParser):
+    """The texts of scripts, and the addresses that elements name."""
+
+    def __init__(self) -> None:
+        super().__init__()
+        self.scripts: list[str] = []
+        self.addresses: list[str] = []
+        self.inside = False
+
+    def handle_starttag(self, tag: str, attributes: list[tuple[str, Optional[str]]]) -> None:
+        self.inside = tag == "script"
+        if self.inside:
+            self.scripts.append("")
+        self.addresses += [str(value) for name, value in attributes if name in ("src", "href", "action", "srcset")]
+
+    def handle_data(self, data: str) -> None:
+        if self.inside:
+            self.scripts[-1] += data
+
+    def handle_endtag(self, tag: str) -> None:
+        self.inside = False
+
+
+def timeline(tests: Tests) -> None:
+    rng = random.Random(4)
+    rows = [Row(f"n{rng.randrange(12)}", "</script><b>", i, i + rng.randrange(1, 12), {}) for i in range(40)]
+    rows += [Row(f"n{rng.randrange(12)}", f"n{rng.randrange(12)}", i, i + 5, {}) for i in range(40)]
+    text = "".join(f"{row.source},{row.target},{row.begin},{row.end}\n" for row in rows)
+    words = ["--columns", "source,target,time,end", tests.file("edges", text)]
+    tests.load("index", tests.run("tools/edges2script", *words).stdout)
+    last = max(row.end or 0 for row in rows)
+    ran = tests.run("tools/timeline", "index", "--points", "45", "--title", "<Title> & more", "--start-at", "last")
+    page = PageParts()
+    page.feed(ran.stdout.decode())
+    tests.same("a page has two scripts, and no address", (len(page.scripts), page.addresses), (2, []))
+    outside = re.findall(r"https?:|url\(|@import|fetch\(|XMLHttp", ran.stdout.decode())
+    tests.same("a page needs no network", outside, [])
+    tests.check("a page has its title", b"<h1>&lt;Title&gt; &amp; more</h1>" in ran.stdout)
+    told = json.loads(page.scripts[0])
+    times = [int(label) for label in told["labels"]]
+    tests.same("the instants of a page", (times[0], times[-1], len(times), told["start"]), (0, last, 45, 44))
+    for place, time in enumerate(times):
+        nodes = [name for name, runs in told["nodes"] if in_runs(runs, place)]
+        edges = [(told["nodes"][s][0], told["nodes"][t][0]) for s, t, _, runs in told["edges"] if in_runs(runs, place)]
+        due = sorted((row.source, row.target) for row in rows if holds(row, time))
+        found = sorted(nodes), sorted(edges), told["counts"][place][:2]
+        tests.same(f"a page at {time}", found, (sorted(due_nodes(rows, time)), due, [len(nodes), len(due)]))
+    changes_of_page(tests, rows, times, told)
+    spells_of_page(tests, rows, times)
+    few = json.loads(script_of(tests.run("tools/timeline", "index", "--most", "3", "--at", "20", "first").stdout))
+    most = Counter(end for row in rows if holds(row, 20) or holds(row, 0) for end in (row.source, row.target))
+    due_names = {name for name, count in most.items() if count >= sorted(most.values())[-3]}
+    tests.check("the nodes with most edges", {name for name, _ in few["nodes"]} <= due_names, (few["nodes"], most))
+    tests.check("a page tells what it leaves out", few["left"].startswith("Drawn are 3 of "), few["left"])
+    dated = json.loads(script_of(tests.run("tools/timeline", "index", "--dates", "--at", "first", "40").stdout))
+    tests.same("dates of a page", dated["labels"], ["1970-01-01 00:00:00", "1970-01-01 00:00:40"])
+    tests.same("too many instants", tests.run("tools/timeline", "index", "--points", "9999").returncode, 2)
+
+
+def in_runs(runs: Sequence[int], place: int) -> bool:
+    return any(start <= place < end for start, end in zip(runs[::2], runs[1::2]))
+
+
+def script_of(page: bytes) -> str:
+    found = PageParts()
+    found.feed(page.decode())
+    return found.scripts[0]
+
+
+def spells_of_page(tests: Tests, rows: Sequence[Row], times: Sequence[int]) -> None:
+    """The same instants as GEXF: at each of them the spells have the edges that the rows have."""
+    words = ["index", "--format", "gexf", "--output", "page.gexf", "--points", "45"]
+    tests.run("tools/timeline", *words)
+    root = xml.parse(tests.folder / "page.gexf").getroot()
+    space = root.tag.partition("}")[0] + "}"
+    names = {node.get("id"): node.get("label", "") for node in root.iter(f"{space}node")}
+    for time in times:
+        found = []
+        for edge in root.iter(f"{space}edge"):
+            bounds = [(float(s.get("start", "")), float(s.get("end", ""))) for s in edge.iter(f"{space}spell")]
+            if any(start <= time < end for start, end in bounds):
+                found.append((names[edge.get("source")], names[edge.get("target")]))
+        due = sorted((row.source, row.target) for row in rows if holds(row, time))
+        if sorted(found) != due:
+            tests.same(f"spells of GEXF at {time}", sorted(found), due)
+            return
+    tests.check("spells of GEXF", True)
+    try:
+        networkx: Any = importlib.import_module("networkx")
+    except ImportError:
+        return
+    read = networkx.read_gexf(tests.folder / "page.gexf")
+    seen = sum(any(holds(row, time) for time in times) for row in rows)
+    tests.same("spells by networkx", (read.number_of_edges(), read.graph["mode"]), (seen, "dynamic"))
+
+
+def changes_of_page(tests: Tests, rows: Sequence[Row], times: Sequence[int], told: dict[str, Any]) -> None:
+    """What is new and gone between two instants of a page; each row is an edge of its own."""
+    for place in range(1, len(times)):
+        before, now = ([i for i, row in enumerate(rows) if holds(row, time)] for time in times[place - 1 : place + 1])
+        nodes = len(due_nodes(rows, times[place])) - len(due_nodes(rows, times[place - 1]))
+        due = [nodes, 0, len(set(now) - set(before)), len(set(before) - set(now))]
+        if told["counts"][place][2:] != due:
+            tests.same(f"what is new and gone at {times[place]}", told["counts"][place][2:], due)
+            return
+    tests.check("what is new and gone", True)
+
+
+# Words.
+
+
+def words_are_told(tests: Tests) -> None:
+    """What bash completes are the options of --help, and the manual page has the commands of docs/SCRIPT.md."""
+    source = f'source "{ROOT}/tools/completion.bash"; '
+    for tool in ("edges2script", "snapshot", "growth", "timeline"):
+        told = tests.run(f"tools/{tool}", "--help").stdout.decode()
+        due = {option for line in re.findall(r"^  -.*$", told, re.M) for option in re.findall(r"--[a-z-]+", line)}
+        offered = subprocess.run(["bash", "-c", f"{source}_deltagraph_options {tool}"], capture_output=True)
+        tests.same(f"the options of {tool} are completed", set(offered.stdout.decode().split()), due)
+    for line, due_words in (
+        (["edges2script", "--form", "s"], ["snap", "sociopatterns"]),
+        (["tools/growth", "--sv"], ["--svg"]),
+        (["snapshot", "index", "la"], ["last"]),
+        (["deltagraph", "--"], ["--checked"]),
+    ):
+        words = " ".join(f"'{word}'" for word in line)
+        ask = f"COMP_WORDS=({words}); COMP_CWORD={len(line) - 1}; _deltagraph {line[0]} '{line[-1]}' '{line[-2]}'; "
+        found = subprocess.run(["bash", "-c", f'{source}{ask}printf "%s\\n" "${{COMPREPLY[@]}}"'], capture_output=True)
+        tests.same(f"what is completed of {line}", found.stdout.decode().split(), due_words)
+    manual = (ROOT / "docs" / "deltagraph.1").read_text(encoding="utf-8")
+    script = (ROOT / "docs" / "SCRIPT.md").read_text(encoding="utf-8")
+    for part, marks in (("## Commands", r"^\| `([a-z]+)"), ("## Refusals", r"^\| [0-9]+ `([a-z-]+)`")):
+        section = script.partition(part)[2].partition("\n## ")[0]
+        missing = [word for word in re.findall(marks, section, re.M) if word not in manual]
+        tests.same(f"the manual page has what is in {part[3:]}", missing, [])
+
+
 # The tutorial.
 
 
@@ -664,7 +1322,9 @@ def bench_of_a_liar(tests: Tests, word: str) -> None:
 
 def main() -> int:
     tests = Tests(sys.argv[1], sys.argv[2])
-    for part in (convert_many, convert_forms, convert_batches, snapshots, growth, tutorial_as_written, bench):
+    parts = [convert_many, convert_forms, convert_batches, other_forms, large, spread_in_parts, dates]
+    parts += [snapshots, growth, timeline, failures, words_are_told, tutorial_as_written, bench]
+    for part in parts:
         try:
             part(tests)
         except Exception:  # what a test stands on is not as it has to be

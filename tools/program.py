@@ -6,13 +6,18 @@ from __future__ import annotations
 
 import argparse
 import os
+import re
 import shutil
 import subprocess
 import sys
+from contextlib import contextmanager
 from dataclasses import dataclass, field
 from itertools import groupby
 from pathlib import Path
-from typing import Iterable, Iterator, NoReturn, Optional, Sequence, TypeVar
+from time import monotonic
+from typing import IO, Callable, Iterable, Iterator, NoReturn, Optional, Sequence, TypeVar
+
+from clock import Clock, clock_of, seconds_of
 
 LAST_INSTANT = 2**63 - 1
 LARGEST_ID = 2**64 - 1
@@ -23,6 +28,14 @@ MOST_INSTANTS = 32  # of one `several`
 
 STATUS_FAILED = 1
 STATUS_WRONG_INPUT = 2
+STATUS_INTERRUPTED = 130
+
+TICK = 1 << 14  # lines or elements between two looks at the time
+CLOCK_KEY = "clock"  # the key whose value at a node of the first graph tells what instants are
+
+
+class WrongInput(Exception):
+    """What was given is not as it has to be."""
 
 
 class ProgramFailed(Exception):
@@ -87,6 +100,18 @@ def bytes_of(text: str) -> bytes:
     return text.encode("utf-8", "surrogateescape")
 
 
+def spread(first: int, last: int, points: int) -> list[int]:
+    """Up to so many instants, evenly spread, both ends among them."""
+    if points == 1:
+        return [last]
+    return sorted({first + (last - first) * i // (points - 1) for i in range(points)})
+
+
+def shown(text: str) -> str:
+    """A text for people: what is no UTF-8 in it is U+FFFD."""
+    return bytes_of(text).decode("utf-8", "replace")
+
+
 def is_key(text: str) -> bool:
     key = bytes_of(text)
     return 1 <= len(key) <= LONGEST_KEY and all(byte > 32 for byte in key)
@@ -128,8 +153,10 @@ class Session:
     def __init__(self, program: Sequence[str], index: str) -> None:
         # A name that begins with `-` would be taken for an option.
         path = index if os.path.isabs(index) else os.path.join(".", index)
+        self.index = index
+        pipe = subprocess.PIPE
         try:
-            self.process = subprocess.Popen([*program, path], stdin=subprocess.PIPE, stdout=subprocess.PIPE, bufsize=0)
+            self.process = subprocess.Popen([*program, path], stdin=pipe, stdout=pipe, stderr=pipe, bufsize=0)
         except OSError as error:
             raise ProgramFailed(f"{program[0]}: {error.strerror}") from error
 
@@ -154,7 +181,7 @@ class Session:
         return b"".join(pieces)
 
     def ask(self, command: str, following: bytes = b"") -> Reply:
-        """The reply to a command. Raises `Refused` where it is a refusal."""
+        """The reply to a command. Raises `Refused` where it is a refusal, and `ProgramFailed` where there is none."""
         reply = self.send(command, following)
         head, body = reply.split(b"\n", 1)
         if head.startswith(b"refused "):
@@ -162,8 +189,11 @@ class Session:
         return Reply(text_of(head).split(" "), body[: -len(b"end\n")])
 
     def ended(self, command: str) -> NoReturn:
+        assert self.process.stderr is not None
         status = self.close()
-        raise ProgramFailed(f"the program ended with status {status} before it answered `{command}`")
+        told = "; ".join(text_of(self.process.stderr.read()).replace("deltagraph: ", "").splitlines())
+        reason = told or f"no answer to `{command}`"
+        raise ProgramFailed(f"{self.index}: {reason} (the program ended with status {status})")
 
     def close(self) -> int:
         """Ends the script, and gives the status of the run."""
@@ -190,6 +220,7 @@ class Reader:
             raise ProgramFailed(f"{index}: no such file")
         self.program, self.index = program, index
         self.live: list[int] = []
+        self.known_clock: Optional[Clock] = None
         self.session = self.start()
 
     def start(self) -> Session:
@@ -202,12 +233,32 @@ class Reader:
             self.live.pop()
 
     def instant(self, text: str) -> int:
-        """An instant as it is written on a command line: a number, `first` or `last`."""
+        """An instant as it is written on a command line: a number, `first`, `last`, a date, or @T for a time T of a file.
+
+        A date, or a time, has the instant behind all that happened at it. Another text is a `WrongInput`.
+        """
         if text in ("first", "last"):
             return self.range()[text == "last"]
-        if not text.isdecimal():
-            raise ValueError(f"{text!r} is no instant")
-        return int(text)
+        if text.isascii() and text.isdecimal():
+            return int(text)
+        try:
+            if re.fullmatch("@-?[0-9]+", text):
+                return self.clock().last(int(text[1:]))
+            if "-" in text[1:]:
+                return self.clock().last(seconds_of(text))
+        except ValueError as error:
+            raise WrongInput(error) from error
+        raise WrongInput(f"{text!r} is no instant, and no date as 2024-06-10")
+
+    def clock(self) -> Clock:
+        """What instants are: as the history itself tells, else seconds since 1970."""
+        if self.known_clock is None:
+            first = self.range()[0]
+            handle = int(self.session.ask(f"at {first} sn").head[2])
+            notes = [values[CLOCK_KEY] for values in self.graph(handle).nodes.values() if CLOCK_KEY in values]
+            self.session.ask(f"release {handle}")
+            self.known_clock = next((clock for clock in map(clock_of, notes) if clock is not None), Clock())
+        return self.known_clock
 
     def range(self) -> tuple[int, int]:
         """The first and the last instant of the history."""
@@ -275,6 +326,38 @@ class Reader:
         self.close()
 
 
+class Progress:
+    """Lines about long work on standard error: on a terminal one that changes; with `wanted` one each few seconds."""
+
+    EVERY = 2.0  # seconds
+    CLEAR = "\r\033[K"
+    shown = False  # a line that changes stands on the terminal
+
+    def __init__(self, tool: str = "", wanted: bool = False) -> None:
+        self.tool, self.wanted = tool, wanted
+        self.terminal = sys.stderr is not None and sys.stderr.isatty()
+        self.next = monotonic() + self.EVERY
+
+    def stage(self, text: str) -> None:
+        """Tells what begins."""
+        if self.wanted or self.terminal:
+            self.show(text)
+
+    def tick(self, text: str) -> None:
+        """Tells how far it is, if the last line is some time ago."""
+        if (self.wanted or self.terminal) and monotonic() >= self.next:
+            self.show(text)
+
+    def show(self, text: str) -> None:
+        self.next = monotonic() + self.EVERY
+        say(f"{self.tool}: {text}", after="" if self.terminal else "\n")
+        Progress.shown = self.terminal
+
+    def done(self) -> None:
+        """Takes the line that changes away."""
+        say("", after="")
+
+
 def parser_of(description: str, epilog: str) -> argparse.ArgumentParser:
     """A parser of words whose texts keep their lines."""
     form = argparse.RawDescriptionHelpFormatter
@@ -289,7 +372,105 @@ def add_program(parser: argparse.ArgumentParser) -> None:
     )
 
 
+def add_progress(parser: argparse.ArgumentParser) -> None:
+    parser.add_argument(
+        "--progress", action="store_true", help="tell on standard error how far it is, where that is no terminal too"
+    )
+
+
+def say(text: str, after: str = "\n") -> None:
+    """Writes to standard error, in place of a line that changes; where that is closed or full, the text is lost."""
+    clear = Progress.CLEAR if Progress.shown else ""
+    Progress.shown = False
+    try:
+        if sys.stderr is not None:
+            sys.stderr.write(clear + text + after)
+            sys.stderr.flush()
+    except OSError:
+        pass
+
+
 def fail(tool: str, reason: object, status: int = STATUS_WRONG_INPUT) -> NoReturn:
     """Ends a tool with a line on standard error."""
-    print(f"{tool}: {reason}", file=sys.stderr)
+    say(f"{tool}: {reason}")
     raise SystemExit(status)
+
+
+def system_reason(error: OSError) -> str:
+    """What the system says against a file; without a name, it is standard output."""
+    return f"{error.filename or 'standard output'}: {error.strerror or error}"
+
+
+def run(tool: str, main: Callable[[], None]) -> NoReturn:
+    """Runs a tool, and ends it with its status. Whatever fails is a line on standard error.
+
+    Status 0 is a tool that is done, 1 what failed, 2 wrong words and input, 130 an interruption.
+    """
+    hold_descriptors()
+    try:
+        main()
+        if sys.stdout is not None:
+            sys.stdout.flush()
+    except WrongInput as error:
+        fail(tool, error)
+    except (ProgramFailed, Refused) as error:
+        fail(tool, error, STATUS_FAILED)
+    except BrokenPipeError:
+        raise SystemExit(STATUS_FAILED)
+    except OSError as error:
+        fail(tool, system_reason(error), STATUS_FAILED)
+    except MemoryError:
+        fail(tool, "out of memory", STATUS_FAILED)
+    except KeyboardInterrupt:
+        fail(tool, "interrupted", STATUS_INTERRUPTED)
+    finally:
+        forget_output()
+    raise SystemExit(0)
+
+
+def output() -> IO[bytes]:
+    """Standard output, for bytes. One that is closed is a `ProgramFailed`."""
+    if sys.stdout is None:
+        raise ProgramFailed("standard output is closed")
+    out: IO[bytes] = sys.stdout.buffer
+    return out
+
+
+def write_lines(lines: Iterable[str], file: Optional[str] = None) -> None:
+    """Writes lines to a file, or to standard output."""
+    if file is not None:
+        with naming(file), open(file, "wb") as out:
+            out.writelines(bytes_of(line + "\n") for line in lines)
+        return
+    output().writelines(bytes_of(line + "\n") for line in lines)
+    output().flush()
+
+
+@contextmanager
+def naming(file: str) -> Iterator[None]:
+    """Names a file in what the system says against it."""
+    try:
+        yield
+    except OSError as error:
+        if error.filename is None:
+            error.filename = file
+        raise
+
+
+def hold_descriptors() -> None:
+    """Puts the empty device where a standard descriptor is closed, so that no file is opened there."""
+    while True:
+        descriptor = os.open(os.devnull, os.O_RDWR)
+        if descriptor > 2:
+            os.close(descriptor)
+            return
+
+
+def forget_output() -> None:
+    """Lets what could not be written go, so that the interpreter does not try again."""
+    try:
+        if sys.stdout is not None:
+            sys.stdout.flush()
+    except OSError:
+        empty = os.open(os.devnull, os.O_WRONLY)
+        os.dup2(empty, sys.stdout.fileno())
