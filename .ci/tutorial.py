@@ -46,7 +46,7 @@ def parts(text: str) -> Iterator[Union[str, Command]]:
 
 def printed_by(commands: list[Command], program: str, folder: str) -> list[list[str]]:
     """What each command prints, on standard output and standard error."""
-    for name in ("tools", "examples", "docs"):
+    for name in ("tools", "examples", "docs", "python"):
         (Path(folder) / name).symlink_to(ROOT / name)
     script = "exec 2>&1\n" + "".join("\n".join(c.lines) + f"\necho '{MARK}'\n" for c in commands)
     path = os.path.dirname(os.path.abspath(program)) + os.pathsep + os.environ.get("PATH", "")
