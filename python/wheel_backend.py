@@ -51,9 +51,9 @@ def build_wheel(wheel_directory: str, config_settings: Any = None, metadata_dire
     stem = f"{PACKAGE}-{_told('version')}"
     files = {f"{PACKAGE}/{path.name}": path.read_bytes() for path in _sources()}
     files[f"{stem}.dist-info/METADATA"] = _metadata().encode()
-    files[f"{stem}.dist-info/WHEEL"] = (
-        f"Wheel-Version: 1.0\nGenerator: {Path(__file__).stem}\nRoot-Is-Purelib: true\nTag: py3-none-any\n".encode()
-    )
+    files[
+        f"{stem}.dist-info/WHEEL"
+    ] = f"Wheel-Version: 1.0\nGenerator: {Path(__file__).stem}\nRoot-Is-Purelib: true\nTag: py3-none-any\n".encode()
     record = f"{stem}.dist-info/RECORD"
     rows = []
     for name, content in files.items():

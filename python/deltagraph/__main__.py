@@ -4,6 +4,7 @@ from __future__ import annotations
 import argparse
 import os
 import sys
+from io import TextIOWrapper
 
 from . import open as open_store
 from .failures import DeltagraphError, ProgramEnded
@@ -64,11 +65,14 @@ def main() -> int:
         print("deltagraph: reading the script failed", file=sys.stderr)
         return STATUS_SOURCE
     typed = sys.stdin.isatty() and sys.stdout is not None and sys.stdout.isatty()
-    lines: Lines = Typed() if typed else Script(iter(sys.stdin.buffer))
+    lines: Lines = Typed()
+    if not typed:
+        lines = Script(iter(sys.stdin.buffer))
     try:
         with open_store(options.index, options.program, options.checked) as store:
             if typed:
-                sys.stdin.reconfigure(errors="surrogateescape")  # type: ignore[union-attr]
+                if isinstance(sys.stdin, TextIOWrapper):
+                    sys.stdin.reconfigure(errors="surrogateescape")
                 edited()
             return FrontEnd(store, lines, typed, options.strict).run()
     except ProgramEnded as ended:

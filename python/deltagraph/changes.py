@@ -6,7 +6,7 @@ A change is an object of one of the classes below, a tuple of its time, its word
 from __future__ import annotations
 
 from functools import lru_cache
-from typing import Iterable, Iterator, NamedTuple, Optional, Sequence, Union
+from typing import ClassVar, Iterable, Iterator, NamedTuple, Optional, Sequence, Union
 
 from .failures import DeltagraphError
 from .words import LARGEST_BATCH, LARGEST_ID, LAST_INSTANT, LONGEST_KEY, LONGEST_VALUE, bytes_of, text_of
@@ -55,19 +55,22 @@ def _value(value: str) -> str:
 
 
 def _same(change: object, other: object) -> bool:
-    return type(change) is type(other) and tuple.__eq__(change, other)  # type: ignore[arg-type]
+    return type(change) is type(other) and tuple.__eq__(change, other)
 
 
 def _other(change: object, other: object) -> bool:
     return not _same(change, other)
 
 
-class _OfOwner(NamedTuple):
+class _Owner(NamedTuple):
     time: int
     id: int
 
-    WORD = ""
-    __eq__, __ne__, __hash__ = _same, _other, tuple.__hash__  # type: ignore[assignment]
+
+class _OfOwner(_Owner):
+    WORD: ClassVar[str] = ""
+    __slots__ = ()
+    __eq__, __ne__, __hash__ = _same, _other, tuple.__hash__
 
     def line(self) -> str:
         """The line of the script, without its line feed. Raises `InvalidChange` where there is none."""
@@ -77,14 +80,17 @@ class _OfOwner(NamedTuple):
         raise _outside(time, owner)
 
 
-class _OfValue(NamedTuple):
+class _OwnerKeyValue(NamedTuple):
     time: int
     id: int
     key: str
     value: str
 
-    WORD = ""
-    __eq__, __ne__, __hash__ = _same, _other, tuple.__hash__  # type: ignore[assignment]
+
+class _OfValue(_OwnerKeyValue):
+    WORD: ClassVar[str] = ""
+    __slots__ = ()
+    __eq__, __ne__, __hash__ = _same, _other, tuple.__hash__
 
     def line(self) -> str:
         """The line of the script, without its line feed. Raises `InvalidChange` where there is none."""
@@ -94,13 +100,16 @@ class _OfValue(NamedTuple):
         raise _outside(time, owner)
 
 
-class _OfKey(NamedTuple):
+class _OwnerKey(NamedTuple):
     time: int
     id: int
     key: str
 
-    WORD = ""
-    __eq__, __ne__, __hash__ = _same, _other, tuple.__hash__  # type: ignore[assignment]
+
+class _OfKey(_OwnerKey):
+    WORD: ClassVar[str] = ""
+    __slots__ = ()
+    __eq__, __ne__, __hash__ = _same, _other, tuple.__hash__
 
     def line(self) -> str:
         """The line of the script, without its line feed. Raises `InvalidChange` where there is none."""
@@ -124,17 +133,20 @@ class RemoveNode(_OfOwner):
     __slots__ = ()
 
 
-class AddEdge(NamedTuple):
-    """An edge comes between two nodes that are there; a loop and several edges between two nodes are allowed."""
-
+class _Edge(NamedTuple):
     time: int
     id: int
     source: int
     target: int
     directed: bool = True
 
-    WORD = "+edge"
-    __eq__, __ne__, __hash__ = _same, _other, tuple.__hash__  # type: ignore[assignment]
+
+class AddEdge(_Edge):
+    """An edge comes between two nodes that are there; a loop and several edges between two nodes are allowed."""
+
+    WORD: ClassVar[str] = "+edge"
+    __slots__ = ()
+    __eq__, __ne__, __hash__ = _same, _other, tuple.__hash__
 
     def line(self) -> str:
         """The line of the script, without its line feed. Raises `InvalidChange` where there is none."""
@@ -182,7 +194,9 @@ class UnsetEdge(_OfKey):
 
 Change = Union[AddNode, RemoveNode, AddEdge, RemoveEdge, SetNode, UnsetNode, SetEdge, UnsetEdge]
 AnyChange = Union[Change, "tuple[object, ...]", str, bytes]
-CLASSES = frozenset((AddNode, RemoveNode, AddEdge, RemoveEdge, SetNode, UnsetNode, SetEdge, UnsetEdge))
+CLASSES: frozenset[type[Change]] = frozenset(
+    (AddNode, RemoveNode, AddEdge, RemoveEdge, SetNode, UnsetNode, SetEdge, UnsetEdge)
+)
 OF_WORD: dict[str, type[Change]] = {kind.WORD: kind for kind in CLASSES}
 DIRECTIONS = {"dir": True, "undir": False}
 
@@ -213,7 +227,7 @@ def line_of(change: AnyChange) -> str:
     """
     try:
         if type(change) in CLASSES:
-            return change.line()  # type: ignore[union-attr]
+            return change.line()  # type: ignore
         if isinstance(change, (str, bytes)):
             return _one_line(text_of(change) if isinstance(change, bytes) else change)
         time, word, *fields = change

@@ -104,5 +104,6 @@ OF_STATUS: dict[int, type[ProgramEnded]] = {
 
 def program_ended(status: int, errors: Sequence[str], command: str = "") -> ProgramEnded:
     """The exception of a status, as docs/SCRIPT.md has them."""
-    kind = Killed if status < 0 else OF_STATUS.get(status, ProgramEnded)
-    return kind(status, errors, command)
+    if status < 0:
+        return Killed(status, errors, command)
+    return OF_STATUS.get(status, ProgramEnded)(status, errors, command)

@@ -115,9 +115,7 @@ class Process:
         pipe = subprocess.PIPE
         try:
             # In a session of its own, so that an interrupt at the keyboard does not end it within a command.
-            self._run = subprocess.Popen(
-                words, stdin=pipe, stdout=pipe, stderr=pipe, bufsize=0, start_new_session=True
-            )
+            self._run = subprocess.Popen(words, stdin=pipe, stdout=pipe, stderr=pipe, bufsize=0, start_new_session=True)
         except OSError as error:
             raise ProgramMissing(f"{program[0]}: {error.strerror}") from error
         assert self._run.stdin is not None and self._run.stdout is not None and self._run.stderr is not None

@@ -121,7 +121,7 @@ class Plan(NamedTuple):
 
     def lines(self) -> list[str]:
         """The lines of the certificate."""
-        return [part.line() for part in (*self.steps, *self.potentials)]
+        return [*(step.line() for step in self.steps), *(potential.line() for potential in self.potentials)]
 
 
 class Verdict(NamedTuple):

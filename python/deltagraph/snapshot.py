@@ -107,7 +107,8 @@ class Snapshot:
             return table
         import numpy
 
-        return EdgeTable(*(numpy.array(column, numpy.uint64) for column in table[:3]), numpy.array(table[3], bool))
+        ids, sources, targets = (numpy.array(column, numpy.uint64) for column in table[:3])
+        return EdgeTable(ids, sources, targets, numpy.array(table.directed, bool))
 
     def to_networkx(self) -> Any:
         """A graph of networkx with the attributes of the columns. Raises ImportError where networkx is not there.

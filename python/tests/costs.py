@@ -87,7 +87,9 @@ def main() -> None:
                     lambda: deque(snapshot.lines(), 0),
                     lambda: deque(getattr(snapshot, name)(), 0),
                 )
-            print(f"{name}: lines of a file {bare:.2f}, lines() {listed:.2f}; read in a loop {read:.2f}, {name}() {elements:.2f}")
+            print(
+                f"{name}: lines of a file {bare:.2f}, lines() {listed:.2f}; read in a loop {read:.2f}, {name}() {elements:.2f}"
+            )
         with deltagraph.open(index, [*rote, "{}"]) as store:
             made = changes()
             texts = [change.line() for change in made]  # type: ignore[union-attr]

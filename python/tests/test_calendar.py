@@ -49,8 +49,19 @@ class Calendars(unittest.TestCase):
             self.assertEqual(calendar.text(LAST_INSTANT), str(LAST_INSTANT))
 
     def test_what_is_no_date(self) -> None:
-        for given in ("", "2023", "2023-06", "20230610", "2023-W05-1", "2023-02-30", "2023-06-10T12", "10.06.2023",
-                      "2023-06-10+02:00", "2023-06-10T25:00", "2023-06-10x"):
+        for given in (
+            "",
+            "2023",
+            "2023-06",
+            "20230610",
+            "2023-W05-1",
+            "2023-02-30",
+            "2023-06-10T12",
+            "10.06.2023",
+            "2023-06-10+02:00",
+            "2023-06-10T25:00",
+            "2023-06-10x",
+        ):
             with self.subTest(given), self.assertRaises(NoDate):
                 moment_of(given)
         with self.assertRaises(NoDate):
@@ -77,7 +88,13 @@ class Kept(Case):
 
     def test_a_file_that_holds_none(self) -> None:
         file = self.folder / "history.dg.time"
-        for text in ("", "[]", '{"zero": "1970-01-01"}', '{"zero": 5, "unit": "days"}', '{"zero": "x", "unit": "days"}'):
+        for text in (
+            "",
+            "[]",
+            '{"zero": "1970-01-01"}',
+            '{"zero": 5, "unit": "days"}',
+            '{"zero": "x", "unit": "days"}',
+        ):
             file.write_text(text)
             with self.subTest(text), self.assertRaises(NoDate):
                 read_calendar(str(self.index))

@@ -73,7 +73,17 @@ class Changes(unittest.TestCase):
                 line_of(change)  # type: ignore[arg-type]
 
     def test_lines_that_say_no_change(self) -> None:
-        wrong = ["", "x", "10", "10 +node", "10 +node 01", "-1 +node 1", "10 +node 1 2", "10 +edge 1 2 3", "10 nset 1 k"]
+        wrong = [
+            "",
+            "x",
+            "10",
+            "10 +node",
+            "10 +node 01",
+            "-1 +node 1",
+            "10 +node 1 2",
+            "10 +edge 1 2 3",
+            "10 nset 1 k",
+        ]
         for line in wrong + ["10 +edge 1 2 3 both", "10 +node \u0661", "10  +node 1", "10 ndel 1 k v", "10 +node 1 "]:
             self.assertIsNone(change_of(line), line)
 

@@ -44,7 +44,9 @@ class FrontEnd(Case):
 class Scripts(FrontEnd):
     def test_replies_are_those_of_the_program(self) -> None:
         asked = b"# a comment\n\nat 40 sn\r\nlist 1\nseveral sne 10 40\nplan 20 s\npool\nfoo\nat 99 s\nverify\ntree\nclean all\n"
-        asked += b"append 2\n50 +node 9\n50 +node 9\nappend 3\n60 +node 11\nlist 1\ncertify 20 s 1\nx\n\xff \xfe\nlist 7"
+        asked += (
+            b"append 2\n50 +node 9\n50 +node 9\nappend 3\n60 +node 11\nlist 1\ncertify 20 s 1\nx\n\xff \xfe\nlist 7"
+        )
         status, replies, told = self.run_script(CHANGES + asked)
         other = self.folder / "other.dg"
         due = subprocess.run([*program(), str(other)], input=CHANGES + asked, capture_output=True)
@@ -62,7 +64,8 @@ class Scripts(FrontEnd):
 
     def test_last_and_first(self) -> None:
         status, replies, told = self.run_script(
-            CHANGES + b"list last\nat first s\ncounts last\nseveral s 20 last\nnode last 2\nrelease last\nplan first s\n"
+            CHANGES
+            + b"list last\nat first s\ncounts last\nseveral s 20 last\nnode last 2\nrelease last\nplan first s\n"
         )
         self.assertEqual(status, 0)
         self.assertTrue(replies.startswith(MADE + b"refused 0 unsent\nend\nok at 1 "))
@@ -94,7 +97,9 @@ class Scripts(FrontEnd):
         self.assertTrue(replies.endswith(b"ok top 3\n1 3\n2 3\n3 2\nend\n"), replies)
 
     def test_own_commands_in_other_forms(self) -> None:
-        script = b"find\ndiff 10\ndiff 10 x\ndiff 10 20 z\ntop 5\ntop x degree 10\ntop 5 degree y\ndiff 1 99\n:dates x\n"
+        script = (
+            b"find\ndiff 10\ndiff 10 x\ndiff 10 20 z\ntop 5\ntop x degree 10\ntop 5 degree y\ndiff 1 99\n:dates x\n"
+        )
         status, replies, told = self.run_script(CHANGES + script, "--program", program()[0])
         self.assertEqual((status, len(told.splitlines()), replies.count(b"refused ")), (0, 9, 9))
         self.assertIn("`diff 1 99`: the history goes from 10 to 40", told)
@@ -130,11 +135,15 @@ class Scripts(FrontEnd):
     def test_a_full_disk_and_a_closed_pipe(self) -> None:
         self.run_script(CHANGES)
         with open("/dev/full", "wb") as full:
-            ran = subprocess.run(self.words(), input=b"at 40 s\n", stdout=full, stderr=subprocess.PIPE, env=self.environment)
+            ran = subprocess.run(
+                self.words(), input=b"at 40 s\n", stdout=full, stderr=subprocess.PIPE, env=self.environment
+            )
         self.assertEqual((ran.returncode, ran.stderr), (4, b"deltagraph: writing failed: No space left on device\n"))
         reading, writing = os.pipe()
         os.close(reading)
-        ran = subprocess.run(self.words(), input=b"at 40 s\n", stdout=writing, stderr=subprocess.PIPE, env=self.environment)
+        ran = subprocess.run(
+            self.words(), input=b"at 40 s\n", stdout=writing, stderr=subprocess.PIPE, env=self.environment
+        )
         os.close(writing)
         self.assertEqual((ran.returncode, ran.stderr), (4, b"deltagraph: writing failed: Broken pipe\n"))
         ran = subprocess.run(
@@ -183,6 +192,15 @@ class Terminals(FrontEnd):
                 self.fail(f"the end, and no {text!r} in {self.shown!r}")
         found, _, self.shown = self.shown.partition(text)
         return found
+
+    def interrupt(self) -> None:
+        """Presses the key of an interrupt until it is answered: between a prompt and the wait for a key it is missed."""
+        deadline = time.monotonic() + PATIENCE
+        while b"interrupted" not in self.shown and time.monotonic() < deadline:
+            os.write(self.terminal, b"\x03")
+            while select.select([self.terminal], [], [], 0.5)[0] and b"interrupted" not in self.shown:
+                self.shown += os.read(self.terminal, 4096)
+        self.until(b"interrupted")
 
     def say(self, line: bytes, prompt: bytes = b"deltagraph> ") -> bytes:
         """What is shown for a line, up to the next prompt."""
@@ -239,8 +257,7 @@ class Terminals(FrontEnd):
         self.start()
         self.until(b"deltagraph> ")
         self.say(b"append 2", b"... ")
-        os.write(self.terminal, b"\x03")
-        self.until(b"interrupted")
+        self.interrupt()
         self.until(b"deltagraph> ")
         self.assertTrue(self.say(b"pool").startswith(b"ok pool 0 "))
         with self.open() as store:

@@ -150,7 +150,9 @@ class Ends(Case):
             0: deltagraph.ProgramEnded,
         }
         for status, kind in kinds.items():
-            with self.subTest(status), self.by_rote({"at": ["exit", status, "", "deltagraph: a\nhistory: b\n", 1]}) as store:
+            with self.subTest(status), self.by_rote(
+                {"at": ["exit", status, "", "deltagraph: a\nhistory: b\n", 1]}
+            ) as store:
                 with self.assertRaises(kind) as raised:
                     store.at(5)
                 ended = raised.exception
@@ -318,5 +320,3 @@ class Bars(Case):
             self.assertEqual(store.load(["1 +node 1"]).events, 1)
             with self.assertRaises(ImportError):
                 store.load(["1 +node 1"], bar=True)
-
-
