@@ -225,8 +225,11 @@ def line_of(change: AnyChange) -> str:
 
     The program refuses what is written in another form than the script has, as an id that is no whole number.
     """
+    kind = type(change)
+    if kind is str and "\n" not in change:
+        return change  # type: ignore
     try:
-        if type(change) in CLASSES:
+        if kind in CLASSES:
             return change.line()  # type: ignore
         if isinstance(change, (str, bytes)):
             return _one_line(text_of(change) if isinstance(change, bytes) else change)
