@@ -1,7 +1,7 @@
--- What a write of one bit leaves of the others.
-use Rattle.std.specs.Prelude.{bit_and}
-use Rattle.std.proofs.lemmas.Nat.Bits.{bit_at_and, bit_at_not, bit_at-lt, bit_at-zero}
-use Rattle.std.proofs.Common.{w64, ◌^◌, ◌-◌, suc, zero, min, not, ◌&&◌, [], ◌∷◌, ◌≡◌, ℕ, ◌/◌, ◌%◌, ◌<◌, Bool, cond, eqb, List, length, get_or, set, refl, sym, ap, ◌∙◌, ◌⊎◌, inl, inr, arith}
+-- What a write of one bit leaves of the others, and what a write by masks leaves.
+use Rattle.std.specs.Prelude.{bit_and, bit_or}
+use Rattle.std.proofs.lemmas.Nat.Bits.{bit_at_and, bit_at_or, bit_at_not, bit_at-lt, bit_at-zero}
+use Rattle.std.proofs.Common.{w64, ◌^◌, ◌-◌, suc, zero, min, max, not, ◌&&◌, ◌||◌, [], ◌∷◌, ◌≡◌, ℕ, ◌/◌, ◌%◌, ◌<◌, Bool, cond, eqb, List, length, get_or, set, refl, sym, ap, ◌∙◌, ◌⊎◌, inl, inr, arith}
 use Rattle.std.specs.Int.{bit_at}
 use Rattle.std.proofs.lemmas.Bool.{cases_eq, eq-eqb, ne_eqb}
 use Rattle.std.proofs.lemmas.List.{get_or-set_same, get_or-set_other, get_or_past}
@@ -70,3 +70,47 @@ module _ (bs ms : List ℕ) (b_len : length bs ≡ 4) (first : get_or ms 0 0 < 2
 
   pub all_off : (b : ℕ) → bit_in (left 0 ∷ left 1 ∷ left 2 ∷ left 3 ∷ []) b ≡ (bit_in bs b && not (bit_in ms b))
   all_off b = off_in (b / 64) (b % 64) (omega arith)
+
+-- ---- bits set by a mask and put off by another
+
+on_table : (a b c : ℕ) → a < 2 → b < 2 → c < 2 → eqb (max (min a (1 - b)) c) 1 ≡ (eqb c 1 || (eqb a 1 && not (eqb b 1)))
+on_table zero zero zero h g f = refl
+on_table zero zero (suc zero) h g f = refl
+on_table zero (suc zero) zero h g f = refl
+on_table zero (suc zero) (suc zero) h g f = refl
+on_table (suc zero) zero zero h g f = refl
+on_table (suc zero) zero (suc zero) h g f = refl
+on_table (suc zero) (suc zero) zero h g f = refl
+on_table (suc zero) (suc zero) (suc zero) h g f = refl
+on_table (suc (suc a)) b c h g f = absurd (omega arith)
+on_table zero (suc (suc b)) c h g f = absurd (omega arith)
+on_table (suc zero) (suc (suc b)) c h g f = absurd (omega arith)
+on_table zero zero (suc (suc c)) h g f = absurd (omega arith)
+on_table zero (suc zero) (suc (suc c)) h g f = absurd (omega arith)
+on_table (suc zero) zero (suc (suc c)) h g f = absurd (omega arith)
+on_table (suc zero) (suc zero) (suc (suc c)) h g f = absurd (omega arith)
+
+-- one word without the bits of another, and with those of a third
+put_on : (x m o i : ℕ) → m < 2 ^ 64 → i < 64 → eqb (bit_at (bit_or (bit_and x (18446744073709551615 - m)) o) i) 1 ≡ (eqb (bit_at o i) 1 || (eqb (bit_at x i) 1 && not (eqb (bit_at m i) 1)))
+put_on x m o i h g =
+    ap (λ n. eqb n 1) (bit_at_or (bit_and x (18446744073709551615 - m)) o i ∙ ap (λ n. max n (bit_at o i)) (bit_at_and x (18446744073709551615 - m) i ∙ ap (min (bit_at x i)) (bit_at_not w64 m i h g)))
+    ∙ on_table (bit_at x i) (bit_at m i) (bit_at o i) (bit_at-lt x i) (bit_at-lt m i) (bit_at-lt o i)
+
+module _ (bs ms os : List ℕ) (b_len : length bs ≡ 4) (o_len : length os ≡ 4) (first : get_or ms 0 0 < 2 ^ 64) (second : get_or ms 1 0 < 2 ^ 64) (third : get_or ms 2 0 < 2 ^ 64) (fourth : get_or ms 3 0 < 2 ^ 64) where
+  abbrev put : ℕ → ℕ
+  put w = bit_or (bit_and (get_or bs w 0) (18446744073709551615 - get_or ms w 0)) (get_or os w 0)
+
+  on_in : (w i : ℕ) → i < 64 → eqb (bit_at (get_or (put 0 ∷ put 1 ∷ put 2 ∷ put 3 ∷ []) w 0) i) 1 ≡ (eqb (bit_at (get_or os w 0) i) 1 || (eqb (bit_at (get_or bs w 0) i) 1 && not (eqb (bit_at (get_or ms w 0) i) 1)))
+  on_in zero i h = put_on (get_or bs 0 0) (get_or ms 0 0) (get_or os 0 0) i first h
+  on_in (suc zero) i h = put_on (get_or bs 1 0) (get_or ms 1 0) (get_or os 1 0) i second h
+  on_in (suc (suc zero)) i h = put_on (get_or bs 2 0) (get_or ms 2 0) (get_or os 2 0) i third h
+  on_in (suc (suc (suc zero))) i h = put_on (get_or bs 3 0) (get_or ms 3 0) (get_or os 3 0) i fourth h
+  on_in (suc (suc (suc (suc w)))) i h =
+      let none = get_or_past bs (suc (suc (suc (suc w)))) 0 (omega arith) in
+      let nor = get_or_past os (suc (suc (suc (suc w)))) 0 (omega arith) in
+      ap (λ n. eqb n 1) (bit_at-zero i)
+      ∙ sym ((λ j. eqb (bit_at (nor j) i) 1 || (eqb (bit_at (none j) i) 1 && not (eqb (bit_at (get_or ms (suc (suc (suc (suc w)))) 0) i) 1)))
+      ∙ ap (λ n. eqb n 1 || (eqb n 1 && not (eqb (bit_at (get_or ms (suc (suc (suc (suc w)))) 0) i) 1))) (bit_at-zero i))
+
+  pub all_put : (b : ℕ) → bit_in (put 0 ∷ put 1 ∷ put 2 ∷ put 3 ∷ []) b ≡ (bit_in os b || (bit_in bs b && not (bit_in ms b)))
+  all_put b = on_in (b / 64) (b % 64) (omega arith)

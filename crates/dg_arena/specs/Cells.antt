@@ -1,5 +1,5 @@
 -- Cells of raw memory as a map from numbers to rows, and the list of those that are vacant.
-use Rattle.std.specs.Prelude.{◌≡◌, ℕ, suc, ◌≤◌, ◌<◌, ◌==◌, ◌/◌, ◌%◌, ◌^◌, Bool, true, false, cond, ◌&&◌, not, List, [], ◌∷◌, ◌⊎◌, map, take, length, Option, Some, None, IsSome, slice_index_or, slice_set, refl}
+use Rattle.std.specs.Prelude.{◌≡◌, ℕ, suc, ◌≤◌, ◌<◌, ◌==◌, ◌/◌, ◌%◌, ◌^◌, Bool, true, false, cond, ◌&&◌, ◌||◌, not, List, [], ◌∷◌, ◌⊎◌, map, take, length, Option, Some, None, IsSome, slice_index_or, slice_set, refl}
 use Rattle.std.specs.Int.{bit_at}
 use Rattle.std.specs.Coded.{Coded, code_by, coded×, coded_list, coded_option, coded_ℕ}
 use Rattle.dg_arena.specs.declared.row.Row.{Row}
@@ -42,6 +42,11 @@ module _ {X : Type 0} where
   pub record ClearsBits (mask : List ℕ) (old new : Row X) : Type 0 where
     pub element : new.element ≡ old.element
     pub bits : (b : ℕ) → has_bit new b ≡ (has_bit old b && not (word_bit mask b))
+
+  -- the bits of one mask are on, those of another are off unless they are in the first, and all others as they were
+  pub record WritesBits (on off : List ℕ) (old new : Row X) : Type 0 where
+    pub element : new.element ≡ old.element
+    pub bits : (b : ℕ) → has_bit new b ≡ (word_bit on b || (has_bit old b && not (word_bit off b)))
 
   -- the row of one live cell is written so, and all other cells stay
   pub record Writes (old new : CellMap X) (n : ℕ) (How : Row X → Row X → Type 0) : Type 0 where

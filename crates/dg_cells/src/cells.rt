@@ -1,6 +1,6 @@
 //! The cells of the pool.
 ghost use Rattle.std.specs.Prelude.{◌≡◌, ℕ, ◌<◌, ◌≤◌, ◌==◌, Bool, true, false, List, Option, Some, None, [], ◌∷◌, ◌++◌, length, IfSome, IfNone, IsSome, IfOk, OnErr, OnOk, slice_set};
-ghost use Rattle.dg_cells.specs.Rows.{Row, cell_at, is_current, pair, Writes, SetsCurrent, SetsPair, ClearsBits, Holds, Lacks, CellsAreApart, CellsGrow, Reuses, HasCell, AllHave, AreNumbers, AreAmong, new_rows};
+ghost use Rattle.dg_cells.specs.Rows.{Row, cell_at, is_current, pair, Writes, SetsCurrent, SetsPair, ClearsBits, WritesBits, Holds, Lacks, CellsAreApart, CellsGrow, Reuses, HasCell, AllHave, AreNumbers, AreAmong, new_rows};
 ghost use Rattle.std.specs.Prelude.{◌+◌, ◌^◌, min, slice_get};
 ghost use Rattle.dg_graph.specs.Elements.{IsSet};
 ghost use Rattle.dg_cells.specs.Order.{IsLower};
@@ -14,7 +14,7 @@ use crate::listing::{add, add_each, number_at, unlist};
 use crate::pieces::Pieces;
 use crate::positions::{START, row_in, seek};
 use crate::row::{Row, is_current, pair, set_current, set_pair};
-use dg_arena::{Rows, without_bits};
+use dg_arena::{Rows, with_masks, without_bits};
 use dg_graph::Element;
 use std::alloc::{AllocError, Global};
 use std::marker::Model;
@@ -143,6 +143,16 @@ impl Cells {
     {
         let row = self.rows.row(n);
         self.rows.write(n, without_bits(row, mask));
+    }
+
+    /// Sets the bits of an occupied cell that are in `on`, and puts off those that are in `off` alone: one write for
+    /// any number of slots.
+    pub fn write_masks(&mut self, n: usize, on: &[u64; 4], off: &[u64; 4])
+        requires { IsSome (cell_at self.old n) }
+        ensures { Writes self.old self.new n (WritesBits on.now off.now) }
+    {
+        let row = self.rows.row(n);
+        self.rows.write(n, with_masks(row, on, off));
     }
 
     /// Vacates the cell. Its number is used again. Takes no memory.
