@@ -16,3 +16,7 @@ pub mod ListingSets
 pub mod CursorSearch
 pub mod GraphEventCells
 pub mod GraphWholeSet
+pub mod ChangeMasks
+pub mod ChangeCounts
+pub mod ChangeGraphs
+pub mod ChangeCells

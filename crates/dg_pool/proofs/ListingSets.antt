@@ -17,7 +17,7 @@ use Rattle.dg_pool.specs.declared.slots.SlotState.{SlotState}
 use Rattle.dg_pool.specs.declared.slots.SlotState.TheVariants as state
 use Rattle.dg_pool.specs.Graphs.{PoolState, picked, graph_as, slot_at, slot_graph}
 use Rattle.dg_pool.specs.Sweeps.{element_of, in_state, members_as}
-use Rattle.dg_pool.specs.Listing.{not_before, element_under, members_from, passing_from}
+use Rattle.dg_pool.specs.Listing.{not_before, is_behind, up_to, element_under, members_from, passing_from}
 use Rattle.dg_pool.proofs.GraphSets.{picked_set, picked_decides, picked_nothing}
 use Rattle.dg_pool.proofs.GraphInvariant.{row_or_none}
 
@@ -196,6 +196,32 @@ passing_step test rows c d r e f =
 pub passing_end : (test : Row → Bool) (rows : List (Option Row)) (c : Cursor) → cursor_index rows c ≡ length (ordered rows) → passing_from test rows c ≡ []
 passing_end test rows c e = ap (λ l. map el (filter test l)) (drop_all (cursor_index rows c) (ordered rows) (omega arith))
 
+-- ---- a walk up to an element
+
+-- a row whose element comes behind x adds nothing up to x
+skips : (x : Element) (r : Row) (rows : List Row) (t : Bool) → IsTrue (before x (el r)) → up_to (map el rows) (Some x) ≡ [] → up_to (map el (cond t (r ∷ rows) rows)) (Some x) ≡ []
+skips x r rows true e rest = ap (λ b. cond (not b) (el r ∷ up_to (map el rows) (Some x)) (up_to (map el rows) (Some x))) e ∙ rest
+skips x r rows false e rest = rest
+
+-- from a row on whose element comes behind x, all do
+from_behind : (x : Element) (test : Row → Bool) (r : Row) (rows : List Row) → IsTrue (before x (el r)) → IsSet (map el (r ∷ rows)) → up_to (map el (filter test (r ∷ rows))) (Some x) ≡ []
+from_behind x test r [] e s = skips x r [] (test r) e refl
+from_behind x test r (q ∷ rows) e s = skips x r (filter test (q ∷ rows)) (test r) e (from_behind x test q rows (before_trans x (el r) (el q) e s.0) s.1)
+
+behind_index : (x : Element) (test : Row → Bool) (rows : List Row) (k : ℕ) (r : Row) → IsSet (map el rows) → slice_get rows k ≡ Some r → IsTrue (before x (el r)) → up_to (map el (filter test (drop k rows))) (Some x) ≡ []
+behind_index x test [] k r s e f = let none : None ≡ Some r = e in cc
+behind_index x test (p ∷ rows) zero r s e f = let one : r ≡ p = cc in from_behind x test p rows (ap (λ (q : Row). before x q.element) (sym one) ∙ f) s
+behind_index x test (p ∷ rows) (suc k) r s e f = behind_index x test rows k r s.1 e f
+
+-- at a cell whose element comes behind the last one, the walk may end
+pub passing_behind : (test : Row → Bool) (rows : List (Option Row)) (c : Cursor) (r : Row) (last : Option Element) → IsSet (ordered_elements rows) → slice_get (ordered rows) (cursor_index rows c) ≡ Some r → is_behind last r.element ≡ true → up_to (passing_from test rows c) last ≡ []
+passing_behind test rows c r None s e f = absurd (true≢false (sym f))
+passing_behind test rows c r (Some x) s e f = behind_index x test (ordered rows) (cursor_index rows c) r s e f
+
+pub none_up_to : (set : List Element) (last : Option Element) → set ≡ [] → up_to set last ≡ []
+none_up_to set None e = e
+none_up_to set (Some x) e = ap (λ l. up_to l (Some x)) e
+
 -- ---- the members of a slot
 
 picked_none : (test : Row → Bool) (rows : List (Option Row)) → ((r : Row) → test r ≡ false) → picked test rows ≡ []
@@ -239,6 +265,6 @@ module _ (p : PoolState) (apart : CellsAreApart p.rows) (rises : IsSet (ordered_
   next_some s c None h = h
   next_some s c (Some m) h = members_from_is s c ∙ h ∙ ap (λ l. m.0 ∷ l) (sym (members_from_is s m.1))
 
-  pub next_none : (s : ℕ) (c : Cursor) (o : Option (Element × Cursor)) → IfNone o (passing_from (in_state s (slot_at p.slots s)) p.rows c ≡ []) → IfNone o (members_from p s c ≡ [])
-  next_none s c None h = members_from_is s c ∙ h
-  next_none s c (Some m) h = h
+  pub next_none : (s : ℕ) (c : Cursor) (last : Option Element) (o : Option (Element × Cursor)) → IfNone o (up_to (passing_from (in_state s (slot_at p.slots s)) p.rows c) last ≡ []) → IfNone o (up_to (members_from p s c) last ≡ [])
+  next_none s c last None h = ap (λ set. up_to set last) (members_from_is s c) ∙ h
+  next_none s c last (Some m) h = h

@@ -5,3 +5,4 @@ pub mod Counts
 pub mod Current
 pub mod Masks
 pub mod Listing
+pub mod Changes

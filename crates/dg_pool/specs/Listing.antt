@@ -1,5 +1,5 @@
 -- Walks over the members of a slot, in the order of elements.
-use Rattle.std.specs.Prelude.{ℕ, Bool, not, List, [], Option, Some, None, drop, filter, map}
+use Rattle.std.specs.Prelude.{ℕ, Bool, false, not, List, [], Option, Some, None, drop, filter, map}
 use Rattle.dg_graph.specs.declared.element.Element.{Element}
 use Rattle.dg_graph.specs.Elements.{before}
 use Rattle.dg_cells.specs.Rows.{Row}
@@ -12,6 +12,16 @@ use Rattle.dg_pool.specs.Sweeps.{element_of, members_as}
 abbrev pub not_before : List Element → Option Element → List Element
 not_before set None = []
 not_before set (Some x) = filter (λ y. not (before y x)) set
+
+-- the element comes behind this one; none does where there is none
+abbrev pub is_behind : Option Element → Element → Bool
+is_behind None y = false
+is_behind (Some x) y = before x y
+
+-- the elements of the set up to this one; all where there is none
+abbrev pub up_to : List Element → Option Element → List Element
+up_to set None = set
+up_to set (Some x) = filter (λ y. not (before x y)) set
 
 -- the element of the cell at which the cursor stands; none past the last cell
 abbrev pub element_under : PoolState → Cursor → Option Element

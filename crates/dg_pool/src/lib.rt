@@ -1,6 +1,7 @@
 //! The pool of graphs: the current graph and the retrieved ones, overlaid in one list of cells.
 #![tactic(auto)]
 
+mod changes;
 mod counts;
 mod current;
 mod lengths;

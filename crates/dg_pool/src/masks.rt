@@ -20,7 +20,8 @@ pub(crate) struct Masks {
     pub(crate) swept: [u64; 4],
 }
 
-fn is_asking(state: SlotState, column: Column) -> bool
+/// Whether the slot is live, and asks for the column.
+pub(crate) fn is_asking(state: SlotState, column: Column) -> bool
     ensures { result ≡ is_asking column state }
 {
     match state {
@@ -38,8 +39,8 @@ fn is_swept(state: SlotState) -> bool
     }
 }
 
-// Sets a bit of the mask.
-fn put_bit(mask: &mut [u64; 4], bit: u8)
+/// Sets a bit of the mask.
+pub(crate) fn put_bit(mask: &mut [u64; 4], bit: u8)
     ensures len { length mask.new ≡ 4 }
     ensures bits { (c : ℕ) → word_bit mask.new c ≡ (c == bit || word_bit mask.old c) }
 {

@@ -1,5 +1,5 @@
 //! Which graphs have the element of a cell, and walks over the cells of a graph in the order of elements.
-ghost use Rattle.std.specs.Prelude.{◌≡◌, ◌≤◌, [], ◌∷◌, IfSome, IfNone, IfOk};
+ghost use Rattle.std.specs.Prelude.{◌≡◌, ◌≤◌, false, [], ◌∷◌, IfSome, IfNone, IfOk};
 ghost use Rattle.dg_graph.specs.declared.element.Columns.{Columns};
 ghost use Rattle.dg_pool.specs.declared.slots.Base.TheVariants as bases;
 ghost use Rattle.dg_pool.specs.declared.slots.Slot.{Slot};
@@ -7,11 +7,11 @@ ghost use Rattle.dg_pool.specs.declared.slots.SlotState.TheVariants as states;
 ghost use Rattle.dg_pool.specs.Graphs.{in_base, picked};
 ghost use Rattle.dg_cells.specs.Rows.{is_current};
 ghost use Rattle.dg_pool.specs.Sweeps.{in_state};
-ghost use Rattle.dg_pool.specs.Listing.{passing_from};
+ghost use Rattle.dg_pool.specs.Listing.{is_behind, passing_from, up_to};
 
 use crate::slots::{Base, SlotState};
 use dg_cells::{Cells, Cursor, Row, is_current, pair};
-use dg_event::{asks, column_of};
+use dg_event::{asks, column_of, compare};
 use dg_graph::Element;
 use std::alloc::{AllocError, Global};
 
@@ -48,20 +48,37 @@ pub(crate) fn has_member(row: &Row, state: SlotState, slot: u8) -> bool
     }
 }
 
-/// The first element at the cursor or behind it that the slot's graph has, and the cursor behind its cell.
+// Whether the element comes behind the last one that is asked for.
+fn is_behind(last: Option<Element>, element: &Element) -> bool
+    ensures { result ≡ is_behind last element.now }
+{
+    match last {
+        Some(last) => compare(&last, element).is_lt(),
+        None => false,
+    }
+}
+
+/// The first element at the cursor or behind it that the slot's graph has, and the cursor behind its cell. The
+/// walk ends at the first cell whose element comes behind `last`, where there is one.
 pub(crate) fn next_member(
     cells: &Cells,
     state: SlotState,
     slot: u8,
     from: Cursor,
+    last: Option<Element>,
 ) -> Option<(Element, Cursor)>
     requires slot { slot ≤ 127 }
     requires base { (b : Slot) (cols : Columns) → state ≡ states.Live (bases.Slot b) cols → b.0 ≤ 127 }
     ensures some { IfSome result (λ m. passing_from (in_state slot state) cells.now from ≡ m.0 ∷ passing_from (in_state slot state) cells.now m.1) }
-    ensures none { IfNone result (passing_from (in_state slot state) cells.now from ≡ []) }
+    ensures within { IfSome result (λ m. is_behind last m.0 ≡ false) }
+    ensures none { IfNone result (up_to (passing_from (in_state slot state) cells.now from) last ≡ []) }
 {
+    cells.order_facts();
     let mut cursor = from;
     while let Some((row, behind)) = cells.step(cursor) {
+        if is_behind(last, &row.element) {
+            return None;
+        }
         if has_member(row, state, slot) {
             return Some((row.element, behind));
         }

@@ -7,11 +7,13 @@ ghost use Rattle.dg_pool.specs.Graphs.{PoolState, graph_now, slot_graph, CellsSt
 ghost use Rattle.dg_pool.specs.Sweeps.{union_of, cells_of, IsSweep, members_as};
 ghost use Rattle.dg_cells.specs.Rows.{AllHave, Reuses};
 ghost use Rattle.dg_query.specs.Queries.{counts_of};
-ghost use Rattle.dg_pool.specs.Listing.{members_from, not_before};
+ghost use Rattle.dg_pool.specs.Changes.{CanChange, ChangesSlots, NamesNew, numbers_of};
+ghost use Rattle.dg_pool.specs.Listing.{members_from, not_before, up_to};
 ghost use Rattle.dg_pool.specs.Slots.{IsLive, live_count, IsLeastOn, NoneOn, IsLeastFree, AllLive, BaseFits, base_members, is_free, NamesOnly};
-ghost use Rattle.dg_graph.specs.Elements.{IsSet, shown, has};
+ghost use Rattle.dg_graph.specs.Elements.{IsSet, shown, has, before};
 ghost use Rattle.dg_graph.specs.Composition.{applied};
 
+use crate::changes::write_delta;
 use crate::counts::{base_counts, count_kinds, counts_after, no_counts, room_for};
 use crate::current::{pass_all, pass_delta};
 use crate::lengths::{count_all, count_needed};
@@ -286,6 +288,27 @@ impl Pool {
         Ok(Slot(slot))
     }
 
+    /// Applies the delta to the graph of each of these slots, cut to the slot's columns: one write for each element and
+    /// all slots, whatever their number. An `Err` says that memory ran out; then no graph has changed.
+    pub fn change(&mut self, slots: &[Slot], delta: &Delta) -> Result<(), AllocError>
+        requires { CanChange (numbers_of slots.now) self.old }
+        ensures changes { OnOk result (ChangesSlots (numbers_of slots.now) delta.now self.old self.new) }
+        ensures states { self.new.slots ≡ self.old.slots }
+        ensures explicit { NamesNew delta.now self.old.rows self.new.rows }
+        ensures err { OnErr result (SameGraphs self.old self.new) }
+    {
+        let numbers = make_rising(&mut self.cells, delta.plus().items())?;
+        write_delta(
+            &mut self.cells,
+            &mut self.counts,
+            &self.slots,
+            slots,
+            delta,
+            &numbers,
+        );
+        Ok(())
+    }
+
     /// Takes the memory for so many more cells. Nothing changes. An `Err` says that there is none, or that there would be more than 2^32 cells.
     pub fn reserve(&mut self, cells: usize) -> Result<(), AllocError>
         ensures same { self.new ≡ self.old }
@@ -381,7 +404,31 @@ impl Pool {
     {
         self.cells.facts();
         self.cells.order_facts();
-        next_member(&self.cells, self.slots[slot.0 as usize], slot.0, from)
+        next_member(&self.cells, self.slots[slot.0 as usize], slot.0, from, None)
+    }
+
+    /// As `next_member`, up to an element: `None` where the graph has no element left that does not come behind
+    /// `last`. It passes the cells of other graphs up to `last`, and no cell behind the first that comes behind it.
+    pub fn next_member_up_to(
+        &self,
+        slot: Slot,
+        from: Cursor,
+        last: &Element,
+    ) -> Option<(Element, Cursor)>
+        requires { IsLive self.now slot }
+        ensures some { IfSome result (λ m. members_from self.now slot.0 from ≡ m.0 ∷ members_from self.now slot.0 m.1) }
+        ensures within { IfSome result (λ m. before last.now m.0 ≡ false) }
+        ensures none { IfNone result (up_to (members_from self.now slot.0 from) (Some last.now) ≡ []) }
+    {
+        self.cells.facts();
+        self.cells.order_facts();
+        next_member(
+            &self.cells,
+            self.slots[slot.0 as usize],
+            slot.0,
+            from,
+            Some(*last),
+        )
     }
 
     /// How many elements of each kind the slot's graph has.

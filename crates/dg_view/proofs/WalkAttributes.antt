@@ -1,5 +1,5 @@
 -- Where the attributes of a node stand in the order of elements.
-use Rattle.std.proofs.Common.{◌≡◌, ℕ, Bool, true, false, cond, ◌||◌, ◌&&◌, not, List, [], ◌∷◌, Option, Some, None, filter_map, refl, sym, ap, ◌∙◌, subst, IsTrue, arith, eqb, ltb}
+use Rattle.std.proofs.Common.{◌≡◌, ℕ, ◌+◌, Bool, true, false, cond, ◌||◌, ◌&&◌, not, List, [], ◌∷◌, Option, Some, None, filter_map, refl, sym, ap, ◌∙◌, subst, IsTrue, arith, eqb, ltb}
 use Rattle.std.specs.List.{cons_option}
 use Rattle.std.proofs.lemmas.Bool.Decides.{nat_tests}
 use Rattle.dg_graph.specs.declared.element.Element.{Element}
@@ -7,8 +7,9 @@ use Rattle.dg_graph.specs.declared.element.Element.TheVariants.{Node, Edge, Node
 use Rattle.dg_graph.specs.Elements.{IsSet, before}
 use Rattle.dg_query.specs.declared.answers.KeyValue.{KeyValue}
 use Rattle.dg_query.specs.Queries.{value_at, values_of, first_value, attribute_of}
+use Rattle.dg_pool.specs.Listing.{up_to}
 use Rattle.dg_view.specs.Walk.{value_of_key, NoneBefore}
-use Rattle.dg_view.proofs.WalkSearches.{later, passed_over}
+use Rattle.dg_view.proofs.WalkSearches.{later, passed_over, none_up_to}
 
 -- ---- all attributes of a node
 
@@ -23,51 +24,20 @@ no_value_before n (EdgeAttr id key value) e = refl
 pub values_from_first : (n : ℕ) (set : List Element) → filter_map (value_at n) (later (NodeAttr n 0 0) set) ≡ values_of set n
 values_from_first n set = passed_over (value_at n) (NodeAttr n 0 0) set (no_value_before n)
 
--- the element stands behind all attributes of the node
-abbrev pub is_past : ℕ → Element → Bool
-is_past n (Node id) = false
-is_past n (Edge id src dst directed) = false
-is_past n (NodeAttr id key value) = ltb n id
-is_past n (EdgeAttr id key value) = true
-
-past_value : (n : ℕ) (x : Element) → is_past n x ≡ true → value_at n x ≡ None
-past_value n (Node id) e = refl
-past_value n (Edge id src dst directed) e = refl
-past_value n (NodeAttr id key value) e =
+pub no_value_behind : (n : ℕ) (x : Element) → before (NodeAttr (n + 1) 0 0) x ≡ true → value_at n x ≡ None
+no_value_behind n (Node id) e = refl
+no_value_behind n (Edge id src dst directed) e = refl
+no_value_behind n (NodeAttr id key value) e =
     let differs : eqb id n ≡ false = grind (arith, nat_tests) in
     ap (λ b. cond b (Some (record { key = key; value = value })) None) differs
-past_value n (EdgeAttr id key value) e = refl
+no_value_behind n (EdgeAttr id key value) e = refl
 
-past_on : (n : ℕ) (x y : Element) → is_past n x ≡ true → IsTrue (before x y) → is_past n y ≡ true
-past_on n (Node id) y e h = cc
-past_on n (Edge id src dst directed) y e h = cc
-past_on n (NodeAttr id key value) (Node id2) e h = cc
-past_on n (NodeAttr id key value) (Edge id2 src dst directed) e h = cc
-past_on n (NodeAttr id key value) (NodeAttr id2 key2 value2) e h = grind (arith, nat_tests)
-past_on n (NodeAttr id key value) (EdgeAttr id2 key2 value2) e h = refl
-past_on n (EdgeAttr id key value) (Node id2) e h = cc
-past_on n (EdgeAttr id key value) (Edge id2 src dst directed) e h = cc
-past_on n (EdgeAttr id key value) (NodeAttr id2 key2 value2) e h = cc
-past_on n (EdgeAttr id key value) (EdgeAttr id2 key2 value2) e h = refl
-
-past_start : (n : ℕ) (x : Element) → before x (NodeAttr n 0 0) ≡ false → value_at n x ≡ None → is_past n x ≡ true
-past_start n (Node id) e f = cc
-past_start n (Edge id src dst directed) e f = cc
-past_start n (NodeAttr id key value) e f = by (eqb id n) refl
-  where
-    by : (t : Bool) → eqb id n ≡ t → ltb n id ≡ true
-    by true g = let v : KeyValue = record { key = key; value = value } in let some : Some v ≡ None = ap (λ b. cond b (Some v) None) (sym g) ∙ f in cc
-    by false g = grind (arith, nat_tests)
-past_start n (EdgeAttr id key value) e f = refl
-
-past_all : (n : ℕ) (x : Element) (set : List Element) → is_past n x ≡ true → IsSet (x ∷ set) → filter_map (value_at n) (x ∷ set) ≡ []
-past_all n x [] e h = ap (λ o. cons_option o []) (past_value n x e)
-past_all n x (y ∷ set) e h =
-    ap (λ o. cons_option o (filter_map (value_at n) (y ∷ set))) (past_value n x e)
-    ∙ past_all n y set (past_on n x y e h.0) h.1
-
-pub no_values_behind : (n : ℕ) (x : Element) (set : List Element) → before x (NodeAttr n 0 0) ≡ false → value_at n x ≡ None → IsSet (x ∷ set) → filter_map (value_at n) (x ∷ set) ≡ []
-no_values_behind n x set e f h = past_all n x set (past_start n x e f) h
+-- no attribute of a node comes behind the first of an edge
+pub no_value_among_edges : (n : ℕ) (x : Element) → before (EdgeAttr 0 0 0) x ≡ true → value_at n x ≡ None
+no_value_among_edges n (Node id) e = refl
+no_value_among_edges n (Edge id src dst directed) e = refl
+no_value_among_edges n (NodeAttr id key value) e = cc
+no_value_among_edges n (EdgeAttr id key value) e = refl
 
 pub none_before : (x : Element) (set : List Element) → NoneBefore x (later x set)
 none_before x [] = tt
@@ -147,11 +117,32 @@ past_key_all n key x (y ∷ set) e h =
     ap (λ o. cons_option o (filter_map (value_of_key n key) (y ∷ set))) (past_key n key x e)
     ∙ past_key_all n key y set (past_key_on n key x y e h.0) h.1
 
--- among those that do not stand before the key's first value there is none
-pub least_none : (n key : ℕ) (set : List Element) → later (NodeAttr n key 0) set ≡ [] → attribute_of set n key ≡ None
-least_none n key set e =
+pub no_key_behind : (n key : ℕ) (x : Element) → before (NodeAttr n (key + 1) 0) x ≡ true → value_of_key n key x ≡ None
+no_key_behind n key (Node id) e = refl
+no_key_behind n key (Edge id src dst directed) e = refl
+no_key_behind n key (NodeAttr id k v) e =
+    let differs : (eqb id n && eqb k key) ≡ false = grind (arith, nat_tests) in
+    ap (λ b. cond b (Some v) None) differs
+no_key_behind n key (EdgeAttr id k v) e = refl
+
+-- what is no attribute of the node is no value of a key there
+pub no_key_without_value : (n key : ℕ) (x : Element) → value_at n x ≡ None → value_of_key n key x ≡ None
+no_key_without_value n key (Node id) e = refl
+no_key_without_value n key (Edge id src dst directed) e = refl
+no_key_without_value n key (NodeAttr id k v) e = by (record { key = k; value = v }) (eqb id n) e
+  where
+    by : (found : KeyValue) (t : Bool) → cond t (Some found) None ≡ None → cond (t && eqb k key) (Some v) None ≡ None
+    by found true f = let some : Some found ≡ None = f in cc
+    by found false f = refl
+no_key_without_value n key (EdgeAttr id k v) e = refl
+
+-- where none of those that do not stand before the key's first value is left up to what comes behind all its
+-- values, there is none
+pub least_none : (n key : ℕ) (set from : List Element) (end : Element) → from ≡ later (NodeAttr n key 0) set → ((x : Element) → before end x ≡ true → value_of_key n key x ≡ None) → up_to from (Some end) ≡ []
+    → attribute_of set n key ≡ None
+least_none n key set from end is none e =
     first_is n key set
-    ∙ ap first_of (sym (passed_over (value_of_key n key) (NodeAttr n key 0) set (no_key_before n key)) ∙ ap (filter_map (value_of_key n key)) e)
+    ∙ ap first_of (sym (passed_over (value_of_key n key) (NodeAttr n key 0) set (no_key_before n key)) ∙ ap (filter_map (value_of_key n key)) (sym is) ∙ none_up_to (value_of_key n key) end from none e)
 
 -- or the first of them decides
 pub least_some : (n key : ℕ) (set : List Element) (x : Element) (rest : List Element) → IsSet (x ∷ rest) → NoneBefore (NodeAttr n key 0) (x ∷ rest) → later (NodeAttr n key 0) set ≡ x ∷ rest

@@ -1,16 +1,16 @@
 -- What a search by the order of elements leaves out, and where it may end.
-use Rattle.std.proofs.Common.{◌≡◌, ℕ, suc, ◌+◌, ◌++◌, ◌≤◌, Bool, true, false, cond, not, List, [], ◌∷◌, Option, Some, None, is_some, filter, filter_map, length, refl, sym, ap, ◌∙◌, IsTrue, arith, eqb}
+use Rattle.std.proofs.Common.{◌≡◌, ℕ, suc, ◌+◌, ◌++◌, ◌≤◌, Bool, true, false, cond, not, List, [], ◌∷◌, Option, Some, None, is_some, filter, filter_map, length, refl, sym, ap, ◌∙◌, arith, eqb}
 use Rattle.std.specs.List.{cons_option, count_by}
 use Rattle.std.proofs.lemmas.Bool.Decides.{nat_tests}
 use Rattle.std.proofs.lemmas.List.{append-nil}
 use Rattle.std.proofs.lemmas.List.Sums.{sum_by-cons}
 use Rattle.dg_graph.specs.declared.element.Element.{Element}
 use Rattle.dg_graph.specs.declared.element.Element.TheVariants.{Node, Edge, NodeAttr, EdgeAttr}
-use Rattle.dg_graph.specs.Elements.{IsSet, before}
+use Rattle.dg_graph.specs.Elements.{before}
 use Rattle.dg_query.specs.declared.answers.Neighbour.{Neighbour}
 use Rattle.dg_query.specs.declared.answers.Side.TheVariants as side
 use Rattle.dg_query.specs.Queries.{is_an_edge, side_as, edge_at, neighbours_of}
-use Rattle.dg_view.specs.Walk.{is_structure}
+use Rattle.dg_pool.specs.Listing.{up_to}
 
 -- those of the set that do not stand before the element
 abbrev pub later : Element → List Element → List Element
@@ -35,30 +35,24 @@ passed_over f x (y ∷ set) none = by (before y x) refl (passed_over f x set non
 pub edges_from_first : (n : ℕ) (set : List Element) → filter_map (edge_at n) (later (Edge 0 0 0 false) set) ≡ neighbours_of set n
 edges_from_first n set = passed_over (edge_at n) (Edge 0 0 0 false) set (none_before n)
 
--- behind an attribute there is no edge
-no_edge : (n : ℕ) (x : Element) → is_structure x ≡ false → edge_at n x ≡ None
-no_edge n (Node id) e = cc
-no_edge n (Edge id src dst directed) e = cc
-no_edge n (NodeAttr id key value) e = refl
-no_edge n (EdgeAttr id key value) e = refl
+-- what gives nothing behind an element gives nothing where none is left up to it
+pub none_up_to : {B : Type 0} (f : Element → Option B) (x : Element) (set : List Element) → ((y : Element) → before x y ≡ true → f y ≡ None) → up_to set (Some x) ≡ [] → filter_map f set ≡ []
+none_up_to f x [] none e = refl
+none_up_to f x (y ∷ set) none e = by (before x y) refl (none_up_to f x set none)
+  where
+    kept : Bool → List Element
+    kept b = cond (not b) (y ∷ up_to set (Some x)) (up_to set (Some x))
 
-behind_attribute : (x y : Element) → is_structure x ≡ false → IsTrue (before x y) → is_structure y ≡ false
-behind_attribute (Node id) y e h = cc
-behind_attribute (Edge id src dst directed) y e h = cc
-behind_attribute (NodeAttr id key value) (Node id2) e h = cc
-behind_attribute (NodeAttr id key value) (Edge id2 src dst directed) e h = cc
-behind_attribute (NodeAttr id key value) (NodeAttr id2 key2 value2) e h = refl
-behind_attribute (NodeAttr id key value) (EdgeAttr id2 key2 value2) e h = refl
-behind_attribute (EdgeAttr id key value) (Node id2) e h = cc
-behind_attribute (EdgeAttr id key value) (Edge id2 src dst directed) e h = cc
-behind_attribute (EdgeAttr id key value) (NodeAttr id2 key2 value2) e h = refl
-behind_attribute (EdgeAttr id key value) (EdgeAttr id2 key2 value2) e h = refl
+    by : (t : Bool) → before x y ≡ t → (up_to set (Some x) ≡ [] → filter_map f set ≡ []) → filter_map f (y ∷ set) ≡ []
+    by true g rest = ap (λ o. cons_option o (filter_map f set)) (none y g) ∙ rest (sym (ap kept g) ∙ e)
+    by false g rest = let some : y ∷ up_to set (Some x) ≡ [] = sym (ap kept g) ∙ e in cc
 
-pub no_edges_behind : (n : ℕ) (x : Element) (set : List Element) → is_structure x ≡ false → IsSet (x ∷ set) → filter_map (edge_at n) (x ∷ set) ≡ []
-no_edges_behind n x [] e h = ap (λ o. cons_option o []) (no_edge n x e)
-no_edges_behind n x (y ∷ set) e h =
-    ap (λ o. cons_option o (filter_map (edge_at n) (y ∷ set))) (no_edge n x e)
-    ∙ no_edges_behind n y set (behind_attribute x y e h.0) h.1
+-- no edge comes behind the first attribute
+pub no_edge_behind : (n : ℕ) (x : Element) → before (NodeAttr 0 0 0) x ≡ true → edge_at n x ≡ None
+no_edge_behind n (Node id) e = refl
+no_edge_behind n (Edge id src dst directed) e = cc
+no_edge_behind n (NodeAttr id key value) e = refl
+no_edge_behind n (EdgeAttr id key value) e = refl
 
 -- a node has no more edges than the graph
 one_edge : (n : ℕ) (x : Element) (list : List Neighbour) → length (cons_option (edge_at n x) list) ≤ cond (is_an_edge x) 1 0 + length list

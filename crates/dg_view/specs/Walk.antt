@@ -1,15 +1,8 @@
 -- What a walk over the members of a slot looks at.
-use Rattle.std.specs.Prelude.{◌≡◌, ℕ, ◌==◌, ◌&&◌, Bool, true, false, if◌then◌else◌, List, [], ◌∷◌, Option, Some, None}
+use Rattle.std.specs.Prelude.{◌≡◌, ℕ, ◌==◌, ◌&&◌, false, if◌then◌else◌, List, [], ◌∷◌, Option, Some, None}
 use Rattle.dg_graph.specs.declared.element.Element.{Element}
 use Rattle.dg_graph.specs.declared.element.Element.TheVariants.{Node, Edge, NodeAttr, EdgeAttr}
 use Rattle.dg_graph.specs.Elements.{before}
-
--- the element is no attribute
-abbrev pub is_structure : Element → Bool
-is_structure (Node id) = true
-is_structure (Edge id src dst directed) = true
-is_structure (NodeAttr id key value) = false
-is_structure (EdgeAttr id key value) = false
 
 -- none of the set stands before the element
 abbrev pub NoneBefore : Element → List Element → Type 0

@@ -1,7 +1,7 @@
 //! What one element tells of a node.
 ghost use Rattle.std.specs.Prelude.{◌≡◌};
 ghost use Rattle.dg_query.specs.Queries.{side_as, edge_at, value_at};
-ghost use Rattle.dg_view.specs.Walk.{is_structure, value_of_key};
+ghost use Rattle.dg_view.specs.Walk.{value_of_key};
 
 use dg_graph::Element;
 use dg_query::{KeyValue, Neighbour, Side};
@@ -73,15 +73,5 @@ pub(crate) fn value_of_key(node: u64, wanted: u32, element: &Element) -> Option<
             }
         }
         _ => None,
-    }
-}
-
-/// Whether the element is no attribute.
-pub(crate) fn is_structure(element: &Element) -> bool
-    ensures { result ≡ is_structure element.now }
-{
-    match element {
-        Element::Node { .. } | Element::Edge { .. } => true,
-        _ => false,
     }
 }

@@ -6,21 +6,13 @@ ghost use Rattle.dg_pool.specs.Sweeps.{members_as};
 ghost use Rattle.dg_query.specs.Queries.{is_an_edge, neighbours_of, degree_of, values_of, attribute_of};
 ghost use Rattle.dg_view.specs.EdgeEnds.{IsAdjacencyOf};
 
-use crate::elements::{edge_at, is_structure, value_at, value_of_key};
+use crate::elements::{edge_at, value_at, value_of_key};
 use crate::ends::{EdgeEnd, push_ends};
-use crate::walk::seek;
+use crate::walk::{FIRST_ATTRIBUTE, FIRST_EDGE, behind_key, behind_node, seek};
 use dg_graph::Element;
 use dg_pool::{Pool, Slot};
 use dg_query::{Counts, KeyValue, Neighbour};
 use std::alloc::{AllocError, Global};
-
-/// The first of all edges.
-const FIRST_EDGE: Element = Element::Edge {
-    id: 0,
-    src: 0,
-    dst: 0,
-    directed: false,
-};
 
 // How many elements there are.
 fn sum(counts: Counts) -> u64 {
@@ -57,10 +49,7 @@ pub(crate) fn neighbours(
 {
     let mut list = Vec::new(alloc);
     let mut at = seek(pool, slot, &FIRST_EDGE);
-    while let Some((element, behind)) = pool.next_member(slot, at) {
-        if !is_structure(&element) {
-            break;
-        }
+    while let Some((element, behind)) = pool.next_member_up_to(slot, at, &FIRST_ATTRIBUTE) {
         if let Some(edge) = edge_at(node, &element) {
             list.push(edge)?;
         }
@@ -86,10 +75,7 @@ pub(crate) fn degree(pool: &Pool, slot: Slot, node: u64) -> u64
     let _most = edges(pool, slot);
     let mut degree = 0;
     let mut at = seek(pool, slot, &FIRST_EDGE);
-    while let Some((element, behind)) = pool.next_member(slot, at) {
-        if !is_structure(&element) {
-            break;
-        }
+    while let Some((element, behind)) = pool.next_member_up_to(slot, at, &FIRST_ATTRIBUTE) {
         if edge_at(node, &element).is_some() {
             degree += 1;
         }
@@ -105,10 +91,7 @@ pub(crate) fn ends(alloc: Global, pool: &Pool, slot: Slot) -> Result<Vec<EdgeEnd
 {
     let mut ends = Vec::with_capacity(alloc, edges(pool, slot).saturating_mul(2) as usize)?;
     let mut at = seek(pool, slot, &FIRST_EDGE);
-    while let Some((element, behind)) = pool.next_member(slot, at) {
-        if !is_structure(&element) {
-            break;
-        }
+    while let Some((element, behind)) = pool.next_member_up_to(slot, at, &FIRST_ATTRIBUTE) {
         push_ends(&mut ends, &element)?;
         at = behind;
     }
@@ -130,13 +113,13 @@ pub(crate) fn values(
         key: 0,
         value: 0,
     };
+    let end = behind_node(node);
     let mut list = Vec::new(alloc);
     let mut at = seek(pool, slot, &first);
-    while let Some((element, behind)) = pool.next_member(slot, at) {
-        let Some(value) = value_at(node, &element) else {
-            break;
-        };
-        list.push(value)?;
+    while let Some((element, behind)) = pool.next_member_up_to(slot, at, &end) {
+        if let Some(value) = value_at(node, &element) {
+            list.push(value)?;
+        }
         at = behind;
     }
     Ok(list)
@@ -153,7 +136,7 @@ pub(crate) fn attribute(pool: &Pool, slot: Slot, node: u64, key: u32) -> Option<
         value: 0,
     };
     let at = seek(pool, slot, &first);
-    match pool.next_member(slot, at) {
+    match pool.next_member_up_to(slot, at, &behind_key(node, key)) {
         Some((element, _)) => value_of_key(node, key, &element),
         None => None,
     }

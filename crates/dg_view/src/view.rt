@@ -67,7 +67,8 @@ impl<'a> View<'a> {
         queries::degree(self.pool, self.slot, id)
     }
 
-    /// The least value of the key at the node, if it has one. O(log n).
+    /// The least value of the key at the node, if it has one. A search, O(log n), and a walk over the cells of the
+    /// key's values at the node up to the first that the graph has.
     pub fn attribute(&self, id: u64, key: u32) -> Option<u32>
         ensures { result ≡ attribute_of self.now id key }
     {

@@ -2,8 +2,8 @@ use Rattle.std.proofs.Common.{arith, ◌≡◌, ◌∷◌, cond, sym, ap, ◌∙
 use Rattle.std.proofs.lemmas.Option.{slice_get_within}
 use Rattle.dg_cells.specs.Cursors.{ordered, cursor_index}
 use Rattle.dg_pool.specs.Sweeps.{in_state}
-use Rattle.dg_pool.specs.Listing.{passing_from}
-use Rattle.dg_pool.proofs.ListingSets.{passing_step, passing_end}
+use Rattle.dg_pool.specs.Listing.{passing_from, up_to}
+use Rattle.dg_pool.proofs.ListingSets.{passing_step, passing_end, passing_behind, none_up_to}
 use Rattle.dg_pool.proofs.members.next_member.Goals as goal
 use Rattle.dg_pool.proofs.members.next_member.Goals.{In-Some}
 
@@ -15,6 +15,12 @@ returns-then-has_member-clause-some c =
     let a = (goal.at.returns-then-has_member-clause-some c).In-Some in
     let rest = passing_from (in_state c.args.slot c.args.state) c.args.cells.now c.in-Some.behind in
     sym c.loop-row.invariant ∙ step a ∙ ap (λ t. cond t (c.in-Some.row.now.element ∷ rest) rest) (sym c.has_member.ensures ∙ c.if-has_member.true)
+
+pub returns-then-is_behind-clause-none : goal.returns-then-is_behind-clause-none
+returns-then-is_behind-clause-none c =
+    ap (λ set. up_to set c.args.last) (sym c.loop-row.invariant)
+    ∙ passing_behind (in_state c.args.slot c.args.state) c.args.cells.now c.loop-row.cursor c.in-Some.row.now c.args.last c.order_facts.ensures.rises c.in-Some.ensures.found
+    (sym c.is_behind.ensures ∙ c.if-is_behind.true)
 
 pub loop-row-smaller : goal.loop-row-smaller
 loop-row-smaller c =
@@ -30,4 +36,6 @@ loop-row-preserved c =
 
 pub returns-clause-none : goal.returns-clause-none
 returns-clause-none c =
-    sym c.loop-row.invariant ∙ passing_end (in_state c.args.slot c.args.state) c.args.cells.now c.loop-row.cursor c.in_default.ensures.end
+    let from = passing_from (in_state c.args.slot c.args.state) c.args.cells.now c.args.from in
+    none_up_to from c.args.last
+    (sym c.loop-row.invariant ∙ passing_end (in_state c.args.slot c.args.state) c.args.cells.now c.loop-row.cursor c.in_default.ensures.end)

@@ -22,4 +22,4 @@ pub returns-in-None : goal.returns-in-None
 returns-in-None c =
     let p = c.args.pool.now in
     let s = c.args.slot.0 in
-    sym (least_none c.args.node c.args.key (members_as (slot_graph p s)) (sym c.seek-at.ensures.from ∙ c.in-None.ensures.none))
+    sym (least_none c.args.node c.args.key (members_as (slot_graph p s)) (members_from p s c.seek-at.result) c.behind_key.result c.seek-at.ensures.from c.behind_key.ensures c.in-None.ensures.none)

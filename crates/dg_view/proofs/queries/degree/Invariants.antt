@@ -1,5 +1,4 @@
 use Rattle.std.proofs.Common.{◌≡◌, ◌+◌, length, filter_map}
-use Rattle.dg_graph.specs.Elements.{IsSet}
 use Rattle.dg_pool.specs.Graphs.{slot_graph}
 use Rattle.dg_pool.specs.Sweeps.{members_as}
 use Rattle.dg_query.specs.Queries.{edge_at, degree_of}
@@ -8,8 +7,7 @@ use Rattle.dg_view.proofs.queries.degree.Given as goal
 
 abbrev pub invariant-loop-element : goal.invariant-loop-element
 invariant-loop-element l =
-    (l.degree + length (filter_map (edge_at l.node) (members_from l.pool l.slot.0 l.at)) ≡ degree_of (members_as (slot_graph l.pool l.slot.0)) l.node)
-    × IsSet (members_from l.pool l.slot.0 l.at)
+    l.degree + length (filter_map (edge_at l.node) (members_from l.pool l.slot.0 l.at)) ≡ degree_of (members_as (slot_graph l.pool l.slot.0)) l.node
 
 abbrev pub decreases-loop-element : goal.decreases-loop-element
 decreases-loop-element l = length (members_from l.pool l.slot.0 l.at)

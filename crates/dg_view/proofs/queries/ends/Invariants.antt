@@ -1,5 +1,4 @@
 use Rattle.std.proofs.Common.{◌≡◌, ℕ, ◌++◌, length, filter_map}
-use Rattle.dg_graph.specs.Elements.{IsSet}
 use Rattle.dg_pool.specs.Graphs.{slot_graph}
 use Rattle.dg_pool.specs.Sweeps.{members_as}
 use Rattle.dg_query.specs.Queries.{edge_at, neighbours_of}
@@ -9,8 +8,7 @@ use Rattle.dg_view.proofs.queries.ends.Given as goal
 
 abbrev pub invariant-loop-element : goal.invariant-loop-element
 invariant-loop-element l =
-    ((n : ℕ) → edges_ending_at l.ends.items n ++ filter_map (edge_at n) (members_from l.pool l.slot.0 l.at) ≡ neighbours_of (members_as (slot_graph l.pool l.slot.0)) n)
-    × IsSet (members_from l.pool l.slot.0 l.at)
+    (n : ℕ) → edges_ending_at l.ends.items n ++ filter_map (edge_at n) (members_from l.pool l.slot.0 l.at) ≡ neighbours_of (members_as (slot_graph l.pool l.slot.0)) n
 
 abbrev pub decreases-loop-element : goal.decreases-loop-element
 decreases-loop-element l = length (members_from l.pool l.slot.0 l.at)

@@ -1,23 +1,20 @@
-use Rattle.std.proofs.Common.{◌++◌, sym, ap, subst, ◌∙◌, filter_map}
-use Rattle.dg_graph.specs.Elements.{IsSet}
+use Rattle.std.proofs.Common.{◌++◌, ap, ◌∙◌, filter_map}
+use Rattle.dg_graph.specs.declared.element.Element.TheVariants.{NodeAttr}
 use Rattle.dg_pool.specs.Graphs.{slot_graph}
 use Rattle.dg_pool.specs.Sweeps.{members_as}
 use Rattle.dg_query.specs.Queries.{edge_at, neighbours_of}
 use Rattle.dg_pool.specs.Listing.{members_from}
-use Rattle.dg_view.proofs.WalkSearches.{nothing_left, edges_from_first, no_edges_behind}
-use Rattle.dg_view.proofs.queries.neighbours.Goals.{in-Some+then-not-is_structure, in_default}
+use Rattle.dg_view.proofs.WalkSearches.{nothing_left, edges_from_first, no_edge_behind, none_up_to}
 use Rattle.dg_view.proofs.queries.neighbours.Goals as goal
 
 pub loop-element-init : goal.loop-element-init
 loop-element-init c =
     let p = c.args.pool.now in
     let s = c.args.slot.0 in
-    let n = c.args.node in (
-      ap (λ l. l ++ filter_map (edge_at n) (members_from p s c.seek-at.result)) c.new-list.ensures.items
-          ∙ ap (filter_map (edge_at n)) c.seek-at.ensures.from
-          ∙ edges_from_first n (members_as (slot_graph p s)),
-      c.seek-at.ensures.rises,
-    )
+    let n = c.args.node in
+    ap (λ l. l ++ filter_map (edge_at n) (members_from p s c.seek-at.result)) c.new-list.ensures.items
+    ∙ ap (filter_map (edge_at n)) c.seek-at.ensures.from
+    ∙ edges_from_first n (members_as (slot_graph p s))
 
 pub returns : goal.returns
 returns c =
@@ -25,11 +22,5 @@ returns c =
     let s = c.args.slot.0 in
     let n = c.args.node in
     let from = members_from p s c.loop-element.at in
-    elim c.match-next_member.branch [
-      | in-Some+then-not-is_structure w ↦ nothing_left c.loop-element.list.items (filter_map (edge_at n) from) (neighbours_of (members_as (slot_graph p s)) n)
-          (ap (filter_map (edge_at n)) w.in-Some.ensures.some
-          ∙ no_edges_behind n w.in-Some.element (members_from p s w.in-Some.behind) (sym w.is_structure.ensures ∙ w.if-not-is_structure.true) (subst IsSet w.in-Some.ensures.some c.loop-element.invariant.1))
-          c.loop-element.invariant.0
-      | in_default w ↦ nothing_left c.loop-element.list.items (filter_map (edge_at n) from) (neighbours_of (members_as (slot_graph p s)) n)
-          (ap (filter_map (edge_at n)) w.in_default.ensures.none) c.loop-element.invariant.0
-    ]
+    nothing_left c.loop-element.list.items (filter_map (edge_at n) from) (neighbours_of (members_as (slot_graph p s)) n)
+    (none_up_to (edge_at n) (NodeAttr 0 0 0) from (no_edge_behind n) c.in_default.ensures.none) c.loop-element.invariant

@@ -1,4 +1,4 @@
-use Rattle.std.proofs.Common.{◌≡◌, ◌∷◌, [], IfSome, IfNone, subst}
+use Rattle.std.proofs.Common.{◌≡◌, ◌∷◌, [], None, IfSome, IfNone, subst}
 use Rattle.dg_pool.specs.Graphs.{PoolState}
 use Rattle.dg_pool.specs.Listing.{members_from}
 use Rattle.dg_pool.proofs.ListingSets.{next_some, next_none}
@@ -18,4 +18,4 @@ returns-clause-none c =
     let f = c.order_facts.ensures in
     let s = c.args.slot.0 in
     subst (λ (q : PoolState). IfNone c.next_member.result (members_from q s c.args.from ≡ [])) c.self.view_is
-    (next_none p c.facts.ensures f.rises f.all f.only s c.args.from c.next_member.result c.next_member.ensures.none)
+    (next_none p c.facts.ensures f.rises f.all f.only s c.args.from None c.next_member.result c.next_member.ensures.none)

@@ -1,0 +1,181 @@
+-- Which numbers are listed of slots that change together, and what their masks write.
+use Rattle.std.proofs.Common.{arith, eqb, get_or, take, suc, zero, ◌≡◌, ℕ, ◌*◌, ◌+◌, ◌<◌, ◌≤◌, Bool, true, false, cond, not, ◌||◌, ◌&&◌, List, [], ◌∷◌, ◌++◌, length, refl, sym, ap, ◌∙◌, ◌⊎◌, inl, inr}
+use Rattle.std.proofs.lemmas.Bool.{cases_eq, cases_lt, true≢false, eq-eqb, ne_eqb, eqb-true}
+use Rattle.dg_cells.specs.Rows.{Row, has_bit, pair, is_current, word_bit, WritesBits}
+use Rattle.dg_pool.specs.declared.slots.Slot.{Slot}
+use Rattle.dg_pool.specs.declared.slots.Base.TheVariants as base
+use Rattle.dg_graph.specs.declared.element.Columns.{Columns}
+use Rattle.dg_pool.specs.declared.slots.SlotState.{SlotState}
+use Rattle.dg_pool.specs.declared.slots.SlotState.TheVariants as state
+use Rattle.dg_pool.specs.Graphs.{slot_at, is_live, is_listed, AreSlots, IsBased, IsBaseFor}
+use Rattle.dg_pool.specs.Changes.{numbers_of, AreDistinct, AreChangeable, AreMarks, SetsPairs}
+use Rattle.dg_pool.proofs.GraphInvariant.{live_from_one, live_within}
+use Rattle.dg_pool.proofs.MaskBits.{word_bit-past}
+use Rattle.std.proofs.Common.{subst}
+
+-- ---- listed numbers
+
+or_end : (a b c : Bool) → (a || (b || c)) ≡ ((a || b) || c)
+or_end true b c = refl
+or_end false b c = refl
+
+or_false : (b : Bool) → (b || false) ≡ b
+or_false true = refl
+or_false false = refl
+
+pub listed_more : (slots : List Slot) (t : Slot) (s : ℕ) → is_listed (numbers_of (slots ++ t ∷ [])) s ≡ (is_listed (numbers_of slots) s || eqb t.0 s)
+listed_more [] t s = or_false (eqb t.0 s)
+listed_more (x ∷ slots) t s = ap (λ b. eqb x.0 s || b) (listed_more slots t s) ∙ or_end (eqb x.0 s) (is_listed (numbers_of slots) s) (eqb t.0 s)
+
+pub listed_at : (slots : List Slot) (i : ℕ) (d : Slot) → i < length slots → is_listed (numbers_of slots) (get_or slots i d).0 ≡ true
+listed_at [] i d h = absurd (omega arith)
+listed_at (t ∷ slots) zero d h = ap (λ z. z || is_listed (numbers_of slots) t.0) (eq-eqb t.0 t.0 refl)
+listed_at (t ∷ slots) (suc i) d h = rest (eqb t.0 (get_or slots i d).0) (listed_at slots i d (omega arith))
+  where
+    rest : (a : Bool) {b : Bool} → b ≡ true → (a || b) ≡ true
+    rest true e = refl
+    rest false e = e
+
+-- a slot is not among those before it
+pub not_before : (slots : List Slot) (i : ℕ) (d : Slot) → AreDistinct (numbers_of slots) → i < length slots → is_listed (numbers_of (take i slots)) (get_or slots i d).0 ≡ false
+not_before [] i d apart h = absurd (omega arith)
+not_before (t ∷ slots) zero d apart h = refl
+not_before (t ∷ slots) (suc i) d apart h = by (eqb t.0 (get_or slots i d).0) refl (not_before slots i d apart.1 (omega arith))
+  where
+    by : (a : Bool) → eqb t.0 (get_or slots i d).0 ≡ a → is_listed (numbers_of (take i slots)) (get_or slots i d).0 ≡ false → (eqb t.0 (get_or slots i d).0 || is_listed (numbers_of (take i slots)) (get_or slots i d).0) ≡ false
+    by true e f =
+        absurd (true≢false (sym (listed_at slots i d (omega arith)) ∙ ap (is_listed (numbers_of slots)) (sym (eqb-true t.0 (get_or slots i d).0 e)) ∙ apart.0))
+    by false e f = ap (λ a. a || is_listed (numbers_of (take i slots)) (get_or slots i d).0) e ∙ f
+
+-- ---- the slots
+
+pub listed_low : (slots : List SlotState) (numbers : List ℕ) → AreChangeable slots numbers → (s : ℕ) → is_listed numbers s ≡ true → 1 ≤ s
+listed_low slots numbers can s k = live_from_one slots can.states s (can.live s k)
+
+pub listed_high : (slots : List SlotState) (numbers : List ℕ) → AreChangeable slots numbers → (s : ℕ) → is_listed numbers s ≡ true → s < 128
+listed_high slots numbers can s k = live_within slots can.states.count s (can.live s k)
+
+pub zero_unlisted : (slots : List SlotState) (numbers : List ℕ) → AreChangeable slots numbers → is_listed numbers 0 ≡ false
+zero_unlisted slots numbers can = at (is_listed numbers 0) refl
+  where
+    at : (t : Bool) → is_listed numbers 0 ≡ t → is_listed numbers 0 ≡ false
+    at true k = let low = listed_low slots numbers can 0 k in absurd (omega arith)
+    at false k = k
+
+-- the base of a live slot is a slot
+pub base_live : (cols : Columns) (slot : SlotState) → IsBaseFor cols slot → is_live slot ≡ true
+base_live cols state.Free h = absurd h
+base_live cols (state.Released swept) h = absurd h
+base_live cols (state.Live b all) h = refl
+
+pub based_on_live : (slots : List SlotState) → AreSlots slots → (s : ℕ) (b : Slot) (cols : Columns) → slot_at slots s ≡ state.Live (base.Slot b) cols → is_live (slot_at slots b.0) ≡ true
+based_on_live slots fit s b cols e =
+    base_live cols (slot_at slots b.0) (subst (IsBased slots) e (fit.bases s (live_from_one slots fit s (ap is_live e))))
+
+pub base_high : (slots : List SlotState) → AreSlots slots → (s : ℕ) (b : Slot) (cols : Columns) → slot_at slots s ≡ state.Live (base.Slot b) cols → b.0 ≤ 127
+base_high slots fit s b cols e = let high = live_within slots fit.count b.0 (based_on_live slots fit s b cols e) in omega arith
+
+-- ---- the masks, with one slot more
+
+module _ (slots next : List Slot) (t : Slot) (more : next ≡ slots ++ t ∷ []) where
+  listed_next : (s : ℕ) → is_listed (numbers_of next) s ≡ (is_listed (numbers_of slots) s || eqb t.0 s)
+  listed_next s = ap (λ (l : List Slot). is_listed (numbers_of l) s) more ∙ listed_more slots t s
+
+  halves : (s : ℕ) → ((s ≡ t.0) ⊎ (s ≡ t.0 → ⊥)) → eqb (2 * s) (2 * t.0) ≡ eqb t.0 s
+  halves s (inl e) = eq-eqb (2 * s) (2 * t.0) (ap (λ n. 2 * n) e) ∙ sym (eq-eqb t.0 s (sym e))
+  halves s (inr d) = ne_eqb (2 * s) (2 * t.0) (λ e. d (omega arith)) ∙ sym (ne_eqb t.0 s (λ e. d (sym e)))
+
+  odd_halves : (s : ℕ) → ((s ≡ t.0) ⊎ (s ≡ t.0 → ⊥)) → eqb (2 * s + 1) (2 * t.0 + 1) ≡ eqb t.0 s
+  odd_halves s (inl e) = eq-eqb (2 * s + 1) (2 * t.0 + 1) (ap (λ n. 2 * n + 1) e) ∙ sym (eq-eqb t.0 s (sym e))
+  odd_halves s (inr d) = ne_eqb (2 * s + 1) (2 * t.0 + 1) (λ e. d (omega arith)) ∙ sym (ne_eqb t.0 s (λ e. d (sym e)))
+
+  swap : (a b : Bool) → (a || b) ≡ (b || a)
+  swap true true = refl
+  swap true false = refl
+  swap false true = refl
+  swap false false = refl
+
+  pub marks_more : (ones pairs ones2 pairs1 pairs2 : List ℕ) → AreMarks (numbers_of slots) ones pairs → length ones2 ≡ 4 → length pairs2 ≡ 4
+      → ((c : ℕ) → word_bit ones2 c ≡ (eqb c (2 * t.0) || word_bit ones c)) → ((c : ℕ) → word_bit pairs1 c ≡ (eqb c (2 * t.0) || word_bit pairs c)) → ((c : ℕ) → word_bit pairs2 c ≡ (eqb c (2 * t.0 + 1) || word_bit pairs1 c))
+      → AreMarks (numbers_of next) ones2 pairs2
+  marks_more ones pairs ones2 pairs1 pairs2 m f g one first second = record {
+    ones_len = f;
+    pairs_len = g;
+    explicit = λ s h. one (2 * s) ∙ (λ i. halves s (cases_eq s t.0) i || m.explicit s h i) ∙ swap (eqb t.0 s) (is_listed (numbers_of slots) s) ∙ sym (listed_next s);
+    no_own = λ s h. one (2 * s + 1) ∙ (λ i. ne_eqb (2 * s + 1) (2 * t.0) (λ e. omega arith) i || m.no_own s h i);
+    both = λ s h.
+        second (2 * s) ∙ (λ i. ne_eqb (2 * s) (2 * t.0 + 1) (λ e. omega arith) i || first (2 * s) i)
+        ∙ (λ i. halves s (cases_eq s t.0) i || m.both s h i) ∙ swap (eqb t.0 s) (is_listed (numbers_of slots) s) ∙ sym (listed_next s);
+    own = λ s h.
+        second (2 * s + 1) ∙ (λ i. odd_halves s (cases_eq s t.0) i || first (2 * s + 1) i)
+        ∙ ap (λ b. eqb t.0 s || b) (λ i. ne_eqb (2 * s + 1) (2 * t.0) (λ e. omega arith) i || m.own s h i) ∙ swap (eqb t.0 s) (is_listed (numbers_of slots) s) ∙ sym (listed_next s);
+  }
+
+-- ---- a write by the masks
+
+set_by : (t x : Bool) → (t || (x && not t)) ≡ cond t true x
+set_by true x = refl
+set_by false true = refl
+set_by false false = refl
+
+off_by : (t x : Bool) → (false || (x && not t)) ≡ cond t false x
+off_by true true = refl
+off_by true false = refl
+off_by false true = refl
+off_by false false = refl
+
+untouched : (x : Bool) → (false || (x && not false)) ≡ x
+untouched true = refl
+untouched false = refl
+
+both_of : (t x y o : Bool) (e : Bool × Bool) → e ≡ (x, y) → (cond t true x, cond t o y) ≡ cond t (true, o) e
+both_of true x y o e f = refl
+both_of false x y o e f = sym f
+
+module _ (slots : List SlotState) (numbers : List ℕ) (ones pairs : List ℕ) (m : AreMarks numbers ones pairs) (can : AreChangeable slots numbers) where
+  not_past : (u : ℕ) → 128 ≤ u → (t : Bool) → is_listed numbers u ≡ t → is_listed numbers u ≡ false
+  not_past u h true k = let high = listed_high slots numbers can u k in absurd (omega arith)
+  not_past u h false k = k
+
+  past : (on off : List ℕ) → length on ≡ 4 → length off ≡ 4 → (a b : Row) → WritesBits on off a b → (c : ℕ) → 256 ≤ c → has_bit b c ≡ has_bit a c
+  past on off f g a b w c h =
+      w.bits c ∙ (λ i. word_bit-past on c f h i || (has_bit a c && not (word_bit-past off c g h i))) ∙ untouched (has_bit a c)
+
+  past_pair : (p : Bool × Bool) (on off : List ℕ) → length on ≡ 4 → length off ≡ 4 → (a b : Row) → WritesBits on off a b → (u : ℕ) → 128 ≤ u → pair u b ≡ cond (is_listed numbers u) p (pair u a)
+  past_pair p on off f g a b w u h =
+      let low = past on off f g a b w (2 * u) (omega arith) in
+      let high = past on off f g a b w (2 * u + 1) (omega arith) in
+      (λ i. (low i, high i)) ∙ sym (ap (λ t. cond t p (pair u a)) (not_past u h (is_listed numbers u) refl))
+
+  current_by : (on off : List ℕ) → word_bit on 0 ≡ false → word_bit off 0 ≡ false → (a b : Row) → WritesBits on off a b → is_current b ≡ is_current a
+  current_by on off f g a b w = w.bits 0 ∙ (λ i. f i || (has_bit a 0 && not (g i))) ∙ untouched (has_bit a 0)
+
+  pairs_zero : word_bit pairs 0 ≡ false
+  pairs_zero = m.both 0 (omega arith) ∙ zero_unlisted slots numbers can
+
+  ones_zero : word_bit ones 0 ≡ false
+  ones_zero = m.explicit 0 (omega arith) ∙ zero_unlisted slots numbers can
+
+  put_pair : (a b : Row) → WritesBits pairs pairs a b → (u : ℕ) → (u < 128) ⊎ (128 ≤ u) → pair u b ≡ cond (is_listed numbers u) (true, true) (pair u a)
+  put_pair a b w u (inr h) = past_pair (true, true) pairs pairs m.pairs_len m.pairs_len a b w u h
+  put_pair a b w u (inl h) =
+      let t = is_listed numbers u in
+      let low = w.bits (2 * u) ∙ (λ i. m.both u h i || (has_bit a (2 * u) && not (m.both u h i))) ∙ set_by t (has_bit a (2 * u)) in
+      let high = w.bits (2 * u + 1) ∙ (λ i. m.own u h i || (has_bit a (2 * u + 1) && not (m.own u h i))) ∙ set_by t (has_bit a (2 * u + 1)) in
+      (λ i. (low i, high i)) ∙ both_of t (has_bit a (2 * u)) (has_bit a (2 * u + 1)) true (pair u a) refl
+
+  out_pair : (a b : Row) → WritesBits ones pairs a b → (u : ℕ) → (u < 128) ⊎ (128 ≤ u) → pair u b ≡ cond (is_listed numbers u) (true, false) (pair u a)
+  out_pair a b w u (inr h) = past_pair (true, false) ones pairs m.ones_len m.pairs_len a b w u h
+  out_pair a b w u (inl h) =
+      let t = is_listed numbers u in
+      let low = w.bits (2 * u) ∙ (λ i. m.explicit u h i || (has_bit a (2 * u) && not (m.both u h i))) ∙ set_by t (has_bit a (2 * u)) in
+      let high = w.bits (2 * u + 1) ∙ (λ i. m.no_own u h i || (has_bit a (2 * u + 1) && not (m.own u h i))) ∙ off_by t (has_bit a (2 * u + 1)) in
+      (λ i. (low i, high i)) ∙ both_of t (has_bit a (2 * u)) (has_bit a (2 * u + 1)) false (pair u a) refl
+
+  -- both masks put both bits on
+  pub put_writes : (a b : Row) → WritesBits pairs pairs a b → SetsPairs numbers (true, true) a b
+  put_writes a b w = record { element = w.element; current = current_by pairs pairs pairs_zero pairs_zero a b w; pairs = λ u one. put_pair a b w u (cases_lt u 128) }
+
+  -- the one over the other puts the own bits off
+  pub out_writes : (a b : Row) → WritesBits ones pairs a b → SetsPairs numbers (true, false) a b
+  out_writes a b w = record { element = w.element; current = current_by ones pairs ones_zero pairs_zero a b w; pairs = λ u one. out_pair a b w u (cases_lt u 128) }
