@@ -48,7 +48,7 @@ module _ (names : ℕ) (recent : List Event) (parts : List Part) (all : List Par
   until_more (c ∷ branches) (s ∷ times) [] b t d n h one = absurd h
   until_more (c ∷ branches) (s ∷ times) (e ∷ leads) b t d n h one = (h.0, until_more branches times leads b t d (omega arith) h.1 one)
 
-  lasts_cut : (xs : List Branch) (ts : List ℕ) (ys : List Branch) (us : List ℕ) → length ts ≡ length xs
+  pub lasts_cut : (xs : List Branch) (ts : List ℕ) (ys : List Branch) (us : List ℕ) → length ts ≡ length xs
       → lasts_in names recent parts (xs ++ ys) (ts ++ us) ≡ beside (lasts_in names recent parts xs ts) (lasts_in names recent parts ys us)
   lasts_cut [] [] ys us n = none (lasts_in names recent parts ys us)
     where

@@ -22,3 +22,6 @@ pub mod IndexGraphLists
 pub mod HistoryTrees
 pub mod BytesReadParts
 pub mod LegalHistories
+pub mod WritingRoots
+pub mod WritingSteps
+pub mod WritingLasts

@@ -55,7 +55,7 @@ among_either (x ∷ xs) ys e (inr h) = by (among_either xs ys e h)
     by (inl a) = inl (inr a)
     by (inr b) = inr b
 
-own_head : (own : List Stepped) (e : Edge) → IsAmong e (step_edges own) → (s : Stepped) × IsAmongSteps s own × (s.edge ≡ e)
+pub own_head : (own : List Stepped) (e : Edge) → IsAmong e (step_edges own) → (s : Stepped) × IsAmongSteps s own × (s.edge ≡ e)
 own_head [] e h = absurd h
 own_head (s ∷ own) e (inl is) = (s, inl refl, sym is)
 own_head (s ∷ own) e (inr h) = (let rest = own_head own e h in (rest.0, inr rest.1, rest.2))

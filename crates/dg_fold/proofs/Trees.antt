@@ -12,7 +12,7 @@ use Rattle.dg_fold.specs.PathIndependence.{begun_at}
 use Rattle.dg_fold.specs.TreeSteps.{IsAmongSteps, AreIn, Walks, Path, Begins, Goes_on, Reached, IsReachedNode, AreReached, step_edges, step_deltas, last_of, known_node_at, IsNodeKnown, IsOneOf, EnterNone}
 
 -- a path goes on along a walk
-path_on : (all seg : List Stepped) (u w : NodeId) (walk : List Stepped) → Path all u walk → Walks u seg w → AreIn seg all → Path all w (walk ++ seg)
+pub path_on : (all seg : List Stepped) (u w : NodeId) (walk : List Stepped) → Path all u walk → Walks u seg w → AreIn seg all → Path all w (walk ++ seg)
 path_on all [] u w walk p on among =
     subst (λ l. Path all w l) (sym (append-nil walk)) (subst (λ n. Path all n walk) on p)
 path_on all (s ∷ seg) u w walk p on among =
@@ -93,7 +93,7 @@ pub known_last : (known : List Known) (k : Known) → IsNodeKnown k.node (known 
 known_last [] k = inl refl
 known_last (j ∷ known) k = inr (known_last known k)
 
-either : (xs ys : List Stepped) (s : Stepped) → IsAmongSteps s (xs ++ ys) → IsAmongSteps s xs ⊎ IsAmongSteps s ys
+pub either : (xs ys : List Stepped) (s : Stepped) → IsAmongSteps s (xs ++ ys) → IsAmongSteps s xs ⊎ IsAmongSteps s ys
 either [] ys s h = inr h
 either (x ∷ xs) ys s (inl is) = inl (inl is)
 either (x ∷ xs) ys s (inr h) = by (either xs ys s h)

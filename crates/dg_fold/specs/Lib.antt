@@ -9,3 +9,5 @@ pub mod Ends
 pub mod HistoryPaths
 pub mod PointSplits
 pub mod HistoryTrees
+pub mod Writings
+pub mod WritingSteps

@@ -47,7 +47,9 @@ fn held(alloc: Global, parts: &[Part], key: Key) -> Result<Bytes, AllocError>
     requires { Contains (map (λ (p : Part). p.key) parts.now) key }
     ensures { IfOk result (λ b. (p : Part) × Contains parts.now p × (p.key ≡ key) × ((col : Column) → bytes_in b col ≡ bytes_in p.bytes col)) }
 {
-    for part in parts {
+    // From the last on, which is mostly near.
+    for i in (0..parts.len()).rev() {
+        let part = &parts[i];
         if is_same(part.key, key) {
             return copied(alloc, &part.bytes);
         }

@@ -16,6 +16,7 @@ mod plan;
 mod record;
 mod tree;
 mod tree_step;
+mod writing;
 
 pub use dg_delta::Delta;
 pub use fault::FoldFault;
@@ -30,3 +31,4 @@ pub use laws::{
 pub use part::{Bytes, Part};
 pub use plan::compose_plan;
 pub use tree::{Branch, Lead, compose_tree};
+pub use writing::{Writing, write_tree};

@@ -146,8 +146,8 @@ fn led(
     }
 }
 
-// The steps of all branches, in order.
-fn steps_of<R: Threads>(
+/// The steps of all branches, in order.
+pub(crate) fn steps_of<R: Threads>(
     rt: &R,
     alloc: Global,
     names: u32,

@@ -1,7 +1,7 @@
-use Rattle.std.proofs.Common.{map, take}
+use Rattle.std.proofs.Common.{map, drop}
 use Rattle.std.specs.List.{Contains}
 use Rattle.dg_fold.specs.declared.part.Part.{Part}
 use Rattle.dg_fold.proofs.fetch.held.Given as goal
 
-abbrev pub invariant-loop-part : goal.invariant-loop-part
-invariant-loop-part l = Contains (map (λ (p : Part). p.key) (take l.part-index l.parts)) l.key → ⊥
+abbrev pub invariant-loop-i : goal.invariant-loop-i
+invariant-loop-i l = Contains (map (λ (p : Part). p.key) (drop l.i l.parts)) l.key → ⊥
