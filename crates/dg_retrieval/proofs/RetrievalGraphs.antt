@@ -16,6 +16,7 @@ use Rattle.dg_plan.specs.Walks.{AreSingles, Arc, Graft, steps_of}
 use Rattle.dg_retrieval.specs.declared.graph_lead.GraphLead.{GraphLead}
 use Rattle.dg_retrieval.specs.Beginnings.{led_to}
 use Rattle.dg_retrieval.specs.KeptGraph.{index_ground}
+use Rattle.dg_retrieval.specs.NodeSets.{IsIndexOver}
 use Rattle.dg_retrieval.specs.Retrieval.{AreHeld, ArePoints, IsOver, graphs_at}
 use Rattle.dg_retrieval.specs.TreeLeads.{AreIndexEdges, AreTreeLeads}
 use Rattle.dg_retrieval.proofs.HistoryTreeLaws.{trees_reach}
@@ -30,6 +31,10 @@ singles_many g starts [] [] are = refl
 singles_many g starts [] (x ∷ singles) are = elim are [ ]
 singles_many g starts (v ∷ targets) [] are = elim are [ ]
 singles_many g starts (v ∷ targets) (x ∷ singles) are = ap (λ n. suc n) (singles_many g starts targets singles are.1)
+
+-- the index is that of the history
+pub index_over : {z : History} {im : ListOf ℕ} {o : Opening} {names : ℕ} {now : ListOf Element} {recent : ListOf Event} → IsOver z im o names now recent → IsIndexOver z im o names
+index_over over = record { stands = over.stands; opened = over.opened; names = over.names }
 
 module _ (o : Opening) (cols : Columns) (edges : ListOf Edge) (is : AreIndexEdges o cols edges) (targets : ListOf NodeId) (grafts : ListOf (Graft NodeId)) (names : ℕ)
     (recent : ListOf Event) (times : ListOf ℕ) (leads : ListOf GraphLead) where

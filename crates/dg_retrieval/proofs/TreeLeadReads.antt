@@ -1,5 +1,5 @@
 -- What is read and composed along a tree, by the tree that is planned and the records that it enters.
-use Rattle.std.proofs.Common.{◌≡◌, ℕ, suc, ◌≤◌, true, List as ListOf, [], ◌∷◌, ◌++◌, Option, Result, Ok, Err, IfSome, inr, arith, length, map, reverse, refl, sym, ap, subst, ◌∙◌}
+use Rattle.std.proofs.Common.{◌≡◌, ℕ, suc, ◌≤◌, true, List as ListOf, [], ◌∷◌, ◌++◌, Option, Some, None, Result, Ok, Err, IfSome, inl, inr, arith, length, map, reverse, refl, sym, ap, subst, ◌∙◌}
 use Rattle.std.specs.Prelude.{◌≢◌, IsErr, IsErrAnd}
 use Rattle.std.specs.List.{All, AllZip, Contains, sum, zip}
 use Rattle.std.proofs.lemmas.List.{length-map}
@@ -13,9 +13,11 @@ use Rattle.dg_fold.specs.declared.tree.Lead.{Lead}
 use Rattle.dg_fold.specs.BytesRead.{AreParts, HoldsWhatIsEntered, IsKept, Takes, TakesAtMost, entered_length, kept_in, named_along}
 use Rattle.dg_fold.specs.Ends.{AreLedUntil, FailsIn, lasts_in}
 use Rattle.dg_fold.specs.Parts.{beside, parts_in}
-use Rattle.dg_plan.specs.TreePaths.{base_behind, base_under, edges_at}
+use Rattle.dg_plan.specs.TreePaths.{base_behind, edges_at}
 use Rattle.dg_fold.specs.Steps.{PartedStep, paired, steps_in}
-use Rattle.dg_fold.specs.Trees.{all_edges}
+use Rattle.dg_fold.specs.Trees.{Grow, LeadsToTarget, all_edges}
+use Rattle.dg_fold.specs.Writings.{AreWrittenFrom}
+use Rattle.dg_fold.specs.declared.writing.Writing.{Writing}
 use Rattle.dg_graph.specs.declared.element.Column.{Column}
 use Rattle.dg_graph.specs.declared.element.Columns.{Columns}
 use Rattle.dg_graph.specs.declared.event.Event.{Event}
@@ -37,19 +39,22 @@ use Rattle.dg_planner.specs.declared.tree.Graft.{Graft as PlannedGraft}
 use Rattle.dg_planner.specs.Trees.{node_graft, node_grafts}
 use Rattle.dg_retrieval.specs.Branches.{AreBranches}
 use Rattle.dg_retrieval.specs.Faults.{of_fold}
+use Rattle.dg_retrieval.specs.declared.fault.RetrievalFault.{RetrievalFault}
+use Rattle.dg_retrieval.specs.declared.graph_lead.Beginning.{Beginning}
 use Rattle.dg_retrieval.specs.declared.graph_lead.GraphLead.{GraphLead}
-use Rattle.dg_retrieval.specs.Beginnings.{IsOffered, LeadsAs, BeginningStandsFor, base_handle, begun_within, lead_by}
+use Rattle.dg_retrieval.specs.Beginnings.{IsOffered, LeadsAs, BeginningStandsFor, base_handle, begun_within, lead_by, leads_from}
 use Rattle.dg_retrieval.specs.KeptGraph.{index_ground}
 use Rattle.dg_retrieval.specs.NodeSets.{IsIndexOver, IsUndamaged}
 use Rattle.dg_retrieval.specs.Retrieval.{IsFirstDamage, IsNoDamage, TakesAtMostTree}
-use Rattle.dg_retrieval.specs.TreeLeads.{AreIndexEdges, AreTreeLeads}
+use Rattle.dg_retrieval.specs.TreeLeads.{AreIndexEdges, LeadAlongTree}
+use Rattle.dg_retrieval.specs.TreeParts.{IsTreeWalk}
 use Rattle.dg_retrieval.proofs.PartDamages.{damage_is, none_damaged, parts_are_whole}
 use Rattle.dg_retrieval.proofs.HistoryTreeLaws.{trees_reach}
 use Rattle.dg_retrieval.proofs.KeptGraphWalks.{walk_among, walk_entered, walk_kept, walk_off_root, walk_records, walk_weighs}
 use Rattle.dg_retrieval.proofs.KeptGraphRecords.{graph_of_index}
 use Rattle.dg_retrieval.proofs.BeginningGraphs.{ends_are}
 use Rattle.dg_retrieval.proofs.BeginningBases.{EdgesGrow, EntersNow, all_back, base_found, base_offered, edges_enter, edges_grow, path_stands}
-use Rattle.dg_retrieval.proofs.BranchTrees.{all_at, branches_hold, branches_many}
+use Rattle.dg_retrieval.proofs.BranchTrees.{all_at, branches_grow, branches_hold, branches_lead, branches_many}
 use Rattle.dg_retrieval.proofs.KeptGraphWeights.{one_weight, tree_steps_weigh}
 
 -- ---- what was planned
@@ -65,10 +70,17 @@ pub grafts_many : (edges : ListOf Edge) (targets : ListOf NodeId) (xs ys : ListO
 grafts_many edges targets xs ys is t = ap length is ∙ sym (length-map xs node_graft) ∙ tree_many (arcs_of edges) (Root ∷ []) targets (node_grafts xs) t
 
 -- branches of the same edges and grafts
-pub branches_as : (edges edges' : ListOf Edge) (targets : ListOf NodeId) (xs xs' : ListOf PlannedGraft) (branches : ListOf Branch) → edges' ≡ edges → xs' ≡ xs
+branches_as : (edges edges' : ListOf Edge) (targets : ListOf NodeId) (xs xs' : ListOf PlannedGraft) (branches : ListOf Branch) → edges' ≡ edges → xs' ≡ xs
     → AreBranches edges' targets (node_grafts xs') branches → AreBranches edges targets (node_grafts xs) branches
 branches_as edges edges' targets xs xs' branches same alike are =
     subst (λ (es : ListOf Edge). AreBranches es targets (node_grafts xs) branches) same (subst (λ (ys : ListOf PlannedGraft). AreBranches edges' targets (node_grafts ys) branches) alike are)
+
+-- the walk along the branches that are made of the grafts goes along the tree
+pub walk_of : (edges edges' : ListOf Edge) (targets : ListOf NodeId) (xs xs' : ListOf PlannedGraft) (branches branches' : ListOf Branch) (walk : ListOf Edge)
+    → IsTree (arcs_of edges) (Root ∷ []) targets (node_grafts xs) → edges' ≡ edges → xs' ≡ xs → AreBranches edges' targets (node_grafts xs') branches → branches' ≡ branches → walk ≡ all_edges branches'
+    → IsTreeWalk edges targets (node_grafts xs) branches walk
+walk_of edges edges' targets xs xs' branches branches' walk tree same alike are whole along =
+    record { tree = tree; made = branches_as edges edges' targets xs xs' branches same alike are; along = along ∙ ap all_edges whole }
 
 -- the single plans of the same targets weigh the same
 one_singles : {N : Type 0} (g : ListOf (Arc N)) (starts targets : ListOf N) (xs ys : ListOf ℕ) → AreSingles g starts targets xs → AreSingles g starts targets ys → xs ≡ ys
@@ -100,6 +112,17 @@ leads_many walk [] [] many = refl
 leads_many walk [] (v ∷ targets) many = absurd (omega arith)
 leads_many walk (l ∷ paths) [] many = absurd (omega arith)
 leads_many walk (l ∷ paths) (v ∷ targets) many = ap (λ n. suc n) (leads_many walk paths targets (omega arith))
+
+-- what is written for each of them is what leads by its path
+leads_written : (walk : ListOf Edge) (n : ℕ) (paths : ListOf Lead) (targets : ListOf NodeId) (writings : ListOf Writing) → length paths ≡ length targets → AreWrittenFrom n paths writings
+    → leads_from n (map (begun_within walk) targets) writings ≡ map (lead_by walk) (zip paths targets)
+leads_written walk n [] [] writings many written = refl
+leads_written walk n [] (v ∷ targets) writings many written = absurd (omega arith)
+leads_written walk n (l ∷ paths) [] writings many written = absurd (omega arith)
+leads_written walk n (l ∷ paths) (v ∷ targets) writings many written =
+    let here = sym written.0 in
+    let rest = leads_written walk (suc n) paths targets writings (omega arith) written.1 in
+    λ i. record { begins = begun_within walk v; delta = here i } ∷ rest i
 
 -- their bases are those that are found behind the targets
 bases_are : (walk : ListOf Edge) (paths : ListOf Lead) (targets : ListOf NodeId) → length paths ≡ length targets
@@ -146,139 +169,171 @@ pub fault_handed : {A F : Type 0} (r : Result A F) (x : F) → IsErr r × IsErrA
 fault_handed (Ok a) x h is = cc
 fault_handed (Err y) x h is = sym h.1 ∙ cc
 
-module _ (o : Opening) (cols : Columns) (edges : ListOf Edge) (targets : ListOf NodeId) (grafts : ListOf (Graft NodeId)) (branches : ListOf Branch)
-    (tree : IsTree (arcs_of edges) (Root ∷ []) targets grafts) (are : AreBranches edges targets grafts branches) (walk : ListOf Edge) (along : walk ≡ all_edges branches)
-    (names : ℕ) (recent : ListOf Event) (parts : ListOf Part) (times : ListOf ℕ) (image : Option (ListOf ℕ)) (read : IfSome image (λ im. AreParts (kept_in im o) cols (named_along walk) parts)) where
-  abbrev Composed : Result (ListOf Delta) (Key × Column)
-  Composed = beside (steps_in names recent (paired (all_edges branches) parts)) (lasts_in names recent parts branches times)
-
-  -- the parts are those of the branches, and of the tree's steps
-  of_branches : (im : ListOf ℕ) → AreParts (kept_in im o) cols (named_along walk) parts → AreParts (kept_in im o) cols (named_along (all_edges branches)) parts
-  of_branches im there = subst (λ (w : ListOf Edge). AreParts (kept_in im o) cols (named_along w) parts) along there
-
-  of_steps : (im : ListOf ℕ) → AreParts (kept_in im o) cols (named_along walk) parts → AreParts (kept_in im o) cols (named_along (edges_at edges (steps_of grafts))) parts
-  of_steps im there = subst (λ (w : ListOf Edge). AreParts (kept_in im o) cols (named_along w) parts) (along ∙ branches_hold edges targets grafts branches are) there
-
-  -- a fault of the composing names the first damage of the tree's parts
-  pub damage_of : (f : FoldFault) → FailsIn f Composed → IfSome image (λ im. IsFirstDamage names edges o cols targets im (of_fold f))
-  damage_of fold_fault.Memory fails = IfSome_then image read (λ im there. tt)
-  damage_of (fold_fault.Damaged key col) fails = IfSome_then image read (λ im there. (
-    grafts,
-    tree,
-    parts,
-    of_steps im there,
-    damage_is names recent (kept_in im o) cols (all_edges branches) parts branches times (key, col) (of_branches im there) fails,
-  ))
-
-  -- where they are composed, none of them is damaged
-  pub whole_of : (list : ListOf Delta) → steps_in names recent (paired (all_edges branches) parts) ≡ Ok list → IfSome image (λ im. IsUndamaged names edges o cols targets im)
-  whole_of list ok = IfSome_then image read (λ im there.
-      let whole = parts_are_whole names recent (kept_in im o) cols (all_edges branches) parts list (of_branches im there) ok in
-      (grafts, tree, parts, of_steps im there, whole.0, whole.1))
-
-  -- what leads to the targets leads there as its path does
-  module _ (is : AreIndexEdges o cols edges) (paths : ListOf Lead) (led : AreLedUntil names recent parts (paired (all_edges branches) parts) branches times paths)
-      (leads : ListOf GraphLead) (made : leads ≡ map (lead_by walk) (zip paths targets)) where
-    in_tree : walk ≡ edges_at edges (steps_of grafts)
-    in_tree = along ∙ branches_hold edges targets grafts branches are
-
-    among : All (Contains edges) walk
-    among = subst (λ (es : ListOf Edge). All (Contains edges) es) (sym in_tree) (all_at (Contains edges) edges (steps_of grafts) (All-contains_itself edges))
-
-    paths_many : length paths ≡ length targets
-    paths_many = led_many names recent parts (paired (all_edges branches) parts) branches times paths led ∙ (branches_many edges targets grafts branches are).0
-
-    pub count_of : length leads ≡ length targets
-    count_of = ap length made ∙ leads_many walk paths targets paths_many
-
-    pub bases_of : map (λ (l : GraphLead). base_handle l.begins) leads ≡ map (base_under edges (steps_of grafts)) targets
-    bases_of =
-        ap (map (λ (l : GraphLead). base_handle l.begins)) made ∙ bases_are walk paths targets paths_many
-        ∙ ap (λ (es : ListOf Edge). map (base_behind (reverse es)) targets) in_tree
-
-    pub offered_of : All (IsOffered edges) leads
-    offered_of = subst (λ (gs : ListOf GraphLead). All (IsOffered edges) gs) (sym made) (leads_offered edges walk among (zip paths targets))
-
-    pub leads_of : IfSome image (λ im. AreTreeLeads names recent edges o cols targets grafts times leads im)
-    leads_of = IfSome_then image read (λ im there. (branches, are, parts, of_branches im there, paths, led, stand))
-      where
-        grow : EdgesGrow (Root ∷ []) (all_edges branches)
-        grow =
-            subst (EdgesGrow (Root ∷ [])) (sym (branches_hold edges targets grafts branches are))
-            (edges_grow edges (Root ∷ []) (steps_of grafts) (tree_grows (arcs_of edges) (Root ∷ []) targets grafts tree))
-
-        enter : All EntersNow edges
-        enter = subst (λ (es : ListOf Edge). All EntersNow es) (sym is.3) (edges_enter (index_ground o cols is.0 is.1))
-
-        stand : AllZip (LeadsAs edges) paths leads
-        stand =
-            subst (λ (gs : ListOf GraphLead). AllZip (LeadsAs edges) paths gs) (sym (made ∙ ap (λ (w : ListOf Edge). map (lead_by w) (zip paths targets)) along))
-            (leads_stand edges (all_edges branches) parts grow (subst (λ (w : ListOf Edge). All (Contains edges) w) along among)
-            (subst (λ (w : ListOf Edge). All EntersNow w) (sym (branches_hold edges targets grafts branches are)) (all_at EntersNow edges (steps_of grafts) enter))
-            names recent branches times targets paths (ends_are edges targets grafts branches are) led)
+-- no damage is no first damage
+pub no_first_damage : (names : ℕ) (edges : ListOf Edge) (o : Opening) (cols : Columns) (targets : ListOf NodeId) (image : Option (ListOf ℕ)) (f : RetrievalFault) → IsNoDamage f
+    → IfSome image (λ im. IsFirstDamage names edges o cols targets im f)
+no_first_damage names edges o cols targets None f none = tt
+no_first_damage names edges o cols targets (Some im) f (inl disk) = subst (IsFirstDamage names edges o cols targets im) (sym disk) tt
+no_first_damage names edges o cols targets (Some im) f (inr memory) = subst (IsFirstDamage names edges o cols targets im) (sym memory) tt
 
 -- ---- what is read
 
 at_most_more : (n m before after : ℕ) → n ≤ m → TakesAtMost n before after → TakesAtMost m before after
 at_most_more n m before after below at = omega (arith, below, at)
 
-module _ (o : Opening) (cols : Columns) (edges : ListOf Edge) (is : AreIndexEdges o cols edges) (targets : ListOf NodeId) (grafts : ListOf (Graft NodeId)) (branches : ListOf Branch)
-    (are : AreBranches edges targets grafts branches) (walk : ListOf Edge) (along : walk ≡ all_edges branches) where
-  in_steps : walk ≡ edges_at edges (steps_of grafts)
-  in_steps = along ∙ branches_hold edges targets grafts branches are
+module _ {edges : ListOf Edge} {targets : ListOf NodeId} {grafts : ListOf (Graft NodeId)} {branches : ListOf Branch} {walk : ListOf Edge}
+    (walked : IsTreeWalk edges targets grafts branches walk) where
+  -- the walk goes by the tree's steps
+  in_tree : walk ≡ edges_at edges (steps_of grafts)
+  in_tree = walked.along ∙ branches_hold edges targets grafts branches walked.made
 
-  -- the index keeps each record
-  pub all_kept : are_parameters o.params.l o.params.k ≡ true → AreKept o → All (λ (e : Edge). IsKept o e.via) walk
-  all_kept = walk_kept o cols is.0 is.1 edges is.3 (steps_of grafts) walk in_steps
+  pub walked_many : length branches ≡ length targets
+  walked_many = (branches_many edges targets grafts branches walked.made).0
 
-  -- no edge enters the root
-  pub all_off_root : All (λ (e : Edge). e.to ≢ Root) walk
-  all_off_root = walk_off_root o cols is.0 is.1 edges is.3 (steps_of grafts) walk in_steps
+  pub walked_lead : All LeadsToTarget branches
+  walked_lead = branches_lead edges (Root ∷ []) targets grafts branches walked.tree walked.made
 
-  module _ (names : ℕ) (recent : ListOf Event) (parts : ListOf Part) (times : ListOf ℕ)
-      (image : Option (ListOf ℕ)) (read : IfSome image (λ im. AreParts (kept_in im o) cols (named_along walk) parts)) where
+  pub walked_grow : Grow [] branches
+  walked_grow = branches_grow edges targets grafts branches walked.tree walked.made
+
+  module _ (o : Opening) (cols : Columns) (is : AreIndexEdges o cols edges) where
+    -- no edge enters the root
+    pub walked_on : All (λ (e : Edge). e.to ≢ Root) (all_edges branches)
+    walked_on = subst (λ (es : ListOf Edge). All (λ (e : Edge). e.to ≢ Root) es) walked.along (walk_off_root o cols is.0 is.1 edges is.3 (steps_of grafts) walk in_tree)
+
+    module _ {fetched : ListOf Edge} (same : fetched ≡ walk) where
+      along : fetched ≡ edges_at edges (steps_of grafts)
+      along = same ∙ in_tree
+
+      -- the index keeps each record
+      pub all_kept : are_parameters o.params.l o.params.k ≡ true → AreKept o → All (λ (e : Edge). IsKept o e.via) fetched
+      all_kept = walk_kept o cols is.0 is.1 edges is.3 (steps_of grafts) fetched along
+
+      -- each record is entered before it is held
+      pub all_entered : HoldsWhatIsEntered [] fetched
+      all_entered = walk_entered o cols is.0 is.1 edges is.3 (steps_of grafts) fetched along is.2 targets grafts walked.tree refl
+
+      -- over an image of a history, the asked bytes of the records are what the tree weighs
+      all_weigh : (z : History) (im : ListOf ℕ) → IsImageOf z im → o ≡ (opened_of z).index → entered_length (kept_in im o) cols fetched ≡ tree_weight (arcs_of edges) grafts
+      all_weigh z im stands opened =
+          walk_weighs o cols is.0 is.1 edges is.3 (steps_of grafts) fetched along z im stands opened ∙ sym (tree_steps_weigh (arcs_of edges) grafts)
+
+      module _ (image : Option (ListOf ℕ)) (before after names : ℕ) where
+        -- where all is read, just as much
+        pub takes_of : (weight : ℕ) → weight ≡ tree_weight (arcs_of edges) grafts → IfSome image (λ im. Takes (entered_length (kept_in im o) cols fetched) before after)
+            → IfSome image (λ im. (z : History) → IsIndexOver z im o names → Takes weight before after)
+        takes_of weight weighs read = IfSome_then image read (λ im at z over. subst (λ n. Takes n before after) (all_weigh z im over.stands over.opened ∙ sym weighs) at)
+
+        module _ (read : IfSome image (λ im. TakesAtMost (entered_length (kept_in im o) cols fetched) before after)) where
+          -- at most what any tree of the targets weighs
+          pub most_of : IfSome image (λ im. (z : History) → IsIndexOver z im o names → TakesAtMostTree edges targets before after)
+          most_of = IfSome_then image read (λ im at z over others another.
+              subst (λ n. TakesAtMost n before after) (all_weigh z im over.stands over.opened ∙ one_weight (arcs_of edges) (Root ∷ []) targets grafts others walked.tree another) at)
+
+          -- and at most what their single plans do
+          pub shared_of : (weight : ℕ) (singles : ListOf ℕ) → weight ≡ tree_weight (arcs_of edges) grafts → AreSingles (arcs_of edges) (Root ∷ []) targets singles → weight ≤ sum singles
+              → IfSome image (λ im. (z : History) → IsIndexOver z im o names → (others : ListOf ℕ) → AreSingles (arcs_of edges) (Root ∷ []) targets others → TakesAtMost (sum others) before after)
+          shared_of weight singles weighs these below = IfSome_then image read (λ im at z over others another.
+              let same : sum singles ≡ sum others = ap sum (one_singles (arcs_of edges) (Root ∷ []) targets singles others these another) in
+              at_most_more (entered_length (kept_in im o) cols fetched) (sum others) before after (omega (arith, same, below, weighs, all_weigh z im over.stands over.opened)) at)
+
+-- ---- what comes of it
+
+-- The branches and the parts from which deltas are made are those that were read.
+module _ {edges : ListOf Edge} {targets : ListOf NodeId} {grafts : ListOf (Graft NodeId)} {walk : ListOf Edge} {made branches : ListOf Branch} {kept parts : ListOf Part}
+    (planned : IsTreeWalk edges targets grafts made walk) (alike : branches ≡ made) (same : parts ≡ kept) (o : Opening) (cols : Columns) (image : Option (ListOf ℕ))
+    (held : IfSome image (λ im. AreParts (kept_in im o) cols (named_along walk) kept)) (names : ℕ) (recent : ListOf Event) (times : ListOf ℕ) where
+  walked : IsTreeWalk edges targets grafts branches walk
+  walked = subst (λ (bs : ListOf Branch). IsTreeWalk edges targets grafts bs walk) (sym alike) planned
+
+  -- the parts are those of the branches, and of the tree's steps
+  of_branches : IfSome image (λ im. AreParts (kept_in im o) cols (named_along (all_edges branches)) parts)
+  of_branches =
+      subst (λ (w : ListOf Edge). IfSome image (λ im. AreParts (kept_in im o) cols (named_along w) parts)) walked.along
+      (subst (λ (ps : ListOf Part). IfSome image (λ im. AreParts (kept_in im o) cols (named_along walk) ps)) (sym same) held)
+
+  of_steps : (im : ListOf ℕ) → AreParts (kept_in im o) cols (named_along (all_edges branches)) parts → AreParts (kept_in im o) cols (named_along (edges_at edges (steps_of grafts))) parts
+  of_steps im there = subst (λ (w : ListOf Edge). AreParts (kept_in im o) cols (named_along w) parts) (branches_hold edges targets grafts branches walked.made) there
+
+  abbrev Composed : Result (ListOf Delta) (Key × Column)
+  Composed = beside (steps_in names recent (paired (all_edges branches) parts)) (lasts_in names recent parts branches times)
+
+  -- a fault of the composing names the first damage of the tree's parts
+  pub damage_of : (f : FoldFault) → FailsIn f Composed → IfSome image (λ im. IsFirstDamage names edges o cols targets im (of_fold f))
+  damage_of fold_fault.Memory fails = IfSome_then image of_branches (λ im there. tt)
+  damage_of (fold_fault.Damaged key col) fails = IfSome_then image of_branches (λ im there. (
+    grafts,
+    walked.tree,
+    parts,
+    of_steps im there,
+    damage_is names recent (kept_in im o) cols (all_edges branches) parts branches times (key, col) there fails,
+  ))
+
+  -- where the deltas are made, none of the parts is damaged
+  pub whole_of : (list : ListOf Delta) → steps_in names recent (paired (all_edges branches) parts) ≡ Ok list → IfSome image (λ im. IsUndamaged names edges o cols targets im)
+  whole_of list ok = IfSome_then image of_branches (λ im there.
+      let whole = parts_are_whole names recent (kept_in im o) cols (all_edges branches) parts list there ok in
+      (grafts, walked.tree, parts, of_steps im there, whole.0, whole.1))
+
+  module _ (is : AreIndexEdges o cols edges) where
+    in_steps : all_edges branches ≡ edges_at edges (steps_of grafts)
+    in_steps = branches_hold edges targets grafts branches walked.made
+
     -- over an image of a history none of the parts is damaged
-    no_damage : (im : ListOf ℕ) → AreParts (kept_in im o) cols (named_along walk) parts → (z : History) → IsIndexOver z im o names → (x : Key × Column)
-        → beside (steps_in names recent (paired (all_edges branches) parts)) (lasts_in names recent parts branches times) ≡ Err x → ⊥
+    no_damage : (im : ListOf ℕ) → AreParts (kept_in im o) cols (named_along (all_edges branches)) parts → (z : History) → IsIndexOver z im o names → (x : Key × Column) → Composed ≡ Err x → ⊥
     no_damage im there z over x damaged =
         let whole =
-        (trees_reach z over.stands.legal (index_ground o cols is.0 is.1) (graph_of_index z o over.opened cols is.0 is.1) is.2 cols walk
-        (walk_among o cols is.0 is.1 edges is.3 (steps_of grafts) walk in_steps) parts
-        (walk_records o cols is.0 is.1 edges is.3 (steps_of grafts) walk in_steps z im over.stands over.opened parts there)).0 in
-        let first : parts_in names parts ≡ Err x =
-        damage_is names recent (kept_in im o) cols (all_edges branches) parts branches times x (subst (λ (w : ListOf Edge). AreParts (kept_in im o) cols (named_along w) parts) along there) damaged in
-        none_damaged (length (names_of z)) (recent_of z.params (events_of z)) (kept_in im o) cols walk parts whole.0 x there whole.1 (subst (λ n. parts_in n parts ≡ Err x) over.names first)
+        (trees_reach z over.stands.legal (index_ground o cols is.0 is.1) (graph_of_index z o over.opened cols is.0 is.1) is.2 cols (all_edges branches)
+        (walk_among o cols is.0 is.1 edges is.3 (steps_of grafts) (all_edges branches) in_steps) parts
+        (walk_records o cols is.0 is.1 edges is.3 (steps_of grafts) (all_edges branches) in_steps z im over.stands over.opened parts there)).0 in
+        let first : parts_in names parts ≡ Err x = damage_is names recent (kept_in im o) cols (all_edges branches) parts branches times x there damaged in
+        none_damaged (length (names_of z)) (recent_of z.params (events_of z)) (kept_in im o) cols (all_edges branches) parts whole.0 x there whole.1 (subst (λ n. parts_in n parts ≡ Err x) over.names first)
 
-    pub never_of : (f : FoldFault) → FailsIn f (beside (steps_in names recent (paired (all_edges branches) parts)) (lasts_in names recent parts branches times))
-        → IfSome image (λ im. (z : History) → IsIndexOver z im o names → IsNoDamage (of_fold f))
-    never_of fold_fault.Memory fails = IfSome_then image read (λ im there z over. inr refl)
-    never_of (fold_fault.Damaged key col) fails = IfSome_then image read (λ im there z over. absurd (no_damage im there z over (key, col) fails))
+    pub never_of : (f : FoldFault) → FailsIn f Composed → IfSome image (λ im. (z : History) → IsIndexOver z im o names → IsNoDamage (of_fold f))
+    never_of fold_fault.Memory fails = IfSome_then image of_branches (λ im there z over. inr refl)
+    never_of (fold_fault.Damaged key col) fails = IfSome_then image of_branches (λ im there z over. absurd (no_damage im there z over (key, col) fails))
 
-  module _ (tree : IsTree (arcs_of edges) (Root ∷ []) targets grafts) where
-    -- each record is entered before it is held
-    pub all_entered : HoldsWhatIsEntered [] walk
-    all_entered = walk_entered o cols is.0 is.1 edges is.3 (steps_of grafts) walk in_steps is.2 targets grafts tree refl
+    -- what leads to the targets leads there as its path does
+    module _ (paths : ListOf Lead) (led : AreLedUntil names recent parts (paired (all_edges branches) parts) branches times paths) where
+      among : All (Contains edges) (all_edges branches)
+      among = subst (λ (es : ListOf Edge). All (Contains edges) es) (sym in_steps) (all_at (Contains edges) edges (steps_of grafts) (All-contains_itself edges))
 
-    -- over an image of a history, the asked bytes of the records are what the tree weighs
-    all_weigh : (z : History) (im : ListOf ℕ) → IsImageOf z im → o ≡ (opened_of z).index → entered_length (kept_in im o) cols walk ≡ tree_weight (arcs_of edges) grafts
-    all_weigh z im stands opened =
-        walk_weighs o cols is.0 is.1 edges is.3 (steps_of grafts) walk in_steps z im stands opened ∙ sym (tree_steps_weigh (arcs_of edges) grafts)
+      paths_many : length paths ≡ length targets
+      paths_many = led_many names recent parts (paired (all_edges branches) parts) branches times paths led ∙ (branches_many edges targets grafts branches walked.made).0
 
-    module _ (names : ℕ) (image : Option (ListOf ℕ)) (before after : ℕ) where
-      -- where all is read, just as much
-      pub takes_of : (weight : ℕ) → weight ≡ tree_weight (arcs_of edges) grafts → IfSome image (λ im. Takes (entered_length (kept_in im o) cols walk) before after)
-          → IfSome image (λ im. (z : History) → IsIndexOver z im o names → Takes weight before after)
-      takes_of weight weighs read = IfSome_then image read (λ im at z over. subst (λ n. Takes n before after) (all_weigh z im over.stands over.opened ∙ sym weighs) at)
+      stand : AllZip (LeadsAs edges) paths (map (lead_by (all_edges branches)) (zip paths targets))
+      stand =
+          leads_stand edges (all_edges branches) parts grow among
+          (subst (λ (w : ListOf Edge). All EntersNow w) (sym in_steps) (all_at EntersNow edges (steps_of grafts) enter))
+          names recent branches times targets paths (ends_are edges targets grafts branches walked.made) led
+        where
+          grow : EdgesGrow (Root ∷ []) (all_edges branches)
+          grow = subst (EdgesGrow (Root ∷ [])) (sym in_steps) (edges_grow edges (Root ∷ []) (steps_of grafts) (tree_grows (arcs_of edges) (Root ∷ []) targets grafts walked.tree))
 
-      module _ (read : IfSome image (λ im. TakesAtMost (entered_length (kept_in im o) cols walk) before after)) where
-        -- at most what any tree of the targets weighs
-        pub most_of : IfSome image (λ im. (z : History) → IsIndexOver z im o names → TakesAtMostTree edges targets before after)
-        most_of = IfSome_then image read (λ im at z over others another.
-            subst (λ n. TakesAtMost n before after) (all_weigh z im over.stands over.opened ∙ one_weight (arcs_of edges) (Root ∷ []) targets grafts others tree another) at)
+          enter : All EntersNow edges
+          enter = subst (λ (es : ListOf Edge). All EntersNow es) (sym is.3) (edges_enter (index_ground o cols is.0 is.1))
 
-        -- and at most what their single plans do
-        pub shared_of : (weight : ℕ) (singles : ListOf ℕ) → weight ≡ tree_weight (arcs_of edges) grafts → AreSingles (arcs_of edges) (Root ∷ []) targets singles → weight ≤ sum singles
-            → IfSome image (λ im. (z : History) → IsIndexOver z im o names → (others : ListOf ℕ) → AreSingles (arcs_of edges) (Root ∷ []) targets others → TakesAtMost (sum others) before after)
-        shared_of weight singles weighs these below = IfSome_then image read (λ im at z over others another.
-            let same : sum singles ≡ sum others = ap sum (one_singles (arcs_of edges) (Root ∷ []) targets singles others these another) in
-            at_most_more (entered_length (kept_in im o) cols walk) (sum others) before after (omega (arith, same, below, weighs, all_weigh z im over.stands over.opened)) at)
+      by_paths : LeadAlongTree names recent edges o cols targets grafts times image (map (lead_by (all_edges branches)) (zip paths targets))
+      by_paths = record {
+        count = leads_many (all_edges branches) paths targets paths_many;
+        bases = bases_are (all_edges branches) paths targets paths_many ∙ ap (λ (es : ListOf Edge). map (base_behind (reverse es)) targets) in_steps;
+        offered = leads_offered edges (all_edges branches) among (zip paths targets);
+        there = IfSome_then image of_branches (λ im there. (branches, walked.made, parts, there, paths, led, stand));
+      }
+
+    -- so do leads by the paths
+    pub led_along : (paths : ListOf Lead) → AreLedUntil names recent parts (paired (all_edges branches) parts) branches times paths
+        → (within : ListOf Edge) → within ≡ walk → (leads : ListOf GraphLead) → leads ≡ map (lead_by within) (zip paths targets)
+        → LeadAlongTree names recent edges o cols targets grafts times image leads
+    led_along paths led within is_walk leads are =
+        subst (λ (gs : ListOf GraphLead). LeadAlongTree names recent edges o cols targets grafts times image gs)
+        (sym (are ∙ ap (λ (w : ListOf Edge). map (lead_by w) (zip paths targets)) (is_walk ∙ walked.along))) (by_paths paths led)
+
+    -- and what is written for each of them
+    pub written_along : (writings : ListOf Writing)
+        → ((paths : ListOf Lead) × AreLedUntil names recent parts (paired (all_edges branches) parts) branches times paths × AreWrittenFrom 0 paths writings)
+        → (within : ListOf Edge) → within ≡ walk → (begins : ListOf Beginning) → begins ≡ map (begun_within within) targets
+        → LeadAlongTree names recent edges o cols targets grafts times image (leads_from 0 begins writings)
+    written_along writings written within is_walk begins are =
+        led_along written.0 written.1 within is_walk (leads_from 0 begins writings)
+        (ap (λ (bs : ListOf Beginning). leads_from 0 bs writings) are ∙ leads_written within 0 written.0 targets writings (paths_many written.0 written.1) written.2)

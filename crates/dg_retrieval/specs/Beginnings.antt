@@ -1,7 +1,9 @@
 -- What retrieved graphs begin with, and the graphs to which leads come.
-use Rattle.std.specs.Prelude.{◌≡◌, ℕ, List, [], ◌∷◌, Option, Some, None, if◌then◌else◌, reverse}
+use Rattle.std.specs.Prelude.{◌≡◌, ℕ, suc, List, [], ◌∷◌, Option, Some, None, if◌then◌else◌, reverse}
 use Rattle.std.specs.List.{Contains}
 use Rattle.dg_fold.specs.declared.tree.Lead.{Lead}
+use Rattle.dg_fold.specs.declared.writing.Writing.{Writing}
+use Rattle.dg_fold.specs.Writings.{composed_all, written_for}
 use Rattle.dg_graph.specs.Composition.{applied}
 use Rattle.dg_graph.specs.declared.element.Columns.{Columns}
 use Rattle.dg_graph.specs.declared.element.Element.{Element}
@@ -16,6 +18,7 @@ use Rattle.dg_plan.specs.InstantPoint.{same_node}
 use Rattle.dg_retrieval.specs.declared.graph_lead.Beginning.{Beginning}
 use Rattle.dg_retrieval.specs.declared.graph_lead.Beginning.TheVariants.{Nothing, Now, Base}
 use Rattle.dg_retrieval.specs.declared.graph_lead.GraphLead.{GraphLead}
+use Rattle.dg_retrieval.specs.declared.graph_lead.Leads.{Leads}
 
 -- ---- the sets with which graphs begin
 
@@ -28,6 +31,14 @@ begun_with now held (Base handle) = held handle
 -- what is shown of the graph to which the lead comes
 abbrev pub led_to : List Element → (ℕ → List Element) → Columns → GraphLead → List Element
 led_to now held cols lead = shown (applied lead.delta (begun_with now held lead.begins)) cols
+
+-- what leads to graphs that begin so, of which the first has this number among those for which deltas are written
+abbrev pub leads_from : ℕ → List Beginning → List Writing → List GraphLead
+leads_from n [] writings = []
+leads_from n (begins ∷ more) writings = record { begins = begins; delta = composed_all (written_for n writings) } ∷ leads_from (suc n) more writings
+
+abbrev pub leads_in : Leads → List GraphLead
+leads_in leads = leads_from 0 leads.begins.items leads.writings.items
 
 -- the handle whose set it begins with, where there is one
 abbrev pub base_handle : Beginning → Option ℕ

@@ -6,3 +6,4 @@ pub mod Faults
 pub mod NodeSets
 pub mod TreeLeads
 pub mod ValueRange
+pub mod TreeParts

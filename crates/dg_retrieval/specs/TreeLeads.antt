@@ -1,6 +1,6 @@
 -- What leads to the targets of a tree.
-use Rattle.std.specs.Prelude.{◌≡◌, ℕ, Bool, List}
-use Rattle.std.specs.List.{AllZip}
+use Rattle.std.specs.Prelude.{◌≡◌, ℕ, Bool, List, Option, IfSome, length, map}
+use Rattle.std.specs.List.{All, AllZip}
 use Rattle.dg_fold.specs.BytesRead.{AreParts, kept_in, named_along}
 use Rattle.dg_fold.specs.declared.part.Part.{Part}
 use Rattle.dg_fold.specs.declared.tree.Branch.{Branch}
@@ -13,10 +13,11 @@ use Rattle.dg_graph.specs.declared.event.Event.{Event}
 use Rattle.dg_history.specs.declared.node.NodeId.{NodeId}
 use Rattle.dg_index.specs.OpenedIndex.{Opening}
 use Rattle.dg_plan.specs.declared.edge.Edge.{Edge}
-use Rattle.dg_plan.specs.Walks.{Graft}
+use Rattle.dg_plan.specs.TreePaths.{base_under}
+use Rattle.dg_plan.specs.Walks.{Graft, steps_of}
 use Rattle.dg_retrieval.specs.Branches.{AreBranches}
 use Rattle.dg_retrieval.specs.declared.graph_lead.GraphLead.{GraphLead}
-use Rattle.dg_retrieval.specs.Beginnings.{LeadsAs}
+use Rattle.dg_retrieval.specs.Beginnings.{IsOffered, LeadsAs, base_handle}
 use Rattle.dg_retrieval.specs.KeptGraph.{HoldNoList, index_edges}
 
 -- these are the edges of the index in these columns, with the current graph or without, and with bases of which none
@@ -32,3 +33,12 @@ AreTreeLeads names recent edges o cols targets grafts times leads image =
     × (parts : List Part) × AreParts (kept_in image o) cols (named_along (all_edges branches)) parts
     × (paths : List Lead) × AreLedUntil names recent parts (paired (all_edges branches) parts) branches times paths
     × AllZip (LeadsAs edges) paths leads
+
+-- There is a lead to each target of a tree, which begins with the base, or with none, of the tree's path to it, and with
+-- no other base than those of the edges; where there is an image, its records lead there.
+pub record LeadAlongTree (names : ℕ) (recent : List Event) (edges : List Edge) (o : Opening) (cols : Columns) (targets : List NodeId) (grafts : List (Graft NodeId)) (times : List ℕ)
+    (image : Option (List ℕ)) (leads : List GraphLead) : Type 0 where
+  pub count : length leads ≡ length targets
+  pub bases : map (λ (l : GraphLead). base_handle l.begins) leads ≡ map (base_under edges (steps_of grafts)) targets
+  pub offered : All (IsOffered edges) leads
+  pub there : IfSome image (λ im. AreTreeLeads names recent edges o cols targets grafts times leads im)

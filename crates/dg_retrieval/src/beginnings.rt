@@ -53,6 +53,21 @@ fn beginning_of(walk: &[Edge], target: NodeId) -> Beginning
     Beginning::Nothing
 }
 
+/// What the path to each of the targets begins with, within the tree of these edges.
+pub(crate) fn beginnings_of(
+    alloc: Global,
+    walk: &[Edge],
+    targets: &[NodeId],
+) -> Result<Vec<Beginning>, AllocError>
+    ensures { IfOk result (λ begins. begins.items ≡ map (begun_within walk.now) targets.now) }
+{
+    let mut begins = Vec::with_capacity(alloc, targets.len())?;
+    for target in targets {
+        begins.push(beginning_of(walk, *target))?;
+    }
+    Ok(begins)
+}
+
 /// The leads to the targets of the tree of these edges, with what the path to each begins with.
 pub(crate) fn graph_leads(
     alloc: Global,

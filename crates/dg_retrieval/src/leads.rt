@@ -13,18 +13,18 @@ ghost use Rattle.dg_plan.specs.TreePaths.{base_under};
 ghost use Rattle.dg_plan.specs.Walks.{AreSingles, IsTree, steps_of, tree_weight};
 ghost use Rattle.dg_planner.specs.Trees.{grafts_in};
 ghost use Rattle.dg_retrieval.specs.declared.graph_lead.GraphLead.{GraphLead};
-ghost use Rattle.dg_retrieval.specs.Beginnings.{IsOffered, base_handle};
+ghost use Rattle.dg_retrieval.specs.Beginnings.{IsOffered, base_handle, leads_in};
 ghost use Rattle.dg_retrieval.specs.NodeSets.{IsIndexOver, IsUndamaged};
 ghost use Rattle.dg_retrieval.specs.Retrieval.{IsFirstDamage, IsNoDamage, TakesAtMostTree};
-ghost use Rattle.dg_retrieval.specs.TreeLeads.{AreIndexEdges, AreTreeLeads};
+ghost use Rattle.dg_retrieval.specs.TreeLeads.{AreIndexEdges, AreTreeLeads, LeadAlongTree};
 
-use crate::beginnings::graph_leads;
-use crate::branches::{branches_of, walk_along};
+use crate::beginnings::{beginnings_of, graph_leads};
 use crate::fault::RetrievalFault;
-use crate::graph_lead::GraphLead;
+use crate::graph_lead::{GraphLead, Leads};
+use crate::tree_parts::{TreeParts, read_tree};
 use dg_disk::Disk;
 use dg_file::Index;
-use dg_fold::{compose_tree, fetch_walk};
+use dg_fold::{compose_tree, write_tree};
 use dg_graph::{Columns, Event};
 use dg_history::NodeId;
 use dg_planner::{Planner, Tree};
@@ -91,13 +91,78 @@ pub fn lead_along_tree<R: Threads, D: Disk>(
     ensures same { index.new ≡ index.old }
     ensures disk { OnlyReads D.image D.faults D.write_faults disk.old disk.new }
 {
-    // Its clauses say which records the index keeps.
-    index.facts();
-    let tree = planner.plan_several(alloc, targets)?;
-    let branches = branches_of(alloc, planner.edges(), targets, &tree.grafts)?;
-    let walk = walk_along(alloc, &branches)?;
-    let parts = fetch_walk(alloc, index, disk, &walk, cols)?;
+    let TreeParts {
+        tree,
+        branches,
+        walk,
+        parts,
+    } = read_tree(alloc, index, disk, planner, targets, cols)?;
     let paths = compose_tree(rt, alloc, names, &branches, &parts, recent, times)?;
     let leads = graph_leads(alloc, &walk, targets, paths)?;
     Ok(TreeLeads { tree, leads })
+}
+
+/// A tree of several targets, and what leads along it to all of them.
+#[derive(Drop)]
+pub struct TreeWritings {
+    /// The tree, and what it weighs.
+    pub tree: Tree,
+    /// What leads to the targets, in the order of targets.
+    pub leads: Leads,
+}
+
+/// Plans and reads as `lead_along_tree`, and gives the deltas of the tree, each once for all targets whose paths take it,
+/// and behind them those of each target's own events up to its instant. None is composed.
+///
+/// The errors are those of `lead_along_tree`.
+pub fn write_along_tree<R: Threads, D: Disk>(
+    rt: &R,
+    alloc: Global,
+    index: &mut Index,
+    disk: &mut D,
+    names: u32,
+    recent: &[Event],
+    planner: &Planner,
+    targets: &[NodeId],
+    times: &[u64],
+    cols: Columns,
+) -> Result<TreeWritings, RetrievalFault>
+    requires image { IfSome (D.image disk.old) (λ image. IsOpenedAs image index.old.opening) }
+    requires edges { AreIndexEdges index.old.opening cols planner.now.edges }
+    requires targets { All (Contains planner.now.nodes) targets.now }
+    requires few { length targets.now ≤ 32 }
+    requires times { length times.now ≡ length targets.now }
+    // the tree, and what leads along it
+    ensures tree { IfOk result (λ r. IsTree (arcs_of planner.now.edges) (Root ∷ []) targets.now (grafts_in r.tree)) }
+    ensures weight { IfOk result (λ r. r.tree.weight ≡ tree_weight (arcs_of planner.now.edges) (grafts_in r.tree)) }
+    ensures singles { IfOk result (λ r. AreSingles (arcs_of planner.now.edges) (Root ∷ []) targets.now r.tree.singles.items) }
+    ensures sum { IfOk result (λ r. r.tree.sum ≡ sum r.tree.singles.items) }
+    ensures leads { IfOk result (λ r. LeadAlongTree names recent.now planner.now.edges index.old.opening cols targets.now (grafts_in r.tree) times.now (D.image disk.old) (leads_in r.leads)) }
+    ensures whole { OnOk result (IfSome (D.image disk.old) (λ image. IsUndamaged names planner.now.edges index.old.opening cols targets.now image)) }
+    // the bytes read, over an image of a history
+    ensures takes { IfOk result (λ r. IfSome (D.image disk.old) (λ image. (z : History) → IsIndexOver z image index.old.opening names
+        → Takes r.tree.weight (D.taken disk.old) (D.taken disk.new))) }
+    ensures most { IfSome (D.image disk.old) (λ image. (z : History) → IsIndexOver z image index.old.opening names
+        → TakesAtMostTree planner.now.edges targets.now (D.taken disk.old) (D.taken disk.new)) }
+    // why nothing leads there
+    ensures cause { IsErrOf result RetrievalFault.Disk → Rose (D.faults disk.old) (D.faults disk.new) }
+    ensures damage { IfErr result (λ fault. IfSome (D.image disk.old) (λ image. IsFirstDamage names planner.now.edges index.old.opening cols targets.now image fault)) }
+    ensures never { IfErr result (λ fault. IfSome (D.image disk.old) (λ image. (z : History) → IsIndexOver z image index.old.opening names
+        → IsNoDamage fault)) }
+    // what it leaves
+    ensures same { index.new ≡ index.old }
+    ensures disk { OnlyReads D.image D.faults D.write_faults disk.old disk.new }
+{
+    let TreeParts {
+        tree,
+        branches,
+        walk,
+        parts,
+    } = read_tree(alloc, index, disk, planner, targets, cols)?;
+    let writings = write_tree(rt, alloc, names, &branches, &parts, recent, times)?;
+    let begins = beginnings_of(alloc, &walk, targets)?;
+    Ok(TreeWritings {
+        tree,
+        leads: Leads { begins, writings },
+    })
 }

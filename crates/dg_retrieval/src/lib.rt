@@ -10,9 +10,10 @@ mod leads;
 mod node_lead;
 mod record_sets;
 mod retrieval;
+mod tree_parts;
 
 pub use fault::RetrievalFault;
-pub use graph_lead::{Beginning, GraphLead};
+pub use graph_lead::{Beginning, GraphLead, Leads};
 pub use node_lead::{NodeLead, retrieve_node};
 pub use record_sets::{ALL_COLUMNS, node_sets, plan_set};
 pub use retrieval::{Retrieved, retrieve};

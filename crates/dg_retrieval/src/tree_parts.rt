@@ -1,0 +1,129 @@
+//! The tree of several targets, and the records that it enters.
+
+ghost use Rattle.std.specs.Prelude.{◌≡◌, ◌≢◌, ℕ, ◌≤◌, List, ◌∷◌, [], length, IfErr, IfOk, IfSome, IsErrOf};
+ghost use Rattle.std.specs.List.{All, Contains, sum};
+ghost use Rattle.dg_disk.specs.Counts.{Rose};
+ghost use Rattle.dg_disk.specs.Frame.{OnlyReads};
+ghost use Rattle.dg_file.specs.Images.{IsOpenedAs};
+ghost use Rattle.dg_fold.specs.BytesRead.{AreParts, Takes, TakesAtMost, kept_in, named_along};
+ghost use Rattle.dg_fold.specs.Trees.{Grow, LeadsToTarget, all_edges};
+ghost use Rattle.dg_history.specs.declared.node.NodeId.TheVariants.{Root};
+ghost use Rattle.dg_history.specs.History.{History};
+ghost use Rattle.dg_plan.specs.declared.edge.Edge.{Edge};
+ghost use Rattle.dg_plan.specs.IndexGraph.{arcs_of};
+ghost use Rattle.dg_plan.specs.Walks.{AreSingles, tree_weight};
+ghost use Rattle.dg_planner.specs.Trees.{grafts_in};
+ghost use Rattle.dg_retrieval.specs.NodeSets.{IsIndexOver};
+ghost use Rattle.dg_retrieval.specs.Retrieval.{IsNoDamage, TakesAtMostTree};
+ghost use Rattle.dg_retrieval.specs.TreeLeads.{AreIndexEdges};
+ghost use Rattle.dg_retrieval.specs.TreeParts.{IsTreeWalk};
+
+use crate::branches::{branches_of, walk_along};
+use crate::fault::RetrievalFault;
+use dg_disk::Disk;
+use dg_file::Index;
+use dg_fold::{Branch, Part, fetch_walk};
+use dg_graph::Columns;
+use dg_history::NodeId;
+use dg_plan::Edge;
+use dg_planner::{Planner, Tree};
+use std::alloc::{AllocError, Global};
+
+// A tree of several targets, the branch of each target, and the edges of all branches, one after another.
+#[derive(Drop)]
+struct TreeWalk {
+    tree: Tree,
+    branches: Vec<Branch>,
+    walk: Vec<Edge>,
+}
+
+// Plans the tree of the targets.
+fn plan_tree(alloc: Global, planner: &Planner, targets: &[NodeId]) -> Result<TreeWalk, AllocError>
+    requires targets { All (Contains planner.now.nodes) targets.now }
+    requires few { length targets.now ≤ 32 }
+    ensures walk { IfOk result (λ r. IsTreeWalk planner.now.edges targets.now (grafts_in r.tree) r.branches.items r.walk.items) }
+    ensures weight { IfOk result (λ r. r.tree.weight ≡ tree_weight (arcs_of planner.now.edges) (grafts_in r.tree)) }
+    ensures singles { IfOk result (λ r. AreSingles (arcs_of planner.now.edges) (Root ∷ []) targets.now r.tree.singles.items) }
+    ensures sum { IfOk result (λ r. r.tree.sum ≡ sum r.tree.singles.items) }
+    ensures shared { IfOk result (λ r. r.tree.weight ≤ sum r.tree.singles.items) }
+{
+    let tree = planner.plan_several(alloc, targets)?;
+    let branches = branches_of(alloc, planner.edges(), targets, &tree.grafts)?;
+    let walk = walk_along(alloc, &branches)?;
+    Ok(TreeWalk {
+        tree,
+        branches,
+        walk,
+    })
+}
+
+/// A tree of several targets, and the parts of the records that it enters.
+#[derive(Drop)]
+pub struct TreeParts {
+    /// The tree, and what it weighs.
+    pub tree: Tree,
+    /// The branch of each target, in the order of targets.
+    pub branches: Vec<Branch>,
+    /// The edges of all branches, one after another.
+    pub walk: Vec<Edge>,
+    /// A part for each of these edges that names a record, in order.
+    pub parts: Vec<Part>,
+}
+
+/// Plans the tree of the targets, 32 of them at the most, through the graph of the index, with the current graph
+/// or without, and with bases of which none holds the graph of a list. Reads the records that it enters, each once.
+///
+/// `Disk` where a read failed, and `Memory`.
+pub fn read_tree<D: Disk>(
+    alloc: Global,
+    index: &mut Index,
+    disk: &mut D,
+    planner: &Planner,
+    targets: &[NodeId],
+    cols: Columns,
+) -> Result<TreeParts, RetrievalFault>
+    requires image { IfSome (D.image disk.old) (λ image. IsOpenedAs image index.old.opening) }
+    requires edges { AreIndexEdges index.old.opening cols planner.now.edges }
+    requires targets { All (Contains planner.now.nodes) targets.now }
+    requires few { length targets.now ≤ 32 }
+    // the tree, and its parts
+    ensures walk { IfOk result (λ r. IsTreeWalk planner.now.edges targets.now (grafts_in r.tree) r.branches.items r.walk.items) }
+    ensures parts { IfOk result (λ r. IfSome (D.image disk.old) (λ image. AreParts (kept_in image index.old.opening) cols (named_along r.walk.items) r.parts.items)) }
+    ensures weight { IfOk result (λ r. r.tree.weight ≡ tree_weight (arcs_of planner.now.edges) (grafts_in r.tree)) }
+    ensures singles { IfOk result (λ r. AreSingles (arcs_of planner.now.edges) (Root ∷ []) targets.now r.tree.singles.items) }
+    ensures sum { IfOk result (λ r. r.tree.sum ≡ sum r.tree.singles.items) }
+    // what is asked of branches
+    ensures count { IfOk result (λ r. length r.branches.items ≡ length targets.now) }
+    ensures lead { IfOk result (λ r. All LeadsToTarget r.branches.items) }
+    ensures grow { IfOk result (λ r. Grow [] r.branches.items) }
+    ensures on { IfOk result (λ r. All (λ (e : Edge). e.to ≢ Root) (all_edges r.branches.items)) }
+    // the bytes read, over an image of a history
+    ensures takes { IfOk result (λ r. (names : ℕ) → IfSome (D.image disk.old) (λ image. (z : History) → IsIndexOver z image index.old.opening names
+        → Takes r.tree.weight (D.taken disk.old) (D.taken disk.new))) }
+    ensures most { (names : ℕ) → IfSome (D.image disk.old) (λ image. (z : History) → IsIndexOver z image index.old.opening names
+        → TakesAtMostTree planner.now.edges targets.now (D.taken disk.old) (D.taken disk.new)) }
+    ensures shared { (names : ℕ) → IfSome (D.image disk.old) (λ image. (z : History) → IsIndexOver z image index.old.opening names
+        → (singles : List ℕ) → AreSingles (arcs_of planner.now.edges) (Root ∷ []) targets.now singles
+        → TakesAtMost (sum singles) (D.taken disk.old) (D.taken disk.new)) }
+    // why it is not read
+    ensures cause { IsErrOf result RetrievalFault.Disk → Rose (D.faults disk.old) (D.faults disk.new) }
+    ensures never { IfErr result (λ fault. IsNoDamage fault) }
+    // what it leaves
+    ensures same { index.new ≡ index.old }
+    ensures disk { OnlyReads D.image D.faults D.write_faults disk.old disk.new }
+{
+    // Its clauses say which records the index keeps.
+    index.facts();
+    let TreeWalk {
+        tree,
+        branches,
+        walk,
+    } = plan_tree(alloc, planner, targets)?;
+    let parts = fetch_walk(alloc, index, disk, &walk, cols)?;
+    Ok(TreeParts {
+        tree,
+        branches,
+        walk,
+        parts,
+    })
+}
