@@ -3,10 +3,9 @@ use Rattle.std.proofs.Common.{arith, ◌≡◌, ℕ, ◌+◌, ◌<◌, Bool, tru
 use Rattle.std.proofs.lemmas.Bool.{cases_Bool, both_ways, eq-eqb, eqb-true, or_parts}
 use Rattle.std.proofs.lemmas.List.{get_or-map, take_more}
 use Rattle.std.proofs.Math.ListN.{length-map}
-use Rattle.dg_handles.specs.Attached.{NoneRestsOn, numbers_of}
-use Rattle.dg_handles.specs.Handles.{AreDistinct}
 use Rattle.dg_handles.proofs.HandleNumbers.{distinct_before, listed_at, listed_push}
 use Rattle.dg_pool.specs.declared.slots.Slot.{Slot}
+use Rattle.dg_pool.specs.Changes.{AreDistinct, NoneRestsOn, numbers_of}
 use Rattle.dg_pool.specs.Graphs.{PoolState, SlotGraph, is_listed, slot_graph}
 
 -- the slots before this index were ended, and no other graph has changed

@@ -1,15 +1,14 @@
 -- Slots that are given one after another, and the tie over them.
-use Rattle.std.proofs.Common.{arith, ◌≡◌, ℕ, ◌+◌, ◌<◌, ◌≤◌, Bool, true, false, ◌||◌, eqb, List, [], ◌∷◌, ◌++◌, Option, Some, None, IsSome, length, map, take, drop, get_or, unwrap_or, length-append, refl, sym, ap, ◌∙◌, subst, ◌⊎◌, inl, inr}
+use Rattle.std.proofs.Common.{arith, ◌≡◌, ℕ, ◌+◌, ◌<◌, ◌≤◌, true, false, ◌||◌, eqb, List, [], ◌∷◌, ◌++◌, Option, Some, None, IsSome, length, map, take, get_or, length-append, refl, sym, ap, ◌∙◌, subst, ◌⊎◌, inl, inr}
 use Rattle.std.specs.List.{All, AllByRecursion, AllZip}
 use Rattle.std.proofs.lemmas.Bool.{cases_Bool, both_ways, eq-eqb, eqb-true, false_from_ne_true, ne_eqb, or_cases, or_from, or_left, or_parts, or_right}
 use Rattle.std.proofs.lemmas.List.{map_more, map_push}
-use Rattle.std.proofs.lemmas.List.Elements.{All-take, recursion_from_All}
-use Rattle.dg_graph.specs.Composition.{applied}
+use Rattle.std.proofs.lemmas.List.Elements.{recursion_from_All}
 use Rattle.dg_graph.specs.declared.element.Columns.{Columns}
 use Rattle.dg_graph.specs.declared.element.Element.{Element}
 use Rattle.dg_graph.specs.Elements.{shown}
-use Rattle.dg_handles.specs.Attached.{AreAttached, IsAttached, NoneRestsOn, graph_led, numbers_of, resting}
-use Rattle.dg_handles.specs.Handles.{BeginsOn, HandlesState, SlotHolds, IsBaseHandle, IsTied, RestsOn, at_slot, slot_graphs, held_by, members_at, numbered, overlays_on, slot_of}
+use Rattle.dg_handles.specs.Attached.{AreAttached, IsAttached, graph_begun, graph_led, resting}
+use Rattle.dg_handles.specs.Handles.{BeginsOn, CanBegin, HandlesState, SlotHolds, IsTied, RestsOn, at_slot, slot_graphs, held_by, members_at, numbered, overlays_on}
 use Rattle.dg_handles.proofs.HandleEntries.{Entries, entry_append, of_some, slot_append, slot_listed, zip-append, zip-each, zip-map, zip-of_map}
 use Rattle.dg_handles.proofs.HandleNumbers.{distinct-append, listed-append, listed_push, many_listed, map_same}
 use Rattle.dg_handles.proofs.HandleTies.{Stays, base_slot, held_at, holds_still, live_slot, many, rests_among, rests_still, some_by, some_nowhere}
@@ -17,6 +16,7 @@ use Rattle.dg_machine.specs.declared.stands.Stands.{Stands}
 use Rattle.dg_pool.specs.declared.slots.Base.{Base as PoolBase}
 use Rattle.dg_pool.specs.declared.slots.Base.TheVariants as base
 use Rattle.dg_pool.specs.declared.slots.Slot.{Slot}
+use Rattle.dg_pool.specs.Changes.{NoneRestsOn, numbers_of}
 use Rattle.dg_pool.specs.Graphs.{PoolState, SameGraphs, SlotGraph, graph_now, is_listed, slot_graph}
 use Rattle.dg_pool.specs.Slots.{AllLive, BaseFits, IsBaseWith, base_members}
 use Rattle.dg_pool.specs.Sweeps.{members_as}
@@ -27,11 +27,11 @@ use Rattle.dg_retrieval.specs.declared.graph_lead.GraphLead.{GraphLead}
 
 -- ---- which graph a slot has
 
-abbrev front : List (Option SlotGraph) → Option SlotGraph
+abbrev pub front : List (Option SlotGraph) → Option SlotGraph
 front [] = None
 front (o ∷ os) = o
 
-abbrev rest : List (Option SlotGraph) → List (Option SlotGraph)
+abbrev pub rest : List (Option SlotGraph) → List (Option SlotGraph)
 rest [] = []
 rest (o ∷ os) = os
 
@@ -44,14 +44,14 @@ some_graph f (t ∷ slots) (g ∷ graphs) same s in' = at (or_cases (eqb t s) (i
     at (inl e) next = (g, ap f (sym (eqb-true t s e)) ∙ ap front same)
     at (inr e) next = next e
 
-led_graph : (Q : GraphLead → Type 0) (led : GraphLead → SlotGraph) (f : ℕ → Option SlotGraph) (slots : List ℕ) (leads : List GraphLead) → AllByRecursion Q leads
-    → map f slots ≡ map (λ g. Some g) (map led leads) → (s : ℕ) → is_listed slots s ≡ true → (l : GraphLead) × Q l × (f s ≡ Some (led l))
-led_graph Q led f [] leads all same s in' = cc
-led_graph Q led f (t ∷ slots) [] all same s in' = cc
-led_graph Q led f (t ∷ slots) (l ∷ leads) all same s in' = at (or_cases (eqb t s) (is_listed slots s) in') (led_graph Q led f slots leads all.1 (ap rest same) s)
+begun_graph : (Q : Beginning → Type 0) (begun : Beginning → SlotGraph) (f : ℕ → Option SlotGraph) (slots : List ℕ) (begins : List Beginning) → AllByRecursion Q begins
+    → map f slots ≡ map (λ g. Some g) (map begun begins) → (s : ℕ) → is_listed slots s ≡ true → (b : Beginning) × Q b × (f s ≡ Some (begun b))
+begun_graph Q begun f [] begins all same s in' = cc
+begun_graph Q begun f (t ∷ slots) [] all same s in' = cc
+begun_graph Q begun f (t ∷ slots) (b ∷ begins) all same s in' = at (or_cases (eqb t s) (is_listed slots s) in') (begun_graph Q begun f slots begins all.1 (ap rest same) s)
   where
-    at : (eqb t s ≡ true) ⊎ (is_listed slots s ≡ true) → (is_listed slots s ≡ true → (x : GraphLead) × Q x × (f s ≡ Some (led x))) → (x : GraphLead) × Q x × (f s ≡ Some (led x))
-    at (inl e) next = (l, all.0, ap f (sym (eqb-true t s e)) ∙ ap front same)
+    at : (eqb t s ≡ true) ⊎ (is_listed slots s ≡ true) → (is_listed slots s ≡ true → (x : Beginning) × Q x × (f s ≡ Some (begun x))) → (x : Beginning) × Q x × (f s ≡ Some (begun x))
+    at (inl e) next = (b, all.0, ap f (sym (eqb-true t s e)) ∙ ap front same)
     at (inr e) next = next e
 
 members_of : (p : PoolState) (slots : List ℕ) (graphs : List SlotGraph) → map (slot_graph p) slots ≡ map (λ g. Some g) graphs → slot_graphs p slots ≡ map (λ (g : SlotGraph). g.members) graphs
@@ -135,7 +135,7 @@ module _ (old new : PoolState) (h : HandlesState) (t : IsTied old h) (slots : Li
       omega (arith, few, most, length-append h.slots slots, many old h t)
 
   -- what begins on a base may rest on it
-  pub fits : (cols : Columns) (begins : Beginning) → ((handle : ℕ) → base_handle begins ≡ Some handle → IsBaseHandle handle cols h.table) → BaseFits new (resting h begins) cols
+  pub fits : (cols : Columns) (begins : Beginning) → CanBegin h.table cols begins → BaseFits new (resting h begins) cols
   fits cols begins.Nothing on = tt
   fits cols begins.Now on = tt
   fits cols (begins.Base handle) on =
@@ -144,7 +144,7 @@ module _ (old new : PoolState) (h : HandlesState) (t : IsTied old h) (slots : Li
       subst (λ (o : Option ℕ). BaseFits new (at_slot o) cols) (sym b.1) (subst (IsBaseWith cols) (sym same) b.2)
 
   -- and has the set with which it begins by that base
-  pub begun_at : (cols : Columns) (begins : Beginning) → ((handle : ℕ) → base_handle begins ≡ Some handle → IsBaseHandle handle cols h.table)
+  begun_at : (cols : Columns) (begins : Beginning) → CanBegin h.table cols begins
       → base_members new (resting h begins) ≡ begun_with (graph_now old) (held_by h.table (slot_graphs old h.slots)) begins
   begun_at cols begins.Nothing on = refl
   begun_at cols begins.Now on = a.now
@@ -153,34 +153,33 @@ module _ (old new : PoolState) (h : HandlesState) (t : IsTied old h) (slots : Li
       let same : slot_graph new b.0 ≡ slot_graph old b.0 = a.others b.0 (others_held b.0 (slot_listed handle h.table h.slots b.0 b.1)) in
       ap (λ o. base_members new (at_slot o)) b.1 ∙ ap members_as same ∙ sym (held_at old h t handle b.0 b.1)
 
--- the lead at an index
-pub attached_lead : (old mid new : PoolState) (h : HandlesState) → IsTied old h → (cols : Columns) (leads : List GraphLead) (i : ℕ) (lead : GraphLead) (slots after : List Slot) (k : Slot)
-    → i < length leads → lead ≡ get_or leads i lead → All (BeginsOn h.table cols) leads → after ≡ slots ++ k ∷ []
-    → AreAttached old mid (numbers_of slots) (map (graph_led h old cols) (take i leads))
-    → IsAttached mid new k.0 (record { base = resting h lead.begins; cols = cols; members = shown (applied lead.delta (base_members mid (resting h lead.begins))) cols })
-    → AreAttached old new (numbers_of after) (map (graph_led h old cols) (take (i + 1) leads))
-attached_lead old mid new h t cols leads i lead slots after k within lead_is on after_is a b =
-    let led : GraphLead → SlotGraph = graph_led h old cols in
+-- the graph that begins as the one at an index
+pub attached_begun : (old mid new : PoolState) (h : HandlesState) → IsTied old h → (cols : Columns) (begins : List Beginning) (i : ℕ) (d : Beginning) (slots after : List Slot) (k : Slot)
+    → i < length begins → All (CanBegin h.table cols) begins → after ≡ slots ++ k ∷ []
+    → AreAttached old mid (numbers_of slots) (map (graph_begun h old cols) (take i begins))
+    → IsAttached mid new k.0 (record { base = resting h (get_or begins i d); cols = cols; members = shown (base_members mid (resting h (get_or begins i d))) cols })
+    → AreAttached old new (numbers_of after) (map (graph_begun h old cols) (take (i + 1) begins))
+attached_begun old mid new h t cols begins i d slots after k within on after_is a b =
+    let begun : Beginning = get_or begins i d in
+    let graph : Beginning → SlotGraph = graph_begun h old cols in
     let numbers : numbers_of after ≡ numbers_of slots ++ k.0 ∷ [] = ap numbers_of after_is ∙ map_push (λ (slot : Slot). slot.0) slots k in
-    let graphs : map led (take (i + 1) leads) ≡ map led (take i leads) ++ led lead ∷ [] =
-    map_more led leads i lead within ∙ ap (λ (l : GraphLead). map led (take i leads) ++ led l ∷ []) (sym lead_is) in
-    let here : BeginsOn h.table cols lead = subst (BeginsOn h.table cols) (sym lead_is) (on i lead within) in
-    let begun = begun_at old mid h t (numbers_of slots) (map led (take i leads)) a cols lead.begins here in
-    subst (λ (ns : List ℕ). AreAttached old new ns (map led (take (i + 1) leads))) (sym numbers)
+    let graphs : map graph (take (i + 1) begins) ≡ map graph (take i begins) ++ graph begun ∷ [] = map_more graph begins i d within in
+    let set = begun_at old mid h t (numbers_of slots) (map graph (take i begins)) a cols begun (on i d within) in
+    subst (λ (ns : List ℕ). AreAttached old new ns (map graph (take (i + 1) begins))) (sym numbers)
     (subst (λ (gs : List SlotGraph). AreAttached old new (numbers_of slots ++ k.0 ∷ []) gs) (sym graphs)
-    (attached_more old mid (numbers_of slots) (map led (take i leads)) a new k.0 (led lead)
-    (subst (λ (m : List Element). IsAttached mid new k.0 (record { base = resting h lead.begins; cols = cols; members = shown (applied lead.delta m) cols })) begun b)))
+    (attached_more old mid (numbers_of slots) (map graph (take i begins)) a new k.0 (graph begun)
+    (subst (λ (m : List Element). IsAttached mid new k.0 (record { base = resting h begun; cols = cols; members = shown m cols })) set b)))
 
 -- no live slot rests on one that was given
-pub none_on_new : (old new : PoolState) (h : HandlesState) → IsTied old h → (cols : Columns) (slots : List ℕ) (leads : List GraphLead) → All (BeginsOn h.table cols) leads
-    → AreAttached old new slots (map (graph_led h old cols) leads) → (s : ℕ) → is_listed slots s ≡ true → NoneRestsOn new s
-none_on_new old new h t cols slots leads on a s in' = λ u g b is rests same. at u g b is rests same (cases_Bool (is_listed slots u))
+pub none_on_new : (old new : PoolState) (h : HandlesState) → IsTied old h → (cols : Columns) (slots : List ℕ) (begins : List Beginning) → All (CanBegin h.table cols) begins
+    → AreAttached old new slots (map (graph_begun h old cols) begins) → (s : ℕ) → is_listed slots s ≡ true → NoneRestsOn new s
+none_on_new old new h t cols slots begun on a s in' = λ u g b is rests same. at u g b is rests same (cases_Bool (is_listed slots u))
   where
     -- a slot of a handle is not new
     apart : (k : ℕ) → is_listed h.slots k ≡ true → k ≡ s → ⊥
     apart k held same = some_nowhere (slot_graph old k) (a.fresh k (ap (is_listed slots) same ∙ in')) (live_slot old h t k held)
 
-    led : (begins : Beginning) → ((handle : ℕ) → base_handle begins ≡ Some handle → IsBaseHandle handle cols h.table) → (b : Slot) → resting h begins ≡ base.Slot b → b.0 ≡ s → ⊥
+    led : (begins : Beginning) → CanBegin h.table cols begins → (b : Slot) → resting h begins ≡ base.Slot b → b.0 ≡ s → ⊥
     led begins.Nothing on' b rests same = cc
     led begins.Now on' b rests same = cc
     led (begins.Base handle) on' b rests same =
@@ -195,9 +194,9 @@ none_on_new old new h t cols slots leads on a s in' = λ u g b is rests same. at
 
     at : (u : ℕ) (g : SlotGraph) (b : Slot) → slot_graph new u ≡ Some g → g.base ≡ base.Slot b → b.0 ≡ s → (is_listed slots u ≡ true) ⊎ (is_listed slots u ≡ false) → ⊥
     at u g b is rests same (inl e) =
-        let r = led_graph (BeginsOn h.table cols) (graph_led h old cols) (slot_graph new) slots leads (recursion_from_All (BeginsOn h.table cols) leads on) a.hold u e in
-        let it : graph_led h old cols r.0 ≡ g = of_some (graph_led h old cols r.0) g (sym r.2 ∙ is) in
-        led r.0.begins r.1 b (ap (λ (x : SlotGraph). x.base) it ∙ rests) same
+        let r = begun_graph (CanBegin h.table cols) (graph_begun h old cols) (slot_graph new) slots begun (recursion_from_All (CanBegin h.table cols) begun on) a.hold u e in
+        let it : graph_begun h old cols r.0 ≡ g = of_some (graph_begun h old cols r.0) g (sym r.2 ∙ is) in
+        led r.0 r.1 b (ap (λ (x : SlotGraph). x.base) it ∙ rests) same
     at u g b is rests same (inr e) = apart b.0 (rests_among old h t u g b (sym (a.others u e) ∙ is) rests) same
 
 -- ---- the tie to more handles
@@ -240,7 +239,7 @@ overlays_held p h k t stays' cols next (time ∷ times) [] many' on = absurd (om
 overlays_held p h k t stays' cols next (time ∷ times) (l ∷ leads) many' on =
     ((refl, rests_still p h k t cols (base_handle l.begins) (resting h l.begins) (λ handle e. stays' handle) (rests l.begins on.0)), overlays_held p h k t stays' cols (next + 1) times leads (omega (arith, many')) on.1)
   where
-    rests : (begins : Beginning) → ((handle : ℕ) → base_handle begins ≡ Some handle → IsBaseHandle handle cols h.table) → RestsOn h cols (base_handle begins) (resting h begins)
+    rests : (begins : Beginning) → CanBegin h.table cols begins → RestsOn h cols (base_handle begins) (resting h begins)
     rests begins.Nothing on' = tt
     rests begins.Now on' = tt
     rests (begins.Base handle) on' = (on' handle refl, refl)

@@ -1,17 +1,18 @@
 -- How the entries of new handles are added, one after another, and how the numbers of handles rise.
-use Rattle.std.proofs.Common.{arith, ◌≡◌, ℕ, zero, suc, ◌+◌, ◌<◌, ◌≤◌, List, [], ◌∷◌, ◌++◌, Option, None, length, map, take, get_or, remove, length-take-le, append_assoc, refl, sym, ap, ◌∙◌, subst}
+use Rattle.std.proofs.Common.{arith, ◌≡◌, ℕ, zero, suc, ◌+◌, ◌<◌, ◌≤◌, List, [], ◌∷◌, ◌++◌, Option, length, map, take, get_or, remove, length-take-le, append_assoc, refl, sym, ap, ◌∙◌, subst}
 use Rattle.std.proofs.lemmas.List.{map_more, map_push, take_more}
 use Rattle.std.proofs.Math.ListN.{length-map}
 use Rattle.dg_graph.specs.declared.element.Columns.{Columns}
 use Rattle.dg_handles.specs.declared.entries.Entry.{Entry}
-use Rattle.dg_handles.specs.Attached.{numbers_of}
 use Rattle.dg_handles.specs.Handles.{RiseWithin, numbered, overlays_on}
 use Rattle.dg_handles.proofs.HandleEntries.{Entries, handles_in}
 use Rattle.dg_machine.specs.declared.stands.Stands.{Stands}
 use Rattle.dg_machine.specs.declared.stands.Stands.TheVariants.{Overlay}
 use Rattle.dg_pool.specs.declared.slots.Slot.{Slot}
 use Rattle.dg_retrieval.specs.Beginnings.{base_handle}
+use Rattle.dg_retrieval.specs.declared.graph_lead.Beginning.{Beginning}
 use Rattle.dg_retrieval.specs.declared.graph_lead.GraphLead.{GraphLead}
+use Rattle.dg_pool.specs.Changes.{numbers_of}
 
 -- ---- overlays, one more
 
@@ -36,28 +37,25 @@ numbered_push next (y ∷ xs) x =
 abbrev pub entry_of : Entry → ℕ × Stands
 entry_of e = (e.handle, e.stands)
 
-abbrev begun_on : GraphLead → Option ℕ
-begun_on l = base_handle l.begins
-
-pub table_more : (next : ℕ) (cols : Columns) (times : List ℕ) (leads : List GraphLead) (lead : GraphLead) (first now after : List Entry) (e : Entry) (i : ℕ) → i < length times → length leads ≡ length times
-    → lead ≡ get_or leads i lead → entry_of e ≡ (next + i, Overlay (get_or times i 0) cols (base_handle lead.begins))
-    → after ≡ now ++ e ∷ [] → map entry_of now ≡ map entry_of first ++ numbered next (overlays_on cols (take i times) (map begun_on (take i leads)))
-    → map entry_of after ≡ map entry_of first ++ numbered next (overlays_on cols (take (i + 1) times) (map begun_on (take (i + 1) leads)))
-table_more next cols times leads lead first now after e i within many lead_is is added so_far =
-    let x : Stands = Overlay (get_or times i 0) cols (base_handle lead.begins) in
-    let ons : List (Option ℕ) = map begun_on (take i leads) in
+pub table_more : (next : ℕ) (cols : Columns) (times : List ℕ) (begins : List Beginning) (d : Beginning) (first now after : List Entry) (e : Entry) (i : ℕ) → i < length times → length begins ≡ length times
+    → entry_of e ≡ (next + i, Overlay (get_or times i 0) cols (base_handle (get_or begins i d)))
+    → after ≡ now ++ e ∷ [] → map entry_of now ≡ map entry_of first ++ numbered next (overlays_on cols (take i times) (map base_handle (take i begins)))
+    → map entry_of after ≡ map entry_of first ++ numbered next (overlays_on cols (take (i + 1) times) (map base_handle (take (i + 1) begins)))
+table_more next cols times begins d first now after e i within many is added so_far =
+    let begun : Beginning = get_or begins i d in
+    let x : Stands = Overlay (get_or times i 0) cols (base_handle begun) in
+    let ons : List (Option ℕ) = map base_handle (take i begins) in
     let done : List Stands = overlays_on cols (take i times) ons in
     let taken : length (take i times) ≡ i = length-take-le i times (omega (arith, within)) in
-    let beside : length ons ≡ length (take i times) = length-map (take i leads) begun_on ∙ length-take-le i leads (omega (arith, within, many)) ∙ sym taken in
+    let beside : length ons ≡ length (take i times) = length-map (take i begins) base_handle ∙ length-take-le i begins (omega (arith, within, many)) ∙ sym taken in
     let len : length done ≡ i = overlays_length cols (take i times) ons beside ∙ taken in
-    let leads_more : map begun_on (take (i + 1) leads) ≡ ons ++ base_handle lead.begins ∷ [] =
-    map_more begun_on leads i lead (omega (arith, within, many)) ∙ ap (λ (l : GraphLead). ons ++ begun_on l ∷ []) (sym lead_is) in
+    let ons_more : map base_handle (take (i + 1) begins) ≡ ons ++ base_handle begun ∷ [] = map_more base_handle begins i d (omega (arith, within, many)) in
     ap (map entry_of) added ∙ map_push entry_of now e
     ∙ (λ k. so_far k ++ is k ∷ [])
     ∙ append_assoc (map entry_of first) (numbered next done) ((next + i, x) ∷ [])
     ∙ ap (λ n. map entry_of first ++ (numbered next done ++ (next + n, x) ∷ [])) (sym len)
-    ∙ ap (λ l. map entry_of first ++ l) (sym (numbered_push next done x) ∙ ap (numbered next) (sym (overlays_push cols (take i times) ons (get_or times i 0) (base_handle lead.begins) beside)
-    ∙ (λ k. overlays_on cols (sym (take_more times i 0 within) k) (sym leads_more k))))
+    ∙ ap (λ l. map entry_of first ++ l) (sym (numbered_push next done x) ∙ ap (numbered next) (sym (overlays_push cols (take i times) ons (get_or times i 0) (base_handle begun) beside)
+    ∙ (λ k. overlays_on cols (sym (take_more times i 0 within) k) (sym ons_more k))))
 
 abbrev pub number_of : Entry → ℕ
 number_of e = e.slot.0
@@ -112,5 +110,5 @@ rise_more entries after next last new rises is len =
     (subst (RiseWithin 0 next) (numbers_are entries) rises) (rise_numbered next new)))
 
 -- as many overlays as instants
-pub overlays_many : (cols : Columns) (times : List ℕ) (leads : List GraphLead) → length leads ≡ length times → length (overlays_on cols times (map begun_on leads)) ≡ length times
-overlays_many cols times leads many = overlays_length cols times (map begun_on leads) (length-map leads begun_on ∙ many)
+pub overlays_many : (cols : Columns) (times : List ℕ) (leads : List GraphLead) → length leads ≡ length times → length (overlays_on cols times (map (λ (l : GraphLead). base_handle l.begins) leads)) ≡ length times
+overlays_many cols times leads many = overlays_length cols times (map (λ (l : GraphLead). base_handle l.begins) leads) (length-map leads (λ (l : GraphLead). base_handle l.begins) ∙ many)

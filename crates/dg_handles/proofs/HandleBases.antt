@@ -12,7 +12,7 @@ use Rattle.dg_history.specs.declared.node.NodeId.{NodeId}
 use Rattle.dg_machine.specs.declared.stands.Stands.{Stands}
 use Rattle.dg_machine.specs.declared.stands.Stands.TheVariants.{Overlay, Base}
 use Rattle.dg_machine.specs.MachineState.{stands_at}
-use Rattle.dg_machine.specs.Planning.{bases_in, includes, usable}
+use Rattle.dg_machine.specs.Planning.{bases_in, includes}
 
 -- a live handle has none of the numbers below
 entry_low : (low high handle : ℕ) (table : Entries) (e : Stands) → RiseWithin low high (handles_in table) → stands_at handle table ≡ Some e → low ≤ handle

@@ -1,12 +1,13 @@
 -- Entries of a table beside slots.
-use Rattle.std.proofs.Common.{arith, ◌≡◌, ℕ, zero, suc, ◌+◌, ◌<◌, Bool, true, false, cond, eqb, List, [], ◌∷◌, ◌++◌, Option, Some, None, length, map, get_or, remove, refl, sym, ap, ◌∙◌, subst, ◌⊎◌, inl, inr, unwrap_or}
+use Rattle.std.proofs.Common.{arith, ◌≡◌, ℕ, zero, suc, ◌<◌, Bool, true, false, cond, eqb, List, [], ◌∷◌, ◌++◌, Some, None, length, map, get_or, remove, refl, sym, ap, ◌∙◌, subst, ◌⊎◌, inl, inr, unwrap_or}
 use Rattle.std.specs.List.{AllZip}
 use Rattle.std.proofs.lemmas.Bool.{both_ways, eq-eqb, eqb-true, ne_eqb, or_cases, or_left, or_right}
 use Rattle.dg_graph.specs.declared.element.Element.{Element}
-use Rattle.dg_handles.specs.Handles.{AreDistinct, graph_among, slot_of}
+use Rattle.dg_handles.specs.Handles.{graph_among, slot_of}
 use Rattle.dg_handles.proofs.HandleNumbers.{listed_at}
 use Rattle.dg_machine.specs.declared.stands.Stands.{Stands}
 use Rattle.dg_machine.specs.MachineState.{dependent_on, stands_at, is_overlay_on}
+use Rattle.dg_pool.specs.Changes.{AreDistinct}
 use Rattle.dg_pool.specs.Graphs.{is_listed}
 
 abbrev pub Entries : Type 0

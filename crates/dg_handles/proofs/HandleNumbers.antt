@@ -6,7 +6,7 @@ use Rattle.std.proofs.lemmas.List.{drop_more}
 use Rattle.std.proofs.lemmas.List.Folds.{list_any-append, list_any_at}
 use Rattle.std.proofs.Math.ListN.{take-append-drop}
 use Rattle.dg_graph.proofs.Sets.{or_swap}
-use Rattle.dg_handles.specs.Handles.{AreDistinct}
+use Rattle.dg_pool.specs.Changes.{AreDistinct}
 use Rattle.dg_pool.specs.Graphs.{is_listed}
 
 pub listed-append : (xs ys : List ℕ) (s : ℕ) → is_listed (xs ++ ys) s ≡ (is_listed xs s || is_listed ys s)

@@ -1,12 +1,11 @@
 -- What the index of a handle says of the table and of the graphs.
 use Rattle.std.proofs.Common.{arith, ◌≡◌, ℕ, zero, suc, ◌+◌, ◌<◌, true, false, cond, eqb, List, [], ◌∷◌, ◌++◌, Option, Some, None, IsSome, length, map, take, drop, get_or, remove, refl, sym, ap, ◌∙◌, subst}
-use Rattle.std.specs.List.{AllZip}
 use Rattle.std.proofs.lemmas.Bool.{both_ways, eq-eqb, ne_eqb}
 use Rattle.std.proofs.lemmas.List.{drop_more, get_or-map}
 use Rattle.std.proofs.Math.ListN.{length-map, take-append-drop}
 use Rattle.dg_graph.specs.declared.element.Element.{Element}
 use Rattle.dg_handles.specs.declared.entries.Entry.{Entry}
-use Rattle.dg_handles.specs.Handles.{AreDistinct, HandlesState, SlotHolds, IsTied, graph_among, slot_graphs, graphs_without, members_at, slot_of}
+use Rattle.dg_handles.specs.Handles.{HandlesState, SlotHolds, IsTied, graph_among, slot_graphs, graphs_without, members_at, slot_of}
 use Rattle.dg_handles.specs.FirstEntry.{IsFirst, NoneIs}
 use Rattle.dg_handles.proofs.HandleEntries.{Entries, entry_remove, handles_in, none_dependent, slot_remove, zip-each, zip-remove}
 use Rattle.dg_handles.proofs.HandleAdditions.{entry_of, number_of, numbers_are}
@@ -14,6 +13,7 @@ use Rattle.dg_handles.proofs.HandleNumbers.{distinct_middle, listed_past, map_sa
 use Rattle.dg_handles.proofs.HandleTies.{Stays, holds_still, many, some_nowhere}
 use Rattle.dg_machine.specs.declared.stands.Stands.{Stands}
 use Rattle.dg_machine.specs.MachineState.{dependent_on, stands_at, is_overlay_on, without_handle}
+use Rattle.dg_pool.specs.Changes.{AreDistinct}
 use Rattle.dg_pool.specs.Graphs.{PoolState, SlotGraph, is_listed, slot_graph}
 use Rattle.dg_pool.specs.Sweeps.{members_as}
 

@@ -1,15 +1,12 @@
 -- What the tie says of handles and slots, and how it is kept.
-use Rattle.std.proofs.Common.{arith, ◌≡◌, ℕ, ◌+◌, ◌≤◌, ◌<◌, Bool, true, false, ◌&&◌, ◌||◌, not, cond, eqb, List, [], ◌∷◌, ◌++◌, Option, Some, None, IsSome, length, map, get_or, remove, unwrap_or, refl, sym, ap, ◌∙◌, subst, ◌⊎◌, inl, inr}
-use Rattle.std.specs.List.{AllZip}
-use Rattle.std.proofs.lemmas.Bool.{both_ways, eq-eqb, false_from_ne_true}
+use Rattle.std.proofs.Common.{◌≡◌, ℕ, ◌<◌, Bool, true, false, ◌&&◌, ◌||◌, not, [], Option, Some, None, IsSome, length, get_or, unwrap_or, refl, sym, ap, ◌∙◌, subst}
+use Rattle.std.proofs.lemmas.Bool.{both_ways, eq-eqb}
 use Rattle.dg_graph.specs.declared.element.Column.{Column}
 use Rattle.dg_graph.specs.declared.element.Column.TheVariants.{Structure, NodeAttr, EdgeAttr}
 use Rattle.dg_graph.specs.declared.element.Columns.{Columns}
-use Rattle.dg_graph.specs.declared.element.Element.{Element}
 use Rattle.dg_graph.specs.Elements.{asks, column_of}
-use Rattle.dg_handles.specs.Attached.{NoneRestsOn}
-use Rattle.dg_handles.specs.Handles.{AreDistinct, HandlesState, SlotHolds, IsBaseHandle, IsGraphIn, IsNoSlot, IsTied, RestsOn, TieIsKept, at_slot, slot_graphs, held_by, members_at, slot_of}
-use Rattle.dg_handles.proofs.HandleEntries.{Entries, beside, graph_beside, handles_in, none_dependent, slot_apart, slot_beside, slot_listed, zip-each, zip-length}
+use Rattle.dg_handles.specs.Handles.{HandlesState, SlotHolds, IsBaseHandle, IsGraphIn, IsNoSlot, IsTied, RestsOn, TieIsKept, at_slot, slot_graphs, held_by, members_at, slot_of}
+use Rattle.dg_handles.proofs.HandleEntries.{beside, graph_beside, handles_in, none_dependent, slot_apart, slot_beside, slot_listed, zip-each, zip-length}
 use Rattle.dg_machine.specs.declared.stands.Stands.{Stands}
 use Rattle.dg_machine.specs.declared.stands.Stands.TheVariants.{Overlay, Base}
 use Rattle.dg_machine.specs.MachineState.{dependent_on, stands_at, is_overlay_on}
@@ -17,6 +14,7 @@ use Rattle.dg_machine.specs.Planning.{includes}
 use Rattle.dg_pool.specs.declared.slots.Base.{Base as PoolBase}
 use Rattle.dg_pool.specs.declared.slots.Base.TheVariants as base
 use Rattle.dg_pool.specs.declared.slots.Slot.{Slot}
+use Rattle.dg_pool.specs.Changes.{NoneRestsOn}
 use Rattle.dg_pool.specs.Graphs.{Includes, PoolState, SlotGraph, is_listed, slot_graph}
 use Rattle.dg_pool.specs.Slots.{IsBaseWith}
 

@@ -1,4 +1,6 @@
+mod AttachedLeads
 mod AttachedSlots
+mod WrittenSlots
 mod HandleEntries
 mod AttachedEnds
 mod HandleAdditions

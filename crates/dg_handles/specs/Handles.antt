@@ -1,6 +1,6 @@
 -- The table of live handles, and how it is tied to the slots of a pool.
-use Rattle.std.specs.Prelude.{◌≡◌, ℕ, ◌+◌, ◌<◌, ◌≤◌, ◌==◌, Bool, true, false, List, [], ◌∷◌, Option, Some, None, IsSome, if◌then◌else◌, map}
-use Rattle.std.specs.List.{All, AllZip}
+use Rattle.std.specs.Prelude.{◌≡◌, ℕ, ◌+◌, ◌≤◌, ◌==◌, true, false, List, [], ◌∷◌, Option, Some, None, IsSome, if◌then◌else◌, map}
+use Rattle.std.specs.List.{AllZip}
 use Rattle.std.specs.Option.{unwrap_or}
 use Rattle.dg_graph.specs.declared.element.Columns.{Columns}
 use Rattle.dg_graph.specs.declared.element.Element.{Element}
@@ -8,13 +8,15 @@ use Rattle.dg_history.specs.declared.node.NodeId.{NodeId}
 use Rattle.dg_machine.specs.declared.stands.Stands.{Stands}
 use Rattle.dg_machine.specs.declared.stands.Stands.TheVariants.{Overlay, Base}
 use Rattle.dg_machine.specs.MachineState.{stands_at, union_of_sets}
-use Rattle.dg_machine.specs.Planning.{bases_in, includes}
+use Rattle.dg_machine.specs.Planning.{includes}
 use Rattle.dg_pool.specs.declared.slots.Base.{Base as PoolBase}
 use Rattle.dg_pool.specs.declared.slots.Base.TheVariants as base
 use Rattle.dg_pool.specs.declared.slots.SlotState.TheVariants as state
+use Rattle.dg_pool.specs.Changes.{AreDistinct}
 use Rattle.dg_pool.specs.Graphs.{PoolState, SlotGraph, graph_now, is_listed, is_live, slot_at, slot_graph}
 use Rattle.dg_pool.specs.Sweeps.{cells_of, members_as, union_of as pool_union}
 use Rattle.dg_retrieval.specs.Beginnings.{base_handle}
+use Rattle.dg_retrieval.specs.declared.graph_lead.Beginning.{Beginning}
 use Rattle.dg_retrieval.specs.declared.graph_lead.GraphLead.{GraphLead}
 
 -- The live handles with what each stands for, the oldest first; the slot of each; and the number of the next handle.
@@ -75,9 +77,13 @@ HoldsNode table cols (handle, node) = (all : Columns) × (stands_at handle table
 abbrev pub IsBaseHandle : ℕ → Columns → List (ℕ × Stands) → Type 0
 IsBaseHandle handle cols table = (node : NodeId) × (all : Columns) × (stands_at handle table ≡ Some (Base node all)) × (includes all cols ≡ true)
 
+-- where a graph begins so with the set of a handle, the handle holds a base for these columns
+abbrev pub CanBegin : List (ℕ × Stands) → Columns → Beginning → Type 0
+CanBegin table cols begins = (handle : ℕ) → base_handle begins ≡ Some handle → IsBaseHandle handle cols table
+
 -- where the lead begins with the set of a handle, the handle holds a base for these columns
 abbrev pub BeginsOn : List (ℕ × Stands) → Columns → GraphLead → Type 0
-BeginsOn table cols lead = (handle : ℕ) → base_handle lead.begins ≡ Some handle → IsBaseHandle handle cols table
+BeginsOn table cols lead = CanBegin table cols lead.begins
 
 -- ---- the tie
 
@@ -114,11 +120,6 @@ IsGraphIn cols allowed (Some g) = (g.cols ≡ cols) × allowed g.base
 abbrev pub SlotHolds : HandlesState → Stands → Option SlotGraph → Type 0
 SlotHolds h (Overlay t cols on) o = IsGraphIn cols (RestsOn h cols on) o
 SlotHolds h (Base node cols) o = IsGraphIn cols (λ b. b ≡ base.Nothing) o
-
--- no number stands twice
-abbrev pub AreDistinct : List ℕ → Type 0
-AreDistinct [] = Unit {0}
-AreDistinct (s ∷ slots) = (is_listed slots s ≡ false) × AreDistinct slots
 
 -- There are as many slots as handles. Each handle has a slot of its own, whose graph rests as the handle's entry says,
 -- and no other slot is live.

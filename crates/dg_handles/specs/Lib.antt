@@ -1,3 +1,4 @@
 pub mod Attached
 pub mod Handles
 pub mod FirstEntry
+pub mod Written

@@ -3,15 +3,15 @@
 ghost use Rattle.std.specs.Prelude.{◌≡◌, ℕ, true, false, None, IfOk, IsSome, OnErr};
 ghost use Rattle.dg_graph.specs.Composition.{applied};
 ghost use Rattle.dg_graph.specs.Elements.{shown};
-ghost use Rattle.dg_handles.specs.Attached.{IsAttached, NoneRestsOn, numbers_of};
-ghost use Rattle.dg_handles.specs.Handles.{AreDistinct};
+ghost use Rattle.dg_handles.specs.Attached.{IsAttached};
+ghost use Rattle.dg_pool.specs.Changes.{AreDistinct, NoneRestsOn, numbers_of};
 ghost use Rattle.dg_pool.specs.Graphs.{SameGraphs, graph_now, is_listed, slot_graph};
 ghost use Rattle.dg_pool.specs.Slots.{AllLive, BaseFits, IsLive, base_members};
 
 use dg_delta::Delta;
 use dg_graph::Columns;
 use dg_pool::{AttachFault, Base, Pool, Slot};
-use std::alloc::AllocError;
+use std::alloc::{AllocError, Global};
 
 /// A slot for the graph of the base, changed by the delta and cut to the columns. An `Err` says that memory ran out;
 /// then all graphs are as before.
@@ -32,6 +32,23 @@ pub(crate) fn attach(
         Err(AttachFault::Memory) => Err(AllocError),
         Err(AttachFault::PoolFull) => unreachable!(),
     }
+}
+
+/// A slot for the graph of the base, cut to the columns. An `Err` says that memory ran out; then all graphs are as
+/// before.
+pub(crate) fn attach_unchanged(
+    alloc: Global,
+    pool: &mut Pool,
+    base: Base,
+    cols: Columns,
+) -> Result<Slot, AllocError>
+    requires room { AllLive pool.old → ⊥ }
+    requires base { BaseFits pool.old base cols }
+    ensures slot { IfOk result (λ s. IsAttached pool.old pool.new s.0
+        (record { base = base; cols = cols; members = shown (base_members pool.old base) cols })) }
+    ensures err { OnErr result (SameGraphs pool.old pool.new) }
+{
+    attach(pool, base, &Delta::new(alloc), cols)
 }
 
 /// Ends a live slot on which no live slot rests. Takes no memory.

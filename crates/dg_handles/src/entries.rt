@@ -1,7 +1,6 @@
 //! The entries of the table of live handles.
 
 ghost use Rattle.std.specs.Prelude.{◌≡◌, ◌+◌, ◌≤◌, [], ◌∷◌, ◌++◌, IfNone, IfOk, IfSome, length, map, vec_capacity, vec_len};
-ghost use Rattle.dg_handles.specs.Attached.{numbers_of};
 ghost use Rattle.dg_handles.specs.Handles.{numbered, overlays_on};
 ghost use Rattle.dg_handles.specs.FirstEntry.{IsFirst, NoneIs};
 ghost use Rattle.dg_machine.specs.MachineState.{dependent_on, is_overlay_on};
@@ -9,12 +8,13 @@ ghost use Rattle.dg_machine.specs.Planning.{bases_in, includes, usable};
 ghost use Rattle.dg_machine.specs.declared.limits.TheConstants.{HANDLE_MAX};
 ghost use Rattle.dg_planner.specs.Bases.{base_of as node_of};
 ghost use Rattle.dg_retrieval.specs.Beginnings.{base_handle};
+ghost use Rattle.dg_pool.specs.Changes.{numbers_of};
 
 use dg_graph::Columns;
 use dg_machine::Stands;
 use dg_planner::Base;
 use dg_pool::Slot;
-use dg_retrieval::{Beginning, GraphLead};
+use dg_retrieval::Beginning;
 use std::alloc::{AllocError, Global};
 
 /// A live handle, with what it stands for and the slot that has its graph.
@@ -108,22 +108,22 @@ fn base_of(begins: Beginning) -> Option<u32>
     }
 }
 
-/// Adds an entry for each instant, with the numbers from this one on, on what its lead begins with. There is room for
+/// Adds an entry for each instant, with the numbers from this one on, on what its graph begins with. There is room for
 /// them.
 pub(crate) fn enter(
     entries: &mut Vec<Entry>,
     next: u64,
     cols: Columns,
     times: &[u64],
-    leads: &[GraphLead],
+    begins: &[Beginning],
     slots: &[Slot],
 )
-    requires leads { length leads.now ≡ length times.now }
+    requires begins { length begins.now ≡ length times.now }
     requires slots { length slots.now ≡ length times.now }
     requires room { vec_len entries.old + length times.now ≤ vec_capacity entries.old }
     requires numbers { next + length times.now ≤ HANDLE_MAX + 1 }
     ensures table { map (λ e. (e.handle, e.stands)) entries.new.items
-        ≡ map (λ e. (e.handle, e.stands)) entries.old.items ++ numbered next (overlays_on cols times.now (map (λ l. base_handle l.begins) leads.now)) }
+        ≡ map (λ e. (e.handle, e.stands)) entries.old.items ++ numbered next (overlays_on cols times.now (map base_handle begins.now)) }
     ensures slots { map (λ e. e.slot.0) entries.new.items ≡ map (λ e. e.slot.0) entries.old.items ++ numbers_of slots.now }
     ensures len { vec_len entries.new ≡ vec_len entries.old + length times.now }
     ensures capacity { vec_capacity entries.new ≡ vec_capacity entries.old }
@@ -134,7 +134,7 @@ pub(crate) fn enter(
             stands: Stands::Overlay {
                 t: times[i],
                 cols,
-                on: base_of(leads[i].begins),
+                on: base_of(begins[i]),
             },
             slot: slots[i],
         });

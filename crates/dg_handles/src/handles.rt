@@ -5,24 +5,26 @@ ghost use Rattle.std.specs.List.{All};
 ghost use Rattle.std.specs.Option.{option_map};
 ghost use Rattle.dg_graph.specs.Composition.{applied};
 ghost use Rattle.dg_graph.specs.Elements.{shown};
-ghost use Rattle.dg_handles.specs.Attached.{AreAttached, graph_led, numbers_of, resting};
-ghost use Rattle.dg_handles.specs.Handles.{BeginsOn, HoldsNode, IsTied, graph_among, slot_graphs, graphs_without, held_by, numbered, overlays_on, slot_of};
+ghost use Rattle.dg_handles.specs.Attached.{AreAttached, graph_begun, graph_led, resting};
+ghost use Rattle.dg_handles.specs.Handles.{BeginsOn, CanBegin, HoldsNode, IsTied, graph_among, slot_graphs, graphs_without, held_by, numbered, overlays_on, slot_of};
 ghost use Rattle.dg_machine.specs.MachineState.{dependent_on, stands_at, without_handle};
 ghost use Rattle.dg_machine.specs.Planning.{bases_in};
 ghost use Rattle.dg_machine.specs.declared.limits.TheConstants.{HANDLE_MAX, LIVE_HANDLES_MAX};
 ghost use Rattle.dg_machine.specs.declared.stands.Stands.TheVariants as stands;
 ghost use Rattle.dg_planner.specs.Bases.{base_of as node_of};
+ghost use Rattle.dg_pool.specs.Changes.{numbers_of};
 ghost use Rattle.dg_pool.specs.Graphs.{PoolState, SameGraphs, graph_now, slot_graph};
-ghost use Rattle.dg_retrieval.specs.Beginnings.{base_handle, led_to};
+ghost use Rattle.dg_retrieval.specs.Beginnings.{base_handle, leads_in, led_to};
 
-use crate::attach::{attach, detach, detach_all};
+use crate::attach::{attach, attach_unchanged, detach, detach_all};
 use crate::entries::{Entry, bases, dependent, enter, index_of_handle};
+use crate::write::write_all;
 use dg_delta::Delta;
 use dg_graph::Columns;
 use dg_history::NodeId;
 use dg_machine::{LIVE_HANDLES_MAX, Stands};
 use dg_pool::{Base, Pool, Slot};
-use dg_retrieval::{Beginning, GraphLead};
+use dg_retrieval::{Beginning, Leads};
 use dg_view::View;
 use std::alloc::{AllocError, Global};
 use std::marker::Model;
@@ -136,23 +138,23 @@ impl Handles {
         }
     }
 
-    // A slot for the graph to which each lead comes, in these columns. An `Err` says that memory ran out; then all
-    // graphs are as before.
+    // A slot for each graph that begins so, cut to these columns. An `Err` says that memory ran out; then all graphs
+    // are as before.
     fn attach_all(
         &self,
         pool: &mut Pool,
         cols: Columns,
-        leads: &[GraphLead],
+        begins: &[Beginning],
     ) -> Result<Vec<Slot>, AllocError>
         requires tied { IsTied pool.old self.now }
-        requires room { length self.now.table + length leads.now ≤ LIVE_HANDLES_MAX }
-        requires bases { All (BeginsOn self.now.table cols) leads.now }
-        ensures slots { IfOk result (λ slots. AreAttached pool.old pool.new (numbers_of slots.items) (map (graph_led self.now pool.old cols) leads.now)) }
+        requires room { length self.now.table + length begins.now ≤ LIVE_HANDLES_MAX }
+        requires bases { All (CanBegin self.now.table cols) begins.now }
+        ensures slots { IfOk result (λ slots. AreAttached pool.old pool.new (numbers_of slots.items) (map (graph_begun self.now pool.old cols) begins.now)) }
         ensures err { OnErr result (SameGraphs pool.old pool.new) }
     {
-        let mut slots = Vec::with_capacity(self.alloc, leads.len())?;
-        for lead in leads {
-            match attach(pool, self.base_under(lead.begins), &lead.delta, cols) {
+        let mut slots = Vec::with_capacity(self.alloc, begins.len())?;
+        for begun in begins {
+            match attach_unchanged(self.alloc, pool, self.base_under(*begun), cols) {
                 Ok(slot) => slots.push_reserved(slot),
                 Err(error) => {
                     detach_all(pool, &slots);
@@ -163,27 +165,52 @@ impl Handles {
         Ok(slots)
     }
 
+    // A slot for the graph to which each lead comes, in these columns. An `Err` says that memory ran out; then all
+    // graphs are as before.
+    fn attach_leads(
+        &self,
+        pool: &mut Pool,
+        cols: Columns,
+        leads: &Leads,
+    ) -> Result<Vec<Slot>, AllocError>
+        requires tied { IsTied pool.old self.now }
+        requires room { length self.now.table + length (leads_in leads.now) ≤ LIVE_HANDLES_MAX }
+        requires bases { All (BeginsOn self.now.table cols) (leads_in leads.now) }
+        ensures slots { IfOk result (λ slots. AreAttached pool.old pool.new (numbers_of slots.items) (map (graph_led self.now pool.old cols) (leads_in leads.now))) }
+        ensures err { OnErr result (SameGraphs pool.old pool.new) }
+    {
+        pool.facts();
+        let attached = self.attach_all(pool, cols, &leads.begins)?;
+        match write_all(self.alloc, pool, &attached, &leads.writings) {
+            Ok(()) => Ok(attached),
+            Err(error) => {
+                detach_all(pool, &attached);
+                Err(error)
+            }
+        }
+    }
+
     /// A handle for the graph to which each lead comes, as of these instants in these columns: each graph gets a slot
-    /// of the pool, which rests on what the lead begins with. An `Err` says that memory ran out; then all handles and
-    /// all graphs are as before.
+    /// of the pool, which rests on what the lead begins with, and each delta is written once for all of them. An `Err`
+    /// says that memory ran out; then all handles and all graphs are as before.
     pub fn add(
         &mut self,
         pool: &mut Pool,
         cols: Columns,
         times: &[u64],
-        leads: &[GraphLead],
+        leads: &Leads,
     ) -> Result<(), AllocError>
         requires tied { IsTied pool.old self.old }
         requires room { length self.old.table + length times.now ≤ LIVE_HANDLES_MAX }
         requires numbers { self.old.next + length times.now ≤ HANDLE_MAX + 1 }
-        requires leads { length leads.now ≡ length times.now }
-        requires bases { All (BeginsOn self.old.table cols) leads.now }
+        requires leads { length (leads_in leads.now) ≡ length times.now }
+        requires bases { All (BeginsOn self.old.table cols) (leads_in leads.now) }
 
         // the handles and their graphs
-        ensures table { OnOk result (self.new.table ≡ self.old.table ++ numbered self.old.next (overlays_on cols times.now (map (λ l. base_handle l.begins) leads.now))) }
+        ensures table { OnOk result (self.new.table ≡ self.old.table ++ numbered self.old.next (overlays_on cols times.now (map (λ l. base_handle l.begins) (leads_in leads.now)))) }
         ensures next { OnOk result (self.new.next ≡ self.old.next + length times.now) }
         ensures graphs { OnOk result (slot_graphs pool.new self.new.slots
-            ≡ slot_graphs pool.old self.old.slots ++ map (led_to (graph_now pool.old) (held_by self.old.table (slot_graphs pool.old self.old.slots)) cols) leads.now) }
+            ≡ slot_graphs pool.old self.old.slots ++ map (led_to (graph_now pool.old) (held_by self.old.table (slot_graphs pool.old self.old.slots)) cols) (leads_in leads.now)) }
         ensures tied { IsTied pool.new self.new }
         ensures now { graph_now pool.new ≡ graph_now pool.old }
 
@@ -191,8 +218,15 @@ impl Handles {
         ensures err { OnErr result (self.new ≡ self.old) }
         ensures graphs_err { OnErr result (SameGraphs pool.old pool.new) }
     {
-        let slots = self.attach_all(pool, cols, leads)?;
-        enter(&mut self.entries, self.next, cols, times, leads, &slots);
+        let slots = self.attach_leads(pool, cols, leads)?;
+        enter(
+            &mut self.entries,
+            self.next,
+            cols,
+            times,
+            &leads.begins,
+            &slots,
+        );
         self.next += times.len() as u64;
         Ok(())
     }

@@ -6,6 +6,7 @@ mod attach;
 mod entries;
 mod handles;
 mod laws;
+mod write;
 
 pub use handles::Handles;
 pub use laws::{law_tie_is_kept, law_union_of_handles};

@@ -1,5 +1,5 @@
 use Rattle.std.proofs.Common.{◌≡◌, ℕ, true, false, None, take}
-use Rattle.dg_handles.specs.Attached.{numbers_of}
+use Rattle.dg_pool.specs.Changes.{numbers_of}
 use Rattle.dg_pool.specs.Graphs.{graph_now, is_listed, slot_graph}
 use Rattle.dg_handles.proofs.attach.detach_all.Given as goal
 

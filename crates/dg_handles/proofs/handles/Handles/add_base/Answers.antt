@@ -12,7 +12,6 @@ use Rattle.dg_handles.proofs.HandleAdditions.{entry_of, number_of, rise_more}
 use Rattle.dg_handles.proofs.HandleTies.{tie_is_kept}
 use Rattle.dg_machine.specs.declared.stands.Stands.TheVariants as stands
 use Rattle.dg_pool.specs.declared.slots.Base.TheVariants as base
-use Rattle.dg_pool.specs.Graphs.{SlotGraph}
 use Rattle.dg_pool.specs.Sweeps.{members_as}
 use Rattle.dg_handles.proofs.handles.Handles.add_base.Goals as goal
 

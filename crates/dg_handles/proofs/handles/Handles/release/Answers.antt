@@ -1,11 +1,11 @@
-use Rattle.std.proofs.Common.{arith, ◌≡◌, ℕ, ◌<◌, ◌≤◌, List, None, IsSome, get_or, is_some, length, map, remove, sym, ap, ◌∙◌, subst}
+use Rattle.std.proofs.Common.{arith, ◌≡◌, ℕ, ◌<◌, None, get_or, is_some, length, map, remove, sym, ap, ◌∙◌, subst}
 use Rattle.dg_handles.specs.declared.entries.Entry.{Entry}
-use Rattle.dg_handles.specs.Attached.{NoneRestsOn}
-use Rattle.dg_handles.specs.Handles.{HandlesState, IsTied, RiseWithin, slot_graphs, slot_of}
+use Rattle.dg_handles.specs.Handles.{HandlesState, IsTied, RiseWithin, slot_graphs}
 use Rattle.dg_handles.proofs.HandleEntries.{handles_in, slot_listed}
 use Rattle.dg_handles.proofs.HandleAdditions.{entry_of, number_of, rise_remove}
-use Rattle.dg_handles.proofs.HandlePlaces.{Found, Missed, entry_in, found_in, graphs_many, graphs_removed, here_in, map-remove, missed_in, number_in, slot_in, tied_removed, within_in}
+use Rattle.dg_handles.proofs.HandlePlaces.{Found, Missed, found_in, graphs_many, graphs_removed, here_in, map-remove, missed_in, number_in, slot_in, tied_removed, within_in}
 use Rattle.dg_handles.proofs.HandleTies.{live_slot, none_rests}
+use Rattle.dg_pool.specs.Changes.{NoneRestsOn}
 use Rattle.dg_pool.specs.Graphs.{slot_graph}
 use Rattle.dg_handles.proofs.handles.Handles.release.Goals as goal
 use Rattle.dg_handles.proofs.handles.Handles.release.Goals.{In_default, After-detach}

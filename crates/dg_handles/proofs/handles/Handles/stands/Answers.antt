@@ -1,4 +1,4 @@
-use Rattle.std.proofs.Common.{Some, sym, ap, ◌∙◌}
+use Rattle.std.proofs.Common.{sym, ◌∙◌}
 use Rattle.dg_handles.proofs.HandlePlaces.{entry_in, missed_in}
 use Rattle.dg_handles.proofs.handles.Handles.stands.Goals as goal
 

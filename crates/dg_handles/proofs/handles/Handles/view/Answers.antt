@@ -1,4 +1,4 @@
-use Rattle.std.proofs.Common.{IsSome, Some, is_some, sym, ap, ◌∙◌}
+use Rattle.std.proofs.Common.{Some, is_some, sym, ap, ◌∙◌}
 use Rattle.dg_handles.specs.Handles.{members_at}
 use Rattle.dg_handles.proofs.HandleEntries.{graph_beside, slot_listed}
 use Rattle.dg_handles.proofs.HandlePlaces.{entry_in, graphs_many, missed_in, slot_in}
