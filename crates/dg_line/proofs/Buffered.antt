@@ -2,6 +2,8 @@
 use Rattle.std.proofs.Common.{◌≡◌, ℕ, ◌+◌, ◌-◌, ◌<◌, ◌≤◌, Option, Result, Ok, Err, OnErr, map, take, drop, length, get_or, codes, List, [], ◌∷◌, ◌++◌, refl, sym, ap, ◌∙◌, subst, append_assoc, append-nil, arith}
 use Rattle.std.specs.List.{join_with_byte}
 use Rattle.std.proofs.lemmas.List.Concat.{flat_map-append}
+use Rattle.std.proofs.lemmas.Option.{get_or_from_slice_get, slice_get_within}
+use Rattle.std.specs.Prelude.{Some, slice_get}
 use Rattle.dg_io.specs.Told.{grown, GrowsByPart}
 use Rattle.dg_io.proofs.ToldLemmas.{grown_nothing, both_pieces, part_first, part_second}
 use Rattle.dg_machine.specs.declared.reply.BodyLine.{BodyLine}
@@ -126,10 +128,10 @@ put_move_fails start mid new all held left g p =
 
 -- the next line of a body is held
 pub put_body_line : (names : List (List ℕ)) (start now : Option (List ℕ)) (all held new_held : List ℕ) (lines : List BodyLine) (i : ℕ) (d : BodyLine)
-    → i < length lines → new_held ≡ held ++ text_line (body_words names (get_or lines i d)) → IsPartlyPut start all now held (body_text names (drop i lines))
+    → slice_get lines i ≡ Some d → new_held ≡ held ++ text_line (body_words names d) → IsPartlyPut start all now held (body_text names (drop i lines))
     → IsPartlyPut start all now new_held (body_text names (drop (i + 1) lines))
-put_body_line names start now all held new_held lines i d below is g =
-    let line = text_line (body_words names (get_or lines i d)) in
+put_body_line names start now all held new_held lines i d here is g =
+    let line = text_line (body_words names d) in
     let later = body_text names (drop (i + 1) lines) in
     record {
       sent = g.sent;
@@ -137,7 +139,9 @@ put_body_line names start now all held new_held lines i d below is g =
       split =
           ap (λ bytes. g.sent ++ bytes)
           (ap (λ bytes. bytes ++ later) is ∙ append_assoc held line later
-          ∙ ap (λ bytes. held ++ bytes) (sym (at_drop_more (body_text names) lines i d below))) ∙ g.split;
+          ∙ ap (λ bytes. held ++ bytes)
+          (ap (λ (x : BodyLine). text_line (body_words names x) ++ later) (sym (get_or_from_slice_get lines i d d here))
+          ∙ sym (at_drop_more (body_text names) lines i d (slice_get_within lines i d here)))) ∙ g.split;
     }
 
 -- and behind the last

@@ -10,7 +10,7 @@ use crate::reply_line::{ReplyLine, WORDS_MAX};
 use dg_graph::{Column, Function};
 use dg_history::Key;
 use dg_io::{Failed, Sink};
-use dg_machine::{BodyLine, Head, Refusal, Reply};
+use dg_machine::{BodyLines, Head, Refusal, Reply};
 use dg_names::Names;
 use dg_plan::Verdict;
 use dg_query::Counts;
@@ -34,7 +34,7 @@ pub fn write_reply<K: Sink>(sink: &mut K, names: &Names, reply: &Reply) -> Resul
     let mut buffer = ReplyBuffer::new();
     let head = head_line(&reply.head);
     buffer.put_line(sink, head.words())?;
-    put_body(&mut buffer, sink, names, reply.body.as_slice())?;
+    put_body(&mut buffer, sink, names, &reply.body)?;
     buffer.put_line(sink, &[Word::Text(b"end")])?;
     buffer.flush(sink)
 }
@@ -43,16 +43,16 @@ fn put_body<K: Sink>(
     buffer: &mut ReplyBuffer,
     sink: &mut K,
     names: &Names,
-    lines: &[BodyLine],
+    lines: &BodyLines,
 ) -> Result<(), Failed>
     ensures ok { OnOk result (IsBuffered (K.written sink.old) (buffer.old ++ body_text names.now lines.now) (K.written sink.new) buffer.new) }
     ensures err { OnErr result (GrowsByPart (K.written sink.old) (buffer.old ++ body_text names.now lines.now) (K.written sink.new)) }
     ensures cause { OnErr result (CountRose (K.faults sink.old) (K.faults sink.new)) }
     ensures counted { CountsOn (K.faults sink.old) (K.faults sink.new) }
 {
-    for line in lines {
+    for number in 0..lines.len() {
         buffer.make_room(sink)?;
-        hold_body_line(buffer, names, line);
+        hold_body_line(buffer, names, &lines.line(number));
     }
     Ok(())
 }

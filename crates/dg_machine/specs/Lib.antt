@@ -8,3 +8,4 @@ pub mod Script
 pub mod Run
 pub mod CutImage
 pub mod MachineLaws
+pub mod HeldLines

@@ -1,4 +1,5 @@
-ghost use Rattle.std.specs.Prelude.{◌≡◌, List, [], ◌∷◌, ◌++◌, length, OnOk, OnErr};
+ghost use Rattle.std.specs.Prelude.{◌≡◌, ◌<◌, List, [], ◌∷◌, ◌++◌, Some, length, map, slice_get, OnOk, OnErr};
+ghost use Rattle.dg_machine.specs.declared.reply.BodyLine.TheVariants as line;
 
 use dg_graph::{Column, Element, Function};
 use dg_history::{Key, NodeId};
@@ -199,19 +200,27 @@ pub enum BodyLine {
     },
 }
 
+// The lines of a body as they are held: a listing by its elements alone, which are smaller than lines.
+#[derive(Drop)]
+enum HeldLines {
+    Elements(Vec<Element>),
+    Lines(Vec<BodyLine>),
+}
+
 /// The lines of a body, seen as their list.
 #[derive(Drop)]
 pub struct BodyLines {
-    lines: Vec<BodyLine>,
+    held: HeldLines,
 }
 
 impl Model for BodyLines {
     ghost use Rattle.std.specs.Prelude.{List};
     ghost use Rattle.dg_machine.specs.declared.reply.BodyLine.{BodyLine};
+    ghost use Rattle.dg_machine.specs.HeldLines.{lines_in};
 
     ghost Value = { List BodyLine };
 
-    ghost view = { λ b. b.lines.items };
+    ghost view = { λ b. lines_in b.held };
 }
 
 impl BodyLines {
@@ -219,22 +228,45 @@ impl BodyLines {
     pub fn new(alloc: Global) -> BodyLines
         ensures { result ≡ [] }
     {
-        BodyLines {
-            lines: Vec::new(alloc),
-        }
+        BodyLines::from_vec(Vec::new(alloc))
     }
 
     /// These lines. It takes no memory.
     pub fn from_vec(lines: Vec<BodyLine>) -> BodyLines
         ensures { result ≡ lines.items }
     {
-        BodyLines { lines }
+        BodyLines {
+            held: HeldLines::Lines(lines),
+        }
     }
 
-    /// The lines, in order.
-    pub fn as_slice(&self) -> &[BodyLine]
-        ensures { result.now ≡ self.now }
+    /// A line for each of these elements. It takes no memory.
+    pub fn from_elements(elements: Vec<Element>) -> BodyLines
+        ensures { result ≡ map (λ x. line.Element x) elements.items }
     {
-        self.lines.as_slice()
+        BodyLines {
+            held: HeldLines::Elements(elements),
+        }
+    }
+
+    /// How many lines there are.
+    pub fn len(&self) -> usize
+        ensures { result ≡ length self.now }
+    {
+        match &self.held {
+            HeldLines::Elements(elements) => elements.len(),
+            HeldLines::Lines(lines) => lines.len(),
+        }
+    }
+
+    /// The line of this number, from 0 on.
+    pub fn line(&self, number: usize) -> BodyLine
+        requires { number < length self.now }
+        ensures { slice_get self.now number ≡ Some result }
+    {
+        match &self.held {
+            HeldLines::Elements(elements) => BodyLine::Element(elements[number]),
+            HeldLines::Lines(lines) => lines[number],
+        }
     }
 }

@@ -3,25 +3,25 @@ use Rattle.dg_machine.specs.ReplyText.{body_text}
 use Rattle.dg_line.proofs.Buffered.{put_first, put_moved, put_move_fails, put_body_line, put_lines_past, on_err}
 use Rattle.dg_line.proofs.reply.put_body.Goals as goal
 
-pub loop-line-init : goal.loop-line-init
-loop-line-init g c = record {
+pub loop-number-init : goal.loop-number-init
+loop-number-init g c = record {
   put = put_first (g.K.Sink.written c.args.sink.now) c.args.buffer.now (body_text c.args.names.now c.args.lines.now);
   counted = omega arith;
 }
 
 pub returns-in_err-make_room-clause-err : goal.returns-in_err-make_room-clause-err
 returns-in_err-make_room-clause-err g c =
-    on_err c.from_residual.result (put_move_fails _ _ _ _ _ _ c.loop-line.invariant.put c.in_err-make_room.ensures.err)
+    on_err c.from_residual.result (put_move_fails _ _ _ _ _ _ c.loop-number.invariant.put c.in_err-make_room.ensures.err)
 
-pub loop-line-preserved : goal.loop-line-preserved
-loop-line-preserved g c =
-    let room = put_moved _ _ _ _ _ _ _ c.loop-line.invariant.put c.in_ok-make_room.ensures.ok in
+pub loop-number-preserved : goal.loop-number-preserved
+loop-number-preserved g c =
+    let room = put_moved _ _ _ _ _ _ _ c.loop-number.invariant.put c.in_ok-make_room.ensures.ok in
     record {
       put =
-          put_body_line c.args.names.now _ _ _ _ _ c.args.lines.now c.loop-line.line-index _ (omega arith) c.hold_body_line.ensures room;
+          put_body_line c.args.names.now _ _ _ _ _ c.args.lines.now c.loop-number.number _ c.line.ensures c.hold_body_line.ensures room;
       counted = omega (arith, c.in_ok-make_room.ensures.counted);
     }
 
 pub returns-clause-ok : goal.returns-clause-ok
 returns-clause-ok g c =
-    put_lines_past c.args.names.now _ _ _ _ c.args.lines.now c.loop-line.line-index (omega arith) c.loop-line.invariant.put
+    put_lines_past c.args.names.now _ _ _ _ c.args.lines.now c.loop-number.number (omega arith) c.loop-number.invariant.put
