@@ -30,7 +30,7 @@ use Rattle.dg_plan.proofs.EnteredRecordTrees.{all_flat}
 use Rattle.dg_retrieval.specs.declared.fault.RetrievalFault.{RetrievalFault}
 use Rattle.dg_retrieval.specs.declared.graph_lead.GraphLead.{GraphLead}
 use Rattle.dg_retrieval.specs.declared.retrieval.Retrieved.{Retrieved}
-use Rattle.dg_retrieval.specs.Beginnings.{IsOffered}
+use Rattle.dg_retrieval.specs.Beginnings.{IsOffered, leads_in}
 use Rattle.dg_retrieval.specs.Retrieval.{AreHeld}
 
 -- ---- the edges of bases
@@ -154,9 +154,9 @@ begins_on table cols g hold l offered h is =
 
 -- all graphs that are retrieved
 pub all_begin_on : (table : ListOf (ℕ × Stands)) (cols : Columns) (g : Ground) → All (HoldsNode table cols) g.bases
-    → (r : Result Retrieved RetrievalFault) → IfOk r (λ x. All (IsOffered (edges_of g)) x.leads.items) → IfOk r (λ x. All (BeginsOn table cols) x.leads.items)
+    → (r : Result Retrieved RetrievalFault) → IfOk r (λ x. All (IsOffered (edges_of g)) (leads_in x.leads)) → IfOk r (λ x. All (BeginsOn table cols) (leads_in x.leads))
 all_begin_on table cols g hold (Err f) offered = tt
-all_begin_on table cols g hold (Ok x) offered = each x.leads.items offered
+all_begin_on table cols g hold (Ok x) offered = each (leads_in x.leads) offered
   where
     each : (leads : ListOf GraphLead) → All (IsOffered (edges_of g)) leads → All (BeginsOn table cols) leads
     each [] h = All-nil (BeginsOn table cols)

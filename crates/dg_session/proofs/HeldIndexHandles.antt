@@ -3,7 +3,7 @@ use Rattle.std.proofs.Common.{◌≡◌, ℕ, ◌+◌, true, List, [], ◌∷◌
 use Rattle.std.specs.Prelude.{Result, Ok, Err, OnOk, OnErr, is_some}
 use Rattle.std.proofs.lemmas.Bool.{false≢true}
 use Rattle.std.proofs.lemmas.List.{append-nil}
-use Rattle.std.proofs.lemmas.List.Elements.{All-append, All-cons, All-nil}
+use Rattle.std.proofs.lemmas.List.Elements.{All-append, All-cons, All-nil, All-weaker}
 use Rattle.dg_graph.specs.declared.element.Columns.{Columns}
 use Rattle.dg_handles.specs.Handles.{HandlesState, numbered, overlays_on}
 use Rattle.dg_history.specs.declared.node.NodeId.{NodeId}
@@ -14,7 +14,7 @@ use Rattle.dg_machine.specs.Planning.{bases_in, usable}
 use Rattle.dg_planner.specs.Whole.{PlannerGraph}
 use Rattle.dg_retrieval.specs.KeptGraph.{kept_edges}
 use Rattle.dg_session.specs.HeldIndex.{HasNodeOf, HasNodes, has_node_held}
-use Rattle.dg_session.specs.KeptPlanner.{IsKeptFor}
+use Rattle.dg_session.specs.KeptPlanner.{IsGraphOver, IsKeptFor}
 
 pub overlays_length : (cols : Columns) (times : List ℕ) (bases : List (Option ℕ)) → length bases ≡ length times → length (overlays_on cols times bases) ≡ length times
 overlays_length cols [] bases many = refl
@@ -50,15 +50,18 @@ bases_with_overlays asked table next cols times bases =
     bases_append asked table (numbered next (overlays_on cols times bases))
     ∙ ap (λ (l : List (ℕ × NodeId)). bases_in asked table ++ l) (none_serves asked next cols times bases) ∙ append-nil (bases_in asked table)
 
--- a planner is kept where the same handles can serve
-pub kept_same : (index : Option Opening) (old new : List (ℕ × Stands)) (kept : Option (Columns × PlannerGraph)) → ((cols : Columns) → bases_in cols new ≡ bases_in cols old)
-    → IsKeptFor index old kept → IsKeptFor index new kept
-kept_same index old new None same h = tt
-kept_same None old new (Some k) same h = absurd h
-kept_same (Some o) old new (Some k) same h = record {
+-- planners are kept where the same handles can serve
+graph_same : (index : Option Opening) (old new : List (ℕ × Stands)) → ((cols : Columns) → bases_in cols new ≡ bases_in cols old)
+    → (k : Columns × PlannerGraph) → IsGraphOver index old k → IsGraphOver index new k
+graph_same None old new same k h = h
+graph_same (Some o) old new same k h = record {
   edges = h.edges ∙ ap (kept_edges o (event_total o.batches) k.0) (sym (same k.0));
   nodes = h.nodes;
 }
+
+pub kept_same : (index : Option Opening) (old new : List (ℕ × Stands)) (kept : List (Columns × PlannerGraph)) → ((cols : Columns) → bases_in cols new ≡ bases_in cols old)
+    → IsKeptFor index old kept → IsKeptFor index new kept
+kept_same index old new kept same h = All-weaker (IsGraphOver index old) (IsGraphOver index new) (graph_same index old new same) kept h
 
 -- ---- by what a call answers
 
@@ -83,7 +86,7 @@ node_after (Ok x) (Some o) old new node cols added same there has h =
     subst (HasNodes (Some o)) (sym added) (All-append Has old.table ((old.next, Base node cols) ∷ []) h (All-cons Has (old.next, Base node cols) [] has (All-nil Has)))
 node_after (Err e) index old new node cols added same there has h = subst (λ (s : HandlesState). HasNodes index s.table) (sym same) h
 
-pub kept_after : {A E : Type 0} (r : Result A E) (index : Option Opening) (old new : HandlesState) (kept : Option (Columns × PlannerGraph)) (cols : Columns) (times : List ℕ) (bases : List (Option ℕ))
+pub kept_after : {A E : Type 0} (r : Result A E) (index : Option Opening) (old new : HandlesState) (kept : List (Columns × PlannerGraph)) (cols : Columns) (times : List ℕ) (bases : List (Option ℕ))
     → OnOk r (new.table ≡ old.table ++ numbered old.next (overlays_on cols times bases)) → OnErr r (new ≡ old) → IsKeptFor index old.table kept → IsKeptFor index new.table kept
 kept_after (Ok x) index old new kept cols times bases added same h =
     kept_same index old.table new.table kept (λ asked. ap (bases_in asked) added ∙ bases_with_overlays asked old.table old.next cols times bases) h

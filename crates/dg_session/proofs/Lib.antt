@@ -13,6 +13,7 @@ pub mod SessionSteps
 pub mod AnswerHandles
 pub mod SessionQueryStep
 pub mod AnswerQueries
+pub mod HeldIndexHandles
 pub mod SessionReleaseStep
 pub mod SessionPoolStep
 pub mod KeptAdjacencies
@@ -30,7 +31,6 @@ pub mod VerifiedStep
 pub mod SessionStartChecks
 pub mod SessionCreationStep
 pub mod SessionGraphs
-pub mod HeldIndexHandles
 pub mod KeptPlannerGraphs
 pub mod HeldIndexNodes
 pub mod IndexNodes

@@ -3,7 +3,7 @@ use Rattle.std.proofs.Common.{◌≡◌, ℕ, Bool, true, false, ◌==◌, not, 
 use Rattle.std.specs.Prelude.{IfSome, is_some}
 use Rattle.std.specs.List.{All}
 use Rattle.std.proofs.lemmas.Bool.{false≢true}
-use Rattle.std.proofs.lemmas.List.Elements.{All-cons, All-head, All-tail}
+use Rattle.std.proofs.lemmas.List.Elements.{All-cons, All-head, All-nil, All-same, All-tail}
 use Rattle.dg_graph.specs.declared.element.Columns.{Columns}
 use Rattle.dg_graph.specs.declared.element.Element.{Element}
 use Rattle.dg_handles.specs.Handles.{graphs_without}
@@ -18,12 +18,12 @@ use Rattle.dg_machine.specs.declared.stands.Stands.{Stands}
 use Rattle.dg_machine.specs.declared.stands.Stands.TheVariants.{Overlay, Base}
 use Rattle.dg_machine.specs.Answer.{Answered, headed, is_refusal}
 use Rattle.dg_machine.specs.MachineState.{MachineState, dependent_on, elements, stands_at, history_in, without_handle}
-use Rattle.dg_index.specs.OpenedIndex.{Opening, event_total}
+use Rattle.dg_index.specs.OpenedIndex.{Opening}
 use Rattle.dg_machine.specs.Needs.{earliest, is_base, needs, of}
 use Rattle.dg_machine.specs.Planning.{bases_in, usable}
 use Rattle.dg_planner.specs.Whole.{PlannerGraph}
-use Rattle.dg_retrieval.specs.KeptGraph.{kept_edges}
-use Rattle.dg_session.specs.KeptPlanner.{IsGraphFor, IsKeptFor}
+use Rattle.dg_session.specs.KeptPlanner.{IsGraphOver, IsKeptFor}
+use Rattle.dg_session.proofs.HeldIndexHandles.{kept_same}
 use Rattle.dg_session.proofs.PartStates.{hit, kept, miss, one_image, parts_of, stands}
 use Rattle.dg_session.proofs.SessionSteps.{moved}
 use Rattle.dg_session.specs.Parts.{Parts}
@@ -39,7 +39,7 @@ all_without P handle (e ∷ table) h = by (e.0 == handle) (all_without P handle 
     by true rest = All-tail P e table h
     by false rest = All-cons P e (without_handle handle table) (All-head P e table h) rest
 
--- ---- the planner that is kept
+-- ---- the planners that are kept
 
 none_usable : (cols : Columns) (e : ℕ × Stands) → is_base (Some e.1) ≡ false → usable cols e ≡ []
 none_usable cols (handle, Overlay t others on) overlay = refl
@@ -57,26 +57,16 @@ bases_without cols handle (e ∷ table) s is overlay = by (e.0 == handle) (λ r.
     by true rest e_is = ap (λ (xs : List (ℕ × NodeId)). xs ++ bases_in cols table) (sym (none_usable cols e (ap is_base e_is ∙ overlay)))
     by false rest e_is = ap (λ (xs : List (ℕ × NodeId)). usable cols e ++ xs) (rest e_is)
 
--- what is kept is kept for each table with the same bases
-same_kept : (index : Option Opening) (table others : List (ℕ × Stands)) (kept : Option (Columns × PlannerGraph)) → ((cols : Columns) → bases_in cols others ≡ bases_in cols table)
-    → IsKeptFor index table kept → IsKeptFor index others kept
-same_kept index table others None same h = tt
-same_kept None table others (Some k) same h = h
-same_kept (Some o) table others (Some k) same h = graph h
-  where
-    graph : IsGraphFor o table k.0 k.1 → IsGraphFor o others k.0 k.1
-    graph g = record { edges = g.edges ∙ ap (λ (b : List (ℕ × NodeId)). kept_edges o (event_total o.batches) k.0 b) (sym (same k.0)); nodes = g.nodes }
-
--- a planner that is forgotten with a base is kept for the handles without one
-pub kept_without : (index : Option Opening) (handle : ℕ) (table : List (ℕ × Stands)) (s : Stands) (old new : Option (Columns × PlannerGraph)) → stands_at handle table ≡ Some s
-    → (is_base (Some s) ≡ true → new ≡ None) → (is_base (Some s) ≡ false → new ≡ old) → IsKeptFor index table old → IsKeptFor index (without_handle handle table) new
+-- planners that are forgotten with a base are kept for the handles without one
+pub kept_without : (index : Option Opening) (handle : ℕ) (table : List (ℕ × Stands)) (s : Stands) (old new : List (Columns × PlannerGraph)) → stands_at handle table ≡ Some s
+    → (is_base (Some s) ≡ true → new ≡ []) → (is_base (Some s) ≡ false → new ≡ old) → IsKeptFor index table old → IsKeptFor index (without_handle handle table) new
 kept_without index handle table s old new is base overlay h = by (is_base (Some s)) refl
   where
     by : (b : Bool) → is_base (Some s) ≡ b → IsKeptFor index (without_handle handle table) new
-    by true e = subst (λ (k : Option (Columns × PlannerGraph)). IsKeptFor index (without_handle handle table) k) (sym (base e)) tt
+    by true e = All-same (IsGraphOver index (without_handle handle table)) new [] (base e) (All-nil (IsGraphOver index (without_handle handle table)))
     by false e =
-        subst (λ (k : Option (Columns × PlannerGraph)). IsKeptFor index (without_handle handle table) k) (sym (overlay e))
-        (same_kept index table (without_handle handle table) old (λ cols. bases_without cols handle table s is e) h)
+        subst (λ (k : List (Columns × PlannerGraph)). IsKeptFor index (without_handle handle table) k) (sym (overlay e))
+        (kept_same index table (without_handle handle table) old (λ cols. bases_without cols handle table s is e) h)
 
 -- ---- what is left
 

@@ -41,7 +41,7 @@ use Rattle.dg_retrieval.specs.declared.fault.RetrievalFault.{RetrievalFault}
 use Rattle.dg_retrieval.specs.declared.fault.RetrievalFault.TheVariants as retrieval_fault
 use Rattle.dg_retrieval.specs.declared.graph_lead.GraphLead.{GraphLead}
 use Rattle.dg_retrieval.specs.KeptGraph.{kept_edges, kept_ground, kept_nodes}
-use Rattle.dg_retrieval.specs.Beginnings.{base_handle, led_to}
+use Rattle.dg_retrieval.specs.Beginnings.{base_handle, leads_in, led_to}
 use Rattle.dg_retrieval.specs.Retrieval.{AreHeld, ArePoints, IsNoDamage, IsOver, IsTreeOf, TakesAtMostTree, graphs_at}
 use Rattle.dg_session.proofs.HandleBases.{bases_are_held}
 use Rattle.dg_session.proofs.PlanStep.{edges_are, point_here, point_is}
@@ -383,22 +383,22 @@ module _ (p : Parts) (o : Opening) (times : List ℕ) (cols : Columns) (told : O
       (bases_are_held z p.table cols (kept_ground o (event_total o.batches) cols (bases_in cols p.table)) hold))
 
   pub retrieved_over : (r : Result Retrieved RetrievalFault)
-      → IfOk r (λ x. length x.leads.items ≡ length times)
-      → IfOk r (λ x. IsTreeOf edges (points_over o recent times) x.weight (bases_of x.leads.items))
+      → IfOk r (λ x. length (leads_in x.leads) ≡ length times)
+      → IfOk r (λ x. IsTreeOf edges (points_over o recent times) x.weight (bases_of (leads_in x.leads)))
       → IfOk r (λ x. AreSingles (arcs_of edges) (Root ∷ []) (points_over o recent times) x.singles.items)
       → IfOk r (λ x. IfSome told (λ image. (z : History) (now : List Element) (held : ℕ → List Element) → IsOver z image o names now recent → AreHeld z edges cols held
-      → ArePoints z (points_over o recent times) times → map (led_to now held cols) x.leads.items ≡ graphs_at z times cols))
-      → IfOk r (λ x. IfSome told (λ image. (m : MachineState) → StandsFor p image m → IsRetrieved m times cols x.weight x.singles.items (bases_of x.leads.items) (map (led_to p.graph (listed_by p) cols) x.leads.items)))
+      → ArePoints z (points_over o recent times) times → map (led_to now held cols) (leads_in x.leads) ≡ graphs_at z times cols))
+      → IfOk r (λ x. IfSome told (λ image. (m : MachineState) → StandsFor p image m → IsRetrieved m times cols x.weight x.singles.items (bases_of (leads_in x.leads)) (map (led_to p.graph (listed_by p) cols) (leads_in x.leads))))
   retrieved_over (Err f) count tree singles graphs = tt
   retrieved_over (Ok x) count tree singles graphs =
       if_some told (λ image. (z : History) (now : List Element) (held : ℕ → List Element) → IsOver z image o names now recent → AreHeld z edges cols held
-      → ArePoints z (points_over o recent times) times → map (led_to now held cols) x.leads.items ≡ graphs_at z times cols)
-      (λ image. (m : MachineState) → StandsFor p image m → IsRetrieved m times cols x.weight x.singles.items (bases_of x.leads.items) (map (led_to p.graph (listed_by p) cols) x.leads.items))
+      → ArePoints z (points_over o recent times) times → map (led_to now held cols) (leads_in x.leads) ≡ graphs_at z times cols)
+      (λ image. (m : MachineState) → StandsFor p image m → IsRetrieved m times cols x.weight x.singles.items (bases_of (leads_in x.leads)) (map (led_to p.graph (listed_by p) cols) (leads_in x.leads)))
       (λ image f m s.
-      is_retrieved p o image m is.there s times cols x.weight x.singles.items (bases_of x.leads.items) (map (led_to p.graph (listed_by p) cols) x.leads.items) inside
-      (subst (λ es. IsTreeOf es (points_over o p.recent times) x.weight (bases_of x.leads.items)) edges_is (subst (λ es. IsTreeOf edges (points_over o es times) x.weight (bases_of x.leads.items)) is.all tree))
+      is_retrieved p o image m is.there s times cols x.weight x.singles.items (bases_of (leads_in x.leads)) (map (led_to p.graph (listed_by p) cols) (leads_in x.leads)) inside
+      (subst (λ es. IsTreeOf es (points_over o p.recent times) x.weight (bases_of (leads_in x.leads))) edges_is (subst (λ es. IsTreeOf edges (points_over o es times) x.weight (bases_of (leads_in x.leads))) is.all tree))
       (subst (λ es. AreSingles (arcs_of es) (Root ∷ []) (points_over o p.recent times) x.singles.items) edges_is (subst (λ es. AreSingles (arcs_of edges) (Root ∷ []) (points_over o es times) x.singles.items) is.all singles))
-      (length-map x.leads.items (λ (l : GraphLead). base_handle l.begins) ∙ count)
+      (length-map (leads_in x.leads) (λ (l : GraphLead). base_handle l.begins) ∙ count)
       (f (z_of p o image m is.there s) p.graph (listed_by p) (over_session image m s) (held_there image m s) (points_of_session image m s))) graphs
 
   pub taken_over : (r : Result Retrieved RetrievalFault) (before after : ℕ)

@@ -1,5 +1,6 @@
--- The planner that a session keeps between commands.
+-- The planners that a session keeps between commands.
 use Rattle.std.specs.Prelude.{◌≡◌, ℕ, List, Option, Some, None}
+use Rattle.std.specs.List.{All, Contains}
 use Rattle.dg_graph.specs.declared.element.Columns.{Columns}
 use Rattle.dg_index.specs.OpenedIndex.{Opening, event_total}
 use Rattle.dg_machine.specs.declared.stands.Stands.{Stands}
@@ -12,12 +13,15 @@ pub record IsGraphFor (o : Opening) (table : List (ℕ × Stands)) (cols : Colum
   pub edges : g.edges ≡ kept_edges o (event_total o.batches) cols (bases_in cols table)
   pub nodes : g.nodes ≡ kept_nodes o (event_total o.batches) cols
 
--- what is kept is such a graph, in the columns that are kept with it, if anything is kept
-abbrev pub IsKeptFor : Option Opening → List (ℕ × Stands) → Option (Columns × PlannerGraph) → Type 0
-IsKeptFor index table None = Unit {0}
-IsKeptFor None table (Some k) = ⊥
-IsKeptFor (Some o) table (Some k) = IsGraphFor o table k.0 k.1
+-- there is an index, and the graph is that of it in the columns that are kept with the graph
+abbrev pub IsGraphOver : Option Opening → List (ℕ × Stands) → Columns × PlannerGraph → Type 0
+IsGraphOver None table k = ⊥
+IsGraphOver (Some o) table k = IsGraphFor o table k.0 k.1
+
+-- each graph that is kept is such a graph
+abbrev pub IsKeptFor : Option Opening → List (ℕ × Stands) → List (Columns × PlannerGraph) → Type 0
+IsKeptFor index table kept = All (IsGraphOver index table) kept
 
 -- a graph in these columns is kept
-abbrev pub KeepsColumns : Columns → Option (Columns × PlannerGraph) → Type 0
-KeepsColumns cols kept = (g : PlannerGraph) × (kept ≡ Some (cols, g))
+abbrev pub KeepsColumns : Columns → List (Columns × PlannerGraph) → Type 0
+KeepsColumns cols kept = (g : PlannerGraph) × Contains kept (cols, g)

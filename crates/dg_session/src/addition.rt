@@ -26,7 +26,7 @@ use std::thread::Threads;
 
 /// Adds the batch of these lines to the history, and takes the current graph of the pool past its events. No handle's
 /// graph changes. Where the disk failed while the batch was added, what the file holds is not known, so the history,
-/// the handles and their graphs are forgotten, and with them the adjacency that is kept of one.
+/// the handles and their graphs are forgotten, and with them the adjacencies that are kept.
 ///
 /// The faults are those of `add_batch`.
 pub fn add_changes<R: Threads, D: Disk>(
@@ -93,7 +93,7 @@ pub fn add_changes<R: Threads, D: Disk>(
     }
 }
 
-// Forgets the history, the handles and their graphs, and the adjacency that is kept of one.
+// Forgets the history, the handles and their graphs, and the adjacencies that are kept.
 fn forget_all(
     alloc: Global,
     history: &mut StoredHistory,

@@ -1,4 +1,4 @@
-//! What is asked of a handle's graph: its listing, and the replies about a node.
+//! The replies about a node of a handle's graph.
 
 ghost use Rattle.std.specs.Prelude.{◌≡◌, List, IfOk, map};
 ghost use Rattle.dg_graph.specs.declared.element.Element.{Element};
@@ -7,21 +7,10 @@ ghost use Rattle.dg_machine.specs.Answer.{neighbours_reply, node_reply};
 ghost use Rattle.dg_query.specs.Queries.{neighbours_of};
 ghost use Rattle.dg_view.specs.NodeAnswer.{IsNodeOf};
 
-use dg_graph::Element;
 use dg_machine::{BodyLine, BodyLines, Head, Reply};
 use dg_query::{KeyValue, Neighbour};
 use dg_view::NodeView;
 use std::alloc::{AllocError, Global};
-
-/// A line for each of the elements, in their order.
-pub fn listing(alloc: Global, elements: &[Element]) -> Result<Vec<BodyLine>, AllocError>
-    ensures { IfOk result (λ lines. lines.items ≡ map (λ x. line.Element x) elements.now) }
-{
-    elements
-        .iter()
-        .map(|element| BodyLine::Element(*element))
-        .collect(alloc)
-}
 
 // A line for each attribute.
 fn attribute_lines(alloc: Global, attributes: &[KeyValue]) -> Result<Vec<BodyLine>, AllocError>

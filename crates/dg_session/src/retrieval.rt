@@ -17,7 +17,7 @@ ghost use Rattle.dg_machine.specs.declared.command.TheConstants.{TIMES_MAX};
 ghost use Rattle.dg_graph.specs.declared.element.Element.{Element};
 ghost use Rattle.dg_machine.specs.declared.limits.TheConstants.{HANDLE_MAX};
 ghost use Rattle.dg_machine.specs.Answer.{handle_lines};
-ghost use Rattle.dg_retrieval.specs.Beginnings.{IsOffered, led_to};
+ghost use Rattle.dg_retrieval.specs.Beginnings.{IsOffered, leads_in, led_to};
 ghost use Rattle.dg_plan.specs.IndexGraph.{arcs_of};
 ghost use Rattle.dg_plan.specs.Walks.{AreSingles, IsPlan, weight_of};
 ghost use Rattle.dg_retrieval.specs.KeptGraph.{IsKeptGraph, index_edges, kept_nodes};
@@ -73,15 +73,15 @@ pub fn leads_at<R: Threads, D: Disk>(
     requires there { list_any (λ t. not (in_range (span_held (Some index.old.opening)) t)) times.now ≡ false }
 
     // the graphs and the weights
-    ensures tree { IfOk result (λ r. IsTreeOf planner.now.edges (points_over index.old.opening recent.now times.now) r.weight (bases_of r.leads.items)) }
+    ensures tree { IfOk result (λ r. IsTreeOf planner.now.edges (points_over index.old.opening recent.now times.now) r.weight (bases_of (leads_in r.leads))) }
     ensures singles { IfOk result (λ r. AreSingles (arcs_of planner.now.edges) (Root ∷ [])
         (points_over index.old.opening recent.now times.now) r.singles.items) }
     ensures sum { IfOk result (λ r. r.sum ≡ sum r.singles.items) }
-    ensures count { IfOk result (λ r. length r.leads.items ≡ length times.now) }
-    ensures offered { IfOk result (λ r. All (IsOffered planner.now.edges) r.leads.items) }
+    ensures count { IfOk result (λ r. length (leads_in r.leads) ≡ length times.now) }
+    ensures offered { IfOk result (λ r. All (IsOffered planner.now.edges) (leads_in r.leads)) }
     ensures graphs { IfOk result (λ r. IfSome (D.image disk.old) (λ image. (z : History) (now : List Element) (held : ℕ → List Element) → IsOver z image index.old.opening names now recent.now
         → AreHeld z planner.now.edges cols held → ArePoints z (points_over index.old.opening recent.now times.now) times.now
-        → map (led_to now held cols) r.leads.items ≡ graphs_at z times.now cols)) }
+        → map (led_to now held cols) (leads_in r.leads) ≡ graphs_at z times.now cols)) }
 
     // the bytes read
     ensures takes { IfOk result (λ r. IfSome (D.image disk.old) (λ image. (z : History) (now : List Element) → IsOver z image index.old.opening names now recent.now

@@ -30,7 +30,7 @@ ghost use Rattle.dg_plan.specs.Walks.{IsPlan, weight_of};
 ghost use Rattle.dg_machine.specs.Planning.{edges_in, points_for, record_edges_in};
 ghost use Rattle.dg_machine.specs.Run.{is_store_read};
 ghost use Rattle.dg_pool.specs.Graphs.{graph_now, slot_graph};
-ghost use Rattle.dg_retrieval.specs.Beginnings.{led_to};
+ghost use Rattle.dg_retrieval.specs.Beginnings.{leads_in, led_to};
 ghost use Rattle.dg_retrieval.specs.Retrieval.{IsNoDamage, TakesAtMostTree};
 ghost use Rattle.dg_session.specs.BatchCommand.{barred, command_with};
 ghost use Rattle.dg_session.specs.HeldIndex.{events_held, span_held};
@@ -55,7 +55,7 @@ use crate::kept_adjacency::KeptAdjacency;
 use crate::kept_planner::KeptPlanner;
 use crate::plan_lines::read_plan_lines;
 use crate::plans::{has_node, judge, plan_reply, span};
-use crate::queries::{listing, neighbours_reply, node_reply};
+use crate::queries::{neighbours_reply, node_reply};
 use crate::record_listing::tree_reply;
 use crate::retrieval::{handle_lines, leads_at, node_lead};
 use crate::session_fault::SessionFault;
@@ -74,13 +74,14 @@ use dg_machine::{
 };
 use dg_names::Names;
 use dg_pool::Pool;
-use dg_retrieval::{GraphLead, NodeLead, RetrievalFault, Retrieved};
+use dg_retrieval::{Leads, NodeLead, RetrievalFault, Retrieved};
 use dg_sound::Soundness;
 use dg_sound_files::{law_sound_files_stand, law_standing_files_are_sound};
 use dg_start::{OpenedFile, StartFault, StoredHistory, open};
 use dg_verify::{VerifyFault, verify};
 use dg_view::View;
 use std::alloc::{AllocError, Global};
+use std::boxed::Box;
 use std::marker::Model;
 use std::thread::Threads;
 
@@ -92,7 +93,8 @@ const NAMES_OF_A_LINE: u32 = 2;
 pub struct Session {
     limits: Limits,
     history: StoredHistory,
-    pool: Pool,
+    // On the heap: it is large, and is moved from frame to frame while a session starts.
+    pool: Box<Pool>,
     handles: Handles,
     planner: KeptPlanner,
     adjacency: KeptAdjacency,
@@ -120,21 +122,21 @@ impl Model for Session {
         graph = s.history.now.graph;
         recent = s.history.recent.items;
         table = s.handles.table;
-        graphs = slot_graphs s.pool s.handles.slots;
+        graphs = slot_graphs s.pool.value s.handles.slots;
         next = s.handles.next;
       };
-      pool = s.pool;
+      pool = s.pool.value;
       slots = s.handles.slots;
     } };
 
     ghost invariant = { λ s.
         IsWithin s.limits
         × IsSoundHistory (index_opening s.history.index) s.history.names s.history.now s.history.recent.items
-        × (graph_now s.pool ≡ s.history.now.graph)
-        × IsTied s.pool s.handles
+        × (graph_now s.pool.value ≡ s.history.now.graph)
+        × IsTied s.pool.value s.handles
         × HasNodes (index_opening s.history.index) s.handles.table
         × IsKeptFor (index_opening s.history.index) s.handles.table s.planner
-        × KeepsAdjacency s.handles.table (slot_graphs s.pool s.handles.slots) s.adjacency };
+        × KeepsAdjacency s.handles.table (slot_graphs s.pool.value s.handles.slots) s.adjacency };
 }
 
 impl Session {
@@ -231,7 +233,7 @@ impl Session {
                 history,
                 pool,
                 handles,
-                planner: KeptPlanner::new(),
+                planner: KeptPlanner::new(alloc),
                 adjacency: KeptAdjacency::new(),
                 alloc,
             }),
@@ -736,9 +738,9 @@ impl Session {
 
         // what is retrieved
         ensures retrieved { IfOk result (λ r. IfSome (D.image disk.old) (λ image. (m : MachineState) → StandsFor self.old.parts image m
-            → IsRetrieved m times.now cols r.weight r.singles.items (bases_of r.leads.items) (map (led_to self.old.parts.graph (listed_by self.old.parts) cols) r.leads.items))) }
-        ensures bases { IfOk result (λ r. All (BeginsOn self.old.parts.table cols) r.leads.items) }
-        ensures count { IfOk result (λ r. length r.leads.items ≡ length times.now) }
+            → IsRetrieved m times.now cols r.weight r.singles.items (bases_of (leads_in r.leads)) (map (led_to self.old.parts.graph (listed_by self.old.parts) cols) (leads_in r.leads)))) }
+        ensures bases { IfOk result (λ r. All (BeginsOn self.old.parts.table cols) (leads_in r.leads)) }
+        ensures count { IfOk result (λ r. length (leads_in r.leads) ≡ length times.now) }
         ensures sum { IfOk result (λ r. r.sum ≡ sum r.singles.items) }
 
         // the bytes read
@@ -776,17 +778,12 @@ impl Session {
     }
 
     // A new handle for the graph to which each lead comes, as of these instants in these columns.
-    fn add_handles(
-        &mut self,
-        cols: Columns,
-        times: &[u64],
-        leads: &[GraphLead],
-    ) -> Result<(), AllocError>
-        requires bases { All (BeginsOn self.old.parts.table cols) leads.now }
+    fn add_handles(&mut self, cols: Columns, times: &[u64], leads: &Leads) -> Result<(), AllocError>
+        requires bases { All (BeginsOn self.old.parts.table cols) (leads_in leads.now) }
         requires room { length self.old.parts.table + length times.now ≤ LIVE_HANDLES_MAX }
         requires numbers { self.old.parts.next + length times.now ≤ HANDLE_MAX + 1 }
-        requires leads { length leads.now ≡ length times.now }
-        ensures added { OnOk result (self.new.parts ≡ with_new_handles self.old.parts (overlays_on cols times.now (bases_of leads.now)) (map (led_to self.old.parts.graph (listed_by self.old.parts) cols) leads.now)) }
+        requires leads { length (leads_in leads.now) ≡ length times.now }
+        ensures added { OnOk result (self.new.parts ≡ with_new_handles self.old.parts (overlays_on cols times.now (bases_of (leads_in leads.now))) (map (led_to self.old.parts.graph (listed_by self.old.parts) cols) (leads_in leads.now))) }
         ensures err { OnErr result (self.new.parts ≡ self.old.parts) }
     {
         self.handles.add(&mut self.pool, cols, times, leads)
@@ -979,13 +976,12 @@ impl Session {
     {
         let graph = self.graph_of(handle)?;
         let elements = graph.list(self.alloc)?;
-        let lines = listing(self.alloc, &elements)?;
         Ok(Reply {
             head: Head::List {
                 handle,
-                lines: lines.len() as u64,
+                lines: elements.len() as u64,
             },
-            body: BodyLines::from_vec(lines),
+            body: BodyLines::from_elements(elements),
         })
     }
 
@@ -1163,9 +1159,9 @@ fn overlay_of<'a>(handles: &Handles, pool: &'a Pool, handle: u32) -> Result<View
     Ok(graph)
 }
 
-// Forgets the planner, where this is among the bases that serve in it.
+// Forgets the planners, where this is among the bases that serve in them.
 fn forget_base(planner: &mut KeptPlanner, stands: Stands)
-    ensures base { is_base (Some stands) ≡ true → planner.new ≡ None }
+    ensures base { is_base (Some stands) ≡ true → planner.new ≡ [] }
     ensures overlay { is_base (Some stands) ≡ false → planner.new ≡ planner.old }
 {
     if matches!(stands, Stands::Base { .. }) {
@@ -1220,7 +1216,7 @@ fn first_of<'a>(times: &'a [u64], count: u8) -> &'a [u64]
 #[derive(Drop)]
 struct Overlaid {
     history: StoredHistory,
-    pool: Pool,
+    pool: Box<Pool>,
 }
 
 // The history of the file that the disk has, and its pool, which has no other graph than the current one.
@@ -1238,8 +1234,8 @@ fn open_overlaid<R: Threads + Sync, D: Disk>(
     ensures held { IfOk result (λ made. IfSome (D.image disk.new) (λ image. IsHeldBy (index_opening made.history.index) made.history.names image)) }
 
     // the pool
-    ensures now { IfOk result (λ made. graph_now made.pool ≡ made.history.now.graph) }
-    ensures none { IfOk result (λ made. (s : ℕ) → slot_graph made.pool s ≡ None) }
+    ensures now { IfOk result (λ made. graph_now made.pool.value ≡ made.history.now.graph) }
+    ensures none { IfOk result (λ made. (s : ℕ) → slot_graph made.pool.value s ≡ None) }
 
     // the bytes read, over an image of a history
     ensures takes { OnOk result (IfSome (D.image disk.old) (λ image. (z : History) → IsImageOf z image
@@ -1259,10 +1255,10 @@ fn open_overlaid<R: Threads + Sync, D: Disk>(
         rt,
         alloc,
         disk,
-        |set| -> Result<Pool, AllocError>
-            ensures now { IfOk result (λ pool. graph_now pool ≡ set.now) }
-            ensures none { IfOk result (λ pool. (s : ℕ) → slot_graph pool s ≡ None) }
-        { Pool::from_set(alloc, set) },
+        |set| -> Result<Box<Pool>, AllocError>
+            ensures now { IfOk result (λ pool. graph_now pool.value ≡ set.now) }
+            ensures none { IfOk result (λ pool. (s : ℕ) → slot_graph pool.value s ≡ None) }
+        { Ok(Box::new(alloc, Pool::from_set(alloc, set)?)?) },
     ) {
         Ok(OpenedFile { history, made }) => match made {
             Ok(pool) => match past_events(pool, &history.recent) {
@@ -1282,9 +1278,9 @@ fn open_overlaid<R: Threads + Sync, D: Disk>(
 }
 
 // The pool, with its current graph past the events. An `Err` says that memory ran out.
-fn past_events(mut pool: Pool, events: &[Event]) -> Result<Pool, AllocError>
-    ensures now { IfOk result (λ after. graph_now after ≡ replay_from (graph_now pool) events.now) }
-    ensures slots { IfOk result (λ after. (s : ℕ) → slot_graph after s ≡ slot_graph pool s) }
+fn past_events(mut pool: Box<Pool>, events: &[Event]) -> Result<Box<Pool>, AllocError>
+    ensures now { IfOk result (λ after. graph_now after.value ≡ replay_from (graph_now pool.value) events.now) }
+    ensures slots { IfOk result (λ after. (s : ℕ) → slot_graph after.value s ≡ slot_graph pool.value s) }
 {
     pool.make_room(events)?;
     pool.apply_now(events);

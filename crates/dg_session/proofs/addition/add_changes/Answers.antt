@@ -9,3 +9,7 @@ returns-in-Ok-clause-nodes g c =
 pub returns-in-Ok-clause-adjacency : goal.returns-in-Ok-clause-adjacency
 returns-in-Ok-clause-adjacency g c =
     kept_on c.args.pool.now c.add_batch.new.pool c.args.handles.now c.args.adjacency.now c.add_batch.ensures.slots c.requires.adjacency
+
+pub returns-in-Err-clause-adjacency : goal.returns-in-Err-clause-adjacency
+returns-in-Err-clause-adjacency g c =
+    kept_on c.args.pool.now c.add_batch.new.pool c.args.handles.now c.args.adjacency.now c.add_batch.ensures.slots c.requires.adjacency

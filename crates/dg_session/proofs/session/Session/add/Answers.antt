@@ -4,7 +4,8 @@ use Rattle.dg_io.specs.LinesState.{told}
 use Rattle.dg_machine.specs.declared.reply.Reply.{Reply}
 use Rattle.dg_machine.specs.Answer.{headed}
 use Rattle.dg_session.specs.SessionState.{SessionState}
-use Rattle.dg_session.specs.BatchCommand.{command_with, batch_head}
+use Rattle.dg_pool.specs.Graphs.{slot_graph}
+use Rattle.dg_session.specs.BatchCommand.{HandlesStay, command_with, batch_head}
 use Rattle.dg_session.specs.Damage.{DamageIn}
 use Rattle.dg_session.specs.Halt.{batch_halt}
 use Rattle.dg_session.specs.Parts.{Parts}
@@ -75,7 +76,7 @@ returns-in_err-added-clause-comes g c =
           (batch_failed (Lines_of c.args.which) got p c.args.count c.len-known.result c.self.inside.limits.file_bytes old c.in_ok-batch.batch asked c.add_changes.new.history image then_image
           c.in_err-added.field-0.0 c.in_err-added.ensures.fails q
           (failed_stays (Lines_of c.args.which) got p c.args.count c.len-known.result c.self.inside.limits.file_bytes old c.in_ok-batch.batch asked c.add_changes.new.history image then_image
-          c.in_err-added.field-0.0 c.self.inside.handles c.add_changes.new.handles c.self.inside.pool c.add_changes.new.pool c.in_err-added.ensures.back c.in_err-added.ensures.handles_back refl)),
+          c.in_err-added.field-0.0 c.self.inside.handles c.add_changes.new.handles c.self.inside.pool.value c.add_changes.new.pool c.in_err-added.ensures.back (subst (λ p. HandlesStay c.in_err-added.field-0.0 c.self.inside.handles c.add_changes.new.handles p c.add_changes.new.pool) c.deref_mut.ensures.value c.in_err-added.ensures.handles_back) refl)),
     )
 
 pub returns-in_err-added-clause-damaged : goal.returns-in_err-added-clause-damaged
@@ -134,7 +135,7 @@ returns-clause-comes g c =
       subst (λ (r : Reply). Accepts (command_with c.args.which c.args.count) got c.args.self.now.parts image q then_image r) reply
           (subst (λ (x : Parts). Accepts (command_with c.args.which c.args.count) got x image q then_image (headed (batch_head c.args.which c.in_ok-added.added.events c.in_ok-added.added.total c.in_ok-added.added.last))) (ap (λ (x : SessionState). x.parts) c.self.view_is)
           (subst (λ (y : Parts). Accepts (command_with c.args.which c.args.count) got p image y then_image (headed (batch_head c.args.which c.in_ok-added.added.events c.in_ok-added.added.total c.in_ok-added.added.last)))
-          (sym (kept_handles (with_history p c.add_changes.new.history) c.self.inside.handles c.add_changes.new.handles c.self.inside.pool c.add_changes.new.pool c.in_ok-added.ensures.handles c.in_ok-added.ensures.graphs))
+          (sym (kept_handles (with_history p c.add_changes.new.history) c.self.inside.handles c.add_changes.new.handles c.self.inside.pool.value c.add_changes.new.pool c.in_ok-added.ensures.handles (λ s. c.in_ok-added.ensures.graphs s ∙ ap (λ p. slot_graph p s) c.deref_mut.ensures.value)))
           (batch_added (Lines_of c.args.which) got p c.args.count c.len-known.result c.self.inside.limits.file_bytes old c.in_ok-batch.batch asked c.add_changes.new.history image then_image
           c.in_ok-added.added c.in_ok-added.ensures.adds))),
     )

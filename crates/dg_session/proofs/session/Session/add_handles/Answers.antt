@@ -1,12 +1,13 @@
-use Rattle.std.proofs.Common.{◌≡◌, ℕ, ◌+◌, ◌++◌, List, Option, length, map, sym, ◌∙◌, ap}
+use Rattle.std.proofs.Common.{◌≡◌, ℕ, ◌+◌, ◌++◌, List, Option, length, map, sym, ◌∙◌, ap, subst}
 use Rattle.std.proofs.lemmas.List.{length-map}
 use Rattle.dg_graph.specs.declared.element.Element.{Element}
 use Rattle.dg_handles.specs.Handles.{slot_graphs, held_by, numbered, overlays_on}
 use Rattle.dg_machine.specs.declared.stands.Stands.{Stands}
 use Rattle.dg_pool.specs.Graphs.{graph_now}
 use Rattle.dg_retrieval.specs.declared.graph_lead.GraphLead.{GraphLead}
-use Rattle.dg_retrieval.specs.Beginnings.{base_handle, led_to}
+use Rattle.dg_retrieval.specs.Beginnings.{base_handle, leads_in, led_to}
 use Rattle.dg_session.specs.contracts.session.Session.{the_view}
+use Rattle.dg_session.specs.KeptAdjacency.{KeepsAdjacency}
 use Rattle.dg_session.specs.Parts.{Parts}
 use Rattle.dg_session.specs.Reads.{bases_of, listed_by, with_new_handles}
 use Rattle.dg_session.specs.SessionState.{SessionState}
@@ -16,7 +17,7 @@ use Rattle.dg_session.proofs.session.Session.add_handles.Goals as goal
 
 pub returns-clause-added : goal.returns-clause-added
 returns-clause-added c =
-    let leads : List GraphLead = c.args.leads.now in
+    let leads : List GraphLead = leads_in c.args.leads.now in
     let cols = c.args.cols in
     let times = c.args.times.now in
     let bases : List (Option ℕ) = bases_of leads in
@@ -28,7 +29,9 @@ returns-clause-added c =
     let q : Parts = record view { table = c.add.new.self.table; graphs = slot_graphs c.add.new.pool c.add.new.self.slots; next = c.add.new.self.next } in
     let number : c.add.new.self.next ≡ view.next + length new = next ∙ ap (λ n. view.next + n) (sym many) in
     let lists : slot_graphs c.add.new.pool c.add.new.self.slots ≡ view.graphs ++ map (led_to view.graph (listed_by view) cols) leads =
-    graphs ∙ ap (λ (g : List Element). view.graphs ++ map (led_to g (listed_by view) cols) leads) c.self.invariant.2 in
+    graphs
+    ∙ ap (λ p. slot_graphs p c.self.inside.handles.slots ++ map (led_to (graph_now p) (held_by c.self.inside.handles.table (slot_graphs p c.self.inside.handles.slots)) cols) leads) c.deref_mut.ensures.value
+    ∙ ap (λ (g : List Element). view.graphs ++ map (led_to g (listed_by view) cols) leads) c.self.invariant.2 in
     let first : q ≡ with_new_handles view new (map (led_to view.graph (listed_by view) cols) leads) = (λ i. record view { table = table i; graphs = lists i; next = number i }) in
     first ∙ ap (λ (x : SessionState). with_new_handles x.parts new (map (led_to x.parts.graph (listed_by x.parts) cols) leads)) c.self.view_is)
     c.add.ensures.table c.add.ensures.next c.add.ensures.graphs
@@ -37,15 +40,17 @@ pub invariant_of-self : goal.invariant_of-self
 invariant_of-self c =
     let index = (the_view c.self.inside).parts.index in
     let old = c.self.inside.handles in
-    let pool = c.self.inside.pool in
-    let bases : List (Option ℕ) = bases_of c.args.leads.now in (
+    let pool = c.deref_mut.result.now in
+    let here = c.deref_mut.ensures.value in
+    let bases : List (Option ℕ) = bases_of (leads_in c.args.leads.now) in (
       c.self.invariant.0,
       c.self.invariant.1,
-      c.add.ensures.now ∙ c.self.invariant.2,
+      c.add.ensures.now ∙ ap graph_now here ∙ c.self.invariant.2,
       c.add.ensures.tied,
       nodes_after c.add.result index old c.add.new.self c.args.cols c.args.times.now bases c.add.ensures.table c.add.ensures.err c.self.invariant.4,
       kept_after c.add.result index old c.add.new.self c.self.inside.planner c.args.cols c.args.times.now bases c.add.ensures.table c.add.ensures.err c.self.invariant.5,
       adjacency_after c.add.result old c.add.new.self pool c.add.new.pool (numbered old.next (overlays_on c.args.cols c.args.times.now bases))
-          (map (led_to (graph_now pool) (held_by old.table (slot_graphs pool old.slots)) c.args.cols) c.args.leads.now) c.self.inside.adjacency
-          c.add.ensures.table c.add.ensures.graphs c.add.ensures.err c.add.ensures.graphs_err c.self.invariant.6,
+          (map (led_to (graph_now pool) (held_by old.table (slot_graphs pool old.slots)) c.args.cols) (leads_in c.args.leads.now)) c.self.inside.adjacency
+          c.add.ensures.table c.add.ensures.graphs c.add.ensures.err c.add.ensures.graphs_err
+          (subst (λ p. KeepsAdjacency old.table (slot_graphs p old.slots) c.self.inside.adjacency) (sym here) c.self.invariant.6),
     )

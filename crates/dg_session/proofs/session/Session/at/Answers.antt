@@ -6,7 +6,7 @@ use Rattle.dg_machine.specs.declared.reply.Reply.{Reply}
 use Rattle.dg_handles.specs.Handles.{overlays_on}
 use Rattle.dg_machine.specs.Answer.{headed}
 use Rattle.dg_machine.specs.Needs.{needs}
-use Rattle.dg_retrieval.specs.Beginnings.{led_to}
+use Rattle.dg_retrieval.specs.Beginnings.{leads_in, led_to}
 use Rattle.dg_session.specs.SessionState.{SessionState}
 use Rattle.dg_session.specs.declared.halt.Halt.TheVariants as halt
 use Rattle.dg_session.specs.Damage.{DamageIn, DamageIs}
@@ -62,9 +62,9 @@ returns-clause-comes g c =
     let times = c.args.t ∷ [] in
     let same : c.retrieve.new.self.parts ≡ p = ap (λ (x : SessionState). x.parts) c.retrieve.ensures.same in
     let number : c.next-handle.result ≡ p.next = c.next-handle.ensures.next ∙ ap (λ (x : SessionState). x.parts.next) (c.self.view_is ∙ c.retrieve.ensures.same) in
-    at_answers p c.add_handles.new.self.parts c.args.t cols (g.D.Disk.image c.args.disk.now) (g.D.Disk.image c.retrieve.new.disk) r.weight r.singles.items (bases_of r.leads.items) (map (led_to p.graph (listed_by p) cols) r.leads.items) c.headed.result
+    at_answers p c.add_handles.new.self.parts c.args.t cols (g.D.Disk.image c.args.disk.now) (g.D.Disk.image c.retrieve.new.disk) r.weight r.singles.items (bases_of (leads_in r.leads)) (map (led_to p.graph (listed_by p) cols) (leads_in r.leads)) c.headed.result
     (sym c.refused_retrieval.ensures ∙ c.in_default.is) c.retrieve.ensures.disk.same_image c.in_ok-leads.ensures.retrieved
-    (c.in_ok-add_handles.ensures.added ∙ (λ i. with_new_handles (same i) (overlays_on cols times (bases_of (c.deref.ensures.value i))) (map (led_to (same i).graph (listed_by (same i)) cols) (c.deref.ensures.value i))))
+    (c.in_ok-add_handles.ensures.added ∙ (λ i. with_new_handles (same i) (overlays_on cols times (bases_of (leads_in r.leads))) (map (led_to (same i).graph (listed_by (same i)) cols) (leads_in r.leads))))
     (c.headed.ensures ∙ ap (λ n. headed (head.At n r.weight)) number)
 
 pub returns-in-Some-clause-damaged : goal.returns-in-Some-clause-damaged

@@ -4,7 +4,6 @@ use Rattle.dg_index.specs.OpenedIndex.{event_total}
 use Rattle.dg_session.specs.SessionState.{SessionState}
 use Rattle.dg_machine.specs.Planning.{bases_in}
 use Rattle.dg_session.specs.HeldIndex.{point_over, span_held}
-use Rattle.dg_session.specs.KeptPlanner.{IsGraphFor, IsKeptFor}
 use Rattle.dg_session.specs.Session.{Accepts, Denies, refused_by, retrieval_needs}
 use Rattle.dg_start.specs.StoredHistory.{index_opening}
 use Rattle.std.proofs.Common.{◌≡◌, ℕ, true, [], ◌∷◌, Some, Err, List, Option, map, sym, ◌∙◌, ap, subst, arith}
@@ -17,6 +16,7 @@ use Rattle.dg_plan.specs.CertificateLines.{judged}
 use Rattle.dg_session.specs.declared.halt.Halt.TheVariants as halt
 use Rattle.dg_session.specs.Parts.{Parts}
 use Rattle.dg_retrieval.specs.KeptGraph.{kept_edges}
+use Rattle.dg_session.proofs.KeptPlannerGraphs.{graph_for}
 use Rattle.dg_session.proofs.PlanStep.{certificate_answers, certificate_lacks, certificate_out, certificate_short, certificate_stopped, enough_read}
 use Rattle.dg_session.proofs.SessionSteps.{Comes, handed_out}
 use Rattle.dg_session.proofs.session.Session.certify.Goals as goal
@@ -102,8 +102,7 @@ returns-clause-comes g c image =
     let inside : in_range (span_held (Some o)) c.args.t ≡ true = subst (λ r. IfOk r (λ x. in_range (span_held (Some x.now.opening)) c.args.t ≡ true)) c.in_ok-index.was c.index_at-index.ensures.there in
     let enough = enough_read w.0 c.in_ok-written.written.read c.args.count w.2.read_is (omega (arith, c.if-written-count.false)) in
     let cols = c.args.cols in
-    let graph : IsGraphFor o c.self.inside.handles.table cols c.planner-planner.result.now =
-    subst (λ k. IsKeptFor (Some o) c.self.inside.handles.table k) c.planner-planner.ensures.planner c.keep.ensures.kept in
+    let graph = graph_for o c.self.inside.handles.table cols c.keep.new.self c.planner-planner.result.now c.keep.ensures.kept c.planner-planner.ensures.planner in
     let edges : c.planner-planner.result.now.edges ≡ kept_edges o (event_total o.batches) cols (bases_in cols p.table) =
     graph.edges ∙ ap (λ (x : Parts). kept_edges o (event_total o.batches) cols (bases_in cols x.table)) same in
     let recent : c.deref.result.now ≡ p.recent = c.deref.ensures.value ∙ ap (λ (x : Parts). x.recent) same in

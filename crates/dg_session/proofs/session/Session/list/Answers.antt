@@ -1,5 +1,4 @@
 use Rattle.std.proofs.Common.{◌≡◌, List, length, map, refl, ◌∙◌, ap, rules, false}
-use Rattle.std.proofs.lemmas.List.{length-map}
 use Rattle.dg_graph.specs.declared.element.Element.{Element}
 use Rattle.dg_machine.specs.declared.command.Command.TheVariants as command
 use Rattle.dg_machine.specs.declared.reply.BodyLine.{BodyLine}
@@ -21,18 +20,13 @@ returns-in_err-elements-clause-comes c image =
     let h = c.args.handle in
     ask_lacks (command.List h) h false (listing h) (list_asks h) c.args.self.now.parts c.from_residual-in_err-elements.result image refl c.from_residual-in_err-elements.ensures c.in_ok-graph.ensures.live refl
 
-pub returns-in_err-lines-clause-comes : goal.returns-in_err-lines-clause-comes
-returns-in_err-lines-clause-comes c image =
-    let h = c.args.handle in
-    ask_lacks (command.List h) h false (listing h) (list_asks h) c.args.self.now.parts c.from_residual-in_err-lines.result image refl c.from_residual-in_err-lines.ensures c.in_ok-graph.ensures.live refl
-
 pub returns-clause-comes : goal.returns-clause-comes
 returns-clause-comes c image =
     let h = c.args.handle in
     let graph : List Element = c.in_ok-graph.graph in
     let line : Element → BodyLine = λ x. line.Element x in
-    let items : c.in_ok-lines.lines.items ≡ map line graph = c.in_ok-lines.ensures ∙ ap (map line) (c.deref.ensures.value ∙ c.in_ok-elements.ensures) in
-    let len : c.len.result ≡ length c.in_ok-lines.lines.items = search rules in
-    let count : c.len.result ≡ length graph = len ∙ ap length items ∙ length-map graph line in
-    ask_answers (command.List h) h false (listing h) (list_asks h) c.args.self.now.parts graph image (record { head = head.List h c.len.result; body = c.from_vec.result }) c.in_ok-graph.ensures.live refl c.in_ok-graph.ensures.graph
-    (λ i. let r : Reply = record { head = head.List h (count i); body = (c.from_vec.ensures ∙ items) i } in r)
+    let is : c.in_ok-elements.elements.items ≡ graph = c.in_ok-elements.ensures in
+    let len : c.len.result ≡ length c.in_ok-elements.elements.items = search rules in
+    let count : c.len.result ≡ length graph = len ∙ ap length is in
+    ask_answers (command.List h) h false (listing h) (list_asks h) c.args.self.now.parts graph image (record { head = head.List h c.len.result; body = c.from_elements.result }) c.in_ok-graph.ensures.live refl c.in_ok-graph.ensures.graph
+    (λ i. let r : Reply = record { head = head.List h (count i); body = (c.from_elements.ensures ∙ ap (map line) is) i } in r)

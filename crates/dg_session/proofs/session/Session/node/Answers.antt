@@ -11,7 +11,7 @@ use Rattle.dg_session.specs.Session.{Accepts, ComesTo}
 use Rattle.dg_session.specs.SessionState.{SessionState}
 use Rattle.dg_session.proofs.AnswerQueries.{node_asks}
 use Rattle.dg_session.proofs.SessionQueryStep.{ask_answers, ask_lacks}
-use Rattle.dg_session.proofs.KeptAdjacencies.{kept_alone, serves}
+use Rattle.dg_session.proofs.KeptAdjacencies.{kept_turned_to, serves}
 use Rattle.dg_session.proofs.SessionSteps.{handed_out, refused_denies}
 use Rattle.dg_session.proofs.session.Session.node.Goals as goal
 
@@ -27,7 +27,7 @@ returns-in_err-graph-clause-comes c image =
 pub node-requires : goal.node-requires
 node-requires c =
     let s = c.self.inside in
-    record { kept = serves c.args.handle s.handles.table (slot_graphs s.pool s.handles.slots) c.in_ok-graph.graph s.adjacency c.in_ok-graph.ensures.graph c.self.invariant.6 }
+    record { kept = serves c.args.handle s.handles.table (slot_graphs s.pool.value s.handles.slots) c.in_ok-graph.graph s.adjacency (ap (λ p. graph_among c.args.handle s.handles.table (slot_graphs p s.handles.slots)) (sym c.deref.ensures) ∙ c.in_ok-graph.ensures.graph) c.self.invariant.6 }
 
 pub returns-in_err-node-clause-comes : goal.returns-in_err-node-clause-comes
 returns-in_err-node-clause-comes c image =
@@ -60,7 +60,8 @@ returns-clause-comes c image =
     let reply = c.in_ok-node_reply.field-0 in
     let live = ap (λ (x : SessionState). is_some (stands_at h x.parts.table)) (sym c.self.view_is) ∙ c.in_ok-graph.ensures.live in
     let overlay = ap (λ (x : SessionState). is_base (stands_at h x.parts.table)) (sym c.self.view_is) ∙ c.in_ok-graph.ensures.overlay in
-    let found = ap (λ (x : SessionState). graph_among h x.parts.table x.parts.graphs) (sym c.self.view_is) ∙ c.in_ok-graph.ensures.graph in
+    let found = ap (λ (x : SessionState). graph_among h x.parts.table x.parts.graphs) (sym c.self.view_is)
+    ∙ ap (λ p. graph_among h c.self.inside.handles.table (slot_graphs p c.self.inside.handles.slots)) (sym c.deref.ensures) ∙ c.in_ok-graph.ensures.graph in
     subst (λ (x : Parts). Accepts (command.Node h id) [] p image x image reply) (sym (ap (λ (x : SessionState). x.parts) c.self.view_is))
     (ask_answers (command.Node h id) h true (node_reply h id) (node_asks h id) p graph image reply live overlay found
     (c.in_ok-node_reply.ensures graph c.in_ok-node.ensures.node))
@@ -74,5 +75,6 @@ invariant_of-self c =
       c.self.invariant.3,
       c.self.invariant.4,
       c.self.invariant.5,
-      kept_alone c.args.handle s.handles.table (slot_graphs s.pool s.handles.slots) c.in_ok-graph.graph c.node.new.self c.in_ok-graph.ensures.graph c.node.ensures.kept,
+      kept_turned_to c.args.handle s.handles.table (slot_graphs s.pool.value s.handles.slots) c.in_ok-graph.graph s.adjacency c.node.new.self
+          (ap (λ p. graph_among c.args.handle s.handles.table (slot_graphs p s.handles.slots)) (sym c.deref.ensures) ∙ c.in_ok-graph.ensures.graph) c.self.invariant.6 c.node.ensures.kept,
     )

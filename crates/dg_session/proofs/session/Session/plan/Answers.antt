@@ -1,4 +1,4 @@
-use Rattle.std.proofs.Common.{[], Some, refl, sym, ◌∙◌, ap, subst}
+use Rattle.std.proofs.Common.{[], refl, sym, ◌∙◌, ap, subst}
 use Rattle.dg_index.specs.OpenedIndex.{event_total}
 use Rattle.dg_machine.specs.declared.command.Command.TheVariants as command
 use Rattle.dg_machine.specs.declared.reply.Refusal.TheVariants as refusal
@@ -6,10 +6,10 @@ use Rattle.dg_machine.specs.Planning.{bases_in}
 use Rattle.dg_retrieval.specs.KeptGraph.{kept_edges}
 use Rattle.dg_session.specs.SessionState.{SessionState}
 use Rattle.dg_session.specs.declared.halt.Halt.TheVariants as halt
-use Rattle.dg_session.specs.KeptPlanner.{IsGraphFor, IsKeptFor}
 use Rattle.dg_session.specs.Parts.{Parts}
 use Rattle.dg_session.specs.Plans.{IsPlanReply}
 use Rattle.dg_session.specs.Session.{Accepts, ComesTo}
+use Rattle.dg_session.proofs.KeptPlannerGraphs.{graph_for}
 use Rattle.dg_session.proofs.PlanStep.{free_at, plan_answers}
 use Rattle.dg_session.proofs.SessionSteps.{handed_out, lacking_denies, refused_denies}
 use Rattle.dg_session.proofs.session.Session.plan.Goals as goal
@@ -45,8 +45,7 @@ returns-clause-comes c image =
     let reply = c.in_ok-plan_reply.field-0 in
     let same = ap (λ (x : SessionState). x.parts) c.self.view_is in
     let there = ap (λ (x : Parts). x.index) (sym same) ∙ c.in_ok-index.ensures.index in
-    let graph : IsGraphFor o c.self.inside.handles.table cols c.planner-planner.result.now =
-    subst (λ k. IsKeptFor (Some o) c.self.inside.handles.table k) c.planner-planner.ensures.planner c.keep.ensures.kept in
+    let graph = graph_for o c.self.inside.handles.table cols c.keep.new.self c.planner-planner.result.now c.keep.ensures.kept c.planner-planner.ensures.planner in
     let edges = graph.edges ∙ ap (λ (x : Parts). kept_edges o (event_total o.batches) cols (bases_in cols x.table)) same in
     let recent = c.deref.ensures.value ∙ ap (λ (x : Parts). x.recent) same in
     subst (λ (x : Parts). Accepts (command.Plan c.args.t cols) [] p image x image reply) (sym same)

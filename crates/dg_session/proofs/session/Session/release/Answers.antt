@@ -1,12 +1,13 @@
 use Rattle.std.proofs.Common.{[], refl, sym, ◌∙◌, ap, subst}
 use Rattle.std.specs.Prelude.{is_some}
-use Rattle.dg_handles.specs.Handles.{slot_graphs}
+use Rattle.dg_handles.specs.Handles.{graphs_without, slot_graphs}
+use Rattle.dg_pool.specs.Graphs.{graph_now}
 use Rattle.dg_machine.specs.declared.command.Command.TheVariants as command
 use Rattle.dg_machine.specs.declared.reply.Refusal.TheVariants as refusal
 use Rattle.dg_machine.specs.MachineState.{dependent_on, stands_at, without_handle}
 use Rattle.dg_session.specs.contracts.session.Session.{the_view}
 use Rattle.dg_session.specs.HeldIndex.{HasNodeOf, HasNodes}
-use Rattle.dg_session.specs.KeptAdjacency.{KeepsAdjacency, kept_but}
+use Rattle.dg_session.specs.KeptAdjacency.{KeepsAdjacency}
 use Rattle.dg_session.specs.KeptPlanner.{IsKeptFor}
 use Rattle.dg_session.specs.Parts.{Parts}
 use Rattle.dg_session.specs.SessionState.{SessionState}
@@ -39,24 +40,24 @@ returns-clause-comes c image =
     let view : Parts = (the_view c.self.inside).parts in
     let there = ap (λ (x : SessionState). is_some (stands_at h x.parts.table)) (sym c.self.view_is) ∙ ap is_some (sym c.stands.ensures ∙ c.in-Some.is) in
     let unused = ap (λ (x : SessionState). dependent_on h x.parts.table) (sym c.self.view_is) ∙ sym c.dependent.ensures ∙ c.in_default-dependent.is in
-    let q_is = (λ i. let x : Parts = record view { table = c.release.ensures.table i; graphs = c.release.ensures.graphs i; next = c.release.ensures.next i } in x) ∙ ap (λ (x : SessionState). parts_without h x.parts) c.self.view_is in
+    let graphs = c.release.ensures.graphs ∙ ap (λ p. graphs_without h c.self.inside.handles.table (slot_graphs p c.self.inside.handles.slots)) c.deref_mut.ensures.value in
+    let q_is = (λ i. let x : Parts = record view { table = c.release.ensures.table i; graphs = graphs i; next = c.release.ensures.next i } in x) ∙ ap (λ (x : SessionState). parts_without h x.parts) c.self.view_is in
     release_answers p _ h image c.headed.result there unused q_is c.headed.ensures
 
 pub invariant_of-self : goal.invariant_of-self
 invariant_of-self c =
     let s = c.self.inside in
     let h = c.args.handle in
-    let left = kept_but h s.adjacency in
     let index = index_opening s.history.index in (
       c.self.invariant.0,
       c.self.invariant.1,
-      c.release.ensures.now ∙ c.self.invariant.2,
+      c.release.ensures.now ∙ ap graph_now c.deref_mut.ensures.value ∙ c.self.invariant.2,
       c.release.ensures.tied,
       subst (HasNodes index) (sym c.release.ensures.table) (all_without (λ e. HasNodeOf index e.1) h s.handles.table c.self.invariant.4),
       subst (λ t. IsKeptFor index t c.forget_base.new.planner) (sym c.release.ensures.table)
           (kept_without index h s.handles.table c.in-Some.stands s.planner c.forget_base.new.planner (sym c.stands.ensures ∙ c.in-Some.is) c.forget_base.ensures.base c.forget_base.ensures.overlay c.self.invariant.5),
-      subst (λ k. KeepsAdjacency c.release.new.self.table (slot_graphs c.release.new.pool c.release.new.self.slots) k) (sym c.forget_handle.ensures)
-          (subst (λ t. KeepsAdjacency t (slot_graphs c.release.new.pool c.release.new.self.slots) left) (sym c.release.ensures.table)
-          (subst (λ gs. KeepsAdjacency (without_handle h s.handles.table) gs left) (sym c.release.ensures.graphs)
-          (adjacency_without h s.handles.table (slot_graphs s.pool s.handles.slots) s.adjacency c.self.invariant.6))),
+      subst (λ t. KeepsAdjacency t (slot_graphs c.release.new.pool c.release.new.self.slots) c.forget_handle.new.self) (sym c.release.ensures.table)
+          (subst (λ gs. KeepsAdjacency (without_handle h s.handles.table) gs c.forget_handle.new.self)
+          (sym (c.release.ensures.graphs ∙ ap (λ p. graphs_without h s.handles.table (slot_graphs p s.handles.slots)) c.deref_mut.ensures.value))
+          (adjacency_without h s.handles.table (slot_graphs s.pool.value s.handles.slots) s.adjacency c.forget_handle.new.self c.forget_handle.ensures c.self.invariant.6)),
     )

@@ -4,7 +4,7 @@ use Rattle.std.specs.Prelude.{IfOk}
 use Rattle.dg_plan.specs.declared.edge.Edge.{Edge}
 use Rattle.dg_index.specs.OpenedIndex.{event_total}
 use Rattle.dg_machine.specs.Planning.{bases_in}
-use Rattle.dg_retrieval.specs.Beginnings.{IsOffered}
+use Rattle.dg_retrieval.specs.Beginnings.{IsOffered, leads_in}
 use Rattle.dg_retrieval.specs.KeptGraph.{kept_ground}
 use Rattle.dg_session.specs.Parts.{Parts}
 use Rattle.dg_session.specs.SessionState.{SessionState}
@@ -113,4 +113,4 @@ returns-clause-bases g c =
     let graph : IsPlanningIn p o cols c.planner.result.now = planning_in p c.self.inside c.in-Some.index cols c.keep.new.self c.planner.result.now view c.in-Some.is c.self.invariant.4 c.keep.ensures.kept c.planner.ensures.planner in
     let holds = holds_in p c.self.inside cols view (c.facts.ensures.held cols) in
     all_begin_on p.table cols (kept_ground o (event_total o.batches) cols (bases_in cols p.table)) holds c.leads_at.result
-    (subst (λ (es : ListOf Edge). IfOk c.leads_at.result (λ r. All (IsOffered es) r.leads.items)) graph.edges c.leads_at.ensures.offered)
+    (subst (λ (es : ListOf Edge). IfOk c.leads_at.result (λ r. All (IsOffered es) (leads_in r.leads))) graph.edges c.leads_at.ensures.offered)

@@ -9,7 +9,7 @@ use Rattle.dg_machine.specs.MachineState.{MachineState}
 use Rattle.dg_machine.specs.Needs.{needs}
 use Rattle.dg_machine.specs.Planning.{edges_in, points_for}
 use Rattle.dg_retrieval.specs.Retrieval.{TakesAtMostTree}
-use Rattle.dg_retrieval.specs.Beginnings.{led_to}
+use Rattle.dg_retrieval.specs.Beginnings.{leads_in, led_to}
 use Rattle.dg_session.specs.SessionState.{SessionState}
 use Rattle.dg_session.specs.declared.halt.Halt.TheVariants as halt
 use Rattle.dg_session.specs.Damage.{DamageIn, NamesDamage}
@@ -108,10 +108,10 @@ returns-clause-comes g c =
     let next : c.next-next.result ≡ p.next = c.next-next.ensures.next ∙ ap (λ (x : SessionState). x.parts.next) (c.self.view_is ∙ c.retrieve.ensures.same) in
     let same : c.retrieve.new.self.parts ≡ p = ap (λ (x : SessionState). x.parts) c.retrieve.ensures.same in
     let cols = c.args.cols in
-    several_answers p c.args.cols c.args.times c.args.count number c.requires.some none c.add_handles.new.self.parts (g.D.Disk.image c.args.disk.now) (g.D.Disk.image c.retrieve.new.disk) r.weight r.sum r.singles.items (bases_of r.leads.items) (map (led_to p.graph (listed_by p) cols) r.leads.items) c.in_ok-lines.lines.items _
+    several_answers p c.args.cols c.args.times c.args.count number c.requires.some none c.add_handles.new.self.parts (g.D.Disk.image c.args.disk.now) (g.D.Disk.image c.retrieve.new.disk) r.weight r.sum r.singles.items (bases_of (leads_in r.leads)) (map (led_to p.graph (listed_by p) cols) (leads_in r.leads)) c.in_ok-lines.lines.items _
     c.retrieve.ensures.disk.same_image
-    (subst (λ ts. IfSome (g.D.Disk.image c.args.disk.now) (λ image. (m : MachineState) → StandsFor p image m → IsRetrieved m ts c.args.cols r.weight r.singles.items (bases_of r.leads.items) (map (led_to p.graph (listed_by p) cols) r.leads.items))) asked c.in_ok-retrieved.ensures.retrieved)
-    (c.in_ok-add_handles.ensures.added ∙ (λ i. with_new_handles (same i) (overlays_on cols (asked i) (bases_of (c.deref-2.ensures.value i))) (map (led_to (same i).graph (listed_by (same i)) cols) (c.deref-2.ensures.value i))))
+    (subst (λ ts. IfSome (g.D.Disk.image c.args.disk.now) (λ image. (m : MachineState) → StandsFor p image m → IsRetrieved m ts c.args.cols r.weight r.singles.items (bases_of (leads_in r.leads)) (map (led_to p.graph (listed_by p) cols) (leads_in r.leads)))) asked c.in_ok-retrieved.ensures.retrieved)
+    (c.in_ok-add_handles.ensures.added ∙ (λ i. with_new_handles (same i) (overlays_on cols (asked i) (bases_of (leads_in r.leads))) (map (led_to (same i).graph (listed_by (same i)) cols) (leads_in r.leads))))
     c.in_ok-retrieved.ensures.sum
     (c.in_ok-lines.ensures ∙ (let singles : c.deref.result.now ≡ r.singles.items = c.deref.ensures.value in λ i. handle_lines (next i) (asked i) (singles i)))
     (let body = c.from_vec.ensures in λ i. record { head = head.Several r.weight r.sum; body = body i })

@@ -8,7 +8,8 @@ use Rattle.dg_machine.specs.Answer.{headed}
 use Rattle.dg_machine.specs.Needs.{needs}
 use Rattle.dg_query.specs.Queries.{counts_of}
 use Rattle.dg_query.specs.declared.answers.Counts.{Counts}
-use Rattle.dg_session.specs.BatchCommand.{barred}
+use Rattle.dg_pool.specs.Graphs.{graph_now, slot_graph}
+use Rattle.dg_session.specs.BatchCommand.{HandlesStay, barred}
 use Rattle.dg_session.specs.declared.batch_command.BatchCommand.TheVariants.{Load}
 use Rattle.dg_session.specs.declared.batch_lines.BatchLines.{BatchLines}
 use Rattle.dg_session.specs.declared.halt.Halt.TheVariants as halt
@@ -84,8 +85,8 @@ returns-in_err-added-clause-comes g c =
     handed_out c.from_residual-in_err-added.result (batch_halt c.in_err-added.field-0.0) (ComesTo (command.Workload c.args.seed c.args.count) [] c.args.self.now.parts image q then_image) c.from_residual-in_err-added.ensures
     (subst (λ (x : Parts). ComesTo (command.Workload c.args.seed c.args.count) [] x image q then_image (Err (batch_halt c.in_err-added.field-0.0))) (ap (λ (x : SessionState). x.parts) c.self.view_is)
     (batch_failed (Seed c.args.seed) [] p c.args.count c.len-known.result c.self.inside.limits.file_bytes old b asked c.add_changes.new.history image then_image c.in_err-added.field-0.0 c.in_err-added.ensures.fails q
-    (failed_stays (Seed c.args.seed) [] p c.args.count c.len-known.result c.self.inside.limits.file_bytes old b asked c.add_changes.new.history image then_image c.in_err-added.field-0.0 c.self.inside.handles c.add_changes.new.handles c.self.inside.pool c.add_changes.new.pool
-    c.in_err-added.ensures.back c.in_err-added.ensures.handles_back refl)))
+    (failed_stays (Seed c.args.seed) [] p c.args.count c.len-known.result c.self.inside.limits.file_bytes old b asked c.add_changes.new.history image then_image c.in_err-added.field-0.0 c.self.inside.handles c.add_changes.new.handles c.self.inside.pool.value c.add_changes.new.pool
+    c.in_err-added.ensures.back (subst (λ p. HandlesStay c.in_err-added.field-0.0 c.self.inside.handles c.add_changes.new.handles p c.add_changes.new.pool) c.deref_mut.ensures.value c.in_err-added.ensures.handles_back) refl)))
 
 pub returns-in_err-added-clause-damaged : goal.returns-in_err-added-clause-damaged
 returns-in_err-added-clause-damaged g c =
@@ -130,13 +131,13 @@ returns-clause-comes g c =
     let q : Parts = with_handles (with_history p c.add_changes.new.history) c.add_changes.new.handles c.add_changes.new.pool in
     let added = c.in_ok-added.added in
     let graph : List Element = c.add_changes.new.history.now.graph in
-    let counts : c.counts_now-counts.result ≡ counts_of graph = c.counts_now-counts.ensures ∙ ap counts_of c.add_changes.ensures.pool in
+    let counts : c.counts_now-counts.result ≡ counts_of graph = c.counts_now-counts.ensures ∙ ap (λ p. counts_of (graph_now p)) c.deref.ensures ∙ ap counts_of c.add_changes.ensures.pool in
     let said : Reply = headed (head_over (Seed c.args.seed) graph added.events added.total added.last) in
     let reply : said ≡ c.headed.result = sym (c.headed.ensures ∙ ap (λ (n : Counts). headed (head.Generated added.events added.last n.nodes n.edges)) counts) in
     subst (λ (r : Reply). Accepts (command.Workload c.args.seed c.args.count) [] c.args.self.now.parts image q then_image r) reply
     (subst (λ (x : Parts). Accepts (command.Workload c.args.seed c.args.count) [] x image q then_image said) (ap (λ (x : SessionState). x.parts) c.self.view_is)
     (subst (λ (y : Parts). Accepts (command.Workload c.args.seed c.args.count) [] p image y then_image said)
-    (sym (kept_handles (with_history p c.add_changes.new.history) c.self.inside.handles c.add_changes.new.handles c.self.inside.pool c.add_changes.new.pool c.in_ok-added.ensures.handles c.in_ok-added.ensures.graphs))
+    (sym (kept_handles (with_history p c.add_changes.new.history) c.self.inside.handles c.add_changes.new.handles c.self.inside.pool.value c.add_changes.new.pool c.in_ok-added.ensures.handles (λ s. c.in_ok-added.ensures.graphs s ∙ ap (λ p. slot_graph p s) c.deref_mut.ensures.value)))
     (batch_added (Seed c.args.seed) [] p c.args.count c.len-known.result c.self.inside.limits.file_bytes old b asked c.add_changes.new.history image then_image added c.in_ok-added.ensures.adds)))
 
 pub returns-clause-reads : goal.returns-clause-reads
@@ -152,7 +153,7 @@ returns-clause-reads g c =
     let then_taken : ℕ = g.D.Disk.taken c.add_changes.new.disk in
     let added = c.in_ok-added.added in
     let graph : List Element = c.add_changes.new.history.now.graph in
-    let counts : c.counts_now-counts.result ≡ counts_of graph = c.counts_now-counts.ensures ∙ ap counts_of c.add_changes.ensures.pool in
+    let counts : c.counts_now-counts.result ≡ counts_of graph = c.counts_now-counts.ensures ∙ ap (λ p. counts_of (graph_now p)) c.deref.ensures ∙ ap counts_of c.add_changes.ensures.pool in
     let older : ReadsNoMore p image c.args.count taken then_taken =
     reads_no_more (Seed c.args.seed) [] p c.args.count c.len-known.result c.self.inside.limits.file_bytes old b asked image taken then_taken c.add_changes.ensures.takes c.add_changes.ensures.unread in
     subst (λ (r : Reply). Reads (command.Workload c.args.seed c.args.count) c.args.self.now.parts image r.head taken then_taken) (sym (c.headed.ensures ∙ ap (λ (n : Counts). headed (head.Generated added.events added.last n.nodes n.edges)) counts))
