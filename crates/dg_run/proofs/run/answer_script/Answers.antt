@@ -35,6 +35,25 @@ loop-reply-preserved-in-Ok-Skipped g c =
       silent = silent_skip _ _ _ _ (g.D.Disk.taken l.disk) _ l.invariant.silent turn.0 (rw c.in-Ok-Skipped.field-0-is at c.in-Ok-Skipped.ensures.unread);
     }
 
+pub loop-reply-preserved-else-is_err : goal.loop-reply-preserved-else-is_err
+loop-reply-preserved-else-is_err g c =
+    let l = c.loop-reply in
+    let turn = rw c.in-Ok-Replied.field-0-is at c.in-Ok-Replied.ensures.turn in
+    let written = at_ok c.write_reply.result (g.K.Sink.written c.write_reply.new.sink ≡ grown (g.K.Sink.written l.sink) (text c.names.result.now c.in-Ok-Replied.reply))
+    (sym c.is_err.ensures.value ∙ c.if-is_err.false) c.write_reply.ensures.ok
+    ∙ ap (λ (names : List (List ℕ)). grown (g.K.Sink.written l.sink) (text names c.in-Ok-Replied.reply)) c.names.ensures in record {
+      going = over_on _ _ _ _ _ l.session.parts c.next_turn.new.session.parts _ _
+          (asked l.lines (g.S.Source.left l.source)) (asked c.next_turn.new.lines (g.S.Source.left c.next_turn.new.source)) _ _ _ _ turn.0 c.in-Ok-Replied.reply
+          l.invariant.going l.invariant.told turn.1 turn.2 c.in-Ok-Replied.ensures.no_index written
+          (record { counted = c.next_turn.ensures.disk.counted; rose = rw c.in-Ok-Replied.field-0-is at c.in-Ok-Replied.ensures.store_read });
+      told = c.next_turn.ensures.disk.told ∙ l.invariant.told;
+      held = c.in-Ok-Replied.ensures.held;
+      lines = advances_both c.new-lines.result l.lines c.next_turn.new.lines _ _ _ _ _ _ l.invariant.lines c.next_turn.ensures.lines;
+      sink_counted = omega (arith, l.invariant.sink_counted, c.write_reply.ensures.counted);
+      disk_counted = omega (arith, l.invariant.disk_counted, c.next_turn.ensures.disk.writes_counted);
+      silent = silent_on _ (asked l.lines (g.S.Source.left l.source)) _ turn.0 _ (g.D.Disk.taken l.disk) _ l.invariant.silent turn.1;
+    }
+
 pub loop-reply-preserved : goal.loop-reply-preserved
 loop-reply-preserved g c =
     let l = c.loop-reply in
