@@ -1,5 +1,5 @@
 -- Cells, and the bits of a cell.
-use Rattle.std.specs.Prelude.{◌≡◌, ℕ, ◌+◌, ◌*◌, ◌≤◌, ◌<◌, ◌==◌, Bool, true, false, cond, if◌then◌else◌, List, [], ◌∷◌, map, Option, Some, None, length, slice_index_or, slice_set}
+use Rattle.std.specs.Prelude.{◌≡◌, ℕ, ◌+◌, ◌*◌, ◌≤◌, ◌<◌, ◌==◌, Bool, true, false, cond, List, [], ◌∷◌, map, Option, Some, None, length, slice_index_or, slice_set}
 use Rattle.dg_graph.specs.declared.element.Element.{Element}
 use Rattle.dg_graph.specs.Elements.{same, has, bit}
 use Rattle.dg_arena.specs.declared.row.Row as declared
@@ -87,22 +87,6 @@ pub record CellsGrow (old new : List (Option Row)) : Type 0 where
 -- vacant cells are used before the list gets longer
 abbrev pub Reuses : List (Option Row) → List (Option Row) → Type 0
 Reuses = arena.Reuses
-
--- a cell of one of these elements has this pair for the slot, and all else is as it was
-pub record MarksRow (s : ℕ) (p : Bool × Bool) (items : List Element) (old new : Row) : Type 0 where
-  pub element : new.element ≡ old.element
-  pub current : is_current new ≡ is_current old
-  pub own : pair s new ≡ (if has items old.element then p else pair s old)
-  pub others : (u : ℕ) → 1 ≤ u → (u ≡ s → ⊥) → pair u new ≡ pair u old
-
-abbrev pub MarksCell : ℕ → Bool × Bool → List Element → Option Row → Option Row → Type 0
-MarksCell s p items None None = Unit {0}
-MarksCell s p items None (Some r) = ⊥
-MarksCell s p items (Some r) None = ⊥
-MarksCell s p items (Some r) (Some q) = MarksRow s p items r q
-
-abbrev pub Marks : ℕ → Bool × Bool → List Element → List (Option Row) → List (Option Row) → Type 0
-Marks s p items old new = (n : ℕ) → MarksCell s p items (cell_at old n) (cell_at new n)
 
 -- each of the elements has a cell
 abbrev pub AllHave : List (Option Row) → List Element → Type 0

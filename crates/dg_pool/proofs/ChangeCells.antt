@@ -1,5 +1,5 @@
 -- What a write of the own bits of slots in one cell does to the graphs of a pool, and one write after another.
-use Rattle.std.proofs.Common.{eqb, ◌≡◌, ℕ, ◌+◌, ◌*◌, ◌<◌, ◌≤◌, Bool, true, false, cond, ◌||◌, ◌&&◌, List, [], ◌∷◌, Option, Some, None, length, get_or, refl, sym, ap, ◌∙◌, ◌⊎◌, inl, inr}
+use Rattle.std.proofs.Common.{eqb, ◌≡◌, ℕ, ◌<◌, ◌≤◌, Bool, true, false, cond, ◌||◌, ◌&&◌, List, [], ◌∷◌, Option, Some, None, length, get_or, refl, sym, ap, ◌∙◌, ◌⊎◌, inl, inr}
 use Rattle.std.proofs.lemmas.Bool.{cases_eq, true≢false, eq-eqb, eqb-true}
 use Rattle.std.specs.Option.{option_map}
 use Rattle.dg_graph.specs.declared.element.Element.{Element}
@@ -8,7 +8,7 @@ use Rattle.dg_graph.specs.Elements.{has, same, asks, column_of, shown}
 use Rattle.dg_graph.specs.Composition.{Delta, says, applied}
 use Rattle.dg_graph.proofs.Sets.{same_members, same_itself, element_exact, has_first}
 use Rattle.dg_delta.specs.Deltas.{is_in_after}
-use Rattle.dg_cells.specs.Rows.{Row, cell_at, is_current, pair, CellsAreApart, Holds, Lacks, Writes, AreNumbers, CellsGrow}
+use Rattle.dg_cells.specs.Rows.{Row, cell_at, is_current, pair, CellsAreApart, Holds, Lacks, Writes, AreNumbers}
 use Rattle.dg_cells.proofs.RowChanges.{cell_past}
 use Rattle.dg_pool.specs.declared.slots.Base.{Base}
 use Rattle.dg_pool.specs.declared.slots.Base.TheVariants as base
@@ -21,7 +21,7 @@ use Rattle.dg_pool.specs.Graphs.{slot_at, pair_at, is_live, is_listed, AreSlots,
 use Rattle.dg_pool.specs.Slots.{rests_on, NoneOn}
 use Rattle.dg_pool.specs.Sweeps.{in_state, element_of, members_as}
 use Rattle.dg_pool.specs.Counts.{counts_at}
-use Rattle.dg_pool.specs.Changes.{CanChange, NoneRestsOn, graph_after, NamesNew, names, pool_of, WritesDelta, one_sided, AreChangeable, AreCounted, SetsPairs, CanRecount, recounted, will_have}
+use Rattle.dg_pool.specs.Changes.{CanChange, NoneRestsOn, graph_after, NamesNew, names, pool_of, WritesDelta, one_sided, AreChangeable, AreGraphCounts, SetsPairs, CanRecount, CanRecountAll, RecountsAll, recounted, will_have}
 use Rattle.dg_pool.proofs.GraphSets.{picked_alike, picked_set, picked_decides, picked_nothing}
 use Rattle.dg_pool.proofs.GraphInvariant.{row_or_none, live_from_one, live_within}
 use Rattle.dg_pool.proofs.CurrentGraph.{one_row, writes_before, apart_written}
@@ -155,8 +155,8 @@ module _ (slots : List SlotState) (numbers : List ℕ) (first later both : Delta
 -- ---- before a write
 
 -- the counts of the slots can be kept when the element of a cell comes or goes
-pub fits_cell : (slots : List SlotState) (numbers : List ℕ) (own : Bool) (rows : List (Option Row)) (n : ℕ) (r : Row) (counts : List Counts) → AreChangeable slots numbers → AreCounted slots rows counts → CellsAreApart rows → cell_at rows n ≡ Some r → length rows < 18446744073709551616
-    → (s : ℕ) → is_listed numbers s ≡ true → CanRecount (in_state s (slot_at slots s) r) (will_have own (slot_at slots s) r) r.element (counts_at counts s)
+pub fits_cell : (slots : List SlotState) (numbers : List ℕ) (own : Bool) (rows : List (Option Row)) (n : ℕ) (r : Row) (counts : List Counts) → AreChangeable slots numbers → AreGraphCounts slots rows counts → CellsAreApart rows → cell_at rows n ≡ Some r → length rows < 18446744073709551616
+    → CanRecountAll slots numbers own r counts
 fits_cell slots numbers own rows n r counts can kept apart there room s k = at (slot_at slots s) refl
   where
     at : (slot : SlotState) → slot_at slots s ≡ slot → CanRecount (in_state s slot r) (will_have own slot r) r.element (counts_at counts s)
@@ -338,9 +338,9 @@ module _ (slots : List SlotState) (numbers : List ℕ) (can : AreChangeable slot
 
   -- ---- the counts
 
-  pub counted_one : (counts after : List Counts) → AreCounted slots old counts → length after ≡ 128
-      → ((s : ℕ) → counts_at after s ≡ cond (is_listed numbers s) (recounted (in_state s (slot_at slots s) w.before) (will_have own (slot_at slots s) w.before) x (counts_at counts s)) (counts_at counts s))
-      → AreCounted slots new after
+  pub counted_one : (counts after : List Counts) → AreGraphCounts slots old counts → length after ≡ 128
+      → RecountsAll slots numbers own w.before counts after
+      → AreGraphCounts slots new after
   counted_one counts after kept len is = record {
     len = len;
     now = is 0 ∙ ap (λ t. cond t (recounted (in_state 0 (slot_at slots 0) w.before) (will_have own (slot_at slots 0) w.before) x (counts_at counts 0)) (counts_at counts 0)) (zero_unlisted slots numbers can) ∙ kept.now ∙ ap counts_of (sym now_same);
@@ -411,18 +411,3 @@ written_pool p numbers d new can w apart pool = record {
     clean_still u one (state.Released true) e h = λ n g. w.bits u one (unlisted u (ap is_live e) (is_listed numbers u) refl) n ∙ h n g
     clean_still u one (state.Released false) e h = tt
     clean_still u one (state.Live z cols) e h = tt
-
--- new cells have no bit
-pub grown_pairs : (old new : List (Option Row)) → CellsGrow old new → (s n : ℕ) → pair_at s (cell_at new n) ≡ pair_at s (cell_at old n)
-grown_pairs old new g s n = at (cell_at old n) refl (cell_at new n) refl
-  where
-    at : (o : Option Row) → cell_at old n ≡ o → (q : Option Row) → cell_at new n ≡ q → pair_at s (cell_at new n) ≡ pair_at s (cell_at old n)
-    at (Some r) e q f = ap (pair_at s) (g.kept n r e ∙ sym e)
-    at None e None f = ap (pair_at s) (f ∙ sym e)
-    at None e (Some q) f =
-        let bare = g.bare n q e f in
-        ap (pair_at s) f ∙ (λ i. (bare (2 * s) i, bare (2 * s + 1) i)) ∙ sym (ap (pair_at s) e)
-
--- explicit bits of cells that grew first
-pub grown_names : (d : Delta) (old grown new : List (Option Row)) → CellsGrow old grown → NamesNew d grown new → NamesNew d old new
-grown_names d old grown new g named s n r one e h = ap (λ (p : Bool × Bool). p.0 || names d r.element) (sym (grown_pairs old grown g s n)) ∙ named s n r one e h

@@ -31,6 +31,21 @@ after_same d members cols s asked same_as =
     both false true f = f refl
     both false false f = refl
 
+once : (a : Bool) (w : Says) (t : Bool) → (a && is_in_after w (a && t)) ≡ (a && is_in_after w t)
+once true w t = refl
+once false w t = refl
+
+-- a set that is cut to the columns first
+pub after_shown : (d : Delta) (members : List Element) (cols : Columns) → IsSet members → shown (applied d (shown members cols)) cols ≡ shown (applied d members) cols
+after_shown d members cols s =
+    same_members (shown (applied d (shown members cols)) cols) (shown (applied d members) cols)
+    (IsSet-after d (shown members cols) cols (IsSet-filter (λ y. asks cols (column_of y)) members s)) (IsSet-after d members cols s)
+    (λ x.
+    has-after d (shown members cols) cols x
+    ∙ ap (λ t. asks cols (column_of x) && is_in_after (says d x) t) (has-filter (λ y. asks cols (column_of y)) members x)
+    ∙ once (asks cols (column_of x)) (says d x) (has members x)
+    ∙ sym (has-after d members cols x))
+
 -- a delta that does what one and then another does
 pub record IsThen (first later both : Delta) : Type 0 where
   pub said : (x : Element) → then_says (says first x) (says later x) ≡ says both x
@@ -42,10 +57,6 @@ module _ (first later both : Delta) (is_then : IsThen first later both) where
   then_after a In was = refl
   then_after a Out was = refl
   then_after a As_it_was was = refl
-
-  once : (a : Bool) (w : Says) (t : Bool) → (a && is_in_after w (a && t)) ≡ (a && is_in_after w t)
-  once true w t = refl
-  once false w t = refl
 
   members_then : (members : List Element) (cols : Columns) → IsSet members → shown (applied later (shown (applied first members) cols)) cols ≡ shown (applied both members) cols
   members_then members cols s =

@@ -6,7 +6,7 @@ use Rattle.dg_cells.specs.Rows.{Row}
 use Rattle.dg_query.specs.declared.answers.Counts.{Counts}
 use Rattle.dg_pool.specs.declared.slots.SlotState.{SlotState}
 use Rattle.dg_pool.specs.declared.slots.SlotState.TheVariants as state
-use Rattle.dg_pool.specs.Graphs.{PoolState, SlotGraph, AreSlots, SameGraphs, is_live, graph_as, slot_graph, graph_now}
+use Rattle.dg_pool.specs.Graphs.{PoolState, SlotGraph, SameGraphs, is_live, graph_as, slot_graph, graph_now}
 use Rattle.dg_pool.specs.Sweeps.{members_as}
 use Rattle.dg_query.specs.Queries.{counts_of}
 use Rattle.dg_pool.specs.Counts.{counts_at, no_elements, AreCountsOf}
@@ -18,11 +18,6 @@ graph_live rows s state.Free h = cc
 graph_live rows s (state.Released swept) h = cc
 graph_live rows s (state.Live b cols) h = refl
 
-graph_from_one : (p : PoolState) → AreSlots p.slots → (s : ℕ) (g : SlotGraph) → slot_graph p s ≡ Some g → s ≡ 0 → ⊥
-graph_from_one p fit s g e z =
-    let none : None ≡ Some g = sym (ap (slot_graph p) z ∙ ap (graph_as p.rows 0) fit.first) ∙ e in
-    cc
-
 -- ---- counts
 
 pub counted_still : (old new : PoolState) (counts : List Counts) → SameGraphs old new → AreCountsOf old counts → AreCountsOf new counts
@@ -30,16 +25,6 @@ counted_still old new counts same k = record {
   len = k.len;
   now = k.now ∙ ap counts_of (sym same.now);
   slots = λ s g e. k.slots s g (sym (same.slots s) ∙ e);
-}
-
--- the current graph has new counts
-pub counted_now : (old new : PoolState) (counts : List Counts) (c : Counts) → AreSlots old.slots → ((s : ℕ) → slot_graph new s ≡ slot_graph old s) → c ≡ counts_of (graph_now new) → AreCountsOf old counts → AreCountsOf new (set counts 0 c)
-counted_now old new counts c fit same is k = record {
-  len = length-set counts 0 c ∙ k.len;
-  now = let len = k.len in get_or-set_same counts 0 c no_elements (omega arith) ∙ is;
-  slots = λ s g e.
-      let was = sym (same s) ∙ e in
-      get_or-set_other counts 0 s c no_elements (graph_from_one old fit s g was) ∙ k.slots s g was;
 }
 
 -- a slot is no longer live

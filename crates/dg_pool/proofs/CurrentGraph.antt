@@ -20,6 +20,7 @@ use Rattle.dg_pool.specs.declared.slots.SlotState.{SlotState}
 use Rattle.dg_pool.specs.declared.slots.SlotState.TheVariants as state
 use Rattle.dg_cells.specs.Rows.{Row, HasCell, cell_at, CellsAreApart, Writes, is_current, pair, SetsPair, SetsCurrent, Lacks}
 use Rattle.dg_pool.specs.Graphs.{slot_at, pair_at, is_on_now, is_live, is_listed, ListsOnNow, pinned, Pins, Keeps, AreSlots, IsBased, IsBaseFor, slot_says, pair_says, in_base, in_slot, given, picked, graph_as, HaveCells, changed, all_changed}
+use Rattle.dg_pool.specs.Sweeps.{element_of}
 use Rattle.dg_cells.proofs.RowChanges.{cell_past, cell_there}
 use Rattle.dg_pool.proofs.GraphSets.{picked_same, picked_more, picked_set, picked_decides, picked_nothing}
 use Rattle.dg_cells.proofs.RowChanges.{cell_written, comes_written, apart_by}
@@ -54,9 +55,6 @@ pub record PinsListed (slots : List SlotState) (numbers : List ℕ) (old new : R
   pub element : new.element ≡ old.element
   pub current : is_current new ≡ is_current old
   pub pairs : (s : ℕ) → 1 ≤ s → pair s new ≡ pinned_among slots numbers old s
-
-pub pins_start : (slots : List SlotState) (a : Row) → PinsListed slots [] a a
-pins_start slots a = record { element = refl; current = refl; pairs = λ s low. refl }
 
 module _ (slots : List SlotState) (numbers next : List ℕ) (k : ℕ) (more : next ≡ numbers ++ k ∷ []) where
   listed_next : (s : ℕ) → is_listed next s ≡ (is_listed numbers s || eqb k s)
@@ -325,15 +323,18 @@ keeps_then slots a b c f g = record {
   bits = λ s h i n. g.bits s h i n ∙ f.bits s h i n;
 }
 
-row_of : (x : Element) (o : Option Row) → option_map (λ (r : Row). r.element) o ≡ Some x → (r : Row) × (o ≡ Some r) × (r.element ≡ x)
+row_of : (x : Element) (o : Option Row) → element_of o ≡ Some x → (r : Row) × (o ≡ Some r) × (r.element ≡ x)
 row_of x None e = cc
 row_of x (Some r) e = (r, refl, cc)
 
-pub has_still : (slots : List SlotState) (old new : List (Option Row)) → Keeps slots old new → (x : Element) → HasCell old x → HasCell new x
-has_still slots old new k x h =
+pub has_alike : (old new : List (Option Row)) → ((n : ℕ) → element_of (cell_at new n) ≡ element_of (cell_at old n)) → (x : Element) → HasCell old x → HasCell new x
+has_alike old new same x h =
     let n = h.0 in
-    let f = row_of x (cell_at new n) (k.elements n ∙ ap (option_map (λ (r : Row). r.element)) h.1.there ∙ ap (λ y. Some y) h.1.element) in
+    let f = row_of x (cell_at new n) (same n ∙ ap element_of h.1.there ∙ ap (λ y. Some y) h.1.element) in
     (n, record { row = f.0; there = f.1; element = f.2 })
+
+pub has_still : (slots : List SlotState) (old new : List (Option Row)) → Keeps slots old new → (x : Element) → HasCell old x → HasCell new x
+has_still slots old new k = has_alike old new k.elements
 
 if_still : (slots : List SlotState) (old new : List (Option Row)) → Keeps slots old new → (o : Option Element) → IfSome o (HasCell old) → IfSome o (HasCell new)
 if_still slots old new k None h = h
@@ -399,8 +400,3 @@ changed_none false set s = same_members set (without_all set []) s (IsSet-withou
     and_true : (a : Bool) → (a && true) ≡ a
     and_true true = refl
     and_true false = refl
-
--- a set put into the empty graph is the graph then
-pub put_in_empty : (graph items : List Element) → IsSet items → graph ≡ [] → unioned graph items ≡ items
-put_in_empty graph items s empty =
-    ap (λ l. unioned l items) empty ∙ same_members (unioned [] items) items (IsSet-unioned [] items tt) s (has-unioned [] items)

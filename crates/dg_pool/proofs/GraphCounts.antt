@@ -1,18 +1,19 @@
 -- The counts of a set that gains or loses one element.
-use Rattle.std.proofs.Common.{arith, ◌≡◌, ℕ, suc, ◌+◌, ◌-◌, ◌≤◌, Bool, true, false, cond, List, [], ◌∷◌, ◌++◌, Option, Some, None, length, refl}
+use Rattle.std.proofs.Common.{arith, ◌≡◌, ℕ, suc, ◌+◌, ◌-◌, ◌≤◌, Bool, true, false, cond, List, [], ◌∷◌, ◌++◌, Option, Some, None, length, refl, sym}
 use Rattle.std.specs.declared.cmp.Ordering.TheVariants.{Less, Equal, Greater}
 use Rattle.std.specs.List.{count_by}
 use Rattle.std.proofs.lemmas.List.Sums.{count_by-le-length}
 use Rattle.dg_graph.specs.declared.element.Element.{Element}
+use Rattle.dg_graph.specs.declared.element.Columns.{Columns}
 use Rattle.dg_graph.specs.declared.element.Element.TheVariants.{Node, Edge, NodeAttr, EdgeAttr}
-use Rattle.dg_graph.specs.Elements.{IsSet, has, put, take_out, with_one, element_cmp}
+use Rattle.dg_graph.specs.Elements.{IsSet, has, put, take_out, with_one, element_cmp, asks, column_of, shown}
 use Rattle.dg_graph.proofs.Sets.{put_by}
 use Rattle.dg_cells.specs.Rows.{Row}
 use Rattle.dg_query.specs.declared.answers.Counts.{Counts}
 use Rattle.dg_pool.specs.Graphs.{given, picked}
 use Rattle.dg_query.specs.Queries.{is_a_node, is_an_edge, is_a_node_attr, is_an_edge_attr, counts_of}
-use Rattle.dg_pool.specs.Counts.{kind_count, one_more, one_less}
-use Rattle.dg_pool.proofs.SetCounts.{count-put, count-take_out, count-cons}
+use Rattle.dg_pool.specs.Counts.{kind_count, one_more, one_less, counts_shown}
+use Rattle.dg_pool.proofs.SetCounts.{count-put, count-take_out, count-cons, count-filter}
 
 counts_by : (n e a b n2 e2 a2 b2 : ℕ) → n ≡ n2 → e ≡ e2 → a ≡ a2 → b ≡ b2 → let c : Counts = record { nodes = n; edges = e; node_attrs = a; edge_attrs = b } in let d : Counts = record { nodes = n2; edges = e2; node_attrs = a2; edge_attrs = b2 } in c ≡ d
 counts_by n e a b n2 e2 a2 b2 p q r s = λ i. record { nodes = p i; edges = q i; node_attrs = r i; edge_attrs = s i }
@@ -77,6 +78,44 @@ kind-least (Node id) set s e = let f = count-take_out is_a_node (Node id) set s 
 kind-least (Edge id src dst directed) set s e = let f = count-take_out is_an_edge (Edge id src dst directed) set s e in omega arith
 kind-least (NodeAttr id key value) set s e = let f = count-take_out is_a_node_attr (NodeAttr id key value) set s e in omega arith
 kind-least (EdgeAttr id key value) set s e = let f = count-take_out is_an_edge_attr (EdgeAttr id key value) set s e in omega arith
+
+-- ---- in the columns that are asked for
+
+module _ (set : List Element) (cols : Columns) where
+  node_asks : (x : Element) → is_a_node x ≡ true → asks cols (column_of x) ≡ true
+  node_asks (Node id) e = refl
+  node_asks (Edge id src dst directed) e = refl
+  node_asks (NodeAttr id key value) e = cc
+  node_asks (EdgeAttr id key value) e = cc
+
+  edge_asks : (x : Element) → is_an_edge x ≡ true → asks cols (column_of x) ≡ true
+  edge_asks (Node id) e = refl
+  edge_asks (Edge id src dst directed) e = refl
+  edge_asks (NodeAttr id key value) e = cc
+  edge_asks (EdgeAttr id key value) e = cc
+
+  node_attr_asks : (x : Element) → is_a_node_attr x ≡ true → asks cols (column_of x) ≡ cols.nodes_attr
+  node_attr_asks (Node id) e = cc
+  node_attr_asks (Edge id src dst directed) e = cc
+  node_attr_asks (NodeAttr id key value) e = refl
+  node_attr_asks (EdgeAttr id key value) e = cc
+
+  edge_attr_asks : (x : Element) → is_an_edge_attr x ≡ true → asks cols (column_of x) ≡ cols.edges_attr
+  edge_attr_asks (Node id) e = cc
+  edge_attr_asks (Edge id src dst directed) e = cc
+  edge_attr_asks (NodeAttr id key value) e = cc
+  edge_attr_asks (EdgeAttr id key value) e = refl
+
+  abbrev asked : Element → Bool
+  asked x = asks cols (column_of x)
+
+  pub counts-shown : counts_shown (counts_of set) cols ≡ counts_of (shown set cols)
+  counts-shown =
+      sym (counts_by _ _ _ _ _ _ _ _
+      (count-filter is_a_node asked true node_asks set) (count-filter is_an_edge asked true edge_asks set)
+      (count-filter is_a_node_attr asked cols.nodes_attr node_attr_asks set) (count-filter is_an_edge_attr asked cols.edges_attr edge_attr_asks set))
+
+-- ---- no more than there are cells
 
 put_most : (x : Element) (set : List Element) → length (put x set) ≤ length set + 1
 put_most x [] = omega arith

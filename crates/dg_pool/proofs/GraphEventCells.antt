@@ -6,7 +6,7 @@ use Rattle.dg_graph.specs.declared.event.Event.{Event}
 use Rattle.dg_graph.specs.Effect.{added_by}
 use Rattle.dg_cells.specs.Rows.{Row, CellsGrow, HasCell}
 use Rattle.dg_pool.specs.Graphs.{HaveCells}
-use Rattle.dg_pool.proofs.SlotMarks.{has_grown}
+use Rattle.dg_pool.proofs.GrownCells.{has_grown}
 
 some_grown : (a b : List (Option Row)) → CellsGrow a b → (o : Option Element) → IfSome o (HasCell a) → IfSome o (HasCell b)
 some_grown a b g None h = h

@@ -3,12 +3,12 @@ pub mod CurrentGraph
 pub mod SweepCells
 pub mod SweepUnions
 pub mod GraphInvariant
-pub mod SlotMarks
-pub mod SlotGraphs
+pub mod GrownCells
+pub mod NewSlots
+pub mod TakenSlots
 pub mod GraphSizes
 pub mod SetCounts
 pub mod GraphCounts
-pub mod SlotCounts
 pub mod CountPreservation
 pub mod Repetition
 pub mod MaskBits

@@ -287,17 +287,6 @@ swept_vacant slots old n none = record {
 
 -- ---- one after another
 
-pub swept_nothing : (slots : List SlotState) (old : List (Option Row)) (n : ℕ) → CellsSwept slots old old n n
-swept_nothing slots old n = record {
-  now = refl;
-  graphs = λ s. refl;
-  before = λ m h. refl;
-  behind = λ m h. refl;
-  passed = λ m low high. absurd (omega arith);
-  cleared = λ s one e m low high. absurd (omega arith);
-  free = λ s one m e. e;
-}
-
 pub swept_then : (slots : List SlotState) (a b c : List (Option Row)) (from n : ℕ) → from ≤ n → CellsSwept slots a b from n → CellsSwept slots b c n (n + 1) → CellsSwept slots a c from (n + 1)
 swept_then slots a b c from n within f g = record {
   now = g.now ∙ f.now;
@@ -326,12 +315,6 @@ below_same rows n h e = count_by_more_no is_some rows n None h e
 pub none_from : (o : Option Row) → is_some o ≡ false → o ≡ None
 none_from None e = refl
 none_from (Some r) e = cc
-
-pub below_length : (rows : List (Option Row)) (n : ℕ) → cells_below rows n ≤ length rows
-below_length rows n =
-    let a = count_by-le-length is_some (take n rows) in
-    let b = length-take n rows in
-    omega arith
 
 pub below_number : (rows : List (Option Row)) (n : ℕ) → cells_below rows n ≤ n
 below_number rows n =

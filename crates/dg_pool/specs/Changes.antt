@@ -13,8 +13,8 @@ use Rattle.dg_pool.specs.declared.slots.SlotState.{SlotState}
 use Rattle.dg_pool.specs.Graphs.{PoolState, SlotGraph, AreSlots, slot_at, pair_at, is_live, is_listed, slot_graph, graph_now}
 use Rattle.dg_pool.specs.Slots.{NoneOn}
 use Rattle.dg_pool.specs.Masks.{is_asking}
-use Rattle.dg_pool.specs.Sweeps.{element_of}
-use Rattle.dg_pool.specs.Counts.{kind_count, one_more, one_less, AreCountsOf}
+use Rattle.dg_pool.specs.Sweeps.{element_of, in_state}
+use Rattle.dg_pool.specs.Counts.{kind_count, one_more, one_less, counts_at, AreCountsOf}
 
 -- the numbers of these slots
 abbrev pub numbers_of : List Slot → List ℕ
@@ -102,8 +102,8 @@ pub record SetsPairs (numbers : List ℕ) (p : Bool × Bool) (old new : Row) : T
 -- ---- the counts of the slots
 
 -- the counts are those of the graphs of the pool
-abbrev pub AreCounted : List SlotState → List (Option Row) → List Counts → Type 0
-AreCounted slots rows counts = AreCountsOf (pool_of slots rows) counts
+abbrev pub AreGraphCounts : List SlotState → List (Option Row) → List Counts → Type 0
+AreGraphCounts slots rows counts = AreCountsOf (pool_of slots rows) counts
 
 -- the counts of a graph that had the element or not, once it has it or not
 abbrev pub recounted : Bool → Bool → Element → Counts → Counts
@@ -120,3 +120,13 @@ pub record CanRecount (had on : Bool) (x : Element) (c : Counts) : Type 0 where
 -- whether the slot's graph has the cell's element once its own bit is written there
 abbrev pub will_have : Bool → SlotState → Row → Bool
 will_have own slot r = own && is_asking (column_of r.element) slot
+
+-- the counts of these slots can be kept when their own bits are written in the cell with this row
+abbrev pub CanRecountAll : List SlotState → List ℕ → Bool → Row → List Counts → Type 0
+CanRecountAll slots numbers own r counts =
+    (s : ℕ) → is_listed numbers s ≡ true → CanRecount (in_state s (slot_at slots s) r) (will_have own (slot_at slots s) r) r.element (counts_at counts s)
+
+-- the counts of these slots are kept over such a write, and all others stay
+abbrev pub RecountsAll : List SlotState → List ℕ → Bool → Row → List Counts → List Counts → Type 0
+RecountsAll slots numbers own r old new =
+    (s : ℕ) → counts_at new s ≡ (if is_listed numbers s then recounted (in_state s (slot_at slots s) r) (will_have own (slot_at slots s) r) r.element (counts_at old s) else counts_at old s)

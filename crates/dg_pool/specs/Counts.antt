@@ -33,13 +33,13 @@ one_less c (EdgeAttr id key value) = record c { edge_attrs = c.edge_attrs - 1 }
 abbrev pub no_elements : Counts
 no_elements = record { nodes = 0; edges = 0; node_attrs = 0; edge_attrs = 0 }
 
--- The counts of a base that lost some elements and gained others, in the columns that are asked for.
-abbrev pub counts_after : Counts → Counts → Counts → Columns → Counts
-counts_after was lost gained cols = record {
-  nodes = was.nodes - lost.nodes + gained.nodes;
-  edges = was.edges - lost.edges + gained.edges;
-  node_attrs = if cols.nodes_attr then was.node_attrs - lost.node_attrs + gained.node_attrs else 0;
-  edge_attrs = if cols.edges_attr then was.edge_attrs - lost.edge_attrs + gained.edge_attrs else 0;
+-- the counts of a graph that is cut to the columns
+abbrev pub counts_shown : Counts → Columns → Counts
+counts_shown c cols = record {
+  nodes = c.nodes;
+  edges = c.edges;
+  node_attrs = if cols.nodes_attr then c.node_attrs else 0;
+  edge_attrs = if cols.edges_attr then c.edge_attrs else 0;
 }
 
 -- the counts with this number

@@ -75,6 +75,11 @@ pub record SameGraphs (old new : PoolState) : Type 0 where
   pub now : graph_now new ≡ graph_now old
   pub slots : (s : ℕ) → slot_graph new s ≡ slot_graph old s
 
+-- the sweep stands where it stood, and each slot is as it was
+pub record KeepsSweep (old new : PoolState) : Type 0 where
+  pub place : new.sweep_index ≡ old.sweep_index
+  pub slots : new.slots ≡ old.slots
+
 -- the pair of a slot in a cell; a vacant cell has none
 abbrev pub pair_at : ℕ → Option Row → Bool × Bool
 pair_at s None = (false, false)

@@ -1,5 +1,5 @@
 -- The slots of the pool.
-use Rattle.std.specs.Prelude.{◌≡◌, ℕ, ◌≤◌, ◌<◌, ◌==◌, Bool, true, false, ◌||◌, List, [], Option, Some, None, IsSome, count_by, filter, not, if◌then◌else◌}
+use Rattle.std.specs.Prelude.{◌≡◌, ℕ, ◌≤◌, ◌<◌, ◌==◌, Bool, true, false, ◌||◌, List, [], Option, Some, None, IsSome, count_by, map}
 use Rattle.dg_pool.specs.declared.slots.Base.TheVariants as base
 use Rattle.dg_pool.specs.declared.slots.SlotState.{SlotState}
 use Rattle.dg_pool.specs.declared.slots.SlotState.TheVariants as state
@@ -7,8 +7,8 @@ use Rattle.dg_graph.specs.declared.element.Element.{Element}
 use Rattle.dg_graph.specs.declared.element.Columns.{Columns}
 use Rattle.dg_pool.specs.declared.slots.Base.{Base}
 use Rattle.dg_pool.specs.declared.slots.Slot.{Slot}
-use Rattle.dg_pool.specs.Graphs.{PoolState, SlotGraph, slot_graph, graph_now, Includes, slot_at, is_live}
-use Rattle.dg_pool.specs.Sweeps.{members_as}
+use Rattle.dg_pool.specs.Graphs.{PoolState, SlotGraph, slot_graph, graph_now, Includes, slot_at, is_live, CellsStay}
+use Rattle.dg_pool.specs.Sweeps.{members_as, freed}
 use Rattle.dg_graph.specs.Composition.{Delta}
 use Rattle.dg_graph.specs.Elements.{has}
 use Rattle.dg_cells.specs.Rows.{Row, cell_at, pair}
@@ -43,6 +43,18 @@ pub record IsLeastFree (slots : List SlotState) (s : ℕ) : Type 0 where
 abbrev pub NoneFree : List SlotState → Type 0
 NoneFree slots = (u : ℕ) → 1 ≤ u → u < 128 → is_free (slot_at slots u) ≡ false
 
+-- the slot is the least that is free of these, and all others stay as they are here
+pub record TakesLeast (slots new : List SlotState) (s : ℕ) : Type 0 where
+  pub least : IsLeastFree slots s
+  pub others : (t : ℕ) → (t ≡ s → ⊥) → slot_at new t ≡ slot_at slots t
+
+-- A slot is taken for a graph. Where one was free, it is the least of these: the sweep stands where it stood, no cell is
+-- given back, and all other slots are as they were. Where none was free, it is the least that is free behind a whole
+-- sweep: the next one begins at the first cell, and all other slots are as the sweep leaves them.
+pub data TakesSlot (old new : PoolState) (s : ℕ) : Type 0 where
+  Was_free : TakesLeast old.slots new.slots s → new.sweep_index ≡ old.sweep_index → CellsStay old.rows new.rows → TakesSlot old new s
+  Behind_a_sweep : NoneFree old.slots → TakesLeast (map freed old.slots) new.slots s → new.sweep_index ≡ 0 → TakesSlot old new s
+
 -- the slot is live
 abbrev pub IsLive : PoolState → Slot → Type 0
 IsLive p slot = IsSome (slot_graph p slot.0)
@@ -74,14 +86,3 @@ BaseFits p (base.Slot b) cols = IsBaseWith cols (slot_graph p b.0)
 -- the slot's explicit bit is set in cells of elements that the delta names alone
 abbrev pub NamesOnly : PoolState → ℕ → Delta → Type 0
 NamesOnly p s d = (n : ℕ) (r : Row) → cell_at p.rows n ≡ Some r → (pair s r).0 ≡ true → (has d.minus r.element || has d.plus r.element) ≡ true
-
--- the slot does not rest on itself, and its base has the number of a slot
-abbrev pub IsNoBase : ℕ → Base → Type 0
-IsNoBase s base.Nothing = Unit {0}
-IsNoBase s base.Now = Unit {0}
-IsNoBase s (base.Slot b) = (1 ≤ b.0) × (b.0 ≤ 127) × (b.0 ≡ s → ⊥)
-
--- Those of the items that a base, which has this set, gains where the slot's own bit is set there, and
--- loses where it is not.
-abbrev pub moved_over : Bool → List Element → List Element → List Element
-moved_over own set items = filter (λ x. if own then not (has set x) else has set x) items

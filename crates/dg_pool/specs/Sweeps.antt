@@ -86,6 +86,10 @@ ended (state.Released true) = state.Free
 ended (state.Released false) = state.Released false
 ended (state.Live b cols) = state.Live b cols
 
+-- a slot after a whole sweep: one that was released is free
+abbrev pub freed : SlotState → SlotState
+freed slot = ended (begun slot)
+
 -- the members of a slot that is live
 abbrev pub members_as : Option SlotGraph → List Element
 members_as None = []

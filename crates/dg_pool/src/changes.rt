@@ -1,11 +1,8 @@
 //! How a delta is written for several slots at once: each cell is found once, and written once for all of them.
-ghost use Rattle.std.specs.Prelude.{◌≡◌, ℕ, true, false, [], ◌∷◌, IsSome, length, if◌then◌else◌};
+ghost use Rattle.std.specs.Prelude.{◌≡◌, true, false, [], ◌∷◌, IsSome, length};
 ghost use Rattle.dg_graph.specs.declared.element.Element.{Element};
 ghost use Rattle.dg_cells.specs.Rows.{cell_at, Holds, AreNumbers, CellsAreApart, Writes};
-ghost use Rattle.dg_pool.specs.Graphs.{slot_at, is_listed};
-ghost use Rattle.dg_pool.specs.Sweeps.{in_state};
-ghost use Rattle.dg_pool.specs.Counts.{counts_at};
-ghost use Rattle.dg_pool.specs.Changes.{numbers_of, AreChangeable, AreTargets, AreCounted, CanRecount, WritesDelta, one_sided, SetsPairs, recounted, will_have};
+ghost use Rattle.dg_pool.specs.Changes.{numbers_of, AreChangeable, AreTargets, AreGraphCounts, CanRecountAll, RecountsAll, WritesDelta, one_sided, SetsPairs, will_have};
 
 use crate::counts::with_change;
 use crate::masks::{is_asking, put_bit};
@@ -67,9 +64,9 @@ fn recount(
     own: bool,
 )
     requires can { AreChangeable states.now (numbers_of slots.now) }
-    requires fit { (s : ℕ) → is_listed (numbers_of slots.now) s ≡ true → CanRecount (in_state s (slot_at states.now s) row.now) (will_have own (slot_at states.now s) row.now) row.now.element (counts_at counts.old s) }
+    requires fit { CanRecountAll states.now (numbers_of slots.now) own row.now counts.old }
     ensures len { length counts.new ≡ 128 }
-    ensures counts { (s : ℕ) → counts_at counts.new s ≡ (if is_listed (numbers_of slots.now) s then recounted (in_state s (slot_at states.now s) row.now) (will_have own (slot_at states.now s) row.now) row.now.element (counts_at counts.old s) else counts_at counts.old s) }
+    ensures counts { RecountsAll states.now (numbers_of slots.now) own row.now counts.old counts.new }
 {
     for slot in slots {
         let at = slot.0 as usize;
@@ -97,9 +94,9 @@ fn set_pairs(cells: &mut Cells, targets: &Targets, n: usize, own: bool)
 fn write_cell(cells: &mut Cells, counts: &mut [Counts; 128], targets: &Targets, n: usize, own: bool)
     requires there { IsSome (cell_at cells.old n) }
     requires targets { AreTargets targets.now }
-    requires counted { AreCounted targets.now.states.now cells.old counts.old }
+    requires counted { AreGraphCounts targets.now.states.now cells.old counts.old }
     ensures writes { (x : Element) → Holds cells.old x n → WritesDelta targets.now.states.now (numbers_of targets.now.slots.now) (one_sided own (x ∷ [])) cells.old cells.new }
-    ensures counted { AreCounted targets.now.states.now cells.new counts.new }
+    ensures counted { AreGraphCounts targets.now.states.now cells.new counts.new }
 {
     cells.facts();
     // no graph has more elements than there are cells, so the counts fit
@@ -120,9 +117,9 @@ fn take_out(
     element: &Element,
 ) -> Cursor
     requires targets { AreTargets targets.now }
-    requires counted { AreCounted targets.now.states.now cells.old counts.old }
+    requires counted { AreGraphCounts targets.now.states.now cells.old counts.old }
     ensures writes { WritesDelta targets.now.states.now (numbers_of targets.now.slots.now) (one_sided false (element.now ∷ [])) cells.old cells.new }
-    ensures counted { AreCounted targets.now.states.now cells.new counts.new }
+    ensures counted { AreGraphCounts targets.now.states.now cells.new counts.new }
 {
     cells.facts();
     let (found, cursor) = find_from(cells, near, element);
@@ -135,9 +132,9 @@ fn take_out(
 // Takes the elements out of the graphs of the slots, and is quickest where they rise.
 fn take_out_all(cells: &mut Cells, counts: &mut [Counts; 128], targets: &Targets, items: &[Element])
     requires targets { AreTargets targets.now }
-    requires counted { AreCounted targets.now.states.now cells.old counts.old }
+    requires counted { AreGraphCounts targets.now.states.now cells.old counts.old }
     ensures writes { WritesDelta targets.now.states.now (numbers_of targets.now.slots.now) (one_sided false items.now) cells.old cells.new }
-    ensures counted { AreCounted targets.now.states.now cells.new counts.new }
+    ensures counted { AreGraphCounts targets.now.states.now cells.new counts.new }
 {
     cells.facts();
     let mut near = cells.first();
@@ -155,10 +152,10 @@ fn put_in_all(
     numbers: &[u32],
 )
     requires targets { AreTargets targets.now }
-    requires counted { AreCounted targets.now.states.now cells.old counts.old }
+    requires counted { AreGraphCounts targets.now.states.now cells.old counts.old }
     requires numbers { AreNumbers cells.old items.now numbers.now }
     ensures writes { WritesDelta targets.now.states.now (numbers_of targets.now.slots.now) (one_sided true items.now) cells.old cells.new }
-    ensures counted { AreCounted targets.now.states.now cells.new counts.new }
+    ensures counted { AreGraphCounts targets.now.states.now cells.new counts.new }
 {
     cells.facts();
     for index in 0..items.len() {
@@ -177,10 +174,10 @@ pub(crate) fn write_delta(
     numbers: &[u32],
 )
     requires can { AreChangeable states.now (numbers_of slots.now) }
-    requires counted { AreCounted states.now cells.old counts.old }
+    requires counted { AreGraphCounts states.now cells.old counts.old }
     requires numbers { AreNumbers cells.old delta.now.plus numbers.now }
     ensures writes { WritesDelta states.now (numbers_of slots.now) delta.now cells.old cells.new }
-    ensures counted { AreCounted states.now cells.new counts.new }
+    ensures counted { AreGraphCounts states.now cells.new counts.new }
     ensures apart { CellsAreApart cells.new }
 {
     let targets = targets_of(states, slots);

@@ -1,8 +1,8 @@
 //! How many elements graphs have of each kind.
-ghost use Rattle.std.specs.Prelude.{◌≡◌, ℕ, ◌+◌, ◌-◌, ◌≤◌, ◌<◌, ◌^◌, true, false, if◌then◌else◌, length};
+ghost use Rattle.std.specs.Prelude.{◌≡◌, ℕ, ◌+◌, ◌≤◌, ◌<◌, ◌^◌, true, false, if◌then◌else◌, length};
 ghost use Rattle.dg_pool.specs.declared.slots.Base.TheVariants as bases;
 ghost use Rattle.dg_pool.specs.declared.slots.Slot.{Slot};
-ghost use Rattle.dg_pool.specs.Counts.{kind_count, one_more, one_less, no_elements, counts_at, counts_after, base_counts};
+ghost use Rattle.dg_pool.specs.Counts.{kind_count, one_more, one_less, no_elements, counts_at, counts_shown, base_counts};
 ghost use Rattle.dg_query.specs.Queries.{counts_of};
 
 use crate::slots::Base;
@@ -68,24 +68,20 @@ pub(crate) fn with_change(counts: Counts, element: &Element, on: bool) -> Counts
     }
 }
 
-/// The counts of a base that lost some elements and gained others, in the columns that are asked for.
-pub(crate) fn counts_after(was: Counts, lost: Counts, gained: Counts, cols: Columns) -> Counts
-    requires nodes { (lost.nodes ≤ was.nodes) × (was.nodes - lost.nodes + gained.nodes < 2 ^ 64) }
-    requires edges { (lost.edges ≤ was.edges) × (was.edges - lost.edges + gained.edges < 2 ^ 64) }
-    requires node_attrs { cols.nodes_attr ≡ true → (lost.node_attrs ≤ was.node_attrs) × (was.node_attrs - lost.node_attrs + gained.node_attrs < 2 ^ 64) }
-    requires edge_attrs { cols.edges_attr ≡ true → (lost.edge_attrs ≤ was.edge_attrs) × (was.edge_attrs - lost.edge_attrs + gained.edge_attrs < 2 ^ 64) }
-    ensures { result ≡ counts_after was lost gained cols }
+/// The counts of a graph that is cut to the columns.
+pub(crate) fn counts_shown(counts: Counts, cols: Columns) -> Counts
+    ensures { result ≡ counts_shown counts cols }
 {
     Counts {
-        nodes: was.nodes - lost.nodes + gained.nodes,
-        edges: was.edges - lost.edges + gained.edges,
+        nodes: counts.nodes,
+        edges: counts.edges,
         node_attrs: if cols.nodes_attr {
-            was.node_attrs - lost.node_attrs + gained.node_attrs
+            counts.node_attrs
         } else {
             0
         },
         edge_attrs: if cols.edges_attr {
-            was.edge_attrs - lost.edge_attrs + gained.edge_attrs
+            counts.edge_attrs
         } else {
             0
         },

@@ -5,7 +5,6 @@ mod changes;
 mod counts;
 mod current;
 mod lengths;
-mod marks;
 mod masks;
 mod members;
 mod pool;

@@ -3,23 +3,22 @@ ghost use Rattle.std.specs.Prelude.{◌≡◌, ◌<◌, ◌≤◌, ◌^◌, ℕ,
 ghost use Rattle.dg_graph.specs.Replay.{replay_from};
 ghost use Rattle.dg_pool.specs.declared.slots.SlotState.TheVariants as state;
 ghost use Rattle.dg_pool.specs.declared.pool.AttachFault.TheVariants.{Memory};
-ghost use Rattle.dg_pool.specs.Graphs.{PoolState, graph_now, slot_graph, CellsStay, HaveCells, SameGraphs, slot_at, is_live};
-ghost use Rattle.dg_pool.specs.Sweeps.{union_of, cells_of, IsSweep, members_as};
-ghost use Rattle.dg_cells.specs.Rows.{AllHave, Reuses};
+ghost use Rattle.dg_pool.specs.Graphs.{PoolState, graph_now, slot_graph, CellsStay, HaveCells, KeepsSweep, SameGraphs, slot_at, pair_at, is_live};
+ghost use Rattle.dg_pool.specs.Sweeps.{union_of, cells_of, IsSweep, members_as, freed};
+ghost use Rattle.dg_cells.specs.Rows.{cell_at, AllHave, AreNumbers, CellsGrow, Reuses};
 ghost use Rattle.dg_query.specs.Queries.{counts_of};
 ghost use Rattle.dg_pool.specs.Changes.{CanChange, ChangesSlots, NamesNew, numbers_of};
 ghost use Rattle.dg_pool.specs.Listing.{members_from, not_before, up_to};
-ghost use Rattle.dg_pool.specs.Slots.{IsLive, live_count, IsLeastOn, NoneOn, IsLeastFree, AllLive, BaseFits, base_members, is_free, NamesOnly};
+ghost use Rattle.dg_pool.specs.Slots.{IsLive, live_count, IsLeastOn, NoneOn, IsLeastFree, NoneFree, AllLive, BaseFits, base_members, is_free, NamesOnly, TakesSlot};
 ghost use Rattle.dg_graph.specs.Elements.{IsSet, shown, has, before};
 ghost use Rattle.dg_graph.specs.Composition.{applied};
 
 use crate::changes::write_delta;
-use crate::counts::{base_counts, count_kinds, counts_after, no_counts, room_for};
+use crate::counts::{base_counts, count_kinds, counts_shown, no_counts, room_for};
 use crate::current::{pass_all, pass_delta};
 use crate::lengths::{count_all, count_needed};
-use crate::marks::{mark, mark_cells};
 use crate::members::{has_member, list_now, next_member};
-use crate::room::{add_by_all, make_all, make_rising};
+use crate::room::{add_by_all, make_rising};
 use crate::slots::{
     Base, Slot, SlotState, all_free, begin, count_live, end, least_free, least_on, list_on_now,
     start,
@@ -132,6 +131,8 @@ impl Pool {
         requires { HaveCells self.old.rows events.now }
         ensures now { graph_now self.new ≡ replay_from (graph_now self.old) events.now }
         ensures slots { (s : ℕ) → slot_graph self.new s ≡ slot_graph self.old s }
+        ensures cells { CellsStay self.old.rows self.new.rows }
+        ensures sweep { KeepsSweep self.old self.new }
     {
         let (on_now, len) = list_on_now(&self.slots);
         self.counts[0] = pass_all(
@@ -151,6 +152,7 @@ impl Pool {
         ensures now { graph_now self.new ≡ applied delta.now (graph_now self.old) }
         ensures slots { (s : ℕ) → slot_graph self.new s ≡ slot_graph self.old s }
         ensures cells { CellsStay self.old.rows self.new.rows }
+        ensures sweep { KeepsSweep self.old self.new }
     {
         let (on_now, len) = list_on_now(&self.slots);
         self.counts[0] = pass_delta(
@@ -172,6 +174,9 @@ impl Pool {
         ensures released { IfOk result (λ _. slot_at self.new.slots slot.0 ≡ state.Released false) }
         ensures now { graph_now self.new ≡ graph_now self.old }
         ensures others { (s : ℕ) → (s ≡ slot.0 → ⊥) → slot_graph self.new s ≡ slot_graph self.old s }
+        ensures states { (t : ℕ) → (t ≡ slot.0 → ⊥) → slot_at self.new.slots t ≡ slot_at self.old.slots t }
+        ensures rows { self.new.rows ≡ self.old.rows }
+        ensures place { self.new.sweep_index ≡ self.old.sweep_index }
     {
         if let Some(other) = least_on(&self.slots, slot.0) {
             return Err(InUse(Slot(other)));
@@ -214,6 +219,7 @@ impl Pool {
         ensures cells { cells_of self.new ≡ union_of self.new }
         ensures sweep_index { self.new.sweep_index ≡ 0 }
         ensures free { (s : ℕ) → is_live (slot_at self.new.slots s) ≡ false → slot_at self.new.slots s ≡ state.Free }
+        ensures states { (s : ℕ) → slot_at self.new.slots s ≡ freed (slot_at self.old.slots s) }
     {
         begin(&mut self.slots);
         let count = self.cells.len() as u64;
@@ -227,6 +233,8 @@ impl Pool {
     fn free_slot(&mut self) -> Option<u8>
         ensures graphs { SameGraphs self.old self.new }
         ensures some { IfSome result (IsLeastFree self.new.slots) }
+        ensures takes { IfSome result (TakesSlot self.old self.new) }
+        ensures stays { (NoneFree self.old.slots → ⊥) → self.new ≡ self.old }
         ensures none { IfNone result (AllLive self.old) }
     {
         if let Some(slot) = least_free(&self.slots) {
@@ -234,6 +242,57 @@ impl Pool {
         }
         self.clean_all();
         least_free(&self.slots)
+    }
+
+    // Gives each of the elements a cell, and answers the numbers of their cells. No graph changes. An `Err` says that
+    // memory ran out; some may have got one.
+    fn make_numbered(&mut self, elements: &Set) -> Result<Vec<u32>, AllocError>
+        ensures graphs { SameGraphs self.old self.new }
+        ensures sweep { KeepsSweep self.old self.new }
+        ensures grows { CellsGrow self.old.rows self.new.rows }
+        ensures there { OnOk result (AllHave self.new.rows elements.now) }
+        ensures numbers { IfOk result (λ numbers. AreNumbers self.new.rows elements.now numbers.items) }
+        ensures reuses { OnOk result (Reuses self.old.rows self.new.rows) }
+    {
+        make_rising(&mut self.cells, elements.items())
+    }
+
+    // Makes a free slot live: its graph is that of the base, cut to the columns. It has no bit of its own yet, and no
+    // live slot rests on it.
+    fn make_live(&mut self, slot: u8, base: Base, cols: Columns)
+        requires free { IsLeastFree self.old.slots slot }
+        requires base { BaseFits self.old base cols }
+        ensures slot { slot_graph self.new slot ≡ Some (record { base = base; cols = cols; members = shown (base_members self.old base) cols }) }
+        ensures others { (t : ℕ) → (t ≡ slot → ⊥) → slot_graph self.new t ≡ slot_graph self.old t }
+        ensures states { (t : ℕ) → (t ≡ slot → ⊥) → slot_at self.new.slots t ≡ slot_at self.old.slots t }
+        ensures cells { self.new.rows ≡ self.old.rows }
+        ensures place { self.new.sweep_index ≡ self.old.sweep_index }
+        ensures bits { (n : ℕ) → pair_at slot (cell_at self.old.rows n) ≡ (false, false) }
+        ensures can { CanChange (slot ∷ []) self.new }
+    {
+        let was = base_counts(&self.counts, base);
+        self.counts[slot as usize] = counts_shown(was, cols);
+        self.slots[slot as usize] = SlotState::Live { base, cols };
+    }
+
+    // Applies the delta to the graphs of these slots, cut to their columns. The cells of the elements that it puts in
+    // have these numbers.
+    fn write(&mut self, slots: &[Slot], delta: &Delta, numbers: &[u32])
+        requires can { CanChange (numbers_of slots.now) self.old }
+        requires numbers { AreNumbers self.old.rows delta.now.plus numbers.now }
+        ensures changes { ChangesSlots (numbers_of slots.now) delta.now self.old self.new }
+        ensures sweep { KeepsSweep self.old self.new }
+        ensures cells { CellsStay self.old.rows self.new.rows }
+        ensures explicit { NamesNew delta.now self.old.rows self.new.rows }
+    {
+        write_delta(
+            &mut self.cells,
+            &mut self.counts,
+            &self.slots,
+            slots,
+            delta,
+            numbers,
+        );
     }
 
     // Gives a free slot its graph.
@@ -250,24 +309,21 @@ impl Pool {
         ensures others { (t : ℕ) → (t ≡ slot → ⊥) → slot_graph self.new t ≡ slot_graph self.old t }
         ensures now { graph_now self.new ≡ graph_now self.old }
         ensures err { OnErr result (slot_graph self.new slot ≡ slot_graph self.old slot) }
+        ensures err_states { OnErr result (self.new.slots ≡ self.old.slots) }
         ensures states { (t : ℕ) → (t ≡ slot → ⊥) → slot_at self.new.slots t ≡ slot_at self.old.slots t }
+        ensures place { self.new.sweep_index ≡ self.old.sweep_index }
+        ensures cells { CellsStay self.old.rows self.new.rows }
         ensures explicit { OnOk result (NamesOnly self.new slot delta.now) }
     {
-        let plus = delta.plus().items();
-        let numbers = make_rising(&mut self.cells, plus)?;
-        let lost = mark(&mut self.cells, slot, base, false, delta.minus().items());
-        let gained = mark_cells(&mut self.cells, slot, base, true, plus, &numbers);
-        // no graph has more elements than there are cells, so the counts fit
-        let _most = self.cells.len();
-        let was = base_counts(&self.counts, base);
-        self.counts[slot as usize] = counts_after(was, lost, gained, cols);
-        self.slots[slot as usize] = SlotState::Live { base, cols };
+        let numbers = self.make_numbered(delta.plus())?;
+        self.make_live(slot, base, cols);
+        self.write(&[Slot(slot)], delta, &numbers);
         Ok(())
     }
 
     /// Gives the least free slot the graph of the base, changed by the delta and cut to the columns. Where
-    /// no slot is free, all cells are swept first. `AttachFault::PoolFull` where 127 slots are live;
-    /// `AttachFault::Memory` for want of memory. After an `Err` no graph has changed.
+    /// no slot is free, and only there, all cells are swept first. `AttachFault::PoolFull` where 127 slots are
+    /// live; `AttachFault::Memory` for want of memory. After an `Err` no graph has changed.
     pub fn attach(&mut self, base: Base, delta: &Delta, cols: Columns) -> Result<Slot, AttachFault>
         requires { BaseFits self.old base cols }
         ensures slot { IfOk result (λ s. slot_graph self.new s.0 ≡ Some (record { base = base; cols = cols; members = shown (applied delta.now (base_members self.old base)) cols })) }
@@ -276,10 +332,12 @@ impl Pool {
         ensures now { graph_now self.new ≡ graph_now self.old }
         ensures within { IfOk result (λ s. (1 ≤ s.0) × (s.0 ≤ 127)) }
         ensures least { IfOk result (λ s. (t : ℕ) → 1 ≤ t → t < s.0 → is_free (slot_at self.new.slots t) ≡ false) }
+        ensures takes { IfOk result (λ s. TakesSlot self.old self.new s.0) }
         ensures explicit { IfOk result (λ s. NamesOnly self.new s.0 delta.now) }
         ensures full { IsErrOf result AttachFault.PoolFull → AllLive self.old }
         ensures memory { IsErrOf result AttachFault.Memory → AllLive self.old → ⊥ }
         ensures err { OnErr result (SameGraphs self.old self.new) }
+        ensures err_sweep { OnErr result ((NoneFree self.old.slots → ⊥) → KeepsSweep self.old self.new × CellsStay self.old.rows self.new.rows) }
     {
         let Some(slot) = self.free_slot() else {
             return Err(AttachFault::PoolFull);
@@ -294,18 +352,13 @@ impl Pool {
         requires { CanChange (numbers_of slots.now) self.old }
         ensures changes { OnOk result (ChangesSlots (numbers_of slots.now) delta.now self.old self.new) }
         ensures states { self.new.slots ≡ self.old.slots }
+        ensures place { self.new.sweep_index ≡ self.old.sweep_index }
+        ensures cells { CellsStay self.old.rows self.new.rows }
         ensures explicit { NamesNew delta.now self.old.rows self.new.rows }
         ensures err { OnErr result (SameGraphs self.old self.new) }
     {
-        let numbers = make_rising(&mut self.cells, delta.plus().items())?;
-        write_delta(
-            &mut self.cells,
-            &mut self.counts,
-            &self.slots,
-            slots,
-            delta,
-            &numbers,
-        );
+        let numbers = self.make_numbered(delta.plus())?;
+        self.write(slots, delta, &numbers);
         Ok(())
     }
 
@@ -322,16 +375,20 @@ impl Pool {
     pub fn make_cells(&mut self, elements: &Set) -> Result<(), AllocError>
         ensures graphs { SameGraphs self.old self.new }
         ensures cells { CellsStay self.old.rows self.new.rows }
+        ensures sweep { KeepsSweep self.old self.new }
         ensures there { OnOk result (AllHave self.new.rows elements.now) }
         ensures reuses { OnOk result (Reuses self.old.rows self.new.rows) }
     {
-        make_all(&mut self.cells, elements.items())
+        let _numbers = self.make_numbered(elements)?;
+        Ok(())
     }
 
     /// Gives each element that the events add a cell, so that `apply_now` can take them. No graph changes. An `Err`
     /// says that memory ran out; some may have got one.
     pub fn make_room(&mut self, events: &[Event]) -> Result<(), AllocError>
         ensures graphs { SameGraphs self.old self.new }
+        ensures cells { CellsStay self.old.rows self.new.rows }
+        ensures sweep { KeepsSweep self.old self.new }
         ensures room { OnOk result (HaveCells self.new.rows events.now) }
         ensures reuses { Reuses self.old.rows self.new.rows }
     {

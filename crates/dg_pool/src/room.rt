@@ -25,18 +25,6 @@ pub(crate) fn make_rising(cells: &mut Cells, items: &[Element]) -> Result<Vec<u3
     made
 }
 
-/// Does what `make_rising` does, and answers no numbers.
-pub(crate) fn make_all(cells: &mut Cells, items: &[Element]) -> Result<(), AllocError>
-    requires { IsSet items.now }
-    ensures grows { CellsGrow cells.old cells.new }
-    ensures there { OnOk result (AllHave cells.new items.now) }
-    ensures apart { CellsAreApart cells.new }
-    ensures reuses { OnOk result (Reuses cells.old cells.new) }
-{
-    let _numbers = make_rising(cells, items)?;
-    Ok(())
-}
-
 // Gives the element that the event adds, if it adds one, a cell.
 fn add_by(cells: &mut Cells, event: &Event) -> Result<(), AllocError>
     ensures grows { CellsGrow cells.old cells.new }

@@ -1,10 +1,7 @@
-use Rattle.std.proofs.Common.{◌≡◌, ℕ, [], ◌∷◌, true, ap, subst, ◌∙◌, cond, arith}
+use Rattle.std.proofs.Common.{◌≡◌, [], ◌∷◌, true, ap, subst, ◌∙◌, arith}
 use Rattle.dg_graph.specs.declared.element.Element.{Element}
 use Rattle.dg_cells.specs.Rows.{Row}
-use Rattle.dg_pool.specs.Graphs.{slot_at, is_listed}
-use Rattle.dg_pool.specs.Sweeps.{in_state}
-use Rattle.dg_pool.specs.Counts.{counts_at}
-use Rattle.dg_pool.specs.Changes.{SetsPairs, WritesDelta, one_sided, numbers_of, recounted, will_have}
+use Rattle.dg_pool.specs.Changes.{SetsPairs, WritesDelta, RecountsAll, one_sided, numbers_of}
 use Rattle.dg_pool.proofs.CurrentGraph.{one_row}
 use Rattle.dg_pool.proofs.ChangeCells.{writes_one, counted_one, fits_cell}
 use Rattle.dg_pool.proofs.changes.write_cell.Goals as goal
@@ -36,4 +33,4 @@ returns-clause-counted c =
     let w = c.set_pairs.ensures in
     let row : c.in-Some.row.now ≡ w.before = one_row old c.args.n c.in-Some.row.now w.before c.in-Some.ensures.there w.was in
     counted_one t.states.now numbers c.requires.targets.can own old c.set_pairs.new.cells c.args.n (SetsPairs numbers (true, own)) w w.how c.facts.ensures counts after c.requires.counted c.recount.ensures.len
-    (subst (λ (r : Row). (s : ℕ) → counts_at after s ≡ cond (is_listed numbers s) (recounted (in_state s (slot_at t.states.now s) r) (will_have own (slot_at t.states.now s) r) r.element (counts_at counts s)) (counts_at counts s)) row c.recount.ensures.counts)
+    (subst (λ (r : Row). RecountsAll t.states.now numbers own r counts after) row c.recount.ensures.counts)

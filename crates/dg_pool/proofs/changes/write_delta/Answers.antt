@@ -4,7 +4,7 @@ use Rattle.dg_graph.specs.Composition.{Delta}
 use Rattle.dg_cells.specs.Rows.{Row, AreNumbers}
 use Rattle.dg_pool.specs.declared.slots.Slot.{Slot}
 use Rattle.dg_pool.specs.declared.slots.SlotState.{SlotState}
-use Rattle.dg_pool.specs.Changes.{WritesDelta, AreCounted, numbers_of, one_sided}
+use Rattle.dg_pool.specs.Changes.{WritesDelta, AreGraphCounts, numbers_of, one_sided}
 use Rattle.dg_pool.proofs.ChangeGraphs.{both_sides}
 use Rattle.dg_pool.proofs.ChangeCells.{writes_then, written_numbers}
 use Rattle.dg_pool.proofs.changes.write_delta.Goals as goal
@@ -38,4 +38,4 @@ returns-clause-writes c =
 
 pub returns-clause-counted : goal.returns-clause-counted
 returns-clause-counted c =
-    subst (λ (l : List SlotState). AreCounted l c.put_in_all.new.cells c.put_in_all.new.counts) c.targets_of-targets.ensures.states c.put_in_all.ensures.counted
+    subst (λ (l : List SlotState). AreGraphCounts l c.put_in_all.new.cells c.put_in_all.new.counts) c.targets_of-targets.ensures.states c.put_in_all.ensures.counted

@@ -1,7 +1,7 @@
 use Rattle.dg_graph.specs.declared.event.Event.{Event}
 use Rattle.dg_graph.specs.declared.event.Body.TheVariants as body
 use Rattle.dg_cells.proofs.RowGrowth.{reuses_then}
-use Rattle.dg_pool.proofs.SlotMarks.{grows_then}
+use Rattle.dg_pool.proofs.GrownCells.{grows_then}
 use Rattle.dg_pool.proofs.GraphEventCells.{have_next}
 use Rattle.dg_pool.proofs.room.add_by_all.Goals as goal
 
