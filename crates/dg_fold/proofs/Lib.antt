@@ -12,7 +12,6 @@ pub mod RecordFits
 pub mod Trees
 pub mod TreeStepPaths
 pub mod Steps
-pub mod TreeStepBranches
 pub mod PathIndependenceTrees
 pub mod EndTargets
 pub mod HistoryPaths
@@ -24,4 +23,5 @@ pub mod BytesReadParts
 pub mod LegalHistories
 pub mod WritingRoots
 pub mod WritingSteps
+pub mod WritingCompositions
 pub mod WritingLasts

@@ -11,8 +11,8 @@ use Rattle.dg_plan.specs.declared.edge.Via.{Via}
 use Rattle.dg_plan.specs.declared.edge.Via.TheVariants as via
 use Rattle.dg_fold.specs.Parts.{beside, Folds}
 use Rattle.dg_fold.specs.Steps.{PartedStep, names_record, paired, step_by, steps_in}
-use Rattle.dg_fold.specs.declared.branch_walk.Stepped.{Stepped}
-use Rattle.dg_fold.specs.TreeSteps.{AreStepped, FailsAt}
+use Rattle.dg_fold.specs.declared.tree_step.Stepped.{Stepped}
+use Rattle.dg_fold.specs.TreeSteps.{AreStepped, FailsAt, step_edges}
 use Rattle.dg_fold.proofs.TreeStepPaths.{Due, beside_associates}
 
 -- What is known when so many edges have been gone over.
@@ -109,3 +109,18 @@ pub all_stepped : (names : ℕ) (recent : List Event) (edges : List Edge) (parts
 all_stepped names recent edges parts rest steps i end g =
     let none : drop i edges ≡ [] = drop_all i edges (omega arith) in
     subst (λ l. AreStepped names recent l steps) (sym (g.front ∙ ap (λ l. g.done ++ paired l rest) none ∙ append-nil g.done)) g.stepped
+
+-- the edges of steps that have their deltas
+pub stepped_edges : (names : ℕ) (recent : List Event) (edges : List Edge) (parts : List Part) (steps : List Stepped) → AreStepped names recent (paired edges parts) steps → step_edges steps ≡ edges
+stepped_edges names recent [] parts [] h = refl
+stepped_edges names recent [] parts (s ∷ steps) h = absurd h
+stepped_edges names recent (e ∷ edges) parts steps h =
+    by (names_record e.via) steps (λ ps st k. stepped_edges names recent edges ps st k) h
+  where
+    by : (b : Bool) (st : List Stepped)
+        → ((ps : List Part) (after : List Stepped) → AreStepped names recent (paired edges ps) after → step_edges after ≡ edges)
+        → AreStepped names recent (cond b ((e, slice_get parts 0) ∷ paired edges (drop 1 parts)) ((e, None) ∷ paired edges parts)) st → step_edges st ≡ e ∷ edges
+    by true [] again k = absurd k
+    by true (s ∷ st) again k = (let rest = again (drop 1 parts) st k.2 in λ i. k.0 i ∷ rest i)
+    by false [] again k = absurd k
+    by false (s ∷ st) again k = (let rest = again parts st k.2 in λ i. k.0 i ∷ rest i)

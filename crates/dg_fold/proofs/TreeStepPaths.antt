@@ -7,15 +7,15 @@ use Rattle.dg_graph.specs.declared.event.Event.{Event}
 use Rattle.dg_history.specs.declared.node.Key.{Key}
 use Rattle.dg_history.specs.declared.node.NodeId.{NodeId}
 use Rattle.dg_history.specs.declared.node.NodeId.TheVariants.{Root}
-use Rattle.dg_graph.specs.Composition.{Delta, composition, then_says}
+use Rattle.dg_graph.specs.Composition.{Delta, Composes, composition, then_says}
 use Rattle.dg_delta.proofs.Deltas.{can_be_cut}
 use Rattle.dg_plan.specs.declared.edge.Edge.{Edge}
 use Rattle.dg_fold.specs.PathIndependence.{begun_at}
 use Rattle.dg_fold.specs.Parts.{beside, Folds}
 use Rattle.dg_fold.specs.Steps.{PartedStep, step_by, steps_in}
-use Rattle.dg_fold.specs.declared.branch_walk.Stepped.{Stepped}
+use Rattle.dg_fold.specs.declared.tree_step.Stepped.{Stepped}
 use Rattle.dg_fold.specs.Trees.{IsStepOf, PathIn, Begins_at_root, Steps_on}
-use Rattle.dg_fold.specs.TreeSteps.{IsAmongSteps, Path, Begins, Goes_on, AreStepped, PathsAreIn, step_edges, step_deltas}
+use Rattle.dg_fold.specs.TreeSteps.{IsAmongSteps, Path, Begins, Goes_on, AreStepped, step_edges, step_deltas}
 
 abbrev pub Due : Type 0
 Due = Result (List Delta) (Key × Column)
@@ -74,7 +74,10 @@ module _ (names : ℕ) (recent : List Event) where
             ∙ sym (can_be_cut front.3 next.0 x),
       )
 
-pub paths_are_in : PathsAreIn
-paths_are_in names recent all steps h node begun d reached =
-    let p = path_in names recent all steps h node reached.0 reached.1 in
-    (p.0, p.1, ap (begun_at Root) p.2 ∙ reached.2, (p.3, p.4, λ x. reached.3 x ∙ p.5 x))
+-- it begins with the same set, and what its parts compose to is what the deltas do
+pub path_leads : (names : ℕ) (recent : List Event) (all : List PartedStep) (steps : List Stepped) → AreStepped names recent all steps → (node : NodeId) (own : List Stepped) → Path steps node own
+    → (d : Delta) → Composes d (step_deltas own)
+    → (walk : List PartedStep) × PathIn all node walk × (begun_at Root (map (λ (t : PartedStep). t.0) walk) ≡ begun_at Root (step_edges own)) × Folds (Ok d) (steps_in names recent walk)
+path_leads names recent all steps h node own path d composes =
+    let p = path_in names recent all steps h node own path in
+    (p.0, p.1, ap (begun_at Root) p.2, (p.3, p.4, λ x. composes x ∙ p.5 x))

@@ -1,50 +1,28 @@
 -- What is written for each target of a tree leads to it: what the steps of its path do, and then its last events.
-use Rattle.std.proofs.Common.{◌≡◌, ◌<◌, ◌≤◌, ◌+◌, ◌≢◌, Bool, true, false, cond, ℕ, suc, List, [], ◌∷◌, ◌++◌, length, get_or, map, take, drop, Ok, Err, refl, sym, ap, subst, ◌∙◌, arith, length-take}
+use Rattle.std.proofs.Common.{◌≡◌, ◌<◌, ◌≤◌, ◌+◌, ◌≢◌, cond, ℕ, suc, List, [], ◌∷◌, ◌++◌, length, get_or, map, take, drop, Ok, Err, refl, sym, ap, subst, ◌∙◌, arith, length-take}
 use Rattle.std.proofs.lemmas.List.{drop_more, take_more, take_all, take-append-drop}
 use Rattle.dg_graph.specs.declared.event.Event.{Event}
-use Rattle.dg_graph.specs.Composition.{Delta, Composes, composition, says, then_says}
-use Rattle.dg_delta.proofs.Deltas.{can_be_cut, says-composed}
+use Rattle.dg_graph.specs.Composition.{Delta}
 use Rattle.dg_history.specs.declared.node.NodeId.TheVariants.{Root}
-use Rattle.dg_fold.specs.declared.branch_walk.Stepped.{Stepped}
+use Rattle.dg_fold.specs.declared.tree_step.Stepped.{Stepped}
 use Rattle.dg_fold.specs.declared.fault.FoldFault.{FoldFault}
 use Rattle.dg_fold.specs.declared.fault.FoldFault.TheVariants as fault
 use Rattle.dg_fold.specs.declared.part.Part.{Part}
 use Rattle.dg_fold.specs.declared.tree.Branch.{Branch}
-use Rattle.dg_fold.specs.declared.tree.Lead.{Lead}
 use Rattle.dg_fold.specs.declared.writing.Writing.{Writing}
-use Rattle.dg_fold.specs.Ends.{last_in, lasts_in, LeadsUntil, AreLedUntil, FailsIn}
+use Rattle.dg_fold.specs.Ends.{last_in, lasts_in, Lead, LeadsUntil, AreLedUntil, FailsIn}
 use Rattle.dg_fold.specs.Parts.{beside, Folds}
 use Rattle.dg_fold.specs.PathIndependence.{begun_at}
 use Rattle.dg_fold.specs.Steps.{PartedStep, steps_in}
 use Rattle.dg_fold.specs.TreeSteps.{AreStepped, step_edges, step_deltas}
-use Rattle.dg_fold.specs.Writings.{composed_all, is_for, written_for, AreWrittenFrom}
+use Rattle.dg_fold.specs.Writings.{composed_all, written_for, AreWrittenFrom}
 use Rattle.dg_fold.specs.WritingSteps.{AreLasts, IsForOnly, IsWritten}
 use Rattle.dg_fold.proofs.EndTargets.{lasts_cut}
 use Rattle.dg_fold.proofs.PartCompositions.{folds_both}
-use Rattle.dg_fold.proofs.TreeStepPaths.{paths_are_in}
-
--- ---- deltas as one
-
-composes_all : (list : List Delta) → Composes (composed_all list) list
-composes_all [] x = refl
-composes_all (d ∷ later) x = says-composed d (composed_all later) x ∙ ap (then_says (says d x)) (composes_all later x)
-
--- as one, or with all but the last as one
-composes_last : (list : List Delta) (last : Delta) → Composes (composed_all (list ++ last ∷ [])) (composed_all list ∷ last ∷ [])
-composes_last list last x =
-    composes_all (list ++ last ∷ []) x ∙ can_be_cut list (last ∷ []) x
-    ∙ ap (λ w. then_says w (composition (last ∷ []) x)) (sym (composes_all list x))
+use Rattle.dg_fold.proofs.TreeStepPaths.{path_leads}
+use Rattle.dg_fold.proofs.WritingCompositions.{composes_all, composes_last}
 
 -- ---- what is written for a target
-
-pub written_cut : (n : ℕ) (xs ys : List Writing) → written_for n (xs ++ ys) ≡ written_for n xs ++ written_for n ys
-written_cut n [] ys = refl
-written_cut n (w ∷ xs) ys = by (is_for n w) (written_cut n xs ys)
-  where
-    by : (b : Bool) → written_for n (xs ++ ys) ≡ written_for n xs ++ written_for n ys
-        → cond b (w.delta ∷ written_for n (xs ++ ys)) (written_for n (xs ++ ys)) ≡ cond b (w.delta ∷ written_for n xs) (written_for n xs) ++ written_for n ys
-    by true again = ap (λ l. w.delta ∷ l) again
-    by false again = again
 
 for_another : (n m : ℕ) (w : Writing) (writings : List Writing) → IsForOnly m w → n ≢ m → written_for n (w ∷ writings) ≡ written_for n writings
 for_another n m w writings only apart = ap (λ b. cond b (w.delta ∷ written_for n writings) (written_for n writings)) (only.1 n apart)
@@ -105,7 +83,7 @@ module _ (names : ℕ) (recent : List Event) (parts : List Part) where
               (lasts_more 0 i (take i branches) (take i times) lasts one at w fronts (omega (arith, length-take i branches)) u.done for folds)));
           list = u.list ++ (folds.0 ++ []);
           due = (λ j. lasts_in names recent parts (next_branches j) (next_times j))
-              ∙ lasts_cut names recent parts [] (take i branches) (take i times) (one ∷ []) (at ∷ []) fronts ∙ (λ j. beside (u.due j) (beside (folds.1 j) (Ok [])));
+              ∙ lasts_cut names recent parts (take i branches) (take i times) (one ∷ []) (at ∷ []) fronts ∙ (λ j. beside (u.due j) (beside (folds.1 j) (Ok [])));
         }
 
     pub written_fails : (f : FoldFault) → Folds (Err f) (last_in names recent parts (get_or branches i b).to (get_or times i t)) → FailsIn f (lasts_in names recent parts branches times)
@@ -116,7 +94,7 @@ module _ (names : ℕ) (recent : List Event) (parts : List Part) where
         let apart_times = sym (take-append-drop i times) ∙ ap (λ l. take i times ++ l) (drop_more times i t (omega arith)) in
         let more = lasts_in names recent parts (drop (i + 1) branches) (drop (i + 1) times) in
         (λ j. lasts_in names recent parts (apart j) (apart_times j))
-        ∙ lasts_cut names recent parts [] (take i branches) (take i times) (one ∷ drop (i + 1) branches) (at ∷ drop (i + 1) times) fronts
+        ∙ lasts_cut names recent parts (take i branches) (take i times) (one ∷ drop (i + 1) branches) (at ∷ drop (i + 1) times) fronts
         ∙ (λ j. beside (u.due j) (beside (fails j) more))
     written_fails fault.Memory fails = tt
 
@@ -141,7 +119,7 @@ module _ (names : ℕ) (recent : List Event) (parts : List Part) where
         let deltas = step_deltas own.0 in
         let first = composed_all deltas in
         let begun = begun_at Root (step_edges own.0) in
-        let from = paths_are_in names recent all steps stepped b.to begun first (own.0, own.1, refl, composes_all deltas) in
+        let from = path_leads names recent all steps stepped b.to own.0 own.1 first (composes_all deltas) in
         let delta = composed_all (deltas ++ last ∷ []) in
         let lead : Lead = record { begun = begun; delta = delta } in
         let joined = folds_both delta first last (steps_in names recent from.0) (last_in names recent parts b.to t) from.3 folds (composes_last deltas last) in

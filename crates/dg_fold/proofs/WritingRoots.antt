@@ -7,12 +7,11 @@ use Rattle.dg_history.specs.declared.node.NodeId.{NodeId}
 use Rattle.dg_history.specs.declared.node.NodeId.TheVariants.{Root}
 use Rattle.dg_plan.specs.declared.edge.Edge.{Edge}
 use Rattle.dg_fold.specs.PathIndependence.{IsWalk}
-use Rattle.dg_fold.specs.declared.branch_walk.Stepped.{Stepped}
+use Rattle.dg_fold.specs.declared.tree_step.Stepped.{Stepped}
 use Rattle.dg_fold.specs.declared.tree.Branch.{Branch}
 use Rattle.dg_fold.specs.Trees.{IsAmong, Grow, LeadsToTarget, all_edges}
-use Rattle.dg_fold.specs.TreeSteps.{step_edges}
-use Rattle.dg_fold.specs.WritingSteps.{IsEntered, AreRooted}
-use Rattle.dg_fold.proofs.TreeStepBranches.{own_head}
+use Rattle.dg_fold.specs.TreeSteps.{IsAmongSteps, step_edges}
+use Rattle.dg_fold.specs.WritingSteps.{IsEnteredNode, AreRooted}
 
 -- the node is Root, or one of the edges enters it
 abbrev IsHead : NodeId → List Edge → Type 0
@@ -62,8 +61,14 @@ grown before (b ∷ branches) g leads =
           (subst (λ l. All (λ (c : Branch). IsHead c.to l) branches) same rest.1),
     )
 
+-- the step of an edge
+own_head : (own : List Stepped) (e : Edge) → IsAmong e (step_edges own) → (s : Stepped) × IsAmongSteps s own × (s.edge ≡ e)
+own_head [] e h = absurd h
+own_head (s ∷ own) e (inl is) = (s, inl refl, sym is)
+own_head (s ∷ own) e (inr h) = (let rest = own_head own e h in (rest.0, inr rest.1, rest.2))
+
 -- the same of steps
-to_entered : (n : NodeId) (steps : List Stepped) → IsHead n (step_edges steps) → IsEntered n steps
+to_entered : (n : NodeId) (steps : List Stepped) → IsHead n (step_edges steps) → IsEnteredNode n steps
 to_entered n steps (inl root) = inl root
 to_entered n steps (inr h) =
     let s = own_head steps h.0 h.1 in
@@ -79,14 +84,14 @@ are_rooted branches steps same grow leads front s back is =
     to_entered s.edge.from front
     (rooted_at [] front s back (subst (λ (l : List Stepped). Rooted [] (step_edges l)) is (subst (Rooted []) (sym same) (grown [] branches grow leads).0)))
 
-targets_entered : (all : List Stepped) (branches : List Branch) → All (λ (b : Branch). IsHead b.to (step_edges all)) branches → All (λ n. IsEntered n all) (map (λ (b : Branch). b.to) branches)
-targets_entered all [] h = All-nil (λ n. IsEntered n all)
+targets_entered : (all : List Stepped) (branches : List Branch) → All (λ (b : Branch). IsHead b.to (step_edges all)) branches → All (λ n. IsEnteredNode n all) (map (λ (b : Branch). b.to) branches)
+targets_entered all [] h = All-nil (λ n. IsEnteredNode n all)
 targets_entered all (b ∷ branches) h =
-    All-cons (λ n. IsEntered n all) b.to (map (λ (c : Branch). c.to) branches)
+    All-cons (λ n. IsEnteredNode n all) b.to (map (λ (c : Branch). c.to) branches)
     (to_entered b.to all (All-head (λ (c : Branch). IsHead c.to (step_edges all)) b branches h))
     (targets_entered all branches (All-tail (λ (c : Branch). IsHead c.to (step_edges all)) b branches h))
 
 pub are_entered : (branches : List Branch) (steps : List Stepped) → step_edges steps ≡ all_edges branches → Grow [] branches → All LeadsToTarget branches
-    → All (λ n. IsEntered n steps) (map (λ (b : Branch). b.to) branches)
+    → All (λ n. IsEnteredNode n steps) (map (λ (b : Branch). b.to) branches)
 are_entered branches steps same grow leads =
     targets_entered steps branches (subst (λ l. All (λ (b : Branch). IsHead b.to l) branches) (sym same) (grown [] branches grow leads).1)

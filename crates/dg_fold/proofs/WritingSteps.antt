@@ -7,11 +7,11 @@ use Rattle.std.proofs.lemmas.List.Elements.{All-get_or}
 use Rattle.dg_history.specs.declared.node.NodeId.{NodeId}
 use Rattle.dg_history.specs.declared.node.NodeId.TheVariants.{Root}
 use Rattle.dg_plan.specs.declared.edge.Edge.{Edge}
-use Rattle.dg_fold.specs.declared.branch_walk.Stepped.{Stepped}
+use Rattle.dg_fold.specs.declared.tree_step.Stepped.{Stepped}
 use Rattle.dg_fold.specs.declared.writing.Writing.{Writing}
 use Rattle.dg_fold.specs.TreeSteps.{IsAmongSteps, AreIn, Walks, Begins, step_deltas}
 use Rattle.dg_fold.specs.Writings.{is_for, written_for}
-use Rattle.dg_fold.specs.WritingSteps.{IsEntered, AreRooted, GoesBack, By_the_edge, Stays, IsWritten}
+use Rattle.dg_fold.specs.WritingSteps.{IsEnteredNode, AreRooted, GoesBack, By_the_edge, Stays, IsWritten}
 use Rattle.dg_fold.proofs.Trees.{path_on, behind, either}
 
 -- ---- one step back
@@ -54,7 +54,7 @@ gone_on edge first at i takes g h next taken new one grown = record {
 
 -- What is known of a target's path when it has to reach this node by these steps yet.
 abbrev pub GoneBack : List Stepped → List Stepped → ℕ → NodeId → NodeId → List Writing → Type 0
-GoneBack steps rest n at to writings = (walk : List Stepped) × Walks at walk to × AreIn walk steps × (written_for n writings ≡ step_deltas walk) × IsEntered at rest
+GoneBack steps rest n at to writings = (walk : List Stepped) × Walks at walk to × AreIn walk steps × (written_for n writings ≡ step_deltas walk) × IsEnteredNode at rest
 
 -- What is known when these steps are left; the writings are those behind them, in order.
 pub record Backed (steps rest : List Stepped) (ends at : List NodeId) (writings : List Writing) : Type 0 where
@@ -63,20 +63,20 @@ pub record Backed (steps rest : List Stepped) (ends at : List NodeId) (writings 
   pub parted : steps ≡ rest ++ back
   pub gone : (n : ℕ) → n < length ends → GoneBack steps rest n (get_or at n Root) (get_or ends n Root) writings
 
-pub backed_none : (steps : List Stepped) (ends : List NodeId) (writings : List Writing) → All (λ n. IsEntered n steps) ends → writings ≡ [] → Backed steps steps ends ends writings
+pub backed_none : (steps : List Stepped) (ends : List NodeId) (writings : List Writing) → All (λ n. IsEnteredNode n steps) ends → writings ≡ [] → Backed steps steps ends ends writings
 backed_none steps ends writings entered none = record {
   long = refl;
   back = [];
   parted = sym (append-nil steps);
-  gone = λ n less. ([], refl, λ s h. absurd h, ap (written_for n) none, All-get_or (λ m. IsEntered m steps) ends n Root less entered);
+  gone = λ n less. ([], refl, λ s h. absurd h, ap (written_for n) none, All-get_or (λ m. IsEnteredNode m steps) ends n Root less entered);
 }
 
 -- a node that the last of the steps does not enter
-entered_before : (node : NodeId) (front : List Stepped) (s : Stepped) → IsEntered node (front ++ s ∷ []) → node ≢ s.edge.to → IsEntered node front
+entered_before : (node : NodeId) (front : List Stepped) (s : Stepped) → IsEnteredNode node (front ++ s ∷ []) → node ≢ s.edge.to → IsEnteredNode node front
 entered_before node front s (inl root) apart = inl root
 entered_before node front s (inr e) apart = by (either front (s ∷ []) e.0 e.1)
   where
-    by : IsAmongSteps e.0 front ⊎ IsAmongSteps e.0 (s ∷ []) → IsEntered node front
+    by : IsAmongSteps e.0 front ⊎ IsAmongSteps e.0 (s ∷ []) → IsEnteredNode node front
     by (inl early) = inr (e.0, early, e.2)
     by (inr (inl is)) = absurd (apart (e.2 ∙ ap (λ (t : Stepped). t.edge.to) is))
     by (inr (inr none)) = absurd none
@@ -95,7 +95,7 @@ module _ (steps rest front : List Stepped) (s : Stepped) (ends at next : List No
         (sym from, subst (λ m. Walks m old.0 (get_or ends n Root)) to old.1),
         λ t h. among t h,
         ap (λ b. cond b (w.delta ∷ written_for n writings) (written_for n writings)) takes ∙ (λ j. same j ∷ old.3 j),
-        subst (λ m. IsEntered m front) (sym from) (rooted front s g.back split),
+        subst (λ m. IsEnteredNode m front) (sym from) (rooted front s g.back split),
       )
     where
       among : (t : Stepped) → IsAmongSteps t (s ∷ (g.gone n less).0) → IsAmongSteps t steps
@@ -107,7 +107,7 @@ module _ (steps rest front : List Stepped) (s : Stepped) (ends at next : List No
         subst (λ m. Walks m old.0 (get_or ends n Root)) (sym stays) old.1,
         old.2,
         ap (λ b. cond b (w.delta ∷ written_for n writings) (written_for n writings)) takes ∙ old.3,
-        subst (λ m. IsEntered m front) (sym stays) (entered_before (get_or at n Root) front s (subst (IsEntered (get_or at n Root)) last old.4) apart),
+        subst (λ m. IsEnteredNode m front) (sym stays) (entered_before (get_or at n Root) front s (subst (IsEnteredNode (get_or at n Root)) last old.4) apart),
       )
 
   pub backed_on : length next ≡ length at → Backed steps front ends next (w ∷ writings)
@@ -123,9 +123,9 @@ pub all_written : (steps rest : List Stepped) (ends at : List NodeId) (writings 
     → (n : ℕ) → n < length ends → IsWritten steps n (get_or ends n Root) writings
 all_written steps rest ends at writings g none n less =
     let old = g.gone n less in
-    (old.0, path_on steps old.0 Root (get_or ends n Root) [] Begins (subst (λ m. Walks m old.0 (get_or ends n Root)) (root (subst (IsEntered (get_or at n Root)) none old.4)) old.1) old.2, old.3)
+    (old.0, path_on steps old.0 Root (get_or ends n Root) [] Begins (subst (λ m. Walks m old.0 (get_or ends n Root)) (root (subst (IsEnteredNode (get_or at n Root)) none old.4)) old.1) old.2, old.3)
   where
-    root : IsEntered (get_or at n Root) [] → get_or at n Root ≡ Root
+    root : IsEnteredNode (get_or at n Root) [] → get_or at n Root ≡ Root
     root (inl is) = is
     root (inr e) = absurd e.1
 

@@ -22,7 +22,6 @@ use Rattle.dg_fold.specs.Parts.{beside, deltas_in_part, taken_as, Folds}
 use Rattle.dg_fold.specs.Steps.{PartedStep, steps_in, StepHolds, FoldGoesOn}
 use Rattle.dg_index.specs.IndexRecords.{Events}
 use Rattle.dg_fold.specs.declared.tree.Branch.{Branch}
-use Rattle.dg_fold.specs.declared.tree.Lead.{Lead}
 use Rattle.dg_fold.specs.Trees.{PathIn}
 
 abbrev pub part_until : ℕ → ℕ → Option Part → Result (List Delta) (Key × Column)
@@ -45,6 +44,11 @@ abbrev pub lasts_in : ℕ → List Event → List Part → List Branch → List 
 lasts_in names recent parts [] times = Ok []
 lasts_in names recent parts (b ∷ branches) [] = Ok []
 lasts_in names recent parts (b ∷ branches) (t ∷ times) = beside (last_in names recent parts b.to t) (lasts_in names recent parts branches times)
+
+-- What leads to a target: the node with whose set the tree's path to it begins, and the delta from there.
+pub record Lead : Type 0 where
+  pub begun : NodeId
+  pub delta : Delta
 
 -- Along the tree's path to the node, and on with its events up to the instant: the node with whose set the path
 -- begins, and what leads from there.

@@ -4,7 +4,7 @@ use Rattle.dg_graph.specs.declared.event.Event.{Event}
 use Rattle.dg_history.specs.declared.node.NodeId.{NodeId}
 use Rattle.dg_history.specs.declared.node.NodeId.TheVariants.{Root}
 use Rattle.dg_plan.specs.declared.edge.Edge.{Edge}
-use Rattle.dg_fold.specs.declared.branch_walk.Stepped.{Stepped}
+use Rattle.dg_fold.specs.declared.tree_step.Stepped.{Stepped}
 use Rattle.dg_fold.specs.declared.part.Part.{Part}
 use Rattle.dg_fold.specs.declared.tree.Branch.{Branch}
 use Rattle.dg_fold.specs.declared.writing.Writing.{Writing}
@@ -14,12 +14,12 @@ use Rattle.dg_fold.specs.TreeSteps.{IsAmongSteps, Path, step_deltas}
 use Rattle.dg_fold.specs.Writings.{is_for, written_for}
 
 -- one of the steps enters the node, or it is Root, where paths begin
-abbrev pub IsEntered : NodeId → List Stepped → Type 0
-IsEntered node steps = (node ≡ Root) ⊎ ((s : Stepped) × IsAmongSteps s steps × (node ≡ s.edge.to))
+abbrev pub IsEnteredNode : NodeId → List Stepped → Type 0
+IsEnteredNode node steps = (node ≡ Root) ⊎ ((s : Stepped) × IsAmongSteps s steps × (node ≡ s.edge.to))
 
 -- each step leaves Root, or a node that a step before it enters
 abbrev pub AreRooted : List Stepped → Type 0
-AreRooted steps = (front : List Stepped) (s : Stepped) (back : List Stepped) → steps ≡ front ++ s ∷ back → IsEntered s.edge.from front
+AreRooted steps = (front : List Stepped) (s : Stepped) (back : List Stepped) → steps ≡ front ++ s ∷ back → IsEnteredNode s.edge.from front
 
 -- A path that has still to reach this node goes back by the edge where the edge enters the node; or it stays.
 pub data GoesBack (edge : Edge) (node next : NodeId) (takes : Bool) : Type 0 where

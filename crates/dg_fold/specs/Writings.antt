@@ -1,8 +1,8 @@
 -- Deltas that are written for several targets of a tree, one after another.
 use Rattle.std.specs.Prelude.{◌≡◌, ℕ, suc, Bool, false, List, [], ◌∷◌, if◌then◌else◌, slice_index_or}
 use Rattle.dg_delta.specs.Deltas.{composed}
-use Rattle.dg_fold.specs.declared.tree.Lead.{Lead}
 use Rattle.dg_fold.specs.declared.writing.Writing.{Writing}
+use Rattle.dg_fold.specs.Ends.{Lead}
 use Rattle.dg_graph.specs.Composition.{Delta, nothing}
 
 -- the deltas as one

@@ -1,9 +1,9 @@
-//! Reading the records of a walk through the index of a history, and composing them: along a plan, and along
-//! each path of a tree. docs/MODEL.md has the definitions.
+//! Reading the records of a walk through the index of a history, and composing them: along a plan, or, along a tree,
+//! into deltas that are each written once for all targets behind it. docs/MODEL.md has the definitions.
 #![tactic(auto)]
 
-mod branch_walk;
 mod column;
+mod composing;
 mod ends;
 mod fault;
 mod fetch;
@@ -18,6 +18,7 @@ mod tree;
 mod tree_step;
 mod writing;
 
+pub use composing::compose_for;
 pub use dg_delta::Delta;
 pub use fault::FoldFault;
 pub use fetch::fetch_walk;
@@ -30,5 +31,5 @@ pub use laws::{
 };
 pub use part::{Bytes, Part};
 pub use plan::compose_plan;
-pub use tree::{Branch, Lead, compose_tree};
+pub use tree::Branch;
 pub use writing::{Writing, write_tree};

@@ -5,7 +5,6 @@ ghost use Rattle.dg_fold.specs.Parts.{Folds};
 ghost use Rattle.dg_fold.specs.Steps.{names_record, part_deltas, paired, step_by};
 ghost use Rattle.dg_fold.specs.TreeSteps.{AreStepped, FailsAt};
 
-use crate::branch_walk::Stepped;
 use crate::column::part_delta;
 use crate::fault::FoldFault;
 use crate::net::net_of;
@@ -15,6 +14,13 @@ use dg_graph::Event;
 use dg_plan::{Edge, Via};
 use std::alloc::Global;
 use std::thread::Threads;
+
+/// A step of a tree, with what it does.
+#[derive(Drop)]
+pub(crate) struct Stepped {
+    pub edge: Edge,
+    pub delta: Delta,
+}
 
 // The delta of the first of the parts, or the one that changes nothing.
 fn first_delta<R: Threads>(
@@ -63,7 +69,7 @@ fn parts_behind(via: Via, parts: &[Part]) -> &[Part]
 }
 
 /// The deltas of the edges, one after another; the parts are those of the edges that name a record.
-pub(crate) fn stepped<R: Threads>(
+pub(crate) fn steps_along<R: Threads>(
     rt: &R,
     alloc: Global,
     names: u32,

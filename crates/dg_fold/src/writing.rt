@@ -1,24 +1,22 @@
 //! The deltas of a tree, each written once for all targets behind it.
 
-ghost use Rattle.std.specs.Prelude.{◌≡◌, ◌≢◌, ◌<◌, ℕ, false, [], List, get_or, length, map, IfOk, IfErr, OnOk, Ok};
+ghost use Rattle.std.specs.Prelude.{◌≡◌, ◌<◌, ℕ, false, [], List, get_or, length, map, IfOk, IfErr, IsTrue, OnOk, Ok};
 ghost use Rattle.std.specs.List.{All};
-ghost use Rattle.dg_fold.specs.declared.tree.Lead.{Lead};
-ghost use Rattle.dg_fold.specs.Ends.{AreLedUntil, FailsIn, lasts_in};
+ghost use Rattle.dg_fold.specs.Ends.{AreLedUntil, FailsIn, Lead, lasts_in};
 ghost use Rattle.dg_fold.specs.Parts.{beside};
 ghost use Rattle.dg_fold.specs.Steps.{paired, steps_in};
 ghost use Rattle.dg_fold.specs.Trees.{Grow, LeadsToTarget, all_edges};
 ghost use Rattle.dg_fold.specs.Writings.{AreWrittenFrom};
-ghost use Rattle.dg_fold.specs.WritingSteps.{AreLasts, AreRooted, GoesBack, IsEntered, IsForOnly, IsWritten};
+ghost use Rattle.dg_fold.specs.WritingSteps.{AreLasts, AreRooted, GoesBack, IsEnteredNode, IsForOnly, IsWritten};
 ghost use Rattle.dg_fold.specs.declared.tree.Branch.{Branch};
 ghost use Rattle.dg_graph.specs.Composition.{Delta};
 ghost use Rattle.dg_history.specs.declared.node.NodeId.TheVariants.{Root};
-ghost use Rattle.dg_plan.specs.declared.edge.Edge.{Edge};
 
-use crate::branch_walk::{Stepped, is_same};
 use crate::ends::last_delta;
 use crate::fault::FoldFault;
 use crate::part::Part;
 use crate::tree::{Branch, steps_of};
+use crate::tree_step::Stepped;
 use dg_delta::Delta;
 use dg_graph::Event;
 use dg_history::NodeId;
@@ -44,6 +42,14 @@ fn ends_of(alloc: Global, branches: &[Branch]) -> Result<Vec<NodeId>, AllocError
         nodes.push(branch.to)?;
     }
     Ok(nodes)
+}
+
+// Whether the two are one node.
+fn is_same(left: NodeId, right: NodeId) -> bool
+    ensures same { IsTrue result → left ≡ right }
+    ensures all { left ≡ right → IsTrue result }
+{
+    left == right
 }
 
 // Goes back by an edge: a path that has still to reach the node behind it has then to reach the one before it. Answers
@@ -78,7 +84,7 @@ fn write_back(
     ends: Vec<NodeId>,
 ) -> Result<Vec<Writing>, AllocError>
     requires rooted { AreRooted steps.items }
-    requires entered { All (λ node. IsEntered node steps.items) ends.items }
+    requires entered { All (λ node. IsEnteredNode node steps.items) ends.items }
     ensures { IfOk result (λ v. (n : ℕ) → n < length ends.items → IsWritten steps.items n (get_or ends.items n Root) v.items) }
 {
     let mut writings = Vec::with_capacity(alloc, steps.len())?;
@@ -154,7 +160,6 @@ pub fn write_tree<R: Threads>(
 ) -> Result<Vec<Writing>, FoldFault>
     requires lead { All LeadsToTarget branches.now }
     requires grow { Grow [] branches.now }
-    requires on { All (λ (e : Edge). e.to ≢ Root) (all_edges branches.now) }
     requires times { length times.now ≡ length branches.now }
     ensures ok { IfOk result (λ v. (leads : List Lead) × AreLedUntil names recent.now parts.now (paired (all_edges branches.now) parts.now) branches.now times.now leads
         × AreWrittenFrom 0 leads v.items) }

@@ -16,10 +16,9 @@ use Rattle.dg_handles.proofs.WrittenSlots.{led_by_all}
 use Rattle.dg_pool.specs.Changes.{CanChange}
 use Rattle.dg_pool.specs.Graphs.{PoolState, SameGraphs, SlotGraph, graph_now, is_listed, slot_graph}
 use Rattle.dg_pool.specs.Sweeps.{members_as}
-use Rattle.dg_retrieval.specs.Beginnings.{base_handle, begun_with, leads_from}
+use Rattle.dg_retrieval.specs.Beginnings.{GraphLead, base_handle, begun_with, leads_from}
 use Rattle.dg_retrieval.specs.declared.graph_lead.Beginning.{Beginning}
 use Rattle.dg_retrieval.specs.declared.graph_lead.Beginning.TheVariants as begins
-use Rattle.dg_retrieval.specs.declared.graph_lead.GraphLead.{GraphLead}
 
 -- ---- what the leads begin with
 

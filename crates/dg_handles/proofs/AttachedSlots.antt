@@ -20,10 +20,9 @@ use Rattle.dg_pool.specs.Changes.{NoneRestsOn, numbers_of}
 use Rattle.dg_pool.specs.Graphs.{PoolState, SameGraphs, SlotGraph, graph_now, is_listed, slot_graph}
 use Rattle.dg_pool.specs.Slots.{AllLive, BaseFits, IsBaseWith, base_members}
 use Rattle.dg_pool.specs.Sweeps.{members_as}
-use Rattle.dg_retrieval.specs.Beginnings.{base_handle, begun_with, led_to}
+use Rattle.dg_retrieval.specs.Beginnings.{GraphLead, base_handle, begun_with, led_to}
 use Rattle.dg_retrieval.specs.declared.graph_lead.Beginning.{Beginning}
 use Rattle.dg_retrieval.specs.declared.graph_lead.Beginning.TheVariants as begins
-use Rattle.dg_retrieval.specs.declared.graph_lead.GraphLead.{GraphLead}
 
 -- ---- which graph a slot has
 

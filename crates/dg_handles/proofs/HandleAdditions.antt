@@ -9,9 +9,8 @@ use Rattle.dg_handles.proofs.HandleEntries.{Entries, handles_in}
 use Rattle.dg_machine.specs.declared.stands.Stands.{Stands}
 use Rattle.dg_machine.specs.declared.stands.Stands.TheVariants.{Overlay}
 use Rattle.dg_pool.specs.declared.slots.Slot.{Slot}
-use Rattle.dg_retrieval.specs.Beginnings.{base_handle}
+use Rattle.dg_retrieval.specs.Beginnings.{GraphLead, base_handle}
 use Rattle.dg_retrieval.specs.declared.graph_lead.Beginning.{Beginning}
-use Rattle.dg_retrieval.specs.declared.graph_lead.GraphLead.{GraphLead}
 use Rattle.dg_pool.specs.Changes.{numbers_of}
 
 -- ---- overlays, one more

@@ -7,10 +7,9 @@ use Rattle.dg_pool.specs.declared.slots.Base.{Base}
 use Rattle.dg_pool.specs.declared.slots.Base.TheVariants as base
 use Rattle.dg_pool.specs.Changes.{AreDistinct}
 use Rattle.dg_pool.specs.Graphs.{PoolState, SlotGraph, graph_now, is_listed, slot_graph}
-use Rattle.dg_retrieval.specs.Beginnings.{begun_with, led_to}
+use Rattle.dg_retrieval.specs.Beginnings.{GraphLead, begun_with, led_to}
 use Rattle.dg_retrieval.specs.declared.graph_lead.Beginning.{Beginning}
 use Rattle.dg_retrieval.specs.declared.graph_lead.Beginning.TheVariants as begins
-use Rattle.dg_retrieval.specs.declared.graph_lead.GraphLead.{GraphLead}
 
 -- what a graph rests on that begins so: the current graph, or the slot of the handle
 abbrev pub resting : HandlesState → Beginning → Base

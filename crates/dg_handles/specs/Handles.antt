@@ -15,9 +15,8 @@ use Rattle.dg_pool.specs.declared.slots.SlotState.TheVariants as state
 use Rattle.dg_pool.specs.Changes.{AreDistinct}
 use Rattle.dg_pool.specs.Graphs.{PoolState, SlotGraph, graph_now, is_listed, is_live, slot_at, slot_graph}
 use Rattle.dg_pool.specs.Sweeps.{cells_of, members_as, union_of as pool_union}
-use Rattle.dg_retrieval.specs.Beginnings.{base_handle}
+use Rattle.dg_retrieval.specs.Beginnings.{GraphLead, base_handle}
 use Rattle.dg_retrieval.specs.declared.graph_lead.Beginning.{Beginning}
-use Rattle.dg_retrieval.specs.declared.graph_lead.GraphLead.{GraphLead}
 
 -- The live handles with what each stands for, the oldest first; the slot of each; and the number of the next handle.
 pub record HandlesState : Type 0 where

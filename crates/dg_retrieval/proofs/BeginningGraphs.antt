@@ -3,8 +3,7 @@ use Rattle.std.proofs.Common.{◌≡◌, ℕ, List as ListOf, [], ◌∷◌, map
 use Rattle.std.specs.List.{AllZip}
 use Rattle.dg_fold.specs.declared.part.Part.{Part}
 use Rattle.dg_fold.specs.declared.tree.Branch.{Branch}
-use Rattle.dg_fold.specs.declared.tree.Lead.{Lead}
-use Rattle.dg_fold.specs.Ends.{AreLedUntil, LeadsUntil}
+use Rattle.dg_fold.specs.Ends.{AreLedUntil, Lead, LeadsUntil}
 use Rattle.dg_fold.specs.Steps.{paired}
 use Rattle.dg_graph.specs.declared.element.Columns.{Columns}
 use Rattle.dg_graph.specs.declared.element.Element.{Element}
@@ -23,8 +22,7 @@ use Rattle.dg_plan.specs.InstantPoint.{point}
 use Rattle.dg_plan.specs.Walks.{Graft}
 use Rattle.dg_retrieval.specs.declared.graph_lead.Beginning.{Beginning}
 use Rattle.dg_retrieval.specs.declared.graph_lead.Beginning.TheVariants as begins
-use Rattle.dg_retrieval.specs.declared.graph_lead.GraphLead.{GraphLead}
-use Rattle.dg_retrieval.specs.Beginnings.{LeadsAs, BeginningStandsFor, begun_with, led_to}
+use Rattle.dg_retrieval.specs.Beginnings.{GraphLead, LeadsAs, BeginningStandsFor, begun_with, led_to}
 use Rattle.dg_retrieval.specs.Branches.{AreBranches}
 use Rattle.dg_retrieval.specs.Retrieval.{AreHeld, ArePoints, graphs_at}
 use Rattle.dg_retrieval.proofs.HistoryTreeLaws.{ReachesInstants}

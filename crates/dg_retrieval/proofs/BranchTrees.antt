@@ -1,18 +1,15 @@
 -- The branches of a tree of plans: what each leads to, where it begins, and which edges they have together.
-use Rattle.std.proofs.Common.{◌≡◌, ℕ, zero, suc, ◌+◌, ◌<◌, true, cond, List as ListOf, [], ◌∷◌, ◌++◌, map, length, Option, Some, None, refl, sym, ap, subst, ◌∙◌, arith, take, append_assoc, inl, inr, ⊎_elim}
-use Rattle.std.specs.Prelude.{◌≢◌, ◌⊎◌, not, slice_get, get_or}
+use Rattle.std.proofs.Common.{◌≡◌, ℕ, zero, suc, ◌+◌, ◌<◌, List as ListOf, [], ◌∷◌, ◌++◌, map, length, Option, Some, None, refl, sym, ap, subst, ◌∙◌, arith, take, append_assoc, inl, inr, ⊎_elim}
+use Rattle.std.specs.Prelude.{◌⊎◌, slice_get, get_or}
 use Rattle.std.specs.Option.{option_map, option_to_list}
-use Rattle.std.specs.List.{All, Contains, flat_map}
-use Rattle.std.proofs.lemmas.Bool.{false≢true}
+use Rattle.std.specs.List.{All, Contains}
 use Rattle.std.proofs.lemmas.List.{append-nil, take_more}
-use Rattle.std.proofs.lemmas.List.Elements.{All-cons, All-nil, All-weaker, Contains-append_cases, filter_passes}
+use Rattle.std.proofs.lemmas.List.Elements.{All-cons, All-nil, Contains-append_cases}
 use Rattle.std.proofs.lemmas.Option.{same_Some, slice_get-map, slice_get_within, get_or_from_slice_get}
 use Rattle.dg_history.specs.declared.node.NodeId.{NodeId}
 use Rattle.dg_history.specs.declared.node.NodeId.TheVariants.{Root}
-use Rattle.dg_index.specs.Hierarchy.{numbers}
-use Rattle.dg_index.specs.IndexRecords.{heights}
 use Rattle.dg_plan.specs.declared.edge.Edge.{Edge}
-use Rattle.dg_plan.specs.IndexGraph.{Ground, arc_of, arcs_of, edges_of, first_edges, is_root, level_edges, list_edges, recent_edges}
+use Rattle.dg_plan.specs.IndexGraph.{arc_of, arcs_of}
 use Rattle.dg_plan.specs.Walks.{Arc, Graft, IsTree, Leads, entered, steps_of}
 use Rattle.dg_fold.specs.declared.tree.Branch.{Branch}
 use Rattle.dg_fold.specs.PathIndependence.{IsWalk}
@@ -58,23 +55,6 @@ entered_heads edges (i ∷ steps) =
     by : entered (arcs_of edges) steps ≡ map (λ (e : Edge). e.to) (edges_at edges steps) → (o : Option Edge) → option_to_list (option_map (λ (x : Arc NodeId). x.to) (option_map arc_of o)) ++ entered (arcs_of edges) steps ≡ map (λ (e : Edge). e.to) (option_to_list o ++ edges_at edges steps)
     by rest None = rest
     by rest (Some e) = ap (λ t. e.to ∷ t) rest
-
--- ---- no edge of the graph of an index enters the root
-
--- the edges before any is left out
-abbrev all_edges_of : Ground → ListOf Edge
-all_edges_of g =
-    first_edges g
-    ++ (flat_map (list_edges g.weight) (numbers 0 g.leaves)
-    ++ (flat_map (level_edges g.weight g.leaves g.arity) (heights g.arity g.leaves) ++ cond g.memory (recent_edges g.leaves) []))
-
-pub none_enters_root : (g : Ground) → All (λ (e : Edge). e.to ≢ Root) (edges_of g)
-none_enters_root g =
-    All-weaker (λ (e : Edge). not (is_root e.to) ≡ true) (λ (e : Edge). e.to ≢ Root) (λ e passes is. false≢true (sym (ap (λ n. not (is_root n)) is) ∙ passes)) (edges_of g)
-    (filter_passes (λ (e : Edge). not (is_root e.to)) (all_edges_of g))
-
-pub steps_off_root : (g : Ground) (steps : ListOf ℕ) → All (λ (e : Edge). e.to ≢ Root) (edges_at (edges_of g) steps)
-steps_off_root g steps = all_at (λ (e : Edge). e.to ≢ Root) (edges_of g) steps (none_enters_root g)
 
 -- ---- the branches
 
@@ -136,12 +116,6 @@ branches_hold edges (u ∷ targets) [] branches are = elim are [ ]
 branches_hold edges (u ∷ targets) (y ∷ grafts) [] are = elim are [ ]
 branches_hold edges (u ∷ targets) (y ∷ grafts) (c ∷ branches) are =
     (λ i. are.0.steps i ++ branches_hold edges targets grafts branches are.1 i) ∙ sym (edges_at-append edges y.steps (steps_of grafts))
-
--- no edge of a branch enters the root
-pub branches_off_root : (g : Ground) (targets : ListOf NodeId) (grafts : ListOf (Graft NodeId)) (branches : ListOf Branch) → AreBranches (edges_of g) targets grafts branches
-    → All (λ (e : Edge). e.to ≢ Root) (all_edges branches)
-branches_off_root g targets grafts branches are =
-    subst (λ (edges : ListOf Edge). All (λ (e : Edge). e.to ≢ Root) edges) (sym (branches_hold (edges_of g) targets grafts branches are)) (steps_off_root g (steps_of grafts))
 
 -- ---- they grow
 

@@ -1,6 +1,5 @@
 -- Walks over the records that an index keeps: what reading them asks for, what they weigh, and which records they name.
 use Rattle.std.proofs.Common.{◌≡◌, ℕ, ◌<◌, Bool, true, List as ListOf, [], ◌∷◌, get_or, length, is_some, refl, sym, ap, subst, ◌∙◌, arith}
-use Rattle.std.specs.Prelude.{◌≢◌}
 use Rattle.std.specs.List.{All, Contains}
 use Rattle.std.specs.Map.{lookup}
 use Rattle.std.proofs.lemmas.List.Elements.{All-contains, All-contains_itself, All-weaker}
@@ -29,7 +28,7 @@ use Rattle.dg_plan.specs.Walks.{Graft, IsTree, steps_of, weight_of}
 use Rattle.dg_plan.proofs.EnteredRecordTrees.{all_flat}
 use Rattle.dg_retrieval.specs.KeptGraph.{HoldNoList, index_edges, index_ground}
 use Rattle.dg_retrieval.proofs.KeptGraphRecords.{NamesWhatExists, named_edges}
-use Rattle.dg_retrieval.proofs.BranchTrees.{all_at, steps_off_root}
+use Rattle.dg_retrieval.proofs.BranchTrees.{all_at}
 use Rattle.dg_retrieval.proofs.KeptGraphTrees.{edges_kept, tree_holds}
 use Rattle.dg_retrieval.proofs.KeptGraphWeights.{has_columns, opened_events, opened_params, steps_weigh}
 
@@ -44,10 +43,6 @@ module _ (o : Opening) (cols : Columns) (memory : Bool) (bases : ListOf (ℕ × 
   -- they are edges of the graph
   pub walk_among : All (Contains (index_edges o cols memory bases)) walk
   walk_among = walk_all (Contains (index_edges o cols memory bases)) (All-contains_itself (index_edges o cols memory bases))
-
-  -- no edge enters the root
-  pub walk_off_root : All (λ (e : Edge). e.to ≢ Root) walk
-  walk_off_root = subst (λ (es : ListOf Edge). All (λ (e : Edge). e.to ≢ Root) es) (sym in_graph) (steps_off_root (index_ground o cols memory bases) steps)
 
   -- the index keeps each record that is entered
   pub walk_kept : are_parameters o.params.l o.params.k ≡ true → AreKept o → All (λ (e : Edge). IsKept o e.via) walk

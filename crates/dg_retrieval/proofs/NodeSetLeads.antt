@@ -1,13 +1,13 @@
 -- The sets of nodes, by what leads to them along a tree over the records of an index.
-use Rattle.std.proofs.Common.{◌≡◌, ℕ, true, false, List as ListOf, [], ◌∷◌, Option, Result, Ok, Err, IfSome, append-nil, length, map, refl, sym, ap, subst, ◌∙◌}
+use Rattle.std.proofs.Common.{◌≡◌, ◌<◌, ◌≤◌, ◌+◌, ℕ, true, false, List as ListOf, [], ◌∷◌, ◌++◌, Option, Result, Ok, Err, IfSome, append-nil, get_or, length, map, take, refl, sym, ap, subst, ◌∙◌, arith}
 use Rattle.std.specs.List.{All, AllZip}
 use Rattle.std.proofs.lemmas.Bool.{false≢true}
+use Rattle.std.proofs.lemmas.List.{map-append, take_all, take_more}
 use Rattle.std.proofs.lemmas.List.Elements.{All-head, All-map, All-nil, All-push, All-tail}
 use Rattle.std.proofs.lemmas.Option.{IfSome_then}
 use Rattle.dg_fold.specs.declared.part.Part.{Part}
 use Rattle.dg_fold.specs.declared.tree.Branch.{Branch}
-use Rattle.dg_fold.specs.declared.tree.Lead.{Lead}
-use Rattle.dg_fold.specs.Ends.{AreLedUntil, LeadsUntil, last_in}
+use Rattle.dg_fold.specs.Ends.{AreLedUntil, Lead, LeadsUntil, last_in}
 use Rattle.dg_fold.specs.Parts.{Folds, beside}
 use Rattle.dg_fold.specs.PathIndependence.{begun_at}
 use Rattle.dg_fold.specs.Steps.{PartedStep, paired, step_by, steps_in, names_record}
@@ -16,7 +16,8 @@ use Rattle.dg_fold.specs.Trees.PathIn.{Begins_at_root, Steps_on}
 use Rattle.dg_graph.specs.declared.element.Column.{Column}
 use Rattle.dg_graph.specs.declared.element.Element.{Element}
 use Rattle.dg_graph.specs.declared.event.Event.{Event}
-use Rattle.dg_graph.specs.Composition.{Delta, applied}
+use Rattle.dg_fold.specs.Writings.{composed_all, written_for}
+use Rattle.dg_graph.specs.Composition.{Delta, IsDelta, applied}
 use Rattle.dg_graph.specs.Elements.{shown}
 use Rattle.dg_history.specs.declared.node.Key.{Key}
 use Rattle.dg_history.specs.declared.node.NodeId.{NodeId}
@@ -30,8 +31,9 @@ use Rattle.dg_plan.specs.declared.edge.Via.{Via}
 use Rattle.dg_plan.specs.declared.edge.Via.TheVariants as via
 use Rattle.dg_plan.specs.HistoryGraph.{all_columns}
 use Rattle.dg_plan.specs.Walks.{Graft, steps_of}
-use Rattle.dg_retrieval.specs.declared.graph_lead.GraphLead.{GraphLead}
-use Rattle.dg_retrieval.specs.Beginnings.{LeadsAs}
+use Rattle.dg_retrieval.specs.declared.graph_lead.Beginning.TheVariants.{Nothing}
+use Rattle.dg_retrieval.specs.declared.graph_lead.Leads.{Leads}
+use Rattle.dg_retrieval.specs.Beginnings.{GraphLead, LeadsAs, leads_in}
 use Rattle.dg_retrieval.specs.KeptGraph.{record_edges, record_ground}
 use Rattle.dg_retrieval.specs.NodeSets.{HasNoEvents, IsIndexOver, sets_of}
 use Rattle.dg_retrieval.specs.TreeLeads.{AreTreeLeads}
@@ -39,6 +41,8 @@ use Rattle.dg_retrieval.proofs.HistoryTreeLaws.{ReachesNodes, nodes_reach}
 use Rattle.dg_retrieval.proofs.KeptGraphWalks.{walk_all, walk_among, walk_records}
 use Rattle.dg_retrieval.proofs.KeptGraphRecords.{graph_of_index}
 use Rattle.dg_retrieval.proofs.BeginningGraphs.{ends_are}
+use Rattle.dg_retrieval.proofs.BeginningLeads.{delta_led, leads_many}
+use Rattle.dg_retrieval.proofs.NodeSetPlans.{from_nothing as put_in}
 use Rattle.dg_retrieval.proofs.StepRecords.{TakesRecord, all_shown, begins_there, edges_take}
 use Rattle.dg_retrieval.proofs.BeginningBases.{step_has}
 use Rattle.dg_retrieval.proofs.BranchTrees.{branches_hold}
@@ -145,3 +149,20 @@ module _ (o : Opening) (edges : ListOf Edge) (is : edges ≡ record_edges o) (ta
   pub sets_are : (image : Option (ListOf ℕ)) → IfSome image (λ im. AreTreeLeads names [] edges o all_columns targets grafts times leads im)
       → (sets : ListOf (ListOf Element)) → sets ≡ map from_nothing leads → IfSome image (λ im. (z : History) → IsIndexOver z im o names → sets ≡ sets_of z targets)
   sets_are image led sets come = IfSome_then image led (λ im there z over. come ∙ gives im there z over)
+
+-- ---- one set after another
+
+module _ (leads : Leads) (n : ℕ) where
+  pub sets_more : (d : Delta) (set : ListOf Element) (sets new : ListOf (ListOf Element)) → n < length leads.begins.items → d ≡ composed_all (written_for n leads.writings.items) → IsDelta d → set ≡ d.plus
+      → sets ≡ map from_nothing (take n (leads_in leads)) → new ≡ sets ++ set ∷ [] → new ≡ map from_nothing (take (n + 1) (leads_in leads))
+  sets_more d set sets new within written sound puts so_far grown =
+      let begins = leads.begins.items in
+      let writings = leads.writings.items in
+      let all = leads_in leads in
+      let some : GraphLead = record { begins = Nothing; delta = d } in
+      let here : set ≡ from_nothing (get_or all n some) = puts ∙ put_in d sound ∙ ap (λ (e : Delta). applied e []) (written ∙ sym (delta_led 0 n n begins writings some (omega arith) within)) in
+      grown ∙ (λ j. so_far j ++ here j ∷ []) ∙ sym (map-append from_nothing (take n all) (get_or all n some ∷ []))
+      ∙ ap (map from_nothing) (sym (take_more all n some (omega (arith, within, leads_many 0 begins writings))))
+
+  pub sets_all : (sets : ListOf (ListOf Element)) → length leads.begins.items ≤ n → sets ≡ map from_nothing (take n (leads_in leads)) → sets ≡ map from_nothing (leads_in leads)
+  sets_all sets end so_far = so_far ∙ ap (map from_nothing) (take_all n (leads_in leads) (omega (arith, end, leads_many 0 leads.begins.items leads.writings.items)))

@@ -1,7 +1,7 @@
 -- What is read and composed along a tree, by the tree that is planned and the records that it enters.
 use Rattle.std.proofs.Common.{◌≡◌, ℕ, suc, ◌≤◌, true, List as ListOf, [], ◌∷◌, ◌++◌, Option, Some, None, Result, Ok, Err, IfSome, inl, inr, arith, length, map, reverse, refl, sym, ap, subst, ◌∙◌}
-use Rattle.std.specs.Prelude.{◌≢◌, IsErr, IsErrAnd}
-use Rattle.std.specs.List.{All, AllZip, Contains, sum, zip}
+use Rattle.std.specs.Prelude.{IsErr, IsErrAnd}
+use Rattle.std.specs.List.{All, AllZip, Contains, sum}
 use Rattle.std.proofs.lemmas.List.{length-map}
 use Rattle.std.proofs.lemmas.List.Elements.{All-cons, All-contains_itself, All-nil}
 use Rattle.std.proofs.lemmas.Option.{IfSome_then}
@@ -9,12 +9,11 @@ use Rattle.dg_fold.specs.declared.fault.FoldFault.{FoldFault}
 use Rattle.dg_fold.specs.declared.fault.FoldFault.TheVariants as fold_fault
 use Rattle.dg_fold.specs.declared.part.Part.{Part}
 use Rattle.dg_fold.specs.declared.tree.Branch.{Branch}
-use Rattle.dg_fold.specs.declared.tree.Lead.{Lead}
 use Rattle.dg_fold.specs.BytesRead.{AreParts, HoldsWhatIsEntered, IsKept, Takes, TakesAtMost, entered_length, kept_in, named_along}
-use Rattle.dg_fold.specs.Ends.{AreLedUntil, FailsIn, lasts_in}
+use Rattle.dg_fold.specs.Ends.{AreLedUntil, FailsIn, Lead, lasts_in}
 use Rattle.dg_fold.specs.Parts.{beside, parts_in}
 use Rattle.dg_plan.specs.TreePaths.{base_behind, edges_at}
-use Rattle.dg_fold.specs.Steps.{PartedStep, paired, steps_in}
+use Rattle.dg_fold.specs.Steps.{paired, steps_in}
 use Rattle.dg_fold.specs.Trees.{Grow, LeadsToTarget, all_edges}
 use Rattle.dg_fold.specs.Writings.{AreWrittenFrom}
 use Rattle.dg_fold.specs.declared.writing.Writing.{Writing}
@@ -41,8 +40,7 @@ use Rattle.dg_retrieval.specs.Branches.{AreBranches}
 use Rattle.dg_retrieval.specs.Faults.{of_fold}
 use Rattle.dg_retrieval.specs.declared.fault.RetrievalFault.{RetrievalFault}
 use Rattle.dg_retrieval.specs.declared.graph_lead.Beginning.{Beginning}
-use Rattle.dg_retrieval.specs.declared.graph_lead.GraphLead.{GraphLead}
-use Rattle.dg_retrieval.specs.Beginnings.{IsOffered, LeadsAs, BeginningStandsFor, base_handle, begun_within, lead_by, leads_from}
+use Rattle.dg_retrieval.specs.Beginnings.{GraphLead, IsOffered, LeadsAs, BeginningStandsFor, base_handle, begun_within, leads_from}
 use Rattle.dg_retrieval.specs.KeptGraph.{index_ground}
 use Rattle.dg_retrieval.specs.NodeSets.{IsIndexOver, IsUndamaged}
 use Rattle.dg_retrieval.specs.Retrieval.{IsFirstDamage, IsNoDamage, TakesAtMostTree}
@@ -50,9 +48,10 @@ use Rattle.dg_retrieval.specs.TreeLeads.{AreIndexEdges, LeadAlongTree}
 use Rattle.dg_retrieval.specs.TreeParts.{IsTreeWalk}
 use Rattle.dg_retrieval.proofs.PartDamages.{damage_is, none_damaged, parts_are_whole}
 use Rattle.dg_retrieval.proofs.HistoryTreeLaws.{trees_reach}
-use Rattle.dg_retrieval.proofs.KeptGraphWalks.{walk_among, walk_entered, walk_kept, walk_off_root, walk_records, walk_weighs}
+use Rattle.dg_retrieval.proofs.KeptGraphWalks.{walk_among, walk_entered, walk_kept, walk_records, walk_weighs}
 use Rattle.dg_retrieval.proofs.KeptGraphRecords.{graph_of_index}
 use Rattle.dg_retrieval.proofs.BeginningGraphs.{ends_are}
+use Rattle.dg_retrieval.proofs.BeginningLeads.{leads_many}
 use Rattle.dg_retrieval.proofs.BeginningBases.{EdgesGrow, EntersNow, all_back, base_found, base_offered, edges_enter, edges_grow, path_stands}
 use Rattle.dg_retrieval.proofs.BranchTrees.{all_at, branches_grow, branches_hold, branches_lead, branches_many}
 use Rattle.dg_retrieval.proofs.KeptGraphWeights.{one_weight, tree_steps_weigh}
@@ -94,68 +93,41 @@ one_singles g starts (v ∷ targets) (x ∷ xs) (y ∷ ys) a b =
     let rest = one_singles g starts targets xs ys a.1 b.1 in
     λ i. one i ∷ rest i
 
--- ---- what leads to the targets
-
--- something leads to each target
-pub led_many : (names : ℕ) (recent : ListOf Event) (parts : ListOf Part) (all : ListOf PartedStep) (branches : ListOf Branch) (times : ListOf ℕ) (leads : ListOf Lead)
-    → AreLedUntil names recent parts all branches times leads → length leads ≡ length branches
-led_many names recent parts all [] times [] led = refl
-led_many names recent parts all [] times (l ∷ leads) led = elim led [ ]
-led_many names recent parts all (b ∷ branches) [] leads led = elim led [ ]
-led_many names recent parts all (b ∷ branches) (t ∷ times) [] led = elim led [ ]
-led_many names recent parts all (b ∷ branches) (t ∷ times) (l ∷ leads) led = ap (λ n. suc n) (led_many names recent parts all branches times leads led.1)
-
--- the leads by the paths to the targets
-
-pub leads_many : (walk : ListOf Edge) (paths : ListOf Lead) (targets : ListOf NodeId) → length paths ≡ length targets → length (map (lead_by walk) (zip paths targets)) ≡ length targets
-leads_many walk [] [] many = refl
-leads_many walk [] (v ∷ targets) many = absurd (omega arith)
-leads_many walk (l ∷ paths) [] many = absurd (omega arith)
-leads_many walk (l ∷ paths) (v ∷ targets) many = ap (λ n. suc n) (leads_many walk paths targets (omega arith))
-
--- what is written for each of them is what leads by its path
-leads_written : (walk : ListOf Edge) (n : ℕ) (paths : ListOf Lead) (targets : ListOf NodeId) (writings : ListOf Writing) → length paths ≡ length targets → AreWrittenFrom n paths writings
-    → leads_from n (map (begun_within walk) targets) writings ≡ map (lead_by walk) (zip paths targets)
-leads_written walk n [] [] writings many written = refl
-leads_written walk n [] (v ∷ targets) writings many written = absurd (omega arith)
-leads_written walk n (l ∷ paths) [] writings many written = absurd (omega arith)
-leads_written walk n (l ∷ paths) (v ∷ targets) writings many written =
-    let here = sym written.0 in
-    let rest = leads_written walk (suc n) paths targets writings (omega arith) written.1 in
-    λ i. record { begins = begun_within walk v; delta = here i } ∷ rest i
+-- ---- what leads to the targets, with the beginnings that are found for them
 
 -- their bases are those that are found behind the targets
-bases_are : (walk : ListOf Edge) (paths : ListOf Lead) (targets : ListOf NodeId) → length paths ≡ length targets
-    → map (λ (l : GraphLead). base_handle l.begins) (map (lead_by walk) (zip paths targets)) ≡ map (base_behind (reverse walk)) targets
-bases_are walk [] [] many = refl
-bases_are walk [] (v ∷ targets) many = absurd (omega arith)
-bases_are walk (l ∷ paths) [] many = absurd (omega arith)
-bases_are walk (l ∷ paths) (v ∷ targets) many = λ i. base_found (reverse walk) v i ∷ bases_are walk paths targets (omega arith) i
+bases_are : (walk : ListOf Edge) (n : ℕ) (targets : ListOf NodeId) (writings : ListOf Writing)
+    → map (λ (l : GraphLead). base_handle l.begins) (leads_from n (map (begun_within walk) targets) writings) ≡ map (base_behind (reverse walk)) targets
+bases_are walk n [] writings = refl
+bases_are walk n (v ∷ targets) writings = λ i. base_found (reverse walk) v i ∷ bases_are walk (suc n) targets writings i
 
 -- and are offered
-leads_offered : (edges walk : ListOf Edge) → All (Contains edges) walk → (pairs : ListOf (Lead × NodeId)) → All (IsOffered edges) (map (lead_by walk) pairs)
-leads_offered edges walk among [] = All-nil (IsOffered edges)
-leads_offered edges walk among (p ∷ pairs) =
-    All-cons (IsOffered edges) (lead_by walk p) (map (lead_by walk) pairs)
-    (λ handle found. base_offered edges (reverse walk) (all_back (Contains edges) walk among) p.1 handle found) (leads_offered edges walk among pairs)
+leads_offered : (edges walk : ListOf Edge) → All (Contains edges) walk → (n : ℕ) (targets : ListOf NodeId) (writings : ListOf Writing)
+    → All (IsOffered edges) (leads_from n (map (begun_within walk) targets) writings)
+leads_offered edges walk among n [] writings = All-nil (IsOffered edges)
+leads_offered edges walk among n (v ∷ targets) writings =
+    All-cons (IsOffered edges) _ (leads_from (suc n) (map (begun_within walk) targets) writings)
+    (λ handle found. base_offered edges (reverse walk) (all_back (Contains edges) walk among) v handle found) (leads_offered edges walk among (suc n) targets writings)
 
--- each begins as the tree's path to its target
+-- each begins as the tree's path to its target, and goes on with what is written for it
 leads_stand : (edges walk : ListOf Edge) (parts : ListOf Part) → EdgesGrow (Root ∷ []) walk → All (Contains edges) walk → All EntersNow walk
-    → (names : ℕ) (recent : ListOf Event) (branches : ListOf Branch) (times : ListOf ℕ) (targets : ListOf NodeId) (paths : ListOf Lead) → map (λ (b : Branch). b.to) branches ≡ targets
-    → AreLedUntil names recent parts (paired walk parts) branches times paths → AllZip (LeadsAs edges) paths (map (lead_by walk) (zip paths targets))
-leads_stand edges walk parts grow among enter names recent [] times targets [] ends led = tt
-leads_stand edges walk parts grow among enter names recent [] times targets (l ∷ paths) ends led = elim led [ ]
-leads_stand edges walk parts grow among enter names recent (b ∷ branches) [] targets paths ends led = elim led [ ]
-leads_stand edges walk parts grow among enter names recent (b ∷ branches) (t ∷ times) targets [] ends led = elim led [ ]
-leads_stand edges walk parts grow among enter names recent (b ∷ branches) (t ∷ times) [] (l ∷ paths) ends led = absurd cc
-leads_stand edges walk parts grow among enter names recent (b ∷ branches) (t ∷ times) (v ∷ targets) (l ∷ paths) ends led =
+    → (names : ℕ) (recent : ListOf Event) (writings : ListOf Writing) (n : ℕ) (branches : ListOf Branch) (times : ListOf ℕ) (targets : ListOf NodeId) (paths : ListOf Lead)
+    → map (λ (b : Branch). b.to) branches ≡ targets → AreLedUntil names recent parts (paired walk parts) branches times paths → AreWrittenFrom n paths writings
+    → AllZip (LeadsAs edges) paths (leads_from n (map (begun_within walk) targets) writings)
+leads_stand edges walk parts grow among enter names recent writings n [] times [] [] ends led written = tt
+leads_stand edges walk parts grow among enter names recent writings n [] times (v ∷ targets) [] ends led written = absurd cc
+leads_stand edges walk parts grow among enter names recent writings n [] times targets (l ∷ paths) ends led written = elim led [ ]
+leads_stand edges walk parts grow among enter names recent writings n (b ∷ branches) [] targets paths ends led written = elim led [ ]
+leads_stand edges walk parts grow among enter names recent writings n (b ∷ branches) (t ∷ times) targets [] ends led written = elim led [ ]
+leads_stand edges walk parts grow among enter names recent writings n (b ∷ branches) (t ∷ times) [] (l ∷ paths) ends led written = absurd cc
+leads_stand edges walk parts grow among enter names recent writings n (b ∷ branches) (t ∷ times) (v ∷ targets) (l ∷ paths) ends led written =
     let path = led.0 in
     let here : b.to ≡ v = cc in
     let rest : map (λ (x : Branch). x.to) branches ≡ targets = cc in
     let stands : BeginningStandsFor edges l.begun (begun_within walk b.to) =
-    subst (λ (n : NodeId). BeginningStandsFor edges n (begun_within walk b.to)) path.2 (path_stands edges walk parts grow among enter b.to path.0 path.1) in (
-      record { delta = refl; begins = subst (λ (n : NodeId). BeginningStandsFor edges l.begun (begun_within walk n)) here stands },
-      leads_stand edges walk parts grow among enter names recent branches times targets paths rest led.1,
+    subst (λ (m : NodeId). BeginningStandsFor edges m (begun_within walk b.to)) path.2 (path_stands edges walk parts grow among enter b.to path.0 path.1) in (
+      record { delta = sym written.0; begins = subst (λ (m : NodeId). BeginningStandsFor edges l.begun (begun_within walk m)) here stands },
+      leads_stand edges walk parts grow among enter names recent writings (suc n) branches times targets paths rest led.1 written.1,
     )
 
 -- ---- why nothing does
@@ -197,10 +169,6 @@ module _ {edges : ListOf Edge} {targets : ListOf NodeId} {grafts : ListOf (Graft
   walked_grow = branches_grow edges targets grafts branches walked.tree walked.made
 
   module _ (o : Opening) (cols : Columns) (is : AreIndexEdges o cols edges) where
-    -- no edge enters the root
-    pub walked_on : All (λ (e : Edge). e.to ≢ Root) (all_edges branches)
-    walked_on = subst (λ (es : ListOf Edge). All (λ (e : Edge). e.to ≢ Root) es) walked.along (walk_off_root o cols is.0 is.1 edges is.3 (steps_of grafts) walk in_tree)
-
     module _ {fetched : ListOf Edge} (same : fetched ≡ walk) where
       along : fetched ≡ edges_at edges (steps_of grafts)
       along = same ∙ in_tree
@@ -293,19 +261,19 @@ module _ {edges : ListOf Edge} {targets : ListOf NodeId} {grafts : ListOf (Graft
     never_of fold_fault.Memory fails = IfSome_then image of_branches (λ im there z over. inr refl)
     never_of (fold_fault.Damaged key col) fails = IfSome_then image of_branches (λ im there z over. absurd (no_damage im there z over (key, col) fails))
 
-    -- what leads to the targets leads there as its path does
-    module _ (paths : ListOf Lead) (led : AreLedUntil names recent parts (paired (all_edges branches) parts) branches times paths) where
+    -- what is written for the targets leads there as the paths do
+    module _ (writings : ListOf Writing) (paths : ListOf Lead) (led : AreLedUntil names recent parts (paired (all_edges branches) parts) branches times paths) (written : AreWrittenFrom 0 paths writings) where
       among : All (Contains edges) (all_edges branches)
       among = subst (λ (es : ListOf Edge). All (Contains edges) es) (sym in_steps) (all_at (Contains edges) edges (steps_of grafts) (All-contains_itself edges))
 
-      paths_many : length paths ≡ length targets
-      paths_many = led_many names recent parts (paired (all_edges branches) parts) branches times paths led ∙ (branches_many edges targets grafts branches walked.made).0
+      abbrev leads : ListOf GraphLead
+      leads = leads_from 0 (map (begun_within (all_edges branches)) targets) writings
 
-      stand : AllZip (LeadsAs edges) paths (map (lead_by (all_edges branches)) (zip paths targets))
+      stand : AllZip (LeadsAs edges) paths leads
       stand =
           leads_stand edges (all_edges branches) parts grow among
           (subst (λ (w : ListOf Edge). All EntersNow w) (sym in_steps) (all_at EntersNow edges (steps_of grafts) enter))
-          names recent branches times targets paths (ends_are edges targets grafts branches walked.made) led
+          names recent writings 0 branches times targets paths (ends_are edges targets grafts branches walked.made) led written
         where
           grow : EdgesGrow (Root ∷ []) (all_edges branches)
           grow = subst (EdgesGrow (Root ∷ [])) (sym in_steps) (edges_grow edges (Root ∷ []) (steps_of grafts) (tree_grows (arcs_of edges) (Root ∷ []) targets grafts walked.tree))
@@ -313,27 +281,18 @@ module _ {edges : ListOf Edge} {targets : ListOf NodeId} {grafts : ListOf (Graft
           enter : All EntersNow edges
           enter = subst (λ (es : ListOf Edge). All EntersNow es) (sym is.3) (edges_enter (index_ground o cols is.0 is.1))
 
-      by_paths : LeadAlongTree names recent edges o cols targets grafts times image (map (lead_by (all_edges branches)) (zip paths targets))
+      by_paths : LeadAlongTree names recent edges o cols targets grafts times image leads
       by_paths = record {
-        count = leads_many (all_edges branches) paths targets paths_many;
-        bases = bases_are (all_edges branches) paths targets paths_many ∙ ap (λ (es : ListOf Edge). map (base_behind (reverse es)) targets) in_steps;
-        offered = leads_offered edges (all_edges branches) among (zip paths targets);
+        count = leads_many 0 (map (begun_within (all_edges branches)) targets) writings ∙ length-map targets (begun_within (all_edges branches));
+        bases = bases_are (all_edges branches) 0 targets writings ∙ ap (λ (es : ListOf Edge). map (base_behind (reverse es)) targets) in_steps;
+        offered = leads_offered edges (all_edges branches) among 0 targets writings;
         there = IfSome_then image of_branches (λ im there. (branches, walked.made, parts, there, paths, led, stand));
       }
 
-    -- so do leads by the paths
-    pub led_along : (paths : ListOf Lead) → AreLedUntil names recent parts (paired (all_edges branches) parts) branches times paths
-        → (within : ListOf Edge) → within ≡ walk → (leads : ListOf GraphLead) → leads ≡ map (lead_by within) (zip paths targets)
-        → LeadAlongTree names recent edges o cols targets grafts times image leads
-    led_along paths led within is_walk leads are =
-        subst (λ (gs : ListOf GraphLead). LeadAlongTree names recent edges o cols targets grafts times image gs)
-        (sym (are ∙ ap (λ (w : ListOf Edge). map (lead_by w) (zip paths targets)) (is_walk ∙ walked.along))) (by_paths paths led)
-
-    -- and what is written for each of them
     pub written_along : (writings : ListOf Writing)
         → ((paths : ListOf Lead) × AreLedUntil names recent parts (paired (all_edges branches) parts) branches times paths × AreWrittenFrom 0 paths writings)
         → (within : ListOf Edge) → within ≡ walk → (begins : ListOf Beginning) → begins ≡ map (begun_within within) targets
         → LeadAlongTree names recent edges o cols targets grafts times image (leads_from 0 begins writings)
     written_along writings written within is_walk begins are =
-        led_along written.0 written.1 within is_walk (leads_from 0 begins writings)
-        (ap (λ (bs : ListOf Beginning). leads_from 0 bs writings) are ∙ leads_written within 0 written.0 targets writings (paths_many written.0 written.1) written.2)
+        subst (λ (bs : ListOf Beginning). LeadAlongTree names recent edges o cols targets grafts times image (leads_from 0 bs writings))
+        (sym (are ∙ ap (λ (w : ListOf Edge). map (begun_within w) targets) (is_walk ∙ walked.along))) (by_paths writings written.0 written.1 written.2)

@@ -1,10 +1,10 @@
 -- What retrieved graphs begin with, and the graphs to which leads come.
 use Rattle.std.specs.Prelude.{◌≡◌, ℕ, suc, List, [], ◌∷◌, Option, Some, None, if◌then◌else◌, reverse}
 use Rattle.std.specs.List.{Contains}
-use Rattle.dg_fold.specs.declared.tree.Lead.{Lead}
 use Rattle.dg_fold.specs.declared.writing.Writing.{Writing}
+use Rattle.dg_fold.specs.Ends.{Lead}
 use Rattle.dg_fold.specs.Writings.{composed_all, written_for}
-use Rattle.dg_graph.specs.Composition.{applied}
+use Rattle.dg_graph.specs.Composition.{Delta, applied}
 use Rattle.dg_graph.specs.declared.element.Columns.{Columns}
 use Rattle.dg_graph.specs.declared.element.Element.{Element}
 use Rattle.dg_graph.specs.Elements.{shown}
@@ -17,7 +17,6 @@ use Rattle.dg_plan.specs.IndexGraph.{is_root}
 use Rattle.dg_plan.specs.InstantPoint.{same_node}
 use Rattle.dg_retrieval.specs.declared.graph_lead.Beginning.{Beginning}
 use Rattle.dg_retrieval.specs.declared.graph_lead.Beginning.TheVariants.{Nothing, Now, Base}
-use Rattle.dg_retrieval.specs.declared.graph_lead.GraphLead.{GraphLead}
 use Rattle.dg_retrieval.specs.declared.graph_lead.Leads.{Leads}
 
 -- ---- the sets with which graphs begin
@@ -27,6 +26,12 @@ abbrev pub begun_with : List Element → (ℕ → List Element) → Beginning �
 begun_with now held Nothing = []
 begun_with now held Now = now
 begun_with now held (Base handle) = held handle
+
+-- What leads to a graph: what it begins with, and the delta from there. The graph is what comes, cut to the columns that
+-- were asked for.
+pub record GraphLead : Type 0 where
+  pub begins : Beginning
+  pub delta : Delta
 
 -- what is shown of the graph to which the lead comes
 abbrev pub led_to : List Element → (ℕ → List Element) → Columns → GraphLead → List Element
@@ -71,10 +76,6 @@ begun_behind (e ∷ before) node =
 -- what the path to a node begins with, within the tree of these edges
 abbrev pub begun_within : List Edge → NodeId → Beginning
 begun_within walk node = begun_behind (reverse walk) node
-
--- the lead to the node, with what its path begins with
-abbrev pub lead_by : List Edge → Lead × NodeId → GraphLead
-lead_by walk p = record { begins = begun_within walk p.1; delta = p.0.delta }
 
 -- The beginning stands for the node with whose set a path begins: nothing for the root, the current graph for its node,
 -- and a base for the node that one of the edges enters by it.

@@ -4,8 +4,7 @@ use Rattle.std.specs.List.{All, AllZip}
 use Rattle.dg_fold.specs.BytesRead.{AreParts, kept_in, named_along}
 use Rattle.dg_fold.specs.declared.part.Part.{Part}
 use Rattle.dg_fold.specs.declared.tree.Branch.{Branch}
-use Rattle.dg_fold.specs.declared.tree.Lead.{Lead}
-use Rattle.dg_fold.specs.Ends.{AreLedUntil}
+use Rattle.dg_fold.specs.Ends.{AreLedUntil, Lead}
 use Rattle.dg_fold.specs.Steps.{paired}
 use Rattle.dg_fold.specs.Trees.{all_edges}
 use Rattle.dg_graph.specs.declared.element.Columns.{Columns}
@@ -16,8 +15,7 @@ use Rattle.dg_plan.specs.declared.edge.Edge.{Edge}
 use Rattle.dg_plan.specs.TreePaths.{base_under}
 use Rattle.dg_plan.specs.Walks.{Graft, steps_of}
 use Rattle.dg_retrieval.specs.Branches.{AreBranches}
-use Rattle.dg_retrieval.specs.declared.graph_lead.GraphLead.{GraphLead}
-use Rattle.dg_retrieval.specs.Beginnings.{IsOffered, LeadsAs, base_handle}
+use Rattle.dg_retrieval.specs.Beginnings.{GraphLead, IsOffered, LeadsAs, base_handle}
 use Rattle.dg_retrieval.specs.KeptGraph.{HoldNoList, index_edges}
 
 -- these are the edges of the index in these columns, with the current graph or without, and with bases of which none

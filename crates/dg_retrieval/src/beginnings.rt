@@ -1,13 +1,11 @@
 //! What the paths of a tree begin with.
 
 ghost use Rattle.std.specs.Prelude.{◌≡◌, length, map, reverse, IfOk};
-ghost use Rattle.std.specs.List.{zip};
 ghost use Rattle.dg_plan.specs.IndexGraph.{is_root};
 ghost use Rattle.dg_plan.specs.InstantPoint.{same_node};
-ghost use Rattle.dg_retrieval.specs.Beginnings.{beginning_by, begun_within, lead_by};
+ghost use Rattle.dg_retrieval.specs.Beginnings.{beginning_by, begun_within};
 
-use crate::graph_lead::{Beginning, GraphLead};
-use dg_fold::Lead;
+use crate::graph_lead::Beginning;
 use dg_history::NodeId;
 use dg_plan::{Edge, Via};
 use std::alloc::{AllocError, Global};
@@ -66,22 +64,4 @@ pub(crate) fn beginnings_of(
         begins.push(beginning_of(walk, *target))?;
     }
     Ok(begins)
-}
-
-/// The leads to the targets of the tree of these edges, with what the path to each begins with.
-pub(crate) fn graph_leads(
-    alloc: Global,
-    walk: &[Edge],
-    targets: &[NodeId],
-    leads: Vec<Lead>,
-) -> Result<Vec<GraphLead>, AllocError>
-    ensures { IfOk result (λ graphs. graphs.items ≡ map (lead_by walk.now) (zip leads.items targets.now)) }
-{
-    let mut graphs = Vec::with_capacity(alloc, leads.len())?;
-    for (lead, target) in leads.into_iter().zip(targets) {
-        let begins = beginning_of(walk, *target);
-        let Lead { delta, .. } = lead;
-        graphs.push(GraphLead { begins, delta })?;
-    }
-    Ok(graphs)
 }

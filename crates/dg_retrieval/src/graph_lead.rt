@@ -1,4 +1,3 @@
-use dg_delta::Delta;
 use dg_fold::Writing;
 
 /// What a graph that is retrieved begins with, all of it held in memory.
@@ -20,14 +19,4 @@ pub struct Leads {
     pub begins: Vec<Beginning>,
     /// What is taken out and put in from there, and for which of the graphs.
     pub writings: Vec<Writing>,
-}
-
-/// What leads to a graph: what it begins with, and the delta from there. The graph is what comes, cut to the columns
-/// that were asked for.
-#[derive(Drop)]
-pub struct GraphLead {
-    /// What the graph begins with.
-    pub begins: Beginning,
-    /// What is taken out and put in from there.
-    pub delta: Delta,
 }

@@ -6,14 +6,14 @@ mod beginnings;
 mod branches;
 mod fault;
 mod graph_lead;
-mod leads;
 mod node_lead;
 mod record_sets;
 mod retrieval;
 mod tree_parts;
+mod tree_writings;
 
 pub use fault::RetrievalFault;
-pub use graph_lead::{Beginning, GraphLead, Leads};
+pub use graph_lead::{Beginning, Leads};
 pub use node_lead::{NodeLead, retrieve_node};
 pub use record_sets::{ALL_COLUMNS, node_sets, plan_set};
 pub use retrieval::{Retrieved, retrieve};

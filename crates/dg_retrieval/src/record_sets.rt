@@ -15,18 +15,19 @@ ghost use Rattle.dg_index.specs.Hierarchy.{set_of};
 ghost use Rattle.dg_plan.specs.HistoryGraph.{all_columns};
 ghost use Rattle.dg_plan.specs.IndexGraph.{arcs_of};
 ghost use Rattle.dg_plan.specs.Walks.{AreSingles, IsPlan, weight_of};
-ghost use Rattle.dg_retrieval.specs.declared.graph_lead.GraphLead.{GraphLead};
+ghost use Rattle.dg_retrieval.specs.Beginnings.{GraphLead, leads_in};
 ghost use Rattle.dg_retrieval.specs.KeptGraph.{record_edges, record_nodes};
 ghost use Rattle.dg_retrieval.specs.NodeSets.{HasNoEvents, IsIndexOver, IsLedByPlan, IsUndamaged, sets_of};
 ghost use Rattle.dg_retrieval.specs.Retrieval.{IsFirstDamage, IsNoDamage};
 ghost use Rattle.dg_retrieval.specs.ValueRange.{ValuesFit};
 
 use crate::fault::RetrievalFault;
-use crate::graph_lead::GraphLead;
-use crate::leads::{TreeLeads, lead_along_tree};
+use crate::graph_lead::Leads;
 use crate::node_lead::retrieve_node;
+use crate::tree_writings::{TreeWritings, write_along_tree};
 use dg_disk::Disk;
 use dg_file::Index;
+use dg_fold::compose_for;
 use dg_graph::Columns;
 use dg_history::NodeId;
 use dg_planner::Planner;
@@ -95,13 +96,14 @@ fn no_instants(alloc: Global, nodes: &[NodeId]) -> Result<Vec<u64>, AllocError>
 }
 
 // The set to which each lead comes from the empty set.
-fn sets_led(alloc: Global, leads: &[GraphLead]) -> Result<Vec<Set>, AllocError>
-    ensures { IfOk result (λ sets. sets.items ≡ map (λ (l : GraphLead). applied l.delta []) leads.now) }
+fn sets_led(alloc: Global, leads: &Leads) -> Result<Vec<Set>, AllocError>
+    ensures { IfOk result (λ sets. sets.items ≡ map (λ (l : GraphLead). applied l.delta []) (leads_in leads.now)) }
 {
-    let empty = Set::new(alloc);
-    let mut sets = Vec::with_capacity(alloc, leads.len())?;
-    for lead in leads {
-        let set = lead.delta.apply(&empty)?;
+    let mut sets = Vec::with_capacity(alloc, leads.begins.len())?;
+    for n in 0..leads.begins.len() {
+        let delta = compose_for(alloc, &leads.writings, n)?;
+        // From nothing it comes to what it puts in.
+        let (_, set) = delta.into_sets();
         sets.push(set)?;
     }
     Ok(sets)
@@ -146,7 +148,7 @@ pub fn node_sets<R: Threads, D: Disk>(
     ensures disk { OnlyReads D.image D.faults D.write_faults disk.old disk.new }
 {
     let times = no_instants(alloc, nodes)?;
-    let TreeLeads { leads, .. } = lead_along_tree(
+    let TreeWritings { leads, .. } = write_along_tree(
         rt,
         alloc,
         index,

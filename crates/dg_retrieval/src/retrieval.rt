@@ -10,15 +10,14 @@ ghost use Rattle.dg_history.specs.declared.node.NodeId.TheVariants.{Root};
 ghost use Rattle.dg_index.specs.OpenedIndex.{event_total};
 ghost use Rattle.dg_plan.specs.IndexGraph.{arcs_of};
 ghost use Rattle.dg_plan.specs.Walks.{AreSingles};
-ghost use Rattle.dg_retrieval.specs.declared.graph_lead.GraphLead.{GraphLead};
-ghost use Rattle.dg_retrieval.specs.Beginnings.{IsOffered, base_handle, leads_in, led_to};
+ghost use Rattle.dg_retrieval.specs.Beginnings.{GraphLead, IsOffered, base_handle, leads_in, led_to};
 ghost use Rattle.dg_retrieval.specs.KeptGraph.{IsKeptGraph, kept_nodes};
 ghost use Rattle.dg_retrieval.specs.NodeSets.{IsUndamaged};
 ghost use Rattle.dg_retrieval.specs.Retrieval.{AreHeld, ArePoints, IsFirstDamage, IsNoDamage, IsOver, IsTreeOf, TakesAtMostTree, graphs_at};
 
 use crate::fault::RetrievalFault;
 use crate::graph_lead::Leads;
-use crate::leads::{TreeWritings, write_along_tree};
+use crate::tree_writings::{TreeWritings, write_along_tree};
 use dg_disk::Disk;
 use dg_file::Index;
 use dg_graph::{Columns, Event};

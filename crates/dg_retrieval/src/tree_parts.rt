@@ -1,15 +1,14 @@
 //! The tree of several targets, and the records that it enters.
 
-ghost use Rattle.std.specs.Prelude.{◌≡◌, ◌≢◌, ℕ, ◌≤◌, List, ◌∷◌, [], length, IfErr, IfOk, IfSome, IsErrOf};
+ghost use Rattle.std.specs.Prelude.{◌≡◌, ℕ, ◌≤◌, List, ◌∷◌, [], length, IfErr, IfOk, IfSome, IsErrOf};
 ghost use Rattle.std.specs.List.{All, Contains, sum};
 ghost use Rattle.dg_disk.specs.Counts.{Rose};
 ghost use Rattle.dg_disk.specs.Frame.{OnlyReads};
 ghost use Rattle.dg_file.specs.Images.{IsOpenedAs};
 ghost use Rattle.dg_fold.specs.BytesRead.{AreParts, Takes, TakesAtMost, kept_in, named_along};
-ghost use Rattle.dg_fold.specs.Trees.{Grow, LeadsToTarget, all_edges};
+ghost use Rattle.dg_fold.specs.Trees.{Grow, LeadsToTarget};
 ghost use Rattle.dg_history.specs.declared.node.NodeId.TheVariants.{Root};
 ghost use Rattle.dg_history.specs.History.{History};
-ghost use Rattle.dg_plan.specs.declared.edge.Edge.{Edge};
 ghost use Rattle.dg_plan.specs.IndexGraph.{arcs_of};
 ghost use Rattle.dg_plan.specs.Walks.{AreSingles, tree_weight};
 ghost use Rattle.dg_planner.specs.Trees.{grafts_in};
@@ -96,7 +95,6 @@ pub fn read_tree<D: Disk>(
     ensures count { IfOk result (λ r. length r.branches.items ≡ length targets.now) }
     ensures lead { IfOk result (λ r. All LeadsToTarget r.branches.items) }
     ensures grow { IfOk result (λ r. Grow [] r.branches.items) }
-    ensures on { IfOk result (λ r. All (λ (e : Edge). e.to ≢ Root) (all_edges r.branches.items)) }
     // the bytes read, over an image of a history
     ensures takes { IfOk result (λ r. (names : ℕ) → IfSome (D.image disk.old) (λ image. (z : History) → IsIndexOver z image index.old.opening names
         → Takes r.tree.weight (D.taken disk.old) (D.taken disk.new))) }

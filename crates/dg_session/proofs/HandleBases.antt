@@ -28,7 +28,7 @@ use Rattle.dg_plan.specs.declared.edge.Via.TheVariants as via
 use Rattle.dg_plan.specs.IndexGraph.{Ground, base_edge, child_edges, edge, edges_of, first_edges, inner_edges, is_root, level_edges, list_edges, recent_edges, top_edge}
 use Rattle.dg_plan.proofs.EnteredRecordTrees.{all_flat}
 use Rattle.dg_retrieval.specs.declared.fault.RetrievalFault.{RetrievalFault}
-use Rattle.dg_retrieval.specs.declared.graph_lead.GraphLead.{GraphLead}
+use Rattle.dg_retrieval.specs.Beginnings.{GraphLead}
 use Rattle.dg_retrieval.specs.declared.retrieval.Retrieved.{Retrieved}
 use Rattle.dg_retrieval.specs.Beginnings.{IsOffered, leads_in}
 use Rattle.dg_retrieval.specs.Retrieval.{AreHeld}

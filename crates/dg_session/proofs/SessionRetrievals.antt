@@ -39,7 +39,7 @@ use Rattle.dg_file.specs.Index.{IndexState}
 use Rattle.dg_retrieval.specs.declared.retrieval.Retrieved.{Retrieved}
 use Rattle.dg_retrieval.specs.declared.fault.RetrievalFault.{RetrievalFault}
 use Rattle.dg_retrieval.specs.declared.fault.RetrievalFault.TheVariants as retrieval_fault
-use Rattle.dg_retrieval.specs.declared.graph_lead.GraphLead.{GraphLead}
+use Rattle.dg_retrieval.specs.Beginnings.{GraphLead}
 use Rattle.dg_retrieval.specs.KeptGraph.{kept_edges, kept_ground, kept_nodes}
 use Rattle.dg_retrieval.specs.Beginnings.{base_handle, leads_in, led_to}
 use Rattle.dg_retrieval.specs.Retrieval.{AreHeld, ArePoints, IsNoDamage, IsOver, IsTreeOf, TakesAtMostTree, graphs_at}

@@ -26,7 +26,7 @@ use Rattle.dg_machine.specs.Planning.{Planned, edges_in, points_for, record_edge
 use Rattle.dg_plan.specs.HistoryGraph.{all_columns}
 use Rattle.dg_plan.specs.IndexGraph.{arcs_of}
 use Rattle.dg_plan.specs.Walks.{AreSingles, IsPlan, weight_of}
-use Rattle.dg_retrieval.specs.declared.graph_lead.GraphLead.{GraphLead}
+use Rattle.dg_retrieval.specs.Beginnings.{GraphLead}
 use Rattle.dg_retrieval.specs.Beginnings.{base_handle}
 use Rattle.dg_retrieval.specs.Retrieval.{IsTreeOf}
 use Rattle.dg_session.specs.declared.halt.Halt.{Halt}

@@ -5,13 +5,13 @@ use Rattle.dg_history.specs.declared.node.NodeId.TheVariants.{Root}
 use Rattle.dg_fold.specs.Ends.{lasts_in}
 use Rattle.dg_fold.specs.Steps.{paired}
 use Rattle.dg_fold.specs.Trees.{all_edges}
-use Rattle.dg_fold.specs.WritingSteps.{IsEntered, IsWritten}
+use Rattle.dg_fold.specs.WritingSteps.{IsEnteredNode, IsWritten}
 use Rattle.dg_fold.specs.Writings.{written_for}
 use Rattle.dg_fold.specs.declared.tree.Branch.{Branch}
 use Rattle.dg_fold.proofs.EndTargets.{first_fails}
-use Rattle.dg_fold.proofs.Steps.{done_in}
-use Rattle.dg_fold.proofs.TreeStepBranches.{stepped_edges}
-use Rattle.dg_fold.proofs.WritingLasts.{all_led, lasts_fail, written_cut}
+use Rattle.dg_fold.proofs.Steps.{done_in, stepped_edges}
+use Rattle.dg_fold.proofs.WritingCompositions.{written_cut}
+use Rattle.dg_fold.proofs.WritingLasts.{all_led, lasts_fail}
 use Rattle.dg_fold.proofs.WritingRoots.{are_entered, are_rooted}
 use Rattle.dg_fold.proofs.writing.write_tree.Goals as goal
 
@@ -22,13 +22,13 @@ write_back-requires-clause-rooted g c =
 
 pub write_back-requires-clause-entered : goal.write_back-requires-clause-entered
 write_back-requires-clause-entered g c =
-    subst (All (λ n. IsEntered n c.in-Ok.steps.items)) (sym c.in_ok-ends.ensures)
+    subst (All (λ n. IsEnteredNode n c.in-Ok.steps.items)) (sym c.in_ok-ends.ensures)
     (are_entered c.args.branches.now c.in-Ok.steps.items
     (stepped_edges c.args.names c.args.recent.now (all_edges c.args.branches.now) c.args.parts.now c.in-Ok.steps.items c.in-Ok.ensures.ok) c.requires.grow c.requires.lead)
 
 pub returns-in-Err-clause-err : goal.returns-in-Err-clause-err
 returns-in-Err-clause-err g c =
-    first_fails c.args.names c.args.recent.now c.args.parts.now (paired (all_edges c.args.branches.now) c.args.parts.now) c.in-Err.fault
+    first_fails c.args.names c.args.recent.now (paired (all_edges c.args.branches.now) c.args.parts.now) c.in-Err.fault
     (lasts_in c.args.names c.args.recent.now c.args.parts.now c.args.branches.now c.args.times.now) c.in-Err.ensures.err
 
 pub returns-in-Err-write_lasts-clause-err : goal.returns-in-Err-write_lasts-clause-err

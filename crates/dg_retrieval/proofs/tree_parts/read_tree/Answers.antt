@@ -1,5 +1,5 @@
 -- The index keeps what the walk enters; what is read of it weighs what the tree does.
-use Rattle.dg_retrieval.proofs.TreeLeadReads.{all_entered, all_kept, most_of, shared_of, takes_of, walked_grow, walked_lead, walked_many, walked_on}
+use Rattle.dg_retrieval.proofs.TreeLeadReads.{all_entered, all_kept, most_of, shared_of, takes_of, walked_grow, walked_lead, walked_many}
 use Rattle.dg_retrieval.proofs.tree_parts.read_tree.Goals as goal
 
 pub fetch_walk-requires-clause-kept : goal.fetch_walk-requires-clause-kept
@@ -39,6 +39,3 @@ returns-clause-lead g c = walked_lead c.in_ok-tree.ensures.walk
 
 pub returns-clause-grow : goal.returns-clause-grow
 returns-clause-grow g c = walked_grow c.in_ok-tree.ensures.walk
-
-pub returns-clause-on : goal.returns-clause-on
-returns-clause-on g c = walked_on c.in_ok-tree.ensures.walk c.args.index.now.opening c.args.cols c.requires.edges

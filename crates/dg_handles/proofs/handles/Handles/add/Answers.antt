@@ -13,9 +13,8 @@ use Rattle.dg_handles.proofs.HandleTies.{tie_is_kept}
 use Rattle.dg_machine.specs.declared.stands.Stands.{Stands}
 use Rattle.dg_pool.specs.declared.slots.Slot.{Slot}
 use Rattle.dg_pool.specs.Changes.{numbers_of}
-use Rattle.dg_retrieval.specs.Beginnings.{base_handle, leads_in}
+use Rattle.dg_retrieval.specs.Beginnings.{GraphLead, base_handle, leads_in}
 use Rattle.dg_retrieval.specs.declared.graph_lead.Beginning.{Beginning}
-use Rattle.dg_retrieval.specs.declared.graph_lead.GraphLead.{GraphLead}
 use Rattle.dg_handles.proofs.handles.Handles.add.Goals as goal
 
 pub returns-in_err-slots-clause-tied : goal.returns-in_err-slots-clause-tied

@@ -1,6 +1,0 @@
-use Rattle.std.proofs.Common.{◌≡◌, map, take}
-use Rattle.dg_fold.specs.declared.tree.Branch.{Branch}
-use Rattle.dg_fold.proofs.tree.beginnings.Given as goal
-
-abbrev pub invariant-loop-branch : goal.invariant-loop-branch
-invariant-loop-branch l = l.nodes.items ≡ map (λ (b : Branch). b.from) (take l.branch-index l.branches)
