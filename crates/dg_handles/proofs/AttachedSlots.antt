@@ -68,6 +68,10 @@ members_led h old new cols slots leads same = members_of new slots (map (graph_l
     twice [] = refl
     twice (l ∷ ls) = ap (λ gs. led_to (graph_now old) (held_by h.table (slot_graphs old h.slots)) cols l ∷ gs) (twice ls)
 
+pub graphs_led : (led : GraphLead → SlotGraph) (leads : List GraphLead) → map (λ g. Some g) (map led leads) ≡ map (λ l. Some (led l)) leads
+graphs_led led [] = refl
+graphs_led led (l ∷ leads) = ap (λ gs. Some (led l) ∷ gs) (graphs_led led leads)
+
 -- ---- slots more
 
 module _ (old new : PoolState) (slots : List ℕ) (graphs : List SlotGraph) (a : AreAttached old new slots graphs) where
@@ -117,6 +121,9 @@ attached_none p = record { fresh = λ s in'. cc; apart = tt; hold = refl; others
 module _ (old new : PoolState) (h : HandlesState) (t : IsTied old h) (slots : List ℕ) (graphs : List SlotGraph) (a : AreAttached old new slots graphs) where
   pub others_held : (s : ℕ) → is_listed h.slots s ≡ true → is_listed slots s ≡ false
   others_held s in' = false_from_ne_true (is_listed slots s) (λ e. some_nowhere (slot_graph old s) (a.fresh s e) (live_slot old h t s in'))
+
+  pub graphs_kept : map (slot_graph new) h.slots ≡ map (slot_graph old) h.slots
+  graphs_kept = map_same (slot_graph new) (slot_graph old) h.slots (λ s in'. a.others s (others_held s in'))
 
   pub held_kept : slot_graphs new h.slots ≡ slot_graphs old h.slots
   held_kept = map_same (members_at new) (members_at old) h.slots (λ s in'. ap members_as (a.others s (others_held s in')))

@@ -1,6 +1,6 @@
 //! The live handles, over the pool that has their graphs.
 
-ghost use Rattle.std.specs.Prelude.{◌≡◌, ℕ, ◌+◌, ◌≤◌, [], ◌∷◌, ◌++◌, false, None, IfOk, OnErr, OnOk, is_some, length, map};
+ghost use Rattle.std.specs.Prelude.{◌≡◌, ℕ, ◌+◌, ◌≤◌, [], ◌∷◌, ◌++◌, false, None, IfOk, OnErr, OnOk, Some, is_some, length, map};
 ghost use Rattle.std.specs.List.{All};
 ghost use Rattle.std.specs.Option.{option_map};
 ghost use Rattle.dg_graph.specs.Composition.{applied};
@@ -211,6 +211,8 @@ impl Handles {
         ensures next { OnOk result (self.new.next ≡ self.old.next + length times.now) }
         ensures graphs { OnOk result (slot_graphs pool.new self.new.slots
             ≡ slot_graphs pool.old self.old.slots ++ map (led_to (graph_now pool.old) (held_by self.old.table (slot_graphs pool.old self.old.slots)) cols) (leads_in leads.now)) }
+        ensures rests { OnOk result (map (slot_graph pool.new) self.new.slots
+            ≡ map (slot_graph pool.old) self.old.slots ++ map (λ l. Some (graph_led self.old pool.old cols l)) (leads_in leads.now)) }
         ensures tied { IsTied pool.new self.new }
         ensures now { graph_now pool.new ≡ graph_now pool.old }
 

@@ -6,13 +6,14 @@ use Rattle.dg_graph.specs.declared.element.Element.{Element}
 use Rattle.dg_handles.specs.Attached.{AreAttached, graph_led}
 use Rattle.dg_handles.specs.Handles.{BeginsOn, HandlesState, IsTied, slot_graphs, members_at, numbered, overlays_on}
 use Rattle.dg_handles.proofs.AttachedLeads.{handles_begun, leads_many}
-use Rattle.dg_handles.proofs.AttachedSlots.{held_kept, members_led, overlays_held, stays, tied_more, with_more}
+use Rattle.dg_handles.proofs.AttachedSlots.{graphs_kept, graphs_led, held_kept, members_led, overlays_held, stays, tied_more, with_more}
 use Rattle.dg_handles.proofs.HandleEntries.{Entries}
 use Rattle.dg_handles.proofs.HandleAdditions.{entry_of, number_of, overlays_many, rise_more}
 use Rattle.dg_handles.proofs.HandleTies.{tie_is_kept}
 use Rattle.dg_machine.specs.declared.stands.Stands.{Stands}
 use Rattle.dg_pool.specs.declared.slots.Slot.{Slot}
 use Rattle.dg_pool.specs.Changes.{numbers_of}
+use Rattle.dg_pool.specs.Graphs.{SlotGraph, slot_graph}
 use Rattle.dg_retrieval.specs.Beginnings.{GraphLead, base_handle, leads_in}
 use Rattle.dg_retrieval.specs.declared.graph_lead.Beginning.{Beginning}
 use Rattle.dg_handles.proofs.handles.Handles.add.Goals as goal
@@ -57,6 +58,17 @@ returns-clause-graphs c =
     ap (slot_graphs new) (slots_are c) ∙ map-append (members_at new) h.slots slots
     ∙ ap (λ (l : List (List Element)). l ++ slot_graphs new slots) (held_kept old new h c.requires.tied slots (map (graph_led h old c.args.cols) leads) (attached c))
     ∙ ap (λ (l : List (List Element)). slot_graphs old h.slots ++ l) (members_led h old new c.args.cols slots leads (attached c).hold)
+
+pub returns-clause-rests : goal.returns-clause-rests
+returns-clause-rests c =
+    let h = c.args.self.now in
+    let old = c.args.pool.now in
+    let new = c.attach_leads.new.pool in
+    let slots = numbers_of c.in_ok-slots.slots.items in
+    let leads = leads_in c.args.leads.now in
+    ap (map (slot_graph new)) (slots_are c) ∙ map-append (slot_graph new) h.slots slots
+    ∙ ap (λ (l : List (Option SlotGraph)). l ++ map (slot_graph new) slots) (graphs_kept old new h c.requires.tied slots (map (graph_led h old c.args.cols) leads) (attached c))
+    ∙ ap (λ (l : List (Option SlotGraph)). map (slot_graph old) h.slots ++ l) ((attached c).hold ∙ graphs_led (graph_led h old c.args.cols) leads)
 
 pub returns-clause-tied : goal.returns-clause-tied
 returns-clause-tied c =
