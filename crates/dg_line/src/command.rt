@@ -12,7 +12,7 @@ use crate::grammar::{
 use crate::words::{Words, found, id, is, n32, number, only_number, time};
 use dg_graph::{Columns, Function, TIME_MAX};
 use dg_history::{BATCH_LINES_MAX, NodeId};
-use dg_machine::{Command, FIRST_HANDLE, TIMES_MAX};
+use dg_machine::{Command, FIRST_HANDLE, Query, TIMES_MAX};
 use thiserror::Error;
 
 /// The word `several`, whose row has many symbols.
@@ -288,38 +288,50 @@ fn inner(mut words: Words) -> Option<Command>
 
 // `list HANDLE`, from the words after `list`.
 fn list(words: Words) -> Option<Command>
-    ensures command { result ≡ one handle_of (λ handle. Command.List handle) words.entry }
+    ensures command { result ≡ one handle_of (λ handle. Command.Ask handle Query.List) words.entry }
     ensures range { IfSome result (λ c. CountIsInRange c) }
 {
     let handle = found!(one_number(words, FIRST_HANDLE, u32::MAX));
-    Some(Command::List { handle })
+    Some(Command::Ask {
+        handle,
+        query: Query::List,
+    })
 }
 
 // `counts HANDLE`, from the words after `counts`.
 fn counts(words: Words) -> Option<Command>
-    ensures command { result ≡ one handle_of (λ handle. Command.Counts handle) words.entry }
+    ensures command { result ≡ one handle_of (λ handle. Command.Ask handle Query.Counts) words.entry }
     ensures range { IfSome result (λ c. CountIsInRange c) }
 {
     let handle = found!(one_number(words, FIRST_HANDLE, u32::MAX));
-    Some(Command::Counts { handle })
+    Some(Command::Ask {
+        handle,
+        query: Query::Counts,
+    })
 }
 
 // `node HANDLE ID`, from the words after `node`.
 fn node(words: Words) -> Option<Command>
-    ensures command { result ≡ two_words handle_of id_of (λ handle id. Command.Node handle id) words.entry }
+    ensures command { result ≡ two_words handle_of id_of (λ handle id. Command.Ask handle (Query.Node id)) words.entry }
     ensures range { IfSome result (λ c. CountIsInRange c) }
 {
     let (handle, id) = found!(handle_and_id(words));
-    Some(Command::Node { handle, id })
+    Some(Command::Ask {
+        handle,
+        query: Query::Node(id),
+    })
 }
 
 // `neighbours HANDLE ID`, from the words after `neighbours`.
 fn neighbours(words: Words) -> Option<Command>
-    ensures command { result ≡ two_words handle_of id_of (λ handle id. Command.Neighbours handle id) words.entry }
+    ensures command { result ≡ two_words handle_of id_of (λ handle id. Command.Ask handle (Query.Neighbours id)) words.entry }
     ensures range { IfSome result (λ c. CountIsInRange c) }
 {
     let (handle, id) = found!(handle_and_id(words));
-    Some(Command::Neighbours { handle, id })
+    Some(Command::Ask {
+        handle,
+        query: Query::Neighbours(id),
+    })
 }
 
 // `release HANDLE`, from the words after `release`.

@@ -14,6 +14,8 @@ use Rattle.dg_index.specs.FileOfHistory.{size}
 use Rattle.dg_history.specs.History.{History, Batch, empty_history, with_batch, events_of, last_time_from}
 use Rattle.dg_machine.specs.declared.command.Command.{Command}
 use Rattle.dg_machine.specs.declared.command.Command.TheVariants as command
+use Rattle.dg_machine.specs.declared.command.Query.{Query}
+use Rattle.dg_machine.specs.declared.command.Query.TheVariants as query
 use Rattle.dg_history.specs.declared.node.Key.{Key}
 use Rattle.dg_history.specs.declared.node.NodeId.{NodeId}
 use Rattle.dg_index.specs.Hierarchy.{leaves}
@@ -139,6 +141,13 @@ neighbours_reply handle id set = record {
   body = map (λ n. line.Neighbour n) (neighbours_of set id);
 }
 
+-- the reply to a query of this set
+abbrev pub query_reply : Query → ℕ → List Element → Reply
+query_reply query.List handle set = listing handle set
+query_reply query.Counts handle set = counting handle set
+query_reply (query.Node id) handle set = node_reply handle id set
+query_reply (query.Neighbours id) handle set = neighbours_reply handle id set
+
 -- ---- new handles
 
 -- the reply of a tree that weighs so much, with the weights of the single plans, for handles from this number on
@@ -215,10 +224,7 @@ accepted m (command.Materialise node cols) lines p = record {
   reply = headed (head.Materialised m.next (weight_of (arcs_of (record_edges_in m cols)) p.steps));
   state = with_handle m (Base node cols);
 }
-accepted m (command.List handle) lines p = say m (listing handle (shown_by m handle))
-accepted m (command.Counts handle) lines p = say m (counting handle (shown_by m handle))
-accepted m (command.Node handle id) lines p = say m (node_reply handle id (shown_by m handle))
-accepted m (command.Neighbours handle id) lines p = say m (neighbours_reply handle id (shown_by m handle))
+accepted m (command.Ask handle q) lines p = say m (query_reply q handle (shown_by m handle))
 accepted m (command.Release handle) lines p = record {
   reply = headed (head.Released handle);
   state = record m { table = without_handle handle m.table };
@@ -251,28 +257,18 @@ IsPlannedBy None m c p = IsPlanned m c p
 abbrev pub no_memory : Reply
 no_memory = headed (head.Refused refusal.OutOfMemory)
 
+-- the refusal, where the reply is one
+abbrev pub refusal_of : Head → Option Refusal
+refusal_of (head.Refused r) = Some r
+refusal_of h = None
+
 abbrev pub is_refusal : Head → Bool
-is_refusal (head.Refused r) = true
-is_refusal head.Created = false
-is_refusal (head.Loaded events total last) = false
-is_refusal (head.Appended events total last) = false
-is_refusal (head.At handle weight) = false
-is_refusal (head.Several weight sum) = false
-is_refusal (head.Materialised handle weight) = false
-is_refusal (head.List handle lines) = false
-is_refusal (head.Counts handle counts) = false
-is_refusal (head.NodeThere handle id degree) = false
-is_refusal (head.NodeAbsent handle id) = false
-is_refusal (head.Neighbours handle id lines) = false
-is_refusal (head.Released handle) = false
-is_refusal head.Cleaned = false
-is_refusal (head.CleanedAll cells) = false
-is_refusal (head.Pool live size) = false
-is_refusal (head.Plan weight steps) = false
-is_refusal (head.Certified verdict) = false
-is_refusal (head.Verified s) = false
-is_refusal (head.Generated events last nodes edges) = false
-is_refusal (head.Tree l k function events leaves records) = false
+is_refusal h = is_some (refusal_of h)
+
+-- the reply is a refusal that passes the test
+abbrev pub refuses : (Refusal → Bool) → Option Refusal → Bool
+refuses test None = false
+refuses test (Some r) = test r
 
 -- a failed read of the index file
 abbrev pub store_read : Reply
@@ -300,24 +296,7 @@ may_fail_to_read m c lines = (needs c).reads && is_behind_reads (answer m c line
 
 -- the weight that the reply to a retrieval tells
 abbrev pub weight_told : Head → ℕ
-weight_told head.Created = 0
-weight_told (head.Loaded events total last) = 0
-weight_told (head.Appended events total last) = 0
 weight_told (head.At handle weight) = weight
 weight_told (head.Several weight sum) = weight
 weight_told (head.Materialised handle weight) = weight
-weight_told (head.List handle lines) = 0
-weight_told (head.Counts handle counts) = 0
-weight_told (head.NodeThere handle id degree) = 0
-weight_told (head.NodeAbsent handle id) = 0
-weight_told (head.Neighbours handle id lines) = 0
-weight_told (head.Released handle) = 0
-weight_told head.Cleaned = 0
-weight_told (head.CleanedAll cells) = 0
-weight_told (head.Pool live size) = 0
-weight_told (head.Plan weight steps) = 0
-weight_told (head.Certified verdict) = 0
-weight_told (head.Verified s) = 0
-weight_told (head.Generated events last nodes edges) = 0
-weight_told (head.Tree l k function events leaves records) = 0
-weight_told (head.Refused r) = 0
+weight_told h = 0

@@ -4,6 +4,7 @@ use Rattle.std.specs.Option.{option_map}
 use Rattle.dg_graph.specs.declared.element.Columns.{Columns}
 use Rattle.dg_machine.specs.declared.command.Command.{Command}
 use Rattle.dg_machine.specs.declared.command.Command.TheVariants as command
+use Rattle.dg_machine.specs.declared.command.Query.TheVariants as query
 use Rattle.dg_machine.specs.declared.command.TheConstants.{TIMES_MAX}
 use Rattle.dg_history.specs.declared.limits.TheConstants.{BATCH_LINES_MAX}
 use Rattle.dg_graph.specs.declared.function.Function.{Function}
@@ -80,10 +81,10 @@ command_verbs =
     ∷ verb (codes "at") (two_words time_of columns_of (λ t cols. command.At t cols))
     ∷ verb (codes "several") several_of
     ∷ verb (codes "materialise") (read_by held_node_verbs)
-    ∷ verb (codes "list") (one handle_of (λ h. command.List h))
-    ∷ verb (codes "counts") (one handle_of (λ h. command.Counts h))
-    ∷ verb (codes "node") (two_words handle_of id_of (λ h id. command.Node h id))
-    ∷ verb (codes "neighbours") (two_words handle_of id_of (λ h id. command.Neighbours h id))
+    ∷ verb (codes "list") (one handle_of (λ h. command.Ask h query.List))
+    ∷ verb (codes "counts") (one handle_of (λ h. command.Ask h query.Counts))
+    ∷ verb (codes "node") (two_words handle_of id_of (λ h id. command.Ask h (query.Node id)))
+    ∷ verb (codes "neighbours") (two_words handle_of id_of (λ h id. command.Ask h (query.Neighbours id)))
     ∷ verb (codes "release") (one handle_of (λ h. command.Release h))
     ∷ verb (codes "clean") (one sweep_of (λ c. c))
     ∷ verb (codes "pool") (none_more command.Pool)

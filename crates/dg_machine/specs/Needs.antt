@@ -10,6 +10,8 @@ use Rattle.dg_history.specs.History.{are_parameters, span_of, in_range}
 use Rattle.dg_index.specs.Hierarchy.{exists}
 use Rattle.dg_machine.specs.declared.command.Command.{Command}
 use Rattle.dg_machine.specs.declared.command.Command.TheVariants as command
+use Rattle.dg_machine.specs.declared.command.Query.{Query}
+use Rattle.dg_machine.specs.declared.command.Query.TheVariants as query
 use Rattle.dg_machine.specs.declared.limits.TheConstants.{HANDLE_MAX, LIVE_HANDLES_MAX}
 use Rattle.dg_machine.specs.declared.reply.Refusal.{Refusal}
 use Rattle.dg_machine.specs.declared.reply.Refusal.TheVariants as refusal
@@ -55,6 +57,17 @@ nothing_more = record {
 abbrev pub batch_needs : ℕ → Needs
 batch_needs count = record nothing_more { lines = Some count; index = true; changes = count; reads = true; writes = true }
 
+-- the query is of the nodes of a graph as of an instant
+abbrev pub is_of_nodes : Query → Bool
+is_of_nodes (query.Node id) = true
+is_of_nodes (query.Neighbours id) = true
+is_of_nodes q = false
+
+-- the answer to the query takes memory
+abbrev pub takes_memory : Query → Bool
+takes_memory query.Counts = false
+takes_memory q = true
+
 abbrev pub needs : Command → Needs
 needs (command.Create l k function) = record nothing_more { parameters = Some (l, k); writes = true }
 needs (command.Load count) = record (batch_needs count) { unloaded = true }
@@ -62,10 +75,7 @@ needs (command.Append count) = batch_needs count
 needs (command.At t cols) = record nothing_more { index = true; instants = t ∷ []; handles = 1; reads = true }
 needs (command.Several cols times count) = record nothing_more { index = true; instants = take count times; handles = count; reads = true }
 needs (command.Materialise node cols) = record nothing_more { index = true; node = Some node; handles = 1; reads = true }
-needs (command.List handle) = record nothing_more { handle = Some handle }
-needs (command.Counts handle) = record nothing_more { handle = Some handle; memory = false }
-needs (command.Node handle id) = record nothing_more { handle = Some handle; overlay = true }
-needs (command.Neighbours handle id) = record nothing_more { handle = Some handle; overlay = true }
+needs (command.Ask handle q) = record nothing_more { handle = Some handle; overlay = is_of_nodes q; memory = takes_memory q }
 needs (command.Release handle) = record nothing_more { handle = Some handle; unused = Some handle; memory = false }
 needs (command.Clean cells) = record nothing_more { memory = false }
 needs command.CleanAll = record nothing_more { memory = false }

@@ -6,9 +6,10 @@ use Rattle.dg_graph.specs.Lines.{ScriptLine}
 use Rattle.dg_machine.specs.declared.command.Command.{Command}
 use Rattle.dg_machine.specs.declared.reply.Head.{Head}
 use Rattle.dg_machine.specs.declared.reply.Head.TheVariants as head
+use Rattle.dg_machine.specs.declared.reply.Refusal.{Refusal}
 use Rattle.dg_machine.specs.declared.reply.Refusal.TheVariants as refusal
 use Rattle.dg_machine.specs.declared.reply.Reply.{Reply}
-use Rattle.dg_machine.specs.Answer.{Answered, IsPlannedBy, answer, headed, no_memory, may_lack_memory, store_read, may_fail_to_read}
+use Rattle.dg_machine.specs.Answer.{Answered, IsPlannedBy, answer, headed, no_memory, may_lack_memory, store_read, may_fail_to_read, refusal_of, refuses}
 use Rattle.dg_machine.specs.CommandGrammar.{IsColumn}
 use Rattle.dg_machine.specs.MachineState.{MachineState, names_in}
 use Rattle.dg_machine.specs.Needs.{refused}
@@ -26,10 +27,14 @@ pub data Step (m : MachineState) : Entry → Reply → MachineState → Type 0 w
       → Step m (No_command line) (headed (head.Refused (refusal.Syntax column))) m
   Too_long : Step m Long_line (headed (head.Refused refusal.LineLong)) m
 
+-- the refusal says that a read of the index file failed
+abbrev pub is_failed_read : Refusal → Bool
+is_failed_read refusal.StoreRead = true
+is_failed_read r = false
+
 -- the reply says that a read of the index file failed
 abbrev pub is_store_read : Head → Bool
-is_store_read (head.Refused refusal.StoreRead) = true
-is_store_read h = false
+is_store_read h = refuses is_failed_read (refusal_of h)
 
 -- how many of the replies say so
 abbrev pub failed_reads : List Answered → ℕ

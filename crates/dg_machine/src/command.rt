@@ -4,6 +4,19 @@ use dg_history::NodeId;
 /// The most instants of one command.
 pub const TIMES_MAX: usize = 32;
 
+/// What is asked of a handle. Nothing is read for it, and nothing changes.
+#[derive(Clone, Copy)]
+pub enum Query {
+    /// List the elements.
+    List,
+    /// Count the elements, by kind.
+    Counts,
+    /// Print a node of the graph: its degree and its attributes.
+    Node(u64),
+    /// Print the edges at a node of the graph, with their other ends.
+    Neighbours(u64),
+}
+
 /// A command of the script. docs/SCRIPT.md has its grammar.
 #[derive(Clone, Copy)]
 pub enum Command {
@@ -38,23 +51,10 @@ pub enum Command {
         node: NodeId,
         cols: Columns,
     },
-    /// List the elements of a handle.
-    List {
+    /// Ask something of a handle.
+    Ask {
         handle: u32,
-    },
-    /// Count the elements of a handle, by kind.
-    Counts {
-        handle: u32,
-    },
-    /// Print a node of a handle's graph: its degree and its attributes.
-    Node {
-        handle: u32,
-        id: u64,
-    },
-    /// Print the edges at a node of a handle's graph, with their other ends.
-    Neighbours {
-        handle: u32,
-        id: u64,
+        query: Query,
     },
     /// Give a handle up.
     Release {

@@ -8,7 +8,7 @@ mod limits;
 mod reply;
 mod stands;
 
-pub use command::{Command, TIMES_MAX};
+pub use command::{Command, Query, TIMES_MAX};
 pub use laws::law_machine_is_determined;
 pub use limits::{
     FIRST_HANDLE, HANDLE_MAX, LIVE_HANDLES_MAX, Limits, SCRIPT_BYTES_MAX, machine_limits,

@@ -3,6 +3,7 @@ use Rattle.std.proofs.Common.{◌≡◌, ℕ, Bool, true, false, cond, map, refl
 use Rattle.dg_graph.specs.declared.element.Element.TheVariants as element
 use Rattle.dg_graph.specs.Elements.{has}
 use Rattle.dg_machine.specs.declared.command.Command.TheVariants as command
+use Rattle.dg_machine.specs.declared.command.Query.TheVariants as query
 use Rattle.dg_machine.specs.declared.reply.BodyLine.TheVariants as line
 use Rattle.dg_machine.specs.declared.reply.Head.TheVariants as head
 use Rattle.dg_machine.specs.declared.reply.Reply.{Reply}
@@ -10,10 +11,10 @@ use Rattle.dg_machine.specs.Answer.{counting, headed, is_refusal, listing, neigh
 use Rattle.dg_query.specs.Queries.{degree_of, values_of}
 use Rattle.dg_session.proofs.SessionQueryStep.{Asks}
 
-pub list_asks : (handle : ℕ) → Asks (command.List handle) handle false (listing handle)
+pub list_asks : (handle : ℕ) → Asks (command.Ask handle query.List) handle false (listing handle)
 list_asks handle = record { unplanned = λ m. refl; needed = λ p. refl; due = λ m. refl; accepts = λ g. refl }
 
-pub counts_asks : (handle : ℕ) → Asks (command.Counts handle) handle false (counting handle)
+pub counts_asks : (handle : ℕ) → Asks (command.Ask handle query.Counts) handle false (counting handle)
 counts_asks handle = record { unplanned = λ m. refl; needed = λ p. refl; due = λ m. refl; accepts = λ g. refl }
 
 -- of two replies, neither of which is a refusal, one is none
@@ -21,7 +22,7 @@ either : (b : Bool) (x y : Reply) → is_refusal x.head ≡ false → is_refusal
 either true x y p q = p
 either false x y p q = q
 
-pub node_asks : (handle id : ℕ) → Asks (command.Node handle id) handle true (node_reply handle id)
+pub node_asks : (handle id : ℕ) → Asks (command.Ask handle (query.Node id)) handle true (node_reply handle id)
 node_asks handle id = record {
   unplanned = λ m. refl;
   needed = λ p. refl;
@@ -31,5 +32,5 @@ node_asks handle id = record {
       (headed (head.NodeAbsent handle id)) refl refl;
 }
 
-pub neighbours_asks : (handle id : ℕ) → Asks (command.Neighbours handle id) handle true (neighbours_reply handle id)
+pub neighbours_asks : (handle id : ℕ) → Asks (command.Ask handle (query.Neighbours id)) handle true (neighbours_reply handle id)
 neighbours_asks handle id = record { unplanned = λ m. refl; needed = λ p. refl; due = λ m. refl; accepts = λ g. refl }

@@ -15,9 +15,9 @@ use Rattle.dg_machine.specs.MachineState.{MachineState, history_in}
 use Rattle.dg_machine.specs.Needs.{is_writing, needs}
 use Rattle.dg_machine.specs.Planning.{IsPlanned, no_plan}
 use Rattle.dg_query.specs.Queries.{counts_of}
-use Rattle.dg_session.proofs.ChangeGrammarRanges.{lines_fit}
-use Rattle.dg_session.proofs.GeneratedChangeRanges.{generated_fit}
-use Rattle.dg_session.proofs.LegalHistory.{AskedFit}
+use Rattle.dg_batch.proofs.ChangeGrammarRanges.{lines_fit}
+use Rattle.dg_batch.proofs.GeneratedChangeRanges.{generated_fit}
+use Rattle.dg_batch.proofs.LegalHistory.{AskedFit}
 use Rattle.dg_session.specs.BatchCommand.{command_with, batch_head}
 use Rattle.dg_session.specs.declared.batch_command.BatchCommand.{BatchCommand}
 use Rattle.dg_session.specs.declared.batch_command.BatchCommand.TheVariants.{Load, Append}

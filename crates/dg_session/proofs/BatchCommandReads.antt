@@ -36,24 +36,24 @@ use Rattle.dg_plan.specs.Walks.{AreSingles}
 use Rattle.dg_retrieval.specs.KeptGraph.{record_edges}
 use Rattle.dg_session.proofs.BatchCommandForms.{Lines_of, Origin, Seed, adding, head_over}
 use Rattle.dg_session.proofs.BatchCommandStep.{IsAsked, many_changes, of_here, opening_there, over, refused_first}
-use Rattle.dg_session.proofs.CompletedChanges.{all_come, as_many}
+use Rattle.dg_batch.proofs.CompletedChanges.{all_come, as_many}
 use Rattle.dg_session.proofs.DamageStep.{tells_no_damage}
 use Rattle.dg_session.proofs.PlanStep.{older_are, records_edges_are}
 use Rattle.dg_session.proofs.SessionRetrievals.{every_some, if_some}
 use Rattle.dg_session.proofs.PartStates.{is_of}
 use Rattle.dg_session.proofs.SessionSteps.{refused_not_read}
 use Rattle.dg_session.specs.BatchCommand.{barred, command_with}
-use Rattle.dg_session.specs.BatchLines.{IsBarred, ReadsBatch, first_refusal}
+use Rattle.dg_batch.specs.BatchLines.{IsBarred, ReadsBatch, first_refusal}
 use Rattle.dg_session.specs.Damage.{DamageIn, DamageIs, NamesBatchDamage}
 use Rattle.dg_session.specs.declared.batch_command.BatchCommand.{BatchCommand}
 use Rattle.dg_session.specs.declared.batch_command.BatchCommand.TheVariants.{Load, Append}
-use Rattle.dg_session.specs.declared.batch_lines.BatchLines.{BatchLines}
-use Rattle.dg_session.specs.declared.halt.Halt.{Halt}
-use Rattle.dg_session.specs.declared.halt.Halt.TheVariants as halt
-use Rattle.dg_session.specs.Halt.{batch_halt}
+use Rattle.dg_batch.specs.declared.batch_lines.BatchLines.{BatchLines}
+use Rattle.dg_batch.specs.declared.halt.Halt.{Halt}
+use Rattle.dg_batch.specs.declared.halt.Halt.TheVariants as halt
+use Rattle.dg_batch.specs.Halt.{batch_halt}
 use Rattle.dg_session.specs.Parts.{Parts}
-use Rattle.dg_session.specs.Reads.{Reads, ReadsBy, ReadsIn, ReadsOlder, reply_head, is_early, is_quiet, older_for}
-use Rattle.dg_session.specs.Session.{StandsFor, is_of_read}
+use Rattle.dg_session.specs.Reads.{Reads, ReadsBy, ReadsIn, ReadsOlder, reply_head, is_early, older_for}
+use Rattle.dg_session.specs.Session.{StandsFor, is_of_read, is_quiet}
 use Rattle.dg_start.specs.declared.stored_history.StoredHistory.{StoredHistory}
 use Rattle.dg_start.specs.StoredHistory.{index_opening}
 

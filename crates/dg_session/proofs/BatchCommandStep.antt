@@ -51,29 +51,30 @@ use Rattle.dg_machine.specs.Planning.{no_plan}
 use Rattle.dg_machine.specs.Run.{Step}
 use Rattle.dg_machine.specs.Script.{Asked, Follows}
 use Rattle.dg_session.proofs.BatchCommandForms.{Lines_of, Origin, Seed, accepted_made, adding, asked_fit, asked_from, behind_head, head_over, lacks, ok_head, reads_records, unplanned, with_made, writes}
-use Rattle.dg_session.proofs.LegalHistoryRanges.{ChangeFits, what_spelled}
-use Rattle.dg_session.proofs.GeneratedChangeRanges.{generated_length}
-use Rattle.dg_session.proofs.HeldIndexHistory.{count_is}
+use Rattle.dg_batch.proofs.LegalHistoryRanges.{ChangeFits, what_spelled}
+use Rattle.dg_batch.proofs.GeneratedChangeRanges.{generated_length}
+use Rattle.dg_ask.proofs.HeldIndexHistory.{count_is}
 use Rattle.dg_session.proofs.SessionGraphs.{all_reached_more, graphs_more}
-use Rattle.dg_session.proofs.LegalHistory.{AskedFit, IsNext, batch_next, events_with, fitting_next, grown_next, legal_next, names_grown}
-use Rattle.dg_session.proofs.OpenedIndexHistory.{behind}
-use Rattle.dg_session.proofs.NamesAfter.{Grows, changes_length, grown_new}
+use Rattle.dg_batch.proofs.LegalHistory.{AskedFit, IsNext, batch_next, events_with, fitting_next, grown_next, legal_next, names_grown}
+use Rattle.dg_ask.proofs.OpenedIndexHistory.{behind}
+use Rattle.dg_batch.proofs.NamesAfter.{Grows, changes_length, grown_new}
 use Rattle.dg_session.proofs.PartStates.{IsOf, both_told, by_first, is_of, not_false, one_told, opening_of, passes, refused_is, stands}
 use Rattle.dg_session.proofs.SessionSteps.{Comes, accepted_is, accepted_steps, denied, denied_at, failing_denies, is_accepted, lacking_denies, refused_denies}
-use Rattle.dg_session.specs.BatchCommand.{HandlesStay, barred, command_with}
-use Rattle.dg_session.specs.BatchLines.{IsBarred, IsBatch, NamesGrow, ReadsBatch, first_refusal}
+use Rattle.dg_batch.specs.HandlesStay.{HandlesStay}
+use Rattle.dg_session.specs.BatchCommand.{barred, command_with}
+use Rattle.dg_batch.specs.BatchLines.{IsBarred, IsBatch, NamesGrow, ReadsBatch, first_refusal}
 use Rattle.dg_session.specs.declared.batch_command.BatchCommand.{BatchCommand}
 use Rattle.dg_session.specs.declared.batch_command.BatchCommand.TheVariants.{Load, Append}
-use Rattle.dg_session.specs.declared.batch_lines.BatchLines.{BatchLines}
-use Rattle.dg_session.specs.declared.halt.Halt.{Halt}
-use Rattle.dg_session.specs.declared.halt.Halt.TheVariants as halt
-use Rattle.dg_session.specs.declared.stop.Stop.TheVariants as stop
-use Rattle.dg_session.specs.Halt.{batch_halt}
-use Rattle.dg_session.specs.GeneratedBatch.{IsGenerated}
-use Rattle.dg_session.specs.HeldIndex.{events_held, span_held}
+use Rattle.dg_batch.specs.declared.batch_lines.BatchLines.{BatchLines}
+use Rattle.dg_batch.specs.declared.halt.Halt.{Halt}
+use Rattle.dg_batch.specs.declared.halt.Halt.TheVariants as halt
+use Rattle.dg_batch.specs.declared.stop.Stop.TheVariants as stop
+use Rattle.dg_batch.specs.Halt.{batch_halt}
+use Rattle.dg_batch.specs.GeneratedBatch.{IsGenerated}
+use Rattle.dg_ask.specs.HeldIndex.{events_held, span_held}
 use Rattle.dg_handles.specs.Handles.{HandlesState, slot_graphs}
 use Rattle.dg_pool.specs.Graphs.{PoolState, slot_graph}
-use Rattle.dg_session.proofs.SessionPoolStep.{graphs_same}
+use Rattle.dg_ask.proofs.KeptAdjacencies.{graphs_same}
 use Rattle.dg_session.specs.Parts.{Parts}
 use Rattle.dg_session.specs.Session.{Accepts, ComesTo, CutsOff, Denies, Moves, StandsFor, TakesLines, is_reached, is_too_full, refusals_by, refused_by}
 use Rattle.dg_start.specs.declared.stored_history.StoredHistory.{StoredHistory}
@@ -546,10 +547,10 @@ module _ (from : Origin) (got : List ScriptLine) (p : Parts) (count known limit 
           where
             by_image : IsImageOf z after ⊎ IsImageOf (with_batch z New) after → IsCut m (Asked (adding from count) got) before after
             by_image (inl same) =
-                As_before (is_accepted m (adding from count) got _ is.answered (ok_head from (replay_from c.now.graph events) (length events) (event_total free.index.batches + length events) (last_time_from 0 events)))
+                As_before (is_accepted m (adding from count) got _ (writes from count) is.answered (ok_head from (replay_from c.now.graph events) (length events) (event_total free.index.batches + length events) (last_time_from 0 events)))
                 (subst (λ (i : Option History). StandsAs i after) (sym h.index) same)
             by_image (inr more) =
-                As_after (is_accepted m (adding from count) got _ is.answered (ok_head from (replay_from c.now.graph events) (length events) (event_total free.index.batches + length events) (last_time_from 0 events)))
+                As_after (is_accepted m (adding from count) got _ (writes from count) is.answered (ok_head from (replay_from c.now.graph events) (length events) (event_total free.index.batches + length events) (last_time_from 0 events)))
                 said (record m { index = Some (with_batch z New) }) (steps_as before m s _ is.answered) more
 
   -- ---- what the command comes to

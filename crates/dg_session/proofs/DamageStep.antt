@@ -1,7 +1,8 @@
 -- Which reply tells of a damage, and which damage it is.
-use Rattle.std.proofs.Common.{◌≡◌, ℕ, Bool, true, false, List, [], ◌∷◌, Option, Some, Result, Ok, Err, length, refl, sym, ◌∙◌, subst}
-use Rattle.std.specs.Prelude.{IfErr, IfSome}
+use Rattle.std.proofs.Common.{◌≡◌, ℕ, Bool, true, false, List, [], ◌∷◌, Option, Some, None, Result, Ok, Err, length, refl, sym, ◌∙◌, subst}
+use Rattle.std.specs.Prelude.{◌||◌, IfErr, IfSome, is_some}
 use Rattle.std.proofs.lemmas.Bool.{false≢true}
+use Rattle.dg_graph.specs.declared.element.Column.{Column}
 use Rattle.dg_graph.specs.declared.element.Columns.{Columns}
 use Rattle.dg_graph.specs.declared.event.Event.{Event}
 use Rattle.dg_graph.specs.Lines.{ScriptLine}
@@ -10,13 +11,14 @@ use Rattle.dg_machine.specs.declared.command.Command.{Command}
 use Rattle.dg_machine.specs.declared.reply.Head.{Head}
 use Rattle.dg_machine.specs.declared.reply.Head.TheVariants as head
 use Rattle.dg_machine.specs.declared.reply.Refusal.{Refusal}
-use Rattle.dg_machine.specs.declared.reply.Refusal.TheVariants as refusal
 use Rattle.dg_machine.specs.declared.reply.Reply.{Reply}
-use Rattle.dg_machine.specs.Answer.{is_refusal}
+use Rattle.dg_machine.specs.Answer.{is_refusal, refusal_of}
 use Rattle.dg_machine.specs.Needs.{needs}
+use Rattle.dg_machine.specs.Run.{is_failed_read}
 use Rattle.dg_retrieval.specs.declared.fault.RetrievalFault.{RetrievalFault}
 use Rattle.dg_retrieval.specs.declared.fault.RetrievalFault.TheVariants as retrieval_fault
 use Rattle.dg_retrieval.specs.declared.retrieval.Retrieved.{Retrieved}
+use Rattle.dg_history.specs.declared.node.Key.{Key}
 use Rattle.dg_history.specs.declared.node.NodeId.{NodeId}
 use Rattle.dg_machine.specs.Planning.{bases_in}
 use Rattle.dg_plan.specs.declared.edge.Edge.{Edge}
@@ -24,63 +26,33 @@ use Rattle.dg_retrieval.specs.declared.node_lead.NodeLead.{NodeLead}
 use Rattle.dg_retrieval.specs.KeptGraph.{index_edges, kept_edges}
 use Rattle.dg_retrieval.specs.Retrieval.{IsFirstDamage}
 use Rattle.dg_session.proofs.SessionRetrievals.{IsSession}
-use Rattle.dg_session.specs.declared.halt.Halt.{Halt}
-use Rattle.dg_session.specs.declared.halt.Halt.TheVariants as halt
-use Rattle.dg_session.specs.Damage.{DamageIn, DamageIs, Graphs, IsMetBy, NamesDamage, NamesNodeDamage, Node_set, ReadsFor, reads_for}
-use Rattle.dg_session.specs.Halt.{retrieval_halt}
+use Rattle.dg_batch.specs.declared.halt.Halt.{Halt}
+use Rattle.dg_batch.specs.declared.halt.Halt.TheVariants as halt
+use Rattle.dg_session.specs.Damage.{DamageIn, DamageIs, Graphs, damage_told, IsMetBy, NamesDamage, NamesNodeDamage, Node_set, ReadsFor, reads_for}
+use Rattle.dg_batch.specs.Halt.{retrieval_halt}
 use Rattle.dg_session.specs.Parts.{Parts}
-use Rattle.dg_session.specs.HeldIndex.{points_over}
+use Rattle.dg_ask.specs.HeldIndex.{points_over}
 use Rattle.dg_session.specs.Reads.{reply_head}
-use Rattle.dg_session.specs.Session.{Accepts, ComesTo, Denies, is_of_read}
+use Rattle.dg_session.specs.Session.{Accepts, ComesTo, Denies, damage_of, is_of_read}
 
 -- ---- no damage
 
+none_told : {A : Type 0} (failed : Bool) (o : Option A) (P : A → Type 0) → (failed || is_some o) ≡ false → IfSome o P
+none_told true o P e = absurd (false≢true (sym e))
+none_told false None P e = tt
+none_told false (Some d) P e = absurd (false≢true (sym e))
+
 -- a refusal that tells of no read tells of no damage
 pub tells_no_damage : (c : Command) (p : Parts) (image : Option (List ℕ)) (r : Refusal) → is_of_read r ≡ false → DamageIs c p image (head.Refused r)
-tells_no_damage c p image (refusal.Damaged key column) e = absurd (false≢true (sym e))
-tells_no_damage c p image (refusal.Syntax column) e = tt
-tells_no_damage c p image refusal.NoIndex e = tt
-tells_no_damage c p image refusal.IndexExists e = tt
-tells_no_damage c p image refusal.Parameters e = tt
-tells_no_damage c p image (refusal.ShortBatch read count) e = tt
-tells_no_damage c p image (refusal.BadChange line reason) e = tt
-tells_no_damage c p image (refusal.OutOfRange ends) e = tt
-tells_no_damage c p image (refusal.UnknownHandle handle) e = tt
-tells_no_damage c p image (refusal.PoolFull live asked) e = tt
-tells_no_damage c p image (refusal.HistoryFull held more) e = tt
-tells_no_damage c p image (refusal.FileFull needed limit) e = tt
-tells_no_damage c p image refusal.StoreRead e = tt
-tells_no_damage c p image refusal.OutOfMemory e = tt
-tells_no_damage c p image refusal.LineLong e = tt
-tells_no_damage c p image (refusal.InUse handle) e = tt
-tells_no_damage c p image refusal.UnknownNode e = tt
-tells_no_damage c p image (refusal.NotAnOverlay handle) e = tt
-tells_no_damage c p image refusal.HandlesSpent e = tt
-tells_no_damage c p image refusal.AlreadyLoaded e = tt
+tells_no_damage c p image r e = none_told (is_failed_read r) (damage_of r) (λ d. IsMetBy (reads_for c) p image d.0 d.1) e
+
+none_refused : (o : Option Refusal) (P : Key × Column → Type 0) → is_some o ≡ false → IfSome (damage_told o) P
+none_refused None P e = tt
+none_refused (Some r) P e = absurd (false≢true (sym e))
 
 -- nor does a reply that is no refusal
 accepted_tells_none : (c : Command) (p : Parts) (image : Option (List ℕ)) (h : Head) → is_refusal h ≡ false → DamageIs c p image h
-accepted_tells_none c p image (head.Refused _) e = absurd (false≢true (sym e))
-accepted_tells_none c p image head.Created e = tt
-accepted_tells_none c p image (head.Loaded _ _ _) e = tt
-accepted_tells_none c p image (head.Appended _ _ _) e = tt
-accepted_tells_none c p image (head.At _ _) e = tt
-accepted_tells_none c p image (head.Several _ _) e = tt
-accepted_tells_none c p image (head.Materialised _ _) e = tt
-accepted_tells_none c p image (head.List _ _) e = tt
-accepted_tells_none c p image (head.Counts _ _) e = tt
-accepted_tells_none c p image (head.NodeThere _ _ _) e = tt
-accepted_tells_none c p image (head.NodeAbsent _ _) e = tt
-accepted_tells_none c p image (head.Neighbours _ _ _) e = tt
-accepted_tells_none c p image (head.Released _) e = tt
-accepted_tells_none c p image head.Cleaned e = tt
-accepted_tells_none c p image (head.CleanedAll _) e = tt
-accepted_tells_none c p image (head.Pool _ _) e = tt
-accepted_tells_none c p image (head.Plan _ _) e = tt
-accepted_tells_none c p image (head.Certified _) e = tt
-accepted_tells_none c p image (head.Verified _) e = tt
-accepted_tells_none c p image (head.Generated _ _ _ _) e = tt
-accepted_tells_none c p image (head.Tree _ _ _ _ _ _) e = tt
+accepted_tells_none c p image h e = none_refused (refusal_of h) (λ d. IsMetBy (reads_for c) p image d.0 d.1) e
 
 not_true : (b : Bool) → (b ≡ true → ⊥) → b ≡ false
 not_true true h = absurd (h refl)

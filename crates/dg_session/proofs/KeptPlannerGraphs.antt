@@ -16,8 +16,8 @@ use Rattle.dg_planner.specs.Whole.{PlannerGraph}
 use Rattle.dg_retrieval.specs.KeptGraph.{HoldNoList, kept_edges, kept_nodes}
 use Rattle.dg_session.specs.contracts.session.Session.{the_view}
 use Rattle.dg_session.specs.declared.session.Session.TheInside.{Inside}
-use Rattle.dg_session.specs.HeldIndex.{HasNodeOf, HasNodes, has_node_held}
-use Rattle.dg_session.specs.KeptPlanner.{IsGraphFor, IsGraphOver, IsKeptFor}
+use Rattle.dg_ask.specs.HeldIndex.{HasNodeOf, HasNodes, has_node_held}
+use Rattle.dg_ask.specs.KeptPlanner.{IsGraphFor, IsGraphOver, IsKeptFor}
 use Rattle.dg_session.specs.Parts.{Parts}
 use Rattle.dg_start.specs.StoredHistory.{index_opening}
 

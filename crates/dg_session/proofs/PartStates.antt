@@ -25,9 +25,9 @@ use Rattle.dg_machine.specs.declared.stands.Stands.{Stands}
 use Rattle.dg_machine.specs.Answer.{with_handle}
 use Rattle.dg_machine.specs.MachineState.{MachineState, dependent_on, elements, stands_at, events_in_index, graphs_of, history_in, names_in}
 use Rattle.dg_machine.specs.Needs.{Needs, can_be_held, earliest, is_base, needs, of, refused, when}
-use Rattle.dg_session.proofs.HeldIndexHistory.{count_is, span_is}
-use Rattle.dg_session.proofs.OpenedIndexHistory.{behind}
-use Rattle.dg_session.specs.HeldIndex.{events_held, params_held, span_held}
+use Rattle.dg_ask.proofs.HeldIndexHistory.{count_is, span_is}
+use Rattle.dg_ask.proofs.OpenedIndexHistory.{behind}
+use Rattle.dg_ask.specs.HeldIndex.{events_held, params_held, span_held}
 use Rattle.dg_session.specs.Parts.{Parts}
 use Rattle.dg_session.specs.Session.{StandsFor, WhereBothTold, is_reached, refused_by}
 use Rattle.dg_start.specs.StoredHistory.{KeepsHistory}

@@ -37,18 +37,18 @@ use Rattle.dg_planner.specs.HistoryLaws.{first_time_in}
 use Rattle.dg_planner.proofs.HistoryLawGraphs.{edges_are as edges_of_records, graph_of_history}
 use Rattle.dg_planner.proofs.HistoryLawPoints.{points_of_history}
 use Rattle.dg_shape.specs.Points.{point_of}
-use Rattle.dg_session.proofs.HeldIndexHistory.{count_is, kept_span_is, span_is}
-use Rattle.dg_session.proofs.OpenedIndexHistory.{behind}
+use Rattle.dg_ask.proofs.HeldIndexHistory.{count_is, kept_span_is, span_is}
+use Rattle.dg_ask.proofs.OpenedIndexHistory.{behind}
 use Rattle.dg_session.proofs.PartStates.{IsOf, by_first, is_of, miss, one_image, opening_of, stands_on}
-use Rattle.dg_session.specs.declared.halt.Halt.TheVariants as halt
-use Rattle.dg_session.specs.declared.stop.Stop.{Stop}
-use Rattle.dg_session.specs.declared.stop.Stop.TheVariants as stop
+use Rattle.dg_batch.specs.declared.halt.Halt.TheVariants as halt
+use Rattle.dg_batch.specs.declared.stop.Stop.{Stop}
+use Rattle.dg_batch.specs.declared.stop.Stop.TheVariants as stop
 use Rattle.dg_session.proofs.SessionSteps.{Comes, lacking_denies, moved, moved_by, refused_denies}
-use Rattle.dg_session.specs.BatchLines.{first_refusal}
+use Rattle.dg_batch.specs.BatchLines.{first_refusal}
 use Rattle.dg_session.specs.Parts.{Parts}
 use Rattle.dg_retrieval.specs.KeptGraph.{holding, index_edges, kept_edges, kept_nodes, record_edges, shape_with}
-use Rattle.dg_session.specs.HeldIndex.{catalogue_of, point_over, span_held}
-use Rattle.dg_session.specs.Plans.{IsPlanReply}
+use Rattle.dg_ask.specs.HeldIndex.{catalogue_of, point_over, span_held}
+use Rattle.dg_ask.specs.Plans.{IsPlanReply}
 use Rattle.dg_session.specs.Reads.{older_for}
 use Rattle.dg_session.specs.Session.{Accepts, Denies, StandsFor, refusals_by, refused_by, retrieval_needs}
 

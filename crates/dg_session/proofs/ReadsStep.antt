@@ -1,8 +1,9 @@
 -- Which commands read the file, and which reply says that a read failed.
-use Rattle.std.proofs.Common.{◌≡◌, ℕ, true, false, List, Option, Some, Result, Ok, Err, refl, sym, ◌∙◌, subst}
-use Rattle.std.specs.Prelude.{IfSome}
+use Rattle.std.proofs.Common.{◌≡◌, ℕ, Bool, true, false, not, List, Option, Some, None, Result, Ok, Err, refl, sym, ◌∙◌, subst}
+use Rattle.std.specs.Prelude.{◌&&◌, IfSome, is_some}
 use Rattle.std.proofs.lemmas.Bool.{false≢true}
 use Rattle.dg_graph.specs.Lines.{ScriptLine}
+use Rattle.dg_machine.proofs.Refusals.{store_read_refuses}
 use Rattle.dg_machine.specs.declared.command.Command.{Command}
 use Rattle.dg_machine.specs.declared.reply.Head.{Head}
 use Rattle.dg_machine.specs.declared.reply.Head.TheVariants as head
@@ -10,14 +11,14 @@ use Rattle.dg_machine.specs.declared.reply.Refusal.{Refusal}
 use Rattle.dg_machine.specs.declared.reply.Refusal.TheVariants as refusal
 use Rattle.dg_machine.specs.declared.reply.Reply.{Reply}
 use Rattle.dg_machine.specs.Answer.{is_refusal}
-use Rattle.dg_machine.specs.Needs.{needs}
+use Rattle.dg_machine.specs.Needs.{following, needs, or_none}
 use Rattle.dg_machine.specs.Run.{is_store_read}
 use Rattle.dg_session.proofs.SessionRetrievals.{every_some, if_some}
-use Rattle.dg_session.specs.declared.halt.Halt.{Halt}
-use Rattle.dg_session.specs.declared.halt.Halt.TheVariants as halt
+use Rattle.dg_batch.specs.declared.halt.Halt.{Halt}
+use Rattle.dg_batch.specs.declared.halt.Halt.TheVariants as halt
 use Rattle.dg_session.specs.Parts.{Parts}
-use Rattle.dg_session.specs.Reads.{Reads, ReadsIn, reply_head, is_early, is_quiet}
-use Rattle.dg_session.specs.Session.{Accepts, ComesTo, Denies}
+use Rattle.dg_session.specs.Reads.{Reads, ReadsIn, reply_head, is_early}
+use Rattle.dg_session.specs.Session.{Accepts, ComesTo, Denies, is_at_hand, is_quiet}
 
 -- ---- bytes
 
@@ -37,6 +38,21 @@ reads_nothing c p image r count no_reads =
 pub reads_in_reply : (c : Command) (p : Parts) (image : Option (List ℕ)) (r : Result Reply Halt) (h : Head) (before after : ℕ) → reply_head r ≡ Some h → ReadsIn c p image r before after → Reads c p image h before after
 reads_in_reply c p image r h before after is reads = subst (λ (o : Option Head). IfSome o (λ x. Reads c p image x before after)) is reads
 
+-- ---- at hand
+
+no_need : (reads writes : Bool) (lines : Option ℕ) → ((not reads && not writes) && not (is_some lines)) ≡ true → (reads ≡ false) × (or_none lines ≡ 0)
+no_need true writes lines e = absurd (false≢true e)
+no_need false true lines e = absurd (false≢true e)
+no_need false false None e = (refl, refl)
+no_need false false (Some n) e = absurd (false≢true e)
+
+-- a command at hand reads no records, and no line follows it
+pub reads_none : (c : Command) → is_at_hand c ≡ true → (needs c).reads ≡ false
+reads_none c e = (no_need (needs c).reads (needs c).writes (needs c).lines e).0
+
+pub followed_by_none : (c : Command) → is_at_hand c ≡ true → following c ≡ 0
+followed_by_none c e = (no_need (needs c).reads (needs c).writes (needs c).lines e).1
+
 -- ---- a failed read
 
 -- a command that reads no records is not refused for a failed read
@@ -45,29 +61,6 @@ pub fails_no_read : (c : Command) (got : List ScriptLine) (p : Parts) (before : 
 fails_no_read c got p before q after r no_reads comes is =
     let d : Denies c got p before q after refusal.StoreRead = subst (ComesTo c got p before q after) is comes in
     let may = d.reads refl in false≢true (sym no_reads ∙ may.0)
-
-store_read_refuses : (h : Head) → is_refusal h ≡ false → is_store_read h ≡ true → ⊥
-store_read_refuses (head.Refused _) accepts e = false≢true (sym accepts)
-store_read_refuses head.Created accepts e = false≢true e
-store_read_refuses (head.Loaded _ _ _) accepts e = false≢true e
-store_read_refuses (head.Appended _ _ _) accepts e = false≢true e
-store_read_refuses (head.At _ _) accepts e = false≢true e
-store_read_refuses (head.Several _ _) accepts e = false≢true e
-store_read_refuses (head.Materialised _ _) accepts e = false≢true e
-store_read_refuses (head.List _ _) accepts e = false≢true e
-store_read_refuses (head.Counts _ _) accepts e = false≢true e
-store_read_refuses (head.NodeThere _ _ _) accepts e = false≢true e
-store_read_refuses (head.NodeAbsent _ _) accepts e = false≢true e
-store_read_refuses (head.Neighbours _ _ _) accepts e = false≢true e
-store_read_refuses (head.Released _) accepts e = false≢true e
-store_read_refuses head.Cleaned accepts e = false≢true e
-store_read_refuses (head.CleanedAll _) accepts e = false≢true e
-store_read_refuses (head.Pool _ _) accepts e = false≢true e
-store_read_refuses (head.Plan _ _) accepts e = false≢true e
-store_read_refuses (head.Certified _) accepts e = false≢true e
-store_read_refuses (head.Verified _) accepts e = false≢true e
-store_read_refuses (head.Generated _ _ _ _) accepts e = false≢true e
-store_read_refuses (head.Tree _ _ _ _ _ _) accepts e = false≢true e
 
 -- a reply that is no refusal does not say that a read failed
 pub accepted_reads : (c : Command) (got : List ScriptLine) (p : Parts) (before : Option (List ℕ)) (q : Parts) (after : Option (List ℕ)) (r : Result Reply Halt) (reply : Reply)

@@ -20,12 +20,12 @@ use Rattle.dg_machine.specs.Answer.{is_refusal, record_line, tree_reply}
 use Rattle.dg_machine.specs.MachineState.{history_in}
 use Rattle.dg_machine.specs.Needs.{needs}
 use Rattle.dg_planner.proofs.HistoryLawGraphs.{keys_held}
-use Rattle.dg_session.proofs.OpenedIndexHistory.{behind}
-use Rattle.dg_session.proofs.HeldIndexHistory.{count_is}
+use Rattle.dg_ask.proofs.OpenedIndexHistory.{behind}
+use Rattle.dg_ask.proofs.HeldIndexHistory.{count_is}
 use Rattle.dg_session.proofs.PartStates.{IsOf, hit, is_of, miss, one_image, opening_of, stands_on}
 use Rattle.dg_session.proofs.SessionSteps.{moved}
 use Rattle.dg_session.specs.Parts.{Parts}
-use Rattle.dg_session.specs.RecordListing.{held_line, lengths_held, listing_of}
+use Rattle.dg_ask.specs.RecordListing.{held_line, lengths_held, listing_of}
 use Rattle.dg_session.specs.Session.{Accepts, refused_by}
 
 pub tree_refused : (p : Parts) → p.index ≡ None → refused_by p 0 (needs command.Tree) ≡ Some refusal.NoIndex

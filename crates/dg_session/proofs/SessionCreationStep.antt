@@ -17,7 +17,7 @@ use Rattle.dg_machine.specs.declared.reply.Head.TheVariants as head
 use Rattle.dg_machine.specs.declared.reply.Refusal.TheVariants as refusal
 use Rattle.dg_machine.specs.declared.reply.Reply.{Reply}
 use Rattle.dg_machine.specs.Answer.{Answered, answer, headed, is_refusal}
-use Rattle.dg_machine.specs.CutImage.{IsAccepted, IsCut, As_before, As_after, First_byte}
+use Rattle.dg_machine.specs.CutImage.{IsAcceptedWrite, IsCut, As_before, As_after, First_byte}
 use Rattle.dg_machine.specs.MachineState.{MachineState}
 use Rattle.dg_machine.specs.Needs.{needs, refused}
 use Rattle.dg_machine.specs.Planning.{no_plan}
@@ -27,7 +27,7 @@ use Rattle.dg_index.specs.IndexRecords.{recent_of}
 use Rattle.dg_session.proofs.ReadsStep.{reads_freely}
 use Rattle.dg_session.proofs.PartStates.{AreOf, are_of, both_told, graph_in, no_graphs, no_handle_reached, no_index, one_told, opening_of, passes, recent_in, refused_is, stands}
 use Rattle.dg_session.proofs.SessionSteps.{accepted_is, accepted_steps, is_accepted, lacking_denies, moved}
-use Rattle.dg_session.specs.Halt.{creation_halt}
+use Rattle.dg_batch.specs.Halt.{creation_halt}
 use Rattle.dg_session.specs.Parts.{Parts}
 use Rattle.dg_session.specs.Reads.{ReadsIn}
 use Rattle.dg_start.specs.StoredHistory.{AreCounted, IsHeldBy}
@@ -109,8 +109,8 @@ create_cuts p params before after none part m s = by_part part
     new : Answered
     new = record { reply = headed head.Created; state = made_in m params }
 
-    allowed : IsAccepted m (Asked (making params) [])
-    allowed = is_accepted m (making params) [] new (answer_is p before m params s none) refl
+    allowed : IsAcceptedWrite m (Asked (making params) [])
+    allowed = is_accepted m (making params) [] new refl (answer_is p before m params s none) refl
 
     by_part : IsMadeInPart params before after → IsCut m (Asked (making params) []) before after
     by_part (inl blank) = As_before allowed (subst (λ (i : Option History). StandsAs i after) (sym gone) blank)

@@ -15,13 +15,14 @@ use Rattle.dg_history.specs.declared.params.Params.{Params}
 use Rattle.dg_history.specs.History.{History, Batch, earliest_next, events_of, in_range, last_time_from, span_of, with_batch}
 use Rattle.dg_index.proofs.OpenedIndexHistories.{Rises, rises_last, rises_later}
 use Rattle.dg_index.proofs.RecentEvents.{replay_at_more}
-use Rattle.dg_index.proofs.HierarchyStability.{leaves_more, stable}
+use Rattle.dg_index.proofs.HierarchyStability.{stable}
 use Rattle.dg_index.specs.Hierarchy.{leaves, set_of}
 use Rattle.dg_machine.specs.declared.stands.Stands.{Stands}
 use Rattle.dg_machine.specs.declared.stands.Stands.TheVariants.{Overlay, Base}
 use Rattle.dg_machine.specs.MachineState.{elements}
 use Rattle.dg_machine.specs.Needs.{can_be_held}
-use Rattle.dg_session.proofs.LegalHistory.{events_with}
+use Rattle.dg_batch.proofs.HeldIndexNodes.{held_more}
+use Rattle.dg_batch.proofs.LegalHistory.{events_with}
 use Rattle.dg_session.specs.Session.{is_reached}
 
 -- ---- instants
@@ -60,28 +61,7 @@ range_more (e ∷ events) more t rises r =
 
 -- ---- nodes
 
--- a node that can be held is there with more events
-module _ (p : Params) (pos : 0 < p.l) (n more : ℕ) where
-  few : leaves p n ≤ leaves p (n + more)
-  few = leaves_more p.l n more pos
-
-  pub held_more : (v : NodeId) → can_be_held p n v ≡ true → can_be_held p (n + more) v ≡ true
-  held_more Root r = r
-  held_more Now r = r
-  held_more Recent r = r
-  held_more (EventList i) r = r
-  held_more (Leaf j) r =
-      let parts = both (nat_le 1 j) (nat_le j (leaves p n)) r in
-      ap (λ (b : Bool). b && nat_le j (leaves p (n + more))) parts.0
-      ∙ le-leb j (leaves p (n + more)) (omega (arith, few, leb-true j (leaves p n) parts.1))
-  held_more (Inner h j) r =
-      let parts = both (nat_le 1 h) (nat_le 1 j && nat_le (j * p.k ^ h) (leaves p n)) r in
-      let rest = both (nat_le 1 j) (nat_le (j * p.k ^ h) (leaves p n)) parts.1 in
-      ap (λ (b : Bool). b && (nat_le 1 j && nat_le (j * p.k ^ h) (leaves p (n + more)))) parts.0
-      ∙ ap (λ (b : Bool). b && nat_le (j * p.k ^ h) (leaves p (n + more))) rest.0
-      ∙ le-leb (j * p.k ^ h) (leaves p (n + more)) (omega (arith, few, leb-true (j * p.k ^ h) (leaves p n) rest.1))
-
--- and has the same set
+-- a node that can be held is there with more events and has the same set
 module _ (p : Params) (pos : 0 < p.l) (events more : List Event) where
   pub set_more : (v : NodeId) → can_be_held p (length events) v ≡ true → set_of p (events ++ more) v ≡ set_of p events v
   set_more Root r = absurd (false≢true r)

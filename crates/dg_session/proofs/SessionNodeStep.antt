@@ -37,7 +37,7 @@ use Rattle.dg_retrieval.specs.Retrieval.{IsNoDamage}
 use Rattle.dg_session.proofs.PlanStep.{records_edges_in}
 use Rattle.dg_session.proofs.SessionRetrievals.{handles_taken, if_some, moved_with, reads_failed, retrieval_accepted, z_of}
 use Rattle.dg_session.proofs.PartStates.{events_are, events_there, hit, is_of, last_passes, miss, not_false, one_image, one_told, params_are, passes}
-use Rattle.dg_session.specs.HeldIndex.{has_node_held}
+use Rattle.dg_ask.specs.HeldIndex.{has_node_held}
 use Rattle.dg_session.specs.Parts.{Parts}
 use Rattle.dg_session.specs.Reads.{IsNodeHeld, Reads, is_early, with_new_handles}
 use Rattle.dg_session.specs.Session.{Accepts, StandsFor, is_reached, node_needs, refused_by}

@@ -18,11 +18,6 @@ use Rattle.dg_session.specs.Parts.{Parts}
 use Rattle.dg_session.specs.Session.{Accepts, StandsFor, refused_by}
 use Rattle.dg_start.specs.StoredHistory.{IsHeldBy}
 
--- a pool whose slots have the same graphs
-pub graphs_same : (old new : PoolState) → ((s : ℕ) → slot_graph new s ≡ slot_graph old s) → (slots : List ℕ) → slot_graphs new slots ≡ slot_graphs old slots
-graphs_same old new same [] = refl
-graphs_same old new same (s ∷ slots) = λ i. members_as (same s i) ∷ graphs_same old new same slots i
-
 -- a command that needs nothing and changes nothing that the machine knows
 stays : (c : Command) (p q : Parts) (image : Option (List ℕ)) (reply : Reply) → IsUnplanned c → refused_by p 0 (needs c) ≡ None → q ≡ p
     → ((m : MachineState) (x : List ℕ) → StandsFor p x m → accepted m c [] no_plan ≡ say m reply) → is_refusal reply.head ≡ false → Accepts c [] p image q image reply

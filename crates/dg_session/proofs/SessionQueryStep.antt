@@ -16,8 +16,8 @@ use Rattle.dg_machine.specs.Needs.{earliest, is_base, needs, when}
 use Rattle.dg_machine.specs.Planning.{no_plan}
 use Rattle.dg_session.proofs.PartStates.{hit, miss, one_image, stands_on}
 use Rattle.dg_session.proofs.SessionSteps.{IsUnplanned, handed_out, lacking_denies, moved, refused_denies}
-use Rattle.dg_session.specs.declared.halt.Halt.{Halt}
-use Rattle.dg_session.specs.declared.halt.Halt.TheVariants as halt
+use Rattle.dg_batch.specs.declared.halt.Halt.{Halt}
+use Rattle.dg_batch.specs.declared.halt.Halt.TheVariants as halt
 use Rattle.dg_session.specs.Parts.{Parts}
 use Rattle.dg_session.specs.Session.{Accepts, ComesTo, StandsFor, refused_by}
 

@@ -22,8 +22,8 @@ use Rattle.dg_index.specs.OpenedIndex.{Opening}
 use Rattle.dg_machine.specs.Needs.{earliest, is_base, needs, of}
 use Rattle.dg_machine.specs.Planning.{bases_in, usable}
 use Rattle.dg_planner.specs.Whole.{PlannerGraph}
-use Rattle.dg_session.specs.KeptPlanner.{IsGraphOver, IsKeptFor}
-use Rattle.dg_session.proofs.HeldIndexHandles.{kept_same}
+use Rattle.dg_ask.specs.KeptPlanner.{IsGraphOver, IsKeptFor}
+use Rattle.dg_ask.proofs.HeldIndexHandles.{kept_same}
 use Rattle.dg_session.proofs.PartStates.{hit, kept, miss, one_image, parts_of, stands}
 use Rattle.dg_session.proofs.SessionSteps.{moved}
 use Rattle.dg_session.specs.Parts.{Parts}

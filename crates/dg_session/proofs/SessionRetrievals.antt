@@ -45,13 +45,13 @@ use Rattle.dg_retrieval.specs.Beginnings.{base_handle, leads_in, led_to}
 use Rattle.dg_retrieval.specs.Retrieval.{AreHeld, ArePoints, IsNoDamage, IsOver, IsTreeOf, TakesAtMostTree, graphs_at}
 use Rattle.dg_session.proofs.HandleBases.{bases_are_held}
 use Rattle.dg_session.proofs.PlanStep.{edges_are, point_here, point_is}
-use Rattle.dg_session.proofs.PointNodes.{IsSoundIndex, point_there}
+use Rattle.dg_ask.proofs.PointNodes.{IsSoundIndex, point_there}
 use Rattle.dg_session.proofs.PartStates.{events_there, handle_taken, hit, instants_are, miss, is_of, last_passes, not_false, one_told, passes, refused_is}
 use Rattle.dg_session.proofs.SessionSteps.{AcceptedBehindReads, accepted_is, accepted_steps, failing_accepted, lacking_denies}
-use Rattle.dg_session.specs.Halt.{retrieval_halt}
+use Rattle.dg_batch.specs.Halt.{retrieval_halt}
 use Rattle.dg_session.specs.contracts.session.Session.{the_view}
 use Rattle.dg_session.specs.declared.session.Session.TheInside.{Inside}
-use Rattle.dg_session.specs.HeldIndex.{point_over, points_over, span_held}
+use Rattle.dg_ask.specs.HeldIndex.{point_over, points_over, span_held}
 use Rattle.dg_session.specs.Parts.{Parts}
 use Rattle.dg_session.specs.Reads.{IsRetrieved, Reads, ReadsAsTold, ReadsBy, ReadsIn, bases_of, is_early, listed_by, with_new_handles}
 use Rattle.dg_start.specs.StoredHistory.{IsHeldBy, index_opening}

@@ -10,21 +10,21 @@ use Rattle.dg_machine.specs.declared.reply.Refusal.{Refusal}
 use Rattle.dg_machine.specs.declared.reply.Refusal.TheVariants as refusal
 use Rattle.dg_machine.specs.declared.reply.Reply.{Reply}
 use Rattle.dg_machine.specs.Answer.{Answered, IsPlannedBy, accepted, answer, answer_by, headed, is_begun, is_behind_reads, no_memory, is_refusal, store_read}
-use Rattle.dg_machine.specs.CutImage.{IsAccepted}
+use Rattle.dg_machine.specs.CutImage.{IsAcceptedWrite}
 use Rattle.dg_machine.specs.MachineState.{MachineState, stands_at, dependent_on}
 use Rattle.dg_history.specs.History.{are_parameters, in_range}
 use Rattle.dg_machine.specs.declared.limits.TheConstants.{HANDLE_MAX, LIVE_HANDLES_MAX}
-use Rattle.dg_machine.specs.Needs.{Needs, earliest, following, is_followed, needs, of, refused, when, is_base}
+use Rattle.dg_machine.specs.Needs.{Needs, earliest, following, is_followed, is_writing, needs, of, refused, when, is_base}
 use Rattle.dg_machine.specs.Planning.{Planned, IsPlanned, no_plan}
 use Rattle.dg_machine.specs.Run.{Step, Answers, Fails_to_read, Lacks_memory}
 use Rattle.dg_machine.specs.Script.{Asked}
-use Rattle.dg_session.proofs.BatchLineCollection.{follows_none}
+use Rattle.dg_batch.proofs.BatchLineCollection.{follows_none}
 use Rattle.dg_session.proofs.PartStates.{one_image, refused_is, stands_on}
-use Rattle.dg_session.specs.HeldIndex.{events_held, span_held, has_node_held}
+use Rattle.dg_ask.specs.HeldIndex.{events_held, span_held, has_node_held}
 use Rattle.dg_session.specs.Parts.{Parts}
-use Rattle.dg_session.specs.declared.halt.Halt.{Halt}
-use Rattle.dg_session.specs.declared.halt.Halt.TheVariants as halt
-use Rattle.dg_session.specs.declared.stop.Stop.TheVariants as stop
+use Rattle.dg_batch.specs.declared.halt.Halt.{Halt}
+use Rattle.dg_batch.specs.declared.halt.Halt.TheVariants as halt
+use Rattle.dg_batch.specs.declared.stop.Stop.TheVariants as stop
 use Rattle.dg_session.specs.Session.{ComesTo, Denies, MayRead, Moves, StandsFor, Steps, TakesLines, WhereBothTold, is_of_read, is_too_full, refused_by}
 
 -- ---- of the machine
@@ -70,10 +70,10 @@ failing_steps m c lines reads behind = Fails_to_read c lines (λ i. reads i && b
 abbrev pub AcceptedBehindReads : Command → List ScriptLine → Type 0
 AcceptedBehindReads c lines = (m : MachineState) → is_behind_reads (accepted m c lines no_plan).reply.head ≡ true
 
--- a command whose answer is no refusal may be cut off
-pub is_accepted : (m : MachineState) (c : Command) (lines : List ScriptLine) (a : Answered) → answer m c lines no_plan ≡ a → is_refusal a.reply.head ≡ false
-    → IsAccepted m (Asked c lines)
-is_accepted m c lines a is accepted = ap (λ (x : Answered). is_refusal x.reply.head) is ∙ accepted
+-- a command that writes and whose answer is no refusal may be cut off
+pub is_accepted : (m : MachineState) (c : Command) (lines : List ScriptLine) (a : Answered) → is_writing c ≡ true → answer m c lines no_plan ≡ a → is_refusal a.reply.head ≡ false
+    → IsAcceptedWrite m (Asked c lines)
+is_accepted m c lines a writes is accepted = (writes, ap (λ (x : Answered). is_refusal x.reply.head) is ∙ accepted)
 
 -- ---- of the session
 

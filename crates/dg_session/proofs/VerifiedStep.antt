@@ -1,5 +1,5 @@
 -- The answer of `verify`: an image that the session stands for is sound.
-use Rattle.std.proofs.Common.{◌≡◌, ℕ, true, false, not, List, [], Option, Some, None, Result, Ok, Err, length, refl, sym, ◌∙◌, ap, subst}
+use Rattle.std.proofs.Common.{◌≡◌, ℕ, Bool, true, false, not, List, [], Option, Some, None, Result, Ok, Err, length, refl, sym, ◌∙◌, ap, subst}
 use Rattle.std.specs.Prelude.{IfOk, IfSome, is_some}
 use Rattle.std.proofs.lemmas.Bool.{false≢true}
 use Rattle.dg_graph.specs.Lines.{ScriptLine}
@@ -19,17 +19,17 @@ use Rattle.dg_sound.specs.declared.soundness.Soundness.{Soundness}
 use Rattle.dg_sound.specs.declared.soundness.Soundness.TheVariants.{Sound}
 use Rattle.dg_sound.specs.Soundness.{record_total, soundness_of}
 use Rattle.dg_sound_files.specs.SoundFiles.{StandingFilesAreSound}
-use Rattle.dg_session.proofs.OpenedIndexHistory.{behind}
+use Rattle.dg_ask.proofs.OpenedIndexHistory.{behind}
 use Rattle.dg_session.proofs.SessionRetrievals.{every_some}
 use Rattle.dg_session.proofs.PartStates.{IsOf, hit, is_of, miss, one_image, one_told, stands_on}
 use Rattle.dg_session.proofs.SessionSteps.{failing_accepted, lacking_denies, moved}
-use Rattle.dg_session.specs.declared.halt.Halt.{Halt}
+use Rattle.dg_batch.specs.declared.halt.Halt.{Halt}
 use Rattle.dg_session.specs.Damage.{DamageIn}
-use Rattle.dg_session.specs.Halt.{verify_halt}
+use Rattle.dg_batch.specs.Halt.{verify_halt}
 use Rattle.dg_session.specs.Parts.{Parts}
 use Rattle.dg_session.specs.Reads.{Reads, ReadsBy, ReadsIn, is_early}
 use Rattle.dg_session.specs.Session.{Accepts, ComesTo, StandsFor, refused_by}
-use Rattle.dg_session.specs.Verified.{IsOfFile, VerifiesFile}
+use Rattle.dg_session.specs.Verified.{IsOfFile, VerifiesBy, VerifiesFile, is_verify}
 use Rattle.dg_start.specs.StoredHistory.{IsHeldBy}
 use Rattle.dg_verify.specs.declared.fault.VerifyFault.{VerifyFault}
 use Rattle.dg_verify.specs.declared.fault.VerifyFault.TheVariants as fault
@@ -112,27 +112,13 @@ failed_reads p image fault.Memory before after = verify_reads p image (head.Refu
 
 -- ---- of all commands
 
+none_verified : (verifies : Bool) (p : Parts) (image : Option (List ℕ)) → VerifiesBy verifies p image None
+none_verified false p image = tt
+none_verified true p image = tt
+
 -- a refusal says nothing of the file
 pub refused_verifies : (c : Command) (p : Parts) (image : Option (List ℕ)) (r : Refusal) → VerifiesFile c p image (head.Refused r)
-refused_verifies (command.Create _ _ _) p image r = tt
-refused_verifies (command.Load _) p image r = tt
-refused_verifies (command.Append _) p image r = tt
-refused_verifies (command.At _ _) p image r = tt
-refused_verifies (command.Several _ _ _) p image r = tt
-refused_verifies (command.Materialise _ _) p image r = tt
-refused_verifies (command.List _) p image r = tt
-refused_verifies (command.Counts _) p image r = tt
-refused_verifies (command.Node _ _) p image r = tt
-refused_verifies (command.Neighbours _ _) p image r = tt
-refused_verifies (command.Release _) p image r = tt
-refused_verifies (command.Clean _) p image r = tt
-refused_verifies command.CleanAll p image r = tt
-refused_verifies command.Pool p image r = tt
-refused_verifies (command.Plan _ _) p image r = tt
-refused_verifies (command.Certify _ _ _) p image r = tt
-refused_verifies command.Verify p image r = tt
-refused_verifies command.Tree p image r = tt
-refused_verifies (command.Workload _ _) p image r = tt
+refused_verifies c p image r = none_verified (is_verify c) p image
 
 -- the reply, where there is one
 pub verified_reply : (c : Command) (p : Parts) (image : Option (List ℕ)) (r : Result Reply Halt) (reply : Reply) → r ≡ Ok reply → IfOk r (λ (x : Reply). VerifiesFile c p image x.head) → VerifiesFile c p image reply.head

@@ -1,9 +1,5 @@
 -- The commands that add a batch.
-use Rattle.std.specs.Prelude.{◌≡◌, ℕ, Option, None}
-use Rattle.dg_append.specs.declared.fault.BatchFault.{BatchFault}
-use Rattle.dg_append.specs.declared.fault.BatchFault.TheVariants as fault
-use Rattle.dg_handles.specs.Handles.{HandlesState}
-use Rattle.dg_pool.specs.Graphs.{PoolState, slot_graph}
+use Rattle.std.specs.Prelude.{ℕ, Option, None}
 use Rattle.dg_machine.specs.declared.command.Command.{Command}
 use Rattle.dg_machine.specs.declared.command.Command.TheVariants as command
 use Rattle.dg_machine.specs.declared.reply.Head.{Head}
@@ -28,12 +24,3 @@ batch_head Append events total last = head.Appended events total last
 -- why no batch of so many lines is added, whatever its lines are
 abbrev pub barred : BatchCommand → Parts → ℕ → Option Refusal
 barred which p count = refused_by p 0 (record (needs (command_with which count)) { lines = None })
-
--- After a fault the handles and their graphs are as they were; after a failure of a write or sync nothing is said.
-abbrev pub HandlesStay : BatchFault → HandlesState → HandlesState → PoolState → PoolState → Type 0
-HandlesStay (fault.BadChange line reason) old new before after = (new ≡ old) × ((s : ℕ) → slot_graph after s ≡ slot_graph before s)
-HandlesStay (fault.FileFull needed limit) old new before after = (new ≡ old) × ((s : ℕ) → slot_graph after s ≡ slot_graph before s)
-HandlesStay (fault.Damaged key col) old new before after = (new ≡ old) × ((s : ℕ) → slot_graph after s ≡ slot_graph before s)
-HandlesStay fault.Read old new before after = (new ≡ old) × ((s : ℕ) → slot_graph after s ≡ slot_graph before s)
-HandlesStay fault.Memory old new before after = (new ≡ old) × ((s : ℕ) → slot_graph after s ≡ slot_graph before s)
-HandlesStay fault.Store old new before after = Unit {0}

@@ -1,5 +1,5 @@
 -- Which damage a refusal names.
-use Rattle.std.specs.Prelude.{◌≡◌, ℕ, false, List, [], ◌∷◌, Option, Some, Result, IfSome, length, take}
+use Rattle.std.specs.Prelude.{◌≡◌, ℕ, false, List, [], ◌∷◌, Option, Some, None, Result, IfSome, length, take}
 use Rattle.dg_append.specs.OlderGroups.{IsBatchDamage}
 use Rattle.dg_graph.specs.declared.element.Column.{Column}
 use Rattle.dg_graph.specs.declared.element.Columns.{Columns}
@@ -9,18 +9,19 @@ use Rattle.dg_machine.specs.declared.command.Command.{Command}
 use Rattle.dg_machine.specs.declared.command.Command.TheVariants as command
 use Rattle.dg_history.specs.declared.node.NodeId.{NodeId}
 use Rattle.dg_machine.specs.Planning.{bases_in}
+use Rattle.dg_machine.specs.Answer.{refusal_of}
 use Rattle.dg_machine.specs.declared.reply.Head.{Head}
-use Rattle.dg_machine.specs.declared.reply.Head.TheVariants as head
-use Rattle.dg_machine.specs.declared.reply.Refusal.TheVariants as refusal
+use Rattle.dg_machine.specs.declared.reply.Refusal.{Refusal}
 use Rattle.dg_machine.specs.declared.reply.Reply.{Reply}
 use Rattle.dg_retrieval.specs.declared.fault.RetrievalFault.{RetrievalFault}
 use Rattle.dg_retrieval.specs.declared.fault.RetrievalFault.TheVariants as fault
 use Rattle.dg_retrieval.specs.KeptGraph.{index_edges, kept_edges}
 use Rattle.dg_retrieval.specs.Retrieval.{IsFirstDamage}
-use Rattle.dg_session.specs.declared.halt.Halt.{Halt}
-use Rattle.dg_session.specs.HeldIndex.{points_over}
+use Rattle.dg_batch.specs.declared.halt.Halt.{Halt}
+use Rattle.dg_ask.specs.HeldIndex.{points_over}
 use Rattle.dg_session.specs.Parts.{Parts}
 use Rattle.dg_session.specs.Reads.{reply_head}
+use Rattle.dg_session.specs.Session.{damage_of}
 
 -- what a command reads records for: the graphs as of instants, in columns; the set of a node, in columns; the older
 -- children of a batch of so many lines; or nothing
@@ -66,10 +67,14 @@ IsMetBy (Node_set node cols) old image key col = NamesNodeDamage old image (node
 IsMetBy (Batch_of count) old image key col = NamesBatchDamage old image count key col
 IsMetBy Nothing_read old image key col = ⊥
 
+-- the damage that a refusal tells, if there is one
+abbrev pub damage_told : Option Refusal → Option (Key × Column)
+damage_told None = None
+damage_told (Some r) = damage_of r
+
 -- a refusal for damage comes of a retrieval or a batch alone, and names that damage
 abbrev pub DamageIs : Command → Parts → Option (List ℕ) → Head → Type 0
-DamageIs c old image (head.Refused (refusal.Damaged key col)) = IsMetBy (reads_for c) old image key col
-DamageIs c old image h = Unit {0}
+DamageIs c old image h = IfSome (damage_told (refusal_of h)) (λ d. IsMetBy (reads_for c) old image d.0 d.1)
 
 -- the same of what the command comes to
 abbrev pub DamageIn : Command → Parts → Option (List ℕ) → Result Reply Halt → Type 0

@@ -2,17 +2,8 @@ pub mod Parts
 pub mod SessionState
 pub mod Sweeps
 pub mod Verified
-pub mod HeldIndex
-pub mod KeptAdjacency
-pub mod KeptPlanner
-pub mod BatchLines
-pub mod GeneratedBatch
 pub mod SessionStart
-pub mod Halt
 pub mod Session
 pub mod BatchCommand
-pub mod PlanLines
-pub mod Plans
 pub mod Reads
 pub mod Damage
-pub mod RecordListing

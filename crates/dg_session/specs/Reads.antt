@@ -29,10 +29,10 @@ use Rattle.dg_plan.specs.Walks.{AreSingles, IsPlan, weight_of}
 use Rattle.dg_retrieval.specs.Beginnings.{GraphLead}
 use Rattle.dg_retrieval.specs.Beginnings.{base_handle}
 use Rattle.dg_retrieval.specs.Retrieval.{IsTreeOf}
-use Rattle.dg_session.specs.declared.halt.Halt.{Halt}
-use Rattle.dg_session.specs.declared.halt.Halt.TheVariants as halt
+use Rattle.dg_batch.specs.declared.halt.Halt.{Halt}
+use Rattle.dg_batch.specs.declared.halt.Halt.TheVariants as halt
 use Rattle.dg_session.specs.Parts.{Parts}
-use Rattle.dg_session.specs.Session.{StandsFor}
+use Rattle.dg_session.specs.Session.{StandsFor, is_quiet}
 
 -- the session with new handles for these behind those that it has, which list these graphs
 abbrev pub with_new_handles : Parts → List Stands → List (List Element) → Parts
@@ -101,10 +101,6 @@ ReadsBy m (command.Append count) got h before after = ReadsOlder m count before 
 ReadsBy m command.Verify got h before after = Unit {0}
 ReadsBy m (command.Workload seed count) got h before after = ReadsOlder m count before after
 ReadsBy m c got h before after = ReadsAsTold (is_refusal h) m c got h before after
-
--- commands of this kind neither read nor write
-abbrev pub is_quiet : Command → Bool
-is_quiet c = not (needs c).reads && not (needs c).writes
 
 -- The bytes that the command reads, where the reply has this head: over an image that stands for a state what the
 -- reply to a retrieval tells, and no more than the older children of a batch; nothing, where it is refused before

@@ -1,8 +1,10 @@
 -- How the steps of a session are steps of the machine.
 use Rattle.std.specs.Prelude.{◌≡◌, ℕ, ◌+◌, ◌*◌, Bool, true, false, ◌&&◌, ◌||◌, not, List, [], ◌∷◌, ◌++◌, Option, Some, None, Result, Ok, Err, IfSome, is_some, length, nat_lt}
 use Rattle.std.specs.List.{All, list_any}
+use Rattle.dg_graph.specs.declared.element.Column.{Column}
 use Rattle.dg_graph.specs.declared.limits.TheConstants.{NAMES_MAX}
 use Rattle.dg_graph.specs.Lines.{ScriptLine}
+use Rattle.dg_history.specs.declared.node.Key.{Key}
 use Rattle.dg_history.specs.declared.node.NodeId.{NodeId}
 use Rattle.dg_history.specs.History.{History, are_parameters, events_of, span_of, in_range}
 use Rattle.dg_index.specs.ImageOfHistory.{StandsAs}
@@ -17,14 +19,14 @@ use Rattle.dg_machine.specs.declared.stands.Stands.TheVariants.{Overlay, Base}
 use Rattle.dg_machine.specs.Answer.{headed, is_refusal}
 use Rattle.dg_machine.specs.CutImage.{IsCut}
 use Rattle.dg_machine.specs.MachineState.{MachineState, dependent_on, stands_at, graphs_of, history_in}
-use Rattle.dg_machine.specs.Needs.{Needs, can_be_held, earliest, following, is_base, is_writing, needs, nothing_more, of, when}
-use Rattle.dg_machine.specs.Run.{Step}
+use Rattle.dg_machine.specs.Needs.{Needs, can_be_held, earliest, following, is_base, is_followed, is_writing, needs, nothing_more, of, when}
+use Rattle.dg_machine.specs.Run.{Step, is_failed_read}
 use Rattle.dg_machine.specs.Script.{Asked, Follows}
-use Rattle.dg_session.specs.declared.halt.Halt.{Halt}
-use Rattle.dg_session.specs.declared.halt.Halt.TheVariants as halt
-use Rattle.dg_session.specs.declared.stop.Stop.TheVariants as stop
+use Rattle.dg_batch.specs.declared.halt.Halt.{Halt}
+use Rattle.dg_batch.specs.declared.halt.Halt.TheVariants as halt
+use Rattle.dg_batch.specs.declared.stop.Stop.TheVariants as stop
 use Rattle.dg_session.specs.Parts.{Parts}
-use Rattle.dg_session.specs.HeldIndex.{events_held, has_node_held, span_held}
+use Rattle.dg_ask.specs.HeldIndex.{events_held, has_node_held, span_held}
 use Rattle.dg_start.specs.StoredHistory.{IsHeldBy, KeepsHistory}
 
 -- the instant of what a handle stands for is in the history, or its index has the node, so that no later event
@@ -84,11 +86,22 @@ refusals_by there p read n =
 abbrev pub refused_by : Parts → ℕ → Needs → Option Refusal
 refused_by p read n = earliest (refusals_by (is_some p.index) p read n)
 
+-- the damage that the refusal tells
+abbrev pub damage_of : Refusal → Option (Key × Column)
+damage_of (refusal.Damaged key col) = Some (key, col)
+damage_of r = None
+
 -- the refusal tells of a read of the index file: it failed, or gave a column that is in no spelling
 abbrev pub is_of_read : Refusal → Bool
-is_of_read refusal.StoreRead = true
-is_of_read (refusal.Damaged key col) = true
-is_of_read r = false
+is_of_read r = is_failed_read r || is_some (damage_of r)
+
+-- commands of this kind neither read nor write
+abbrev pub is_quiet : Command → Bool
+is_quiet c = not (needs c).reads && not (needs c).writes
+
+-- nor does a line follow them
+abbrev pub is_at_hand : Command → Bool
+is_at_hand c = is_quiet c && not (is_followed c)
 
 -- The command is not refused by what the session keeps, whatever the image is, and it reads records.
 abbrev pub MayRead : Command → List ScriptLine → Parts → Type 0

@@ -1,5 +1,5 @@
 -- What `verify` says.
-use Rattle.std.specs.Prelude.{◌≡◌, ℕ, List, Option, Some, IfSome}
+use Rattle.std.specs.Prelude.{◌≡◌, ℕ, Bool, true, false, List, Option, Some, None, IfSome}
 use Rattle.dg_index.specs.OpenedIndex.{Opening}
 use Rattle.dg_machine.specs.declared.command.Command.{Command}
 use Rattle.dg_machine.specs.declared.command.Command.TheVariants as command
@@ -14,7 +14,20 @@ abbrev pub IsOfFile : Parts → Option (List ℕ) → Soundness → Type 0
 IsOfFile old image s =
     (o : Opening) × (old.index ≡ Some o) × IfSome image (λ bytes. s ≡ soundness_of bytes (record { index = o; names = old.names }))
 
+-- what the reply says of the file
+abbrev pub soundness_told : Head → Option Soundness
+soundness_told (head.Verified s) = Some s
+soundness_told h = None
+
+abbrev pub is_verify : Command → Bool
+is_verify command.Verify = true
+is_verify c = false
+
+-- what a command that verifies says, or another
+abbrev pub VerifiesBy : Bool → Parts → Option (List ℕ) → Option Soundness → Type 0
+VerifiesBy false old image told = Unit {0}
+VerifiesBy true old image told = IfSome told (λ s. IsOfFile old image s)
+
 -- `verify` says of the image what its own events determine. Of other commands nothing is said.
 abbrev pub VerifiesFile : Command → Parts → Option (List ℕ) → Head → Type 0
-VerifiesFile command.Verify old image (head.Verified s) = IsOfFile old image s
-VerifiesFile c old image h = Unit {0}
+VerifiesFile c old image h = VerifiesBy (is_verify c) old image (soundness_told h)

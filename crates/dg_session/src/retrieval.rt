@@ -23,10 +23,10 @@ ghost use Rattle.dg_plan.specs.Walks.{AreSingles, IsPlan, weight_of};
 ghost use Rattle.dg_retrieval.specs.KeptGraph.{IsKeptGraph, index_edges, kept_nodes};
 ghost use Rattle.dg_retrieval.specs.Retrieval.{AreHeld, ArePoints, IsFirstDamage, IsNoDamage, IsOver, IsTreeOf, TakesAtMostTree, graphs_at};
 ghost use Rattle.dg_retrieval.specs.NodeSets.{IsIndexOver};
-ghost use Rattle.dg_session.specs.HeldIndex.{has_node_held, points_over, span_held};
+ghost use Rattle.dg_ask.specs.HeldIndex.{has_node_held, points_over, span_held};
 ghost use Rattle.dg_session.specs.Reads.{bases_of};
 
-use crate::plans::{point_of, record_planner};
+use dg_ask::{point_of, record_planner};
 use dg_disk::Disk;
 use dg_file::Index;
 use dg_graph::{Columns, Event};

@@ -33,33 +33,27 @@ ghost use Rattle.dg_pool.specs.Graphs.{graph_now, slot_graph};
 ghost use Rattle.dg_retrieval.specs.Beginnings.{leads_in, led_to};
 ghost use Rattle.dg_retrieval.specs.Retrieval.{IsNoDamage, TakesAtMostTree};
 ghost use Rattle.dg_session.specs.BatchCommand.{barred, command_with};
-ghost use Rattle.dg_session.specs.HeldIndex.{events_held, span_held};
+ghost use Rattle.dg_ask.specs.HeldIndex.{events_held, span_held};
 ghost use Rattle.dg_session.specs.Damage.{DamageIn, DamageIs, NamesDamage, NamesNodeDamage};
 ghost use Rattle.dg_session.specs.Parts.{Parts};
 ghost use Rattle.dg_session.specs.Reads.{IsNodeHeld, IsRetrieved, Reads, ReadsIn, bases_of, listed_by, with_new_handles};
-ghost use Rattle.dg_session.specs.Session.{ComesTo, IsAsBefore, StandsFor, Steps, Stops, TakesLines, is_too_full, node_needs, refused_by, retrieval_needs};
+ghost use Rattle.dg_session.specs.Session.{ComesTo, IsAsBefore, is_at_hand, StandsFor, Steps, Stops, TakesLines, is_too_full, node_needs, refused_by, retrieval_needs};
 ghost use Rattle.dg_session.specs.SessionState.{handles_of};
 ghost use Rattle.dg_session.specs.SessionStart.{Begins, FailsCheck, IsNew, IsSoundImage, IsStanding, RefusesSession};
 ghost use Rattle.dg_session.specs.Sweeps.{SweepsNothing, SweepsPool};
 ghost use Rattle.dg_session.specs.Verified.{IsOfFile, VerifiesFile};
 ghost use Rattle.dg_start.specs.SessionStart.{PlansLastLeaf, RefusesStart, Starts, start_bytes};
 ghost use Rattle.dg_start.specs.StoredHistory.{IsHeldBy, IsSoundHistory, KeepsHistory, index_opening, started_with};
-ghost use Rattle.dg_session.specs.declared.stop.Stop.TheVariants as stop;
+ghost use Rattle.dg_batch.specs.declared.stop.Stop.TheVariants as stop;
 
-use crate::addition::add_changes;
 use crate::batch_command::BatchCommand;
-use crate::batch_lines::read_batch;
-use crate::generated_batch::generated_batch;
-use crate::halt::Halt;
-use crate::kept_adjacency::KeptAdjacency;
-use crate::kept_planner::KeptPlanner;
-use crate::plan_lines::read_plan_lines;
-use crate::plans::{has_node, judge, plan_reply, span};
-use crate::queries::{neighbours_reply, node_reply};
-use crate::record_listing::tree_reply;
 use crate::retrieval::{handle_lines, leads_at, node_lead};
 use crate::session_fault::SessionFault;
-use crate::stop::Stop;
+use dg_ask::{
+    KeptAdjacency, KeptPlanner, has_node, judge, neighbours_reply, node_reply, plan_reply, span,
+    tree_reply,
+};
+use dg_batch::{Halt, Stop, add_changes, generated_batch, read_batch, read_plan_lines};
 use dg_delta::Delta;
 use dg_disk::Disk;
 use dg_file::Index;
@@ -69,7 +63,7 @@ use dg_history::{NodeId, Params, are_parameters};
 use dg_index::law_images_are_opened;
 use dg_io::{Lines, Source};
 use dg_machine::{
-    BodyLines, Command, HANDLE_MAX, Head, LIVE_HANDLES_MAX, Limits, Refusal, Reply, Stands,
+    BodyLines, Command, HANDLE_MAX, Head, LIVE_HANDLES_MAX, Limits, Query, Refusal, Reply, Stands,
     TIMES_MAX,
 };
 use dg_names::Names;
@@ -106,9 +100,9 @@ impl Model for Session {
     ghost use Rattle.dg_handles.specs.Handles.{IsTied, slot_graphs};
     ghost use Rattle.dg_machine.specs.MachineState.{IsWithin};
     ghost use Rattle.dg_pool.specs.Graphs.{graph_now};
-    ghost use Rattle.dg_session.specs.HeldIndex.{HasNodes};
-    ghost use Rattle.dg_session.specs.KeptAdjacency.{KeepsAdjacency};
-    ghost use Rattle.dg_session.specs.KeptPlanner.{IsKeptFor};
+    ghost use Rattle.dg_ask.specs.HeldIndex.{HasNodes};
+    ghost use Rattle.dg_ask.specs.KeptAdjacency.{KeepsAdjacency};
+    ghost use Rattle.dg_ask.specs.KeptPlanner.{IsKeptFor};
     ghost use Rattle.dg_session.specs.SessionState.{SessionState};
     ghost use Rattle.dg_start.specs.StoredHistory.{IsSoundHistory, index_opening};
 
@@ -418,19 +412,31 @@ impl Session {
                 self.several(rt, cols, times, count, disk)
             }
             Command::Materialise { node, cols } => self.materialise(rt, node, cols, disk),
-            Command::List { handle } => self.list(handle),
-            Command::Counts { handle } => self.counts(handle),
-            Command::Node { handle, id } => self.node(handle, id),
-            Command::Neighbours { handle, id } => self.neighbours(handle, id),
+            Command::Certify { t, cols, count } => self.certify(t, cols, count, lines, source),
+            Command::Verify => self.verify(rt, disk),
+            Command::Workload { seed, count } => self.workload(rt, seed, count, disk),
+            _ => self.answer(command),
+        }
+    }
+
+    // Carries out a command that takes no line and touches no disk.
+    fn answer(&mut self, command: &Command) -> Result<Reply, Halt>
+        requires at_hand { is_at_hand command.now ≡ true }
+        requires command { CountIsInRange command.now }
+        ensures comes { (image : Option (List ℕ)) → ComesTo command.now [] self.old.parts image self.new.parts image result }
+        ensures no_stop { (stop : Stop) → result ≡ Err (Halt.Stop stop) → ⊥ }
+        ensures swept { IfOk result (λ reply. SweepsPool command.now self.old.pool self.new.pool reply.head) }
+        ensures unswept { IfErr result (λ halt. SweepsNothing command.now) }
+    {
+        match *command {
+            Command::Ask { handle, query } => self.ask(handle, query),
             Command::Release { handle } => self.release(handle),
             Command::Clean { cells } => Ok(self.clean(cells)),
             Command::CleanAll => Ok(self.clean_all()),
             Command::Pool => Ok(self.pool_size()),
             Command::Plan { t, cols } => self.plan(t, cols),
-            Command::Certify { t, cols, count } => self.certify(t, cols, count, lines, source),
             Command::Tree => self.tree(),
-            Command::Verify => self.verify(rt, disk),
-            Command::Workload { seed, count } => self.workload(rt, seed, count, disk),
+            _ => unreachable!(),
         }
     }
 
@@ -969,9 +975,22 @@ impl Session {
         Ok(headed(self.alloc, Head::Materialised { handle, weight }))
     }
 
+    // What is asked of a handle's graph.
+    fn ask(&mut self, handle: u32, query: Query) -> Result<Reply, Halt>
+        ensures comes { (image : Option (List ℕ)) → ComesTo (Command.Ask handle query) [] self.old.parts image self.new.parts image result }
+        ensures no_stop { (stop : Stop) → result ≡ Err (Halt.Stop stop) → ⊥ }
+    {
+        match query {
+            Query::List => self.list(handle),
+            Query::Counts => self.counts(handle),
+            Query::Node(id) => self.node(handle, id),
+            Query::Neighbours(id) => self.neighbours(handle, id),
+        }
+    }
+
     // The elements of a handle.
     fn list(&self, handle: u32) -> Result<Reply, Halt>
-        ensures comes { (image : Option (List ℕ)) → ComesTo (Command.List handle) [] self.now.parts image self.now.parts image result }
+        ensures comes { (image : Option (List ℕ)) → ComesTo (Command.Ask handle Query.List) [] self.now.parts image self.now.parts image result }
         ensures no_stop { (stop : Stop) → result ≡ Err (Halt.Stop stop) → ⊥ }
     {
         let graph = self.graph_of(handle)?;
@@ -999,7 +1018,7 @@ impl Session {
 
     // How many elements of each kind a handle has.
     fn counts(&self, handle: u32) -> Result<Reply, Halt>
-        ensures comes { (image : Option (List ℕ)) → ComesTo (Command.Counts handle) [] self.now.parts image self.now.parts image result }
+        ensures comes { (image : Option (List ℕ)) → ComesTo (Command.Ask handle Query.Counts) [] self.now.parts image self.now.parts image result }
         ensures no_stop { (stop : Stop) → result ≡ Err (Halt.Stop stop) → ⊥ }
     {
         let counts = self.graph_of(handle)?.counts();
@@ -1008,7 +1027,7 @@ impl Session {
 
     // A node of a handle's graph, with its degree and its attributes.
     fn node(&mut self, handle: u32, id: u64) -> Result<Reply, Halt>
-        ensures comes { (image : Option (List ℕ)) → ComesTo (Command.Node handle id) [] self.old.parts image self.new.parts image result }
+        ensures comes { (image : Option (List ℕ)) → ComesTo (Command.Ask handle (Query.Node id)) [] self.old.parts image self.new.parts image result }
         ensures no_stop { (stop : Stop) → result ≡ Err (Halt.Stop stop) → ⊥ }
     {
         let graph = overlay_of(&self.handles, &self.pool, handle)?;
@@ -1018,7 +1037,7 @@ impl Session {
 
     // The edges at a node of a handle's graph.
     fn neighbours(&mut self, handle: u32, id: u64) -> Result<Reply, Halt>
-        ensures comes { (image : Option (List ℕ)) → ComesTo (Command.Neighbours handle id) [] self.old.parts image self.new.parts image result }
+        ensures comes { (image : Option (List ℕ)) → ComesTo (Command.Ask handle (Query.Neighbours id)) [] self.old.parts image self.new.parts image result }
         ensures no_stop { (stop : Stop) → result ≡ Err (Halt.Stop stop) → ⊥ }
     {
         let graph = overlay_of(&self.handles, &self.pool, handle)?;
@@ -1148,7 +1167,7 @@ fn overlay_of<'a>(handles: &Handles, pool: &'a Pool, handle: u32) -> Result<View
     ensures live { OnOk result (is_some (stands_at handle handles.now.table) ≡ true) }
     ensures overlay { OnOk result (is_base (stands_at handle handles.now.table) ≡ false) }
     ensures refused { IfErr result (λ refusal. (p : Parts) → p.table ≡ handles.now.table
-        → (id : ℕ) → refused_by p 0 (needs (Command.Node handle id)) ≡ Some refusal) }
+        → (id : ℕ) → refused_by p 0 (needs (Command.Ask handle (Query.Node id))) ≡ Some refusal) }
 {
     let Some(graph) = handles.view(pool, handle) else {
         return Err(Refusal::UnknownHandle(handle));

@@ -13,7 +13,7 @@ use Rattle.dg_plan.specs.Walks.{IsPlan, weight_of}
 use Rattle.dg_retrieval.specs.KeptGraph.{index_ground}
 use Rattle.dg_retrieval.specs.NodeSets.{IsIndexOver}
 use Rattle.dg_retrieval.specs.Retrieval.{IsFirstDamage}
-use Rattle.dg_session.proofs.IndexNodes.{node_listed}
+use Rattle.dg_ask.proofs.IndexNodes.{node_listed}
 use Rattle.dg_session.proofs.retrieval.node_lead.Goals as goal
 
 pub retrieve_node-requires-clause-node : goal.retrieve_node-requires-clause-node

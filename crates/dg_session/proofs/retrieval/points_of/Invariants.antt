@@ -1,5 +1,5 @@
 use Rattle.std.proofs.Common.{◌≡◌, ◌++◌, map, drop}
-use Rattle.dg_session.specs.HeldIndex.{point_over}
+use Rattle.dg_ask.specs.HeldIndex.{point_over}
 use Rattle.dg_session.proofs.retrieval.points_of.Given as goal
 
 abbrev pub invariant-loop-t : goal.invariant-loop-t

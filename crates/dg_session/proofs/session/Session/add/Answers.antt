@@ -5,9 +5,10 @@ use Rattle.dg_machine.specs.declared.reply.Reply.{Reply}
 use Rattle.dg_machine.specs.Answer.{headed}
 use Rattle.dg_session.specs.SessionState.{SessionState}
 use Rattle.dg_pool.specs.Graphs.{slot_graph}
-use Rattle.dg_session.specs.BatchCommand.{HandlesStay, command_with, batch_head}
+use Rattle.dg_batch.specs.HandlesStay.{HandlesStay}
+use Rattle.dg_session.specs.BatchCommand.{command_with, batch_head}
 use Rattle.dg_session.specs.Damage.{DamageIn}
-use Rattle.dg_session.specs.Halt.{batch_halt}
+use Rattle.dg_batch.specs.Halt.{batch_halt}
 use Rattle.dg_session.specs.Parts.{Parts}
 use Rattle.dg_session.specs.Reads.{Reads, ReadsIn}
 use Rattle.dg_session.specs.Session.{Accepts, ComesTo}

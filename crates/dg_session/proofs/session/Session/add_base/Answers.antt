@@ -5,15 +5,15 @@ use Rattle.dg_graph.specs.Elements.{shown}
 use Rattle.dg_handles.specs.Handles.{slot_graphs}
 use Rattle.dg_machine.specs.declared.stands.Stands.TheVariants.{Base}
 use Rattle.dg_pool.specs.Graphs.{graph_now}
-use Rattle.dg_session.specs.KeptAdjacency.{KeepsAdjacency}
+use Rattle.dg_ask.specs.KeptAdjacency.{KeepsAdjacency}
 use Rattle.dg_session.specs.contracts.session.Session.{the_view}
-use Rattle.dg_session.specs.KeptPlanner.{IsGraphOver}
+use Rattle.dg_ask.specs.KeptPlanner.{IsGraphOver}
 use Rattle.dg_session.specs.Parts.{Parts}
 use Rattle.dg_session.specs.Session.{node_needs, refused_by}
 use Rattle.dg_session.specs.SessionState.{SessionState}
-use Rattle.dg_session.proofs.KeptAdjacencies.{kept_after as adjacency_after}
+use Rattle.dg_ask.proofs.KeptAdjacencies.{kept_after as adjacency_after}
 use Rattle.dg_session.proofs.SessionNodeStep.{found_free}
-use Rattle.dg_session.proofs.HeldIndexHandles.{node_after}
+use Rattle.dg_ask.proofs.HeldIndexHandles.{node_after}
 use Rattle.dg_session.proofs.session.Session.add_base.Goals as goal
 
 pub invariant_of-self : goal.invariant_of-self

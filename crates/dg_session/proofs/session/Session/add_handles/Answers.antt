@@ -7,12 +7,12 @@ use Rattle.dg_pool.specs.Graphs.{graph_now}
 use Rattle.dg_retrieval.specs.Beginnings.{GraphLead}
 use Rattle.dg_retrieval.specs.Beginnings.{base_handle, leads_in, led_to}
 use Rattle.dg_session.specs.contracts.session.Session.{the_view}
-use Rattle.dg_session.specs.KeptAdjacency.{KeepsAdjacency}
+use Rattle.dg_ask.specs.KeptAdjacency.{KeepsAdjacency}
 use Rattle.dg_session.specs.Parts.{Parts}
 use Rattle.dg_session.specs.Reads.{bases_of, listed_by, with_new_handles}
 use Rattle.dg_session.specs.SessionState.{SessionState}
-use Rattle.dg_session.proofs.KeptAdjacencies.{kept_after as adjacency_after}
-use Rattle.dg_session.proofs.HeldIndexHandles.{kept_after, nodes_after, on_three, overlays_length}
+use Rattle.dg_ask.proofs.KeptAdjacencies.{kept_after as adjacency_after}
+use Rattle.dg_ask.proofs.HeldIndexHandles.{kept_after, nodes_after, on_three, overlays_length}
 use Rattle.dg_session.proofs.session.Session.add_handles.Goals as goal
 
 pub returns-clause-added : goal.returns-clause-added

@@ -1,4 +1,4 @@
-use Rattle.std.proofs.Common.{[], refl, sym, subst}
+use Rattle.std.proofs.Common.{◌≡◌, true, [], refl, rules, sym, subst}
 use Rattle.std.specs.Prelude.{IfOk}
 use Rattle.dg_io.specs.LinesState.{told}
 use Rattle.dg_machine.specs.declared.command.Command.TheVariants as command
@@ -7,9 +7,10 @@ use Rattle.dg_machine.specs.CommandGrammar.{CountIsInRange}
 use Rattle.dg_machine.specs.Needs.{following}
 use Rattle.dg_session.specs.Damage.{DamageIn}
 use Rattle.dg_session.specs.Reads.{ReadsIn}
+use Rattle.dg_session.specs.Session.{is_at_hand}
 use Rattle.dg_session.specs.Verified.{VerifiesFile}
 use Rattle.dg_session.proofs.DamageStep.{never_for_damage}
-use Rattle.dg_session.proofs.ReadsStep.{fails_no_read, reads_nothing}
+use Rattle.dg_session.proofs.ReadsStep.{fails_no_read, followed_by_none, reads_none, reads_nothing}
 use Rattle.dg_session.proofs.SessionSteps.{Comes, alone}
 use Rattle.dg_session.proofs.session.Session.carry_out.Goals as goal
 
@@ -52,33 +53,6 @@ pub returns-in-Several-clause-reads : goal.returns-in-Several-clause-reads
 returns-in-Several-clause-reads g c =
     subst (λ x. ReadsIn x c.args.self.now.parts (g.D.Disk.image c.args.disk.now) c.several.result (g.D.Disk.taken c.args.disk.now) (g.D.Disk.taken c.several.new.disk)) (sym c.in-Several.is) c.several.ensures.reads
 
-pub returns-in-List-clause-reads : goal.returns-in-List-clause-reads
-returns-in-List-clause-reads g c =
-    subst (λ x. ReadsIn x c.args.self.now.parts (g.D.Disk.image c.args.disk.now) c.list.result (g.D.Disk.taken c.args.disk.now) (g.D.Disk.taken c.args.disk.now)) (sym c.in-List.is)
-    (reads_nothing (command.List c.in-List.handle) c.args.self.now.parts (g.D.Disk.image c.args.disk.now) c.list.result (g.D.Disk.taken c.args.disk.now) refl)
-
-pub returns-in-List-clause-store_read : goal.returns-in-List-clause-store_read
-returns-in-List-clause-store_read g c h =
-    absurd (fails_no_read (command.List c.in-List.handle) [] c.args.self.now.parts (g.D.Disk.image c.args.disk.now) c.args.self.now.parts (g.D.Disk.image c.args.disk.now) c.list.result refl (c.list.ensures.comes (g.D.Disk.image c.args.disk.now)) h)
-
-pub returns-in-Plan-clause-reads : goal.returns-in-Plan-clause-reads
-returns-in-Plan-clause-reads g c =
-    subst (λ x. ReadsIn x c.args.self.now.parts (g.D.Disk.image c.args.disk.now) c.plan.result (g.D.Disk.taken c.args.disk.now) (g.D.Disk.taken c.args.disk.now)) (sym c.in-Plan.is)
-    (reads_nothing (command.Plan c.in-Plan.t c.in-Plan.cols) c.args.self.now.parts (g.D.Disk.image c.args.disk.now) c.plan.result (g.D.Disk.taken c.args.disk.now) refl)
-
-pub returns-in-Plan-clause-store_read : goal.returns-in-Plan-clause-store_read
-returns-in-Plan-clause-store_read g c h =
-    absurd (fails_no_read (command.Plan c.in-Plan.t c.in-Plan.cols) [] c.args.self.now.parts (g.D.Disk.image c.args.disk.now) c.plan.new.self.parts (g.D.Disk.image c.args.disk.now) c.plan.result refl (c.plan.ensures.comes (g.D.Disk.image c.args.disk.now)) h)
-
-pub returns-in-Tree-clause-reads : goal.returns-in-Tree-clause-reads
-returns-in-Tree-clause-reads g c =
-    subst (λ x. ReadsIn x c.args.self.now.parts (g.D.Disk.image c.args.disk.now) c.tree.result (g.D.Disk.taken c.args.disk.now) (g.D.Disk.taken c.args.disk.now)) (sym c.in-Tree.is)
-    (reads_nothing command.Tree c.args.self.now.parts (g.D.Disk.image c.args.disk.now) c.tree.result (g.D.Disk.taken c.args.disk.now) refl)
-
-pub returns-in-Tree-clause-store_read : goal.returns-in-Tree-clause-store_read
-returns-in-Tree-clause-store_read g c h =
-    absurd (fails_no_read command.Tree [] c.args.self.now.parts (g.D.Disk.image c.args.disk.now) c.args.self.now.parts (g.D.Disk.image c.args.disk.now) c.tree.result refl (c.tree.ensures.comes (g.D.Disk.image c.args.disk.now)) h)
-
 pub returns-in-Certify-clause-reads : goal.returns-in-Certify-clause-reads
 returns-in-Certify-clause-reads g c =
     subst (λ x. ReadsIn x c.args.self.now.parts (g.D.Disk.image c.args.disk.now) c.certify.result (g.D.Disk.taken c.args.disk.now) (g.D.Disk.taken c.args.disk.now)) (sym c.in-Certify.is)
@@ -106,21 +80,6 @@ returns-in-Append-clause-reads g c =
     let r = c.add-in-Append in
     subst (λ x. ReadsIn x c.args.self.now.parts (g.D.Disk.image c.args.disk.now) r.result (g.D.Disk.taken c.args.disk.now) (g.D.Disk.taken r.new.disk)) (sym c.in-Append.is) r.ensures.reads
 
-pub returns-in-List-clause-comes : goal.returns-in-List-clause-comes
-returns-in-List-clause-comes g c =
-    alone c.args.command.now (command.List c.in-List.handle) (told c.args.lines.now (g.S.Source.left c.args.source.now)) c.args.self.now.parts (g.D.Disk.image c.args.disk.now) c.args.self.now.parts (g.D.Disk.image c.args.disk.now) c.list.result
-    c.in-List.is refl (c.list.ensures.comes (g.D.Disk.image c.args.disk.now))
-
-pub returns-in-Plan-clause-comes : goal.returns-in-Plan-clause-comes
-returns-in-Plan-clause-comes g c =
-    alone c.args.command.now (command.Plan c.in-Plan.t c.in-Plan.cols) (told c.args.lines.now (g.S.Source.left c.args.source.now)) c.args.self.now.parts (g.D.Disk.image c.args.disk.now) c.plan.new.self.parts (g.D.Disk.image c.args.disk.now) c.plan.result
-    c.in-Plan.is refl (c.plan.ensures.comes (g.D.Disk.image c.args.disk.now))
-
-pub returns-in-Tree-clause-comes : goal.returns-in-Tree-clause-comes
-returns-in-Tree-clause-comes g c =
-    alone c.args.command.now command.Tree (told c.args.lines.now (g.S.Source.left c.args.source.now)) c.args.self.now.parts (g.D.Disk.image c.args.disk.now) c.args.self.now.parts (g.D.Disk.image c.args.disk.now) c.tree.result
-    c.in-Tree.is refl (c.tree.ensures.comes (g.D.Disk.image c.args.disk.now))
-
 pub returns-in-Certify-clause-comes : goal.returns-in-Certify-clause-comes
 returns-in-Certify-clause-comes g c =
     let image = g.D.Disk.image c.args.disk.now in
@@ -134,18 +93,6 @@ returns-in-At-clause-damaged g c =
 pub returns-in-Several-clause-damaged : goal.returns-in-Several-clause-damaged
 returns-in-Several-clause-damaged g c =
     subst (λ x. DamageIn x c.args.self.now.parts (g.D.Disk.image c.args.disk.now) c.several.result) (sym c.in-Several.is) c.several.ensures.damaged
-
-pub returns-in-List-clause-damaged : goal.returns-in-List-clause-damaged
-returns-in-List-clause-damaged g c =
-    never_for_damage c.args.command.now (command.List c.in-List.handle) [] c.args.self.now.parts (g.D.Disk.image c.args.disk.now) c.args.self.now.parts (g.D.Disk.image c.args.disk.now) c.list.result c.in-List.is refl (c.list.ensures.comes (g.D.Disk.image c.args.disk.now))
-
-pub returns-in-Plan-clause-damaged : goal.returns-in-Plan-clause-damaged
-returns-in-Plan-clause-damaged g c =
-    never_for_damage c.args.command.now (command.Plan c.in-Plan.t c.in-Plan.cols) [] c.args.self.now.parts (g.D.Disk.image c.args.disk.now) c.plan.new.self.parts (g.D.Disk.image c.args.disk.now) c.plan.result c.in-Plan.is refl (c.plan.ensures.comes (g.D.Disk.image c.args.disk.now))
-
-pub returns-in-Tree-clause-damaged : goal.returns-in-Tree-clause-damaged
-returns-in-Tree-clause-damaged g c =
-    never_for_damage c.args.command.now command.Tree [] c.args.self.now.parts (g.D.Disk.image c.args.disk.now) c.args.self.now.parts (g.D.Disk.image c.args.disk.now) c.tree.result c.in-Tree.is refl (c.tree.ensures.comes (g.D.Disk.image c.args.disk.now))
 
 pub returns-in-Certify-clause-damaged : goal.returns-in-Certify-clause-damaged
 returns-in-Certify-clause-damaged g c =
@@ -164,78 +111,6 @@ pub returns-in-Append-clause-damaged : goal.returns-in-Append-clause-damaged
 returns-in-Append-clause-damaged g c =
     let r = c.add-in-Append in
     subst (λ x. DamageIn x c.args.self.now.parts (g.D.Disk.image c.args.disk.now) r.result) (sym c.in-Append.is) r.ensures.damaged
-
-pub returns-in-Counts-clause-comes : goal.returns-in-Counts-clause-comes
-returns-in-Counts-clause-comes g c =
-    alone c.args.command.now (command.Counts c.in-Counts.handle) (told c.args.lines.now (g.S.Source.left c.args.source.now)) c.args.self.now.parts (g.D.Disk.image c.args.disk.now) c.args.self.now.parts (g.D.Disk.image c.args.disk.now) c.counts.result
-    c.in-Counts.is refl (c.counts.ensures.comes (g.D.Disk.image c.args.disk.now))
-
-pub returns-in-Counts-clause-store_read : goal.returns-in-Counts-clause-store_read
-returns-in-Counts-clause-store_read g c h =
-    absurd (fails_no_read (command.Counts c.in-Counts.handle) [] c.args.self.now.parts (g.D.Disk.image c.args.disk.now) c.args.self.now.parts (g.D.Disk.image c.args.disk.now) c.counts.result refl (c.counts.ensures.comes (g.D.Disk.image c.args.disk.now)) h)
-
-pub returns-in-Counts-clause-damaged : goal.returns-in-Counts-clause-damaged
-returns-in-Counts-clause-damaged g c =
-    never_for_damage c.args.command.now (command.Counts c.in-Counts.handle) [] c.args.self.now.parts (g.D.Disk.image c.args.disk.now) c.args.self.now.parts (g.D.Disk.image c.args.disk.now) c.counts.result c.in-Counts.is refl (c.counts.ensures.comes (g.D.Disk.image c.args.disk.now))
-
-pub returns-in-Counts-clause-reads : goal.returns-in-Counts-clause-reads
-returns-in-Counts-clause-reads g c =
-    subst (λ x. ReadsIn x c.args.self.now.parts (g.D.Disk.image c.args.disk.now) c.counts.result (g.D.Disk.taken c.args.disk.now) (g.D.Disk.taken c.args.disk.now)) (sym c.in-Counts.is)
-    (reads_nothing (command.Counts c.in-Counts.handle) c.args.self.now.parts (g.D.Disk.image c.args.disk.now) c.counts.result (g.D.Disk.taken c.args.disk.now) refl)
-
-pub returns-in-Node-clause-comes : goal.returns-in-Node-clause-comes
-returns-in-Node-clause-comes g c =
-    alone c.args.command.now (command.Node c.in-Node.handle c.in-Node.id) (told c.args.lines.now (g.S.Source.left c.args.source.now)) c.args.self.now.parts (g.D.Disk.image c.args.disk.now) c.node.new.self.parts (g.D.Disk.image c.args.disk.now) c.node.result
-    c.in-Node.is refl (c.node.ensures.comes (g.D.Disk.image c.args.disk.now))
-
-pub returns-in-Node-clause-store_read : goal.returns-in-Node-clause-store_read
-returns-in-Node-clause-store_read g c h =
-    absurd (fails_no_read (command.Node c.in-Node.handle c.in-Node.id) [] c.args.self.now.parts (g.D.Disk.image c.args.disk.now) c.node.new.self.parts (g.D.Disk.image c.args.disk.now) c.node.result refl (c.node.ensures.comes (g.D.Disk.image c.args.disk.now)) h)
-
-pub returns-in-Node-clause-damaged : goal.returns-in-Node-clause-damaged
-returns-in-Node-clause-damaged g c =
-    never_for_damage c.args.command.now (command.Node c.in-Node.handle c.in-Node.id) [] c.args.self.now.parts (g.D.Disk.image c.args.disk.now) c.node.new.self.parts (g.D.Disk.image c.args.disk.now) c.node.result c.in-Node.is refl (c.node.ensures.comes (g.D.Disk.image c.args.disk.now))
-
-pub returns-in-Node-clause-reads : goal.returns-in-Node-clause-reads
-returns-in-Node-clause-reads g c =
-    subst (λ x. ReadsIn x c.args.self.now.parts (g.D.Disk.image c.args.disk.now) c.node.result (g.D.Disk.taken c.args.disk.now) (g.D.Disk.taken c.args.disk.now)) (sym c.in-Node.is)
-    (reads_nothing (command.Node c.in-Node.handle c.in-Node.id) c.args.self.now.parts (g.D.Disk.image c.args.disk.now) c.node.result (g.D.Disk.taken c.args.disk.now) refl)
-
-pub returns-in-Neighbours-clause-comes : goal.returns-in-Neighbours-clause-comes
-returns-in-Neighbours-clause-comes g c =
-    alone c.args.command.now (command.Neighbours c.in-Neighbours.handle c.in-Neighbours.id) (told c.args.lines.now (g.S.Source.left c.args.source.now)) c.args.self.now.parts (g.D.Disk.image c.args.disk.now) c.neighbours.new.self.parts (g.D.Disk.image c.args.disk.now) c.neighbours.result
-    c.in-Neighbours.is refl (c.neighbours.ensures.comes (g.D.Disk.image c.args.disk.now))
-
-pub returns-in-Neighbours-clause-store_read : goal.returns-in-Neighbours-clause-store_read
-returns-in-Neighbours-clause-store_read g c h =
-    absurd (fails_no_read (command.Neighbours c.in-Neighbours.handle c.in-Neighbours.id) [] c.args.self.now.parts (g.D.Disk.image c.args.disk.now) c.neighbours.new.self.parts (g.D.Disk.image c.args.disk.now) c.neighbours.result refl (c.neighbours.ensures.comes (g.D.Disk.image c.args.disk.now)) h)
-
-pub returns-in-Neighbours-clause-damaged : goal.returns-in-Neighbours-clause-damaged
-returns-in-Neighbours-clause-damaged g c =
-    never_for_damage c.args.command.now (command.Neighbours c.in-Neighbours.handle c.in-Neighbours.id) [] c.args.self.now.parts (g.D.Disk.image c.args.disk.now) c.neighbours.new.self.parts (g.D.Disk.image c.args.disk.now) c.neighbours.result c.in-Neighbours.is refl (c.neighbours.ensures.comes (g.D.Disk.image c.args.disk.now))
-
-pub returns-in-Neighbours-clause-reads : goal.returns-in-Neighbours-clause-reads
-returns-in-Neighbours-clause-reads g c =
-    subst (λ x. ReadsIn x c.args.self.now.parts (g.D.Disk.image c.args.disk.now) c.neighbours.result (g.D.Disk.taken c.args.disk.now) (g.D.Disk.taken c.args.disk.now)) (sym c.in-Neighbours.is)
-    (reads_nothing (command.Neighbours c.in-Neighbours.handle c.in-Neighbours.id) c.args.self.now.parts (g.D.Disk.image c.args.disk.now) c.neighbours.result (g.D.Disk.taken c.args.disk.now) refl)
-
-pub returns-in-Release-clause-comes : goal.returns-in-Release-clause-comes
-returns-in-Release-clause-comes g c =
-    alone c.args.command.now (command.Release c.in-Release.handle) (told c.args.lines.now (g.S.Source.left c.args.source.now)) c.args.self.now.parts (g.D.Disk.image c.args.disk.now) c.release.new.self.parts (g.D.Disk.image c.args.disk.now) c.release.result
-    c.in-Release.is refl (c.release.ensures.comes (g.D.Disk.image c.args.disk.now))
-
-pub returns-in-Release-clause-store_read : goal.returns-in-Release-clause-store_read
-returns-in-Release-clause-store_read g c h =
-    absurd (fails_no_read (command.Release c.in-Release.handle) [] c.args.self.now.parts (g.D.Disk.image c.args.disk.now) c.release.new.self.parts (g.D.Disk.image c.args.disk.now) c.release.result refl (c.release.ensures.comes (g.D.Disk.image c.args.disk.now)) h)
-
-pub returns-in-Release-clause-damaged : goal.returns-in-Release-clause-damaged
-returns-in-Release-clause-damaged g c =
-    never_for_damage c.args.command.now (command.Release c.in-Release.handle) [] c.args.self.now.parts (g.D.Disk.image c.args.disk.now) c.release.new.self.parts (g.D.Disk.image c.args.disk.now) c.release.result c.in-Release.is refl (c.release.ensures.comes (g.D.Disk.image c.args.disk.now))
-
-pub returns-in-Release-clause-reads : goal.returns-in-Release-clause-reads
-returns-in-Release-clause-reads g c =
-    subst (λ x. ReadsIn x c.args.self.now.parts (g.D.Disk.image c.args.disk.now) c.release.result (g.D.Disk.taken c.args.disk.now) (g.D.Disk.taken c.args.disk.now)) (sym c.in-Release.is)
-    (reads_nothing (command.Release c.in-Release.handle) c.args.self.now.parts (g.D.Disk.image c.args.disk.now) c.release.result (g.D.Disk.taken c.args.disk.now) refl)
 
 pub returns-in-Materialise-clause-comes : goal.returns-in-Materialise-clause-comes
 returns-in-Materialise-clause-comes g c =
@@ -285,3 +160,26 @@ workload-requires-clause-few g c = (subst CountIsInRange c.in-Workload.is c.requ
 pub returns-in-Verify-clause-verified : goal.returns-in-Verify-clause-verified
 returns-in-Verify-clause-verified g c =
     subst (λ x. IfOk c.verify.result (λ (reply : Reply). VerifiesFile x c.args.self.now.parts (g.D.Disk.image c.args.disk.now) reply.head)) (sym c.in-Verify.is) c.verify.ensures.verified
+
+pub returns-in_default-clause-comes : goal.returns-in_default-clause-comes
+returns-in_default-clause-comes g c =
+    let hand : is_at_hand c.args.command.now ≡ true = search (rules, c.in_default) in
+    alone c.args.command.now c.args.command.now (told c.args.lines.now (g.S.Source.left c.args.source.now)) c.args.self.now.parts (g.D.Disk.image c.args.disk.now) c.answer.new.self.parts (g.D.Disk.image c.args.disk.now) c.answer.result
+    refl (followed_by_none c.args.command.now hand) (c.answer.ensures.comes (g.D.Disk.image c.args.disk.now))
+
+pub returns-in_default-clause-store_read : goal.returns-in_default-clause-store_read
+returns-in_default-clause-store_read g c h =
+    let hand : is_at_hand c.args.command.now ≡ true = search (rules, c.in_default) in
+    let image = g.D.Disk.image c.args.disk.now in
+    absurd (fails_no_read c.args.command.now [] c.args.self.now.parts image c.answer.new.self.parts image c.answer.result (reads_none c.args.command.now hand) (c.answer.ensures.comes image) h)
+
+pub returns-in_default-clause-damaged : goal.returns-in_default-clause-damaged
+returns-in_default-clause-damaged g c =
+    let hand : is_at_hand c.args.command.now ≡ true = search (rules, c.in_default) in
+    let image = g.D.Disk.image c.args.disk.now in
+    never_for_damage c.args.command.now c.args.command.now [] c.args.self.now.parts image c.answer.new.self.parts image c.answer.result refl (reads_none c.args.command.now hand) (c.answer.ensures.comes image)
+
+pub returns-in_default-clause-reads : goal.returns-in_default-clause-reads
+returns-in_default-clause-reads g c =
+    let hand : is_at_hand c.args.command.now ≡ true = search (rules, c.in_default) in
+    reads_nothing c.args.command.now c.args.self.now.parts (g.D.Disk.image c.args.disk.now) c.answer.result (g.D.Disk.taken c.args.disk.now) (reads_none c.args.command.now hand)

@@ -3,7 +3,7 @@ use Rattle.dg_history.specs.History.{in_range}
 use Rattle.dg_index.specs.OpenedIndex.{event_total}
 use Rattle.dg_session.specs.SessionState.{SessionState}
 use Rattle.dg_machine.specs.Planning.{bases_in}
-use Rattle.dg_session.specs.HeldIndex.{point_over, span_held}
+use Rattle.dg_ask.specs.HeldIndex.{point_over, span_held}
 use Rattle.dg_session.specs.Session.{Accepts, Denies, refused_by, retrieval_needs}
 use Rattle.dg_start.specs.StoredHistory.{index_opening}
 use Rattle.std.proofs.Common.{◌≡◌, ℕ, true, [], ◌∷◌, Some, Err, List, Option, map, sym, ◌∙◌, ap, subst, arith}
@@ -13,7 +13,7 @@ use Rattle.dg_machine.specs.declared.command.Command.TheVariants as command
 use Rattle.dg_machine.specs.declared.reply.Refusal.TheVariants as refusal
 use Rattle.dg_machine.specs.CommandGrammar.{plan_line_in}
 use Rattle.dg_plan.specs.CertificateLines.{judged}
-use Rattle.dg_session.specs.declared.halt.Halt.TheVariants as halt
+use Rattle.dg_batch.specs.declared.halt.Halt.TheVariants as halt
 use Rattle.dg_session.specs.Parts.{Parts}
 use Rattle.dg_retrieval.specs.KeptGraph.{kept_edges}
 use Rattle.dg_session.proofs.KeptPlannerGraphs.{graph_for}

@@ -5,8 +5,9 @@ use Rattle.dg_machine.specs.MachineState.{union_of_sets}
 use Rattle.dg_session.specs.contracts.session.Session.{the_view}
 use Rattle.dg_session.specs.Parts.{Parts}
 use Rattle.dg_session.specs.SessionState.{SessionState}
-use Rattle.dg_session.proofs.KeptAdjacencies.{kept_on}
-use Rattle.dg_session.proofs.SessionPoolStep.{clean_all_answers, graphs_same}
+use Rattle.dg_ask.proofs.KeptAdjacencies.{kept_on}
+use Rattle.dg_ask.proofs.KeptAdjacencies.{graphs_same}
+use Rattle.dg_session.proofs.SessionPoolStep.{clean_all_answers}
 use Rattle.dg_session.proofs.session.Session.clean_all.Goals as goal
 
 pub returns-clause-comes : goal.returns-clause-comes

@@ -1,5 +1,6 @@
 use Rattle.std.proofs.Common.{◌∙◌, ap, false, refl}
 use Rattle.dg_machine.specs.declared.command.Command.TheVariants as command
+use Rattle.dg_machine.specs.declared.command.Query.TheVariants as query
 use Rattle.dg_machine.specs.declared.reply.Head.TheVariants as head
 use Rattle.dg_machine.specs.Answer.{counting, headed}
 use Rattle.dg_session.proofs.AnswerQueries.{counts_asks}
@@ -9,10 +10,10 @@ use Rattle.dg_session.proofs.session.Session.counts.Goals as goal
 pub returns-in_err-graph_of-clause-comes : goal.returns-in_err-graph_of-clause-comes
 returns-in_err-graph_of-clause-comes c image =
     let h = c.args.handle in
-    ask_unknown (command.Counts h) h false (counting h) (counts_asks h) c.args.self.now.parts c.from_residual.result c.in_err-graph_of.field-0.0 image c.from_residual.ensures c.in_err-graph_of.ensures.none
+    ask_unknown (command.Ask h query.Counts) h false (counting h) (counts_asks h) c.args.self.now.parts c.from_residual.result c.in_err-graph_of.field-0.0 image c.from_residual.ensures c.in_err-graph_of.ensures.none
 
 pub returns-clause-comes : goal.returns-clause-comes
 returns-clause-comes c image =
     let h = c.args.handle in
-    ask_answers (command.Counts h) h false (counting h) (counts_asks h) c.args.self.now.parts c.in_ok-graph_of.field-0 image c.headed.result c.in_ok-graph_of.ensures.live refl c.in_ok-graph_of.ensures.graph
+    ask_answers (command.Ask h query.Counts) h false (counting h) (counts_asks h) c.args.self.now.parts c.in_ok-graph_of.field-0 image c.headed.result c.in_ok-graph_of.ensures.live refl c.in_ok-graph_of.ensures.graph
     (c.headed.ensures ∙ ap (λ x. headed (head.Counts h x)) c.counts-counts.ensures)

@@ -2,11 +2,11 @@ use Rattle.std.proofs.Common.{◌≡◌, true, [], Some, None, Ok, Err, refl, sy
 use Rattle.std.proofs.lemmas.Bool.{false≢true}
 use Rattle.dg_machine.specs.declared.reply.Reply.{Reply}
 use Rattle.dg_session.specs.SessionState.{SessionState}
-use Rattle.dg_session.specs.declared.halt.Halt.TheVariants as halt
+use Rattle.dg_batch.specs.declared.halt.Halt.TheVariants as halt
 use Rattle.dg_session.specs.Reads.{ReadsIn, is_early}
 use Rattle.std.specs.Prelude.{is_some}
 use Rattle.dg_machine.specs.Needs.{needs}
-use Rattle.dg_session.specs.Halt.{creation_halt}
+use Rattle.dg_batch.specs.Halt.{creation_halt}
 use Rattle.dg_session.specs.Parts.{Parts}
 use Rattle.dg_session.specs.Session.{ComesTo, refused_by}
 use Rattle.dg_start.specs.StoredHistory.{index_opening}

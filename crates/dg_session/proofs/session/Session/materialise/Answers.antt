@@ -9,9 +9,9 @@ use Rattle.dg_machine.specs.declared.stands.Stands.TheVariants.{Base}
 use Rattle.dg_machine.specs.Answer.{headed}
 use Rattle.dg_machine.specs.Needs.{needs}
 use Rattle.dg_session.specs.SessionState.{SessionState}
-use Rattle.dg_session.specs.declared.halt.Halt.TheVariants as halt
+use Rattle.dg_batch.specs.declared.halt.Halt.TheVariants as halt
 use Rattle.dg_session.specs.Damage.{DamageIn, DamageIs}
-use Rattle.dg_session.specs.Halt.{retrieval_halt}
+use Rattle.dg_batch.specs.Halt.{retrieval_halt}
 use Rattle.dg_session.specs.Parts.{Parts}
 use Rattle.dg_session.specs.Reads.{ReadsIn, with_new_handles}
 use Rattle.dg_session.specs.Session.{ComesTo}

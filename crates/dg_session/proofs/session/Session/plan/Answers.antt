@@ -5,9 +5,9 @@ use Rattle.dg_machine.specs.declared.reply.Refusal.TheVariants as refusal
 use Rattle.dg_machine.specs.Planning.{bases_in}
 use Rattle.dg_retrieval.specs.KeptGraph.{kept_edges}
 use Rattle.dg_session.specs.SessionState.{SessionState}
-use Rattle.dg_session.specs.declared.halt.Halt.TheVariants as halt
+use Rattle.dg_batch.specs.declared.halt.Halt.TheVariants as halt
 use Rattle.dg_session.specs.Parts.{Parts}
-use Rattle.dg_session.specs.Plans.{IsPlanReply}
+use Rattle.dg_ask.specs.Plans.{IsPlanReply}
 use Rattle.dg_session.specs.Session.{Accepts, ComesTo}
 use Rattle.dg_session.proofs.KeptPlannerGraphs.{graph_for}
 use Rattle.dg_session.proofs.PlanStep.{free_at, plan_answers}

@@ -6,12 +6,12 @@ use Rattle.dg_machine.specs.declared.command.Command.TheVariants as command
 use Rattle.dg_machine.specs.declared.reply.Refusal.TheVariants as refusal
 use Rattle.dg_machine.specs.MachineState.{dependent_on, stands_at, without_handle}
 use Rattle.dg_session.specs.contracts.session.Session.{the_view}
-use Rattle.dg_session.specs.HeldIndex.{HasNodeOf, HasNodes}
-use Rattle.dg_session.specs.KeptAdjacency.{KeepsAdjacency}
-use Rattle.dg_session.specs.KeptPlanner.{IsKeptFor}
+use Rattle.dg_ask.specs.HeldIndex.{HasNodeOf, HasNodes}
+use Rattle.dg_ask.specs.KeptAdjacency.{KeepsAdjacency}
+use Rattle.dg_ask.specs.KeptPlanner.{IsKeptFor}
 use Rattle.dg_session.specs.Parts.{Parts}
 use Rattle.dg_session.specs.SessionState.{SessionState}
-use Rattle.dg_session.proofs.KeptAdjacencies.{kept_without as adjacency_without}
+use Rattle.dg_ask.proofs.KeptAdjacencies.{kept_without as adjacency_without}
 use Rattle.dg_session.proofs.SessionReleaseStep.{all_without, kept_without, parts_without, release_answers, release_refused, release_used}
 use Rattle.dg_session.proofs.SessionSteps.{refused_denies}
 use Rattle.dg_start.specs.StoredHistory.{index_opening}

@@ -11,9 +11,9 @@ use Rattle.dg_machine.specs.Planning.{edges_in, points_for}
 use Rattle.dg_retrieval.specs.Retrieval.{TakesAtMostTree}
 use Rattle.dg_retrieval.specs.Beginnings.{leads_in, led_to}
 use Rattle.dg_session.specs.SessionState.{SessionState}
-use Rattle.dg_session.specs.declared.halt.Halt.TheVariants as halt
+use Rattle.dg_batch.specs.declared.halt.Halt.TheVariants as halt
 use Rattle.dg_session.specs.Damage.{DamageIn, NamesDamage}
-use Rattle.dg_session.specs.Halt.{retrieval_halt}
+use Rattle.dg_batch.specs.Halt.{retrieval_halt}
 use Rattle.dg_session.specs.Parts.{Parts}
 use Rattle.dg_session.specs.Reads.{IsRetrieved, ReadsIn, bases_of, listed_by, with_new_handles}
 use Rattle.dg_session.specs.Session.{ComesTo, StandsFor, refused_by, retrieval_needs}

@@ -3,7 +3,7 @@ use Rattle.dg_io.specs.LinesState.{told}
 use Rattle.dg_machine.specs.declared.reply.Head.TheVariants as head
 use Rattle.dg_machine.specs.declared.reply.Reply.{Reply}
 use Rattle.dg_machine.specs.Run.{is_store_read}
-use Rattle.dg_session.specs.declared.halt.Halt.TheVariants as halt
+use Rattle.dg_batch.specs.declared.halt.Halt.TheVariants as halt
 use Rattle.dg_session.specs.Damage.{DamageIs}
 use Rattle.dg_session.specs.Reads.{Reads, reply_head}
 use Rattle.dg_session.proofs.DamageStep.{damage_in_reply}

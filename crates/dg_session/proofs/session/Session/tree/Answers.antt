@@ -2,7 +2,7 @@ use Rattle.std.proofs.Common.{◌≡◌, [], refl, subst}
 use Rattle.std.specs.Prelude.{IsErrAnd}
 use Rattle.dg_machine.specs.declared.command.Command.TheVariants as command
 use Rattle.dg_machine.specs.declared.reply.Refusal.TheVariants as refusal
-use Rattle.dg_session.specs.declared.halt.Halt.TheVariants as halt
+use Rattle.dg_batch.specs.declared.halt.Halt.TheVariants as halt
 use Rattle.dg_session.specs.Session.{ComesTo}
 use Rattle.dg_session.proofs.SessionSteps.{handed_out, lacking_denies, refused_denies}
 use Rattle.dg_session.proofs.RecordListingStep.{tree_answers, tree_free, tree_refused}

@@ -9,12 +9,13 @@ use Rattle.dg_machine.specs.Needs.{needs}
 use Rattle.dg_query.specs.Queries.{counts_of}
 use Rattle.dg_query.specs.declared.answers.Counts.{Counts}
 use Rattle.dg_pool.specs.Graphs.{graph_now, slot_graph}
-use Rattle.dg_session.specs.BatchCommand.{HandlesStay, barred}
+use Rattle.dg_batch.specs.HandlesStay.{HandlesStay}
+use Rattle.dg_session.specs.BatchCommand.{barred}
 use Rattle.dg_session.specs.declared.batch_command.BatchCommand.TheVariants.{Load}
-use Rattle.dg_session.specs.declared.batch_lines.BatchLines.{BatchLines}
-use Rattle.dg_session.specs.declared.halt.Halt.TheVariants as halt
+use Rattle.dg_batch.specs.declared.batch_lines.BatchLines.{BatchLines}
+use Rattle.dg_batch.specs.declared.halt.Halt.TheVariants as halt
 use Rattle.dg_session.specs.Damage.{DamageIn}
-use Rattle.dg_session.specs.Halt.{batch_halt}
+use Rattle.dg_batch.specs.Halt.{batch_halt}
 use Rattle.dg_session.specs.Parts.{Parts}
 use Rattle.dg_session.specs.Reads.{Reads, ReadsIn}
 use Rattle.dg_session.specs.Session.{Accepts, ComesTo}

@@ -1,0 +1,9 @@
+pub mod RecordListingLines
+pub mod OpenedIndexHistory
+pub mod HeldIndexHistory
+pub mod HeldIndexHandles
+pub mod KeptAdjacencies
+pub mod AnswerPlans
+pub mod PlanReplies
+pub mod PointNodes
+pub mod IndexNodes

@@ -1,0 +1,5 @@
+pub mod HeldIndex
+pub mod KeptAdjacency
+pub mod KeptPlanner
+pub mod Plans
+pub mod RecordListing

@@ -1,0 +1,15 @@
+//! What is asked of an index and of the graphs of handles, and what is kept between questions: plans and their
+//! certificates, the listing of the records, nodes and their neighbours. docs/SCRIPT.md has the commands.
+#![tactic(auto)]
+
+mod kept_adjacency;
+mod kept_planner;
+mod plans;
+mod queries;
+mod record_listing;
+
+pub use kept_adjacency::KeptAdjacency;
+pub use kept_planner::KeptPlanner;
+pub use plans::{has_node, judge, plan_reply, point_of, record_planner, span};
+pub use queries::{neighbours_reply, node_reply};
+pub use record_listing::tree_reply;

@@ -1,0 +1,78 @@
+-- The nodes that handles hold are nodes of the index after a batch, and of the graph in which plans are made.
+use Rattle.std.proofs.Common.{◌≡◌, ℕ, ◌+◌, ◌*◌, ◌^◌, ◌<◌, ◌≤◌, Bool, true, false, List as ListOf, [], ◌∷◌, Option, Some, None, refl, sym, ◌∙◌, ap, subst, arith}
+use Rattle.std.specs.Prelude.{IfSome, is_some, ◌&&◌, nat_le}
+use Rattle.std.specs.List.{All}
+use Rattle.std.proofs.lemmas.Bool.{leb-true, le-leb, false≢true}
+use Rattle.std.proofs.lemmas.List.Elements.{All-cons, All-head, All-nil, All-tail}
+use Rattle.std.proofs.lemmas.List.Sums.{sum_by_push}
+use Rattle.dg_append.specs.declared.batch.AddedBatch.{AddedBatch}
+use Rattle.dg_append.specs.declared.front.Front.{Front}
+use Rattle.dg_append.specs.AddedBatches.{AddsBatch}
+use Rattle.dg_file.specs.Index.{IndexState}
+use Rattle.dg_graph.specs.declared.event.Change.{Change}
+use Rattle.dg_history.specs.declared.node.NodeId.{NodeId}
+use Rattle.dg_history.specs.declared.node.NodeId.TheVariants.{Root, Now, Recent, Leaf, List as EventList, Inner}
+use Rattle.dg_history.specs.declared.params.Params.{Params}
+use Rattle.dg_index.proofs.HierarchyStability.{leaves_more}
+use Rattle.dg_index.specs.Hierarchy.{leaves}
+use Rattle.dg_index.specs.declared.entry.BatchEntry.{BatchEntry}
+use Rattle.dg_index.specs.FileOfHistory.{Segment}
+use Rattle.dg_index.specs.IndexGrowth.{index_with}
+use Rattle.dg_index.specs.OpenedIndex.{Opening, directory_of, event_total}
+use Rattle.dg_machine.specs.declared.stands.Stands.{Stands}
+use Rattle.dg_machine.specs.declared.stands.Stands.TheVariants.{Overlay, Base}
+use Rattle.dg_machine.specs.Needs.{can_be_held}
+use Rattle.dg_ask.specs.HeldIndex.{HasNodeOf, HasNodes}
+use Rattle.dg_start.specs.declared.stored_history.StoredHistory.{StoredHistory}
+use Rattle.dg_start.specs.StoredHistory.{index_opening}
+
+both_hold : (a b : Bool) → (a && b) ≡ true → (a ≡ true) × (b ≡ true)
+both_hold true b e = (refl, e)
+both_hold false b e = absurd (false≢true e)
+
+-- a node that can be held is there with more events
+module _ (p : Params) (pos : 0 < p.l) (n more : ℕ) where
+  few : leaves p n ≤ leaves p (n + more)
+  few = leaves_more p.l n more pos
+
+  pub held_more : (v : NodeId) → can_be_held p n v ≡ true → can_be_held p (n + more) v ≡ true
+  held_more Root r = r
+  held_more Now r = r
+  held_more Recent r = r
+  held_more (EventList i) r = r
+  held_more (Leaf j) r =
+      let parts = both_hold (nat_le 1 j) (nat_le j (leaves p n)) r in
+      ap (λ (b : Bool). b && nat_le j (leaves p (n + more))) parts.0
+      ∙ le-leb j (leaves p (n + more)) (omega (arith, few, leb-true j (leaves p n) parts.1))
+  held_more (Inner h j) r =
+      let parts = both_hold (nat_le 1 h) (nat_le 1 j && nat_le (j * p.k ^ h) (leaves p n)) r in
+      let rest = both_hold (nat_le 1 j) (nat_le (j * p.k ^ h) (leaves p n)) parts.1 in
+      ap (λ (b : Bool). b && (nat_le 1 j && nat_le (j * p.k ^ h) (leaves p (n + more)))) parts.0
+      ∙ ap (λ (b : Bool). b && nat_le (j * p.k ^ h) (leaves p (n + more))) rest.0
+      ∙ le-leb (j * p.k ^ h) (leaves p (n + more)) (omega (arith, few, leb-true (j * p.k ^ h) (leaves p n) rest.1))
+
+-- what holds of each handle holds of each
+each_handle : (P Q : Stands → Type 0) → ((s : Stands) → P s → Q s) → (table : ListOf (ℕ × Stands)) → All (λ (e : ℕ × Stands). P e.1) table → All (λ (e : ℕ × Stands). Q e.1) table
+each_handle P Q f [] h = All-nil (λ (e : ℕ × Stands). Q e.1)
+each_handle P Q f (e ∷ table) h =
+    All-cons (λ (x : ℕ × Stands). Q x.1) e table (f e.1 (All-head (λ (x : ℕ × Stands). P x.1) e table h)) (each_handle P Q f table (All-tail (λ (x : ℕ × Stands). P x.1) e table h))
+
+-- with one more segment the index has the nodes that it had
+pub nodes_with : (o : Opening) (s : Segment) → 0 < o.params.l → (table : ListOf (ℕ × Stands)) → HasNodes (Some o) table → HasNodes (Some (index_with o s)) table
+nodes_with o s pos table h = each_handle (HasNodeOf (Some o)) (HasNodeOf (Some (index_with o s))) one table h
+  where
+    more : event_total (index_with o s).batches ≡ event_total o.batches + (directory_of s).batch.events
+    more = sum_by_push (λ (b : BatchEntry). b.events) o.batches (directory_of s).batch
+
+    one : (x : Stands) → HasNodeOf (Some o) x → HasNodeOf (Some (index_with o s)) x
+    one (Overlay t cols on) r = tt
+    one (Base node cols) r =
+        ap (λ n. can_be_held o.params n node) more ∙ held_more o.params pos (event_total o.batches) (directory_of s).batch.events node r
+
+-- nor does it lose one by a batch
+pub nodes_after : (i : Option IndexState) (limit known : ℕ) (old new : StoredHistory) (before after : Option (ListOf ℕ)) (changes : ListOf Change) (front : Front) (added : AddedBatch) (table : ListOf (ℕ × Stands))
+    → is_some i ≡ true → IfSome (index_opening i) (λ o. 0 < o.params.l) → IfSome (index_opening i) (λ o. AddsBatch o limit known old new before after changes front added)
+    → HasNodes (index_opening i) table → HasNodes (index_opening new.index) table
+nodes_after None limit known old new before after changes front added table there pos adds h = absurd (false≢true there)
+nodes_after (Some x) limit known old new before after changes front added table there pos adds h =
+    subst (λ (o : Option Opening). HasNodes o table) (sym adds.index) (nodes_with x.opening adds.segment pos table h)

@@ -1,0 +1,381 @@
+-- The ids and the numbers of names in events are those of changes, and so are in their ranges.
+use Rattle.std.proofs.Common.{◌≡◌, ℕ, ◌<◌, ◌≤◌, ◌^◌, Bool, true, false, not, ◌&&◌, List, [], ◌∷◌, ◌++◌, Option, Some, None, Ok, Err, if◌then◌else◌, length, find, refl, sym, ◌∙◌, ap, subst, arith}
+use Rattle.std.specs.Prelude.{IfSome, IsTrue, is_some, nat_eq, option_and_then}
+use Rattle.std.specs.List.{All, list_any}
+use Rattle.std.specs.Option.{option_map, option_eq}
+use Rattle.std.proofs.lemmas.List.{get_or_append_left}
+use Rattle.std.proofs.lemmas.List.Elements.{All-nil, All-cons, All-head, All-tail, All-filter}
+use Rattle.dg_graph.specs.declared.element.Element.{Element}
+use Rattle.dg_graph.specs.declared.element.Element.TheVariants as element
+use Rattle.dg_graph.specs.declared.event.Body.{Body}
+use Rattle.dg_graph.specs.declared.event.Body.TheVariants as body
+use Rattle.dg_graph.specs.declared.event.Change.{Change}
+use Rattle.dg_graph.specs.declared.event.Event.{Event}
+use Rattle.dg_graph.specs.declared.event.What.{What}
+use Rattle.dg_graph.specs.declared.event.What.TheVariants as what
+use Rattle.dg_graph.specs.declared.event.TheConstants.{REASON_NODE_EXISTS, REASON_NO_NODE, REASON_NODE_IN_USE, REASON_EDGE_EXISTS, REASON_NO_EDGE, REASON_NO_END}
+use Rattle.dg_graph.specs.declared.limits.TheConstants.{TIME_MAX}
+use Rattle.dg_history.specs.Batch.{changes_after, names_after}
+use Rattle.dg_graph.specs.Completion.{has_node, is_edge, edge_of, needs_node, needs_edge, node_value, edge_value, is_node_value, is_edge_value, value_in, value_removal, edge_removal, complete, has_key}
+use Rattle.dg_graph.specs.Effect.{forwards, removed_by, added_by, moved}
+use Rattle.dg_graph.specs.Elements.{before, same, put, with_one, without}
+use Rattle.dg_history.specs.ChangeGrammar.{WhatByText, Plain, Sets_node, Unsets_node, Sets_edge, Unsets_edge, ChangeByText, named, change_with, what_in}
+use Rattle.dg_history.specs.LegalHistory.{FitsBody}
+use Rattle.dg_graph.specs.Names.{added, is_key, is_name, name_text}
+use Rattle.dg_graph.specs.Replay.{replay_from}
+use Rattle.dg_batch.proofs.CompletedChanges.{AllCome}
+use Rattle.dg_batch.proofs.NamesAfter.{Grows, Has, grows_none, grows_both, added_grows, added_has, has_more, key_is_name, number_within, text_is}
+use Rattle.dg_batch.proofs.ChangeGrammarRanges.{AskedFits, PlainFits, SaidFits}
+use Rattle.dg_append.specs.AddedBatches.{WhatNamesFit}
+
+-- Ids of which the fact `I` holds, and numbers of names below n: in a change, in an element and in what
+-- changes.
+abbrev pub WhatFits : (ℕ → Type 0) → ℕ → What → Type 0
+WhatFits I n (what.AddNode id) = I id
+WhatFits I n (what.RemoveNode id) = I id
+WhatFits I n (what.AddEdge id src dst directed) = I id × I src × I dst
+WhatFits I n (what.RemoveEdge id) = I id
+WhatFits I n (what.SetNode id key value) = I id × (key < n) × (value < n)
+WhatFits I n (what.UnsetNode id key) = I id × (key < n)
+WhatFits I n (what.SetEdge id key value) = I id × (key < n) × (value < n)
+WhatFits I n (what.UnsetEdge id key) = I id × (key < n)
+
+abbrev pub ElementFits : (ℕ → Type 0) → ℕ → Element → Type 0
+ElementFits I n (element.Node id) = Unit {0}
+ElementFits I n (element.Edge id src dst directed) = I id × I src × I dst
+ElementFits I n (element.NodeAttr id key value) = value < n
+ElementFits I n (element.EdgeAttr id key value) = value < n
+
+abbrev pub BodyFits : (ℕ → Type 0) → ℕ → Body → Type 0
+BodyFits I n (body.NodeAdded id) = I id
+BodyFits I n (body.NodeRemoved id) = I id
+BodyFits I n (body.EdgeAdded id src dst directed) = I id × I src × I dst
+BodyFits I n (body.EdgeRemoved id src dst directed) = I id × I src × I dst
+BodyFits I n (body.NodeAttr id key old new) = I id × (key < n) × IfSome old (λ v. v < n) × IfSome new (λ v. v < n)
+BodyFits I n (body.EdgeAttr id key old new) = I id × (key < n) × IfSome old (λ v. v < n) × IfSome new (λ v. v < n)
+
+-- ---- what a set has
+
+found_fits : (I : ℕ → Type 0) (n : ℕ) (p : Element → Bool) (xs : List Element) (x : Element) → All (ElementFits I n) xs → find p xs ≡ Some x → ElementFits I n x
+found_fits I n p [] x f h = cc
+found_fits I n p (y ∷ xs) x f h = go (p y) h (λ e. found_fits I n p xs x (All-tail (ElementFits I n) y xs f) e)
+  where
+    go : (b : Bool) → (if b then Some y else find p xs) ≡ Some x → (find p xs ≡ Some x → ElementFits I n x) → ElementFits I n x
+    go true e later = let s : y ≡ x = cc in subst (ElementFits I n) s (All-head (ElementFits I n) y xs f)
+    go false e later = later e
+
+put_fits : (I : ℕ → Type 0) (n : ℕ) (x : Element) (set : List Element) → ElementFits I n x → All (ElementFits I n) set → All (ElementFits I n) (put x set)
+put_fits I n x [] h f = All-cons (ElementFits I n) x [] h f
+put_fits I n x (y ∷ set) h f =
+    go (before x y) (same x y) (put_fits I n x set h (All-tail (ElementFits I n) y set f))
+  where
+    go : (a b : Bool) → All (ElementFits I n) (put x set) → All (ElementFits I n) (if a then x ∷ y ∷ set else (if b then y ∷ set else y ∷ put x set))
+    go true b more = All-cons (ElementFits I n) x (y ∷ set) h f
+    go false true more = f
+    go false false more = All-cons (ElementFits I n) y (put x set) (All-head (ElementFits I n) y set f) more
+
+without_fits : (I : ℕ → Type 0) (n : ℕ) (set : List Element) (o : Option Element) → All (ElementFits I n) set → All (ElementFits I n) (without set o)
+without_fits I n set None f = f
+without_fits I n set (Some x) f = All-filter (λ y. not (same x y)) (ElementFits I n) set f
+
+with_fits : (I : ℕ → Type 0) (n : ℕ) (set : List Element) (o : Option Element) → IfSome o (ElementFits I n) → All (ElementFits I n) set → All (ElementFits I n) (with_one set o)
+with_fits I n set None h f = f
+with_fits I n set (Some x) h f = put_fits I n x set h f
+
+moved_fits : (I : ℕ → Type 0) (n : ℕ) (make : ℕ → Element) (value other : Option ℕ) → ((v : ℕ) → v < n → ElementFits I n (make v)) → IfSome value (λ v. v < n)
+    → IfSome (moved make value other) (ElementFits I n)
+moved_fits I n make value other fits h = by (option_eq nat_eq value other) value h
+  where
+    by : (b : Bool) (o : Option ℕ) → IfSome o (λ v. v < n) → IfSome (if b then None else option_map make o) (ElementFits I n)
+    by true o k = tt
+    by false None k = tt
+    by false (Some v) k = fits v k
+
+added_fits : (I : ℕ → Type 0) (n : ℕ) (b : Body) → BodyFits I n b → IfSome (added_by b) (ElementFits I n)
+added_fits I n (body.NodeAdded id) h = tt
+added_fits I n (body.NodeRemoved id) h = tt
+added_fits I n (body.EdgeAdded id src dst directed) h = h
+added_fits I n (body.EdgeRemoved id src dst directed) h = tt
+added_fits I n (body.NodeAttr id key old new) h = moved_fits I n (element.NodeAttr id key) new old (λ v k. k) h.3
+added_fits I n (body.EdgeAttr id key old new) h = moved_fits I n (element.EdgeAttr id key) new old (λ v k. k) h.3
+
+pub set_fits : (I : ℕ → Type 0) (n : ℕ) (set : List Element) (e : Event) → BodyFits I n e.body → All (ElementFits I n) set → All (ElementFits I n) (forwards set e)
+set_fits I n set e h f = with_fits I n (without set (removed_by e.body)) (added_by e.body) (added_fits I n e.body h) (without_fits I n set (removed_by e.body) f)
+
+pub replay_fits : (I : ℕ → Type 0) (n : ℕ) (set : List Element) (events : List Event) → All (λ (e : Event). BodyFits I n e.body) events → All (ElementFits I n) set
+    → All (ElementFits I n) (replay_from set events)
+replay_fits I n set [] h f = f
+replay_fits I n set (e ∷ events) h f =
+    replay_fits I n (forwards set e) events (All-tail (λ (e : Event). BodyFits I n e.body) e events h)
+    (set_fits I n set e (All-head (λ (e : Event). BodyFits I n e.body) e events h) f)
+
+-- ---- what a change comes to
+
+value_fits : (I : ℕ → Type 0) (n : ℕ) (o : Option Element) → ((x : Element) → o ≡ Some x → ElementFits I n x) → IfSome (option_and_then value_in o) (λ v. v < n)
+value_fits I n None h = tt
+value_fits I n (Some (element.Node id)) h = tt
+value_fits I n (Some (element.Edge id src dst directed)) h = tt
+value_fits I n (Some (element.NodeAttr id key value)) h = h (element.NodeAttr id key value) refl
+value_fits I n (Some (element.EdgeAttr id key value)) h = h (element.EdgeAttr id key value) refl
+
+-- A fact of what a change comes to, by its tests.
+by_test : (P : Body → Type 0) (there : Bool) (reason : ℕ) (x b : Body) → (if there then Ok x else Err reason) ≡ Ok b → P x → P b
+by_test P true reason x b h f = let e : x ≡ b = cc in subst P e f
+by_test P false reason x b h f = cc
+
+node_added : (P : Body → Type 0) (there : Bool) (id : ℕ) (b : Body) → (if there then Err REASON_NODE_EXISTS else Ok (body.NodeAdded id)) ≡ Ok b → P (body.NodeAdded id) → P b
+node_added P true id b h f = cc
+node_added P false id b h f = let e : body.NodeAdded id ≡ b = cc in subst P e f
+
+node_removed : (P : Body → Type 0) (there used : Bool) (id : ℕ) (b : Body)
+    → (if not there then Err REASON_NO_NODE else (if used then Err REASON_NODE_IN_USE else Ok (body.NodeRemoved id))) ≡ Ok b → P (body.NodeRemoved id) → P b
+node_removed P false used id b h f = cc
+node_removed P true true id b h f = cc
+node_removed P true false id b h f = let e : body.NodeRemoved id ≡ b = cc in subst P e f
+
+edge_added : (P : Body → Type 0) (there ends : Bool) (id src dst : ℕ) (directed : Bool) (b : Body)
+    → (if there then Err REASON_EDGE_EXISTS else (if ends then Ok (body.EdgeAdded id src dst directed) else Err REASON_NO_END)) ≡ Ok b
+    → P (body.EdgeAdded id src dst directed) → P b
+edge_added P true ends id src dst directed b h f = cc
+edge_added P false false id src dst directed b h f = cc
+edge_added P false true id src dst directed b h f = let e : body.EdgeAdded id src dst directed ≡ b = cc in subst P e f
+
+edge_removed : (P : Body → Type 0) (needed : Bool) (found : Option Element) (b : Body) → edge_removal needed found ≡ Ok b
+    → ((id src dst : ℕ) (directed : Bool) → found ≡ Some (element.Edge id src dst directed) → P (body.EdgeRemoved id src dst directed)) → P b
+edge_removed P needed None b h f = cc
+edge_removed P needed (Some (element.Node id)) b h f = cc
+edge_removed P needed (Some (element.NodeAttr id key value)) b h f = cc
+edge_removed P needed (Some (element.EdgeAttr id key value)) b h f = cc
+edge_removed P true (Some (element.Edge id src dst directed)) b h f = cc
+edge_removed P false (Some (element.Edge id src dst directed)) b h f =
+    let e : body.EdgeRemoved id src dst directed ≡ b = cc in subst P e (f id src dst directed refl)
+
+value_unset : (P : Body → Type 0) (there : Bool) (reason : ℕ) (make : Option ℕ → Option ℕ → Body) (found : Option ℕ) (b : Body)
+    → (if there then value_removal make found else Err reason) ≡ Ok b
+    → ((v : ℕ) → found ≡ Some v → P (make (Some v) None)) → P b
+value_unset P false reason make found b h f = cc
+value_unset P true reason make None b h f = cc
+value_unset P true reason make (Some v) b h f = let e : make (Some v) None ≡ b = cc in subst P e (f v refl)
+
+some_value : (n : ℕ) (found : Option ℕ) (v : ℕ) → IfSome found (λ v. v < n) → found ≡ Some v → v < n
+some_value n found v h e = subst (λ (o : Option ℕ). IfSome o (λ v. v < n)) e h
+
+pub body_fits : (I : ℕ → Type 0) (n : ℕ) (w : What) (set : List Element) (b : Body) → WhatFits I n w → All (ElementFits I n) set → complete w set ≡ Ok b → BodyFits I n b
+body_fits I n (what.AddNode id) set b f all h = node_added (BodyFits I n) (has_node set id) id b h f
+body_fits I n (what.RemoveNode id) set b f all h = node_removed (BodyFits I n) (has_node set id) (list_any (needs_node id) set) id b h f
+body_fits I n (what.AddEdge id src dst directed) set b f all h =
+    edge_added (BodyFits I n) (is_some (edge_of set id)) (has_node set src && has_node set dst) id src dst directed b h f
+body_fits I n (what.RemoveEdge id) set b f all h =
+    edge_removed (BodyFits I n) (list_any (needs_edge id) set) (edge_of set id) b h
+    (λ id' src dst directed e. found_fits I n (is_edge id) set (element.Edge id' src dst directed) all e)
+body_fits I n (what.SetNode id key value) set b f all h =
+    by_test (BodyFits I n) (has_node set id) REASON_NO_NODE (body.NodeAttr id key (node_value set id key) (Some value)) b h
+    (f.0, f.1, value_fits I n (find (is_node_value id key) set) (λ x e. found_fits I n (is_node_value id key) set x all e), f.2)
+body_fits I n (what.UnsetNode id key) set b f all h =
+    value_unset (BodyFits I n) (has_node set id) REASON_NO_NODE (λ old new. body.NodeAttr id key old new) (node_value set id key) b h
+    (λ v e. (f.0, f.1, some_value n (node_value set id key) v (value_fits I n (find (is_node_value id key) set) (λ x k. found_fits I n (is_node_value id key) set x all k)) e, tt))
+body_fits I n (what.SetEdge id key value) set b f all h =
+    by_test (BodyFits I n) (is_some (edge_of set id)) REASON_NO_EDGE (body.EdgeAttr id key (edge_value set id key) (Some value)) b h
+    (f.0, f.1, value_fits I n (find (is_edge_value id key) set) (λ x e. found_fits I n (is_edge_value id key) set x all e), f.2)
+body_fits I n (what.UnsetEdge id key) set b f all h =
+    value_unset (BodyFits I n) (is_some (edge_of set id)) REASON_NO_EDGE (λ old new. body.EdgeAttr id key old new) (edge_value set id key) b h
+    (λ v e. (f.0, f.1, some_value n (edge_value set id key) v (value_fits I n (find (is_edge_value id key) set) (λ x k. found_fits I n (is_edge_value id key) set x all k)) e, tt))
+
+pub events_fit : (I : ℕ → Type 0) (n earliest : ℕ) (set : List Element) (changes : List (Option Change)) (events : List Event)
+    → AllCome earliest set changes events → All (λ c. IfSome c (λ (c : Change). WhatFits I n c.what)) changes → All (ElementFits I n) set → All (λ (e : Event). BodyFits I n e.body) events
+events_fit I n earliest set [] [] h f all = All-nil (λ (e : Event). BodyFits I n e.body)
+events_fit I n earliest set [] (e ∷ events) h f all = absurd h
+events_fit I n earliest set (None ∷ changes) events h f all = absurd h
+events_fit I n earliest set (Some c ∷ changes) [] h f all = absurd h
+events_fit I n earliest set (Some c ∷ changes) (e ∷ events) h f all =
+    let here : BodyFits I n e.body = body_fits I n c.what set e.body (All-head (λ c. IfSome c (λ (c : Change). WhatFits I n c.what)) (Some c) changes f) all h.0.body in
+    All-cons (λ (e : Event). BodyFits I n e.body) e events here
+    (events_fit I n e.time (forwards set e) changes events h.1 (All-tail (λ c. IfSome c (λ (c : Change). WhatFits I n c.what)) (Some c) changes f) (set_fits I n set e here all))
+
+pub times_fit : (earliest : ℕ) (set : List Element) (changes : List (Option Change)) (events : List Event)
+    → AllCome earliest set changes events → All (λ c. IfSome c (λ (c : Change). c.time ≤ TIME_MAX)) changes → All (λ (e : Event). e.time ≤ TIME_MAX) events
+times_fit earliest set [] [] h f = All-nil (λ (e : Event). e.time ≤ TIME_MAX)
+times_fit earliest set [] (e ∷ events) h f = absurd h
+times_fit earliest set (None ∷ changes) events h f = absurd h
+times_fit earliest set (Some c ∷ changes) [] h f = absurd h
+times_fit earliest set (Some c ∷ changes) (e ∷ events) h f =
+    let here : c.time ≤ TIME_MAX = All-head (λ c. IfSome c (λ (c : Change). c.time ≤ TIME_MAX)) (Some c) changes f in
+    All-cons (λ (e : Event). e.time ≤ TIME_MAX) e events (omega (arith, here, h.0.time))
+    (times_fit e.time (forwards set e) changes events h.1 (All-tail (λ c. IfSome c (λ (c : Change). c.time ≤ TIME_MAX)) (Some c) changes f))
+
+-- ---- the key of a change and of its event
+
+-- the key of a change may be a key, in this list of names
+abbrev pub HasKey : List (List ℕ) → What → Type 0
+HasKey names (what.AddNode id) = Unit {0}
+HasKey names (what.RemoveNode id) = Unit {0}
+HasKey names (what.AddEdge id src dst directed) = Unit {0}
+HasKey names (what.RemoveEdge id) = Unit {0}
+HasKey names (what.SetNode id key value) = is_key (name_text names key) ≡ true
+HasKey names (what.UnsetNode id key) = is_key (name_text names key) ≡ true
+HasKey names (what.SetEdge id key value) = is_key (name_text names key) ≡ true
+HasKey names (what.UnsetEdge id key) = is_key (name_text names key) ≡ true
+
+body_key : (names : List (List ℕ)) (w : What) (set : List Element) (b : Body) → HasKey names w → complete w set ≡ Ok b → IsTrue (has_key names b)
+body_key names (what.AddNode id) set b f h = node_added (λ x. IsTrue (has_key names x)) (has_node set id) id b h refl
+body_key names (what.RemoveNode id) set b f h = node_removed (λ x. IsTrue (has_key names x)) (has_node set id) (list_any (needs_node id) set) id b h refl
+body_key names (what.AddEdge id src dst directed) set b f h =
+    edge_added (λ x. IsTrue (has_key names x)) (is_some (edge_of set id)) (has_node set src && has_node set dst) id src dst directed b h refl
+body_key names (what.RemoveEdge id) set b f h =
+    edge_removed (λ x. IsTrue (has_key names x)) (list_any (needs_edge id) set) (edge_of set id) b h (λ id' src dst directed e. refl)
+body_key names (what.SetNode id key value) set b f h =
+    by_test (λ x. IsTrue (has_key names x)) (has_node set id) REASON_NO_NODE (body.NodeAttr id key (node_value set id key) (Some value)) b h f
+body_key names (what.UnsetNode id key) set b f h =
+    value_unset (λ x. IsTrue (has_key names x)) (has_node set id) REASON_NO_NODE (λ old new. body.NodeAttr id key old new) (node_value set id key) b h (λ v e. f)
+body_key names (what.SetEdge id key value) set b f h =
+    by_test (λ x. IsTrue (has_key names x)) (is_some (edge_of set id)) REASON_NO_EDGE (body.EdgeAttr id key (edge_value set id key) (Some value)) b h f
+body_key names (what.UnsetEdge id key) set b f h =
+    value_unset (λ x. IsTrue (has_key names x)) (is_some (edge_of set id)) REASON_NO_EDGE (λ old new. body.EdgeAttr id key old new) (edge_value set id key) b h (λ v e. f)
+
+pub events_keys : (names : List (List ℕ)) (earliest : ℕ) (set : List Element) (changes : List (Option Change)) (events : List Event)
+    → AllCome earliest set changes events → All (λ c. IfSome c (λ (c : Change). HasKey names c.what)) changes → All (λ (e : Event). IsTrue (has_key names e.body)) events
+events_keys names earliest set [] [] h f = All-nil (λ (e : Event). IsTrue (has_key names e.body))
+events_keys names earliest set [] (e ∷ events) h f = absurd h
+events_keys names earliest set (None ∷ changes) events h f = absurd h
+events_keys names earliest set (Some c ∷ changes) [] h f = absurd h
+events_keys names earliest set (Some c ∷ changes) (e ∷ events) h f =
+    All-cons (λ (e : Event). IsTrue (has_key names e.body)) e events
+    (body_key names c.what set e.body (All-head (λ c. IfSome c (λ (c : Change). HasKey names c.what)) (Some c) changes f) h.0.body)
+    (events_keys names e.time (forwards set e) changes events h.1 (All-tail (λ c. IfSome c (λ (c : Change). HasKey names c.what)) (Some c) changes f))
+
+-- ---- what the lines of a batch ask for, by the numbers of its names
+
+asked_grows : (names : List (List ℕ)) (asked : WhatByText) → AskedFits asked → Grows names (named names asked)
+asked_grows names (Plain w) f = grows_none names
+asked_grows names (Sets_node id key value) f =
+    grows_both names (added names key) (added (added names key) value) (added_grows names key (key_is_name key f.1)) (added_grows (added names key) value f.2)
+asked_grows names (Unsets_node id key) f = added_grows names key (key_is_name key f.1)
+asked_grows names (Sets_edge id key value) f =
+    grows_both names (added names key) (added (added names key) value) (added_grows names key (key_is_name key f.1)) (added_grows (added names key) value f.2)
+asked_grows names (Unsets_edge id key) f = added_grows names key (key_is_name key f.1)
+
+pub lines_grow : (names : List (List ℕ)) (lines : List (Option ChangeByText)) → All (λ s. IfSome s SaidFits) lines → Grows names (names_after names lines)
+lines_grow names [] f = grows_none names
+lines_grow names (None ∷ lines) f = lines_grow names lines (All-tail (λ s. IfSome s SaidFits) None lines f)
+lines_grow names (Some s ∷ lines) f =
+    grows_both names (named names s.asked) (names_after (named names s.asked) lines)
+    (asked_grows names s.asked (All-head (λ s. IfSome s SaidFits) (Some s) lines f).1)
+    (lines_grow (named names s.asked) lines (All-tail (λ s. IfSome s SaidFits) (Some s) lines f))
+
+-- the ids, the numbers of names and the key of a change are in their ranges, in this list of names
+pub record ChangeFits (names : List (List ℕ)) (c : Change) : Type 0 where
+  pub time : c.time ≤ TIME_MAX
+  pub numbers : WhatFits (λ n. n < 2 ^ 64) (length names) c.what
+  pub key : HasKey names c.what
+
+plain_fits : (n : ℕ) (w : What) → PlainFits w → WhatFits (λ n. n < 2 ^ 64) n w
+plain_fits n (what.AddNode id) f = f
+plain_fits n (what.RemoveNode id) f = f
+plain_fits n (what.AddEdge id src dst directed) f = f
+plain_fits n (what.RemoveEdge id) f = f
+plain_fits n (what.SetNode id key value) f = absurd f
+plain_fits n (what.UnsetNode id key) f = absurd f
+plain_fits n (what.SetEdge id key value) f = absurd f
+plain_fits n (what.UnsetEdge id key) f = absurd f
+
+plain_key : (names : List (List ℕ)) (w : What) → PlainFits w → HasKey names w
+plain_key names (what.AddNode id) f = tt
+plain_key names (what.RemoveNode id) f = tt
+plain_key names (what.AddEdge id src dst directed) f = tt
+plain_key names (what.RemoveEdge id) f = tt
+plain_key names (what.SetNode id key value) f = absurd f
+plain_key names (what.UnsetNode id key) f = absurd f
+plain_key names (what.SetEdge id key value) f = absurd f
+plain_key names (what.UnsetEdge id key) f = absurd f
+
+-- the key and the value that were added
+key_there : (names : List (List ℕ)) (key value : List ℕ) → is_name value ≡ true → Has (added (added names key) value) key
+key_there names key value f = has_more (added names key) (added (added names key) value) key (added_grows (added names key) value f) (added_has names key)
+
+asked_numbers : (names new : List (List ℕ)) (asked : WhatByText) → AskedFits asked → Grows (named names asked) new
+    → WhatFits (λ n. n < 2 ^ 64) (length new) (what_in (named names asked) asked)
+asked_numbers names new (Plain w) f g = plain_fits (length new) w f
+asked_numbers names new (Sets_node id key value) f g =
+    let all = added (added names key) value in
+    (f.0, number_within all new key g (key_there names key value f.2), number_within all new value g (added_has (added names key) value))
+asked_numbers names new (Unsets_node id key) f g = (f.0, number_within (added names key) new key g (added_has names key))
+asked_numbers names new (Sets_edge id key value) f g =
+    let all = added (added names key) value in
+    (f.0, number_within all new key g (key_there names key value f.2), number_within all new value g (added_has (added names key) value))
+asked_numbers names new (Unsets_edge id key) f g = (f.0, number_within (added names key) new key g (added_has names key))
+
+asked_key : (names new : List (List ℕ)) (asked : WhatByText) → AskedFits asked → Grows (named names asked) new → HasKey new (what_in (named names asked) asked)
+asked_key names new (Plain w) f g = plain_key new w f
+asked_key names new (Sets_node id key value) f g =
+    ap is_key (text_is (added (added names key) value) new key g (key_there names key value f.2)) ∙ f.1
+asked_key names new (Unsets_node id key) f g = ap is_key (text_is (added names key) new key g (added_has names key)) ∙ f.1
+asked_key names new (Sets_edge id key value) f g =
+    ap is_key (text_is (added (added names key) value) new key g (key_there names key value f.2)) ∙ f.1
+asked_key names new (Unsets_edge id key) f g = ap is_key (text_is (added names key) new key g (added_has names key)) ∙ f.1
+
+pub changes_fit : (names new : List (List ℕ)) (lines : List (Option ChangeByText)) → All (λ s. IfSome s SaidFits) lines → Grows (names_after names lines) new
+    → All (λ c. IfSome c (ChangeFits new)) (changes_after names lines)
+changes_fit names new [] f g = All-nil (λ c. IfSome c (ChangeFits new))
+changes_fit names new (None ∷ lines) f g =
+    All-cons (λ c. IfSome c (ChangeFits new)) None (changes_after names lines) tt (changes_fit names new lines (All-tail (λ s. IfSome s SaidFits) None lines f) g)
+changes_fit names new (Some s ∷ lines) f g =
+    let said : SaidFits s = All-head (λ s. IfSome s SaidFits) (Some s) lines f in
+    let more = All-tail (λ s. IfSome s SaidFits) (Some s) lines f in
+    let grown : Grows (named names s.asked) new =
+    grows_both (named names s.asked) (names_after (named names s.asked) lines) new (lines_grow (named names s.asked) lines more) g in
+    All-cons (λ c. IfSome c (ChangeFits new)) (Some (change_with names s)) (changes_after (named names s.asked) lines)
+    (record { time = said.0; numbers = asked_numbers names new s.asked said.1 grown; key = asked_key names new s.asked said.1 grown })
+    (changes_fit (named names s.asked) new lines more g)
+
+-- ---- the ranges that are asked for elsewhere
+
+pub legal_body : (n : ℕ) (b : Body) → BodyFits (λ n. n < 2 ^ 64) n b → FitsBody n b
+legal_body n (body.NodeAdded id) h = h
+legal_body n (body.NodeRemoved id) h = h
+legal_body n (body.EdgeAdded id src dst directed) h = h
+legal_body n (body.EdgeRemoved id src dst directed) h = h
+legal_body n (body.NodeAttr id key old new) h = h
+legal_body n (body.EdgeAttr id key old new) h = h
+
+pub from_legal : (n : ℕ) (b : Body) → FitsBody n b → BodyFits (λ n. n < 2 ^ 64) n b
+from_legal n (body.NodeAdded id) h = h
+from_legal n (body.NodeRemoved id) h = h
+from_legal n (body.EdgeAdded id src dst directed) h = h
+from_legal n (body.EdgeRemoved id src dst directed) h = h
+from_legal n (body.NodeAttr id key old new) h = h
+from_legal n (body.EdgeAttr id key old new) h = h
+
+pub what_spelled : (n : ℕ) (w : What) → n ≤ 2 ^ 30 → WhatFits (λ n. n < 2 ^ 64) n w → WhatNamesFit w
+what_spelled n (what.AddNode id) le h = tt
+what_spelled n (what.RemoveNode id) le h = tt
+what_spelled n (what.AddEdge id src dst directed) le h = tt
+what_spelled n (what.RemoveEdge id) le h = tt
+what_spelled n (what.SetNode id key value) le h = (omega (arith, le, h.1), omega (arith, le, h.2))
+what_spelled n (what.UnsetNode id key) le h = omega (arith, le, h.1)
+what_spelled n (what.SetEdge id key value) le h = (omega (arith, le, h.1), omega (arith, le, h.2))
+what_spelled n (what.UnsetEdge id key) le h = omega (arith, le, h.1)
+
+-- with more names they fit too
+some_more : (n m : ℕ) (o : Option ℕ) → n ≤ m → IfSome o (λ v. v < n) → IfSome o (λ v. v < m)
+some_more n m None le h = tt
+some_more n m (Some v) le h = omega (arith, le, h)
+
+pub body_more : (n m : ℕ) (b : Body) → n ≤ m → FitsBody n b → FitsBody m b
+body_more n m (body.NodeAdded id) le h = h
+body_more n m (body.NodeRemoved id) le h = h
+body_more n m (body.EdgeAdded id src dst directed) le h = h
+body_more n m (body.EdgeRemoved id src dst directed) le h = h
+body_more n m (body.NodeAttr id key old new) le h = (h.0, omega (arith, le, h.1), some_more n m old le h.2, some_more n m new le h.3)
+body_more n m (body.EdgeAttr id key old new) le h = (h.0, omega (arith, le, h.1), some_more n m old le h.2, some_more n m new le h.3)
+
+-- and the keys of old names stay
+key_more : (names more : List (List ℕ)) (key : ℕ) → key < length names → IsTrue (is_key (name_text names key)) → IsTrue (is_key (name_text (names ++ more) key))
+key_more names more key lt h = subst (λ (t : List ℕ). IsTrue (is_key t)) (sym (get_or_append_left names more [] key lt)) h
+
+pub has_key_more : (names more : List (List ℕ)) (b : Body) → FitsBody (length names) b → IsTrue (has_key names b) → IsTrue (has_key (names ++ more) b)
+has_key_more names more (body.NodeAdded id) f h = h
+has_key_more names more (body.NodeRemoved id) f h = h
+has_key_more names more (body.EdgeAdded id src dst directed) f h = h
+has_key_more names more (body.EdgeRemoved id src dst directed) f h = h
+has_key_more names more (body.NodeAttr id key old new) f h = key_more names more key f.1 h
+has_key_more names more (body.EdgeAttr id key old new) f h = key_more names more key f.1 h

@@ -1,0 +1,9 @@
+pub mod BatchLineCollection
+pub mod PlanLineCollection
+pub mod CompletedChanges
+pub mod NamesAfter
+pub mod ChangeGrammarRanges
+pub mod LegalHistoryRanges
+pub mod LegalHistory
+pub mod HeldIndexNodes
+pub mod GeneratedChangeRanges

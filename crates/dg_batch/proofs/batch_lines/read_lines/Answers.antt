@@ -1,0 +1,59 @@
+use Rattle.std.proofs.Common.{arith}
+use Rattle.dg_io.specs.LinesState.{told}
+use Rattle.dg_io.proofs.FrameLemmas.{advances_both}
+use Rattle.dg_batch.proofs.BatchLineCollection.{gathering_kept, gathering_passed, kept_twice}
+use Rattle.dg_batch.proofs.batch_lines.read_lines.Goals as goal
+use Rattle.dg_batch.proofs.batch_lines.read_lines.Goals.{else-loop-read-test, then-loop-read-test+in_ok-line+then-is_end}
+
+pub returns-in_err-line-clause-advances : goal.returns-in_err-line-clause-advances
+returns-in_err-line-clause-advances g c =
+    advances_both c.args.lines.now c.loop-read.lines c.next_line.new.lines
+    (g.S.Source.left c.args.source.now) (g.S.Source.left c.loop-read.source) (g.S.Source.left c.next_line.new.source)
+    (g.S.Source.faults c.args.source.now) (g.S.Source.faults c.loop-read.source) (g.S.Source.faults c.next_line.new.source)
+    c.loop-read.invariant.advances c.next_line.ensures.advances
+
+pub loop-read-preserved-then-is_whole : goal.loop-read-preserved-then-is_whole
+loop-read-preserved-then-is_whole g c = record {
+  gathering =
+      gathering_kept (told c.args.lines.now (g.S.Source.left c.args.source.now)) (told c.loop-read.lines (g.S.Source.left c.loop-read.source)) (told c.next_line.new.lines (g.S.Source.left c.next_line.new.source))
+      c.loop-read.read c.loop-read.front c.keep_change-front.result c.args.names.now c.loop-read.names c.keep_change-front.new.names c.loop-read.changes.items c.keep_change-front.new.changes.items
+      c.in_ok-line.line c.text.result.now c.next_line.new.lines.text c.loop-read.invariant.gathering (c.is_whole.ensures.whole c.if-is_whole.true) (c.is_end.ensures.more c.if-is_end.false)
+      c.in_ok-line.ensures.comes c.text.ensures c.keep_change-front.ensures.keeps;
+  advances =
+      advances_both c.args.lines.now c.loop-read.lines c.next_line.new.lines
+      (g.S.Source.left c.args.source.now) (g.S.Source.left c.loop-read.source) (g.S.Source.left c.next_line.new.source)
+      (g.S.Source.faults c.args.source.now) (g.S.Source.faults c.loop-read.source) (g.S.Source.faults c.next_line.new.source)
+      c.loop-read.invariant.advances c.next_line.ensures.advances;
+  bound = omega arith;
+  most = omega arith;
+  kept = kept_twice c.args.names.now c.loop-read.names c.keep_change-front.new.names c.loop-read.invariant.kept c.keep_change-front.ensures.kept;
+  room = λ h. omega (arith, c.loop-read.invariant.room (c.is_whole.ensures.whole c.if-is_whole.true), c.keep_change-front.ensures.few);
+}
+
+pub loop-read-preserved : goal.loop-read-preserved
+loop-read-preserved g c = record {
+  gathering =
+      gathering_passed (told c.args.lines.now (g.S.Source.left c.args.source.now)) (told c.loop-read.lines (g.S.Source.left c.loop-read.source)) (told c.next_line.new.lines (g.S.Source.left c.next_line.new.source))
+      c.loop-read.read c.loop-read.front c.args.names.now c.loop-read.names c.loop-read.changes.items c.in_ok-line.line c.next_line.new.lines.text c.loop-read.invariant.gathering
+      (c.is_whole.ensures.other c.if-is_whole.false) (c.is_end.ensures.more c.if-is_end.false) c.in_ok-line.ensures.comes;
+  advances =
+      advances_both c.args.lines.now c.loop-read.lines c.next_line.new.lines
+      (g.S.Source.left c.args.source.now) (g.S.Source.left c.loop-read.source) (g.S.Source.left c.next_line.new.source)
+      (g.S.Source.faults c.args.source.now) (g.S.Source.faults c.loop-read.source) (g.S.Source.faults c.next_line.new.source)
+      c.loop-read.invariant.advances c.next_line.ensures.advances;
+  bound = omega arith;
+  most = omega arith;
+  kept = c.loop-read.invariant.kept;
+  room = λ h. absurd (c.is_whole.ensures.other c.if-is_whole.false h);
+}
+
+pub returns-clause-advances : goal.returns-clause-advances
+returns-clause-advances g c =
+    elim c.loop-read-test.branch [
+      | else-loop-read-test w ↦ rw (w.lines-is, w.source-is) c.loop-read.invariant.advances
+      | then-loop-read-test+in_ok-line+then-is_end w ↦ rw (w.lines-is, w.source-is)
+          (advances_both c.args.lines.now c.loop-read.lines w.next_line.new.lines
+          (g.S.Source.left c.args.source.now) (g.S.Source.left c.loop-read.source) (g.S.Source.left w.next_line.new.source)
+          (g.S.Source.faults c.args.source.now) (g.S.Source.faults c.loop-read.source) (g.S.Source.faults w.next_line.new.source)
+          c.loop-read.invariant.advances w.next_line.ensures.advances)
+    ]

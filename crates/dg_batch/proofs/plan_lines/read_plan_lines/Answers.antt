@@ -1,0 +1,54 @@
+use Rattle.std.proofs.Common.{sym, ◌∙◌, arith}
+use Rattle.std.proofs.lemmas.Bool.{false≢true}
+use Rattle.dg_io.specs.LinesState.{told}
+use Rattle.dg_io.proofs.FrameLemmas.{advances_both}
+use Rattle.dg_batch.proofs.PlanLineCollection.{gathering_kept, gathering_passed}
+use Rattle.dg_batch.proofs.plan_lines.read_plan_lines.Goals as goal
+use Rattle.dg_batch.proofs.plan_lines.read_plan_lines.Goals.{else-loop-read-test, then-loop-read-test+in_ok-line+then-is_end}
+
+pub returns-in_err-line-clause-advances : goal.returns-in_err-line-clause-advances
+returns-in_err-line-clause-advances g c =
+    advances_both c.args.lines.now c.loop-read.lines c.next_line.new.lines
+    (g.S.Source.left c.args.source.now) (g.S.Source.left c.loop-read.source) (g.S.Source.left c.next_line.new.source)
+    (g.S.Source.faults c.args.source.now) (g.S.Source.faults c.loop-read.source) (g.S.Source.faults c.next_line.new.source)
+    c.loop-read.invariant.advances c.next_line.ensures.advances
+
+pub loop-read-preserved-then-is_whole : goal.loop-read-preserved-then-is_whole
+loop-read-preserved-then-is_whole g c = record {
+  gathering =
+      gathering_kept (told c.args.lines.now (g.S.Source.left c.args.source.now)) (told c.loop-read.lines (g.S.Source.left c.loop-read.source)) (told c.next_line.new.lines (g.S.Source.left c.next_line.new.source))
+      c.loop-read.read c.loop-read.is_whole c.keep_line-is_whole.result c.loop-read.said.items c.keep_line-is_whole.new.said.items
+      c.in_ok-line.line c.text.result.now c.next_line.new.lines.text c.loop-read.invariant.gathering c.if-is_whole.true (c.is_end.ensures.more c.if-is_end.false)
+      c.in_ok-line.ensures.comes c.text.ensures c.keep_line-is_whole.ensures;
+  advances =
+      advances_both c.args.lines.now c.loop-read.lines c.next_line.new.lines
+      (g.S.Source.left c.args.source.now) (g.S.Source.left c.loop-read.source) (g.S.Source.left c.next_line.new.source)
+      (g.S.Source.faults c.args.source.now) (g.S.Source.faults c.loop-read.source) (g.S.Source.faults c.next_line.new.source)
+      c.loop-read.invariant.advances c.next_line.ensures.advances;
+  most = omega arith;
+}
+
+pub loop-read-preserved : goal.loop-read-preserved
+loop-read-preserved g c = record {
+  gathering =
+      gathering_passed (told c.args.lines.now (g.S.Source.left c.args.source.now)) (told c.loop-read.lines (g.S.Source.left c.loop-read.source)) (told c.next_line.new.lines (g.S.Source.left c.next_line.new.source))
+      c.loop-read.read c.loop-read.is_whole c.loop-read.said.items c.in_ok-line.line c.next_line.new.lines.text c.loop-read.invariant.gathering
+      (λ h. false≢true (sym c.if-is_whole.false ∙ h)) (c.is_end.ensures.more c.if-is_end.false) c.in_ok-line.ensures.comes;
+  advances =
+      advances_both c.args.lines.now c.loop-read.lines c.next_line.new.lines
+      (g.S.Source.left c.args.source.now) (g.S.Source.left c.loop-read.source) (g.S.Source.left c.next_line.new.source)
+      (g.S.Source.faults c.args.source.now) (g.S.Source.faults c.loop-read.source) (g.S.Source.faults c.next_line.new.source)
+      c.loop-read.invariant.advances c.next_line.ensures.advances;
+  most = omega arith;
+}
+
+pub returns-clause-advances : goal.returns-clause-advances
+returns-clause-advances g c =
+    elim c.loop-read-test.branch [
+      | else-loop-read-test w ↦ rw (w.lines-is, w.source-is) c.loop-read.invariant.advances
+      | then-loop-read-test+in_ok-line+then-is_end w ↦ rw (w.lines-is, w.source-is)
+          (advances_both c.args.lines.now c.loop-read.lines w.next_line.new.lines
+          (g.S.Source.left c.args.source.now) (g.S.Source.left c.loop-read.source) (g.S.Source.left w.next_line.new.source)
+          (g.S.Source.faults c.args.source.now) (g.S.Source.faults c.loop-read.source) (g.S.Source.faults w.next_line.new.source)
+          c.loop-read.invariant.advances w.next_line.ensures.advances)
+    ]

@@ -1,0 +1,5 @@
+pub mod BatchLines
+pub mod GeneratedBatch
+pub mod Halt
+pub mod PlanLines
+pub mod HandlesStay

@@ -1,5 +1,0 @@
-use Rattle.std.proofs.Common.{◌≡◌, ◌*◌, ◌^◌}
-use Rattle.dg_session.proofs.plans.have_leaves.Given as goal
-
-abbrev pub invariant-loop : goal.invariant-loop
-invariant-loop l = l.width ≡ l.count * l.arity ^ l.counter
