@@ -5,7 +5,7 @@ use Rattle.std.specs.List.{All}
 use Rattle.std.proofs.lemmas.List.{take-append-drop}
 use Rattle.dg_append.proofs.BatchSegmentIndex.{new_counted, new_fit, new_goes_on, new_names, new_total}
 use Rattle.dg_append.proofs.FrontEvents.{IsPrepared, come_whole, comes_to_segment}
-use Rattle.dg_append.specs.AddedBatches.{AddsBatch, ComesToSegment, IndexStays, batch_with, FailsBatch, IsOverHistory, IsReady, IsSegmentOver, ReadsNothing, TakesOlder, recent_behind}
+use Rattle.dg_append.specs.AddedBatches.{AddsBatch, ComesToSegment, IndexStays, batch_with, FailsBatch, IsOverHistory, IsReady, IsSegmentOver, MeetsNoDamage, ReadsNothing, TakesOlder, recent_behind}
 use Rattle.dg_append.specs.BatchSegments.{IsBuiltOver, IsSegmentBehind, KeepsBatch, MayFollow, OverfillsFile, StandsForKept, StopsBatch, StopsKeeping, StopsSegment, TakesSinglesOver}
 use Rattle.dg_append.specs.declared.batch.AddedBatch.{AddedBatch}
 use Rattle.dg_append.specs.declared.fault.BatchFault.{BatchFault}
@@ -64,6 +64,10 @@ module _ (o : Opening) (known : ℕ) (h : StoredHistory) (graph : List Element) 
   takes_over (Some image) count taken then_taken many most = λ z over singles are.
       most z (stands_for z image over) singles
       (subst (λ n. AreSingles (arcs_of (record_edges o)) (Root ∷ []) (older_children o n) singles) (sym (ap length given_is ∙ many)) are)
+
+  -- a batch of so many events meets no damage where one of these meets none
+  pub whole_over : (before : Option (List ℕ)) (count : ℕ) → length events ≡ count → MeetsNoDamage before o known (length given) → MeetsNoDamage before o known count
+  whole_over before count many whole = subst (λ n. MeetsNoDamage before o known n) (ap length given_is ∙ many) whole
 
   comes : (before : Option (List ℕ)) (front : Front) (changes : List Change) (s : Segment) → IsPrepared o known h front changes events
       → IsBuiltOver before o known h.names graph recent given s → ComesToSegment o known h before changes front events s

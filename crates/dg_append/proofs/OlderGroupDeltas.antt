@@ -1,7 +1,8 @@
 -- The deltas that a batch gives, among the keys of its segment.
-use Rattle.std.proofs.Common.{◌≡◌, ℕ, ◌+◌, ◌-◌, ◌<◌, List as ListOf, [], ◌∷◌, ◌++◌, length, get_or, sym, ap, ◌∙◌, arith, length-append}
+use Rattle.std.proofs.Common.{◌≡◌, ℕ, ◌+◌, ◌-◌, ◌<◌, List as ListOf, [], ◌∷◌, ◌++◌, Some, length, get_or, slice_get, refl, sym, ap, ◌∙◌, arith, length-append}
 use Rattle.std.proofs.lemmas.List.{get_or_append_left, get_or-append-add, length-map}
-use Rattle.dg_append.specs.OlderGroups.{IsDueDelta, leaves_after, leaves_before}
+use Rattle.std.proofs.lemmas.Option.{slice_get_read}
+use Rattle.dg_append.specs.OlderGroups.{leaves_after, leaves_before}
 use Rattle.dg_history.specs.declared.node.Key.{Key}
 use Rattle.dg_history.specs.declared.node.Key.TheVariants as key
 use Rattle.dg_history.specs.declared.params.Params.{Params}
@@ -39,12 +40,10 @@ module _ (o : Opening) (count delta_index : ℕ) (within : delta_index < length 
         length-append (deltas_due o.params.k (leaves_before o) (leaves_after o count)) (key.Piece 0 ∷ []),
       )
 
-  -- and the key there is that of a delta
-  pub delta_there : (x : Key) → x ≡ get_or keys (after_leaves - before_leaves + delta_index) x → IsDueDelta o count x
-  delta_there x is = (
-    delta_index,
-    within,
-    sym (is ∙ (λ i. get_or (keys_are i) (first i + delta_index) x)
-        ∙ get_or-append-add (lists_due o.params (event_total o.batches) (event_total o.batches + count)) (deltas_due o.params.k (leaves_before o) (leaves_after o count) ++ key.Piece 0 ∷ []) delta_index x
-        ∙ get_or_append_left (deltas_due o.params.k (leaves_before o) (leaves_after o count)) (key.Piece 0 ∷ []) x delta_index within),
-  )
+  -- and the key there is that of the delta with this index
+  pub delta_there : (x : Key) → x ≡ get_or keys (after_leaves - before_leaves + delta_index) x → slice_get (deltas_due o.params.k (leaves_before o) (leaves_after o count)) delta_index ≡ Some x
+  delta_there x is =
+      slice_get_read (deltas_due o.params.k (leaves_before o) (leaves_after o count)) (length (deltas_due o.params.k (leaves_before o) (leaves_after o count))) delta_index x refl within
+      (is ∙ (λ i. get_or (keys_are i) (first i + delta_index) x)
+      ∙ get_or-append-add (lists_due o.params (event_total o.batches) (event_total o.batches + count)) (deltas_due o.params.k (leaves_before o) (leaves_after o count) ++ key.Piece 0 ∷ []) delta_index x
+      ∙ get_or_append_left (deltas_due o.params.k (leaves_before o) (leaves_after o count)) (key.Piece 0 ∷ []) x delta_index within)

@@ -7,7 +7,7 @@ use Rattle.dg_append.specs.declared.fault.BatchFault.TheVariants as fault
 use Rattle.dg_append.specs.declared.front.Front.{Front}
 use Rattle.dg_append.specs.declared.front.Front.TheVariants.{Whole}
 use Rattle.dg_append.specs.Fronts.{ComeTo}
-use Rattle.dg_append.specs.OlderGroups.{IsBatchDamage, older_children}
+use Rattle.dg_append.specs.OlderGroups.{AreUndamaged, IsBatchDamage, in_groups, older_children}
 use Rattle.dg_file.specs.Images.{BothTold, GainsBatch, GainsBatchOrNot}
 use Rattle.dg_fold.specs.BytesRead.{TakesAtMost}
 use Rattle.dg_graph.specs.declared.element.Column.{Column}
@@ -167,6 +167,13 @@ IndexStays fault.Store old new = Unit {0}
 -- while a batch is tried, only what is pending may change, and after a failure of a write or sync the index is unknown
 abbrev pub LeavesHistory : BatchFault → StoredHistory → StoredHistory → Type 0
 LeavesHistory f old new = (new.now.graph ≡ old.now.graph) × (new.names ≡ old.names) × (new.recent.items ≡ old.recent.items) × IndexStays f old new
+
+-- ---- the older children
+
+-- Where the image is told, the trees of the older children of the interior nodes that a batch of so many events completes
+-- enter no damaged column.
+abbrev pub MeetsNoDamage : Option (List ℕ) → Opening → ℕ → ℕ → Type 0
+MeetsNoDamage before o known count = IfSome before (λ image. AreUndamaged known o image (in_groups (older_children o count)))
 
 -- ---- the bytes read
 

@@ -61,7 +61,7 @@ abbrev pub IsDueDelta : Opening → ℕ → Key → Type 0
 IsDueDelta o count key = Contains (deltas_due o.params.k (leaves_before o) (leaves_after o count)) key
 
 -- Why a batch of so many events names this column as damaged: it is the first that the trees of the older children
--- enter; or all these are whole, and the delta of this key is due and has a set that its column cannot count.
+-- enter; or all these are whole, and it is the structure of a delta that is due.
 abbrev pub IsBatchDamage : ℕ → Opening → ListOf ℕ → ℕ → Key → Column → Type 0
 IsBatchDamage names o image count key col =
     IsDamageOfGroups names o image (in_groups (older_children o count)) key col

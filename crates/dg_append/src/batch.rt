@@ -1,7 +1,7 @@
 //! Adding the next batch to a history: in the file, and in memory.
 
 ghost use Rattle.std.specs.Prelude.{◌≡◌, ◌≤◌, ◌<◌, ◌^◌, List, true, IfOk, IfErr, IfSome, IsErrOf, is_some, length, take, OnErr, OnOk, ℕ};
-ghost use Rattle.dg_append.specs.AddedBatches.{AddsBatch, FailsBatch, IsBack, IsReady, LeavesHistory, ReadsNothing, TakesOlder};
+ghost use Rattle.dg_append.specs.AddedBatches.{AddsBatch, FailsBatch, IsBack, IsReady, LeavesHistory, MeetsNoDamage, ReadsNothing, TakesOlder};
 ghost use Rattle.dg_append.specs.Faults.{OnlyReadFailed};
 ghost use Rattle.dg_disk.specs.Counts.{Rose};
 ghost use Rattle.dg_disk.specs.Frame.{GoesOn};
@@ -70,6 +70,7 @@ fn try_batch<R: Threads, D: Disk>(
     // what is added, or why nothing is
     ensures adds { IfOk result (λ added. IfSome (index_opening history.old.index) (λ o.
         AddsBatch o limit known history.old history.new (D.image disk.old) (D.image disk.new) changes.items front added)) }
+    ensures whole { OnOk result (IfSome (index_opening history.old.index) (λ o. MeetsNoDamage (D.image disk.old) o known (length changes.items))) }
     ensures sound { OnOk result (IsSoundHistory (index_opening history.new.index) history.new.names history.new.now history.new.recent.items) }
     ensures fails { IfErr result (λ fault. IfSome (index_opening history.old.index) (λ o.
         FailsBatch o limit known history.old (D.image disk.old) (D.image disk.new) changes.items front fault)) }
@@ -154,6 +155,7 @@ pub fn add_batch<R: Threads, D: Disk>(
     // what is added, or why nothing is
     ensures adds { IfOk result (λ added. IfSome (index_opening history.old.index) (λ o.
         AddsBatch o limit known history.old history.new (D.image disk.old) (D.image disk.new) changes.items front added)) }
+    ensures whole { OnOk result (IfSome (index_opening history.old.index) (λ o. MeetsNoDamage (D.image disk.old) o known (length changes.items))) }
     ensures fails { IfErr result (λ fault. IfSome (index_opening history.old.index) (λ o.
         FailsBatch o limit known history.old (D.image disk.old) (D.image disk.new) changes.items front fault)) }
     ensures back { IfErr result (λ fault. IsBack fault known history.old history.new) }

@@ -2,7 +2,7 @@
 
 ghost use Rattle.std.specs.Prelude.{◌≡◌, ◌≤◌, true, List, Some, length, take, drop, IfOk, IfErr, IfSome, IsErrOf, OnErr, OnOk, ℕ};
 ghost use Rattle.std.specs.List.{All};
-ghost use Rattle.dg_append.specs.AddedBatches.{recent_behind};
+ghost use Rattle.dg_append.specs.AddedBatches.{MeetsNoDamage, recent_behind};
 ghost use Rattle.dg_append.specs.BatchNets.{led_by};
 ghost use Rattle.dg_append.specs.BatchSegments.{IsBuiltOver, IsSegmentBehind, KeepsBatch, MayFollow, StopsBatch, StopsSegment, TakesSinglesOver};
 ghost use Rattle.dg_append.specs.Faults.{OnlyReadFailed};
@@ -69,6 +69,7 @@ fn make_batch<R: Threads, D: Disk>(
     ensures left { IfOk result (λ made. made.left.items ≡ recent_behind index.old.opening.params (event_total index.old.opening.batches) recent.now events.now) }
     ensures behind { IfOk result (λ made. IsSegmentBehind index.old.opening (drop known names.now) recent.now events.now made.segment) }
     ensures built { IfOk result (λ made. IsBuiltOver (D.image disk.old) index.old.opening known names.now (graph_now pool.old) recent.now events.now made.segment) }
+    ensures whole { OnOk result (MeetsNoDamage (D.image disk.old) index.old.opening known (length events.now)) }
     ensures earlier { IfOk result (λ made. AllHave pool.new.rows made.nets.earlier.plus) }
     ensures later { IfOk result (λ made. AllHave pool.new.rows made.nets.later.plus) }
     ensures leads { IfOk result (λ made. (set : List Element) → IsSet set → led_by made.nets.earlier made.nets.later set ≡ replay_from set events.now) }
@@ -130,6 +131,7 @@ pub(crate) fn keep_batch<R: Threads, D: Disk>(
     // what is kept
     ensures kept { OnOk result (KeepsBatch limit known index.old.opening index.new.opening names.now (graph_now pool.old) recent.now events.now (D.image disk.old) (D.image disk.new)) }
     ensures left { IfOk result (λ left. left.items ≡ recent_behind index.old.opening.params (event_total index.old.opening.batches) recent.now events.now) }
+    ensures whole { OnOk result (MeetsNoDamage (D.image disk.old) index.old.opening known (length events.now)) }
 
     // the pool
     ensures passed { OnOk result (graph_now pool.new ≡ replay_from (graph_now pool.old) events.now) }

@@ -2,7 +2,7 @@
 
 ghost use Rattle.std.specs.Prelude.{◌≡◌, ◌≤◌, ◌+◌, ◌++◌, ◌∷◌, [], ℕ, List, length, take, drop, IfOk, IfErr, IfSome, IsErrOf, OnOk};
 ghost use Rattle.std.specs.List.{All, sum};
-ghost use Rattle.dg_append.specs.AddedBatches.{batch_with};
+ghost use Rattle.dg_append.specs.AddedBatches.{MeetsNoDamage, batch_with};
 ghost use Rattle.dg_append.specs.BatchSegments.{IsSegmentBehind, StandsForKept, StopsSegment};
 ghost use Rattle.dg_append.specs.OlderGroups.{older_children};
 ghost use Rattle.dg_build.specs.SpelledRecords.{RisesFrom};
@@ -64,6 +64,7 @@ pub(crate) fn make_segment<R: Threads, D: Disk>(
     ensures behind { IfOk result (λ s. IsSegmentBehind index.old.opening (drop known names.now) recent.now events.now s) }
     ensures is { IfOk result (λ s. IfSome (D.image disk.old) (λ image. (z : History) → StandsForKept z image index.old.opening known names.now (graph_now pool.now) recent.now
         → s ≡ segment_of z.params (events_of z) (batch_with known names.now events.now))) }
+    ensures whole { OnOk result (MeetsNoDamage (D.image disk.old) index.old.opening known (length events.now)) }
 
     // the bytes read, over an image of a history: at most those of the single plans
     ensures most { IfSome (D.image disk.old) (λ image. (z : History) → StandsForKept z image index.old.opening known names.now (graph_now pool.now) recent.now

@@ -1,3 +1,5 @@
+//! How far the changes of a batch's lines are kept.
+
 /// How far the changes of a batch's lines are kept.
 #[derive(Clone, Copy)]
 pub enum Front {

@@ -1,10 +1,10 @@
 //! The segment of a batch: it is made, and put into the index file.
 
-ghost use Rattle.std.specs.Prelude.{◌≡◌, ◌≤◌, ◌<◌, ◌+◌, ◌/◌, ◌++◌, List, [], length, drop, IfOk, IfErr, IfSome, IsErrOf, OnOk};
+ghost use Rattle.std.specs.Prelude.{◌≡◌, ◌≤◌, ◌<◌, ◌+◌, ◌/◌, ◌++◌, List, [], Some, length, drop, slice_get, IfOk, IfErr, IfSome, IsErrOf, OnOk};
 ghost use Rattle.std.specs.List.{All};
 ghost use Rattle.dg_append.specs.AddedBatches.{batch_with};
 ghost use Rattle.dg_append.specs.BatchSegments.{IsPast, IsSegmentBehind, IsUnmade, StopsKeeping};
-ghost use Rattle.dg_append.specs.OlderGroups.{IsDueDelta, leaves_after, leaves_before, older_children};
+ghost use Rattle.dg_append.specs.OlderGroups.{leaves_after, leaves_before, older_children};
 ghost use Rattle.dg_build.specs.SpelledRecords.{RisesFrom};
 ghost use Rattle.dg_columns.specs.NamesInRange.{NamesFit};
 ghost use Rattle.dg_disk.specs.Counts.{Rose};
@@ -93,7 +93,7 @@ fn delta_key(
 ) -> Result<Key, AllocError>
     requires few { event_total index.now.opening.batches + count ≤ EVENTS_MAX }
     requires delta_index { delta_index < length (deltas_due index.now.opening.params.k (leaves_before index.now.opening) (leaves_after index.now.opening count)) }
-    ensures { IfOk result (λ key. IsDueDelta index.now.opening count key) }
+    ensures { IfOk result (λ key. slice_get (deltas_due index.now.opening.params.k (leaves_before index.now.opening) (leaves_after index.now.opening count)) delta_index ≡ Some key) }
 {
     index.facts();
     let params = index.params();

@@ -1,7 +1,7 @@
 use Rattle.std.proofs.Common.{◌≡◌, ◌+◌, ◌∙◌, List, Some, length, take, refl, sym, ap, subst}
 use Rattle.std.specs.Prelude.{IfSome}
 use Rattle.std.specs.List.{All}
-use Rattle.dg_append.proofs.AddedBatchOutcomes.{IsAdded, added_is, added_kept, batch_added, batch_adds, behind_kept, comes_kept, err_is, index_stays, not_added, nothing_read, sound_after, takes_over, total_kept}
+use Rattle.dg_append.proofs.AddedBatchOutcomes.{IsAdded, added_is, added_kept, batch_added, batch_adds, behind_kept, comes_kept, err_is, index_stays, not_added, nothing_read, sound_after, takes_over, total_kept, whole_over}
 use Rattle.dg_append.proofs.FrontEvents.{IsPrepared, here, is_prepared, of_here}
 use Rattle.dg_append.proofs.batch.try_batch.Goals as goal
 use Rattle.dg_append.specs.AddedBatches.{IsReady, LeavesHistory, ReadsNothing}
@@ -80,6 +80,19 @@ returns-clause-takes g c =
     here (index_opening h.index) o _ is
     (takes_over o c.args.known h (graph_now c.args.pool.now) c.deref.result.now c.pending-events.result.now events c.requires.pool c.deref.ensures.value c.pending-events.ensures
     (g.D.Disk.image c.args.disk.now) (length c.args.changes.items) (g.D.Disk.taken c.args.disk.now) (g.D.Disk.taken c.keep_batch.new.disk) p.many c.keep_batch.ensures.most)
+
+pub returns-clause-whole : goal.returns-clause-whole
+returns-clause-whole g c =
+    let o : Opening = c.in-Some.index.opening in
+    let h : StoredHistory = c.args.history.now in
+    let is : index_opening h.index ≡ Some o = ap index_opening c.in-Some.is in
+    let ready : IsReady o c.args.known h c.args.front c.args.changes.items = of_here (index_opening h.index) o (λ o. IsReady o c.args.known h c.args.front c.args.changes.items) is c.requires.ready in
+    let events : List Event = c.prepare.new.now.pending in
+    let p : IsPrepared o c.args.known h c.args.front c.args.changes.items events =
+    is_prepared o c.args.known h c.args.front c.args.changes.items events c.last_of-last.result c.facts.ensures.parameters ready c.facts-2.ensures c.in_ok-prepare.ensures.whole c.last_of-last.ensures.last c.in_ok-prepare.ensures.done in
+    here (index_opening h.index) o _ is
+    (whole_over o c.args.known h (graph_now c.args.pool.now) c.deref.result.now c.pending-events.result.now events c.requires.pool c.deref.ensures.value c.pending-events.ensures
+    (g.D.Disk.image c.args.disk.now) (length c.args.changes.items) p.many c.in_ok-left.ensures.whole)
 
 pub returns-clause-sound : goal.returns-clause-sound
 returns-clause-sound g c =
