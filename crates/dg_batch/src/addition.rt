@@ -1,7 +1,7 @@
 //! Adding a batch to the history of a session, under the graphs of its handles.
 
 ghost use Rattle.std.specs.Prelude.{◌≡◌, ◌≤◌, ◌<◌, ℕ, true, IfErr, IfOk, IfSome, IsErrOf, OnOk, is_some, length, take};
-ghost use Rattle.dg_append.specs.AddedBatches.{AddsBatch, FailsBatch, IsBack, IsReady, ReadsNothing, TakesOlder};
+ghost use Rattle.dg_append.specs.AddedBatches.{AddsBatch, FailsBatch, IsBack, IsReady, MeetsNoDamage, ReadsNothing, TakesOlder};
 ghost use Rattle.dg_append.specs.Faults.{OnlyReadFailed};
 ghost use Rattle.dg_disk.specs.Counts.{Rose};
 ghost use Rattle.dg_disk.specs.Frame.{GoesOn};
@@ -57,6 +57,8 @@ pub fn add_changes<R: Threads, D: Disk>(
         FailsBatch o limit known history.old (D.image disk.old) (D.image disk.new) batch.changes.items batch.front fault)) }
     ensures back { IfErr result (λ fault. IsBack fault known history.old history.new) }
     ensures sound { IsSoundHistory (index_opening history.new.index) history.new.names history.new.now history.new.recent.items }
+    ensures whole { OnOk result (IfSome (index_opening history.old.index) (λ o.
+        MeetsNoDamage (D.image disk.old) o known (length batch.changes.items))) }
 
     // the pool and the handles
     ensures pool { graph_now pool.new ≡ history.new.now.graph }

@@ -1,3 +1,4 @@
+//! The lines of a batch, with their changes up to the first line that is none.
 ghost use Rattle.std.specs.Prelude.{◌≡◌, ◌≢◌, ◌+◌, ◌*◌, ◌≤◌, List, true, false, take, length, IfOk, IsErrOf, vec_len};
 ghost use Rattle.dg_io.specs.Told.{CountRose};
 ghost use Rattle.dg_io.specs.LinesState.{told, LineComes, NeedsByte, to_come};

@@ -1,3 +1,4 @@
+//! Why a step ends before its command is answered.
 ghost use Rattle.std.specs.Prelude.{◌≡◌};
 ghost use Rattle.dg_batch.specs.BatchLines.{stop_of};
 

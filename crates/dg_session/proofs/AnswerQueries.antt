@@ -1,5 +1,6 @@
 -- What each command asks of a handle's graph.
-use Rattle.std.proofs.Common.{◌≡◌, ℕ, Bool, true, false, cond, map, refl}
+use Rattle.std.proofs.Common.{◌≡◌, ℕ, Bool, true, false, List, cond, map, refl}
+use Rattle.dg_graph.specs.declared.element.Element.{Element}
 use Rattle.dg_graph.specs.declared.element.Element.TheVariants as element
 use Rattle.dg_graph.specs.Elements.{has}
 use Rattle.dg_machine.specs.declared.command.Command.TheVariants as command
@@ -10,27 +11,30 @@ use Rattle.dg_machine.specs.declared.reply.Reply.{Reply}
 use Rattle.dg_machine.specs.Answer.{counting, headed, is_refusal, listing, neighbours_reply, node_reply}
 use Rattle.dg_query.specs.Queries.{degree_of, values_of}
 use Rattle.dg_session.proofs.SessionQueryStep.{Asks}
+use Rattle.dg_session.specs.Decided.{Fits}
 
 pub list_asks : (handle : ℕ) → Asks (command.Ask handle query.List) handle false (listing handle)
-list_asks handle = record { unplanned = λ m. refl; needed = λ p. refl; due = λ m. refl; accepts = λ g. refl }
+list_asks handle = record { unplanned = λ m. refl; needed = λ p. refl; due = λ m. refl; accepts = λ g. refl; fits = λ g. refl }
 
 pub counts_asks : (handle : ℕ) → Asks (command.Ask handle query.Counts) handle false (counting handle)
-counts_asks handle = record { unplanned = λ m. refl; needed = λ p. refl; due = λ m. refl; accepts = λ g. refl }
+counts_asks handle = record { unplanned = λ m. refl; needed = λ p. refl; due = λ m. refl; accepts = λ g. refl; fits = λ g. refl }
 
--- of two replies, neither of which is a refusal, one is none
-either : (b : Bool) (x y : Reply) → is_refusal x.head ≡ false → is_refusal y.head ≡ false → is_refusal (cond b x y).head ≡ false
-either true x y p q = p
-either false x y p q = q
+-- what holds of two replies holds of one of them
+either : (P : Reply → Type 0) (b : Bool) (x y : Reply) → P x → P y → P (cond b x y)
+either P true x y p q = p
+either P false x y p q = q
 
 pub node_asks : (handle id : ℕ) → Asks (command.Ask handle (query.Node id)) handle true (node_reply handle id)
 node_asks handle id = record {
   unplanned = λ m. refl;
   needed = λ p. refl;
   due = λ m. refl;
-  accepts = λ g.
-      either (has g (element.Node id)) (record { head = head.NodeThere handle id (degree_of g id); body = map (λ v. line.Attribute v) (values_of g id) })
-      (headed (head.NodeAbsent handle id)) refl refl;
+  accepts = λ g. either (λ r. is_refusal r.head ≡ false) (has g (element.Node id)) (there g) (headed (head.NodeAbsent handle id)) refl refl;
+  fits = λ g. either (λ r. Fits (command.Ask handle (query.Node id)) r.head) (has g (element.Node id)) (there g) (headed (head.NodeAbsent handle id)) (refl, refl) (refl, refl);
 }
+  where
+    there : List Element → Reply
+    there g = record { head = head.NodeThere handle id (degree_of g id); body = map (λ v. line.Attribute v) (values_of g id) }
 
 pub neighbours_asks : (handle id : ℕ) → Asks (command.Ask handle (query.Neighbours id)) handle true (neighbours_reply handle id)
-neighbours_asks handle id = record { unplanned = λ m. refl; needed = λ p. refl; due = λ m. refl; accepts = λ g. refl }
+neighbours_asks handle id = record { unplanned = λ m. refl; needed = λ p. refl; due = λ m. refl; accepts = λ g. refl; fits = λ g. (refl, refl) }

@@ -1,5 +1,6 @@
 -- What adds a batch: a command with the lines that follow it, or one with a seed.
 use Rattle.std.proofs.Common.{◌≡◌, ℕ, ◌≤◌, true, false, List, Option, Result, map, refl}
+use Rattle.std.specs.Prelude.{◌&&◌}
 use Rattle.dg_graph.specs.declared.element.Element.{Element}
 use Rattle.dg_graph.specs.Lines.{ScriptLine}
 use Rattle.dg_history.specs.ChangeGrammar.{ChangeByText, change_by_text_in}
@@ -19,6 +20,7 @@ use Rattle.dg_batch.proofs.ChangeGrammarRanges.{lines_fit}
 use Rattle.dg_batch.proofs.GeneratedChangeRanges.{generated_fit}
 use Rattle.dg_batch.proofs.LegalHistory.{AskedFit}
 use Rattle.dg_session.specs.BatchCommand.{command_with, batch_head}
+use Rattle.dg_session.specs.Decided.{Fits}
 use Rattle.dg_session.specs.declared.batch_command.BatchCommand.{BatchCommand}
 use Rattle.dg_session.specs.declared.batch_command.BatchCommand.TheVariants.{Load, Append}
 
@@ -58,6 +60,11 @@ unplanned (Lines_of Load) m count = refl
 unplanned (Lines_of Append) m count = refl
 unplanned (Seed seed) m count = refl
 
+pub adds : (from : Origin) (count : ℕ) → ((needs (adding from count)).reads && (needs (adding from count)).writes) ≡ true
+adds (Lines_of Load) count = refl
+adds (Lines_of Append) count = refl
+adds (Seed seed) count = refl
+
 pub writes : (from : Origin) (count : ℕ) → is_writing (adding from count) ≡ true
 writes (Lines_of Load) count = refl
 writes (Lines_of Append) count = refl
@@ -77,6 +84,11 @@ pub ok_head : (from : Origin) (graph : List Element) (events total last : ℕ) �
 ok_head (Lines_of Load) graph events total last = refl
 ok_head (Lines_of Append) graph events total last = refl
 ok_head (Seed seed) graph events total last = refl
+
+pub fits_head : (from : Origin) (count : ℕ) (graph : List Element) (events total last : ℕ) → Fits (adding from count) (head_over from graph events total last)
+fits_head (Lines_of Load) count graph events total last = tt
+fits_head (Lines_of Append) count graph events total last = tt
+fits_head (Seed seed) count graph events total last = tt
 
 pub behind_head : (from : Origin) (graph : List Element) (events total last : ℕ) → is_behind_reads (head_over from graph events total last) ≡ true
 behind_head (Lines_of Load) graph events total last = refl

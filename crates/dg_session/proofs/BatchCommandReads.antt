@@ -4,9 +4,10 @@ use Rattle.std.specs.Prelude.{IfSome}
 use Rattle.std.specs.List.{sum}
 use Rattle.std.proofs.lemmas.Bool.{false≢true}
 use Rattle.std.proofs.lemmas.List.{length-map}
-use Rattle.dg_append.specs.AddedBatches.{FailsBatch, IsOverHistory, MeetsDamage, ReadsNothing, TakesOlder}
+use Rattle.dg_append.specs.AddedBatches.{AddsBatch, FailsBatch, IsOverHistory, MeetsDamage, MeetsNoDamage, ReadsNothing, TakesOlder}
 use Rattle.dg_append.specs.Fronts.{ComeTo, IsFront, lines}
 use Rattle.dg_append.specs.OlderGroups.{IsBatchDamage, older_children}
+use Rattle.dg_append.specs.declared.batch.AddedBatch.{AddedBatch}
 use Rattle.dg_append.specs.declared.fault.BatchFault.{BatchFault}
 use Rattle.dg_append.specs.declared.fault.BatchFault.TheVariants as fault
 use Rattle.dg_append.specs.declared.front.Front.{Front}
@@ -34,7 +35,7 @@ use Rattle.dg_plan.specs.HistoryGraph.{all_columns}
 use Rattle.dg_plan.specs.IndexGraph.{arcs_of}
 use Rattle.dg_plan.specs.Walks.{AreSingles}
 use Rattle.dg_retrieval.specs.KeptGraph.{record_edges}
-use Rattle.dg_session.proofs.BatchCommandForms.{Lines_of, Origin, Seed, adding, head_over}
+use Rattle.dg_session.proofs.BatchCommandForms.{Lines_of, Origin, Seed, adding, head_over, reads_records}
 use Rattle.dg_session.proofs.BatchCommandStep.{IsAsked, many_changes, of_here, opening_there, over, refused_first}
 use Rattle.dg_batch.proofs.CompletedChanges.{all_come, as_many}
 use Rattle.dg_session.proofs.DamageStep.{tells_no_damage}
@@ -44,7 +45,7 @@ use Rattle.dg_session.proofs.PartStates.{is_of}
 use Rattle.dg_session.proofs.SessionSteps.{refused_not_read}
 use Rattle.dg_session.specs.BatchCommand.{barred, command_with}
 use Rattle.dg_batch.specs.BatchLines.{IsBarred, ReadsBatch, first_refusal}
-use Rattle.dg_session.specs.Damage.{DamageIn, DamageIs, NamesBatchDamage}
+use Rattle.dg_session.specs.Damage.{Batch_of, DamageIn, DamageIs, MeetsNone, NamesBatchDamage}
 use Rattle.dg_session.specs.declared.batch_command.BatchCommand.{BatchCommand}
 use Rattle.dg_session.specs.declared.batch_command.BatchCommand.TheVariants.{Load, Append}
 use Rattle.dg_batch.specs.declared.batch_lines.BatchLines.{BatchLines}
@@ -53,7 +54,7 @@ use Rattle.dg_batch.specs.declared.halt.Halt.TheVariants as halt
 use Rattle.dg_batch.specs.Halt.{batch_halt}
 use Rattle.dg_session.specs.Parts.{Parts}
 use Rattle.dg_session.specs.Reads.{Reads, ReadsBy, ReadsIn, ReadsOlder, reply_head, is_early, older_for}
-use Rattle.dg_session.specs.Session.{StandsFor, is_of_read, is_quiet}
+use Rattle.dg_session.specs.Session.{StandsFor, is_of_read}
 use Rattle.dg_start.specs.declared.stored_history.StoredHistory.{StoredHistory}
 use Rattle.dg_start.specs.StoredHistory.{index_opening}
 
@@ -68,11 +69,6 @@ read_by (Lines_of Load) m count got h before after reads = reads
 read_by (Lines_of Append) m count got h before after reads = reads
 read_by (Seed seed) m count got h before after reads = reads
 
-not_quiet : (from : Origin) (count : ℕ) → is_quiet (adding from count) ≡ false
-not_quiet (Lines_of Load) count = refl
-not_quiet (Lines_of Append) count = refl
-not_quiet (Seed seed) count = refl
-
 batch_reads : (from : Origin) (count : ℕ) (p : Parts) (image : Option (List ℕ)) (h : Head) (before after : ℕ) → ReadsNoMore p image count before after → (is_early h ≡ true → after ≡ before)
     → Reads (adding from count) p image h before after
 batch_reads from count p image h before after older early = record {
@@ -80,7 +76,7 @@ batch_reads from count p image h before after older early = record {
       (λ bytes. (m : MachineState) → StandsFor p bytes m → (got : List ScriptLine) → ReadsBy m (adding from count) got h before after)
       (λ bytes f m s got. read_by from m count got h before after (f m s)) older;
   early = early;
-  nothing = λ quiet. absurd (false≢true (sym (not_quiet from count) ∙ quiet));
+  nothing = λ e. absurd (false≢true (sym e ∙ reads_records from count));
 }
 
 nothing_read : (p : Parts) (image : Option (List ℕ)) (count before after : ℕ) → after ≡ before → ReadsNoMore p image count before after
@@ -218,3 +214,17 @@ module _ (from : Origin) (got : List ScriptLine) (p : Parts) (count known limit 
   failed_damage told after fault.Read fails = tt
   failed_damage told after fault.Memory fails = tt
   failed_damage told after fault.Store fails = tt
+
+  -- where the batch was added, what was read for it met no damage
+  pub added_undamaged : (told after : Option (List ℕ)) (new : StoredHistory) (x : AddedBatch) → IfSome (index_opening c.index) (λ o. AddsBatch o limit known c new told after b.changes.items b.front x)
+      → IfSome (index_opening c.index) (λ o. MeetsNoDamage told o known (length b.changes.items)) → MeetsNone (Batch_of count) p told
+  added_undamaged told after new x adds none =
+      let d : AddsBatch o limit known c new told after b.changes.items b.front x =
+      of_here (index_opening c.index) o (λ o. AddsBatch o limit known c new told after b.changes.items b.front x) here adds in
+      let many : length b.changes.items ≡ count = many_changes from got p count known limit c b a d.comes.whole in (
+        o,
+        there,
+        subst (λ (n : ℕ). MeetsNoDamage told o n count) a.known_is
+            (subst (λ (n : ℕ). MeetsNoDamage told o known n) many
+            (of_here (index_opening c.index) o (λ o. MeetsNoDamage told o known (length b.changes.items)) here none)),
+      )

@@ -50,7 +50,7 @@ use Rattle.dg_machine.specs.Needs.{needs, refused}
 use Rattle.dg_machine.specs.Planning.{no_plan}
 use Rattle.dg_machine.specs.Run.{Step}
 use Rattle.dg_machine.specs.Script.{Asked, Follows}
-use Rattle.dg_session.proofs.BatchCommandForms.{Lines_of, Origin, Seed, accepted_made, adding, asked_fit, asked_from, behind_head, head_over, lacks, ok_head, reads_records, unplanned, with_made, writes}
+use Rattle.dg_session.proofs.BatchCommandForms.{Lines_of, Origin, Seed, accepted_made, adding, adds, asked_fit, asked_from, behind_head, fits_head, head_over, lacks, ok_head, reads_records, unplanned, with_made, writes}
 use Rattle.dg_batch.proofs.LegalHistoryRanges.{ChangeFits, what_spelled}
 use Rattle.dg_batch.proofs.GeneratedChangeRanges.{generated_length}
 use Rattle.dg_ask.proofs.HeldIndexHistory.{count_is}
@@ -595,6 +595,8 @@ module _ (from : Origin) (got : List ScriptLine) (p : Parts) (count known limit 
               add_moves before d.events d.segment d.comes (with_history p new) y z (headed (head_over from new.now.graph x.events x.total x.last)) ey d.fits
               (both_told before after (GainsBatch d.segment) d.gains y z ey ez) q_is told;
           accepted = ok_head from new.now.graph x.events x.total x.last;
+          free = a.not_refused;
+          fits = fits_head from count new.now.graph x.events x.total x.last;
           held = λ h. d.held;
           no_index = λ none. absurd (let e : Some (index_with free.index d.segment) ≡ None = sym index ∙ none in cc);
           quiet = λ not_writing. let e : true ≡ false = sym (writes from count) ∙ not_writing in cc;
@@ -607,20 +609,20 @@ module _ (from : Origin) (got : List ScriptLine) (p : Parts) (count known limit 
         denied (adding from count) got p q before after (refusal.BadChange line reason) q_is f.0
         (λ m image s.
         let z = is_of p free.index image m free.there s in
-        steps_as image m s (refuse m (refusal.BadChange line reason)) (answer_with image m z.0 (Err (line, reason)) s z.1 f.1)) (λ h. absurd (false≢true h))
+        steps_as image m s (refuse m (refusal.BadChange line reason)) (answer_with image m z.0 (Err (line, reason)) s z.1 f.1)) (λ h. absurd (false≢true h)) (inr (inl (adds from count, a.not_refused)))
     batch_failed (fault.FileFull n most) fails q q_is =
         let f = of_here (index_opening c.index) free.index (λ o. FailsBatch o limit known c before after b.changes.items b.front (fault.FileFull n most)) opening_there fails in
         let d : FillsFile free.index limit known c before b.changes.items b.front n = f.2 in
         subst (λ (k : ℕ). Denies (adding from count) got p before q after (refusal.FileFull n k)) (sym f.1)
         (denied_at (adding from count) got p q before after (refusal.FileFull n limit) q_is f.0
-        (full_steps before d.events d.segment d.comes n d.needed_is d.over) (λ h. absurd (false≢true h)))
+        (full_steps before d.events d.segment d.comes n d.needed_is d.over) (λ h. absurd (false≢true h)) (inr (inl (adds from count, a.not_refused))))
     batch_failed (fault.Damaged key col) fails q q_is =
         let f = of_here (index_opening c.index) free.index (λ o. FailsBatch o limit known c before after b.changes.items b.front (fault.Damaged key col)) opening_there fails in
         denied_at (adding from count) got p q before after (refusal.Damaged key col) q_is f.0
         (λ m image at s.
         let z = is_of p free.index image m free.there s in
         absurd (one_told before (λ x. (z : History) → IsOverHistory z x free.index known c → ⊥) image f.1.never at z.0 (over image m z.0 z.1)))
-        (λ h. (reads_records from count, a.not_refused))
+        (λ h. (reads_records from count, a.not_refused)) (inr (inl (reads_records from count, a.not_refused)))
     batch_failed fault.Read fails q q_is =
         let f = of_here (index_opening c.index) free.index (λ o. FailsBatch o limit known c before after b.changes.items b.front fault.Read) opening_there fails in
         let d : FailsToRead free.index c b.changes.items b.front = f.1 in

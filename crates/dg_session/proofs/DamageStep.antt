@@ -1,6 +1,6 @@
--- Which reply tells of a damage, and which damage it is.
+-- Which reply tells of a damage, which damage it is, and where there is none.
 use Rattle.std.proofs.Common.{◌≡◌, ℕ, Bool, true, false, List, [], ◌∷◌, Option, Some, None, Result, Ok, Err, length, refl, sym, ◌∙◌, subst}
-use Rattle.std.specs.Prelude.{◌||◌, IfErr, IfSome, is_some}
+use Rattle.std.specs.Prelude.{◌||◌, IfErr, IfSome, OnOk, is_some}
 use Rattle.std.proofs.lemmas.Bool.{false≢true}
 use Rattle.dg_graph.specs.declared.element.Column.{Column}
 use Rattle.dg_graph.specs.declared.element.Columns.{Columns}
@@ -8,6 +8,7 @@ use Rattle.dg_graph.specs.declared.event.Event.{Event}
 use Rattle.dg_graph.specs.Lines.{ScriptLine}
 use Rattle.dg_index.specs.OpenedIndex.{Opening, event_total}
 use Rattle.dg_machine.specs.declared.command.Command.{Command}
+use Rattle.dg_machine.specs.declared.command.Command.TheVariants as command
 use Rattle.dg_machine.specs.declared.reply.Head.{Head}
 use Rattle.dg_machine.specs.declared.reply.Head.TheVariants as head
 use Rattle.dg_machine.specs.declared.reply.Refusal.{Refusal}
@@ -24,11 +25,12 @@ use Rattle.dg_machine.specs.Planning.{bases_in}
 use Rattle.dg_plan.specs.declared.edge.Edge.{Edge}
 use Rattle.dg_retrieval.specs.declared.node_lead.NodeLead.{NodeLead}
 use Rattle.dg_retrieval.specs.KeptGraph.{index_edges, kept_edges}
+use Rattle.dg_retrieval.specs.NodeSets.{IsUndamaged}
 use Rattle.dg_retrieval.specs.Retrieval.{IsFirstDamage}
 use Rattle.dg_session.proofs.SessionRetrievals.{IsSession}
 use Rattle.dg_batch.specs.declared.halt.Halt.{Halt}
 use Rattle.dg_batch.specs.declared.halt.Halt.TheVariants as halt
-use Rattle.dg_session.specs.Damage.{DamageIn, DamageIs, Graphs, damage_told, IsMetBy, NamesDamage, NamesNodeDamage, Node_set, ReadsFor, reads_for}
+use Rattle.dg_session.specs.Damage.{DamageIn, DamageIs, Graphs, damage_told, IsMetBy, MeetsNone, NamesDamage, NamesNodeDamage, Node_set, ReadsFor, reads_for}
 use Rattle.dg_batch.specs.Halt.{retrieval_halt}
 use Rattle.dg_session.specs.Parts.{Parts}
 use Rattle.dg_ask.specs.HeldIndex.{points_over}
@@ -117,3 +119,57 @@ node_damage_in c p image node cols (retrieval_fault.Damaged key col) is damage =
 -- the reply, where there is one
 pub damage_in_reply : (c : Command) (p : Parts) (image : Option (List ℕ)) (r : Result Reply Halt) (h : Head) → reply_head r ≡ Some h → DamageIn c p image r → DamageIs c p image h
 damage_in_reply c p image r h is damage = subst (λ (o : Option Head). IfSome o (λ x. DamageIs c p image x)) is damage
+
+-- ---- what is read, and is not damaged
+
+-- a retrieval over what the session has in memory
+pub whole_over : (p : Parts) (o : Opening) (times : List ℕ) (cols : Columns) (told : Option (List ℕ)) (names : ℕ) (recent : List Event) (r : Result Retrieved RetrievalFault)
+    → IsSession p o names recent → (edges : List Edge) → edges ≡ kept_edges o (event_total o.batches) cols (bases_in cols p.table)
+    → OnOk r (IfSome told (λ image. IsUndamaged names edges o cols (points_over o recent times) image)) → OnOk r (MeetsNone (Graphs times cols) p told)
+whole_over p o times cols told names recent (Err f) is edges edges_is whole = tt
+whole_over p o times cols told names recent (Ok x) is edges edges_is whole = (
+  o,
+  is.there,
+  subst (λ gs. IfSome told (λ image. IsUndamaged (length p.names) gs o cols (points_over o p.recent times) image)) edges_is
+      (subst (λ es. IfSome told (λ image. IsUndamaged (length p.names) edges o cols (points_over o es times) image)) is.all
+      (subst (λ n. IfSome told (λ image. IsUndamaged n edges o cols (points_over o recent times) image)) is.count whole)),
+)
+
+-- a node that is to be held
+pub node_whole_over : (p : Parts) (o : Opening) (node : NodeId) (cols : Columns) (told : Option (List ℕ)) (names : ℕ) (r : Result NodeLead RetrievalFault)
+    → p.index ≡ Some o → names ≡ length p.names
+    → OnOk r (IfSome told (λ image. IsUndamaged names (index_edges o cols false []) o cols (node ∷ []) image)) → OnOk r (MeetsNone (Node_set node cols) p told)
+node_whole_over p o node cols told names (Err f) there count whole = tt
+node_whole_over p o node cols told names (Ok x) there count whole = (
+  o,
+  there,
+  subst (λ n. IfSome told (λ image. IsUndamaged n (index_edges o cols false []) o cols (node ∷ []) image)) count whole,
+)
+
+-- a command that reads no records
+pub reads_undamaged : (c : Command) (p : Parts) (image : Option (List ℕ)) → (needs c).reads ≡ false → MeetsNone (reads_for c) p image
+reads_undamaged (command.Create l k function) p image e = tt
+reads_undamaged (command.Load count) p image e = absurd (false≢true (sym e))
+reads_undamaged (command.Append count) p image e = absurd (false≢true (sym e))
+reads_undamaged (command.At t cols) p image e = absurd (false≢true (sym e))
+reads_undamaged (command.Several cols times count) p image e = absurd (false≢true (sym e))
+reads_undamaged (command.Materialise node cols) p image e = absurd (false≢true (sym e))
+reads_undamaged (command.Ask handle q) p image e = tt
+reads_undamaged (command.Release handle) p image e = tt
+reads_undamaged (command.Clean cells) p image e = tt
+reads_undamaged command.CleanAll p image e = tt
+reads_undamaged command.Pool p image e = tt
+reads_undamaged (command.Plan t cols) p image e = tt
+reads_undamaged (command.Certify t cols count) p image e = tt
+reads_undamaged command.Verify p image e = tt
+reads_undamaged command.Tree p image e = tt
+reads_undamaged (command.Workload seed count) p image e = absurd (false≢true (sym e))
+
+-- the command that comes to this
+pub met_none : {A E : Type 0} (c x : Command) (p : Parts) (image : Option (List ℕ)) (r : Result A E) → c ≡ x → OnOk r (MeetsNone (reads_for x) p image) → OnOk r (MeetsNone (reads_for c) p image)
+met_none c x p image r is whole = subst (λ y. OnOk r (MeetsNone (reads_for y) p image)) (sym is) whole
+
+-- the command that reads nothing that may be damaged
+pub met_nothing : {A E : Type 0} (c : Command) (p : Parts) (image : Option (List ℕ)) (r : Result A E) → MeetsNone (reads_for c) p image → OnOk r (MeetsNone (reads_for c) p image)
+met_nothing c p image (Ok x) none = none
+met_nothing c p image (Err e) none = tt

@@ -10,29 +10,21 @@ use Rattle.dg_machine.specs.declared.reply.Head.TheVariants as head
 use Rattle.dg_machine.specs.declared.reply.Refusal.{Refusal}
 use Rattle.dg_machine.specs.declared.reply.Refusal.TheVariants as refusal
 use Rattle.dg_machine.specs.declared.reply.Reply.{Reply}
-use Rattle.dg_machine.specs.Answer.{is_refusal}
 use Rattle.dg_machine.specs.Needs.{following, needs, or_none}
 use Rattle.dg_machine.specs.Run.{is_store_read}
-use Rattle.dg_session.proofs.SessionRetrievals.{every_some, if_some}
+use Rattle.dg_session.proofs.SessionRetrievals.{every_some}
 use Rattle.dg_batch.specs.declared.halt.Halt.{Halt}
 use Rattle.dg_batch.specs.declared.halt.Halt.TheVariants as halt
 use Rattle.dg_session.specs.Parts.{Parts}
-use Rattle.dg_session.specs.Reads.{Reads, ReadsIn, reply_head, is_early}
-use Rattle.dg_session.specs.Session.{Accepts, ComesTo, Denies, is_at_hand, is_quiet}
+use Rattle.dg_session.specs.Reads.{Reads, ReadsIn, reply_head}
+use Rattle.dg_session.specs.Session.{Accepts, ComesTo, Denies, is_at_hand}
 
 -- ---- bytes
 
--- one that reads no records and is not refused early may read what it likes, where it writes
-pub reads_freely : (c : Command) (p : Parts) (image : Option (List ℕ)) (r : Result Reply Halt) (before after : ℕ) → (needs c).reads ≡ false → is_quiet c ≡ false
-    → IfSome (reply_head r) (λ h. is_early h ≡ true → after ≡ before) → ReadsIn c p image r before after
-reads_freely c p image r before after no_reads writes early =
-    if_some (reply_head r) (λ h. is_early h ≡ true → after ≡ before) (λ h. Reads c p image h before after)
-    (λ h nothing. record { told = λ e. absurd (false≢true (sym no_reads ∙ e)); early = nothing; nothing = λ e. absurd (false≢true (sym writes ∙ e)) }) early
-
 -- one that reads no records has read nothing
-pub reads_nothing : (c : Command) (p : Parts) (image : Option (List ℕ)) (r : Result Reply Halt) (count : ℕ) → (needs c).reads ≡ false → ReadsIn c p image r count count
-reads_nothing c p image r count no_reads =
-    every_some (reply_head r) (λ h. Reads c p image h count count) (λ h. record { told = λ e. absurd (false≢true (sym no_reads ∙ e)); early = λ e. refl; nothing = λ e. refl })
+pub reads_nothing : (c : Command) (p : Parts) (image : Option (List ℕ)) (r : Result Reply Halt) (before after : ℕ) → (needs c).reads ≡ false → after ≡ before → ReadsIn c p image r before after
+reads_nothing c p image r before after no_reads same =
+    every_some (reply_head r) (λ h. Reads c p image h before after) (λ h. record { told = λ e. absurd (false≢true (sym no_reads ∙ e)); early = λ e. same; nothing = λ e. same })
 
 -- the reply, where there is one
 pub reads_in_reply : (c : Command) (p : Parts) (image : Option (List ℕ)) (r : Result Reply Halt) (h : Head) (before after : ℕ) → reply_head r ≡ Some h → ReadsIn c p image r before after → Reads c p image h before after

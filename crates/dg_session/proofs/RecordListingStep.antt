@@ -1,5 +1,5 @@
 -- The answer to a listing of the records.
-use Rattle.std.proofs.Common.{◌≡◌, ℕ, suc, true, not, List, [], ◌∷◌, Option, Some, None, length, map, refl, sym, ◌∙◌, ap, arith}
+use Rattle.std.proofs.Common.{◌≡◌, ℕ, suc, true, not, List, [], ◌∷◌, Option, Some, None, length, map, refl, sym, ◌∙◌, ap, subst, arith}
 use Rattle.std.specs.Prelude.{is_some, slice_index}
 use Rattle.std.specs.List.{Contains}
 use Rattle.std.specs.Map.{lookup}
@@ -24,6 +24,7 @@ use Rattle.dg_ask.proofs.OpenedIndexHistory.{behind}
 use Rattle.dg_ask.proofs.HeldIndexHistory.{count_is}
 use Rattle.dg_session.proofs.PartStates.{IsOf, hit, is_of, miss, one_image, opening_of, stands_on}
 use Rattle.dg_session.proofs.SessionSteps.{moved}
+use Rattle.dg_session.specs.Decided.{Fits}
 use Rattle.dg_session.specs.Parts.{Parts}
 use Rattle.dg_ask.specs.RecordListing.{held_line, lengths_held, listing_of}
 use Rattle.dg_session.specs.Session.{Accepts, refused_by}
@@ -75,6 +76,8 @@ tree_answers p image o reply there is = record {
         stands_on p p x y m refl (one_image image image x y refl a b) s,
       ));
   accepted = ap (λ (x : Reply). is_refusal x.head) is;
+  free = tree_free p o there;
+  fits = subst (λ (x : Reply). Fits command.Tree x.head) (sym is) tt;
   held = λ h. h;
   no_index = λ h. (h, refl);
   quiet = λ h. refl;

@@ -1,7 +1,6 @@
 -- The answer to the making of an index.
 use Rattle.std.proofs.Common.{◌≡◌, inl, inr, ℕ, zero, suc, ◌*◌, Bool, true, false, not, List, [], Option, Some, None, Ok, Err, drop, refl, sym, ◌∙◌, ap, subst}
 use Rattle.std.specs.Prelude.{IfSome, is_some}
-use Rattle.std.proofs.lemmas.Bool.{false≢true}
 use Rattle.dg_file.specs.declared.fault.CreateFault.{CreateFault}
 use Rattle.dg_file.specs.declared.fault.CreateFault.TheVariants as fault
 use Rattle.dg_file.specs.Images.{IsMadeInPart}
@@ -24,12 +23,11 @@ use Rattle.dg_machine.specs.Planning.{no_plan}
 use Rattle.dg_machine.specs.Script.{Asked}
 use Rattle.dg_index.specs.Hierarchy.{leaves}
 use Rattle.dg_index.specs.IndexRecords.{recent_of}
-use Rattle.dg_session.proofs.ReadsStep.{reads_freely}
 use Rattle.dg_session.proofs.PartStates.{AreOf, are_of, both_told, graph_in, no_graphs, no_handle_reached, no_index, one_told, opening_of, passes, recent_in, refused_is, stands}
 use Rattle.dg_session.proofs.SessionSteps.{accepted_is, accepted_steps, is_accepted, lacking_denies, moved}
 use Rattle.dg_batch.specs.Halt.{creation_halt}
+use Rattle.dg_session.specs.Decided.{Fits}
 use Rattle.dg_session.specs.Parts.{Parts}
-use Rattle.dg_session.specs.Reads.{ReadsIn}
 use Rattle.dg_start.specs.StoredHistory.{AreCounted, IsHeldBy}
 use Rattle.dg_session.specs.Session.{Accepts, ComesTo, CutsOff, StandsFor, refused_by}
 
@@ -90,6 +88,8 @@ create_answers p q params before after o reply none made opened o_is no_names is
             (no_handle_reached (made_in m params) handles) (λ e. cc),
       ));
   accepted = ap (λ (r : Reply). is_refusal r.head) reply_is;
+  free = none;
+  fits = subst (λ (r : Reply). Fits (making params) r.head) (sym reply_is) tt;
   held = λ h.
       subst (λ (x : Parts). IfSome after (λ image. IsHeldBy x.index x.names image)) (sym is)
       (subst (λ (x : Opening). IfSome after (λ image. opening image ≡ Ok (record { index = x; names = p.names }))) (sym o_is)
@@ -131,10 +131,3 @@ create_fails p q params before after fault.Disk none same memory part = (
 pub no_names : (index : Option Opening) (names : List (List ℕ)) (graph : List Element) (recent : List Event) → AreCounted index names graph recent → is_some index ≡ false → names ≡ []
 no_names None names graph recent counted none = counted.0
 no_names (Some o) names graph recent counted none = cc
-
--- ---- the bytes read
-
--- a creation that fails is refused by no cause that is told before all others
-pub create_reads : (params : Params) (p : Parts) (image : Option (List ℕ)) (f : CreateFault) (before after : ℕ) → ReadsIn (making params) p image (Err (creation_halt f)) before after
-create_reads params p image fault.Memory before after = reads_freely (making params) p image (Err (creation_halt fault.Memory)) before after refl refl (λ e. absurd (false≢true e))
-create_reads params p image fault.Disk before after = tt

@@ -1,31 +1,35 @@
 -- The answers of commands that clean the pool, or tell its size.
-use Rattle.std.proofs.Common.{◌≡◌, ℕ, false, List, [], ◌∷◌, Option, None, length, refl, sym, ◌∙◌, ap, subst}
-use Rattle.std.specs.Prelude.{IfSome}
-use Rattle.dg_handles.specs.Handles.{slot_graphs}
+use Rattle.std.proofs.Common.{◌≡◌, ℕ, false, List, [], ◌∷◌, Option, None, Result, Err, length, refl, sym, ◌∙◌, ap, subst}
+use Rattle.std.specs.Prelude.{IfErr, IfSome}
 use Rattle.dg_machine.specs.declared.command.Command.{Command}
 use Rattle.dg_machine.specs.declared.command.Command.TheVariants as command
+use Rattle.dg_machine.specs.declared.reply.Head.{Head}
 use Rattle.dg_machine.specs.declared.reply.Head.TheVariants as head
 use Rattle.dg_machine.specs.declared.reply.Reply.{Reply}
 use Rattle.dg_machine.specs.Answer.{accepted, headed, is_refusal, say}
 use Rattle.dg_machine.specs.MachineState.{MachineState, elements_held, union_of_sets}
 use Rattle.dg_machine.specs.Needs.{needs}
+use Rattle.dg_batch.specs.declared.halt.Halt.{Halt}
 use Rattle.dg_machine.specs.Planning.{no_plan}
-use Rattle.dg_pool.specs.Graphs.{PoolState, slot_graph}
-use Rattle.dg_pool.specs.Sweeps.{members_as}
+use Rattle.dg_pool.specs.Graphs.{PoolState}
 use Rattle.dg_session.proofs.PartStates.{kept, one_image, stands_on}
 use Rattle.dg_session.proofs.SessionSteps.{IsUnplanned, moved}
+use Rattle.dg_session.specs.Decided.{Fits}
 use Rattle.dg_session.specs.Parts.{Parts}
 use Rattle.dg_session.specs.Session.{Accepts, StandsFor, refused_by}
+use Rattle.dg_session.specs.Sweeps.{All_cells, IsNoSweep, No_cell, Some_cells, Sweep, SweepsAs, SweepsNothing, SweepsPool, sweep_of}
 use Rattle.dg_start.specs.StoredHistory.{IsHeldBy}
 
 -- a command that needs nothing and changes nothing that the machine knows
 stays : (c : Command) (p q : Parts) (image : Option (List ℕ)) (reply : Reply) → IsUnplanned c → refused_by p 0 (needs c) ≡ None → q ≡ p
-    → ((m : MachineState) (x : List ℕ) → StandsFor p x m → accepted m c [] no_plan ≡ say m reply) → is_refusal reply.head ≡ false → Accepts c [] p image q image reply
-stays c p q image reply unplanned free same due accepts = record {
+    → ((m : MachineState) (x : List ℕ) → StandsFor p x m → accepted m c [] no_plan ≡ say m reply) → is_refusal reply.head ≡ false → Fits c reply.head → Accepts c [] p image q image reply
+stays c p q image reply unplanned free same due accepts fits = record {
   moves =
       moved c [] p q image image reply unplanned free
       (λ m x y a b s none. (m, due m x s, stands_on p q x y m same (one_image image image x y refl a b) s));
   accepted = accepts;
+  free = free;
+  fits = fits;
   held = λ h. subst (λ (x : Parts). IfSome image (λ bytes. IsHeldBy x.index x.names bytes)) (sym same) h;
   no_index = λ h. (ap (λ (x : Parts). x.index) (sym same) ∙ h, refl);
   quiet = λ h. refl;
@@ -37,13 +41,14 @@ held_are p x m s = ap (λ (y : Parts). union_of_sets (y.graph ∷ y.graphs)) (ke
 
 pub clean_answers : (p q : Parts) (cells : ℕ) (image : Option (List ℕ)) (reply : Reply) → q ≡ p → reply ≡ headed head.Cleaned → Accepts (command.Clean cells) [] p image q image reply
 clean_answers p q cells image reply same is =
-    stays (command.Clean cells) p q image reply (λ m. refl) refl same (λ m x s. ap (say m) (sym is)) (ap (λ (r : Reply). is_refusal r.head) is)
+    stays (command.Clean cells) p q image reply (λ m. refl) refl same (λ m x s. ap (say m) (sym is)) (ap (λ (r : Reply). is_refusal r.head) is) (subst (λ (r : Reply). Fits (command.Clean cells) r.head) (sym is) tt)
 
 pub clean_all_answers : (p q : Parts) (cells : ℕ) (image : Option (List ℕ)) (reply : Reply) → q ≡ p → cells ≡ length (union_of_sets (p.graph ∷ p.graphs)) → reply ≡ headed (head.CleanedAll cells)
     → Accepts command.CleanAll [] p image q image reply
 clean_all_answers p q cells image reply same size is =
     stays command.CleanAll p q image reply (λ m. refl) refl same
     (λ m x s. ap (λ n. say m (headed (head.CleanedAll n))) (ap length (sym (held_are p x m s)) ∙ sym size) ∙ ap (say m) (sym is)) (ap (λ (r : Reply). is_refusal r.head) is)
+    (subst (λ (r : Reply). Fits command.CleanAll r.head) (sym is) tt)
 
 pub pool_answers : (p : Parts) (live size : ℕ) (image : Option (List ℕ)) (reply : Reply) → live ≡ length p.table → size ≡ length (union_of_sets (p.graph ∷ p.graphs))
     → reply ≡ headed (head.Pool live size) → Accepts command.Pool [] p image p image reply
@@ -52,3 +57,15 @@ pool_answers p live size image reply live_is size_is is =
     (λ m x s.
     (λ i. say m (headed (head.Pool (length (sym s.table i)) (length (sym (held_are p x m s) i)))))
     ∙ (λ i. say m (headed (head.Pool (sym live_is i) (sym size_is i)))) ∙ ap (say m) (sym is)) (ap (λ (r : Reply). is_refusal r.head) is)
+    (subst (λ (r : Reply). Fits command.Pool r.head) (sym is) tt)
+
+-- ---- of all commands
+
+nothing_swept : (s : Sweep) (old new : PoolState) (h : Head) → IsNoSweep s → SweepsAs s old new h
+nothing_swept (Some_cells cells) old new h none = absurd none
+nothing_swept All_cells old new h none = absurd none
+nothing_swept No_cell old new h none = tt
+
+-- a refusal says nothing of a sweep, where the command that it is of makes none
+pub refused_sweeps : (c : Command) (r : Result Reply Halt) (old new : PoolState) (h : Head) (halt : Halt) → r ≡ Err halt → IfErr r (λ x. SweepsNothing c) → SweepsPool c old new h
+refused_sweeps c r old new h halt is none = nothing_swept (sweep_of c) old new h (subst (λ (x : Result Reply Halt). IfErr x (λ y. SweepsNothing c)) is none)

@@ -1,5 +1,5 @@
 -- What a retrieval gives of the state that a session stands for, and how its answer is a step of the machine.
-use Rattle.std.proofs.Common.{◌≡◌, ⊎_elim, ℕ, suc, ◌+◌, ◌≤◌, ◌<◌, Bool, true, false, not, List, [], ◌∷◌, ◌++◌, Option, Some, None, Err, length, map, refl, sym, ◌∙◌, ap, subst, arith, nat_lt, append_assoc}
+use Rattle.std.proofs.Common.{◌≡◌, inl, inr, ⊎_elim, ℕ, suc, ◌+◌, ◌≤◌, ◌<◌, Bool, true, false, not, List, [], ◌∷◌, ◌++◌, Option, Some, None, Err, length, map, refl, sym, ◌∙◌, ap, subst, arith, nat_lt, append_assoc}
 use Rattle.std.specs.Prelude.{IfErr, IfOk, IfSome, Result, Ok, is_some, ◌||◌, ◌&&◌}
 use Rattle.std.specs.List.{All, Contains, list_any}
 use Rattle.std.proofs.lemmas.Bool.{false≢true}
@@ -52,6 +52,7 @@ use Rattle.dg_batch.specs.Halt.{retrieval_halt}
 use Rattle.dg_session.specs.contracts.session.Session.{the_view}
 use Rattle.dg_session.specs.declared.session.Session.TheInside.{Inside}
 use Rattle.dg_ask.specs.HeldIndex.{point_over, points_over, span_held}
+use Rattle.dg_session.specs.Decided.{Fits}
 use Rattle.dg_session.specs.Parts.{Parts}
 use Rattle.dg_session.specs.Reads.{IsRetrieved, Reads, ReadsAsTold, ReadsBy, ReadsIn, bases_of, is_early, listed_by, with_new_handles}
 use Rattle.dg_start.specs.StoredHistory.{IsHeldBy, index_opening}
@@ -285,11 +286,13 @@ moved_with c old new before after reply none step x y a b m s =
 
 -- a retrieval that gives new handles
 pub retrieval_accepted : (c : Command) (p q : Parts) (before after : Option (List ℕ)) (new : List Stands) (graphs : List (List Element)) (reply : Reply)
-    → WhereBothTold before after (λ x y. Moves c [] p x q y reply) → is_refusal reply.head ≡ false → after ≡ before → q ≡ with_new_handles p new graphs
-    → Accepts c [] p before q after reply
-retrieval_accepted c p q before after new graphs reply moves accepts same is = record {
+    → WhereBothTold before after (λ x y. Moves c [] p x q y reply) → is_refusal reply.head ≡ false → refused_by p 0 (needs c) ≡ None → Fits c reply.head
+    → after ≡ before → q ≡ with_new_handles p new graphs → Accepts c [] p before q after reply
+retrieval_accepted c p q before after new graphs reply moves accepts free fits same is = record {
   moves = moves;
   accepted = accepts;
+  free = free;
+  fits = fits;
   held = λ h. subst (λ (x : Parts). IfSome after (λ image. IsHeldBy x.index x.names image)) (sym is) (subst (λ (o : Option (List ℕ)). IfSome o (λ image. IsHeldBy p.index p.names image)) (sym same) h);
   no_index = λ h. (ap (λ (x : Parts). x.index) (sym is) ∙ h, same);
   quiet = λ h. same;
@@ -307,6 +310,7 @@ retrieval_failed c p q before after (retrieval_fault.Damaged key col) memory rea
   moves = λ x y a b m s. absurd (no_damage key col (one_told before (λ image. (k : MachineState) → StandsFor p image k → IsNoDamage (retrieval_fault.Damaged key col)) x never a m s));
   as_before = record { same = same; same_image = same_image };
   reads = λ h. (reads, none);
+  decided = inr (inl (reads, none));
 }
 
 -- ---- the bytes read
@@ -335,7 +339,7 @@ reads_failed c p image h before after reads refuses late as_told none most = rec
       subst (λ (a : Answered). TakesAtMost (weight_told a.reply.head) before after) (sym (accepted_is m c got plan (accepted m c got plan) free refl))
       (t m s got plan (subst (λ (o : Option Refusal). IsPlannedBy o m c plan) free planned))))) most;
   early = λ e. absurd (false≢true (sym late ∙ e));
-  nothing = λ q. absurd (false≢true (sym (ap (λ b. not b && not (needs c).writes) reads) ∙ q));
+  nothing = λ e. absurd (false≢true (sym e ∙ reads));
 }
 
 -- whatever the fault is

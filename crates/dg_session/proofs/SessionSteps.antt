@@ -1,15 +1,17 @@
 -- How a step comes from what is refused, for every command alike.
-use Rattle.std.proofs.Common.{◌≡◌, ℕ, ◌+◌, ◌++◌, nat_lt, Bool, true, false, List, [], Option, Some, None, Result, Ok, Err, length, refl, sym, ◌∙◌, ap, subst, ◌∷◌}
-use Rattle.std.specs.Prelude.{IfSome, not, is_some, ◌||◌, ◌&&◌, IsErr, IsErrAnd}
+use Rattle.std.proofs.Common.{◌≡◌, inl, inr, ℕ, ◌+◌, ◌++◌, nat_lt, Bool, true, false, List, [], Option, Some, None, Result, Ok, Err, length, refl, sym, ◌∙◌, ap, subst, ◌∷◌}
+use Rattle.std.specs.Prelude.{IfSome, ◌⊎◌, not, is_some, ◌||◌, ◌&&◌, IsErr, IsErrAnd}
 use Rattle.std.specs.List.{list_any}
 use Rattle.std.proofs.lemmas.Bool.{false≢true}
+use Rattle.std.proofs.lemmas.Option.{none-some}
 use Rattle.dg_graph.specs.Lines.{ScriptLine}
 use Rattle.dg_machine.specs.declared.command.Command.{Command}
+use Rattle.dg_machine.specs.declared.reply.Head.{Head}
 use Rattle.dg_machine.specs.declared.reply.Head.TheVariants as head
 use Rattle.dg_machine.specs.declared.reply.Refusal.{Refusal}
 use Rattle.dg_machine.specs.declared.reply.Refusal.TheVariants as refusal
 use Rattle.dg_machine.specs.declared.reply.Reply.{Reply}
-use Rattle.dg_machine.specs.Answer.{Answered, IsPlannedBy, accepted, answer, answer_by, headed, is_begun, is_behind_reads, no_memory, is_refusal, store_read}
+use Rattle.dg_machine.specs.Answer.{Answered, IsPlannedBy, accepted, answer, answer_by, headed, is_begun, is_behind_reads, no_memory, is_refusal, refusal_of, store_read}
 use Rattle.dg_machine.specs.CutImage.{IsAcceptedWrite}
 use Rattle.dg_machine.specs.MachineState.{MachineState, stands_at, dependent_on}
 use Rattle.dg_history.specs.History.{are_parameters, in_range}
@@ -25,7 +27,8 @@ use Rattle.dg_session.specs.Parts.{Parts}
 use Rattle.dg_batch.specs.declared.halt.Halt.{Halt}
 use Rattle.dg_batch.specs.declared.halt.Halt.TheVariants as halt
 use Rattle.dg_batch.specs.declared.stop.Stop.TheVariants as stop
-use Rattle.dg_session.specs.Session.{ComesTo, Denies, MayRead, Moves, StandsFor, Steps, TakesLines, WhereBothTold, is_of_read, is_too_full, refused_by}
+use Rattle.dg_session.specs.Decided.{Fits}
+use Rattle.dg_session.specs.Session.{ComesTo, Decides, Denies, IsDecided, MayRead, Moves, StandsFor, Steps, TakesLines, WhereBothTold, is_of_read, is_too_full, refused_by}
 
 -- ---- of the machine
 
@@ -80,19 +83,20 @@ is_accepted m c lines a writes is accepted = (writes, ap (λ (x : Answered). is_
 -- a refusal that the machine may give over the image that the disk tells, where nothing has changed
 pub denied_at : (c : Command) (got : List ScriptLine) (old new : Parts) (before after : Option (List ℕ)) (r : Refusal) → new ≡ old → after ≡ before
     → ((m : MachineState) (image : List ℕ) → before ≡ Some image → StandsFor old image m → Step m (Asked c got) (headed (head.Refused r)) m)
-    → (is_of_read r ≡ true → MayRead c got old) → Denies c got old before new after r
-denied_at c got old new before after r same same_image step reads = record {
+    → (is_of_read r ≡ true → MayRead c got old) → IsDecided c got old r → Denies c got old before new after r
+denied_at c got old new before after r same same_image step reads decided = record {
   moves = λ x y a b m s. (m, step m x a s, stands_on old new x y m same (one_image before after x y same_image a b) s);
   as_before = record { same = same; same_image = same_image };
   reads = reads;
+  decided = decided;
 }
 
 -- over any image
 pub denied : (c : Command) (got : List ScriptLine) (old new : Parts) (before after : Option (List ℕ)) (r : Refusal) → new ≡ old → after ≡ before
     → ((m : MachineState) (image : List ℕ) → StandsFor old image m → Step m (Asked c got) (headed (head.Refused r)) m)
-    → (is_of_read r ≡ true → MayRead c got old) → Denies c got old before new after r
-denied c got old new before after r same same_image step reads =
-    denied_at c got old new before after r same same_image (λ m image at s. step m image s) reads
+    → (is_of_read r ≡ true → MayRead c got old) → IsDecided c got old r → Denies c got old before new after r
+denied c got old new before after r same same_image step reads decided =
+    denied_at c got old new before after r same same_image (λ m image at s. step m image s) reads decided
 
 -- the first of these refusals tells of no read
 abbrev IsNotOfRead : Option Refusal → Type 0
@@ -144,20 +148,20 @@ pub refused_denies : (c : Command) (got : List ScriptLine) (old new : Parts) (be
     → refused_by old (length got) (needs c) ≡ Some r → Denies c got old before new after r
 refused_denies c got old new before after r same same_image is =
     denied c got old new before after r same same_image (λ m image s. refused_steps m c got r (sym (refused_is old image m c got s) ∙ is))
-    (λ h. absurd (false≢true (sym (refused_not_read old (length got) (needs c) r is) ∙ h)))
+    (λ h. absurd (false≢true (sym (refused_not_read old (length got) (needs c) r is) ∙ h))) (inl is)
 
 -- by want of memory
 pub lacking_denies : (c : Command) (got : List ScriptLine) (old new : Parts) (before after : Option (List ℕ)) → new ≡ old → after ≡ before
     → (needs c).memory ≡ true → refused_by old (length got) (needs c) ≡ None → Denies c got old before new after refusal.OutOfMemory
 lacking_denies c got old new before after same same_image memory none =
-    denied c got old new before after refusal.OutOfMemory same same_image (λ m image s. lacking_steps m c got memory (sym (refused_is old image m c got s) ∙ none)) (λ h. absurd (false≢true h))
+    denied c got old new before after refusal.OutOfMemory same same_image (λ m image s. lacking_steps m c got memory (sym (refused_is old image m c got s) ∙ none)) (λ h. absurd (false≢true h)) (inr (inl (memory, none)))
 
 -- by a failed read of the index file
 pub failing_denies : (c : Command) (got : List ScriptLine) (old new : Parts) (before after : Option (List ℕ)) → new ≡ old → after ≡ before
     → (needs c).reads ≡ true → refused_by old (length got) (needs c) ≡ None
     → ((m : MachineState) (image : List ℕ) → StandsFor old image m → IsBehindReads c got m) → Denies c got old before new after refusal.StoreRead
 failing_denies c got old new before after same same_image reads none behind =
-    denied c got old new before after refusal.StoreRead same same_image (λ m image s. failing_steps m c got reads (behind m image s)) (λ h. (reads, none))
+    denied c got old new before after refusal.StoreRead same same_image (λ m image s. failing_steps m c got reads (behind m image s)) (λ h. (reads, none)) (inr (inl (reads, none)))
 
 -- and of a command that is accepted where it is not refused by what it needs
 pub failing_accepted : (c : Command) (got : List ScriptLine) (old new : Parts) (before after : Option (List ℕ)) → new ≡ old → after ≡ before
@@ -222,6 +226,12 @@ tells_of_none reply P r accepts is = absurd (false≢true (sym accepts ∙ ap is
 same_refusal : (r why : Refusal) → head.Refused why ≡ head.Refused r → r ≡ why
 same_refusal r why is = cc
 
+-- a reply that is no refusal is decided so
+fitting : (c : Command) (got : List ScriptLine) (old : Parts) (h : Head) (o : Option Refusal) → is_some o ≡ false → refused_by old (length got) (needs c) ≡ None → Fits c h
+    → Decides c got old h o
+fitting c got old h None accepts free fits = (free, fits)
+fitting c got old h (Some r) accepts free fits = absurd (false≢true (sym accepts))
+
 -- the reply, where there is one
 pub answered : (c : Command) (lines_before lines_after : Option (List ScriptLine)) (old : Parts) (before : Option (List ℕ)) (new : Parts) (after : Option (List ℕ)) (r : Result Reply Halt) (reply : Reply)
     → Comes c (following c) lines_before lines_after old before new after r → r ≡ Ok reply → Steps c lines_before lines_after old before new after reply
@@ -231,6 +241,7 @@ answered c lines_before lines_after old before new after r reply h is =
       k.1,
       k.2.moves,
       λ why is of_read. tells_of_none reply (MayRead c k.0 old) why k.2.accepted is,
+      fitting c k.0 old reply.head (refusal_of reply.head) k.2.accepted k.2.free k.2.fits,
     )
 
 pub refused_so : (c : Command) (lines_before lines_after : Option (List ScriptLine)) (old : Parts) (before : Option (List ℕ)) (new : Parts) (after : Option (List ℕ)) (r : Result Reply Halt) (why : Refusal) (reply : Reply)
@@ -244,4 +255,50 @@ refused_so c lines_before lines_after old before new after r why reply h is repl
       λ r is of_read.
           let both : head.Refused why ≡ head.Refused r = ap (λ (x : Reply). x.head) (sym reply_is) ∙ is in
           k.2.reads (ap is_of_read (sym (same_refusal r why both)) ∙ of_read),
+      subst (λ (x : Reply). Decides c k.0 old x.head (refusal_of x.head)) (sym reply_is) k.2.decided,
     )
+
+-- ---- the order of refusals
+
+-- the first refusal that follows from what the session keeps is the one that is decided, unless memory lacks for lines
+first_decided : (c : Command) (got : List ScriptLine) (old : Parts) (h : Head) (o : Option Refusal) (r : Refusal) → refused_by old (length got) (needs c) ≡ Some r → Decides c got old h o
+    → (o ≡ Some r) ⊎ ((is_followed c ≡ true) × (o ≡ Some refusal.OutOfMemory))
+first_decided c got old h None r is (free, fits) = absurd (none-some r (sym free ∙ is))
+first_decided c got old h (Some x) r is (inl first) = inl (sym first ∙ is)
+first_decided c got old h (Some x) r is (inr (inl (late, free))) = absurd (none-some r (sym free ∙ is))
+first_decided c got old h (Some x) r is (inr (inr (lacks, followed))) = inr (followed, ap (λ y. Some y) lacks)
+
+refuses_so : (h : Head) (r : Refusal) → refusal_of h ≡ Some r → h ≡ head.Refused r
+refuses_so (head.Refused x) r is = cc
+refuses_so head.Created r is = absurd (none-some r is)
+refuses_so (head.Loaded events total last) r is = absurd (none-some r is)
+refuses_so (head.Appended events total last) r is = absurd (none-some r is)
+refuses_so (head.At handle weight) r is = absurd (none-some r is)
+refuses_so (head.Several weight sum) r is = absurd (none-some r is)
+refuses_so (head.Materialised handle weight) r is = absurd (none-some r is)
+refuses_so (head.List handle lines) r is = absurd (none-some r is)
+refuses_so (head.Counts handle counts) r is = absurd (none-some r is)
+refuses_so (head.NodeThere handle id degree) r is = absurd (none-some r is)
+refuses_so (head.NodeAbsent handle id) r is = absurd (none-some r is)
+refuses_so (head.Neighbours handle id lines) r is = absurd (none-some r is)
+refuses_so (head.Released handle) r is = absurd (none-some r is)
+refuses_so head.Cleaned r is = absurd (none-some r is)
+refuses_so (head.CleanedAll cells) r is = absurd (none-some r is)
+refuses_so (head.Pool live size) r is = absurd (none-some r is)
+refuses_so (head.Plan weight steps) r is = absurd (none-some r is)
+refuses_so (head.Certified verdict) r is = absurd (none-some r is)
+refuses_so (head.Tree l k function events leaves records) r is = absurd (none-some r is)
+refuses_so (head.Verified soundness) r is = absurd (none-some r is)
+refuses_so (head.Generated events last nodes edges) r is = absurd (none-some r is)
+
+-- Whatever the image is, a step answers with the first refusal that follows from what the session keeps, unless memory
+-- lacks for the lines of the command.
+pub order_kept : (c : Command) (lines_before lines_after : Option (List ScriptLine)) (old : Parts) (before : Option (List ℕ)) (new : Parts) (after : Option (List ℕ)) (reply : Reply)
+    → (s : Steps c lines_before lines_after old before new after reply) (r : Refusal) → refused_by old (length s.0) (needs c) ≡ Some r
+    → (reply.head ≡ head.Refused r) ⊎ ((is_followed c ≡ true) × (reply.head ≡ head.Refused refusal.OutOfMemory))
+order_kept c lines_before lines_after old before new after reply s r is = by (first_decided c s.0 old reply.head (refusal_of reply.head) r is s.4)
+  where
+    by : (refusal_of reply.head ≡ Some r) ⊎ ((is_followed c ≡ true) × (refusal_of reply.head ≡ Some refusal.OutOfMemory))
+        → (reply.head ≡ head.Refused r) ⊎ ((is_followed c ≡ true) × (reply.head ≡ head.Refused refusal.OutOfMemory))
+    by (inl first) = inl (refuses_so reply.head r first)
+    by (inr (followed, lacks)) = inr (followed, refuses_so reply.head refusal.OutOfMemory lacks)

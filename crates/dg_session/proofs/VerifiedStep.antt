@@ -25,6 +25,7 @@ use Rattle.dg_session.proofs.PartStates.{IsOf, hit, is_of, miss, one_image, one_
 use Rattle.dg_session.proofs.SessionSteps.{failing_accepted, lacking_denies, moved}
 use Rattle.dg_batch.specs.declared.halt.Halt.{Halt}
 use Rattle.dg_session.specs.Damage.{DamageIn}
+use Rattle.dg_session.specs.Decided.{Fits}
 use Rattle.dg_batch.specs.Halt.{verify_halt}
 use Rattle.dg_session.specs.Parts.{Parts}
 use Rattle.dg_session.specs.Reads.{Reads, ReadsBy, ReadsIn, is_early}
@@ -70,6 +71,8 @@ answers_over law p q before after o s reply there same same_image sound is = rec
         stands_on p q x y m same (one_image before after x y same_image a b) st,
       ));
   accepted = ap (λ (x : Reply). is_refusal x.head) is;
+  free = verify_free p (ap is_some there);
+  fits = subst (λ (x : Reply). Fits command.Verify x.head) (sym is) tt;
   held = λ h.
       subst (λ (x : Parts). IfSome after (λ image. IsHeldBy x.index x.names image)) (sym same)
       (subst (λ (t : Option (List ℕ)). IfSome t (λ image. IsHeldBy p.index p.names image)) (sym same_image) h);
@@ -103,7 +106,7 @@ pub verify_reads : (p : Parts) (image : Option (List ℕ)) (h : Head) (before af
 verify_reads p image h before after early = record {
   told = λ reads. every_some image (λ bytes. (m : MachineState) → StandsFor p bytes m → (got : List ScriptLine) → ReadsBy m command.Verify got h before after) (λ bytes m s got. tt);
   early = early;
-  nothing = λ quiet. absurd (false≢true quiet);
+  nothing = λ e. absurd (false≢true (sym e));
 }
 
 pub failed_reads : (p : Parts) (image : Option (List ℕ)) (f : VerifyFault) (before after : ℕ) → ReadsIn command.Verify p image (Err (verify_halt f)) before after

@@ -1,6 +1,6 @@
--- Which damage a refusal names.
+-- Which damage a refusal names, and where there is none.
 use Rattle.std.specs.Prelude.{◌≡◌, ℕ, false, List, [], ◌∷◌, Option, Some, None, Result, IfSome, length, take}
-use Rattle.dg_append.specs.OlderGroups.{IsBatchDamage}
+use Rattle.dg_append.specs.OlderGroups.{AreUndamaged, IsBatchDamage, in_groups, older_children}
 use Rattle.dg_graph.specs.declared.element.Column.{Column}
 use Rattle.dg_graph.specs.declared.element.Columns.{Columns}
 use Rattle.dg_history.specs.declared.node.Key.{Key}
@@ -16,6 +16,7 @@ use Rattle.dg_machine.specs.declared.reply.Reply.{Reply}
 use Rattle.dg_retrieval.specs.declared.fault.RetrievalFault.{RetrievalFault}
 use Rattle.dg_retrieval.specs.declared.fault.RetrievalFault.TheVariants as fault
 use Rattle.dg_retrieval.specs.KeptGraph.{index_edges, kept_edges}
+use Rattle.dg_retrieval.specs.NodeSets.{IsUndamaged}
 use Rattle.dg_retrieval.specs.Retrieval.{IsFirstDamage}
 use Rattle.dg_batch.specs.declared.halt.Halt.{Halt}
 use Rattle.dg_ask.specs.HeldIndex.{points_over}
@@ -54,8 +55,8 @@ NamesNodeDamage old image asked f =
     (o : Opening) × (old.index ≡ Some o)
     × IfSome image (λ bytes. IsFirstDamage (length old.names) (index_edges o asked.1 false []) o asked.1 (asked.0 ∷ []) bytes f)
 
--- Of a batch of so many lines: the damage is the first that the trees of the older children enter, or a delta that
--- is due is too large.
+-- Of a batch of so many lines: the damage is the first that the trees of the older children enter, or it is of a delta that
+-- is due.
 abbrev pub NamesBatchDamage : Parts → Option (List ℕ) → ℕ → Key → Column → Type 0
 NamesBatchDamage old image count key col =
     (o : Opening) × (old.index ≡ Some o) × IfSome image (λ bytes. IsBatchDamage (length old.names) o bytes count key col)
@@ -66,6 +67,19 @@ IsMetBy (Graphs times cols) old image key col = NamesDamage old image (times, co
 IsMetBy (Node_set node cols) old image key col = NamesNodeDamage old image (node, cols) (fault.Damaged key col)
 IsMetBy (Batch_of count) old image key col = NamesBatchDamage old image count key col
 IsMetBy Nothing_read old image key col = ⊥
+
+-- what is read for it meets no damage
+abbrev pub MeetsNone : ReadsFor → Parts → Option (List ℕ) → Type 0
+MeetsNone (Graphs times cols) old image =
+    (o : Opening) × (old.index ≡ Some o)
+    × IfSome image (λ bytes. IsUndamaged (length old.names) (kept_edges o (event_total o.batches) cols (bases_in cols old.table)) o cols (points_over o old.recent times) bytes)
+MeetsNone (Node_set node cols) old image =
+    (o : Opening) × (old.index ≡ Some o)
+    × IfSome image (λ bytes. IsUndamaged (length old.names) (index_edges o cols false []) o cols (node ∷ []) bytes)
+MeetsNone (Batch_of count) old image =
+    (o : Opening) × (old.index ≡ Some o)
+    × IfSome image (λ bytes. AreUndamaged (length old.names) o bytes (in_groups (older_children o count)))
+MeetsNone Nothing_read old image = Unit {0}
 
 -- the damage that a refusal tells, if there is one
 abbrev pub damage_told : Option Refusal → Option (Key × Column)

@@ -3,6 +3,7 @@ pub mod SessionState
 pub mod Sweeps
 pub mod Verified
 pub mod SessionStart
+pub mod Decided
 pub mod Session
 pub mod BatchCommand
 pub mod Reads

@@ -1,5 +1,5 @@
 -- What a retrieval gives, the handles that it is given, and the bytes that commands read.
-use Rattle.std.specs.Prelude.{◌≡◌, ℕ, ◌+◌, Bool, true, false, ◌&&◌, not, List, [], ◌∷◌, ◌++◌, Option, Some, None, Result, Ok, Err, IfSome, length, map}
+use Rattle.std.specs.Prelude.{◌≡◌, ℕ, ◌+◌, Bool, true, false, List, [], ◌∷◌, ◌++◌, Option, Some, None, Result, Ok, Err, IfSome, length, map}
 use Rattle.std.specs.List.{sum}
 use Rattle.dg_fold.specs.BytesRead.{Takes, TakesAtMost}
 use Rattle.dg_graph.specs.declared.element.Columns.{Columns}
@@ -32,7 +32,7 @@ use Rattle.dg_retrieval.specs.Retrieval.{IsTreeOf}
 use Rattle.dg_batch.specs.declared.halt.Halt.{Halt}
 use Rattle.dg_batch.specs.declared.halt.Halt.TheVariants as halt
 use Rattle.dg_session.specs.Parts.{Parts}
-use Rattle.dg_session.specs.Session.{StandsFor, is_quiet}
+use Rattle.dg_session.specs.Session.{StandsFor}
 
 -- the session with new handles for these behind those that it has, which list these graphs
 abbrev pub with_new_handles : Parts → List Stands → List (List Element) → Parts
@@ -104,12 +104,12 @@ ReadsBy m c got h before after = ReadsAsTold (is_refusal h) m c got h before aft
 
 -- The bytes that the command reads, where the reply has this head: over an image that stands for a state what the
 -- reply to a retrieval tells, and no more than the older children of a batch; nothing, where it is refused before
--- that, and for a command that neither reads nor writes.
+-- that, and for a command that reads no records.
 pub record Reads (c : Command) (old : Parts) (image : Option (List ℕ)) (h : Head) (before after : ℕ) : Type 0 where
   pub told : (needs c).reads ≡ true → IfSome image (λ bytes. (m : MachineState) → StandsFor old bytes m
       → (got : List ScriptLine) → ReadsBy m c got h before after)
   pub early : is_early h ≡ true → after ≡ before
-  pub nothing : is_quiet c ≡ true → after ≡ before
+  pub nothing : (needs c).reads ≡ false → after ≡ before
 
 -- the first line of the reply to a command that comes to this, unless it is stopped
 abbrev pub reply_head : Result Reply Halt → Option Head

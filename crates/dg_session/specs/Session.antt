@@ -1,5 +1,5 @@
 -- How the steps of a session are steps of the machine.
-use Rattle.std.specs.Prelude.{◌≡◌, ℕ, ◌+◌, ◌*◌, Bool, true, false, ◌&&◌, ◌||◌, not, List, [], ◌∷◌, ◌++◌, Option, Some, None, Result, Ok, Err, IfSome, is_some, length, nat_lt}
+use Rattle.std.specs.Prelude.{◌≡◌, ◌⊎◌, ℕ, ◌+◌, ◌*◌, Bool, true, false, ◌&&◌, ◌||◌, not, List, [], ◌∷◌, ◌++◌, Option, Some, None, Result, Ok, Err, IfSome, is_some, length, nat_lt}
 use Rattle.std.specs.List.{All, list_any}
 use Rattle.dg_graph.specs.declared.element.Column.{Column}
 use Rattle.dg_graph.specs.declared.limits.TheConstants.{NAMES_MAX}
@@ -10,13 +10,14 @@ use Rattle.dg_history.specs.History.{History, are_parameters, events_of, span_of
 use Rattle.dg_index.specs.ImageOfHistory.{StandsAs}
 use Rattle.dg_machine.specs.declared.command.Command.{Command}
 use Rattle.dg_machine.specs.declared.limits.TheConstants.{HANDLE_MAX, LIVE_HANDLES_MAX}
+use Rattle.dg_machine.specs.declared.reply.Head.{Head}
 use Rattle.dg_machine.specs.declared.reply.Head.TheVariants as head
 use Rattle.dg_machine.specs.declared.reply.Refusal.{Refusal}
 use Rattle.dg_machine.specs.declared.reply.Refusal.TheVariants as refusal
 use Rattle.dg_machine.specs.declared.reply.Reply.{Reply}
 use Rattle.dg_machine.specs.declared.stands.Stands.{Stands}
 use Rattle.dg_machine.specs.declared.stands.Stands.TheVariants.{Overlay, Base}
-use Rattle.dg_machine.specs.Answer.{headed, is_refusal}
+use Rattle.dg_machine.specs.Answer.{headed, is_refusal, refusal_of}
 use Rattle.dg_machine.specs.CutImage.{IsCut}
 use Rattle.dg_machine.specs.MachineState.{MachineState, dependent_on, stands_at, graphs_of, history_in}
 use Rattle.dg_machine.specs.Needs.{Needs, can_be_held, earliest, following, is_base, is_followed, is_writing, needs, nothing_more, of, when}
@@ -25,6 +26,7 @@ use Rattle.dg_machine.specs.Script.{Asked, Follows}
 use Rattle.dg_batch.specs.declared.halt.Halt.{Halt}
 use Rattle.dg_batch.specs.declared.halt.Halt.TheVariants as halt
 use Rattle.dg_batch.specs.declared.stop.Stop.TheVariants as stop
+use Rattle.dg_session.specs.Decided.{Fits, is_late}
 use Rattle.dg_session.specs.Parts.{Parts}
 use Rattle.dg_ask.specs.HeldIndex.{events_held, has_node_held, span_held}
 use Rattle.dg_start.specs.StoredHistory.{IsHeldBy, KeepsHistory}
@@ -107,13 +109,28 @@ is_at_hand c = is_quiet c && not (is_followed c)
 abbrev pub MayRead : Command → List ScriptLine → Parts → Type 0
 MayRead command got old = ((needs command).reads ≡ true) × (refused_by old (length got) (needs command) ≡ None)
 
--- The command and the lines that follow it make such a step, where the disk tells its image. A reply that tells of a read
--- takes the index of no refusal by what the session keeps, whatever the image is.
+-- The refusal is the first that follows from what the session keeps; or none does, and it comes of a change, of the file or
+-- of memory, where the command needs them; or memory lacks for a command that lines follow.
+abbrev pub IsDecided : Command → List ScriptLine → Parts → Refusal → Type 0
+IsDecided command got old r =
+    (refused_by old (length got) (needs command) ≡ Some r)
+    ⊎ ((is_late (needs command) r ≡ true) × (refused_by old (length got) (needs command) ≡ None))
+    ⊎ ((r ≡ refusal.OutOfMemory) × (is_followed command ≡ true))
+
+-- Whatever the image is: a reply that is no refusal fits the command, which the session does not refuse by what it
+-- keeps; a refusal is decided.
+abbrev pub Decides : Command → List ScriptLine → Parts → Head → Option Refusal → Type 0
+Decides command got old h None = (refused_by old (length got) (needs command) ≡ None) × Fits command h
+Decides command got old h (Some r) = IsDecided command got old r
+
+-- The command and the lines that follow it make such a step, where the disk tells its image. Whatever the image is, a reply
+-- that tells of a read takes the index of no refusal by what the session keeps, and the reply is decided by that.
 abbrev pub Steps : Command → Option (List ScriptLine) → Option (List ScriptLine) → Parts → Option (List ℕ) → Parts → Option (List ℕ) → Reply → Type 0
 Steps command lines_before lines_after old before new after reply =
     (got : List ScriptLine) × Follows (following command) lines_before got lines_after
     × WhereBothTold before after (λ image then_image. Moves command got old image new then_image reply)
     × ((r : Refusal) → reply.head ≡ head.Refused r → is_of_read r ≡ true → MayRead command got old)
+    × Decides command got old reply.head (refusal_of reply.head)
 
 -- The command and the lines that follow it were cut off so, where the disk tells its image. The command is not refused by
 -- what the session keeps, whatever the image is.
@@ -135,6 +152,8 @@ node_needs node = record nothing_more { index = true; node = Some node; handles 
 pub record Accepts (command : Command) (got : List ScriptLine) (old : Parts) (before : Option (List ℕ)) (new : Parts) (after : Option (List ℕ)) (reply : Reply) : Type 0 where
   pub moves : WhereBothTold before after (λ image then_image. Moves command got old image new then_image reply)
   pub accepted : is_refusal reply.head ≡ false
+  pub free : refused_by old (length got) (needs command) ≡ None
+  pub fits : Fits command reply.head
   pub held : IfSome before (λ image. IsHeldBy old.index old.names image) → IfSome after (λ image. IsHeldBy new.index new.names image)
   pub no_index : new.index ≡ None → (old.index ≡ None) × (after ≡ before)
   pub quiet : is_writing command ≡ false → after ≡ before
@@ -149,6 +168,7 @@ pub record Denies (command : Command) (got : List ScriptLine) (old : Parts) (bef
   pub moves : WhereBothTold before after (λ image then_image. Moves command got old image new then_image (headed (head.Refused r)))
   pub as_before : IsAsBefore old before new after
   pub reads : is_of_read r ≡ true → MayRead command got old
+  pub decided : IsDecided command got old r
 
 -- what the command and these lines come to
 abbrev pub ComesTo : Command → List ScriptLine → Parts → Option (List ℕ) → Parts → Option (List ℕ) → Result Reply Halt → Type 0

@@ -1,5 +1,5 @@
 -- What commands that clean do to the pool.
-use Rattle.std.specs.Prelude.{◌≡◌, length}
+use Rattle.std.specs.Prelude.{◌≡◌, ℕ, length}
 use Rattle.dg_handles.specs.Handles.{IsSweptWhole}
 use Rattle.dg_machine.specs.declared.command.Command.{Command}
 use Rattle.dg_machine.specs.declared.command.Command.TheVariants as command
@@ -9,15 +9,32 @@ use Rattle.dg_pool.specs.declared.pool.Swept.{Swept}
 use Rattle.dg_pool.specs.Graphs.{PoolState}
 use Rattle.dg_pool.specs.Sweeps.{IsSweep, cells_of}
 
+-- what a command sweeps: so many cells, all of them, or none
+pub data Sweep : Type 0 where
+  Some_cells : ℕ → Sweep
+  All_cells : Sweep
+  No_cell : Sweep
+
+abbrev pub sweep_of : Command → Sweep
+sweep_of (command.Clean cells) = Some_cells cells
+sweep_of command.CleanAll = All_cells
+sweep_of c = No_cell
+
+abbrev pub SweepsAs : Sweep → PoolState → PoolState → Head → Type 0
+SweepsAs (Some_cells cells) old new h = (answer : Swept) × IsSweep old new cells answer
+SweepsAs All_cells old new h = IsSweptWhole new × (h ≡ head.CleanedAll (length (cells_of new)))
+SweepsAs No_cell old new h = Unit {0}
+
 -- `clean N` sweeps N cells on from where the last sweep stopped; `clean all` is a whole sweep, and its reply tells the
 -- cells that are left. Of other commands nothing is said.
 abbrev pub SweepsPool : Command → PoolState → PoolState → Head → Type 0
-SweepsPool (command.Clean cells) old new h = (answer : Swept) × IsSweep old new cells answer
-SweepsPool command.CleanAll old new h = IsSweptWhole new × (h ≡ head.CleanedAll (length (cells_of new)))
-SweepsPool c old new h = Unit {0}
+SweepsPool c old new h = SweepsAs (sweep_of c) old new h
+
+abbrev pub IsNoSweep : Sweep → Type 0
+IsNoSweep (Some_cells cells) = ⊥
+IsNoSweep All_cells = ⊥
+IsNoSweep No_cell = Unit {0}
 
 -- the command is none that cleans
 abbrev pub SweepsNothing : Command → Type 0
-SweepsNothing (command.Clean cells) = ⊥
-SweepsNothing command.CleanAll = ⊥
-SweepsNothing c = Unit {0}
+SweepsNothing c = IsNoSweep (sweep_of c)

@@ -1,7 +1,7 @@
 //! Retrievals over the index of a session: the graphs as of several instants, by one tree, and the new
 //! handles for them.
 
-ghost use Rattle.std.specs.Prelude.{◌≡◌, ℕ, ◌≤◌, ◌+◌, ◌<◌, ◌^◌, ◌∷◌, ◌++◌, [], false, true, not, Some, List, length, map, IfErr, IfOk, IfSome, IsErrOf};
+ghost use Rattle.std.specs.Prelude.{◌≡◌, ℕ, ◌≤◌, ◌+◌, ◌<◌, ◌^◌, ◌∷◌, ◌++◌, [], false, true, not, Some, List, length, map, IfErr, IfOk, IfSome, IsErrOf, OnOk};
 ghost use Rattle.std.specs.List.{All, list_any, sum};
 ghost use Rattle.dg_disk.specs.Counts.{Rose};
 ghost use Rattle.dg_disk.specs.Frame.{OnlyReads};
@@ -22,7 +22,7 @@ ghost use Rattle.dg_plan.specs.IndexGraph.{arcs_of};
 ghost use Rattle.dg_plan.specs.Walks.{AreSingles, IsPlan, weight_of};
 ghost use Rattle.dg_retrieval.specs.KeptGraph.{IsKeptGraph, index_edges, kept_nodes};
 ghost use Rattle.dg_retrieval.specs.Retrieval.{AreHeld, ArePoints, IsFirstDamage, IsNoDamage, IsOver, IsTreeOf, TakesAtMostTree, graphs_at};
-ghost use Rattle.dg_retrieval.specs.NodeSets.{IsIndexOver};
+ghost use Rattle.dg_retrieval.specs.NodeSets.{IsIndexOver, IsUndamaged};
 ghost use Rattle.dg_ask.specs.HeldIndex.{has_node_held, points_over, span_held};
 ghost use Rattle.dg_session.specs.Reads.{bases_of};
 
@@ -82,6 +82,8 @@ pub fn leads_at<R: Threads, D: Disk>(
     ensures graphs { IfOk result (λ r. IfSome (D.image disk.old) (λ image. (z : History) (now : List Element) (held : ℕ → List Element) → IsOver z image index.old.opening names now recent.now
         → AreHeld z planner.now.edges cols held → ArePoints z (points_over index.old.opening recent.now times.now) times.now
         → map (led_to now held cols) (leads_in r.leads) ≡ graphs_at z times.now cols)) }
+    ensures whole { OnOk result (IfSome (D.image disk.old) (λ image.
+        IsUndamaged names planner.now.edges index.old.opening cols (points_over index.old.opening recent.now times.now) image)) }
 
     // the bytes read
     ensures takes { IfOk result (λ r. IfSome (D.image disk.old) (λ image. (z : History) (now : List Element) → IsOver z image index.old.opening names now recent.now
@@ -126,6 +128,8 @@ pub fn node_lead<R: Threads + Sync, D: Disk>(
         × (r.weight ≡ weight_of (arcs_of (index_edges index.old.opening cols false [])) steps)) }
     ensures set { IfOk result (λ r. IfSome (D.image disk.old) (λ image. (z : History) → IsIndexOver z image index.old.opening names
         → shown (applied r.delta []) cols ≡ shown (set_of z.params (events_of z) node) cols)) }
+    ensures whole { OnOk result (IfSome (D.image disk.old) (λ image.
+        IsUndamaged names (index_edges index.old.opening cols false []) index.old.opening cols (node ∷ []) image)) }
 
     // the bytes read
     ensures takes { IfOk result (λ r. IfSome (D.image disk.old) (λ image. (z : History) → IsIndexOver z image index.old.opening names

@@ -34,7 +34,7 @@ ghost use Rattle.dg_retrieval.specs.Beginnings.{leads_in, led_to};
 ghost use Rattle.dg_retrieval.specs.Retrieval.{IsNoDamage, TakesAtMostTree};
 ghost use Rattle.dg_session.specs.BatchCommand.{barred, command_with};
 ghost use Rattle.dg_ask.specs.HeldIndex.{events_held, span_held};
-ghost use Rattle.dg_session.specs.Damage.{DamageIn, DamageIs, NamesDamage, NamesNodeDamage};
+ghost use Rattle.dg_session.specs.Damage.{Batch_of, DamageIn, DamageIs, Graphs, MeetsNone, NamesDamage, NamesNodeDamage, Node_set, reads_for};
 ghost use Rattle.dg_session.specs.Parts.{Parts};
 ghost use Rattle.dg_session.specs.Reads.{IsNodeHeld, IsRetrieved, Reads, ReadsIn, bases_of, listed_by, with_new_handles};
 ghost use Rattle.dg_session.specs.Session.{ComesTo, IsAsBefore, is_at_hand, StandsFor, Steps, Stops, TakesLines, is_too_full, node_needs, refused_by, retrieval_needs};
@@ -305,7 +305,7 @@ impl Session {
     /// handles among it, and the disk's image as they were. Only what reads records is refused for damage: a retrieval
     /// for the first column that its tree enters and that is in no spelling, a node that is to be held for the first that
     /// its plan enters, a batch for the first that the trees of the older children of the interior nodes that it completes
-    /// enter.
+    /// enter. One of these that is not refused has met no such column.
     ///
     /// `Stop::Read` where a read of the source failed, `Stop::Limit` where another byte is needed and
     /// as many as the limit allows were taken: the session is then as it was. `Stop::Store` where the
@@ -346,6 +346,7 @@ impl Session {
         ensures store_read { IfOk result (λ reply. is_store_read reply.head ≡ true
             → OnlyReadFailed D.faults D.write_faults disk.old disk.new) }
         ensures damaged { IfOk result (λ reply. DamageIs command.now self.old.parts (D.image disk.old) reply.head) }
+        ensures undamaged { IfOk result (λ reply. is_refusal reply.head ≡ false → MeetsNone (reads_for command.now) self.old.parts (D.image disk.old)) }
         ensures verified { IfOk result (λ reply. VerifiesFile command.now self.old.parts (D.image disk.old) reply.head) }
         ensures swept { IfOk result (λ reply. SweepsPool command.now self.old.pool self.new.pool reply.head) }
 
@@ -386,6 +387,7 @@ impl Session {
         ensures store_read { IsErrOf result (Halt.Refusal Refusal.StoreRead)
             → OnlyReadFailed D.faults D.write_faults disk.old disk.new }
         ensures damaged { DamageIn command.now self.old.parts (D.image disk.old) result }
+        ensures undamaged { OnOk result (MeetsNone (reads_for command.now) self.old.parts (D.image disk.old)) }
         ensures verified { IfOk result (λ reply. VerifiesFile command.now self.old.parts (D.image disk.old) reply.head) }
         ensures swept { IfOk result (λ reply. SweepsPool command.now self.old.pool self.new.pool reply.head) }
         ensures unswept { IfErr result (λ halt. SweepsNothing command.now) }
@@ -560,6 +562,7 @@ impl Session {
         ensures store_read { IsErrOf result (Halt.Refusal Refusal.StoreRead)
             → OnlyReadFailed D.faults D.write_faults disk.old disk.new }
         ensures damaged { DamageIn (command_with which count) self.old.parts (D.image disk.old) result }
+        ensures undamaged { OnOk result (MeetsNone (Batch_of count) self.old.parts (D.image disk.old)) }
 
         // what it takes and leaves
         ensures reads { ReadsIn (command_with which count) self.old.parts (D.image disk.old) result (D.taken disk.old) (D.taken disk.new) }
@@ -615,6 +618,7 @@ impl Session {
         ensures store_read { IsErrOf result (Halt.Refusal Refusal.StoreRead)
             → OnlyReadFailed D.faults D.write_faults disk.old disk.new }
         ensures damaged { DamageIn (Command.Workload seed count) self.old.parts (D.image disk.old) result }
+        ensures undamaged { OnOk result (MeetsNone (Batch_of count) self.old.parts (D.image disk.old)) }
 
         // what it takes and leaves
         ensures reads { ReadsIn (Command.Workload seed count) self.old.parts (D.image disk.old) result (D.taken disk.old) (D.taken disk.new) }
@@ -748,6 +752,7 @@ impl Session {
         ensures bases { IfOk result (λ r. All (BeginsOn self.old.parts.table cols) (leads_in r.leads)) }
         ensures count { IfOk result (λ r. length (leads_in r.leads) ≡ length times.now) }
         ensures sum { IfOk result (λ r. r.sum ≡ sum r.singles.items) }
+        ensures whole { OnOk result (MeetsNone (Graphs times.now cols) self.old.parts (D.image disk.old)) }
 
         // the bytes read
         ensures takes { IfOk result (λ r. IfSome (D.image disk.old) (λ image. (m : MachineState) → StandsFor self.old.parts image m
@@ -812,6 +817,7 @@ impl Session {
         // why it is refused for a read
         ensures store_read { IsErrOf result (Halt.Refusal Refusal.StoreRead) → DiskRose (D.faults disk.old) (D.faults disk.new) }
         ensures damaged { DamageIn (Command.At t cols) self.old.parts (D.image disk.old) result }
+        ensures undamaged { OnOk result (MeetsNone (Graphs (t ∷ []) cols) self.old.parts (D.image disk.old)) }
 
         // what it reads and leaves
         ensures reads { ReadsIn (Command.At t cols) self.old.parts (D.image disk.old) result (D.taken disk.old) (D.taken disk.new) }
@@ -847,6 +853,7 @@ impl Session {
         // why it is refused for a read
         ensures store_read { IsErrOf result (Halt.Refusal Refusal.StoreRead) → DiskRose (D.faults disk.old) (D.faults disk.new) }
         ensures damaged { DamageIn (Command.Several cols times count) self.old.parts (D.image disk.old) result }
+        ensures undamaged { OnOk result (MeetsNone (Graphs (take count times) cols) self.old.parts (D.image disk.old)) }
 
         // what it reads and leaves
         ensures reads { ReadsIn (Command.Several cols times count) self.old.parts (D.image disk.old) result (D.taken disk.old) (D.taken disk.new) }
@@ -903,6 +910,7 @@ impl Session {
         // what is led to
         ensures held { IfOk result (λ r. IfSome (D.image disk.old) (λ image. (m : MachineState) → StandsFor self.old.parts image m
             → IsNodeHeld m node cols r.weight (shown (applied r.delta []) cols))) }
+        ensures whole { OnOk result (MeetsNone (Node_set node cols) self.old.parts (D.image disk.old)) }
 
         // the bytes read
         ensures takes { IfOk result (λ r. IfSome (D.image disk.old) (λ image. (m : MachineState) → StandsFor self.old.parts image m
@@ -961,6 +969,7 @@ impl Session {
         // why it is refused for a read
         ensures store_read { IsErrOf result (Halt.Refusal Refusal.StoreRead) → DiskRose (D.faults disk.old) (D.faults disk.new) }
         ensures damaged { DamageIn (Command.Materialise node cols) self.old.parts (D.image disk.old) result }
+        ensures undamaged { OnOk result (MeetsNone (Node_set node cols) self.old.parts (D.image disk.old)) }
 
         // what it reads and leaves
         ensures reads { ReadsIn (Command.Materialise node cols) self.old.parts (D.image disk.old) result (D.taken disk.old) (D.taken disk.new) }

@@ -1,11 +1,12 @@
 use Rattle.std.proofs.Common.{List, sym, ◌∙◌, subst}
-use Rattle.std.specs.Prelude.{IfErr, IfSome}
+use Rattle.std.specs.Prelude.{IfErr, IfSome, OnOk}
 use Rattle.std.specs.List.{All, Contains}
 use Rattle.dg_graph.specs.declared.element.Element.{Element}
 use Rattle.dg_history.specs.declared.node.NodeId.{NodeId}
 use Rattle.dg_history.specs.History.{History}
 use Rattle.dg_index.specs.OpenedIndex.{Opening, event_total}
 use Rattle.dg_retrieval.specs.KeptGraph.{kept_nodes}
+use Rattle.dg_retrieval.specs.NodeSets.{IsUndamaged}
 use Rattle.dg_retrieval.specs.Retrieval.{ArePoints, IsFirstDamage, IsNoDamage, IsOver, TakesAtMostTree}
 use Rattle.dg_session.proofs.SessionRetrievals.{points_there}
 use Rattle.dg_session.proofs.retrieval.leads_at.Goals as goal
@@ -36,3 +37,9 @@ returns-clause-never g c =
     let Never : List NodeId → Type 0 = λ targets. IfErr c.retrieve.result (λ f. IfSome (g.D.Disk.image c.args.disk.now) (λ image. (z : History) (now : List Element)
     → IsOver z image o c.args.names now c.args.recent.now → ArePoints z targets c.args.times.now → IsNoDamage f)) in
     subst Never (c.deref.ensures.value ∙ c.in_ok-targets.ensures) c.retrieve.ensures.never
+
+pub returns-clause-whole : goal.returns-clause-whole
+returns-clause-whole g c =
+    let o : Opening = c.args.index.now.opening in
+    let Whole : List NodeId → Type 0 = λ targets. OnOk c.retrieve.result (IfSome (g.D.Disk.image c.args.disk.now) (λ image. IsUndamaged c.args.names c.args.planner.now.edges o c.args.cols targets image)) in
+    subst Whole (c.deref.ensures.value ∙ c.in_ok-targets.ensures) c.retrieve.ensures.whole

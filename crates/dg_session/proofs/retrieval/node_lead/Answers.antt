@@ -1,5 +1,5 @@
 use Rattle.std.proofs.Common.{◌≡◌, ℕ, ◌∷◌, [], List, refl, sym, subst, false}
-use Rattle.std.specs.Prelude.{IfErr, IfOk, IfSome}
+use Rattle.std.specs.Prelude.{IfErr, IfOk, IfSome, OnOk}
 use Rattle.std.specs.List.{Contains}
 use Rattle.dg_fold.specs.BytesRead.{TakesAtMost}
 use Rattle.dg_history.specs.declared.node.NodeId.{NodeId}
@@ -11,7 +11,7 @@ use Rattle.dg_plan.specs.declared.edge.Edge.{Edge}
 use Rattle.dg_plan.specs.IndexGraph.{arcs_of}
 use Rattle.dg_plan.specs.Walks.{IsPlan, weight_of}
 use Rattle.dg_retrieval.specs.KeptGraph.{index_ground}
-use Rattle.dg_retrieval.specs.NodeSets.{IsIndexOver}
+use Rattle.dg_retrieval.specs.NodeSets.{IsIndexOver, IsUndamaged}
 use Rattle.dg_retrieval.specs.Retrieval.{IsFirstDamage}
 use Rattle.dg_ask.proofs.IndexNodes.{node_listed}
 use Rattle.dg_session.proofs.retrieval.node_lead.Goals as goal
@@ -40,3 +40,9 @@ returns-clause-damage g c =
     let o : Opening = c.args.index.now.opening in
     let Damage : List Edge → Type 0 = λ es. IfErr c.retrieve_node.result (λ f. IfSome (g.D.Disk.image c.args.disk.now) (λ image. IsFirstDamage c.args.names es o c.args.cols (c.args.node ∷ []) image f)) in
     subst Damage c.in_ok-planner.ensures.edges c.retrieve_node.ensures.damage
+
+pub returns-clause-whole : goal.returns-clause-whole
+returns-clause-whole g c =
+    let o : Opening = c.args.index.now.opening in
+    let Whole : List Edge → Type 0 = λ es. OnOk c.retrieve_node.result (IfSome (g.D.Disk.image c.args.disk.now) (λ image. IsUndamaged c.args.names es o c.args.cols (c.args.node ∷ []) image)) in
+    subst Whole c.in_ok-planner.ensures.edges c.retrieve_node.ensures.whole

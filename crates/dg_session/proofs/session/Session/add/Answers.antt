@@ -7,13 +7,13 @@ use Rattle.dg_session.specs.SessionState.{SessionState}
 use Rattle.dg_pool.specs.Graphs.{slot_graph}
 use Rattle.dg_batch.specs.HandlesStay.{HandlesStay}
 use Rattle.dg_session.specs.BatchCommand.{command_with, batch_head}
-use Rattle.dg_session.specs.Damage.{DamageIn}
+use Rattle.dg_session.specs.Damage.{Batch_of, DamageIn, MeetsNone}
 use Rattle.dg_batch.specs.Halt.{batch_halt}
 use Rattle.dg_session.specs.Parts.{Parts}
 use Rattle.dg_session.specs.Reads.{Reads, ReadsIn}
 use Rattle.dg_session.specs.Session.{Accepts, ComesTo}
 use Rattle.dg_session.specs.contracts.session.Session.{the_view}
-use Rattle.dg_session.proofs.BatchCommandReads.{ReadsNoMore, added_reads, failed_damage, failed_reads, reads_no_more, unread_damage, unread_reads}
+use Rattle.dg_session.proofs.BatchCommandReads.{ReadsNoMore, added_reads, added_undamaged, failed_damage, failed_reads, reads_no_more, unread_damage, unread_reads}
 use Rattle.dg_session.proofs.BatchCommandForms.{Lines_of}
 use Rattle.dg_session.proofs.BatchCommandStep.{IsAsked, batch_added, batch_failed, failed_stays, is_asked, is_ready, kept_handles, takes_failed, unread_comes, with_handles, with_history}
 use Rattle.dg_session.proofs.SessionSteps.{Comes, handed_out}
@@ -161,3 +161,19 @@ returns-clause-reads g c =
     subst (λ (r : Reply). Reads (command_with c.args.which c.args.count) c.args.self.now.parts image r.head taken then_taken) (sym (c.headed.ensures ∙ ap headed c.head.ensures))
     (added_reads (Lines_of c.args.which) c.args.count c.args.self.now.parts image c.add_changes.new.history.now.graph c.in_ok-added.added.events c.in_ok-added.added.total c.in_ok-added.added.last taken then_taken
     (subst (λ (x : Parts). ReadsNoMore x image c.args.count taken then_taken) (ap (λ (x : SessionState). x.parts) c.self.view_is) older))
+
+pub returns-clause-undamaged : goal.returns-clause-undamaged
+returns-clause-undamaged g c =
+    let p : Parts = (the_view c.self.inside).parts in
+    let old : StoredHistory = record { index = c.self.inside.history.index; names = c.read_batch.new.names; now = c.self.inside.history.now; recent = c.self.inside.history.recent } in
+    let before : Option (List ScriptLine) = told c.args.lines.now (g.S.Source.left c.args.source.now) in
+    let after : Option (List ScriptLine) = told c.read_batch.new.lines (g.S.Source.left c.read_batch.new.source) in
+    let got : List ScriptLine = c.in_ok-batch.ensures.reads.got in
+    let asked : IsAsked (Lines_of c.args.which) got p c.args.count c.len-known.result c.self.inside.limits.file_bytes old c.in_ok-batch.batch =
+    is_asked c.args.which p c.args.self.now.parts c.args.count c.len-known.result old c.in_ok-batch.batch before after c.barred-barred.result (ap (λ (x : SessionState). x.parts) c.self.view_is) c.barred-barred.ensures
+    refl c.len-known.ensures.len refl refl c.self.invariant.0.events c.requires.some c.requires.few c.in_ok-batch.ensures.reads in
+    let image : Option (List ℕ) = g.D.Disk.image c.args.disk.now in
+    let then_image : Option (List ℕ) = g.D.Disk.image c.add_changes.new.disk in
+    subst (λ (x : Parts). MeetsNone (Batch_of c.args.count) x image) (ap (λ (x : SessionState). x.parts) c.self.view_is)
+    (added_undamaged (Lines_of c.args.which) got p c.args.count c.len-known.result c.self.inside.limits.file_bytes old c.in_ok-batch.batch asked image then_image c.add_changes.new.history c.in_ok-added.added
+    c.in_ok-added.ensures.adds c.in_ok-added.ensures.whole)

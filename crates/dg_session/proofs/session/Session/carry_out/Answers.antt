@@ -9,7 +9,7 @@ use Rattle.dg_session.specs.Damage.{DamageIn}
 use Rattle.dg_session.specs.Reads.{ReadsIn}
 use Rattle.dg_session.specs.Session.{is_at_hand}
 use Rattle.dg_session.specs.Verified.{VerifiesFile}
-use Rattle.dg_session.proofs.DamageStep.{never_for_damage}
+use Rattle.dg_session.proofs.DamageStep.{met_none, met_nothing, never_for_damage, reads_undamaged}
 use Rattle.dg_session.proofs.ReadsStep.{fails_no_read, followed_by_none, reads_none, reads_nothing}
 use Rattle.dg_session.proofs.SessionSteps.{Comes, alone}
 use Rattle.dg_session.proofs.session.Session.carry_out.Goals as goal
@@ -56,7 +56,7 @@ returns-in-Several-clause-reads g c =
 pub returns-in-Certify-clause-reads : goal.returns-in-Certify-clause-reads
 returns-in-Certify-clause-reads g c =
     subst (λ x. ReadsIn x c.args.self.now.parts (g.D.Disk.image c.args.disk.now) c.certify.result (g.D.Disk.taken c.args.disk.now) (g.D.Disk.taken c.args.disk.now)) (sym c.in-Certify.is)
-    (reads_nothing (command.Certify c.in-Certify.t c.in-Certify.cols c.in-Certify.count) c.args.self.now.parts (g.D.Disk.image c.args.disk.now) c.certify.result (g.D.Disk.taken c.args.disk.now) refl)
+    (reads_nothing (command.Certify c.in-Certify.t c.in-Certify.cols c.in-Certify.count) c.args.self.now.parts (g.D.Disk.image c.args.disk.now) c.certify.result (g.D.Disk.taken c.args.disk.now) (g.D.Disk.taken c.args.disk.now) refl refl)
 
 pub returns-in-Certify-clause-store_read : goal.returns-in-Certify-clause-store_read
 returns-in-Certify-clause-store_read g c h =
@@ -182,4 +182,55 @@ returns-in_default-clause-damaged g c =
 pub returns-in_default-clause-reads : goal.returns-in_default-clause-reads
 returns-in_default-clause-reads g c =
     let hand : is_at_hand c.args.command.now ≡ true = search (rules, c.in_default) in
-    reads_nothing c.args.command.now c.args.self.now.parts (g.D.Disk.image c.args.disk.now) c.answer.result (g.D.Disk.taken c.args.disk.now) (reads_none c.args.command.now hand)
+    reads_nothing c.args.command.now c.args.self.now.parts (g.D.Disk.image c.args.disk.now) c.answer.result (g.D.Disk.taken c.args.disk.now) (g.D.Disk.taken c.args.disk.now) (reads_none c.args.command.now hand) refl
+
+pub returns-in-At-clause-undamaged : goal.returns-in-At-clause-undamaged
+returns-in-At-clause-undamaged g c =
+    met_none c.args.command.now (command.At c.in-At.t c.in-At.cols) c.args.self.now.parts (g.D.Disk.image c.args.disk.now) c.at.result c.in-At.is c.at.ensures.undamaged
+
+pub returns-in-Several-clause-undamaged : goal.returns-in-Several-clause-undamaged
+returns-in-Several-clause-undamaged g c =
+    met_none c.args.command.now (command.Several c.in-Several.cols c.in-Several.times c.in-Several.count) c.args.self.now.parts (g.D.Disk.image c.args.disk.now) c.several.result c.in-Several.is c.several.ensures.undamaged
+
+pub returns-in-Materialise-clause-undamaged : goal.returns-in-Materialise-clause-undamaged
+returns-in-Materialise-clause-undamaged g c =
+    met_none c.args.command.now (command.Materialise c.in-Materialise.node c.in-Materialise.cols) c.args.self.now.parts (g.D.Disk.image c.args.disk.now) c.materialise.result c.in-Materialise.is c.materialise.ensures.undamaged
+
+pub returns-in-Load-clause-undamaged : goal.returns-in-Load-clause-undamaged
+returns-in-Load-clause-undamaged g c =
+    met_none c.args.command.now (command.Load c.in-Load.count) c.args.self.now.parts (g.D.Disk.image c.args.disk.now) c.add.result c.in-Load.is c.add.ensures.undamaged
+
+pub returns-in-Append-clause-undamaged : goal.returns-in-Append-clause-undamaged
+returns-in-Append-clause-undamaged g c =
+    met_none c.args.command.now (command.Append c.in-Append.count) c.args.self.now.parts (g.D.Disk.image c.args.disk.now) c.add-in-Append.result c.in-Append.is c.add-in-Append.ensures.undamaged
+
+pub returns-in-Workload-clause-undamaged : goal.returns-in-Workload-clause-undamaged
+returns-in-Workload-clause-undamaged g c =
+    met_none c.args.command.now (command.Workload c.in-Workload.seed c.in-Workload.count) c.args.self.now.parts (g.D.Disk.image c.args.disk.now) c.workload.result c.in-Workload.is c.workload.ensures.undamaged
+
+pub returns-in-Create-clause-undamaged : goal.returns-in-Create-clause-undamaged
+returns-in-Create-clause-undamaged g c =
+    let p = c.args.self.now.parts in
+    let image = g.D.Disk.image c.args.disk.now in
+    met_none c.args.command.now (command.Create c.in-Create.l c.in-Create.k c.in-Create.function) p image c.create.result c.in-Create.is
+    (met_nothing (command.Create c.in-Create.l c.in-Create.k c.in-Create.function) p image c.create.result tt)
+
+pub returns-in-Certify-clause-undamaged : goal.returns-in-Certify-clause-undamaged
+returns-in-Certify-clause-undamaged g c =
+    let p = c.args.self.now.parts in
+    let image = g.D.Disk.image c.args.disk.now in
+    met_none c.args.command.now (command.Certify c.in-Certify.t c.in-Certify.cols c.in-Certify.count) p image c.certify.result c.in-Certify.is
+    (met_nothing (command.Certify c.in-Certify.t c.in-Certify.cols c.in-Certify.count) p image c.certify.result tt)
+
+pub returns-in-Verify-clause-undamaged : goal.returns-in-Verify-clause-undamaged
+returns-in-Verify-clause-undamaged g c =
+    let p = c.args.self.now.parts in
+    let image = g.D.Disk.image c.args.disk.now in
+    met_none c.args.command.now command.Verify p image c.verify.result c.in-Verify.is (met_nothing command.Verify p image c.verify.result tt)
+
+pub returns-in_default-clause-undamaged : goal.returns-in_default-clause-undamaged
+returns-in_default-clause-undamaged g c =
+    let hand : is_at_hand c.args.command.now ≡ true = search (rules, c.in_default) in
+    let p = c.args.self.now.parts in
+    let image = g.D.Disk.image c.args.disk.now in
+    met_nothing c.args.command.now p image c.answer.result (reads_undamaged c.args.command.now p image (reads_none c.args.command.now hand))

@@ -1,9 +1,7 @@
-use Rattle.std.proofs.Common.{◌≡◌, true, [], Some, None, Ok, Err, refl, sym, ◌∙◌, ap, subst}
-use Rattle.std.proofs.lemmas.Bool.{false≢true}
-use Rattle.dg_machine.specs.declared.reply.Reply.{Reply}
+use Rattle.std.proofs.Common.{◌≡◌, [], Some, None, Ok, Err, refl, sym, ◌∙◌, ap}
 use Rattle.dg_session.specs.SessionState.{SessionState}
 use Rattle.dg_batch.specs.declared.halt.Halt.TheVariants as halt
-use Rattle.dg_session.specs.Reads.{ReadsIn, is_early}
+use Rattle.dg_session.specs.Reads.{ReadsIn}
 use Rattle.std.specs.Prelude.{is_some}
 use Rattle.dg_machine.specs.Needs.{needs}
 use Rattle.dg_batch.specs.Halt.{creation_halt}
@@ -11,8 +9,8 @@ use Rattle.dg_session.specs.Parts.{Parts}
 use Rattle.dg_session.specs.Session.{ComesTo, refused_by}
 use Rattle.dg_start.specs.StoredHistory.{index_opening}
 use Rattle.dg_session.specs.contracts.session.Session.{the_view}
-use Rattle.dg_session.proofs.SessionCreationStep.{create_answers, create_fails, create_reads, creation_free, making, no_names}
-use Rattle.dg_session.proofs.ReadsStep.{reads_freely, reads_nothing}
+use Rattle.dg_session.proofs.SessionCreationStep.{create_answers, create_fails, creation_free, making, no_names}
+use Rattle.dg_session.proofs.ReadsStep.{reads_nothing}
 use Rattle.dg_session.proofs.SessionSteps.{handed_out, refused_denies}
 use Rattle.dg_session.proofs.session.Session.create.Goals as goal
 
@@ -42,14 +40,13 @@ returns-clause-comes g c =
 
 pub returns-in-Some-clause-reads : goal.returns-in-Some-clause-reads
 returns-in-Some-clause-reads g c =
-    reads_nothing (making c.args.params) c.args.self.now.parts (g.D.Disk.image c.args.disk.now) (Err (halt.Refusal c.in-Some.refusal)) (g.D.Disk.taken c.args.disk.now) refl
+    reads_nothing (making c.args.params) c.args.self.now.parts (g.D.Disk.image c.args.disk.now) (Err (halt.Refusal c.in-Some.refusal)) (g.D.Disk.taken c.args.disk.now) (g.D.Disk.taken c.args.disk.now) refl refl
 
 pub returns-in_err-index-clause-reads : goal.returns-in_err-index-clause-reads
 returns-in_err-index-clause-reads g c =
     handed_out c.from_residual.result (creation_halt c.in_err-index.field-0.0) (λ r. ReadsIn (making c.args.params) c.args.self.now.parts (g.D.Disk.image c.args.disk.now) r (g.D.Disk.taken c.args.disk.now) (g.D.Disk.taken c.create.new.disk)) c.from_residual.ensures
-    (create_reads c.args.params c.args.self.now.parts (g.D.Disk.image c.args.disk.now) c.in_err-index.field-0.0 (g.D.Disk.taken c.args.disk.now) (g.D.Disk.taken c.create.new.disk))
+    (reads_nothing (making c.args.params) c.args.self.now.parts (g.D.Disk.image c.args.disk.now) (Err (creation_halt c.in_err-index.field-0.0)) (g.D.Disk.taken c.args.disk.now) (g.D.Disk.taken c.create.new.disk) refl c.create.ensures.frame.nothing_read)
 
 pub returns-clause-reads : goal.returns-clause-reads
 returns-clause-reads g c =
-    reads_freely (making c.args.params) c.args.self.now.parts (g.D.Disk.image c.args.disk.now) (Ok c.headed.result) (g.D.Disk.taken c.args.disk.now) (g.D.Disk.taken c.create.new.disk) refl refl
-    (subst (λ (r : Reply). is_early r.head ≡ true → g.D.Disk.taken c.create.new.disk ≡ g.D.Disk.taken c.args.disk.now) (sym c.headed.ensures) (λ e. absurd (false≢true e)))
+    reads_nothing (making c.args.params) c.args.self.now.parts (g.D.Disk.image c.args.disk.now) (Ok c.headed.result) (g.D.Disk.taken c.args.disk.now) (g.D.Disk.taken c.create.new.disk) refl c.create.ensures.frame.nothing_read

@@ -1,7 +1,7 @@
 use Rattle.std.proofs.Common.{refl, ap}
 use Rattle.dg_session.specs.Parts.{Parts}
 use Rattle.dg_session.specs.SessionState.{SessionState}
-use Rattle.dg_session.proofs.DamageStep.{node_damage_over}
+use Rattle.dg_session.proofs.DamageStep.{node_damage_over, node_whole_over}
 use Rattle.dg_session.proofs.SessionNodeStep.{held_over, node_most, node_never, node_taken}
 use Rattle.dg_session.proofs.SessionRetrievals.{IsSession, is_session}
 use Rattle.dg_session.proofs.session.Session.lead_to_node.Goals as goal
@@ -40,3 +40,10 @@ returns-clause-damage g c =
     let is : IsSession p c.in-Some.index.opening c.len.result c.self.inside.history.recent.items =
     is_session p c.self.inside c.in-Some.index c.len.result c.self.inside.history.recent.items (ap (λ (x : SessionState). x.parts) c.self.view_is) c.in-Some.is c.len.ensures.len refl in
     node_damage_over p c.in-Some.index.opening c.args.node c.args.cols (g.D.Disk.image c.args.disk.now) c.len.result c.node_lead.result is.there is.count c.node_lead.ensures.damage
+
+pub returns-clause-whole : goal.returns-clause-whole
+returns-clause-whole g c =
+    let p : Parts = c.args.self.now.parts in
+    let is : IsSession p c.in-Some.index.opening c.len.result c.self.inside.history.recent.items =
+    is_session p c.self.inside c.in-Some.index c.len.result c.self.inside.history.recent.items (ap (λ (x : SessionState). x.parts) c.self.view_is) c.in-Some.is c.len.ensures.len refl in
+    node_whole_over p c.in-Some.index.opening c.args.node c.args.cols (g.D.Disk.image c.args.disk.now) c.len.result c.node_lead.result is.there is.count c.node_lead.ensures.whole

@@ -83,3 +83,6 @@ returns-clause-comes g c =
 pub returns-clause-damaged : goal.returns-clause-damaged
 returns-clause-damaged g c =
     subst (λ (x : Reply). DamageIs (command.Materialise c.args.node c.args.cols) c.args.self.now.parts (g.D.Disk.image c.args.disk.now) x.head) (sym c.headed.ensures) tt
+
+pub returns-clause-undamaged : goal.returns-clause-undamaged
+returns-clause-undamaged g c = c.in_ok-delta.ensures.whole

@@ -8,7 +8,7 @@ use Rattle.dg_retrieval.specs.Beginnings.{IsOffered, leads_in}
 use Rattle.dg_retrieval.specs.KeptGraph.{kept_ground}
 use Rattle.dg_session.specs.Parts.{Parts}
 use Rattle.dg_session.specs.SessionState.{SessionState}
-use Rattle.dg_session.proofs.DamageStep.{damage_over}
+use Rattle.dg_session.proofs.DamageStep.{damage_over, whole_over}
 use Rattle.dg_session.proofs.HandleBases.{all_begin_on}
 use Rattle.dg_session.proofs.KeptPlannerGraphs.{IsPlanningIn, holds_in, planning_in}
 use Rattle.dg_session.proofs.SessionRetrievals.{IsSession, instants_inside, is_session, most_read, never_damaged, retrieved_over, taken_over}
@@ -114,3 +114,13 @@ returns-clause-bases g c =
     let holds = holds_in p c.self.inside cols view (c.facts.ensures.held cols) in
     all_begin_on p.table cols (kept_ground o (event_total o.batches) cols (bases_in cols p.table)) holds c.leads_at.result
     (subst (λ (es : ListOf Edge). IfOk c.leads_at.result (λ r. All (IsOffered es) (leads_in r.leads))) graph.edges c.leads_at.ensures.offered)
+
+pub returns-clause-whole : goal.returns-clause-whole
+returns-clause-whole g c =
+    let p : Parts = c.args.self.now.parts in
+    let view = ap (λ (x : SessionState). x.parts) c.self.view_is in
+    let o = c.in-Some.index.opening in
+    let cols = c.args.cols in
+    let is : IsSession p o c.len.result c.deref.result.now = is_session p c.self.inside c.in-Some.index c.len.result c.deref.result.now view c.in-Some.is c.len.ensures.len c.deref.ensures.value in
+    let graph : IsPlanningIn p o cols c.planner.result.now = planning_in p c.self.inside c.in-Some.index cols c.keep.new.self c.planner.result.now view c.in-Some.is c.self.invariant.4 c.keep.ensures.kept c.planner.ensures.planner in
+    whole_over p o c.args.times.now cols (g.D.Disk.image c.args.disk.now) c.len.result c.deref.result.now c.leads_at.result is c.planner.result.now.edges graph.edges c.leads_at.ensures.whole

@@ -12,7 +12,7 @@ use Rattle.dg_retrieval.specs.Retrieval.{TakesAtMostTree}
 use Rattle.dg_retrieval.specs.Beginnings.{leads_in, led_to}
 use Rattle.dg_session.specs.SessionState.{SessionState}
 use Rattle.dg_batch.specs.declared.halt.Halt.TheVariants as halt
-use Rattle.dg_session.specs.Damage.{DamageIn, NamesDamage}
+use Rattle.dg_session.specs.Damage.{DamageIn, Graphs, MeetsNone, NamesDamage}
 use Rattle.dg_batch.specs.Halt.{retrieval_halt}
 use Rattle.dg_session.specs.Parts.{Parts}
 use Rattle.dg_session.specs.Reads.{IsRetrieved, ReadsIn, bases_of, listed_by, with_new_handles}
@@ -141,3 +141,7 @@ returns-in_err-lines-clause-damaged g c =
 pub returns-in_err-add_handles-clause-damaged : goal.returns-in_err-add_handles-clause-damaged
 returns-in_err-add_handles-clause-damaged g c =
     handed_out c.from_residual-in_err-add_handles.result (halt.Refusal refusal.OutOfMemory) (λ r. DamageIn (command.Several c.args.cols c.args.times c.args.count) c.args.self.now.parts (g.D.Disk.image c.args.disk.now) r) c.from_residual-in_err-add_handles.ensures tt
+
+pub returns-clause-undamaged : goal.returns-clause-undamaged
+returns-clause-undamaged g c =
+    subst (λ ts. MeetsNone (Graphs ts c.args.cols) c.args.self.now.parts (g.D.Disk.image c.args.disk.now)) c.first_of-asked.ensures.times c.in_ok-retrieved.ensures.whole

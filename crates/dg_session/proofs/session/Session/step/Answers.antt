@@ -1,15 +1,21 @@
-use Rattle.std.proofs.Common.{Err, sym, subst, ◌∙◌, ap}
+use Rattle.std.proofs.Common.{Err, Result, sym, subst, ◌∙◌, ap}
+use Rattle.std.specs.Prelude.{IfOk, OnOk}
+use Rattle.std.proofs.lemmas.Bool.{false≢true}
 use Rattle.dg_io.specs.LinesState.{told}
 use Rattle.dg_machine.specs.declared.reply.Head.TheVariants as head
 use Rattle.dg_machine.specs.declared.reply.Reply.{Reply}
+use Rattle.dg_machine.specs.Answer.{is_refusal}
 use Rattle.dg_machine.specs.Run.{is_store_read}
+use Rattle.dg_batch.specs.declared.halt.Halt.{Halt}
 use Rattle.dg_batch.specs.declared.halt.Halt.TheVariants as halt
-use Rattle.dg_session.specs.Damage.{DamageIs}
+use Rattle.dg_session.specs.Damage.{DamageIs, MeetsNone, reads_for}
 use Rattle.dg_session.specs.Reads.{Reads, reply_head}
 use Rattle.dg_session.proofs.DamageStep.{damage_in_reply}
 use Rattle.dg_session.proofs.ReadsStep.{accepted_reads, reads_in_reply, store_read_is}
+use Rattle.dg_session.proofs.SessionPoolStep.{refused_sweeps}
 use Rattle.dg_session.proofs.SessionSteps.{answered, refused_so}
 use Rattle.dg_session.proofs.VerifiedStep.{refused_verifies, verified_reply}
+use Rattle.dg_session.specs.Sweeps.{SweepsPool}
 use Rattle.dg_session.specs.Verified.{VerifiesFile}
 use Rattle.dg_session.proofs.session.Session.step.Goals as goal
 use Rattle.dg_session.proofs.session.Session.step.Goals.{in-Ok, in-Err-Refusal, in-Err-Stop}
@@ -66,6 +72,16 @@ returns-clause-damaged g c =
       | in-Err-Stop w ↦ rw w.result-is tt
     ]
 
+pub returns-clause-undamaged : goal.returns-clause-undamaged
+returns-clause-undamaged g c =
+    let p = c.args.self.now.parts in
+    let image = g.D.Disk.image c.args.disk.now in
+    elim c.match-carry_out.branch [
+      | in-Ok w ↦ rw w.result-is (λ e. subst (λ r. OnOk r (MeetsNone (reads_for c.args.command.now) p image)) w.in-Ok.is c.carry_out.ensures.undamaged)
+      | in-Err-Refusal w ↦ rw w.result-is (λ e. absurd (false≢true (sym e ∙ ap (λ (x : Reply). is_refusal x.head) w.headed.ensures)))
+      | in-Err-Stop w ↦ rw w.result-is tt
+    ]
+
 pub returns-clause-verified : goal.returns-clause-verified
 returns-clause-verified g c =
     let p = c.args.self.now.parts in
@@ -74,5 +90,16 @@ returns-clause-verified g c =
       | in-Ok w ↦ rw w.result-is (verified_reply c.args.command.now p image c.carry_out.result w.in-Ok.reply w.in-Ok.is c.carry_out.ensures.verified)
       | in-Err-Refusal w ↦ rw w.result-is
           (subst (λ (x : Reply). VerifiesFile c.args.command.now p image x.head) (sym w.headed.ensures) (refused_verifies c.args.command.now p image w.in-Err-Refusal.refusal))
+      | in-Err-Stop w ↦ rw w.result-is tt
+    ]
+
+pub returns-clause-swept : goal.returns-clause-swept
+returns-clause-swept g c =
+    let old = c.args.self.now.pool in
+    elim c.match-carry_out.branch [
+      | in-Ok w ↦ rw w.result-is (subst (λ (x : Result Reply Halt). IfOk x (λ (reply : Reply). SweepsPool c.args.command.now old c.carry_out.new.self.pool reply.head)) w.in-Ok.is c.carry_out.ensures.swept)
+      | in-Err-Refusal w ↦ rw w.result-is
+          (refused_sweeps c.args.command.now c.carry_out.result old c.carry_out.new.self.pool w.headed.result.head (halt.Refusal w.in-Err-Refusal.refusal)
+          (w.in-Err-Refusal.is ∙ ap (λ h. Err h) w.in-Err-Refusal.field-0-is) c.carry_out.ensures.unswept)
       | in-Err-Stop w ↦ rw w.result-is tt
     ]

@@ -14,7 +14,7 @@ use Rattle.dg_session.specs.BatchCommand.{barred}
 use Rattle.dg_session.specs.declared.batch_command.BatchCommand.TheVariants.{Load}
 use Rattle.dg_batch.specs.declared.batch_lines.BatchLines.{BatchLines}
 use Rattle.dg_batch.specs.declared.halt.Halt.TheVariants as halt
-use Rattle.dg_session.specs.Damage.{DamageIn}
+use Rattle.dg_session.specs.Damage.{Batch_of, DamageIn, MeetsNone}
 use Rattle.dg_batch.specs.Halt.{batch_halt}
 use Rattle.dg_session.specs.Parts.{Parts}
 use Rattle.dg_session.specs.Reads.{Reads, ReadsIn}
@@ -22,7 +22,7 @@ use Rattle.dg_session.specs.Session.{Accepts, ComesTo}
 use Rattle.dg_session.specs.SessionState.{SessionState}
 use Rattle.dg_session.specs.contracts.session.Session.{the_view}
 use Rattle.dg_session.proofs.BatchCommandForms.{Seed, head_over}
-use Rattle.dg_session.proofs.BatchCommandReads.{ReadsNoMore, added_reads, failed_damage, failed_reads, reads_no_more, unread_reads}
+use Rattle.dg_session.proofs.BatchCommandReads.{ReadsNoMore, added_reads, added_undamaged, failed_damage, failed_reads, reads_no_more, unread_reads}
 use Rattle.dg_session.proofs.BatchCommandStep.{IsAsked, batch_added, batch_failed, failed_stays, is_generated, is_ready, kept_handles, none_bars, with_handles, with_history}
 use Rattle.dg_session.proofs.DamageStep.{tells_no_damage}
 use Rattle.dg_session.proofs.SessionSteps.{handed_out, lacking_denies, refused_denies, refused_not_read}
@@ -160,3 +160,17 @@ returns-clause-reads g c =
     subst (λ (r : Reply). Reads (command.Workload c.args.seed c.args.count) c.args.self.now.parts image r.head taken then_taken) (sym (c.headed.ensures ∙ ap (λ (n : Counts). headed (head.Generated added.events added.last n.nodes n.edges)) counts))
     (added_reads (Seed c.args.seed) c.args.count c.args.self.now.parts image graph added.events added.total added.last taken then_taken
     (subst (λ (x : Parts). ReadsNoMore x image c.args.count taken then_taken) (ap (λ (x : SessionState). x.parts) c.self.view_is) older))
+
+pub returns-clause-undamaged : goal.returns-clause-undamaged
+returns-clause-undamaged g c =
+    let p : Parts = (the_view c.self.inside).parts in
+    let old : StoredHistory = record { index = c.self.inside.history.index; names = c.generated_batch.new.names; now = c.self.inside.history.now; recent = c.self.inside.history.recent } in
+    let b : BatchLines = c.in_ok-batch.batch in
+    let asked : IsAsked (Seed c.args.seed) [] p c.args.count c.len-known.result c.self.inside.limits.file_bytes old b =
+    is_generated c.args.seed p c.args.self.now.parts c.args.count c.len-known.result old b c.barred.result (ap (λ (x : SessionState). x.parts) c.self.view_is) c.barred.ensures c.in_default.is
+    refl c.len-known.ensures.len refl refl c.self.invariant.0.events c.requires.some c.requires.few c.in_ok-batch.ensures.generated in
+    let image : Option (List ℕ) = g.D.Disk.image c.args.disk.now in
+    let then_image : Option (List ℕ) = g.D.Disk.image c.add_changes.new.disk in
+    subst (λ (x : Parts). MeetsNone (Batch_of c.args.count) x image) (ap (λ (x : SessionState). x.parts) c.self.view_is)
+    (added_undamaged (Seed c.args.seed) [] p c.args.count c.len-known.result c.self.inside.limits.file_bytes old b asked image then_image c.add_changes.new.history c.in_ok-added.added
+    c.in_ok-added.ensures.adds c.in_ok-added.ensures.whole)
