@@ -1,0 +1,150 @@
+//! Sets of nodes that handles hold.
+
+ghost use Rattle.std.specs.Prelude.{◌≡◌, ℕ, ◌+◌, ◌<◌, IfErr, IfSome, IsErrOf, OnErr, OnOk, List, [], ◌∷◌, Ok, Option, None, Some, IfOk};
+ghost use Rattle.dg_disk.specs.Counts.{Rose as DiskRose};
+ghost use Rattle.dg_disk.specs.Frame.{OnlyReads};
+ghost use Rattle.dg_fold.specs.BytesRead.{Takes, TakesAtMost};
+ghost use Rattle.dg_graph.specs.Composition.{applied};
+ghost use Rattle.dg_graph.specs.Elements.{shown};
+ghost use Rattle.dg_machine.specs.declared.limits.TheConstants.{HANDLE_MAX, LIVE_HANDLES_MAX};
+ghost use Rattle.dg_machine.specs.Answer.{headed};
+ghost use Rattle.dg_machine.specs.declared.stands.Stands.TheVariants as Stands;
+ghost use Rattle.dg_machine.specs.MachineState.{MachineState};
+ghost use Rattle.dg_history.specs.declared.node.NodeId.TheVariants.{Root};
+ghost use Rattle.dg_plan.specs.IndexGraph.{arcs_of};
+ghost use Rattle.dg_plan.specs.Walks.{IsPlan, weight_of};
+ghost use Rattle.dg_machine.specs.Planning.{record_edges_in};
+ghost use Rattle.dg_retrieval.specs.Retrieval.{IsNoDamage};
+ghost use Rattle.dg_session.specs.Damage.{DamageIn, MeetsNone, NamesNodeDamage, Node_set};
+ghost use Rattle.dg_session.specs.Reads.{IsNodeHeld, ReadsIn, with_new_handles};
+ghost use Rattle.dg_session.specs.Session.{ComesTo, StandsFor, node_needs, refused_by};
+ghost use Rattle.dg_start.specs.StoredHistory.{IsHeldBy};
+ghost use Rattle.dg_batch.specs.declared.stop.Stop.TheVariants as stop;
+
+use super::{Session, headed};
+use crate::retrieval::node_lead;
+use dg_ask::has_node;
+use dg_batch::{Halt, Stop};
+use dg_delta::Delta;
+use dg_disk::Disk;
+use dg_graph::Columns;
+use dg_history::NodeId;
+use dg_machine::{Command, HANDLE_MAX, Head, LIVE_HANDLES_MAX, Refusal, Reply, Stands};
+use dg_retrieval::{NodeLead, RetrievalFault};
+use std::alloc::AllocError;
+use std::thread::Threads;
+
+impl Session {
+    // Why no node is held as a new handle.
+    pub(super) fn refused_node(&self, node: NodeId) -> Option<Refusal>
+        ensures { result ≡ refused_by self.now.parts 0 (node_needs node) }
+    {
+        let Some(index) = &self.history.index else {
+            return Some(Refusal::NoIndex);
+        };
+        if !has_node(index, node) {
+            return Some(Refusal::UnknownNode);
+        }
+        let live = self.handles.live();
+        if (live + 1) as usize > LIVE_HANDLES_MAX {
+            return Some(Refusal::PoolFull(live, 1));
+        }
+        if self.handles.next() + 1 > u64::from(HANDLE_MAX) + 1 {
+            return Some(Refusal::HandlesSpent);
+        }
+        None
+    }
+
+    // What leads to the set of a node in these columns, by the records alone.
+    pub(super) fn lead_to_node<R: Threads + Sync, D: Disk>(
+        &mut self,
+        rt: &R,
+        node: NodeId,
+        cols: Columns,
+        disk: &mut D,
+    ) -> Result<NodeLead, RetrievalFault>
+        requires free { refused_by self.old.parts 0 (node_needs node) ≡ None }
+        requires image { IfSome (D.image disk.old) (λ image. IsHeldBy self.old.parts.index self.old.parts.names image) }
+
+        // what is led to
+        ensures held { IfOk result (λ r. IfSome (D.image disk.old) (λ image. (m : MachineState) → StandsFor self.old.parts image m
+            → IsNodeHeld m node cols r.weight (shown (applied r.delta []) cols))) }
+        ensures whole { OnOk result (MeetsNone (Node_set node cols) self.old.parts (D.image disk.old)) }
+
+        // the bytes read
+        ensures takes { IfOk result (λ r. IfSome (D.image disk.old) (λ image. (m : MachineState) → StandsFor self.old.parts image m
+            → Takes r.weight (D.taken disk.old) (D.taken disk.new))) }
+        ensures most { IfSome (D.image disk.old) (λ image. (m : MachineState) → StandsFor self.old.parts image m
+            → (steps : List ℕ) → IsPlan (arcs_of (record_edges_in m cols)) (Root ∷ []) node steps
+            → TakesAtMost (weight_of (arcs_of (record_edges_in m cols)) steps) (D.taken disk.old) (D.taken disk.new)) }
+
+        // why nothing is
+        ensures cause { IsErrOf result RetrievalFault.Disk → DiskRose (D.faults disk.old) (D.faults disk.new) }
+        ensures damage { IfErr result (λ fault. NamesNodeDamage self.old.parts (D.image disk.old) (node, cols) fault) }
+        ensures never { IfErr result (λ fault. IfSome (D.image disk.old) (λ image. (m : MachineState) → StandsFor self.old.parts image m → IsNoDamage fault)) }
+
+        // what it leaves
+        ensures same { self.new ≡ self.old }
+        ensures disk { OnlyReads D.image D.faults D.write_faults disk.old disk.new }
+    {
+        let Some(index) = &mut self.history.index else {
+            unreachable!()
+        };
+        node_lead(
+            rt,
+            self.alloc,
+            index,
+            disk,
+            self.history.names.len(),
+            node,
+            cols,
+        )
+    }
+
+    // A new handle that holds what the delta leads to from nothing: the set of the node in these columns.
+    pub(super) fn add_base(
+        &mut self,
+        node: NodeId,
+        cols: Columns,
+        delta: &Delta,
+    ) -> Result<(), AllocError>
+        requires free { refused_by self.old.parts 0 (node_needs node) ≡ None }
+        ensures added { OnOk result (self.new.parts ≡ with_new_handles self.old.parts (Stands.Base node cols ∷ []) (shown (applied delta.now []) cols ∷ [])) }
+        ensures err { OnErr result (self.new.parts ≡ self.old.parts) }
+    {
+        self.planner.forget();
+        self.handles.add_base(&mut self.pool, node, cols, delta)
+    }
+
+    // A new handle that holds the set of a leaf or an interior node in these columns.
+    pub(super) fn materialise<R: Threads + Sync, D: Disk>(
+        &mut self,
+        rt: &R,
+        node: NodeId,
+        cols: Columns,
+        disk: &mut D,
+    ) -> Result<Reply, Halt>
+        requires image { IfSome (D.image disk.old) (λ image. IsHeldBy self.old.parts.index self.old.parts.names image) }
+
+        // what it comes to
+        ensures comes { ComesTo (Command.Materialise node cols) [] self.old.parts (D.image disk.old) self.new.parts (D.image disk.new) result }
+        ensures no_stop { (stop : Stop) → result ≡ Err (Halt.Stop stop) → ⊥ }
+
+        // why it is refused for a read
+        ensures store_read { IsErrOf result (Halt.Refusal Refusal.StoreRead) → DiskRose (D.faults disk.old) (D.faults disk.new) }
+        ensures damaged { DamageIn (Command.Materialise node cols) self.old.parts (D.image disk.old) result }
+        ensures undamaged { OnOk result (MeetsNone (Node_set node cols) self.old.parts (D.image disk.old)) }
+
+        // what it reads and leaves
+        ensures reads { ReadsIn (Command.Materialise node cols) self.old.parts (D.image disk.old) result (D.taken disk.old) (D.taken disk.new) }
+        ensures disk { OnlyReads D.image D.faults D.write_faults disk.old disk.new }
+    {
+        if let Some(refusal) = self.refused_node(node) {
+            return Err(Halt::Refusal(refusal));
+        }
+        let NodeLead { delta, weight } = self.lead_to_node(rt, node, cols, disk)?;
+        let handle = self.handles.next() as u32;
+        self.add_base(node, cols, &delta)?;
+        Ok(headed(self.alloc, Head::Materialised { handle, weight }))
+    }
+}

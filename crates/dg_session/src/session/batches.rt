@@ -1,0 +1,221 @@
+//! Commands that write: an index is made, a batch is added.
+
+ghost use Rattle.std.specs.Prelude.{◌≡◌, ◌+◌, ◌<◌, ◌≤◌, IfSome, IsErrOf, OnOk, List, [], Ok, Option, None, Some, is_some};
+ghost use Rattle.dg_append.specs.Faults.{OnlyReadFailed};
+ghost use Rattle.dg_disk.specs.Counts.{Rose as DiskRose};
+ghost use Rattle.dg_disk.specs.Frame.{GoesOn};
+ghost use Rattle.dg_io.specs.Frame.{Advances};
+ghost use Rattle.dg_io.specs.Told.{CountRose};
+ghost use Rattle.dg_io.specs.LinesState.{told, NeedsByte};
+ghost use Rattle.dg_history.specs.declared.limits.TheConstants.{BATCH_LINES_MAX};
+ghost use Rattle.dg_graph.specs.Lines.{ScriptLine};
+ghost use Rattle.dg_machine.specs.Answer.{headed};
+ghost use Rattle.dg_machine.specs.Needs.{needs};
+ghost use Rattle.dg_session.specs.BatchCommand.{barred, command_with};
+ghost use Rattle.dg_ask.specs.HeldIndex.{events_held};
+ghost use Rattle.dg_session.specs.Damage.{Batch_of, DamageIn, MeetsNone};
+ghost use Rattle.dg_session.specs.Reads.{ReadsIn};
+ghost use Rattle.dg_session.specs.Session.{ComesTo, TakesLines, is_too_full, refused_by};
+ghost use Rattle.dg_start.specs.StoredHistory.{IsHeldBy};
+
+use super::{Session, headed};
+use crate::batch_command::BatchCommand;
+use dg_ask::span;
+use dg_batch::{Halt, Stop, add_changes, generated_batch, read_batch};
+use dg_disk::Disk;
+use dg_file::Index;
+use dg_graph::NAMES_MAX;
+use dg_history::{Params, are_parameters};
+use dg_io::{Lines, Source};
+use dg_machine::{Command, Head, Refusal, Reply};
+use std::thread::Threads;
+
+// A line may bring the text of a key and that of a value.
+const NAMES_OF_A_LINE: u32 = 2;
+
+impl Session {
+    // Why no index with these parameters is made.
+    pub(super) fn refused_creation(&self, params: Params) -> Option<Refusal>
+        ensures { result ≡ refused_by self.now.parts 0 (needs (Command.Create params.l params.k params.function)) }
+    {
+        if self.has_index() {
+            return Some(Refusal::IndexExists);
+        }
+        if !are_parameters(params) {
+            return Some(Refusal::Parameters);
+        }
+        None
+    }
+
+    // An empty index with these parameters.
+    pub(super) fn create<D: Disk>(&mut self, disk: &mut D, params: Params) -> Result<Reply, Halt>
+        requires image { IfSome (D.image disk.old) (λ image. IsHeldBy self.old.parts.index self.old.parts.names image) }
+
+        // what it comes to
+        ensures comes { ComesTo (Command.Create params.l params.k params.function) [] self.old.parts (D.image disk.old) self.new.parts (D.image disk.new) result }
+
+        // why it stops
+        ensures store { IsErrOf result (Halt.Stop Stop.Store) → DiskRose (D.write_faults disk.old) (D.write_faults disk.new) }
+        ensures no_read { IsErrOf result (Halt.Stop Stop.Read) → ⊥ }
+        ensures no_limit { IsErrOf result (Halt.Stop Stop.Limit) → ⊥ }
+
+        // what it reads and leaves
+        ensures reads { ReadsIn (Command.Create params.l params.k params.function) self.old.parts (D.image disk.old) result (D.taken disk.old) (D.taken disk.new) }
+        ensures disk { GoesOn D.image D.faults D.write_faults disk.old disk.new }
+    {
+        if let Some(refusal) = self.refused_creation(params) {
+            return Err(Halt::Refusal(refusal));
+        }
+        let index = Index::create(self.alloc, disk, params)?;
+        self.planner.forget();
+        self.history.index = Some(index);
+        Ok(headed(self.alloc, Head::Created))
+    }
+
+    // Why no batch of so many lines is added, whatever its lines are.
+    pub(super) fn barred(&self, which: BatchCommand, count: u32) -> Option<Refusal>
+        requires some { 1 ≤ count }
+        requires few { count ≤ BATCH_LINES_MAX }
+        ensures { result ≡ barred which self.now.parts count }
+    {
+        if !self.has_index() {
+            return Some(Refusal::NoIndex);
+        }
+        if matches!(which, BatchCommand::Load) && self.span().is_some() {
+            return Some(Refusal::AlreadyLoaded);
+        }
+        if self.is_too_full(count) {
+            return Some(Refusal::HistoryFull(self.events_held(), u64::from(count)));
+        }
+        None
+    }
+
+    // Whether so many more events, or the names that so many lines may bring, are too many.
+    pub(super) fn is_too_full(&self, count: u32) -> bool
+        requires { count ≤ BATCH_LINES_MAX }
+        ensures { result ≡ is_too_full self.now.parts count }
+    {
+        let events = self.events_held() + u64::from(count);
+        let names = self.history.names.len() + NAMES_OF_A_LINE * count;
+        self.limits.events < events || NAMES_MAX < names
+    }
+
+    // The batch of the lines that follow, as the history's first or next one.
+    pub(super) fn add<R: Threads, S: Source, D: Disk>(
+        &mut self,
+        rt: &R,
+        which: BatchCommand,
+        count: u32,
+        lines: &mut Lines,
+        source: &mut S,
+        disk: &mut D,
+    ) -> Result<Reply, Halt>
+        requires some { 1 ≤ count }
+        requires few { count ≤ BATCH_LINES_MAX }
+        requires image { IfSome (D.image disk.old) (λ image. IsHeldBy self.old.parts.index self.old.parts.names image) }
+
+        // what it comes to
+        ensures comes { (got : List ScriptLine)
+            × TakesLines count (told lines.old (S.left source.old)) got (told lines.new (S.left source.new)) result
+            × ComesTo (command_with which count) got self.old.parts (D.image disk.old) self.new.parts (D.image disk.new) result }
+
+        // why it stops
+        ensures store { IsErrOf result (Halt.Stop Stop.Store) → DiskRose (D.write_faults disk.old) (D.write_faults disk.new) }
+        ensures read { IsErrOf result (Halt.Stop Stop.Read) → CountRose (S.faults source.old) (S.faults source.new) }
+        ensures limit { IsErrOf result (Halt.Stop Stop.Limit) → (lines.new.taken ≡ lines.new.limit) × NeedsByte lines.new }
+        ensures store_read { IsErrOf result (Halt.Refusal Refusal.StoreRead)
+            → OnlyReadFailed D.faults D.write_faults disk.old disk.new }
+        ensures damaged { DamageIn (command_with which count) self.old.parts (D.image disk.old) result }
+        ensures undamaged { OnOk result (MeetsNone (Batch_of count) self.old.parts (D.image disk.old)) }
+
+        // what it takes and leaves
+        ensures reads { ReadsIn (command_with which count) self.old.parts (D.image disk.old) result (D.taken disk.old) (D.taken disk.new) }
+        ensures lines { Advances lines.old (S.left source.old) (S.faults source.old)
+            lines.new (S.left source.new) (S.faults source.new) }
+        ensures disk { GoesOn D.image D.faults D.write_faults disk.old disk.new }
+    {
+        let barred = self.barred(which, count);
+        let known = self.history.names.len();
+        let batch = read_batch(
+            self.alloc,
+            count,
+            barred,
+            &mut self.history.names,
+            lines,
+            source,
+        )?;
+        self.planner.forget();
+        let added = add_changes(
+            rt,
+            self.alloc,
+            self.limits.file_bytes,
+            known,
+            batch,
+            &mut self.history,
+            &mut self.pool,
+            &mut self.handles,
+            &mut self.adjacency,
+            disk,
+        )?;
+        Ok(headed(self.alloc, which.head(added)))
+    }
+
+    // The batch that a seed leads to, as the history's first one.
+    pub(super) fn workload<R: Threads, D: Disk>(
+        &mut self,
+        rt: &R,
+        seed: u64,
+        count: u32,
+        disk: &mut D,
+    ) -> Result<Reply, Halt>
+        requires some { 1 ≤ count }
+        requires few { count ≤ BATCH_LINES_MAX }
+        requires image { IfSome (D.image disk.old) (λ image. IsHeldBy self.old.parts.index self.old.parts.names image) }
+
+        // what it comes to
+        ensures comes { ComesTo (Command.Workload seed count) [] self.old.parts (D.image disk.old) self.new.parts (D.image disk.new) result }
+
+        // why it stops
+        ensures store { IsErrOf result (Halt.Stop Stop.Store) → DiskRose (D.write_faults disk.old) (D.write_faults disk.new) }
+        ensures no_read { IsErrOf result (Halt.Stop Stop.Read) → ⊥ }
+        ensures no_limit { IsErrOf result (Halt.Stop Stop.Limit) → ⊥ }
+        ensures store_read { IsErrOf result (Halt.Refusal Refusal.StoreRead)
+            → OnlyReadFailed D.faults D.write_faults disk.old disk.new }
+        ensures damaged { DamageIn (Command.Workload seed count) self.old.parts (D.image disk.old) result }
+        ensures undamaged { OnOk result (MeetsNone (Batch_of count) self.old.parts (D.image disk.old)) }
+
+        // what it takes and leaves
+        ensures reads { ReadsIn (Command.Workload seed count) self.old.parts (D.image disk.old) result (D.taken disk.old) (D.taken disk.new) }
+        ensures disk { GoesOn D.image D.faults D.write_faults disk.old disk.new }
+    {
+        // It is barred by what bars a load.
+        if let Some(refusal) = self.barred(BatchCommand::Load, count) {
+            return Err(Halt::Refusal(refusal));
+        }
+        let known = self.history.names.len();
+        let batch = generated_batch(self.alloc, seed, count, &mut self.history.names)?;
+        self.planner.forget();
+        let added = add_changes(
+            rt,
+            self.alloc,
+            self.limits.file_bytes,
+            known,
+            batch,
+            &mut self.history,
+            &mut self.pool,
+            &mut self.handles,
+            &mut self.adjacency,
+            disk,
+        )?;
+        let counts = self.pool.counts_now();
+        Ok(headed(
+            self.alloc,
+            Head::Generated {
+                events: added.events,
+                last: added.last,
+                nodes: counts.nodes,
+                edges: counts.edges,
+            },
+        ))
+    }
+}

@@ -1,0 +1,208 @@
+//! How a session begins: from the file that the disk has, checked or not.
+
+ghost use Rattle.std.specs.Prelude.{◌≡◌, ◌⊎◌, ℕ, ◌+◌, ◌<◌, IfErr, IfSome, IsErrOf, OnOk, List, Ok, Option, None, not, IfOk};
+ghost use Rattle.dg_disk.specs.Counts.{Rose as DiskRose};
+ghost use Rattle.dg_disk.specs.Frame.{OnlyReads, ReadsAndSyncs};
+ghost use Rattle.dg_fold.specs.BytesRead.{Takes};
+ghost use Rattle.dg_graph.specs.Replay.{replay_from};
+ghost use Rattle.dg_history.specs.History.{History};
+ghost use Rattle.dg_index.specs.ImageOfHistory.{IsImageOf, StandsAs};
+ghost use Rattle.dg_index.specs.OpenedIndex.{opened_of};
+ghost use Rattle.dg_machine.specs.MachineState.{IsWithin, machine_at};
+ghost use Rattle.dg_pool.specs.Graphs.{graph_now, slot_graph};
+ghost use Rattle.dg_session.specs.Session.{StandsFor};
+ghost use Rattle.dg_session.specs.SessionStart.{FailsCheck, IsNew, IsSoundImage};
+ghost use Rattle.dg_start.specs.SessionStart.{PlansLastLeaf, RefusesStart, Starts, start_bytes};
+ghost use Rattle.dg_start.specs.StoredHistory.{IsHeldBy, IsSoundHistory, KeepsHistory, index_opening, started_with};
+
+use super::Session;
+use crate::session_fault::SessionFault;
+use dg_ask::{KeptAdjacency, KeptPlanner};
+use dg_disk::Disk;
+use dg_graph::Event;
+use dg_handles::Handles;
+use dg_machine::Limits;
+use dg_pool::Pool;
+use dg_sound::Soundness;
+use dg_start::{OpenedFile, StartFault, StoredHistory, open};
+use std::alloc::{AllocError, Global};
+use std::boxed::Box;
+use std::thread::Threads;
+
+impl Session {
+    // A session that is not checked.
+    pub(super) fn begin<R: Threads + Sync, D: Disk>(
+        rt: &R,
+        alloc: Global,
+        disk: &mut D,
+        limits: Limits,
+    ) -> Result<Session, StartFault>
+        requires limits { IsWithin limits }
+
+        // the session
+        ensures started { IfOk result (λ session. IfSome (D.image disk.old) (λ image.
+            Starts image (Ok (started_with session.parts.index session.parts.names session.parts.graph session.parts.recent)))) }
+        ensures new { IfOk result (λ session. IsNew limits session.parts) }
+        ensures stands { IfOk result (λ session. IfSome (D.image disk.old) (λ image. (index : Option History)
+            → StandsAs index image → StandsFor session.parts image (machine_at limits index))) }
+        ensures held { IfOk result (λ session. IfSome (D.image disk.new) (λ image. IsHeldBy session.parts.index session.parts.names image)) }
+
+        // the bytes read, over an image of a history
+        ensures takes { OnOk result (IfSome (D.image disk.old) (λ image. (z : History) → IsImageOf z image
+            → (steps : List ℕ) → PlansLastLeaf (opened_of z).index steps
+            → Takes (start_bytes (opened_of z).index steps) (D.taken disk.old) (D.taken disk.new))) }
+
+        // why there is none
+        ensures refused { IfErr result (λ fault. IfSome (D.image disk.old) (λ image. RefusesStart fault image)) }
+        ensures never { IfErr result (λ fault. IfSome (D.image disk.old) (λ image. (index : Option History)
+            → StandsAs index image → (fault ≡ StartFault.Disk) ⊎ (fault ≡ StartFault.Memory))) }
+        ensures cause { IsErrOf result StartFault.Disk → DiskRose (D.faults disk.old) (D.faults disk.new) }
+
+        // what it leaves
+        ensures disk { ReadsAndSyncs D.image D.faults D.write_faults disk.old disk.new }
+    {
+        let handles = Handles::new(alloc, limits.first_handle)?;
+        match open_overlaid(rt, alloc, disk) {
+            Ok(Overlaid { history, pool }) => Ok(Session {
+                limits,
+                history,
+                pool,
+                handles,
+                planner: KeptPlanner::new(alloc),
+                adjacency: KeptAdjacency::new(),
+                alloc,
+            }),
+            Err(fault) => Err(fault),
+        }
+    }
+
+    // The session, where the file is what its own events determine, or there is no index, and else why there is none.
+    pub(super) fn checked<R: Threads, D: Disk>(
+        mut self,
+        rt: &R,
+        disk: &mut D,
+    ) -> Result<Session, SessionFault>
+        requires image { IfSome (D.image disk.old) (λ image. IsHeldBy self.parts.index self.parts.names image) }
+
+        // the session
+        ensures same { IfOk result (λ session. session ≡ self) }
+        ensures sound { OnOk result (IfSome (D.image disk.old) (λ image. IsSoundImage image)) }
+
+        // why there is none
+        ensures fails { IfErr result (λ fault. IfSome (D.image disk.old) (λ image. FailsCheck fault image)) }
+        ensures cause { IsErrOf result (SessionFault.Start StartFault.Disk) → DiskRose (D.faults disk.old) (D.faults disk.new) }
+
+        // what it leaves
+        ensures disk { OnlyReads D.image D.faults D.write_faults disk.old disk.new }
+    {
+        match self.check(rt, disk) {
+            Ok(()) => Ok(self),
+            Err(fault) => {
+                // By a call, which spares a proof of what it drops from being written out here.
+                drop(self);
+                Err(fault)
+            }
+        }
+    }
+
+    // Nothing where the file is what its own events determine, or there is no index, and else why not.
+    pub(super) fn check<R: Threads, D: Disk>(
+        &mut self,
+        rt: &R,
+        disk: &mut D,
+    ) -> Result<(), SessionFault>
+        requires image { IfSome (D.image disk.old) (λ image. IsHeldBy self.old.parts.index self.old.parts.names image) }
+        ensures sound { OnOk result (IfSome (D.image disk.old) (λ image. IsSoundImage image)) }
+
+        // why not
+        ensures fails { IfErr result (λ fault. IfSome (D.image disk.old) (λ image. FailsCheck fault image)) }
+        ensures cause { IsErrOf result (SessionFault.Start StartFault.Disk) → DiskRose (D.faults disk.old) (D.faults disk.new) }
+
+        // what it leaves
+        ensures same { self.new ≡ self.old }
+        ensures disk { OnlyReads D.image D.faults D.write_faults disk.old disk.new }
+    {
+        if !self.has_index() {
+            return Ok(());
+        }
+        match self.soundness(rt, disk)? {
+            Soundness::Sound(_) => Ok(()),
+            Soundness::Unsound(key, column) => Err(SessionFault::Unsound(key, column)),
+        }
+    }
+}
+
+// A history, and the pool in which its current graph is overlaid.
+#[derive(Drop)]
+struct Overlaid {
+    history: StoredHistory,
+    pool: Box<Pool>,
+}
+
+// The history of the file that the disk has, and its pool, which has no other graph than the current one.
+fn open_overlaid<R: Threads + Sync, D: Disk>(
+    rt: &R,
+    alloc: Global,
+    disk: &mut D,
+) -> Result<Overlaid, StartFault>
+    // the history
+    ensures started { IfOk result (λ made. IfSome (D.image disk.old) (λ image.
+        Starts image (Ok (started_with (index_opening made.history.index) made.history.names made.history.now.graph made.history.recent.items)))) }
+    ensures stands { IfOk result (λ made. IfSome (D.image disk.old) (λ image. (z : Option History) → StandsAs z image
+        → KeepsHistory z (index_opening made.history.index) made.history.names made.history.now.graph made.history.recent.items)) }
+    ensures sound { IfOk result (λ made. IsSoundHistory (index_opening made.history.index) made.history.names made.history.now made.history.recent.items) }
+    ensures held { IfOk result (λ made. IfSome (D.image disk.new) (λ image. IsHeldBy (index_opening made.history.index) made.history.names image)) }
+
+    // the pool
+    ensures now { IfOk result (λ made. graph_now made.pool.value ≡ made.history.now.graph) }
+    ensures none { IfOk result (λ made. (s : ℕ) → slot_graph made.pool.value s ≡ None) }
+
+    // the bytes read, over an image of a history
+    ensures takes { OnOk result (IfSome (D.image disk.old) (λ image. (z : History) → IsImageOf z image
+        → (steps : List ℕ) → PlansLastLeaf (opened_of z).index steps
+        → Takes (start_bytes (opened_of z).index steps) (D.taken disk.old) (D.taken disk.new))) }
+
+    // why there is none
+    ensures refused { IfErr result (λ fault. IfSome (D.image disk.old) (λ image. RefusesStart fault image)) }
+    ensures never { IfErr result (λ fault. IfSome (D.image disk.old) (λ image. (index : Option History)
+        → StandsAs index image → (fault ≡ StartFault.Disk) ⊎ (fault ≡ StartFault.Memory))) }
+    ensures cause { IsErrOf result StartFault.Disk → DiskRose (D.faults disk.old) (D.faults disk.new) }
+
+    // what it leaves
+    ensures disk { ReadsAndSyncs D.image D.faults D.write_faults disk.old disk.new }
+{
+    match open(
+        rt,
+        alloc,
+        disk,
+        |set| -> Result<Box<Pool>, AllocError>
+            ensures now { IfOk result (λ pool. graph_now pool.value ≡ set.now) }
+            ensures none { IfOk result (λ pool. (s : ℕ) → slot_graph pool.value s ≡ None) }
+        { Ok(Box::new(alloc, Pool::from_set(alloc, set)?)?) },
+    ) {
+        Ok(OpenedFile { history, made }) => match made {
+            Ok(pool) => match past_events(pool, &history.recent) {
+                Ok(pool) => Ok(Overlaid { history, pool }),
+                Err(_) => {
+                    drop(history);
+                    Err(StartFault::Memory)
+                }
+            },
+            Err(_) => {
+                drop(history);
+                Err(StartFault::Memory)
+            }
+        },
+        Err(fault) => Err(fault),
+    }
+}
+
+// The pool, with its current graph past the events. An `Err` says that memory ran out.
+fn past_events(mut pool: Box<Pool>, events: &[Event]) -> Result<Box<Pool>, AllocError>
+    ensures now { IfOk result (λ after. graph_now after.value ≡ replay_from (graph_now pool.value) events.now) }
+    ensures slots { IfOk result (λ after. (s : ℕ) → slot_graph after.value s ≡ slot_graph pool.value s) }
+{
+    pool.make_room(events)?;
+    pool.apply_now(events);
+    Ok(pool)
+}

@@ -1,0 +1,109 @@
+//! What is asked of a handle's graph.
+
+ghost use Rattle.std.specs.Prelude.{◌≡◌, ℕ, ◌<◌, IfErr, OnOk, List, [], Ok, Option, None, Some, is_some, true, false, IfOk};
+ghost use Rattle.dg_handles.specs.Handles.{IsTied, graph_among, slot_graphs};
+ghost use Rattle.dg_machine.specs.Answer.{headed};
+ghost use Rattle.dg_machine.specs.declared.stands.Stands.TheVariants as Stands;
+ghost use Rattle.dg_machine.specs.Needs.{is_base, needs};
+ghost use Rattle.dg_machine.specs.MachineState.{stands_at};
+ghost use Rattle.dg_session.specs.Parts.{Parts};
+ghost use Rattle.dg_session.specs.Session.{ComesTo, refused_by};
+ghost use Rattle.dg_batch.specs.declared.stop.Stop.TheVariants as stop;
+
+use super::{Session, headed};
+use dg_ask::{neighbours_reply, node_reply};
+use dg_batch::{Halt, Stop};
+use dg_handles::Handles;
+use dg_machine::{BodyLines, Command, Head, Query, Refusal, Reply, Stands};
+use dg_pool::Pool;
+use dg_view::View;
+
+impl Session {
+    // What is asked of a handle's graph.
+    pub(super) fn ask(&mut self, handle: u32, query: Query) -> Result<Reply, Halt>
+        ensures comes { (image : Option (List ℕ)) → ComesTo (Command.Ask handle query) [] self.old.parts image self.new.parts image result }
+        ensures no_stop { (stop : Stop) → result ≡ Err (Halt.Stop stop) → ⊥ }
+    {
+        match query {
+            Query::List => self.list(handle),
+            Query::Counts => self.counts(handle),
+            Query::Node(id) => self.node(handle, id),
+            Query::Neighbours(id) => self.neighbours(handle, id),
+        }
+    }
+
+    // The elements of a handle.
+    pub(super) fn list(&self, handle: u32) -> Result<Reply, Halt>
+        ensures comes { (image : Option (List ℕ)) → ComesTo (Command.Ask handle Query.List) [] self.now.parts image self.now.parts image result }
+        ensures no_stop { (stop : Stop) → result ≡ Err (Halt.Stop stop) → ⊥ }
+    {
+        let graph = self.graph_of(handle)?;
+        let elements = graph.list(self.alloc)?;
+        Ok(Reply {
+            head: Head::List {
+                handle,
+                lines: elements.len() as u64,
+            },
+            body: BodyLines::from_elements(elements),
+        })
+    }
+
+    // The graph of a handle, or why nothing is asked of it.
+    pub(super) fn graph_of(&self, handle: u32) -> Result<View<'_>, Refusal>
+        ensures graph { IfOk result (λ graph. graph_among handle self.now.parts.table self.now.parts.graphs ≡ Some graph) }
+        ensures live { OnOk result (is_some (stands_at handle self.now.parts.table) ≡ true) }
+        ensures none { IfErr result (λ refusal. (is_some (stands_at handle self.now.parts.table) ≡ false) × (refusal ≡ Refusal.UnknownHandle handle)) }
+    {
+        match self.handles.view(&self.pool, handle) {
+            Some(graph) => Ok(graph),
+            None => Err(Refusal::UnknownHandle(handle)),
+        }
+    }
+
+    // How many elements of each kind a handle has.
+    pub(super) fn counts(&self, handle: u32) -> Result<Reply, Halt>
+        ensures comes { (image : Option (List ℕ)) → ComesTo (Command.Ask handle Query.Counts) [] self.now.parts image self.now.parts image result }
+        ensures no_stop { (stop : Stop) → result ≡ Err (Halt.Stop stop) → ⊥ }
+    {
+        let counts = self.graph_of(handle)?.counts();
+        Ok(headed(self.alloc, Head::Counts { handle, counts }))
+    }
+
+    // A node of a handle's graph, with its degree and its attributes.
+    pub(super) fn node(&mut self, handle: u32, id: u64) -> Result<Reply, Halt>
+        ensures comes { (image : Option (List ℕ)) → ComesTo (Command.Ask handle (Query.Node id)) [] self.old.parts image self.new.parts image result }
+        ensures no_stop { (stop : Stop) → result ≡ Err (Halt.Stop stop) → ⊥ }
+    {
+        let graph = overlay_of(&self.handles, &self.pool, handle)?;
+        let node = self.adjacency.node(self.alloc, handle, &graph, id)?;
+        Ok(node_reply(self.alloc, handle, id, node)?)
+    }
+
+    // The edges at a node of a handle's graph.
+    pub(super) fn neighbours(&mut self, handle: u32, id: u64) -> Result<Reply, Halt>
+        ensures comes { (image : Option (List ℕ)) → ComesTo (Command.Ask handle (Query.Neighbours id)) [] self.old.parts image self.new.parts image result }
+        ensures no_stop { (stop : Stop) → result ≡ Err (Halt.Stop stop) → ⊥ }
+    {
+        let graph = overlay_of(&self.handles, &self.pool, handle)?;
+        let neighbours = self.adjacency.neighbours(self.alloc, handle, &graph, id)?;
+        Ok(neighbours_reply(self.alloc, handle, id, &neighbours)?)
+    }
+}
+
+// The graph of a handle that stands for an instant, or why no node of it is asked for.
+fn overlay_of<'a>(handles: &Handles, pool: &'a Pool, handle: u32) -> Result<View<'a>, Refusal>
+    requires tied { IsTied pool.now handles.now }
+    ensures graph { IfOk result (λ graph. graph_among handle handles.now.table (slot_graphs pool.now handles.now.slots) ≡ Some graph) }
+    ensures live { OnOk result (is_some (stands_at handle handles.now.table) ≡ true) }
+    ensures overlay { OnOk result (is_base (stands_at handle handles.now.table) ≡ false) }
+    ensures refused { IfErr result (λ refusal. (p : Parts) → p.table ≡ handles.now.table
+        → (id : ℕ) → refused_by p 0 (needs (Command.Ask handle (Query.Node id))) ≡ Some refusal) }
+{
+    let Some(graph) = handles.view(pool, handle) else {
+        return Err(Refusal::UnknownHandle(handle));
+    };
+    if matches!(handles.stands(handle), Some(Stands::Base { .. })) {
+        return Err(Refusal::NotAnOverlay(handle));
+    }
+    Ok(graph)
+}

@@ -1,0 +1,224 @@
+//! Graphs as of instants, each as a new handle.
+
+ghost use Rattle.std.specs.Prelude.{◌≡◌, ◌+◌, ◌<◌, ◌≤◌, IfErr, IfSome, IsErrOf, OnErr, OnOk, [], ◌∷◌, Ok, Option, None, Some, not, length, map, take, IfOk};
+ghost use Rattle.std.specs.List.{All, list_any, sum};
+ghost use Rattle.dg_disk.specs.Counts.{Rose as DiskRose};
+ghost use Rattle.dg_disk.specs.Frame.{OnlyReads};
+ghost use Rattle.dg_fold.specs.BytesRead.{Takes};
+ghost use Rattle.dg_handles.specs.Handles.{BeginsOn, overlays_on};
+ghost use Rattle.dg_machine.specs.declared.command.TheConstants.{TIMES_MAX};
+ghost use Rattle.dg_machine.specs.declared.limits.TheConstants.{HANDLE_MAX, LIVE_HANDLES_MAX};
+ghost use Rattle.dg_machine.specs.Answer.{headed};
+ghost use Rattle.dg_history.specs.History.{in_range};
+ghost use Rattle.dg_machine.specs.MachineState.{MachineState};
+ghost use Rattle.dg_machine.specs.Planning.{edges_in, points_for};
+ghost use Rattle.dg_retrieval.specs.Beginnings.{leads_in, led_to};
+ghost use Rattle.dg_retrieval.specs.Retrieval.{IsNoDamage, TakesAtMostTree};
+ghost use Rattle.dg_session.specs.Damage.{DamageIn, Graphs, MeetsNone, NamesDamage};
+ghost use Rattle.dg_session.specs.Reads.{IsRetrieved, ReadsIn, bases_of, listed_by, with_new_handles};
+ghost use Rattle.dg_session.specs.Session.{ComesTo, StandsFor, refused_by, retrieval_needs};
+ghost use Rattle.dg_start.specs.StoredHistory.{IsHeldBy};
+ghost use Rattle.dg_batch.specs.declared.stop.Stop.TheVariants as stop;
+
+use super::plans::in_range;
+use super::{Session, headed};
+use crate::retrieval::{handle_lines, leads_at};
+use dg_ask::span;
+use dg_batch::{Halt, Stop};
+use dg_disk::Disk;
+use dg_graph::Columns;
+use dg_machine::{
+    BodyLines, Command, HANDLE_MAX, Head, LIVE_HANDLES_MAX, Refusal, Reply, TIMES_MAX,
+};
+use dg_retrieval::{Leads, RetrievalFault, Retrieved};
+use std::alloc::AllocError;
+use std::thread::Threads;
+
+impl Session {
+    // Why no graphs as of these instants are retrieved, each as a new handle.
+    pub(super) fn refused_retrieval(&self, times: &[u64]) -> Option<Refusal>
+        requires few { length times.now ≤ TIMES_MAX }
+        ensures { result ≡ refused_by self.now.parts 0 (retrieval_needs times.now (length times.now)) }
+    {
+        if !self.has_index() {
+            return Some(Refusal::NoIndex);
+        }
+        let ends = self.span();
+        if is_any_out(ends, times) {
+            return Some(Refusal::OutOfRange(ends));
+        }
+        let live = self.handles.live();
+        let asked = times.len() as u32;
+        if (live + asked) as usize > LIVE_HANDLES_MAX {
+            return Some(Refusal::PoolFull(live, asked));
+        }
+        if self.handles.next() + u64::from(asked) > u64::from(HANDLE_MAX) + 1 {
+            return Some(Refusal::HandlesSpent);
+        }
+        None
+    }
+
+    // What leads to the graphs as of the instants in these columns, by one tree.
+    pub(super) fn retrieve<R: Threads, D: Disk>(
+        &mut self,
+        rt: &R,
+        times: &[u64],
+        cols: Columns,
+        disk: &mut D,
+    ) -> Result<Retrieved, RetrievalFault>
+        requires some { 1 ≤ length times.now }
+        requires few { length times.now ≤ TIMES_MAX }
+        requires free { refused_by self.old.parts 0 (retrieval_needs times.now (length times.now)) ≡ None }
+        requires image { IfSome (D.image disk.old) (λ image. IsHeldBy self.old.parts.index self.old.parts.names image) }
+
+        // what is retrieved
+        ensures retrieved { IfOk result (λ r. IfSome (D.image disk.old) (λ image. (m : MachineState) → StandsFor self.old.parts image m
+            → IsRetrieved m times.now cols r.weight r.singles.items (bases_of (leads_in r.leads)) (map (led_to self.old.parts.graph (listed_by self.old.parts) cols) (leads_in r.leads)))) }
+        ensures bases { IfOk result (λ r. All (BeginsOn self.old.parts.table cols) (leads_in r.leads)) }
+        ensures count { IfOk result (λ r. length (leads_in r.leads) ≡ length times.now) }
+        ensures sum { IfOk result (λ r. r.sum ≡ sum r.singles.items) }
+        ensures whole { OnOk result (MeetsNone (Graphs times.now cols) self.old.parts (D.image disk.old)) }
+
+        // the bytes read
+        ensures takes { IfOk result (λ r. IfSome (D.image disk.old) (λ image. (m : MachineState) → StandsFor self.old.parts image m
+            → Takes r.weight (D.taken disk.old) (D.taken disk.new))) }
+        ensures most { IfSome (D.image disk.old) (λ image. (m : MachineState) → StandsFor self.old.parts image m
+            → TakesAtMostTree (edges_in m cols) (points_for m times.now) (D.taken disk.old) (D.taken disk.new)) }
+
+        // why nothing is retrieved
+        ensures cause { IsErrOf result RetrievalFault.Disk → DiskRose (D.faults disk.old) (D.faults disk.new) }
+        ensures damage { IfErr result (λ fault. NamesDamage self.old.parts (D.image disk.old) (times.now, cols) fault) }
+        ensures never { IfErr result (λ fault. IfSome (D.image disk.old) (λ image. (m : MachineState) → StandsFor self.old.parts image m → IsNoDamage fault)) }
+
+        // what it leaves
+        ensures same { self.new ≡ self.old }
+        ensures disk { OnlyReads D.image D.faults D.write_faults disk.old disk.new }
+    {
+        let Some(index) = &mut self.history.index else {
+            unreachable!()
+        };
+        // Its clause says what the handles hold that can serve.
+        self.handles.facts();
+        self.planner.keep(self.alloc, index, &self.handles, cols)?;
+        leads_at(
+            rt,
+            self.alloc,
+            index,
+            disk,
+            self.history.names.len(),
+            &self.history.recent,
+            self.planner.planner(cols),
+            times,
+            cols,
+        )
+    }
+
+    // A new handle for the graph to which each lead comes, as of these instants in these columns.
+    pub(super) fn add_handles(
+        &mut self,
+        cols: Columns,
+        times: &[u64],
+        leads: &Leads,
+    ) -> Result<(), AllocError>
+        requires bases { All (BeginsOn self.old.parts.table cols) (leads_in leads.now) }
+        requires room { length self.old.parts.table + length times.now ≤ LIVE_HANDLES_MAX }
+        requires numbers { self.old.parts.next + length times.now ≤ HANDLE_MAX + 1 }
+        requires leads { length (leads_in leads.now) ≡ length times.now }
+        ensures added { OnOk result (self.new.parts ≡ with_new_handles self.old.parts (overlays_on cols times.now (bases_of (leads_in leads.now))) (map (led_to self.old.parts.graph (listed_by self.old.parts) cols) (leads_in leads.now))) }
+        ensures err { OnErr result (self.new.parts ≡ self.old.parts) }
+    {
+        self.handles.add(&mut self.pool, cols, times, leads)
+    }
+
+    // A new handle for the graph as of `t` in these columns.
+    pub(super) fn at<R: Threads, D: Disk>(
+        &mut self,
+        rt: &R,
+        t: u64,
+        cols: Columns,
+        disk: &mut D,
+    ) -> Result<Reply, Halt>
+        requires image { IfSome (D.image disk.old) (λ image. IsHeldBy self.old.parts.index self.old.parts.names image) }
+
+        // what it comes to
+        ensures comes { ComesTo (Command.At t cols) [] self.old.parts (D.image disk.old) self.new.parts (D.image disk.new) result }
+        ensures no_stop { (stop : Stop) → result ≡ Err (Halt.Stop stop) → ⊥ }
+
+        // why it is refused for a read
+        ensures store_read { IsErrOf result (Halt.Refusal Refusal.StoreRead) → DiskRose (D.faults disk.old) (D.faults disk.new) }
+        ensures damaged { DamageIn (Command.At t cols) self.old.parts (D.image disk.old) result }
+        ensures undamaged { OnOk result (MeetsNone (Graphs (t ∷ []) cols) self.old.parts (D.image disk.old)) }
+
+        // what it reads and leaves
+        ensures reads { ReadsIn (Command.At t cols) self.old.parts (D.image disk.old) result (D.taken disk.old) (D.taken disk.new) }
+        ensures disk { OnlyReads D.image D.faults D.write_faults disk.old disk.new }
+    {
+        let times = [t];
+        if let Some(refusal) = self.refused_retrieval(&times) {
+            return Err(Halt::Refusal(refusal));
+        }
+        let Retrieved { leads, weight, .. } = self.retrieve(rt, &times, cols, disk)?;
+        let handle = self.handles.next() as u32;
+        self.add_handles(cols, &times, &leads)?;
+        Ok(headed(self.alloc, Head::At { handle, weight }))
+    }
+
+    // A new handle for the graph as of each of the first `count` instants in these columns, by one tree.
+    pub(super) fn several<R: Threads, D: Disk>(
+        &mut self,
+        rt: &R,
+        cols: Columns,
+        times: [u64; TIMES_MAX],
+        count: u8,
+        disk: &mut D,
+    ) -> Result<Reply, Halt>
+        requires some { 1 ≤ count }
+        requires few { count ≤ TIMES_MAX }
+        requires image { IfSome (D.image disk.old) (λ image. IsHeldBy self.old.parts.index self.old.parts.names image) }
+
+        // what it comes to
+        ensures comes { ComesTo (Command.Several cols times count) [] self.old.parts (D.image disk.old) self.new.parts (D.image disk.new) result }
+        ensures no_stop { (stop : Stop) → result ≡ Err (Halt.Stop stop) → ⊥ }
+
+        // why it is refused for a read
+        ensures store_read { IsErrOf result (Halt.Refusal Refusal.StoreRead) → DiskRose (D.faults disk.old) (D.faults disk.new) }
+        ensures damaged { DamageIn (Command.Several cols times count) self.old.parts (D.image disk.old) result }
+        ensures undamaged { OnOk result (MeetsNone (Graphs (take count times) cols) self.old.parts (D.image disk.old)) }
+
+        // what it reads and leaves
+        ensures reads { ReadsIn (Command.Several cols times count) self.old.parts (D.image disk.old) result (D.taken disk.old) (D.taken disk.new) }
+        ensures disk { OnlyReads D.image D.faults D.write_faults disk.old disk.new }
+    {
+        let asked = first_of(&times, count);
+        if let Some(refusal) = self.refused_retrieval(asked) {
+            return Err(Halt::Refusal(refusal));
+        }
+        let retrieved = self.retrieve(rt, asked, cols, disk)?;
+        let next = self.handles.next();
+        let lines = handle_lines(self.alloc, next, asked, &retrieved.singles)?;
+        self.add_handles(cols, asked, &retrieved.leads)?;
+        Ok(Reply {
+            head: Head::Several {
+                weight: retrieved.weight,
+                sum: retrieved.sum,
+            },
+            body: BodyLines::from_vec(lines),
+        })
+    }
+}
+
+// Whether one of the instants does not lie between the ends.
+fn is_any_out(ends: Option<(u64, u64)>, times: &[u64]) -> bool
+    ensures { result ≡ list_any (λ t. not (in_range ends t)) times.now }
+{
+    times.iter().any(|t| !in_range(ends, *t))
+}
+
+// The first `count` of the instants.
+fn first_of<'a>(times: &'a [u64], count: u8) -> &'a [u64]
+    requires { count ≤ length times.now }
+    ensures times { result.now ≡ take count times.entry.now }
+    ensures count { length result.now ≡ count }
+{
+    &times[..usize::from(count)]
+}

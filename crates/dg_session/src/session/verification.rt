@@ -1,0 +1,71 @@
+//! What the events of the file themselves determine, and whether the file is that.
+
+ghost use Rattle.std.specs.Prelude.{◌≡◌, ◌<◌, IfSome, IsErrOf, [], Ok, Some, is_some, true, IfOk};
+ghost use Rattle.dg_disk.specs.Counts.{Rose as DiskRose};
+ghost use Rattle.dg_disk.specs.Frame.{OnlyReads};
+ghost use Rattle.dg_machine.specs.Answer.{headed};
+ghost use Rattle.dg_session.specs.Damage.{DamageIn};
+ghost use Rattle.dg_session.specs.Reads.{ReadsIn};
+ghost use Rattle.dg_session.specs.Session.{ComesTo};
+ghost use Rattle.dg_session.specs.Verified.{IsOfFile, VerifiesFile};
+ghost use Rattle.dg_start.specs.StoredHistory.{IsHeldBy};
+ghost use Rattle.dg_batch.specs.declared.stop.Stop.TheVariants as stop;
+
+use super::{Session, headed};
+use dg_batch::{Halt, Stop};
+use dg_disk::Disk;
+use dg_machine::{Command, Head, Refusal, Reply};
+use dg_sound::Soundness;
+use dg_sound_files::law_standing_files_are_sound;
+use dg_verify::{VerifyFault, verify};
+use std::thread::Threads;
+
+impl Session {
+    // Whether the file is what its own events determine, as the reply.
+    pub(super) fn verify<R: Threads, D: Disk>(
+        &mut self,
+        rt: &R,
+        disk: &mut D,
+    ) -> Result<Reply, Halt>
+        requires image { IfSome (D.image disk.old) (λ image. IsHeldBy self.old.parts.index self.old.parts.names image) }
+
+        // what it comes to
+        ensures comes { ComesTo Command.Verify [] self.old.parts (D.image disk.old) self.new.parts (D.image disk.new) result }
+        ensures no_stop { (stop : Stop) → result ≡ Err (Halt.Stop stop) → ⊥ }
+        ensures verified { IfOk result (λ reply. VerifiesFile Command.Verify self.old.parts (D.image disk.old) reply.head) }
+
+        // why it is refused for a read
+        ensures store_read { IsErrOf result (Halt.Refusal Refusal.StoreRead) → DiskRose (D.faults disk.old) (D.faults disk.new) }
+        ensures damaged { DamageIn Command.Verify self.old.parts (D.image disk.old) result }
+
+        // what it reads and leaves
+        ensures reads { ReadsIn Command.Verify self.old.parts (D.image disk.old) result (D.taken disk.old) (D.taken disk.new) }
+        ensures disk { OnlyReads D.image D.faults D.write_faults disk.old disk.new }
+    {
+        law_standing_files_are_sound();
+        let _ = self.index()?;
+        let soundness = self.soundness(rt, disk)?;
+        Ok(headed(self.alloc, Head::Verified(soundness)))
+    }
+
+    // Whether the file is what its own events determine.
+    pub(super) fn soundness<R: Threads, D: Disk>(
+        &mut self,
+        rt: &R,
+        disk: &mut D,
+    ) -> Result<Soundness, VerifyFault>
+        requires there { is_some self.old.parts.index ≡ true }
+        requires image { IfSome (D.image disk.old) (λ image. IsHeldBy self.old.parts.index self.old.parts.names image) }
+        ensures sound { IfOk result (λ soundness. IsOfFile self.old.parts (D.image disk.old) soundness) }
+        ensures cause { IsErrOf result VerifyFault.Disk → DiskRose (D.faults disk.old) (D.faults disk.new) }
+
+        // what it leaves
+        ensures same { self.new ≡ self.old }
+        ensures disk { OnlyReads D.image D.faults D.write_faults disk.old disk.new }
+    {
+        let Some(index) = &mut self.history.index else {
+            unreachable!()
+        };
+        verify(rt, self.alloc, index, disk, &self.history.names)
+    }
+}
