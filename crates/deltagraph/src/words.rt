@@ -1,3 +1,5 @@
+//! The words of the command line after the program's name.
+
 use dg_run::Status;
 use std::env;
 use std::io::ErrorKind;

@@ -1,3 +1,4 @@
+//! The run: the words, a session over the disk, and each reply before the next line is read.
 ghost use Rattle.std.specs.Prelude.{◌≡◌, IfSome, map, string_bytes, true};
 ghost use Rattle.dg_machine.specs.MachineState.{IsWithin};
 ghost use Rattle.dg_start.specs.StoredHistory.{IsHeldBy};

@@ -1,3 +1,4 @@
+//! How a run ends, its exit status, and the line that says so.
 ghost use Rattle.std.specs.Prelude.{◌≡◌};
 ghost use Rattle.dg_run.specs.Statuses.{code_of, ending_of};
 

@@ -1,3 +1,4 @@
+//! The written form of the command line, as a command of clap.
 ghost use Rattle.std.specs.Prelude.{◌≡◌, IfOk, false};
 ghost use Rattle.clap.specs.Words.{app_of, rule_of};
 ghost use Rattle.dg_words.specs.WrittenForm.{bare_program, checked_rule, form, index_rule};

@@ -1,3 +1,4 @@
+//! What the words of a command line say: the index, and whether it is checked.
 ghost use Rattle.std.specs.Prelude.{◌≡◌, false, true, map, string_bytes, IfOk, MatchOption, Some};
 ghost use Rattle.dg_words.specs.WrittenForm.{index_of, is_checked, is_written_form};
 ghost use Rattle.dg_words.specs.Parsed.{Finds};

@@ -1,3 +1,5 @@
+//! Cells in raw memory: those that are given back, and those that stay as more come.
+
 use dg_arena::{Row, Rows};
 use std::test::Fail;
 

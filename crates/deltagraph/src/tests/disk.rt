@@ -1,10 +1,19 @@
+//! Disks in memory and over a file: what they hold, what they count, and where they fail.
 ghost use Rattle.dg_disk.specs.Image.{HasOffset, HasRange};
 
 use dg_disk::{Disk, Failed, MemoryDisk};
 use dg_file_disk::FileDisk;
+use dg_io::{Line, Lines, MemorySink, MemorySource};
+use dg_line::{read_command, write_reply};
+use dg_machine::{Limits, SCRIPT_BYTES_MAX};
+use dg_session::Session;
+use std::alloc::Global;
 use std::fs::{File, Files};
+use std::os::unix::fs::FileExt;
 use std::process::Abort;
 use std::test::Fail;
+use std::thread::Threads;
+use std::{env, fs, process};
 
 // More calls than any test makes.
 const CALLS_MAX: usize = 1000;
@@ -150,4 +159,91 @@ fn fails_where_the_system_refuses(rt: HostRuntime) -> Result<(), Fail> {
         drop(disk);
     }
     Ok(())
+}
+
+// More bytes than the script or its replies have.
+const WHOLE: usize = 1 << 20;
+
+// A history of five events is loaded, and then its first instant is asked for.
+const SCRIPT: &[u8] =
+    b"create 2 2 intersection\nload 5\n10 +node 1\n20 +node 2\n30 +edge 5 1 2 dir\n40 nset 1 name A\n50 -edge 5\nat 10 s\nlist 1\n";
+
+// The last byte of the id of the node that the first event adds, in the first list of the file.
+const BYTE_OF_FIRST_NODE: u64 = 277;
+
+// The replies where that byte is 9 when the instant is asked for.
+const REPLIES: &[u8] =
+    b"ok create\nend\nok load 5 5 50\nend\nok at 1 42\nend\nok list 1 1\nnode 9\nend\n";
+
+// The session carries out the next command of the script, and its reply is written. Says whether it could be.
+fn carries_out<R: Threads + Sync, F: Files<File = File>>(
+    rt: &R,
+    session: &mut Session,
+    lines: &mut Lines,
+    source: &mut MemorySource,
+    sink: &mut MemorySink,
+    disk: &mut FileDisk<F>,
+) -> bool {
+    match lines.next(source) {
+        Ok(Line::Text(_)) => {}
+        _ => return false,
+    }
+    let Ok(command) = read_command(lines.text()) else {
+        return false;
+    };
+    match session.step(rt, &command, lines, source, disk) {
+        Ok(reply) => {
+            let is_written = write_reply(sink, session.names(), &reply).is_ok();
+            drop(reply);
+            is_written
+        }
+        Err(_) => false,
+    }
+}
+
+// The session carries out the next two commands of the script.
+fn carries_out_two<R: Threads + Sync + Abort, F: Files<File = File>>(
+    rt: &R,
+    session: &mut Session,
+    lines: &mut Lines,
+    source: &mut MemorySource,
+    sink: &mut MemorySink,
+    disk: &mut FileDisk<F>,
+) {
+    for _ in 0..2 {
+        let is_done = carries_out(rt, session, lines, source, sink, disk);
+        assert!(rt; is_done);
+    }
+}
+
+// The session carries out the script, over a file in which a byte is another from the third command on.
+fn reads_anew<R: Threads + Sync + Abort + Files<File = File>, F: Files<File = File>>(
+    rt: &R,
+    alloc: Global,
+    path: &str,
+    session: &mut Session,
+    disk: &mut FileDisk<F>,
+) -> Result<(), Fail> {
+    let mut source = MemorySource::new(alloc, SCRIPT, WHOLE, &[])?;
+    let mut sink = MemorySink::new(alloc, WHOLE, &[])?;
+    let mut lines = Lines::new(SCRIPT_BYTES_MAX);
+    carries_out_two(rt, session, &mut lines, &mut source, &mut sink, disk);
+    let file = File::options().write(true).open(rt, path)?;
+    file.write_all_at(&[9], BYTE_OF_FIRST_NODE)?;
+    fs::remove_file(rt, path)?;
+    carries_out_two(rt, session, &mut lines, &mut source, &mut sink, disk);
+    assert_eq!(rt; sink.written(), REPLIES);
+    Ok(())
+}
+
+#[test]
+fn a_session_reads_a_list_from_the_file_when_it_is_asked_for(rt: HostRuntime) -> Result<(), Fail> {
+    let name = format!(in rt.alloc(); "deltagraph-test-{}", process::id(rt.process()))?;
+    let path = env::temp_dir(&rt)?.join(rt.alloc(), name.as_str())?;
+    let _ = fs::remove_file(&rt, path.as_path());
+    let mut disk = FileDisk::new(&rt, path.as_str().to_string(rt.alloc())?);
+    let mut session = Session::start(&rt, rt.alloc(), &mut disk, false, Limits::standard())?;
+    let read = reads_anew(&rt, rt.alloc(), path.as_str(), &mut session, &mut disk);
+    drop(session);
+    read
 }

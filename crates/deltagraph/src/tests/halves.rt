@@ -1,3 +1,5 @@
+//! Both halves of a plan are at work at once.
+
 use dg_fold::{Bytes, Gate, Open, Part, compose_plan};
 use dg_graph::Element;
 use dg_history::Key;

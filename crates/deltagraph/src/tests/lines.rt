@@ -1,3 +1,4 @@
+//! Lines cut from texts in any chunks, over sources that fail; sinks that take what fits.
 ghost use Rattle.std.specs.Prelude.{◌≤◌};
 
 use dg_io::{

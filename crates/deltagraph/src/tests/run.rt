@@ -1,3 +1,4 @@
+//! Runs within lower limits, and over sources, sinks and disks that fail.
 ghost use Rattle.std.specs.Prelude.{◌<◌};
 ghost use Rattle.dg_machine.specs.MachineState.{IsWithin};
 
@@ -174,12 +175,19 @@ struct Ending {
     status: Status,
 }
 
-const ENDINGS: [Ending; 4] = [
+const ENDINGS: [Ending; 5] = [
     Ending {
         shows: "a byte beyond the limit is needed",
         script: "list 1\nlist 1\n",
         limit: 9,
         replies: "refused 8 unknown-handle 1\nend\n",
+        status: Status::ScriptLimit,
+    },
+    Ending {
+        shows: "a byte beyond the limit is needed within the second command",
+        script: "pool\npool\n",
+        limit: 7,
+        replies: "ok pool 0 0\nend\n",
         status: Status::ScriptLimit,
     },
     Ending {
