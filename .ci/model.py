@@ -617,6 +617,9 @@ def ask_plans(rng, history, case):
         lines, weight, steps = graph.plan(target)
         case.script.append(f"plan {time} {columns}")
         case.reply(f"ok plan {weight} {steps}", *lines)
+        # A plan certifies itself.
+        case.script += [f"certify {time} {columns} {len(lines)}"] + lines
+        case.reply("ok certify valid")
         lines = altered(rng, lines)
         case.script += [f"certify {time} {columns} {len(lines)}"] + lines
         case.reply(f"ok certify {graph.judged(target, lines)}")
