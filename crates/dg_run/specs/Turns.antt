@@ -46,25 +46,29 @@ abbrev pub Replies : script.Entry → Parts → List ℕ → Parts → List ℕ 
 Replies e old image new now reply =
     (m : MachineState) → StandsFor old image m → (k : MachineState) × Step m e reply k × StandsFor new now k
 
--- what the turn says of the entries to come and of the session and its image, before it and after it
-abbrev pub Turns : Turn → Option (List script.Entry) → Option (List script.Entry) → Parts → Option (List ℕ) → Parts → Option (List ℕ) → Type 0
-Turns turn.End before after old image new now = IfSome before (λ rest. rest ≡ []) × (before ≡ after) × (new ≡ old) × (now ≡ image)
-Turns turn.Skipped before after old image new now = (before ≡ after) × (new ≡ old) × (now ≡ image)
-Turns (turn.Replied reply) before after old image new now =
+-- the entry is a line that asks for nothing
+abbrev pub IsUnasked : script.Entry → Type 0
+IsUnasked (script.Asked c lines) = ⊥
+IsUnasked (script.No_command line) = Unit {0}
+IsUnasked script.Long_line = Unit {0}
+
+-- what the turn says of the entries to come, of the session and its image, and of the bytes read of the disk, before it
+-- and after it: a turn with no reply, or at a line that asks for nothing, changes and reads nothing over any image
+abbrev pub Turns : Turn → Option (List script.Entry) → Option (List script.Entry) → Parts → Option (List ℕ) → Parts → Option (List ℕ) → ℕ → ℕ → Type 0
+Turns turn.End before after old image new now taken then_taken =
+    IfSome before (λ rest. rest ≡ []) × (before ≡ after) × (new ≡ old) × (now ≡ image) × (then_taken ≡ taken)
+Turns turn.Skipped before after old image new now taken then_taken =
+    (before ≡ after) × (new ≡ old) × (now ≡ image) × (then_taken ≡ taken)
+Turns (turn.Replied reply) before after old image new now taken then_taken =
     (e : script.Entry) × (before ≡ option_map (λ more. e ∷ more) after)
     × WhereBothTold image now (λ x y. Replies e old x new y reply)
+    × (IsUnasked e → (new ≡ old) × (now ≡ image) × (then_taken ≡ taken))
 
 -- a reply that says that a read of the index file failed comes only where a call of the disk did
 abbrev pub TellsFailedReads : Turn → ℕ → ℕ → Type 0
 TellsFailedReads turn.End before after = Unit {0}
 TellsFailedReads turn.Skipped before after = Unit {0}
 TellsFailedReads (turn.Replied reply) before after = is_store_read reply.head ≡ true → DiskRose before after
-
--- a turn without a reply reads nothing from the disk
-abbrev pub ReadsToReply : Turn → ℕ → ℕ → Type 0
-ReadsToReply turn.End before after = after ≡ before
-ReadsToReply turn.Skipped before after = after ≡ before
-ReadsToReply (turn.Replied reply) before after = Unit {0}
 
 -- the disk failed within the first of the entries to come, and the image is that of a cut
 abbrev pub Breaks : Option (List script.Entry) → Option (List script.Entry) → Parts → Option (List ℕ) → Option (List ℕ) → Type 0
@@ -86,10 +90,10 @@ EndsAt (turn.Replied reply) r = Unit {0}
 
 -- the same where the first line was just taken: before it the entries were those of it and the
 -- lines to come
-abbrev pub TurnsAt : Turn → List ℕ → Option (List ScriptLine) → Option (List ScriptLine) → Parts → Option (List ℕ) → Parts → Option (List ℕ) → Type 0
-TurnsAt turn line before after old image new now =
+abbrev pub TurnsAt : Turn → List ℕ → Option (List ScriptLine) → Option (List ScriptLine) → Parts → Option (List ℕ) → Parts → Option (List ℕ) → ℕ → ℕ → Type 0
+TurnsAt turn line before after old image new now taken then_taken =
     (start : Option (List ScriptLine)) → Comes (Text line) start before
-    → Turns turn (option_map script.entries_of start) (option_map script.entries_of after) old image new now
+    → Turns turn (option_map script.entries_of start) (option_map script.entries_of after) old image new now taken then_taken
 
 abbrev pub BreaksAt : List ℕ → Option (List ScriptLine) → Option (List ScriptLine) → Parts → Option (List ℕ) → Option (List ℕ) → Type 0
 BreaksAt line before after old image now =

@@ -54,14 +54,14 @@ pub fn serve_with<R: Threads + Sync, S: Source, K: Sink, D: Disk>(
         (outside S.left S.faults K.written K.faults D.image D.faults D.write_faults D.taken source.new sink.new disk.new) }
 {
     match read_words(alloc, words) {
-        Ok(Some(read)) => carry_out(rt, alloc, read.checked, limits, source, sink, disk),
+        Ok(Some(read)) => run_session(rt, alloc, read.checked, limits, source, sink, disk),
         Ok(None) => Status::Words,
         Err(_) => Status::NoMemory,
     }
 }
 
 // Starts a session over the disk's image, checked or not, and carries out the script.
-fn carry_out<R: Threads + Sync, S: Source, K: Sink, D: Disk>(
+fn run_session<R: Threads + Sync, S: Source, K: Sink, D: Disk>(
     rt: &R,
     alloc: Global,
     checked: bool,

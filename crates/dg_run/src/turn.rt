@@ -8,7 +8,7 @@ ghost use Rattle.dg_io.specs.LinesState.{told, to_come, NeedsByte};
 ghost use Rattle.dg_machine.specs.Answer.{headed};
 ghost use Rattle.dg_session.specs.Session.{IsAsBefore};
 ghost use Rattle.dg_start.specs.StoredHistory.{IsHeldBy};
-ghost use Rattle.dg_run.specs.Turns.{Breaks, BreaksAt, EndsAt, TurnTakes, GoesOnward, HasRanges, Means, ReadsToReply, TellsFailedReads, Turns, TurnsAt, asked};
+ghost use Rattle.dg_run.specs.Turns.{Breaks, BreaksAt, EndsAt, TurnTakes, GoesOnward, HasRanges, Means, TellsFailedReads, Turns, TurnsAt, asked};
 
 use dg_disk::Disk;
 use dg_io::{Line, LineFault, Lines, Source};
@@ -58,13 +58,12 @@ pub fn next_turn<R: Threads + Sync, S: Source, D: Disk>(
     disk: &mut D,
 ) -> Result<Turn, Stop>
     requires { IfSome (D.image disk.old) (λ image. IsHeldBy session.old.parts.index session.old.parts.names image) }
-    ensures turn { IfOk result (λ turn. Turns turn (asked lines.old (S.left source.old)) (asked lines.new (S.left source.new)) session.old.parts (D.image disk.old) session.new.parts (D.image disk.new)) }
+    ensures turn { IfOk result (λ turn. Turns turn (asked lines.old (S.left source.old)) (asked lines.new (S.left source.new)) session.old.parts (D.image disk.old) session.new.parts (D.image disk.new) (D.taken disk.old) (D.taken disk.new)) }
     ensures held { OnOk result (IfSome (D.image disk.new) (λ image. IsHeldBy session.new.parts.index session.new.parts.names image)) }
     ensures no_index { OnOk result (session.new.parts.index ≡ None → (session.old.parts.index ≡ None) × (D.image disk.new ≡ D.image disk.old)) }
     ensures falls { IfOk result (λ turn. TurnTakes turn (to_come lines.old) (to_come lines.new)) }
     ensures end { IfOk result (λ turn. EndsAt turn lines.new) }
     ensures store_read { IfOk result (λ turn. TellsFailedReads turn (D.faults disk.old) (D.faults disk.new)) }
-    ensures unread { IfOk result (λ turn. ReadsToReply turn (D.taken disk.old) (D.taken disk.new)) }
 
     // why it stops
     ensures stop { IsErrOf result Stop.Read → IsAsBefore session.old.parts (D.image disk.old) session.new.parts (D.image disk.new) }
@@ -97,10 +96,9 @@ fn turn_of<R: Threads + Sync, S: Source, D: Disk>(
     disk: &mut D,
 ) -> Result<Turn, Stop>
     requires { IfSome (D.image disk.old) (λ image. IsHeldBy session.old.parts.index session.old.parts.names image) }
-    ensures turn { IfOk result (λ turn. TurnsAt turn lines.old.text (told lines.old (S.left source.old)) (told lines.new (S.left source.new)) session.old.parts (D.image disk.old) session.new.parts (D.image disk.new)) }
+    ensures turn { IfOk result (λ turn. TurnsAt turn lines.old.text (told lines.old (S.left source.old)) (told lines.new (S.left source.new)) session.old.parts (D.image disk.old) session.new.parts (D.image disk.new) (D.taken disk.old) (D.taken disk.new)) }
     ensures goes_on { IfOk result (λ turn. GoesOnward turn) }
     ensures store_read { IfOk result (λ turn. TellsFailedReads turn (D.faults disk.old) (D.faults disk.new)) }
-    ensures unread { IfOk result (λ turn. ReadsToReply turn (D.taken disk.old) (D.taken disk.new)) }
     ensures held { OnOk result (IfSome (D.image disk.new) (λ image. IsHeldBy session.new.parts.index session.new.parts.names image)) }
     ensures no_index { OnOk result (session.new.parts.index ≡ None → (session.old.parts.index ≡ None) × (D.image disk.new ≡ D.image disk.old)) }
 

@@ -32,7 +32,7 @@ loop-reply-preserved-in-Ok-Skipped g c =
       lines = advances_both c.new-lines.result l.lines c.next_turn.new.lines _ _ _ _ _ _ l.invariant.lines c.next_turn.ensures.lines;
       sink_counted = l.invariant.sink_counted;
       disk_counted = omega (arith, l.invariant.disk_counted, c.next_turn.ensures.disk.writes_counted);
-      silent = silent_skip _ _ _ _ (g.D.Disk.taken l.disk) _ l.invariant.silent turn.0 (rw c.in-Ok-Skipped.field-0-is at c.in-Ok-Skipped.ensures.unread);
+      silent = silent_skip _ _ _ _ (g.D.Disk.taken l.disk) _ l.invariant.silent turn.0 turn.3;
     }
 
 pub loop-reply-preserved-else-is_err : goal.loop-reply-preserved-else-is_err
@@ -112,7 +112,7 @@ returns-in-Ok-End g c =
         sink_fault = λ e. cc;
         disk_fault = λ e. cc;
         script_limit = λ e. cc;
-        silent = λ e none. (rw c.in-Ok-End.field-0-is at c.in-Ok-End.ensures.unread) ∙ (l.invariant.silent none).1;
+        silent = λ e none. turn.4 ∙ (l.invariant.silent none).1;
       };
     }
 

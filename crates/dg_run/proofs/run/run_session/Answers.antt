@@ -1,6 +1,6 @@
 use Rattle.std.proofs.Common.{refl, ◌∙◌, ap, Err, arith}
 use Rattle.dg_run.proofs.PromisedRuns.{no_session, session_promise}
-use Rattle.dg_run.proofs.run.carry_out.Goals as goal
+use Rattle.dg_run.proofs.run.run_session.Goals as goal
 
 pub returns-in-Err : goal.returns-in-Err
 returns-in-Err g c = record {
