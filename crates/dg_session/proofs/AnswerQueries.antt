@@ -11,7 +11,7 @@ use Rattle.dg_machine.specs.declared.reply.Reply.{Reply}
 use Rattle.dg_machine.specs.Answer.{counting, headed, is_refusal, listing, neighbours_reply, node_reply}
 use Rattle.dg_query.specs.Queries.{degree_of, values_of}
 use Rattle.dg_session.proofs.SessionQueryStep.{Asks}
-use Rattle.dg_session.specs.Decided.{Fits}
+use Rattle.dg_session.specs.Decided.{IsHeadOf}
 
 pub list_asks : (handle : ℕ) → Asks (command.Ask handle query.List) handle false (listing handle)
 list_asks handle = record { unplanned = λ m. refl; needed = λ p. refl; due = λ m. refl; accepts = λ g. refl; fits = λ g. refl }
@@ -30,7 +30,7 @@ node_asks handle id = record {
   needed = λ p. refl;
   due = λ m. refl;
   accepts = λ g. either (λ r. is_refusal r.head ≡ false) (has g (element.Node id)) (there g) (headed (head.NodeAbsent handle id)) refl refl;
-  fits = λ g. either (λ r. Fits (command.Ask handle (query.Node id)) r.head) (has g (element.Node id)) (there g) (headed (head.NodeAbsent handle id)) (refl, refl) (refl, refl);
+  fits = λ g. either (λ r. IsHeadOf (command.Ask handle (query.Node id)) r.head) (has g (element.Node id)) (there g) (headed (head.NodeAbsent handle id)) (refl, refl) (refl, refl);
 }
   where
     there : List Element → Reply

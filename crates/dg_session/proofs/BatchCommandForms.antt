@@ -20,7 +20,7 @@ use Rattle.dg_batch.proofs.ChangeGrammarRanges.{lines_fit}
 use Rattle.dg_batch.proofs.GeneratedChangeRanges.{generated_fit}
 use Rattle.dg_batch.proofs.LegalHistory.{AskedFit}
 use Rattle.dg_session.specs.BatchCommand.{command_with, batch_head}
-use Rattle.dg_session.specs.Decided.{Fits}
+use Rattle.dg_session.specs.Decided.{IsHeadOf}
 use Rattle.dg_session.specs.declared.batch_command.BatchCommand.{BatchCommand}
 use Rattle.dg_session.specs.declared.batch_command.BatchCommand.TheVariants.{Load, Append}
 
@@ -85,7 +85,7 @@ ok_head (Lines_of Load) graph events total last = refl
 ok_head (Lines_of Append) graph events total last = refl
 ok_head (Seed seed) graph events total last = refl
 
-pub fits_head : (from : Origin) (count : ℕ) (graph : List Element) (events total last : ℕ) → Fits (adding from count) (head_over from graph events total last)
+pub fits_head : (from : Origin) (count : ℕ) (graph : List Element) (events total last : ℕ) → IsHeadOf (adding from count) (head_over from graph events total last)
 fits_head (Lines_of Load) count graph events total last = tt
 fits_head (Lines_of Append) count graph events total last = tt
 fits_head (Seed seed) count graph events total last = tt

@@ -24,7 +24,7 @@ use Rattle.dg_ask.proofs.OpenedIndexHistory.{behind}
 use Rattle.dg_ask.proofs.HeldIndexHistory.{count_is}
 use Rattle.dg_session.proofs.PartStates.{IsOf, hit, is_of, miss, one_image, opening_of, stands_on}
 use Rattle.dg_session.proofs.SessionSteps.{moved}
-use Rattle.dg_session.specs.Decided.{Fits}
+use Rattle.dg_session.specs.Decided.{IsHeadOf}
 use Rattle.dg_session.specs.Parts.{Parts}
 use Rattle.dg_ask.specs.RecordListing.{held_line, lengths_held, listing_of}
 use Rattle.dg_session.specs.Session.{Accepts, refused_by}
@@ -77,7 +77,7 @@ tree_answers p image o reply there is = record {
       ));
   accepted = ap (λ (x : Reply). is_refusal x.head) is;
   free = tree_free p o there;
-  fits = subst (λ (x : Reply). Fits command.Tree x.head) (sym is) tt;
+  fits = subst (λ (x : Reply). IsHeadOf command.Tree x.head) (sym is) tt;
   held = λ h. h;
   no_index = λ h. (h, refl);
   quiet = λ h. refl;

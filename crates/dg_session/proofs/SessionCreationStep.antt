@@ -26,7 +26,7 @@ use Rattle.dg_index.specs.IndexRecords.{recent_of}
 use Rattle.dg_session.proofs.PartStates.{AreOf, are_of, both_told, graph_in, no_graphs, no_handle_reached, no_index, one_told, opening_of, passes, recent_in, refused_is, stands}
 use Rattle.dg_session.proofs.SessionSteps.{accepted_is, accepted_steps, is_accepted, lacking_denies, moved}
 use Rattle.dg_batch.specs.Halt.{creation_halt}
-use Rattle.dg_session.specs.Decided.{Fits}
+use Rattle.dg_session.specs.Decided.{IsHeadOf}
 use Rattle.dg_session.specs.Parts.{Parts}
 use Rattle.dg_start.specs.StoredHistory.{AreCounted, IsHeldBy}
 use Rattle.dg_session.specs.Session.{Accepts, ComesTo, CutsOff, StandsFor, refused_by}
@@ -89,7 +89,7 @@ create_answers p q params before after o reply none made opened o_is no_names is
       ));
   accepted = ap (λ (r : Reply). is_refusal r.head) reply_is;
   free = none;
-  fits = subst (λ (r : Reply). Fits (making params) r.head) (sym reply_is) tt;
+  fits = subst (λ (r : Reply). IsHeadOf (making params) r.head) (sym reply_is) tt;
   held = λ h.
       subst (λ (x : Parts). IfSome after (λ image. IsHeldBy x.index x.names image)) (sym is)
       (subst (λ (x : Opening). IfSome after (λ image. opening image ≡ Ok (record { index = x; names = p.names }))) (sym o_is)

@@ -38,7 +38,7 @@ use Rattle.dg_session.proofs.PlanStep.{records_edges_in}
 use Rattle.dg_session.proofs.SessionRetrievals.{handles_taken, if_some, moved_with, reads_failed, retrieval_accepted, z_of}
 use Rattle.dg_session.proofs.PartStates.{events_are, events_there, hit, is_of, last_passes, miss, not_false, one_image, one_told, params_are, passes}
 use Rattle.dg_ask.specs.HeldIndex.{has_node_held}
-use Rattle.dg_session.specs.Decided.{Fits}
+use Rattle.dg_session.specs.Decided.{IsHeadOf}
 use Rattle.dg_session.specs.Parts.{Parts}
 use Rattle.dg_session.specs.Reads.{IsNodeHeld, Reads, is_early, with_new_handles}
 use Rattle.dg_session.specs.Session.{Accepts, StandsFor, is_reached, node_needs, refused_by}
@@ -125,7 +125,7 @@ node_answers p q node cols before after weight graph reply none same got is repl
           (All-cons reaches (Base node cols) [] (node_reached p x m node cols s free.1) (All-nil reaches))
           (is ∙ ap (λ g. with_new_handles p (Base node cols ∷ []) (g ∷ [])) r.listed),
     )))
-    (ap (λ (r : Reply). is_refusal r.head) reply_is) none (subst (λ (r : Reply). Fits (command.Materialise node cols) r.head) (sym reply_is) tt) same is
+    (ap (λ (r : Reply). is_refusal r.head) reply_is) none (subst (λ (r : Reply). IsHeadOf (command.Materialise node cols) r.head) (sym reply_is) tt) same is
 
 -- where it fails, the bytes read are at most what its reply would tell
 pub node_fails : (p : Parts) (node : NodeId) (cols : Columns) (image : Option (List ℕ)) (h : Head) (before after : ℕ) → is_refusal h ≡ true → is_early h ≡ false → refused_by p 0 (node_needs node) ≡ None

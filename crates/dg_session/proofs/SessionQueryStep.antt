@@ -18,7 +18,7 @@ use Rattle.dg_session.proofs.PartStates.{hit, miss, one_image, stands_on}
 use Rattle.dg_session.proofs.SessionSteps.{IsUnplanned, handed_out, lacking_denies, moved, refused_denies}
 use Rattle.dg_batch.specs.declared.halt.Halt.{Halt}
 use Rattle.dg_batch.specs.declared.halt.Halt.TheVariants as halt
-use Rattle.dg_session.specs.Decided.{Fits}
+use Rattle.dg_session.specs.Decided.{IsHeadOf}
 use Rattle.dg_session.specs.Parts.{Parts}
 use Rattle.dg_session.specs.Session.{Accepts, ComesTo, StandsFor, refused_by}
 
@@ -54,7 +54,7 @@ pub record Asks (c : Command) (handle : ℕ) (overlay : Bool) (answer : List Ele
   pub needed : (p : Parts) → refused_by p 0 (needs c) ≡ earliest (when (is_unknown handle p) (refusal.UnknownHandle handle) ++ (when (overlay && is_base (stands_at handle p.table)) (refusal.NotAnOverlay handle) ++ []))
   pub due : (m : MachineState) → accepted m c [] no_plan ≡ say m (answer (shown_by m handle))
   pub accepts : (graph : List Element) → is_refusal (answer graph).head ≡ false
-  pub fits : (graph : List Element) → Fits c (answer graph).head
+  pub fits : (graph : List Element) → IsHeadOf c (answer graph).head
 
 module _ (c : Command) (handle : ℕ) (overlay : Bool) (answer : List Element → Reply) (asks : Asks c handle overlay answer) (p : Parts) where
   pub ask_refused : is_some (stands_at handle p.table) ≡ false → refused_by p 0 (needs c) ≡ Some (refusal.UnknownHandle handle)
@@ -83,7 +83,7 @@ module _ (c : Command) (handle : ℕ) (overlay : Bool) (answer : List Element �
         ));
     accepted = ap (λ (r : Reply). is_refusal r.head) reply_is ∙ asks.accepts graph;
     free = ask_free live served;
-    fits = subst (λ (r : Reply). Fits c r.head) (sym reply_is) (asks.fits graph);
+    fits = subst (λ (r : Reply). IsHeadOf c r.head) (sym reply_is) (asks.fits graph);
     held = λ h. h;
     no_index = λ h. (h, refl);
     quiet = λ h. refl;

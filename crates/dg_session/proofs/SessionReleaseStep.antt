@@ -26,7 +26,7 @@ use Rattle.dg_ask.specs.KeptPlanner.{IsGraphOver, IsKeptFor}
 use Rattle.dg_ask.proofs.HeldIndexHandles.{kept_same}
 use Rattle.dg_session.proofs.PartStates.{hit, kept, miss, one_image, parts_of, stands}
 use Rattle.dg_session.proofs.SessionSteps.{moved}
-use Rattle.dg_session.specs.Decided.{Fits}
+use Rattle.dg_session.specs.Decided.{IsHeadOf}
 use Rattle.dg_session.specs.Parts.{Parts}
 use Rattle.dg_session.specs.Session.{Accepts, StandsFor, is_reached, refused_by}
 use Rattle.dg_start.specs.StoredHistory.{IsHeldBy}
@@ -130,7 +130,7 @@ release_answers p q handle image reply live unused is reply_is = record {
       ));
   accepted = ap (λ (r : Reply). is_refusal r.head) reply_is;
   free = release_free p handle live unused;
-  fits = subst (λ (r : Reply). Fits (command.Release handle) r.head) (sym reply_is) refl;
+  fits = subst (λ (r : Reply). IsHeadOf (command.Release handle) r.head) (sym reply_is) refl;
   held = λ h. subst (λ (x : Parts). IfSome image (λ bytes. IsHeldBy x.index x.names bytes)) (sym is) h;
   no_index = λ h. (ap (λ (x : Parts). x.index) (sym is) ∙ h, refl);
   quiet = λ h. refl;

@@ -52,7 +52,7 @@ use Rattle.dg_batch.specs.Halt.{retrieval_halt}
 use Rattle.dg_session.specs.contracts.session.Session.{the_view}
 use Rattle.dg_session.specs.declared.session.Session.TheInside.{Inside}
 use Rattle.dg_ask.specs.HeldIndex.{point_over, points_over, span_held}
-use Rattle.dg_session.specs.Decided.{Fits}
+use Rattle.dg_session.specs.Decided.{IsHeadOf}
 use Rattle.dg_session.specs.Parts.{Parts}
 use Rattle.dg_session.specs.Reads.{IsRetrieved, Reads, ReadsAsTold, ReadsBy, ReadsIn, bases_of, is_early, listed_by, with_new_handles}
 use Rattle.dg_start.specs.StoredHistory.{IsHeldBy, index_opening}
@@ -286,7 +286,7 @@ moved_with c old new before after reply none step x y a b m s =
 
 -- a retrieval that gives new handles
 pub retrieval_accepted : (c : Command) (p q : Parts) (before after : Option (List ℕ)) (new : List Stands) (graphs : List (List Element)) (reply : Reply)
-    → WhereBothTold before after (λ x y. Moves c [] p x q y reply) → is_refusal reply.head ≡ false → refused_by p 0 (needs c) ≡ None → Fits c reply.head
+    → WhereBothTold before after (λ x y. Moves c [] p x q y reply) → is_refusal reply.head ≡ false → refused_by p 0 (needs c) ≡ None → IsHeadOf c reply.head
     → after ≡ before → q ≡ with_new_handles p new graphs → Accepts c [] p before q after reply
 retrieval_accepted c p q before after new graphs reply moves accepts free fits same is = record {
   moves = moves;

@@ -27,7 +27,7 @@ use Rattle.dg_session.specs.Parts.{Parts}
 use Rattle.dg_batch.specs.declared.halt.Halt.{Halt}
 use Rattle.dg_batch.specs.declared.halt.Halt.TheVariants as halt
 use Rattle.dg_batch.specs.declared.stop.Stop.TheVariants as stop
-use Rattle.dg_session.specs.Decided.{Fits}
+use Rattle.dg_session.specs.Decided.{IsHeadOf}
 use Rattle.dg_session.specs.Session.{ComesTo, Decides, Denies, IsDecided, MayRead, Moves, StandsFor, Steps, TakesLines, WhereBothTold, is_of_read, is_too_full, refused_by}
 
 -- ---- of the machine
@@ -227,7 +227,7 @@ same_refusal : (r why : Refusal) → head.Refused why ≡ head.Refused r → r �
 same_refusal r why is = cc
 
 -- a reply that is no refusal is decided so
-fitting : (c : Command) (got : List ScriptLine) (old : Parts) (h : Head) (o : Option Refusal) → is_some o ≡ false → refused_by old (length got) (needs c) ≡ None → Fits c h
+fitting : (c : Command) (got : List ScriptLine) (old : Parts) (h : Head) (o : Option Refusal) → is_some o ≡ false → refused_by old (length got) (needs c) ≡ None → IsHeadOf c h
     → Decides c got old h o
 fitting c got old h None accepts free fits = (free, fits)
 fitting c got old h (Some r) accepts free fits = absurd (false≢true (sym accepts))

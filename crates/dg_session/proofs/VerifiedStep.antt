@@ -25,7 +25,7 @@ use Rattle.dg_session.proofs.PartStates.{IsOf, hit, is_of, miss, one_image, one_
 use Rattle.dg_session.proofs.SessionSteps.{failing_accepted, lacking_denies, moved}
 use Rattle.dg_batch.specs.declared.halt.Halt.{Halt}
 use Rattle.dg_session.specs.Damage.{DamageIn}
-use Rattle.dg_session.specs.Decided.{Fits}
+use Rattle.dg_session.specs.Decided.{IsHeadOf}
 use Rattle.dg_batch.specs.Halt.{verify_halt}
 use Rattle.dg_session.specs.Parts.{Parts}
 use Rattle.dg_session.specs.Reads.{Reads, ReadsBy, ReadsIn, is_early}
@@ -72,7 +72,7 @@ answers_over law p q before after o s reply there same same_image sound is = rec
       ));
   accepted = ap (λ (x : Reply). is_refusal x.head) is;
   free = verify_free p (ap is_some there);
-  fits = subst (λ (x : Reply). Fits command.Verify x.head) (sym is) tt;
+  fits = subst (λ (x : Reply). IsHeadOf command.Verify x.head) (sym is) tt;
   held = λ h.
       subst (λ (x : Parts). IfSome after (λ image. IsHeldBy x.index x.names image)) (sym same)
       (subst (λ (t : Option (List ℕ)). IfSome t (λ image. IsHeldBy p.index p.names image)) (sym same_image) h);

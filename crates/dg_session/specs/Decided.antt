@@ -22,30 +22,30 @@ is_late n refusal.OutOfMemory = n.memory
 is_late n r = false
 
 -- the first line of a reply to what is asked of this handle
-abbrev pub FitsQuery : Query → ℕ → Head → Type 0
-FitsQuery query.List handle (head.List h lines) = h ≡ handle
-FitsQuery query.Counts handle (head.Counts h counts) = h ≡ handle
-FitsQuery (query.Node id) handle (head.NodeThere h node degree) = (h ≡ handle) × (node ≡ id)
-FitsQuery (query.Node id) handle (head.NodeAbsent h node) = (h ≡ handle) × (node ≡ id)
-FitsQuery (query.Neighbours id) handle (head.Neighbours h node lines) = (h ≡ handle) × (node ≡ id)
-FitsQuery q handle h = ⊥
+abbrev pub IsHeadOfQuery : Query → ℕ → Head → Type 0
+IsHeadOfQuery query.List handle (head.List h lines) = h ≡ handle
+IsHeadOfQuery query.Counts handle (head.Counts h counts) = h ≡ handle
+IsHeadOfQuery (query.Node id) handle (head.NodeThere h node degree) = (h ≡ handle) × (node ≡ id)
+IsHeadOfQuery (query.Node id) handle (head.NodeAbsent h node) = (h ≡ handle) × (node ≡ id)
+IsHeadOfQuery (query.Neighbours id) handle (head.Neighbours h node lines) = (h ≡ handle) × (node ≡ id)
+IsHeadOfQuery q handle h = ⊥
 
 -- the first line of a reply to this command, where it is not refused
-abbrev pub Fits : Command → Head → Type 0
-Fits (command.Create l k function) head.Created = Unit {0}
-Fits (command.Load count) (head.Loaded events total last) = Unit {0}
-Fits (command.Append count) (head.Appended events total last) = Unit {0}
-Fits (command.At t cols) (head.At handle weight) = Unit {0}
-Fits (command.Several cols times count) (head.Several weight sum) = Unit {0}
-Fits (command.Materialise node cols) (head.Materialised handle weight) = Unit {0}
-Fits (command.Ask handle q) h = FitsQuery q handle h
-Fits (command.Release handle) (head.Released h) = h ≡ handle
-Fits (command.Clean cells) head.Cleaned = Unit {0}
-Fits command.CleanAll (head.CleanedAll cells) = Unit {0}
-Fits command.Pool (head.Pool live size) = Unit {0}
-Fits (command.Plan t cols) (head.Plan weight steps) = Unit {0}
-Fits (command.Certify t cols count) (head.Certified verdict) = Unit {0}
-Fits command.Verify (head.Verified soundness) = Unit {0}
-Fits command.Tree (head.Tree l k function events leaves records) = Unit {0}
-Fits (command.Workload seed count) (head.Generated events last nodes edges) = Unit {0}
-Fits c h = ⊥
+abbrev pub IsHeadOf : Command → Head → Type 0
+IsHeadOf (command.Create l k function) head.Created = Unit {0}
+IsHeadOf (command.Load count) (head.Loaded events total last) = Unit {0}
+IsHeadOf (command.Append count) (head.Appended events total last) = Unit {0}
+IsHeadOf (command.At t cols) (head.At handle weight) = Unit {0}
+IsHeadOf (command.Several cols times count) (head.Several weight sum) = Unit {0}
+IsHeadOf (command.Materialise node cols) (head.Materialised handle weight) = Unit {0}
+IsHeadOf (command.Ask handle q) h = IsHeadOfQuery q handle h
+IsHeadOf (command.Release handle) (head.Released h) = h ≡ handle
+IsHeadOf (command.Clean cells) head.Cleaned = Unit {0}
+IsHeadOf command.CleanAll (head.CleanedAll cells) = Unit {0}
+IsHeadOf command.Pool (head.Pool live size) = Unit {0}
+IsHeadOf (command.Plan t cols) (head.Plan weight steps) = Unit {0}
+IsHeadOf (command.Certify t cols count) (head.Certified verdict) = Unit {0}
+IsHeadOf command.Verify (head.Verified soundness) = Unit {0}
+IsHeadOf command.Tree (head.Tree l k function events leaves records) = Unit {0}
+IsHeadOf (command.Workload seed count) (head.Generated events last nodes edges) = Unit {0}
+IsHeadOf c h = ⊥

@@ -26,7 +26,7 @@ use Rattle.dg_machine.specs.Script.{Asked, Follows}
 use Rattle.dg_batch.specs.declared.halt.Halt.{Halt}
 use Rattle.dg_batch.specs.declared.halt.Halt.TheVariants as halt
 use Rattle.dg_batch.specs.declared.stop.Stop.TheVariants as stop
-use Rattle.dg_session.specs.Decided.{Fits, is_late}
+use Rattle.dg_session.specs.Decided.{IsHeadOf, is_late}
 use Rattle.dg_session.specs.Parts.{Parts}
 use Rattle.dg_ask.specs.HeldIndex.{events_held, has_node_held, span_held}
 use Rattle.dg_start.specs.StoredHistory.{IsHeldBy, KeepsHistory}
@@ -120,7 +120,7 @@ IsDecided command got old r =
 -- Whatever the image is: a reply that is no refusal fits the command, which the session does not refuse by what it
 -- keeps; a refusal is decided.
 abbrev pub Decides : Command → List ScriptLine → Parts → Head → Option Refusal → Type 0
-Decides command got old h None = (refused_by old (length got) (needs command) ≡ None) × Fits command h
+Decides command got old h None = (refused_by old (length got) (needs command) ≡ None) × IsHeadOf command h
 Decides command got old h (Some r) = IsDecided command got old r
 
 -- The command and the lines that follow it make such a step, where the disk tells its image. Whatever the image is, a reply
@@ -153,7 +153,7 @@ pub record Accepts (command : Command) (got : List ScriptLine) (old : Parts) (be
   pub moves : WhereBothTold before after (λ image then_image. Moves command got old image new then_image reply)
   pub accepted : is_refusal reply.head ≡ false
   pub free : refused_by old (length got) (needs command) ≡ None
-  pub fits : Fits command reply.head
+  pub fits : IsHeadOf command reply.head
   pub held : IfSome before (λ image. IsHeldBy old.index old.names image) → IfSome after (λ image. IsHeldBy new.index new.names image)
   pub no_index : new.index ≡ None → (old.index ≡ None) × (after ≡ before)
   pub quiet : is_writing command ≡ false → after ≡ before

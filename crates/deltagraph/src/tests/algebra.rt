@@ -1,3 +1,5 @@
+//! Small cases of deltas, sets and interior nodes, against values from elsewhere.
+
 use dg_delta::{Delta, Set};
 use dg_diff::{combine, part};
 use dg_event::effect;

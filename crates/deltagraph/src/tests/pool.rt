@@ -1,3 +1,5 @@
+//! Slots of a pool: what a graph on the current one keeps, a full pool, and a slot on which another rests.
+
 ghost use Rattle.std.specs.Prelude.{IfOk};
 ghost use Rattle.dg_pool.specs.Slots.{IsLive};
 
