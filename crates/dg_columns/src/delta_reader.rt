@@ -28,21 +28,21 @@ pub(crate) struct AttrFields {
 }
 
 // The fields of a value.
-fn attr_at(bytes: &[u8], offset: usize, names: u32) -> Result<AttrFields, ReadFault>
+fn attr_at(bytes: &[u8], offset: usize, name_count: u32) -> Result<AttrFields, ReadFault>
     requires { offset ≤ length bytes.now }
-    ensures fields { IsReadAs (λ attr. attr) result (attr_at names bytes.now offset) }
+    ensures fields { IsReadAs (λ attr. attr) result (attr_at name_count bytes.now offset) }
     ensures fits { OnOk result (offset + 16 ≤ length bytes.now) }
 {
     let id = u64_at(bytes, offset)?;
-    let key = name_at(bytes, offset + 8, names)?;
-    let value = name_at(bytes, offset + 12, names)?;
+    let key = name_at(bytes, offset + 8, name_count)?;
+    let value = name_at(bytes, offset + 12, name_count)?;
     Ok(AttrFields { id, key, value })
 }
 
 // A node or an edge.
-fn structure_at(bytes: &[u8], offset: usize, names: u32) -> Result<Element, ReadFault>
+fn structure_at(bytes: &[u8], offset: usize, name_count: u32) -> Result<Element, ReadFault>
     requires { offset ≤ length bytes.now }
-    ensures element { IsReadAs (λ x. x) result (element_at Column.Structure names bytes.now offset) }
+    ensures element { IsReadAs (λ x. x) result (element_at Column.Structure name_count bytes.now offset) }
     ensures fits { IfOk result (λ x. offset + element_size x ≤ length bytes.now) }
 {
     let kind = byte_at(bytes, offset, NODE, EDGE)?;
@@ -61,15 +61,20 @@ fn structure_at(bytes: &[u8], offset: usize, names: u32) -> Result<Element, Read
 }
 
 // The element of the column at the offset.
-fn element_at(bytes: &[u8], offset: usize, col: Column, names: u32) -> Result<Element, ReadFault>
+fn element_at(
+    bytes: &[u8],
+    offset: usize,
+    col: Column,
+    name_count: u32,
+) -> Result<Element, ReadFault>
     requires { offset ≤ length bytes.now }
-    ensures element { IsReadAs (λ x. x) result (element_at col names bytes.now offset) }
+    ensures element { IsReadAs (λ x. x) result (element_at col name_count bytes.now offset) }
     ensures fits { IfOk result (λ x. offset + element_size x ≤ length bytes.now) }
 {
     match col {
-        Column::Structure => structure_at(bytes, offset, names),
+        Column::Structure => structure_at(bytes, offset, name_count),
         Column::NodeAttr => {
-            let attr = attr_at(bytes, offset, names)?;
+            let attr = attr_at(bytes, offset, name_count)?;
             Ok(Element::NodeAttr {
                 id: attr.id,
                 key: attr.key,
@@ -77,7 +82,7 @@ fn element_at(bytes: &[u8], offset: usize, col: Column, names: u32) -> Result<El
             })
         }
         Column::EdgeAttr => {
-            let attr = attr_at(bytes, offset, names)?;
+            let attr = attr_at(bytes, offset, name_count)?;
             Ok(Element::EdgeAttr {
                 id: attr.id,
                 key: attr.key,
@@ -108,15 +113,15 @@ fn next_element_at(
     bytes: &[u8],
     offset: usize,
     col: Column,
-    names: u32,
+    name_count: u32,
     last: Option<Element>,
     others: &Set,
 ) -> Result<Element, ReadFault>
     requires { offset ≤ length bytes.now }
-    ensures element { IsReadAs (λ x. x) result (next_element_at col names bytes.now others.now offset last) }
+    ensures element { IsReadAs (λ x. x) result (next_element_at col name_count bytes.now others.now offset last) }
     ensures fits { IfOk result (λ x. offset + element_size x ≤ length bytes.now) }
 {
-    let element = element_at(bytes, offset, col, names)?;
+    let element = element_at(bytes, offset, col, name_count)?;
     if rises_from(last, &element) && !others.has(&element) {
         Ok(element)
     } else {
@@ -131,11 +136,11 @@ fn elements_at(
     start: usize,
     count: u32,
     col: Column,
-    names: u32,
+    name_count: u32,
     others: &Set,
 ) -> Result<(Vec<Element>, usize), ReadFault>
     requires { start ≤ length bytes.now }
-    ensures elements { IsReadAs (λ p. (p.0.items, p.1)) result (elements_at count col names bytes.now others.now start None) }
+    ensures elements { IsReadAs (λ p. (p.0.items, p.1)) result (elements_at count col name_count bytes.now others.now start None) }
     ensures fits { IfOk result (λ p. p.1 ≤ length bytes.now) }
 {
     // The bytes bound what is reserved: the count is not trusted.
@@ -144,7 +149,7 @@ fn elements_at(
     let mut offset = start;
     let mut last = None;
     for _ in 0..count {
-        let element = next_element_at(bytes, offset, col, names, last, others)?;
+        let element = next_element_at(bytes, offset, col, name_count, last, others)?;
         offset += element_size(&element);
         last = Some(element);
         items.push(element)?;
@@ -159,15 +164,15 @@ fn set_at(
     start: usize,
     count: u32,
     col: Column,
-    names: u32,
+    name_count: u32,
     others: &Set,
 ) -> Result<(Set, usize), ReadFault>
     requires { start ≤ length bytes.now }
-    ensures elements { IsReadAs (λ p. (p.0, p.1)) result (elements_at count col names bytes.now others.now start None) }
+    ensures elements { IsReadAs (λ p. (p.0, p.1)) result (elements_at count col name_count bytes.now others.now start None) }
     ensures fits { IfOk result (λ p. p.1 ≤ length bytes.now) }
     ensures apart { IfOk result (λ p. AreApart others.now p.0) }
 {
-    let (items, end) = elements_at(alloc, bytes, start, count, col, names, others)?;
+    let (items, end) = elements_at(alloc, bytes, start, count, col, name_count, others)?;
     Ok((Set::from_rising(items), end))
 }
 
@@ -195,13 +200,13 @@ fn delta_of(minus: Set, plus: Set) -> Delta
 
 // The delta, where nothing is wrong with the bytes: each of its two sets is read by itself, and one
 // walk shows that they share no element. `None` where something is wrong, or memory ran out.
-fn sound_delta(alloc: Global, bytes: &[u8], col: Column, names: u32) -> Option<Delta>
-    ensures { IfSome result (λ d. delta_in col names bytes.now ≡ Ok d) }
+fn sound_delta(alloc: Global, bytes: &[u8], col: Column, name_count: u32) -> Option<Delta>
+    ensures { IfSome result (λ d. delta_in col name_count bytes.now ≡ Ok d) }
 {
     let out_count = u32_at(bytes, 0).ok()?;
-    let (minus, offset) = set_here(alloc, bytes, COUNT_SIZE, out_count, col, names)?;
+    let (minus, offset) = set_here(alloc, bytes, COUNT_SIZE, out_count, col, name_count)?;
     let in_count = in_count_at(bytes, offset, out_count).ok()?;
-    let (plus, end) = set_here(alloc, bytes, offset + COUNT_SIZE, in_count, col, names)?;
+    let (plus, end) = set_here(alloc, bytes, offset + COUNT_SIZE, in_count, col, name_count)?;
     if end == bytes.len() {
         Delta::from_sets(minus, plus)
     } else {
@@ -210,20 +215,20 @@ fn sound_delta(alloc: Global, bytes: &[u8], col: Column, names: u32) -> Option<D
 }
 
 // The delta, or what is wrong.
-fn any_delta(alloc: Global, bytes: &[u8], col: Column, names: u32) -> Result<Delta, ReadFault>
-    ensures ok { IfOk result (λ d. delta_in col names bytes.now ≡ Ok d) }
-    ensures err { IfErr result (λ fault. IsFaultOf fault (delta_in col names bytes.now)) }
+fn any_delta(alloc: Global, bytes: &[u8], col: Column, name_count: u32) -> Result<Delta, ReadFault>
+    ensures ok { IfOk result (λ d. delta_in col name_count bytes.now ≡ Ok d) }
+    ensures err { IfErr result (λ fault. IsFaultOf fault (delta_in col name_count bytes.now)) }
 {
     if bytes.is_empty() {
         return Ok(Delta::new(alloc));
     }
-    if let Some(delta) = sound_delta(alloc, bytes, col, names) {
+    if let Some(delta) = sound_delta(alloc, bytes, col, name_count) {
         return Ok(delta);
     }
     // Something is wrong: its first byte is looked for.
     let none = Set::new(alloc);
     let out_count = u32_at(bytes, 0)?;
-    let (minus, offset) = set_at(alloc, bytes, COUNT_SIZE, out_count, col, names, &none)?;
+    let (minus, offset) = set_at(alloc, bytes, COUNT_SIZE, out_count, col, name_count, &none)?;
     let in_count = in_count_at(bytes, offset, out_count)?;
     let (plus, end) = set_at(
         alloc,
@@ -231,7 +236,7 @@ fn any_delta(alloc: Global, bytes: &[u8], col: Column, names: u32) -> Result<Del
         offset + COUNT_SIZE,
         in_count,
         col,
-        names,
+        name_count,
         &minus,
     )?;
     if end != bytes.len() {
@@ -244,10 +249,15 @@ fn any_delta(alloc: Global, bytes: &[u8], col: Column, names: u32) -> Result<Del
 /// byte of the first field that does not fit in the bytes or breaks a rule of the format
 /// (docs/FORMATS.md), `Memory` says that memory ran out. A delta that is read rises, shares no element,
 /// stands in the column, and names what there is.
-pub fn read_delta(alloc: Global, bytes: &[u8], col: Column, names: u32) -> Result<Delta, ReadFault>
-    ensures ok { IfOk result (λ d. delta_in col names bytes.now ≡ Ok d) }
-    ensures fits { IfOk result (λ d. DeltaFits col names d) }
-    ensures err { IfErr result (λ fault. IsFaultOf fault (delta_in col names bytes.now)) }
+pub fn read_delta(
+    alloc: Global,
+    bytes: &[u8],
+    col: Column,
+    name_count: u32,
+) -> Result<Delta, ReadFault>
+    ensures ok { IfOk result (λ d. delta_in col name_count bytes.now ≡ Ok d) }
+    ensures fits { IfOk result (λ d. DeltaFits col name_count d) }
+    ensures err { IfErr result (λ fault. IsFaultOf fault (delta_in col name_count bytes.now)) }
 {
-    any_delta(alloc, bytes, col, names)
+    any_delta(alloc, bytes, col, name_count)
 }

@@ -41,15 +41,19 @@ fn value_of(number: u32) -> Option<u32>
 }
 
 /// The fields of a value's change.
-pub(crate) fn value_at(bytes: &[u8], offset: usize, names: u32) -> Result<ValueFields, ReadFault>
+pub(crate) fn value_at(
+    bytes: &[u8],
+    offset: usize,
+    name_count: u32,
+) -> Result<ValueFields, ReadFault>
     requires { offset ≤ length bytes.now }
-    ensures fields { IsReadAs (λ value. value) result (value_fields_at names bytes.now offset) }
+    ensures fields { IsReadAs (λ value. value) result (value_fields_at name_count bytes.now offset) }
     ensures fits { OnOk result (offset + 20 ≤ length bytes.now) }
 {
     let id = u64_at(bytes, offset)?;
-    let key = name_at(bytes, offset + 8, names)?;
-    let old = old_at(bytes, offset + 12, names)?;
-    let new = new_at(bytes, offset + 16, names, old)?;
+    let key = name_at(bytes, offset + 8, name_count)?;
+    let old = old_at(bytes, offset + 12, name_count)?;
+    let new = new_at(bytes, offset + 16, name_count, old)?;
     Ok(ValueFields {
         id,
         key,
@@ -59,9 +63,9 @@ pub(crate) fn value_at(bytes: &[u8], offset: usize, names: u32) -> Result<ValueF
 }
 
 // What a structure event changes.
-fn structure_at(bytes: &[u8], offset: usize, names: u32) -> Result<Body, ReadFault>
+fn structure_at(bytes: &[u8], offset: usize, name_count: u32) -> Result<Body, ReadFault>
     requires { offset ≤ length bytes.now }
-    ensures body { IsReadAs (λ body. body) result (body_at Column.Structure names bytes.now offset) }
+    ensures body { IsReadAs (λ body. body) result (body_at Column.Structure name_count bytes.now offset) }
     ensures fits { IfOk result (λ body. offset + body_size body ≤ length bytes.now) }
 {
     let kind = byte_at(bytes, offset, NODE_ADDED, EDGE_REMOVED)?;
@@ -101,16 +105,16 @@ pub(crate) fn body_at(
     bytes: &[u8],
     offset: usize,
     col: Column,
-    names: u32,
+    name_count: u32,
 ) -> Result<Body, ReadFault>
     requires { offset ≤ length bytes.now }
-    ensures body { IsReadAs (λ body. body) result (body_at col names bytes.now offset) }
+    ensures body { IsReadAs (λ body. body) result (body_at col name_count bytes.now offset) }
     ensures fits { IfOk result (λ body. offset + body_size body ≤ length bytes.now) }
 {
     match col {
-        Column::Structure => structure_at(bytes, offset, names),
+        Column::Structure => structure_at(bytes, offset, name_count),
         Column::NodeAttr => {
-            let value = value_at(bytes, offset, names)?;
+            let value = value_at(bytes, offset, name_count)?;
             Ok(Body::NodeAttr {
                 id: value.id,
                 key: value.key,
@@ -119,7 +123,7 @@ pub(crate) fn body_at(
             })
         }
         Column::EdgeAttr => {
-            let value = value_at(bytes, offset, names)?;
+            let value = value_at(bytes, offset, name_count)?;
             Ok(Body::EdgeAttr {
                 id: value.id,
                 key: value.key,

@@ -18,17 +18,17 @@ fn placed_at(
     bytes: &[u8],
     offset: usize,
     col: Column,
-    names: u32,
+    name_count: u32,
     low: u32,
     earliest: u64,
 ) -> Result<Placed, ReadFault>
     requires { offset ≤ length bytes.now }
-    ensures placed { IsReadAs (λ p. p) result (placed_at col names bytes.now offset low earliest) }
+    ensures placed { IsReadAs (λ p. p) result (placed_at col name_count bytes.now offset low earliest) }
     ensures fits { IfOk result (λ p. offset + 10 + body_size p.event.body ≤ length bytes.now) }
 {
     let position = position_at(bytes, offset, low)?;
     let time = time_at(bytes, offset + 2, earliest, TIME_MAX)?;
-    let body = body_at(bytes, offset + STAMP_SIZE, col, names)?;
+    let body = body_at(bytes, offset + STAMP_SIZE, col, name_count)?;
     Ok(Placed {
         at: position,
         event: Event { time, body },
@@ -40,11 +40,11 @@ fn placed_from(
     alloc: Global,
     bytes: &[u8],
     col: Column,
-    names: u32,
+    name_count: u32,
     count: u32,
 ) -> Result<Vec<Placed>, ReadFault>
     requires { 4 ≤ length bytes.now }
-    ensures { IsReadAs (λ v. v.items) result (events_at count col names bytes.now 4 0 0) }
+    ensures { IsReadAs (λ v. v.items) result (events_at count col name_count bytes.now 4 0 0) }
 {
     // The bytes bound what is reserved: the count is not trusted.
     let room = (count as usize).min(bytes.len() / SMALLEST_EVENT);
@@ -53,7 +53,7 @@ fn placed_from(
     let mut low = 0;
     let mut earliest = 0;
     for _ in 0..count {
-        let event = placed_at(bytes, offset, col, names, low, earliest)?;
+        let event = placed_at(bytes, offset, col, name_count, low, earliest)?;
         offset += STAMP_SIZE + body_size(&event.event.body);
         low = u32::from(event.at) + 1;
         earliest = event.event.time;
@@ -70,16 +70,16 @@ fn any_events(
     alloc: Global,
     bytes: &[u8],
     col: Column,
-    names: u32,
+    name_count: u32,
 ) -> Result<Vec<Placed>, ReadFault>
-    ensures ok { IfOk result (λ placed. events_in col names bytes.now ≡ Ok placed.items) }
-    ensures err { IfErr result (λ fault. IsFaultOf fault (events_in col names bytes.now)) }
+    ensures ok { IfOk result (λ placed. events_in col name_count bytes.now ≡ Ok placed.items) }
+    ensures err { IfErr result (λ fault. IsFaultOf fault (events_in col name_count bytes.now)) }
 {
     if bytes.is_empty() {
         return Ok(Vec::new(alloc));
     }
     let count = count_at(bytes, 0, 1)?;
-    placed_from(alloc, bytes, col, names, count)
+    placed_from(alloc, bytes, col, name_count, count)
 }
 
 /// The events of a column with their positions, in a history with so many names. `Damaged` gives the
@@ -90,11 +90,11 @@ pub fn read_events(
     alloc: Global,
     bytes: &[u8],
     col: Column,
-    names: u32,
+    name_count: u32,
 ) -> Result<Vec<Placed>, ReadFault>
-    ensures ok { IfOk result (λ placed. events_in col names bytes.now ≡ Ok placed.items) }
-    ensures fits { IfOk result (λ placed. PlacedFit col names 0 0 placed.items) }
-    ensures err { IfErr result (λ fault. IsFaultOf fault (events_in col names bytes.now)) }
+    ensures ok { IfOk result (λ placed. events_in col name_count bytes.now ≡ Ok placed.items) }
+    ensures fits { IfOk result (λ placed. PlacedFit col name_count 0 0 placed.items) }
+    ensures err { IfErr result (λ fault. IsFaultOf fault (events_in col name_count bytes.now)) }
 {
-    any_events(alloc, bytes, col, names)
+    any_events(alloc, bytes, col, name_count)
 }

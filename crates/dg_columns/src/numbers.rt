@@ -102,13 +102,13 @@ pub(crate) fn count_at(bytes: &[u8], offset: usize, low: u32) -> Result<u32, Rea
 }
 
 /// The number of a name, of which there are `names`.
-pub(crate) fn name_at(bytes: &[u8], offset: usize, names: u32) -> Result<u32, ReadFault>
+pub(crate) fn name_at(bytes: &[u8], offset: usize, name_count: u32) -> Result<u32, ReadFault>
     requires { offset ≤ length bytes.now }
-    ensures number { IsReadAs (λ n. n) result (four_bytes (λ n. nat_lt n names) bytes.now offset) }
+    ensures number { IsReadAs (λ n. n) result (four_bytes (λ n. nat_lt n name_count) bytes.now offset) }
     ensures fits { OnOk result (offset + 4 ≤ length bytes.now) }
 {
     let number = u32_at(bytes, offset)?;
-    if number < names {
+    if number < name_count {
         Ok(number)
     } else {
         Err(ReadFault::Damaged(offset as u64))
@@ -116,13 +116,13 @@ pub(crate) fn name_at(bytes: &[u8], offset: usize, names: u32) -> Result<u32, Re
 }
 
 /// The number of an old value: 0, or one more than that of one of so many names.
-pub(crate) fn old_at(bytes: &[u8], offset: usize, names: u32) -> Result<u32, ReadFault>
+pub(crate) fn old_at(bytes: &[u8], offset: usize, name_count: u32) -> Result<u32, ReadFault>
     requires { offset ≤ length bytes.now }
-    ensures number { IsReadAs (λ n. n) result (four_bytes (λ n. nat_le n names) bytes.now offset) }
+    ensures number { IsReadAs (λ n. n) result (four_bytes (λ n. nat_le n name_count) bytes.now offset) }
     ensures fits { OnOk result (offset + 4 ≤ length bytes.now) }
 {
     let number = u32_at(bytes, offset)?;
-    if number <= names {
+    if number <= name_count {
         Ok(number)
     } else {
         Err(ReadFault::Damaged(offset as u64))
@@ -130,14 +130,19 @@ pub(crate) fn old_at(bytes: &[u8], offset: usize, names: u32) -> Result<u32, Rea
 }
 
 /// The number of a new value, which is not 0 where the old one is.
-pub(crate) fn new_at(bytes: &[u8], offset: usize, names: u32, old: u32) -> Result<u32, ReadFault>
+pub(crate) fn new_at(
+    bytes: &[u8],
+    offset: usize,
+    name_count: u32,
+    old: u32,
+) -> Result<u32, ReadFault>
     requires { offset ≤ length bytes.now }
-    ensures number { IsReadAs (λ n. n) result (four_bytes (λ n. nat_le n names && not (old == 0 && n == 0)) bytes.now offset) }
+    ensures number { IsReadAs (λ n. n) result (four_bytes (λ n. nat_le n name_count && not (old == 0 && n == 0)) bytes.now offset) }
     ensures fits { OnOk result (offset + 4 ≤ length bytes.now) }
 {
     let number = u32_at(bytes, offset)?;
     let both_none = old == 0 && number == 0;
-    if number <= names && !both_none {
+    if number <= name_count && !both_none {
         Ok(number)
     } else {
         Err(ReadFault::Damaged(offset as u64))

@@ -16,9 +16,9 @@ use dg_numbers::{byte_at, u32_at, u64_at};
 use std::alloc::Global;
 
 // The fields of a value.
-fn attr_here(bytes: &[u8], offset: usize, names: u32) -> Option<AttrFields>
+fn attr_here(bytes: &[u8], offset: usize, name_count: u32) -> Option<AttrFields>
     requires { offset ≤ length bytes.now }
-    ensures fields { IfSome result (λ v. attr_at names bytes.now offset ≡ Ok v) }
+    ensures fields { IfSome result (λ v. attr_at name_count bytes.now offset ≡ Ok v) }
     ensures fits { IfSome result (λ v. offset + 16 ≤ length bytes.now) }
 {
     if bytes.len() - offset < VALUE_SIZE {
@@ -27,7 +27,7 @@ fn attr_here(bytes: &[u8], offset: usize, names: u32) -> Option<AttrFields>
     let id = u64_at(bytes, offset);
     let key = u32_at(bytes, offset + 8);
     let value = u32_at(bytes, offset + 12);
-    if key < names && value < names {
+    if key < name_count && value < name_count {
         Some(AttrFields { id, key, value })
     } else {
         None
@@ -60,9 +60,9 @@ fn edge_here(bytes: &[u8], offset: usize) -> Option<EdgeFields>
 }
 
 // A node or an edge.
-fn structure_here(bytes: &[u8], offset: usize, names: u32) -> Option<Element>
+fn structure_here(bytes: &[u8], offset: usize, name_count: u32) -> Option<Element>
     requires { offset ≤ length bytes.now }
-    ensures element { IfSome result (λ x. element_at Column.Structure names bytes.now offset ≡ Ok x) }
+    ensures element { IfSome result (λ x. element_at Column.Structure name_count bytes.now offset ≡ Ok x) }
     ensures fits { IfSome result (λ x. offset + element_size x ≤ length bytes.now) }
 {
     if bytes.len() - offset < NODE_SIZE {
@@ -87,15 +87,15 @@ fn structure_here(bytes: &[u8], offset: usize, names: u32) -> Option<Element>
 }
 
 // The element of the column at the offset.
-fn element_here(bytes: &[u8], offset: usize, col: Column, names: u32) -> Option<Element>
+fn element_here(bytes: &[u8], offset: usize, col: Column, name_count: u32) -> Option<Element>
     requires { offset ≤ length bytes.now }
-    ensures element { IfSome result (λ x. element_at col names bytes.now offset ≡ Ok x) }
+    ensures element { IfSome result (λ x. element_at col name_count bytes.now offset ≡ Ok x) }
     ensures fits { IfSome result (λ x. offset + element_size x ≤ length bytes.now) }
 {
     match col {
-        Column::Structure => structure_here(bytes, offset, names),
+        Column::Structure => structure_here(bytes, offset, name_count),
         Column::NodeAttr => {
-            let attr = attr_here(bytes, offset, names)?;
+            let attr = attr_here(bytes, offset, name_count)?;
             Some(Element::NodeAttr {
                 id: attr.id,
                 key: attr.key,
@@ -103,7 +103,7 @@ fn element_here(bytes: &[u8], offset: usize, col: Column, names: u32) -> Option<
             })
         }
         Column::EdgeAttr => {
-            let attr = attr_here(bytes, offset, names)?;
+            let attr = attr_here(bytes, offset, name_count)?;
             Some(Element::EdgeAttr {
                 id: attr.id,
                 key: attr.key,
@@ -119,14 +119,14 @@ fn next_here(
     bytes: &[u8],
     offset: usize,
     col: Column,
-    names: u32,
+    name_count: u32,
     last: Option<Element>,
 ) -> Option<Element>
     requires { offset ≤ length bytes.now }
-    ensures element { IfSome result (λ x. next_element_at col names bytes.now [] offset last ≡ Ok x) }
+    ensures element { IfSome result (λ x. next_element_at col name_count bytes.now [] offset last ≡ Ok x) }
     ensures fits { IfSome result (λ x. offset + element_size x ≤ length bytes.now) }
 {
-    let element = element_here(bytes, offset, col, names)?;
+    let element = element_here(bytes, offset, col, name_count)?;
     if rises_from(last, &element) {
         Some(element)
     } else {
@@ -141,10 +141,10 @@ fn elements_here(
     start: usize,
     count: u32,
     col: Column,
-    names: u32,
+    name_count: u32,
 ) -> Option<(Vec<Element>, usize)>
     requires { start ≤ length bytes.now }
-    ensures elements { IfSome result (λ p. elements_at count col names bytes.now [] start None ≡ Ok (p.0.items, p.1)) }
+    ensures elements { IfSome result (λ p. elements_at count col name_count bytes.now [] start None ≡ Ok (p.0.items, p.1)) }
     ensures fits { IfSome result (λ p. p.1 ≤ length bytes.now) }
 {
     // The bytes bound what is reserved: the count is not trusted.
@@ -153,7 +153,7 @@ fn elements_here(
     let mut offset = start;
     let mut last = None;
     for _ in 0..count {
-        let element = next_here(bytes, offset, col, names, last)?;
+        let element = next_here(bytes, offset, col, name_count, last)?;
         offset += element_size(&element);
         last = Some(element);
         items.push(element).ok()?;
@@ -168,12 +168,12 @@ pub(crate) fn set_here(
     start: usize,
     count: u32,
     col: Column,
-    names: u32,
+    name_count: u32,
 ) -> Option<(Set, usize)>
     requires { start ≤ length bytes.now }
-    ensures elements { IfSome result (λ p. elements_at count col names bytes.now [] start None ≡ Ok (p.0, p.1)) }
+    ensures elements { IfSome result (λ p. elements_at count col name_count bytes.now [] start None ≡ Ok (p.0, p.1)) }
     ensures fits { IfSome result (λ p. p.1 ≤ length bytes.now) }
 {
-    let (items, end) = elements_here(alloc, bytes, start, count, col, names)?;
+    let (items, end) = elements_here(alloc, bytes, start, count, col, name_count)?;
     Some((Set::from_rising(items), end))
 }

@@ -1,3 +1,4 @@
+//! Deltas between sets: made, applied, composed, reversed.
 ghost use Rattle.std.specs.Prelude.{◌≡◌, ◌↔◌, [], ◌∷◌, IfOk, IfSome, IsSome};
 ghost use Rattle.dg_graph.specs.Elements.{IsSet};
 ghost use Rattle.dg_graph.specs.Composition.{IsDelta, between, applied, chained, reversed, Composes};

@@ -1,3 +1,4 @@
+//! The set of an interior node from those of its children, by the differential function.
 ghost use Rattle.std.specs.Prelude.{◌≡◌, ◌&&◌, ◌<◌, length, filter, IfOk, if◌then◌else◌};
 ghost use Rattle.std.specs.List.{list_all, list_any};
 ghost use Rattle.dg_graph.specs.declared.element.Element.{Element};

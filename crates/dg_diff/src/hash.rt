@@ -1,3 +1,4 @@
+//! The hash by which a balanced node takes elements of its first or its last child.
 ghost use Rattle.std.specs.Prelude.{◌≡◌, ◌∷◌, ◌++◌, []};
 ghost use Rattle.dg_graph.specs.declared.element.Element.TheVariants.{Edge};
 ghost use Rattle.dg_graph.specs.DifferentialFunction.{canonical, fnv, fnv_from, part};

@@ -1,3 +1,4 @@
+//! The disk: bytes that are read and written at any offset, and what each call leaves of them.
 ghost use Rattle.std.specs.Prelude.{◌≡◌, ◌≤◌, ℕ, List, length, IfOk, OnOk, OnErr, IfSome, Option};
 ghost use Rattle.dg_disk.specs.Counts.{Rose, raised_by};
 ghost use Rattle.dg_disk.specs.Crash.{IsSettled, LeavesNoMore, LeavesSame, LeavesTorn, Passes};

@@ -1,3 +1,4 @@
+//! A disk in memory, for tests: given calls fail, and what a crash might have left is known.
 ghost use Rattle.std.specs.Prelude.{◌≡◌, ◌+◌, ◌<◌, ◌≤◌, [], ◌∷◌, ◌++◌, length, IsTrue, IsErr, Some, IfOk, OnOk, OnErr, vec_len};
 ghost use Rattle.std.specs.Result.{is_err};
 ghost use Rattle.std.specs.Vec.{vec_capacity};

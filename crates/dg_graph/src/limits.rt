@@ -1,3 +1,4 @@
+//! The limits of lines, names and instants.
 ghost use Rattle.std.specs.Prelude.{◌≡◌, ◌^◌, ◌-◌};
 
 /// The most bytes that a line may have, its line end not counted.

@@ -1,3 +1,4 @@
+//! An event of a column, with its position.
 use crate::event::Event;
 
 /// An event of a column, with its position among all events of its list or piece, from 0.

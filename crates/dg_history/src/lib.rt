@@ -1,4 +1,4 @@
-//! What the history of a graph, its file and its index are: the plain types, and, in `specs/`, the
+//! What the history of a graph is, and its nodes, parameters and limits: the plain types, and, in `specs/`, the
 //! definitions. docs/MODEL.md is their prose.
 #![tactic(auto)]
 

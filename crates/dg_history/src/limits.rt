@@ -1,3 +1,4 @@
+//! The limits of batches, histories and files.
 ghost use Rattle.std.specs.Prelude.{◌≡◌, ◌^◌};
 ghost use Rattle.dg_history.specs.declared.params.TheConstants.{ARITY_MAX, ARITY_MIN, LEAF_MAX, LEAF_MIN};
 

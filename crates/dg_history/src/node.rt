@@ -1,3 +1,4 @@
+//! The nodes of an index, and the keys of its records in their order.
 ghost use Rattle.std.specs.Prelude.{◌≡◌};
 ghost use Rattle.dg_history.specs.Keys.{key_cmp};
 

@@ -1,3 +1,4 @@
+//! The parameters of an index, and their ranges.
 ghost use Rattle.std.specs.Prelude.{◌≡◌};
 ghost use Rattle.dg_history.specs.History.{are_parameters};
 

@@ -1,3 +1,4 @@
+//! What an index keeps of each record and each batch.
 /// The first and the last instant of a list of events, or of a batch.
 #[derive(Clone, Copy)]
 pub struct Ends {

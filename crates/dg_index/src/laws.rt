@@ -1,3 +1,4 @@
+//! The laws of files and images, each the clause of a function that does nothing.
 ghost use Rattle.dg_index.specs.FileLaws.{ImagesAreOpened, BatchesAreAdded, FilesGrow, ColumnsAreKept};
 
 /// An image of a history is opened as that history. Does nothing.

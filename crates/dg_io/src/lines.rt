@@ -1,3 +1,4 @@
+//! Lines cut from a source, however its bytes come, and what is lost of them: nothing.
 ghost use Rattle.std.specs.Prelude.{◌≡◌, ◌≢◌, ◌+◌, ◌-◌, ◌<◌, ◌≤◌, ◌||◌, nat_eq, nat_lt, true, false, IsTrue, List, ℕ, [], length, take, slice_range, None, Some, Ok, Err, IfOk, IfSome, IfNone, OnOk, OnErr, IsErrOf, if◌then◌else◌};
 ghost use Rattle.std.specs.Str.Lines.{strip_carriage_return};
 ghost use Rattle.dg_io.specs.Told.{Gives, IsAtEnd, CountRose};

@@ -1,3 +1,4 @@
+//! A source and a sink in memory, for tests, of which given calls fail.
 ghost use Rattle.std.specs.Prelude.{◌≡◌, ◌+◌, ◌-◌, ◌<◌, ◌≤◌, [], length, take, min, Some, IfOk, OnErr, if◌then◌else◌};
 ghost use Rattle.std.specs.Result.{is_err};
 ghost use Rattle.dg_io.specs.Told.{Gives, grown, IsAtEnd, CountRose};

@@ -1,3 +1,4 @@
+//! Something that bytes are written to.
 ghost use Rattle.std.specs.Prelude.{◌≡◌, ◌<◌, ◌≤◌, ℕ, List, length, take, IfOk, OnOk, OnErr, Option};
 ghost use Rattle.dg_io.specs.Frame.{CountsOn};
 ghost use Rattle.dg_io.specs.Told.{grown, GrowsByPart, CountRose};

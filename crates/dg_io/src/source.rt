@@ -1,3 +1,4 @@
+//! Something that bytes are read from.
 ghost use Rattle.std.specs.Prelude.{◌≡◌, ◌<◌, ◌≤◌, ℕ, List, length, take, IfOk, OnErr, Option};
 ghost use Rattle.dg_io.specs.Told.{Gives, IsAtEnd, CountRose};
 

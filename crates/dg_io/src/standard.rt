@@ -1,3 +1,4 @@
+//! A source and a sink over standard input and output, which tell nothing of their content.
 ghost use Rattle.std.specs.Prelude.{◌≡◌, ◌<◌, ◌≤◌, None, length, take, IfOk, OnOk, IfSome, OnErr};
 ghost use Rattle.std.specs.Io.KnownBytes.{Consumes, Appends, IsAtEnd};
 ghost use Rattle.dg_io.specs.Told.{Gives, grown, CountRose};

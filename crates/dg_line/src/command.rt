@@ -1,3 +1,4 @@
+//! The command that a line is, or the column at which it leaves the grammar.
 ghost use Rattle.std.specs.Prelude.{drop, ◌≡◌, ◌+◌, ◌<◌, ◌≤◌, ◌∷◌, IfErr, IfOk, IfSome, List, option_and_then, ℕ};
 ghost use Rattle.std.specs.Result.{result_ok};
 ghost use Rattle.dg_graph.specs.Words.{number};

@@ -1,3 +1,4 @@
+//! The step or the potential that a line of a certificate is.
 ghost use Rattle.std.specs.Option.{option_map};
 ghost use Rattle.std.specs.Prelude.{drop, ◌≡◌, MatchOption, None, ℕ};
 ghost use Rattle.dg_graph.specs.Verbs.{look_up, one, read_by};

@@ -1,3 +1,4 @@
+//! The text of a reply, line by line, into a sink.
 ghost use Rattle.std.specs.Prelude.{◌≡◌, ◌≤◌, ◌++◌, [], ◌∷◌, map, take, codes, decimal, OnOk, OnErr};
 ghost use Rattle.dg_machine.specs.ReplyText.{text, body_text, column_word, head_words, function_word, key_words, refusal_words, soundness_words, verdict_words};
 ghost use Rattle.dg_io.specs.Frame.{CountsOn};

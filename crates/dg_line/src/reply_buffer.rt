@@ -1,3 +1,4 @@
+//! Words and lines on their way to a sink, held until a buffer is full.
 ghost use Rattle.std.specs.Prelude.{◌≡◌, ◌+◌, ◌≤◌, ℕ, List, [], ◌++◌, decimal, length, map, OnOk, OnErr};
 ghost use Rattle.dg_machine.specs.ReplyText.{text_line};
 ghost use Rattle.dg_io.specs.Frame.{CountsOn};

@@ -1,3 +1,4 @@
+//! The words of a line, and the numbers in them.
 ghost use Rattle.std.specs.Prelude.{◌≡◌, ◌≢◌, ℕ, ◌+◌, ◌*◌, ◌-◌, ◌<◌, ◌≤◌, ◌^◌, List, [], ◌∷◌, length, decimal, Option, Some, None, IfSome, IfNone, IsTrue, ◌↔◌, MatchOption, slice_index};
 ghost use Rattle.std.specs.List.{position};
 ghost use Rattle.dg_graph.specs.Words.{words, number};

@@ -1,3 +1,4 @@
+//! The exact net of events that are changes of a set: the exact delta that they come to.
 ghost use Rattle.std.specs.Prelude.{◌≡◌, List, IfOk, OnOk};
 ghost use Rattle.std.specs.Option.{option_to_list};
 ghost use Rattle.dg_graph.specs.declared.element.Element.{Element};

@@ -1,3 +1,4 @@
+//! The net of a list of events, forwards up to an instant and whole, or back.
 ghost use Rattle.std.specs.Prelude.{◌≡◌, ◌++◌, List, filter, map, reverse, IfOk};
 ghost use Rattle.dg_graph.specs.declared.element.Element.{Element};
 ghost use Rattle.dg_graph.specs.Composition.{Composes, applied, reversed};

@@ -1,3 +1,4 @@
+//! The commands of a script, and the queries of a handle.
 use dg_graph::{Columns, Function};
 use dg_history::NodeId;
 
@@ -5,6 +6,8 @@ use dg_history::NodeId;
 pub const TIMES_MAX: usize = 32;
 
 /// What is asked of a handle. Nothing is read for it, and nothing changes.
+// A new one also needs: its verb in `CommandGrammar`, its reply in `Answer`, its text in `ReplyText`, and the files that
+// docs/CONTRIBUTING.md lists under "A query of a handle".
 #[derive(Clone, Copy)]
 pub enum Query {
     /// List the elements.
@@ -18,6 +21,8 @@ pub enum Query {
 }
 
 /// A command of the script. docs/SCRIPT.md has its grammar.
+// A new one also needs: its verb and words in `CommandGrammar`, its rows in `needs` and `accepted`, and the files that
+// docs/CONTRIBUTING.md lists, under a command that reads or one that writes.
 #[derive(Clone, Copy)]
 pub enum Command {
     /// Make an empty index with this leaf list size, arity and differential function.

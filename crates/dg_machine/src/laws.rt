@@ -1,3 +1,4 @@
+//! The law that the machine is determined, the clause of a function that does nothing.
 ghost use Rattle.dg_machine.specs.MachineLaws.{IsDetermined};
 
 /// The machine gives each entry one reply and one next state, but for want of memory and a failed

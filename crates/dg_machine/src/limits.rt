@@ -1,3 +1,4 @@
+//! The bounds within which a session works, and the standard ones.
 ghost use Rattle.std.specs.Prelude.{◌≡◌, ◌^◌, ◌-◌};
 ghost use Rattle.dg_history.specs.declared.limits.TheConstants.{EVENTS_MAX, FILE_BYTES_MAX};
 ghost use Rattle.dg_machine.specs.declared.command.TheConstants.{TIMES_MAX};

@@ -1,3 +1,4 @@
+//! Replies: their head lines, their body lines, and the refusals.
 ghost use Rattle.std.specs.Prelude.{◌≡◌, ◌<◌, List, [], ◌∷◌, ◌++◌, Some, length, map, slice_get, OnOk, OnErr};
 ghost use Rattle.dg_machine.specs.declared.reply.BodyLine.TheVariants as line;
 
@@ -19,6 +20,8 @@ pub struct Reply {
 }
 
 /// The first line of a reply.
+// A new one also needs: the command that it answers, in `Answer`; its words in `ReplyText` and dg_line; the command that
+// it fits, in dg_session's `IsHeadOf`.
 #[derive(Clone, Copy)]
 pub enum Head {
     /// An index was made.
@@ -123,6 +126,8 @@ pub enum Head {
 }
 
 /// Why a command was refused. docs/SCRIPT.md has the order in which these are tested.
+// A new one also needs: its place and its premise in `refusals` (`Needs`) and in dg_session's `refusals_by`; its words in
+// `ReplyText` and dg_line; and where it comes of a change, of the file or of memory, its line in `is_late`.
 #[derive(Clone, Copy)]
 pub enum Refusal {
     /// 1: the line is no command; the column at which it leaves the grammar, from 1.

@@ -1,3 +1,4 @@
+//! What a live handle stands for.
 use dg_graph::Columns;
 use dg_history::NodeId;
 

@@ -1,3 +1,4 @@
+//! The list of names of a history: distinct texts, each found by its number and its number by it.
 ghost use Rattle.std.specs.Prelude.{◌≡◌, ◌≤◌, ◌<◌, ℕ, List, [], length, take, None, Some, slice_get, option_copied, IsTrue, ◌↔◌, IfOk, IfSome, IfNone, OnOk, OnErr};
 ghost use Rattle.std.specs.List.{IsDistinct, Contains};
 ghost use Rattle.std.specs.Str.{bytes_eq};

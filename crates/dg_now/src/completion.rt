@@ -1,3 +1,4 @@
+//! The event that a change comes to in a graph, or the first reason against it.
 ghost use Rattle.std.specs.Prelude.{◌≡◌, ◌&&◌, option_and_then};
 ghost use Rattle.dg_graph.specs.declared.event.What.TheVariants as what;
 ghost use Rattle.dg_graph.specs.CompletedChanges.{event_of};

@@ -1,3 +1,4 @@
+//! What names an element, so that a graph has one at the most; what an event finds before it and leaves.
 ghost use Rattle.std.specs.Prelude.{◌≡◌};
 ghost use Rattle.dg_now.specs.ElementIds.{element_id_of};
 ghost use Rattle.dg_now.specs.EventEffect.{changed_id, element_before};

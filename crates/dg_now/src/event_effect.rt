@@ -1,3 +1,4 @@
+//! A graph taken past an event or back, and made ready for it first, so that this takes no memory.
 ghost use Rattle.std.specs.Prelude.{◌≡◌, ◌≤◌, true, false, IfOk, IfErr, IfSome, OnOk, OnErr, length, vec_capacity, [], map, None, Some, Ok};
 ghost use Rattle.std.specs.List.{list_any};
 ghost use Rattle.dg_graph.specs.declared.event.Change.{Change};

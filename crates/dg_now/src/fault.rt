@@ -1,3 +1,4 @@
+//! Why a set is no graph, and why changes come to no events.
 ghost use Rattle.std.specs.Prelude.{◌≡◌};
 ghost use Rattle.dg_now.specs.declared.fault.FromFault.TheVariants as from;
 ghost use Rattle.dg_now.specs.declared.fault.PrepareFault.TheVariants as prepare;
@@ -21,7 +22,7 @@ pub enum FromFault {
 pub enum PrepareFault {
     /// The least line that is refused, from 1, and the first reason against it, one of the constants
     /// `REASON_..` of `dg_graph`.
-    #[error("the change of line {line} is refused: reason {reason}")]
+    #[error("line {line} is refused for reason {reason}")]
     BadChange { line: u32, reason: u8 },
     /// Want of memory.
     #[error("out of memory")]

@@ -1,3 +1,4 @@
+//! A graph that changes: the one at the start, which stays, under a map of the ids that changed since.
 ghost use Rattle.std.specs.Prelude.{◌≡◌, ◌≤◌, ◌<◌, true, false, [], None, Some, IfOk, IsErrOf, OnOk};
 ghost use Rattle.std.specs.List.{list_any, IsDistinct};
 ghost use Rattle.dg_graph.specs.Elements.{has, put, take_out};

@@ -1,3 +1,4 @@
+//! The current graph, and the events of a batch that are pending.
 ghost use Rattle.std.specs.Prelude.{◌≡◌, ◌<◌, ◌≤◌, ◌^◌, [], Ok, length, IfOk, IfErr, IfSome, OnErr, OnOk, IsErrOf, if◌then◌else◌};
 ghost use Rattle.dg_graph.specs.Completion.{has_node, edge_of, node_value, edge_value, is_change_of};
 ghost use Rattle.dg_graph.specs.Effect.{forwards};

@@ -1,3 +1,4 @@
+//! A graph that never changes, as its elements in their order.
 ghost use Rattle.std.specs.Prelude.{◌≡◌, ◌<◌, ◌^◌, [], length, IfOk, IsErrOf};
 ghost use Rattle.std.specs.List.{count_by};
 ghost use Rattle.dg_graph.specs.Graph.{IsGraph};

@@ -1,3 +1,4 @@
+//! The edges that leave each node, or enter it, as lists threaded through the edges.
 ghost use Rattle.std.specs.Prelude.{◌≡◌, ◌<◌, ◌^◌, length, IfOk};
 ghost use Rattle.dg_path.specs.Search.{AreLinks, AreAdjacent, end_of};
 

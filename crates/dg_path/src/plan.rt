@@ -1,3 +1,4 @@
+//! The plan of a target by a table of least costs, read off backwards.
 ghost use Rattle.std.specs.Prelude.{IsTrue, ◌↔◌, false, ◌≡◌, ℕ, List, ◌<◌, ◌≤◌, ◌+◌, ◌^◌, length, IfOk, slice_get, Some};
 ghost use Rattle.std.specs.List.{All};
 ghost use Rattle.dg_plan.specs.Walks.{IsPlan};

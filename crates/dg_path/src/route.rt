@@ -1,3 +1,4 @@
+//! The plan of a target with the potentials that certify it.
 ghost use Rattle.std.specs.Prelude.{false, ◌≡◌, ℕ, List, [], ◌∷◌, ◌<◌, ◌≤◌, ◌^◌, length, IfOk, map, min, slice_index};
 ghost use Rattle.dg_plan.specs.Walks.{IsPlan, Leads, IsCertificate, IsPotential, weight_of};
 ghost use Rattle.dg_path.specs.Search.{AreLinks, AreAdjacent, arcs, IsTable, IsTarget};

@@ -1,3 +1,4 @@
+//! Edges between numbered nodes, and what lowers the cost of one by an edge.
 ghost use Rattle.std.specs.Prelude.{true, ◌≡◌, ℕ, List, ◌<◌, ◌≤◌, ◌+◌, ◌-◌, ◌^◌, length, OnOk};
 ghost use Rattle.std.specs.BinaryHeap.{heap_items};
 ghost use Rattle.dg_plan.specs.Walks.{AtMost};

@@ -1,3 +1,4 @@
+//! What a target adds to a tree: its plan from the nearest node of the tree.
 ghost use Rattle.std.specs.Prelude.{true, false, ◌≡◌, ℕ, List, [], ◌∷◌, ◌++◌, ◌<◌, ◌≤◌, ◌+◌, ◌^◌, length, IfOk, OnOk};
 ghost use Rattle.std.specs.List.{All};
 ghost use Rattle.dg_plan.specs.Walks.{IsTree, Leads};

@@ -1,3 +1,4 @@
+//! The lines of a certificate, and what is said of them.
 use dg_history::NodeId;
 
 /// A line of a certificate, as a script writes it: a step of a walk, or the potential of a node.

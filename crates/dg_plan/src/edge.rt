@@ -1,3 +1,4 @@
+//! An edge of the graph of an index: what it leads by, and how its record is applied.
 use dg_history::{Key, NodeId};
 
 /// How a record is applied.

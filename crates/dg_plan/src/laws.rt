@@ -1,3 +1,4 @@
+//! The laws of plans and certificates, each the clause of a function that does nothing.
 ghost use Rattle.dg_plan.specs.PlanLaws.{PlansAreLeast, PlansAreOne, CertificatesHold};
 
 /// A plan is least among all walks from where it may begin. Does nothing.

@@ -1,3 +1,4 @@
+//! The events of a batch behind its last closed list, as they are to be written.
 ghost use Rattle.std.specs.Prelude.{◌≡◌, ◌+◌, ◌<◌, ◌^◌, [], length, OnOk, OnErr};
 ghost use Rattle.dg_index.specs.FileOfHistory.{bytes_of};
 ghost use Rattle.dg_index.specs.OpenedIndex.{record_row};

@@ -1,3 +1,4 @@
+//! The lists, or the deltas, of a batch, their columns one behind another as in the file.
 ghost use Rattle.std.specs.Prelude.{◌≡◌, ◌+◌, ◌<◌, ◌^◌, ◌∷◌, ◌++◌, [], length, map, OnOk, OnErr};
 ghost use Rattle.dg_segment.specs.PackedRecords.{stored_bytes, stored_row};
 

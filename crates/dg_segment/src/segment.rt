@@ -1,3 +1,4 @@
+//! A batch as its segment is to be written: names, lists, deltas and piece.
 ghost use Rattle.std.specs.Prelude.{◌≡◌, ◌+◌, ◌-◌, ◌<◌, ◌≤◌, ◌^◌, ◌∷◌, ◌++◌, ◌↔◌, [], length, map, min, IfOk, IsTrue, OnOk, OnErr};
 ghost use Rattle.dg_graph.specs.declared.limits.TheConstants.{NAME_BYTES_MAX};
 ghost use Rattle.dg_index.specs.FileOfHistory.{blobs, bytes_of, delta_blobs, directory, head_of, list_blobs, segment_bytes};

@@ -1,3 +1,4 @@
+//! Unions, meets and differences of sets, each as one merge of two sorted lists.
 ghost use Rattle.std.specs.Prelude.{◌≡◌, ◌↔◌, IfOk, IsTrue};
 ghost use Rattle.dg_graph.specs.Elements.{IsSet};
 ghost use Rattle.dg_graph.specs.Sets.{unioned, met, without_all};

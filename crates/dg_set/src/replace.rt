@@ -1,3 +1,4 @@
+//! A set with some elements lost and others gained, in one walk.
 ghost use Rattle.std.specs.Prelude.{◌≡◌, ◌≢◌, ◌<◌, length, drop, IfOk};
 ghost use Rattle.std.specs.declared.cmp.Ordering.{Ordering};
 ghost use Rattle.dg_graph.specs.Elements.{IsSet};

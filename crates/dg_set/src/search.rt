@@ -1,3 +1,4 @@
+//! An element of a set by binary search; where a list stops rising.
 ghost use Rattle.std.specs.Prelude.{◌≡◌, IfOk, IfErr, IfSome, IfNone};
 ghost use Rattle.dg_graph.specs.Elements.{IsSet};
 ghost use Rattle.dg_set.specs.Indices.{StandsAt, BelongsAt, IsFirstFault};

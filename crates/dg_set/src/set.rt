@@ -1,3 +1,4 @@
+//! Sets of elements, as strictly rising lists.
 ghost use Rattle.std.specs.Prelude.{◌≡◌, ◌↔◌, ◌&&◌, ◌||◌, List, [], ◌++◌, length, not, is_ok, IfOk, IfErr, IsOk, IsTrue, if◌then◌else◌};
 ghost use Rattle.dg_graph.specs.declared.element.Element.{Element};
 ghost use Rattle.dg_graph.specs.Elements.{IsSet, has, put, take_out};

@@ -1,3 +1,4 @@
+//! The catalogue of an index: for each key the lengths and the place of its columns.
 ghost use Rattle.std.specs.Prelude.{◌≡◌, ◌≢◌, ◌≤◌, ◌<◌, ◌+◌, ◌^◌, List, [], ◌∷◌, ◌++◌, length, None, Some, is_some, IfSome, IsNone, IsTrue, IsOk, OnOk, OnErr, ◌↔◌};
 ghost use Rattle.std.specs.List.{All, IsDistinct};
 ghost use Rattle.std.specs.Map.{keys_of, values_of};

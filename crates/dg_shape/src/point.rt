@@ -1,3 +1,4 @@
+//! The node from which the graph as of an instant is reached, by the times of the lists.
 ghost use Rattle.std.specs.Prelude.{◌≡◌, ◌≤◌, ◌&&◌, nat_le};
 ghost use Rattle.dg_shape.specs.Held.{ends_of};
 ghost use Rattle.dg_shape.specs.Points.{ListsRise, begin_by, end_by, has_begun, begun_by, has_come, point_in_lists, point_of};

@@ -1,3 +1,4 @@
+//! The keys of the records of a batch's segment, in the order of the file.
 ghost use Rattle.std.specs.Prelude.{◌≡◌, ◌≤◌, ◌<◌, ◌+◌, ◌-◌, ◌*◌, ◌/◌, ◌++◌, ◌∷◌, [], true, map, length, IfOk, OnOk};
 ghost use Rattle.std.specs.List.{flat_map};
 ghost use Rattle.dg_history.specs.declared.limits.TheConstants.{EVENTS_MAX};

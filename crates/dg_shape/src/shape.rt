@@ -1,3 +1,4 @@
+//! What decides which nodes an index has: the node at a place, its parent and its children.
 ghost use Rattle.std.specs.Prelude.{◌≡◌, ◌≤◌, ◌+◌, ◌-◌, ◌*◌, ◌/◌, ◌^◌, ◌&&◌, cond, nat_le, get_or, Some, None};
 ghost use Rattle.dg_graph.specs.declared.function.Function.{Function};
 ghost use Rattle.dg_index.specs.Hierarchy.{leaves, exists, parent, children};

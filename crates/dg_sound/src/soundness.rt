@@ -1,3 +1,4 @@
+//! What is said of an index file: sound, or the first record that is not right.
 use dg_graph::Column;
 use dg_history::Key;
 

@@ -1,3 +1,4 @@
+//! The first changes of a seed, as many as are asked for.
 ghost use Rattle.std.specs.Prelude.{◌≡◌, ◌+◌, ◌*◌, ◌≤◌, IfOk, OnOk, Some, length, map, take};
 ghost use Rattle.dg_history.specs.Batch.{changes_after, names_after};
 ghost use Rattle.dg_history.specs.GeneratedChanges.{generated};

@@ -1,3 +1,4 @@
+//! The changes of a seed, one after the other.
 ghost use Rattle.std.specs.Prelude.{◌≡◌, ◌+◌, ◌/◌, ◌^◌, ◌<◌, ◌≤◌, ◌⊎◌, IfOk, OnOk, OnErr, length, take};
 ghost use Rattle.dg_history.specs.ChangeGrammar.{change_with, named};
 ghost use Rattle.dg_history.specs.GeneratedChanges.{next_number, part_of};

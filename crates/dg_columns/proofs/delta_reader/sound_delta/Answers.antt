@@ -32,4 +32,4 @@ returns-then-end-bytes c =
     let e = given (λ (n : ℕ). n) c.u32_at.result _ count c.in_ok-out_count.ensures.value c.u32_at.ensures.number in
     let g = given (λ (n : ℕ). n) c.in_count_at.result _ more c.in_ok-in_count.ensures.value c.in_count_at.ensures.number in
     delta_is c.from_sets.result minus plus _ c.from_sets.ensures.exact.0 c.from_sets.ensures.sets
-    (λ apart. delta_from c.args.col c.args.names bytes count more m n minus plus e c.in_ok-minus.ensures.elements g c.in_ok-plus.ensures.elements apart c.if-end-bytes.true)
+    (λ apart. delta_from c.args.col c.args.name_count bytes count more m n minus plus e c.in_ok-minus.ensures.elements g c.in_ok-plus.ensures.elements apart c.if-end-bytes.true)

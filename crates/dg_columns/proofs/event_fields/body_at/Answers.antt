@@ -7,5 +7,5 @@ use Rattle.dg_columns.proofs.event_fields.body_at.Goals as goal
 pub returns-in_ok-value-in-EdgeAttr-clause-body : goal.returns-in_ok-value-in-EdgeAttr-clause-body
 returns-in_ok-value-in-EdgeAttr-clause-body c =
     rw c.in-EdgeAttr.is (
-    value_made (λ id key old new. body.EdgeAttr id key old new) c.args.names c.args.bytes.now c.args.offset
+    value_made (λ id key old new. body.EdgeAttr id key old new) c.args.name_count c.args.bytes.now c.args.offset
     ∙ ap (λ r. and_read r (λ v. Ok (body.EdgeAttr v.id v.key v.old v.new))) c.in_ok-value-in-EdgeAttr.ensures.fields)

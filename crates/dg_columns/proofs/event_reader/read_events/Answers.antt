@@ -6,4 +6,4 @@ use Rattle.dg_columns.proofs.event_reader.read_events.Goals as goal
 
 pub returns-clause-fits : goal.returns-clause-fits
 returns-clause-fits c =
-    IfOk-weaker c.any_events.result _ _ (λ v is. events_that_are_read_fit c.args.col c.args.names c.args.bytes.now v.items (all_from_bytes c.args.bytes.now (λ i. omega (arith, c.type_inv.bytes i))) is) c.any_events.ensures.ok
+    IfOk-weaker c.any_events.result _ _ (λ v is. events_that_are_read_fit c.args.col c.args.name_count c.args.bytes.now v.items (all_from_bytes c.args.bytes.now (λ i. omega (arith, c.type_inv.bytes i))) is) c.any_events.ensures.ok
