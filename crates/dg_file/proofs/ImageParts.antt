@@ -19,7 +19,7 @@ use Rattle.dg_file.specs.Directories.{fit_in, gate_after, segment_lengths_at}
 use Rattle.dg_file.specs.Headers.{IsFoundIn}
 use Rattle.dg_file.specs.Images.{taken_after}
 
-opened_blank : (image : List ℕ) → is_blank image ≡ true → opening image ≡ Err No_index
+pub opened_blank : (image : List ℕ) → is_blank image ≡ true → opening image ≡ Err No_index
 opened_blank image e = ap (λ b. cond b (Err No_index) (opened_by image (params_in image))) e
 
 opened_foreign : (image : List ℕ) → is_blank image ≡ false → params_in image ≡ None → opening image ≡ Err Not_ours

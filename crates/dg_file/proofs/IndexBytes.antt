@@ -47,6 +47,16 @@ pub behind_most : (o : Opening) (offset directory columns len t start one two th
 behind_most o offset directory columns len t start one two three same fits l d g s =
     most o.used offset directory columns len t start one two three same fits (start_most o t start s) (raised_most 16 start one l) (after_most directory one two d) (raised_most 1 two three g)
 
+-- the bytes of a segment that were read, at its directory, at its gate and behind it
+pub found_reads : (directory start one two : ℕ) → one ≡ raised_by 16 start → two ≤ one + directory → two ≤ start + (17 + directory)
+found_reads directory start one two l d = omega (arith, raised_most 16 start one l, d)
+
+pub gate_reads : (directory start one two three : ℕ) → one ≡ raised_by 16 start → two ≡ taken_after directory one → three ≡ two → three ≤ start + (17 + directory)
+gate_reads directory start one two three l d g = omega (arith, raised_most 16 start one l, after_most directory one two d, g)
+
+pub behind_reads : (directory start one two three : ℕ) → one ≡ raised_by 16 start → two ≡ taken_after directory one → three ≡ raised_by 1 two → three ≤ start + (17 + directory)
+behind_reads directory start one two three l d g = omega (arith, raised_most 16 start one l, after_most directory one two d, raised_most 1 two three g)
+
 -- a count that rose behind two others that did not fall
 pub rose_after : (a b c d : ℕ) → a ≤ b → b ≤ c → Rose c d → Rose a d
 rose_after a b c d one two rose = omega (arith, rose)

@@ -8,6 +8,7 @@ pub mod InvariantBatches
 pub mod OpenedIndexRows
 pub mod HeaderSegments
 pub mod IndexBytes
+pub mod OpenedBytes
 pub mod ImageColumns
 pub mod ImageSegments
 pub mod GrowthCreations

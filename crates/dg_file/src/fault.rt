@@ -15,10 +15,10 @@ use thiserror::Error;
 #[derive(Clone, Copy, Debug, PartialEq, Eq, Error)]
 pub enum CreateFault {
     /// The disk failed.
-    #[error("the disk failed")]
+    #[error("a call of the disk failed")]
     Disk,
     /// Memory ran out.
-    #[error("memory ran out")]
+    #[error("out of memory")]
     Memory,
 }
 
@@ -32,13 +32,13 @@ pub enum ReopenFault {
     #[error("the file is not one of an index")]
     Foreign,
     /// The segment at this offset breaks a rule.
-    #[error("the segment at byte {0} breaks a rule")]
+    #[error("the segment at byte {0} breaks the format")]
     Damaged(u64),
     /// The disk failed.
-    #[error("the disk failed")]
+    #[error("a call of the disk failed")]
     Disk,
     /// Memory ran out.
-    #[error("memory ran out")]
+    #[error("out of memory")]
     Memory,
 }
 
@@ -46,10 +46,10 @@ pub enum ReopenFault {
 #[derive(Clone, Copy, Debug, PartialEq, Eq, Error)]
 pub enum FetchFault {
     /// The disk failed.
-    #[error("the disk failed")]
+    #[error("a call of the disk failed")]
     Disk,
     /// Memory ran out.
-    #[error("memory ran out")]
+    #[error("out of memory")]
     Memory,
 }
 
@@ -60,7 +60,7 @@ pub enum CommitFault {
     #[error("the file would have {0} bytes in use, more than it may have")]
     FileFull(u64),
     /// The disk failed.
-    #[error("the disk failed")]
+    #[error("a call of the disk failed")]
     Disk,
 }
 

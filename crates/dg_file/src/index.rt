@@ -21,6 +21,7 @@ ghost use Rattle.dg_file.specs.Headers.{IsOpenedSoFar, Misses};
 ghost use Rattle.dg_file.specs.Index.{HasSegmentRoom, opening_bytes};
 ghost use Rattle.dg_file.specs.Images.{BothTold, Fits, GainsBatch, GainsBatchOrNot, GainsSegment, IsMadeInPart, IsOpenedAs, RefusesOpening, taken_after};
 ghost use Rattle.dg_file.specs.Invariant.{listed_after, with_rows};
+ghost use Rattle.dg_file.specs.OpeningBytes.{StaysWithinOpening, TakesUpToOpening, blank_bytes};
 
 use crate::append::append;
 use crate::creation::write_header;
@@ -249,7 +250,9 @@ impl Index {
     /// `ReopenFault::Blank` where there is no index, `ReopenFault::Foreign` where the file is not one of
     /// an index, `ReopenFault::Damaged` with the offset of the first segment that breaks a rule,
     /// `ReopenFault::Disk` where the disk failed, `ReopenFault::Memory` for want of memory. After a
-    /// fault `names` may have some of the names, and no more bytes were read than the file has.
+    /// fault `names` may have some of the names, and no more bytes were read than the file has, nor than
+    /// opening all of it reads. Of a blank file the 18 bytes of a header are read where it has as many, else
+    /// none.
     pub fn reopen<D: Disk>(
         alloc: Global,
         disk: &mut D,
@@ -264,6 +267,8 @@ impl Index {
         ensures refused { IfErr result (λ fault. IfSome (D.image disk.old) (λ image. RefusesOpening fault (opening image))) }
         ensures cause { IsErrOf result ReopenFault.Disk → Rose (D.faults disk.old) (D.faults disk.new) }
         ensures bounded { OnErr result (IfSome (D.image disk.old) (λ image. D.taken disk.new ≤ D.taken disk.old + length image)) }
+        ensures within { OnErr result (IfSome (D.image disk.old) (λ image. TakesUpToOpening image (D.taken disk.old) (D.taken disk.new))) }
+        ensures blank { IsErrOf result ReopenFault.Blank → IfSome (D.image disk.old) (λ image. D.taken disk.new ≡ taken_after (blank_bytes image) (D.taken disk.old)) }
 
         // frame
         ensures frame { ReadsAndSyncs D.image D.faults D.write_faults disk.old disk.new }
@@ -294,6 +299,7 @@ impl Index {
         ensures refused { IfErr result (λ fault. IfSome (D.image disk.old) (λ image. RefusesOpening fault (opening image))) }
         ensures cause { IsErrOf result ReopenFault.Disk → Rose (D.faults disk.old) (D.faults disk.new) }
         ensures bounded { OnErr result ((t : ℕ) → D.taken disk.old ≡ raised_by (opening_bytes self.old.opening) t → D.taken disk.new ≤ t + len) }
+        ensures stays { OnErr result (IfSome (D.image disk.old) (λ image. StaysWithinOpening image self.old.opening (D.taken disk.old) (D.taken disk.new))) }
 
         // frame
         ensures frame { OnlyReads D.image D.faults D.write_faults disk.old disk.new }
@@ -362,6 +368,7 @@ impl Index {
         ensures refused { IfErr result (λ fault. IfSome (D.image disk.old) (λ image. RefusesOpening fault (opening image))) }
         ensures cause { IsErrOf result ReopenFault.Disk → Rose (D.faults disk.old) (D.faults disk.new) }
         ensures bounded { OnErr result ((t : ℕ) → D.taken disk.old ≡ raised_by (opening_bytes self.old.opening) t → D.taken disk.new ≤ t + len) }
+        ensures stays { OnErr result (IfSome (D.image disk.old) (λ image. StaysWithinOpening image self.old.opening (D.taken disk.old) (D.taken disk.new))) }
 
         // frame
         ensures frame { OnlyReads D.image D.faults D.write_faults disk.old disk.new }

@@ -10,6 +10,7 @@ ghost use Rattle.dg_index.specs.OpenedIndex.{opening};
 ghost use Rattle.dg_file.specs.Directories.{segment_lengths_at, fit_in};
 ghost use Rattle.dg_file.specs.Headers.{IsFoundIn, Misses};
 ghost use Rattle.dg_file.specs.Images.{RefusesOpening, taken_after};
+ghost use Rattle.dg_file.specs.OpeningBytes.{TakesUpToOpening, blank_bytes};
 
 use crate::fault::{FetchFault, ReopenFault};
 use crate::header::{HEADER_BYTES, is_closed, params_of};
@@ -39,6 +40,8 @@ pub(crate) fn read_header<D: Disk>(disk: &mut D) -> Result<Found, ReopenFault>
     ensures refused { IfErr result (λ fault. IfSome (D.image disk.old) (λ image. RefusesOpening fault (opening image))) }
     ensures cause { IsErrOf result ReopenFault.Disk → Rose (D.faults disk.old) (D.faults disk.new) }
     ensures bounded { OnErr result (IfSome (D.image disk.old) (λ image. D.taken disk.new ≤ D.taken disk.old + length image)) }
+    ensures within { OnErr result (IfSome (D.image disk.old) (λ image. TakesUpToOpening image (D.taken disk.old) (D.taken disk.new))) }
+    ensures blank { IsErrOf result ReopenFault.Blank → IfSome (D.image disk.old) (λ image. D.taken disk.new ≡ taken_after (blank_bytes image) (D.taken disk.old)) }
 
     // frame
     ensures frame { ReadsAndSyncs D.image D.faults D.write_faults disk.old disk.new }
@@ -79,6 +82,7 @@ pub(crate) fn read_lengths<D: Disk>(
     // errors
     ensures refused { IfErr result (λ fault. IfSome (D.image disk.old) (λ image. Misses offset (is_within image offset ≡ false) fault)) }
     ensures bounded { OnErr result (D.taken disk.new ≤ D.taken disk.old + (len - offset)) }
+    ensures short { OnErr result (D.taken disk.new ≤ D.taken disk.old + 16) }
     ensures cause { IsErrOf result ReopenFault.Disk → Rose (D.faults disk.old) (D.faults disk.new) }
 
     // frame

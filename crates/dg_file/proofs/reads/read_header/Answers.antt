@@ -1,6 +1,7 @@
 use Rattle.std.proofs.Common.{refl, sym, subst, ◌∙◌, arith}
 use Rattle.dg_disk.specs.Image.{IsLengthOf, IsRangeOf}
 use Rattle.dg_file.proofs.ImageParts.{range_within, blank_short_image, blank_closed_image, foreign_image, found_image}
+use Rattle.dg_file.proofs.OpenedBytes.{foreign_reads}
 use Rattle.dg_file.proofs.reads.read_header.Goals as goal
 
 pub read_at-requires : goal.read_at-requires
@@ -28,3 +29,10 @@ returns-in-Some-clause-found g c =
     let l = subst (λ x. IsLengthOf x c.in_ok-len.len) c.sync.ensures.frame.same_image c.in_ok-len.ensures.len in
     let h = subst (λ x. IsRangeOf x 0 c.read_at.new.into) (c.len.ensures.frame.same_image ∙ c.sync.ensures.frame.same_image) c.in_ok-read_at.ensures.read in
     found_image _ c.in_ok-len.len _ c.read_at.new.into c.in-Some.params (omega (arith, c.read_at.auto.into)) (omega (arith, c.if-len.false)) (sym c.is_closed.ensures ∙ c.if-is_closed.false) (sym c.params_of.ensures.params ∙ c.in-Some.is) refl l h
+
+pub returns-in-None-clause-within : goal.returns-in-None-clause-within
+returns-in-None-clause-within g c =
+    let l = subst (λ x. IsLengthOf x c.in_ok-len.len) c.sync.ensures.frame.same_image c.in_ok-len.ensures.len in
+    let h = subst (λ x. IsRangeOf x 0 c.read_at.new.into) (c.len.ensures.frame.same_image ∙ c.sync.ensures.frame.same_image) c.in_ok-read_at.ensures.read in
+    foreign_reads _ _ _
+    (foreign_image _ c.in_ok-len.len c.read_at.new.into (omega (arith, c.read_at.auto.into)) (omega (arith, c.if-len.false)) (sym c.is_closed.ensures ∙ c.if-is_closed.false) (sym c.params_of.ensures.params ∙ c.in-None.is) l h)

@@ -18,7 +18,8 @@ use Rattle.dg_file.proofs.ImageParts.{fit_facts, range_within}
 use Rattle.dg_file.proofs.HeaderSegments.{outside, broken, next_on, taken_next}
 use Rattle.dg_file.proofs.InvariantBatches.{bytes_with}
 use Rattle.dg_file.proofs.GrowthMoves.{on_err_any}
-use Rattle.dg_file.proofs.IndexBytes.{behind_most, directory_most, gate_most, lengths_most, reads_then, rose_after}
+use Rattle.dg_file.proofs.IndexBytes.{behind_most, behind_reads, directory_most, found_reads, gate_most, gate_reads, lengths_most, reads_then, rose_after}
+use Rattle.dg_file.proofs.OpenedBytes.{stays_at_lengths, stays_in_segment}
 use Rattle.dg_disk.specs.Counts.{raised_by}
 use Rattle.dg_file.proofs.index.Index.read_next.Goals as goal
 
@@ -210,3 +211,40 @@ returns-in_err-reserve-clause-frame g c =
 pub returns-clause-frame : goal.returns-clause-frame
 returns-clause-frame g c =
     reads_then c.args.disk.now c.read_found.new.disk c.read_byte.new.disk (reads_then c.args.disk.now c.read_lengths.new.disk c.read_found.new.disk c.read_lengths.ensures.frame c.read_found.ensures.frame) c.read_byte.ensures.frame
+
+pub returns-in_err-lengths-clause-stays : goal.returns-in_err-lengths-clause-stays
+returns-in_err-lengths-clause-stays g c =
+    let o : Opening = c.args.self.now.opening in
+    let sound : columns_in o.records + 18 ≤ o.used = subst (λ (v : IndexState). columns_in v.opening.records + 18 ≤ v.opening.used) c.self.view_is c.self.invariant.bytes in
+    on_err_any c.from_residual.result
+    (stays_at_lengths (g.D.Disk.image c.args.disk.now) o c.args.names.now (g.D.Disk.taken c.args.disk.now) (g.D.Disk.taken c.read_lengths.new.disk) sound c.requires.so_far c.in_err-lengths.ensures.short)
+
+pub returns-in_err-found-clause-stays : goal.returns-in_err-found-clause-stays
+returns-in_err-found-clause-stays g c =
+    let o : Opening = c.args.self.now.opening in
+    let h : Lengths = c.in_ok-lengths.lengths in
+    let same : c.self.inside.used ≡ o.used = ap (λ (v : IndexState). v.opening.used) c.self.view_is in
+    let sound : columns_in o.records + 18 ≤ o.used = subst (λ (v : IndexState). columns_in v.opening.records + 18 ≤ v.opening.used) c.self.view_is c.self.invariant.bytes in
+    on_err_any c.from_residual-in_err-found.result
+    (stays_in_segment (g.D.Disk.image c.args.disk.now) o c.args.names.now c.self.inside.used h (g.D.Disk.taken c.args.disk.now) (g.D.Disk.taken c.read_found.new.disk) sound same c.requires.so_far c.in_ok-lengths.ensures.lengths
+    (found_reads h.directory (g.D.Disk.taken c.args.disk.now) (g.D.Disk.taken c.read_lengths.new.disk) (g.D.Disk.taken c.read_found.new.disk) c.in_ok-lengths.ensures.taken c.in_err-found.ensures.bounded))
+
+pub returns-in_err-gate-clause-stays : goal.returns-in_err-gate-clause-stays
+returns-in_err-gate-clause-stays g c =
+    let o : Opening = c.args.self.now.opening in
+    let h : Lengths = c.in_ok-lengths.lengths in
+    let same : c.self.inside.used ≡ o.used = ap (λ (v : IndexState). v.opening.used) c.self.view_is in
+    let sound : columns_in o.records + 18 ≤ o.used = subst (λ (v : IndexState). columns_in v.opening.records + 18 ≤ v.opening.used) c.self.view_is c.self.invariant.bytes in
+    on_err_any c.from_residual-in_err-gate.result
+    (stays_in_segment (g.D.Disk.image c.args.disk.now) o c.args.names.now c.self.inside.used h (g.D.Disk.taken c.args.disk.now) (g.D.Disk.taken c.read_byte.new.disk) sound same c.requires.so_far c.in_ok-lengths.ensures.lengths
+    (gate_reads h.directory (g.D.Disk.taken c.args.disk.now) (g.D.Disk.taken c.read_lengths.new.disk) (g.D.Disk.taken c.read_found.new.disk) (g.D.Disk.taken c.read_byte.new.disk) c.in_ok-lengths.ensures.taken c.in_ok-found.ensures.taken c.in_err-gate.ensures.none_taken))
+
+pub returns-in_err-reserve-clause-stays : goal.returns-in_err-reserve-clause-stays
+returns-in_err-reserve-clause-stays g c =
+    let o : Opening = c.args.self.now.opening in
+    let h : Lengths = c.in_ok-lengths.lengths in
+    let same : c.self.inside.used ≡ o.used = ap (λ (v : IndexState). v.opening.used) c.self.view_is in
+    let sound : columns_in o.records + 18 ≤ o.used = subst (λ (v : IndexState). columns_in v.opening.records + 18 ≤ v.opening.used) c.self.view_is c.self.invariant.bytes in
+    on_err_any c.from_residual-in_err-reserve.result
+    (stays_in_segment (g.D.Disk.image c.args.disk.now) o c.args.names.now c.self.inside.used h (g.D.Disk.taken c.args.disk.now) (g.D.Disk.taken c.read_byte.new.disk) sound same c.requires.so_far c.in_ok-lengths.ensures.lengths
+    (behind_reads h.directory (g.D.Disk.taken c.args.disk.now) (g.D.Disk.taken c.read_lengths.new.disk) (g.D.Disk.taken c.read_found.new.disk) (g.D.Disk.taken c.read_byte.new.disk) c.in_ok-lengths.ensures.taken c.in_ok-found.ensures.taken c.in_ok-gate.ensures.taken))

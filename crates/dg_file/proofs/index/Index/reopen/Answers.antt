@@ -1,4 +1,4 @@
-use Rattle.std.proofs.Common.{◌+◌, ◌≤◌, length, sym, ap, subst, ◌∙◌, arith}
+use Rattle.std.proofs.Common.{◌≡◌, ◌+◌, ◌≤◌, length, sym, ap, subst, ◌∙◌, arith}
 use Rattle.std.specs.Prelude.{IfSome}
 use Rattle.dg_index.specs.OpenedIndex.{Opening}
 use Rattle.dg_file.specs.Headers.{IsFoundIn}
@@ -7,6 +7,10 @@ use Rattle.dg_file.proofs.ImageParts.{found_length, some_weaker}
 use Rattle.dg_file.proofs.GrowthMoves.{on_err_any}
 use Rattle.dg_index.specs.IndexGrowth.{name_total}
 use Rattle.dg_file.proofs.HeaderSegments.{begun}
+use Rattle.dg_file.proofs.OpenedBytes.{never_blank}
+use Rattle.dg_file.specs.Images.{RefusesOpening, taken_after}
+use Rattle.dg_file.specs.OpeningBytes.{blank_bytes}
+use Rattle.dg_index.specs.OpenedIndex.{opening}
 use Rattle.dg_file.proofs.index.Index.reopen.Goals as goal
 
 pub read_segments-requires-clause-so_far : goal.read_segments-requires-clause-so_far
@@ -32,3 +36,10 @@ returns-in_err-read_segments-clause-bounded g c =
     let most = c.in_err-read_segments.ensures.bounded was (omega (arith, c.in_ok-found.ensures.taken, ap opening_bytes c.empty-index.ensures)) in
     on_err_any c.from_residual-in_err-read_segments.result
     (some_weaker (g.D.Disk.image c.args.disk.now) (λ image. IsFoundIn image c.in_ok-found.found) (λ image. g.D.Disk.taken c.read_segments.new.disk ≤ was + length image) (λ image f. omega (arith, f.len, most)) c.in_ok-found.ensures.found)
+
+pub returns-in_err-read_segments-clause-blank : goal.returns-in_err-read_segments-clause-blank
+returns-in_err-read_segments-clause-blank g c is =
+    let told = g.D.Disk.image c.args.disk.now in
+    never_blank told c.from_residual-in_err-read_segments.result c.in_err-read_segments.field-0.0 c.in_ok-found.found
+    (λ image. g.D.Disk.taken c.read_segments.new.disk ≡ taken_after (blank_bytes image) (g.D.Disk.taken c.args.disk.now)) c.from_residual-in_err-read_segments.ensures c.in_ok-found.ensures.found
+    (subst (λ x. IfSome x (λ image. RefusesOpening c.in_err-read_segments.field-0.0 (opening image))) c.read_header.ensures.frame.same_image c.in_err-read_segments.ensures.refused) is
