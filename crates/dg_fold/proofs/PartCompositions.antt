@@ -1,6 +1,6 @@
 -- How compositions of parts go together.
 use Rattle.std.proofs.Common.{◌≡◌, ◌≤◌, length, Some, slice_get, arith, ℕ, Bool, true, false, map, List, [], ◌∷◌, ◌++◌, Result, Ok, Err, refl, sym, ap, ◌∙◌}
-use Rattle.std.proofs.lemmas.List.{append_assoc, append-nil}
+use Rattle.std.proofs.lemmas.List.{append-nil}
 use Rattle.dg_graph.specs.declared.element.Column.{Column}
 use Rattle.dg_graph.specs.declared.event.Event.{Event}
 use Rattle.dg_history.specs.declared.node.Key.{Key}
@@ -17,6 +17,7 @@ use Rattle.dg_fold.specs.declared.fault.FoldFault.{FoldFault}
 use Rattle.dg_fold.specs.declared.fault.FoldFault.TheVariants as fault
 use Rattle.dg_fold.specs.declared.part.Part.{Part}
 use Rattle.dg_fold.specs.Parts.{and_then, fault_named, is_events, bytes_in, record_in, part_column_in, beside, deltas_in_part, parts_in, Folds, fault_at}
+use Rattle.dg_fold.proofs.TreeStepPaths.{beside_associates}
 
 abbrev pub Due : Type 0
 Due = Result (List Delta) (Key × Column)
@@ -50,18 +51,12 @@ beside_empty : (a : Due) → a ≡ beside (Ok []) a
 beside_empty (Ok list) = refl
 beside_empty (Err f) = refl
 
-beside_assoc : (a b c : Due) → beside (beside a b) c ≡ beside a (beside b c)
-beside_assoc (Ok xs) (Ok ys) (Ok zs) = ap (λ l. Ok l) (append_assoc xs ys zs)
-beside_assoc (Ok xs) (Ok ys) (Err f) = refl
-beside_assoc (Ok xs) (Err f) c = refl
-beside_assoc (Err f) b c = refl
-
 -- wherever the parts are cut in two
 pub cut_anywhere : (names : ℕ) (xs ys : List Part) → parts_in names (xs ++ ys) ≡ beside (parts_in names xs) (parts_in names ys)
 cut_anywhere names [] ys = beside_empty (parts_in names ys)
 cut_anywhere names (p ∷ xs) ys =
     ap (beside (deltas_in_part names p)) (cut_anywhere names xs ys)
-    ∙ sym (beside_assoc (deltas_in_part names p) (parts_in names xs) (parts_in names ys))
+    ∙ sym (beside_associates (deltas_in_part names p) (parts_in names xs) (parts_in names ys))
 
 beside_end : (a : Due) → a ≡ beside a (Ok [])
 beside_end (Ok list) = ap (λ l. Ok l) (sym (append-nil list))

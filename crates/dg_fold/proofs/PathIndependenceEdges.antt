@@ -21,7 +21,7 @@ use Rattle.dg_plan.specs.declared.edge.Via.{Via}
 use Rattle.dg_plan.specs.declared.edge.Via.TheVariants as via
 use Rattle.dg_plan.specs.declared.edge.Way.TheVariants.{Same, Forward, Back}
 use Rattle.dg_index.specs.IndexRecords.{Events, Exact, heights, record_among}
-use Rattle.dg_fold.specs.PathIndependence.{taken, Contents, IsSoundEdge, Lead, via_deltas, enters_held, contents, EdgesAreSound}
+use Rattle.dg_fold.specs.PathIndependence.{taken, Contents, IsSoundEdge, DeltasLead, via_deltas, enters_held, contents, EdgesAreSound}
 use Rattle.dg_list.proofs.ExactEventCuts.{changes_behind}
 use Rattle.dg_fold.proofs.PathIndependenceRecords.{exact_leads, events_lead, events_lead_back, slice_leads}
 use Rattle.dg_fold.proofs.PathIndependenceWalks.{replay_from-append}
@@ -71,11 +71,11 @@ all_each P (x ∷ xs) h = All-cons P x xs h.0 (all_each P xs h.1)
 -- ---- what an edge does, wherever it leads
 
 pub record Leads (x : Contents) (e : Edge) : Type 0 where
-  pub leads : enters_held e.via ≡ false → Lead (via_deltas x e.via) (x.set e.from) (x.set e.to)
+  pub leads : enters_held e.via ≡ false → DeltasLead (via_deltas x e.via) (x.set e.from) (x.set e.to)
   pub begins : enters_held e.via ≡ true → e.from ≡ Root
 
 -- an edge that does not enter a set that is held whole
-by_record : (x : Contents) (e : Edge) → enters_held e.via ≡ false → Lead (via_deltas x e.via) (x.set e.from) (x.set e.to) → Leads x e
+by_record : (x : Contents) (e : Edge) → enters_held e.via ≡ false → DeltasLead (via_deltas x e.via) (x.set e.from) (x.set e.to) → Leads x e
 by_record x e not_held h = record { leads = λ is. h; begins = λ is. absurd (false≢true (sym not_held ∙ is)) }
 
 not_root : (n : NodeId) → is_root n ≡ false → n ≡ Root → ⊥
@@ -124,7 +124,7 @@ module _ (z : History) (g : Ground) (some : 1 ≤ z.params.k) (changes : AreChan
         by_record x (edge (leaf i) (List i) (g.weight (key.List i)) (via.Paid (key.List i) Same)) refl (leaf_set i),
         (
           by_record x (edge (leaf (suc i)) (List i) (g.weight (key.List i)) (via.Paid (key.List i) Back)) refl
-              (subst (λ s. Lead (via_deltas x (via.Paid (key.List i) Back)) s (set_at p events 0 i)) (sym (next_leaf i)) slice.back),
+              (subst (λ s. DeltasLead (via_deltas x (via.Paid (key.List i) Back)) s (set_at p events 0 i)) (sym (next_leaf i)) slice.back),
           (
             by_record x (edge (List i) (leaf i) 0 (via.Held (key.List i) Same)) refl (sym (leaf_set i)),
             (
@@ -155,14 +155,14 @@ module _ (z : History) (g : Ground) (some : 1 ≤ z.params.k) (changes : AreChan
       let to = sym (level_set h c) in
       let r = record_among p events z.batches (key.Down (h + 1) c) in (
         by_record x (edge (Inner (h + 1) j) (level_node h c) (g.weight (key.Down (h + 1) c)) (via.Paid (key.Down (h + 1) c) Forward)) refl
-            (subst (λ s. Lead (taken Forward None r) s (set_of p events (level_node h c))) from
-            (subst (λ s. Lead (taken Forward None r) (set_at p events (suc h) j) s) to
-            (subst (λ q. Lead (taken Forward None q) (set_at p events (suc h) j) (set_at p events h c)) rec exact.on))),
+            (subst (λ s. DeltasLead (taken Forward None r) s (set_of p events (level_node h c))) from
+            (subst (λ s. DeltasLead (taken Forward None r) (set_at p events (suc h) j) s) to
+            (subst (λ q. DeltasLead (taken Forward None q) (set_at p events (suc h) j) (set_at p events h c)) rec exact.on))),
         (
           by_record x (edge (level_node h c) (Inner (h + 1) j) (g.weight (key.Down (h + 1) c)) (via.Paid (key.Down (h + 1) c) Back)) refl
-              (subst (λ s. Lead (taken Back None r) s (set_of p events (Inner (h + 1) j))) to
-              (subst (λ s. Lead (taken Back None r) (set_at p events h c) s) from
-              (subst (λ q. Lead (taken Back None q) (set_at p events h c) (set_at p events (suc h) j)) rec exact.back))),
+              (subst (λ s. DeltasLead (taken Back None r) s (set_of p events (Inner (h + 1) j))) to
+              (subst (λ s. DeltasLead (taken Back None r) (set_at p events h c) s) from
+              (subst (λ q. DeltasLead (taken Back None q) (set_at p events h c) (set_at p events (suc h) j)) rec exact.back))),
           tt,
         ),
       )
@@ -189,7 +189,7 @@ module _ (z : History) (g : Ground) (some : 1 ≤ z.params.k) (changes : AreChan
       let behind = changes_behind [] n events changes in
       let last : set_of p events (leaf g.leaves) ≡ mid = leaf_set g.leaves ∙ ap (λ m. set_at p events 0 m) m in (
         by_record x (edge Now Recent 0 (via.Recent Back)) refl
-            (subst (λ l. Lead (taken Back None (Events recent)) l mid) (sym whole) (events_lead_back mid recent s behind)),
+            (subst (λ l. DeltasLead (taken Back None (Events recent)) l mid) (sym whole) (events_lead_back mid recent s behind)),
         (
           by_record x (edge Recent Now 0 (via.Recent Forward)) refl (events_lead mid recent s ∙ sym whole),
           (

@@ -14,18 +14,18 @@ use Rattle.dg_list.proofs.ReplayNets.{all_count}
 use Rattle.dg_fold.proofs.DeltaReplays.{replays_in_turn, back_in_turn}
 use Rattle.dg_plan.specs.declared.edge.Way.TheVariants.{Forward, Back}
 use Rattle.dg_index.specs.IndexRecords.{Events}
-use Rattle.dg_fold.specs.PathIndependence.{taken, Lead, ExactLeads, SliceLeads, RecordsLead}
+use Rattle.dg_fold.specs.PathIndependence.{taken, DeltasLead, ExactLeads, SliceLeads, RecordsLead}
 use Rattle.dg_fold.proofs.PathIndependenceWalks.{replay_from-append}
 
 pub exact_leads : (a b : List Element) → IsSet a → IsSet b → ExactLeads a b
 exact_leads a b s t = record { on = between_leads_on a b s t; back = reversed_leads_back a b s t }
 
 -- events lead on, and where they are exact also back
-pub events_lead : (set : List Element) (events : List Event) → IsSet set → Lead (taken Forward None (Events events)) set (replay_from set events)
+pub events_lead : (set : List Element) (events : List Event) → IsSet set → DeltasLead (taken Forward None (Events events)) set (replay_from set events)
 events_lead set events s =
     ap (λ l. applied_in_turn (map effect_of l) set) (all_count events) ∙ replays_in_turn events set s
 
-pub events_lead_back : (set : List Element) (events : List Event) → IsSet set → AreChangesOf set events → Lead (taken Back None (Events events)) (replay_from set events) set
+pub events_lead_back : (set : List Element) (events : List Event) → IsSet set → AreChangesOf set events → DeltasLead (taken Back None (Events events)) (replay_from set events) set
 events_lead_back set events s changes = back_in_turn events set s changes
 
 module _ (events : List Event) (from count : ℕ) where
@@ -42,7 +42,7 @@ module _ (events : List Event) (from count : ℕ) where
       let s = IsSet-replay_from (take from events) [] tt in
       record {
         on = events_lead first next s ∙ sym two_fronts;
-        back = subst (λ l. Lead (taken Back None (Events next)) l first) (sym two_fronts) (events_lead_back first next s (slice_changes changes));
+        back = subst (λ l. DeltasLead (taken Back None (Events next)) l first) (sym two_fronts) (events_lead_back first next s (slice_changes changes));
       }
 
 pub records_lead : RecordsLead

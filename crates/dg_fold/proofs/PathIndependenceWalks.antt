@@ -21,7 +21,7 @@ use Rattle.dg_fold.proofs.DeltaReplays.{in_turn-append, replays_in_turn}
 use Rattle.dg_plan.specs.declared.edge.Edge.{Edge}
 use Rattle.dg_plan.specs.declared.edge.Via.{Via}
 use Rattle.dg_plan.specs.declared.edge.Via.TheVariants as via
-use Rattle.dg_fold.specs.PathIndependence.{WalksLead, InstantsAreReached, forward, ComposesIn, Contents, via_deltas, walk_deltas, enters_held, Lead, IsSoundEdge, IsWalk, begun_at}
+use Rattle.dg_fold.specs.PathIndependence.{WalksLead, InstantsAreReached, forward, ComposesIn, Contents, via_deltas, walk_deltas, enters_held, DeltasLead, IsSoundEdge, IsWalk, begun_at}
 use Rattle.dg_index.specs.IndexRecords.{Events}
 
 -- ---- columns
@@ -62,21 +62,21 @@ held_whole x (via.Held key way) h = absurd (false≢true h)
 held_whole x (via.Recent way) h = absurd (false≢true h)
 
 -- some deltas and then others
-lead_on : (first later : List Delta) (from via to : List Element) → Lead first from via → Lead later via to → Lead (first ++ later) from to
+lead_on : (first later : List Delta) (from via to : List Element) → DeltasLead first from via → DeltasLead later via to → DeltasLead (first ++ later) from to
 lead_on first later from via to f l =
     in_turn-append first later from ∙ ap (applied_in_turn later) f ∙ l
 
 module _ (x : Contents) where
   -- a walk from another node than Root leads from its set to that of its end
   walk_leads : (walk : List Edge) → All (IsSoundEdge x) walk → (u v : NodeId) → (u ≡ Root → ⊥) → IsWalk u walk v
-      → Lead (walk_deltas x walk) (x.set u) (x.set v)
+      → DeltasLead (walk_deltas x walk) (x.set u) (x.set v)
   walk_leads [] sound u v on w = ap x.set w
   walk_leads (e ∷ walk) sound u v on w =
       let here = All-head (IsSoundEdge x) e walk sound in
       let rest = walk_leads walk (All-tail (IsSoundEdge x) e walk sound) e.to v here.on w.1 in
       by (enters_held e.via) refl here rest
     where
-      by : (b : Bool) → enters_held e.via ≡ b → IsSoundEdge x e → Lead (walk_deltas x walk) (x.set e.to) (x.set v) → Lead (walk_deltas x (e ∷ walk)) (x.set u) (x.set v)
+      by : (b : Bool) → enters_held e.via ≡ b → IsSoundEdge x e → DeltasLead (walk_deltas x walk) (x.set e.to) (x.set v) → DeltasLead (walk_deltas x (e ∷ walk)) (x.set u) (x.set v)
       by true is here rest = absurd (on (sym w.0 ∙ here.begins is))
       by false is here rest =
           lead_on (via_deltas x e.via) (walk_deltas x walk) (x.set u) (x.set e.to) (x.set v)
@@ -84,19 +84,19 @@ module _ (x : Contents) where
 
   -- every walk leads from the set with which it begins
   pub begun_leads : (walk : List Edge) → All (IsSoundEdge x) walk → (u v : NodeId) → IsWalk u walk v
-      → Lead (walk_deltas x walk) (x.set (begun_at u walk)) (x.set v)
+      → DeltasLead (walk_deltas x walk) (x.set (begun_at u walk)) (x.set v)
   begun_leads [] sound u v w = ap x.set w
   begun_leads (e ∷ walk) sound u v w = by (enters_held e.via) refl
     where
       here : IsSoundEdge x e
       here = All-head (IsSoundEdge x) e walk sound
 
-      rest : Lead (walk_deltas x walk) (x.set e.to) (x.set v)
+      rest : DeltasLead (walk_deltas x walk) (x.set e.to) (x.set v)
       rest = walk_leads walk (All-tail (IsSoundEdge x) e walk sound) e.to v here.on w.1
 
-      by : (b : Bool) → enters_held e.via ≡ b → Lead (walk_deltas x (e ∷ walk)) (x.set (cond b e.to u)) (x.set v)
+      by : (b : Bool) → enters_held e.via ≡ b → DeltasLead (walk_deltas x (e ∷ walk)) (x.set (cond b e.to u)) (x.set v)
       by true is =
-          subst (λ l. Lead (l ++ walk_deltas x walk) (x.set e.to) (x.set v)) (sym (held_whole x e.via is)) rest
+          subst (λ l. DeltasLead (l ++ walk_deltas x walk) (x.set e.to) (x.set v)) (sym (held_whole x e.via is)) rest
       by false is =
           lead_on (via_deltas x e.via) (walk_deltas x walk) (x.set u) (x.set e.to) (x.set v)
           (ap (λ n. applied_in_turn (via_deltas x e.via) (x.set n)) (sym w.0) ∙ here.leads is) rest

@@ -49,8 +49,8 @@ abbrev pub ComposesIn : Columns → Delta → List Delta → Type 0
 ComposesIn cols d list = (x : Element) → asks cols (column_of x) ≡ true → says d x ≡ composition list x
 
 -- the deltas, one after another, lead from one set to another
-abbrev pub Lead : List Delta → List Element → List Element → Type 0
-Lead deltas from to = applied_in_turn deltas from ≡ to
+abbrev pub DeltasLead : List Delta → List Element → List Element → Type 0
+DeltasLead deltas from to = applied_in_turn deltas from ≡ to
 
 -- ---- what the edges of an index do
 
@@ -91,7 +91,7 @@ enters_held (via.Recent way) = false
 -- An edge is sound where its record leads from the set of its tail to the set of its head. One that enters a
 -- set that is held whole leaves Root; none enters Root.
 pub record IsSoundEdge (x : Contents) (e : Edge) : Type 0 where
-  pub leads : enters_held e.via ≡ false → Lead (via_deltas x e.via) (x.set e.from) (x.set e.to)
+  pub leads : enters_held e.via ≡ false → DeltasLead (via_deltas x e.via) (x.set e.from) (x.set e.to)
   pub begins : enters_held e.via ≡ true → e.from ≡ Root
   pub on : e.to ≢ Root
 
@@ -133,20 +133,20 @@ InstantsAreReached = (x : Contents) → ((n : NodeId) → IsSet (x.set n))
 
 -- the exact delta leads on from its first set and back from its second
 pub record ExactLeads (a b : List Element) : Type 0 where
-  pub on : Lead (taken Forward None (Exact (between a b))) a b
-  pub back : Lead (taken Back None (Exact (between a b))) b a
+  pub on : DeltasLead (taken Forward None (Exact (between a b))) a b
+  pub back : DeltasLead (taken Back None (Exact (between a b))) b a
 
 -- the events behind the first so many, taken so many at a time, lead from one replay to the next, and back
 pub record SliceLeads (events : List Event) (from count : ℕ) : Type 0 where
-  pub on : Lead (taken Forward None (Events (take count (drop from events)))) (replay (take from events)) (replay (take (from + count) events))
-  pub back : Lead (taken Back None (Events (take count (drop from events)))) (replay (take (from + count) events)) (replay (take from events))
+  pub on : DeltasLead (taken Forward None (Events (take count (drop from events)))) (replay (take from events)) (replay (take (from + count) events))
+  pub back : DeltasLead (taken Back None (Events (take count (drop from events)))) (replay (take (from + count) events)) (replay (take from events))
 
 -- exact deltas and slices of a history lead on and back, and a record that is not applied changes nothing
 abbrev pub RecordsLead : Type 0
 RecordsLead =
     ((a b : List Element) → IsSet a → IsSet b → ExactLeads a b)
     × ((events : List Event) (from count : ℕ) → AreChangesOf [] events → SliceLeads events from count)
-    × ((r : Record) (set : List Element) → Lead (taken Same None r) set set)
+    × ((r : Record) (set : List Element) → DeltasLead (taken Same None r) set set)
 
 -- each edge of the graph of an index is sound, whatever its bases and weights and whether the graph after all
 -- events is in memory

@@ -66,16 +66,16 @@ fn events_of(alloc: Global, placed: &[Placed]) -> Result<Vec<Event>, AllocError>
 fn events_column<R: Threads>(
     rt: &R,
     alloc: Global,
-    names: u32,
+    name_count: u32,
     part: &Part,
     way: Way,
     until: Option<u64>,
     col: Column,
 ) -> Result<Delta, FoldFault>
     requires { is_events part.now.key ≡ true }
-    ensures { Folds result (part_column_in names (taken_as part.now way until) col) }
+    ensures { Folds result (part_column_in name_count (taken_as part.now way until) col) }
 {
-    match read_events(alloc, bytes_of(&part.bytes, col), col, names) {
+    match read_events(alloc, bytes_of(&part.bytes, col), col, name_count) {
         Ok(placed) => {
             let events = events_of(alloc, &placed)?;
             Ok(net_of(rt, alloc, &events, way, until)?)
@@ -88,16 +88,16 @@ fn events_column<R: Threads>(
 fn attributes_delta<R: Threads>(
     rt: &R,
     alloc: Global,
-    names: u32,
+    name_count: u32,
     part: &Part,
     way: Way,
     until: Option<u64>,
 ) -> Result<Delta, FoldFault>
     requires { is_events part.now.key ≡ true }
-    ensures { Folds result (beside (part_column_in names (taken_as part.now way until) Column.NodeAttr) (part_column_in names (taken_as part.now way until) Column.EdgeAttr)) }
+    ensures { Folds result (beside (part_column_in name_count (taken_as part.now way until) Column.NodeAttr) (part_column_in name_count (taken_as part.now way until) Column.EdgeAttr)) }
 {
-    let node_attr = events_column(rt, alloc, names, part, way, until, Column::NodeAttr)?;
-    let edge_attr = events_column(rt, alloc, names, part, way, until, Column::EdgeAttr)?;
+    let node_attr = events_column(rt, alloc, name_count, part, way, until, Column::NodeAttr)?;
+    let edge_attr = events_column(rt, alloc, name_count, part, way, until, Column::EdgeAttr)?;
     Ok(joined(node_attr, edge_attr)?)
 }
 
@@ -105,27 +105,32 @@ fn attributes_delta<R: Threads>(
 fn events_delta<R: Threads>(
     rt: &R,
     alloc: Global,
-    names: u32,
+    name_count: u32,
     part: &Part,
     way: Way,
     until: Option<u64>,
 ) -> Result<Delta, FoldFault>
     requires { is_events part.now.key ≡ true }
-    ensures { Folds result (deltas_in_part names (taken_as part.now way until)) }
+    ensures { Folds result (deltas_in_part name_count (taken_as part.now way until)) }
 {
-    let structure = events_column(rt, alloc, names, part, way, until, Column::Structure)?;
-    let attributes = attributes_delta(rt, alloc, names, part, way, until)?;
+    let structure = events_column(rt, alloc, name_count, part, way, until, Column::Structure)?;
+    let attributes = attributes_delta(rt, alloc, name_count, part, way, until)?;
     Ok(joined(structure, attributes)?)
 }
 
 // The delta that a column of the part spells, which holds a delta.
-fn exact_column(alloc: Global, names: u32, part: &Part, col: Column) -> Result<Delta, FoldFault>
+fn exact_column(
+    alloc: Global,
+    name_count: u32,
+    part: &Part,
+    col: Column,
+) -> Result<Delta, FoldFault>
     requires { is_events part.now.key ≡ false }
-    ensures ok { IfOk result (λ d. (way : Way) (until : Option ℕ) → part_column_in names (taken_as part.now way until) col ≡ Ok (taken way until (Exact d))) }
+    ensures ok { IfOk result (λ d. (way : Way) (until : Option ℕ) → part_column_in name_count (taken_as part.now way until) col ≡ Ok (taken way until (Exact d))) }
     ensures inside { IfOk result (λ d. IsIn col d) }
-    ensures err { IfErr result (λ f. (way : Way) (until : Option ℕ) → Folds (Err f) (part_column_in names (taken_as part.now way until) col)) }
+    ensures err { IfErr result (λ f. (way : Way) (until : Option ℕ) → Folds (Err f) (part_column_in name_count (taken_as part.now way until) col)) }
 {
-    match read_delta(alloc, bytes_of(&part.bytes, col), col, names) {
+    match read_delta(alloc, bytes_of(&part.bytes, col), col, name_count) {
         Ok(delta) => Ok(delta),
         Err(fault) => Err(fault_of(fault, part.key, col)),
     }
@@ -139,16 +144,16 @@ struct Attributes {
 }
 
 // The deltas that the attributes' columns of the part spell, which holds a delta.
-fn exact_attributes(alloc: Global, names: u32, part: &Part) -> Result<Attributes, FoldFault>
+fn exact_attributes(alloc: Global, name_count: u32, part: &Part) -> Result<Attributes, FoldFault>
     requires { is_events part.now.key ≡ false }
-    ensures node_attr { IfOk result (λ a. (way : Way) (until : Option ℕ) → part_column_in names (taken_as part.now way until) Column.NodeAttr ≡ Ok (taken way until (Exact a.node_attr))) }
-    ensures edge_attr { IfOk result (λ a. (way : Way) (until : Option ℕ) → part_column_in names (taken_as part.now way until) Column.EdgeAttr ≡ Ok (taken way until (Exact a.edge_attr))) }
+    ensures node_attr { IfOk result (λ a. (way : Way) (until : Option ℕ) → part_column_in name_count (taken_as part.now way until) Column.NodeAttr ≡ Ok (taken way until (Exact a.node_attr))) }
+    ensures edge_attr { IfOk result (λ a. (way : Way) (until : Option ℕ) → part_column_in name_count (taken_as part.now way until) Column.EdgeAttr ≡ Ok (taken way until (Exact a.edge_attr))) }
     ensures in_node_attr { IfOk result (λ a. IsIn Column.NodeAttr a.node_attr) }
     ensures in_edge_attr { IfOk result (λ a. IsIn Column.EdgeAttr a.edge_attr) }
-    ensures err { IfErr result (λ f. (way : Way) (until : Option ℕ) → Folds (Err f) (beside (part_column_in names (taken_as part.now way until) Column.NodeAttr) (part_column_in names (taken_as part.now way until) Column.EdgeAttr))) }
+    ensures err { IfErr result (λ f. (way : Way) (until : Option ℕ) → Folds (Err f) (beside (part_column_in name_count (taken_as part.now way until) Column.NodeAttr) (part_column_in name_count (taken_as part.now way until) Column.EdgeAttr))) }
 {
-    let node_attr = exact_column(alloc, names, part, Column::NodeAttr)?;
-    let edge_attr = exact_column(alloc, names, part, Column::EdgeAttr)?;
+    let node_attr = exact_column(alloc, name_count, part, Column::NodeAttr)?;
+    let edge_attr = exact_column(alloc, name_count, part, Column::EdgeAttr)?;
     Ok(Attributes {
         node_attr,
         edge_attr,
@@ -168,16 +173,16 @@ fn columns_joined(structure: Delta, attributes: Attributes) -> Result<Delta, All
 // The delta of the part, which holds a delta.
 fn exact_delta(
     alloc: Global,
-    names: u32,
+    name_count: u32,
     part: &Part,
     way: Way,
     until: Option<u64>,
 ) -> Result<Delta, FoldFault>
     requires { is_events part.now.key ≡ false }
-    ensures { Folds result (deltas_in_part names (taken_as part.now way until)) }
+    ensures { Folds result (deltas_in_part name_count (taken_as part.now way until)) }
 {
-    let structure = exact_column(alloc, names, part, Column::Structure)?;
-    let attributes = exact_attributes(alloc, names, part)?;
+    let structure = exact_column(alloc, name_count, part, Column::Structure)?;
+    let attributes = exact_attributes(alloc, name_count, part)?;
     let delta = columns_joined(structure, attributes)?;
     Ok(turned(alloc, delta, way))
 }
@@ -186,17 +191,17 @@ fn exact_delta(
 pub(crate) fn part_delta_as<R: Threads>(
     rt: &R,
     alloc: Global,
-    names: u32,
+    name_count: u32,
     part: &Part,
     way: Way,
     until: Option<u64>,
 ) -> Result<Delta, FoldFault>
-    ensures { Folds result (deltas_in_part names (taken_as part.now way until)) }
+    ensures { Folds result (deltas_in_part name_count (taken_as part.now way until)) }
 {
     if is_events(part.key) {
-        events_delta(rt, alloc, names, part, way, until)
+        events_delta(rt, alloc, name_count, part, way, until)
     } else {
-        exact_delta(alloc, names, part, way, until)
+        exact_delta(alloc, name_count, part, way, until)
     }
 }
 
@@ -204,10 +209,10 @@ pub(crate) fn part_delta_as<R: Threads>(
 pub(crate) fn part_delta<R: Threads>(
     rt: &R,
     alloc: Global,
-    names: u32,
+    name_count: u32,
     part: &Part,
 ) -> Result<Delta, FoldFault>
-    ensures { Folds result (deltas_in_part names part.now) }
+    ensures { Folds result (deltas_in_part name_count part.now) }
 {
-    part_delta_as(rt, alloc, names, part, part.way, part.until)
+    part_delta_as(rt, alloc, name_count, part, part.way, part.until)
 }

@@ -19,8 +19,8 @@ impl Weighed for &Delta {
     }
 }
 
-// Whether the delta is for the target of this number.
-fn is_for(writing: &Writing, target: usize) -> bool
+/// Whether the delta is for the target of this number, from 0.
+pub fn is_for(writing: &Writing, target: usize) -> bool
     ensures { result ≡ is_for target writing.now }
 {
     let targets = &writing.targets;

@@ -33,16 +33,16 @@ fn is_list(key: Key, list: u32) -> bool
 fn list_delta<R: Threads>(
     rt: &R,
     alloc: Global,
-    names: u32,
+    name_count: u32,
     parts: &[Part],
     list: u32,
     time: u64,
 ) -> Result<Delta, FoldFault>
-    ensures { Folds result (part_until names time (list_part list parts.now)) }
+    ensures { Folds result (part_until name_count time (list_part list parts.now)) }
 {
     for part in parts {
         if is_list(part.key, list) {
-            return part_delta_as(rt, alloc, names, part, Way::Forward, Some(time));
+            return part_delta_as(rt, alloc, name_count, part, Way::Forward, Some(time));
         }
     }
     Ok(Delta::new(alloc))
@@ -52,17 +52,17 @@ fn list_delta<R: Threads>(
 pub(crate) fn last_delta<R: Threads>(
     rt: &R,
     alloc: Global,
-    names: u32,
+    name_count: u32,
     to: NodeId,
     time: u64,
     parts: &[Part],
     recent: &[Event],
 ) -> Result<Delta, FoldFault>
-    ensures { Folds result (last_in names recent.now parts.now to time) }
+    ensures { Folds result (last_in name_count recent.now parts.now to time) }
 {
     match to {
         NodeId::Root | NodeId::Now | NodeId::Leaf(_) | NodeId::Inner(_, _) => Ok(Delta::new(alloc)),
         NodeId::Recent => Ok(net_of(rt, alloc, recent, Way::Forward, Some(time))?),
-        NodeId::List(list) => list_delta(rt, alloc, names, parts, list, time),
+        NodeId::List(list) => list_delta(rt, alloc, name_count, parts, list, time),
     }
 }

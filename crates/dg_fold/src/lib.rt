@@ -18,7 +18,7 @@ mod tree;
 mod tree_step;
 mod writing;
 
-pub use composing::compose_for;
+pub use composing::{compose_for, is_for};
 pub use dg_delta::Delta;
 pub use fault::FoldFault;
 pub use fetch::fetch_walk;

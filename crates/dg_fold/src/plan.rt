@@ -47,20 +47,20 @@ impl Weighed for Part {
 fn compose_alone<R: Threads>(
     rt: &R,
     alloc: Global,
-    names: u32,
+    name_count: u32,
     parts: &[Part],
 ) -> Result<Delta, FoldFault>
-    ensures { Folds result (parts_in names parts.now) }
+    ensures { Folds result (parts_in name_count parts.now) }
 {
     if parts.len() <= 1 {
         return match parts.first() {
             None => Ok(Delta::new(alloc)),
-            Some(part) => part_delta(rt, alloc, names, part),
+            Some(part) => part_delta(rt, alloc, name_count, part),
         };
     }
     let (left, right) = parts.split_at(cut_at(parts));
-    let first = compose_alone(rt, alloc, names, left);
-    let then = compose_alone(rt, alloc, names, right);
+    let first = compose_alone(rt, alloc, name_count, left);
+    let then = compose_alone(rt, alloc, name_count, right);
     both(first, then)
 }
 
@@ -72,37 +72,37 @@ pub fn compose_plan<R: Threads + Sync, G: Gate>(
     rt: &R,
     alloc: Global,
     gate: &G,
-    names: u32,
+    name_count: u32,
     parts: &[Part],
 ) -> Result<Delta, FoldFault>
-    ensures { Folds result (parts_in names parts.now) }
+    ensures { Folds result (parts_in name_count parts.now) }
 {
     if parts.len() <= 1 {
-        return compose_alone(rt, alloc, names, parts);
+        return compose_alone(rt, alloc, name_count, parts);
     }
     let (left, right) = parts.split_at(cut_at(parts));
     let (first, then) = join(
         rt,
         || -> Result<Delta, FoldFault>
             requires { IsSync R.row × IsSync G.row }
-            ensures { Folds result (parts_in names left.entry.now) }
+            ensures { Folds result (parts_in name_count left.entry.now) }
         {
             gate.enter(false);
             if all_weigh(left) <= ALONE_BYTES_MAX {
-                compose_alone(rt, alloc, names, left)
+                compose_alone(rt, alloc, name_count, left)
             } else {
-                compose_plan(rt, alloc, gate, names, left)
+                compose_plan(rt, alloc, gate, name_count, left)
             }
         },
         || -> Result<Delta, FoldFault>
             requires { IsSync R.row × IsSync G.row }
-            ensures { Folds result (parts_in names right.entry.now) }
+            ensures { Folds result (parts_in name_count right.entry.now) }
         {
             gate.enter(true);
             if all_weigh(right) <= ALONE_BYTES_MAX {
-                compose_alone(rt, alloc, names, right)
+                compose_alone(rt, alloc, name_count, right)
             } else {
-                compose_plan(rt, alloc, gate, names, right)
+                compose_plan(rt, alloc, gate, name_count, right)
             }
         },
     );

@@ -37,14 +37,14 @@ fn edges_of(alloc: Global, branches: &[Branch]) -> Result<Vec<Edge>, AllocError>
 pub(crate) fn steps_of<R: Threads>(
     rt: &R,
     alloc: Global,
-    names: u32,
+    name_count: u32,
     branches: &[Branch],
     parts: &[Part],
     recent: &[Event],
 ) -> Result<Vec<Stepped>, FoldFault>
-    ensures ok { IfOk result (λ v. AreStepped names recent.now (paired (all_edges branches.now) parts.now) v.items) }
-    ensures err { IfErr result (λ f. FailsAt f names recent.now (paired (all_edges branches.now) parts.now)) }
+    ensures ok { IfOk result (λ v. AreStepped name_count recent.now (paired (all_edges branches.now) parts.now) v.items) }
+    ensures err { IfErr result (λ f. FailsAt f name_count recent.now (paired (all_edges branches.now) parts.now)) }
 {
     let edges = edges_of(alloc, branches)?;
-    steps_along(rt, alloc, names, &edges, parts, recent)
+    steps_along(rt, alloc, name_count, &edges, parts, recent)
 }

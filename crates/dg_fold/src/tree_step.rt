@@ -26,13 +26,13 @@ pub(crate) struct Stepped {
 fn first_delta<R: Threads>(
     rt: &R,
     alloc: Global,
-    names: u32,
+    name_count: u32,
     parts: &[Part],
 ) -> Result<Delta, FoldFault>
-    ensures { Folds result (part_deltas names (slice_get parts.now 0)) }
+    ensures { Folds result (part_deltas name_count (slice_get parts.now 0)) }
 {
     match parts.first() {
-        Some(part) => part_delta(rt, alloc, names, part),
+        Some(part) => part_delta(rt, alloc, name_count, part),
         None => Ok(Delta::new(alloc)),
     }
 }
@@ -41,17 +41,17 @@ fn first_delta<R: Threads>(
 fn step_delta<R: Threads>(
     rt: &R,
     alloc: Global,
-    names: u32,
+    name_count: u32,
     via: Via,
     parts: &[Part],
     recent: &[Event],
 ) -> Result<Delta, FoldFault>
-    ensures { Folds result (step_by names recent.now via (slice_get parts.now 0)) }
+    ensures { Folds result (step_by name_count recent.now via (slice_get parts.now 0)) }
 {
     match via {
         Via::Now | Via::Base(_) => Ok(Delta::new(alloc)),
         Via::Recent(way) => Ok(net_of(rt, alloc, recent, way, None)?),
-        Via::Paid(_, _) | Via::Held(_, _) => first_delta(rt, alloc, names, parts),
+        Via::Paid(_, _) | Via::Held(_, _) => first_delta(rt, alloc, name_count, parts),
     }
 }
 
@@ -72,18 +72,18 @@ fn parts_behind(via: Via, parts: &[Part]) -> &[Part]
 pub(crate) fn steps_along<R: Threads>(
     rt: &R,
     alloc: Global,
-    names: u32,
+    name_count: u32,
     edges: &[Edge],
     parts: &[Part],
     recent: &[Event],
 ) -> Result<Vec<Stepped>, FoldFault>
-    ensures ok { IfOk result (λ v. AreStepped names recent.now (paired edges.now parts.now) v.items) }
-    ensures err { IfErr result (λ f. FailsAt f names recent.now (paired edges.now parts.now)) }
+    ensures ok { IfOk result (λ v. AreStepped name_count recent.now (paired edges.now parts.now) v.items) }
+    ensures err { IfErr result (λ f. FailsAt f name_count recent.now (paired edges.now parts.now)) }
 {
     let mut steps = Vec::new(alloc);
     let mut rest = parts;
     for edge in edges {
-        let delta = match step_delta(rt, alloc, names, edge.via, rest, recent) {
+        let delta = match step_delta(rt, alloc, name_count, edge.via, rest, recent) {
             Ok(delta) => delta,
             Err(fault) => return Err(fault),
         };

@@ -121,20 +121,20 @@ fn write_for(
 fn write_lasts<R: Threads>(
     rt: &R,
     alloc: Global,
-    names: u32,
+    name_count: u32,
     branches: &[Branch],
     parts: &[Part],
     recent: &[Event],
     times: &[u64],
 ) -> Result<Vec<Writing>, FoldFault>
     requires times { length times.now ≡ length branches.now }
-    ensures ok { IfOk result (λ v. AreLasts names recent.now parts.now 0 branches.now times.now v.items) }
-    ensures err { IfErr result (λ f. FailsIn f (lasts_in names recent.now parts.now branches.now times.now)) }
+    ensures ok { IfOk result (λ v. AreLasts name_count recent.now parts.now 0 branches.now times.now v.items) }
+    ensures err { IfErr result (λ f. FailsIn f (lasts_in name_count recent.now parts.now branches.now times.now)) }
 {
     let mut writings = Vec::with_capacity(alloc, branches.len())?;
     for n in 0..branches.len() {
         let to = branches[n].to;
-        let last = match last_delta(rt, alloc, names, to, times[n], parts, recent) {
+        let last = match last_delta(rt, alloc, name_count, to, times[n], parts, recent) {
             Ok(last) => last,
             Err(fault) => return Err(fault),
         };
@@ -147,12 +147,13 @@ fn write_lasts<R: Threads>(
 /// targets whose paths from the root take its step; and behind them one for each target alone: where that is a list or
 /// the recent events, those of its node's events that are up to the branch's instant, and else a delta that changes
 /// nothing. The instant of another target is not looked at. The parts are those that `fetch_walk` gives for the edges of
-/// all branches in order; each record is decoded once, and none is composed. `Damaged` names the first part, and of it
+/// all branches in order; each record is decoded once, but a list that is a target, which is decoded once more for its own
+/// events up to the instant; none is composed. `Damaged` names the first part, and of it
 /// the first column, that is damaged, exactly where one is.
 pub fn write_tree<R: Threads>(
     rt: &R,
     alloc: Global,
-    names: u32,
+    name_count: u32,
     branches: &[Branch],
     parts: &[Part],
     recent: &[Event],
@@ -161,18 +162,18 @@ pub fn write_tree<R: Threads>(
     requires lead { All LeadsToTarget branches.now }
     requires grow { Grow [] branches.now }
     requires times { length times.now ≡ length branches.now }
-    ensures ok { IfOk result (λ v. (leads : List Lead) × AreLedUntil names recent.now parts.now (paired (all_edges branches.now) parts.now) branches.now times.now leads
+    ensures ok { IfOk result (λ v. (leads : List Lead) × AreLedUntil name_count recent.now parts.now (paired (all_edges branches.now) parts.now) branches.now times.now leads
         × AreWrittenFrom 0 leads v.items) }
-    ensures read { OnOk result ((list : List Delta) × (steps_in names recent.now (paired (all_edges branches.now) parts.now) ≡ Ok list)) }
-    ensures err { IfErr result (λ f. FailsIn f (beside (steps_in names recent.now (paired (all_edges branches.now) parts.now)) (lasts_in names recent.now parts.now branches.now times.now))) }
+    ensures read { OnOk result ((list : List Delta) × (steps_in name_count recent.now (paired (all_edges branches.now) parts.now) ≡ Ok list)) }
+    ensures err { IfErr result (λ f. FailsIn f (beside (steps_in name_count recent.now (paired (all_edges branches.now) parts.now)) (lasts_in name_count recent.now parts.now branches.now times.now))) }
 {
-    let steps = match steps_of(rt, alloc, names, branches, parts, recent) {
+    let steps = match steps_of(rt, alloc, name_count, branches, parts, recent) {
         Ok(steps) => steps,
         Err(fault) => return Err(fault),
     };
     let ends = ends_of(alloc, branches)?;
     let mut writings = write_back(alloc, steps, ends)?;
-    let mut lasts = match write_lasts(rt, alloc, names, branches, parts, recent, times) {
+    let mut lasts = match write_lasts(rt, alloc, name_count, branches, parts, recent, times) {
         Ok(lasts) => lasts,
         Err(fault) => return Err(fault),
     };

@@ -1,22 +1,13 @@
 //! Deltas that are written to slots of a pool, each once for all slots that it is for.
 
 ghost use Rattle.std.specs.Prelude.{◌≡◌, ℕ, false, IfOk, OnErr, OnOk};
-ghost use Rattle.dg_fold.specs.Writings.{is_for};
 ghost use Rattle.dg_handles.specs.Written.{AreWritten, slots_for};
 ghost use Rattle.dg_pool.specs.Changes.{CanChange, ChangesSlots, numbers_of};
 ghost use Rattle.dg_pool.specs.Graphs.{SameGraphs, graph_now, is_listed, slot_graph};
 
-use dg_fold::Writing;
+use dg_fold::{Writing, is_for};
 use dg_pool::{Pool, Slot};
 use std::alloc::{AllocError, Global};
-
-// Whether the delta is for the graph of this number.
-fn is_for(writing: &Writing, number: usize) -> bool
-    ensures { result ≡ is_for number writing.now }
-{
-    let targets = &writing.targets;
-    number < targets.len() && targets[number]
-}
 
 // Those of the slots that the delta is for. An `Err` says that memory ran out.
 fn slots_for(alloc: Global, writing: &Writing, slots: &[Slot]) -> Result<Vec<Slot>, AllocError>

@@ -5,6 +5,6 @@ use Rattle.dg_fold.proofs.column.events_delta.Goals as goal
 
 pub returns : goal.returns
 returns g c =
-    let due = part_column_in c.args.names (taken_as c.args.part.now c.args.way c.args.until) in
+    let due = part_column_in c.args.name_count (taken_as c.args.part.now c.args.way c.args.until) in
     folds_both c.in_ok-joined.field-0 c.in_ok-structure.structure c.in_ok-attributes.attributes (due Structure) (beside (due NodeAttr) (due EdgeAttr))
     c.in_ok-structure.ensures c.in_ok-attributes.ensures c.in_ok-joined.ensures

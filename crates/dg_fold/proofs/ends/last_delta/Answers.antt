@@ -8,5 +8,5 @@ use Rattle.dg_fold.proofs.ends.last_delta.Goals as goal
 
 pub returns-in_ok-net_of-in-Recent : goal.returns-in_ok-net_of-in-Recent
 returns-in_ok-net_of-in-Recent g c =
-    subst (λ v. Folds (Ok c.in_ok-net_of-in-Recent.field-0) (last_in c.args.names c.args.recent.now c.args.parts.now v c.args.time)) (sym c.in-Recent.is)
+    subst (λ v. Folds (Ok c.in_ok-net_of-in-Recent.field-0) (last_in c.args.name_count c.args.recent.now c.args.parts.now v c.args.time)) (sym c.in-Recent.is)
     (taken Forward (Some c.args.time) (Events c.args.recent.now), refl, c.in_ok-net_of-in-Recent.ensures)

@@ -6,7 +6,7 @@ use Rattle.dg_fold.proofs.plan.+compose_alone.Goals as goal
 
 pub returns : goal.returns
 returns g t c =
-    let names = c.args.names in
+    let names = c.args.name_count in
     let left = c.split_at.result.0.now in
     let right = c.split_at.result.1.now in
     subst (Folds c.both.result) (sym (ap (parts_in names) c.split_at.ensures.by_index.0 ∙ cut_anywhere names left right))
@@ -16,4 +16,4 @@ pub returns-in-Some : goal.returns-in-Some
 returns-in-Some g t c =
     let part = c.in-Some.part.now in
     let only = one_only c.args.parts.now part c.if-parts-le1.true (ap option_copied (sym c.in-Some.is) ∙ c.first.ensures.value) in
-    subst (Folds c.part_delta.result) (one_part c.args.names part ∙ ap (parts_in c.args.names) only) c.part_delta.ensures
+    subst (Folds c.part_delta.result) (one_part c.args.name_count part ∙ ap (parts_in c.args.name_count) only) c.part_delta.ensures

@@ -7,5 +7,5 @@ use Rattle.dg_fold.proofs.tree_step.step_delta.Goals as goal
 
 pub returns-in_ok-net_of-in-Recent : goal.returns-in_ok-net_of-in-Recent
 returns-in_ok-net_of-in-Recent g c =
-    subst (λ v. Folds (Ok c.in_ok-net_of-in-Recent.field-0) (step_by c.args.names c.args.recent.now v (slice_get c.args.parts.now 0))) (sym c.in-Recent.is)
+    subst (λ v. Folds (Ok c.in_ok-net_of-in-Recent.field-0) (step_by c.args.name_count c.args.recent.now v (slice_get c.args.parts.now 0))) (sym c.in-Recent.is)
     (taken c.in-Recent.way None (Events c.args.recent.now), refl, c.in_ok-net_of-in-Recent.ensures)
