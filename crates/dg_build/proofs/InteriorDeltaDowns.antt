@@ -1,5 +1,5 @@
 -- The deltas from an interior node to its children but the first, one after another.
-use Rattle.std.proofs.Common.{◌≡◌, ◌+◌, ◌<◌, ◌≤◌, false, cond, List, [], ◌∷◌, ◌++◌, Some, length, map, sym, ap, ◌∙◌, arith, append_assoc, length-append}
+use Rattle.std.proofs.Common.{◌≡◌, ◌+◌, ◌<◌, ◌≤◌, false, cond, List, [], ◌∷◌, ◌++◌, Some, None, length, map, sym, ap, ◌∙◌, arith, append_assoc, length-append}
 use Rattle.dg_graph.specs.Composition.{Delta, chained}
 use Rattle.dg_index.specs.FileOfHistory.{Segment, Stored}
 use Rattle.dg_build.specs.InteriorDeltas.{DiffersInDeltas, last_way, stored_delta}
@@ -54,3 +54,11 @@ last_done first way down ways left rest old now few so left_is down_is =
     let f = λ (d : Delta). chained first d in
     let one : left ≡ way ∷ [] = left_is ∙ ap (λ (l : List Delta). way ∷ l) (none_left way left rest left_is few) in
     down_is ∙ ap (λ (l : List Delta). last_way (map f l)) (sym one) ∙ so.last
+
+-- none of them is too wide
+pub downs_narrow : (first way : Delta) (ways left rest : List Delta) (old now : Segment) → length left ≤ 1 → DownsSoFar first ways left old now → left ≡ way ∷ rest → is_wide (chained first way) ≡ false
+    → first_wide (length old.deltas) (map (λ (d : Delta). chained first d) ways) ≡ None
+downs_narrow first way ways left rest old now few so left_is narrow =
+    let f = λ (d : Delta). chained first d in
+    let one : left ≡ way ∷ [] = left_is ∙ ap (λ (l : List Delta). way ∷ l) (none_left way left rest left_is few) in
+    sym so.wide ∙ ap (λ (l : List Delta). first_wide (length now.deltas) (map f l)) one ∙ (λ i. cond (narrow i) (Some (length now.deltas)) None)

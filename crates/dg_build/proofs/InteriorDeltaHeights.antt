@@ -30,7 +30,7 @@ div_mono a b k two le =
     let pos : 0 < k = omega (arith, two) in
     (le-div_iff_mul-le pos).1 (omega (arith, le, div-mul-le_self a k))
 
-half : (n k : ℕ) → 2 ≤ k → 2 * (n / k) ≤ n
+pub half : (n k : ℕ) → 2 ≤ k → 2 * (n / k) ≤ n
 half n k two = omega (arith, mul-le-mul_right (n / k) two, mul_comm k (n / k), div-mul-le_self n k)
 
 one_more : {A : Type 0} (f : ℕ → List A) (h : ℕ) → flat_map f (numbers 1 (suc h)) ≡ flat_map f (numbers 1 h) ++ f (suc h)

@@ -5,10 +5,9 @@ use Rattle.std.proofs.lemmas.List.{map-append}
 use Rattle.dg_graph.specs.declared.element.Element.{Element}
 use Rattle.dg_graph.specs.declared.event.Event.{Event}
 use Rattle.dg_history.specs.declared.params.Params.{Params}
-use Rattle.dg_graph.specs.Composition.{Delta, between, applied}
+use Rattle.dg_graph.specs.Composition.{Delta, between}
 use Rattle.dg_graph.specs.Elements.{IsSet}
 use Rattle.dg_graph.specs.Replay.{replay, replay_from}
-use Rattle.dg_delta.proofs.Deltas.{between_leads_on}
 use Rattle.dg_index.specs.Hierarchy.{numbers, leaves, set_at}
 use Rattle.dg_graph.specs.ExactEvents.{AreChangesOf}
 use Rattle.dg_index.specs.IndexRecords.{closed_list, recent_of, deltas_due}
@@ -17,12 +16,9 @@ use Rattle.dg_index.proofs.HierarchyCounts.{numbers_append}
 use Rattle.dg_index.proofs.HierarchySteps.{IsSet-node, IsSet-replay}
 use Rattle.dg_index.proofs.HierarchyStability.{leaf_next, list_cut, replay_append}
 use Rattle.dg_build.specs.InteriorDeltas.{AreNewNodes}
+use Rattle.dg_build.specs.GivenDeltas.{IsExactNet}
 use Rattle.dg_list.proofs.ExactEventCuts.{changes_behind, changes_cut, changes_front}
 use Rattle.dg_build.proofs.InteriorDeltaHeights.{all_heights, div_one, div_mono}
-
--- it leads from each set of which the events are changes to their replay
-abbrev pub IsExactNet : List Event → Delta → Type 0
-IsExactNet events d = (set : List Element) → IsSet set → AreChangesOf set events → d ≡ between set (replay_from set events)
 
 -- the net of a new list is the step to the next leaf
 pub leaf_step : (p : Params) (before more : List Event) (i : ℕ) (tail cut : List Event) (d : Delta) → 1 ≤ p.l → tail ≡ recent_of p before ++ more → AreChangesOf [] (before ++ more)
@@ -36,20 +32,14 @@ leaf_step p before more i tail cut d some is_tail changes cut_is net =
     let here : AreChangesOf at (closed_list p all j) = changes_front at p.l (drop (j * p.l) all) (changes_behind [] (j * p.l) all changes) in
     net at (IsSet-node p all 0 j) (subst (AreChangesOf at) (sym is) here) ∙ ap (between at) (ap (replay_from at) is ∙ sym (leaf_next p all j))
 
--- from a set of which the events are changes
-pub leads_on : (leaf : List Element) (list : List Event) (d : Delta) (next : List Element) → IsExactNet list d → next ≡ applied d leaf → IsSet leaf → AreChangesOf leaf list → next ≡ replay_from leaf list
-leads_on leaf list d next net is set changes = is ∙ ap (λ (e : Delta). applied e leaf) (net leaf set changes) ∙ between_leads_on leaf (replay_from leaf list) set (IsSet-replay leaf list set)
-
-pub leaf_first : (p : Params) (before more : List Event) (leaf node : List Element) (tail cut : List Event) → 1 ≤ p.l → tail ≡ recent_of p before ++ more → AreChangesOf [] (before ++ more)
-    → cut ≡ take p.l tail → leaf ≡ set_at p (before ++ more) 0 (leaves p (length before)) → (IsSet leaf → AreChangesOf leaf cut → node ≡ replay_from leaf cut) → node ≡ set_at p (before ++ more) 0 (leaves p (length before) + 1)
-leaf_first p before more leaf node tail cut some is_tail changes cut_is leaf_is leads =
+pub leaf_first : (p : Params) (before more : List Event) (leaf node : List Element) (tail cut : List Event) → 1 ≤ p.l → tail ≡ recent_of p before ++ more
+    → cut ≡ take p.l tail → leaf ≡ set_at p (before ++ more) 0 (leaves p (length before)) → node ≡ replay_from leaf cut → node ≡ set_at p (before ++ more) 0 (leaves p (length before) + 1)
+leaf_first p before more leaf node tail cut some is_tail cut_is leaf_is leads =
     let all : List Event = before ++ more in
     let m : ℕ = leaves p (length before) in
-    let at : List Element = set_at p all 0 m in
     let is : cut ≡ closed_list p all m = cut_is ∙ ap (λ n. take p.l (drop n tail)) (let e : 0 ≡ 0 * p.l = omega arith in e) ∙ (λ x. take p.l (drop (0 * p.l) (is_tail x))) ∙ sym (list_cut p before more 0 (omega (arith, some)))
     ∙ ap (closed_list p all) (let e : m + 0 ≡ m = omega arith in e) in
-    let here : AreChangesOf at (closed_list p all m) = changes_front at p.l (drop (m * p.l) all) (changes_behind [] (m * p.l) all changes) in
-    leads (subst IsSet (sym leaf_is) (IsSet-node p all 0 m)) (subst (AreChangesOf leaf) (sym is) (subst (λ s. AreChangesOf s (closed_list p all m)) (sym leaf_is) here)) ∙ (λ x. replay_from (leaf_is x) (is x)) ∙ sym (leaf_next p all m)
+    leads ∙ (λ x. replay_from (leaf_is x) (is x)) ∙ sym (leaf_next p all m)
 
 pub record StepsSoFar (p : Params) (all : List Event) (m i : ℕ) (steps : List Delta) : Type 0 where
   pub are : steps ≡ steps_at p all 0 (m + 1) (i - 1)

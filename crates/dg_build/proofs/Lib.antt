@@ -11,3 +11,4 @@ pub mod SpelledRecordTimes
 pub mod SpelledRecordSegments
 pub mod FirstList
 pub mod InteriorDeltaDowns
+pub mod GivenDeltas

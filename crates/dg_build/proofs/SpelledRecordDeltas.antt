@@ -50,10 +50,11 @@ unfolding is_there
 only_memory index deltas narrow Memory is = refl
 only_memory index deltas narrow (Wide at) is = absurd (false≢true (ap is_there (sym (none_wide index deltas narrow) ∙ is)))
 
-named : (index : ℕ) (deltas : List Delta) (at : ℕ) → first_wide index deltas ≡ Some at → at < index + length deltas
+-- it is one of the deltas
+pub first_wide_below : (index : ℕ) (deltas : List Delta) (at : ℕ) → first_wide index deltas ≡ Some at → at < index + length deltas
 unfolding is_there index_or
-named index [] at is = absurd (false≢true (ap is_there is))
-named index (d ∷ deltas) at is = by (is_wide d) is (λ e. named (index + 1) deltas at e)
+first_wide_below index [] at is = absurd (false≢true (ap is_there is))
+first_wide_below index (d ∷ deltas) at is = by (is_wide d) is (λ e. first_wide_below (index + 1) deltas at e)
   where
     by : (wide : Bool) → cond wide (Some index) (first_wide (index + 1) deltas) ≡ Some at → (first_wide (index + 1) deltas ≡ Some at → at < index + 1 + length deltas) → at < index + length (d ∷ deltas)
     by true here later = let e : index ≡ at = ap (index_or 0) here in omega (arith, e)
@@ -62,7 +63,7 @@ named index (d ∷ deltas) at is = by (is_wide d) is (λ e. named (index + 1) de
 -- a fault names one of the deltas
 pub below_end : (index : ℕ) (deltas : List Delta) (e : BuildFault) → IsFaultOfDeltas index deltas e → IsFaultBelow (index + length deltas) e
 below_end index deltas Memory is = tt
-below_end index deltas (Wide at) is = named index deltas at is
+below_end index deltas (Wide at) is = first_wide_below index deltas at is
 
 -- where the first that is too wide is the same, so are the faults
 fault_moved : (from to : ℕ) (xs ys : List Delta) (e : BuildFault) → first_wide from xs ≡ first_wide to ys → IsFaultOfDeltas from xs e → IsFaultOfDeltas to ys e
@@ -83,12 +84,18 @@ first_fault index inner first ways e is fault =
     let more : List Delta = map (λ (d : Delta). chained (reversed inner) d) ways in
     fault_moved index index (first ∷ more) (downs inner ways) e (ap (λ (d : Delta). first_wide index (d ∷ more)) is) fault
 
+later_wide : (index next : ℕ) (inner first : Delta) (ways : List Delta) → first ≡ reversed inner → is_wide first ≡ false → next ≡ index + 1 → first_wide next (map (λ (d : Delta). chained first d) ways) ≡ first_wide index (downs inner ways)
+later_wide index next inner first ways is narrow next_is =
+    (λ i. first_wide (next_is i) (map (λ (d : Delta). chained (is i) d) ways))
+    ∙ sym (λ i. cond ((ap (λ (d : Delta). is_wide d) (sym is) ∙ narrow) i) (Some index) (first_wide (index + 1) (map (λ (d : Delta). chained (reversed inner) d) ways)))
+
+pub later_narrow : (index next : ℕ) (inner first : Delta) (ways : List Delta) → first ≡ reversed inner → is_wide first ≡ false → next ≡ index + 1 → first_wide next (map (λ (d : Delta). chained first d) ways) ≡ None → first_wide index (downs inner ways) ≡ None
+later_narrow index next inner first ways is narrow next_is none = sym (later_wide index next inner first ways is narrow next_is) ∙ none
+
 pub later_fault : (index next : ℕ) (inner first : Delta) (ways : List Delta) (e : BuildFault) → first ≡ reversed inner → is_wide first ≡ false → next ≡ index + 1
     → IsFaultOfDeltas next (map (λ (d : Delta). chained first d) ways) e → IsFaultOfDeltas index (downs inner ways) e
 later_fault index next inner first ways e is narrow next_is fault =
-    let more : List Delta = map (λ (d : Delta). chained (reversed inner) d) ways in
-    fault_moved next index (map (λ (d : Delta). chained first d) ways) (downs inner ways) e
-    ((λ i. first_wide (next_is i) (map (λ (d : Delta). chained (is i) d) ways)) ∙ sym (λ i. cond ((ap (λ (d : Delta). is_wide d) (sym is) ∙ narrow) i) (Some index) (first_wide (index + 1) more))) fault
+    fault_moved next index (map (λ (d : Delta). chained first d) ways) (downs inner ways) e (later_wide index next inner first ways is narrow next_is) fault
 
 -- of the delta from the root, where there is one
 pub top_fault : (index below : ℕ) (first top : Delta) (e : BuildFault) → below ≡ 0 → top ≡ first → IsFaultOfDeltas index (top ∷ []) e → IsFaultOfDeltas index (cond (below == 0) (first ∷ []) []) e

@@ -1,2 +1,3 @@
 pub mod InteriorDeltas
 pub mod SpelledRecords
+pub mod GivenDeltas

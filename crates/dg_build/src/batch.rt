@@ -12,6 +12,7 @@ ghost use Rattle.dg_index.specs.FileOfHistory.{segment_of, stored};
 ghost use Rattle.dg_index.specs.OlderNodes.{older};
 ghost use Rattle.dg_index.specs.OpenedIndex.{list_row, may_be_listed};
 ghost use Rattle.dg_build.specs.SpelledRecords.{IsFaultBelow, RisesFrom, last_in_rows, stored_cut};
+ghost use Rattle.dg_build.specs.GivenDeltas.{AddsSuch, AreGiven, IsFaultOfSuch};
 ghost use Rattle.dg_build.specs.declared.fault.BuildFault.TheVariants.{Memory};
 
 use crate::fault::BuildFault;
@@ -73,6 +74,8 @@ fn add_batch(
         → AreChangesOf [] (past ++ events.now) → older_sets.now ≡ map (set_of params past) (older params.k (leaves params before) (leaves params (before + length events.now)))
         → e ≡ Memory) }
     ensures wide { IfErr result (λ e. IsFaultBelow (length (deltas_due params.k (leaves params before) (leaves params (before + length events.now)))) e) }
+    ensures given { OnOk result (AddsSuch (AreGiven params before now.now recent.now events.now older_sets.now) [] segment.new.deltas) }
+    ensures first { IfErr result (λ e. IsFaultOfSuch (AreGiven params before now.now recent.now events.now older_sets.now) 0 e) }
 {
     let l = params.l as usize;
     let m = before / l;
@@ -100,7 +103,7 @@ fn add_batch(
 /// new names, and without a list or a delta.
 ///
 /// `Memory` says that memory ran out, or that the segment would have 2^32 lists or deltas, or 2^63 bytes,
-/// or more. `Wide` names a due delta that cannot be written, which no history brings about.
+/// or more. `Wide` names the first due delta that cannot be written, which no history brings about.
 pub fn build(
     alloc: Global,
     params: Params,
@@ -136,6 +139,8 @@ pub fn build(
         → AreChangesOf [] (past ++ events.now) → older_sets.now ≡ map (set_of params past) (older params.k (leaves params before) (leaves params (before + length events.now)))
         → e ≡ Memory) }
     ensures wide { IfErr result (λ e. IsFaultBelow (length (deltas_due params.k (leaves params before) (leaves params (before + length events.now)))) e) }
+    ensures given { IfOk result (λ s. AddsSuch (AreGiven params before now.now recent.now events.now older_sets.now) [] s.deltas) }
+    ensures first { IfErr result (λ e. IsFaultOfSuch (AreGiven params before now.now recent.now events.now older_sets.now) 0 e) }
 {
     let mut segment = segment;
     add_batch(

@@ -5,8 +5,9 @@ ghost use Rattle.dg_graph.specs.declared.event.Event.{Event};
 ghost use Rattle.dg_graph.specs.Composition.{chained};
 ghost use Rattle.dg_graph.specs.DifferentialFunction.{inward};
 ghost use Rattle.dg_index.specs.ExactSteps.{ways_of};
-ghost use Rattle.dg_build.specs.InteriorDeltas.{AreMade, DiffersInDeltas, IsBehind, IsNextNode};
-ghost use Rattle.dg_build.specs.SpelledRecords.{IsFaultBelow};
+ghost use Rattle.dg_build.specs.InteriorDeltas.{AreMade, DiffersInDeltas, IsBehind, IsNextNode, downs_by, inner_by, last_way};
+ghost use Rattle.dg_build.specs.SpelledRecords.{IsFaultBelow, IsFaultOfDeltas};
+ghost use Rattle.dg_build.specs.GivenDeltas.{AreAdded, later_downs, later_steps};
 ghost use Rattle.dg_build.specs.declared.fault.BuildFault.TheVariants.{Memory};
 
 use crate::family::{add_downs, chain_on, next_step, ways};
@@ -106,6 +107,10 @@ fn next_node(
     ensures fault { IfErr result (λ e. (events : List Event) (h j more : ℕ) → 1 ≤ more → IsBehind params events h j more last row.old.items
         → length events < 2 ^ 32 → e ≡ Memory) }
     ensures wide { IfErr result (λ e. IsFaultBelow (length segment.old.deltas + params.k) e) }
+    ensures step { IfOk result (λ made. made.0 ≡ chained (chained last (get_or row.old.items 0 last)) (inner_by params (drop 1 row.old.items))) }
+    ensures last { IfOk result (λ made. made.1 ≡ last_way (downs_by params (drop 1 row.old.items))) }
+    ensures given { IfOk result (λ made. AreAdded (downs_by params (drop 1 row.old.items)) segment.old.deltas segment.new.deltas) }
+    ensures first { IfErr result (λ e. IsFaultOfDeltas (length segment.old.deltas) (downs_by params (drop 1 row.old.items)) e) }
 {
     let (step, node) = linked_node(alloc, params, last, row)?;
     let down = add_downs(alloc, node.inner, node.ways, segment)?;
@@ -133,6 +138,9 @@ pub(crate) fn later_nodes(
     ensures fault { IfErr result (λ e. (events : List Event) (h j : ℕ) → IsBehind params events h j more last row.items
         → length events < 2 ^ 32 → e ≡ Memory) }
     ensures wide { IfErr result (λ e. IsFaultBelow (length segment.old.deltas + more * params.k) e) }
+    ensures up { IfOk result (λ up. up.items ≡ later_steps params more last row.items) }
+    ensures given { IfOk result (λ up. AreAdded (later_downs params more row.items) segment.old.deltas segment.new.deltas) }
+    ensures first { IfErr result (λ e. IsFaultOfDeltas (length segment.old.deltas) (later_downs params more row.items) e) }
 {
     let mut last = last;
     let mut row = row;

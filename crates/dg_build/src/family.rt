@@ -1,10 +1,10 @@
 //! The children of an interior node, by exact deltas.
 
-ghost use Rattle.std.specs.Prelude.{◌≡◌, ◌≤◌, ◌++◌, ◌∷◌, [], false, List, length, map, take, drop, IfOk, IfErr, OnOk};
+ghost use Rattle.std.specs.Prelude.{◌≡◌, ◌≤◌, ◌++◌, ◌∷◌, [], false, None, List, length, map, take, drop, IfOk, IfErr, OnOk};
 ghost use Rattle.dg_graph.specs.Composition.{Delta, chained};
 ghost use Rattle.dg_index.specs.ExactSteps.{downs, ways_of};
 ghost use Rattle.dg_build.specs.InteriorDeltas.{last_way, stored_delta};
-ghost use Rattle.dg_build.specs.SpelledRecords.{is_wide, IsFaultOfDeltas};
+ghost use Rattle.dg_build.specs.SpelledRecords.{is_wide, first_wide, IsFaultOfDeltas};
 
 use crate::fault::BuildFault;
 use crate::records::add_delta;
@@ -78,6 +78,7 @@ fn add_others(
     requires { 1 ≤ length ways.items }
     ensures ok { IfOk result (λ last. segment.new ≡ record segment.old { deltas = segment.old.deltas ++ map stored_delta (map (λ d. chained to_first.now d) ways.items) }) }
     ensures last { IfOk result (λ last. last ≡ last_way (map (λ d. chained to_first.now d) ways.items)) }
+    ensures narrow { IfOk result (λ last. first_wide (length segment.old.deltas) (map (λ d. chained to_first.now d) ways.items) ≡ None) }
     ensures fault { IfErr result (λ e. IsFaultOfDeltas (length segment.old.deltas) (map (λ d. chained to_first.now d) ways.items) e) }
 {
     let mut left = VecDeque::from_vec(ways);
@@ -99,6 +100,7 @@ pub(crate) fn add_downs(
     requires { 1 ≤ length ways.items }
     ensures ok { IfOk result (λ last. segment.new ≡ record segment.old { deltas = segment.old.deltas ++ map stored_delta (downs inner ways.items) }) }
     ensures last { IfOk result (λ last. last ≡ last_way (downs inner ways.items)) }
+    ensures narrow { IfOk result (λ last. first_wide (length segment.old.deltas) (downs inner ways.items) ≡ None) }
     ensures fault { IfErr result (λ e. IsFaultOfDeltas (length segment.old.deltas) (downs inner ways.items) e) }
 {
     let to_first = inner.reverse();

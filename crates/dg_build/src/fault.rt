@@ -10,10 +10,10 @@ use thiserror::Error;
 #[derive(Clone, Copy, Debug, PartialEq, Eq, Error)]
 pub enum BuildFault {
     /// Memory ran out.
-    #[error("memory ran out")]
+    #[error("out of memory")]
     Memory,
     /// A set of the due delta with this index, from 0 in the order of the segment, has more elements
-    /// than its column can count.
+    /// than its column can count, and none of the due deltas before it has such a set.
     #[error("the delta {0} of the segment has too many elements")]
     Wide(usize),
 }

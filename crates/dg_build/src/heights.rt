@@ -1,6 +1,6 @@
 //! The interior nodes that are due, height after height.
 
-ghost use Rattle.std.specs.Prelude.{◌≡◌, ◌≤◌, ◌<◌, ◌+◌, ◌-◌, ◌*◌, ◌/◌, ◌^◌, ◌==◌, ◌++◌, ◌∷◌, ◌⊎◌, [], ℕ, List, length, map, drop, get_or, IfOk, IfErr, OnOk, if◌then◌else◌};
+ghost use Rattle.std.specs.Prelude.{◌≡◌, ◌≤◌, ◌<◌, ◌+◌, ◌-◌, ◌*◌, ◌/◌, ◌^◌, ◌==◌, ◌++◌, ◌∷◌, ◌⊎◌, [], ℕ, None, List, length, map, drop, get_or, IfOk, IfErr, OnOk, if◌then◌else◌};
 ghost use Rattle.dg_graph.specs.declared.event.Event.{Event};
 ghost use Rattle.dg_graph.specs.Composition.{applied, between};
 ghost use Rattle.dg_index.specs.Hierarchy.{leaves, set_of};
@@ -8,7 +8,8 @@ ghost use Rattle.dg_index.specs.IndexRecords.{record_among, deltas_due};
 ghost use Rattle.dg_index.specs.FileOfHistory.{stored};
 ghost use Rattle.dg_index.specs.OlderNodes.{older};
 ghost use Rattle.dg_build.specs.InteriorDeltas.{AreNewNodes, AreOlderSets, DiffersInDeltas, Rises, deltas_added, downs_by, last_way, set_by, stored_delta, top_to};
-ghost use Rattle.dg_build.specs.SpelledRecords.{IsFaultBelow, IsFaultOfDeltas};
+ghost use Rattle.dg_build.specs.SpelledRecords.{first_wide, IsFaultBelow, IsFaultOfDeltas};
+ghost use Rattle.dg_build.specs.GivenDeltas.{AreAdded, given_above, given_on, risen};
 ghost use Rattle.dg_build.specs.declared.fault.BuildFault.TheVariants.{Memory};
 
 use crate::climb::{Interior, interior_node, later_nodes};
@@ -40,6 +41,7 @@ fn add_top(
     segment: &mut Segment,
 ) -> Result<(), BuildFault>
     ensures ok { OnOk result (segment.new ≡ record segment.old { deltas = segment.old.deltas ++ map stored_delta (if below == 0 then between [] first.now ∷ [] else []) }) }
+    ensures narrow { OnOk result (first_wide (length segment.old.deltas) (if below == 0 then between [] first.now ∷ [] else []) ≡ None) }
     ensures fault { IfErr result (λ e. IsFaultOfDeltas (length segment.old.deltas) (if below == 0 then between [] first.now ∷ [] else []) e) }
 {
     if below == 0 {
@@ -78,6 +80,8 @@ fn first_node(
     ensures adds { IfOk result (λ made. segment.new ≡ record segment.old { deltas = segment.old.deltas ++ map stored_delta (top_to below made.0 ++ downs_by params row.old.items) }) }
     ensures fault { IfErr result (λ e. IsFaultOfDeltas (length segment.old.deltas) (top_to below (set_by params row.old.items older_sets.now child)) e
         ⊎ IsFaultOfDeltas (length segment.old.deltas + length (top_to below (set_by params row.old.items older_sets.now child))) (downs_by params row.old.items) e) }
+    ensures given { IfOk result (λ made. AreAdded (top_to below (set_by params row.old.items older_sets.now child) ++ downs_by params row.old.items) segment.old.deltas segment.new.deltas) }
+    ensures first { IfErr result (λ e. IsFaultOfDeltas (length segment.old.deltas) (top_to below (set_by params row.old.items older_sets.now child) ++ downs_by params row.old.items) e) }
 {
     let Interior { inner, ways } = interior_node(alloc, params, row)?;
     let first = first_set(&inner, older_sets, child)?;
@@ -110,6 +114,9 @@ fn rise(
     ensures fault { IfErr result (λ e. (events : List Event) (h : ℕ) → AreNewNodes params events h q end nodes.first nodes.steps.items → AreOlderSets params events h q older_sets.now
         → length events < 2 ^ 32 → e ≡ Memory) }
     ensures wide { IfErr result (λ e. IsFaultBelow (length segment.old.deltas + deltas_added params.k (q / params.k) (end / params.k)) e) }
+    ensures up { IfOk result (λ up. record { first = up.first; steps = up.steps.items } ≡ risen params q end older_sets.now (record { first = nodes.first; steps = nodes.steps.items })) }
+    ensures given { IfOk result (λ up. AreAdded (given_above params q end older_sets.now (record { first = nodes.first; steps = nodes.steps.items })) segment.old.deltas segment.new.deltas) }
+    ensures first { IfErr result (λ e. IsFaultOfDeltas (length segment.old.deltas) (given_above params q end older_sets.now (record { first = nodes.first; steps = nodes.steps.items })) e) }
 {
     let k = params.k as usize;
     let below = q / k;
@@ -149,6 +156,8 @@ pub(crate) fn add_heights(
         → AreNewNodes params (before ++ more) 0 m after new_leaves.first new_leaves.steps.items → older_sets.now ≡ map (set_of params before) (older params.k m after)
         → length (before ++ more) < 2 ^ 32 → e ≡ Memory) }
     ensures wide { IfErr result (λ e. IsFaultBelow (length segment.old.deltas + length (deltas_due params.k m after)) e) }
+    ensures given { OnOk result (AreAdded (given_on params after m after older_sets.now (record { first = new_leaves.first; steps = new_leaves.steps.items })) segment.old.deltas segment.new.deltas) }
+    ensures first { IfErr result (λ e. IsFaultOfDeltas (length segment.old.deltas) (given_on params after m after older_sets.now (record { first = new_leaves.first; steps = new_leaves.steps.items })) e) }
 {
     let k = params.k as usize;
     let mut nodes = new_leaves;

@@ -1,8 +1,9 @@
 //! The new leaves of a batch, and the interior nodes above them.
 
-ghost use Rattle.std.specs.Prelude.{◌≡◌, ◌≤◌, ◌<◌, ◌+◌, ◌-◌, ◌*◌, ◌/◌, ◌^◌, ◌++◌, [], ℕ, List, length, map, IfOk, IfErr, OnOk};
+ghost use Rattle.std.specs.Prelude.{◌≡◌, ◌≤◌, ◌<◌, ◌+◌, ◌-◌, ◌*◌, ◌/◌, ◌^◌, ◌++◌, [], ℕ, List, length, map, get_or, take, drop, IfOk, IfErr, OnOk};
 ghost use Rattle.dg_graph.specs.declared.element.Element.{Element};
 ghost use Rattle.dg_graph.specs.declared.event.Event.{Event};
+ghost use Rattle.dg_graph.specs.Composition.{nothing};
 ghost use Rattle.dg_graph.specs.Elements.{IsSet};
 ghost use Rattle.dg_graph.specs.ExactEvents.{AreChangesOf};
 ghost use Rattle.dg_graph.specs.Replay.{replay, replay_from};
@@ -13,6 +14,7 @@ ghost use Rattle.dg_index.specs.FileOfHistory.{stored};
 ghost use Rattle.dg_index.specs.OlderNodes.{older};
 ghost use Rattle.dg_build.specs.InteriorDeltas.{AreNewNodes, DiffersInDeltas};
 ghost use Rattle.dg_build.specs.SpelledRecords.{IsFaultBelow};
+ghost use Rattle.dg_build.specs.GivenDeltas.{AddsSuch, AreGivenBetween, AreNewLeaves, IsExactNet, IsFaultOfSuch, taken_back};
 ghost use Rattle.dg_build.specs.declared.fault.BuildFault.TheVariants.{Memory};
 
 use crate::fault::BuildFault;
@@ -21,17 +23,25 @@ use crate::heights::{NewNodes, add_heights};
 use dg_delta::Delta;
 use dg_event::Event;
 use dg_history::Params;
-use dg_list::{exact_net, net_back};
+use dg_list::{exact_net, net_back, whole_net};
 use dg_segment::Segment;
 use dg_set::Set;
 use std::alloc::{AllocError, Global};
 
+// Tells the proofs that the set rises strictly. It does nothing.
+fn rises(set: &Set)
+    ensures { IsSet set.now }
+{
+    set.items();
+}
+
 // The first new leaf, from the last leaf that was there before, and the events of the list behind it. An `Err`
 // says that memory ran out.
 fn first_leaf(alloc: Global, leaf: Set, list: &[Event]) -> Result<Set, AllocError>
-    ensures { IfOk result (λ next. IsSet leaf → AreChangesOf leaf list.now → next ≡ replay_from leaf list.now) }
+    ensures { IfOk result (λ next. next ≡ replay_from leaf list.now) }
 {
-    let net = exact_net(alloc, list)?;
+    rises(&leaf);
+    let net = whole_net(alloc, list)?;
     net.apply(&leaf)
 }
 
@@ -50,6 +60,7 @@ fn leaf_steps(
     ensures long { IfOk result (λ steps. length steps.items + 1 ≡ count) }
     ensures is { IfOk result (λ steps. (before more : List Event) → 1 ≤ params.l → first_list.now ++ later.now ≡ recent_of params before ++ more → AreChangesOf [] (before ++ more)
         → steps.items ≡ steps_at params (before ++ more) 0 (leaves params (length before) + 1) (count - 1)) }
+    ensures nets { IfOk result (λ steps. (i : ℕ) → i < length steps.items → IsExactNet (take params.l (drop ((i + 1) * params.l) (first_list.now ++ later.now))) (get_or steps.items i nothing)) }
 {
     let l = params.l as usize;
     let mut steps = Vec::with_capacity(alloc, count - 1)?;
@@ -76,6 +87,7 @@ fn new_leaves(
     ensures is { IfOk result (λ up. (before more : List Event) → 1 ≤ params.l → first_list.now ++ later.now ≡ recent_of params before ++ more
         → leaf ≡ set_at params (before ++ more) 0 (leaves params (length before)) → AreChangesOf [] (before ++ more)
         → AreNewNodes params (before ++ more) 0 (leaves params (length before)) (leaves params (length before) + count) up.first up.steps.items) }
+    ensures given { IfOk result (λ up. AreNewLeaves params.l count leaf (first_list.now ++ later.now) (record { first = up.first; steps = up.steps.items })) }
 {
     let first = first_leaf(alloc, leaf, first_list)?;
     let steps = leaf_steps(alloc, params, count, first_list, later)?;
@@ -85,8 +97,10 @@ fn new_leaves(
 // The last leaf that was there before, from the current graph, and the events behind that leaf. An `Err` says
 // that memory ran out.
 fn last_leaf(alloc: Global, now: &Set, recent: &[Event]) -> Result<Set, AllocError>
-    ensures { IfOk result (λ leaf. (set : List Element) → IsSet set → AreChangesOf set recent.now → now.now ≡ replay_from set recent.now → leaf ≡ set) }
+    ensures is { IfOk result (λ leaf. (set : List Element) → IsSet set → AreChangesOf set recent.now → now.now ≡ replay_from set recent.now → leaf ≡ set) }
+    ensures back { IfOk result (λ leaf. leaf ≡ taken_back now.now recent.now) }
 {
+    rises(now);
     let back = net_back(alloc, recent)?;
     back.apply(now)
 }
@@ -121,6 +135,8 @@ pub(crate) fn add_interior(
         → AreChangesOf [] (before ++ more) → older_sets.now ≡ map (set_of params before) (older params.k m after)
         → length (before ++ more) < 2 ^ 32 → e ≡ Memory) }
     ensures wide { IfErr result (λ e. IsFaultBelow (length segment.old.deltas + length (deltas_due params.k m after)) e) }
+    ensures given { OnOk result (AddsSuch (AreGivenBetween params m after now.now recent.now (first_list.now ++ later.now) older_sets.now) segment.old.deltas segment.new.deltas) }
+    ensures first { IfErr result (λ e. IsFaultOfSuch (AreGivenBetween params m after now.now recent.now (first_list.now ++ later.now) older_sets.now) (length segment.old.deltas) e) }
 {
     let k = params.k as usize;
     if m / k >= after / k {

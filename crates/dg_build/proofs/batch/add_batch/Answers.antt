@@ -7,6 +7,7 @@ use Rattle.dg_graph.specs.declared.event.Event.{Event}
 use Rattle.dg_index.specs.Hierarchy.{numbers}
 use Rattle.dg_index.specs.IndexRecords.{Events, deltas_due}
 use Rattle.dg_index.specs.FileOfHistory.{Segment, Stored, stored}
+use Rattle.dg_build.specs.GivenDeltas.{AddsSuch, AreGivenBetween, IsFaultOfSuch}
 use Rattle.dg_build.proofs.SpelledRecordLists.{list_there}
 use Rattle.dg_build.proofs.FirstList.{IsCut, is_cut}
 use Rattle.dg_build.proofs.InteriorDeltaHeights.{written_at}
@@ -106,3 +107,30 @@ returns-in_err-add_interior-clause-wide c =
     let n : ℕ = length (deltas_due c.args.params.k (c.args.before / c.args.params.l) ((c.args.before + length c.args.events.now) / c.args.params.l)) in
     let none : length c.add_lists.new.segment.deltas ≡ 0 = ap (λ (s : Segment). length s.deltas) c.in_ok-add_lists.ensures ∙ ap (λ (l : List Stored). length l) c.requires.bare.1 in
     rw (failed.1, failed.2) (below_more (length c.add_lists.new.segment.deltas + n) n c.in_err-add_interior.field-0.0 (omega (arith, none)) c.in_err-add_interior.ensures.wide)
+
+pub returns-clause-given : goal.returns-clause-given
+returns-clause-given c =
+    let l : ℕ = c.args.params.l in
+    let e : c.first_count-cut.result ≡ min (l - length c.args.recent.now) (length c.args.events.now) = omega (arith, c.first_count-cut.ensures) in
+    let cut : IsCut l c.args.before c.args.recent.now c.args.events.now c.as_slice-first.result.now c.behind-later.result.now =
+    is_cut l c.args.before c.first_count-cut.result c.args.recent.now c.args.events.now c.as_slice-first.result.now c.behind-later.result.now c.requires.list.0 c.requires.recent e (c.as_slice-first.ensures.value ∙ c.in_ok-list.ensures) c.behind-later.ensures in
+    let none : c.add_lists.new.segment.deltas ≡ [] = ap (λ (s : Segment). s.deltas) c.in_ok-add_lists.ensures ∙ c.requires.bare.1 in
+    let w = written_whole c.args.segment.now c.add_lists.new.segment c.add_interior.new.segment c.set_piece.new.segment _ _ c.requires.bare.0 c.in_ok-add_lists.ensures c.in_ok-add_interior.ensures.frame c.in_ok-set_piece.ensures in
+    let there : c.add_interior.new.segment.deltas ≡ c.set_piece.new.segment.deltas = ap (λ (s : Segment). s.deltas) (sym w.is) in
+    subst (λ (tail : List Event). AddsSuch (AreGivenBetween c.args.params (c.args.before / l) ((c.args.before + length c.args.events.now) / l) c.args.now.now c.args.recent.now tail c.args.older_sets.now) [] c.set_piece.new.segment.deltas) cut.is
+    (subst (λ (new : List Stored). AddsSuch (AreGivenBetween c.args.params (c.args.before / l) ((c.args.before + length c.args.events.now) / l) c.args.now.now c.args.recent.now (c.as_slice-first.result.now ++ c.behind-later.result.now) c.args.older_sets.now) [] new) there
+    (subst (λ (old : List Stored). AddsSuch (AreGivenBetween c.args.params (c.args.before / l) ((c.args.before + length c.args.events.now) / l) c.args.now.now c.args.recent.now (c.as_slice-first.result.now ++ c.behind-later.result.now) c.args.older_sets.now) old c.add_interior.new.segment.deltas) none
+    c.in_ok-add_interior.ensures.given))
+
+pub returns-in_err-add_interior-clause-first : goal.returns-in_err-add_interior-clause-first
+returns-in_err-add_interior-clause-first c =
+    let failed = err_from_is_err_and c.from_residual-in_err-add_interior.result c.from_residual-in_err-add_interior.ensures.1 in
+    let l : ℕ = c.args.params.l in
+    let e : c.first_count-cut.result ≡ min (l - length c.args.recent.now) (length c.args.events.now) = omega (arith, c.first_count-cut.ensures) in
+    let cut : IsCut l c.args.before c.args.recent.now c.args.events.now c.as_slice-first.result.now c.behind-later.result.now =
+    is_cut l c.args.before c.first_count-cut.result c.args.recent.now c.args.events.now c.as_slice-first.result.now c.behind-later.result.now c.requires.list.0 c.requires.recent e (c.as_slice-first.ensures.value ∙ c.in_ok-list.ensures) c.behind-later.ensures in
+    let none : c.add_lists.new.segment.deltas ≡ [] = ap (λ (s : Segment). s.deltas) c.in_ok-add_lists.ensures ∙ c.requires.bare.1 in
+    rw (failed.1, failed.2)
+    (subst (λ (tail : List Event). IsFaultOfSuch (AreGivenBetween c.args.params (c.args.before / l) ((c.args.before + length c.args.events.now) / l) c.args.now.now c.args.recent.now tail c.args.older_sets.now) 0 c.in_err-add_interior.field-0.0) cut.is
+    (subst (λ (old : List Stored). IsFaultOfSuch (AreGivenBetween c.args.params (c.args.before / l) ((c.args.before + length c.args.events.now) / l) c.args.now.now c.args.recent.now (c.as_slice-first.result.now ++ c.behind-later.result.now) c.args.older_sets.now) (length old) c.in_err-add_interior.field-0.0) none
+    c.in_err-add_interior.ensures.first))

@@ -48,3 +48,11 @@ pub returns-in_err-add_batch-clause-wide : goal.returns-in_err-add_batch-clause-
 returns-in_err-add_batch-clause-wide c =
     let failed = err_from_is_err_and c.from_residual.result c.from_residual.ensures.1 in
     rw (failed.1, failed.2) c.in_err-add_batch.ensures.wide
+
+pub returns-clause-given : goal.returns-clause-given
+returns-clause-given c = c.in_ok-add_batch.ensures.given
+
+pub returns-in_err-add_batch-clause-first : goal.returns-in_err-add_batch-clause-first
+returns-in_err-add_batch-clause-first c =
+    let failed = err_from_is_err_and c.from_residual.result c.from_residual.ensures.1 in
+    rw (failed.1, failed.2) c.in_err-add_batch.ensures.first

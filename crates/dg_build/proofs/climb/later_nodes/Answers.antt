@@ -5,6 +5,7 @@ use Rattle.dg_build.specs.InteriorDeltas.{AreMade}
 use Rattle.dg_build.proofs.SpelledRecordDeltas.{below_more}
 use Rattle.dg_build.proofs.InteriorDeltaNodes.{differs_not, differs_on}
 use Rattle.dg_build.proofs.InteriorDeltaGroups.{NodesSoFar, nodes_first, nodes_more, so_many, row_left, row_after}
+use Rattle.dg_build.proofs.GivenDeltas.{nodes_given_first, nodes_given_on, nodes_up, nodes_added, nodes_fault}
 use Rattle.dg_build.proofs.climb.later_nodes.Goals as goal
 
 pub loop-alloc-init : goal.loop-alloc-init
@@ -18,6 +19,7 @@ loop-alloc-init c =
       is = λ events h j behind.
           subst (λ n. NodesSoFar c.args.params events h j c.args.more n c.in_ok-steps.steps.items c.args.last c.args.row.items c.args.segment.now c.args.segment.now) (sym none)
           (nodes_first c.args.params events h j c.args.more c.in_ok-steps.steps.items c.args.last c.args.row.items c.args.segment.now c.in_ok-steps.ensures.items behind);
+      given = nodes_given_first c.args.params c.args.more c.args.last c.args.row.items c.in_ok-steps.steps.items c.args.segment.now.deltas c.in_ok-steps.ensures.items;
     }
 
 pub next_node-requires-clause-there : goal.next_node-requires-clause-there
@@ -42,6 +44,8 @@ loop-alloc-preserved c =
           subst (λ n. NodesSoFar p events h j c.args.more n c.push.new.self.items c.in_ok-step.down c.next_node.new.row.items c.args.segment.now c.next_node.new.segment) (sym more)
           (nodes_more p events h j c.args.more i l.steps.items l.last l.row.items c.args.segment.now l.segment c.in_ok-step.step c.in_ok-step.down c.next_node.new.row.items c.push.new.self.items c.next_node.new.segment so
           (e.is events h (j + i) (c.args.more - i) (let some : 1 ≤ c.args.more - i = omega (arith, lt) in some) so.behind) c.in_ok-push.ensures.items);
+      given = nodes_given_on p c.args.more c.args.last l.last c.args.row.items l.row.items l.steps.items c.args.segment.now.deltas l.segment.deltas l.invariant.given
+          c.in_ok-step.step c.in_ok-step.down c.next_node.new.row.items c.push.new.self.items c.next_node.new.segment.deltas lt e.step e.last e.rest c.in_ok-push.ensures.items e.given;
     }
 
 pub returns-clause-adds : goal.returns-clause-adds
@@ -70,3 +74,21 @@ returns-in_err-step-clause-wide c =
     let k : ℕ = c.args.params.k in
     rw (failed.1, failed.2)
     (below_more (length l.segment.deltas + k) (length c.args.segment.now.deltas + c.args.more * k) c.in_err-step.field-0.0 (omega (arith, l.invariant.adds, so_many k c.args.more (length l.steps.items) (let lt : length l.steps.items < c.args.more = omega (arith, c.loop-alloc-test.true) in lt))) c.in_err-step.ensures.wide)
+
+pub returns-clause-up : goal.returns-clause-up
+returns-clause-up c =
+    let l = c.loop-alloc in
+    nodes_up c.args.params c.args.more c.args.last l.last c.args.row.items l.row.items l.steps.items c.args.segment.now.deltas l.segment.deltas l.invariant.given (omega (arith, c.loop-alloc-test.false))
+
+pub returns-clause-given : goal.returns-clause-given
+returns-clause-given c =
+    let l = c.loop-alloc in
+    nodes_added c.args.params c.args.more c.args.last l.last c.args.row.items l.row.items l.steps.items c.args.segment.now.deltas l.segment.deltas l.invariant.given (omega (arith, c.loop-alloc-test.false))
+
+pub returns-in_err-step-clause-first : goal.returns-in_err-step-clause-first
+returns-in_err-step-clause-first c =
+    let failed = err_from_is_err_and c.from_residual-in_err-step.result c.from_residual-in_err-step.ensures.1 in
+    let l = c.loop-alloc in
+    let lt : length l.steps.items < c.args.more = omega (arith, c.loop-alloc-test.true) in
+    rw (failed.1, failed.2)
+    (nodes_fault c.args.params c.args.more c.args.last l.last c.args.row.items l.row.items l.steps.items c.args.segment.now.deltas l.segment.deltas l.invariant.given c.in_err-step.field-0.0 lt c.in_err-step.ensures.first)

@@ -1,11 +1,14 @@
-use Rattle.std.proofs.Common.{ℕ, ◌+◌, ◌-◌, ◌≤◌, List, length, get_or, take, drop, arith, length-drop, length-take-le, ap}
+use Rattle.std.proofs.Common.{◌≡◌, ℕ, ◌+◌, ◌-◌, ◌≤◌, ◌∙◌, List, length, get_or, take, drop, arith, length-drop, length-take-le, ap, subst}
 use Rattle.std.proofs.lemmas.Result.{err_from_is_err_and}
-use Rattle.dg_graph.specs.Composition.{Delta}
+use Rattle.dg_graph.specs.Composition.{Delta, chained}
 use Rattle.dg_index.specs.ExactSteps.{downs}
 use Rattle.dg_build.proofs.InteriorDeltaWays.{first_and_rest, ways_length}
 use Rattle.dg_build.proofs.SpelledRecordDeltas.{below_end, below_more, downs_memory}
 use Rattle.dg_build.proofs.InteriorDeltaNodes.{deltas_length, differs_by}
 use Rattle.dg_build.proofs.InteriorDeltaGroups.{made_length, next_is, next_made, rest_is}
+use Rattle.dg_build.specs.InteriorDeltas.{downs_by, last_way}
+use Rattle.dg_build.specs.SpelledRecords.{IsFaultOfDeltas}
+use Rattle.dg_build.proofs.GivenDeltas.{added_by}
 use Rattle.dg_build.proofs.climb.next_node.Goals as goal
 
 pub add_downs-requires : goal.add_downs-requires
@@ -63,3 +66,20 @@ returns-in_err-down-clause-wide c =
     rw (failed.1, failed.2)
     (below_more (old + length made) (old + c.args.params.k) c.in_err-down.field-0.0 (omega (arith, made_length c.args.params.k row made inner c.requires.arity long (ap (λ (l : List Delta). downs inner l) c.in_ok-step.ensures.ways)))
     (below_end old made c.in_err-down.field-0.0 c.in_err-down.ensures.fault))
+
+pub returns-clause-step : goal.returns-clause-step
+returns-clause-step c = c.in_ok-step.ensures.step ∙ ap (chained (chained c.args.last (get_or c.args.row.now.items 0 c.args.last))) c.in_ok-step.ensures.inner
+
+pub returns-clause-last : goal.returns-clause-last
+returns-clause-last c = c.in_ok-down.ensures.last ∙ (λ i. last_way (downs (c.in_ok-step.ensures.inner i) (c.in_ok-step.ensures.ways i)))
+
+pub returns-clause-given : goal.returns-clause-given
+returns-clause-given c =
+    added_by (downs c.in_ok-step.node.inner c.in_ok-step.node.ways.items) (downs_by c.args.params (drop 1 c.args.row.now.items)) c.args.segment.now c.add_downs.new.segment c.in_ok-down.ensures.ok
+    (λ i. downs (c.in_ok-step.ensures.inner i) (c.in_ok-step.ensures.ways i)) c.in_ok-down.ensures.narrow
+
+pub returns-in_err-down-clause-first : goal.returns-in_err-down-clause-first
+returns-in_err-down-clause-first c =
+    let failed = err_from_is_err_and c.from_residual-in_err-down.result c.from_residual-in_err-down.ensures.1 in
+    let made_is : downs c.in_ok-step.node.inner c.in_ok-step.node.ways.items ≡ downs_by c.args.params (drop 1 c.args.row.now.items) = (λ i. downs (c.in_ok-step.ensures.inner i) (c.in_ok-step.ensures.ways i)) in
+    rw (failed.1, failed.2) (subst (λ (l : List Delta). IsFaultOfDeltas (length c.args.segment.now.deltas) l c.in_err-down.field-0.0) made_is c.in_err-down.ensures.fault)

@@ -1,7 +1,7 @@
 use Rattle.std.proofs.Common.{length, map, refl, arith}
 use Rattle.std.proofs.lemmas.Result.{err_from_is_err_and, MatchResult-weaker}
 use Rattle.dg_graph.specs.Composition.{Delta, chained}
-use Rattle.dg_build.proofs.InteriorDeltaDowns.{downs_first, downs_more, downs_done, last_done}
+use Rattle.dg_build.proofs.InteriorDeltaDowns.{downs_first, downs_more, downs_done, downs_narrow, last_done}
 use Rattle.dg_build.proofs.SpelledRecordDeltas.{others_fault}
 use Rattle.dg_build.proofs.family.add_others.Goals as goal
 
@@ -24,6 +24,12 @@ returns-clause-last c =
     MatchResult-weaker c.add_down-2.result c.add_down-2.ensures.down
     (λ down is. last_done c.args.to_first.now c.next_step-2.result down c.args.ways.items c.loop-left.left.items c.next_step-2.new.row.items c.args.segment.now c.loop-left.segment (omega (arith, c.loop-left-test.false))
     c.loop-left.invariant c.next_step-2.ensures is) (λ _ none. none)
+
+pub returns-clause-narrow : goal.returns-clause-narrow
+returns-clause-narrow c =
+    MatchResult-weaker c.add_down-2.result c.add_down-2.ensures.narrow
+    (λ _ narrow. downs_narrow c.args.to_first.now c.next_step-2.result c.args.ways.items c.loop-left.left.items c.next_step-2.new.row.items c.args.segment.now c.loop-left.segment (omega (arith, c.loop-left-test.false))
+    c.loop-left.invariant c.next_step-2.ensures narrow) (λ _ none. none)
 
 pub returns-in_err-add_down-clause-fault : goal.returns-in_err-add_down-clause-fault
 returns-in_err-add_down-clause-fault c =

@@ -7,6 +7,8 @@ use Rattle.dg_build.specs.InteriorDeltas.{downs_by, last_way, set_by, top_to}
 use Rattle.dg_build.specs.SpelledRecords.{IsFaultOfDeltas}
 use Rattle.dg_build.proofs.InteriorDeltaWays.{ways_length}
 use Rattle.dg_build.proofs.InteriorDeltaNodes.{added_both, deltas_length}
+use Rattle.dg_build.specs.GivenDeltas.{AreAdded}
+use Rattle.dg_build.proofs.GivenDeltas.{added_by, both_added, fault_behind, front_fault}
 use Rattle.dg_build.proofs.heights.first_node.Goals as goal
 
 pub add_downs-requires : goal.add_downs-requires
@@ -45,3 +47,34 @@ returns-in_err-last-clause-fault c =
     rw (failed.1, failed.2)
     (inr (subst (λ n. IsFaultOfDeltas n (downs_by c.args.params c.args.row.now.items) c.in_err-last.field-0.0) long
     (subst (λ (l : List Delta). IsFaultOfDeltas (length c.add_top.new.segment.deltas) l c.in_err-last.field-0.0) made_is c.in_err-last.ensures.fault)))
+
+pub returns-clause-given : goal.returns-clause-given
+returns-clause-given c =
+    let node : List Element = set_by c.args.params c.args.row.now.items c.args.older_sets.now c.args.child in
+    let is : c.in_ok-first.first ≡ node = c.in_ok-first.ensures ∙ ap (λ (d : Delta). applied d (get_or c.args.older_sets.now 0 c.args.child)) c.in_ok-inner.ensures.inner in
+    both_added (top_to c.args.below node) (downs_by c.args.params c.args.row.now.items) c.args.segment.now.deltas c.add_top.new.segment.deltas c.add_downs.new.segment.deltas
+    (added_by (top_to c.args.below c.in_ok-first.first) (top_to c.args.below node) c.args.segment.now c.add_top.new.segment c.in_ok-add_top.ensures.ok (ap (top_to c.args.below) is) c.in_ok-add_top.ensures.narrow)
+    (added_by (downs c.in_ok-inner.field-0.inner c.in_ok-inner.field-0.ways.items) (downs_by c.args.params c.args.row.now.items) c.add_top.new.segment c.add_downs.new.segment c.in_ok-last.ensures.ok
+    (λ i. downs (c.in_ok-inner.ensures.inner i) (c.in_ok-inner.ensures.ways i)) c.in_ok-last.ensures.narrow)
+
+pub returns-in_err-add_top-clause-first : goal.returns-in_err-add_top-clause-first
+returns-in_err-add_top-clause-first c =
+    let failed = err_from_is_err_and c.from_residual-in_err-add_top.result c.from_residual-in_err-add_top.ensures.1 in
+    let node : List Element = set_by c.args.params c.args.row.now.items c.args.older_sets.now c.args.child in
+    let is : c.in_ok-first.first ≡ node = c.in_ok-first.ensures ∙ ap (λ (d : Delta). applied d (get_or c.args.older_sets.now 0 c.args.child)) c.in_ok-inner.ensures.inner in
+    let old : ℕ = length c.args.segment.now.deltas in
+    rw (failed.1, failed.2)
+    (front_fault old (top_to c.args.below node) (downs_by c.args.params c.args.row.now.items) c.in_err-add_top.field-0.0
+    (subst (λ (set : List Element). IsFaultOfDeltas old (top_to c.args.below set) c.in_err-add_top.field-0.0) is c.in_err-add_top.ensures.fault))
+
+pub returns-in_err-last-clause-first : goal.returns-in_err-last-clause-first
+returns-in_err-last-clause-first c =
+    let failed = err_from_is_err_and c.from_residual-in_err-last.result c.from_residual-in_err-last.ensures.1 in
+    let node : List Element = set_by c.args.params c.args.row.now.items c.args.older_sets.now c.args.child in
+    let is : c.in_ok-first.first ≡ node = c.in_ok-first.ensures ∙ ap (λ (d : Delta). applied d (get_or c.args.older_sets.now 0 c.args.child)) c.in_ok-inner.ensures.inner in
+    let made_is : downs c.in_ok-inner.field-0.inner c.in_ok-inner.field-0.ways.items ≡ downs_by c.args.params c.args.row.now.items = (λ i. downs (c.in_ok-inner.ensures.inner i) (c.in_ok-inner.ensures.ways i)) in
+    let top : AreAdded (top_to c.args.below node) c.args.segment.now.deltas c.add_top.new.segment.deltas =
+    added_by (top_to c.args.below c.in_ok-first.first) (top_to c.args.below node) c.args.segment.now c.add_top.new.segment c.in_ok-add_top.ensures.ok (ap (top_to c.args.below) is) c.in_ok-add_top.ensures.narrow in
+    rw (failed.1, failed.2)
+    (fault_behind (top_to c.args.below node) (downs_by c.args.params c.args.row.now.items) c.args.segment.now.deltas c.add_top.new.segment.deltas c.in_err-last.field-0.0 top
+    (subst (λ (l : List Delta). IsFaultOfDeltas (length c.add_top.new.segment.deltas) l c.in_err-last.field-0.0) made_is c.in_err-last.ensures.fault))

@@ -1,15 +1,17 @@
-use Rattle.std.proofs.Common.{ℕ, suc, ◌+◌, ◌-◌, ◌*◌, ◌/◌, ◌≤◌, ◌==◌, List, length, map, ⊎_elim, refl, ◌∙◌, arith}
+use Rattle.std.proofs.Common.{◌≡◌, ℕ, suc, ◌+◌, ◌-◌, ◌*◌, ◌/◌, ◌≤◌, ◌==◌, ◌++◌, List, length, map, drop, ⊎_elim, refl, ap, subst, ◌∙◌, arith}
 use Rattle.std.specs.List.{flat_map}
 use Rattle.std.proofs.lemmas.Result.{err_from_is_err_and}
 use Rattle.dg_graph.specs.Composition.{Delta}
 use Rattle.dg_graph.specs.declared.element.Element.{Element}
 use Rattle.dg_index.specs.Hierarchy.{numbers}
-use Rattle.dg_build.specs.InteriorDeltas.{deltas_added, downs_by, downs_of, inner_by, set_by, stored_delta, top_to}
+use Rattle.dg_build.specs.InteriorDeltas.{deltas_added, downs_by, downs_of, inner_by, last_way, set_by, stored_delta, top_to}
 use Rattle.dg_build.specs.SpelledRecords.{IsFaultOfDeltas}
 use Rattle.dg_build.proofs.SpelledRecordDeltas.{below_end, below_more, downs_memory, top_memory}
 use Rattle.dg_build.proofs.InteriorDeltaNodes.{differs_by, differs_on, first_added, first_within, node_there, rises, spells, top_within}
 use Rattle.dg_build.proofs.InteriorDeltaGroups.{downs_there, first_behind, inner_there, made_length, row_behind}
 use Rattle.dg_build.proofs.InteriorDeltaSteps.{row_is, row_long, first_long}
+use Rattle.dg_build.specs.GivenDeltas.{AreAdded, Nodes, later_downs, later_steps, row_between}
+use Rattle.dg_build.proofs.GivenDeltas.{both_added, fault_behind, front_fault, whole_height}
 use Rattle.dg_build.proofs.heights.rise.Goals as goal
 
 pub first_node-requires-clause-there : goal.first_node-requires-clause-there
@@ -121,3 +123,53 @@ returns-in_err-steps-clause-wide c =
       first_added k c.args.q c.args.end c.args.segment.now c.first_node.new.segment c.in_ok-first.first made c.requires.due (made_length k row made (inner_by c.args.params row) c.requires.arity long refl) c.in_ok-first.ensures.adds,
     ))
     c.in_err-steps.ensures.wide)
+
+pub returns-clause-up : goal.returns-clause-up
+returns-clause-up c =
+    let p = c.args.params in
+    let n : ℕ = c.args.end / p.k - c.args.q / p.k - 1 in
+    let new : Nodes = record { first = c.args.nodes.first; steps = c.args.nodes.steps.items } in
+    let row_is : c.from_vec-row.result.items ≡ row_between p c.args.q c.args.end c.args.older_sets.now new = c.from_vec-row.ensures.items ∙ c.in_ok-row.ensures in
+    let first_is = c.in_ok-first.ensures.set ∙ ap (λ (row : List Delta). set_by p row c.args.older_sets.now c.args.nodes.first) row_is in
+    let last_is = c.in_ok-first.ensures.last ∙ ap (λ (row : List Delta). last_way (downs_by p row)) row_is in
+    let rest_is = c.in_ok-first.ensures.rest ∙ ap (drop (p.k - 1)) row_is in
+    let steps_are = c.in_ok-steps.ensures.up ∙ (λ i. later_steps p n (last_is i) (rest_is i)) in
+    (λ i. record { first = first_is i; steps = steps_are i })
+
+pub returns-clause-given : goal.returns-clause-given
+returns-clause-given c =
+    let p = c.args.params in
+    let n : ℕ = c.args.end / p.k - c.args.q / p.k - 1 in
+    let new : Nodes = record { first = c.args.nodes.first; steps = c.args.nodes.steps.items } in
+    let row : List Delta = c.from_vec-row.result.items in
+    let row_is : row ≡ row_between p c.args.q c.args.end c.args.older_sets.now new = c.from_vec-row.ensures.items ∙ c.in_ok-row.ensures in
+    let front : List Delta = top_to (c.args.q / p.k) (set_by p row c.args.older_sets.now c.args.nodes.first) ++ downs_by p row in
+    subst (λ (l : List Delta). AreAdded l c.args.segment.now.deltas c.later_nodes.new.segment.deltas) (whole_height p c.args.q c.args.end c.args.older_sets.now new row c.first_node.new.row.items row_is c.in_ok-first.ensures.rest)
+    (both_added front (later_downs p n c.first_node.new.row.items) c.args.segment.now.deltas c.first_node.new.segment.deltas c.later_nodes.new.segment.deltas c.in_ok-first.ensures.given c.in_ok-steps.ensures.given)
+
+pub returns-in_err-first-clause-first : goal.returns-in_err-first-clause-first
+returns-in_err-first-clause-first c =
+    let failed = err_from_is_err_and c.from_residual-in_err-first.result c.from_residual-in_err-first.ensures.1 in
+    let p = c.args.params in
+    let n : ℕ = c.args.end / p.k - c.args.q / p.k - 1 in
+    let new : Nodes = record { first = c.args.nodes.first; steps = c.args.nodes.steps.items } in
+    let row : List Delta = c.from_vec-row.result.items in
+    let row_is : row ≡ row_between p c.args.q c.args.end c.args.older_sets.now new = c.from_vec-row.ensures.items ∙ c.in_ok-row.ensures in
+    let front : List Delta = top_to (c.args.q / p.k) (set_by p row c.args.older_sets.now c.args.nodes.first) ++ downs_by p row in
+    let old : ℕ = length c.args.segment.now.deltas in
+    rw (failed.1, failed.2)
+    (subst (λ (l : List Delta). IsFaultOfDeltas old l c.in_err-first.field-0.0) (whole_height p c.args.q c.args.end c.args.older_sets.now new row (drop (p.k - 1) row) row_is refl)
+    (front_fault old front (later_downs p n (drop (p.k - 1) row)) c.in_err-first.field-0.0 c.in_err-first.ensures.first))
+
+pub returns-in_err-steps-clause-first : goal.returns-in_err-steps-clause-first
+returns-in_err-steps-clause-first c =
+    let failed = err_from_is_err_and c.from_residual-in_err-steps.result c.from_residual-in_err-steps.ensures.1 in
+    let p = c.args.params in
+    let n : ℕ = c.args.end / p.k - c.args.q / p.k - 1 in
+    let new : Nodes = record { first = c.args.nodes.first; steps = c.args.nodes.steps.items } in
+    let row : List Delta = c.from_vec-row.result.items in
+    let row_is : row ≡ row_between p c.args.q c.args.end c.args.older_sets.now new = c.from_vec-row.ensures.items ∙ c.in_ok-row.ensures in
+    let front : List Delta = top_to (c.args.q / p.k) (set_by p row c.args.older_sets.now c.args.nodes.first) ++ downs_by p row in
+    rw (failed.1, failed.2)
+    (subst (λ (l : List Delta). IsFaultOfDeltas (length c.args.segment.now.deltas) l c.in_err-steps.field-0.0) (whole_height p c.args.q c.args.end c.args.older_sets.now new row c.first_node.new.row.items row_is c.in_ok-first.ensures.rest)
+    (fault_behind front (later_downs p n c.first_node.new.row.items) c.args.segment.now.deltas c.first_node.new.segment.deltas c.in_err-steps.field-0.0 c.in_ok-first.ensures.given c.in_err-steps.ensures.first))

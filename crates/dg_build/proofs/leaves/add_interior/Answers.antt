@@ -1,10 +1,13 @@
-use Rattle.std.proofs.Common.{◌<◌, ◌++◌, List, map, ap, sym, ◌∙◌, length, arith, append-nil}
+use Rattle.std.proofs.Common.{◌<◌, ◌-◌, ◌++◌, [], List, map, refl, ap, sym, subst, ◌∙◌, length, arith, append-nil}
 use Rattle.std.proofs.lemmas.Result.{MatchResult-weaker, on_ok_weaker}
+use Rattle.dg_graph.specs.declared.element.Element.{Element}
 use Rattle.dg_history.specs.declared.node.Key.{Key}
 use Rattle.dg_index.specs.Hierarchy.{leaves}
 use Rattle.dg_build.proofs.InteriorDeltaHeights.{written_at}
 use Rattle.dg_build.proofs.InteriorDeltaNodes.{differs_not}
 use Rattle.dg_build.proofs.InteriorDeltaLeaves.{leaf_back, new_up_to, none_at_all, more_there}
+use Rattle.dg_build.specs.GivenDeltas.{AreGivenBetween, AreNewLeaves, Nodes, given_on}
+use Rattle.dg_build.proofs.GivenDeltas.{none_added, none_given, such_fault}
 use Rattle.dg_build.proofs.leaves.add_interior.Goals as goal
 
 pub new_leaves-requires-clause-some : goal.new_leaves-requires-clause-some
@@ -33,7 +36,7 @@ returns-clause-is c =
     (λ is before more some em is_recent is_tail is_now changes sets.
     let p = c.args.params in
     let lt : c.args.m < c.args.after = more_there p.k c.args.m c.args.after c.requires.arity c.if-m-k.false in
-    let leaf = leaf_back p before more c.args.recent.now c.args.now.now c.in_ok-leaf.leaf some is_recent (is_now c.if-m-k.false) changes c.in_ok-leaf.ensures in
+    let leaf = leaf_back p before more c.args.recent.now c.args.now.now c.in_ok-leaf.leaf some is_recent (is_now c.if-m-k.false) changes c.in_ok-leaf.ensures.is in
     let new = c.in_ok-fresh.ensures.is before more some is_tail leaf changes in
     is before more some em (new_up_to p (before ++ more) (leaves p (length before)) c.args.m c.args.after c.in_ok-fresh.fresh.first c.in_ok-fresh.fresh.steps.items em lt new) sets)
     c.add_heights.ensures.is
@@ -44,6 +47,46 @@ returns-clause-fault c =
     (λ e is before more some em is_recent is_tail is_now changes sets few.
     let p = c.args.params in
     let lt : c.args.m < c.args.after = more_there p.k c.args.m c.args.after c.requires.arity c.if-m-k.false in
-    let leaf = leaf_back p before more c.args.recent.now c.args.now.now c.in_ok-leaf.leaf some is_recent (is_now c.if-m-k.false) changes c.in_ok-leaf.ensures in
+    let leaf = leaf_back p before more c.args.recent.now c.args.now.now c.in_ok-leaf.leaf some is_recent (is_now c.if-m-k.false) changes c.in_ok-leaf.ensures.is in
     let new = c.in_ok-fresh.ensures.is before more some is_tail leaf changes in
     is before more some em (new_up_to p (before ++ more) (leaves p (length before)) c.args.m c.args.after c.in_ok-fresh.fresh.first c.in_ok-fresh.fresh.steps.items em lt new) sets few)
+
+pub returns-then-m-k-clause-given : goal.returns-then-m-k-clause-given
+returns-then-m-k-clause-given c =
+    let new : Nodes = record { first = []; steps = [] } in
+    record {
+      deltas = [];
+      are = record {
+        new = new;
+        new_leaves = λ lt. absurd (omega (arith, lt, c.if-m-k.true));
+        are = sym (none_given c.args.params c.args.after c.args.m c.args.after c.args.older_sets.now new c.if-m-k.true);
+      };
+      added = none_added c.args.segment.now.deltas;
+    }
+
+pub returns-clause-given : goal.returns-clause-given
+returns-clause-given c =
+    let new : Nodes = record { first = c.in_ok-fresh.fresh.first; steps = c.in_ok-fresh.fresh.steps.items } in
+    on_ok_weaker c.add_heights.result
+    (λ added. record {
+      deltas = given_on c.args.params c.args.after c.args.m c.args.after c.args.older_sets.now new;
+      are = record {
+        new = new;
+        new_leaves = λ _. subst (λ (leaf : List Element). AreNewLeaves c.args.params.l (c.args.after - c.args.m) leaf (c.args.first_list.now ++ c.args.later.now) new) c.in_ok-leaf.ensures.back c.in_ok-fresh.ensures.given;
+        are = refl;
+      };
+      added = added;
+    })
+    c.add_heights.ensures.given
+
+pub returns-clause-first : goal.returns-clause-first
+returns-clause-first c =
+    let new : Nodes = record { first = c.in_ok-fresh.fresh.first; steps = c.in_ok-fresh.fresh.steps.items } in
+    MatchResult-weaker c.add_heights.result c.add_heights.ensures.first (λ _ none. none)
+    (λ e is. such_fault (AreGivenBetween c.args.params c.args.m c.args.after c.args.now.now c.args.recent.now (c.args.first_list.now ++ c.args.later.now) c.args.older_sets.now)
+    (given_on c.args.params c.args.after c.args.m c.args.after c.args.older_sets.now new) (length c.args.segment.now.deltas) e
+    (record {
+      new = new;
+      new_leaves = λ _. subst (λ (leaf : List Element). AreNewLeaves c.args.params.l (c.args.after - c.args.m) leaf (c.args.first_list.now ++ c.args.later.now) new) c.in_ok-leaf.ensures.back c.in_ok-fresh.ensures.given;
+      are = refl;
+    }) is)

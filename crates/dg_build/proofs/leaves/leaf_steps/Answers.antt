@@ -1,9 +1,11 @@
-use Rattle.std.proofs.Common.{◌≡◌, ℕ, ◌+◌, ◌-◌, ◌≤◌, ◌<◌, ◌++◌, ◌∷◌, [], List, ap, ◌∙◌, length, length-append, arith}
+use Rattle.std.proofs.Common.{◌≡◌, ℕ, ◌+◌, ◌-◌, ◌*◌, ◌≤◌, ◌<◌, ◌++◌, ◌∷◌, [], List, take, drop, ap, sym, subst, ◌∙◌, length, length-append, arith}
 use Rattle.dg_graph.specs.declared.event.Event.{Event}
 use Rattle.dg_graph.specs.Composition.{Delta}
 use Rattle.dg_index.specs.Hierarchy.{leaves}
 use Rattle.dg_index.specs.ExactSteps.{steps_at}
+use Rattle.dg_build.specs.GivenDeltas.{IsExactNet}
 use Rattle.dg_build.proofs.FirstList.{list_within}
+use Rattle.dg_build.proofs.GivenDeltas.{nets_on}
 use Rattle.dg_build.proofs.InteriorDeltaLeaves.{steps_next}
 use Rattle.dg_build.proofs.leaves.leaf_steps.Goals as goal
 
@@ -16,6 +18,8 @@ loop-i-preserved c =
       is = λ before more some is_tail changes.
           steps_next c.args.params before more i tail c.list_at.result.now c.in_ok-exact_net.field-0 c.loop-i.steps.items c.push.new.self.items some (let far : 1 ≤ i = omega arith in far) is_tail changes
           c.list_at.ensures c.in_ok-exact_net.ensures c.in_ok-push.ensures.items (c.loop-i.invariant.is before more some is_tail changes);
+      nets = nets_on (λ (j : ℕ) (d : Delta). IsExactNet (take c.args.params.l (drop ((j + 1) * c.args.params.l) tail)) d) c.loop-i.steps.items c.push.new.self.items c.in_ok-exact_net.field-0 c.in_ok-push.ensures.items
+          (subst (λ (cut : List Event). IsExactNet cut c.in_ok-exact_net.field-0) (c.list_at.ensures ∙ ap (λ n. take c.args.params.l (drop (n * c.args.params.l) tail)) (sym c.loop-i.invariant.long)) c.in_ok-exact_net.ensures) c.loop-i.invariant.nets;
     }
 
 pub list_at-requires-clause-there : goal.list_at-requires-clause-there
