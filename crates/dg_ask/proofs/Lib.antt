@@ -7,3 +7,5 @@ pub mod AnswerPlans
 pub mod PlanReplies
 pub mod PointNodes
 pub mod IndexNodes
+pub mod PlanLineTexts
+pub mod PrintedPlanLines

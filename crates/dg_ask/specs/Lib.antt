@@ -2,4 +2,5 @@ pub mod HeldIndex
 pub mod KeptAdjacency
 pub mod KeptPlanner
 pub mod Plans
+pub mod PrintedPlans
 pub mod RecordListing

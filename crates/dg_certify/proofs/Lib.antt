@@ -3,3 +3,4 @@ pub mod PotentialsByNode
 pub mod WrittenLineClaims
 pub mod WrittenLineCertificates
 pub mod CertificateLineVerdicts
+pub mod PlanLineVerdicts

@@ -1,3 +1,4 @@
 pub mod Claims
 pub mod Potentials
 pub mod WrittenLines
+pub mod PlanLines

@@ -4,6 +4,7 @@
 #![tactic(auto)]
 
 mod claim;
+mod laws;
 mod potentials;
 mod same_node;
 mod verdict;
@@ -11,4 +12,5 @@ mod walk;
 
 pub use dg_history::NodeId;
 pub use dg_plan::{Edge, PlanLine, Verdict};
+pub use laws::law_plans_are_certified;
 pub use verdict::certify;

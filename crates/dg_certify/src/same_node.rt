@@ -1,3 +1,4 @@
+//! A node among others.
 ghost use Rattle.std.specs.Prelude.{◌≡◌, position};
 ghost use Rattle.dg_plan.specs.InstantPoint.{same_node};
 

@@ -1,3 +1,4 @@
+//! What is said of a certificate: the first step or potential that is not right, or that it holds.
 ghost use Rattle.std.specs.Prelude.{◌≡◌, ◌≤◌, ℕ, List, length, IfOk};
 ghost use Rattle.dg_history.specs.declared.limits.TheConstants.{BATCH_LINES_MAX};
 ghost use Rattle.dg_history.specs.declared.node.NodeId.TheVariants.{Root};

@@ -12,3 +12,5 @@ pub mod HistoryLawGraphs
 pub mod ReplayInstants
 pub mod HistoryLawPoints
 pub mod IndexNodeExistence
+pub mod NodeReachability
+pub mod PlanPotentials

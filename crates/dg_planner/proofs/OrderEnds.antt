@@ -204,49 +204,49 @@ module _ (g : Ground) (low : 2 ≤ g.arity) (bases_in : All (λ (b : ℕ × Node
   root_reached : IsReached g Root 0
   root_reached = record { steps = []; walk = refl; weighs = omega arith }
 
-  small_height : (h : ℕ) → g.leaves < 2 ^ 28 → g.arity ^ h ≤ g.leaves → h ≤ 28
+  pub small_height : (h : ℕ) → g.leaves < 2 ^ 28 → g.arity ^ h ≤ g.leaves → h ≤ 28
   small_height h few le = by (cases_lt 28 h)
     where
       by : (28 < h) ⊎ (h ≤ 28) → h ≤ 28
       by (inl above) = absurd (let k : 28 ≤ h = omega arith in let a : 2 ^ 28 ≤ 2 ^ h = pow_mono k in let b : 2 ^ h ≤ g.arity ^ h = pow-le-pow_left low h in omega arith)
       by (inr within) = within
 
-  abbrev pub IsNear : ℕ → NodeId → Type 0
-  IsNear bound v = IsReached g v (lists_before g.weight g.leaves + 28 * bound)
+  -- the node is reached over the lists and so many deltas that weigh at most so much
+  abbrev pub IsNear : ℕ → ℕ → NodeId → Type 0
+  IsNear top bound v = IsReached g v (lists_before g.weight g.leaves + top * bound)
 
-  memory_reached : (bound : ℕ) (m : Bool) → g.memory ≡ m → All (IsNear bound) (cond m (Now ∷ Recent ∷ []) [])
-  memory_reached bound true e =
+  memory_reached : (top bound : ℕ) (m : Bool) → g.memory ≡ m → All (IsNear top bound) (cond m (Now ∷ Recent ∷ []) [])
+  memory_reached top bound true e =
       let now : IsReached g Now (0 + 0) = step_on g (edge Root Now 0 via.Now) 0 (now_there e) root_reached in
       let recent : IsReached g Recent (0 + 0 + 0) = step_on g (edge Now Recent 0 (via.Recent Back)) (0 + 0) (recent_there e) now in
-      All-from_recursion (IsNear bound) (Now ∷ Recent ∷ []) (lighter g Now _ _ (omega arith) now, (lighter g Recent _ _ (omega arith) recent, tt))
-  memory_reached bound false e = All-nil (IsNear bound)
+      All-from_recursion (IsNear top bound) (Now ∷ Recent ∷ []) (lighter g Now _ _ (omega arith) now, (lighter g Recent _ _ (omega arith) recent, tt))
+  memory_reached top bound false e = All-nil (IsNear top bound)
 
-  leaf_there : (bound j : ℕ) → 1 ≤ j → j ≤ g.leaves → IsNear bound (Leaf j)
-  leaf_there bound zero one within = absurd (omega arith)
-  leaf_there bound (suc j) one within = lighter g (Leaf (suc j)) (lists_before g.weight (suc j)) _ (let b = before_all g.weight (suc j) g.leaves within in omega arith) (leaf_reached g (suc j) within)
+  leaf_there : (top bound j : ℕ) → 1 ≤ j → j ≤ g.leaves → IsNear top bound (Leaf j)
+  leaf_there top bound zero one within = absurd (omega arith)
+  leaf_there top bound (suc j) one within = lighter g (Leaf (suc j)) (lists_before g.weight (suc j)) _ (let b = before_all g.weight (suc j) g.leaves within in omega arith) (leaf_reached g (suc j) within)
 
-  list_there : (bound i : ℕ) → i < g.leaves → IsNear bound (List i)
-  list_there bound i within = lighter g (List i) (lists_before g.weight (i + 1)) _ (let b = before_all g.weight (i + 1) g.leaves (omega arith) in omega arith) (list_reached g i within (leaf_reached g i (omega arith)))
+  list_there : (top bound i : ℕ) → i < g.leaves → IsNear top bound (List i)
+  list_there top bound i within = lighter g (List i) (lists_before g.weight (i + 1)) _ (let b = before_all g.weight (i + 1) g.leaves (omega arith) in omega arith) (list_reached g i within (leaf_reached g i (omega arith)))
 
-  inner_there : (bound h j : ℕ) → g.leaves < 2 ^ 28 → ((k : Key) → g.weight k ≤ bound) → 1 ≤ h → g.arity ^ h ≤ g.leaves → (i : ℕ) × (i < inners_at g.leaves g.arity h) × (j ≡ 1 + i) → IsNear bound (Inner h j)
-  inner_there bound zero j few light one le r = absurd (omega arith)
-  inner_there bound (suc h) j few light one le r =
-      let small = small_height (suc h) few le in
+  inner_there : (top bound h j : ℕ) → ((h : ℕ) → g.arity ^ h ≤ g.leaves → h ≤ top) → ((k : Key) → g.weight k ≤ bound) → 1 ≤ h → g.arity ^ h ≤ g.leaves → (i : ℕ) × (i < inners_at g.leaves g.arity h) × (j ≡ 1 + i) → IsNear top bound (Inner h j)
+  inner_there top bound zero j small light one le r = absurd (omega arith)
+  inner_there top bound (suc h) j small light one le r =
       let within : j * g.arity ^ suc h ≤ g.leaves = (le-div_iff_mul-le (one-le-pow (suc h) g.arity (omega arith))).0 (let x = r.1 in let y = r.2 in omega arith) in
       let reached = level_reached g bound low light (suc h) j (let y = r.2 in omega arith) within in
-      lighter g (Inner (suc h) j) _ _ (let m : suc h * bound ≤ 28 * bound = mul-le-mul_right bound small in omega arith) reached
+      lighter g (Inner (suc h) j) _ _ (let m : suc h * bound ≤ top * bound = mul-le-mul_right bound (small (suc h) le) in omega arith) reached
 
-  pub all_reached : (bound : ℕ) → g.leaves < 2 ^ 28 → ((k : Key) → g.weight k ≤ bound) → All (IsNear bound) (nodes_of g)
-  all_reached bound few light =
-      All-cons (IsNear bound) Root _ (lighter g Root 0 _ (omega arith) root_reached)
-      (All-append (IsNear bound) (cond g.memory (Now ∷ Recent ∷ []) []) _ (memory_reached bound g.memory refl)
-      (All-append (IsNear bound) (map (λ j. Leaf j) (numbers 1 g.leaves)) _
-      (All-map (IsNear bound) (λ j. Leaf j) (numbers 1 g.leaves) (All-weaker (Contains (numbers 1 g.leaves)) (λ j. (IsNear bound) (Leaf j))
-      (λ j c. (let r = number_of 1 g.leaves j c in leaf_there bound j (let e = r.2 in omega arith) (let e = r.2 in let i = r.1 in omega arith))) (numbers 1 g.leaves) (All-contains_itself (numbers 1 g.leaves))))
-      (All-append (IsNear bound) (map (λ i. List i) (numbers 0 g.leaves)) (inner_nodes g)
-      (All-map (IsNear bound) (λ i. List i) (numbers 0 g.leaves) (All-weaker (Contains (numbers 0 g.leaves)) (λ i. (IsNear bound) (List i))
-      (λ i c. (let r = number_of 0 g.leaves i c in list_there bound i (let e = r.2 in let k = r.1 in omega arith))) (numbers 0 g.leaves) (All-contains_itself (numbers 0 g.leaves))))
-      (all_flat (IsNear bound) (λ h. map (λ j. Inner h j) (numbers 1 (inners_at g.leaves g.arity h))) (heights g.arity g.leaves) (λ h hc.
-      All-map (IsNear bound) (λ j. Inner h j) (numbers 1 (inners_at g.leaves g.arity h)) (All-weaker (Contains (numbers 1 (inners_at g.leaves g.arity h))) (λ j. (IsNear bound) (Inner h j))
-      (λ j c. inner_there bound h j few light (height_of h hc).0 (height_of h hc).1 (number_of 1 (inners_at g.leaves g.arity h) j c))
+  pub all_reached : (top bound : ℕ) → ((h : ℕ) → g.arity ^ h ≤ g.leaves → h ≤ top) → ((k : Key) → g.weight k ≤ bound) → All (IsNear top bound) (nodes_of g)
+  all_reached top bound small light =
+      All-cons (IsNear top bound) Root _ (lighter g Root 0 _ (omega arith) root_reached)
+      (All-append (IsNear top bound) (cond g.memory (Now ∷ Recent ∷ []) []) _ (memory_reached top bound g.memory refl)
+      (All-append (IsNear top bound) (map (λ j. Leaf j) (numbers 1 g.leaves)) _
+      (All-map (IsNear top bound) (λ j. Leaf j) (numbers 1 g.leaves) (All-weaker (Contains (numbers 1 g.leaves)) (λ j. (IsNear top bound) (Leaf j))
+      (λ j c. (let r = number_of 1 g.leaves j c in leaf_there top bound j (let e = r.2 in omega arith) (let e = r.2 in let i = r.1 in omega arith))) (numbers 1 g.leaves) (All-contains_itself (numbers 1 g.leaves))))
+      (All-append (IsNear top bound) (map (λ i. List i) (numbers 0 g.leaves)) (inner_nodes g)
+      (All-map (IsNear top bound) (λ i. List i) (numbers 0 g.leaves) (All-weaker (Contains (numbers 0 g.leaves)) (λ i. (IsNear top bound) (List i))
+      (λ i c. (let r = number_of 0 g.leaves i c in list_there top bound i (let e = r.2 in let k = r.1 in omega arith))) (numbers 0 g.leaves) (All-contains_itself (numbers 0 g.leaves))))
+      (all_flat (IsNear top bound) (λ h. map (λ j. Inner h j) (numbers 1 (inners_at g.leaves g.arity h))) (heights g.arity g.leaves) (λ h hc.
+      All-map (IsNear top bound) (λ j. Inner h j) (numbers 1 (inners_at g.leaves g.arity h)) (All-weaker (Contains (numbers 1 (inners_at g.leaves g.arity h))) (λ j. (IsNear top bound) (Inner h j))
+      (λ j c. inner_there top bound h j small light (height_of h hc).0 (height_of h hc).1 (number_of 1 (inners_at g.leaves g.arity h) j c))
       (numbers 1 (inners_at g.leaves g.arity h)) (All-contains_itself (numbers 1 (inners_at g.leaves g.arity h)))))))))

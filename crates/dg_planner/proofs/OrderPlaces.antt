@@ -1,6 +1,6 @@
 -- The index of a node is where it stands.
-use Rattle.std.proofs.Common.{◌≡◌, ℕ, zero, suc, ◌+◌, ◌-◌, ◌^◌, ◌<◌, Bool, true, false, cond, List as ListOf, [], ◌∷◌, ◌++◌, length, map, Some, refl, sym, ap, subst, ◌∙◌, arith, add-one, length-append}
-use Rattle.std.specs.Prelude.{slice_get, filter, nat_le}
+use Rattle.std.proofs.Common.{◌≡◌, ◌≢◌, get_or, ℕ, zero, suc, ◌+◌, ◌-◌, ◌^◌, ◌<◌, Bool, true, false, cond, List as ListOf, [], ◌∷◌, ◌++◌, length, map, Some, refl, sym, ap, subst, ◌∙◌, arith, add-one, length-append}
+use Rattle.std.specs.Prelude.{AllPairs, slice_get, filter, nat_le}
 use Rattle.std.specs.List.{flat_map, sum_by, Contains}
 use Rattle.std.proofs.lemmas.List.{append-nil, length-map}
 use Rattle.std.proofs.lemmas.List.Concat.{flat_map-append, length-flat_map}
@@ -117,6 +117,14 @@ module _ (g : Ground) where
       let q : slice_get (nodes_of g) b.0 ≡ Some y = slice_get-get_or (nodes_of g) b.0 y b.1 ∙ ap (λ z. Some z) b.2 in
       let e : a.0 ≡ b.0 = (let h = stands a.0 x p in let k = stands b.0 y q in omega arith) in
       same_Some x y (sym p ∙ (ap (slice_get (nodes_of g)) e ∙ q))
+
+  -- nor do two places have one node
+  pub nodes_apart : AllPairs (λ a b. a ≢ b) (nodes_of g)
+  nodes_apart i j d below within same =
+      let p = stands i (get_or (nodes_of g) i d) (slice_get-get_or (nodes_of g) i d (omega arith)) in
+      let q = stands j (get_or (nodes_of g) j d) (slice_get-get_or (nodes_of g) j d within) in
+      let e = ap (node_index_of g) same in
+      omega arith
 
   -- the number of nodes
   pub counted : length (nodes_of g) ≡ count_in g.leaves g.arity g.memory

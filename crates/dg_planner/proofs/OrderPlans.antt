@@ -8,15 +8,16 @@ use Rattle.std.proofs.lemmas.Option.{none-some, same_Some, slice_get_within, sli
 use Rattle.dg_history.specs.declared.node.NodeId.{NodeId}
 use Rattle.dg_history.specs.declared.node.NodeId.TheVariants.{Root}
 use Rattle.dg_plan.specs.declared.edge.Edge.{Edge}
-use Rattle.dg_plan.specs.Walks.{Arc, Cost, IsBest, IsLeast, IsPlan, IsPotential, Leads, renamed_arc, weight_of}
+use Rattle.dg_plan.specs.Walks.{AllHaveLeast, Arc, Cost, IsBest, IsLeast, IsPlan, IsPotential, Leads, renamed_arc, weight_of}
 use Rattle.dg_plan.proofs.WalkNames.{cost_renamed, least_named, plan_named, walk_renamed}
 use Rattle.dg_plan.specs.IndexGraph.{Ground, nodes_of, arc_of, arcs_of}
 use Rattle.dg_path.specs.declared.adjacency.Adjacency.{Adjacency}
 use Rattle.dg_path.specs.declared.search.Link.{Link}
 use Rattle.dg_path.specs.declared.search.Cost.{Cost as Label}
-use Rattle.dg_path.specs.Search.{IsTarget, arc, arcs}
+use Rattle.dg_path.specs.Search.{IsTarget, arc, arcs, cost_at}
+use Rattle.dg_path.proofs.SearchTables.{least_at, weight_is as table_weight}
 use Rattle.dg_planner.specs.Order.{IsGraphNode, bare_ground, node_index_of}
-use Rattle.dg_planner.specs.Whole.{IsBetween, IsWhole}
+use Rattle.dg_planner.specs.Whole.{FARTHEST, IsBetween, IsWhole}
 use Rattle.dg_planner.proofs.OrderPlaces.{apart_indices, stands}
 use Rattle.dg_planner.proofs.OrderEnds.{nodes_are}
 
@@ -36,7 +37,7 @@ zip_from R [] (y ∷ ys) len each = absurd (omega arith)
 zip_from R (x ∷ xs) [] len each = absurd (omega arith)
 zip_from R (x ∷ xs) (y ∷ ys) len each = (each 0 x y refl refl, zip_from R xs ys (omega arith) (λ k. each (suc k)))
 
-edge_of : (edges : ListOf Edge) (i : ℕ) (a : Arc NodeId) → slice_get (arcs_of edges) i ≡ Some a → (e : Edge) × (slice_get edges i ≡ Some e) × (arc_of e ≡ a)
+pub edge_of : (edges : ListOf Edge) (i : ℕ) (a : Arc NodeId) → slice_get (arcs_of edges) i ≡ Some a → (e : Edge) × (slice_get edges i ≡ Some e) × (arc_of e ≡ a)
 edge_of [] i a is = absurd (none-some a is)
 edge_of (e ∷ edges) zero a is = (e, refl, same_Some _ _ is)
 edge_of (e ∷ edges) (suc i) a is = edge_of edges i a is
@@ -83,11 +84,31 @@ module _ (g : Ground) (edges : ListOf Edge) (starts : ListOf ℕ) (links : ListO
       let within : node_index_of g v < length costs = (let p = node_index_within g v vn in let n = whole.count in omega arith) in
       record { within = within; near = (let n = whole.near (node_index_of g v) within in omega arith) }
 
+  -- and a least cost
+  has_least : (v : NodeId) → Contains (nodes_of g) v → (c : Cost) × IsLeast (arcs_of edges) (Root ∷ []) v c
+  has_least v vn =
+      let at = is_target v vn in (
+        cost_at costs (node_index_of g v),
+        least_named (node_index_of g) (arcs_of edges) (nodes_of g) (apart_indices g) inside (Root ∷ []) (root_in g) v (cost_at costs (node_index_of g v)) vn
+            (subst (λ a. IsLeast a (0 ∷ []) (node_index_of g v) (cost_at costs (node_index_of g v))) whole.named (least_at links costs (0 ∷ []) whole.table (node_index_of g v) at.near)),
+      )
+
+  pub all_have_least : AllHaveLeast (arcs_of edges) (Root ∷ [])
+  all_have_least i e there = let both = inside i e there in (has_least e.from both.0, has_least e.to both.1)
+
   -- the plan by indices is the plan
   pub plan_is : (v : NodeId) (steps : ListOf ℕ) → Contains (nodes_of g) v → IsPlan (arcs links) (0 ∷ []) (node_index_of g v) steps → IsPlan (arcs_of edges) (Root ∷ []) v steps
   plan_is v steps vn p =
       plan_named (node_index_of g) (arcs_of edges) (nodes_of g) (apart_indices g) inside (Root ∷ []) (root_in g) v steps vn
       (subst (λ h. IsPlan h (0 ∷ []) (node_index_of g v) steps) whole.named p)
+
+  -- and no plan weighs more than the farthest node
+  pub plan_is_near : (v : NodeId) (steps : ListOf ℕ) (weight : ℕ) → Contains (nodes_of g) v → IsPlan (arcs links) (0 ∷ []) (node_index_of g v) steps → weight ≡ weight_of (arcs links) steps → weight ≤ FARTHEST
+  plan_is_near v steps weight vn plan is =
+      let at = is_target v vn in
+      let same = table_weight links costs (0 ∷ []) whole.table (node_index_of g v) at.near steps plan in
+      let near = whole.near (node_index_of g v) at.within in
+      omega arith
 
   -- a walk weighs the same by indices
   pub weight_is : (a : NodeId) (steps : ListOf ℕ) (v : NodeId) → Leads (arcs_of edges) a steps v → weight_of (arcs links) steps ≡ weight_of (arcs_of edges) steps

@@ -18,7 +18,7 @@ use Rattle.dg_planner.specs.Links.{link_in}
 use Rattle.dg_planner.specs.Bases.{HasBases}
 use Rattle.dg_planner.specs.Whole.{FARTHEST}
 use Rattle.dg_planner.proofs.OrderPlaces.{stands}
-use Rattle.dg_planner.proofs.OrderEnds.{all_reached}
+use Rattle.dg_planner.proofs.OrderEnds.{all_reached, small_height}
 
 pub arcs_are : (g : Ground) (edges : ListOf Edge) → arcs (map (link_in g.leaves g.arity g.memory) edges) ≡ renamed (node_index_of g) (arcs_of edges)
 arcs_are g [] = refl
@@ -32,7 +32,7 @@ all_near g low bases few light lists links is costs len t v within =
     let x : NodeId = get_or (nodes_of g) v Root in
     let there : slice_get (nodes_of g) v ≡ Some x = slice_get-get_or (nodes_of g) v Root (omega arith) in
     let node_index : node_index_of g x ≡ v = stands g v x there ∙ omega arith in
-    let r : IsReached g x (lists_before g.weight g.leaves + 28 * 2 ^ 48) = all_reached g low bases (2 ^ 48) few light v Root (omega arith) in
+    let r : IsReached g x (lists_before g.weight g.leaves + 28 * 2 ^ 48) = all_reached g low bases 28 (2 ^ 48) (λ h. small_height g low bases h few) light v Root (omega arith) in
     let named : arcs links ≡ renamed (node_index_of g) (arcs_of (edges_of g)) = ap arcs is ∙ arcs_are g (edges_of g) in
     let walk : Leads (renamed (node_index_of g) (arcs_of (edges_of g))) 0 r.steps (node_index_of g x) = walk_renamed (node_index_of g) (arcs_of (edges_of g)) Root r.steps x r.walk in
     let walk' : Leads (arcs links) 0 r.steps v = subst (λ h. Leads h 0 r.steps v) (sym named) (subst (Leads (renamed (node_index_of g) (arcs_of (edges_of g))) 0 r.steps) node_index walk) in

@@ -6,3 +6,4 @@ pub mod Whole
 pub mod Trees
 pub mod HistoryLaws
 pub mod IndexNodes
+pub mod PlanLaws

@@ -1,3 +1,4 @@
+//! The bytes of the asked columns of a record: what a step that reads it weighs.
 ghost use Rattle.std.specs.Prelude.{◌≡◌, ◌≤◌};
 ghost use Rattle.dg_shape.specs.declared.catalogue.TheConstants.{BYTES_MAX};
 ghost use Rattle.dg_shape.specs.Entries.{IsInRange};

@@ -16,6 +16,9 @@ pub use build::Base;
 pub use dg_history::NodeId;
 pub use dg_path::Route;
 pub use dg_plan::{Edge, Via, Way};
-pub use laws::{law_graph_of_history, law_nodes_are_listed, law_points_of_history};
+pub use laws::{
+    law_graph_of_history, law_nodes_are_distinct, law_nodes_are_listed, law_nodes_are_reached,
+    law_plans_are_certificates, law_points_of_history,
+};
 pub use planner::Planner;
 pub use tree::{Graft, Tree};

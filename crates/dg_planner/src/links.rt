@@ -1,3 +1,4 @@
+//! The edges of an index by the indices of their ends.
 ghost use Rattle.std.specs.Prelude.{◌≡◌, ℕ, ◌<◌, ◌^◌, ◌≤◌, map, IfOk};
 ghost use Rattle.std.specs.List.{All};
 ghost use Rattle.dg_planner.specs.Order.{AreStarts, HasEnds};

@@ -1,3 +1,4 @@
+//! The order of the nodes of an index: the index of each, and how many there are.
 ghost use Rattle.std.specs.Prelude.{◌≡◌, ℕ, ◌+◌, ◌<◌, ◌≤◌, ◌^◌, length, IfOk, slice_index};
 ghost use Rattle.dg_planner.specs.Order.{count_in, node_index_in, inners_below, AreStarts, IsGraphNode};
 

@@ -1,3 +1,4 @@
+//! The nodes of the graph of an index, in their order.
 ghost use Rattle.std.specs.Prelude.{◌≡◌, ◌+◌, ◌/◌, ◌^◌, ◌<◌, ◌≤◌, ◌++◌, map, IfOk, OnOk};
 ghost use Rattle.std.specs.List.{flat_map};
 ghost use Rattle.dg_history.specs.declared.node.NodeId.TheVariants as node;

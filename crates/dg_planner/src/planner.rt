@@ -1,14 +1,17 @@
-ghost use Rattle.std.specs.Prelude.{◌≡◌, ℕ, ◌<◌, ◌≤◌, ◌^◌, List, [], ◌∷◌, length, IfOk};
+//! The graph of an index with the least cost of each node; plans of nodes.
+ghost use Rattle.std.specs.Prelude.{◌≡◌, ℕ, ◌<◌, ◌≤◌, ◌^◌, List, [], ◌∷◌, length, zip, IfOk};
 ghost use Rattle.std.specs.List.{All, AllZip, Contains, sum};
 ghost use Rattle.dg_history.specs.declared.node.Key.{Key};
 ghost use Rattle.dg_history.specs.declared.node.NodeId.TheVariants.{Root};
+ghost use Rattle.dg_plan.specs.CertificateLines.{potential_in};
 ghost use Rattle.dg_plan.specs.IndexGraph.{arcs_of, edges_of, nodes_of, lists_before};
 ghost use Rattle.dg_plan.specs.EnteredRecords.{EntersOnce};
-ghost use Rattle.dg_plan.specs.Walks.{AreSingles, IsPlan, IsPotential, IsTree, Leads, steps_of, tree_weight, weight_of};
+ghost use Rattle.dg_plan.specs.Walks.{AllHaveLeast, ArePotentials, AreSingles, IsCertificate, IsPlan, IsPotential, IsTree, Leads, steps_of, tree_weight, weight_of};
 ghost use Rattle.dg_shape.specs.Shapes.{IsShape};
 ghost use Rattle.dg_planner.specs.AskedLengths.{asked_length_of};
 ghost use Rattle.dg_planner.specs.Bases.{HasBases, ground_of, ground_with};
 ghost use Rattle.dg_planner.specs.Trees.{grafts_in, node_grafts};
+ghost use Rattle.dg_planner.specs.Whole.{FARTHEST};
 
 use crate::Base;
 use crate::build::build_edges;
@@ -68,8 +71,9 @@ struct Grown {
 impl Planner {
     /// The graph of an index of this shape, and the least costs in it. A step that reads a record weighs
     /// the bytes of its asked columns, by the catalogue. The bases can serve, and each is the graph of a
-    /// node of the graph; `memory` says whether the graph after all events is in memory. An `Err` says that
-    /// memory ran out; so it does where the graph would have 2^32 - 1 edges.
+    /// node of the graph; `memory` says whether the graph after all events is in memory. Every node is reached,
+    /// so that both ends of each edge have a least cost. An `Err` says that memory ran out; so it does where the
+    /// graph would have 2^32 - 1 edges.
     pub fn new(
         alloc: Global,
         shape: Shape,
@@ -82,6 +86,7 @@ impl Planner {
         requires bases { HasBases (ground_of shape catalogue.now cols bases.now memory) }
         ensures nodes { IfOk result (λ p. p.nodes ≡ nodes_of (ground_of shape catalogue.now cols bases.now memory)) }
         ensures edges { IfOk result (λ p. p.edges ≡ edges_of (ground_of shape catalogue.now cols bases.now memory)) }
+        ensures reached { IfOk result (λ p. AllHaveLeast (arcs_of p.edges) (Root ∷ [])) }
     {
         // Its clauses bound the weights of walks.
         catalogue.facts();
@@ -109,6 +114,7 @@ impl Planner {
         requires lists { lists_before (asked_length_of catalogue.now cols) form.leaves ≤ 2 ^ 48 }
         ensures nodes { IfOk result (λ p. p.nodes ≡ nodes_of (ground_with form.leaves form.arity form.memory bases.now (asked_length_of catalogue.now cols))) }
         ensures edges { IfOk result (λ p. p.edges ≡ edges_of (ground_with form.leaves form.arity form.memory bases.now (asked_length_of catalogue.now cols))) }
+        ensures reached { IfOk result (λ p. AllHaveLeast (arcs_of p.edges) (Root ∷ [])) }
     {
         let edges = build_edges(alloc, form, bases, catalogue, cols)?;
         let starts = level_starts(alloc, form.leaves, form.arity)?;
@@ -147,7 +153,8 @@ impl Planner {
 
     /// The plan of a node from the root: the numbers of its edges, its weight in bytes, and for each node
     /// in the order of nodes its potential, which is its least weight, cut at the weight of the plan. The
-    /// plan is read back from the costs that are kept.
+    /// plan is read back from the costs that are kept. Every node has a plan of 29 * 2^48 bytes at the most, and the
+    /// potentials certify it.
     pub fn plan(&self, alloc: Global, target: NodeId) -> Result<Route, AllocError>
         requires target { Contains self.now.nodes target }
         ensures plan { IfOk result (λ r. IsPlan (arcs_of self.now.edges) (Root ∷ []) target r.steps.items) }
@@ -155,6 +162,11 @@ impl Planner {
         ensures potentials { IfOk result (λ r. AllZip (IsPotential (arcs_of self.now.edges) (Root ∷ []) r.weight) self.now.nodes r.potentials.items) }
         ensures least { IfOk result (λ r. (others : List ℕ) → Leads (arcs_of self.now.edges) Root others target → r.weight ≤ weight_of (arcs_of self.now.edges) others) }
         ensures steps { IfOk result (λ r. All (λ i. i < length self.now.edges) r.steps.items) }
+        ensures near { IfOk result (λ r. r.weight ≤ FARTHEST) }
+
+        // The potentials certify the plan; and a node of which none is listed has no least weight below the plan's.
+        ensures certificate { IfOk result (λ r. IsCertificate (arcs_of self.now.edges) Root target (potential_in r.weight (zip self.now.nodes r.potentials.items)) r.steps.items r.weight) }
+        ensures everywhere { IfOk result (λ r. ArePotentials (arcs_of self.now.edges) (Root ∷ []) r.weight (potential_in r.weight (zip self.now.nodes r.potentials.items))) }
     {
         let node_index = node_index(self.form, &self.starts, target);
         route_to(alloc, &self.links, &self.ins, &self.costs, node_index)

@@ -1,3 +1,4 @@
+//! The tree of several targets, which grows by one plan after another.
 ghost use Rattle.std.specs.Prelude.{true, false, ◌≡◌, ℕ, ◌<◌, ◌^◌, List, ◌++◌, length, IfOk, OnOk};
 ghost use Rattle.std.specs.List.{All};
 ghost use Rattle.dg_history.specs.declared.node.NodeId.{NodeId};

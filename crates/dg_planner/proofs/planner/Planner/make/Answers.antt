@@ -14,6 +14,7 @@ use Rattle.dg_planner.specs.Order.{HasEnds, count_in}
 use Rattle.dg_planner.specs.Whole.{IsBetween}
 use Rattle.dg_planner.proofs.OrderPlaces.{counted}
 use Rattle.dg_planner.proofs.OrderEnds.{ends_in, has_ends, links_are}
+use Rattle.dg_planner.proofs.OrderPlans.{all_have_least}
 use Rattle.dg_planner.proofs.WholeArcs.{all_near, arcs_are}
 use Rattle.dg_planner.proofs.planner.Planner.make.Goals as goal
 
@@ -73,3 +74,6 @@ invariant_of-result c =
       fits = c.in_ok-costs.ensures.fits;
       near = all_near G c.requires.low c.requires.bases c.requires.leaves c.requires.light c.requires.lists links is costs (count ∙ sym (counted G)) table;
     }
+
+pub returns-clause-reached : goal.returns-clause-reached
+returns-clause-reached c = all_have_least _ _ _ _ _ _ _ (invariant_of-result c)
