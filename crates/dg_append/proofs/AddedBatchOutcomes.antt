@@ -1,133 +1,151 @@
 -- What becomes of a batch that is prepared behind an index.
-use Rattle.std.proofs.Common.{◌≡◌, ℕ, true, ◌+◌, ◌≤◌, List, [], ◌∷◌, ◌++◌, Option, Some, None, Result, Ok, Err, length, take, drop, sym, ◌∙◌, ap, subst, arith, length-append}
-use Rattle.std.specs.Prelude.{IfErr, IfSome, IsErr, IsErrAnd, is_some}
+use Rattle.std.proofs.Common.{◌≡◌, ℕ, ◌+◌, ◌≤◌, List, [], ◌∷◌, ◌++◌, Option, Some, None, length, take, drop, sym, ◌∙◌, ap, subst, arith, length-append}
+use Rattle.std.specs.Prelude.{IfSome, is_some}
 use Rattle.std.specs.List.{All}
 use Rattle.std.proofs.lemmas.List.{take-append-drop}
-use Rattle.dg_append.proofs.BatchSegmentIndex.{new_counted, new_fit, new_goes_on, new_names, new_total}
-use Rattle.dg_append.proofs.FrontEvents.{IsPrepared, come_whole, comes_to_segment}
-use Rattle.dg_append.specs.AddedBatches.{AddsBatch, ComesToSegment, IndexStays, batch_with, FailsBatch, IsOverHistory, IsReady, IsSegmentOver, MeetsNoDamage, ReadsNothing, TakesOlder, recent_behind}
-use Rattle.dg_append.specs.BatchSegments.{IsBuiltOver, IsSegmentBehind, KeepsBatch, MayFollow, OverfillsFile, StandsForKept, StopsBatch, StopsKeeping, StopsSegment, TakesSinglesOver}
+use Rattle.std.proofs.lemmas.Option.{same_Some}
+use Rattle.dg_append.proofs.BatchSegmentIndex.{all_behind, new_counted, new_goes_on, new_names, new_total}
+use Rattle.dg_append.proofs.CompletedChanges.{events_fit}
+use Rattle.dg_append.proofs.FrontEvents.{IsPrepared, come_whole, comes_to_segment, known_few, more_event_names, more_names}
+use Rattle.dg_append.specs.AddedBatches.{AddsBatch, ComesToSegment, FailsBatch, IsOverHistory, IsReady, IsSegmentOver, MayAdd, MeetsNoDamage, ReadsNothing, TakesOlder, recent_behind}
+use Rattle.dg_append.specs.BatchSegments.{IsBuiltOver, IsNext, IsSegmentBehind, MayFollow, StandsForKept, TakesSinglesOver}
+use Rattle.dg_append.specs.KeptBatches.{KeepsBatch, OverfillsFile, PassesBatch, StopsBatch}
+use Rattle.dg_append.specs.LiveHistories.{IsLive}
 use Rattle.dg_append.specs.declared.batch.AddedBatch.{AddedBatch}
+use Rattle.dg_append.specs.declared.batch.Batch.{Batch}
 use Rattle.dg_append.specs.declared.fault.BatchFault.{BatchFault}
 use Rattle.dg_append.specs.declared.fault.BatchFault.TheVariants as fault
-use Rattle.dg_append.specs.declared.front.Front.{Front}
+use Rattle.dg_append.specs.declared.live.Live.{Live}
+use Rattle.dg_append.specs.declared.next_batch.NextBatch.{NextBatch}
 use Rattle.dg_append.specs.OlderGroups.{IsBatchDamage, older_children}
 use Rattle.dg_columns.specs.NamesInRange.{NamesFit}
-use Rattle.dg_file.specs.Images.{BothTold, Fits, GainsBatch, GainsSegment, IsOpenedAs}
+use Rattle.dg_file.specs.Images.{BothTold, GainsSegment}
 use Rattle.dg_graph.specs.declared.element.Element.{Element}
-use Rattle.dg_graph.specs.declared.event.Change.{Change}
 use Rattle.dg_graph.specs.declared.event.Event.{Event}
+use Rattle.dg_graph.specs.Elements.{IsSet}
+use Rattle.dg_graph.specs.ExactEvents.{AreChangesOf}
 use Rattle.dg_graph.specs.Replay.{replay_from}
 use Rattle.dg_history.specs.declared.node.NodeId.TheVariants.{Root}
 use Rattle.dg_history.specs.History.{History, events_of, last_time_from}
 use Rattle.dg_index.specs.FileOfHistory.{Segment, segment_of}
-use Rattle.dg_index.specs.IndexGrowth.{index_with, needed_for}
+use Rattle.dg_index.specs.IndexGrowth.{index_with}
 use Rattle.dg_index.specs.OpenedIndex.{Opening, event_total, may_be_named}
-use Rattle.dg_now.specs.Now.{NowState}
 use Rattle.dg_plan.specs.IndexGraph.{arcs_of}
 use Rattle.dg_plan.specs.Walks.{AreSingles}
+use Rattle.dg_pool.specs.Graphs.{PoolState, graph_now, slot_graph}
 use Rattle.dg_retrieval.specs.KeptGraph.{record_edges}
 use Rattle.dg_retrieval.specs.ValueRange.{ValuesFit}
+use Rattle.dg_retrieval.specs.NamesThere.{BodyHasNamesThere, EventNamesAreThere, NamesAreThere}
+use Rattle.dg_retrieval.proofs.NamesThere.{replay_there}
 use Rattle.dg_retrieval.proofs.ValueRanges.{replay_fits}
 use Rattle.dg_start.specs.declared.stored_history.StoredHistory.{StoredHistory}
-use Rattle.dg_start.specs.StoredHistory.{AreCounted, IsHeldBy, IsKeptOf, IsSoundHistory, MayGoOn, index_opening}
-
--- what is told of the history with the batch
-pub record IsAdded (o : Opening) (limit known : ℕ) (old : StoredHistory) (before after : Option (List ℕ)) (events : List Event) (s : Segment) (told : Option Opening) (names : List (List ℕ)) (now : NowState) (recent : List Event) : Type 0 where
-  pub index : told ≡ Some (index_with o s)
-  pub names_are : names ≡ old.names
-  pub graph : now.graph ≡ replay_from old.now.graph events
-  pub pending : now.pending ≡ []
-  pub recent_is : recent ≡ recent_behind o.params (event_total o.batches) old.recent.items events
-  pub gained : BothTold before after (GainsBatch s)
-  pub opened : BothTold before after (GainsSegment o s (index_with o s))
-  pub same : is_some after ≡ is_some before
-  pub fits : needed_for o s ≤ limit
+use Rattle.dg_start.specs.StoredHistory.{AreCounted, IsHeldBy, IsKeptOf, MayGoOn, index_opening}
 
 -- ---- what is made over what is kept
 
-module _ (o : Opening) (known : ℕ) (h : StoredHistory) (graph : List Element) (recent given events : List Event) (graph_is : graph ≡ h.now.graph) (recent_is : recent ≡ h.recent.items) (given_is : given ≡ events) where
-  stands_for : (z : History) (image : List ℕ) → IsOverHistory z image o known h → StandsForKept z image o known h.names graph recent
+-- The batch is the next one of the history, whose events are these and whose recent events are those that are kept.
+pub record IsNextOf (batch : Batch) (h : StoredHistory) (events : List Event) (next : NextBatch) : Type 0 where
+  pub known_is : next.known ≡ batch.known
+  pub names_are : next.names.now ≡ h.names
+  pub recent_is : next.recent.now ≡ h.recent.items
+  pub events_are : next.events.now ≡ events
+
+module _ (o : Opening) (batch : Batch) (h : StoredHistory) (graph : List Element) (events : List Event) (next : NextBatch) (graph_is : graph ≡ h.now.graph) (n : IsNextOf batch h events next) where
+  known_names : take next.known next.names.now ≡ take batch.known h.names
+  known_names i = take (n.known_is i) (n.names_are i)
+
+  new_names_are : drop next.known next.names.now ≡ drop batch.known h.names
+  new_names_are i = drop (n.known_is i) (n.names_are i)
+
+  stands_for : (z : History) (image : List ℕ) → IsOverHistory z image o batch.known h → StandsForKept z image o next graph
   stands_for z image over = (
     over.stands,
-    subst (λ (g : List Element). IsKeptOf z (Some o) (take known h.names) g recent) (sym graph_is)
-        (subst (λ (es : List Event). IsKeptOf z (Some o) (take known h.names) h.now.graph es) (sym recent_is) over.kept),
+    subst (λ (x : List (List ℕ) × List Element × List Event). IsKeptOf z (Some o) x.0 x.1 x.2)
+        (let e : (take batch.known h.names, h.now.graph, h.recent.items) ≡ (take next.known next.names.now, graph, next.recent.now) = λ i. (sym known_names i, sym graph_is i, sym n.recent_is i) in e)
+        over.kept,
   )
 
-  built_over : (before : Option (List ℕ)) (s : Segment) → IsBuiltOver before o known h.names graph recent given s → IsSegmentOver before o known h events s
+  built_over : (before : Option (List ℕ)) (s : Segment) → IsBuiltOver before o next graph s → IsSegmentOver before o batch.known h events s
   built_over None s made = tt
-  built_over (Some image) s made = λ z over. made z (stands_for z image over) ∙ ap (λ (es : List Event). segment_of z.params (events_of z) (batch_with known h.names es)) given_is
+  built_over (Some image) s made = λ z over.
+      made z (stands_for z image over)
+      ∙ (λ i. segment_of z.params (events_of z) (record { names = new_names_are i; events = n.events_are i }))
 
-  pub takes_over : (before : Option (List ℕ)) (count taken then_taken : ℕ) → length events ≡ count
-      → TakesSinglesOver before o known h.names graph recent (length given) taken then_taken → TakesOlder before o known h count taken then_taken
-  takes_over None count taken then_taken many most = tt
-  takes_over (Some image) count taken then_taken many most = λ z over singles are.
+  pub takes_over : (before : Option (List ℕ)) (taken then_taken : ℕ) → length events ≡ length batch.changes.items → TakesSinglesOver before o next graph taken then_taken → TakesOlder before o batch h taken then_taken
+  takes_over None taken then_taken many most = tt
+  takes_over (Some image) taken then_taken many most = λ z over singles are.
       most z (stands_for z image over) singles
-      (subst (λ n. AreSingles (arcs_of (record_edges o)) (Root ∷ []) (older_children o n) singles) (sym (ap length given_is ∙ many)) are)
+      (subst (λ m. AreSingles (arcs_of (record_edges o)) (Root ∷ []) (older_children o m) singles) (sym (ap length n.events_are ∙ many)) are)
 
-  -- a batch of so many events meets no damage where one of these meets none
-  pub whole_over : (before : Option (List ℕ)) (count : ℕ) → length events ≡ count → MeetsNoDamage before o known (length given) → MeetsNoDamage before o known count
-  whole_over before count many whole = subst (λ n. MeetsNoDamage before o known n) (ap length given_is ∙ many) whole
+  -- what was read for a batch that is kept, and for one that is not
+  pub takes_kept : (limit : ℕ) (opened : Opening) (before after : Option (List ℕ)) (taken then_taken : ℕ) → KeepsBatch limit o opened next graph before after → length events ≡ length batch.changes.items
+      → TakesSinglesOver before o next graph taken then_taken → TakesOlder before o batch h taken then_taken
+  takes_kept limit opened before after taken then_taken k = takes_over before taken then_taken
 
-  comes : (before : Option (List ℕ)) (front : Front) (changes : List Change) (s : Segment) → IsPrepared o known h front changes events
-      → IsBuiltOver before o known h.names graph recent given s → ComesToSegment o known h before changes front events s
-  comes before front changes s p built = comes_to_segment o known h before front changes events s p (built_over before s built)
+  pub takes_stopped : (limit : ℕ) (before after : Option (List ℕ)) (f : BatchFault) (taken then_taken : ℕ) → StopsBatch limit o next graph before after f → length events ≡ length batch.changes.items
+      → TakesSinglesOver before o next graph taken then_taken → TakesOlder before o batch h taken then_taken
+  takes_stopped limit before after f taken then_taken s = takes_over before taken then_taken
+
+  -- a batch of so many changes meets no damage where that of its events meets none
+  pub whole_over : (before : Option (List ℕ)) → length events ≡ length batch.changes.items → MeetsNoDamage before o next.known (length next.events.now) → MeetsNoDamage before o batch.known (length batch.changes.items)
+  whole_over before many whole =
+      subst (λ (x : ℕ × ℕ). MeetsNoDamage before o x.0 x.1) (let e : (next.known, length next.events.now) ≡ (batch.known, length batch.changes.items) = λ i. (n.known_is i, (ap length n.events_are ∙ many) i) in e) whole
+
+  comes : (before : Option (List ℕ)) (s : Segment) → IsPrepared o batch h events → IsBuiltOver before o next graph s → ComesToSegment o batch h before events s
+  comes before s p built = comes_to_segment o batch h before events s p (built_over before s built)
 
   -- the batch was not put into the file
-  pub not_added : (new : Opening) (limit : ℕ) (before after : Option (List ℕ)) (front : Front) (changes : List Change) (f : BatchFault) → IsPrepared o known h front changes events
-      → StopsBatch limit known o new h.names graph recent given before after f → FailsBatch o limit known h before after changes front f
-  not_added new limit before after front changes (fault.BadChange line reason) p stops = absurd stops
-  not_added new limit before after front changes (fault.FileFull needed most) p stops =
-      let f : OverfillsFile limit known o h.names graph recent given before needed = stops.3 in (
+  pub not_added : (limit : ℕ) (before after : Option (List ℕ)) (f : BatchFault) → IsPrepared o batch h events → StopsBatch limit o next graph before after f → FailsBatch o limit batch h before after f
+  not_added limit before after (fault.BadChange line reason) p stops = absurd stops
+  not_added limit before after (fault.FileFull needed most) p stops =
+      let f : OverfillsFile limit o next graph before needed = stops.2 in (
+        stops.0,
         stops.1,
-        stops.2,
-        record { events = events; segment = f.segment; comes = comes before front changes f.segment p f.built; needed_is = f.needed_is; over = f.over },
+        record { events = events; segment = f.segment; comes = comes before f.segment p f.built; needed_is = f.needed_is; over = f.over },
       )
-  not_added new limit before after front changes (fault.Damaged key col) p stops =
-      let d : StopsSegment before o known h.names graph recent (length given) (fault.Damaged key col) = stops.2 in (
-        stops.1,
-        record {
-          events = events;
-          whole = p.whole;
-          come = come_whole o known h front changes events p;
-          damage = subst (λ n. IfSome before (λ image. IsBatchDamage known o image n key col)) (ap length given_is) d.0;
-          never = by before d.1;
-        },
-      )
+  not_added limit before after (fault.Damaged key col) p stops = (
+    stops.0,
+    record {
+      events = events;
+      whole = p.whole;
+      come = come_whole o batch h events p;
+      damage = subst (λ (x : ℕ × List Event). IfSome before (λ image. IsBatchDamage x.0 o image (length x.1) key col)) (let e : (next.known, next.events.now) ≡ (batch.known, events) = λ i. (n.known_is i, n.events_are i) in e) stops.1.0;
+      never = by before stops.1.1;
+    },
+  )
     where
-      by : (told : Option (List ℕ)) → IfSome told (λ image. (z : History) → StandsForKept z image o known h.names graph recent → ⊥) → IfSome told (λ image. (z : History) → IsOverHistory z image o known h → ⊥)
-      by None n = tt
-      by (Some image) n = λ z over. n z (stands_for z image over)
-  not_added new limit before after front changes fault.Read p stops = (stops.1, record { events = events; whole = p.whole; come = come_whole o known h front changes events p })
-  not_added new limit before after front changes fault.Memory p stops = stops.1
-  not_added new limit before after front changes fault.Store p stops = record { events = events; segment = stops.segment; comes = comes before front changes stops.segment p stops.built; gains = stops.gains; fits = stops.fits }
+      by : (told : Option (List ℕ)) → IfSome told (λ image. (z : History) → StandsForKept z image o next graph → ⊥) → IfSome told (λ image. (z : History) → IsOverHistory z image o batch.known h → ⊥)
+      by None never = tt
+      by (Some image) never = λ z over. never z (stands_for z image over)
+  not_added limit before after fault.Read p stops = (stops, record { events = events; whole = p.whole; come = come_whole o batch h events p })
+  not_added limit before after fault.Memory p stops = stops
+  not_added limit before after fault.Store p stops = record { events = events; segment = stops.segment; comes = comes before stops.segment p stops.built; gains = stops.gains; fits = stops.fits }
 
-  module _ (new : Opening) (limit : ℕ) (before after : Option (List ℕ)) (k : KeepsBatch limit known o new h.names graph recent given before after) where
-    pub behind_kept : IsSegmentBehind o (drop known h.names) h.recent.items events k.segment
-    behind_kept =
-        subst (λ (x : List Event × List Event). IsSegmentBehind o (drop known h.names) x.0 x.1 k.segment) (let e : (recent, given) ≡ (h.recent.items, events) = λ i. (recent_is i, given_is i) in e) k.behind
+  -- it may be put behind the index
+  pub next_is : IsSet h.now.graph → IsReady o batch h → IsPrepared o batch h events → IsNext o next graph
+  next_is set r p = record {
+    follows = subst (λ (x : List Event × List Event). MayFollow o x.0 x.1) (let e : (h.recent.items, events) ≡ (next.recent.now, next.events.now) = λ i. (sym n.recent_is i, sym n.events_are i) in e) p.follows;
+    within = subst (λ (x : ℕ × List (List ℕ)). x.0 ≤ length x.1) (let e : (batch.known, h.names) ≡ (next.known, next.names.now) = λ i. (sym n.known_is i, sym n.names_are i) in e) r.within;
+    counted = ap (λ (ns : List (List ℕ)). length ns) known_names ∙ r.sound.counted.0;
+    named = (λ i. may_be_named (known_names i) (new_names_are i)) ∙ r.named p.whole;
+    recent_fit = subst (λ (es : List Event). All (λ (e : Event). NamesFit e.body) es) (sym n.recent_is) r.sound.fit;
+    fit = subst (λ (es : List Event). All (λ (e : Event). NamesFit e.body) es) (sym n.events_are) (events_fit (length h.names) events p.few_names p.there);
+    set = subst IsSet (sym graph_is) set;
+    changes = subst (λ (x : List Element × List Event). AreChangesOf x.0 x.1) (let e : (h.now.graph, events) ≡ (graph, next.events.now) = λ i. (sym graph_is i, sym n.events_are i) in e) p.changes_are;
+  }
 
-    pub comes_kept : (front : Front) (changes : List Change) → IsPrepared o known h front changes events → ComesToSegment o known h before changes front events k.segment
-    comes_kept front changes p = comes before front changes k.segment p k.built
+-- the index that is told of is this one
+pub ready_here : (batch : Batch) (l : Live) (o : Opening) → MayAdd batch l → index_opening l.history.index ≡ Some o → IsReady o batch l.history
+ready_here batch l o may is = subst (λ (x : Opening). IsReady x batch l.history) (same_Some may.index o (sym may.there ∙ is)) may.ready
 
-    -- what is told of the history with the batch that is in the file
-    pub added_kept : (names : List (List ℕ)) (now : NowState) (left : List Event) → names ≡ h.names → now.graph ≡ replay_from h.now.graph events → now.pending ≡ []
-        → left ≡ recent_behind o.params (event_total o.batches) recent given → is_some after ≡ is_some before → IsAdded o limit known h before after events k.segment (Some new) names now left
-    added_kept names now left names_are graph_now pending left_is same = record {
-      index = ap (λ (x : Opening). Some x) k.index;
-      names_are = names_are;
-      graph = graph_now;
-      pending = pending;
-      recent_is = left_is ∙ (λ i. recent_behind o.params (event_total o.batches) (recent_is i) (given_is i));
-      gained = k.gained;
-      opened = subst (λ (x : Opening). BothTold before after (GainsSegment o k.segment x)) k.index k.opened;
-      same = same;
-      fits = k.fits;
-    }
-
-    -- the events of the index with the batch
-    pub total_kept : MayFollow o h.recent.items events → event_total new.batches ≡ event_total o.batches + length events
-    total_kept m = ap (λ (x : Opening). event_total x.batches) k.index ∙ new_total o h.recent.items events m (drop known h.names) k.segment behind_kept
+-- a batch whose changes are right is not refused for one
+pub nothing_read : (limit : ℕ) (o : Opening) (next : NextBatch) (graph : List Element) (before after : Option (List ℕ)) (f : BatchFault) (taken then_taken : ℕ) → StopsBatch limit o next graph before after f → ReadsNothing f taken then_taken
+nothing_read limit o next graph before after (fault.BadChange line reason) taken then_taken stops = absurd stops
+nothing_read limit o next graph before after (fault.FileFull needed most) taken then_taken stops = tt
+nothing_read limit o next graph before after (fault.Damaged key col) taken then_taken stops = tt
+nothing_read limit o next graph before after fault.Read taken then_taken stops = tt
+nothing_read limit o next graph before after fault.Memory taken then_taken stops = tt
+nothing_read limit o next graph before after fault.Store taken then_taken stops = tt
 
 -- ---- the batch is added
 
@@ -139,142 +157,99 @@ gains_held None (Some y) o new s names same h g = cc
 gains_held (Some x) None o new s names same h g = tt
 gains_held (Some x) (Some y) o new s names same h g = g names h
 
--- the history with the batch is sound
-pub sound_after : (o : Opening) (limit known : ℕ) (old : StoredHistory) (front : Front) (changes : List Change) (events : List Event) (s : Segment) (before after : Option (List ℕ)) (told : Option Opening) (names : List (List ℕ)) (now : NowState) (recent : List Event)
-    → IsReady o known old front changes → IsPrepared o known old front changes events → IsSegmentBehind o (drop known old.names) old.recent.items events s
-    → IsAdded o limit known old before after events s told names now recent → IsSoundHistory told names now recent
-sound_after o limit known old front changes events s before after told names now recent r p b a =
-    let m : MayFollow o old.recent.items events = p.follows in
-    let left : List Event = recent_behind o.params (event_total o.batches) old.recent.items events in
-    let many_names : length (take known old.names) + length (drop known old.names) ≡ length old.names =
-    sym (length-append (take known old.names) (drop known old.names)) ∙ ap length (take-append-drop known old.names) in
-    let counted : AreCounted (Some (index_with o s)) names now.graph recent = (
-      omega (arith, ap length a.names_are, many_names, new_names o old.recent.items events m (drop known old.names) s b, r.sound.counted.0),
-      ap length a.recent_is ∙ new_counted o old.recent.items events m (drop known old.names) s b,
-    ) in
-    record {
-      pending = a.pending;
-      counted = subst (λ (i : Option Opening). AreCounted i names now.graph recent) (sym a.index) counted;
-      values = subst ValuesFit (sym a.graph) (replay_fits old.now.graph events r.sound.values p.fit);
-      fit = subst (λ (es : List Event). All (λ (e : Event). NamesFit e.body) es) (sym a.recent_is) (new_fit o old.recent.items events r.sound.fit p.fit);
-      goes_on = subst (λ (i : Option Opening). MayGoOn i recent) (sym a.index)
-          (subst (λ (es : List Event). MayGoOn (Some (index_with o s)) es) (sym a.recent_is) (new_goes_on o old.recent.items events m (drop known old.names) s b));
-    }
+-- What is in memory went on with these events to an index that is opened so.
+pub record WentOn (old new : Live) (opened : Opening) (events left : List Event) : Type 0 where
+  pub index : index_opening new.history.index ≡ Some opened
+  pub names_are : new.history.names ≡ old.history.names
+  pub graph_is : new.history.now.graph ≡ replay_from old.history.now.graph events
+  pub pending : new.history.now.pending ≡ []
+  pub recent_are : new.history.recent.items ≡ left
 
-pub batch_added : (o : Opening) (limit known : ℕ) (old new : StoredHistory) (before after : Option (List ℕ)) (front : Front) (changes : List Change) (events : List Event) (s : Segment) (added : AddedBatch) (told : Option Opening)
-    → told ≡ Some o → IfSome before (λ image. IsHeldBy told (take known old.names) image) → ComesToSegment o known old before changes front events s → s.names ≡ drop known old.names
-    → IsAdded o limit known old before after events s (index_opening new.index) new.names new.now new.recent.items
-    → added ≡ record { events = length events; total = event_total o.batches + length events; last = last_time_from 0 events }
-    → AddsBatch o limit known old new before after changes front added
-batch_added o limit known old new before after front changes events s added told is image comes names a told_is =
-    let held : IfSome after (λ image. IsHeldBy (Some (index_with o s)) (take known old.names ++ s.names) image) =
-    gains_held before after o (index_with o s) s (take known old.names) a.same (subst (λ (i : Option Opening). IfSome before (λ image. IsHeldBy i (take known old.names) image)) is image) a.opened in
-    let all_names : take known old.names ++ s.names ≡ new.names =
-    ap (λ (l : List (List ℕ)). take known old.names ++ l) names ∙ take-append-drop known old.names ∙ sym a.names_are in
-    record {
-      events = events;
-      segment = s;
-      comes = comes;
-      index = a.index;
-      names = a.names_are;
-      graph = a.graph;
-      recent = a.recent_is;
-      gains = a.gained;
-      held = subst (λ (ns : List (List ℕ)). IfSome after (λ image. IsHeldBy (index_opening new.index) ns image)) all_names
-          (subst (λ (i : Option Opening). IfSome after (λ image. IsHeldBy i (take known old.names ++ s.names) image)) (sym a.index) held);
-      fits = a.fits;
-      told = told_is;
-    }
+module _ (o opened : Opening) (limit : ℕ) (batch : Batch) (old new : Live) (before after : Option (List ℕ)) (events left : List Event) (next : NextBatch) (pool : PoolState) (pool_is : pool ≡ old.pool.value)
+    (graph_is : graph_now pool ≡ old.history.now.graph) (n : IsNextOf batch old.history events next) (p : IsPrepared o batch old.history events) (k : KeepsBatch limit o opened next (graph_now pool) before after)
+    (passes : PassesBatch o next left pool new.pool.value) (w : WentOn old new opened events left) where
+  abbrev h : StoredHistory
+  h = old.history
 
--- the same, where the index is told of
-pub batch_adds : (told : Option Opening) (o : Opening) (limit known : ℕ) (old new : StoredHistory) (before after : Option (List ℕ)) (front : Front) (changes : List Change) (added : AddedBatch)
-    → told ≡ Some o → AddsBatch o limit known old new before after changes front added → IfSome told (λ o. AddsBatch o limit known old new before after changes front added)
-batch_adds told o limit known old new before after front changes added is a = subst (λ (i : Option Opening). IfSome i (λ o. AddsBatch o limit known old new before after changes front added)) (sym is) a
+  abbrev segment : Segment
+  segment = k.segment
+
+  behind : IsSegmentBehind o (drop batch.known h.names) h.recent.items events segment
+  behind =
+      subst (λ (x : List (List ℕ) × List Event × List Event). IsSegmentBehind o x.0 x.1 x.2 segment)
+      (let e : (drop next.known next.names.now, next.recent.now, next.events.now) ≡ (drop batch.known h.names, h.recent.items, events) =
+      λ i. (new_names_are o batch h (graph_now pool) events next graph_is n i, n.recent_is i, n.events_are i) in e)
+      k.made.behind
+
+  index_is : index_opening new.history.index ≡ Some (index_with o segment)
+  index_is = w.index ∙ ap (λ (x : Opening). Some x) k.kept.index
+
+  recent_is : new.history.recent.items ≡ recent_behind o.params (event_total o.batches) h.recent.items events
+  recent_is = w.recent_are ∙ passes.left_is ∙ (λ i. recent_behind o.params (event_total o.batches) (n.recent_is i) (n.events_are i))
+
+  -- the events of the index with the batch
+  pub total_kept : event_total opened.batches ≡ event_total o.batches + length events
+  total_kept = ap (λ (x : Opening). event_total x.batches) k.kept.index ∙ new_total o h.recent.items events p.follows (drop batch.known h.names) segment behind
+
+  all_names : take batch.known h.names ++ segment.names ≡ new.history.names
+  all_names = ap (λ (l : List (List ℕ)). take batch.known h.names ++ l) behind.names_are ∙ take-append-drop batch.known h.names ∙ sym w.names_are
+
+  -- the history with the batch is sound, and its graph is that of the pool
+  pub live_after : IsReady o batch h → IsLive new
+  live_after r = record {
+    sound = record {
+      pending = w.pending;
+      counted = subst (λ (i : Option Opening). AreCounted i new.history.names new.history.now.graph new.history.recent.items) (sym index_is) counted;
+      values = subst ValuesFit (sym w.graph_is) (replay_fits h.now.graph events r.sound.values fit);
+      named = subst (λ (x : List (List ℕ) × List Element). NamesAreThere (length x.0) x.1) (let e : (h.names, replay_from h.now.graph events) ≡ (new.history.names, new.history.now.graph) = λ i. (sym w.names_are i, sym w.graph_is i) in e)
+          (replay_there (length h.names) h.now.graph events (more_names known (length h.names) h.now.graph (known_few batch.known h.names) r.sound.named) p.there);
+      recent_named = subst (λ (x : List (List ℕ) × List Event). EventNamesAreThere (length x.0) x.1)
+          (let e : (h.names, recent_behind o.params (event_total o.batches) h.recent.items events) ≡ (new.history.names, new.history.recent.items) = λ i. (sym w.names_are i, sym recent_is i) in e)
+          (all_behind (λ (e : Event). BodyHasNamesThere (length h.names) e.body) o h.recent.items events (more_event_names known (length h.names) h.recent.items (known_few batch.known h.names) r.sound.recent_named) p.there);
+      fit = subst (λ (es : List Event). All (λ (e : Event). NamesFit e.body) es) (sym recent_is) (all_behind (λ (e : Event). NamesFit e.body) o h.recent.items events r.sound.fit fit);
+      goes_on = subst (λ (x : Option Opening × List Event). MayGoOn x.0 x.1)
+          (let e : (Some (index_with o segment), recent_behind o.params (event_total o.batches) h.recent.items events) ≡ (index_opening new.history.index, new.history.recent.items) = λ i. (sym index_is i, sym recent_is i) in e)
+          (new_goes_on o h.recent.items events p.follows (drop batch.known h.names) segment behind);
+    };
+    pool = passes.now ∙ (λ i. replay_from (graph_is i) (n.events_are i)) ∙ sym w.graph_is;
+  }
+    where
+      known : ℕ
+      known = length (take batch.known h.names)
+
+      fit : All (λ (e : Event). NamesFit e.body) events
+      fit = events_fit (length h.names) events p.few_names p.there
+
+      many_names : length (take batch.known h.names) + length (drop batch.known h.names) ≡ length h.names
+      many_names = sym (length-append (take batch.known h.names) (drop batch.known h.names)) ∙ ap length (take-append-drop batch.known h.names)
+
+      counted : AreCounted (Some (index_with o segment)) new.history.names new.history.now.graph new.history.recent.items
+      counted = (
+        omega (arith, ap length w.names_are, many_names, new_names o h.recent.items events p.follows (drop batch.known h.names) segment behind, r.sound.counted.0),
+        ap length recent_is ∙ new_counted o h.recent.items events p.follows (drop batch.known h.names) segment behind,
+      )
+
+  -- the batch is in the file and in memory
+  pub adds : (added : AddedBatch) → IfSome before (λ image. IsHeldBy (Some o) (take batch.known h.names) image) → is_some after ≡ is_some before
+      → added ≡ record { events = length events; total = event_total o.batches + length events; last = last_time_from 0 events }
+      → AddsBatch o limit batch old new before after added
+  adds added image same told = record {
+    events = events;
+    segment = segment;
+    comes = comes o batch h (graph_now pool) events next graph_is n before segment p k.made.built;
+    whole = whole_over o batch h (graph_now pool) events next graph_is n before p.many k.made.whole;
+    index = index_is;
+    names = w.names_are;
+    graph = w.graph_is;
+    recent = recent_is;
+    slots = λ s. passes.slots s ∙ ap (λ (x : PoolState). slot_graph x s) pool_is;
+    gains = k.kept.gained;
+    held = subst (λ (x : Option Opening × List (List ℕ)). IfSome after (λ image. IsHeldBy x.0 x.1 image))
+        (let e : (Some opened, take batch.known h.names ++ segment.names) ≡ (index_opening new.history.index, new.history.names) = λ i. (sym w.index i, all_names i) in e)
+        (gains_held before after o opened segment (take batch.known h.names) same image k.kept.opened);
+    fits = k.kept.fits;
+    told = told;
+  }
 
 pub added_is : (a x b y l z : ℕ) → a ≡ x → b ≡ y → l ≡ z → (let r : AddedBatch = record { events = a; total = b; last = l } in r) ≡ record { events = x; total = y; last = z }
 added_is a x b y l z e f g = cc
-
--- ---- over what a call was made with
-
-pub err_is : {A E : Type 0} (r : Result A E) (x : E) (P : E → Type 0) → IsErr r × IsErrAnd r (λ y. y ≡ x) → P x → IfErr r P
-err_is (Ok a) x P h p = tt
-err_is (Err e) x P h p = subst P (sym h.1) p
-
--- ---- why a batch is not put into the file
-
--- the segment was not made
-pub stops_made : (limit known : ℕ) (o new : Opening) (names : List (List ℕ)) (graph : List Element) (recent events : List Event) (before after : Option (List ℕ)) (f : BatchFault)
-    → new ≡ o → after ≡ before → StopsSegment before o known names graph recent (length events) f → StopsBatch limit known o new names graph recent events before after f
-stops_made limit known o new names graph recent events before after (fault.BadChange line reason) index same stops = absurd stops
-stops_made limit known o new names graph recent events before after (fault.FileFull needed most) index same stops = absurd stops
-stops_made limit known o new names graph recent events before after (fault.Damaged key col) index same stops = (index, same, stops)
-stops_made limit known o new names graph recent events before after fault.Read index same stops = (index, same)
-stops_made limit known o new names graph recent events before after fault.Memory index same stops = (index, same)
-stops_made limit known o new names graph recent events before after fault.Store index same stops = absurd stops
-
--- the segment was made, and not kept
-kept_not : (limit known : ℕ) (o new : Opening) (names : List (List ℕ)) (graph : List Element) (recent events : List Event) (before after : Option (List ℕ)) (s : Segment) (f : BatchFault)
-    → IsBuiltOver before o known names graph recent events s → StopsKeeping o new s limit before after f → StopsBatch limit known o new names graph recent events before after f
-kept_not limit known o new names graph recent events before after s (fault.BadChange line reason) built stops = absurd stops
-kept_not limit known o new names graph recent events before after s (fault.FileFull needed most) built stops =
-    (stops.3, stops.4, stops.1, record { segment = s; built = built; needed_is = stops.0; over = stops.2 })
-kept_not limit known o new names graph recent events before after s (fault.Damaged key col) built stops = absurd stops
-kept_not limit known o new names graph recent events before after s fault.Read built stops = absurd stops
-kept_not limit known o new names graph recent events before after s fault.Memory built stops = (stops.0, stops.1)
-kept_not limit known o new names graph recent events before after s fault.Store built stops = record { segment = s; built = built; gains = stops.0; fits = stops.1 }
-
-pub stops_kept : (limit known : ℕ) (o old new : Opening) (names : List (List ℕ)) (graph : List Element) (recent events : List Event) (before middle after : Option (List ℕ)) (s : Segment) (f : BatchFault)
-    → old ≡ o → middle ≡ before → IsBuiltOver before o known names graph recent events s → StopsKeeping old new s limit middle after f → StopsBatch limit known o new names graph recent events before after f
-stops_kept limit known o old new names graph recent events before middle after s f index same built stops =
-    kept_not limit known o new names graph recent events before after s f built
-    (subst (λ (x : Opening × Option (List ℕ)). StopsKeeping x.0 new s limit x.1 after f) (let e : (old, middle) ≡ (o, before) = λ i. (index i, same i) in e) stops)
-
--- the segment was made and kept
-pub keeps_batch : (limit known : ℕ) (o old new : Opening) (names : List (List ℕ)) (graph : List Element) (recent events : List Event) (before middle after : Option (List ℕ)) (s : Segment)
-    → old ≡ o → middle ≡ before → IsSegmentBehind o (drop known names) recent events s → IsBuiltOver before o known names graph recent events s
-    → new ≡ index_with old s → BothTold middle after (GainsBatch s) → BothTold middle after (GainsSegment old s new) → needed_for old s ≤ limit
-    → KeepsBatch limit known o new names graph recent events before after
-keeps_batch limit known o old new names graph recent events before middle after s index same behind built kept gained opened fits = record {
-  segment = s;
-  behind = behind;
-  built = built;
-  index = kept ∙ ap (λ (x : Opening). index_with x s) index;
-  gained = subst (λ (x : Option (List ℕ)). BothTold x after (GainsBatch s)) same gained;
-  opened = subst (λ (x : Option (List ℕ) × Opening). BothTold x.0 after (GainsSegment x.1 s new)) (let e : (middle, old) ≡ (before, o) = λ i. (same i, index i) in e) opened;
-  fits = subst (λ (x : Opening). needed_for x s ≤ limit) index fits;
-}
-
--- ---- the image before the batch
-
-pub opened_as : (told : Option (List ℕ)) (o : Opening) (names : List (List ℕ)) → IfSome told (IsHeldBy (Some o) names) → IfSome told (λ image. IsOpenedAs image o)
-opened_as None o names held = tt
-opened_as (Some image) o names held = (names, held)
-
-pub fits_here : (before middle : Option (List ℕ)) (o old : Opening) (names new : List (List ℕ)) (s : Segment) → old ≡ o → middle ≡ before → IfSome before (IsHeldBy (Some o) names)
-    → may_be_named names new ≡ true → s.names ≡ new → IfSome middle (λ image. Fits image old s)
-fits_here before middle o old names new s index same held named are =
-    subst (λ (x : Option (List ℕ) × Opening). IfSome x.0 (λ image. Fits image x.1 s)) (let e : (before, o) ≡ (middle, old) = λ i. (sym same i, sym index i) in e) (by before held)
-  where
-    by : (told : Option (List ℕ)) → IfSome told (IsHeldBy (Some o) names) → IfSome told (λ image. Fits image o s)
-    by None h = tt
-    by (Some image) h = (names, h, subst (λ (n : List (List ℕ)). may_be_named names n ≡ true) (sym are) named)
-
--- the index is what it was, or the disk failed
-pub index_stays : (f : BatchFault) (limit known : ℕ) (o new : Opening) (names : List (List ℕ)) (graph : List Element) (recent events : List Event) (before after : Option (List ℕ)) (old later : StoredHistory)
-    → index_opening old.index ≡ Some o → index_opening later.index ≡ Some new → StopsBatch limit known o new names graph recent events before after f → IndexStays f old later
-index_stays (fault.BadChange line reason) limit known o new names graph recent events before after old later is told stops = absurd stops
-index_stays (fault.FileFull needed most) limit known o new names graph recent events before after old later is told stops = told ∙ ap (λ (x : Opening). Some x) stops.0 ∙ sym is
-index_stays (fault.Damaged key col) limit known o new names graph recent events before after old later is told stops = told ∙ ap (λ (x : Opening). Some x) stops.0 ∙ sym is
-index_stays fault.Read limit known o new names graph recent events before after old later is told stops = told ∙ ap (λ (x : Opening). Some x) stops.0 ∙ sym is
-index_stays fault.Memory limit known o new names graph recent events before after old later is told stops = told ∙ ap (λ (x : Opening). Some x) stops.0 ∙ sym is
-index_stays fault.Store limit known o new names graph recent events before after old later is told stops = tt
-
--- a batch whose changes are right is not refused for one
-pub nothing_read : (f : BatchFault) (limit known : ℕ) (o new : Opening) (names : List (List ℕ)) (graph : List Element) (recent events : List Event) (before after : Option (List ℕ)) (taken then_taken : ℕ)
-    → StopsBatch limit known o new names graph recent events before after f → ReadsNothing f taken then_taken
-nothing_read (fault.BadChange line reason) limit known o new names graph recent events before after taken then_taken stops = absurd stops
-nothing_read (fault.FileFull needed most) limit known o new names graph recent events before after taken then_taken stops = tt
-nothing_read (fault.Damaged key col) limit known o new names graph recent events before after taken then_taken stops = tt
-nothing_read fault.Read limit known o new names graph recent events before after taken then_taken stops = tt
-nothing_read fault.Memory limit known o new names graph recent events before after taken then_taken stops = tt
-nothing_read fault.Store limit known o new names graph recent events before after taken then_taken stops = tt

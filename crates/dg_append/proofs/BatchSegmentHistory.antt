@@ -1,12 +1,15 @@
 -- What is kept of a history, over an image that stands for it.
-use Rattle.std.proofs.Common.{◌≡◌, ℕ, ◌≤◌, List as ListOf, [], ◌∷◌, ◌++◌, Option, Some, None, Result, Ok, Err, length, map, min, inl, inr, sym, ◌∙◌, ap, subst, arith, length-take}
+use Rattle.std.proofs.Common.{◌≡◌, ℕ, ◌≤◌, List as ListOf, [], ◌∷◌, ◌++◌, Option, Some, None, Result, Ok, Err, length, drop, map, min, inl, inr, sym, ◌∙◌, ap, subst, arith, length-take}
 use Rattle.std.specs.Prelude.{IfErr, IfOk, IfSome}
+use Rattle.std.specs.Global.{Vec}
 use Rattle.std.specs.List.{sum}
 use Rattle.std.proofs.lemmas.Option.{same_Some}
+use Rattle.dg_append.proofs.OlderGroupSets.{Gives, some_map}
 use Rattle.dg_append.specs.AddedBatches.{batch_with}
-use Rattle.dg_append.specs.BatchSegments.{IsPast, IsUnmade, StandsForKept, StopsSegment}
+use Rattle.dg_append.specs.BatchSegments.{IsBuiltOver, IsNext, IsPast, IsSegmentBehind, IsUnmade, MakesSegment, StandsForKept, StopsSegment, TakesSinglesOver}
 use Rattle.dg_append.specs.declared.fault.BatchFault.{BatchFault}
 use Rattle.dg_append.specs.declared.fault.BatchFault.TheVariants as fault
+use Rattle.dg_append.specs.declared.next_batch.NextBatch.{NextBatch}
 use Rattle.dg_append.specs.Faults.{of_retrieval}
 use Rattle.dg_append.specs.OlderGroups.{AreUndamaged, IsBatchDamage, IsDueDelta, IsFirstOfGroups, in_groups, older_children}
 use Rattle.dg_fold.specs.BytesRead.{TakesAtMost}
@@ -18,6 +21,7 @@ use Rattle.dg_graph.specs.Effect.{forwards}
 use Rattle.dg_graph.specs.ExactEvents.{AreChangesOf}
 use Rattle.dg_graph.specs.Replay.{replay_from}
 use Rattle.dg_history.specs.declared.node.Key.{Key}
+use Rattle.dg_history.specs.declared.node.NodeId.{NodeId}
 use Rattle.dg_history.specs.declared.node.NodeId.TheVariants.{Root}
 use Rattle.dg_history.specs.declared.params.Params.{Params}
 use Rattle.dg_history.specs.History.{Batch, History, events_of}
@@ -27,10 +31,10 @@ use Rattle.dg_index.specs.IndexRecords.{recent_of}
 use Rattle.dg_index.specs.OpenedIndex.{Opening, event_total, opened_of}
 use Rattle.dg_plan.specs.IndexGraph.{arcs_of}
 use Rattle.dg_plan.specs.Walks.{AreSingles}
+use Rattle.dg_retrieval.specs.KeptGraph.{record_edges}
 use Rattle.dg_retrieval.specs.declared.fault.RetrievalFault.{RetrievalFault}
 use Rattle.dg_retrieval.specs.declared.fault.RetrievalFault.TheVariants as retrieval
 use Rattle.dg_retrieval.specs.Retrieval.{IsNoDamage}
-use Rattle.dg_retrieval.specs.KeptGraph.{record_edges}
 use Rattle.dg_retrieval.specs.NodeSets.{IsIndexOver, sets_of}
 use Rattle.dg_retrieval.proofs.KeptGraphWeights.{opened_events, opened_params}
 
@@ -38,27 +42,28 @@ changes_joined : (set : ListOf Element) (xs ys : ListOf Event) → AreChangesOf 
 changes_joined set [] ys first more = more
 changes_joined set (e ∷ xs) ys first more = (first.0, changes_joined (forwards set e) xs ys first.1 more)
 
-module _ (z : History) (image : ListOf ℕ) (o : Opening) (known : ℕ) (names : ListOf (ListOf ℕ)) (graph : ListOf Element) (recent : ListOf Event) (is : StandsForKept z image o known names graph recent) where
+module _ (z : History) (image : ListOf ℕ) (o : Opening) (next : NextBatch) (graph : ListOf Element) (is : StandsForKept z image o next graph) where
   opened : o ≡ (opened_of z).index
   opened = same_Some o (opened_of z).index is.1.index_is
 
   params : o.params ≡ z.params
   params = ap (λ (x : Opening). x.params) opened ∙ opened_params z
 
-  pub index_over : known ≤ length names → IsIndexOver z image o known
+  pub index_over : next.known ≤ length next.names.now → IsIndexOver z image o next.known
   index_over within = record {
     stands = is.0;
     opened = opened;
-    names = sym (length-take known names ∙ (let e : min known (length names) ≡ known = omega (arith, within) in e)) ∙ ap length is.1.names_are;
+    names = sym (length-take next.known next.names.now ∙ (let e : min next.known (length next.names.now) ≡ next.known = omega (arith, within) in e)) ∙ ap length is.1.names_are;
   }
 
-  pub past_is : (events : ListOf Event) (sets : ListOf (ListOf Element)) → AreChangesOf graph events → sets ≡ sets_of z (older_children o (length events)) → IsPast o (events_of z) recent graph events sets
-  past_is events sets changes are = record {
+  pub past_is : (sets : ListOf (ListOf Element)) → AreChangesOf graph next.events.now → sets ≡ sets_of z (older_children o (length next.events.now))
+      → IsPast o (events_of z) next.recent.now graph next.events.now sets
+  past_is sets changes are = record {
     long = sym (ap (λ (x : Opening). event_total x.batches) opened ∙ opened_events z);
     recent_is = is.1.recent_are ∙ ap (λ (p : Params). recent_of p (events_of z)) (sym params);
     graph_is = is.1.graph_is;
-    changes = changes_joined [] (events_of z) events (legal_is_indexed z is.0.legal).0.changes (subst (λ (set : ListOf Element). AreChangesOf set events) is.1.graph_is changes);
-    sets_are = are ∙ ap (λ (p : Params). map (set_of p (events_of z)) (older_children o (length events))) (sym params);
+    changes = changes_joined [] (events_of z) next.events.now (legal_is_indexed z is.0.legal).0.changes (subst (λ (set : ListOf Element). AreChangesOf set next.events.now) is.1.graph_is changes);
+    sets_are = are ∙ ap (λ (p : Params). map (set_of p (events_of z)) (older_children o (length next.events.now))) (sym params);
   }
 
   pub segment_over : (b : Batch) (s : Segment) → s ≡ segment_of o.params (events_of z) b → s ≡ segment_of z.params (events_of z) b
@@ -66,69 +71,90 @@ module _ (z : History) (image : ListOf ℕ) (o : Opening) (known : ℕ) (names :
 
 -- ---- what is made from the older children
 
-module _ (told : Option (ListOf ℕ)) (o other : Opening) (known : ℕ) (names : ListOf (ListOf ℕ)) (graph : ListOf Element) (recent events : ListOf Event) (sets given : ListOf (ListOf Element)) (index : other ≡ o) (taken : given ≡ sets)
-    (within : known ≤ length names) (changes : AreChangesOf graph events) (are : IfSome told (λ image. (z : History) → IsIndexOver z image o known → sets ≡ sets_of z (older_children o (length events)))) where
-  past_given : (z : History) (image : ListOf ℕ) → StandsForKept z image o known names graph recent → sets ≡ sets_of z (older_children o (length events)) → IsPast other (events_of z) recent graph events given
-  past_given z image is sets_are =
-      subst (λ (x : Opening). IsPast x (events_of z) recent graph events given) (sym index)
-      (past_is z image o known names graph recent is events given changes (taken ∙ sets_are))
+-- The sets are those of the older children of the batch, behind an index that is as it was.
+module _ (told : Option (ListOf ℕ)) (o other : Opening) (next : NextBatch) (graph : ListOf Element) (sets given : ListOf (ListOf Element)) (index : other ≡ o) (taken : given ≡ sets)
+    (n : IsNext o next graph) (are : IfSome told (λ image. (z : History) → IsIndexOver z image o next.known → sets ≡ sets_of z (older_children o (length next.events.now))))
+    (whole : IfSome told (λ image. AreUndamaged next.known o image (in_groups (older_children o (length next.events.now))))) where
+  abbrev events : ListOf Event
+  events = next.events.now
 
-  pub made_over : (r : Result Segment BatchFault) → IfOk r (λ s. (past : ListOf Event) → IsPast other past recent graph events given → s ≡ segment_of other.params past (batch_with known names events))
-      → IfOk r (λ s. IfSome told (λ image. (z : History) → StandsForKept z image o known names graph recent → s ≡ segment_of z.params (events_of z) (batch_with known names events)))
-  made_over (Err f) made = tt
-  made_over (Ok s) made = by told are
+  abbrev children : ListOf NodeId
+  children = older_children o (length events)
+
+  past_given : (z : History) (image : ListOf ℕ) → StandsForKept z image o next graph → (IsIndexOver z image o next.known → sets ≡ sets_of z children) → IsPast other (events_of z) next.recent.now graph events given
+  past_given z image is sets_are =
+      subst (λ (x : Opening). IsPast x (events_of z) next.recent.now graph events given) (sym index)
+      (past_is z image o next graph is given n.changes (taken ∙ sets_are (index_over z image o next graph is n.within)))
+
+  abbrev Made : Segment → Type 0
+  Made s = (past : ListOf Event) → IsPast other past next.recent.now graph events given → s ≡ segment_of other.params past (batch_with next.known next.names.now events)
+
+  pub made_over : (r : Result Segment BatchFault) → IfOk r (λ s. IsSegmentBehind other (drop next.known next.names.now) next.recent.now events s) → IfOk r Made
+      → IfOk r (MakesSegment told o next graph)
+  made_over (Err f) behind made = tt
+  made_over (Ok s) behind made = record {
+    behind = subst (λ (x : Opening). IsSegmentBehind x (drop next.known next.names.now) next.recent.now events s) index behind;
+    built = by told are;
+    whole = whole;
+  }
     where
-      by : (told : Option (ListOf ℕ)) → IfSome told (λ image. (z : History) → IsIndexOver z image o known → sets ≡ sets_of z (older_children o (length events)))
-          → IfSome told (λ image. (z : History) → StandsForKept z image o known names graph recent → s ≡ segment_of z.params (events_of z) (batch_with known names events))
+      by : (told : Option (ListOf ℕ)) → IfSome told (λ image. (z : History) → IsIndexOver z image o next.known → sets ≡ sets_of z children) → IsBuiltOver told o next graph s
       by None are = tt
       by (Some image) are = λ z is.
-          segment_over z image o known names graph recent is (batch_with known names events) s
-          (made (events_of z) (past_given z image is (are z (index_over z image o known names graph recent is within)))
-          ∙ ap (λ (x : Opening). segment_of x.params (events_of z) (batch_with known names events)) index)
+          segment_over z image o next graph is (batch_with next.known next.names.now events) s
+          (made (events_of z) (past_given z image is (are z))
+          ∙ ap (λ (x : Opening). segment_of x.params (events_of z) (batch_with next.known next.names.now events)) index)
 
   -- a segment that is not made over the image of a history lacked memory
-  pub unmade_over : (r : Result Segment BatchFault) → IfSome told (λ image. AreUndamaged known o image (in_groups (older_children o (length events))))
-      → IfErr r (λ f. IsUnmade other (length events) f) → IfErr r (λ f. (past : ListOf Event) → IsPast other past recent graph events given → f ≡ fault.Memory)
-      → IfErr r (λ f. StopsSegment told o known names graph recent (length events) f)
-  unmade_over (Ok s) whole unmade never = tt
-  unmade_over (Err (fault.BadChange line reason)) whole unmade never = unmade
-  unmade_over (Err (fault.FileFull needed most)) whole unmade never = unmade
-  unmade_over (Err (fault.Damaged key col)) whole unmade never = (damage told whole, none told are)
+  pub unmade_over : (r : Result Segment BatchFault) → IfErr r (λ f. IsUnmade other (length events) f)
+      → IfErr r (λ f. (past : ListOf Event) → IsPast other past next.recent.now graph events given → f ≡ fault.Memory)
+      → IfErr r (StopsSegment told o next graph)
+  unmade_over (Ok s) unmade never = tt
+  unmade_over (Err (fault.BadChange line reason)) unmade never = unmade
+  unmade_over (Err (fault.FileFull needed most)) unmade never = unmade
+  unmade_over (Err (fault.Damaged key col)) unmade never = (damage told whole, none told are)
     where
       due : IsDueDelta o (length events) key
       due = subst (λ (x : Opening). IsDueDelta x (length events) key) index unmade.1
 
-      damage : (told : Option (ListOf ℕ)) → IfSome told (λ image. AreUndamaged known o image (in_groups (older_children o (length events)))) → IfSome told (λ image. IsBatchDamage known o image (length events) key col)
+      damage : (told : Option (ListOf ℕ)) → IfSome told (λ image. AreUndamaged next.known o image (in_groups children)) → IfSome told (λ image. IsBatchDamage next.known o image (length events) key col)
       damage None whole = tt
       damage (Some image) whole = inr (whole, unmade.0, due)
 
-      none : (told : Option (ListOf ℕ)) → IfSome told (λ image. (z : History) → IsIndexOver z image o known → sets ≡ sets_of z (older_children o (length events)))
-          → IfSome told (λ image. (z : History) → StandsForKept z image o known names graph recent → ⊥)
+      none : (told : Option (ListOf ℕ)) → IfSome told (λ image. (z : History) → IsIndexOver z image o next.known → sets ≡ sets_of z children)
+          → IfSome told (λ image. (z : History) → StandsForKept z image o next graph → ⊥)
       none None are = tt
       none (Some image) are = λ z is.
-          let memory : fault.Damaged key col ≡ fault.Memory = never (events_of z) (past_given z image is (are z (index_over z image o known names graph recent is within))) in cc
-  unmade_over (Err fault.Read) whole unmade never = tt
-  unmade_over (Err fault.Memory) whole unmade never = tt
-  unmade_over (Err fault.Store) whole unmade never = unmade
+          let memory : fault.Damaged key col ≡ fault.Memory = never (events_of z) (past_given z image is (are z)) in cc
+  unmade_over (Err fault.Read) unmade never = tt
+  unmade_over (Err fault.Memory) unmade never = tt
+  unmade_over (Err fault.Store) unmade never = unmade
 
-module _ (o : Opening) (known : ℕ) (names : ListOf (ListOf ℕ)) (graph : ListOf Element) (recent : ListOf Event) (within : known ≤ length names) where
-  -- what holds over an image of the index of a history holds where the history is kept
-  pub kept_takes : (told : Option (ListOf ℕ)) (count taken then_taken : ℕ)
-      → IfSome told (λ image. (z : History) → IsIndexOver z image o known → (singles : ListOf ℕ) → AreSingles (arcs_of (record_edges o)) (Root ∷ []) (older_children o count) singles → TakesAtMost (sum singles) taken then_taken)
-      → IfSome told (λ image. (z : History) → StandsForKept z image o known names graph recent → (singles : ListOf ℕ) → AreSingles (arcs_of (record_edges o)) (Root ∷ []) (older_children o count) singles → TakesAtMost (sum singles) taken then_taken)
-  kept_takes None count taken then_taken most = tt
-  kept_takes (Some image) count taken then_taken most = λ z is. most z (index_over z image o known names graph recent is within)
+-- What the call that read the older children tells, over an image of which the history is kept.
+module _ (o : Opening) (next : NextBatch) (graph : ListOf Element) (within : next.known ≤ length next.names.now) (told : Option (ListOf ℕ)) (taken then_taken : ℕ) (r : Result (Vec (ListOf Element)) RetrievalFault)
+    (gives : IfSome told (Gives o next.known (older_children o (length next.events.now)) taken then_taken r)) where
+  pub kept_takes : TakesSinglesOver told o next graph taken then_taken
+  kept_takes =
+      some_map told (Gives o next.known (older_children o (length next.events.now)) taken then_taken r)
+      (λ image. (z : History) → StandsForKept z image o next graph → (singles : ListOf ℕ) → AreSingles (arcs_of (record_edges o)) (Root ∷ []) (older_children o (length next.events.now)) singles → TakesAtMost (sum singles) taken then_taken)
+      (λ image g z is. (g z (index_over z image o next graph is within)).most) gives
+
+-- the sets are given
+pub sets_given : (o : Opening) (names : ℕ) (nodes : ListOf NodeId) (told : Option (ListOf ℕ)) (taken then_taken : ℕ) (sets : Vec (ListOf Element)) → IfSome told (Gives o names nodes taken then_taken (Ok sets))
+    → IfSome told (λ image. (z : History) → IsIndexOver z image o names → sets.items ≡ sets_of z nodes)
+sets_given o names nodes told taken then_taken sets gives =
+    some_map told (Gives o names nodes taken then_taken (Ok sets)) (λ image. (z : History) → IsIndexOver z image o names → sets.items ≡ sets_of z nodes) (λ image g z over. (g z over).sets) gives
 
 named_damage : (key : Key) (col : Column) → IsNoDamage (retrieval.Damaged key col) → ⊥
 named_damage key col (inl disk) = cc
 named_damage key col (inr memory) = cc
 
 -- the sets of the older children were not read
-pub unread_over : (told : Option (ListOf ℕ)) (o : Opening) (known : ℕ) (names : ListOf (ListOf ℕ)) (graph : ListOf Element) (recent : ListOf Event) (count : ℕ) (f : RetrievalFault) → known ≤ length names
-    → IfSome told (λ image. IsFirstOfGroups known o image (in_groups (older_children o count)) f) → IfSome told (λ image. (z : History) → IsIndexOver z image o known → IsNoDamage f)
-    → StopsSegment told o known names graph recent count (of_retrieval f)
-unread_over told o known names graph recent count retrieval.Disk within first never = tt
-unread_over told o known names graph recent count retrieval.Memory within first never = tt
-unread_over None o known names graph recent count (retrieval.Damaged key col) within first never = (tt, tt)
-unread_over (Some image) o known names graph recent count (retrieval.Damaged key col) within first never =
-    (inl first, λ z is. named_damage key col (never z (index_over z image o known names graph recent is within)))
+pub unread_over : (o : Opening) (next : NextBatch) (graph : ListOf Element) (told : Option (ListOf ℕ)) (taken then_taken : ℕ) (f : RetrievalFault) → next.known ≤ length next.names.now
+    → IfSome told (Gives o next.known (older_children o (length next.events.now)) taken then_taken (Err f)) → IfSome told (λ image. IsFirstOfGroups next.known o image (in_groups (older_children o (length next.events.now))) f)
+    → StopsSegment told o next graph (of_retrieval f)
+unread_over o next graph told taken then_taken retrieval.Disk within gives first = tt
+unread_over o next graph told taken then_taken retrieval.Memory within gives first = tt
+unread_over o next graph None taken then_taken (retrieval.Damaged key col) within gives first = (tt, tt)
+unread_over o next graph (Some image) taken then_taken (retrieval.Damaged key col) within gives first =
+    (inl first, λ z is. named_damage key col (gives z (index_over z image o next graph is within)).never)

@@ -9,7 +9,6 @@ use Rattle.dg_append.proofs.HistoryTimes.{begins_first, from_first, last_of_both
 use Rattle.dg_append.specs.AddedBatches.{recent_behind}
 use Rattle.dg_append.specs.BatchSegments.{BeginsBehind, IsSegmentBehind, MayFollow}
 use Rattle.dg_build.specs.SpelledRecords.{RisesFrom, last_in_rows}
-use Rattle.dg_columns.specs.NamesInRange.{NamesFit}
 use Rattle.dg_graph.specs.declared.event.Event.{Event}
 use Rattle.dg_graph.specs.declared.limits.TheConstants.{NAMES_MAX, TIME_MAX}
 use Rattle.dg_history.specs.declared.limits.TheConstants.{BATCH_LINES_MAX, EVENTS_MAX}
@@ -178,8 +177,8 @@ module _ (o : Opening) (recent events : List Event) (m : MayFollow o recent even
     pub new_total : event_total (index_with o s).batches ≡ event_total o.batches + length events
     new_total = new_events
 
-pub new_fit : (o : Opening) (recent events : List Event) → All (λ (e : Event). NamesFit e.body) recent → All (λ (e : Event). NamesFit e.body) events
-    → All (λ (e : Event). NamesFit e.body) (recent_behind o.params (event_total o.batches) recent events)
-new_fit o recent events first then =
-    All-drop (λ (e : Event). NamesFit e.body) (leaves o.params (event_total o.batches + length events) * o.params.l - leaves o.params (event_total o.batches) * o.params.l) (recent ++ events)
-    (All-append (λ (e : Event). NamesFit e.body) recent events first then)
+-- what holds of the recent events and of those of the batch holds of those that are recent then
+pub all_behind : (P : Event → Type 0) (o : Opening) (recent events : List Event) → All P recent → All P events → All P (recent_behind o.params (event_total o.batches) recent events)
+all_behind P o recent events first then =
+    All-drop P (leaves o.params (event_total o.batches + length events) * o.params.l - leaves o.params (event_total o.batches) * o.params.l) (recent ++ events)
+    (All-append P recent events first then)

@@ -1,11 +1,11 @@
 -- What is known of events that some changes come to.
-use Rattle.std.proofs.Common.{◌≡◌, ℕ, ◌+◌, ◌<◌, ◌≤◌, ◌^◌, Bool, true, false, not, ◌&&◌, ◌||◌, List, [], ◌∷◌, Option, Some, None, Result, Ok, Err, if◌then◌else◌, length, find, refl, sym, ◌∙◌, ap, subst, nat_lt, arith}
+use Rattle.std.proofs.Common.{◌≡◌, ℕ, ◌+◌, ◌<◌, ◌≤◌, ◌^◌, Bool, true, false, not, ◌&&◌, ◌||◌, List, [], ◌∷◌, Option, Some, None, Result, Ok, Err, if◌then◌else◌, length, get_or, find, refl, sym, ◌∙◌, ap, subst, nat_lt, arith}
 use Rattle.std.specs.Prelude.{IfSome, is_some, nat_eq, option_and_then}
 use Rattle.std.specs.Option.{option_eq}
 use Rattle.std.specs.List.{All, list_any}
 use Rattle.std.proofs.lemmas.List.Elements.{All-nil, All-cons, All-head, All-tail}
 use borrow.Author.Tests.{ltb-false, eqb-true, eq-eqb}
-use Rattle.dg_append.specs.AddedBatches.{WhatNamesFit}
+use Rattle.dg_append.specs.AddedBatches.{WhatHasNamesThere}
 use Rattle.dg_columns.specs.NamesInRange.{NamesFit}
 use Rattle.dg_graph.specs.declared.element.Element.{Element}
 use Rattle.dg_graph.specs.declared.element.Element.TheVariants as element
@@ -24,8 +24,8 @@ use Rattle.dg_graph.specs.Elements.{has, same}
 use Rattle.dg_graph.proofs.Sets.{has_first, same_itself}
 use Rattle.dg_history.specs.History.{last_time_from}
 use Rattle.dg_list.specs.NetLaws.{AreMadeByChanges}
-use Rattle.dg_retrieval.proofs.ValueRanges.{forwards_fit}
-use Rattle.dg_retrieval.specs.ValueRange.{ValueFits, ValuesFit}
+use Rattle.dg_retrieval.proofs.NamesThere.{forwards_there}
+use Rattle.dg_retrieval.specs.NamesThere.{BodyHasNamesThere, EventNamesAreThere, HasNamesThere, NamesAreThere}
 
 -- the element that is found is one that was looked for
 pub find_is : {A : Type 0} (p : A → Bool) (xs : List A) (x : A) → find p xs ≡ Some x → p x ≡ true
@@ -248,22 +248,19 @@ found_there p (y ∷ set) x h = go (p y) h (λ e. found_there p set x e)
     go true e next = let s : y ≡ x = cc in subst (λ (z : Element). has (z ∷ set) x ≡ true) (sym s) (has_first x set)
     go false e next = later (same x y) (has set x) (next e)
 
--- so its value fits
-value_found : (p : Element → Bool) (set : List Element) → ValuesFit set → IfSome (option_and_then value_in (find p set)) (λ n. n < 2 ^ 30)
-value_found p set fit = by (find p set) refl
+-- so its value is there
+value_found : (n : ℕ) (p : Element → Bool) (set : List Element) → NamesAreThere n set → IfSome (option_and_then value_in (find p set)) (λ v. v < n)
+value_found n p set there = by (find p set) refl
   where
-    own : (x : Element) → ValueFits x → IfSome (value_in x) (λ n. n < 2 ^ 30)
+    own : (x : Element) → HasNamesThere n x → IfSome (value_in x) (λ v. v < n)
     own (element.Node id) f = tt
     own (element.Edge id src dst directed) f = tt
-    own (element.NodeAttr id key value) f = f
-    own (element.EdgeAttr id key value) f = f
+    own (element.NodeAttr id key value) f = f.1
+    own (element.EdgeAttr id key value) f = f.1
 
-    by : (o : Option Element) → find p set ≡ o → IfSome (option_and_then value_in o) (λ n. n < 2 ^ 30)
+    by : (o : Option Element) → find p set ≡ o → IfSome (option_and_then value_in o) (λ v. v < n)
     by None is = tt
-    by (Some x) is = own x (fit x (found_there p set x is))
-
-ok_fits : (x b : Body) → NamesFit x → (let r : Result Body ℕ = Ok x in r) ≡ Ok b → NamesFit b
-ok_fits x b f h = let s : x ≡ b = cc in subst NamesFit s f
+    by (Some x) is = own x (there x (found_there p set x is))
 
 or_else : (t : Bool) (reason : ℕ) (r : Result Body ℕ) (b : Body) → (if t then Err reason else r) ≡ Ok b → r ≡ Ok b
 or_else true reason r b h = cc
@@ -273,50 +270,70 @@ if_so : (t : Bool) (reason : ℕ) (r : Result Body ℕ) (b : Body) → (if t the
 if_so true reason r b h = h
 if_so false reason r b h = cc
 
-removal_fits : (needed : Bool) (found : Option Element) (b : Body) → edge_removal needed found ≡ Ok b → NamesFit b
-removal_fits needed None b h = cc
-removal_fits needed (Some (element.Node n)) b h = cc
-removal_fits needed (Some (element.NodeAttr n key value)) b h = cc
-removal_fits needed (Some (element.EdgeAttr n key value)) b h = cc
-removal_fits true (Some (element.Edge n src dst directed)) b h = cc
-removal_fits false (Some (element.Edge n src dst directed)) b h = ok_fits (body.EdgeRemoved n src dst directed) b tt h
+module _ (n : ℕ) where
+  is_there : (x b : Body) → BodyHasNamesThere n x → (let r : Result Body ℕ = Ok x in r) ≡ Ok b → BodyHasNamesThere n b
+  is_there x b f h = let s : x ≡ b = cc in subst (BodyHasNamesThere n) s f
 
-taken_fits : (make : Option ℕ → Option ℕ → Body) (found : Option ℕ) (b : Body) → IfSome found (λ n. n < 2 ^ 30) → ((value : ℕ) → value < 2 ^ 30 → NamesFit (make (Some value) None)) → value_removal make found ≡ Ok b → NamesFit b
-taken_fits make None b f made h = cc
-taken_fits make (Some value) b f made h = ok_fits (make (Some value) None) b (made value f) h
+  removal_there : (needed : Bool) (found : Option Element) (b : Body) → edge_removal needed found ≡ Ok b → BodyHasNamesThere n b
+  removal_there needed None b h = cc
+  removal_there needed (Some (element.Node id)) b h = cc
+  removal_there needed (Some (element.NodeAttr id key value)) b h = cc
+  removal_there needed (Some (element.EdgeAttr id key value)) b h = cc
+  removal_there true (Some (element.Edge id src dst directed)) b h = cc
+  removal_there false (Some (element.Edge id src dst directed)) b h = is_there (body.EdgeRemoved id src dst directed) b tt h
 
-what_fits : (w : What) (set : List Element) (b : Body) → ValuesFit set → WhatNamesFit w → complete w set ≡ Ok b → NamesFit b
-what_fits (what.AddNode id) set b fit names h = ok_fits (body.NodeAdded id) b tt (or_else (has_node set id) REASON_NODE_EXISTS (Ok (body.NodeAdded id)) b h)
-what_fits (what.RemoveNode id) set b fit names h =
-    let free : Result Body ℕ = Ok (body.NodeRemoved id) in
-    let used : Result Body ℕ = if list_any (needs_node id) set then Err REASON_NODE_IN_USE else free in
-    ok_fits (body.NodeRemoved id) b tt (or_else (list_any (needs_node id) set) REASON_NODE_IN_USE free b (or_else (not (has_node set id)) REASON_NO_NODE used b h))
-what_fits (what.AddEdge id src dst directed) set b fit names h =
-    let made : Result Body ℕ = Ok (body.EdgeAdded id src dst directed) in
-    let ends : Result Body ℕ = if has_node set src && has_node set dst then made else Err REASON_NO_END in
-    ok_fits (body.EdgeAdded id src dst directed) b tt (if_so (has_node set src && has_node set dst) REASON_NO_END made b (or_else (is_some (edge_of set id)) REASON_EDGE_EXISTS ends b h))
-what_fits (what.RemoveEdge id) set b fit names h = removal_fits (list_any (needs_edge id) set) (edge_of set id) b h
-what_fits (what.SetNode id key value) set b fit names h =
-    let x : Body = body.NodeAttr id key (node_value set id key) (Some value) in
-    ok_fits x b (names.0, value_found (is_node_value id key) set fit, names.1) (if_so (has_node set id) REASON_NO_NODE (Ok x) b h)
-what_fits (what.UnsetNode id key) set b fit names h =
-    taken_fits (λ old new. body.NodeAttr id key old new) (node_value set id key) b (value_found (is_node_value id key) set fit) (λ value few. (names, few, tt))
-    (if_so (has_node set id) REASON_NO_NODE (value_removal (λ old new. body.NodeAttr id key old new) (node_value set id key)) b h)
-what_fits (what.SetEdge id key value) set b fit names h =
-    let x : Body = body.EdgeAttr id key (edge_value set id key) (Some value) in
-    ok_fits x b (names.0, value_found (is_edge_value id key) set fit, names.1) (if_so (is_some (edge_of set id)) REASON_NO_EDGE (Ok x) b h)
-what_fits (what.UnsetEdge id key) set b fit names h =
-    taken_fits (λ old new. body.EdgeAttr id key old new) (edge_value set id key) b (value_found (is_edge_value id key) set fit) (λ value few. (names, few, tt))
-    (if_so (is_some (edge_of set id)) REASON_NO_EDGE (value_removal (λ old new. body.EdgeAttr id key old new) (edge_value set id key)) b h)
+  taken_there : (make : Option ℕ → Option ℕ → Body) (found : Option ℕ) (b : Body) → IfSome found (λ v. v < n) → ((value : ℕ) → value < n → BodyHasNamesThere n (make (Some value) None)) → value_removal make found ≡ Ok b → BodyHasNamesThere n b
+  taken_there make None b f made h = cc
+  taken_there make (Some value) b f made h = is_there (make (Some value) None) b (made value f) h
 
--- the events of changes over a graph can be spelled, where the names of the changes and the values of the graph can be
-pub names_fit : (earliest : ℕ) (set : List Element) (changes : List (Option Change)) (events : List Event)
-    → AllCome earliest set changes events → ValuesFit set → All (λ c. IfSome c (λ (c : Change). WhatNamesFit c.what)) changes → All (λ (e : Event). NamesFit e.body) events
-names_fit earliest set [] [] h fit f = All-nil (λ (e : Event). NamesFit e.body)
-names_fit earliest set [] (e ∷ events) h fit f = absurd h
-names_fit earliest set (None ∷ changes) events h fit f = absurd h
-names_fit earliest set (Some c ∷ changes) [] h fit f = absurd h
-names_fit earliest set (Some c ∷ changes) (e ∷ events) h fit f =
-    let here : NamesFit e.body = what_fits c.what set e.body fit (All-head (λ c. IfSome c (λ (c : Change). WhatNamesFit c.what)) (Some c) changes f) h.0.body in
-    All-cons (λ (e : Event). NamesFit e.body) e events here
-    (names_fit e.time (forwards set e) changes events h.1 (forwards_fit set e fit here) (All-tail (λ c. IfSome c (λ (c : Change). WhatNamesFit c.what)) (Some c) changes f))
+  what_there : (w : What) (set : List Element) (b : Body) → NamesAreThere n set → WhatHasNamesThere n w → complete w set ≡ Ok b → BodyHasNamesThere n b
+  what_there (what.AddNode id) set b there names h = is_there (body.NodeAdded id) b tt (or_else (has_node set id) REASON_NODE_EXISTS (Ok (body.NodeAdded id)) b h)
+  what_there (what.RemoveNode id) set b there names h =
+      let free : Result Body ℕ = Ok (body.NodeRemoved id) in
+      let used : Result Body ℕ = if list_any (needs_node id) set then Err REASON_NODE_IN_USE else free in
+      is_there (body.NodeRemoved id) b tt (or_else (list_any (needs_node id) set) REASON_NODE_IN_USE free b (or_else (not (has_node set id)) REASON_NO_NODE used b h))
+  what_there (what.AddEdge id src dst directed) set b there names h =
+      let made : Result Body ℕ = Ok (body.EdgeAdded id src dst directed) in
+      let ends : Result Body ℕ = if has_node set src && has_node set dst then made else Err REASON_NO_END in
+      is_there (body.EdgeAdded id src dst directed) b tt (if_so (has_node set src && has_node set dst) REASON_NO_END made b (or_else (is_some (edge_of set id)) REASON_EDGE_EXISTS ends b h))
+  what_there (what.RemoveEdge id) set b there names h = removal_there (list_any (needs_edge id) set) (edge_of set id) b h
+  what_there (what.SetNode id key value) set b there names h =
+      let x : Body = body.NodeAttr id key (node_value set id key) (Some value) in
+      is_there x b (names.0, value_found n (is_node_value id key) set there, names.1) (if_so (has_node set id) REASON_NO_NODE (Ok x) b h)
+  what_there (what.UnsetNode id key) set b there names h =
+      taken_there (λ old new. body.NodeAttr id key old new) (node_value set id key) b (value_found n (is_node_value id key) set there) (λ value few. (names, few, tt))
+      (if_so (has_node set id) REASON_NO_NODE (value_removal (λ old new. body.NodeAttr id key old new) (node_value set id key)) b h)
+  what_there (what.SetEdge id key value) set b there names h =
+      let x : Body = body.EdgeAttr id key (edge_value set id key) (Some value) in
+      is_there x b (names.0, value_found n (is_edge_value id key) set there, names.1) (if_so (is_some (edge_of set id)) REASON_NO_EDGE (Ok x) b h)
+  what_there (what.UnsetEdge id key) set b there names h =
+      taken_there (λ old new. body.EdgeAttr id key old new) (edge_value set id key) b (value_found n (is_edge_value id key) set there) (λ value few. (names, few, tt))
+      (if_so (is_some (edge_of set id)) REASON_NO_EDGE (value_removal (λ old new. body.EdgeAttr id key old new) (edge_value set id key)) b h)
+
+  -- the names of the events of changes over a graph are there, where those of the changes and of the graph are
+  pub events_there : (earliest : ℕ) (set : List Element) (changes : List (Option Change)) (events : List Event)
+      → AllCome earliest set changes events → NamesAreThere n set → All (λ c. IfSome c (λ (c : Change). WhatHasNamesThere n c.what)) changes → EventNamesAreThere n events
+  events_there earliest set [] [] h there f = All-nil (λ (e : Event). BodyHasNamesThere n e.body)
+  events_there earliest set [] (e ∷ events) h there f = absurd h
+  events_there earliest set (None ∷ changes) events h there f = absurd h
+  events_there earliest set (Some c ∷ changes) [] h there f = absurd h
+  events_there earliest set (Some c ∷ changes) (e ∷ events) h there f =
+      let here : BodyHasNamesThere n e.body = what_there c.what set e.body there (All-head (λ c. IfSome c (λ (c : Change). WhatHasNamesThere n c.what)) (Some c) changes f) h.0.body in
+      All-cons (λ (e : Event). BodyHasNamesThere n e.body) e events here
+      (events_there e.time (forwards set e) changes events h.1 (forwards_there n set e there here) (All-tail (λ c. IfSome c (λ (c : Change). WhatHasNamesThere n c.what)) (Some c) changes f))
+
+-- names that are there can be spelled, where there are not too many
+value_fits : (n : ℕ) (o : Option ℕ) → n ≤ 2 ^ 30 → IfSome o (λ v. v < n) → IfSome o (λ v. v < 2 ^ 30)
+value_fits n None few f = tt
+value_fits n (Some v) few f = omega (arith, few, f)
+
+body_fits : (n : ℕ) (b : Body) → n ≤ 2 ^ 30 → BodyHasNamesThere n b → NamesFit b
+body_fits n (body.NodeAdded id) few f = tt
+body_fits n (body.NodeRemoved id) few f = tt
+body_fits n (body.EdgeAdded id src dst directed) few f = tt
+body_fits n (body.EdgeRemoved id src dst directed) few f = tt
+body_fits n (body.NodeAttr id key old new) few f = (omega (arith, few, f.0), value_fits n old few f.1, value_fits n new few f.2)
+body_fits n (body.EdgeAttr id key old new) few f = (omega (arith, few, f.0), value_fits n old few f.1, value_fits n new few f.2)
+
+pub events_fit : (n : ℕ) (events : List Event) → n ≤ 2 ^ 30 → EventNamesAreThere n events → All (λ (e : Event). NamesFit e.body) events
+events_fit n events few there k d lt = body_fits n (get_or events k d).body few (there k d lt)

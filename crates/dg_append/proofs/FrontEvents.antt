@@ -1,19 +1,22 @@
 -- What holds of the events that the changes of a next batch come to.
-use Rattle.std.proofs.Common.{◌≡◌, ℕ, ◌+◌, ◌<◌, ◌≤◌, ◌^◌, Bool, true, false, ◌&&◌, List, [], ◌∷◌, Option, Some, None, Ok, length, take, drop, refl, sym, ◌∙◌, ap, subst, nat_le, arith}
+use Rattle.std.proofs.Common.{◌≡◌, ℕ, ◌+◌, ◌<◌, ◌≤◌, ◌^◌, Bool, true, false, ◌&&◌, List, [], ◌∷◌, Option, Some, None, Ok, length, take, drop, refl, sym, ◌∙◌, ap, subst, nat_le, arith, get_or, length-append}
 use Rattle.std.specs.Prelude.{IfSome}
 use Rattle.std.specs.List.{All}
-use Rattle.std.proofs.lemmas.List.{length-map}
+use Rattle.std.proofs.lemmas.List.{length-map, take-append-drop}
 use Rattle.std.proofs.lemmas.List.Elements.{All-nil, All-cons, All-head, All-tail}
 use borrow.Author.Tests.{leb-true}
-use Rattle.dg_append.proofs.CompletedChanges.{AllCome, AreRight, all_come, are_right, as_many, last_after, made_right, names_fit, times_fit}
-use Rattle.dg_append.specs.AddedBatches.{ComesToSegment, IsReady, IsSegmentOver, WhatNamesFit}
+use Rattle.dg_append.proofs.CompletedChanges.{AllCome, AreRight, all_come, are_right, as_many, events_there, last_after, made_right, times_fit}
+use Rattle.dg_append.specs.AddedBatches.{ComesToSegment, IsReady, IsSegmentOver, WhatHasNamesThere}
 use Rattle.dg_append.specs.BatchSegments.{MayFollow}
+use Rattle.dg_append.specs.declared.batch.Batch.{Batch}
 use Rattle.dg_append.specs.declared.front.Front.{Front}
 use Rattle.dg_append.specs.declared.front.Front.TheVariants.{Whole}
 use Rattle.dg_append.specs.Fronts.{ComeTo, IsFront, lines}
 use Rattle.dg_build.specs.SpelledRecords.{RisesFrom}
-use Rattle.dg_columns.specs.NamesInRange.{NamesFit}
 use Rattle.dg_graph.specs.declared.element.Element.{Element}
+use Rattle.dg_graph.specs.declared.element.Element.TheVariants as element
+use Rattle.dg_graph.specs.declared.event.Body.{Body}
+use Rattle.dg_graph.specs.declared.event.Body.TheVariants as body
 use Rattle.dg_graph.specs.declared.event.Change.{Change}
 use Rattle.dg_graph.specs.declared.event.Event.{Event}
 use Rattle.dg_graph.specs.declared.limits.TheConstants.{NAMES_MAX, TIME_MAX}
@@ -30,6 +33,7 @@ use Rattle.dg_index.specs.IndexGrowth.{last_time_in}
 use Rattle.dg_index.specs.OpenedIndex.{Opening, earliest_in, may_be_named}
 use Rattle.dg_list.proofs.NetLaws.{changes_are_exact}
 use Rattle.dg_now.specs.Now.{earliest_time_after as earliest_now}
+use Rattle.dg_retrieval.specs.NamesThere.{BodyHasNamesThere, EventNamesAreThere, HasNamesThere, NamesAreThere}
 use Rattle.dg_start.specs.declared.stored_history.StoredHistory.{StoredHistory}
 
 -- ---- the last time of the batches
@@ -99,29 +103,63 @@ may_name_parts names new h =
     leb-true (length names + length new) NAMES_MAX (both_parts (are_new names new) (nat_le (length names + length new) NAMES_MAX) h).1
 
 -- The events are those of the changes as a batch behind the index.
-pub record IsPrepared (o : Opening) (known : ℕ) (h : StoredHistory) (front : Front) (changes : List Change) (events : List Event) : Type 0 where
-  pub whole : front ≡ Whole
-  pub comes : completed 1 (earliest_in 0 o.batches) h.now.graph (lines changes) ≡ Ok events
-  pub many : length events ≡ length changes
+pub record IsPrepared (o : Opening) (batch : Batch) (h : StoredHistory) (events : List Event) : Type 0 where
+  pub whole : batch.front ≡ Whole
+  pub comes : completed 1 (earliest_in 0 o.batches) h.now.graph (lines batch.changes.items) ≡ Ok events
+  pub many : length events ≡ length batch.changes.items
   pub follows : MayFollow o h.recent.items events
   pub changes_are : AreChangesOf h.now.graph events
-  pub fit : All (λ (e : Event). NamesFit e.body) events
-  pub few_names : length (take known h.names) + length (drop known h.names) ≤ NAMES_MAX
+  pub there : EventNamesAreThere (length h.names) events
+  pub few_names : length h.names ≤ 2 ^ 30
 
-prepared_whole : (o : Opening) (known : ℕ) (h : StoredHistory) (changes : List Change) (events : List Event) → are_parameters o.params.l o.params.k ≡ true → IsReady o known h Whole changes
-    → IsGraph h.now.graph → completed 1 (earliest_in 0 o.batches) h.now.graph (lines changes) ≡ Ok events → IsPrepared o known h Whole changes events
-prepared_whole o known h changes events parameters r graph comes =
+-- there are no more names than a history may have
+pub few_names : (known : ℕ) (names : List (List ℕ)) → may_be_named (take known names) (drop known names) ≡ true → length names ≤ 2 ^ 30
+few_names known names h =
+    omega (arith, may_name_parts (take known names) (drop known names) h, sym (length-append (take known names) (drop known names)), ap length (take-append-drop known names))
+
+pub known_few : (known : ℕ) (names : List (List ℕ)) → length (take known names) ≤ length names
+known_few known names = omega (arith, length-append (take known names) (drop known names), ap length (take-append-drop known names))
+
+-- names that are there are so where there are more
+more_there : (n m : ℕ) (x : Element) → n ≤ m → HasNamesThere n x → HasNamesThere m x
+more_there n m (element.Node id) le f = tt
+more_there n m (element.Edge id src dst directed) le f = tt
+more_there n m (element.NodeAttr id key value) le f = (omega (arith, le, f.0), omega (arith, le, f.1))
+more_there n m (element.EdgeAttr id key value) le f = (omega (arith, le, f.0), omega (arith, le, f.1))
+
+pub more_names : (n m : ℕ) (set : List Element) → n ≤ m → NamesAreThere n set → NamesAreThere m set
+more_names n m set le f x h = more_there n m x le (f x h)
+
+value_there : (n m : ℕ) (o : Option ℕ) → n ≤ m → IfSome o (λ v. v < n) → IfSome o (λ v. v < m)
+value_there n m None le f = tt
+value_there n m (Some v) le f = omega (arith, le, f)
+
+body_there : (n m : ℕ) (b : Body) → n ≤ m → BodyHasNamesThere n b → BodyHasNamesThere m b
+body_there n m (body.NodeAdded id) le f = tt
+body_there n m (body.NodeRemoved id) le f = tt
+body_there n m (body.EdgeAdded id src dst directed) le f = tt
+body_there n m (body.EdgeRemoved id src dst directed) le f = tt
+body_there n m (body.NodeAttr id key old new) le f = (omega (arith, le, f.0), value_there n m old le f.1, value_there n m new le f.2)
+body_there n m (body.EdgeAttr id key old new) le f = (omega (arith, le, f.0), value_there n m old le f.1, value_there n m new le f.2)
+
+pub more_event_names : (n m : ℕ) (events : List Event) → n ≤ m → EventNamesAreThere n events → EventNamesAreThere m events
+more_event_names n m events le f k d lt = body_there n m (get_or events k d).body le (f k d lt)
+
+pub prepared : (o : Opening) (batch : Batch) (h : StoredHistory) (events : List Event) → are_parameters o.params.l o.params.k ≡ true → IsReady o batch h → IsGraph h.now.graph → batch.front ≡ Whole
+    → completed 1 (earliest_in 0 o.batches) h.now.graph (lines batch.changes.items) ≡ Ok events → IsPrepared o batch h events
+prepared o batch h events parameters r graph whole comes =
     let p : InRange o.params.l o.params.k = in_range o.params.l o.params.k parameters in
+    let changes : List Change = batch.changes.items in
     let earliest : ℕ = earliest_in 0 o.batches in
     let come : AllCome earliest h.now.graph (lines changes) events = all_come 1 earliest h.now.graph (lines changes) events comes in
     let right : AreRight earliest h.now.graph events = are_right earliest h.now.graph (lines changes) events come in
     let many : length events ≡ length changes = as_many earliest h.now.graph (lines changes) events come ∙ length-map changes (λ (x : Change). Some x) in
-    let some : 1 ≤ length events = omega (arith, many, r.some refl) in
+    let some : 1 ≤ length events = omega (arith, many, r.some whole) in
     let times : All (λ (e : Event). e.time ≤ TIME_MAX) events =
-    times_fit earliest h.now.graph (lines changes) events come (on_lines (λ (c : Change). c.time ≤ TIME_MAX) changes (r.timed refl)) in
+    times_fit earliest h.now.graph (lines changes) events come (on_lines (λ (c : Change). c.time ≤ TIME_MAX) changes (r.timed whole)) in
     let early = first_early earliest h.now.graph events some right in
     record {
-      whole = refl;
+      whole = whole;
       comes = comes;
       many = many;
       follows = record {
@@ -137,8 +175,9 @@ prepared_whole o known h changes events parameters r graph comes =
         goes_on = r.sound.goes_on;
       };
       changes_are = changes_are_exact h.now.graph events graph (made_right earliest h.now.graph events right);
-      fit = names_fit earliest h.now.graph (lines changes) events come r.sound.values (on_lines (λ (c : Change). WhatNamesFit c.what) changes (r.fit refl));
-      few_names = may_name_parts (take known h.names) (drop known h.names) (r.named refl);
+      there = events_there (length h.names) earliest h.now.graph (lines changes) events come (more_names (length (take batch.known h.names)) (length h.names) h.now.graph (known_few batch.known h.names) r.sound.named)
+          (on_lines (λ (c : Change). WhatHasNamesThere (length h.names) c.what) changes (r.fit whole));
+      few_names = few_names batch.known h.names (r.named whole);
     }
 
 pub here : (told : Option Opening) (o : Opening) (P : Opening → Type 0) → told ≡ Some o → P o → IfSome told P
@@ -147,20 +186,18 @@ here told o P is p = subst (λ (i : Option Opening). IfSome i P) (sym is) p
 pub of_here : (told : Option Opening) (o : Opening) (P : Opening → Type 0) → told ≡ Some o → IfSome told P → P o
 of_here told o P is p = subst (λ (i : Option Opening). IfSome i P) is p
 
-pub is_prepared : (o : Opening) (known : ℕ) (h : StoredHistory) (front : Front) (changes : List Change) (events : List Event) (last : Option ℕ)
-    → are_parameters o.params.l o.params.k ≡ true → IsReady o known h front changes → IsGraph h.now.graph → front ≡ Whole → earliest_now last ≡ earliest_in 0 o.batches
-    → completed 1 (earliest_now last) h.now.graph (lines changes) ≡ Ok events → IsPrepared o known h front changes events
-is_prepared o known h front changes events last parameters ready graph whole early comes =
-    subst (λ (f : Front). IsPrepared o known h f changes events) (sym whole)
-    (prepared_whole o known h changes events parameters (subst (λ (f : Front). IsReady o known h f changes) whole ready) graph
-    (ap (λ (t : ℕ). completed 1 t h.now.graph (lines changes)) (sym early) ∙ comes))
+pub is_prepared : (o : Opening) (batch : Batch) (h : StoredHistory) (events : List Event) (last : Option ℕ)
+    → are_parameters o.params.l o.params.k ≡ true → IsReady o batch h → IsGraph h.now.graph → batch.front ≡ Whole → earliest_now last ≡ earliest_in 0 o.batches
+    → completed 1 (earliest_now last) h.now.graph (lines batch.changes.items) ≡ Ok events → IsPrepared o batch h events
+is_prepared o batch h events last parameters ready graph whole early comes =
+    prepared o batch h events parameters ready graph whole (ap (λ (t : ℕ). completed 1 t h.now.graph (lines batch.changes.items)) (sym early) ∙ comes)
 
 -- the lines come to these events
-pub come_whole : (o : Opening) (known : ℕ) (h : StoredHistory) (front : Front) (changes : List Change) (events : List Event) → IsPrepared o known h front changes events → ComeTo o h.now.graph front changes (Ok events)
-come_whole o known h front changes events p all f =
-    let is : all ≡ lines changes = subst (λ (x : Front). IsFront x changes all) p.whole f in
+pub come_whole : (o : Opening) (batch : Batch) (h : StoredHistory) (events : List Event) → IsPrepared o batch h events → ComeTo o h.now.graph batch (Ok events)
+come_whole o batch h events p all f =
+    let is : all ≡ lines batch.changes.items = subst (λ (x : Front). IsFront x batch.changes.items all) p.whole f in
     ap (completed 1 (earliest_in 0 o.batches) h.now.graph) is ∙ p.comes
 
-pub comes_to_segment : (o : Opening) (known : ℕ) (h : StoredHistory) (before : Option (List ℕ)) (front : Front) (changes : List Change) (events : List Event) (s : Segment)
-    → IsPrepared o known h front changes events → IsSegmentOver before o known h events s → ComesToSegment o known h before changes front events s
-comes_to_segment o known h before front changes events s p built = record { whole = p.whole; come = come_whole o known h front changes events p; built = built }
+pub comes_to_segment : (o : Opening) (batch : Batch) (h : StoredHistory) (before : Option (List ℕ)) (events : List Event) (s : Segment)
+    → IsPrepared o batch h events → IsSegmentOver before o batch.known h events s → ComesToSegment o batch h before events s
+comes_to_segment o batch h before events s p built = record { whole = p.whole; come = come_whole o batch h events p; built = built }

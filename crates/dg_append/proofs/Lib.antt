@@ -6,6 +6,7 @@ pub mod HistoryTimes
 pub mod BatchSegmentIndex
 pub mod FrontEvents
 pub mod BatchSegmentHistory
+pub mod KeptBatchOutcomes
 pub mod AddedBatchOutcomes
 pub mod BatchSegmentNames
 pub mod OlderGroupNodes

@@ -1,15 +1,14 @@
 -- Sets of nodes that are read group after group.
-use Rattle.std.proofs.Common.{◌≡◌, ℕ, zero, suc, ◌+◌, ◌-◌, ◌/◌, ◌<◌, ◌≤◌, List as ListOf, [], ◌∷◌, ◌++◌, Option, Some, None, length, take, drop, min, inl, inr, sym, ap, subst, ◌∙◌, arith, length-append, length-drop, length-take, take-add, drop-drop}
+use Rattle.std.proofs.Common.{◌≡◌, ℕ, zero, suc, ◌+◌, ◌-◌, ◌/◌, ◌<◌, ◌≤◌, List as ListOf, [], ◌∷◌, ◌++◌, Option, Some, None, Result, Ok, Err, length, take, drop, min, inl, inr, refl, sym, ap, subst, ◌∙◌, arith, length-drop, length-take, take-add, drop-drop}
 use Rattle.std.specs.Prelude.{IfSome}
+use Rattle.std.specs.Global.{Vec}
 use Rattle.std.specs.List.{AllZip, sum}
 use Rattle.std.proofs.lemmas.List.{map-append, take_all}
 use Rattle.std.proofs.lemmas.List.Sums.{sum_by-append, sum_by-take-le}
 use Rattle.dg_append.specs.declared.older_sets.TheConstants.{GROUP_MAX}
 use Rattle.dg_append.specs.OlderGroups.{AreUndamaged, IsDamageOfGroups, IsFirstOfGroups, groups, in_groups}
 use Rattle.dg_fold.specs.BytesRead.{TakesAtMost}
-use Rattle.dg_graph.specs.declared.element.Column.{Column}
 use Rattle.dg_graph.specs.declared.element.Element.{Element}
-use Rattle.dg_history.specs.declared.node.Key.{Key}
 use Rattle.dg_history.specs.declared.node.NodeId.{NodeId}
 use Rattle.dg_history.specs.declared.node.NodeId.TheVariants.{Root}
 use Rattle.dg_history.specs.History.{History, events_of}
@@ -23,7 +22,8 @@ use Rattle.dg_retrieval.specs.declared.fault.RetrievalFault.{RetrievalFault}
 use Rattle.dg_retrieval.specs.declared.fault.RetrievalFault.TheVariants as fault
 use Rattle.dg_retrieval.specs.KeptGraph.{record_edges}
 use Rattle.dg_retrieval.specs.NodeSets.{IsIndexOver, IsUndamaged, sets_of}
-use Rattle.dg_retrieval.specs.Retrieval.{IsFirstDamage}
+use Rattle.dg_retrieval.specs.Calls.{GivesSetsOver, TellsDamage}
+use Rattle.dg_retrieval.specs.Retrieval.{IsFirstDamage, IsNoDamage}
 
 -- ---- the first of some elements, and those behind them
 
@@ -88,38 +88,32 @@ none_left nodes done le =
 
 -- ---- reading
 
--- So many of the nodes' sets are read, of which these are known, and so many bytes.
-pub record GroupsAreRead (told : Option (ListOf ℕ)) (o : Opening) (names : ℕ) (nodes : ListOf NodeId) (done : ℕ) (sets : ListOf (ListOf Element)) (taken then_taken : ℕ) : Type 0 where
-  pub within : done ≤ length nodes
-  pub count : length sets ≡ done
-  pub sets_are : IfSome told (λ image. (z : History) → IsIndexOver z image o names → sets ≡ sets_of z (take done nodes))
-  pub whole : IfSome told (λ image. AreUndamaged names o image (in_groups (drop done nodes)) → AreUndamaged names o image (in_groups nodes))
-  pub damage : IfSome told (λ image. (key : Key) (col : Column) → IsDamageOfGroups names o image (in_groups (drop done nodes)) key col → IsDamageOfGroups names o image (in_groups nodes) key col)
-  pub most : IfSome told (λ image. (z : History) → IsIndexOver z image o names → (singles : ListOf ℕ) → AreSingles (arcs_of (record_edges o)) (Root ∷ []) nodes singles
-      → TakesAtMost (sum (take done singles)) taken then_taken)
+-- what holds in an image holds where it is told
+pub some_map : (told : Option (ListOf ℕ)) (P Q : ListOf ℕ → Type 0) → ((image : ListOf ℕ) → P image → Q image) → IfSome told P → IfSome told Q
+some_map None P Q f p = tt
+some_map (Some image) P Q f p = f image p
 
--- The sets of a group are read, and so many bytes.
-pub record GroupIsRead (told : Option (ListOf ℕ)) (o : Opening) (names : ℕ) (group : ListOf NodeId) (sets : ListOf (ListOf Element)) (taken then_taken : ℕ) : Type 0 where
-  pub count : length sets ≡ length group
-  pub sets_are : IfSome told (λ image. (z : History) → IsIndexOver z image o names → sets ≡ sets_of z group)
-  pub whole : IfSome told (λ image. IsUndamaged names (record_edges o) o all_columns group image)
-  pub most : IfSome told (λ image. (z : History) → IsIndexOver z image o names → (singles : ListOf ℕ) → AreSingles (arcs_of (record_edges o)) (Root ∷ []) group singles
-      → TakesAtMost (sum singles) taken then_taken)
+pub some_both : (told : Option (ListOf ℕ)) (P Q R : ListOf ℕ → Type 0) → ((image : ListOf ℕ) → P image → Q image → R image) → IfSome told P → IfSome told Q → IfSome told R
+some_both None P Q R f p q = tt
+some_both (Some image) P Q R f p q = f image p q
 
-all_told : (told : Option (ListOf ℕ)) (P : ListOf ℕ → Type 0) → ((image : ListOf ℕ) → P image) → IfSome told P
-all_told None P p = tt
-all_told (Some image) P p = p image
+pub every_some : (told : Option (ListOf ℕ)) (P : ListOf ℕ → Type 0) → ((image : ListOf ℕ) → P image) → IfSome told P
+every_some None P f = tt
+every_some (Some image) P f = f image
 
-pub none_read : (told : Option (ListOf ℕ)) (o : Opening) (names : ℕ) (nodes : ListOf NodeId) (sets : ListOf (ListOf Element)) (taken : ℕ) → sets ≡ [] → GroupsAreRead told o names nodes 0 sets taken taken
-none_read told o names nodes sets taken none = record {
-  within = omega arith;
-  count = ap length none;
-  sets_are = all_told told (λ image. (z : History) → IsIndexOver z image o names → sets ≡ sets_of z (take 0 nodes)) (λ image z over. none);
-  whole = all_told told (λ image. AreUndamaged names o image (in_groups (drop 0 nodes)) → AreUndamaged names o image (in_groups nodes)) (λ image w. w);
-  damage = all_told told (λ image. (key : Key) (col : Column) → IsDamageOfGroups names o image (in_groups (drop 0 nodes)) key col → IsDamageOfGroups names o image (in_groups nodes) key col) (λ image key col d. d);
-  most = all_told told (λ image. (z : History) → IsIndexOver z image o names → (singles : ListOf ℕ) → AreSingles (arcs_of (record_edges o)) (Root ∷ []) nodes singles → TakesAtMost (sum (take 0 singles)) taken taken)
-      (λ image z over singles are. omega arith);
-}
+-- In this image so many of the nodes' sets are read, and so many bytes.
+pub record GroupsAreRead (o : Opening) (names : ℕ) (nodes : ListOf NodeId) (done : ℕ) (sets : ListOf (ListOf Element)) (taken then_taken : ℕ) (image : ListOf ℕ) : Type 0 where
+  pub whole : AreUndamaged names o image (in_groups (drop done nodes)) → AreUndamaged names o image (in_groups nodes)
+  pub damage : (f : RetrievalFault) → IsFirstOfGroups names o image (in_groups (drop done nodes)) f → IsFirstOfGroups names o image (in_groups nodes) f
+  pub sets_are : (z : History) → IsIndexOver z image o names → sets ≡ sets_of z (take done nodes)
+  pub most : (z : History) → IsIndexOver z image o names → (singles : ListOf ℕ) → AreSingles (arcs_of (record_edges o)) (Root ∷ []) nodes singles → TakesAtMost (sum (take done singles)) taken then_taken
+
+pub none_read : (o : Opening) (names : ℕ) (nodes : ListOf NodeId) (sets : ListOf (ListOf Element)) (taken : ℕ) → sets ≡ [] → (image : ListOf ℕ) → GroupsAreRead o names nodes 0 sets taken taken image
+none_read o names nodes sets taken none image = record { whole = λ w. w; damage = λ f d. d; sets_are = λ z over. none; most = λ z over singles are. omega arith }
+
+-- what a call over these groups tells in an image
+abbrev pub Gives : Opening → ℕ → ListOf NodeId → ℕ → ℕ → Result (Vec (ListOf Element)) RetrievalFault → ListOf ℕ → Type 0
+Gives o names nodes taken then_taken r image = (z : History) → IsIndexOver z image o names → GivesSetsOver z (record_edges o) nodes taken then_taken r
 
 module _ (o : Opening) (names : ℕ) (nodes : ListOf NodeId) (done : ℕ) (more : done < length nodes) where
   abbrev pub size_next : ℕ
@@ -143,111 +137,82 @@ module _ (o : Opening) (names : ℕ) (nodes : ListOf NodeId) (done : ℕ) (more 
   group_long = length-take size_next (drop done nodes) ∙ (let e : min size_next (length (drop done nodes)) ≡ size_next = omega (arith, length-drop done nodes) in e)
 
   -- one group more
-  pub one_read : (told : Option (ListOf ℕ)) (sets group all : ListOf (ListOf Element)) (taken middle last : ℕ)
-      → GroupsAreRead told o names nodes done sets taken middle → GroupIsRead told o names (take size_next (drop done nodes)) group middle last → all ≡ sets ++ group
-      → GroupsAreRead told o names nodes (done + size_next) all taken last
-  one_read told sets group all taken middle last r g are = record {
-    within = omega (arith, more);
-    count = ap length are ∙ length-append sets group ∙ (λ i. r.count i + (g.count ∙ group_long) i);
-    sets_are = by_sets told r.sets_are g.sets_are;
-    whole = by_whole told r.whole g.whole;
-    damage = by_damage told r.damage g.whole;
-    most = by_most told r.most g.most;
+  pub one_read : (sets all : ListOf (ListOf Element)) (group : Vec (ListOf Element)) (taken middle last : ℕ) (image : ListOf ℕ)
+      → GroupsAreRead o names nodes done sets taken middle image → Gives o names (take size_next (drop done nodes)) middle last (Ok group) image
+      → IsUndamaged names (record_edges o) o all_columns (take size_next (drop done nodes)) image → all ≡ sets ++ group.items
+      → GroupsAreRead o names nodes (done + size_next) all taken last image
+  one_read sets all group taken middle last image r g undamaged are = record {
+    whole = λ rest. r.whole (subst (AreUndamaged names o image) (sym groups_are) (undamaged, rest));
+    damage = λ f rest. r.damage f (later f rest);
+    sets_are = λ z over.
+        are ∙ (λ i. r.sets_are z over i ++ (g z over).sets i) ∙ sym (map-append (set_of z.params (events_of z)) (take done nodes) (take size_next (drop done nodes)))
+        ∙ ap (sets_of z) (sym (take-add done size_next nodes));
+    most = λ z over singles s.
+        let here = (g z over).most (take size_next (drop done singles)) (zip_take _ size_next (drop done nodes) (drop done singles) (zip_drop _ done nodes singles s)) in
+        subst (λ n. TakesAtMost n taken last) (sym (sum_next done size_next singles))
+        (takes_both (sum (take done singles)) (sum (take size_next (drop done singles))) taken middle last (r.most z over singles s) here);
   }
     where
-      by_sets : (told : Option (ListOf ℕ)) → IfSome told (λ image. (z : History) → IsIndexOver z image o names → sets ≡ sets_of z (take done nodes))
-          → IfSome told (λ image. (z : History) → IsIndexOver z image o names → group ≡ sets_of z (take size_next (drop done nodes)))
-          → IfSome told (λ image. (z : History) → IsIndexOver z image o names → all ≡ sets_of z (take (done + size_next) nodes))
-      by_sets None a b = tt
-      by_sets (Some image) a b = λ z over.
-          are ∙ (λ i. a z over i ++ b z over i) ∙ sym (map-append (set_of z.params (events_of z)) (take done nodes) (take size_next (drop done nodes)))
-          ∙ ap (sets_of z) (sym (take-add done size_next nodes))
+      later : (f : RetrievalFault) → IsFirstOfGroups names o image (in_groups (drop (done + size_next) nodes)) f → IsFirstOfGroups names o image (in_groups (drop done nodes)) f
+      later fault.Disk rest = tt
+      later fault.Memory rest = tt
+      later (fault.Damaged key col) rest = subst (λ (gs : ListOf (ListOf NodeId)). IsDamageOfGroups names o image gs key col) (sym groups_are) (inr (undamaged, rest))
 
-      by_whole : (told : Option (ListOf ℕ)) → IfSome told (λ image. AreUndamaged names o image (in_groups (drop done nodes)) → AreUndamaged names o image (in_groups nodes))
-          → IfSome told (λ image. IsUndamaged names (record_edges o) o all_columns (take size_next (drop done nodes)) image)
-          → IfSome told (λ image. AreUndamaged names o image (in_groups (drop (done + size_next) nodes)) → AreUndamaged names o image (in_groups nodes))
-      by_whole None a b = tt
-      by_whole (Some image) a b = λ rest. a (subst (AreUndamaged names o image) (sym groups_are) (b, rest))
+  -- the group was not read, or its sets were not kept
+  pub none_more_read : (sets : ListOf (ListOf Element)) (r : Result (Vec (ListOf Element)) RetrievalFault) (f : RetrievalFault) (taken middle last : ℕ) (image : ListOf ℕ)
+      → GroupsAreRead o names nodes done sets taken middle image → Gives o names (take size_next (drop done nodes)) middle last r image → ((z : History) → IsIndexOver z image o names → IsNoDamage f)
+      → Gives o names nodes taken last (Err f) image
+  none_more_read sets r f taken middle last image read g never z over = record {
+    sets = tt;
+    most = λ singles s.
+        let here = (g z over).most (take size_next (drop done singles)) (zip_take _ size_next (drop done nodes) (drop done singles) (zip_drop _ done nodes singles s)) in
+        let both : TakesAtMost (sum (take done singles) + sum (take size_next (drop done singles))) taken last =
+        takes_both (sum (take done singles)) (sum (take size_next (drop done singles))) taken middle last (read.most z over singles s) here in
+        takes_fewer (sum (take done singles) + sum (take size_next (drop done singles))) (sum singles) taken last
+        (omega (arith, sum_next done size_next singles, sum_first (done + size_next) singles)) both;
+    never = never z over;
+  }
 
-      by_damage : (told : Option (ListOf ℕ)) → IfSome told (λ image. (key : Key) (col : Column) → IsDamageOfGroups names o image (in_groups (drop done nodes)) key col → IsDamageOfGroups names o image (in_groups nodes) key col)
-          → IfSome told (λ image. IsUndamaged names (record_edges o) o all_columns (take size_next (drop done nodes)) image)
-          → IfSome told (λ image. (key : Key) (col : Column) → IsDamageOfGroups names o image (in_groups (drop (done + size_next) nodes)) key col → IsDamageOfGroups names o image (in_groups nodes) key col)
-      by_damage None a b = tt
-      by_damage (Some image) a b = λ key col rest.
-          a key col (subst (λ (gs : ListOf (ListOf NodeId)). IsDamageOfGroups names o image gs key col) (sym groups_are) (inr (b, rest)))
+  -- the first damage of the group is the first of all groups
+  pub first_damage : (sets : ListOf (ListOf Element)) (taken middle : ℕ) (f : RetrievalFault) (image : ListOf ℕ) → GroupsAreRead o names nodes done sets taken middle image
+      → IsFirstDamage names (record_edges o) o all_columns (take size_next (drop done nodes)) image f → IsFirstOfGroups names o image (in_groups nodes) f
+  first_damage sets taken middle fault.Disk image r g = tt
+  first_damage sets taken middle fault.Memory image r g = tt
+  first_damage sets taken middle (fault.Damaged key col) image r g =
+      r.damage (fault.Damaged key col) (subst (λ (gs : ListOf (ListOf NodeId)). IsDamageOfGroups names o image gs key col) (sym groups_are) (inl g))
 
-      by_most : (told : Option (ListOf ℕ)) → IfSome told (λ image. (z : History) → IsIndexOver z image o names → (singles : ListOf ℕ) → AreSingles (arcs_of (record_edges o)) (Root ∷ []) nodes singles → TakesAtMost (sum (take done singles)) taken middle)
-          → IfSome told (λ image. (z : History) → IsIndexOver z image o names → (singles : ListOf ℕ) → AreSingles (arcs_of (record_edges o)) (Root ∷ []) (take size_next (drop done nodes)) singles → TakesAtMost (sum singles) middle last)
-          → IfSome told (λ image. (z : History) → IsIndexOver z image o names → (singles : ListOf ℕ) → AreSingles (arcs_of (record_edges o)) (Root ∷ []) nodes singles → TakesAtMost (sum (take (done + size_next) singles)) taken last)
-      by_most None a b = tt
-      by_most (Some image) a b = λ z over singles s.
-          let here = b z over (take size_next (drop done singles)) (zip_take _ size_next (drop done nodes) (drop done singles) (zip_drop _ done nodes singles s)) in
-          subst (λ n. TakesAtMost n taken last) (sym (sum_next done size_next singles))
-          (takes_both (sum (take done singles)) (sum (take size_next (drop done singles))) taken middle last (a z over singles s) here)
+-- all groups are read
+module _ (o : Opening) (names : ℕ) (nodes : ListOf NodeId) (done : ℕ) (sets : Vec (ListOf Element)) (taken then_taken : ℕ) (over : length nodes ≤ done) (image : ListOf ℕ) (r : GroupsAreRead o names nodes done sets.items taken then_taken image) where
+  pub all_given : Gives o names nodes taken then_taken (Ok sets) image
+  all_given z is = record {
+    sets = r.sets_are z is ∙ ap (sets_of z) (take_all done nodes over);
+    most = λ singles s. takes_fewer (sum (take done singles)) (sum singles) taken then_taken (sum_first done singles) (r.most z is singles s);
+    never = tt;
+  }
 
-  -- the group was not read
-  pub none_more_read : (told : Option (ListOf ℕ)) (sets : ListOf (ListOf Element)) (taken middle last : ℕ) → GroupsAreRead told o names nodes done sets taken middle
-      → IfSome told (λ image. (z : History) → IsIndexOver z image o names → (singles : ListOf ℕ) → AreSingles (arcs_of (record_edges o)) (Root ∷ []) (take size_next (drop done nodes)) singles → TakesAtMost (sum singles) middle last)
-      → IfSome told (λ image. (z : History) → IsIndexOver z image o names → (singles : ListOf ℕ) → AreSingles (arcs_of (record_edges o)) (Root ∷ []) nodes singles → TakesAtMost (sum singles) taken last)
-  none_more_read None sets taken middle last r g = tt
-  none_more_read (Some image) sets taken middle last r g = λ z over singles s.
-      let here = g z over (take size_next (drop done singles)) (zip_take _ size_next (drop done nodes) (drop done singles) (zip_drop _ done nodes singles s)) in
-      let both : TakesAtMost (sum (take done singles) + sum (take size_next (drop done singles))) taken last =
-      takes_both (sum (take done singles)) (sum (take size_next (drop done singles))) taken middle last (r.most z over singles s) here in
-      takes_fewer (sum (take done singles) + sum (take size_next (drop done singles))) (sum singles) taken last
-      (omega (arith, sum_next done size_next singles, sum_first (done + size_next) singles)) both
+  pub all_whole : AreUndamaged names o image (in_groups nodes)
+  all_whole = r.whole (subst (AreUndamaged names o image) (sym (none_left nodes done over)) tt)
 
-  pub first_damage : (told : Option (ListOf ℕ)) (sets : ListOf (ListOf Element)) (taken middle : ℕ) (f : RetrievalFault) → GroupsAreRead told o names nodes done sets taken middle
-      → IfSome told (λ image. IsFirstDamage names (record_edges o) o all_columns (take size_next (drop done nodes)) image f)
-      → IfSome told (λ image. IsFirstOfGroups names o image (in_groups nodes) f)
-  first_damage None sets taken middle f r g = tt
-  first_damage (Some image) sets taken middle fault.Disk r g = tt
-  first_damage (Some image) sets taken middle fault.Memory r g = tt
-  first_damage (Some image) sets taken middle (fault.Damaged key col) r g =
-      r.damage key col (subst (λ (gs : ListOf (ListOf NodeId)). IsDamageOfGroups names o image gs key col) (sym groups_are) (inl g))
+-- memory lacked before anything was read
+pub lacks_memory : (o : Opening) (names : ℕ) (nodes : ListOf NodeId) (taken : ℕ) (image : ListOf ℕ) → Gives o names nodes taken taken (Err fault.Memory) image
+lacks_memory o names nodes taken image z over = record { sets = tt; most = λ singles s. omega arith; never = inr refl }
 
--- ---- what one call tells, over what it was called with
+-- there is nothing to be read
+pub none_given : (o : Opening) (names : ℕ) (nodes : ListOf NodeId) (taken : ℕ) (sets : Vec (ListOf Element)) → nodes ≡ [] → sets.items ≡ [] → (image : ListOf ℕ) → Gives o names nodes taken taken (Ok sets) image
+none_given o names nodes taken sets none empty image z over = record { sets = empty ∙ ap (sets_of z) (sym none); most = λ singles s. omega arith; never = tt }
 
--- the image, the index, the edges of the planner and the nodes of a call
-abbrev pub Call : Type 0
-Call = Option (ListOf ℕ) × Opening × ListOf Edge × ListOf NodeId
+pub none_whole : (o : Opening) (names : ℕ) (nodes : ListOf NodeId) → nodes ≡ [] → (image : ListOf ℕ) → AreUndamaged names o image (in_groups nodes)
+none_whole o names nodes none image = subst (λ (ns : ListOf NodeId). AreUndamaged names o image (in_groups ns)) (sym none) tt
 
-abbrev pub HasSets : ℕ → ListOf (ListOf Element) → Call → Type 0
-HasSets names sets x = IfSome x.0 (λ image. (z : History) → IsIndexOver z image x.1 names → sets ≡ sets_of z x.3)
+-- ---- a call, over what it was called with
 
-abbrev pub IsWhole : ℕ → Call → Type 0
-IsWhole names x = IfSome x.0 (λ image. IsUndamaged names x.2 x.1 all_columns x.3 image)
+-- the edges of the planner and the nodes of a call
+abbrev pub Called : Type 0
+Called = Opening × ListOf Edge × ListOf NodeId
 
-abbrev pub TakesSingles : ℕ → ℕ → ℕ → Call → Type 0
-TakesSingles names taken then_taken x =
-    IfSome x.0 (λ image. (z : History) → IsIndexOver z image x.1 names → (singles : ListOf ℕ) → AreSingles (arcs_of x.2) (Root ∷ []) x.3 singles → TakesAtMost (sum singles) taken then_taken)
+-- what it tells of the sets, and of damage
+abbrev pub CallGives : ℕ → ℕ → ℕ → Result (Vec (ListOf Element)) RetrievalFault → ListOf ℕ → Called → Type 0
+CallGives names taken then_taken r image x = (z : History) → IsIndexOver z image x.0 names → GivesSetsOver z x.1 x.2 taken then_taken r
 
-abbrev pub HasDamage : ℕ → RetrievalFault → Call → Type 0
-HasDamage names f x = IfSome x.0 (λ image. IsFirstDamage names x.2 x.1 all_columns x.3 image f)
-
-pub group_read : (told : Option (ListOf ℕ)) (o : Opening) (names : ℕ) (group : ListOf NodeId) (sets : ListOf (ListOf Element)) (taken then_taken : ℕ) (x : Call) → x ≡ (told, o, record_edges o, group)
-    → length sets ≡ length group → HasSets names sets x → IsWhole names x → TakesSingles names taken then_taken x → GroupIsRead told o names group sets taken then_taken
-group_read told o names group sets taken then_taken x is count are whole most = record {
-  count = count;
-  sets_are = subst (HasSets names sets) is are;
-  whole = subst (IsWhole names) is whole;
-  most = subst (TakesSingles names taken then_taken) is most;
-}
-
--- The sets of all nodes are read, and so many bytes.
-pub record AllAreRead (told : Option (ListOf ℕ)) (o : Opening) (names : ℕ) (nodes : ListOf NodeId) (sets : ListOf (ListOf Element)) (taken then_taken : ℕ) : Type 0 where
-  pub count : length sets ≡ length nodes
-  pub sets_are : IfSome told (λ image. (z : History) → IsIndexOver z image o names → sets ≡ sets_of z nodes)
-  pub whole : IfSome told (λ image. AreUndamaged names o image (in_groups nodes))
-  pub most : IfSome told (λ image. (z : History) → IsIndexOver z image o names → (singles : ListOf ℕ) → AreSingles (arcs_of (record_edges o)) (Root ∷ []) nodes singles
-      → TakesAtMost (sum singles) taken then_taken)
-
-pub all_read : (told : Option (ListOf ℕ)) (o : Opening) (names : ℕ) (nodes : ListOf NodeId) (done : ℕ) (sets : ListOf (ListOf Element)) (taken then_taken : ℕ)
-    → length nodes ≤ done → GroupsAreRead told o names nodes done sets taken then_taken → AllAreRead told o names nodes sets taken then_taken
-all_read None o names nodes done sets taken then_taken over r = record { count = omega (arith, r.count, r.within, over); sets_are = tt; whole = tt; most = tt }
-all_read (Some image) o names nodes done sets taken then_taken over r = record {
-  count = omega (arith, r.count, r.within, over);
-  sets_are = λ z is. r.sets_are z is ∙ ap (sets_of z) (take_all done nodes over);
-  whole = r.whole (subst (AreUndamaged names o image) (sym (none_left nodes done over)) tt);
-  most = λ z is singles s. takes_fewer (sum (take done singles)) (sum singles) taken then_taken (sum_first done singles) (r.most z is singles s);
-}
+abbrev pub CallDamage : ℕ → Result (Vec (ListOf Element)) RetrievalFault → ListOf ℕ → Called → Type 0
+CallDamage names r image x = TellsDamage names x.1 x.0 all_columns x.2 image r

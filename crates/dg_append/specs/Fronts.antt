@@ -1,5 +1,6 @@
 -- The changes of a batch that are kept, beside the lines that they were read from.
 use Rattle.std.specs.Prelude.{◌≡◌, ℕ, List, ◌∷◌, ◌++◌, Option, Some, None, Result, map}
+use Rattle.dg_append.specs.declared.batch.Batch.{Batch}
 use Rattle.dg_append.specs.declared.front.Front.{Front}
 use Rattle.dg_append.specs.declared.front.Front.TheVariants.{Whole, Form, Unkept}
 use Rattle.dg_graph.specs.CompletedChanges.{completed}
@@ -19,6 +20,6 @@ IsFront Form changes all = (rest : List (Option Change)) × (all ≡ lines chang
 IsFront Unkept changes all = Unit {0}
 
 -- what the lines come to as the batch behind an index with this current graph, all those that begin with the changes
-abbrev pub ComeTo : Opening → List Element → Front → List Change → Result (List Event) (ℕ × ℕ) → Type 0
-ComeTo o graph front changes due =
-    (all : List (Option Change)) → IsFront front changes all → completed 1 (earliest_in 0 o.batches) graph all ≡ due
+abbrev pub ComeTo : Opening → List Element → Batch → Result (List Event) (ℕ × ℕ) → Type 0
+ComeTo o graph batch due =
+    (all : List (Option Change)) → IsFront batch.front batch.changes.items all → completed 1 (earliest_in 0 o.batches) graph all ≡ due

@@ -1,5 +1,5 @@
 -- The older children of the interior nodes that a batch completes, as they are read: in groups, each by one tree.
-use Rattle.std.specs.Prelude.{◌≡◌, ◌⊎◌, ℕ, zero, suc, ◌+◌, ◌-◌, ◌/◌, List as ListOf, [], ◌∷◌, length, take, drop}
+use Rattle.std.specs.Prelude.{◌≡◌, ◌⊎◌, ℕ, zero, suc, ◌+◌, ◌-◌, ◌/◌, List as ListOf, [], ◌∷◌, Result, Ok, Err, length, take, drop}
 use Rattle.std.specs.List.{Contains}
 use Rattle.dg_append.specs.declared.older_sets.TheConstants.{GROUP_MAX}
 use Rattle.dg_graph.specs.declared.element.Column.{Column}
@@ -40,21 +40,27 @@ in_groups nodes = groups GROUP_MAX ((length nodes + (GROUP_MAX - 1)) / GROUP_MAX
 -- In the first group that has damage this is the first: where this is the image, the trees of the groups before it
 -- enter no damaged column.
 abbrev pub IsDamageOfGroups : ℕ → Opening → ListOf ℕ → ListOf (ListOf NodeId) → Key → Column → Type 0
-IsDamageOfGroups names o image [] key col = ⊥
-IsDamageOfGroups names o image (g ∷ more) key col =
-    IsFirstDamage names (record_edges o) o all_columns g image (fault.Damaged key col)
-    ⊎ (IsUndamaged names (record_edges o) o all_columns g image × IsDamageOfGroups names o image more key col)
+IsDamageOfGroups name_count o image [] key col = ⊥
+IsDamageOfGroups name_count o image (g ∷ more) key col =
+    IsFirstDamage name_count (record_edges o) o all_columns g image (fault.Damaged key col)
+    ⊎ (IsUndamaged name_count (record_edges o) o all_columns g image × IsDamageOfGroups name_count o image more key col)
 
 -- the same of a fault of reading the sets group after group; of a failed read and of want of memory nothing is said
 abbrev pub IsFirstOfGroups : ℕ → Opening → ListOf ℕ → ListOf (ListOf NodeId) → RetrievalFault → Type 0
-IsFirstOfGroups names o image all fault.Disk = Unit {0}
-IsFirstOfGroups names o image all (fault.Damaged key col) = IsDamageOfGroups names o image all key col
-IsFirstOfGroups names o image all fault.Memory = Unit {0}
+IsFirstOfGroups name_count o image all fault.Disk = Unit {0}
+IsFirstOfGroups name_count o image all (fault.Damaged key col) = IsDamageOfGroups name_count o image all key col
+IsFirstOfGroups name_count o image all fault.Memory = Unit {0}
 
 -- where this is the image, the trees of all these groups enter no damaged column
 abbrev pub AreUndamaged : ℕ → Opening → ListOf ℕ → ListOf (ListOf NodeId) → Type 0
-AreUndamaged names o image [] = Unit {0}
-AreUndamaged names o image (g ∷ more) = IsUndamaged names (record_edges o) o all_columns g image × AreUndamaged names o image more
+AreUndamaged name_count o image [] = Unit {0}
+AreUndamaged name_count o image (g ∷ more) = IsUndamaged name_count (record_edges o) o all_columns g image × AreUndamaged name_count o image more
+
+-- What a call that reads the sets of these nodes tells of damage in this image: what is given has met none; a fault that
+-- is damage names the first.
+abbrev pub TellsGroupDamage : {A : Type 0} → ℕ → Opening → ListOf ℕ → ListOf NodeId → Result A RetrievalFault → Type 0
+TellsGroupDamage name_count o image nodes (Ok r) = AreUndamaged name_count o image (in_groups nodes)
+TellsGroupDamage name_count o image nodes (Err f) = IsFirstOfGroups name_count o image (in_groups nodes) f
 
 -- the key is that of a delta that such a batch gives
 abbrev pub IsDueDelta : Opening → ℕ → Key → Type 0
@@ -63,6 +69,6 @@ IsDueDelta o count key = Contains (deltas_due o.params.k (leaves_before o) (leav
 -- Why a batch of so many events names this column as damaged: it is the first that the trees of the older children
 -- enter; or all these are whole, and it is the structure of a delta that is due.
 abbrev pub IsBatchDamage : ℕ → Opening → ListOf ℕ → ℕ → Key → Column → Type 0
-IsBatchDamage names o image count key col =
-    IsDamageOfGroups names o image (in_groups (older_children o count)) key col
-    ⊎ (AreUndamaged names o image (in_groups (older_children o count)) × (col ≡ Structure) × IsDueDelta o count key)
+IsBatchDamage name_count o image count key col =
+    IsDamageOfGroups name_count o image (in_groups (older_children o count)) key col
+    ⊎ (AreUndamaged name_count o image (in_groups (older_children o count)) × (col ≡ Structure) × IsDueDelta o count key)

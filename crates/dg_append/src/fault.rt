@@ -31,7 +31,7 @@ pub enum BatchFault {
     #[error("out of memory")]
     Memory,
     /// A write or a sync of the index file failed.
-    #[error("a write of the index file failed")]
+    #[error("a write or a sync of the index file failed")]
     Store,
 }
 

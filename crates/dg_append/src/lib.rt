@@ -9,13 +9,16 @@ mod batch_segment;
 mod completion;
 mod fault;
 mod front;
+mod live;
 mod nets;
+mod next_batch;
 mod older_children;
 mod older_sets;
 mod recent;
 mod segment;
 
-pub use batch::{AddedBatch, add_batch};
+pub use batch::{AddedBatch, Batch, add_batch};
 pub use fault::BatchFault;
 pub use front::Front;
+pub use live::Live;
 pub use older_sets::{GROUP_MAX, group_limit};

@@ -1,12 +1,9 @@
 //! How the current graph of a pool goes on with a batch: by the nets of the two halves of its events. They are not
 //! composed, so that a long batch takes no memory for what both of them name.
 
-ghost use Rattle.std.specs.Prelude.{◌≡◌, ℕ, List, IfOk, OnOk};
+ghost use Rattle.std.specs.Prelude.{◌≡◌, ℕ, IfOk, OnOk};
 ghost use Rattle.dg_append.specs.BatchNets.{led_by};
-ghost use Rattle.dg_cells.specs.Rows.{AllHave};
-ghost use Rattle.dg_graph.specs.declared.element.Element.{Element};
-ghost use Rattle.dg_graph.specs.Elements.{IsSet};
-ghost use Rattle.dg_graph.specs.Replay.{replay_from};
+ghost use Rattle.dg_append.specs.KeptBatches.{HaveCells, LeadPast};
 ghost use Rattle.dg_pool.specs.Graphs.{SameGraphs, graph_now, slot_graph};
 
 use dg_graph::Event;
@@ -23,7 +20,7 @@ pub(crate) struct Nets {
 
 // The nets of the events' two halves.
 fn nets_of(alloc: Global, events: &[Event]) -> Result<Nets, AllocError>
-    ensures { IfOk result (λ nets. (set : List Element) → IsSet set → led_by nets.earlier nets.later set ≡ replay_from set events.now) }
+    ensures { IfOk result (λ nets. LeadPast nets events.now) }
 {
     let (earlier, later) = events.split_at(events.len() / 2);
     let earlier = whole_net(alloc, earlier)?;
@@ -34,8 +31,7 @@ fn nets_of(alloc: Global, events: &[Event]) -> Result<Nets, AllocError>
 // Makes a cell in the pool for each element that one of the nets brings. No graph changes.
 fn make_cells(pool: &mut Pool, nets: &Nets) -> Result<(), AllocError>
     ensures graphs { SameGraphs pool.old pool.new }
-    ensures earlier { OnOk result (AllHave pool.new.rows nets.now.earlier.plus) }
-    ensures later { OnOk result (AllHave pool.new.rows nets.now.later.plus) }
+    ensures cells { OnOk result (HaveCells pool.new.rows nets.now) }
 {
     let earlier = nets.earlier.plus();
     let later = nets.later.plus();
@@ -53,9 +49,8 @@ pub(crate) fn make_nets(
     pool: &mut Pool,
 ) -> Result<Nets, AllocError>
     ensures graphs { SameGraphs pool.old pool.new }
-    ensures earlier { IfOk result (λ nets. AllHave pool.new.rows nets.earlier.plus) }
-    ensures later { IfOk result (λ nets. AllHave pool.new.rows nets.later.plus) }
-    ensures leads { IfOk result (λ nets. (set : List Element) → IsSet set → led_by nets.earlier nets.later set ≡ replay_from set events.now) }
+    ensures cells { IfOk result (λ nets. HaveCells pool.new.rows nets) }
+    ensures leads { IfOk result (λ nets. LeadPast nets events.now) }
 {
     let nets = nets_of(alloc, events)?;
     make_cells(pool, &nets)?;
@@ -64,8 +59,7 @@ pub(crate) fn make_nets(
 
 /// Takes the current graph of the pool on by the nets, the earlier first. No other graph changes.
 pub(crate) fn pass_batch(pool: &mut Pool, nets: &Nets)
-    requires earlier { AllHave pool.old.rows nets.now.earlier.plus }
-    requires later { AllHave pool.old.rows nets.now.later.plus }
+    requires cells { HaveCells pool.old.rows nets.now }
     ensures now { graph_now pool.new ≡ led_by nets.now.earlier nets.now.later (graph_now pool.old) }
     ensures slots { (s : ℕ) → slot_graph pool.new s ≡ slot_graph pool.old s }
 {

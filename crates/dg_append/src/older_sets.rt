@@ -1,21 +1,15 @@
 //! The sets of the older children, by trees over the records of the index alone.
 
-ghost use Rattle.std.specs.Prelude.{◌≡◌, ℕ, ◌+◌, ◌≤◌, List, ◌∷◌, [], length, IfErr, IfOk, IfSome, IsErrOf, OnOk};
-ghost use Rattle.std.specs.List.{All, Contains, sum};
-ghost use Rattle.dg_append.specs.OlderGroups.{AreUndamaged, IsFirstOfGroups, in_groups, older_children};
-ghost use Rattle.dg_disk.specs.Counts.{Rose};
-ghost use Rattle.dg_disk.specs.Frame.{OnlyReads};
+ghost use Rattle.std.specs.Prelude.{◌≡◌, ◌+◌, ◌≤◌, length, IfOk, IfSome};
+ghost use Rattle.std.specs.List.{All, Contains};
+ghost use Rattle.dg_append.specs.OlderGroups.{TellsGroupDamage, older_children};
 ghost use Rattle.dg_file.specs.Images.{IsOpenedAs};
-ghost use Rattle.dg_fold.specs.BytesRead.{TakesAtMost};
 ghost use Rattle.dg_history.specs.declared.limits.TheConstants.{EVENTS_MAX};
-ghost use Rattle.dg_history.specs.declared.node.NodeId.TheVariants.{Root};
 ghost use Rattle.dg_history.specs.History.{History};
 ghost use Rattle.dg_index.specs.OpenedIndex.{event_total};
-ghost use Rattle.dg_plan.specs.IndexGraph.{arcs_of};
-ghost use Rattle.dg_plan.specs.Walks.{AreSingles};
+ghost use Rattle.dg_retrieval.specs.Calls.{GivesSetsOver, ReadsRecords};
 ghost use Rattle.dg_retrieval.specs.KeptGraph.{record_edges, record_nodes, shape_with};
-ghost use Rattle.dg_retrieval.specs.NodeSets.{HasNoEvents, IsIndexOver, sets_of};
-ghost use Rattle.dg_retrieval.specs.Retrieval.{IsNoDamage};
+ghost use Rattle.dg_retrieval.specs.NodeSets.{HasNoEvents, IsIndexOver};
 
 use crate::older_children::older_children;
 use dg_disk::Disk;
@@ -61,7 +55,7 @@ fn read_groups<R: Threads, D: Disk>(
     alloc: Global,
     index: &mut Index,
     disk: &mut D,
-    names: u32,
+    name_count: u32,
     planner: &Planner,
     nodes: &[NodeId],
 ) -> Result<Vec<Set>, RetrievalFault>
@@ -71,33 +65,23 @@ fn read_groups<R: Threads, D: Disk>(
     requires nodes { All (Contains planner.now.nodes) nodes.now }
     requires leaves { All HasNoEvents nodes.now }
 
-    // the sets
+    // the sets, and over an image of a history which they are and the bytes read: at most those of the single plans
     ensures count { IfOk result (λ sets. length sets.items ≡ length nodes.now) }
-    ensures sets { IfOk result (λ sets. IfSome (D.image disk.old) (λ image. (z : History) → IsIndexOver z image index.old.opening names
-        → sets.items ≡ sets_of z nodes.now)) }
-    ensures whole { OnOk result (IfSome (D.image disk.old) (λ image. AreUndamaged names index.old.opening image (in_groups nodes.now))) }
+    ensures over { IfSome (D.image disk.old) (λ image. (z : History) → IsIndexOver z image index.old.opening name_count
+        → GivesSetsOver z (record_edges index.old.opening) nodes.now (D.taken disk.old) (D.taken disk.new) result) }
 
-    // the bytes read, over an image of a history: at most those of the single plans
-    ensures most { IfSome (D.image disk.old) (λ image. (z : History) → IsIndexOver z image index.old.opening names
-        → (singles : List ℕ) → AreSingles (arcs_of (record_edges index.old.opening)) (Root ∷ []) nodes.now singles
-        → TakesAtMost (sum singles) (D.taken disk.old) (D.taken disk.new)) }
+    // over whatever image: where the records are damaged
+    ensures damage { IfSome (D.image disk.old) (λ image. TellsGroupDamage name_count index.old.opening image nodes.now result) }
 
-    // why there are none
-    ensures cause { IsErrOf result RetrievalFault.Disk → Rose (D.faults disk.old) (D.faults disk.new) }
-    ensures damage { IfErr result (λ fault. IfSome (D.image disk.old) (λ image. IsFirstOfGroups names index.old.opening image (in_groups nodes.now) fault)) }
-    ensures never { IfErr result (λ fault. IfSome (D.image disk.old) (λ image. (z : History) → IsIndexOver z image index.old.opening names
-        → IsNoDamage fault)) }
-
-    // what it leaves
-    ensures same { index.new ≡ index.old }
-    ensures disk { OnlyReads D.image D.faults D.write_faults disk.old disk.new }
+    // what it leaves, and why a read failed
+    ensures reads { ReadsRecords D.Disk index.old index.new disk.old disk.new result }
 {
     let mut sets = Vec::new(alloc);
     let mut done = 0;
     while done < nodes.len() {
         let size = (nodes.len() - done).min(GROUP_MAX as usize);
         let group = &nodes[done..done + size];
-        let mut more = node_sets(rt, alloc, index, disk, names, planner, group)?;
+        let mut more = node_sets(rt, alloc, index, disk, name_count, planner, group)?;
         sets.append(&mut more)?;
         done += size;
     }
@@ -106,7 +90,7 @@ fn read_groups<R: Threads, D: Disk>(
 
 /// The sets of the older children of the interior nodes that a batch of so many events completes behind the index, by
 /// height and number. They are read in groups of `GROUP_MAX`, each by one tree over the records alone, with all their
-/// columns. Where there are none nothing is planned or read. The names of the history are so many.
+/// columns. Where there are none nothing is planned or read. The history has `name_count` names.
 ///
 /// `Disk` where a read failed, `Damaged` with the first column that is in no spelling in the first group that has one,
 /// and `Memory`.
@@ -115,32 +99,22 @@ pub(crate) fn older_sets<R: Threads, D: Disk>(
     alloc: Global,
     index: &mut Index,
     disk: &mut D,
-    names: u32,
+    name_count: u32,
     count: u64,
 ) -> Result<Vec<Set>, RetrievalFault>
     requires few { event_total index.old.opening.batches + count ≤ EVENTS_MAX }
     requires image { IfSome (D.image disk.old) (λ image. IsOpenedAs image index.old.opening) }
 
-    // the sets
+    // the sets, and over an image of a history which they are and the bytes read: at most those of the single plans
     ensures count { IfOk result (λ sets. length sets.items ≡ length (older_children index.old.opening count)) }
-    ensures sets { IfOk result (λ sets. IfSome (D.image disk.old) (λ image. (z : History) → IsIndexOver z image index.old.opening names
-        → sets.items ≡ sets_of z (older_children index.old.opening count))) }
-    ensures whole { OnOk result (IfSome (D.image disk.old) (λ image. AreUndamaged names index.old.opening image (in_groups (older_children index.old.opening count)))) }
+    ensures over { IfSome (D.image disk.old) (λ image. (z : History) → IsIndexOver z image index.old.opening name_count
+        → GivesSetsOver z (record_edges index.old.opening) (older_children index.old.opening count) (D.taken disk.old) (D.taken disk.new) result) }
 
-    // the bytes read, over an image of a history: at most those of the single plans
-    ensures most { IfSome (D.image disk.old) (λ image. (z : History) → IsIndexOver z image index.old.opening names
-        → (singles : List ℕ) → AreSingles (arcs_of (record_edges index.old.opening)) (Root ∷ []) (older_children index.old.opening count) singles
-        → TakesAtMost (sum singles) (D.taken disk.old) (D.taken disk.new)) }
+    // over whatever image: where the records are damaged
+    ensures damage { IfSome (D.image disk.old) (λ image. TellsGroupDamage name_count index.old.opening image (older_children index.old.opening count) result) }
 
-    // why there are none
-    ensures cause { IsErrOf result RetrievalFault.Disk → Rose (D.faults disk.old) (D.faults disk.new) }
-    ensures damage { IfErr result (λ fault. IfSome (D.image disk.old) (λ image. IsFirstOfGroups names index.old.opening image (in_groups (older_children index.old.opening count)) fault)) }
-    ensures never { IfErr result (λ fault. IfSome (D.image disk.old) (λ image. (z : History) → IsIndexOver z image index.old.opening names
-        → IsNoDamage fault)) }
-
-    // what it leaves
-    ensures same { index.new ≡ index.old }
-    ensures disk { OnlyReads D.image D.faults D.write_faults disk.old disk.new }
+    // what it leaves, and why a read failed
+    ensures reads { ReadsRecords D.Disk index.old index.new disk.old disk.new result }
 {
     index.facts();
     let nodes = older_children(alloc, index, count)?;
@@ -148,5 +122,5 @@ pub(crate) fn older_sets<R: Threads, D: Disk>(
         return Ok(Vec::new(alloc));
     }
     let planner = record_planner(alloc, index)?;
-    read_groups(rt, alloc, index, disk, names, &planner, &nodes)
+    read_groups(rt, alloc, index, disk, name_count, &planner, &nodes)
 }

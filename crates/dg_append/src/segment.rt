@@ -1,26 +1,24 @@
 //! The segment of a batch: it is made, and put into the index file.
 
 ghost use Rattle.std.specs.Prelude.{◌≡◌, ◌≤◌, ◌<◌, ◌+◌, ◌/◌, ◌++◌, List, [], Some, length, drop, slice_get, IfOk, IfErr, IfSome, IsErrOf, OnOk};
-ghost use Rattle.std.specs.List.{All};
 ghost use Rattle.dg_append.specs.AddedBatches.{batch_with};
-ghost use Rattle.dg_append.specs.BatchSegments.{IsPast, IsSegmentBehind, IsUnmade, StopsKeeping};
+ghost use Rattle.dg_append.specs.BatchSegments.{IsNext, IsPast, IsSegmentBehind, IsUnmade};
+ghost use Rattle.dg_append.specs.KeptBatches.{KeepsSegment, StopsKeeping};
 ghost use Rattle.dg_append.specs.OlderGroups.{leaves_after, leaves_before, older_children};
-ghost use Rattle.dg_build.specs.SpelledRecords.{RisesFrom};
-ghost use Rattle.dg_columns.specs.NamesInRange.{NamesFit};
 ghost use Rattle.dg_disk.specs.Counts.{Rose};
 ghost use Rattle.dg_disk.specs.Frame.{OnlyWrites};
-ghost use Rattle.dg_file.specs.Images.{BothTold, Fits, GainsBatch, GainsSegment};
+ghost use Rattle.dg_file.specs.Images.{Fits};
 ghost use Rattle.dg_graph.specs.declared.event.Event.{Event};
 ghost use Rattle.dg_history.specs.declared.limits.TheConstants.{EVENTS_MAX, FILE_BYTES_MAX};
 ghost use Rattle.dg_history.specs.History.{first_time_of, last_time_from};
 ghost use Rattle.dg_index.specs.FileOfHistory.{segment_of};
-ghost use Rattle.dg_index.specs.IndexGrowth.{IsDue, index_with, needed_for};
+ghost use Rattle.dg_index.specs.IndexGrowth.{IsDue};
 ghost use Rattle.dg_index.specs.IndexRecords.{deltas_due};
 ghost use Rattle.dg_index.specs.OpenedIndex.{event_total};
 ghost use Rattle.dg_pool.specs.Graphs.{graph_now};
-ghost use Rattle.dg_start.specs.StoredHistory.{floor_of, recent_count};
 
 use crate::fault::BatchFault;
+use crate::next_batch::NextBatch;
 use dg_build::{BuildFault, build};
 use dg_disk::Disk;
 use dg_file::{CommitFault, Index};
@@ -114,41 +112,32 @@ fn begun(alloc: Global, names: &Names, known: u32, events: &[Event]) -> Result<S
     Ok(segment)
 }
 
-/// The segment of a batch of these events behind those of the index, which brings the names from number `known` on.
-/// The current graph of `pool` is that before the batch, and `recent` has the events behind the last closed list.
-/// `older` has the sets of the older children of the interior nodes that the batch completes.
+/// The segment of the batch behind the index. The current graph of `pool` is that before the batch, and `older` has the
+/// sets of the older children of the interior nodes that the batch completes.
 ///
 /// `Damaged` names a due delta that has more elements than its column can count, and its structure; `Memory` says that
 /// memory ran out.
 pub(crate) fn segment_of(
     alloc: Global,
     index: &Index,
-    names: &Names,
-    known: u32,
-    recent: &[Event],
+    next: &NextBatch,
     pool: &Pool,
-    events: &[Event],
     older: &[Set],
 ) -> Result<Segment, BatchFault>
-    requires few { event_total index.now.opening.batches + length events.now ≤ EVENTS_MAX }
-    requires some { 1 ≤ length events.now }
-    requires counted { length recent.now ≡ recent_count index.now.opening }
-    requires recent_fit { All (λ e. NamesFit e.body) recent.now }
-    requires fit { All (λ e. NamesFit e.body) events.now }
-    requires rises { RisesFrom (floor_of index.now.opening (first_time_of events.now)) (recent.now ++ events.now) }
-    requires older { length older.now ≡ length (older_children index.now.opening (length events.now)) }
-    ensures behind { IfOk result (λ s. IsSegmentBehind index.now.opening (drop known names.now) recent.now events.now s) }
-    ensures is { IfOk result (λ s. (past : List Event) → IsPast index.now.opening past recent.now (graph_now pool.now) events.now older.now
-        → s ≡ segment_of index.now.opening.params past (batch_with known names.now events.now)) }
-    ensures fails { IfErr result (λ fault. IsUnmade index.now.opening (length events.now) fault) }
-    ensures never { IfErr result (λ fault. (past : List Event) → IsPast index.now.opening past recent.now (graph_now pool.now) events.now older.now
+    requires next { IsNext index.now.opening next.now (graph_now pool.now) }
+    requires older { length older.now ≡ length (older_children index.now.opening (length next.now.events.now)) }
+    ensures behind { IfOk result (λ s. IsSegmentBehind index.now.opening (drop next.now.known next.now.names.now) next.now.recent.now next.now.events.now s) }
+    ensures is { IfOk result (λ s. (past : List Event) → IsPast index.now.opening past next.now.recent.now (graph_now pool.now) next.now.events.now older.now
+        → s ≡ segment_of index.now.opening.params past (batch_with next.now.known next.now.names.now next.now.events.now)) }
+    ensures fails { IfErr result (λ fault. IsUnmade index.now.opening (length next.now.events.now) fault) }
+    ensures never { IfErr result (λ fault. (past : List Event) → IsPast index.now.opening past next.now.recent.now (graph_now pool.now) next.now.events.now older.now
         → fault ≡ BatchFault.Memory) }
 {
     index.facts();
     let params = index.params();
     let before = index.events_len();
-    let count = events.len() as u64;
-    let segment = begun(alloc, names, known, events)?;
+    let count = next.events.len() as u64;
+    let segment = begun(alloc, next.names, next.known, next.events)?;
     let graph = completed_set(
         alloc,
         pool,
@@ -160,8 +149,8 @@ pub(crate) fn segment_of(
         alloc,
         params,
         before as usize,
-        recent,
-        events,
+        next.recent,
+        next.events,
         &graph,
         older,
         segment,
@@ -190,13 +179,10 @@ pub(crate) fn keep_segment<D: Disk>(
     requires due { IsDue index.old.opening segment }
     requires limit { limit ≤ FILE_BYTES_MAX }
     requires image { IfSome (D.image disk.old) (λ image. Fits image index.old.opening segment) }
-    ensures kept { OnOk result (index.new.opening ≡ index_with index.old.opening segment) }
-    ensures opened { OnOk result (BothTold (D.image disk.old) (D.image disk.new) (GainsSegment index.old.opening segment index.new.opening)) }
-    ensures gained { OnOk result (BothTold (D.image disk.old) (D.image disk.new) (GainsBatch segment)) }
-    ensures fits { OnOk result (needed_for index.old.opening segment ≤ limit) }
+    ensures kept { OnOk result (KeepsSegment limit index.old.opening index.new.opening segment (D.image disk.old) (D.image disk.new)) }
 
     // why it is not kept
-    ensures fails { IfErr result (λ fault. StopsKeeping index.old.opening index.new.opening segment limit (D.image disk.old) (D.image disk.new) fault) }
+    ensures fails { IfErr result (λ fault. StopsKeeping limit index.old.opening index.new.opening segment (D.image disk.old) (D.image disk.new) fault) }
     ensures cause { IsErrOf result BatchFault.Store → Rose (D.write_faults disk.old) (D.write_faults disk.new) }
 
     // what it leaves

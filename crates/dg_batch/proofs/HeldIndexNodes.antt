@@ -6,10 +6,10 @@ use Rattle.std.proofs.lemmas.Bool.{leb-true, le-leb, false≢true}
 use Rattle.std.proofs.lemmas.List.Elements.{All-cons, All-head, All-nil, All-tail}
 use Rattle.std.proofs.lemmas.List.Sums.{sum_by_push}
 use Rattle.dg_append.specs.declared.batch.AddedBatch.{AddedBatch}
-use Rattle.dg_append.specs.declared.front.Front.{Front}
+use Rattle.dg_append.specs.declared.batch.Batch.{Batch}
+use Rattle.dg_append.specs.declared.live.Live.{Live}
 use Rattle.dg_append.specs.AddedBatches.{AddsBatch}
 use Rattle.dg_file.specs.Index.{IndexState}
-use Rattle.dg_graph.specs.declared.event.Change.{Change}
 use Rattle.dg_history.specs.declared.node.NodeId.{NodeId}
 use Rattle.dg_history.specs.declared.node.NodeId.TheVariants.{Root, Now, Recent, Leaf, List as EventList, Inner}
 use Rattle.dg_history.specs.declared.params.Params.{Params}
@@ -23,7 +23,6 @@ use Rattle.dg_machine.specs.declared.stands.Stands.{Stands}
 use Rattle.dg_machine.specs.declared.stands.Stands.TheVariants.{Overlay, Base}
 use Rattle.dg_machine.specs.Needs.{can_be_held}
 use Rattle.dg_ask.specs.HeldIndex.{HasNodeOf, HasNodes}
-use Rattle.dg_start.specs.declared.stored_history.StoredHistory.{StoredHistory}
 use Rattle.dg_start.specs.StoredHistory.{index_opening}
 
 both_hold : (a b : Bool) → (a && b) ≡ true → (a ≡ true) × (b ≡ true)
@@ -70,9 +69,9 @@ nodes_with o s pos table h = each_handle (HasNodeOf (Some o)) (HasNodeOf (Some (
         ap (λ n. can_be_held o.params n node) more ∙ held_more o.params pos (event_total o.batches) (directory_of s).batch.events node r
 
 -- nor does it lose one by a batch
-pub nodes_after : (i : Option IndexState) (limit known : ℕ) (old new : StoredHistory) (before after : Option (ListOf ℕ)) (changes : ListOf Change) (front : Front) (added : AddedBatch) (table : ListOf (ℕ × Stands))
-    → is_some i ≡ true → IfSome (index_opening i) (λ o. 0 < o.params.l) → IfSome (index_opening i) (λ o. AddsBatch o limit known old new before after changes front added)
-    → HasNodes (index_opening i) table → HasNodes (index_opening new.index) table
-nodes_after None limit known old new before after changes front added table there pos adds h = absurd (false≢true there)
-nodes_after (Some x) limit known old new before after changes front added table there pos adds h =
+pub nodes_after : (i : Option IndexState) (limit : ℕ) (batch : Batch) (old new : Live) (before after : Option (ListOf ℕ)) (added : AddedBatch) (table : ListOf (ℕ × Stands))
+    → is_some (index_opening i) ≡ true → IfSome (index_opening i) (λ o. 0 < o.params.l) → IfSome (index_opening i) (λ o. AddsBatch o limit batch old new before after added)
+    → HasNodes (index_opening i) table → HasNodes (index_opening new.history.index) table
+nodes_after None limit batch old new before after added table there pos adds h = absurd (false≢true there)
+nodes_after (Some x) limit batch old new before after added table there pos adds h =
     subst (λ (o : Option Opening). HasNodes o table) (sym adds.index) (nodes_with x.opening adds.segment pos table h)

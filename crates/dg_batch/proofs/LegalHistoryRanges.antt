@@ -26,7 +26,7 @@ use Rattle.dg_graph.specs.Replay.{replay_from}
 use Rattle.dg_batch.proofs.CompletedChanges.{AllCome}
 use Rattle.dg_batch.proofs.NamesAfter.{Grows, Has, grows_none, grows_both, added_grows, added_has, has_more, key_is_name, number_within, text_is}
 use Rattle.dg_batch.proofs.ChangeGrammarRanges.{AskedFits, PlainFits, SaidFits}
-use Rattle.dg_append.specs.AddedBatches.{WhatNamesFit}
+use Rattle.dg_append.specs.AddedBatches.{WhatHasNamesThere}
 
 -- Ids of which the fact `I` holds, and numbers of names below n: in a change, in an element and in what
 -- changes.
@@ -345,15 +345,15 @@ from_legal n (body.EdgeRemoved id src dst directed) h = h
 from_legal n (body.NodeAttr id key old new) h = h
 from_legal n (body.EdgeAttr id key old new) h = h
 
-pub what_spelled : (n : ℕ) (w : What) → n ≤ 2 ^ 30 → WhatFits (λ n. n < 2 ^ 64) n w → WhatNamesFit w
-what_spelled n (what.AddNode id) le h = tt
-what_spelled n (what.RemoveNode id) le h = tt
-what_spelled n (what.AddEdge id src dst directed) le h = tt
-what_spelled n (what.RemoveEdge id) le h = tt
-what_spelled n (what.SetNode id key value) le h = (omega (arith, le, h.1), omega (arith, le, h.2))
-what_spelled n (what.UnsetNode id key) le h = omega (arith, le, h.1)
-what_spelled n (what.SetEdge id key value) le h = (omega (arith, le, h.1), omega (arith, le, h.2))
-what_spelled n (what.UnsetEdge id key) le h = omega (arith, le, h.1)
+pub what_named : (n : ℕ) (w : What) → WhatFits (λ n. n < 2 ^ 64) n w → WhatHasNamesThere n w
+what_named n (what.AddNode id) h = tt
+what_named n (what.RemoveNode id) h = tt
+what_named n (what.AddEdge id src dst directed) h = tt
+what_named n (what.RemoveEdge id) h = tt
+what_named n (what.SetNode id key value) h = (h.1, h.2)
+what_named n (what.UnsetNode id key) h = h.1
+what_named n (what.SetEdge id key value) h = (h.1, h.2)
+what_named n (what.UnsetEdge id key) h = h.1
 
 -- with more names they fit too
 some_more : (n m : ℕ) (o : Option ℕ) → n ≤ m → IfSome o (λ v. v < n) → IfSome o (λ v. v < m)

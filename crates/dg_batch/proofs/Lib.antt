@@ -7,3 +7,6 @@ pub mod LegalHistoryRanges
 pub mod LegalHistory
 pub mod HeldIndexNodes
 pub mod GeneratedChangeRanges
+pub mod LinesDue
+pub mod HeldGraphs
+pub mod HeldChanges

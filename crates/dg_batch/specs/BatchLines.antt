@@ -12,7 +12,7 @@ use Rattle.dg_graph.specs.declared.limits.TheConstants.{NAMES_MAX}
 use Rattle.dg_machine.specs.declared.reply.Refusal.{Refusal}
 use Rattle.dg_machine.specs.declared.reply.Refusal.TheVariants as refusal
 use Rattle.dg_machine.specs.Script.{Follows}
-use Rattle.dg_batch.specs.declared.batch_lines.BatchLines.{BatchLines}
+use Rattle.dg_append.specs.declared.batch.Batch.{Batch}
 use Rattle.dg_append.specs.declared.front.Front.{Front}
 use Rattle.dg_append.specs.declared.front.Front.TheVariants.{Whole, Form, Unkept}
 use Rattle.dg_append.specs.Fronts.{IsFront}
@@ -58,13 +58,14 @@ abbrev pub first_refusal : ℕ → ℕ → Option Refusal → Option Refusal
 first_refusal read count barred = if nat_lt read count then Some (refusal.ShortBatch read count) else barred
 
 -- As many lines as were asked for were read, and nothing bars the batch. The names have grown by theirs.
-pub record IsBatch (count : ℕ) (barred : Option Refusal) (before after : Option (List ScriptLine)) (names new : List (List ℕ)) (batch : BatchLines) : Type 0 where
+pub record IsBatch (count : ℕ) (barred : Option Refusal) (before after : Option (List ScriptLine)) (names new : List (List ℕ)) (batch : Batch) : Type 0 where
   pub got : List ScriptLine
   pub follows : Follows count before got after
-  pub reads : ReadsAs got batch.read batch.front names new batch.changes.items
-  pub free : first_refusal batch.read count barred ≡ None
-  pub most : batch.read ≤ count
-  pub within : length batch.changes.items ≤ batch.read
+  pub known : batch.known ≡ length names
+  pub reads : ReadsAs got (length got) batch.front names new batch.changes.items
+  pub free : first_refusal (length got) count barred ≡ None
+  pub most : length got ≤ count
+  pub within : length batch.changes.items ≤ length got
   pub kept : take (length names) new ≡ names
   pub few : batch.front ≡ Whole → length new ≤ NAMES_MAX
 
@@ -76,7 +77,18 @@ pub record IsBarred (count : ℕ) (barred : Option Refusal) (before after : Opti
   pub same : new ≡ names
 
 -- what the lines that follow the command come to, if they are read
-abbrev pub ReadsBatch : ℕ → Option Refusal → Option (List ScriptLine) → Option (List ScriptLine) → List (List ℕ) → List (List ℕ) → Result BatchLines Halt → Type 0
+abbrev pub ReadsBatch : ℕ → Option Refusal → Option (List ScriptLine) → Option (List ScriptLine) → List (List ℕ) → List (List ℕ) → Result Batch Halt → Type 0
 ReadsBatch count barred before after names new (Ok batch) = IsBatch count barred before after names new batch
 ReadsBatch count barred before after names new (Err (halt.Refusal r)) = IsBarred count barred before after names new r
 ReadsBatch count barred before after names new (Err (halt.Stop s)) = new ≡ names
+
+-- the refusal is for too few lines
+abbrev pub IsShort : Refusal → Type 0
+IsShort (refusal.ShortBatch read count) = Unit {0}
+IsShort r = ⊥
+
+-- it is refused so
+abbrev pub IsShortBatch : {A : Type 0} → Result A Halt → Type 0
+IsShortBatch (Ok x) = ⊥
+IsShortBatch (Err (halt.Refusal r)) = IsShort r
+IsShortBatch (Err (halt.Stop s)) = ⊥

@@ -3,3 +3,4 @@ pub mod GeneratedBatch
 pub mod Halt
 pub mod PlanLines
 pub mod HandlesStay
+pub mod Held

@@ -1,5 +1,5 @@
 //! The lines of a batch, with their changes up to the first line that is none.
-ghost use Rattle.std.specs.Prelude.{◌≡◌, ◌≢◌, ◌+◌, ◌*◌, ◌≤◌, List, true, false, take, length, IfOk, IsErrOf, vec_len};
+ghost use Rattle.std.specs.Prelude.{◌≡◌, ◌≢◌, ◌+◌, ◌*◌, ◌≤◌, ◌<◌, List, Ok, Err, None, true, false, take, length, IfOk, IfSome, IsErrOf, IsTrue, vec_len};
 ghost use Rattle.dg_io.specs.Told.{CountRose};
 ghost use Rattle.dg_io.specs.LinesState.{told, LineComes, NeedsByte, to_come};
 ghost use Rattle.dg_graph.specs.declared.limits.TheConstants.{NAMES_MAX};
@@ -7,11 +7,11 @@ ghost use Rattle.dg_history.specs.ChangeGrammar.{change_by_text_in};
 ghost use Rattle.dg_graph.specs.Lines.{ScriptLine};
 ghost use Rattle.dg_machine.specs.Script.{Follows};
 ghost use Rattle.dg_io.specs.Frame.{Advances};
-ghost use Rattle.dg_batch.specs.BatchLines.{KeepsChange, ReadsAs, ReadsBatch, first_refusal, line_read};
+ghost use Rattle.dg_batch.specs.BatchLines.{KeepsChange, ReadsAs, ReadsBatch, IsShort, IsShortBatch, first_refusal, line_read};
 
 use crate::halt::Halt;
 use crate::stop::Stop;
-use dg_append::Front;
+use dg_append::{Batch, Front};
 use dg_graph::Change;
 use dg_io::{Line, Lines, Source};
 use dg_line::{ChangeFault, read_change};
@@ -27,15 +27,15 @@ fn is_whole(front: Front) -> bool
     matches!(front, Front::Whole)
 }
 
-/// What the lines that follow a command came to.
+// What the lines that follow a command came to.
 #[derive(Drop)]
-pub struct BatchLines {
-    /// How many lines were read.
-    pub read: u32,
-    /// How far their changes are kept.
-    pub front: Front,
-    /// The changes that are kept.
-    pub changes: Vec<Change>,
+struct BatchLines {
+    // How many lines were read.
+    read: u32,
+    // How far their changes are kept.
+    front: Front,
+    // The changes that are kept.
+    changes: Vec<Change>,
 }
 
 // The next line that follows a command. Its text is in `lines`.
@@ -46,6 +46,8 @@ pub(crate) fn next_line<S: Source>(lines: &mut Lines, source: &mut S) -> Result<
         lines.new (S.left source.new) (S.faults source.new) }
     ensures read { IsErrOf result Stop.Read → CountRose (S.faults source.old) (S.faults source.new) }
     ensures limit { IsErrOf result Stop.Limit → (lines.new.taken ≡ lines.new.limit) × NeedsByte lines.new }
+    ensures due { lines.old.taken ≡ lines.old.limit → NeedsByte lines.old → result ≡ Err Stop.Limit }
+    ensures end { result ≡ Ok Line.End → IsTrue lines.new.ended }
     ensures no_store { IsErrOf result Stop.Store → ⊥ }
 {
     let line = lines.next(source)?;
@@ -107,10 +109,12 @@ fn read_lines<S: Source>(
     ensures within { IfOk result (λ batch. vec_len batch.changes ≤ batch.read) }
     ensures kept { take (length names.old) names.new ≡ names.old }
     ensures few { IfOk result (λ batch. batch.front ≡ Front.Whole → length names.new ≤ NAMES_MAX) }
+    ensures ended { IfOk result (λ batch. batch.read < count → IsTrue lines.new.ended) }
 
     // why it stops
     ensures read { IsErrOf result Stop.Read → CountRose (S.faults source.old) (S.faults source.new) }
     ensures limit { IsErrOf result Stop.Limit → (lines.new.taken ≡ lines.new.limit) × NeedsByte lines.new }
+    ensures due { 1 ≤ count → lines.old.taken ≡ lines.old.limit → NeedsByte lines.old → result ≡ Err Stop.Limit }
     ensures no_store { IsErrOf result Stop.Store → ⊥ }
 
     // what it takes
@@ -152,9 +156,9 @@ fn first_refusal(read: u32, count: u32, barred: Option<Refusal>) -> Option<Refus
     }
 }
 
-/// Reads the `count` lines that follow a command, or those up to the end of input. `barred` says why
-/// no batch is added, whatever its lines are. The names get the texts of the lines that they lack;
-/// where the lines are no batch to be completed, they are as they were.
+/// Reads the `count` lines that follow a command, or those up to the end of input, as a batch behind the names. `barred`
+/// says why no batch is added, whatever its lines are. The names get the texts of the lines that they lack; where the
+/// lines are no batch to be completed, they are as they were.
 ///
 /// `Halt::Refusal` where the lines are too few, or where the batch is barred. `Stop::Read` where a
 /// read failed, `Stop::Limit` where another byte is needed and as many as the limit allows were taken.
@@ -165,16 +169,18 @@ pub fn read_batch<S: Source>(
     names: &mut Names,
     lines: &mut Lines,
     source: &mut S,
-) -> Result<BatchLines, Halt>
+) -> Result<Batch, Halt>
     requires room { barred ≡ None → length names.old + 2 * count ≤ NAMES_MAX }
 
     // the lines
     ensures reads { ReadsBatch count barred (told lines.old (S.left source.old)) (told lines.new (S.left source.new))
         names.old names.new result }
+    ensures ended { IfSome barred (λ r. IsShort r → ⊥) → IsShortBatch result → IsTrue lines.new.ended }
 
     // why it stops
     ensures read { IsErrOf result (Halt.Stop Stop.Read) → CountRose (S.faults source.old) (S.faults source.new) }
     ensures limit { IsErrOf result (Halt.Stop Stop.Limit) → (lines.new.taken ≡ lines.new.limit) × NeedsByte lines.new }
+    ensures due { 1 ≤ count → lines.old.taken ≡ lines.old.limit → NeedsByte lines.old → result ≡ Err (Halt.Stop Stop.Limit) }
     ensures no_store { IsErrOf result (Halt.Stop Stop.Store) → ⊥ }
 
     // what it takes
@@ -183,8 +189,18 @@ pub fn read_batch<S: Source>(
 {
     let known = names.len();
     match read_lines(alloc, count, barred.is_none(), names, lines, source) {
-        Ok(batch) => match first_refusal(batch.read, count, barred) {
-            None => Ok(batch),
+        Ok(
+            BatchLines {
+                read,
+                front,
+                changes,
+            },
+        ) => match first_refusal(read, count, barred) {
+            None => Ok(Batch {
+                known,
+                front,
+                changes,
+            }),
             Some(refusal) => {
                 names.cut(known);
                 Err(Halt::Refusal(refusal))

@@ -5,8 +5,7 @@ ghost use Rattle.dg_graph.specs.declared.limits.TheConstants.{NAMES_MAX};
 ghost use Rattle.dg_history.specs.declared.limits.TheConstants.{BATCH_LINES_MAX};
 ghost use Rattle.dg_batch.specs.GeneratedBatch.{IsGenerated};
 
-use crate::batch_lines::BatchLines;
-use dg_append::Front;
+use dg_append::{Batch, Front};
 use dg_names::Names;
 use dg_workload::generated_changes;
 use std::alloc::{AllocError, Global};
@@ -18,7 +17,7 @@ pub fn generated_batch(
     seed: u64,
     count: u32,
     names: &mut Names,
-) -> Result<BatchLines, AllocError>
+) -> Result<Batch, AllocError>
     requires few { count ≤ BATCH_LINES_MAX }
     requires room { length names.old + 2 * count ≤ NAMES_MAX }
     ensures generated { IfOk result (λ batch. IsGenerated seed count names.old names.new batch) }
@@ -31,8 +30,8 @@ pub fn generated_batch(
     };
     // Its clause says that they are few.
     names.facts();
-    Ok(BatchLines {
-        read: count,
+    Ok(Batch {
+        known,
         front: Front::Whole,
         changes,
     })

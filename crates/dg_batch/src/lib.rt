@@ -6,12 +6,14 @@ mod addition;
 mod batch_lines;
 mod generated;
 mod halt;
+mod held;
 mod plan_lines;
 mod stop;
 
 pub use addition::add_changes;
-pub use batch_lines::{BatchLines, read_batch};
+pub use batch_lines::read_batch;
 pub use generated::generated_batch;
 pub use halt::Halt;
+pub use held::Held;
 pub use plan_lines::{PlanLines, read_plan_lines};
 pub use stop::Stop;

@@ -1,6 +1,6 @@
 //! The plan lines that follow a command.
 
-ghost use Rattle.std.specs.Prelude.{◌≡◌, ◌++◌, [], ◌∷◌, ◌≤◌, List, true, map, length, IfOk, IsErrOf};
+ghost use Rattle.std.specs.Prelude.{◌≡◌, ◌++◌, [], ◌∷◌, ◌≤◌, ◌<◌, List, Err, true, map, length, IfOk, IsErrOf, IsTrue};
 ghost use Rattle.dg_io.specs.Told.{CountRose};
 ghost use Rattle.dg_io.specs.LinesState.{told, NeedsByte};
 ghost use Rattle.dg_io.specs.Frame.{Advances};
@@ -55,10 +55,12 @@ pub fn read_plan_lines<S: Source>(
     ensures reads { IfOk result (λ written. (got : List ScriptLine)
         × Follows count (told lines.old (S.left source.old)) got (told lines.new (S.left source.new))
         × ReadsPlanLines got written) }
+    ensures ended { IfOk result (λ written. written.read < count → IsTrue lines.new.ended) }
 
     // why it stops
     ensures read { IsErrOf result Stop.Read → CountRose (S.faults source.old) (S.faults source.new) }
     ensures limit { IsErrOf result Stop.Limit → (lines.new.taken ≡ lines.new.limit) × NeedsByte lines.new }
+    ensures due { 1 ≤ count → lines.old.taken ≡ lines.old.limit → NeedsByte lines.old → result ≡ Err Stop.Limit }
     ensures no_store { IsErrOf result Stop.Store → ⊥ }
 
     // what it takes

@@ -15,7 +15,7 @@ pub enum Stop {
     #[error("the script has as many bytes as the limit")]
     Limit,
     /// A write to the disk failed. The index file is as it was, or as after the command.
-    #[error("a write to the index file failed")]
+    #[error("a write or a sync of the index file failed")]
     Store,
 }
 

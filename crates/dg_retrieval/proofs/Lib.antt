@@ -13,5 +13,10 @@ pub mod HistoryTreeLaws
 pub mod BeginningGraphs
 pub mod RetrievalGraphs
 pub mod NodeSetLeads
-pub mod TreeLeadReads
+pub mod PutElements
+pub mod NamesMoved
+pub mod NamesRead
+pub mod NamesThere
 pub mod ValueRanges
+pub mod TreeLeadReads
+pub mod CallRecords

@@ -3,7 +3,7 @@ use Rattle.std.proofs.Common.{◌≡◌, ◌<◌, ◌≤◌, ◌+◌, ℕ, true,
 use Rattle.std.specs.List.{All, AllZip}
 use Rattle.std.proofs.lemmas.Bool.{false≢true}
 use Rattle.std.proofs.lemmas.List.{map-append, take_all, take_more}
-use Rattle.std.proofs.lemmas.List.Elements.{All-head, All-map, All-nil, All-push, All-tail}
+use Rattle.std.proofs.lemmas.List.Elements.{All-cons, All-head, All-map, All-nil, All-push, All-tail}
 use Rattle.std.proofs.lemmas.Option.{IfSome_then}
 use Rattle.dg_fold.specs.declared.part.Part.{Part}
 use Rattle.dg_fold.specs.declared.tree.Branch.{Branch}
@@ -19,6 +19,7 @@ use Rattle.dg_graph.specs.declared.event.Event.{Event}
 use Rattle.dg_fold.specs.Writings.{composed_all, written_for}
 use Rattle.dg_graph.specs.Composition.{Delta, IsDelta, applied}
 use Rattle.dg_graph.specs.Elements.{shown}
+use Rattle.dg_graph.proofs.Sets.{has-unioned}
 use Rattle.dg_history.specs.declared.node.Key.{Key}
 use Rattle.dg_history.specs.declared.node.NodeId.{NodeId}
 use Rattle.dg_history.specs.declared.node.NodeId.TheVariants as node
@@ -34,7 +35,9 @@ use Rattle.dg_plan.specs.Walks.{Graft, steps_of}
 use Rattle.dg_retrieval.specs.declared.graph_lead.Beginning.TheVariants.{Nothing}
 use Rattle.dg_retrieval.specs.declared.graph_lead.Leads.{Leads}
 use Rattle.dg_retrieval.specs.Beginnings.{GraphLead, LeadsAs, leads_in}
+use Rattle.dg_retrieval.specs.Calls.{LeadNamesAreThere}
 use Rattle.dg_retrieval.specs.KeptGraph.{record_edges, record_ground}
+use Rattle.dg_retrieval.specs.NamesThere.{BodyHasNamesThere, NamesAreThere}
 use Rattle.dg_retrieval.specs.NodeSets.{HasNoEvents, IsIndexOver, sets_of}
 use Rattle.dg_retrieval.specs.TreeLeads.{AreTreeLeads}
 use Rattle.dg_retrieval.proofs.HistoryTreeLaws.{ReachesNodes, nodes_reach}
@@ -149,6 +152,17 @@ module _ (o : Opening) (edges : ListOf Edge) (is : edges ≡ record_edges o) (ta
   pub sets_are : (image : Option (ListOf ℕ)) → IfSome image (λ im. AreTreeLeads names [] edges o all_columns targets grafts times leads im)
       → (sets : ListOf (ListOf Element)) → sets ≡ map from_nothing leads → IfSome image (λ im. (z : History) → IsIndexOver z im o names → sets ≡ sets_of z targets)
   sets_are image led sets come = IfSome_then image led (λ im there z over. come ∙ gives im there z over)
+
+-- the names that the sets have are there, where those that the leads put in are
+pub sets_named : (names : ℕ) (leads : ListOf GraphLead) → LeadNamesAreThere names [] leads → (sets : ListOf (ListOf Element)) → sets ≡ map from_nothing leads → All (NamesAreThere names) sets
+sets_named names leads named sets come = subst (All (NamesAreThere names)) (sym come) (by leads (named (All-nil (λ (e : Event). BodyHasNamesThere names e.body))))
+  where
+    by : (leads : ListOf GraphLead) → All (λ (l : GraphLead). NamesAreThere names l.delta.plus) leads → All (NamesAreThere names) (map from_nothing leads)
+    by [] all = All-nil (NamesAreThere names)
+    by (l ∷ leads) all =
+        All-cons (NamesAreThere names) (from_nothing l) (map from_nothing leads)
+        (λ x h. All-head (λ (l : GraphLead). NamesAreThere names l.delta.plus) l leads all x (sym (has-unioned [] l.delta.plus x) ∙ h))
+        (by leads (All-tail (λ (l : GraphLead). NamesAreThere names l.delta.plus) l leads all))
 
 -- ---- one set after another
 

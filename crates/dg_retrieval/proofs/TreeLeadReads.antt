@@ -41,6 +41,7 @@ use Rattle.dg_retrieval.specs.Faults.{of_fold}
 use Rattle.dg_retrieval.specs.declared.fault.RetrievalFault.{RetrievalFault}
 use Rattle.dg_retrieval.specs.declared.graph_lead.Beginning.{Beginning}
 use Rattle.dg_retrieval.specs.Beginnings.{GraphLead, IsOffered, LeadsAs, BeginningStandsFor, base_handle, begun_within, leads_from}
+use Rattle.dg_retrieval.specs.Calls.{LeadNamesAreThere}
 use Rattle.dg_retrieval.specs.KeptGraph.{index_ground}
 use Rattle.dg_retrieval.specs.NodeSets.{IsIndexOver, IsUndamaged}
 use Rattle.dg_retrieval.specs.Retrieval.{IsFirstDamage, IsNoDamage, TakesAtMostTree}
@@ -54,6 +55,7 @@ use Rattle.dg_retrieval.proofs.BeginningGraphs.{ends_are}
 use Rattle.dg_retrieval.proofs.BeginningLeads.{leads_many}
 use Rattle.dg_retrieval.proofs.BeginningBases.{EdgesGrow, EntersNow, all_back, base_found, base_offered, edges_enter, edges_grow, path_stands}
 use Rattle.dg_retrieval.proofs.BranchTrees.{all_at, branches_grow, branches_hold, branches_lead, branches_many}
+use Rattle.dg_retrieval.proofs.NamesThere.{leads_there}
 use Rattle.dg_retrieval.proofs.KeptGraphWeights.{one_weight, tree_steps_weigh}
 
 -- ---- what was planned
@@ -289,10 +291,15 @@ module _ {edges : ListOf Edge} {targets : ListOf NodeId} {grafts : ListOf (Graft
         there = IfSome_then image of_branches (λ im there. (branches, walked.made, parts, there, paths, led, stand));
       }
 
+      -- and puts in names that are there
+      by_names : LeadNamesAreThere names recent leads
+      by_names there = leads_there names recent there parts (paired (all_edges branches) parts) edges branches times paths leads led stand
+
     pub written_along : (writings : ListOf Writing)
         → ((paths : ListOf Lead) × AreLedUntil names recent parts (paired (all_edges branches) parts) branches times paths × AreWrittenFrom 0 paths writings)
         → (within : ListOf Edge) → within ≡ walk → (begins : ListOf Beginning) → begins ≡ map (begun_within within) targets
-        → LeadAlongTree names recent edges o cols targets grafts times image (leads_from 0 begins writings)
+        → LeadAlongTree names recent edges o cols targets grafts times image (leads_from 0 begins writings) × LeadNamesAreThere names recent (leads_from 0 begins writings)
     written_along writings written within is_walk begins are =
-        subst (λ (bs : ListOf Beginning). LeadAlongTree names recent edges o cols targets grafts times image (leads_from 0 bs writings))
-        (sym (are ∙ ap (λ (w : ListOf Edge). map (begun_within w) targets) (is_walk ∙ walked.along))) (by_paths writings written.0 written.1 written.2)
+        subst (λ (bs : ListOf Beginning). LeadAlongTree names recent edges o cols targets grafts times image (leads_from 0 bs writings) × LeadNamesAreThere names recent (leads_from 0 bs writings))
+        (sym (are ∙ ap (λ (w : ListOf Edge). map (begun_within w) targets) (is_walk ∙ walked.along)))
+        (by_paths writings written.0 written.1 written.2, by_names writings written.0 written.1 written.2)

@@ -7,3 +7,5 @@ pub mod NodeSets
 pub mod TreeLeads
 pub mod ValueRange
 pub mod TreeParts
+pub mod NamesThere
+pub mod Calls

@@ -15,7 +15,7 @@ use thiserror::Error;
 #[derive(Clone, Copy, Debug, PartialEq, Eq, Error)]
 pub enum RetrievalFault {
     /// A read of the index file failed.
-    #[error("the index file failed")]
+    #[error("a read of the index file failed")]
     Disk,
     /// The bytes of this column of this record are no column.
     #[error("the column {1:?} of the record {0:?} is damaged")]

@@ -1,3 +1,4 @@
+//! What leads to graphs: what each begins with, and the deltas from there.
 use dg_fold::Writing;
 
 /// What a graph that is retrieved begins with, all of it held in memory.

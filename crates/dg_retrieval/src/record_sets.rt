@@ -1,25 +1,16 @@
 //! The sets of nodes of an index, by its records alone.
 
-ghost use Rattle.std.specs.Prelude.{◌≡◌, ℕ, ◌≤◌, ◌^◌, List, ◌∷◌, [], Err, Ok, length, map, IfErr, IfOk, IfSome, IsErrOf, OnOk};
-ghost use Rattle.std.specs.List.{All, Contains, sum};
-ghost use Rattle.dg_disk.specs.Counts.{Rose};
-ghost use Rattle.dg_disk.specs.Frame.{OnlyReads};
+ghost use Rattle.std.specs.Prelude.{◌≡◌, ◌≤◌, [], length, map, IfOk, IfSome};
+ghost use Rattle.std.specs.List.{All, Contains};
 ghost use Rattle.dg_file.specs.Images.{IsOpenedAs};
-ghost use Rattle.dg_fold.specs.BytesRead.{Takes, TakesAtMost};
 ghost use Rattle.dg_graph.specs.Composition.{applied};
-ghost use Rattle.dg_graph.specs.declared.element.Column.{Column};
-ghost use Rattle.dg_history.specs.declared.node.Key.{Key};
-ghost use Rattle.dg_history.specs.declared.node.NodeId.TheVariants.{Root};
-ghost use Rattle.dg_history.specs.History.{History, events_of};
-ghost use Rattle.dg_index.specs.Hierarchy.{set_of};
+ghost use Rattle.dg_history.specs.History.{History};
 ghost use Rattle.dg_plan.specs.HistoryGraph.{all_columns};
-ghost use Rattle.dg_plan.specs.IndexGraph.{arcs_of};
-ghost use Rattle.dg_plan.specs.Walks.{AreSingles, IsPlan, weight_of};
 ghost use Rattle.dg_retrieval.specs.Beginnings.{GraphLead, leads_in};
+ghost use Rattle.dg_retrieval.specs.Calls.{AreNodeSets, GivesSetOver, GivesSetsOver, ReadsRecords, TellsDamage, TellsPlan};
 ghost use Rattle.dg_retrieval.specs.KeptGraph.{record_edges, record_nodes};
-ghost use Rattle.dg_retrieval.specs.NodeSets.{HasNoEvents, IsIndexOver, IsLedByPlan, IsUndamaged, sets_of};
-ghost use Rattle.dg_retrieval.specs.Retrieval.{IsFirstDamage, IsNoDamage};
-ghost use Rattle.dg_retrieval.specs.ValueRange.{ValuesFit};
+ghost use Rattle.dg_retrieval.specs.NamesThere.{NamesAreThere};
+ghost use Rattle.dg_retrieval.specs.NodeSets.{HasNoEvents, IsIndexOver};
 
 use crate::fault::RetrievalFault;
 use crate::graph_lead::Leads;
@@ -42,8 +33,8 @@ pub const ALL_COLUMNS: Columns = Columns {
 };
 
 /// The set of a node, by its least plan over the records of the index alone. Each record that the plan enters is
-/// read once, with all its columns, and nothing else; the parts are composed by halves. The names of the history
-/// are so many.
+/// read once, with all its columns, and nothing else; the parts are composed by halves. The history has
+/// `name_count` names; each one in the set is among them.
 ///
 /// `Disk` where a read failed, `Damaged` with the first column that is in no spelling, in the order of the plan's
 /// steps and of structure, node attributes, edge attributes, and `Memory`.
@@ -52,7 +43,7 @@ pub fn plan_set<R: Threads + Sync, D: Disk>(
     alloc: Global,
     index: &mut Index,
     disk: &mut D,
-    names: u32,
+    name_count: u32,
     planner: &Planner,
     node: NodeId,
 ) -> Result<Set, RetrievalFault>
@@ -61,28 +52,25 @@ pub fn plan_set<R: Threads + Sync, D: Disk>(
     requires nodes { planner.now.nodes ≡ record_nodes index.old.opening }
     requires node { Contains planner.now.nodes node }
     // the set
-    ensures led { IfOk result (λ set. IfSome (D.image disk.old) (λ image. IsLedByPlan names image index.old.opening node (Ok set))) }
-    ensures set { IfOk result (λ set. IfSome (D.image disk.old) (λ image. (z : History) → IsIndexOver z image index.old.opening names
-        → set ≡ set_of z.params (events_of z) node)) }
-    ensures fit { IfOk result (λ set. names ≤ 2 ^ 30 → ValuesFit set) }
-    // the bytes read, over an image of a history
-    ensures takes { OnOk result (IfSome (D.image disk.old) (λ image. (z : History) → IsIndexOver z image index.old.opening names
-        → (steps : List ℕ) → IsPlan (arcs_of planner.now.edges) (Root ∷ []) node steps
-        → Takes (weight_of (arcs_of planner.now.edges) steps) (D.taken disk.old) (D.taken disk.new))) }
-    ensures most { IfSome (D.image disk.old) (λ image. (z : History) → IsIndexOver z image index.old.opening names
-        → (steps : List ℕ) → IsPlan (arcs_of planner.now.edges) (Root ∷ []) node steps
-        → TakesAtMost (weight_of (arcs_of planner.now.edges) steps) (D.taken disk.old) (D.taken disk.new)) }
-    // why there is none
-    ensures cause { IsErrOf result RetrievalFault.Disk → Rose (D.faults disk.old) (D.faults disk.new) }
-    ensures damage { (key : Key) (col : Column) → result ≡ Err (RetrievalFault.Damaged key col)
-        → IfSome (D.image disk.old) (λ image. IsLedByPlan names image index.old.opening node (Err (key, col))) }
-    ensures never { IfErr result (λ fault. IfSome (D.image disk.old) (λ image. (z : History) → IsIndexOver z image index.old.opening names
-        → IsNoDamage fault)) }
-    // what it leaves
-    ensures same { index.new ≡ index.old }
-    ensures disk { OnlyReads D.image D.faults D.write_faults disk.old disk.new }
+    ensures named { IfOk result (NamesAreThere name_count) }
+    // over an image of a history: which set it is, and the bytes read
+    ensures over { IfSome (D.image disk.old) (λ image. (z : History) → IsIndexOver z image index.old.opening name_count
+        → GivesSetOver z planner.now.edges node (D.taken disk.old) (D.taken disk.new) result) }
+    // over whatever image: what the records lead to, and where they are damaged
+    ensures led { IfSome (D.image disk.old) (λ image. TellsPlan name_count image index.old.opening node result) }
+    // what it leaves, and why a read failed
+    ensures reads { ReadsRecords D.Disk index.old index.new disk.old disk.new result }
 {
-    let lead = retrieve_node(rt, alloc, index, disk, names, planner, node, ALL_COLUMNS)?;
+    let lead = retrieve_node(
+        rt,
+        alloc,
+        index,
+        disk,
+        name_count,
+        planner,
+        node,
+        ALL_COLUMNS,
+    )?;
     // From nothing it comes to what it puts in.
     let (_, set) = lead.delta.into_sets();
     Ok(set)
@@ -110,7 +98,8 @@ fn sets_led(alloc: Global, leads: &Leads) -> Result<Vec<Set>, AllocError>
 }
 
 /// The sets of several nodes, 32 of them at the most, by one tree over the records of the index alone. Each record that
-/// the tree enters is read once, with all its columns, and nothing else. The names of the history are so many.
+/// the tree enters is read once, with all its columns, and nothing else. The history has `name_count` names; each one in
+/// the sets is among them.
 ///
 /// `Disk` where a read failed, `Damaged` with the first column that is in no spelling, in the order of the tree's
 /// steps and of structure, node attributes, edge attributes, and `Memory`.
@@ -119,7 +108,7 @@ pub fn node_sets<R: Threads, D: Disk>(
     alloc: Global,
     index: &mut Index,
     disk: &mut D,
-    names: u32,
+    name_count: u32,
     planner: &Planner,
     nodes: &[NodeId],
 ) -> Result<Vec<Set>, RetrievalFault>
@@ -130,22 +119,14 @@ pub fn node_sets<R: Threads, D: Disk>(
     requires leaves { All HasNoEvents nodes.now }
     requires few { length nodes.now ≤ 32 }
     // the sets
-    ensures count { IfOk result (λ sets. length sets.items ≡ length nodes.now) }
-    ensures sets { IfOk result (λ sets. IfSome (D.image disk.old) (λ image. (z : History) → IsIndexOver z image index.old.opening names
-        → sets.items ≡ sets_of z nodes.now)) }
-    ensures whole { OnOk result (IfSome (D.image disk.old) (λ image. IsUndamaged names planner.now.edges index.old.opening all_columns nodes.now image)) }
-    // the bytes read, over an image of a history: at most those of the single plans
-    ensures most { IfSome (D.image disk.old) (λ image. (z : History) → IsIndexOver z image index.old.opening names
-        → (singles : List ℕ) → AreSingles (arcs_of planner.now.edges) (Root ∷ []) nodes.now singles
-        → TakesAtMost (sum singles) (D.taken disk.old) (D.taken disk.new)) }
-    // why there are none
-    ensures cause { IsErrOf result RetrievalFault.Disk → Rose (D.faults disk.old) (D.faults disk.new) }
-    ensures damage { IfErr result (λ fault. IfSome (D.image disk.old) (λ image. IsFirstDamage names planner.now.edges index.old.opening all_columns nodes.now image fault)) }
-    ensures never { IfErr result (λ fault. IfSome (D.image disk.old) (λ image. (z : History) → IsIndexOver z image index.old.opening names
-        → IsNoDamage fault)) }
-    // what it leaves
-    ensures same { index.new ≡ index.old }
-    ensures disk { OnlyReads D.image D.faults D.write_faults disk.old disk.new }
+    ensures done { IfOk result (λ sets. AreNodeSets name_count nodes.now sets.items) }
+    // over an image of a history: which sets they are, and the bytes read
+    ensures over { IfSome (D.image disk.old) (λ image. (z : History) → IsIndexOver z image index.old.opening name_count
+        → GivesSetsOver z planner.now.edges nodes.now (D.taken disk.old) (D.taken disk.new) result) }
+    // over whatever image: where the records are damaged
+    ensures damage { IfSome (D.image disk.old) (λ image. TellsDamage name_count planner.now.edges index.old.opening all_columns nodes.now image result) }
+    // what it leaves, and why a read failed
+    ensures reads { ReadsRecords D.Disk index.old index.new disk.old disk.new result }
 {
     let times = no_instants(alloc, nodes)?;
     let TreeWritings { leads, .. } = write_along_tree(
@@ -153,7 +134,7 @@ pub fn node_sets<R: Threads, D: Disk>(
         alloc,
         index,
         disk,
-        names,
+        name_count,
         &[],
         planner,
         nodes,

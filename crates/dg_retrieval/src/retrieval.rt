@@ -1,19 +1,13 @@
-ghost use Rattle.std.specs.Prelude.{◌≡◌, ℕ, ◌≤◌, List, ◌∷◌, [], length, map, IfErr, IfOk, IfSome, IsErrOf, OnOk};
-ghost use Rattle.std.specs.List.{All, Contains, sum};
-ghost use Rattle.dg_disk.specs.Counts.{Rose};
-ghost use Rattle.dg_disk.specs.Frame.{OnlyReads};
+//! What leads to the graphs as of several instants, by one tree, and what it weighs.
+ghost use Rattle.std.specs.Prelude.{◌≡◌, ◌≤◌, List, length, IfOk, IfSome};
+ghost use Rattle.std.specs.List.{All, Contains};
 ghost use Rattle.dg_file.specs.Images.{IsOpenedAs};
-ghost use Rattle.dg_fold.specs.BytesRead.{Takes};
 ghost use Rattle.dg_graph.specs.declared.element.Element.{Element};
 ghost use Rattle.dg_history.specs.History.{History};
-ghost use Rattle.dg_history.specs.declared.node.NodeId.TheVariants.{Root};
 ghost use Rattle.dg_index.specs.OpenedIndex.{event_total};
-ghost use Rattle.dg_plan.specs.IndexGraph.{arcs_of};
-ghost use Rattle.dg_plan.specs.Walks.{AreSingles};
-ghost use Rattle.dg_retrieval.specs.Beginnings.{GraphLead, IsOffered, base_handle, leads_in, led_to};
+ghost use Rattle.dg_retrieval.specs.Calls.{IsRetrieval, ReadsRecords, RetrievesOver, TellsDamage};
 ghost use Rattle.dg_retrieval.specs.KeptGraph.{IsKeptGraph, kept_nodes};
-ghost use Rattle.dg_retrieval.specs.NodeSets.{IsUndamaged};
-ghost use Rattle.dg_retrieval.specs.Retrieval.{AreHeld, ArePoints, IsFirstDamage, IsNoDamage, IsOver, IsTreeOf, TakesAtMostTree, graphs_at};
+ghost use Rattle.dg_retrieval.specs.Retrieval.{IsOver};
 
 use crate::fault::RetrievalFault;
 use crate::graph_lead::Leads;
@@ -43,8 +37,8 @@ pub struct Retrieved {
 /// Retrieves what leads to the graphs as of the instants, 32 of them at the most, in these columns, by one tree
 /// through the graph of the index to the targets: the node from which the graph as of each instant is reached. The
 /// graph may have bases, of which none holds the graph of a list. Each record that the tree enters is read once, and
-/// nothing else; the names of the history are so many, and its recent events are in memory. No delta is composed, and
-/// no graph is made.
+/// nothing else; the recent events are in memory. The history has `name_count` names; each one that a lead puts in is
+/// among them, where those of the recent events are. No delta is composed, and no graph is made.
 ///
 /// `Disk` where a read failed, `Damaged` with the first column that is in no spelling, in the order of the
 /// tree's steps and of structure, node attributes, edge attributes, and `Memory`.
@@ -53,7 +47,7 @@ pub fn retrieve<R: Threads, D: Disk>(
     alloc: Global,
     index: &mut Index,
     disk: &mut D,
-    names: u32,
+    name_count: u32,
     recent: &[Event],
     planner: &Planner,
     targets: &[NodeId],
@@ -67,30 +61,17 @@ pub fn retrieve<R: Threads, D: Disk>(
     requires few { length targets.now ≤ 32 }
     requires times { length times.now ≡ length targets.now }
     // what leads to the graphs, and the weights
-    ensures count { IfOk result (λ r. (length (leads_in r.leads) ≡ length targets.now) × (length r.singles.items ≡ length targets.now)) }
-    ensures tree { IfOk result (λ r. IsTreeOf planner.now.edges targets.now r.weight (map (λ (l : GraphLead). base_handle l.begins) (leads_in r.leads))) }
-    ensures singles { IfOk result (λ r. AreSingles (arcs_of planner.now.edges) (Root ∷ []) targets.now r.singles.items) }
-    ensures sum { IfOk result (λ r. r.sum ≡ sum r.singles.items) }
-    ensures offered { IfOk result (λ r. All (IsOffered planner.now.edges) (leads_in r.leads)) }
-    ensures graphs { IfOk result (λ r. IfSome (D.image disk.old) (λ image. (z : History) (now : List Element) (held : ℕ → List Element) → IsOver z image index.old.opening names now recent.now
-        → AreHeld z planner.now.edges cols held → ArePoints z targets.now times.now → map (led_to now held cols) (leads_in r.leads) ≡ graphs_at z times.now cols)) }
-    ensures whole { OnOk result (IfSome (D.image disk.old) (λ image. IsUndamaged names planner.now.edges index.old.opening cols targets.now image)) }
-    // the bytes read, over an image of a history
-    ensures takes { IfOk result (λ r. IfSome (D.image disk.old) (λ image. (z : History) (now : List Element) → IsOver z image index.old.opening names now recent.now
-        → Takes r.weight (D.taken disk.old) (D.taken disk.new))) }
-    ensures most { IfSome (D.image disk.old) (λ image. (z : History) (now : List Element) → IsOver z image index.old.opening names now recent.now
-        → TakesAtMostTree planner.now.edges targets.now (D.taken disk.old) (D.taken disk.new)) }
-    // why nothing is retrieved
-    ensures cause { IsErrOf result RetrievalFault.Disk → Rose (D.faults disk.old) (D.faults disk.new) }
-    ensures damage { IfErr result (λ fault. IfSome (D.image disk.old) (λ image. IsFirstDamage names planner.now.edges index.old.opening cols targets.now image fault)) }
-    ensures never { IfErr result (λ fault. IfSome (D.image disk.old) (λ image. (z : History) (now : List Element) → IsOver z image index.old.opening names now recent.now
-        → ArePoints z targets.now times.now → IsNoDamage fault)) }
-    // what it leaves
-    ensures same { index.new ≡ index.old }
-    ensures disk { OnlyReads D.image D.faults D.write_faults disk.old disk.new }
+    ensures done { IfOk result (IsRetrieval name_count recent.now planner.now.edges targets.now) }
+    // over an image of a history: the graphs, and the bytes read
+    ensures over { IfSome (D.image disk.old) (λ image. (z : History) (now : List Element) → IsOver z image index.old.opening name_count now recent.now
+        → RetrievesOver z now planner.now.edges cols targets.now times.now (D.taken disk.old) (D.taken disk.new) result) }
+    // over whatever image: where the records are damaged
+    ensures damage { IfSome (D.image disk.old) (λ image. TellsDamage name_count planner.now.edges index.old.opening cols targets.now image result) }
+    // what it leaves, and why a read failed
+    ensures reads { ReadsRecords D.Disk index.old index.new disk.old disk.new result }
 {
     let TreeWritings { tree, leads } = write_along_tree(
-        rt, alloc, index, disk, names, recent, planner, targets, times, cols,
+        rt, alloc, index, disk, name_count, recent, planner, targets, times, cols,
     )?;
     Ok(Retrieved {
         leads,

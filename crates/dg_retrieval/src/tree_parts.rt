@@ -1,19 +1,16 @@
 //! The tree of several targets, and the records that it enters.
 
-ghost use Rattle.std.specs.Prelude.{◌≡◌, ℕ, ◌≤◌, List, ◌∷◌, [], length, IfErr, IfOk, IfSome, IsErrOf};
+ghost use Rattle.std.specs.Prelude.{◌≡◌, ℕ, ◌≤◌, ◌∷◌, [], length, IfErr, IfOk, IfSome};
 ghost use Rattle.std.specs.List.{All, Contains, sum};
-ghost use Rattle.dg_disk.specs.Counts.{Rose};
-ghost use Rattle.dg_disk.specs.Frame.{OnlyReads};
 ghost use Rattle.dg_file.specs.Images.{IsOpenedAs};
-ghost use Rattle.dg_fold.specs.BytesRead.{AreParts, Takes, TakesAtMost, kept_in, named_along};
-ghost use Rattle.dg_fold.specs.Trees.{Grow, LeadsToTarget};
 ghost use Rattle.dg_history.specs.declared.node.NodeId.TheVariants.{Root};
 ghost use Rattle.dg_history.specs.History.{History};
 ghost use Rattle.dg_plan.specs.IndexGraph.{arcs_of};
 ghost use Rattle.dg_plan.specs.Walks.{AreSingles, tree_weight};
 ghost use Rattle.dg_planner.specs.Trees.{grafts_in};
+ghost use Rattle.dg_retrieval.specs.Calls.{HasTreeParts, ReadsRecords, TakesTree};
 ghost use Rattle.dg_retrieval.specs.NodeSets.{IsIndexOver};
-ghost use Rattle.dg_retrieval.specs.Retrieval.{IsNoDamage, TakesAtMostTree};
+ghost use Rattle.dg_retrieval.specs.Retrieval.{IsNoDamage};
 ghost use Rattle.dg_retrieval.specs.TreeLeads.{AreIndexEdges};
 ghost use Rattle.dg_retrieval.specs.TreeParts.{IsTreeWalk};
 
@@ -86,29 +83,13 @@ pub fn read_tree<D: Disk>(
     requires targets { All (Contains planner.now.nodes) targets.now }
     requires few { length targets.now ≤ 32 }
     // the tree, and its parts
-    ensures walk { IfOk result (λ r. IsTreeWalk planner.now.edges targets.now (grafts_in r.tree) r.branches.items r.walk.items) }
-    ensures parts { IfOk result (λ r. IfSome (D.image disk.old) (λ image. AreParts (kept_in image index.old.opening) cols (named_along r.walk.items) r.parts.items)) }
-    ensures weight { IfOk result (λ r. r.tree.weight ≡ tree_weight (arcs_of planner.now.edges) (grafts_in r.tree)) }
-    ensures singles { IfOk result (λ r. AreSingles (arcs_of planner.now.edges) (Root ∷ []) targets.now r.tree.singles.items) }
-    ensures sum { IfOk result (λ r. r.tree.sum ≡ sum r.tree.singles.items) }
-    // what is asked of branches
-    ensures count { IfOk result (λ r. length r.branches.items ≡ length targets.now) }
-    ensures lead { IfOk result (λ r. All LeadsToTarget r.branches.items) }
-    ensures grow { IfOk result (λ r. Grow [] r.branches.items) }
-    // the bytes read, over an image of a history
-    ensures takes { IfOk result (λ r. (names : ℕ) → IfSome (D.image disk.old) (λ image. (z : History) → IsIndexOver z image index.old.opening names
-        → Takes r.tree.weight (D.taken disk.old) (D.taken disk.new))) }
-    ensures most { (names : ℕ) → IfSome (D.image disk.old) (λ image. (z : History) → IsIndexOver z image index.old.opening names
-        → TakesAtMostTree planner.now.edges targets.now (D.taken disk.old) (D.taken disk.new)) }
-    ensures shared { (names : ℕ) → IfSome (D.image disk.old) (λ image. (z : History) → IsIndexOver z image index.old.opening names
-        → (singles : List ℕ) → AreSingles (arcs_of planner.now.edges) (Root ∷ []) targets.now singles
-        → TakesAtMost (sum singles) (D.taken disk.old) (D.taken disk.new)) }
-    // why it is not read
-    ensures cause { IsErrOf result RetrievalFault.Disk → Rose (D.faults disk.old) (D.faults disk.new) }
-    ensures never { IfErr result (λ fault. IsNoDamage fault) }
-    // what it leaves
-    ensures same { index.new ≡ index.old }
-    ensures disk { OnlyReads D.image D.faults D.write_faults disk.old disk.new }
+    ensures done { IfOk result (HasTreeParts planner.now.edges index.old.opening cols targets.now (D.image disk.old)) }
+    // over an image of a history: the bytes read
+    ensures over { (name_count : ℕ) → IfSome (D.image disk.old) (λ image. (z : History) → IsIndexOver z image index.old.opening name_count
+        → TakesTree planner.now.edges targets.now (D.taken disk.old) (D.taken disk.new) (λ r. r.tree.weight) result) }
+    // what it leaves, and why it fails
+    ensures never { IfErr result IsNoDamage }
+    ensures reads { ReadsRecords D.Disk index.old index.new disk.old disk.new result }
 {
     // Its clauses say which records the index keeps.
     index.facts();

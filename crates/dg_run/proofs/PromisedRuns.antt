@@ -1,5 +1,5 @@
 -- The promise of the program: where the words are wrong, where no session begins, and where one does.
-use Rattle.std.proofs.Common.{◌≡◌, ℕ, ◌<◌, ◌≤◌, arith, ◌⊎◌, inl, inr, Bool, true, false, List, ◌++◌, Option, IfSome, Ok, Err, length, is_some, refl, sym, ◌∙◌, ap, subst}
+use Rattle.std.proofs.Common.{◌≡◌, ℕ, ◌<◌, ◌≤◌, arith, ◌⊎◌, inl, inr, Bool, true, false, List, ◌++◌, Option, Some, None, IfSome, Ok, Err, length, is_some, refl, sym, ◌∙◌, ap, subst}
 use Rattle.std.specs.Option.{option_map}
 use Rattle.dg_disk.specs.Counts.{Rose as DiskRose}
 use Rattle.dg_columns.specs.ColumnLaws.{AreBytes}
@@ -11,6 +11,7 @@ use Rattle.dg_history.specs.History.{History}
 use Rattle.dg_fold.specs.BytesRead.{Takes}
 use Rattle.dg_index.specs.ImageOfHistory.{IsImageOf, StandsAs}
 use Rattle.dg_index.specs.OpenedIndex.{opened_of}
+use Rattle.dg_start.specs.Calls.{TakesStart}
 use Rattle.dg_start.specs.SessionStart.{PlansLastLeaf, start_bytes}
 use Rattle.dg_machine.specs.declared.limits.Limits.{Limits}
 use Rattle.dg_io.specs.Told.{CountRose, Gives}
@@ -151,6 +152,11 @@ begun_not status.ScriptLimit begun = (λ e. cc, λ e. cc, λ f e. cc)
 abbrev pub StartTakes : ℕ → ℕ → List ℕ → Type 0
 StartTakes before after image =
     (z : History) → IsImageOf z image → (steps : List ℕ) → PlansLastLeaf (opened_of z).index steps → Takes (start_bytes (opened_of z).index steps) before after
+
+-- so many were read where a session began
+pub history_takes : (A E : Type 0) (x : A) (before after : ℕ) (told : Option (List ℕ)) → IfSome told (λ image. TakesStart {A = A} {E = E} (Ok x) image before after) → IfSome told (StartTakes before after)
+history_takes A E x before after None t = tt
+history_takes A E x before after (Some image) t = t.history
 
 -- a session began over what was there at the start, with as many failed writes or more, and answered the script
 pub session_promise : BeginsAreDetermined → (limits : Limits) (checked : Bool) (session : Parts) (s : Status) (start mid now : Outside)

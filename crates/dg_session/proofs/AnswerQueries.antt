@@ -10,14 +10,15 @@ use Rattle.dg_machine.specs.declared.reply.Head.TheVariants as head
 use Rattle.dg_machine.specs.declared.reply.Reply.{Reply}
 use Rattle.dg_machine.specs.Answer.{counting, headed, is_refusal, listing, neighbours_reply, node_reply}
 use Rattle.dg_query.specs.Queries.{degree_of, values_of}
+use Rattle.dg_session.proofs.ReplyNames.{head_names, list_names, neighbour_names, node_names}
 use Rattle.dg_session.proofs.SessionQueryStep.{Asks}
 use Rattle.dg_session.specs.Decided.{IsHeadOf}
 
 pub list_asks : (handle : ℕ) → Asks (command.Ask handle query.List) handle false (listing handle)
-list_asks handle = record { unplanned = λ m. refl; needed = λ p. refl; due = λ m. refl; accepts = λ g. refl; fits = λ g. refl }
+list_asks handle = record { unplanned = λ m. refl; needed = λ p. refl; due = λ m. refl; accepts = λ g. refl; fits = λ g. refl; names = λ n g there. list_names n handle g there }
 
 pub counts_asks : (handle : ℕ) → Asks (command.Ask handle query.Counts) handle false (counting handle)
-counts_asks handle = record { unplanned = λ m. refl; needed = λ p. refl; due = λ m. refl; accepts = λ g. refl; fits = λ g. refl }
+counts_asks handle = record { unplanned = λ m. refl; needed = λ p. refl; due = λ m. refl; accepts = λ g. refl; fits = λ g. refl; names = λ n g there. head_names n _ (counting handle g) refl }
 
 -- what holds of two replies holds of one of them
 either : (P : Reply → Type 0) (b : Bool) (x y : Reply) → P x → P y → P (cond b x y)
@@ -31,10 +32,11 @@ node_asks handle id = record {
   due = λ m. refl;
   accepts = λ g. either (λ r. is_refusal r.head ≡ false) (has g (element.Node id)) (there g) (headed (head.NodeAbsent handle id)) refl refl;
   fits = λ g. either (λ r. IsHeadOf (command.Ask handle (query.Node id)) r.head) (has g (element.Node id)) (there g) (headed (head.NodeAbsent handle id)) (refl, refl) (refl, refl);
+  names = λ n g there. node_names n handle id g there;
 }
   where
     there : List Element → Reply
     there g = record { head = head.NodeThere handle id (degree_of g id); body = map (λ v. line.Attribute v) (values_of g id) }
 
 pub neighbours_asks : (handle id : ℕ) → Asks (command.Ask handle (query.Neighbours id)) handle true (neighbours_reply handle id)
-neighbours_asks handle id = record { unplanned = λ m. refl; needed = λ p. refl; due = λ m. refl; accepts = λ g. refl; fits = λ g. (refl, refl) }
+neighbours_asks handle id = record { unplanned = λ m. refl; needed = λ p. refl; due = λ m. refl; accepts = λ g. refl; fits = λ g. (refl, refl); names = λ n g there. neighbour_names n handle id g }

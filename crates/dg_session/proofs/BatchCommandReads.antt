@@ -1,10 +1,10 @@
 -- Which bytes a command that adds a batch has read, and which damage it tells of.
-use Rattle.std.proofs.Common.{◌≡◌, ℕ, true, false, List, [], ◌∷◌, Option, Some, Ok, Err, length, refl, sym, ◌∙◌, ap, subst, arith}
+use Rattle.std.proofs.Common.{◌≡◌, ℕ, true, false, List, [], ◌∷◌, Option, Some, Result, Ok, Err, length, refl, sym, ◌∙◌, ap, subst, arith}
 use Rattle.std.specs.Prelude.{IfSome}
 use Rattle.std.specs.List.{sum}
 use Rattle.std.proofs.lemmas.Bool.{false≢true}
 use Rattle.std.proofs.lemmas.List.{length-map}
-use Rattle.dg_append.specs.AddedBatches.{AddsBatch, FailsBatch, IsOverHistory, MeetsDamage, MeetsNoDamage, ReadsNothing, TakesOlder}
+use Rattle.dg_append.specs.AddedBatches.{AddsBatch, FailsBatch, IsOverHistory, MeetsDamage, MeetsNoDamage, ReadsNothing, TakesBatch}
 use Rattle.dg_append.specs.Fronts.{ComeTo, IsFront, lines}
 use Rattle.dg_append.specs.OlderGroups.{IsBatchDamage, older_children}
 use Rattle.dg_append.specs.declared.batch.AddedBatch.{AddedBatch}
@@ -48,12 +48,14 @@ use Rattle.dg_batch.specs.BatchLines.{IsBarred, ReadsBatch, first_refusal}
 use Rattle.dg_session.specs.Damage.{Batch_of, DamageIn, DamageIs, MeetsNone, NamesBatchDamage}
 use Rattle.dg_session.specs.declared.batch_command.BatchCommand.{BatchCommand}
 use Rattle.dg_session.specs.declared.batch_command.BatchCommand.TheVariants.{Load, Append}
-use Rattle.dg_batch.specs.declared.batch_lines.BatchLines.{BatchLines}
+use Rattle.dg_append.specs.declared.batch.Batch.{Batch}
+use Rattle.dg_append.specs.declared.live.Live.{Live}
 use Rattle.dg_batch.specs.declared.halt.Halt.{Halt}
 use Rattle.dg_batch.specs.declared.halt.Halt.TheVariants as halt
+use Rattle.dg_batch.specs.declared.stop.Stop.TheVariants as stop
 use Rattle.dg_batch.specs.Halt.{batch_halt}
 use Rattle.dg_session.specs.Parts.{Parts}
-use Rattle.dg_session.specs.Reads.{Reads, ReadsBy, ReadsIn, ReadsOlder, reply_head, is_early, older_for}
+use Rattle.dg_session.specs.Reads.{Reads, ReadsBy, ReadsIn, ReadsOlder, ReadsToWrite, is_early, older_for}
 use Rattle.dg_session.specs.Session.{StandsFor, is_of_read}
 use Rattle.dg_start.specs.declared.stored_history.StoredHistory.{StoredHistory}
 use Rattle.dg_start.specs.StoredHistory.{index_opening}
@@ -84,25 +86,27 @@ nothing_read p image count before after same =
     every_some image (λ bytes. (m : MachineState) → StandsFor p bytes m → ReadsOlder m count before after)
     (λ bytes m s singles are. let most : TakesAtMost (sum singles) before before = omega arith in subst (TakesAtMost (sum singles) before) (sym same) most)
 
+-- where the file could not be written, no more than the older children was read
+stopped_reads : (from : Origin) (count : ℕ) (p : Parts) (image : Option (List ℕ)) (before after : ℕ) → ReadsNoMore p image count before after → ReadsToWrite (adding from count) p image before after
+stopped_reads (Lines_of Load) count p image before after older = record { older = older; nothing = λ e. absurd (false≢true (sym e)) }
+stopped_reads (Lines_of Append) count p image before after older = record { older = older; nothing = λ e. absurd (false≢true (sym e)) }
+stopped_reads (Seed seed) count p image before after older = record { older = older; nothing = λ e. absurd (false≢true (sym e)) }
+
 -- there is no batch to be completed, and nothing was read
 pub unread_reads : (from : Origin) (count : ℕ) (p : Parts) (image : Option (List ℕ)) (h : Halt) (taken : ℕ) → ReadsIn (adding from count) p image (Err h) taken taken
-unread_reads from count p image h taken =
-    every_some (reply_head (Err h)) (λ x. Reads (adding from count) p image x taken taken)
-    (λ x. batch_reads from count p image x taken taken (nothing_read p image count taken taken refl) (λ e. refl))
-
-early_told : (f : BatchFault) (before after : ℕ) → ReadsNothing f before after → IfSome (reply_head (Err (batch_halt f))) (λ h. is_early h ≡ true → after ≡ before)
-early_told (fault.BadChange line reason) before after none = λ e. none
-early_told (fault.FileFull n most) before after none = λ e. absurd (false≢true e)
-early_told (fault.Damaged key col) before after none = λ e. absurd (false≢true e)
-early_told fault.Read before after none = λ e. absurd (false≢true e)
-early_told fault.Memory before after none = λ e. absurd (false≢true e)
-early_told fault.Store before after none = tt
+unread_reads from count p image (halt.Refusal r) taken = batch_reads from count p image (head.Refused r) taken taken (nothing_read p image count taken taken refl) (λ e. refl)
+unread_reads from count p image (halt.Stop stop.Read) taken = refl
+unread_reads from count p image (halt.Stop stop.Limit) taken = refl
+unread_reads from count p image (halt.Stop stop.Store) taken = stopped_reads from count p image taken taken (nothing_read p image count taken taken refl)
 
 pub failed_reads : (from : Origin) (count : ℕ) (p : Parts) (image : Option (List ℕ)) (f : BatchFault) (before after : ℕ) → ReadsNoMore p image count before after → ReadsNothing f before after
     → ReadsIn (adding from count) p image (Err (batch_halt f)) before after
-failed_reads from count p image f before after older none =
-    if_some (reply_head (Err (batch_halt f))) (λ h. is_early h ≡ true → after ≡ before) (λ h. Reads (adding from count) p image h before after)
-    (λ h early. batch_reads from count p image h before after older early) (early_told f before after none)
+failed_reads from count p image (fault.BadChange line reason) before after older none = batch_reads from count p image _ before after older (λ e. none)
+failed_reads from count p image (fault.FileFull n most) before after older none = batch_reads from count p image _ before after older (λ e. absurd (false≢true e))
+failed_reads from count p image (fault.Damaged key col) before after older none = batch_reads from count p image _ before after older (λ e. absurd (false≢true e))
+failed_reads from count p image fault.Read before after older none = batch_reads from count p image _ before after older (λ e. absurd (false≢true e))
+failed_reads from count p image fault.Memory before after older none = batch_reads from count p image _ before after older (λ e. absurd (false≢true e))
+failed_reads from count p image fault.Store before after older none = stopped_reads from count p image before after older
 
 not_early : (from : Origin) (graph : List Element) (events total last : ℕ) → is_early (head_over from graph events total last) ≡ false
 not_early (Lines_of Load) graph events total last = refl
@@ -150,7 +154,10 @@ names_it (Lines_of Load) count p image key col d = d
 names_it (Lines_of Append) count p image key col d = d
 names_it (Seed seed) count p image key col d = d
 
-module _ (from : Origin) (got : List ScriptLine) (p : Parts) (count known limit : ℕ) (c : StoredHistory) (b : BatchLines) (a : IsAsked from got p count known limit c b) where
+module _ (from : Origin) (got : List ScriptLine) (p : Parts) (count limit : ℕ) (l : Live) (b : Batch) (a : IsAsked from got p count limit l b) where
+  abbrev c : StoredHistory
+  c = l.history
+
   abbrev o : Opening
   o = a.free.index
 
@@ -158,17 +165,19 @@ module _ (from : Origin) (got : List ScriptLine) (p : Parts) (count known limit 
   there = a.free.there
 
   here : index_opening c.index ≡ Some o
-  here = opening_there from got p count known limit c b a
+  here = opening_there from got p count limit l b a
 
   -- what is said of the changes that are kept holds of all that is asked for
-  pub reads_no_more : (told : Option (List ℕ)) (before after : ℕ) → IfSome (index_opening c.index) (λ o. TakesOlder told o known c (length b.changes.items) before after)
-      → ((b.front ≡ Whole → ⊥) → after ≡ before) → ReadsNoMore p told count before after
-  reads_no_more told before after takes unread = by b.front refl
+  pub reads_no_more : (told : Option (List ℕ)) (r : Result AddedBatch BatchFault) (before after : ℕ) → IfSome (index_opening c.index) (λ o. TakesBatch o b c told r before after) → ReadsNoMore p told count before after
+  reads_no_more told r before after takes = by b.front refl
     where
+      takes_here : TakesBatch o b c told r before after
+      takes_here = of_here (index_opening c.index) o (λ o. TakesBatch o b c told r before after) here takes
+
       singles_are : (m : MachineState) (image : List ℕ) (singles : List ℕ) → b.front ≡ Whole → StandsFor p image m → AreSingles (arcs_of (record_edges_in m all_columns)) (Root ∷ []) (older_for m count) singles
           → AreSingles (arcs_of (record_edges o)) (Root ∷ []) (older_children o (length b.changes.items)) singles
       singles_are m image singles whole s are =
-          let many : length b.changes.items ≡ count = many_changes from got p count known limit c b a whole in
+          let many : length b.changes.items ≡ count = many_changes from got p count limit l b a whole in
           let nodes : older_for m count ≡ older_children o (length b.changes.items) = sym (older_are p o image m there s count) ∙ ap (older_children o) (sym many) in
           subst (λ (es : List Edge). AreSingles (arcs_of es) (Root ∷ []) (older_children o (length b.changes.items)) singles) (sym (records_edges_are p o image m there s))
           (subst (λ (ns : List NodeId). AreSingles (arcs_of (record_edges_in m all_columns)) (Root ∷ []) ns singles) nodes are)
@@ -176,39 +185,43 @@ module _ (from : Origin) (got : List ScriptLine) (p : Parts) (count known limit 
       by_whole : b.front ≡ Whole → ReadsNoMore p told count before after
       by_whole whole =
           if_some told
-          (λ image. (z : History) → IsOverHistory z image o known c → (singles : List ℕ) → AreSingles (arcs_of (record_edges o)) (Root ∷ []) (older_children o (length b.changes.items)) singles → TakesAtMost (sum singles) before after)
+          (λ image. (z : History) → IsOverHistory z image o b.known c → (singles : List ℕ) → AreSingles (arcs_of (record_edges o)) (Root ∷ []) (older_children o (length b.changes.items)) singles → TakesAtMost (sum singles) before after)
           (λ image. (m : MachineState) → StandsFor p image m → ReadsOlder m count before after)
           (λ image t m s singles are.
           let found = is_of p o image m there s in
-          t found.0 (over from got p count known limit c b a image m found.0 found.1) singles (singles_are m image singles whole s are))
-          (of_here (index_opening c.index) o (λ o. TakesOlder told o known c (length b.changes.items) before after) here takes)
+          t found.0 (over from got p count limit l b a image m found.0 found.1) singles (singles_are m image singles whole s are))
+          takes_here.older
 
       by : (x : Front) → b.front ≡ x → ReadsNoMore p told count before after
       by Whole is = by_whole is
-      by Form is = nothing_read p told count before after (unread (λ w. let e : Form ≡ Whole = sym is ∙ w in cc))
-      by Unkept is = nothing_read p told count before after (unread (λ w. let e : Unkept ≡ Whole = sym is ∙ w in cc))
+      by Form is = nothing_read p told count before after (takes_here.unkept (λ w. let e : Form ≡ Whole = sym is ∙ w in cc))
+      by Unkept is = nothing_read p told count before after (takes_here.unkept (λ w. let e : Unkept ≡ Whole = sym is ∙ w in cc))
+
+  -- a batch that is refused for a change has read nothing
+  pub refused_reads : (told : Option (List ℕ)) (f : BatchFault) (before after : ℕ) → IfSome (index_opening c.index) (λ o. TakesBatch o b c told (Err f) before after) → ReadsNothing f before after
+  refused_reads told f before after takes = (of_here (index_opening c.index) o (λ o. TakesBatch o b c told (Err f) before after) here takes).refused
 
   -- ---- damage
 
   -- the lines come to as many events as there are lines
-  many_events : (events : List Event) → b.front ≡ Whole → ComeTo o c.now.graph b.front b.changes.items (Ok events) → length events ≡ count
+  many_events : (events : List Event) → b.front ≡ Whole → ComeTo o c.now.graph b (Ok events) → length events ≡ count
   many_events events whole come =
       let are : IsFront b.front b.changes.items (lines b.changes.items) = subst (λ (x : Front). IsFront x b.changes.items (lines b.changes.items)) (sym whole) refl in
       as_many (earliest_in 0 o.batches) c.now.graph (lines b.changes.items) events (all_come 1 (earliest_in 0 o.batches) c.now.graph (lines b.changes.items) events (come (lines b.changes.items) are))
-      ∙ length-map b.changes.items (λ (x : Change). Some x) ∙ many_changes from got p count known limit c b a whole
+      ∙ length-map b.changes.items (λ (x : Change). Some x) ∙ many_changes from got p count limit l b a whole
 
-  meets : (told : Option (List ℕ)) (key : Key) (col : Column) → MeetsDamage o known c told b.changes.items b.front key col → NamesBatchDamage p told count key col
+  meets : (told : Option (List ℕ)) (key : Key) (col : Column) → MeetsDamage o b c told key col → NamesBatchDamage p told count key col
   meets told key col d = (
     o,
     there,
     subst (λ (n : ℕ). IfSome told (λ image. IsBatchDamage n o image count key col)) a.known_is
-        (subst (λ (n : ℕ). IfSome told (λ image. IsBatchDamage known o image n key col)) (many_events d.events d.whole d.come) d.damage),
+        (subst (λ (n : ℕ). IfSome told (λ image. IsBatchDamage b.known o image n key col)) (many_events d.events d.whole d.come) d.damage),
   )
 
-  pub failed_damage : (told after : Option (List ℕ)) (f : BatchFault) → IfSome (index_opening c.index) (λ o. FailsBatch o limit known c told after b.changes.items b.front f) → DamageIn (adding from count) p told (Err (batch_halt f))
+  pub failed_damage : (told after : Option (List ℕ)) (f : BatchFault) → IfSome (index_opening c.index) (λ o. FailsBatch o limit b c told after f) → DamageIn (adding from count) p told (Err (batch_halt f))
   failed_damage told after (fault.Damaged key col) fails =
       names_it from count p told key col
-      (meets told key col (of_here (index_opening c.index) o (λ o. FailsBatch o limit known c told after b.changes.items b.front (fault.Damaged key col)) here fails).1)
+      (meets told key col (of_here (index_opening c.index) o (λ o. FailsBatch o limit b c told after (fault.Damaged key col)) here fails).1)
   failed_damage told after (fault.BadChange line reason) fails = tt
   failed_damage told after (fault.FileFull n most) fails = tt
   failed_damage told after fault.Read fails = tt
@@ -216,15 +229,11 @@ module _ (from : Origin) (got : List ScriptLine) (p : Parts) (count known limit 
   failed_damage told after fault.Store fails = tt
 
   -- where the batch was added, what was read for it met no damage
-  pub added_undamaged : (told after : Option (List ℕ)) (new : StoredHistory) (x : AddedBatch) → IfSome (index_opening c.index) (λ o. AddsBatch o limit known c new told after b.changes.items b.front x)
-      → IfSome (index_opening c.index) (λ o. MeetsNoDamage told o known (length b.changes.items)) → MeetsNone (Batch_of count) p told
-  added_undamaged told after new x adds none =
-      let d : AddsBatch o limit known c new told after b.changes.items b.front x =
-      of_here (index_opening c.index) o (λ o. AddsBatch o limit known c new told after b.changes.items b.front x) here adds in
-      let many : length b.changes.items ≡ count = many_changes from got p count known limit c b a d.comes.whole in (
+  pub added_undamaged : (told after : Option (List ℕ)) (new : Live) (x : AddedBatch) → IfSome (index_opening c.index) (λ o. AddsBatch o limit b l new told after x) → MeetsNone (Batch_of count) p told
+  added_undamaged told after new x adds =
+      let d : AddsBatch o limit b l new told after x = of_here (index_opening c.index) o (λ o. AddsBatch o limit b l new told after x) here adds in
+      let many : length b.changes.items ≡ count = many_changes from got p count limit l b a d.comes.whole in (
         o,
         there,
-        subst (λ (n : ℕ). MeetsNoDamage told o n count) a.known_is
-            (subst (λ (n : ℕ). MeetsNoDamage told o known n) many
-            (of_here (index_opening c.index) o (λ o. MeetsNoDamage told o known (length b.changes.items)) here none)),
+        subst (λ (n : ℕ). MeetsNoDamage told o n count) a.known_is (subst (λ (n : ℕ). MeetsNoDamage told o b.known n) many d.whole),
       )

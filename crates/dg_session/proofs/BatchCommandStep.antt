@@ -6,9 +6,11 @@ use Rattle.std.proofs.lemmas.Bool.{false≢true}
 use Rattle.std.proofs.lemmas.List.{length-map, take-append-drop}
 use Rattle.std.proofs.Math.ListN.{get_or-map}
 use borrow.Author.Tests.{le-leb, lt-ltb, le-ltb, ltb-false}
-use Rattle.dg_append.specs.AddedBatches.{AddsBatch, BreaksBatch, ComesToSegment, FailsBatch, FailsToRead, FillsFile, IsAsKnown, IsBack, IsOverHistory, IsReady, batch_with, recent_behind}
+use Rattle.dg_append.specs.AddedBatches.{AddsBatch, BreaksBatch, ComesToSegment, FailsBatch, FailsToRead, FillsFile, IsAsKnown, IsBack, IsOverHistory, IsReady, MayAdd, batch_with, recent_behind}
 use Rattle.dg_append.specs.Fronts.{ComeTo, IsFront, lines}
 use Rattle.dg_append.specs.declared.batch.AddedBatch.{AddedBatch}
+use Rattle.dg_append.specs.declared.batch.Batch.{Batch}
+use Rattle.dg_append.specs.declared.live.Live.{Live}
 use Rattle.dg_append.specs.declared.fault.BatchFault.{BatchFault}
 use Rattle.dg_append.specs.declared.fault.BatchFault.TheVariants as fault
 use Rattle.dg_append.specs.declared.front.Front.{Front}
@@ -32,7 +34,7 @@ use Rattle.dg_index.specs.IndexRecords.{recent_of}
 use Rattle.dg_index.proofs.OpenedIndexGrowth.{measured, opened_more}
 use Rattle.dg_index.proofs.OpenedIndexHistories.{Rises, completed_rises, large_parameters}
 use Rattle.dg_index.proofs.HierarchyStability.{leaves_more, recent_more, replay_append}
-use Rattle.dg_history.specs.History.{History, Batch, earliest_next, events_of, last_time_from, names_of, span_of, with_batch}
+use Rattle.dg_history.specs.History.{History, Batch as HistoryBatch, earliest_next, events_of, last_time_from, names_of, span_of, with_batch}
 use Rattle.dg_index.specs.ImageOfHistory.{IsImageOf, StandsAs}
 use Rattle.dg_history.specs.LegalHistory.{IsLegal}
 use Rattle.dg_index.specs.OpenedIndex.{Opened, Opening, earliest_in, event_total, may_be_named}
@@ -51,13 +53,14 @@ use Rattle.dg_machine.specs.Planning.{no_plan}
 use Rattle.dg_machine.specs.Run.{Step}
 use Rattle.dg_machine.specs.Script.{Asked, Follows}
 use Rattle.dg_session.proofs.BatchCommandForms.{Lines_of, Origin, Seed, accepted_made, adding, adds, asked_fit, asked_from, behind_head, fits_head, head_over, lacks, ok_head, reads_records, unplanned, with_made, writes}
-use Rattle.dg_batch.proofs.LegalHistoryRanges.{ChangeFits, what_spelled}
+use Rattle.dg_batch.proofs.LegalHistoryRanges.{ChangeFits, what_named}
 use Rattle.dg_batch.proofs.GeneratedChangeRanges.{generated_length}
 use Rattle.dg_ask.proofs.HeldIndexHistory.{count_is}
 use Rattle.dg_session.proofs.SessionGraphs.{all_reached_more, graphs_more}
 use Rattle.dg_batch.proofs.LegalHistory.{AskedFit, IsNext, batch_next, events_with, fitting_next, grown_next, legal_next, names_grown}
 use Rattle.dg_ask.proofs.OpenedIndexHistory.{behind}
 use Rattle.dg_batch.proofs.NamesAfter.{Grows, changes_length, grown_new}
+use Rattle.dg_session.proofs.ReplyNames.{head_names}
 use Rattle.dg_session.proofs.PartStates.{IsOf, both_told, by_first, is_of, not_false, one_told, opening_of, passes, refused_is, stands}
 use Rattle.dg_session.proofs.SessionSteps.{Comes, accepted_is, accepted_steps, denied, denied_at, failing_denies, is_accepted, lacking_denies, refused_denies}
 use Rattle.dg_batch.specs.HandlesStay.{HandlesStay}
@@ -65,7 +68,6 @@ use Rattle.dg_session.specs.BatchCommand.{barred, command_with}
 use Rattle.dg_batch.specs.BatchLines.{IsBarred, IsBatch, NamesGrow, ReadsBatch, first_refusal}
 use Rattle.dg_session.specs.declared.batch_command.BatchCommand.{BatchCommand}
 use Rattle.dg_session.specs.declared.batch_command.BatchCommand.TheVariants.{Load, Append}
-use Rattle.dg_batch.specs.declared.batch_lines.BatchLines.{BatchLines}
 use Rattle.dg_batch.specs.declared.halt.Halt.{Halt}
 use Rattle.dg_batch.specs.declared.halt.Halt.TheVariants as halt
 use Rattle.dg_batch.specs.declared.stop.Stop.TheVariants as stop
@@ -73,7 +75,7 @@ use Rattle.dg_batch.specs.Halt.{batch_halt}
 use Rattle.dg_batch.specs.GeneratedBatch.{IsGenerated}
 use Rattle.dg_ask.specs.HeldIndex.{events_held, span_held}
 use Rattle.dg_handles.specs.Handles.{HandlesState, slot_graphs}
-use Rattle.dg_pool.specs.Graphs.{PoolState, slot_graph}
+use Rattle.dg_pool.specs.Graphs.{PoolState, graph_now, slot_graph}
 use Rattle.dg_ask.proofs.KeptAdjacencies.{graphs_same}
 use Rattle.dg_session.specs.Parts.{Parts}
 use Rattle.dg_session.specs.Session.{Accepts, ComesTo, CutsOff, Denies, Moves, StandsFor, TakesLines, is_reached, is_too_full, refusals_by, refused_by}
@@ -178,11 +180,11 @@ pub of_here : (told : Option Opening) (o : Opening) (P : Opening → Type 0) →
 of_here told o P is p = subst (λ (i : Option Opening). IfSome i P) is p
 
 -- The session keeps a history, in which the names have grown by those of a batch that nothing refuses yet.
-pub record IsAsked (from : Origin) (got : List ScriptLine) (p : Parts) (count known limit : ℕ) (c : StoredHistory) (b : BatchLines) : Type 0 where
-  pub index : p.index ≡ index_opening c.index
-  pub known_is : known ≡ length p.names
-  pub graph : c.now.graph ≡ p.graph
-  pub recent : c.recent.items ≡ p.recent
+pub record IsAsked (from : Origin) (got : List ScriptLine) (p : Parts) (count limit : ℕ) (l : Live) (b : Batch) : Type 0 where
+  pub index : p.index ≡ index_opening l.history.index
+  pub known_is : b.known ≡ length p.names
+  pub graph : l.history.now.graph ≡ p.graph
+  pub recent : l.history.recent.items ≡ p.recent
   pub limit_is : limit ≡ p.limits.file_bytes
   pub few_events : p.limits.events ≤ EVENTS_MAX
   pub some : 1 ≤ count
@@ -190,24 +192,24 @@ pub record IsAsked (from : Origin) (got : List ScriptLine) (p : Parts) (count kn
   pub free : IsFree p count
   pub not_refused : refused_by p (length got) (needs (adding from count)) ≡ None
   pub changes_are : IsFront b.front b.changes.items (changes_after p.names (asked_from from count got))
-  pub names_are : b.front ≡ Whole → c.names ≡ names_after p.names (asked_from from count got)
+  pub names_are : b.front ≡ Whole → l.history.names ≡ names_after p.names (asked_from from count got)
   pub many : length (asked_from from count got) ≡ count
   pub within : length b.changes.items ≤ count
-  pub kept : take (length p.names) c.names ≡ p.names
-  pub few_names : b.front ≡ Whole → length c.names ≤ NAMES_MAX
+  pub kept : take (length p.names) l.history.names ≡ p.names
+  pub few_names : b.front ≡ Whole → length l.history.names ≤ NAMES_MAX
 
 -- it is so of lines that were read, where the session's parts are those that it was called with
-pub is_asked : (which : BatchCommand) (p called : Parts) (count known : ℕ) (c : StoredHistory) (b : BatchLines) (before after : Option (List ScriptLine)) (bar : Option Refusal)
-    → p ≡ called → bar ≡ barred which called count → p.index ≡ index_opening c.index → known ≡ length p.names → c.now.graph ≡ p.graph → c.recent.items ≡ p.recent → p.limits.events ≤ EVENTS_MAX → 1 ≤ count → count ≤ BATCH_LINES_MAX
-    → (r : IsBatch count bar before after p.names c.names b) → IsAsked (Lines_of which) r.got p count known p.limits.file_bytes c b
-is_asked which p called count known c b before after bar same bar_is index known_is graph recent few_events some few r =
+pub is_asked : (which : BatchCommand) (p called : Parts) (count : ℕ) (l : Live) (b : Batch) (before after : Option (List ScriptLine)) (bar : Option Refusal)
+    → p ≡ called → bar ≡ barred which called count → p.index ≡ index_opening l.history.index → l.history.now.graph ≡ p.graph → l.history.recent.items ≡ p.recent → p.limits.events ≤ EVENTS_MAX → 1 ≤ count → count ≤ BATCH_LINES_MAX
+    → (r : IsBatch count bar before after p.names l.history.names b) → IsAsked (Lines_of which) r.got p count p.limits.file_bytes l b
+is_asked which p called count l b before after bar same bar_is index graph recent few_events some few r =
     let bar_here : bar ≡ barred which p count = bar_is ∙ ap (λ (x : Parts). barred which x count) (sym same) in
-    let first : first_refusal b.read count (barred which p count) ≡ None = ap (first_refusal b.read count) (sym bar_here) ∙ r.free in
-    let none = none_first b.read count (barred which p count) first in
-    let all : length (map change_by_text_in r.got) ≡ count = omega (arith, length-map r.got change_by_text_in, r.reads.read_is, r.most, none.0) in
+    let first : first_refusal (length r.got) count (barred which p count) ≡ None = ap (first_refusal (length r.got) count) (sym bar_here) ∙ r.free in
+    let none = none_first (length r.got) count (barred which p count) first in
+    let all : length (map change_by_text_in r.got) ≡ count = omega (arith, length-map r.got change_by_text_in, r.most, none.0) in
     record {
       index = index;
-      known_is = known_is;
+      known_is = r.known;
       graph = graph;
       recent = recent;
       limit_is = refl;
@@ -215,9 +217,9 @@ is_asked which p called count known c b before after bar same bar_is index known
       some = some;
       few = few;
       free = none_bars which p count some none.1;
-      not_refused = ap (λ (n : ℕ). refused_by p n (needs (command_with which count))) r.reads.read_is ∙ refused_first which p count b.read ∙ first;
+      not_refused = refused_first which p count (length r.got) ∙ first;
       changes_are = r.reads.changes_are;
-      names_are = λ whole. subst (λ (x : Front). NamesGrow x p.names c.names r.got) whole r.reads.names_are;
+      names_are = λ whole. subst (λ (x : Front). NamesGrow x p.names l.history.names r.got) whole r.reads.names_are;
       many = all;
       within = omega (arith, r.within, r.most);
       kept = r.kept;
@@ -225,14 +227,14 @@ is_asked which p called count known c b before after bar same bar_is index known
     }
 
 -- it is so of the changes of a seed, which are barred as a load is
-pub is_generated : (seed : ℕ) (p called : Parts) (count known : ℕ) (c : StoredHistory) (b : BatchLines) (bar : Option Refusal)
-    → p ≡ called → bar ≡ barred Load called count → bar ≡ None → p.index ≡ index_opening c.index → known ≡ length p.names → c.now.graph ≡ p.graph → c.recent.items ≡ p.recent → p.limits.events ≤ EVENTS_MAX → 1 ≤ count → count ≤ BATCH_LINES_MAX
-    → IsGenerated seed count p.names c.names b → IsAsked (Seed seed) [] p count known p.limits.file_bytes c b
-is_generated seed p called count known c b bar same bar_is free index known_is graph recent few_events some few r =
+pub is_generated : (seed : ℕ) (p called : Parts) (count : ℕ) (l : Live) (b : Batch) (bar : Option Refusal)
+    → p ≡ called → bar ≡ barred Load called count → bar ≡ None → p.index ≡ index_opening l.history.index → l.history.now.graph ≡ p.graph → l.history.recent.items ≡ p.recent → p.limits.events ≤ EVENTS_MAX → 1 ≤ count → count ≤ BATCH_LINES_MAX
+    → IsGenerated seed count p.names l.history.names b → IsAsked (Seed seed) [] p count p.limits.file_bytes l b
+is_generated seed p called count l b bar same bar_is free index graph recent few_events some few r =
     let none : barred Load p count ≡ None = ap (λ (x : Parts). barred Load x count) same ∙ sym bar_is ∙ free in
     record {
       index = index;
-      known_is = known_is;
+      known_is = r.known;
       graph = graph;
       recent = recent;
       limit_is = refl;
@@ -250,11 +252,11 @@ is_generated seed p called count known c b bar same bar_is free index known_is g
     }
 
 -- the batch that is asked for, in the names with its texts
-abbrev batch_in : History → List (Option ChangeByText) → List Event → Batch
+abbrev batch_in : History → List (Option ChangeByText) → List Event → HistoryBatch
 batch_in z asked events = record { names = drop (length (names_of z)) (names_after (names_of z) asked); events = events }
 
 -- the answer, by its test
-abbrev by_room : MachineState → History → Origin → Batch → Bool → Answered
+abbrev by_room : MachineState → History → Origin → HistoryBatch → Bool → Answered
 by_room m z from b full =
     if full then refuse m (refusal.FileFull (size (with_batch z b)) m.limits.file_bytes)
     else record {
@@ -263,7 +265,7 @@ by_room m z from b full =
     }
 
 -- a batch that is refused for no change is refused for a full file alone
-behind_reads : (m : MachineState) (z : History) (from : Origin) (b : Batch) → is_behind_reads (with_made m z from (Ok b)).reply.head ≡ true
+behind_reads : (m : MachineState) (z : History) (from : Origin) (b : HistoryBatch) → is_behind_reads (with_made m z from (Ok b)).reply.head ≡ true
 behind_reads m z from b = by (nat_lt m.limits.file_bytes (size (with_batch z b)))
   where
     by : (full : Bool) → is_behind_reads (by_room m z from b full).reply.head ≡ true
@@ -304,7 +306,14 @@ recent_with p pos before events =
     ∙ drop-drop (after * p.l - m * p.l) (m * p.l) (before ++ events)
     ∙ ap (λ n. drop n (before ++ events)) (whole ∙ ap (λ n. leaves p n * p.l) (sym (length-append before events)))
 
-module _ (from : Origin) (got : List ScriptLine) (p : Parts) (count known limit : ℕ) (c : StoredHistory) (b : BatchLines) (a : IsAsked from got p count known limit c b) where
+module _ (from : Origin) (got : List ScriptLine) (p : Parts) (count limit : ℕ) (l : Live) (b : Batch) (a : IsAsked from got p count limit l b) where
+  -- the history, in which the names have grown, and how many were there before
+  abbrev c : StoredHistory
+  c = l.history
+
+  abbrev known : ℕ
+  known = b.known
+
   -- what is asked for
   abbrev pub Due : List (Option ChangeByText)
   Due = asked_from from count got
@@ -361,8 +370,8 @@ module _ (from : Origin) (got : List ScriptLine) (p : Parts) (count known limit 
       subst (λ (o : Option Change). IfSome o (ChangeFits c.names)) (get_or-map (λ (x : Change). Some x) b.changes.items k d)
       (fit k (Some d) (omega (arith, lt, length-map b.changes.items (λ (x : Change). Some x))))
 
-  pub is_ready : IsSoundHistory p.index p.names c.now c.recent.items → IfSome (index_opening c.index) (λ o. IsReady o known c b.front b.changes.items)
-  is_ready sound = here (index_opening c.index) free.index (λ o. IsReady o known c b.front b.changes.items) opening_there (record {
+  pub is_ready : IsSoundHistory p.index p.names c.now c.recent.items → IfSome (index_opening c.index) (λ o. IsReady o b c)
+  is_ready sound = here (index_opening c.index) free.index (λ o. IsReady o b c) opening_there (record {
     sound = subst (λ (ns : List (List ℕ)). IsSoundHistory (Some free.index) ns c.now c.recent.items) (sym names_kept)
         (subst (λ (i : Option Opening). IsSoundHistory i p.names c.now c.recent.items) free.there sound);
     within = omega (arith, long, a.known_is);
@@ -370,9 +379,17 @@ module _ (from : Origin) (got : List ScriptLine) (p : Parts) (count known limit 
     few = omega (arith, a.within, a.few);
     room = omega (arith, free.room, held_here, a.few_events, a.within);
     named = named;
-    fit = λ whole k d lt. what_spelled (length c.names) (get_or b.changes.items k d).what (omega (arith, a.few_names whole)) (change_fits whole k d lt).numbers;
+    fit = λ whole k d lt. what_named (length c.names) (get_or b.changes.items k d).what (change_fits whole k d lt).numbers;
     timed = λ whole k d lt. (change_fits whole k d lt).time;
   })
+
+  pub may_add : IsSoundHistory p.index p.names c.now c.recent.items → graph_now l.pool.value ≡ c.now.graph → MayAdd b l
+  may_add sound pool = record {
+    index = free.index;
+    there = opening_there;
+    ready = of_here (index_opening c.index) free.index (λ o. IsReady o b c) opening_there (is_ready sound);
+    pool = pool;
+  }
 
   pub image_known : (told : Option (List ℕ)) (P : Option Opening → List (List ℕ) → List ℕ → Type 0) → IfSome told (P p.index p.names) → IfSome told (P (index_opening c.index) (take known c.names))
   image_known told P h =
@@ -395,7 +412,7 @@ module _ (from : Origin) (got : List ScriptLine) (p : Parts) (count known limit 
   many_of : (image : List ℕ) (m : MachineState) (z : History) → IsOf p free.index image m z → event_total free.index.batches ≡ length (events_of z)
   many_of image m z h = ap (λ (x : Opening). event_total x.batches) h.opened ∙ count_is z h.stands.legal
 
-  completed_is : (image : List ℕ) (m : MachineState) (z : History) (due : Result (List Event) (ℕ × ℕ)) → IsOf p free.index image m z → ComeTo free.index c.now.graph b.front b.changes.items due
+  completed_is : (image : List ℕ) (m : MachineState) (z : History) (due : Result (List Event) (ℕ × ℕ)) → IsOf p free.index image m z → ComeTo free.index c.now.graph b due
       → completed 1 (earliest_next (span_of (events_of z))) (replay (events_of z)) (changes_after (names_of z) Due) ≡ due
   completed_is image m z due h come =
       let time : earliest_in 0 free.index.batches ≡ earliest_next (span_of (events_of z)) =
@@ -406,7 +423,7 @@ module _ (from : Origin) (got : List ScriptLine) (p : Parts) (count known limit 
       ∙ come (changes_after p.names Due) a.changes_are
 
   -- the answer, by what the lines come to
-  answer_with : (image : List ℕ) (m : MachineState) (z : History) (due : Result (List Event) (ℕ × ℕ)) → StandsFor p image m → IsOf p free.index image m z → ComeTo free.index c.now.graph b.front b.changes.items due
+  answer_with : (image : List ℕ) (m : MachineState) (z : History) (due : Result (List Event) (ℕ × ℕ)) → StandsFor p image m → IsOf p free.index image m z → ComeTo free.index c.now.graph b due
       → answer m (adding from count) got no_plan ≡ with_made m z from (on_value (batch_in z Due) due)
   answer_with image m z due s h come =
       accepted_is m (adding from count) got no_plan (with_made m z from (on_value (batch_in z Due) due)) (free_of image m s)
@@ -416,8 +433,8 @@ module _ (from : Origin) (got : List ScriptLine) (p : Parts) (count known limit 
 
   -- ---- where every line is a change
 
-  module _ (told : Option (List ℕ)) (events : List Event) (segment : Segment) (comes : ComesToSegment free.index known c told b.changes.items b.front events segment) where
-    abbrev pub New : Batch
+  module _ (told : Option (List ℕ)) (events : List Event) (segment : Segment) (comes : ComesToSegment free.index b c told events segment) where
+    abbrev pub New : HistoryBatch
     New = batch_with known c.names events
 
     is_next : (image : List ℕ) (m : MachineState) (z : History) → IsOf p free.index image m z → IsNext z Due b.changes.items c.names events
@@ -444,7 +461,7 @@ module _ (from : Origin) (got : List ScriptLine) (p : Parts) (count known limit 
     answer_new image m z s h =
         let next : IsNext z Due b.changes.items c.names events = is_next image m z h in
         answer_with image m z (Ok events) s h comes.come
-        ∙ ap (λ (ns : List (List ℕ)). let x : Batch = record { names = drop (length (names_of z)) ns; events = events } in with_made m z from (Ok x)) (sym next.names_are)
+        ∙ ap (λ (ns : List (List ℕ)). let x : HistoryBatch = record { names = drop (length (names_of z)) ns; events = events } in with_made m z from (Ok x)) (sym next.names_are)
         ∙ ap (λ (k : ℕ). with_made m z from (Ok (batch_with k c.names events))) (sym (known_of image m z h))
 
     -- the segment is that of the batch behind the history
@@ -496,8 +513,8 @@ module _ (from : Origin) (got : List ScriptLine) (p : Parts) (count known limit 
         record {
           answered = answer_new image m z s h ∙ ap (by_room m z from New) room
               ∙ (λ i. let x : Answered = record { reply = headed (head_over from (sym graph i) (length events) (many i + length events) (last_time_from 0 events)); state = record m { index = Some (with_batch z New) } } in x);
-          legal = subst (λ (x : Batch). IsLegal (with_batch z x)) same (legal_next z Due b.changes.items c.names events h.stands.legal next);
-          names = sym (ap (λ (x : Batch). names_of (with_batch z x)) (sym same) ∙ names_grown z c.names events (grown_next (names_of z) c.names Due fit next.names_are));
+          legal = subst (λ (x : HistoryBatch). IsLegal (with_batch z x)) same (legal_next z Due b.changes.items c.names events h.stands.legal next);
+          names = sym (ap (λ (x : HistoryBatch). names_of (with_batch z x)) (sym same) ∙ names_grown z c.names events (grown_next (names_of z) c.names Due fit next.names_are));
           graph = graph ∙ ap replay (sym (events_with z New));
           recent = (λ i. recent_behind (params i) (sym many i) (held i) events) ∙ recent_with z.params (omega (arith, large.0)) (events_of z) events ∙ ap (recent_of z.params) (sym (events_with z New));
           rises = completed_rises b.changes.items 1 (earliest_next (span_of (events_of z))) (replay (events_of z)) events next.comes;
@@ -555,88 +572,91 @@ module _ (from : Origin) (got : List ScriptLine) (p : Parts) (count known limit 
 
   -- ---- what the command comes to
 
-  module _ (new : StoredHistory) (before after : Option (List ℕ)) where
-    pub stays : IsAsKnown known c new → with_history p new ≡ p
+  module _ (new : Live) (before after : Option (List ℕ)) where
+    pub stays : IsAsKnown known l new → with_history p new.history ≡ p
     stays s =
-        let index : index_opening new.index ≡ p.index = s.index ∙ sym a.index in
-        let names : new.names ≡ p.names = s.names ∙ names_kept in
-        let graph : new.now.graph ≡ p.graph = s.graph ∙ a.graph in
-        let recent : new.recent.items ≡ p.recent = s.recent ∙ a.recent in
+        let index : index_opening new.history.index ≡ p.index = s.index ∙ sym a.index in
+        let names : new.history.names ≡ p.names = s.names ∙ names_kept in
+        let graph : new.history.now.graph ≡ p.graph = s.graph ∙ a.graph in
+        let recent : new.history.recent.items ≡ p.recent = s.recent ∙ a.recent in
         λ i. record p { index = index i; names = names i; graph = graph i; recent = recent i }
 
-    kept_as : (h h' : HandlesState) (pool pool' : PoolState) → IsAsKnown known c new → (h' ≡ h) × ((s : ℕ) → slot_graph pool' s ≡ slot_graph pool s)
-        → with_handles p h pool ≡ p → with_handles (with_history p new) h' pool' ≡ p
-    kept_as h h' pool pool' back hs same =
-        kept_handles (with_history p new) h h' pool pool' hs.0 hs.1 ∙ ap (λ (y : Parts). with_handles y h pool) (stays back) ∙ same
+    kept_as : (h h' : HandlesState) → IsAsKnown known l new → h' ≡ h → with_handles p h l.pool.value ≡ p → with_handles (with_history p new.history) h' new.pool.value ≡ p
+    kept_as h h' back hs same =
+        kept_handles (with_history p new.history) h h' l.pool.value new.pool.value hs back.graphs.slots ∙ ap (λ (y : Parts). with_handles y h l.pool.value) (stays back) ∙ same
 
     -- after a fault the session keeps what it kept, its handles and their graphs among it
-    pub failed_stays : (f : BatchFault) (h h' : HandlesState) (pool pool' : PoolState) → IsBack f known c new → HandlesStay f h h' pool pool'
-        → with_handles p h pool ≡ p → StaysAs f p (with_handles (with_history p new) h' pool')
-    failed_stays (fault.BadChange line reason) h h' pool pool' back hs same = kept_as h h' pool pool' back hs same
-    failed_stays (fault.FileFull n most) h h' pool pool' back hs same = kept_as h h' pool pool' back hs same
-    failed_stays (fault.Damaged key col) h h' pool pool' back hs same = kept_as h h' pool pool' back hs same
-    failed_stays fault.Read h h' pool pool' back hs same = kept_as h h' pool pool' back hs same
-    failed_stays fault.Memory h h' pool pool' back hs same = kept_as h h' pool pool' back hs same
-    failed_stays fault.Store h h' pool pool' back hs same = tt
+    pub failed_stays : (f : BatchFault) (h h' : HandlesState) → IsBack f known l new → HandlesStay (Err f) h h' → with_handles p h l.pool.value ≡ p → StaysAs f p (with_handles (with_history p new.history) h' new.pool.value)
+    failed_stays (fault.BadChange line reason) h h' back hs same = kept_as h h' back hs same
+    failed_stays (fault.FileFull n most) h h' back hs same = kept_as h h' back hs same
+    failed_stays (fault.Damaged key col) h h' back hs same = kept_as h h' back hs same
+    failed_stays fault.Read h h' back hs same = kept_as h h' back hs same
+    failed_stays fault.Memory h h' back hs same = kept_as h h' back hs same
+    failed_stays fault.Store h h' back hs same = tt
 
-    pub batch_added : (x : AddedBatch) → IfSome (index_opening c.index) (λ o. AddsBatch o limit known c new before after b.changes.items b.front x)
-        → Accepts (adding from count) got p before (with_history p new) after (headed (head_over from new.now.graph x.events x.total x.last))
+    -- no graph of a slot has changed
+    pub added_slots : (x : AddedBatch) → IfSome (index_opening c.index) (λ o. AddsBatch o limit b l new before after x) → (s : ℕ) → slot_graph new.pool.value s ≡ slot_graph l.pool.value s
+    added_slots x adds = (of_here (index_opening c.index) free.index (λ o. AddsBatch o limit b l new before after x) opening_there adds).slots
+
+    pub batch_added : (x : AddedBatch) → IfSome (index_opening c.index) (λ o. AddsBatch o limit b l new before after x)
+        → Accepts (adding from count) got p before (with_history p new.history) after (headed (head_over from new.history.now.graph x.events x.total x.last))
     batch_added x adds =
-        let d : AddsBatch free.index limit known c new before after b.changes.items b.front x =
-        of_here (index_opening c.index) free.index (λ o. AddsBatch o limit known c new before after b.changes.items b.front x) opening_there adds in
-        let index : index_opening new.index ≡ Some (index_with free.index d.segment) = d.index in
-        let names : new.names ≡ c.names = d.names in
-        let q_is : with_history p new ≡ added_to before d.events d.segment d.comes = λ i. record p { index = index i; names = names i; graph = d.graph i; recent = d.recent i } in
-        let told : headed (head_over from new.now.graph x.events x.total x.last) ≡ said before d.events d.segment d.comes =
-        ap (λ (t : AddedBatch). headed (head_over from new.now.graph t.events t.total t.last)) d.told
+        let d : AddsBatch free.index limit b l new before after x =
+        of_here (index_opening c.index) free.index (λ o. AddsBatch o limit b l new before after x) opening_there adds in
+        let index : index_opening new.history.index ≡ Some (index_with free.index d.segment) = d.index in
+        let names : new.history.names ≡ c.names = d.names in
+        let q_is : with_history p new.history ≡ added_to before d.events d.segment d.comes = λ i. record p { index = index i; names = names i; graph = d.graph i; recent = d.recent i } in
+        let told : headed (head_over from new.history.now.graph x.events x.total x.last) ≡ said before d.events d.segment d.comes =
+        ap (λ (t : AddedBatch). headed (head_over from new.history.now.graph t.events t.total t.last)) d.told
         ∙ ap (λ (set : List Element). headed (head_over from set (length d.events) (event_total free.index.batches + length d.events) (last_time_from 0 d.events))) d.graph in
         record {
           moves = λ y z ey ez.
-              add_moves before d.events d.segment d.comes (with_history p new) y z (headed (head_over from new.now.graph x.events x.total x.last)) ey d.fits
+              add_moves before d.events d.segment d.comes (with_history p new.history) y z (headed (head_over from new.history.now.graph x.events x.total x.last)) ey d.fits
               (both_told before after (GainsBatch d.segment) d.gains y z ey ez) q_is told;
-          accepted = ok_head from new.now.graph x.events x.total x.last;
+          accepted = ok_head from new.history.now.graph x.events x.total x.last;
           free = a.not_refused;
-          fits = fits_head from count new.now.graph x.events x.total x.last;
+          fits = fits_head from count new.history.now.graph x.events x.total x.last;
           held = λ h. d.held;
           no_index = λ none. absurd (let e : Some (index_with free.index d.segment) ≡ None = sym index ∙ none in cc);
           quiet = λ not_writing. let e : true ≡ false = sym (writes from count) ∙ not_writing in cc;
+          named = head_names (length new.history.names) (head_over from new.history.now.graph x.events x.total x.last) (headed (head_over from new.history.now.graph x.events x.total x.last)) refl;
         }
 
-    pub batch_failed : (f : BatchFault) → IfSome (index_opening c.index) (λ o. FailsBatch o limit known c before after b.changes.items b.front f) → (q : Parts) → StaysAs f p q
+    pub batch_failed : (f : BatchFault) → IfSome (index_opening c.index) (λ o. FailsBatch o limit b c before after f) → (q : Parts) → StaysAs f p q
         → ComesTo (adding from count) got p before q after (Err (batch_halt f))
     batch_failed (fault.BadChange line reason) fails q q_is =
-        let f = of_here (index_opening c.index) free.index (λ o. FailsBatch o limit known c before after b.changes.items b.front (fault.BadChange line reason)) opening_there fails in
+        let f = of_here (index_opening c.index) free.index (λ o. FailsBatch o limit b c before after (fault.BadChange line reason)) opening_there fails in
         denied (adding from count) got p q before after (refusal.BadChange line reason) q_is f.0
         (λ m image s.
         let z = is_of p free.index image m free.there s in
         steps_as image m s (refuse m (refusal.BadChange line reason)) (answer_with image m z.0 (Err (line, reason)) s z.1 f.1)) (λ h. absurd (false≢true h)) (inr (inl (adds from count, a.not_refused)))
     batch_failed (fault.FileFull n most) fails q q_is =
-        let f = of_here (index_opening c.index) free.index (λ o. FailsBatch o limit known c before after b.changes.items b.front (fault.FileFull n most)) opening_there fails in
-        let d : FillsFile free.index limit known c before b.changes.items b.front n = f.2 in
+        let f = of_here (index_opening c.index) free.index (λ o. FailsBatch o limit b c before after (fault.FileFull n most)) opening_there fails in
+        let d : FillsFile free.index limit b c before n = f.2 in
         subst (λ (k : ℕ). Denies (adding from count) got p before q after (refusal.FileFull n k)) (sym f.1)
         (denied_at (adding from count) got p q before after (refusal.FileFull n limit) q_is f.0
         (full_steps before d.events d.segment d.comes n d.needed_is d.over) (λ h. absurd (false≢true h)) (inr (inl (adds from count, a.not_refused))))
     batch_failed (fault.Damaged key col) fails q q_is =
-        let f = of_here (index_opening c.index) free.index (λ o. FailsBatch o limit known c before after b.changes.items b.front (fault.Damaged key col)) opening_there fails in
+        let f = of_here (index_opening c.index) free.index (λ o. FailsBatch o limit b c before after (fault.Damaged key col)) opening_there fails in
         denied_at (adding from count) got p q before after (refusal.Damaged key col) q_is f.0
         (λ m image at s.
         let z = is_of p free.index image m free.there s in
         absurd (one_told before (λ x. (z : History) → IsOverHistory z x free.index known c → ⊥) image f.1.never at z.0 (over image m z.0 z.1)))
         (λ h. (reads_records from count, a.not_refused)) (inr (inl (reads_records from count, a.not_refused)))
     batch_failed fault.Read fails q q_is =
-        let f = of_here (index_opening c.index) free.index (λ o. FailsBatch o limit known c before after b.changes.items b.front fault.Read) opening_there fails in
-        let d : FailsToRead free.index c b.changes.items b.front = f.1 in
+        let f = of_here (index_opening c.index) free.index (λ o. FailsBatch o limit b c before after fault.Read) opening_there fails in
+        let d : FailsToRead free.index b c = f.1 in
         failing_denies (adding from count) got p q before after q_is f.0 (reads_records from count) a.not_refused
         (λ m image s.
         let z = is_of p free.index image m free.there s in
         ap (λ (x : Answered). is_behind_reads x.reply.head) (answer_with image m z.0 (Ok d.events) s z.1 d.come)
         ∙ behind_reads m z.0 from (batch_in z.0 Due d.events))
     batch_failed fault.Memory fails q q_is =
-        let f : after ≡ before = of_here (index_opening c.index) free.index (λ o. FailsBatch o limit known c before after b.changes.items b.front fault.Memory) opening_there fails in
+        let f : after ≡ before = of_here (index_opening c.index) free.index (λ o. FailsBatch o limit b c before after fault.Memory) opening_there fails in
         lacking_denies (adding from count) got p q before after q_is f (lacks from count) a.not_refused
     batch_failed fault.Store fails q q_is =
-        let d : BreaksBatch free.index limit known c before after b.changes.items b.front =
-        of_here (index_opening c.index) free.index (λ o. BreaksBatch o limit known c before after b.changes.items b.front) opening_there fails in (
+        let d : BreaksBatch free.index limit b c before after =
+        of_here (index_opening c.index) free.index (λ o. BreaksBatch o limit b c before after) opening_there fails in (
           writes from count,
           a.not_refused,
           λ y z ey ez. add_cuts before d.events d.segment d.comes y z ey d.fits (both_told before after (GainsBatchOrNot d.segment) d.gains y z ey ez),

@@ -1,6 +1,6 @@
 -- Which reply tells of a damage, which damage it is, and where there is none.
 use Rattle.std.proofs.Common.{◌≡◌, ℕ, Bool, true, false, List, [], ◌∷◌, Option, Some, None, Result, Ok, Err, length, refl, sym, ◌∙◌, subst}
-use Rattle.std.specs.Prelude.{◌||◌, IfErr, IfSome, OnOk, is_some}
+use Rattle.std.specs.Prelude.{◌||◌, IfSome, OnOk, is_some}
 use Rattle.std.proofs.lemmas.Bool.{false≢true}
 use Rattle.dg_graph.specs.declared.element.Column.{Column}
 use Rattle.dg_graph.specs.declared.element.Columns.{Columns}
@@ -25,12 +25,11 @@ use Rattle.dg_machine.specs.Planning.{bases_in}
 use Rattle.dg_plan.specs.declared.edge.Edge.{Edge}
 use Rattle.dg_retrieval.specs.declared.node_lead.NodeLead.{NodeLead}
 use Rattle.dg_retrieval.specs.KeptGraph.{index_edges, kept_edges}
-use Rattle.dg_retrieval.specs.NodeSets.{IsUndamaged}
-use Rattle.dg_retrieval.specs.Retrieval.{IsFirstDamage}
+use Rattle.dg_retrieval.specs.Calls.{TellsDamage}
 use Rattle.dg_session.proofs.SessionRetrievals.{IsSession}
 use Rattle.dg_batch.specs.declared.halt.Halt.{Halt}
 use Rattle.dg_batch.specs.declared.halt.Halt.TheVariants as halt
-use Rattle.dg_session.specs.Damage.{DamageIn, DamageIs, Graphs, damage_told, IsMetBy, MeetsNone, NamesDamage, NamesNodeDamage, Node_set, ReadsFor, reads_for}
+use Rattle.dg_session.specs.Damage.{DamageIn, DamageIs, Graphs, damage_told, IsMetBy, MeetsNone, NamesDamage, NamesNodeDamage, Node_set, ReadsFor, TellsGraphDamage, TellsNodeDamage, reads_for}
 use Rattle.dg_batch.specs.Halt.{retrieval_halt}
 use Rattle.dg_session.specs.Parts.{Parts}
 use Rattle.dg_ask.specs.HeldIndex.{points_over}
@@ -78,18 +77,28 @@ never_for_damage c x got p before q after r is no_reads comes =
 -- ---- a damage
 
 -- the fault of a retrieval over what the session has in memory
-pub damage_over : (p : Parts) (o : Opening) (times : List ℕ) (cols : Columns) (told : Option (List ℕ)) (names : ℕ) (recent : List Event) (r : Result Retrieved RetrievalFault)
+pub graph_damage_over : (p : Parts) (o : Opening) (times : List ℕ) (cols : Columns) (told : Option (List ℕ)) (names : ℕ) (recent : List Event) (r : Result Retrieved RetrievalFault)
     → IsSession p o names recent → (edges : List Edge) → edges ≡ kept_edges o (event_total o.batches) cols (bases_in cols p.table)
-    → IfErr r (λ f. IfSome told (λ image. IsFirstDamage names edges o cols (points_over o recent times) image f))
-    → IfErr r (λ f. NamesDamage p told (times, cols) f)
-damage_over p o times cols told names recent (Ok x) is edges edges_is damage = tt
-damage_over p o times cols told names recent (Err f) is edges edges_is damage = (
-  o,
-  is.there,
-  subst (λ gs. IfSome told (λ image. IsFirstDamage (length p.names) gs o cols (points_over o p.recent times) image f)) edges_is
-      (subst (λ es. IfSome told (λ image. IsFirstDamage (length p.names) edges o cols (points_over o es times) image f)) is.all
-      (subst (λ n. IfSome told (λ image. IsFirstDamage n edges o cols (points_over o recent times) image f)) is.count damage)),
-)
+    → IfSome told (λ image. TellsDamage names edges o cols (points_over o recent times) image r) → TellsGraphDamage p told (times, cols) r
+graph_damage_over p o times cols told names recent r is edges edges_is damage =
+    by r (subst (λ gs. IfSome told (λ image. TellsDamage (length p.names) gs o cols (points_over o p.recent times) image r)) edges_is
+    (subst (λ es. IfSome told (λ image. TellsDamage (length p.names) edges o cols (points_over o es times) image r)) is.all
+    (subst (λ n. IfSome told (λ image. TellsDamage n edges o cols (points_over o recent times) image r)) is.count damage)))
+  where
+    by : (r : Result Retrieved RetrievalFault)
+        → IfSome told (λ image. TellsDamage (length p.names) (kept_edges o (event_total o.batches) cols (bases_in cols p.table)) o cols (points_over o p.recent times) image r)
+        → TellsGraphDamage p told (times, cols) r
+    by (Ok x) d = (o, is.there, d)
+    by (Err f) d = (o, is.there, d)
+
+pub node_damage_over : (p : Parts) (o : Opening) (node : NodeId) (cols : Columns) (told : Option (List ℕ)) (names : ℕ) (r : Result NodeLead RetrievalFault) → p.index ≡ Some o → names ≡ length p.names
+    → IfSome told (λ image. TellsDamage names (index_edges o cols false []) o cols (node ∷ []) image r) → TellsNodeDamage p told (node, cols) r
+node_damage_over p o node cols told names r there count damage =
+    by r (subst (λ n. IfSome told (λ image. TellsDamage n (index_edges o cols false []) o cols (node ∷ []) image r)) count damage)
+  where
+    by : (r : Result NodeLead RetrievalFault) → IfSome told (λ image. TellsDamage (length p.names) (index_edges o cols false []) o cols (node ∷ []) image r) → TellsNodeDamage p told (node, cols) r
+    by (Ok x) d = (o, there, d)
+    by (Err f) d = (o, there, d)
 
 -- what the command that reads for it comes to by the fault
 pub damage_in : (c : Command) (p : Parts) (image : Option (List ℕ)) (times : List ℕ) (cols : Columns) (f : RetrievalFault) → reads_for c ≡ Graphs times cols → NamesDamage p image (times, cols) f
@@ -99,17 +108,6 @@ damage_in c p image times cols retrieval_fault.Memory is damage = tt
 damage_in c p image times cols (retrieval_fault.Damaged key col) is damage = subst (λ (x : ReadsFor). IsMetBy x p image key col) (sym is) damage
 
 -- the fault of a node that is to be held, over what the session has in memory
-pub node_damage_over : (p : Parts) (o : Opening) (node : NodeId) (cols : Columns) (told : Option (List ℕ)) (names : ℕ) (r : Result NodeLead RetrievalFault)
-    → p.index ≡ Some o → names ≡ length p.names
-    → IfErr r (λ f. IfSome told (λ image. IsFirstDamage names (index_edges o cols false []) o cols (node ∷ []) image f))
-    → IfErr r (λ f. NamesNodeDamage p told (node, cols) f)
-node_damage_over p o node cols told names (Ok x) there count damage = tt
-node_damage_over p o node cols told names (Err f) there count damage = (
-  o,
-  there,
-  subst (λ n. IfSome told (λ image. IsFirstDamage n (index_edges o cols false []) o cols (node ∷ []) image f)) count damage,
-)
-
 pub node_damage_in : (c : Command) (p : Parts) (image : Option (List ℕ)) (node : NodeId) (cols : Columns) (f : RetrievalFault) → reads_for c ≡ Node_set node cols → NamesNodeDamage p image (node, cols) f
     → DamageIn c p image (Err (retrieval_halt f))
 node_damage_in c p image node cols retrieval_fault.Disk is damage = tt
@@ -123,29 +121,7 @@ damage_in_reply c p image r h is damage = subst (λ (o : Option Head). IfSome o 
 -- ---- what is read, and is not damaged
 
 -- a retrieval over what the session has in memory
-pub whole_over : (p : Parts) (o : Opening) (times : List ℕ) (cols : Columns) (told : Option (List ℕ)) (names : ℕ) (recent : List Event) (r : Result Retrieved RetrievalFault)
-    → IsSession p o names recent → (edges : List Edge) → edges ≡ kept_edges o (event_total o.batches) cols (bases_in cols p.table)
-    → OnOk r (IfSome told (λ image. IsUndamaged names edges o cols (points_over o recent times) image)) → OnOk r (MeetsNone (Graphs times cols) p told)
-whole_over p o times cols told names recent (Err f) is edges edges_is whole = tt
-whole_over p o times cols told names recent (Ok x) is edges edges_is whole = (
-  o,
-  is.there,
-  subst (λ gs. IfSome told (λ image. IsUndamaged (length p.names) gs o cols (points_over o p.recent times) image)) edges_is
-      (subst (λ es. IfSome told (λ image. IsUndamaged (length p.names) edges o cols (points_over o es times) image)) is.all
-      (subst (λ n. IfSome told (λ image. IsUndamaged n edges o cols (points_over o recent times) image)) is.count whole)),
-)
-
 -- a node that is to be held
-pub node_whole_over : (p : Parts) (o : Opening) (node : NodeId) (cols : Columns) (told : Option (List ℕ)) (names : ℕ) (r : Result NodeLead RetrievalFault)
-    → p.index ≡ Some o → names ≡ length p.names
-    → OnOk r (IfSome told (λ image. IsUndamaged names (index_edges o cols false []) o cols (node ∷ []) image)) → OnOk r (MeetsNone (Node_set node cols) p told)
-node_whole_over p o node cols told names (Err f) there count whole = tt
-node_whole_over p o node cols told names (Ok x) there count whole = (
-  o,
-  there,
-  subst (λ n. IfSome told (λ image. IsUndamaged n (index_edges o cols false []) o cols (node ∷ []) image)) count whole,
-)
-
 -- a command that reads no records
 pub reads_undamaged : (c : Command) (p : Parts) (image : Option (List ℕ)) → (needs c).reads ≡ false → MeetsNone (reads_for c) p image
 reads_undamaged (command.Create l k function) p image e = tt

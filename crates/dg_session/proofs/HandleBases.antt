@@ -10,6 +10,7 @@ use Rattle.dg_graph.specs.declared.element.Column.{Column}
 use Rattle.dg_graph.specs.declared.element.Column.TheVariants.{Structure, NodeAttr, EdgeAttr}
 use Rattle.dg_graph.specs.declared.element.Columns.{Columns}
 use Rattle.dg_graph.specs.declared.element.Element.{Element}
+use Rattle.dg_graph.specs.declared.event.Event.{Event}
 use Rattle.dg_graph.specs.Elements.{IsSet, asks, column_of, shown}
 use Rattle.dg_graph.proofs.Sets.{IsSet-filter}
 use Rattle.dg_handles.specs.Handles.{BeginsOn, HoldsNode, graph_among, held_by}
@@ -31,6 +32,7 @@ use Rattle.dg_retrieval.specs.declared.fault.RetrievalFault.{RetrievalFault}
 use Rattle.dg_retrieval.specs.Beginnings.{GraphLead}
 use Rattle.dg_retrieval.specs.declared.retrieval.Retrieved.{Retrieved}
 use Rattle.dg_retrieval.specs.Beginnings.{IsOffered, leads_in}
+use Rattle.dg_retrieval.specs.Calls.{IsRetrieval}
 use Rattle.dg_retrieval.specs.Retrieval.{AreHeld}
 
 -- ---- the edges of bases
@@ -162,3 +164,9 @@ all_begin_on table cols g hold (Ok x) offered = each (leads_in x.leads) offered
     each [] h = All-nil (BeginsOn table cols)
     each (l ∷ leads) h =
         All-cons (BeginsOn table cols) l leads (begins_on table cols g hold l (All-head (IsOffered (edges_of g)) l leads h)) (each leads (All-tail (IsOffered (edges_of g)) l leads h))
+
+-- so do the leads that a retrieval gives over these edges
+pub all_begin : (table : ListOf (ℕ × Stands)) (cols : Columns) (g : Ground) → All (HoldsNode table cols) g.bases → (r : Result Retrieved RetrievalFault) (names : ℕ) (recent : ListOf Event) (edges : ListOf Edge) (targets : ListOf NodeId)
+    → edges ≡ edges_of g → IfOk r (IsRetrieval names recent edges targets) → IfOk r (λ x. All (BeginsOn table cols) (leads_in x.leads))
+all_begin table cols g hold (Err f) names recent edges targets is done = tt
+all_begin table cols g hold (Ok x) names recent edges targets is done = all_begin_on table cols g hold (Ok x) (subst (λ es. All (IsOffered es) (leads_in x.leads)) is done.offered)

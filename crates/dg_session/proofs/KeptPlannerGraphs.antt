@@ -50,19 +50,19 @@ pub graph_for : (o : Opening) (table : ListOf (ℕ × Stands)) (cols : Columns) 
 graph_for o table cols kept g is there = All-contains (IsGraphOver (Some o) table) kept (cols, g) is there
 
 pub planning_in : (p : Parts) (s : Inside) (index : IndexState) (cols : Columns) (kept : ListOf (Columns × PlannerGraph)) (g : PlannerGraph)
-    → (the_view s).parts ≡ p → s.history.index ≡ Some index → HasNodes (index_opening s.history.index) s.handles.table
-    → IsKeptFor (Some index.opening) s.handles.table kept → Contains kept (cols, g) → IsPlanningIn p index.opening cols g
+    → (the_view s).parts ≡ p → s.held.live.history.index ≡ Some index → HasNodes (index_opening s.held.live.history.index) s.held.handles.table
+    → IsKeptFor (Some index.opening) s.held.handles.table kept → Contains kept (cols, g) → IsPlanningIn p index.opening cols g
 planning_in p s index cols kept g view there nodes is among =
-    let graph = graph_for index.opening s.handles.table cols kept g is among in
-    let table : s.handles.table ≡ p.table = ap (λ (x : Parts). x.table) view in
-    let has : HasNodes (Some index.opening) s.handles.table = subst (λ i. HasNodes i s.handles.table) (ap index_opening there) nodes in
+    let graph = graph_for index.opening s.held.handles.table cols kept g is among in
+    let table : s.held.handles.table ≡ p.table = ap (λ (x : Parts). x.table) view in
+    let has : HasNodes (Some index.opening) s.held.handles.table = subst (λ i. HasNodes i s.held.handles.table) (ap index_opening there) nodes in
     record {
       edges = graph.edges ∙ ap (λ t. kept_edges index.opening (event_total index.opening.batches) cols (bases_in cols t)) table;
       nodes = graph.nodes;
-      none = subst (λ t. HoldNoList (bases_in cols t)) table (no_lists index.opening cols s.handles.table has);
+      none = subst (λ t. HoldNoList (bases_in cols t)) table (no_lists index.opening cols s.held.handles.table has);
     }
 
 -- what the handles hold that can serve, by what the session keeps
-pub holds_in : (p : Parts) (s : Inside) (cols : Columns) → (the_view s).parts ≡ p → All (HoldsNode s.handles.table cols) (bases_in cols s.handles.table)
+pub holds_in : (p : Parts) (s : Inside) (cols : Columns) → (the_view s).parts ≡ p → All (HoldsNode s.held.handles.table cols) (bases_in cols s.held.handles.table)
     → All (HoldsNode p.table cols) (bases_in cols p.table)
 holds_in p s cols view h = subst (λ t. All (HoldsNode t cols) (bases_in cols t)) (ap (λ (x : Parts). x.table) view) h

@@ -22,3 +22,7 @@ pub mod HandleBases
 pub mod BatchCommandForms
 pub mod BatchCommandStep
 pub mod BatchCommandReads
+pub mod GraphNames
+pub mod StartReads
+pub mod LimitStops
+pub mod ReplyNames

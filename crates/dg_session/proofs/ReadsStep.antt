@@ -1,6 +1,6 @@
 -- Which commands read the file, and which reply says that a read failed.
-use Rattle.std.proofs.Common.{◌≡◌, ℕ, Bool, true, false, not, List, Option, Some, None, Result, Ok, Err, refl, sym, ◌∙◌, subst}
-use Rattle.std.specs.Prelude.{◌&&◌, IfSome, is_some}
+use Rattle.std.proofs.Common.{◌≡◌, ℕ, Bool, true, false, not, List, Option, Some, None, Result, Ok, Err, arith, refl, sym, ◌∙◌, subst}
+use Rattle.std.specs.Prelude.{◌&&◌, is_some}
 use Rattle.std.proofs.lemmas.Bool.{false≢true}
 use Rattle.dg_graph.specs.Lines.{ScriptLine}
 use Rattle.dg_machine.proofs.Refusals.{store_read_refuses}
@@ -15,20 +15,46 @@ use Rattle.dg_machine.specs.Run.{is_store_read}
 use Rattle.dg_session.proofs.SessionRetrievals.{every_some}
 use Rattle.dg_batch.specs.declared.halt.Halt.{Halt}
 use Rattle.dg_batch.specs.declared.halt.Halt.TheVariants as halt
+use Rattle.dg_batch.specs.declared.stop.Stop.{Stop}
+use Rattle.dg_batch.specs.declared.stop.Stop.TheVariants as stop
+use Rattle.dg_fold.specs.BytesRead.{TakesAtMost}
+use Rattle.dg_machine.specs.MachineState.{MachineState}
+use Rattle.std.specs.List.{sum}
 use Rattle.dg_session.specs.Parts.{Parts}
-use Rattle.dg_session.specs.Reads.{Reads, ReadsIn, reply_head}
-use Rattle.dg_session.specs.Session.{Accepts, ComesTo, Denies, is_at_hand}
+use Rattle.dg_session.specs.Reads.{Reads, ReadsIn, ReadsOlder, ReadsToStop, reply_head}
+use Rattle.dg_session.specs.Session.{Accepts, ComesTo, Denies, StandsFor, is_at_hand}
 
 -- ---- bytes
 
 -- one that reads no records has read nothing
 pub reads_nothing : (c : Command) (p : Parts) (image : Option (List ℕ)) (r : Result Reply Halt) (before after : ℕ) → (needs c).reads ≡ false → after ≡ before → ReadsIn c p image r before after
-reads_nothing c p image r before after no_reads same =
-    every_some (reply_head r) (λ h. Reads c p image h before after) (λ h. record { told = λ e. absurd (false≢true (sym no_reads ∙ e)); early = λ e. same; nothing = λ e. same })
+reads_nothing c p image r before after no_reads same = by r
+  where
+    none : (h : Head) → Reads c p image h before after
+    none h = record { told = λ e. absurd (false≢true (sym no_reads ∙ e)); early = λ e. same; nothing = λ e. same }
 
--- the reply, where there is one
+    by : (r : Result Reply Halt) → ReadsIn c p image r before after
+    by (Ok reply) = none reply.head
+    by (Err (halt.Refusal r)) = none (head.Refused r)
+    by (Err (halt.Stop stop.Read)) = same
+    by (Err (halt.Stop stop.Limit)) = same
+    by (Err (halt.Stop stop.Store)) = record {
+      older = every_some image (λ bytes. (m : MachineState) → StandsFor p bytes m → ReadsOlder m (needs c).changes before after)
+          (λ bytes m s singles are. let most : TakesAtMost (sum singles) before before = omega arith in subst (TakesAtMost (sum singles) before) (sym same) most);
+      nothing = λ e. same;
+    }
+
+some_is : (x y : Head) → (let o : Option Head = Some x in o) ≡ Some y → x ≡ y
+some_is x y e = cc
+
 pub reads_in_reply : (c : Command) (p : Parts) (image : Option (List ℕ)) (r : Result Reply Halt) (h : Head) (before after : ℕ) → reply_head r ≡ Some h → ReadsIn c p image r before after → Reads c p image h before after
-reads_in_reply c p image r h before after is reads = subst (λ (o : Option Head). IfSome o (λ x. Reads c p image x before after)) is reads
+reads_in_reply c p image (Ok reply) h before after is reads = subst (λ x. Reads c p image x before after) (some_is reply.head h is) reads
+reads_in_reply c p image (Err (halt.Refusal r)) h before after is reads = subst (λ x. Reads c p image x before after) (some_is (head.Refused r) h is) reads
+reads_in_reply c p image (Err (halt.Stop s)) h before after is reads = let e : (let x : Option Head = None in x) ≡ Some h = is in cc
+
+-- what it has read where it stops
+pub reads_stopped : (c : Command) (p : Parts) (image : Option (List ℕ)) (r : Result Reply Halt) (s : Stop) (before after : ℕ) → r ≡ Err (halt.Stop s) → ReadsIn c p image r before after → ReadsToStop c p image s before after
+reads_stopped c p image r s before after is reads = subst (λ (x : Result Reply Halt). ReadsIn c p image x before after) is reads
 
 -- ---- at hand
 

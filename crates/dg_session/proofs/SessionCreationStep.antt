@@ -1,5 +1,5 @@
 -- The answer to the making of an index.
-use Rattle.std.proofs.Common.{◌≡◌, inl, inr, ℕ, zero, suc, ◌*◌, Bool, true, false, not, List, [], Option, Some, None, Ok, Err, drop, refl, sym, ◌∙◌, ap, subst}
+use Rattle.std.proofs.Common.{◌≡◌, inl, inr, ℕ, zero, suc, ◌*◌, Bool, true, false, not, List, [], Option, Some, None, Ok, Err, drop, length, refl, sym, ◌∙◌, ap, subst}
 use Rattle.std.specs.Prelude.{IfSome, is_some}
 use Rattle.dg_file.specs.declared.fault.CreateFault.{CreateFault}
 use Rattle.dg_file.specs.declared.fault.CreateFault.TheVariants as fault
@@ -23,6 +23,7 @@ use Rattle.dg_machine.specs.Planning.{no_plan}
 use Rattle.dg_machine.specs.Script.{Asked}
 use Rattle.dg_index.specs.Hierarchy.{leaves}
 use Rattle.dg_index.specs.IndexRecords.{recent_of}
+use Rattle.dg_session.proofs.ReplyNames.{head_names}
 use Rattle.dg_session.proofs.PartStates.{AreOf, are_of, both_told, graph_in, no_graphs, no_handle_reached, no_index, one_told, opening_of, passes, recent_in, refused_is, stands}
 use Rattle.dg_session.proofs.SessionSteps.{accepted_is, accepted_steps, is_accepted, lacking_denies, moved}
 use Rattle.dg_batch.specs.Halt.{creation_halt}
@@ -96,6 +97,7 @@ create_answers p q params before after o reply none made opened o_is no_names is
       (subst (λ (ns : List (List ℕ)). IfSome after (λ image. opening image ≡ Ok (record { index = opening_of (empty_history params); names = ns }))) (sym no_names) opened));
   no_index = λ h. absurd (let e : Some o ≡ None = ap (λ (x : Parts). x.index) (sym is) ∙ h in cc);
   quiet = λ h. let e : true ≡ false = h in cc;
+  named = head_names (length q.names) head.Created reply reply_is;
 }
 
 -- the disk failed

@@ -1,5 +1,5 @@
 -- The answer to the retrieval of one instant.
-use Rattle.std.proofs.Common.{◌≡◌, ℕ, true, false, ◌+◌, List, [], ◌∷◌, Option, None, map, refl, sym, ◌∙◌, ap, subst, arith}
+use Rattle.std.proofs.Common.{◌≡◌, ℕ, true, false, ◌+◌, List, [], ◌∷◌, Option, None, map, length, refl, sym, ◌∙◌, ap, subst, arith}
 use Rattle.std.specs.Prelude.{IfSome}
 use Rattle.std.proofs.lemmas.List.{append-nil}
 use Rattle.dg_fold.specs.BytesRead.{TakesAtMost}
@@ -20,6 +20,7 @@ use Rattle.dg_plan.specs.IndexGraph.{arcs_of}
 use Rattle.dg_plan.specs.TreePaths.{base_under}
 use Rattle.dg_plan.specs.Walks.{Arc, Graft, IsPlan, IsTree, steps_of, tree_weight, weight_of}
 use Rattle.dg_retrieval.specs.Retrieval.{TakesAtMostTree}
+use Rattle.dg_session.proofs.ReplyNames.{head_names}
 use Rattle.dg_session.proofs.SessionRetrievals.{handles_stand, if_some, moved_with, overlays_same, reads_failed, retrieval_accepted}
 use Rattle.dg_session.proofs.PartStates.{one_image, one_told}
 use Rattle.dg_session.specs.Decided.{IsHeadOf}
@@ -68,7 +69,7 @@ at_answers p q t cols before after weight singles bases graphs reply none same g
       (λ i. record { reply = (ap (λ n. headed (head.At n (weight_of (arcs_of (edges_in m cols)) plan.0))) (sym s.next) ∙ ap (λ w. headed (head.At p.next w)) (sym (r.tree.2 ∙ plan.2)) ∙ sym reply_is) i; state = with_handles m (sym (overlays_are m t cols r.tree.0 plan.0 bases r.tree.3 plan.3) i) }),
       handles_stand p q x y m (t ∷ []) cols weight singles bases graphs s (one_image before after x y same a b) (omega arith) none r is,
     )))
-    (ap (λ (r : Reply). is_refusal r.head) reply_is) none (subst (λ (r : Reply). IsHeadOf (command.At t cols) r.head) (sym reply_is) tt) same is
+    (ap (λ (r : Reply). is_refusal r.head) reply_is) none (subst (λ (r : Reply). IsHeadOf (command.At t cols) r.head) (sym reply_is) tt) same is (head_names (length q.names) (head.At p.next weight) reply reply_is)
 
 -- where it fails, the bytes read are at most what its reply would tell
 pub at_fails : (p : Parts) (t : ℕ) (cols : Columns) (image : Option (List ℕ)) (h : Head) (before after : ℕ) → is_refusal h ≡ true → is_early h ≡ false → refused_by p 0 (retrieval_needs (t ∷ []) 1) ≡ None

@@ -1,6 +1,6 @@
 -- The answer to the holding of a node.
 use Rattle.std.proofs.Common.{◌≡◌, ℕ, ◌+◌, ◌≤◌, true, false, not, List, [], ◌∷◌, Option, Some, None, refl, sym, ◌∙◌, ap, subst, nat_lt, length, arith}
-use Rattle.std.specs.Prelude.{◌&&◌, ◌++◌, IfErr, IfOk, IfSome, Result, Ok, Err, is_some}
+use Rattle.std.specs.Prelude.{◌&&◌, ◌++◌, IfOk, IfSome, Result, Ok, Err, is_some}
 use Rattle.std.proofs.lemmas.List.Elements.{All-cons, All-nil}
 use borrow.Author.Tests.{ltb-false}
 use Rattle.dg_fold.specs.BytesRead.{Takes, TakesAtMost}
@@ -34,13 +34,16 @@ use Rattle.dg_retrieval.specs.declared.node_lead.NodeLead.{NodeLead}
 use Rattle.dg_retrieval.specs.KeptGraph.{index_edges}
 use Rattle.dg_retrieval.specs.NodeSets.{IsIndexOver}
 use Rattle.dg_retrieval.specs.Retrieval.{IsNoDamage}
+use Rattle.dg_session.proofs.ReplyNames.{head_names}
 use Rattle.dg_session.proofs.PlanStep.{records_edges_in}
 use Rattle.dg_session.proofs.SessionRetrievals.{handles_taken, if_some, moved_with, reads_failed, retrieval_accepted, z_of}
 use Rattle.dg_session.proofs.PartStates.{events_are, events_there, hit, is_of, last_passes, miss, not_false, one_image, one_told, params_are, passes}
 use Rattle.dg_ask.specs.HeldIndex.{has_node_held}
 use Rattle.dg_session.specs.Decided.{IsHeadOf}
 use Rattle.dg_session.specs.Parts.{Parts}
-use Rattle.dg_session.specs.Reads.{IsNodeHeld, Reads, is_early, with_new_handles}
+use Rattle.dg_retrieval.specs.Calls.{LeadsToNode, LeadsToNodeOver}
+use Rattle.dg_retrieval.specs.NamesThere.{NamesAreThere}
+use Rattle.dg_session.specs.Reads.{HoldsNodeFor, IsNodeHeld, Reads, is_early, with_new_handles}
 use Rattle.dg_session.specs.Session.{Accepts, StandsFor, is_reached, node_needs, refused_by}
 
 -- ---- what is refused
@@ -125,7 +128,7 @@ node_answers p q node cols before after weight graph reply none same got is repl
           (All-cons reaches (Base node cols) [] (node_reached p x m node cols s free.1) (All-nil reaches))
           (is ∙ ap (λ g. with_new_handles p (Base node cols ∷ []) (g ∷ [])) r.listed),
     )))
-    (ap (λ (r : Reply). is_refusal r.head) reply_is) none (subst (λ (r : Reply). IsHeadOf (command.Materialise node cols) r.head) (sym reply_is) tt) same is
+    (ap (λ (r : Reply). is_refusal r.head) reply_is) none (subst (λ (r : Reply). IsHeadOf (command.Materialise node cols) r.head) (sym reply_is) tt) same is (head_names (length q.names) (head.Materialised p.next weight) reply reply_is)
 
 -- where it fails, the bytes read are at most what its reply would tell
 pub node_fails : (p : Parts) (node : NodeId) (cols : Columns) (image : Option (List ℕ)) (h : Head) (before after : ℕ) → is_refusal h ≡ true → is_early h ≡ false → refused_by p 0 (node_needs node) ≡ None
@@ -159,41 +162,50 @@ module _ (p : Parts) (o : Opening) (node : NodeId) (cols : Columns) (told : Opti
   abbrev MostOf : ℕ → ℕ → List Edge → Type 0
   MostOf before after edges = (steps : List ℕ) → IsPlan (arcs_of edges) (Root ∷ []) node steps → TakesAtMost (weight_of (arcs_of edges) steps) before after
 
-  pub held_over : (r : Result NodeLead RetrievalFault)
-      → IfOk r (λ x. LedBy x.weight (index_edges o cols false []))
-      → IfOk r (λ x. IfSome told (λ image. (z : History) → IsIndexOver z image o names → shown (applied x.delta []) cols ≡ shown (set_of z.params (events_of z) node) cols))
-      → IfOk r (λ x. IfSome told (λ image. (m : MachineState) → StandsFor p image m → IsNodeHeld m node cols x.weight (shown (applied x.delta []) cols)))
-  held_over (Err f) plan set = tt
-  held_over (Ok x) plan set =
-      if_some told (λ image. (z : History) → IsIndexOver z image o names → shown (applied x.delta []) cols ≡ shown (set_of z.params (events_of z) node) cols)
-      (λ image. (m : MachineState) → StandsFor p image m → IsNodeHeld m node cols x.weight (shown (applied x.delta []) cols))
-      (λ image f m s. record {
-        plan = subst (λ (es : List Edge). LedBy x.weight es) (records_edges_in p o image m there s cols) plan;
-        listed = f (z_of p o image m there s) (over_index image m s) ∙ sym (ap (λ (i : Option History). elements (history_in i) (Base node cols)) (is_of p o image m there s).1.index);
-      }) set
+  pub holds_node_for : (r : Result NodeLead RetrievalFault) (before after : ℕ) → IfOk r (LeadsToNode names (index_edges o cols false []) o cols node told)
+      → IfSome told (λ image. (z : History) → IsIndexOver z image o names → LeadsToNodeOver z (index_edges o cols false []) cols node before after r)
+      → IfSome told (λ image. (m : MachineState) → StandsFor p image m → HoldsNodeFor m node cols before after r)
+  holds_node_for r before after done over =
+      if_some told (λ image. (z : History) → IsIndexOver z image o names → LeadsToNodeOver z (index_edges o cols false []) cols node before after r)
+      (λ image. (m : MachineState) → StandsFor p image m → HoldsNodeFor m node cols before after r)
+      (λ image f m s.
+      let x : LeadsToNodeOver (z_of p o image m there s) (index_edges o cols false []) cols node before after r = f (z_of p o image m there s) (over_index image m s) in
+      record {
+        held = held_over r image m s done x.set;
+        takes = x.takes;
+        most = subst (λ (es : List Edge). MostOf before after es) (records_edges_in p o image m there s cols) x.most;
+        never = x.never;
+      }) over
+    where
+      held_over : (r : Result NodeLead RetrievalFault) (image : List ℕ) (m : MachineState) (s : StandsFor p image m) → IfOk r (LeadsToNode names (index_edges o cols false []) o cols node told)
+          → IfOk r (λ x. shown (applied x.delta []) cols ≡ shown (set_of (z_of p o image m there s).params (events_of (z_of p o image m there s)) node) cols)
+          → IfOk r (λ x. IsNodeHeld m node cols x.weight (shown (applied x.delta []) cols))
+      held_over (Err f) image m s done set = tt
+      held_over (Ok x) image m s done set = record {
+        plan = subst (λ (es : List Edge). LedBy x.weight es) (records_edges_in p o image m there s cols) done.plan;
+        listed = set ∙ sym (ap (λ (i : Option History). elements (history_in i) (Base node cols)) (is_of p o image m there s).1.index);
+      }
 
-  pub node_taken : (r : Result NodeLead RetrievalFault) (before after : ℕ)
-      → IfOk r (λ x. IfSome told (λ image. (z : History) → IsIndexOver z image o names → Takes x.weight before after))
-      → IfOk r (λ x. IfSome told (λ image. (m : MachineState) → StandsFor p image m → Takes x.weight before after))
-  node_taken (Err f) before after takes = tt
-  node_taken (Ok x) before after takes =
-      if_some told (λ image. (z : History) → IsIndexOver z image o names → Takes x.weight before after)
-      (λ image. (m : MachineState) → StandsFor p image m → Takes x.weight before after)
-      (λ image f m s. f (z_of p o image m there s) (over_index image m s)) takes
+  -- the names that the delta puts in are among those of the session
+  pub node_named : (r : Result NodeLead RetrievalFault) → IfOk r (LeadsToNode names (index_edges o cols false []) o cols node told) → IfOk r (λ x. NamesAreThere (length p.names) x.delta.plus)
+  node_named (Err f) done = tt
+  node_named (Ok x) done = subst (λ n. NamesAreThere n x.delta.plus) count done.named
 
-  pub node_most : (before after : ℕ)
-      → IfSome told (λ image. (z : History) → IsIndexOver z image o names → MostOf before after (index_edges o cols false []))
-      → IfSome told (λ image. (m : MachineState) → StandsFor p image m → MostOf before after (record_edges_in m cols))
-  node_most before after most =
-      if_some told (λ image. (z : History) → IsIndexOver z image o names → MostOf before after (index_edges o cols false []))
-      (λ image. (m : MachineState) → StandsFor p image m → MostOf before after (record_edges_in m cols))
-      (λ image f m s. subst (λ (es : List Edge). MostOf before after es) (records_edges_in p o image m there s cols) (f (z_of p o image m there s) (over_index image m s))) most
+-- ---- what the lead to a node is said to be for each state
 
-  pub node_never : (r : Result NodeLead RetrievalFault)
-      → IfErr r (λ f. IfSome told (λ image. (z : History) → IsIndexOver z image o names → IsNoDamage f))
-      → IfErr r (λ f. IfSome told (λ image. (m : MachineState) → StandsFor p image m → IsNoDamage f))
-  node_never (Ok x) never = tt
-  node_never (Err f) never =
-      if_some told (λ image. (z : History) → IsIndexOver z image o names → IsNoDamage f)
-      (λ image. (m : MachineState) → StandsFor p image m → IsNoDamage f)
-      (λ image h m s. h (z_of p o image m there s) (over_index image m s)) never
+module _ (p : Parts) (node : NodeId) (cols : Columns) (told : Option (List ℕ)) (before after : ℕ) where
+  abbrev pub ForNode : Result NodeLead RetrievalFault → Type 0
+  ForNode r = IfSome told (λ image. (m : MachineState) → StandsFor p image m → HoldsNodeFor m node cols before after r)
+
+  pub node_held_of : (x : NodeLead) → ForNode (Ok x) → IfSome told (λ image. (m : MachineState) → StandsFor p image m → IsNodeHeld m node cols x.weight (shown (applied x.delta []) cols))
+  node_held_of x over = if_some told (λ image. (m : MachineState) → StandsFor p image m → HoldsNodeFor m node cols before after (Ok x)) _ (λ image f m s. (f m s).held) over
+
+  pub node_taken_of : (x : NodeLead) → ForNode (Ok x) → IfSome told (λ image. (m : MachineState) → StandsFor p image m → Takes x.weight before after)
+  node_taken_of x over = if_some told (λ image. (m : MachineState) → StandsFor p image m → HoldsNodeFor m node cols before after (Ok x)) _ (λ image f m s. (f m s).takes) over
+
+  pub node_most_of : (r : Result NodeLead RetrievalFault) → ForNode r
+      → IfSome told (λ image. (m : MachineState) → StandsFor p image m → (steps : List ℕ) → IsPlan (arcs_of (record_edges_in m cols)) (Root ∷ []) node steps → TakesAtMost (weight_of (arcs_of (record_edges_in m cols)) steps) before after)
+  node_most_of r over = if_some told (λ image. (m : MachineState) → StandsFor p image m → HoldsNodeFor m node cols before after r) _ (λ image f m s. (f m s).most) over
+
+  pub node_never_of : (f : RetrievalFault) → ForNode (Err f) → IfSome told (λ image. (m : MachineState) → StandsFor p image m → IsNoDamage f)
+  node_never_of f over = if_some told (λ image. (m : MachineState) → StandsFor p image m → HoldsNodeFor m node cols before after (Err f)) _ (λ image h m s. (h m s).never) over

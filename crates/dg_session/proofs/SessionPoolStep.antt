@@ -12,6 +12,8 @@ use Rattle.dg_machine.specs.Needs.{needs}
 use Rattle.dg_batch.specs.declared.halt.Halt.{Halt}
 use Rattle.dg_machine.specs.Planning.{no_plan}
 use Rattle.dg_pool.specs.Graphs.{PoolState}
+use Rattle.dg_session.proofs.ReplyNames.{head_names}
+use Rattle.dg_session.specs.ReplyNames.{ReplyNamesAreThere}
 use Rattle.dg_session.proofs.PartStates.{kept, one_image, stands_on}
 use Rattle.dg_session.proofs.SessionSteps.{IsUnplanned, moved}
 use Rattle.dg_session.specs.Decided.{IsHeadOf}
@@ -22,8 +24,8 @@ use Rattle.dg_start.specs.StoredHistory.{IsHeldBy}
 
 -- a command that needs nothing and changes nothing that the machine knows
 stays : (c : Command) (p q : Parts) (image : Option (List ℕ)) (reply : Reply) → IsUnplanned c → refused_by p 0 (needs c) ≡ None → q ≡ p
-    → ((m : MachineState) (x : List ℕ) → StandsFor p x m → accepted m c [] no_plan ≡ say m reply) → is_refusal reply.head ≡ false → IsHeadOf c reply.head → Accepts c [] p image q image reply
-stays c p q image reply unplanned free same due accepts fits = record {
+    → ((m : MachineState) (x : List ℕ) → StandsFor p x m → accepted m c [] no_plan ≡ say m reply) → is_refusal reply.head ≡ false → IsHeadOf c reply.head → ReplyNamesAreThere (length q.names) reply → Accepts c [] p image q image reply
+stays c p q image reply unplanned free same due accepts fits named = record {
   moves =
       moved c [] p q image image reply unplanned free
       (λ m x y a b s none. (m, due m x s, stands_on p q x y m same (one_image image image x y refl a b) s));
@@ -33,6 +35,7 @@ stays c p q image reply unplanned free same due accepts fits = record {
   held = λ h. subst (λ (x : Parts). IfSome image (λ bytes. IsHeldBy x.index x.names bytes)) (sym same) h;
   no_index = λ h. (ap (λ (x : Parts). x.index) (sym same) ∙ h, refl);
   quiet = λ h. refl;
+  named = named;
 }
 
 -- the elements that the current graph and the handles have together are those of the machine's
@@ -41,14 +44,14 @@ held_are p x m s = ap (λ (y : Parts). union_of_sets (y.graph ∷ y.graphs)) (ke
 
 pub clean_answers : (p q : Parts) (cells : ℕ) (image : Option (List ℕ)) (reply : Reply) → q ≡ p → reply ≡ headed head.Cleaned → Accepts (command.Clean cells) [] p image q image reply
 clean_answers p q cells image reply same is =
-    stays (command.Clean cells) p q image reply (λ m. refl) refl same (λ m x s. ap (say m) (sym is)) (ap (λ (r : Reply). is_refusal r.head) is) (subst (λ (r : Reply). IsHeadOf (command.Clean cells) r.head) (sym is) tt)
+    stays (command.Clean cells) p q image reply (λ m. refl) refl same (λ m x s. ap (say m) (sym is)) (ap (λ (r : Reply). is_refusal r.head) is) (subst (λ (r : Reply). IsHeadOf (command.Clean cells) r.head) (sym is) tt) (head_names (length q.names) head.Cleaned reply is)
 
 pub clean_all_answers : (p q : Parts) (cells : ℕ) (image : Option (List ℕ)) (reply : Reply) → q ≡ p → cells ≡ length (union_of_sets (p.graph ∷ p.graphs)) → reply ≡ headed (head.CleanedAll cells)
     → Accepts command.CleanAll [] p image q image reply
 clean_all_answers p q cells image reply same size is =
     stays command.CleanAll p q image reply (λ m. refl) refl same
     (λ m x s. ap (λ n. say m (headed (head.CleanedAll n))) (ap length (sym (held_are p x m s)) ∙ sym size) ∙ ap (say m) (sym is)) (ap (λ (r : Reply). is_refusal r.head) is)
-    (subst (λ (r : Reply). IsHeadOf command.CleanAll r.head) (sym is) tt)
+    (subst (λ (r : Reply). IsHeadOf command.CleanAll r.head) (sym is) tt) (head_names (length q.names) (head.CleanedAll cells) reply is)
 
 pub pool_answers : (p : Parts) (live size : ℕ) (image : Option (List ℕ)) (reply : Reply) → live ≡ length p.table → size ≡ length (union_of_sets (p.graph ∷ p.graphs))
     → reply ≡ headed (head.Pool live size) → Accepts command.Pool [] p image p image reply
@@ -57,7 +60,7 @@ pool_answers p live size image reply live_is size_is is =
     (λ m x s.
     (λ i. say m (headed (head.Pool (length (sym s.table i)) (length (sym (held_are p x m s) i)))))
     ∙ (λ i. say m (headed (head.Pool (sym live_is i) (sym size_is i)))) ∙ ap (say m) (sym is)) (ap (λ (r : Reply). is_refusal r.head) is)
-    (subst (λ (r : Reply). IsHeadOf command.Pool r.head) (sym is) tt)
+    (subst (λ (r : Reply). IsHeadOf command.Pool r.head) (sym is) tt) (head_names (length p.names) (head.Pool live size) reply is)
 
 -- ---- of all commands
 

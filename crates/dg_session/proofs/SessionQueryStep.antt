@@ -1,5 +1,5 @@
 -- The answer to what is asked of a handle's graph.
-use Rattle.std.proofs.Common.{◌≡◌, ℕ, Bool, true, false, ◌==◌, not, List, [], ◌∷◌, ◌++◌, Option, Some, None, if◌then◌else◌, map, refl, sym, ◌∙◌, ap, subst}
+use Rattle.std.proofs.Common.{◌≡◌, ℕ, Bool, true, false, ◌==◌, not, List, [], ◌∷◌, ◌++◌, Option, Some, None, if◌then◌else◌, map, length, refl, sym, ◌∙◌, ap, subst}
 use Rattle.std.specs.Prelude.{◌&&◌, IsErr, IsErrAnd, Result, is_some}
 use Rattle.std.proofs.lemmas.Option.{none-some}
 use Rattle.dg_graph.specs.declared.element.Element.{Element}
@@ -14,6 +14,10 @@ use Rattle.dg_machine.specs.Answer.{accepted, elements_if, is_refusal, say, show
 use Rattle.dg_machine.specs.MachineState.{MachineState, elements, stands_at, history_in}
 use Rattle.dg_machine.specs.Needs.{earliest, is_base, needs, when}
 use Rattle.dg_machine.specs.Planning.{no_plan}
+use Rattle.std.specs.List.{All}
+use Rattle.dg_retrieval.specs.NamesThere.{NamesAreThere}
+use Rattle.dg_session.proofs.GraphNames.{there_among}
+use Rattle.dg_session.specs.ReplyNames.{ReplyNamesAreThere}
 use Rattle.dg_session.proofs.PartStates.{hit, miss, one_image, stands_on}
 use Rattle.dg_session.proofs.SessionSteps.{IsUnplanned, handed_out, lacking_denies, moved, refused_denies}
 use Rattle.dg_batch.specs.declared.halt.Halt.{Halt}
@@ -55,6 +59,7 @@ pub record Asks (c : Command) (handle : ℕ) (overlay : Bool) (answer : List Ele
   pub due : (m : MachineState) → accepted m c [] no_plan ≡ say m (answer (shown_by m handle))
   pub accepts : (graph : List Element) → is_refusal (answer graph).head ≡ false
   pub fits : (graph : List Element) → IsHeadOf c (answer graph).head
+  pub names : (n : ℕ) (graph : List Element) → NamesAreThere n graph → ReplyNamesAreThere n (answer graph)
 
 module _ (c : Command) (handle : ℕ) (overlay : Bool) (answer : List Element → Reply) (asks : Asks c handle overlay answer) (p : Parts) where
   pub ask_refused : is_some (stands_at handle p.table) ≡ false → refused_by p 0 (needs c) ≡ Some (refusal.UnknownHandle handle)
@@ -72,8 +77,8 @@ module _ (c : Command) (handle : ℕ) (overlay : Bool) (answer : List Element �
       ∙ miss (overlay && is_base (stands_at handle p.table)) (refusal.NotAnOverlay handle) [] served
 
   pub ask_answers : (graph : List Element) (image : Option (List ℕ)) (reply : Reply) → is_some (stands_at handle p.table) ≡ true → (overlay && is_base (stands_at handle p.table)) ≡ false
-      → graph_among handle p.table p.graphs ≡ Some graph → reply ≡ answer graph → Accepts c [] p image p image reply
-  ask_answers graph image reply live served found reply_is = record {
+      → graph_among handle p.table p.graphs ≡ Some graph → reply ≡ answer graph → All (NamesAreThere (length p.names)) p.graphs → Accepts c [] p image p image reply
+  ask_answers graph image reply live served found reply_is there = record {
     moves =
         moved c [] p p image image reply asks.unplanned (ask_free live served)
         (λ m x y a b s free. (
@@ -87,6 +92,7 @@ module _ (c : Command) (handle : ℕ) (overlay : Bool) (answer : List Element �
     held = λ h. h;
     no_index = λ h. (h, refl);
     quiet = λ h. refl;
+    named = subst (ReplyNamesAreThere (length p.names)) (sym reply_is) (asks.names (length p.names) graph (there_among (length p.names) handle p.table p.graphs graph there found));
   }
 
   -- the handle is not live

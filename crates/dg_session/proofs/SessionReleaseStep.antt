@@ -1,5 +1,5 @@
 -- The answer to a release.
-use Rattle.std.proofs.Common.{◌≡◌, ℕ, Bool, true, false, ◌==◌, not, List, [], ◌∷◌, ◌++◌, Option, Some, None, if◌then◌else◌, map, refl, sym, ◌∙◌, ap, subst}
+use Rattle.std.proofs.Common.{◌≡◌, ℕ, Bool, true, false, ◌==◌, not, List, [], ◌∷◌, ◌++◌, Option, Some, None, if◌then◌else◌, map, length, refl, sym, ◌∙◌, ap, subst}
 use Rattle.std.specs.Prelude.{IfSome, is_some}
 use Rattle.std.specs.List.{All}
 use Rattle.std.proofs.lemmas.Bool.{false≢true}
@@ -24,6 +24,7 @@ use Rattle.dg_machine.specs.Planning.{bases_in, usable}
 use Rattle.dg_planner.specs.Whole.{PlannerGraph}
 use Rattle.dg_ask.specs.KeptPlanner.{IsGraphOver, IsKeptFor}
 use Rattle.dg_ask.proofs.HeldIndexHandles.{kept_same}
+use Rattle.dg_session.proofs.ReplyNames.{head_names}
 use Rattle.dg_session.proofs.PartStates.{hit, kept, miss, one_image, parts_of, stands}
 use Rattle.dg_session.proofs.SessionSteps.{moved}
 use Rattle.dg_session.specs.Decided.{IsHeadOf}
@@ -134,4 +135,5 @@ release_answers p q handle image reply live unused is reply_is = record {
   held = λ h. subst (λ (x : Parts). IfSome image (λ bytes. IsHeldBy x.index x.names bytes)) (sym is) h;
   no_index = λ h. (ap (λ (x : Parts). x.index) (sym is) ∙ h, refl);
   quiet = λ h. refl;
+  named = head_names (length q.names) (head.Released handle) reply reply_is;
 }

@@ -12,7 +12,7 @@ use Rattle.dg_graph.specs.declared.element.Columns.{Columns}
 use Rattle.dg_graph.specs.declared.element.Element.{Element}
 use Rattle.dg_graph.specs.declared.event.Event.{Event}
 use Rattle.dg_graph.specs.Lines.{ScriptLine}
-use Rattle.dg_handles.specs.Handles.{HoldsNode, held_by, numbered, overlays_on}
+use Rattle.dg_handles.specs.Handles.{BeginsOn, HoldsNode, held_by, numbered, overlays_on}
 use Rattle.dg_history.specs.declared.node.Key.{Key}
 use Rattle.dg_history.specs.declared.node.NodeId.{NodeId}
 use Rattle.dg_history.specs.declared.node.NodeId.TheVariants.{Root}
@@ -42,6 +42,8 @@ use Rattle.dg_retrieval.specs.declared.fault.RetrievalFault.TheVariants as retri
 use Rattle.dg_retrieval.specs.Beginnings.{GraphLead}
 use Rattle.dg_retrieval.specs.KeptGraph.{kept_edges, kept_ground, kept_nodes}
 use Rattle.dg_retrieval.specs.Beginnings.{base_handle, leads_in, led_to}
+use Rattle.dg_retrieval.specs.Calls.{IsRetrieval, RetrievesOver}
+use Rattle.dg_retrieval.specs.NamesThere.{EventNamesAreThere, NamesAreThere}
 use Rattle.dg_retrieval.specs.Retrieval.{AreHeld, ArePoints, IsNoDamage, IsOver, IsTreeOf, TakesAtMostTree, graphs_at}
 use Rattle.dg_session.proofs.HandleBases.{bases_are_held}
 use Rattle.dg_session.proofs.PlanStep.{edges_are, point_here, point_is}
@@ -54,7 +56,8 @@ use Rattle.dg_session.specs.declared.session.Session.TheInside.{Inside}
 use Rattle.dg_ask.specs.HeldIndex.{point_over, points_over, span_held}
 use Rattle.dg_session.specs.Decided.{IsHeadOf}
 use Rattle.dg_session.specs.Parts.{Parts}
-use Rattle.dg_session.specs.Reads.{IsRetrieved, Reads, ReadsAsTold, ReadsBy, ReadsIn, bases_of, is_early, listed_by, with_new_handles}
+use Rattle.dg_session.specs.ReplyNames.{ReplyNamesAreThere}
+use Rattle.dg_session.specs.Reads.{HasRetrieved, IsRetrieved, RetrievesFor, Reads, ReadsAsTold, ReadsBy, ReadsIn, bases_of, is_early, listed_by, with_new_handles}
 use Rattle.dg_start.specs.StoredHistory.{IsHeldBy, index_opening}
 use Rattle.dg_session.specs.Session.{Accepts, ComesTo, Moves, StandsFor, WhereBothTold, is_reached, refused_by, retrieval_needs}
 
@@ -287,8 +290,8 @@ moved_with c old new before after reply none step x y a b m s =
 -- a retrieval that gives new handles
 pub retrieval_accepted : (c : Command) (p q : Parts) (before after : Option (List ℕ)) (new : List Stands) (graphs : List (List Element)) (reply : Reply)
     → WhereBothTold before after (λ x y. Moves c [] p x q y reply) → is_refusal reply.head ≡ false → refused_by p 0 (needs c) ≡ None → IsHeadOf c reply.head
-    → after ≡ before → q ≡ with_new_handles p new graphs → Accepts c [] p before q after reply
-retrieval_accepted c p q before after new graphs reply moves accepts free fits same is = record {
+    → after ≡ before → q ≡ with_new_handles p new graphs → ReplyNamesAreThere (length q.names) reply → Accepts c [] p before q after reply
+retrieval_accepted c p q before after new graphs reply moves accepts free fits same is named = record {
   moves = moves;
   accepted = accepts;
   free = free;
@@ -296,6 +299,7 @@ retrieval_accepted c p q before after new graphs reply moves accepts free fits s
   held = λ h. subst (λ (x : Parts). IfSome after (λ image. IsHeldBy x.index x.names image)) (sym is) (subst (λ (o : Option (List ℕ)). IfSome o (λ image. IsHeldBy p.index p.names image)) (sym same) h);
   no_index = λ h. (ap (λ (x : Parts). x.index) (sym is) ∙ h, same);
   quiet = λ h. same;
+  named = named;
 }
 
 no_damage : (key : Key) (col : Column) → IsNoDamage (retrieval_fault.Damaged key col) → ⊥
@@ -357,8 +361,8 @@ pub record IsSession (p : Parts) (o : Opening) (names : ℕ) (recent : List Even
   pub count : names ≡ length p.names
   pub all : recent ≡ p.recent
 
-pub is_session : (p : Parts) (s : Inside) (index : IndexState) (names : ℕ) (recent : List Event) → (the_view s).parts ≡ p → s.history.index ≡ Some index
-    → names ≡ length s.history.names → recent ≡ s.history.recent.items → IsSession p index.opening names recent
+pub is_session : (p : Parts) (s : Inside) (index : IndexState) (names : ℕ) (recent : List Event) → (the_view s).parts ≡ p → s.held.live.history.index ≡ Some index
+    → names ≡ length s.held.live.history.names → recent ≡ s.held.live.history.recent.items → IsSession p index.opening names recent
 is_session p s index names recent view there count all = record {
   there = sym (ap (λ (x : Parts). x.index) view) ∙ ap index_opening there;
   count = count ∙ ap (λ (x : Parts). length x.names) view;
@@ -386,50 +390,68 @@ module _ (p : Parts) (o : Opening) (times : List ℕ) (cols : Columns) (told : O
       (subst (λ (es : List Edge). AreHeld z es cols (held_by p.table (map (λ (e : ℕ × Stands). elements z e.1) p.table))) (sym edges_is)
       (bases_are_held z p.table cols (kept_ground o (event_total o.batches) cols (bases_in cols p.table)) hold))
 
-  pub retrieved_over : (r : Result Retrieved RetrievalFault)
-      → IfOk r (λ x. length (leads_in x.leads) ≡ length times)
-      → IfOk r (λ x. IsTreeOf edges (points_over o recent times) x.weight (bases_of (leads_in x.leads)))
-      → IfOk r (λ x. AreSingles (arcs_of edges) (Root ∷ []) (points_over o recent times) x.singles.items)
-      → IfOk r (λ x. IfSome told (λ image. (z : History) (now : List Element) (held : ℕ → List Element) → IsOver z image o names now recent → AreHeld z edges cols held
-      → ArePoints z (points_over o recent times) times → map (led_to now held cols) (leads_in x.leads) ≡ graphs_at z times cols))
-      → IfOk r (λ x. IfSome told (λ image. (m : MachineState) → StandsFor p image m → IsRetrieved m times cols x.weight x.singles.items (bases_of (leads_in x.leads)) (map (led_to p.graph (listed_by p) cols) (leads_in x.leads))))
-  retrieved_over (Err f) count tree singles graphs = tt
-  retrieved_over (Ok x) count tree singles graphs =
-      if_some told (λ image. (z : History) (now : List Element) (held : ℕ → List Element) → IsOver z image o names now recent → AreHeld z edges cols held
-      → ArePoints z (points_over o recent times) times → map (led_to now held cols) (leads_in x.leads) ≡ graphs_at z times cols)
-      (λ image. (m : MachineState) → StandsFor p image m → IsRetrieved m times cols x.weight x.singles.items (bases_of (leads_in x.leads)) (map (led_to p.graph (listed_by p) cols) (leads_in x.leads)))
+  -- what a retrieval over a history is, is that of each state that the session stands for
+  pub retrieves_for : (r : Result Retrieved RetrievalFault) (before after : ℕ) → IfOk r (IsRetrieval names recent edges (points_over o recent times))
+      → IfSome told (λ image. (z : History) (now : List Element) → IsOver z image o names now recent → RetrievesOver z now edges cols (points_over o recent times) times before after r)
+      → IfSome told (λ image. (m : MachineState) → StandsFor p image m → RetrievesFor m p times cols before after r)
+  retrieves_for r before after done over =
+      if_some told (λ image. (z : History) (now : List Element) → IsOver z image o names now recent → RetrievesOver z now edges cols (points_over o recent times) times before after r)
+      (λ image. (m : MachineState) → StandsFor p image m → RetrievesFor m p times cols before after r)
       (λ image f m s.
-      is_retrieved p o image m is.there s times cols x.weight x.singles.items (bases_of (leads_in x.leads)) (map (led_to p.graph (listed_by p) cols) (leads_in x.leads)) inside
-      (subst (λ es. IsTreeOf es (points_over o p.recent times) x.weight (bases_of (leads_in x.leads))) edges_is (subst (λ es. IsTreeOf edges (points_over o es times) x.weight (bases_of (leads_in x.leads))) is.all tree))
-      (subst (λ es. AreSingles (arcs_of es) (Root ∷ []) (points_over o p.recent times) x.singles.items) edges_is (subst (λ es. AreSingles (arcs_of edges) (Root ∷ []) (points_over o es times) x.singles.items) is.all singles))
-      (length-map (leads_in x.leads) (λ (l : GraphLead). base_handle l.begins) ∙ count)
-      (f (z_of p o image m is.there s) p.graph (listed_by p) (over_session image m s) (held_there image m s) (points_of_session image m s))) graphs
+      let z : History = z_of p o image m is.there s in
+      let x : RetrievesOver z p.graph edges cols (points_over o recent times) times before after r = f z p.graph (over_session image m s) in
+      record {
+        retrieved = retrieved_over r image m s done x.graphs;
+        takes = x.takes;
+        most = subst (λ (ns : List NodeId). TakesAtMostTree (edges_in m cols) ns before after) (points_are p o image m is.there s times inside)
+            (subst (λ (es : List Edge). TakesAtMostTree es (points_over o p.recent times) before after) (edges_is ∙ edges_are p o image m is.there s cols)
+            (subst (λ es. TakesAtMostTree edges (points_over o es times) before after) is.all x.most));
+        never = no_damage_here r image m s x.never;
+      }) over
+    where
+      retrieved_over : (r : Result Retrieved RetrievalFault) (image : List ℕ) (m : MachineState) (s : StandsFor p image m) → IfOk r (IsRetrieval names recent edges (points_over o recent times))
+          → IfOk r (λ x. (held : ℕ → List Element) → AreHeld (z_of p o image m is.there s) edges cols held → ArePoints (z_of p o image m is.there s) (points_over o recent times) times
+          → map (led_to p.graph held cols) (leads_in x.leads) ≡ graphs_at (z_of p o image m is.there s) times cols)
+          → IfOk r (λ x. IsRetrieved m times cols x.weight x.singles.items (bases_of (leads_in x.leads)) (map (led_to p.graph (listed_by p) cols) (leads_in x.leads)))
+      retrieved_over (Err f) image m s done graphs = tt
+      retrieved_over (Ok x) image m s done graphs =
+          is_retrieved p o image m is.there s times cols x.weight x.singles.items (bases_of (leads_in x.leads)) (map (led_to p.graph (listed_by p) cols) (leads_in x.leads)) inside
+          (subst (λ es. IsTreeOf es (points_over o p.recent times) x.weight (bases_of (leads_in x.leads))) edges_is (subst (λ es. IsTreeOf edges (points_over o es times) x.weight (bases_of (leads_in x.leads))) is.all done.tree))
+          (subst (λ es. AreSingles (arcs_of es) (Root ∷ []) (points_over o p.recent times) x.singles.items) edges_is (subst (λ es. AreSingles (arcs_of edges) (Root ∷ []) (points_over o es times) x.singles.items) is.all done.singles))
+          (length-map (leads_in x.leads) (λ (l : GraphLead). base_handle l.begins) ∙ done.count ∙ length-map times (point_over o recent))
+          (graphs (listed_by p) (held_there image m s) (points_of_session image m s))
 
-  pub taken_over : (r : Result Retrieved RetrievalFault) (before after : ℕ)
-      → IfOk r (λ x. IfSome told (λ image. (z : History) (now : List Element) → IsOver z image o names now recent → Takes x.weight before after))
-      → IfOk r (λ x. IfSome told (λ image. (m : MachineState) → StandsFor p image m → Takes x.weight before after))
-  taken_over (Err f) before after takes = tt
-  taken_over (Ok x) before after takes =
-      if_some told (λ image. (z : History) (now : List Element) → IsOver z image o names now recent → Takes x.weight before after)
-      (λ image. (m : MachineState) → StandsFor p image m → Takes x.weight before after)
-      (λ image f m s. f (z_of p o image m is.there s) p.graph (over_session image m s)) takes
+      no_damage_here : (r : Result Retrieved RetrievalFault) (image : List ℕ) (m : MachineState) (s : StandsFor p image m)
+          → IfErr r (λ f. ArePoints (z_of p o image m is.there s) (points_over o recent times) times → IsNoDamage f) → IfErr r IsNoDamage
+      no_damage_here (Ok x) image m s never = tt
+      no_damage_here (Err f) image m s never = never (points_of_session image m s)
 
-  pub most_read : (before after : ℕ)
-      → IfSome told (λ image. (z : History) (now : List Element) → IsOver z image o names now recent → TakesAtMostTree edges (points_over o recent times) before after)
-      → IfSome told (λ image. (m : MachineState) → StandsFor p image m → TakesAtMostTree (edges_in m cols) (points_for m times) before after)
-  most_read before after most =
-      if_some told (λ image. (z : History) (now : List Element) → IsOver z image o names now recent → TakesAtMostTree edges (points_over o recent times) before after)
-      (λ image. (m : MachineState) → StandsFor p image m → TakesAtMostTree (edges_in m cols) (points_for m times) before after)
-      (λ image f m s.
-      subst (λ (ns : List NodeId). TakesAtMostTree (edges_in m cols) ns before after) (points_are p o image m is.there s times inside)
-      (subst (λ (es : List Edge). TakesAtMostTree es (points_over o p.recent times) before after) (edges_is ∙ edges_are p o image m is.there s cols)
-      (subst (λ es. TakesAtMostTree edges (points_over o es times) before after) is.all (f (z_of p o image m is.there s) p.graph (over_session image m s))))) most
+  -- whatever the image is, there is a lead for each instant
+  pub has_retrieved : (r : Result Retrieved RetrievalFault) → EventNamesAreThere names recent → IfOk r (λ x. All (BeginsOn p.table cols) (leads_in x.leads))
+      → IfOk r (IsRetrieval names recent edges (points_over o recent times)) → IfOk r (HasRetrieved p times cols)
+  has_retrieved (Err f) there bases done = tt
+  has_retrieved (Ok x) there bases done = record {
+    bases = bases;
+    count = done.count ∙ length-map times (point_over o recent);
+    sum = done.sum;
+    named = subst (λ n. All (λ (l : GraphLead). NamesAreThere n l.delta.plus) (leads_in x.leads)) is.count (done.named there);
+  }
 
-  pub never_damaged : (r : Result Retrieved RetrievalFault)
-      → IfErr r (λ f. IfSome told (λ image. (z : History) (now : List Element) → IsOver z image o names now recent → ArePoints z (points_over o recent times) times → IsNoDamage f))
-      → IfErr r (λ f. IfSome told (λ image. (m : MachineState) → StandsFor p image m → IsNoDamage f))
-  never_damaged (Ok x) never = tt
-  never_damaged (Err f) never =
-      if_some told (λ image. (z : History) (now : List Element) → IsOver z image o names now recent → ArePoints z (points_over o recent times) times → IsNoDamage f)
-      (λ image. (m : MachineState) → StandsFor p image m → IsNoDamage f)
-      (λ image h m s. h (z_of p o image m is.there s) p.graph (over_session image m s) (points_of_session image m s)) never
+-- ---- what a retrieval is said to be for each state
+
+module _ (p : Parts) (times : List ℕ) (cols : Columns) (told : Option (List ℕ)) (before after : ℕ) where
+  abbrev pub For : Result Retrieved RetrievalFault → Type 0
+  For r = IfSome told (λ image. (m : MachineState) → StandsFor p image m → RetrievesFor m p times cols before after r)
+
+  pub retrieved_of : (x : Retrieved) → For (Ok x)
+      → IfSome told (λ image. (m : MachineState) → StandsFor p image m → IsRetrieved m times cols x.weight x.singles.items (bases_of (leads_in x.leads)) (map (led_to p.graph (listed_by p) cols) (leads_in x.leads)))
+  retrieved_of x over = if_some told (λ image. (m : MachineState) → StandsFor p image m → RetrievesFor m p times cols before after (Ok x)) _ (λ image f m s. (f m s).retrieved) over
+
+  pub taken_of : (x : Retrieved) → For (Ok x) → IfSome told (λ image. (m : MachineState) → StandsFor p image m → Takes x.weight before after)
+  taken_of x over = if_some told (λ image. (m : MachineState) → StandsFor p image m → RetrievesFor m p times cols before after (Ok x)) _ (λ image f m s. (f m s).takes) over
+
+  pub most_of : (r : Result Retrieved RetrievalFault) → For r → IfSome told (λ image. (m : MachineState) → StandsFor p image m → TakesAtMostTree (edges_in m cols) (points_for m times) before after)
+  most_of r over = if_some told (λ image. (m : MachineState) → StandsFor p image m → RetrievesFor m p times cols before after r) _ (λ image f m s. (f m s).most) over
+
+  pub never_of : (f : RetrievalFault) → For (Err f) → IfSome told (λ image. (m : MachineState) → StandsFor p image m → IsNoDamage f)
+  never_of f over = if_some told (λ image. (m : MachineState) → StandsFor p image m → RetrievesFor m p times cols before after (Err f)) _ (λ image h m s. (h m s).never) over

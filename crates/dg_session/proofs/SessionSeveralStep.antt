@@ -21,6 +21,9 @@ use Rattle.dg_history.specs.declared.node.NodeId.{NodeId}
 use Rattle.dg_plan.specs.TreePaths.{base_under}
 use Rattle.dg_plan.specs.Walks.{Graft, steps_of, tree_weight}
 use Rattle.dg_retrieval.specs.Retrieval.{TakesAtMostTree}
+use Rattle.dg_session.proofs.ReplyNames.{handle_names}
+use Rattle.dg_session.specs.ReplyNames.{LineNamesAreThere, ReplyNamesAreThere}
+use Rattle.std.specs.List.{All}
 use Rattle.dg_session.proofs.SessionRetrievals.{handles_stand, if_some, moved_with, overlays_same, reads_failed, retrieval_accepted}
 use Rattle.dg_session.proofs.PartStates.{one_image, one_told}
 use Rattle.dg_session.specs.Decided.{IsHeadOf}
@@ -62,6 +65,8 @@ module _ (p : Parts) (cols : Columns) (times : List ℕ) (count : ℕ) (number :
           handles_stand p q x y m (take count times) cols weight singles bases graphs s (one_image before after x y same a b) (subst (λ n. 1 ≤ n) (sym number) some) free r is,
         )))
         (ap (λ (r : Reply). is_refusal r.head) reply_is) (needed ∙ free) (subst (λ (r : Reply). IsHeadOf (command.Several cols times count) r.head) (sym reply_is) tt) same is
+        (subst (ReplyNamesAreThere (length q.names)) (sym reply_is)
+        (subst (All (LineNamesAreThere (length q.names))) (sym lines_are) (handle_names (length q.names) p.next (take count times) singles)))
 
     -- where it fails, the bytes read are at most what its reply would tell
     pub several_fails : (image : Option (List ℕ)) (h : Head) (before after : ℕ) → is_refusal h ≡ true → is_early h ≡ false

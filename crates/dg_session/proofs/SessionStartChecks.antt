@@ -189,11 +189,6 @@ pub checked_standing : (P : Type 0) → SoundFilesStand → (s : SessionState) (
 checked_standing P law s (Ok q) told mid image held sound = λ p. stands_checked law s.parts told mid image held sound
 checked_standing P law s (Err f) told mid image held sound = tt
 
--- of the bytes that the beginning alone reads nothing is said
-pub checked_takes : (P : Type 0) (checked : Bool) (r : Result SessionState SessionFault) → checked ≡ true → OnOk r (checked ≡ false → P)
-checked_takes P checked (Ok q) is = λ not. absurd (let bad : true ≡ false = sym is ∙ not in cc)
-checked_takes P checked (Err f) is = tt
-
 pub checked_refused : (checked : Bool) (s : SessionState) (r : Result SessionState SessionFault) (told mid : Option (List ℕ)) → checked ≡ true → mid ≡ told → IfSome told (λ image. Starts image (Ok (started_of s.parts)))
     → IfErr r (λ f. IfSome mid (λ image. FailsCheck f image)) → IfErr r (λ f. IfSome told (λ image. RefusesSession checked f image))
 checked_refused checked s (Ok q) told mid is same starts fails = tt

@@ -21,6 +21,7 @@ use Rattle.dg_machine.specs.Planning.{Planned, IsPlanned, no_plan}
 use Rattle.dg_machine.specs.Run.{Step, Answers, Fails_to_read, Lacks_memory}
 use Rattle.dg_machine.specs.Script.{Asked}
 use Rattle.dg_batch.proofs.BatchLineCollection.{follows_none}
+use Rattle.dg_session.specs.ReplyNames.{ReplyNamesAreThere}
 use Rattle.dg_session.proofs.PartStates.{one_image, refused_is, stands_on}
 use Rattle.dg_ask.specs.HeldIndex.{events_held, span_held, has_node_held}
 use Rattle.dg_session.specs.Parts.{Parts}
@@ -233,6 +234,10 @@ fitting c got old h None accepts free fits = (free, fits)
 fitting c got old h (Some r) accepts free fits = absurd (false≢true (sym accepts))
 
 -- the reply, where there is one
+pub reply_named : (c : Command) (lines_before lines_after : Option (List ScriptLine)) (old : Parts) (before : Option (List ℕ)) (new : Parts) (after : Option (List ℕ)) (r : Result Reply Halt) (reply : Reply)
+    → Comes c (following c) lines_before lines_after old before new after r → r ≡ Ok reply → ReplyNamesAreThere (length new.names) reply
+reply_named c lines_before lines_after old before new after r reply h is = (subst (Comes c (following c) lines_before lines_after old before new after) is h).2.named
+
 pub answered : (c : Command) (lines_before lines_after : Option (List ScriptLine)) (old : Parts) (before : Option (List ℕ)) (new : Parts) (after : Option (List ℕ)) (r : Result Reply Halt) (reply : Reply)
     → Comes c (following c) lines_before lines_after old before new after r → r ≡ Ok reply → Steps c lines_before lines_after old before new after reply
 answered c lines_before lines_after old before new after r reply h is =

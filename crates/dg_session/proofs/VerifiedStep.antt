@@ -20,6 +20,7 @@ use Rattle.dg_sound.specs.declared.soundness.Soundness.TheVariants.{Sound}
 use Rattle.dg_sound.specs.Soundness.{record_total, soundness_of}
 use Rattle.dg_sound_files.specs.SoundFiles.{StandingFilesAreSound}
 use Rattle.dg_ask.proofs.OpenedIndexHistory.{behind}
+use Rattle.dg_session.proofs.ReplyNames.{head_names}
 use Rattle.dg_session.proofs.SessionRetrievals.{every_some}
 use Rattle.dg_session.proofs.PartStates.{IsOf, hit, is_of, miss, one_image, one_told, stands_on}
 use Rattle.dg_session.proofs.SessionSteps.{failing_accepted, lacking_denies, moved}
@@ -78,6 +79,7 @@ answers_over law p q before after o s reply there same same_image sound is = rec
       (subst (λ (t : Option (List ℕ)). IfSome t (λ image. IsHeldBy p.index p.names image)) (sym same_image) h);
   no_index = λ none. (ap (λ (x : Parts). x.index) (sym same) ∙ none, same_image);
   quiet = λ h. same_image;
+  named = head_names (length q.names) (head.Verified s) reply is;
 }
 
 pub verify_answers : StandingFilesAreSound → (p q : Parts) (before after : Option (List ℕ)) (s : Soundness) (reply : Reply) → q ≡ p → after ≡ before

@@ -1,5 +1,5 @@
 -- Which damage a refusal names, and where there is none.
-use Rattle.std.specs.Prelude.{◌≡◌, ℕ, false, List, [], ◌∷◌, Option, Some, None, Result, IfSome, length, take}
+use Rattle.std.specs.Prelude.{◌≡◌, ℕ, false, List, [], ◌∷◌, Option, Some, None, Result, Ok, Err, IfSome, length, take}
 use Rattle.dg_append.specs.OlderGroups.{AreUndamaged, IsBatchDamage, in_groups, older_children}
 use Rattle.dg_graph.specs.declared.element.Column.{Column}
 use Rattle.dg_graph.specs.declared.element.Columns.{Columns}
@@ -80,6 +80,16 @@ MeetsNone (Batch_of count) old image =
     (o : Opening) × (old.index ≡ Some o)
     × IfSome image (λ bytes. AreUndamaged (length old.names) o bytes (in_groups (older_children o count)))
 MeetsNone Nothing_read old image = Unit {0}
+
+-- what a retrieval tells of damage: none is met where it gives something, and else it names the first
+abbrev pub TellsGraphDamage : {A : Type 0} → Parts → Option (List ℕ) → List ℕ × Columns → Result A RetrievalFault → Type 0
+TellsGraphDamage old image asked (Ok r) = MeetsNone (Graphs asked.0 asked.1) old image
+TellsGraphDamage old image asked (Err f) = NamesDamage old image asked f
+
+-- the same of a node
+abbrev pub TellsNodeDamage : {A : Type 0} → Parts → Option (List ℕ) → NodeId × Columns → Result A RetrievalFault → Type 0
+TellsNodeDamage old image asked (Ok r) = MeetsNone (Node_set asked.0 asked.1) old image
+TellsNodeDamage old image asked (Err f) = NamesNodeDamage old image asked f
 
 -- the damage that a refusal tells, if there is one
 abbrev pub damage_told : Option Refusal → Option (Key × Column)

@@ -4,6 +4,7 @@ pub mod Sweeps
 pub mod Verified
 pub mod SessionStart
 pub mod Decided
+pub mod ReplyNames
 pub mod Session
 pub mod BatchCommand
 pub mod Reads

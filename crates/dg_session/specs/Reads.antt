@@ -1,11 +1,13 @@
 -- What a retrieval gives, the handles that it is given, and the bytes that commands read.
-use Rattle.std.specs.Prelude.{◌≡◌, ℕ, ◌+◌, Bool, true, false, List, [], ◌∷◌, ◌++◌, Option, Some, None, Result, Ok, Err, IfSome, length, map}
-use Rattle.std.specs.List.{sum}
+use Rattle.std.specs.Prelude.{◌≡◌, ℕ, ◌+◌, Bool, true, false, List, [], ◌∷◌, ◌++◌, Option, Some, None, Result, Ok, Err, IfErr, IfOk, IfSome, length, map}
+use Rattle.std.specs.List.{All, sum}
 use Rattle.dg_fold.specs.BytesRead.{Takes, TakesAtMost}
 use Rattle.dg_graph.specs.declared.element.Columns.{Columns}
 use Rattle.dg_graph.specs.declared.element.Element.{Element}
+use Rattle.dg_graph.specs.Composition.{applied}
+use Rattle.dg_graph.specs.Elements.{shown}
 use Rattle.dg_graph.specs.Lines.{ScriptLine}
-use Rattle.dg_handles.specs.Handles.{held_by, numbered, overlays_on}
+use Rattle.dg_handles.specs.Handles.{BeginsOn, held_by, numbered, overlays_on}
 use Rattle.dg_history.specs.declared.node.NodeId.{NodeId}
 use Rattle.dg_history.specs.declared.node.NodeId.TheVariants.{Root}
 use Rattle.dg_history.specs.History.{events_of}
@@ -26,11 +28,16 @@ use Rattle.dg_machine.specs.Planning.{Planned, edges_in, points_for, record_edge
 use Rattle.dg_plan.specs.HistoryGraph.{all_columns}
 use Rattle.dg_plan.specs.IndexGraph.{arcs_of}
 use Rattle.dg_plan.specs.Walks.{AreSingles, IsPlan, weight_of}
-use Rattle.dg_retrieval.specs.Beginnings.{GraphLead}
-use Rattle.dg_retrieval.specs.Beginnings.{base_handle}
-use Rattle.dg_retrieval.specs.Retrieval.{IsTreeOf}
+use Rattle.dg_retrieval.specs.declared.fault.RetrievalFault.{RetrievalFault}
+use Rattle.dg_retrieval.specs.declared.node_lead.NodeLead.{NodeLead}
+use Rattle.dg_retrieval.specs.declared.retrieval.Retrieved.{Retrieved}
+use Rattle.dg_retrieval.specs.Beginnings.{GraphLead, base_handle, leads_in, led_to}
+use Rattle.dg_retrieval.specs.NamesThere.{NamesAreThere}
+use Rattle.dg_retrieval.specs.Retrieval.{IsNoDamage, IsTreeOf, TakesAtMostTree}
 use Rattle.dg_batch.specs.declared.halt.Halt.{Halt}
 use Rattle.dg_batch.specs.declared.halt.Halt.TheVariants as halt
+use Rattle.dg_batch.specs.declared.stop.Stop.{Stop}
+use Rattle.dg_batch.specs.declared.stop.Stop.TheVariants as stop
 use Rattle.dg_session.specs.Parts.{Parts}
 use Rattle.dg_session.specs.Session.{StandsFor}
 
@@ -62,6 +69,28 @@ pub record IsRetrieved (m : MachineState) (times : List ℕ) (cols : Columns) (w
 pub record IsNodeHeld (m : MachineState) (node : NodeId) (cols : Columns) (weight : ℕ) (graph : List Element) : Type 0 where
   pub plan : (steps : List ℕ) × IsPlan (arcs_of (record_edges_in m cols)) (Root ∷ []) node steps × (weight ≡ weight_of (arcs_of (record_edges_in m cols)) steps)
   pub listed : graph ≡ elements (history_in m.index) (Base node cols)
+
+-- Over an image that stands for the state: what is retrieved is that, as many bytes are read as the tree weighs, never
+-- more than it would, and no damage is met.
+pub record RetrievesFor (m : MachineState) (p : Parts) (times : List ℕ) (cols : Columns) (before after : ℕ) (r : Result Retrieved RetrievalFault) : Type 0 where
+  pub retrieved : IfOk r (λ x. IsRetrieved m times cols x.weight x.singles.items (bases_of (leads_in x.leads)) (map (led_to p.graph (listed_by p) cols) (leads_in x.leads)))
+  pub takes : IfOk r (λ x. Takes x.weight before after)
+  pub most : TakesAtMostTree (edges_in m cols) (points_for m times) before after
+  pub never : IfErr r IsNoDamage
+
+-- Over any image: there is a lead for each instant, which begins on what the session has and puts in names that it has.
+pub record HasRetrieved (p : Parts) (times : List ℕ) (cols : Columns) (r : Retrieved) : Type 0 where
+  pub bases : All (BeginsOn p.table cols) (leads_in r.leads)
+  pub count : length (leads_in r.leads) ≡ length times
+  pub sum : r.sum ≡ sum r.singles.items
+  pub named : All (λ (l : GraphLead). NamesAreThere (length p.names) l.delta.plus) (leads_in r.leads)
+
+-- The same of the set of a node, by its least plan over the records.
+pub record HoldsNodeFor (m : MachineState) (node : NodeId) (cols : Columns) (before after : ℕ) (r : Result NodeLead RetrievalFault) : Type 0 where
+  pub held : IfOk r (λ x. IsNodeHeld m node cols x.weight (shown (applied x.delta []) cols))
+  pub takes : IfOk r (λ x. Takes x.weight before after)
+  pub most : (steps : List ℕ) → IsPlan (arcs_of (record_edges_in m cols)) (Root ∷ []) node steps → TakesAtMost (weight_of (arcs_of (record_edges_in m cols)) steps) before after
+  pub never : IfErr r IsNoDamage
 
 -- ---- the bytes read
 
@@ -111,12 +140,25 @@ pub record Reads (c : Command) (old : Parts) (image : Option (List ℕ)) (h : He
   pub early : is_early h ≡ true → after ≡ before
   pub nothing : (needs c).reads ≡ false → after ≡ before
 
+-- What a command that stops has read: nothing, where a line could not be had; and where the file could not be written, no
+-- more than the older children of its batch, and nothing, where it reads no records.
+pub record ReadsToWrite (c : Command) (old : Parts) (image : Option (List ℕ)) (before after : ℕ) : Type 0 where
+  pub older : IfSome image (λ bytes. (m : MachineState) → StandsFor old bytes m → ReadsOlder m (needs c).changes before after)
+  pub nothing : (needs c).reads ≡ false → after ≡ before
+
+abbrev pub ReadsToStop : Command → Parts → Option (List ℕ) → Stop → ℕ → ℕ → Type 0
+ReadsToStop c old image stop.Read before after = after ≡ before
+ReadsToStop c old image stop.Limit before after = after ≡ before
+ReadsToStop c old image stop.Store before after = ReadsToWrite c old image before after
+
 -- the first line of the reply to a command that comes to this, unless it is stopped
 abbrev pub reply_head : Result Reply Halt → Option Head
 reply_head (Ok reply) = Some reply.head
 reply_head (Err (halt.Refusal r)) = Some (head.Refused r)
 reply_head (Err (halt.Stop s)) = None
 
--- the same of what the command comes to
+-- the bytes read by a command that comes to this
 abbrev pub ReadsIn : Command → Parts → Option (List ℕ) → Result Reply Halt → ℕ → ℕ → Type 0
-ReadsIn c old image r before after = IfSome (reply_head r) (λ h. Reads c old image h before after)
+ReadsIn c old image (Ok reply) before after = Reads c old image reply.head before after
+ReadsIn c old image (Err (halt.Refusal r)) before after = Reads c old image (head.Refused r) before after
+ReadsIn c old image (Err (halt.Stop s)) before after = ReadsToStop c old image s before after

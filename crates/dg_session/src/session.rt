@@ -1,11 +1,10 @@
 //! The session over one index file: what it keeps, and the step that carries out a command.
 
-ghost use Rattle.std.specs.Prelude.{◌≡◌, ◌⊎◌, ℕ, ◌+◌, ◌<◌, ◌≤◌, IfErr, IfSome, IsErrOf, OnOk, List, [], Ok, Option, None, Some, is_some, true, false, not, IfOk};
+ghost use Rattle.std.specs.Prelude.{◌≡◌, ◌⊎◌, ℕ, ◌+◌, ◌<◌, ◌≤◌, IfErr, IfSome, IsErrOf, OnOk, List, [], Ok, Err, Option, None, Some, is_some, true, false, not, length, IfOk};
 ghost use Rattle.dg_columns.specs.ColumnLaws.{AreBytes};
 ghost use Rattle.dg_append.specs.Faults.{OnlyReadFailed};
 ghost use Rattle.dg_disk.specs.Counts.{Rose as DiskRose};
 ghost use Rattle.dg_disk.specs.Frame.{GoesOn, ReadsAndSyncs};
-ghost use Rattle.dg_fold.specs.BytesRead.{Takes};
 ghost use Rattle.dg_io.specs.Frame.{Advances};
 ghost use Rattle.dg_io.specs.Told.{CountRose};
 ghost use Rattle.dg_io.specs.LinesState.{told, NeedsByte};
@@ -16,20 +15,20 @@ ghost use Rattle.dg_machine.specs.Answer.{headed, is_refusal};
 ghost use Rattle.dg_machine.specs.CommandGrammar.{CountIsInRange};
 ghost use Rattle.dg_machine.specs.Needs.{following, is_writing};
 ghost use Rattle.dg_history.specs.History.{History};
-ghost use Rattle.dg_index.specs.ImageOfHistory.{IsImageOf, StandsAs};
-ghost use Rattle.dg_index.specs.OpenedIndex.{opened_of};
+ghost use Rattle.dg_index.specs.ImageOfHistory.{StandsAs};
 ghost use Rattle.dg_machine.specs.MachineState.{IsWithin, MachineState, machine_at};
 ghost use Rattle.dg_machine.specs.Run.{is_store_read};
 ghost use Rattle.dg_pool.specs.Graphs.{graph_now};
 ghost use Rattle.dg_ask.specs.HeldIndex.{events_held, span_held};
 ghost use Rattle.dg_session.specs.Damage.{DamageIn, DamageIs, Graphs, MeetsNone, reads_for};
-ghost use Rattle.dg_session.specs.Reads.{Reads, ReadsIn};
+ghost use Rattle.dg_session.specs.Reads.{Reads, ReadsIn, ReadsToStop};
+ghost use Rattle.dg_session.specs.ReplyNames.{ReplyNamesAreThere};
 ghost use Rattle.dg_session.specs.Session.{ComesTo, IsAsBefore, is_at_hand, StandsFor, Steps, Stops, TakesLines};
 ghost use Rattle.dg_session.specs.SessionState.{handles_of};
 ghost use Rattle.dg_session.specs.SessionStart.{Begins, IsNew, IsStanding, RefusesSession};
 ghost use Rattle.dg_session.specs.Sweeps.{SweepsNothing, SweepsPool};
 ghost use Rattle.dg_session.specs.Verified.{VerifiesFile};
-ghost use Rattle.dg_start.specs.SessionStart.{PlansLastLeaf, start_bytes};
+ghost use Rattle.dg_start.specs.Calls.{TakesStart};
 ghost use Rattle.dg_start.specs.StoredHistory.{IsHeldBy, IsSoundHistory, index_opening, started_with};
 ghost use Rattle.dg_batch.specs.declared.stop.Stop.TheVariants as stop;
 
@@ -44,11 +43,10 @@ mod verification;
 
 use crate::batch_command::BatchCommand;
 use crate::session_fault::SessionFault;
-use dg_ask::{KeptAdjacency, KeptPlanner, span};
-use dg_batch::{Halt, Stop};
+use dg_ask::{KeptPlanner, span};
+use dg_batch::{Halt, Held, Stop};
 use dg_disk::Disk;
 use dg_file::Index;
-use dg_handles::Handles;
 use dg_history::Params;
 use dg_index::law_images_are_opened;
 use dg_io::{Lines, Source};
@@ -56,10 +54,9 @@ use dg_machine::{BodyLines, Command, Head, Limits, Refusal, Reply};
 use dg_names::Names;
 use dg_pool::Pool;
 use dg_sound_files::{law_sound_files_stand, law_standing_files_are_sound};
-use dg_start::{StartFault, StoredHistory};
+use dg_start::StartFault;
 use dg_verify::verify;
 use std::alloc::Global;
-use std::boxed::Box;
 use std::marker::Model;
 use std::thread::Threads;
 
@@ -67,51 +64,39 @@ use std::thread::Threads;
 #[derive(Drop)]
 pub struct Session {
     limits: Limits,
-    history: StoredHistory,
-    // On the heap: it is large, and is moved from frame to frame while a session starts.
-    pool: Box<Pool>,
-    handles: Handles,
+    held: Held,
     planner: KeptPlanner,
-    adjacency: KeptAdjacency,
     alloc: Global,
 }
 
 impl Model for Session {
-    ghost use Rattle.std.specs.Prelude.{◌≡◌};
-    ghost use Rattle.dg_handles.specs.Handles.{IsTied, slot_graphs};
     ghost use Rattle.dg_machine.specs.MachineState.{IsWithin};
-    ghost use Rattle.dg_pool.specs.Graphs.{graph_now};
-    ghost use Rattle.dg_ask.specs.HeldIndex.{HasNodes};
-    ghost use Rattle.dg_ask.specs.KeptAdjacency.{KeepsAdjacency};
     ghost use Rattle.dg_ask.specs.KeptPlanner.{IsKeptFor};
+    ghost use Rattle.dg_batch.specs.Held.{IsHeld, graphs_held};
     ghost use Rattle.dg_session.specs.SessionState.{SessionState};
-    ghost use Rattle.dg_start.specs.StoredHistory.{IsSoundHistory, index_opening};
+    ghost use Rattle.dg_start.specs.StoredHistory.{index_opening};
 
     ghost Value = { SessionState };
 
     ghost view = { λ s. record {
       parts = record {
         limits = s.limits;
-        index = index_opening s.history.index;
-        names = s.history.names;
-        graph = s.history.now.graph;
-        recent = s.history.recent.items;
-        table = s.handles.table;
-        graphs = slot_graphs s.pool.value s.handles.slots;
-        next = s.handles.next;
+        index = index_opening s.held.live.history.index;
+        names = s.held.live.history.names;
+        graph = s.held.live.history.now.graph;
+        recent = s.held.live.history.recent.items;
+        table = s.held.handles.table;
+        graphs = graphs_held s.held;
+        next = s.held.handles.next;
       };
-      pool = s.pool.value;
-      slots = s.handles.slots;
+      pool = s.held.live.pool.value;
+      slots = s.held.handles.slots;
     } };
 
     ghost invariant = { λ s.
         IsWithin s.limits
-        × IsSoundHistory (index_opening s.history.index) s.history.names s.history.now s.history.recent.items
-        × (graph_now s.pool.value ≡ s.history.now.graph)
-        × IsTied s.pool.value s.handles
-        × HasNodes (index_opening s.history.index) s.handles.table
-        × IsKeptFor (index_opening s.history.index) s.handles.table s.planner
-        × KeepsAdjacency s.handles.table (slot_graphs s.pool.value s.handles.slots) s.adjacency };
+        × IsHeld s.held
+        × IsKeptFor (index_opening s.held.live.history.index) s.held.handles.table s.planner };
 }
 
 impl Session {
@@ -145,10 +130,8 @@ impl Session {
         ensures held { IfOk result (λ session. IfSome (D.image disk.new) (λ image. IsHeldBy session.parts.index session.parts.names image)) }
         ensures checked { OnOk result (checked ≡ true → IfSome (D.image disk.old) (λ image. AreBytes image → IsStanding image)) }
 
-        // the bytes read, over an image of a history that is not checked
-        ensures takes { OnOk result (checked ≡ false → IfSome (D.image disk.old) (λ image. (z : History) → IsImageOf z image
-            → (steps : List ℕ) → PlansLastLeaf (opened_of z).index steps
-            → Takes (start_bytes (opened_of z).index steps) (D.taken disk.old) (D.taken disk.new))) }
+        // the bytes read, where it is not checked
+        ensures takes { checked ≡ false → IfSome (D.image disk.old) (λ image. TakesStart result image (D.taken disk.old) (D.taken disk.new)) }
 
         // why there is none
         ensures refused { IfErr result (λ fault. IfSome (D.image disk.old) (λ image. RefusesSession checked fault image)) }
@@ -174,7 +157,7 @@ impl Session {
     pub fn names(&self) -> &Names
         ensures { result.now ≡ self.now.parts.names }
     {
-        &self.history.names
+        &self.held.live.history.names
     }
 
     /// The pool in which the current graph and the graphs of the live handles are overlaid. Each live handle has a slot
@@ -185,7 +168,7 @@ impl Session {
         ensures graphs { slot_graphs result.now self.now.slots ≡ self.now.parts.graphs }
         ensures tied { IsTied result.now (handles_of self.now) }
     {
-        &self.pool
+        &self.held.live.pool
     }
 
     /// Carries out the command, and answers it. A load and an append read the lines that follow them,
@@ -193,7 +176,7 @@ impl Session {
     /// handles among it, and the disk's image as they were. Only what reads records is refused for damage: a retrieval
     /// for the first column that its tree enters and that is in no spelling, a node that is to be held for the first that
     /// its plan enters, a batch for the first that the trees of the older children of the interior nodes that it completes
-    /// enter. One of these that is not refused has met no such column.
+    /// enter. One of these that is not refused has met no such column. Each name in a reply is in the list of names.
     ///
     /// `Stop::Read` where a read of the source failed, `Stop::Limit` where another byte is needed and
     /// as many as the limit allows were taken: the session is then as it was. `Stop::Store` where the
@@ -218,6 +201,7 @@ impl Session {
         ensures held { OnOk result (IfSome (D.image disk.new) (λ image. IsHeldBy self.new.parts.index self.new.parts.names image)) }
         ensures refused { IfOk result (λ reply. is_refusal reply.head ≡ true
             → IsAsBefore self.old.parts (D.image disk.old) self.new.parts (D.image disk.new)) }
+        ensures named { IfOk result (ReplyNamesAreThere (length self.new.parts.names)) }
         ensures quiet { is_writing command.now ≡ false → D.image disk.new ≡ D.image disk.old }
         ensures no_index { OnOk result (self.new.parts.index ≡ None → (self.old.parts.index ≡ None) × (D.image disk.new ≡ D.image disk.old)) }
 
@@ -231,6 +215,7 @@ impl Session {
         ensures store_command { IsErrOf result Stop.Store → is_writing command.now ≡ true }
         ensures read { IsErrOf result Stop.Read → CountRose (S.faults source.old) (S.faults source.new) }
         ensures limit { IsErrOf result Stop.Limit → (lines.new.taken ≡ lines.new.limit) × NeedsByte lines.new }
+        ensures due { 1 ≤ following command.now → lines.old.taken ≡ lines.old.limit → NeedsByte lines.old → result ≡ Err Stop.Limit }
         ensures store_read { IfOk result (λ reply. is_store_read reply.head ≡ true
             → OnlyReadFailed D.faults D.write_faults disk.old disk.new) }
         ensures damaged { IfOk result (λ reply. DamageIs command.now self.old.parts (D.image disk.old) reply.head) }
@@ -240,6 +225,7 @@ impl Session {
 
         // what it takes and leaves
         ensures reads { IfOk result (λ reply. Reads command.now self.old.parts (D.image disk.old) reply.head (D.taken disk.old) (D.taken disk.new)) }
+        ensures reads_to_stop { IfErr result (λ stop. ReadsToStop command.now self.old.parts (D.image disk.old) stop (D.taken disk.old) (D.taken disk.new)) }
         ensures lines { Advances lines.old (S.left source.old) (S.faults source.old)
             lines.new (S.left source.new) (S.faults source.new) }
         ensures disk { GoesOn D.image D.faults D.write_faults disk.old disk.new }
@@ -272,6 +258,7 @@ impl Session {
         ensures store { IsErrOf result (Halt.Stop Stop.Store) → DiskRose (D.write_faults disk.old) (D.write_faults disk.new) }
         ensures read { IsErrOf result (Halt.Stop Stop.Read) → CountRose (S.faults source.old) (S.faults source.new) }
         ensures limit { IsErrOf result (Halt.Stop Stop.Limit) → (lines.new.taken ≡ lines.new.limit) × NeedsByte lines.new }
+        ensures due { 1 ≤ following command.now → lines.old.taken ≡ lines.old.limit → NeedsByte lines.old → result ≡ Err (Halt.Stop Stop.Limit) }
         ensures store_read { IsErrOf result (Halt.Refusal Refusal.StoreRead)
             → OnlyReadFailed D.faults D.write_faults disk.old disk.new }
         ensures damaged { DamageIn command.now self.old.parts (D.image disk.old) result }
@@ -334,7 +321,7 @@ impl Session {
     fn has_index(&self) -> bool
         ensures { result ≡ is_some self.now.parts.index }
     {
-        self.history.index.is_some()
+        self.held.live.history.index.is_some()
     }
 
     // How many events the history has.
@@ -342,7 +329,7 @@ impl Session {
         ensures held { result ≡ events_held self.now.parts.index }
         ensures few { result ≤ EVENTS_MAX }
     {
-        match &self.history.index {
+        match &self.held.live.history.index {
             Some(index) => index.events_len(),
             None => 0,
         }
@@ -352,7 +339,7 @@ impl Session {
     fn span(&self) -> Option<(u64, u64)>
         ensures { result ≡ span_held self.now.parts.index }
     {
-        match &self.history.index {
+        match &self.held.live.history.index {
             Some(index) => span(index),
             None => None,
         }
@@ -363,7 +350,7 @@ impl Session {
         ensures index { IfOk result (λ index. self.now.parts.index ≡ Some index.now.opening) }
         ensures none { IfErr result (λ refusal. (self.now.parts.index ≡ None) × (refusal ≡ Refusal.NoIndex)) }
     {
-        match &self.history.index {
+        match &self.held.live.history.index {
             Some(index) => Ok(index),
             None => Err(Refusal::NoIndex),
         }

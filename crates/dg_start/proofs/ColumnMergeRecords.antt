@@ -9,6 +9,7 @@ use borrow.Author.Tests.{leb-true}
 use Rattle.dg_build.specs.SpelledRecords.{RisesFrom}
 use Rattle.dg_columns.specs.NamesInRange.{NamesFit}
 use Rattle.dg_columns.specs.Ranges.{BodyFits, EventsFit}
+use Rattle.dg_retrieval.specs.NamesThere.{BodyHasNamesThere, EventNamesAreThere}
 use Rattle.dg_graph.specs.declared.event.Body.{Body}
 use Rattle.dg_graph.specs.declared.event.Body.TheVariants as body
 use Rattle.dg_graph.specs.declared.event.Event.{Event}
@@ -20,8 +21,12 @@ use Rattle.dg_index.specs.declared.entry.Entry.{Entry}
 use Rattle.dg_index.specs.OpenedIndex.{Opening, column_at, entry_at, entry_or_none}
 use Rattle.dg_graph.specs.ColumnMerge.{at_positions, if_never_fall, merged, never_fall}
 
-abbrev pub PlacedFits : Placed → Type 0
-PlacedFits p = NamesFit p.event.body
+-- what an event of a column changes can be spelled with so many names
+abbrev pub PlacedFits : ℕ → Placed → Type 0
+PlacedFits names p = BodyFits names p.event.body
+
+abbrev pub EventBodyFits : ℕ → Event → Type 0
+EventBodyFits names e = BodyFits names e.body
 
 value_fits : (names : ℕ) (o : Option ℕ) → names ≤ 2 ^ 30 → IfSome o (λ n. n < names) → IfSome o (λ n. n < 2 ^ 30)
 value_fits names None few h = tt
@@ -35,11 +40,28 @@ body_fits names (body.EdgeRemoved id src dst directed) few h = tt
 body_fits names (body.NodeAttr id key old new) few h = (omega (arith, h.key_fits, few), value_fits names old few h.old_fits, value_fits names new few h.new_fits)
 body_fits names (body.EdgeAttr id key old new) few h = (omega (arith, h.key_fits, few), value_fits names old few h.old_fits, value_fits names new few h.new_fits)
 
+pub spelled : (names : ℕ) (events : List Event) → names ≤ 2 ^ 30 → All (EventBodyFits names) events → All (λ (e : Event). NamesFit e.body) events
+spelled names [] few f = All-nil (λ (e : Event). NamesFit e.body)
+spelled names (e ∷ events) few f =
+    All-cons (λ (e : Event). NamesFit e.body) e events (body_fits names e.body few (All-head (EventBodyFits names) e events f)) (spelled names events few (All-tail (EventBodyFits names) e events f))
+
+body_there : (names : ℕ) (b : Body) → BodyFits names b → BodyHasNamesThere names b
+body_there names (body.NodeAdded id) h = tt
+body_there names (body.NodeRemoved id) h = tt
+body_there names (body.EdgeAdded id src dst directed) h = tt
+body_there names (body.EdgeRemoved id src dst directed) h = tt
+body_there names (body.NodeAttr id key old new) h = (h.key_fits, h.old_fits, h.new_fits)
+body_there names (body.EdgeAttr id key old new) h = (h.key_fits, h.old_fits, h.new_fits)
+
+pub names_there : (names : ℕ) (events : List Event) → All (EventBodyFits names) events → EventNamesAreThere names events
+names_there names [] f = All-nil (λ (e : Event). BodyHasNamesThere names e.body)
+names_there names (e ∷ events) f =
+    All-cons (λ (e : Event). BodyHasNamesThere names e.body) e events (body_there names e.body (All-head (EventBodyFits names) e events f)) (names_there names events (All-tail (EventBodyFits names) e events f))
+
 -- events that are read of a column, in a history with so many names
-pub read_fits : (names earliest : ℕ) (placed : List Placed) → names ≤ 2 ^ 30 → EventsFit names earliest (map (λ (p : Placed). p.event) placed) → All PlacedFits placed
-read_fits names earliest [] few h = All-nil PlacedFits
-read_fits names earliest (p ∷ placed) few h =
-    All-cons PlacedFits p placed (body_fits names p.event.body few h.0.fits) (read_fits names p.event.time placed few h.1)
+pub read_fits : (names earliest : ℕ) (placed : List Placed) → EventsFit names earliest (map (λ (p : Placed). p.event) placed) → All (PlacedFits names) placed
+read_fits names earliest [] h = All-nil (PlacedFits names)
+read_fits names earliest (p ∷ placed) h = All-cons (PlacedFits names) p placed h.0.fits (read_fits names p.event.time placed h.1)
 
 -- ---- the columns together
 
@@ -50,32 +72,6 @@ found_all P p (y ∷ xs) x f h = go (p y) h (λ e. found_all P p xs x (All-tail 
     go : (b : Bool) → (if b then Some y else find p xs) ≡ Some x → (find p xs ≡ Some x → P x) → P x
     go true e later = let s : y ≡ x = cc in subst P s (All-head P y xs f)
     go false e later = later e
-
--- so many events, all of which fit
-abbrev pub AreSoMany : ℕ → List Event → Type 0
-AreSoMany n events = (length events ≡ n) × All (λ (e : Event). NamesFit e.body) events
-
-positions_fit : (k n : ℕ) (placed : List Placed) (events : List Event) → All PlacedFits placed → at_positions k n placed ≡ Some events → AreSoMany k events
-positions_fit zero n placed events f h =
-    let is : [] ≡ events = cc in subst (λ (es : List Event). AreSoMany 0 es) is (refl, All-nil (λ (e : Event). NamesFit e.body))
-positions_fit (suc k) n placed events f h =
-    by_found (find (λ (p : Placed). p.at == n) placed) refl h (λ more e. positions_fit k (n + 1) placed more f e)
-  where
-    by_more : (p : Placed) (o : Option (List Event)) → PlacedFits p → option_map (λ (es : List Event). p.event ∷ es) o ≡ Some events
-        → ((more : List Event) → o ≡ Some more → AreSoMany k more) → AreSoMany (suc k) events
-    by_more p None fits e next = cc
-    by_more p (Some more) fits e next =
-        let is : p.event ∷ more ≡ events = cc in
-        let rest : AreSoMany k more = next more refl in
-        subst (λ (es : List Event). AreSoMany (suc k) es) is
-        (ap (λ m. suc m) rest.0, All-cons (λ (e : Event). NamesFit e.body) p.event more fits rest.1)
-
-    by_found : (o : Option Placed) → find (λ (p : Placed). p.at == n) placed ≡ o
-        → option_and_then (λ (p : Placed). option_map (λ (es : List Event). p.event ∷ es) (at_positions k (n + 1) placed)) o ≡ Some events
-        → ((more : List Event) → at_positions k (n + 1) placed ≡ Some more → AreSoMany k more) → AreSoMany (suc k) events
-    by_found None is e next = cc
-    by_found (Some p) is e next =
-        by_more p (at_positions k (n + 1) placed) (found_all PlacedFits (λ (p : Placed). p.at == n) placed p f is) e next
 
 if_not_falling : (es events : List Event) → if_never_fall es ≡ Some events → (es ≡ events) × (never_fall 0 es ≡ true)
 if_not_falling es events h = by_test (never_fall 0 es) refl h
@@ -94,28 +90,55 @@ never_falls earliest (e ∷ events) h =
     both true b h = (refl, h)
     both false b h = cc
 
--- so many events, all of which fit, and whose times do not fall
-pub record IsMerged (n : ℕ) (events : List Event) : Type 0 where
-  pub many : length events ≡ n
-  pub fit : All (λ (e : Event). NamesFit e.body) events
-  pub rises : RisesFrom 0 events
+module _ (names : ℕ) where
+  -- so many events, all of which fit
+  abbrev pub AreSoMany : ℕ → List Event → Type 0
+  AreSoMany n events = (length events ≡ n) × All (EventBodyFits names) events
 
-pub merged_fit : (a b c : List Placed) (len : ℕ) (events : List Event) → All PlacedFits a → All PlacedFits b → All PlacedFits c → merged a b c len ≡ Some events → IsMerged len events
-merged_fit a b c len events fa fb fc h = by_length (length (a ++ b ++ c) == len) h
-  where
-    all : All PlacedFits (a ++ b ++ c)
-    all = All-append PlacedFits (a ++ b) c (All-append PlacedFits a b fa fb) fc
+  positions_fit : (k n : ℕ) (placed : List Placed) (events : List Event) → All (PlacedFits names) placed → at_positions k n placed ≡ Some events → AreSoMany k events
+  positions_fit zero n placed events f h =
+      let is : [] ≡ events = cc in subst (λ (es : List Event). AreSoMany 0 es) is (refl, All-nil (EventBodyFits names))
+  positions_fit (suc k) n placed events f h =
+      by_found (find (λ (p : Placed). p.at == n) placed) refl h (λ more e. positions_fit k (n + 1) placed more f e)
+    where
+      by_more : (p : Placed) (o : Option (List Event)) → PlacedFits names p → option_map (λ (es : List Event). p.event ∷ es) o ≡ Some events
+          → ((more : List Event) → o ≡ Some more → AreSoMany k more) → AreSoMany (suc k) events
+      by_more p None fits e next = cc
+      by_more p (Some more) fits e next =
+          let is : p.event ∷ more ≡ events = cc in
+          let rest : AreSoMany k more = next more refl in
+          subst (λ (es : List Event). AreSoMany (suc k) es) is
+          (ap (λ m. suc m) rest.0, All-cons (EventBodyFits names) p.event more fits rest.1)
 
-    by_positions : (o : Option (List Event)) → at_positions len 0 (a ++ b ++ c) ≡ o → option_and_then if_never_fall o ≡ Some events → IsMerged len events
-    by_positions None is e = cc
-    by_positions (Some es) is e =
-        let kept = if_not_falling es events e in
-        let many = positions_fit len 0 (a ++ b ++ c) es all is in
-        subst (λ (xs : List Event). IsMerged len xs) kept.0 (record { many = many.0; fit = many.1; rises = never_falls 0 es kept.1 })
+      by_found : (o : Option Placed) → find (λ (p : Placed). p.at == n) placed ≡ o
+          → option_and_then (λ (p : Placed). option_map (λ (es : List Event). p.event ∷ es) (at_positions k (n + 1) placed)) o ≡ Some events
+          → ((more : List Event) → at_positions k (n + 1) placed ≡ Some more → AreSoMany k more) → AreSoMany (suc k) events
+      by_found None is e next = cc
+      by_found (Some p) is e next =
+          by_more p (at_positions k (n + 1) placed) (found_all (PlacedFits names) (λ (p : Placed). p.at == n) placed p f is) e next
 
-    by_length : (t : Bool) → (if t then option_and_then if_never_fall (at_positions len 0 (a ++ b ++ c)) else None) ≡ Some events → IsMerged len events
-    by_length true e = by_positions (at_positions len 0 (a ++ b ++ c)) refl e
-    by_length false e = cc
+  -- so many events, all of which fit, and whose times do not fall
+  pub record IsMerged (n : ℕ) (events : List Event) : Type 0 where
+    pub many : length events ≡ n
+    pub fit : All (EventBodyFits names) events
+    pub rises : RisesFrom 0 events
+
+  pub merged_fit : (a b c : List Placed) (len : ℕ) (events : List Event) → All (PlacedFits names) a → All (PlacedFits names) b → All (PlacedFits names) c → merged a b c len ≡ Some events → IsMerged len events
+  merged_fit a b c len events fa fb fc h = by_length (length (a ++ b ++ c) == len) h
+    where
+      all : All (PlacedFits names) (a ++ b ++ c)
+      all = All-append (PlacedFits names) (a ++ b) c (All-append (PlacedFits names) a b fa fb) fc
+
+      by_positions : (o : Option (List Event)) → at_positions len 0 (a ++ b ++ c) ≡ o → option_and_then if_never_fall o ≡ Some events → IsMerged len events
+      by_positions None is e = cc
+      by_positions (Some es) is e =
+          let kept = if_not_falling es events e in
+          let many = positions_fit len 0 (a ++ b ++ c) es all is in
+          subst (λ (xs : List Event). IsMerged len xs) kept.0 (record { many = many.0; fit = many.1; rises = never_falls 0 es kept.1 })
+
+      by_length : (t : Bool) → (if t then option_and_then if_never_fall (at_positions len 0 (a ++ b ++ c)) else None) ≡ Some events → IsMerged len events
+      by_length true e = by_positions (at_positions len 0 (a ++ b ++ c)) refl e
+      by_length false e = cc
 
 -- ---- a column of a record
 

@@ -1,6 +1,6 @@
 -- How many bytes a start reads, over an image of a history.
-use Rattle.std.proofs.Common.{◌≡◌, ℕ, ◌+◌, ◌==◌, Bool, true, false, if◌then◌else◌, List, [], ◌∷◌, Option, Some, None, length, is_some, refl, sym, ◌∙◌, ap, subst, arith}
-use Rattle.std.specs.Prelude.{IfSome, slice_index, sum_by}
+use Rattle.std.proofs.Common.{◌≡◌, ℕ, ◌+◌, ◌≤◌, ◌==◌, Bool, true, false, if◌then◌else◌, List, [], ◌∷◌, Option, Some, None, Result, Ok, Err, length, is_some, refl, sym, ◌∙◌, ap, subst, arith}
+use Rattle.std.specs.Prelude.{IfSome, IsErr, IsErrAnd, slice_index, sum_by}
 use Rattle.std.specs.List.{All}
 use Rattle.std.specs.Map.{lookup}
 use Rattle.std.proofs.lemmas.Bool.{eqb-true, false≢true}
@@ -8,7 +8,7 @@ use Rattle.std.proofs.lemmas.List.Elements.{All-head, All-tail}
 use Rattle.std.proofs.lemmas.List.Sums.{sum_by-cons}
 use Rattle.dg_disk.specs.Counts.{raised_by}
 use Rattle.dg_file.specs.Images.{taken_after}
-use Rattle.dg_fold.specs.BytesRead.{Takes, asked_length, kept_in}
+use Rattle.dg_fold.specs.BytesRead.{Takes, TakesAtMost, asked_length, kept_in}
 use Rattle.dg_graph.specs.declared.element.Column.{Column}
 use Rattle.dg_graph.specs.declared.element.Column.TheVariants.{Structure, NodeAttr, EdgeAttr}
 use Rattle.dg_history.specs.declared.node.Key.{Key}
@@ -22,6 +22,7 @@ use Rattle.dg_index.proofs.OpenedIndexRecords.{IsTold, told_at}
 use Rattle.dg_index.proofs.IndexRecordColumns.{columns_are_kept}
 use Rattle.dg_plan.specs.HistoryGraph.{all_columns}
 use Rattle.dg_start.specs.declared.event_source.EventSource.{EventSource}
+use Rattle.dg_start.specs.Calls.{TakesOrFails}
 use Rattle.dg_start.specs.EventSources.{CanBeRead, WhereTold, bytes_in_sources, source_of, sources_in}
 use Rattle.dg_start.specs.RecentEvents.{Source, recent_sources}
 use Rattle.dg_start.specs.SessionStart.{recent_bytes}
@@ -35,6 +36,31 @@ takes_both m n a b c f g = omega arith
 
 pub takes_raised : (n a b : ℕ) → b ≡ raised_by n a → Takes n a b
 takes_raised n a b is = omega (arith, is)
+
+pub takes_less : (n a b : ℕ) → Takes n a b → TakesAtMost n a b
+takes_less n a b f = omega arith
+
+pub takes_part : (n k a b : ℕ) → n ≤ k → TakesAtMost n a b → TakesAtMost k a b
+takes_part n k a b le f = omega arith
+
+pub takes_then : (m n a b c : ℕ) → Takes m a b → TakesAtMost n b c → TakesAtMost (m + n) a c
+takes_then m n a b c f g = omega arith
+
+pub takes_none : (n a b : ℕ) → b ≡ a → TakesAtMost n a b
+takes_none n a b is = omega arith
+
+-- what a call hands on is its fault
+abbrev pub HandsOn : {A E : Type 0} → Result A E → E → Type 0
+HandsOn r fault = IsErr r × IsErrAnd r (λ y. y ≡ fault)
+
+pub fails_with : {A E : Type 0} (r : Result A E) (fault : E) (n a b : ℕ) → HandsOn r fault → TakesAtMost n a b → TakesOrFails r n a b
+fails_with (Ok x) fault n a b given f = absurd given.1
+fails_with (Err e) fault n a b given f = f
+
+-- a call behind bytes that were read
+pub call_then : {A E : Type 0} (r : Result A E) (m n a b c : ℕ) → Takes m a b → TakesOrFails r n b c → TakesOrFails r (m + n) a c
+call_then (Ok x) m n a b c f g = takes_both m n a b c f g
+call_then (Err e) m n a b c f g = takes_then m n a b c f g
 
 -- ---- the recent pieces
 
@@ -89,3 +115,20 @@ takes_column told o k col bytes before after held is taken image h =
 pub takes_record : (image : List ℕ) (o : Opening) (k : Key) (a b c d : ℕ) → Takes (length (kept_in image o k Structure)) a b → Takes (length (kept_in image o k NodeAttr)) b c
     → Takes (length (kept_in image o k EdgeAttr)) c d → Takes (asked_length (kept_in image o) all_columns k) a d
 takes_record image o k a b c d f g h = omega (arith, f, g, h)
+
+-- a record whose first column was not read, or not its second or third
+module _ (image : List ℕ) (o : Opening) (k : Key) (a b : ℕ) where
+  abbrev column_length : Column → ℕ
+  column_length col = length (kept_in image o k col)
+
+  abbrev record_length : ℕ
+  record_length = asked_length (kept_in image o) all_columns k
+
+  pub first_fails : TakesAtMost (column_length Structure) a b → TakesAtMost record_length a b
+  first_fails f = omega (arith, f)
+
+  pub second_fails : (c : ℕ) → Takes (column_length Structure) a b → TakesAtMost (column_length NodeAttr) b c → TakesAtMost record_length a c
+  second_fails c f g = omega (arith, f, g)
+
+  pub third_fails : (c d : ℕ) → Takes (column_length Structure) a b → Takes (column_length NodeAttr) b c → TakesAtMost (column_length EdgeAttr) c d → TakesAtMost record_length a d
+  third_fails c d f g h = omega (arith, f, g, h)

@@ -1,10 +1,13 @@
 -- How the events of several records are read, one source at a time.
-use Rattle.std.proofs.Common.{◌≡◌, ℕ, ◌+◌, ◌<◌, ◌≤◌, List, [], ◌∷◌, ◌++◌, Option, Result, Ok, Err, length, map, take, drop, get_or, refl, sym, ◌∙◌, ap, subst, arith, append_assoc, append-nil}
-use Rattle.std.proofs.lemmas.List.{drop-map, drop_all, drop_more, map-append, take-map, take_all, take_more}
+use Rattle.std.proofs.Common.{◌≡◌, ℕ, ◌+◌, ◌<◌, ◌≤◌, List, [], ◌∷◌, ◌++◌, Option, Some, Result, Ok, Err, length, map, take, drop, get_or, refl, sym, ◌∙◌, ap, subst, arith, append_assoc, append-nil, take-append-drop}
+use Rattle.std.proofs.lemmas.List.{length-map, drop-map, drop_all, drop_more, map-append, take-map, take_all, take_more}
 use Rattle.std.proofs.lemmas.List.Sums.{sum_by-append, sum_by-cons}
 use Rattle.dg_build.specs.SpelledRecords.{RisesFrom}
-use Rattle.dg_fold.specs.BytesRead.{Takes, asked_length, kept_in}
+use Rattle.dg_fold.specs.BytesRead.{Takes, TakesAtMost, asked_length, kept_in}
+use Rattle.dg_graph.specs.ColumnMerge.{merged}
+use Rattle.dg_graph.specs.declared.element.Column.TheVariants as column
 use Rattle.dg_graph.specs.declared.event.Event.{Event}
+use Rattle.dg_graph.specs.declared.placed.Placed.{Placed}
 use Rattle.dg_history.specs.declared.node.Key.TheVariants as key
 use Rattle.dg_index.specs.declared.entry.Ends.{Ends}
 use Rattle.dg_index.specs.OpenedIndex.{Opening}
@@ -12,10 +15,11 @@ use Rattle.dg_plan.specs.HistoryGraph.{all_columns}
 use Rattle.dg_start.specs.declared.event_source.EventSource.{EventSource}
 use Rattle.dg_start.specs.declared.fault.StartFault.{StartFault}
 use Rattle.dg_start.specs.declared.fault.StartFault.TheVariants as fault
-use Rattle.dg_start.specs.RecentEvents.{Source, and_start, events_in_source, events_in_sources}
+use Rattle.dg_start.specs.RecentEvents.{Source, and_start, events_in_source, events_in_sources, merged_or_fault, placed_in_record}
+use Rattle.dg_start.specs.Calls.{TakesOrFails}
 use Rattle.dg_start.specs.EventSources.{ArePartedBy, WhereTold, bounded, bytes_in_sources, source_of, sources_in}
 use Rattle.dg_start.specs.Refusals.{IsReason}
-use Rattle.dg_start.proofs.EventSourceBytes.{takes_both}
+use Rattle.dg_start.proofs.EventSourceBytes.{HandsOn, fails_with, takes_both, takes_part, takes_then}
 use Rattle.dg_start.proofs.EventSourceTimes.{bounded_more, parted_more, tagged}
 
 -- ---- sources by their index
@@ -75,6 +79,23 @@ module _ (told : Option (List ℕ)) (names : ℕ) (o : Opening) (all : List Sour
       let both : bytes_in_sources image o (take i all ++ s ∷ []) ≡ bytes_in_sources image o (take i all) + bytes_in_sources image o (s ∷ []) = sum_by-append f (take i all) (s ∷ []) in
       ap (bytes_in_sources image o) next.front ∙ (let e : bytes_in_sources image o (take i all ++ s ∷ []) ≡ bytes_in_sources image o (take i all) + f s = omega (arith, both, one) in e)
 
+  -- with one more they have no more bytes than all
+  pub next_at_most : (image : List ℕ) → bytes_in_sources image o (take i all) + asked_length (kept_in image o) all_columns s.key ≤ bytes_in_sources image o all
+  next_at_most image =
+      let f : Source → ℕ = λ (s : Source). asked_length (kept_in image o) all_columns s.key in
+      let both : bytes_in_sources image o (take (i + 1) all ++ drop (i + 1) all) ≡ bytes_in_sources image o (take (i + 1) all) + bytes_in_sources image o (drop (i + 1) all) =
+      sum_by-append f (take (i + 1) all) (drop (i + 1) all) in
+      let whole : bytes_in_sources image o (take (i + 1) all ++ drop (i + 1) all) ≡ bytes_in_sources image o all = ap (bytes_in_sources image o) (take-append-drop (i + 1) all) in
+      omega (arith, more_bytes image, both, whole)
+
+  -- where the next source fails, no more is read than all have
+  pub next_fails : {A E : Type 0} (r : Result A E) (fault : E) (events : List Event) (before now after : ℕ) → HandsOn r fault → ReadSoFar told names o all i events before now
+      → WhereTold told (λ image. TakesAtMost (asked_length (kept_in image o) all_columns s.key) now after) → WhereTold told (λ image. TakesOrFails r (bytes_in_sources image o all) before after)
+  next_fails r fault events before now after given so_far fails image h =
+      fails_with r fault (bytes_in_sources image o all) before after given
+      (takes_part (bytes_in_sources image o (take i all) + asked_length (kept_in image o) all_columns s.key) (bytes_in_sources image o all) before after (next_at_most image)
+      (takes_then (bytes_in_sources image o (take i all)) (asked_length (kept_in image o) all_columns s.key) before now after (so_far.takes image h) (fails image h)))
+
   -- one source more
   pub source_read : (events more then_events : List Event) (before now after : ℕ) → ReadSoFar told names o all i events before now
       → WhereTold told (λ image. events_in_source image names o s ≡ Ok more) → length more ≡ s.count → RisesFrom 0 more
@@ -118,6 +139,10 @@ module _ (told : Option (List ℕ)) (names : ℕ) (o : Opening) (all : List Sour
       refused_first f (and_more image names o rest s (events_in_source image names o s)) (λ (more : List (Ends × Event)). Ok (pairs ++ more)) here in
       subst (λ (r : Result (List (Ends × Event)) StartFault). IsReason f r) (sym (so_far.read image h ∙ ap (onto pairs) (sources_here image))) whole
 
+-- there is no source behind the last
+pub past_all : (found : List EventSource) (i : ℕ) → length found ≤ i → length (sources_in found) ≤ i
+past_all found i le = omega (arith, le, length-map found source_of)
+
 -- every source was read
 module _ (told : Option (List ℕ)) (names : ℕ) (o : Opening) (all : List Source) (i : ℕ) (events : List Event) (before after : ℕ) (so_far : ReadSoFar told names o all i events before after) (past : length all ≤ i) where
   pub all_read : WhereTold told (λ image. events_in_sources image names o all ≡ Ok (bounded all events))
@@ -138,3 +163,12 @@ added_so old more then_events slice is same = is ∙ ap (λ (es : List Event). o
 -- what a list of sources has past its end
 abbrev pub no_source : EventSource
 no_source = record { key = key.List 0; count = 0; ends = record { first = 0; last = 0 } }
+
+-- the three columns come together
+pub record_read : (image : List ℕ) (names : ℕ) (o : Opening) (s : Source) (a b c : List Placed) (events : List Event) → placed_in_record image names o s.key column.Structure ≡ Ok a
+    → placed_in_record image names o s.key column.NodeAttr ≡ Ok b → placed_in_record image names o s.key column.EdgeAttr ≡ Ok c → merged a b c s.count ≡ Some events → events_in_source image names o s ≡ Ok events
+record_read image names o s a b c events is_a is_b is_c is =
+    ap (λ (r : Result (List Placed) StartFault). and_start r (λ a. and_start (placed_in_record image names o s.key column.NodeAttr) (λ b. and_start (placed_in_record image names o s.key column.EdgeAttr) (λ c. merged_or_fault s.key (merged a b c s.count))))) is_a
+    ∙ ap (λ (r : Result (List Placed) StartFault). and_start r (λ b. and_start (placed_in_record image names o s.key column.EdgeAttr) (λ c. merged_or_fault s.key (merged a b c s.count)))) is_b
+    ∙ ap (λ (r : Result (List Placed) StartFault). and_start r (λ c. merged_or_fault s.key (merged a b c s.count))) is_c
+    ∙ ap (merged_or_fault s.key) is

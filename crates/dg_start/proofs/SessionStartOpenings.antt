@@ -1,50 +1,53 @@
 -- What an opening gives and why there is none, by the law of starts.
-use Rattle.std.proofs.Common.{◌≡◌, ◌⊎◌, inl, inr, ℕ, ◌+◌, Bool, true, false, if◌then◌else◌, add_assoc, List, [], Option, Some, None, Result, Ok, Err, length, refl, sym, ◌∙◌, ap, subst}
+use Rattle.std.proofs.Common.{◌≡◌, ◌⊎◌, inl, inr, ℕ, ◌+◌, add_assoc, List, [], Option, Some, None, Result, Ok, Err, length, refl, sym, ◌∙◌, ap, subst, arith}
 use Rattle.std.specs.Prelude.{IfSome, MatchOption}
+use Rattle.std.specs.List.{All}
+use Rattle.std.proofs.lemmas.Bool.{false≢true}
+use Rattle.std.proofs.lemmas.List.Elements.{All-nil}
+use Rattle.std.proofs.lemmas.Option.{IfSome_then}
 use Rattle.dg_disk.specs.Counts.{raised_by}
 use Rattle.dg_file.specs.Index.{IndexState, opening_bytes}
-use Rattle.dg_fold.specs.BytesRead.{Takes}
+use Rattle.dg_file.specs.Images.{taken_after}
+use Rattle.dg_file.specs.OpeningBytes.{TakesUpToOpening, blank_bytes}
+use Rattle.dg_file.proofs.ImageParts.{opened_blank}
 use Rattle.dg_graph.specs.declared.element.Element.{Element}
 use Rattle.dg_graph.specs.declared.event.Event.{Event}
 use Rattle.dg_history.specs.History.{History}
-use Rattle.dg_history.specs.declared.params.Params.{Params}
-use Rattle.dg_index.specs.ImageOfHistory.{IsImageOf, StandsAs, is_blank}
-use Rattle.dg_index.specs.ImageText.{params_in}
-use Rattle.dg_index.specs.OpenedIndex.{Unopened, No_index, Opened, Opening, bare, opened_by, opened_of, opened_or, opening, read_on}
+use Rattle.dg_index.specs.ImageOfHistory.{IsImageOf, StandsAs}
+use Rattle.dg_index.specs.OpenedIndex.{Unopened, No_index, Opened, Opening, opened_of, opening}
 use Rattle.dg_index.proofs.OpenedIndexHistories.{images_are_opened}
+use Rattle.dg_columns.specs.NamesInRange.{NamesFit}
 use Rattle.dg_now.specs.Now.{NowState}
-use Rattle.dg_plan.specs.IndexGraph.{arcs_of}
-use Rattle.dg_plan.specs.Walks.{weight_of}
-use Rattle.dg_retrieval.specs.KeptGraph.{record_edges}
+use Rattle.dg_retrieval.specs.NamesThere.{BodyHasNamesThere, EventNamesAreThere, NamesAreThere}
 use Rattle.dg_retrieval.specs.NodeSets.{IsIndexOver}
+use Rattle.dg_retrieval.specs.ValueRange.{ValuesFit}
 use Rattle.dg_start.specs.declared.fault.StartFault.{StartFault}
 use Rattle.dg_start.specs.declared.fault.StartFault.TheVariants as fault
+use Rattle.dg_start.specs.Calls.{TakesAlongPlan, TakesOrFails, TakesStart, current_bytes, plan_bytes}
 use Rattle.dg_start.specs.SessionStart.{PlansLastLeaf, RefusesStart, Started, Starts, StartsBy, recent_bytes, start_bytes}
-use Rattle.dg_start.specs.StoredHistory.{AreCounted, IsSoundHistory, KeepsHistory, StartsAsItStands, started_with}
-use Rattle.dg_start.proofs.EventSourceBytes.{takes_both, takes_raised}
+use Rattle.dg_start.specs.StoredHistory.{AreCounted, IsSoundHistory, KeepsHistory, MayGoOn, StartsAsItStands, started_with}
+use Rattle.dg_start.proofs.EventSourceBytes.{HandsOn, call_then, fails_with, takes_after, takes_part, takes_raised}
+use Rattle.dg_start.proofs.SessionStartSets.{at_most}
 use Rattle.dg_start.proofs.OpenedIndexHistory.{behind}
 use Rattle.dg_start.proofs.EventSourceOutcomes.{if_told, of_told}
 
 -- ---- a blank image
 
-not_blank_with : (r : Result Opened ℕ) → opened_or r ≡ Err No_index → ⊥
-not_blank_with (Ok x) h = cc
-not_blank_with (Err offset) h = cc
-
-not_blank : (image : List ℕ) (params : Option Params) → opened_by image params ≡ Err No_index → ⊥
-not_blank image None h = cc
-not_blank image (Some params) h = not_blank_with (read_on (length image) image (bare params)) h
-
--- only a blank image has no index
-pub blank_is : (image : List ℕ) → opening image ≡ Err No_index → is_blank image ≡ true
-blank_is image h = by_test (is_blank image) refl h
-  where
-    by_test : (b : Bool) → is_blank image ≡ b → (if b then Err No_index else opened_by image (params_in image)) ≡ Err No_index → is_blank image ≡ true
-    by_test true is h = is
-    by_test false is h = absurd (not_blank image (params_in image) h)
-
 pub blank_starts : (image : List ℕ) → opening image ≡ Err No_index → Starts image (Ok None)
 blank_starts image h = subst (λ (r : Result Opened Unopened). StartsBy image r (Ok None)) (sym h) refl
+
+-- what there is without an index is sound
+pub empty_sound : (index : Option Opening) (names : List (List ℕ)) (now : NowState) (recent : List Event) → index ≡ None → now.pending ≡ [] → AreCounted index names now.graph recent → now.graph ≡ [] → recent ≡ []
+    → IsSoundHistory index names now recent
+empty_sound index names now recent none pending counted graph events = record {
+  pending = pending;
+  counted = counted;
+  values = subst ValuesFit (sym graph) (λ x h. absurd (false≢true h));
+  named = subst (NamesAreThere (length names)) (sym graph) (λ x h. absurd (false≢true h));
+  recent_named = subst (EventNamesAreThere (length names)) (sym events) (All-nil (λ (e : Event). BodyHasNamesThere (length names) e.body));
+  fit = subst (All (λ (e : Event). NamesFit e.body)) (sym events) (All-nil (λ (e : Event). NamesFit e.body));
+  goes_on = subst (λ (i : Option Opening). MayGoOn i recent) (sym none) tt;
+}
 
 -- ---- what an opening finds
 
@@ -127,25 +130,67 @@ index_over z image o names stands opened =
       names = ap (λ (y : Opened). length y.names) same ∙ ap length (behind z stands.legal).names_are;
     }
 
-pub none_taken : (told : Option (List ℕ)) (before after : ℕ) → IfSome told (λ image. opening image ≡ Err No_index)
-    → IfSome told (λ image. (z : History) → IsImageOf z image → (steps : List ℕ) → PlansLastLeaf (opened_of z).index steps → Takes (start_bytes (opened_of z).index steps) before after)
-none_taken told before after blank =
-    if_told told (λ image. (z : History) → IsImageOf z image → (steps : List ℕ) → PlansLastLeaf (opened_of z).index steps → Takes (start_bytes (opened_of z).index steps) before after)
-    (λ image h z stands steps plan.
-    absurd (let e : opening image ≡ Err No_index = of_told told (λ image. opening image ≡ Err No_index) image blank h in let f = images_are_opened z image stands in cc))
+-- no image of a history is without an index
+none_of_history : {P : Type 0} (z : History) (image : List ℕ) → IsImageOf z image → opening image ≡ Err No_index → P
+none_of_history z image stands e = absurd (let f = images_are_opened z image stands in cc)
 
-pub open_takes : (told : Option (List ℕ)) (o : Opening) (names : List (List ℕ)) (before now after : ℕ) → IfSome told (λ image. opening image ≡ Ok (record { index = o; names = names }))
-    → now ≡ raised_by (opening_bytes o) before
-    → IfSome told (λ image. (z : History) → IsIndexOver z image o (length names) → (steps : List ℕ) → PlansLastLeaf o steps → Takes (recent_bytes o + weight_of (arcs_of (record_edges o)) steps) now after)
-    → IfSome told (λ image. (z : History) → IsImageOf z image → (steps : List ℕ) → PlansLastLeaf (opened_of z).index steps → Takes (start_bytes (opened_of z).index steps) before after)
-open_takes told o names before now after opened first later =
-    if_told told (λ image. (z : History) → IsImageOf z image → (steps : List ℕ) → PlansLastLeaf (opened_of z).index steps → Takes (start_bytes (opened_of z).index steps) before after)
-    (λ image h z stands steps plan.
-    let over : IsIndexOver z image o (length names) = index_over z image o names stands (of_told told (λ image. opening image ≡ Ok (record { index = o; names = names })) image opened h) in
-    let more : Takes (recent_bytes o + weight_of (arcs_of (record_edges o)) steps) now after =
-    of_told told (λ image. (z : History) → IsIndexOver z image o (length names) → (steps : List ℕ) → PlansLastLeaf o steps → Takes (recent_bytes o + weight_of (arcs_of (record_edges o)) steps) now after) image later h z over steps
-    (subst (λ (p : Opening). PlansLastLeaf p steps) (sym over.opened) plan) in
-    let all : Takes (opening_bytes o + (recent_bytes o + weight_of (arcs_of (record_edges o)) steps)) before after =
-    takes_both (opening_bytes o) (recent_bytes o + weight_of (arcs_of (record_edges o)) steps) before now after (takes_raised (opening_bytes o) before now first) more in
-    let sum : opening_bytes o + (recent_bytes o + weight_of (arcs_of (record_edges o)) steps) ≡ start_bytes o steps = sym (add_assoc (opening_bytes o) (recent_bytes o) (weight_of (arcs_of (record_edges o)) steps)) in
-    subst (λ (p : Opening). Takes (start_bytes p steps) before after) over.opened (subst (λ k. Takes k before after) sum all))
+-- the answer of a start that does not fail
+abbrev pub gives : {A : Type 0} → A → Result A StartFault
+gives x = Ok x
+
+-- a start without an index
+pub none_taken : {A : Type 0} (told : Option (List ℕ)) (x : A) (before after : ℕ) → IfSome told (λ image. opening image ≡ Err No_index)
+    → IfSome told (λ image. after ≡ taken_after (blank_bytes image) before)
+    → IfSome told (λ image. TakesStart (gives x) image before after)
+none_taken told x before after blank taken =
+    if_told told (λ image. TakesStart (gives x) image before after)
+    (λ image h.
+    let none : opening image ≡ Err No_index = of_told told (λ image. opening image ≡ Err No_index) image blank h in
+    let most : after ≡ taken_after (blank_bytes image) before = of_told told (λ image. after ≡ taken_after (blank_bytes image) before) image taken h in
+    record {
+      history = λ z stands steps plan. none_of_history z image stands none;
+      blank = λ b. takes_after (blank_bytes image) before after most;
+    })
+
+-- a start that fails as the index is opened
+pub opening_fails : {A : Type 0} (told : Option (List ℕ)) (r : Result A StartFault) (f : StartFault) (before after : ℕ) → HandsOn r f → IfSome told (λ image. TakesUpToOpening image before after)
+    → IfSome told (λ image. TakesStart r image before after)
+opening_fails told r f before after given within =
+    IfSome_then told within
+    (λ image most. record {
+      history = λ z stands steps plan.
+          let o : Opening = (opened_of z).index in
+          fails_with r f (start_bytes o steps) before after given
+          (takes_part (opening_bytes o) (start_bytes o steps) before after (omega arith) (most.index (opened_of z) (images_are_opened z image stands)));
+      blank = λ b. fails_with r f (blank_bytes image) before after given (most.blank b);
+    })
+
+-- a start over an index
+pub open_takes : {A E : Type 0} (s : Result A E) (told : Option (List ℕ)) (o : Opening) (names : List (List ℕ)) (before now after : ℕ) → IfSome told (λ image. opening image ≡ Ok (record { index = o; names = names }))
+    → now ≡ raised_by (opening_bytes o) before → IfSome told (λ image. TakesAlongPlan s (current_bytes o) image o (length names) now after)
+    → IfSome told (λ image. TakesStart s image before after)
+open_takes s told o names before now after opened first later =
+    if_told told (λ image. TakesStart s image before after)
+    (λ image h.
+    let is : opening image ≡ Ok (record { index = o; names = names }) = of_told told (λ image. opening image ≡ Ok (record { index = o; names = names })) image opened h in
+    record {
+      history = λ z stands steps plan.
+          let over : IsIndexOver z image o (length names) = index_over z image o names stands is in
+          let more : TakesOrFails s (current_bytes o steps) now after =
+          of_told told (λ image. TakesAlongPlan s (current_bytes o) image o (length names) now after) image later h z over steps (subst (λ (p : Opening). PlansLastLeaf p steps) (sym over.opened) plan) in
+          let all : TakesOrFails s (opening_bytes o + current_bytes o steps) before after =
+          call_then s (opening_bytes o) (current_bytes o steps) before now after (takes_raised (opening_bytes o) before now first) more in
+          let sum : opening_bytes o + current_bytes o steps ≡ start_bytes o steps = sym (add_assoc (opening_bytes o) (recent_bytes o) (plan_bytes o steps)) in
+          subst (λ (p : Opening). TakesOrFails s (start_bytes p steps) before after) over.opened (subst (λ k. TakesOrFails s k before after) sum all);
+      blank = λ b. absurd (let e : opening image ≡ Err No_index = opened_blank image b in cc);
+    })
+
+-- a start that fails behind one that read the bytes
+pub start_handed : {A B E : Type 0} (told : Option (List ℕ)) (r : Result A StartFault) (f : StartFault) (s : Result B E) (before after : ℕ) → HandsOn r f → IfSome told (λ image. TakesStart s image before after)
+    → IfSome told (λ image. TakesStart r image before after)
+start_handed told r f s before after given h =
+    IfSome_then told h
+    (λ image start. record {
+      history = λ z stands steps plan. fails_with r f (start_bytes (opened_of z).index steps) before after given (at_most s (start_bytes (opened_of z).index steps) before after (start.history z stands steps plan));
+      blank = λ b. fails_with r f (blank_bytes image) before after given (at_most s (blank_bytes image) before after (start.blank b));
+    })

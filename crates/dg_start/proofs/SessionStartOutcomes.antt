@@ -1,32 +1,29 @@
 -- What a start comes to, by the recent events that were read, the set of the last leaf and the test of the two.
-use Rattle.std.proofs.Common.{◌≡◌, ℕ, ◌+◌, ◌≤◌, true, List, Option, Some, None, Result, Ok, Err, length, sym, ◌∙◌, ap, subst, arith}
+use Rattle.std.proofs.Common.{◌≡◌, ℕ, ◌≤◌, true, List, Option, Some, None, Result, Ok, Err, length, sym, ◌∙◌, ap, subst, arith}
 use Rattle.std.specs.Prelude.{IfSome}
 use Rattle.std.specs.List.{All}
-use Rattle.dg_fold.specs.BytesRead.{Takes}
+use Rattle.dg_fold.specs.BytesRead.{Takes, TakesAtMost}
 use Rattle.dg_graph.specs.declared.element.Element.{Element}
 use Rattle.dg_graph.specs.declared.event.Event.{Event}
 use Rattle.dg_graph.specs.Graph.{IsGraph}
 use Rattle.dg_graph.specs.Replay.{replay_from}
-use Rattle.dg_history.specs.History.{History}
 use Rattle.dg_history.specs.History.{are_parameters}
 use Rattle.dg_index.specs.declared.entry.Ends.{Ends}
 use Rattle.dg_index.specs.OpenedIndex.{Opened, Opening, Unopened, earliest_in, last_list, opening}
 use Rattle.dg_index.specs.IndexGrowth.{AreInTurn}
 use Rattle.dg_index.proofs.OpenedIndexHistories.{large_parameters}
-use Rattle.dg_plan.specs.IndexGraph.{arcs_of}
-use Rattle.dg_plan.specs.Walks.{weight_of}
-use Rattle.dg_retrieval.specs.KeptGraph.{record_edges}
-use Rattle.dg_retrieval.specs.NodeSets.{IsIndexOver, IsLedByPlan}
+use Rattle.dg_retrieval.specs.NodeSets.{IsLedByPlan}
 use Rattle.dg_start.specs.declared.event_source.EventSource.{EventSource}
 use Rattle.dg_start.specs.declared.fault.StartFault.{StartFault}
 use Rattle.dg_start.specs.declared.fault.StartFault.TheVariants as fault
+use Rattle.dg_start.specs.Calls.{TakesAlongPlan, current_bytes, plan_bytes}
 use Rattle.dg_start.specs.RecentEvents.{events_in_sources, events_read, first_wrong_event, recent_in_image, recent_sources}
 use Rattle.dg_start.specs.EventSources.{ArePartedBy, CanBeRead, WhereTold, bounded, bytes_in_sources, source_of, sources_in}
 use Rattle.dg_start.specs.Refusals.{IsReason, RefusesEvents, RefusesPlan}
-use Rattle.dg_start.specs.SessionStart.{Bad_event, Bad_piece, Bad_plan, Good, Not_graph, PlansLastLeaf, RefusesStart, Started, Starts, StartsBy, StartsIndex, first_recent, last_leaf, recent_bytes}
+use Rattle.dg_start.specs.SessionStart.{Bad_event, Bad_piece, Bad_plan, Good, Not_graph, RefusesStart, Started, Starts, StartsBy, StartsIndex, first_recent, last_leaf, recent_bytes}
 use Rattle.dg_start.specs.StoredHistory.{MayGoOn, recent_count, started_with}
 use Rattle.dg_start.proofs.EventSourceTimes.{are_of, parted_length, untag_bounded}
-use Rattle.dg_start.proofs.EventSourceBytes.{recent_taken, takes_both}
+use Rattle.dg_start.proofs.EventSourceBytes.{HandsOn, call_then, fails_with, recent_taken, takes_part}
 use Rattle.dg_start.proofs.RecentEventTimes.{are_within, may_go_on, recent_counts}
 use Rattle.dg_start.proofs.EventSourceOutcomes.{if_told, of_told}
 
@@ -145,13 +142,23 @@ module _ (names : List (List ℕ)) (o : Opening) (right : are_parameters o.param
 
 -- ---- the bytes read, over an image of a history
 
-pub current_takes : (told : Option (List ℕ)) (o : Opening) (n : ℕ) (found : List EventSource) → sources_in found ≡ recent_sources o → All (λ (s : EventSource). CanBeRead o (source_of s)) found
-    → (before now after : ℕ) → WhereTold told (λ image. Takes (bytes_in_sources image o (sources_in found)) before now)
-    → IfSome told (λ image. (z : History) → IsIndexOver z image o n → (steps : List ℕ) → PlansLastLeaf o steps → Takes (weight_of (arcs_of (record_edges o)) steps) now after)
-    → IfSome told (λ image. (z : History) → IsIndexOver z image o n → (steps : List ℕ) → PlansLastLeaf o steps → Takes (recent_bytes o + weight_of (arcs_of (record_edges o)) steps) before after)
-current_takes told o n found are readable before now after first later =
-    if_told told (λ image. (z : History) → IsIndexOver z image o n → (steps : List ℕ) → PlansLastLeaf o steps → Takes (recent_bytes o + weight_of (arcs_of (record_edges o)) steps) before after)
-    (λ image h z over steps plan.
-    takes_both (recent_bytes o) (weight_of (arcs_of (record_edges o)) steps) before now after
-    (subst (λ k. Takes k before now) (recent_taken z image over.stands o over.opened found are readable) (first image h))
-    (of_told told (λ image. (z : History) → IsIndexOver z image o n → (steps : List ℕ) → PlansLastLeaf o steps → Takes (weight_of (arcs_of (record_edges o)) steps) now after) image later h z over steps plan))
+module _ (told : Option (List ℕ)) (o : Opening) (n : ℕ) (found : List EventSource) (are : sources_in found ≡ recent_sources o) (readable : All (λ (s : EventSource). CanBeRead o (source_of s)) found) where
+  -- a call along the plan behind the recent pieces
+  pub current_takes : {A E : Type 0} (s : Result A E) (before now after : ℕ) → WhereTold told (λ image. Takes (bytes_in_sources image o (sources_in found)) before now)
+      → IfSome told (λ image. TakesAlongPlan s (plan_bytes o) image o n now after) → IfSome told (λ image. TakesAlongPlan s (current_bytes o) image o n before after)
+  current_takes s before now after first later =
+      if_told told (λ image. TakesAlongPlan s (current_bytes o) image o n before after)
+      (λ image h z over steps plan.
+      call_then s (recent_bytes o) (plan_bytes o steps) before now after
+      (subst (λ k. Takes k before now) (recent_taken z image over.stands o over.opened found are readable) (first image h))
+      (of_told told (λ image. TakesAlongPlan s (plan_bytes o) image o n now after) image later h z over steps plan))
+
+  -- a fault within them
+  pub recent_fails : {A : Type 0} (r : Result A StartFault) (f : StartFault) (before after : ℕ) → HandsOn r f → WhereTold told (λ image. TakesAtMost (bytes_in_sources image o (sources_in found)) before after)
+      → IfSome told (λ image. TakesAlongPlan r (current_bytes o) image o n before after)
+  recent_fails r f before after given fails =
+      if_told told (λ image. TakesAlongPlan r (current_bytes o) image o n before after)
+      (λ image h z over steps plan.
+      fails_with r f (current_bytes o steps) before after given
+      (takes_part (recent_bytes o) (current_bytes o steps) before after (omega arith)
+      (subst (λ k. TakesAtMost k before after) (recent_taken z image over.stands o over.opened found are readable) (fails image h))))

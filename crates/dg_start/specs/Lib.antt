@@ -4,3 +4,4 @@ pub mod SessionStart
 pub mod Refusals
 pub mod Faults
 pub mod StoredHistory
+pub mod Calls

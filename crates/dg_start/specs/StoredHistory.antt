@@ -15,6 +15,7 @@ use Rattle.dg_index.specs.IndexGrowth.{name_total}
 use Rattle.dg_index.specs.IndexRecords.{recent_of}
 use Rattle.dg_index.specs.OpenedIndex.{Opening, earliest_in, event_total, first_in, last_list, opened_of, opening}
 use Rattle.dg_now.specs.Now.{NowState}
+use Rattle.dg_retrieval.specs.NamesThere.{EventNamesAreThere, NamesAreThere}
 use Rattle.dg_retrieval.specs.ValueRange.{ValuesFit}
 use Rattle.dg_start.specs.declared.fault.StartFault.{StartFault}
 use Rattle.dg_start.specs.SessionStart.{Started, Starts}
@@ -54,11 +55,13 @@ MayGoOn None recent = Unit {0}
 MayGoOn (Some o) recent = (t : ℕ) → earliest_in 0 o.batches ≤ t → RiseUpTo o t recent
 
 -- Nothing is pending in the current graph, whose values can be spelled, and the recent events are as many as are due,
--- can be spelled, and may be followed by a batch.
+-- can be spelled, and may be followed by a batch. The names of the graph and of these events are there.
 pub record IsSoundHistory (index : Option Opening) (names : List (List ℕ)) (now : NowState) (recent : List Event) : Type 0 where
   pub pending : now.pending ≡ []
   pub counted : AreCounted index names now.graph recent
   pub values : ValuesFit now.graph
+  pub named : NamesAreThere (length names) now.graph
+  pub recent_named : EventNamesAreThere (length names) recent
   pub fit : All (λ (e : Event). NamesFit e.body) recent
   pub goes_on : MayGoOn index recent
 

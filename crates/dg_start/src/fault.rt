@@ -38,7 +38,7 @@ impl Display for RecordColumn {
 #[derive(Clone, Copy, Debug, PartialEq, Eq, Error)]
 pub enum StartFault {
     /// The disk failed.
-    #[error("the disk failed")]
+    #[error("a call of the disk failed")]
     Disk,
     /// The file is no index.
     #[error("foreign: it is no index of this program")]
@@ -68,7 +68,7 @@ pub enum RecordFault {
     #[error("damaged in {record}", record = RecordColumn(*.0, *.1))]
     BadRecord(Key, Column),
     /// The disk failed.
-    #[error("the disk failed")]
+    #[error("a call of the disk failed")]
     Disk,
     /// Want of memory.
     #[error("out of memory")]

@@ -1,19 +1,16 @@
 //! The graph behind the last closed list of an index, by the records along its plan.
 
-ghost use Rattle.std.specs.Prelude.{◌≡◌, ◌≤◌, ◌+◌, ◌*◌, ◌^◌, Ok, IfOk, IfErr, IfSome, IsErrOf, OnOk, List, ℕ};
+ghost use Rattle.std.specs.Prelude.{◌≡◌, ◌≤◌, ◌+◌, ◌*◌, Ok, IfOk, IfErr, IfSome, IsErrOf};
 ghost use Rattle.dg_disk.specs.Counts.{Rose};
 ghost use Rattle.dg_disk.specs.Frame.{OnlyReads};
 ghost use Rattle.dg_file.specs.Images.{IsOpenedAs};
-ghost use Rattle.dg_fold.specs.BytesRead.{Takes};
 ghost use Rattle.dg_history.specs.declared.limits.TheConstants.{EVENTS_MAX};
-ghost use Rattle.dg_history.specs.History.{History};
-ghost use Rattle.dg_plan.specs.IndexGraph.{arcs_of, leaf};
-ghost use Rattle.dg_plan.specs.Walks.{weight_of};
 ghost use Rattle.dg_retrieval.specs.KeptGraph.{record_edges, record_nodes};
-ghost use Rattle.dg_retrieval.specs.NodeSets.{IsIndexOver, IsLedByPlan};
-ghost use Rattle.dg_retrieval.specs.ValueRange.{ValuesFit};
+ghost use Rattle.dg_retrieval.specs.NamesThere.{NamesAreThere};
+ghost use Rattle.dg_retrieval.specs.NodeSets.{IsLedByPlan};
+ghost use Rattle.dg_start.specs.Calls.{TakesAlongPlan, plan_bytes};
 ghost use Rattle.dg_start.specs.Refusals.{RefusesPlan};
-ghost use Rattle.dg_start.specs.SessionStart.{PlansLastLeaf, first_recent, last_leaf, lists_in};
+ghost use Rattle.dg_start.specs.SessionStart.{first_recent, last_leaf, lists_in};
 
 use crate::fault::StartFault;
 use dg_disk::Disk;
@@ -81,12 +78,11 @@ pub fn last_set<R: Threads + Sync, D: Disk>(
     // the set
     ensures led { IfOk result (λ set. IfSome (D.image disk.old) (λ image.
         IsLedByPlan names image index.old.opening (last_leaf index.old.opening) (Ok set))) }
-    ensures fit { IfOk result (λ set. names ≤ 2 ^ 30 → ValuesFit set) }
+    ensures named { IfOk result (NamesAreThere names) }
 
     // the bytes read, over an image of a history
-    ensures takes { OnOk result (IfSome (D.image disk.old) (λ image. (z : History) → IsIndexOver z image index.old.opening names
-        → (steps : List ℕ) → PlansLastLeaf index.old.opening steps
-        → Takes (weight_of (arcs_of (record_edges index.old.opening)) steps) (D.taken disk.old) (D.taken disk.new))) }
+    ensures takes { IfSome (D.image disk.old) (λ image.
+        TakesAlongPlan result (plan_bytes index.old.opening) image index.old.opening names (D.taken disk.old) (D.taken disk.new)) }
 
     // why there is none
     ensures refused { IfErr result (λ fault. IfSome (D.image disk.old) (λ image. RefusesPlan names image index.old.opening fault)) }

@@ -1,27 +1,19 @@
 //! Opening an index file.
 
-ghost use Rattle.std.specs.Prelude.{◌≡◌, ◌⊎◌, ◌+◌, ℕ, List, [], Ok, Err, Option, None, Some, IfErr, IfOk, IfSome, IsErrOf, MatchOption, OnOk, length};
+ghost use Rattle.std.specs.Prelude.{◌≡◌, ◌⊎◌, List, [], Ok, Err, Option, None, Some, IfErr, IfOk, IfSome, IsErrOf, MatchOption, OnErr, length};
 ghost use Rattle.std.specs.Fn.{FnOnceReturnsAt};
-ghost use Rattle.std.specs.List.{All};
-ghost use Rattle.dg_columns.specs.NamesInRange.{NamesFit};
 ghost use Rattle.dg_disk.specs.Counts.{Rose, raised_by};
 ghost use Rattle.dg_disk.specs.Frame.{OnlyReads, ReadsAndSyncs};
+ghost use Rattle.dg_file.specs.Images.{taken_after};
 ghost use Rattle.dg_file.specs.Index.{opening_bytes};
-ghost use Rattle.dg_fold.specs.BytesRead.{Takes};
+ghost use Rattle.dg_file.specs.OpeningBytes.{TakesUpToOpening, blank_bytes};
 ghost use Rattle.dg_history.specs.History.{History};
-ghost use Rattle.dg_index.specs.ImageOfHistory.{IsImageOf, StandsAs};
-ghost use Rattle.dg_graph.specs.declared.element.Element.{Element};
-ghost use Rattle.dg_graph.specs.declared.event.Event.{Event};
-ghost use Rattle.dg_graph.specs.Replay.{replay_from};
+ghost use Rattle.dg_index.specs.ImageOfHistory.{StandsAs};
 ghost use Rattle.dg_index.specs.IndexGrowth.{name_total};
-ghost use Rattle.dg_index.specs.OpenedIndex.{No_index, opened_of, opening};
-ghost use Rattle.dg_plan.specs.IndexGraph.{arcs_of};
-ghost use Rattle.dg_plan.specs.Walks.{weight_of};
-ghost use Rattle.dg_retrieval.specs.KeptGraph.{record_edges};
-ghost use Rattle.dg_retrieval.specs.NodeSets.{IsIndexOver};
-ghost use Rattle.dg_retrieval.specs.ValueRange.{ValuesFit};
-ghost use Rattle.dg_start.specs.SessionStart.{PlansLastLeaf, RefusesStart, Starts, recent_bytes, start_bytes};
-ghost use Rattle.dg_start.specs.StoredHistory.{IsHeldBy, IsSoundHistory, KeepsHistory, MayGoOn, index_opening, recent_count, started_with};
+ghost use Rattle.dg_index.specs.OpenedIndex.{No_index, opening};
+ghost use Rattle.dg_start.specs.Calls.{IsCurrent, IsOpenedFile, TakesAlongPlan, TakesStart, current_bytes};
+ghost use Rattle.dg_start.specs.SessionStart.{RefusesStart};
+ghost use Rattle.dg_start.specs.StoredHistory.{index_opening};
 
 use crate::current_graph::current_graph;
 use crate::event_source::recent_sources;
@@ -68,21 +60,11 @@ fn read_current<R: Threads + Sync, D: Disk, T: Drop, F: FnOnce(&Set) -> T>(
     requires make { F.IsAlwaysCallable make }
     requires image { IfSome (D.image disk.old) (λ image. opening image ≡ Ok (record { index = index.old.opening; names = names.now })) }
 
-    // the graph and the events
-    ensures started { IfOk result (λ current. IfSome (D.image disk.old) (λ image.
-        Starts image (Ok (started_with (Some index.old.opening) names.now current.now.graph current.recent.items)))) }
-    ensures made { IfOk result (λ current. (set : List Element) × FnOnceReturnsAt F.FnOnce make set current.made
-        × (current.now.graph ≡ replay_from set current.recent.items)) }
-    ensures none { IfOk result (λ current. current.now.pending ≡ []) }
-    ensures values { IfOk result (λ current. ValuesFit current.now.graph) }
-    ensures many { IfOk result (λ current. length current.recent.items ≡ recent_count index.old.opening) }
-    ensures fit { IfOk result (λ current. All (λ (e : Event). NamesFit e.body) current.recent.items) }
-    ensures goes_on { IfOk result (λ current. MayGoOn (Some index.old.opening) current.recent.items) }
-
-    // the bytes read, over an image of a history
-    ensures takes { OnOk result (IfSome (D.image disk.old) (λ image. (z : History) → IsIndexOver z image index.old.opening (length names.now)
-        → (steps : List ℕ) → PlansLastLeaf index.old.opening steps
-        → Takes (recent_bytes index.old.opening + weight_of (arcs_of (record_edges index.old.opening)) steps) (D.taken disk.old) (D.taken disk.new))) }
+    // the graph and the events, and over an image of a history the bytes read
+    ensures done { IfOk result (λ current. IsCurrent (D.image disk.old) index.old.opening names.now
+        (λ set. FnOnceReturnsAt F.FnOnce make set current.made) current.now current.recent.items) }
+    ensures takes { IfSome (D.image disk.old) (λ image.
+        TakesAlongPlan result (current_bytes index.old.opening) image index.old.opening (length names.now) (D.taken disk.old) (D.taken disk.new)) }
 
     // why there are none
     ensures refused { IfErr result (λ fault. IfSome (D.image disk.old) (λ image. RefusesStart fault image)) }
@@ -127,7 +109,11 @@ fn reopen<D: Disk>(
     ensures opened { IfOk result (λ found. IfSome (D.image disk.old) (λ image.
         MatchOption found (opening image ≡ Err No_index) (λ index. opening image ≡ Ok (record { index = index.opening; names = names.new })))) }
     ensures counted_names { IfOk result (λ found. IfSome found (λ index. length names.new ≡ name_total index.opening.batches)) }
+
+    // the bytes read
     ensures taken { IfOk result (λ found. IfSome found (λ index. D.taken disk.new ≡ raised_by (opening_bytes index.opening) (D.taken disk.old))) }
+    ensures blank { IfOk result (λ found. found ≡ None → IfSome (D.image disk.old) (λ image. D.taken disk.new ≡ taken_after (blank_bytes image) (D.taken disk.old))) }
+    ensures within { OnErr result (IfSome (D.image disk.old) (λ image. TakesUpToOpening image (D.taken disk.old) (D.taken disk.new))) }
 
     // why there is none
     ensures refused { IfErr result (λ fault. IfSome (D.image disk.old) (λ image. RefusesStart fault image)) }
@@ -159,18 +145,12 @@ fn open_index<R: Threads + Sync, D: Disk, T: Drop, F: FnOnce(&Set) -> T>(
     requires image { IfSome (D.image disk.old) (λ image. opening image ≡ Ok (record { index = index.opening; names = names })) }
     requires counted_names { length names ≡ name_total index.opening.batches }
 
-    // the history
-    ensures started { IfOk result (λ opened. IfSome (D.image disk.old) (λ image.
-        Starts image (Ok (started_with (index_opening opened.history.index) opened.history.names opened.history.now.graph opened.history.recent.items)))) }
-    ensures made { IfOk result (λ opened. (set : List Element) × FnOnceReturnsAt F.FnOnce make set opened.made
-        × (opened.history.now.graph ≡ replay_from set opened.history.recent.items)) }
-    ensures sound { IfOk result (λ opened. IsSoundHistory (index_opening opened.history.index) opened.history.names opened.history.now opened.history.recent.items) }
-    ensures held { IfOk result (λ opened. IfSome (D.image disk.new) (λ image. IsHeldBy (index_opening opened.history.index) opened.history.names image)) }
-
-    // the bytes read, over an image of a history
-    ensures takes { OnOk result (IfSome (D.image disk.old) (λ image. (z : History) → IsIndexOver z image index.opening (length names)
-        → (steps : List ℕ) → PlansLastLeaf index.opening steps
-        → Takes (recent_bytes index.opening + weight_of (arcs_of (record_edges index.opening)) steps) (D.taken disk.old) (D.taken disk.new))) }
+    // the history, and over an image of a history the bytes read
+    ensures done { IfOk result (λ opened. IsOpenedFile (D.image disk.old) (D.image disk.new)
+        (λ set. FnOnceReturnsAt F.FnOnce make set opened.made)
+        (index_opening opened.history.index) opened.history.names opened.history.now opened.history.recent.items) }
+    ensures takes { IfSome (D.image disk.old) (λ image.
+        TakesAlongPlan result (current_bytes index.opening) image index.opening (length names) (D.taken disk.old) (D.taken disk.new)) }
 
     // why there is none
     ensures refused { IfErr result (λ fault. IfSome (D.image disk.old) (λ image. RefusesStart fault image)) }
@@ -179,6 +159,7 @@ fn open_index<R: Threads + Sync, D: Disk, T: Drop, F: FnOnce(&Set) -> T>(
     // what it leaves
     ensures disk { OnlyReads D.image D.faults D.write_faults disk.old disk.new }
 {
+    law_images_start_as_they_stand();
     let Current { now, recent, made } = read_current(rt, alloc, &mut index, disk, &names, make)?;
     Ok(OpenedFile {
         history: StoredHistory {
@@ -200,7 +181,9 @@ fn open_index<R: Threads + Sync, D: Disk, T: Drop, F: FnOnce(&Set) -> T>(
 /// of the first segment that breaks a rule, `StartFault::BadRecord` for the first column of the recent pieces and
 /// then of the plan that is in no spelling, or a piece whose columns do not come together, `StartFault::NotGraph`,
 /// `StartFault::BadRecent` with the number of the first recent event that no change comes to or that is out of its
-/// time; `StartFault::Disk` where the disk failed, `StartFault::Memory` for want of memory.
+/// time; `StartFault::Disk` where the disk failed, `StartFault::Memory` for want of memory. Over an image of a history
+/// a start that fails reads no more than one that does not; of a blank file the 18 bytes of a header are read where it
+/// has as many, else none.
 pub fn open<R: Threads + Sync, D: Disk, T: Drop, F: FnOnce(&Set) -> T>(
     rt: &R,
     alloc: Global,
@@ -209,20 +192,11 @@ pub fn open<R: Threads + Sync, D: Disk, T: Drop, F: FnOnce(&Set) -> T>(
 ) -> Result<OpenedFile<T>, StartFault>
     requires make { F.IsAlwaysCallable make }
 
-    // the history
-    ensures started { IfOk result (λ opened. IfSome (D.image disk.old) (λ image.
-        Starts image (Ok (started_with (index_opening opened.history.index) opened.history.names opened.history.now.graph opened.history.recent.items)))) }
-    ensures stands { IfOk result (λ opened. IfSome (D.image disk.old) (λ image. (z : Option History) → StandsAs z image
-        → KeepsHistory z (index_opening opened.history.index) opened.history.names opened.history.now.graph opened.history.recent.items)) }
-    ensures made { IfOk result (λ opened. (set : List Element) × FnOnceReturnsAt F.FnOnce make set opened.made
-        × (opened.history.now.graph ≡ replay_from set opened.history.recent.items)) }
-    ensures sound { IfOk result (λ opened. IsSoundHistory (index_opening opened.history.index) opened.history.names opened.history.now opened.history.recent.items) }
-    ensures held { IfOk result (λ opened. IfSome (D.image disk.new) (λ image. IsHeldBy (index_opening opened.history.index) opened.history.names image)) }
-
-    // the bytes read, over an image of a history
-    ensures takes { IfOk result (λ opened. IfSome (D.image disk.old) (λ image. (z : History) → IsImageOf z image
-        → (steps : List ℕ) → PlansLastLeaf (opened_of z).index steps
-        → Takes (start_bytes (opened_of z).index steps) (D.taken disk.old) (D.taken disk.new))) }
+    // the history, and over an image of a history or a blank one the bytes read
+    ensures done { IfOk result (λ opened. IsOpenedFile (D.image disk.old) (D.image disk.new)
+        (λ set. FnOnceReturnsAt F.FnOnce make set opened.made)
+        (index_opening opened.history.index) opened.history.names opened.history.now opened.history.recent.items) }
+    ensures takes { IfSome (D.image disk.old) (λ image. TakesStart result image (D.taken disk.old) (D.taken disk.new)) }
 
     // why there is none
     ensures refused { IfErr result (λ fault. IfSome (D.image disk.old) (λ image. RefusesStart fault image)) }

@@ -1,19 +1,18 @@
 //! Reading the events of a record of an index.
 
-ghost use Rattle.std.specs.Prelude.{◌≡◌, ◌≤◌, Ok, IfOk, IfErr, IfSome, IsErrOf, OnOk, List, length, is_some, true};
+ghost use Rattle.std.specs.Prelude.{◌≡◌, ◌≤◌, Ok, IfOk, IfErr, IfSome, IsErrOf, length, is_some, true};
 ghost use Rattle.std.specs.List.{All};
 ghost use Rattle.std.specs.Map.{lookup};
-ghost use Rattle.dg_build.specs.SpelledRecords.{RisesFrom};
-ghost use Rattle.dg_columns.specs.NamesInRange.{NamesFit};
+ghost use Rattle.dg_columns.specs.Ranges.{BodyFits};
 ghost use Rattle.dg_disk.specs.Counts.{Rose};
 ghost use Rattle.dg_disk.specs.Frame.{OnlyReads};
 ghost use Rattle.dg_file.specs.Images.{IsOpenedAs};
-ghost use Rattle.dg_fold.specs.BytesRead.{Takes, asked_length, kept_in};
-ghost use Rattle.dg_graph.specs.declared.event.Event.{Event};
+ghost use Rattle.dg_fold.specs.BytesRead.{asked_length, kept_in};
 ghost use Rattle.dg_graph.specs.declared.limits.TheConstants.{NAMES_MAX};
 ghost use Rattle.dg_graph.specs.declared.placed.Placed.{Placed};
 ghost use Rattle.dg_history.specs.Keys.{same_key};
 ghost use Rattle.dg_plan.specs.HistoryGraph.{all_columns};
+ghost use Rattle.dg_start.specs.Calls.{IsReadRecord, TakesOrFails};
 ghost use Rattle.dg_start.specs.Faults.{start_fault_of_record};
 ghost use Rattle.dg_start.specs.RecentEvents.{events_in_source, placed_in_record};
 ghost use Rattle.dg_start.specs.EventSources.{CanBeRead, WhereTold, source_of};
@@ -42,11 +41,11 @@ fn read_column<D: Disk>(
     requires image { IfSome (D.image disk.old) (λ image. IsOpenedAs image index.old.opening) }
     ensures read { IfOk result (λ placed. WhereTold (D.image disk.old)
         (λ image. placed_in_record image names index.old.opening key col ≡ Ok placed.items)) }
-    ensures fit { IfOk result (λ placed. All (λ (p : Placed). NamesFit p.event.body) placed.items) }
+    ensures fit { IfOk result (λ placed. All (λ (p : Placed). BodyFits names p.event.body) placed.items) }
     ensures refused { IfErr result (λ fault. WhereTold (D.image disk.old)
         (λ image. IsReason (start_fault_of_record fault) (placed_in_record image names index.old.opening key col))) }
-    ensures takes { OnOk result (WhereTold (D.image disk.old)
-        (λ image. Takes (length (kept_in image index.old.opening key col)) (D.taken disk.old) (D.taken disk.new))) }
+    ensures takes { WhereTold (D.image disk.old)
+        (λ image. TakesOrFails result (length (kept_in image index.old.opening key col)) (D.taken disk.old) (D.taken disk.new)) }
     ensures same { index.new ≡ index.old }
     ensures cause { IsErrOf result RecordFault.Disk → Rose (D.faults disk.old) (D.faults disk.new) }
 
@@ -76,15 +75,11 @@ pub fn read_record<D: Disk>(
     requires readable { CanBeRead index.old.opening (source_of source) }
     requires names { names ≤ NAMES_MAX }
     requires image { IfSome (D.image disk.old) (λ image. IsOpenedAs image index.old.opening) }
-    ensures read { IfOk result (λ events. WhereTold (D.image disk.old)
-        (λ image. events_in_source image names index.old.opening (source_of source) ≡ Ok events.items)) }
-    ensures fit { IfOk result (λ events. All (λ (e : Event). NamesFit e.body) events.items) }
-    ensures many { IfOk result (λ events. length events.items ≡ source.count) }
-    ensures rises { IfOk result (λ events. RisesFrom 0 events.items) }
+    ensures done { IfOk result (λ events. IsReadRecord (D.image disk.old) names index.old.opening (source_of source) events.items) }
     ensures refused { IfErr result (λ fault. WhereTold (D.image disk.old)
         (λ image. IsReason (start_fault_of_record fault) (events_in_source image names index.old.opening (source_of source)))) }
-    ensures takes { OnOk result (WhereTold (D.image disk.old)
-        (λ image. Takes (asked_length (kept_in image index.old.opening) all_columns source.key) (D.taken disk.old) (D.taken disk.new))) }
+    ensures takes { WhereTold (D.image disk.old)
+        (λ image. TakesOrFails result (asked_length (kept_in image index.old.opening) all_columns source.key) (D.taken disk.old) (D.taken disk.new)) }
     ensures same { index.new ≡ index.old }
     ensures cause { IsErrOf result RecordFault.Disk → Rose (D.faults disk.old) (D.faults disk.new) }
 

@@ -1,16 +1,14 @@
 //! Reading the events of several records of an index.
 
-ghost use Rattle.std.specs.Prelude.{◌≡◌, ◌≤◌, Ok, IfOk, IfErr, IfSome, IsErrOf, OnOk, List, ℕ};
+ghost use Rattle.std.specs.Prelude.{◌≤◌, IfOk, IfErr, IfSome, IsErrOf, ◌≡◌};
 ghost use Rattle.std.specs.List.{All};
-ghost use Rattle.dg_columns.specs.NamesInRange.{NamesFit};
 ghost use Rattle.dg_disk.specs.Counts.{Rose};
 ghost use Rattle.dg_disk.specs.Frame.{OnlyReads};
 ghost use Rattle.dg_file.specs.Images.{IsOpenedAs};
-ghost use Rattle.dg_fold.specs.BytesRead.{Takes};
-ghost use Rattle.dg_graph.specs.declared.event.Event.{Event};
 ghost use Rattle.dg_graph.specs.declared.limits.TheConstants.{NAMES_MAX};
+ghost use Rattle.dg_start.specs.Calls.{AreReadEvents, TakesOrFails};
 ghost use Rattle.dg_start.specs.RecentEvents.{events_in_sources};
-ghost use Rattle.dg_start.specs.EventSources.{ArePartedBy, CanBeRead, WhereTold, bounded, bytes_in_sources, source_of, sources_in};
+ghost use Rattle.dg_start.specs.EventSources.{CanBeRead, WhereTold, bytes_in_sources, source_of, sources_in};
 ghost use Rattle.dg_start.specs.Refusals.{IsReason};
 
 use crate::event_source::EventSource;
@@ -37,15 +35,10 @@ pub fn read_sources<D: Disk>(
     requires names { names ≤ NAMES_MAX }
     requires image { IfSome (D.image disk.old) (λ image. IsOpenedAs image index.old.opening) }
 
-    // the events
-    ensures read { IfOk result (λ events. WhereTold (D.image disk.old)
-        (λ image. events_in_sources image names index.old.opening (sources_in sources.now) ≡ Ok (bounded (sources_in sources.now) events.items))) }
-    ensures parted { IfOk result (λ events. ArePartedBy (sources_in sources.now) events.items) }
-    ensures fit { IfOk result (λ events. All (λ (e : Event). NamesFit e.body) events.items) }
-
-    // the bytes read
-    ensures takes { OnOk result (WhereTold (D.image disk.old)
-        (λ image. Takes (bytes_in_sources image index.old.opening (sources_in sources.now)) (D.taken disk.old) (D.taken disk.new))) }
+    // the events, and the bytes read
+    ensures done { IfOk result (λ events. AreReadEvents (D.image disk.old) names index.old.opening (sources_in sources.now) events.items) }
+    ensures takes { WhereTold (D.image disk.old)
+        (λ image. TakesOrFails result (bytes_in_sources image index.old.opening (sources_in sources.now)) (D.taken disk.old) (D.taken disk.new)) }
 
     // why there are none
     ensures refused { IfErr result (λ fault. WhereTold (D.image disk.old)

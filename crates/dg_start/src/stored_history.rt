@@ -1,3 +1,4 @@
+//! What is kept beside an index: names, current graph and recent events.
 ghost use Rattle.std.specs.Prelude.{◌≡◌, [], None};
 
 use dg_file::Index;

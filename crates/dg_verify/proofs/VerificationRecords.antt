@@ -1,5 +1,5 @@
 -- What is read of a record, and why nothing is, as the definitions of sound files have it.
-use Rattle.std.proofs.Common.{◌≡◌, ℕ, Bool, List, Option, Some, None, Result, Ok, Err, length, refl, ◌∙◌, ap, subst}
+use Rattle.std.proofs.Common.{◌≡◌, ℕ, Bool, List, Option, Some, None, Result, Ok, Err, length, refl, sym, ◌∙◌, ap, subst}
 use Rattle.dg_graph.specs.declared.element.Column.{Column}
 use Rattle.dg_graph.specs.declared.element.Column.TheVariants as column
 use Rattle.dg_graph.specs.declared.event.Event.{Event}
@@ -50,12 +50,19 @@ from_err (record_fault.BadRecord key col) k (Err c) h = cc
 from_err record_fault.Disk k r h = tt
 from_err record_fault.Memory k r h = tt
 
+from_ok : (k : Key) (r : Result (List Event) Column) (events : List Event) → as_started k r ≡ Ok events → r ≡ Ok events
+from_ok k (Ok x) events h = (let same : x ≡ events = cc in ap (λ (es : List Event). Ok es) same)
+from_ok k (Err c) events h = absurd cc
+
 module _ (image : List ℕ) (names : List (List ℕ)) (o : Opening) (s : Source) (n : ℕ) (counted : n ≡ length names) where
   as_events : events_in_source image n o s ≡ as_started s.key (events_of_record image (opened_with o names) s.key s.count)
   as_events = ap (λ (m : ℕ). events_in_source image m o s) counted ∙ same_events image names o s
 
   pub events_refused : (f : RecordFault) → IsReason (start_fault_of_record f) (events_in_source image n o s) → IsStop (stop_of_record f) (keyed s.key (events_of_record image (opened_with o names) s.key s.count))
   events_refused f h = from_err f s.key (events_of_record image (opened_with o names) s.key s.count) (subst (λ (r : Result (List Event) StartFault). IsReason (start_fault_of_record f) r) as_events h)
+
+  pub events_are : (events : List Event) → events_in_source image n o s ≡ Ok events → events_of_record image (opened_with o names) s.key s.count ≡ Ok events
+  events_are events h = from_ok s.key (events_of_record image (opened_with o names) s.key s.count) events (sym as_events ∙ h)
 
 -- ---- the record behind the events that were read
 

@@ -6,7 +6,7 @@ use thiserror::Error;
 #[derive(Clone, Copy, Debug, PartialEq, Eq, Error)]
 pub enum VerifyFault {
     /// The disk failed.
-    #[error("the disk failed")]
+    #[error("a call of the disk failed")]
     Disk,
     /// Want of memory.
     #[error("out of memory")]

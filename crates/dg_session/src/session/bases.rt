@@ -1,6 +1,6 @@
 //! Sets of nodes that handles hold.
 
-ghost use Rattle.std.specs.Prelude.{◌≡◌, ℕ, ◌+◌, ◌<◌, IfErr, IfSome, IsErrOf, OnErr, OnOk, List, [], ◌∷◌, Ok, Option, None, Some, IfOk};
+ghost use Rattle.std.specs.Prelude.{◌≡◌, ℕ, ◌+◌, ◌<◌, IfErr, IfSome, IsErrOf, OnErr, OnOk, List, [], ◌∷◌, Ok, Option, None, Some, IfOk, length};
 ghost use Rattle.dg_disk.specs.Counts.{Rose as DiskRose};
 ghost use Rattle.dg_disk.specs.Frame.{OnlyReads};
 ghost use Rattle.dg_fold.specs.BytesRead.{Takes, TakesAtMost};
@@ -14,9 +14,9 @@ ghost use Rattle.dg_history.specs.declared.node.NodeId.TheVariants.{Root};
 ghost use Rattle.dg_plan.specs.IndexGraph.{arcs_of};
 ghost use Rattle.dg_plan.specs.Walks.{IsPlan, weight_of};
 ghost use Rattle.dg_machine.specs.Planning.{record_edges_in};
-ghost use Rattle.dg_retrieval.specs.Retrieval.{IsNoDamage};
-ghost use Rattle.dg_session.specs.Damage.{DamageIn, MeetsNone, NamesNodeDamage, Node_set};
-ghost use Rattle.dg_session.specs.Reads.{IsNodeHeld, ReadsIn, with_new_handles};
+ghost use Rattle.dg_retrieval.specs.NamesThere.{NamesAreThere};
+ghost use Rattle.dg_session.specs.Damage.{DamageIn, MeetsNone, Node_set, TellsNodeDamage};
+ghost use Rattle.dg_session.specs.Reads.{HoldsNodeFor, ReadsIn, with_new_handles};
 ghost use Rattle.dg_session.specs.Session.{ComesTo, StandsFor, node_needs, refused_by};
 ghost use Rattle.dg_start.specs.StoredHistory.{IsHeldBy};
 ghost use Rattle.dg_batch.specs.declared.stop.Stop.TheVariants as stop;
@@ -39,17 +39,17 @@ impl Session {
     pub(super) fn refused_node(&self, node: NodeId) -> Option<Refusal>
         ensures { result ≡ refused_by self.now.parts 0 (node_needs node) }
     {
-        let Some(index) = &self.history.index else {
+        let Some(index) = &self.held.live.history.index else {
             return Some(Refusal::NoIndex);
         };
         if !has_node(index, node) {
             return Some(Refusal::UnknownNode);
         }
-        let live = self.handles.live();
+        let live = self.held.handles.live();
         if (live + 1) as usize > LIVE_HANDLES_MAX {
             return Some(Refusal::PoolFull(live, 1));
         }
-        if self.handles.next() + 1 > u64::from(HANDLE_MAX) + 1 {
+        if self.held.handles.next() + 1 > u64::from(HANDLE_MAX) + 1 {
             return Some(Refusal::HandlesSpent);
         }
         None
@@ -66,28 +66,20 @@ impl Session {
         requires free { refused_by self.old.parts 0 (node_needs node) ≡ None }
         requires image { IfSome (D.image disk.old) (λ image. IsHeldBy self.old.parts.index self.old.parts.names image) }
 
-        // what is led to
-        ensures held { IfOk result (λ r. IfSome (D.image disk.old) (λ image. (m : MachineState) → StandsFor self.old.parts image m
-            → IsNodeHeld m node cols r.weight (shown (applied r.delta []) cols))) }
-        ensures whole { OnOk result (MeetsNone (Node_set node cols) self.old.parts (D.image disk.old)) }
-
-        // the bytes read
-        ensures takes { IfOk result (λ r. IfSome (D.image disk.old) (λ image. (m : MachineState) → StandsFor self.old.parts image m
-            → Takes r.weight (D.taken disk.old) (D.taken disk.new))) }
-        ensures most { IfSome (D.image disk.old) (λ image. (m : MachineState) → StandsFor self.old.parts image m
-            → (steps : List ℕ) → IsPlan (arcs_of (record_edges_in m cols)) (Root ∷ []) node steps
-            → TakesAtMost (weight_of (arcs_of (record_edges_in m cols)) steps) (D.taken disk.old) (D.taken disk.new)) }
+        // what is led to, of which the second holds over an image that stands for a state
+        ensures named { IfOk result (λ r. NamesAreThere (length self.old.parts.names) r.delta.plus) }
+        ensures over { IfSome (D.image disk.old) (λ image. (m : MachineState) → StandsFor self.old.parts image m
+            → HoldsNodeFor m node cols (D.taken disk.old) (D.taken disk.new) result) }
 
         // why nothing is
         ensures cause { IsErrOf result RetrievalFault.Disk → DiskRose (D.faults disk.old) (D.faults disk.new) }
-        ensures damage { IfErr result (λ fault. NamesNodeDamage self.old.parts (D.image disk.old) (node, cols) fault) }
-        ensures never { IfErr result (λ fault. IfSome (D.image disk.old) (λ image. (m : MachineState) → StandsFor self.old.parts image m → IsNoDamage fault)) }
+        ensures damage { TellsNodeDamage self.old.parts (D.image disk.old) (node, cols) result }
 
         // what it leaves
         ensures same { self.new ≡ self.old }
         ensures disk { OnlyReads D.image D.faults D.write_faults disk.old disk.new }
     {
-        let Some(index) = &mut self.history.index else {
+        let Some(index) = &mut self.held.live.history.index else {
             unreachable!()
         };
         node_lead(
@@ -95,7 +87,7 @@ impl Session {
             self.alloc,
             index,
             disk,
-            self.history.names.len(),
+            self.held.live.history.names.len(),
             node,
             cols,
         )
@@ -109,11 +101,14 @@ impl Session {
         delta: &Delta,
     ) -> Result<(), AllocError>
         requires free { refused_by self.old.parts 0 (node_needs node) ≡ None }
+        requires named { NamesAreThere (length self.old.parts.names) delta.now.plus }
         ensures added { OnOk result (self.new.parts ≡ with_new_handles self.old.parts (Stands.Base node cols ∷ []) (shown (applied delta.now []) cols ∷ [])) }
         ensures err { OnErr result (self.new.parts ≡ self.old.parts) }
     {
         self.planner.forget();
-        self.handles.add_base(&mut self.pool, node, cols, delta)
+        self.held
+            .handles
+            .add_base(&mut self.held.live.pool, node, cols, delta)
     }
 
     // A new handle that holds the set of a leaf or an interior node in these columns.
@@ -143,7 +138,7 @@ impl Session {
             return Err(Halt::Refusal(refusal));
         }
         let NodeLead { delta, weight } = self.lead_to_node(rt, node, cols, disk)?;
-        let handle = self.handles.next() as u32;
+        let handle = self.held.handles.next() as u32;
         self.add_base(node, cols, &delta)?;
         Ok(headed(self.alloc, Head::Materialised { handle, weight }))
     }

@@ -1,6 +1,6 @@
 //! Commands that write: an index is made, a batch is added.
 
-ghost use Rattle.std.specs.Prelude.{◌≡◌, ◌+◌, ◌<◌, ◌≤◌, IfSome, IsErrOf, OnOk, List, [], Ok, Option, None, Some, is_some};
+ghost use Rattle.std.specs.Prelude.{◌≡◌, ◌+◌, ◌<◌, ◌≤◌, IfSome, IsErrOf, OnOk, List, [], Ok, Err, Option, None, Some, is_some};
 ghost use Rattle.dg_append.specs.Faults.{OnlyReadFailed};
 ghost use Rattle.dg_disk.specs.Counts.{Rose as DiskRose};
 ghost use Rattle.dg_disk.specs.Frame.{GoesOn};
@@ -68,7 +68,7 @@ impl Session {
         }
         let index = Index::create(self.alloc, disk, params)?;
         self.planner.forget();
-        self.history.index = Some(index);
+        self.held.live.history.index = Some(index);
         Ok(headed(self.alloc, Head::Created))
     }
 
@@ -96,7 +96,7 @@ impl Session {
         ensures { result ≡ is_too_full self.now.parts count }
     {
         let events = self.events_held() + u64::from(count);
-        let names = self.history.names.len() + NAMES_OF_A_LINE * count;
+        let names = self.held.live.history.names.len() + NAMES_OF_A_LINE * count;
         self.limits.events < events || NAMES_MAX < names
     }
 
@@ -123,6 +123,7 @@ impl Session {
         ensures store { IsErrOf result (Halt.Stop Stop.Store) → DiskRose (D.write_faults disk.old) (D.write_faults disk.new) }
         ensures read { IsErrOf result (Halt.Stop Stop.Read) → CountRose (S.faults source.old) (S.faults source.new) }
         ensures limit { IsErrOf result (Halt.Stop Stop.Limit) → (lines.new.taken ≡ lines.new.limit) × NeedsByte lines.new }
+        ensures due { 1 ≤ count → lines.old.taken ≡ lines.old.limit → NeedsByte lines.old → result ≡ Err (Halt.Stop Stop.Limit) }
         ensures store_read { IsErrOf result (Halt.Refusal Refusal.StoreRead)
             → OnlyReadFailed D.faults D.write_faults disk.old disk.new }
         ensures damaged { DamageIn (command_with which count) self.old.parts (D.image disk.old) result }
@@ -135,12 +136,11 @@ impl Session {
         ensures disk { GoesOn D.image D.faults D.write_faults disk.old disk.new }
     {
         let barred = self.barred(which, count);
-        let known = self.history.names.len();
         let batch = read_batch(
             self.alloc,
             count,
             barred,
-            &mut self.history.names,
+            &mut self.held.live.history.names,
             lines,
             source,
         )?;
@@ -149,12 +149,8 @@ impl Session {
             rt,
             self.alloc,
             self.limits.file_bytes,
-            known,
             batch,
-            &mut self.history,
-            &mut self.pool,
-            &mut self.handles,
-            &mut self.adjacency,
+            &mut self.held,
             disk,
         )?;
         Ok(headed(self.alloc, which.head(added)))
@@ -192,22 +188,17 @@ impl Session {
         if let Some(refusal) = self.barred(BatchCommand::Load, count) {
             return Err(Halt::Refusal(refusal));
         }
-        let known = self.history.names.len();
-        let batch = generated_batch(self.alloc, seed, count, &mut self.history.names)?;
+        let batch = generated_batch(self.alloc, seed, count, &mut self.held.live.history.names)?;
         self.planner.forget();
         let added = add_changes(
             rt,
             self.alloc,
             self.limits.file_bytes,
-            known,
             batch,
-            &mut self.history,
-            &mut self.pool,
-            &mut self.handles,
-            &mut self.adjacency,
+            &mut self.held,
             disk,
         )?;
-        let counts = self.pool.counts_now();
+        let counts = self.held.live.pool.counts_now();
         Ok(headed(
             self.alloc,
             Head::Generated {

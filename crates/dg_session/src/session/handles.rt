@@ -21,15 +21,15 @@ impl Session {
         ensures comes { (image : Option (List ℕ)) → ComesTo (Command.Release handle) [] self.old.parts image self.new.parts image result }
         ensures no_stop { (stop : Stop) → result ≡ Err (Halt.Stop stop) → ⊥ }
     {
-        let Some(stands) = self.handles.stands(handle) else {
+        let Some(stands) = self.held.handles.stands(handle) else {
             return Err(Halt::Refusal(Refusal::UnknownHandle(handle)));
         };
-        if let Some(dependent) = self.handles.dependent(handle) {
+        if let Some(dependent) = self.held.handles.dependent(handle) {
             return Err(Halt::Refusal(Refusal::InUse(dependent)));
         }
         forget_base(&mut self.planner, stands);
-        self.adjacency.forget_handle(handle);
-        self.handles.release(&mut self.pool, handle);
+        self.held.adjacency.forget_handle(handle);
+        self.held.handles.release(&mut self.held.live.pool, handle);
         Ok(headed(self.alloc, Head::Released { handle }))
     }
 
@@ -40,7 +40,7 @@ impl Session {
         ensures swept { SweepsPool (Command.Clean cells) self.old.pool self.new.pool result.head }
     {
         law_tie_is_kept();
-        self.pool.clean(cells);
+        self.held.live.pool.clean(cells);
         headed(self.alloc, Head::Cleaned)
     }
 
@@ -51,8 +51,8 @@ impl Session {
     {
         law_tie_is_kept();
         law_union_of_handles();
-        self.pool.clean_all();
-        let cells = self.pool.cell_len();
+        self.held.live.pool.clean_all();
+        let cells = self.held.live.pool.cell_len();
         headed(self.alloc, Head::CleanedAll { cells })
     }
 
@@ -61,8 +61,8 @@ impl Session {
         ensures comes { (image : Option (List ℕ)) → ComesTo Command.Pool [] self.now.parts image self.now.parts image (Ok result) }
     {
         law_union_of_handles();
-        let live = self.handles.live();
-        let size = self.pool.union_len();
+        let live = self.held.handles.live();
+        let size = self.held.live.pool.union_len();
         headed(self.alloc, Head::Pool { live, size })
     }
 }

@@ -3,21 +3,23 @@
 ghost use Rattle.std.specs.Prelude.{◌≡◌, ◌⊎◌, ℕ, ◌+◌, ◌<◌, IfErr, IfSome, IsErrOf, OnOk, List, Ok, Option, None, not, IfOk};
 ghost use Rattle.dg_disk.specs.Counts.{Rose as DiskRose};
 ghost use Rattle.dg_disk.specs.Frame.{OnlyReads, ReadsAndSyncs};
-ghost use Rattle.dg_fold.specs.BytesRead.{Takes};
+ghost use Rattle.dg_append.specs.LiveHistories.{IsLive};
 ghost use Rattle.dg_graph.specs.Replay.{replay_from};
 ghost use Rattle.dg_history.specs.History.{History};
-ghost use Rattle.dg_index.specs.ImageOfHistory.{IsImageOf, StandsAs};
-ghost use Rattle.dg_index.specs.OpenedIndex.{opened_of};
+ghost use Rattle.dg_index.specs.ImageOfHistory.{StandsAs};
 ghost use Rattle.dg_machine.specs.MachineState.{IsWithin, machine_at};
 ghost use Rattle.dg_pool.specs.Graphs.{graph_now, slot_graph};
 ghost use Rattle.dg_session.specs.Session.{StandsFor};
 ghost use Rattle.dg_session.specs.SessionStart.{FailsCheck, IsNew, IsSoundImage};
-ghost use Rattle.dg_start.specs.SessionStart.{PlansLastLeaf, RefusesStart, Starts, start_bytes};
-ghost use Rattle.dg_start.specs.StoredHistory.{IsHeldBy, IsSoundHistory, KeepsHistory, index_opening, started_with};
+ghost use Rattle.dg_start.specs.Calls.{TakesStart};
+ghost use Rattle.dg_start.specs.SessionStart.{RefusesStart, Starts};
+ghost use Rattle.dg_start.specs.StoredHistory.{IsHeldBy, KeepsHistory, index_opening, started_with};
 
 use super::Session;
 use crate::session_fault::SessionFault;
+use dg_append::Live;
 use dg_ask::{KeptAdjacency, KeptPlanner};
+use dg_batch::Held;
 use dg_disk::Disk;
 use dg_graph::Event;
 use dg_handles::Handles;
@@ -47,10 +49,8 @@ impl Session {
             → StandsAs index image → StandsFor session.parts image (machine_at limits index))) }
         ensures held { IfOk result (λ session. IfSome (D.image disk.new) (λ image. IsHeldBy session.parts.index session.parts.names image)) }
 
-        // the bytes read, over an image of a history
-        ensures takes { OnOk result (IfSome (D.image disk.old) (λ image. (z : History) → IsImageOf z image
-            → (steps : List ℕ) → PlansLastLeaf (opened_of z).index steps
-            → Takes (start_bytes (opened_of z).index steps) (D.taken disk.old) (D.taken disk.new))) }
+        // the bytes read
+        ensures takes { IfSome (D.image disk.old) (λ image. TakesStart result image (D.taken disk.old) (D.taken disk.new)) }
 
         // why there is none
         ensures refused { IfErr result (λ fault. IfSome (D.image disk.old) (λ image. RefusesStart fault image)) }
@@ -63,13 +63,14 @@ impl Session {
     {
         let handles = Handles::new(alloc, limits.first_handle)?;
         match open_overlaid(rt, alloc, disk) {
-            Ok(Overlaid { history, pool }) => Ok(Session {
+            Ok(live) => Ok(Session {
                 limits,
-                history,
-                pool,
-                handles,
+                held: Held {
+                    live,
+                    handles,
+                    adjacency: KeptAdjacency::new(),
+                },
                 planner: KeptPlanner::new(alloc),
-                adjacency: KeptAdjacency::new(),
                 alloc,
             }),
             Err(fault) => Err(fault),
@@ -132,35 +133,23 @@ impl Session {
     }
 }
 
-// A history, and the pool in which its current graph is overlaid.
-#[derive(Drop)]
-struct Overlaid {
-    history: StoredHistory,
-    pool: Box<Pool>,
-}
-
 // The history of the file that the disk has, and its pool, which has no other graph than the current one.
 fn open_overlaid<R: Threads + Sync, D: Disk>(
     rt: &R,
     alloc: Global,
     disk: &mut D,
-) -> Result<Overlaid, StartFault>
-    // the history
+) -> Result<Live, StartFault>
+    // the history and its pool
     ensures started { IfOk result (λ made. IfSome (D.image disk.old) (λ image.
         Starts image (Ok (started_with (index_opening made.history.index) made.history.names made.history.now.graph made.history.recent.items)))) }
     ensures stands { IfOk result (λ made. IfSome (D.image disk.old) (λ image. (z : Option History) → StandsAs z image
         → KeepsHistory z (index_opening made.history.index) made.history.names made.history.now.graph made.history.recent.items)) }
-    ensures sound { IfOk result (λ made. IsSoundHistory (index_opening made.history.index) made.history.names made.history.now made.history.recent.items) }
+    ensures live { IfOk result IsLive }
     ensures held { IfOk result (λ made. IfSome (D.image disk.new) (λ image. IsHeldBy (index_opening made.history.index) made.history.names image)) }
-
-    // the pool
-    ensures now { IfOk result (λ made. graph_now made.pool.value ≡ made.history.now.graph) }
     ensures none { IfOk result (λ made. (s : ℕ) → slot_graph made.pool.value s ≡ None) }
 
-    // the bytes read, over an image of a history
-    ensures takes { OnOk result (IfSome (D.image disk.old) (λ image. (z : History) → IsImageOf z image
-        → (steps : List ℕ) → PlansLastLeaf (opened_of z).index steps
-        → Takes (start_bytes (opened_of z).index steps) (D.taken disk.old) (D.taken disk.new))) }
+    // the bytes read
+    ensures takes { IfSome (D.image disk.old) (λ image. TakesStart result image (D.taken disk.old) (D.taken disk.new)) }
 
     // why there is none
     ensures refused { IfErr result (λ fault. IfSome (D.image disk.old) (λ image. RefusesStart fault image)) }
@@ -182,7 +171,7 @@ fn open_overlaid<R: Threads + Sync, D: Disk>(
     ) {
         Ok(OpenedFile { history, made }) => match made {
             Ok(pool) => match past_events(pool, &history.recent) {
-                Ok(pool) => Ok(Overlaid { history, pool }),
+                Ok(pool) => Ok(Live { history, pool }),
                 Err(_) => {
                     drop(history);
                     Err(StartFault::Memory)

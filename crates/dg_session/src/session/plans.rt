@@ -1,6 +1,6 @@
 //! Plans, certificates, and the listing of the records.
 
-ghost use Rattle.std.specs.Prelude.{◌≡◌, ℕ, ◌<◌, ◌≤◌, IfErr, IsErrOf, List, [], ◌∷◌, Ok, Option, None, Some, true, false, IfOk};
+ghost use Rattle.std.specs.Prelude.{◌≡◌, ℕ, ◌<◌, ◌≤◌, IfErr, IsErrOf, List, [], ◌∷◌, Ok, Err, Option, None, Some, true, false, IfOk};
 ghost use Rattle.dg_io.specs.Frame.{Advances};
 ghost use Rattle.dg_io.specs.Told.{CountRose};
 ghost use Rattle.dg_io.specs.LinesState.{told, NeedsByte};
@@ -28,10 +28,11 @@ impl Session {
         ensures comes { (image : Option (List ℕ)) → ComesTo (Command.Plan t cols) [] self.old.parts image self.new.parts image result }
         ensures no_stop { (stop : Stop) → result ≡ Err (Halt.Stop stop) → ⊥ }
     {
-        let index = index_at(&self.history.index, t)?;
-        self.planner.keep(self.alloc, index, &self.handles, cols)?;
+        let index = index_at(&self.held.live.history.index, t)?;
+        self.planner
+            .keep(self.alloc, index, &self.held.handles, cols)?;
         let planner = self.planner.planner(cols);
-        let recent = &self.history.recent;
+        let recent = &self.held.live.history.recent;
         Ok(plan_reply(self.alloc, planner, index, recent, t, cols)?)
     }
 
@@ -55,13 +56,14 @@ impl Session {
         // why it stops
         ensures read { IsErrOf result (Halt.Stop Stop.Read) → CountRose (S.faults source.old) (S.faults source.new) }
         ensures limit { IsErrOf result (Halt.Stop Stop.Limit) → (lines.new.taken ≡ lines.new.limit) × NeedsByte lines.new }
+        ensures due { 1 ≤ count → lines.old.taken ≡ lines.old.limit → NeedsByte lines.old → result ≡ Err (Halt.Stop Stop.Limit) }
         ensures no_store { IsErrOf result (Halt.Stop Stop.Store) → ⊥ }
 
         // what it takes
         ensures lines { Advances lines.old (S.left source.old) (S.faults source.old)
             lines.new (S.left source.new) (S.faults source.new) }
     {
-        let index = index_at(&self.history.index, t);
+        let index = index_at(&self.held.live.history.index, t);
         let written = read_plan_lines(self.alloc, count, index.is_ok(), lines, source)?;
         if written.read < count {
             return Err(Halt::Refusal(Refusal::ShortBatch(written.read, count)));
@@ -70,9 +72,10 @@ impl Session {
         if !written.is_whole {
             return Err(Halt::Refusal(Refusal::OutOfMemory));
         }
-        self.planner.keep(self.alloc, index, &self.handles, cols)?;
+        self.planner
+            .keep(self.alloc, index, &self.held.handles, cols)?;
         let planner = self.planner.planner(cols);
-        let recent = &self.history.recent;
+        let recent = &self.held.live.history.recent;
         let verdict = judge(self.alloc, planner, index, recent, t, &written.said)?;
         Ok(headed(self.alloc, Head::Certified(verdict)))
     }

@@ -54,7 +54,7 @@ impl Session {
         ensures live { OnOk result (is_some (stands_at handle self.now.parts.table) ≡ true) }
         ensures none { IfErr result (λ refusal. (is_some (stands_at handle self.now.parts.table) ≡ false) × (refusal ≡ Refusal.UnknownHandle handle)) }
     {
-        match self.handles.view(&self.pool, handle) {
+        match self.held.handles.view(&self.held.live.pool, handle) {
             Some(graph) => Ok(graph),
             None => Err(Refusal::UnknownHandle(handle)),
         }
@@ -74,8 +74,8 @@ impl Session {
         ensures comes { (image : Option (List ℕ)) → ComesTo (Command.Ask handle (Query.Node id)) [] self.old.parts image self.new.parts image result }
         ensures no_stop { (stop : Stop) → result ≡ Err (Halt.Stop stop) → ⊥ }
     {
-        let graph = overlay_of(&self.handles, &self.pool, handle)?;
-        let node = self.adjacency.node(self.alloc, handle, &graph, id)?;
+        let graph = overlay_of(&self.held.handles, &self.held.live.pool, handle)?;
+        let node = self.held.adjacency.node(self.alloc, handle, &graph, id)?;
         Ok(node_reply(self.alloc, handle, id, node)?)
     }
 
@@ -84,8 +84,11 @@ impl Session {
         ensures comes { (image : Option (List ℕ)) → ComesTo (Command.Ask handle (Query.Neighbours id)) [] self.old.parts image self.new.parts image result }
         ensures no_stop { (stop : Stop) → result ≡ Err (Halt.Stop stop) → ⊥ }
     {
-        let graph = overlay_of(&self.handles, &self.pool, handle)?;
-        let neighbours = self.adjacency.neighbours(self.alloc, handle, &graph, id)?;
+        let graph = overlay_of(&self.held.handles, &self.held.live.pool, handle)?;
+        let neighbours = self
+            .held
+            .adjacency
+            .neighbours(self.alloc, handle, &graph, id)?;
         Ok(neighbours_reply(self.alloc, handle, id, &neighbours)?)
     }
 }

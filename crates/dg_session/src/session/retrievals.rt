@@ -4,18 +4,16 @@ ghost use Rattle.std.specs.Prelude.{◌≡◌, ◌+◌, ◌<◌, ◌≤◌, IfEr
 ghost use Rattle.std.specs.List.{All, list_any, sum};
 ghost use Rattle.dg_disk.specs.Counts.{Rose as DiskRose};
 ghost use Rattle.dg_disk.specs.Frame.{OnlyReads};
-ghost use Rattle.dg_fold.specs.BytesRead.{Takes};
 ghost use Rattle.dg_handles.specs.Handles.{BeginsOn, overlays_on};
 ghost use Rattle.dg_machine.specs.declared.command.TheConstants.{TIMES_MAX};
 ghost use Rattle.dg_machine.specs.declared.limits.TheConstants.{HANDLE_MAX, LIVE_HANDLES_MAX};
 ghost use Rattle.dg_machine.specs.Answer.{headed};
 ghost use Rattle.dg_history.specs.History.{in_range};
 ghost use Rattle.dg_machine.specs.MachineState.{MachineState};
-ghost use Rattle.dg_machine.specs.Planning.{edges_in, points_for};
 ghost use Rattle.dg_retrieval.specs.Beginnings.{leads_in, led_to};
-ghost use Rattle.dg_retrieval.specs.Retrieval.{IsNoDamage, TakesAtMostTree};
-ghost use Rattle.dg_session.specs.Damage.{DamageIn, Graphs, MeetsNone, NamesDamage};
-ghost use Rattle.dg_session.specs.Reads.{IsRetrieved, ReadsIn, bases_of, listed_by, with_new_handles};
+ghost use Rattle.dg_retrieval.specs.NamesThere.{NamesAreThere};
+ghost use Rattle.dg_session.specs.Damage.{DamageIn, Graphs, MeetsNone, TellsGraphDamage};
+ghost use Rattle.dg_session.specs.Reads.{HasRetrieved, ReadsIn, RetrievesFor, bases_of, listed_by, with_new_handles};
 ghost use Rattle.dg_session.specs.Session.{ComesTo, StandsFor, refused_by, retrieval_needs};
 ghost use Rattle.dg_start.specs.StoredHistory.{IsHeldBy};
 ghost use Rattle.dg_batch.specs.declared.stop.Stop.TheVariants as stop;
@@ -47,12 +45,12 @@ impl Session {
         if is_any_out(ends, times) {
             return Some(Refusal::OutOfRange(ends));
         }
-        let live = self.handles.live();
+        let live = self.held.handles.live();
         let asked = times.len() as u32;
         if (live + asked) as usize > LIVE_HANDLES_MAX {
             return Some(Refusal::PoolFull(live, asked));
         }
-        if self.handles.next() + u64::from(asked) > u64::from(HANDLE_MAX) + 1 {
+        if self.held.handles.next() + u64::from(asked) > u64::from(HANDLE_MAX) + 1 {
             return Some(Refusal::HandlesSpent);
         }
         None
@@ -71,42 +69,33 @@ impl Session {
         requires free { refused_by self.old.parts 0 (retrieval_needs times.now (length times.now)) ≡ None }
         requires image { IfSome (D.image disk.old) (λ image. IsHeldBy self.old.parts.index self.old.parts.names image) }
 
-        // what is retrieved
-        ensures retrieved { IfOk result (λ r. IfSome (D.image disk.old) (λ image. (m : MachineState) → StandsFor self.old.parts image m
-            → IsRetrieved m times.now cols r.weight r.singles.items (bases_of (leads_in r.leads)) (map (led_to self.old.parts.graph (listed_by self.old.parts) cols) (leads_in r.leads)))) }
-        ensures bases { IfOk result (λ r. All (BeginsOn self.old.parts.table cols) (leads_in r.leads)) }
-        ensures count { IfOk result (λ r. length (leads_in r.leads) ≡ length times.now) }
-        ensures sum { IfOk result (λ r. r.sum ≡ sum r.singles.items) }
-        ensures whole { OnOk result (MeetsNone (Graphs times.now cols) self.old.parts (D.image disk.old)) }
+        // what is retrieved, of which the second holds over an image that stands for a state
+        ensures done { IfOk result (HasRetrieved self.old.parts times.now cols) }
+        ensures over { IfSome (D.image disk.old) (λ image. (m : MachineState) → StandsFor self.old.parts image m
+            → RetrievesFor m self.old.parts times.now cols (D.taken disk.old) (D.taken disk.new) result) }
 
-        // the bytes read
-        ensures takes { IfOk result (λ r. IfSome (D.image disk.old) (λ image. (m : MachineState) → StandsFor self.old.parts image m
-            → Takes r.weight (D.taken disk.old) (D.taken disk.new))) }
-        ensures most { IfSome (D.image disk.old) (λ image. (m : MachineState) → StandsFor self.old.parts image m
-            → TakesAtMostTree (edges_in m cols) (points_for m times.now) (D.taken disk.old) (D.taken disk.new)) }
-
-        // why nothing is retrieved
+        // why nothing is
         ensures cause { IsErrOf result RetrievalFault.Disk → DiskRose (D.faults disk.old) (D.faults disk.new) }
-        ensures damage { IfErr result (λ fault. NamesDamage self.old.parts (D.image disk.old) (times.now, cols) fault) }
-        ensures never { IfErr result (λ fault. IfSome (D.image disk.old) (λ image. (m : MachineState) → StandsFor self.old.parts image m → IsNoDamage fault)) }
+        ensures damage { TellsGraphDamage self.old.parts (D.image disk.old) (times.now, cols) result }
 
         // what it leaves
         ensures same { self.new ≡ self.old }
         ensures disk { OnlyReads D.image D.faults D.write_faults disk.old disk.new }
     {
-        let Some(index) = &mut self.history.index else {
+        let Some(index) = &mut self.held.live.history.index else {
             unreachable!()
         };
         // Its clause says what the handles hold that can serve.
-        self.handles.facts();
-        self.planner.keep(self.alloc, index, &self.handles, cols)?;
+        self.held.handles.facts();
+        self.planner
+            .keep(self.alloc, index, &self.held.handles, cols)?;
         leads_at(
             rt,
             self.alloc,
             index,
             disk,
-            self.history.names.len(),
-            &self.history.recent,
+            self.held.live.history.names.len(),
+            &self.held.live.history.recent,
             self.planner.planner(cols),
             times,
             cols,
@@ -124,10 +113,13 @@ impl Session {
         requires room { length self.old.parts.table + length times.now ≤ LIVE_HANDLES_MAX }
         requires numbers { self.old.parts.next + length times.now ≤ HANDLE_MAX + 1 }
         requires leads { length (leads_in leads.now) ≡ length times.now }
+        requires named { All (λ l. NamesAreThere (length self.old.parts.names) l.delta.plus) (leads_in leads.now) }
         ensures added { OnOk result (self.new.parts ≡ with_new_handles self.old.parts (overlays_on cols times.now (bases_of (leads_in leads.now))) (map (led_to self.old.parts.graph (listed_by self.old.parts) cols) (leads_in leads.now))) }
         ensures err { OnErr result (self.new.parts ≡ self.old.parts) }
     {
-        self.handles.add(&mut self.pool, cols, times, leads)
+        self.held
+            .handles
+            .add(&mut self.held.live.pool, cols, times, leads)
     }
 
     // A new handle for the graph as of `t` in these columns.
@@ -158,7 +150,7 @@ impl Session {
             return Err(Halt::Refusal(refusal));
         }
         let Retrieved { leads, weight, .. } = self.retrieve(rt, &times, cols, disk)?;
-        let handle = self.handles.next() as u32;
+        let handle = self.held.handles.next() as u32;
         self.add_handles(cols, &times, &leads)?;
         Ok(headed(self.alloc, Head::At { handle, weight }))
     }
@@ -194,7 +186,7 @@ impl Session {
             return Err(Halt::Refusal(refusal));
         }
         let retrieved = self.retrieve(rt, asked, cols, disk)?;
-        let next = self.handles.next();
+        let next = self.held.handles.next();
         let lines = handle_lines(self.alloc, next, asked, &retrieved.singles)?;
         self.add_handles(cols, asked, &retrieved.leads)?;
         Ok(Reply {

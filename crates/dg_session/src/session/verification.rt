@@ -63,9 +63,9 @@ impl Session {
         ensures same { self.new ≡ self.old }
         ensures disk { OnlyReads D.image D.faults D.write_faults disk.old disk.new }
     {
-        let Some(index) = &mut self.history.index else {
+        let Some(index) = &mut self.held.live.history.index else {
             unreachable!()
         };
-        verify(rt, self.alloc, index, disk, &self.history.names)
+        verify(rt, self.alloc, index, disk, &self.held.live.history.names)
     }
 }

@@ -1,67 +1,54 @@
-use Rattle.std.proofs.Common.{◌≡◌, ◌+◌, ◌-◌, ◌∙◌, ℕ, List, Some, None, inr, length, take, drop, refl, ap, subst, arith, rules, sym}
+use Rattle.std.proofs.Common.{◌≡◌, ◌+◌, ◌-◌, ◌∙◌, ℕ, List, Option, Ok, Err, inr, length, take, drop, refl, ap, subst, arith, rules, sym, length-append}
 use Rattle.std.proofs.lemmas.List.Elements.{All-drop, All-take}
-use Rattle.std.proofs.lemmas.Result.{err_from_is_err_and}
-use Rattle.dg_append.proofs.AddedBatchOutcomes.{err_is}
-use Rattle.dg_append.proofs.OlderGroupSets.{Call, GroupsAreRead, HasDamage, TakesSingles, all_read, first_damage, group_read, none_more_read, none_read, one_read, size_next}
+use Rattle.dg_append.proofs.KeptBatchOutcomes.{err_as}
+use Rattle.dg_append.proofs.OlderGroupSets.{CallDamage, CallGives, Called, Gives, GroupsAreRead, all_given, all_whole, every_some, first_damage, group_long, none_more_read, none_read, one_read, size_next, some_both, some_map}
 use Rattle.dg_append.proofs.older_sets.read_groups.Goals as goal
+use Rattle.dg_append.specs.OlderGroups.{AreUndamaged, IsFirstOfGroups, TellsGroupDamage, in_groups}
 use Rattle.dg_file.specs.Images.{IsOpenedAs}
 use Rattle.dg_file.specs.Index.{IndexState}
+use Rattle.dg_graph.specs.declared.element.Element.{Element}
 use Rattle.dg_history.specs.declared.node.NodeId.{NodeId}
+use Rattle.dg_history.specs.History.{History}
 use Rattle.dg_index.specs.OpenedIndex.{Opening}
 use Rattle.dg_plan.specs.declared.edge.Edge.{Edge}
+use Rattle.dg_plan.specs.HistoryGraph.{all_columns}
+use Rattle.dg_retrieval.specs.Calls.{GivesSetsOver}
 use Rattle.dg_retrieval.specs.KeptGraph.{record_edges, record_nodes}
-use Rattle.dg_retrieval.specs.NodeSets.{HasNoEvents, IsIndexOver}
-use Rattle.dg_retrieval.specs.Retrieval.{IsNoDamage}
+use Rattle.dg_retrieval.specs.NodeSets.{HasNoEvents, IsIndexOver, IsUndamaged}
+use Rattle.dg_retrieval.specs.Retrieval.{IsFirstDamage}
 use Rattle.dg_retrieval.specs.declared.fault.RetrievalFault.{RetrievalFault}
 use Rattle.dg_retrieval.specs.declared.fault.RetrievalFault.TheVariants as fault
-use Rattle.dg_history.specs.History.{History}
 use Rattle.std.specs.List.{Contains}
-use Rattle.std.specs.Prelude.{IfSome, Option}
+use Rattle.std.specs.Prelude.{IfSome}
 
 -- the nodes of the group
 slice_is : (nodes : List NodeId) (done size : ℕ) (next : ℕ) → size ≡ next → take (done + size - done) (drop done nodes) ≡ take next (drop done nodes)
 slice_is nodes done size next is = ap (λ n. take n (drop done nodes)) (let e : done + size - done ≡ next = omega (arith, is) in e)
 
-call_is : (a b : Option (List ℕ)) (x y : IndexState) (edges : List Edge) (group next : List NodeId) → a ≡ b → x ≡ y → edges ≡ record_edges y.opening → group ≡ next
-    → (let c : Call = (a, x.opening, edges, group) in c) ≡ (b, y.opening, record_edges y.opening, next)
-call_is a b x y edges group next told same is group_is = λ i. (told i, (same i).opening, is i, group_is i)
+call_is : (x y : IndexState) (edges : List Edge) (group next : List NodeId) → x ≡ y → edges ≡ record_edges y.opening → group ≡ next
+    → (let c : Called = (x.opening, edges, group) in c) ≡ (y.opening, record_edges y.opening, next)
+call_is x y edges group next same is group_is = λ i. ((same i).opening, is i, group_is i)
+
+-- what is told of a call over another image is told of this one, where they are the same
+told_here : (a b : Option (List ℕ)) (P : List ℕ → Called → Type 0) (x y : Called) → a ≡ b → x ≡ y → IfSome a (λ image. P image x) → IfSome b (λ image. P image y)
+told_here a b P x y told same p = subst (λ (z : Option (List ℕ) × Called). IfSome z.0 (λ image. P image z.1)) (let e : (a, x) ≡ (b, y) = λ i. (told i, same i) in e) p
 
 image_of : (a b : Option (List ℕ)) (x y : IndexState) → a ≡ b → x ≡ y → IfSome b (λ image. IsOpenedAs image y.opening) → IfSome a (λ image. IsOpenedAs image x.opening)
 image_of a b x y told same image =
     subst (λ (z : Option (List ℕ) × IndexState). IfSome z.0 (λ image. IsOpenedAs image z.1.opening)) (let e : (b, y) ≡ (a, x) = λ i. (sym told i, sym same i) in e) image
 
+-- both facts are told
+both_told : (told : Option (List ℕ)) (P Q : List ℕ → Type 0) → IfSome told P → IfSome told Q → IfSome told (λ image. P image × Q image)
+both_told told P Q p q = some_both told P Q (λ image. P image × Q image) (λ image a b. (a, b)) p q
+
 pub loop-done-init : goal.loop-done-init
 loop-done-init g c = record {
-  read = none_read (g.D.Disk.image c.args.disk.now) c.args.index.now.opening c.args.names c.args.nodes.now _ (g.D.Disk.taken c.args.disk.now) (search rules);
+  within = omega arith;
+  count = search rules;
+  read = every_some (g.D.Disk.image c.args.disk.now) _ (none_read c.args.index.now.opening c.args.name_count c.args.nodes.now _ (g.D.Disk.taken c.args.disk.now) (search rules));
   same = refl;
   disk = record { same_image = refl; counted = omega arith; no_write_failed = refl };
 }
-
--- want of memory is no damage
-no_damage : (told : Option (List ℕ)) → IfSome told (λ image. Unit {0})
-no_damage None = tt
-no_damage (Some image) = tt
-
-never_over : (told : Option (List ℕ)) (o : Opening) (names : ℕ) → IfSome told (λ image. (z : History) → IsIndexOver z image o names → IsNoDamage fault.Memory)
-never_over None o names = tt
-never_over (Some image) o names = λ z over. inr refl
-
-never_of : (a b : Option (List ℕ)) (x y : IndexState) (names : ℕ) (f : RetrievalFault) → a ≡ b → x ≡ y → IfSome a (λ image. (z : History) → IsIndexOver z image x.opening names → IsNoDamage f)
-    → IfSome b (λ image. (z : History) → IsIndexOver z image y.opening names → IsNoDamage f)
-never_of a b x y names f told same never =
-    subst (λ (v : Option (List ℕ) × IndexState). IfSome v.0 (λ image. (z : History) → IsIndexOver z image v.1.opening names → IsNoDamage f)) (let e : (a, x) ≡ (b, y) = λ i. (told i, same i) in e) never
-
-pub returns-in_err-more-clause-never : goal.returns-in_err-more-clause-never
-returns-in_err-more-clause-never g c =
-    err_is c.from_residual.result c.in_err-more.field-0.0 _ c.from_residual.ensures
-    (never_of (g.D.Disk.image c.loop-done.disk) (g.D.Disk.image c.args.disk.now) c.loop-done.index c.args.index.now c.args.names c.in_err-more.field-0.0 c.loop-done.invariant.disk.same_image c.loop-done.invariant.same c.in_err-more.ensures.never)
-
-pub returns-in_err-append-clause-damage : goal.returns-in_err-append-clause-damage
-returns-in_err-append-clause-damage g c = err_is c.from_residual-in_err-append.result fault.Memory _ c.from_residual-in_err-append.ensures (no_damage (g.D.Disk.image c.args.disk.now))
-
-pub returns-in_err-append-clause-never : goal.returns-in_err-append-clause-never
-returns-in_err-append-clause-never g c =
-    err_is c.from_residual-in_err-append.result fault.Memory _ c.from_residual-in_err-append.ensures (never_over (g.D.Disk.image c.args.disk.now) c.args.index.now.opening c.args.names)
 
 pub node_sets-requires-clause-image : goal.node_sets-requires-clause-image
 node_sets-requires-clause-image g c =
@@ -81,64 +68,110 @@ pub node_sets-requires-clause-leaves : goal.node_sets-requires-clause-leaves
 node_sets-requires-clause-leaves g c =
     All-take HasNoEvents (c.loop-done.done + c.min-size.result - c.loop-done.done) (drop c.loop-done.done c.args.nodes.now) (All-drop HasNoEvents c.loop-done.done c.args.nodes.now c.requires.leaves)
 
-pub returns-in_err-more-clause-most : goal.returns-in_err-more-clause-most
-returns-in_err-more-clause-most g c =
-    let o : Opening = c.args.index.now.opening in
-    let n : ℕ = size_next o c.args.names c.args.nodes.now c.loop-done.done c.loop-done-test.true in
-    let call = call_is _ (g.D.Disk.image c.args.disk.now) c.loop-done.index c.args.index.now c.args.planner.now.edges _ (take n (drop c.loop-done.done c.args.nodes.now)) c.loop-done.invariant.disk.same_image c.loop-done.invariant.same c.requires.edges
-    (slice_is c.args.nodes.now c.loop-done.done c.min-size.result n c.min-size.ensures) in
-    none_more_read o c.args.names c.args.nodes.now c.loop-done.done c.loop-done-test.true (g.D.Disk.image c.args.disk.now) c.loop-done.sets.items (g.D.Disk.taken c.args.disk.now) (g.D.Disk.taken c.loop-done.disk) _
-    c.loop-done.invariant.read (subst (TakesSingles c.args.names (g.D.Disk.taken c.loop-done.disk) (g.D.Disk.taken c.node_sets.new.disk)) call c.node_sets.ensures.most)
-
-pub returns-in_err-append-clause-most : goal.returns-in_err-append-clause-most
-returns-in_err-append-clause-most g c =
-    let o : Opening = c.args.index.now.opening in
-    let n : ℕ = size_next o c.args.names c.args.nodes.now c.loop-done.done c.loop-done-test.true in
-    let call = call_is _ (g.D.Disk.image c.args.disk.now) c.loop-done.index c.args.index.now c.args.planner.now.edges _ (take n (drop c.loop-done.done c.args.nodes.now)) c.loop-done.invariant.disk.same_image c.loop-done.invariant.same c.requires.edges
-    (slice_is c.args.nodes.now c.loop-done.done c.min-size.result n c.min-size.ensures) in
-    none_more_read o c.args.names c.args.nodes.now c.loop-done.done c.loop-done-test.true (g.D.Disk.image c.args.disk.now) c.loop-done.sets.items (g.D.Disk.taken c.args.disk.now) (g.D.Disk.taken c.loop-done.disk) _
-    c.loop-done.invariant.read (subst (TakesSingles c.args.names (g.D.Disk.taken c.loop-done.disk) (g.D.Disk.taken c.node_sets.new.disk)) call c.node_sets.ensures.most)
-
-pub returns-in_err-more-clause-damage : goal.returns-in_err-more-clause-damage
-returns-in_err-more-clause-damage g c =
-    let o : Opening = c.args.index.now.opening in
-    let n : ℕ = size_next o c.args.names c.args.nodes.now c.loop-done.done c.loop-done-test.true in
-    let failed = err_from_is_err_and c.from_residual.result c.from_residual.ensures.1 in
-    let call = call_is _ (g.D.Disk.image c.args.disk.now) c.loop-done.index c.args.index.now c.args.planner.now.edges _ (take n (drop c.loop-done.done c.args.nodes.now)) c.loop-done.invariant.disk.same_image c.loop-done.invariant.same c.requires.edges
-    (slice_is c.args.nodes.now c.loop-done.done c.min-size.result n c.min-size.ensures) in
-    rw (failed.1, failed.2)
-    (first_damage o c.args.names c.args.nodes.now c.loop-done.done c.loop-done-test.true (g.D.Disk.image c.args.disk.now) c.loop-done.sets.items (g.D.Disk.taken c.args.disk.now) (g.D.Disk.taken c.loop-done.disk) c.in_err-more.field-0.0
-    c.loop-done.invariant.read (subst (HasDamage c.args.names c.in_err-more.field-0.0) call c.in_err-more.ensures.damage))
-
 pub loop-done-preserved : goal.loop-done-preserved
 loop-done-preserved g c =
+    let told : Option (List ℕ) = g.D.Disk.image c.args.disk.now in
     let o : Opening = c.args.index.now.opening in
-    let n : ℕ = size_next o c.args.names c.args.nodes.now c.loop-done.done c.loop-done-test.true in
-    let slice = slice_is c.args.nodes.now c.loop-done.done c.min-size.result n c.min-size.ensures in
-    let call = call_is _ (g.D.Disk.image c.args.disk.now) c.loop-done.index c.args.index.now c.args.planner.now.edges _ (take n (drop c.loop-done.done c.args.nodes.now)) c.loop-done.invariant.disk.same_image c.loop-done.invariant.same c.requires.edges slice in
-    let group = group_read (g.D.Disk.image c.args.disk.now) o c.args.names (take n (drop c.loop-done.done c.args.nodes.now)) c.in_ok-more.more.items (g.D.Disk.taken c.loop-done.disk) (g.D.Disk.taken c.node_sets.new.disk) _ call
-    (c.in_ok-more.ensures.count ∙ ap (λ (l : List NodeId). length l) slice) c.in_ok-more.ensures.sets c.in_ok-more.ensures.whole c.node_sets.ensures.most in
+    let names : ℕ = c.args.name_count in
+    let nodes : List NodeId = c.args.nodes.now in
+    let done : ℕ = c.loop-done.done in
+    let n : ℕ = size_next o names nodes done c.loop-done-test.true in
+    let group : List NodeId = take n (drop done nodes) in
+    let slice = slice_is nodes done c.min-size.result n c.min-size.ensures in
+    let call = call_is c.loop-done.index c.args.index.now c.args.planner.now.edges _ group c.loop-done.invariant.same c.requires.edges slice in
+    let gives = told_here (g.D.Disk.image c.loop-done.disk) told (CallGives names (g.D.Disk.taken c.loop-done.disk) (g.D.Disk.taken c.node_sets.new.disk) (Ok c.in_ok-more.more)) _ _ c.loop-done.invariant.disk.same_image call c.in_ok-more.ensures.over in
+    let damage = told_here (g.D.Disk.image c.loop-done.disk) told (CallDamage names (Ok c.in_ok-more.more)) _ _ c.loop-done.invariant.disk.same_image call c.in_ok-more.ensures.damage in
+    let long : length c.in_ok-more.more.items ≡ n = c.in_ok-more.ensures.done.count ∙ ap (λ (l : List NodeId). length l) slice ∙ group_long o names nodes done c.loop-done-test.true in
     record {
-      read = subst (λ (d : ℕ). GroupsAreRead (g.D.Disk.image c.args.disk.now) o c.args.names c.args.nodes.now (c.loop-done.done + d) c.append.new.self.items (g.D.Disk.taken c.args.disk.now) (g.D.Disk.taken c.node_sets.new.disk)) (sym c.min-size.ensures)
-          (one_read o c.args.names c.args.nodes.now c.loop-done.done c.loop-done-test.true (g.D.Disk.image c.args.disk.now) c.loop-done.sets.items c.in_ok-more.more.items c.append.new.self.items (g.D.Disk.taken c.args.disk.now) (g.D.Disk.taken c.loop-done.disk) (g.D.Disk.taken c.node_sets.new.disk)
-          c.loop-done.invariant.read group c.in_ok-append.ensures.items);
-      same = c.node_sets.ensures.same ∙ c.loop-done.invariant.same;
+      within = omega (arith, c.loop-done-test.true, c.min-size.ensures);
+      count = ap (λ (l : List (List Element)). length l) c.in_ok-append.ensures.items ∙ length-append c.loop-done.sets.items c.in_ok-more.more.items ∙ (λ i. c.loop-done.invariant.count i + (long ∙ sym c.min-size.ensures) i);
+      read = subst (λ (d : ℕ). IfSome told (GroupsAreRead o names nodes (done + d) c.append.new.self.items (g.D.Disk.taken c.args.disk.now) (g.D.Disk.taken c.node_sets.new.disk))) (sym c.min-size.ensures)
+          (some_both told (λ image. GroupsAreRead o names nodes done c.loop-done.sets.items (g.D.Disk.taken c.args.disk.now) (g.D.Disk.taken c.loop-done.disk) image)
+          (λ image. Gives o names group (g.D.Disk.taken c.loop-done.disk) (g.D.Disk.taken c.node_sets.new.disk) (Ok c.in_ok-more.more) image × IsUndamaged names (record_edges o) o all_columns group image)
+          _
+          (λ image r h. one_read o names nodes done c.loop-done-test.true c.loop-done.sets.items c.append.new.self.items c.in_ok-more.more (g.D.Disk.taken c.args.disk.now) (g.D.Disk.taken c.loop-done.disk) (g.D.Disk.taken c.node_sets.new.disk) image r h.0 h.1 c.in_ok-append.ensures.items)
+          c.loop-done.invariant.read (both_told told _ _ gives damage));
+      same = c.node_sets.ensures.reads.same ∙ c.loop-done.invariant.same;
       disk = record {
-        same_image = c.node_sets.ensures.disk.same_image ∙ c.loop-done.invariant.disk.same_image;
-        counted = omega (arith, c.node_sets.ensures.disk.counted, c.loop-done.invariant.disk.counted);
-        no_write_failed = c.node_sets.ensures.disk.no_write_failed ∙ c.loop-done.invariant.disk.no_write_failed;
+        same_image = c.node_sets.ensures.reads.disk.same_image ∙ c.loop-done.invariant.disk.same_image;
+        counted = omega (arith, c.node_sets.ensures.reads.disk.counted, c.loop-done.invariant.disk.counted);
+        no_write_failed = c.node_sets.ensures.reads.disk.no_write_failed ∙ c.loop-done.invariant.disk.no_write_failed;
       };
     }
 
-pub returns-clause-most : goal.returns-clause-most
-returns-clause-most g c =
-    (all_read (g.D.Disk.image c.args.disk.now) c.args.index.now.opening c.args.names c.args.nodes.now c.loop-done.done c.loop-done.sets.items (g.D.Disk.taken c.args.disk.now) (g.D.Disk.taken c.loop-done.disk) c.loop-done-test.false c.loop-done.invariant.read).most
+pub returns-in_err-more-clause-over : goal.returns-in_err-more-clause-over
+returns-in_err-more-clause-over g c =
+    let told : Option (List ℕ) = g.D.Disk.image c.args.disk.now in
+    let o : Opening = c.args.index.now.opening in
+    let names : ℕ = c.args.name_count in
+    let nodes : List NodeId = c.args.nodes.now in
+    let done : ℕ = c.loop-done.done in
+    let n : ℕ = size_next o names nodes done c.loop-done-test.true in
+    let f : RetrievalFault = c.in_err-more.field-0.0 in
+    let group : List NodeId = take n (drop done nodes) in
+    let slice = slice_is nodes done c.min-size.result n c.min-size.ensures in
+    let call = call_is c.loop-done.index c.args.index.now c.args.planner.now.edges _ group c.loop-done.invariant.same c.requires.edges slice in
+    let gives = told_here (g.D.Disk.image c.loop-done.disk) told (CallGives names (g.D.Disk.taken c.loop-done.disk) (g.D.Disk.taken c.node_sets.new.disk) (Err f)) _ _ c.loop-done.invariant.disk.same_image call c.in_err-more.ensures.over in
+    err_as c.from_residual.result f (λ r. IfSome told (λ image. (z : History) → IsIndexOver z image o names → GivesSetsOver z (record_edges o) nodes (g.D.Disk.taken c.args.disk.now) (g.D.Disk.taken c.node_sets.new.disk) r)) c.from_residual.ensures
+    (some_both told (GroupsAreRead o names nodes done c.loop-done.sets.items (g.D.Disk.taken c.args.disk.now) (g.D.Disk.taken c.loop-done.disk))
+    (Gives o names group (g.D.Disk.taken c.loop-done.disk) (g.D.Disk.taken c.node_sets.new.disk) (Err f)) (Gives o names nodes (g.D.Disk.taken c.args.disk.now) (g.D.Disk.taken c.node_sets.new.disk) (Err f))
+    (λ image r h. none_more_read o names nodes done c.loop-done-test.true c.loop-done.sets.items (Err f) f (g.D.Disk.taken c.args.disk.now) (g.D.Disk.taken c.loop-done.disk) (g.D.Disk.taken c.node_sets.new.disk) image r h (λ z over. (h z over).never))
+    c.loop-done.invariant.read gives)
+
+pub returns-in_err-more-clause-damage : goal.returns-in_err-more-clause-damage
+returns-in_err-more-clause-damage g c =
+    let told : Option (List ℕ) = g.D.Disk.image c.args.disk.now in
+    let o : Opening = c.args.index.now.opening in
+    let names : ℕ = c.args.name_count in
+    let nodes : List NodeId = c.args.nodes.now in
+    let done : ℕ = c.loop-done.done in
+    let n : ℕ = size_next o names nodes done c.loop-done-test.true in
+    let f : RetrievalFault = c.in_err-more.field-0.0 in
+    let group : List NodeId = take n (drop done nodes) in
+    let slice = slice_is nodes done c.min-size.result n c.min-size.ensures in
+    let call = call_is c.loop-done.index c.args.index.now c.args.planner.now.edges _ group c.loop-done.invariant.same c.requires.edges slice in
+    let damage = told_here (g.D.Disk.image c.loop-done.disk) told (CallDamage names (Err f)) _ _ c.loop-done.invariant.disk.same_image call c.in_err-more.ensures.damage in
+    err_as c.from_residual.result f (λ r. IfSome told (λ image. TellsGroupDamage names o image nodes r)) c.from_residual.ensures
+    (some_both told (GroupsAreRead o names nodes done c.loop-done.sets.items (g.D.Disk.taken c.args.disk.now) (g.D.Disk.taken c.loop-done.disk))
+    (λ image. IsFirstDamage names (record_edges o) o all_columns group image f) (λ image. IsFirstOfGroups names o image (in_groups nodes) f)
+    (λ image r h. first_damage o names nodes done c.loop-done-test.true c.loop-done.sets.items (g.D.Disk.taken c.args.disk.now) (g.D.Disk.taken c.loop-done.disk) f image r h)
+    c.loop-done.invariant.read damage)
+
+pub returns-in_err-append-clause-over : goal.returns-in_err-append-clause-over
+returns-in_err-append-clause-over g c =
+    let told : Option (List ℕ) = g.D.Disk.image c.args.disk.now in
+    let o : Opening = c.args.index.now.opening in
+    let names : ℕ = c.args.name_count in
+    let nodes : List NodeId = c.args.nodes.now in
+    let done : ℕ = c.loop-done.done in
+    let n : ℕ = size_next o names nodes done c.loop-done-test.true in
+    let group : List NodeId = take n (drop done nodes) in
+    let slice = slice_is nodes done c.min-size.result n c.min-size.ensures in
+    let call = call_is c.loop-done.index c.args.index.now c.args.planner.now.edges _ group c.loop-done.invariant.same c.requires.edges slice in
+    let gives = told_here (g.D.Disk.image c.loop-done.disk) told (CallGives names (g.D.Disk.taken c.loop-done.disk) (g.D.Disk.taken c.node_sets.new.disk) (Ok c.in_ok-more.more)) _ _ c.loop-done.invariant.disk.same_image call c.in_ok-more.ensures.over in
+    err_as c.from_residual-in_err-append.result fault.Memory (λ r. IfSome told (λ image. (z : History) → IsIndexOver z image o names → GivesSetsOver z (record_edges o) nodes (g.D.Disk.taken c.args.disk.now) (g.D.Disk.taken c.node_sets.new.disk) r)) c.from_residual-in_err-append.ensures
+    (some_both told (GroupsAreRead o names nodes done c.loop-done.sets.items (g.D.Disk.taken c.args.disk.now) (g.D.Disk.taken c.loop-done.disk))
+    (Gives o names group (g.D.Disk.taken c.loop-done.disk) (g.D.Disk.taken c.node_sets.new.disk) (Ok c.in_ok-more.more)) (Gives o names nodes (g.D.Disk.taken c.args.disk.now) (g.D.Disk.taken c.node_sets.new.disk) (Err fault.Memory))
+    (λ image r h. none_more_read o names nodes done c.loop-done-test.true c.loop-done.sets.items (Ok c.in_ok-more.more) fault.Memory (g.D.Disk.taken c.args.disk.now) (g.D.Disk.taken c.loop-done.disk) (g.D.Disk.taken c.node_sets.new.disk) image r h (λ z over. inr refl))
+    c.loop-done.invariant.read gives)
+
+pub returns-in_err-append-clause-damage : goal.returns-in_err-append-clause-damage
+returns-in_err-append-clause-damage g c =
+    let told : Option (List ℕ) = g.D.Disk.image c.args.disk.now in
+    err_as c.from_residual-in_err-append.result fault.Memory (λ r. IfSome told (λ image. TellsGroupDamage c.args.name_count c.args.index.now.opening image c.args.nodes.now r)) c.from_residual-in_err-append.ensures
+    (every_some told (λ image. Unit {0}) (λ image. tt))
 
 pub returns-clause-count : goal.returns-clause-count
-returns-clause-count g c = (all_read (g.D.Disk.image c.args.disk.now) c.args.index.now.opening c.args.names c.args.nodes.now c.loop-done.done c.loop-done.sets.items (g.D.Disk.taken c.args.disk.now) (g.D.Disk.taken c.loop-done.disk) c.loop-done-test.false c.loop-done.invariant.read).count
+returns-clause-count g c = omega (arith, c.loop-done.invariant.count, c.loop-done.invariant.within, c.loop-done-test.false)
 
-pub returns-clause-sets : goal.returns-clause-sets
-returns-clause-sets g c = (all_read (g.D.Disk.image c.args.disk.now) c.args.index.now.opening c.args.names c.args.nodes.now c.loop-done.done c.loop-done.sets.items (g.D.Disk.taken c.args.disk.now) (g.D.Disk.taken c.loop-done.disk) c.loop-done-test.false c.loop-done.invariant.read).sets_are
+pub returns-clause-over : goal.returns-clause-over
+returns-clause-over g c =
+    some_map (g.D.Disk.image c.args.disk.now) _ (Gives c.args.index.now.opening c.args.name_count c.args.nodes.now (g.D.Disk.taken c.args.disk.now) (g.D.Disk.taken c.loop-done.disk) (Ok c.loop-done.sets))
+    (λ image r. all_given c.args.index.now.opening c.args.name_count c.args.nodes.now c.loop-done.done c.loop-done.sets (g.D.Disk.taken c.args.disk.now) (g.D.Disk.taken c.loop-done.disk) c.loop-done-test.false image r)
+    c.loop-done.invariant.read
 
-pub returns-clause-whole : goal.returns-clause-whole
-returns-clause-whole g c = (all_read (g.D.Disk.image c.args.disk.now) c.args.index.now.opening c.args.names c.args.nodes.now c.loop-done.done c.loop-done.sets.items (g.D.Disk.taken c.args.disk.now) (g.D.Disk.taken c.loop-done.disk) c.loop-done-test.false c.loop-done.invariant.read).whole
+pub returns-clause-damage : goal.returns-clause-damage
+returns-clause-damage g c =
+    some_map (g.D.Disk.image c.args.disk.now) _ (λ image. AreUndamaged c.args.name_count c.args.index.now.opening image (in_groups c.args.nodes.now))
+    (λ image r. all_whole c.args.index.now.opening c.args.name_count c.args.nodes.now c.loop-done.done c.loop-done.sets (g.D.Disk.taken c.args.disk.now) (g.D.Disk.taken c.loop-done.disk) c.loop-done-test.false image r)
+    c.loop-done.invariant.read

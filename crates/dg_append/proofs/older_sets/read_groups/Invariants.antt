@@ -1,11 +1,14 @@
-use Rattle.std.proofs.Common.{◌≡◌, ◌-◌, length}
+use Rattle.std.proofs.Common.{◌≡◌, ◌≤◌, ◌-◌, length}
+use Rattle.std.specs.Prelude.{IfSome}
 use Rattle.dg_append.proofs.OlderGroupSets.{GroupsAreRead}
 use Rattle.dg_append.proofs.older_sets.read_groups.Given as goal
 use Rattle.dg_disk.specs.Frame.{OnlyReads}
 
 abbrev pub invariant-loop-done : goal.invariant-loop-done
 invariant-loop-done g l = record {
-  read : GroupsAreRead (g.D.Disk.image l.initial.disk) l.fn.index.opening l.names l.nodes l.done l.sets.items (g.D.Disk.taken l.initial.disk) (g.D.Disk.taken l.disk);
+  within : l.done ≤ length l.nodes;
+  count : length l.sets.items ≡ l.done;
+  read : IfSome (g.D.Disk.image l.initial.disk) (GroupsAreRead l.fn.index.opening l.name_count l.nodes l.done l.sets.items (g.D.Disk.taken l.initial.disk) (g.D.Disk.taken l.disk));
   same : l.index ≡ l.fn.index;
   disk : OnlyReads g.D.Disk.image g.D.Disk.faults g.D.Disk.write_faults l.initial.disk l.disk;
 }

@@ -45,20 +45,14 @@ commit-requires-clause-image g c =
     image_of c.prepare.new.self.opening c.args.index.now.opening c.in_ok-prepared.prepared.segment c.args.segment c.in_ok-prepared.ensures.same c.in_ok-prepared.ensures.prepared (g.D.Disk.image c.args.disk.now) c.requires.image
 
 pub returns-in-Ok-clause-kept : goal.returns-in-Ok-clause-kept
-returns-in-Ok-clause-kept g c = kept_to c.prepare.new.self.opening c.args.index.now.opening c.in_ok-prepared.prepared.segment c.args.segment c.in_ok-prepared.ensures.same c.in_ok-prepared.ensures.prepared _ c.in-Ok.ensures.ok
-
-pub returns-in-Ok-clause-opened : goal.returns-in-Ok-clause-opened
-returns-in-Ok-clause-opened g c =
-    opened_to c.prepare.new.self.opening c.args.index.now.opening c.in_ok-prepared.prepared.segment c.args.segment c.in_ok-prepared.ensures.same c.in_ok-prepared.ensures.prepared
-    (g.D.Disk.image c.args.disk.now) (g.D.Disk.image c.commit.new.disk) c.commit.new.self.opening c.in-Ok.ensures.opened
-
-pub returns-in-Ok-clause-gained : goal.returns-in-Ok-clause-gained
-returns-in-Ok-clause-gained g c =
-    gained_to c.prepare.new.self.opening c.args.index.now.opening c.in_ok-prepared.prepared.segment c.args.segment c.in_ok-prepared.ensures.same c.in_ok-prepared.ensures.prepared
-    (g.D.Disk.image c.args.disk.now) (g.D.Disk.image c.commit.new.disk) c.in-Ok.ensures.history
-
-pub returns-in-Ok-clause-fits : goal.returns-in-Ok-clause-fits
-returns-in-Ok-clause-fits g c = fits_to c.prepare.new.self.opening c.args.index.now.opening c.in_ok-prepared.prepared.segment c.args.segment c.in_ok-prepared.ensures.same c.in_ok-prepared.ensures.prepared c.args.limit c.in-Ok.ensures.fits
+returns-in-Ok-clause-kept g c = record {
+  index = kept_to c.prepare.new.self.opening c.args.index.now.opening c.in_ok-prepared.prepared.segment c.args.segment c.in_ok-prepared.ensures.same c.in_ok-prepared.ensures.prepared _ c.in-Ok.ensures.ok;
+  gained = gained_to c.prepare.new.self.opening c.args.index.now.opening c.in_ok-prepared.prepared.segment c.args.segment c.in_ok-prepared.ensures.same c.in_ok-prepared.ensures.prepared
+      (g.D.Disk.image c.args.disk.now) (g.D.Disk.image c.commit.new.disk) c.in-Ok.ensures.history;
+  opened = opened_to c.prepare.new.self.opening c.args.index.now.opening c.in_ok-prepared.prepared.segment c.args.segment c.in_ok-prepared.ensures.same c.in_ok-prepared.ensures.prepared
+      (g.D.Disk.image c.args.disk.now) (g.D.Disk.image c.commit.new.disk) c.commit.new.self.opening c.in-Ok.ensures.opened;
+  fits = fits_to c.prepare.new.self.opening c.args.index.now.opening c.in_ok-prepared.prepared.segment c.args.segment c.in_ok-prepared.ensures.same c.in_ok-prepared.ensures.prepared c.args.limit c.in-Ok.ensures.fits;
+}
 
 pub returns-in-Err-FileFull-clause-fails : goal.returns-in-Err-FileFull-clause-fails
 returns-in-Err-FileFull-clause-fails g c =

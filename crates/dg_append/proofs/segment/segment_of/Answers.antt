@@ -1,4 +1,5 @@
 use Rattle.std.proofs.Common.{◌∙◌, ℕ, length, map}
+use Rattle.dg_append.proofs.BatchSegmentIndex.{tail_rises}
 use Rattle.dg_append.proofs.FrontEvents.{InRange}
 use Rattle.dg_append.proofs.BatchSegmentParts.{as_many_deltas, as_many_lists, begins_after_lists, listed_by, older_long, past_graph, past_long, past_recent, past_sets, range_of, recent_long}
 use Rattle.dg_append.proofs.segment.segment_of.Goals as goal
@@ -18,11 +19,11 @@ pub build-requires-clause-arity : goal.build-requires-clause-arity
 build-requires-clause-arity c = (range_of c.args.index.now.opening c.params-params.result c.events_len-before.result c.params-params.ensures c.events_len-before.ensures.events c.facts.ensures.parameters).arity_some
 
 pub build-requires-clause-recent : goal.build-requires-clause-recent
-build-requires-clause-recent c = recent_long c.args.index.now.opening c.params-params.result c.events_len-before.result c.params-params.ensures c.events_len-before.ensures.events (length c.args.recent.now) c.requires.counted
+build-requires-clause-recent c = recent_long c.args.index.now.opening c.params-params.result c.events_len-before.result c.params-params.ensures c.events_len-before.ensures.events (length c.args.next.now.recent.now) c.requires.next.follows.counted
 
 pub build-requires-clause-older : goal.build-requires-clause-older
 build-requires-clause-older c =
-    older_long c.args.index.now.opening c.params-params.result c.events_len-before.result c.params-params.ensures c.events_len-before.ensures.events (length c.args.events.now) (length c.args.older.now) c.requires.older
+    older_long c.args.index.now.opening c.params-params.result c.events_len-before.result c.params-params.ensures c.events_len-before.ensures.events (length c.args.next.now.events.now) (length c.args.older.now) c.requires.older
 
 pub returns-in-Ok-clause-behind : goal.returns-in-Ok-clause-behind
 returns-in-Ok-clause-behind c =
@@ -36,9 +37,9 @@ returns-in-Ok-clause-behind c =
       names_are = made.3 ∙ parts.3;
       lists = c.in-Ok.ensures.lists ∙ as_many_lists o c.params-params.result c.events_len-before.result c.params-params.ensures c.events_len-before.ensures.events _;
       deltas = c.in-Ok.ensures.deltas ∙ as_many_deltas o c.params-params.result c.events_len-before.result c.params-params.ensures c.events_len-before.ensures.events _;
-      listed = listed_by (floor_of o (first_time_of c.args.events.now)) c.args.recent.now c.args.events.now (map list_row c.in-Ok.segment.lists) c.requires.some (c.in-Ok.ensures.times (floor_of o (first_time_of c.args.events.now)) c.requires.rises);
-      behind = begins_after_lists o c.params-params.result c.events_len-before.result c.params-params.ensures c.events_len-before.ensures.events (floor_of o (first_time_of c.args.events.now)) c.in-Ok.segment.lists c.args.recent.now c.args.events.now
-          (c.in-Ok.ensures.behind (floor_of o (first_time_of c.args.events.now)) c.requires.rises);
+      listed = listed_by (floor_of o (first_time_of c.args.next.now.events.now)) c.args.next.now.recent.now c.args.next.now.events.now (map list_row c.in-Ok.segment.lists) c.requires.next.follows.some (c.in-Ok.ensures.times (floor_of o (first_time_of c.args.next.now.events.now)) (tail_rises c.args.index.now.opening c.args.next.now.recent.now c.args.next.now.events.now c.requires.next.follows));
+      behind = begins_after_lists o c.params-params.result c.events_len-before.result c.params-params.ensures c.events_len-before.ensures.events (floor_of o (first_time_of c.args.next.now.events.now)) c.in-Ok.segment.lists c.args.next.now.recent.now c.args.next.now.events.now
+          (c.in-Ok.ensures.behind (floor_of o (first_time_of c.args.next.now.events.now)) (tail_rises c.args.index.now.opening c.args.next.now.recent.now c.args.next.now.events.now c.requires.next.follows));
     }
 
 pub returns-in-Ok-clause-is : goal.returns-in-Ok-clause-is
@@ -48,14 +49,14 @@ returns-in-Ok-clause-is c past is =
     let n : ℕ = c.events_len-before.result in
     let parts = c.in_ok-segment.ensures.parts in
     c.in-Ok.ensures.is past
-    (past_long o p n c.params-params.ensures c.events_len-before.ensures.events past c.args.recent.now (graph_now c.args.pool.now) c.args.events.now c.args.older.now is)
-    (past_recent o p n c.params-params.ensures c.events_len-before.ensures.events past c.args.recent.now (graph_now c.args.pool.now) c.args.events.now c.args.older.now is)
-    (past_graph o p n c.params-params.ensures c.events_len-before.ensures.events past c.args.recent.now (graph_now c.args.pool.now) c.args.events.now c.args.older.now is
+    (past_long o p n c.params-params.ensures c.events_len-before.ensures.events past c.args.next.now.recent.now (graph_now c.args.pool.now) c.args.next.now.events.now c.args.older.now is)
+    (past_recent o p n c.params-params.ensures c.events_len-before.ensures.events past c.args.next.now.recent.now (graph_now c.args.pool.now) c.args.next.now.events.now c.args.older.now is)
+    (past_graph o p n c.params-params.ensures c.events_len-before.ensures.events past c.args.next.now.recent.now (graph_now c.args.pool.now) c.args.next.now.events.now c.args.older.now is
     c.leaves.result c.leaves-2.result c.in_ok-graph.graph c.leaves.ensures.leaves c.leaves-2.ensures.leaves c.in_ok-graph.ensures)
     is.changes
-    (past_sets o p n c.params-params.ensures c.events_len-before.ensures.events past c.args.recent.now (graph_now c.args.pool.now) c.args.events.now c.args.older.now is)
+    (past_sets o p n c.params-params.ensures c.events_len-before.ensures.events past c.args.next.now.recent.now (graph_now c.args.pool.now) c.args.next.now.events.now c.args.older.now is)
     parts.0 parts.1 parts.2
-    ∙ (λ i. segment_of (c.params-params.ensures i) past (record { names = parts.3 i; events = c.args.events.now }))
+    ∙ (λ i. segment_of (c.params-params.ensures i) past (record { names = parts.3 i; events = c.args.next.now.events.now }))
 
 pub returns-clause-never : goal.returns-clause-never
 returns-clause-never c past is =
@@ -64,10 +65,10 @@ returns-clause-never c past is =
     let n : ℕ = c.events_len-before.result in
     let parts = c.in_ok-segment.ensures.parts in
     let none = c.in-Err-Wide.ensures.fault past
-    (past_long o p n c.params-params.ensures c.events_len-before.ensures.events past c.args.recent.now (graph_now c.args.pool.now) c.args.events.now c.args.older.now is)
-    (past_recent o p n c.params-params.ensures c.events_len-before.ensures.events past c.args.recent.now (graph_now c.args.pool.now) c.args.events.now c.args.older.now is)
-    (past_graph o p n c.params-params.ensures c.events_len-before.ensures.events past c.args.recent.now (graph_now c.args.pool.now) c.args.events.now c.args.older.now is
+    (past_long o p n c.params-params.ensures c.events_len-before.ensures.events past c.args.next.now.recent.now (graph_now c.args.pool.now) c.args.next.now.events.now c.args.older.now is)
+    (past_recent o p n c.params-params.ensures c.events_len-before.ensures.events past c.args.next.now.recent.now (graph_now c.args.pool.now) c.args.next.now.events.now c.args.older.now is)
+    (past_graph o p n c.params-params.ensures c.events_len-before.ensures.events past c.args.next.now.recent.now (graph_now c.args.pool.now) c.args.next.now.events.now c.args.older.now is
     c.leaves.result c.leaves-2.result c.in_ok-graph.graph c.leaves.ensures.leaves c.leaves-2.ensures.leaves c.in_ok-graph.ensures)
     is.changes
-    (past_sets o p n c.params-params.ensures c.events_len-before.ensures.events past c.args.recent.now (graph_now c.args.pool.now) c.args.events.now c.args.older.now is)
+    (past_sets o p n c.params-params.ensures c.events_len-before.ensures.events past c.args.next.now.recent.now (graph_now c.args.pool.now) c.args.next.now.events.now c.args.older.now is)
     in cc (none, c.in-Err-Wide.field-0-is)

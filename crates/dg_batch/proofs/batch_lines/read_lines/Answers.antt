@@ -1,6 +1,7 @@
 use Rattle.std.proofs.Common.{arith}
 use Rattle.dg_io.specs.LinesState.{told}
 use Rattle.dg_io.proofs.FrameLemmas.{advances_both}
+use Rattle.dg_batch.proofs.LinesDue.{due_given_on, due_here, never_given}
 use Rattle.dg_batch.proofs.BatchLineCollection.{gathering_kept, gathering_passed, kept_twice}
 use Rattle.dg_batch.proofs.batch_lines.read_lines.Goals as goal
 use Rattle.dg_batch.proofs.batch_lines.read_lines.Goals.{else-loop-read-test, then-loop-read-test+in_ok-line+then-is_end}
@@ -24,6 +25,9 @@ loop-read-preserved-then-is_whole g c = record {
       (g.S.Source.left c.args.source.now) (g.S.Source.left c.loop-read.source) (g.S.Source.left c.next_line.new.source)
       (g.S.Source.faults c.args.source.now) (g.S.Source.faults c.loop-read.source) (g.S.Source.faults c.next_line.new.source)
       c.loop-read.invariant.advances c.next_line.ensures.advances;
+  begins = λ h. absurd (omega (arith, h));
+  undue = λ at needs.
+      absurd (never_given c.args.lines.now c.loop-read.lines c.loop-read.read c.next_line.result c.in_ok-line.line c.loop-read.invariant.undue c.loop-read.invariant.begins c.next_line.ensures.due c.in_ok-line.was at needs);
   bound = omega arith;
   most = omega arith;
   kept = kept_twice c.args.names.now c.loop-read.names c.keep_change-front.new.names c.loop-read.invariant.kept c.keep_change-front.ensures.kept;
@@ -41,6 +45,9 @@ loop-read-preserved g c = record {
       (g.S.Source.left c.args.source.now) (g.S.Source.left c.loop-read.source) (g.S.Source.left c.next_line.new.source)
       (g.S.Source.faults c.args.source.now) (g.S.Source.faults c.loop-read.source) (g.S.Source.faults c.next_line.new.source)
       c.loop-read.invariant.advances c.next_line.ensures.advances;
+  begins = λ h. absurd (omega (arith, h));
+  undue = λ at needs.
+      absurd (never_given c.args.lines.now c.loop-read.lines c.loop-read.read c.next_line.result c.in_ok-line.line c.loop-read.invariant.undue c.loop-read.invariant.begins c.next_line.ensures.due c.in_ok-line.was at needs);
   bound = omega arith;
   most = omega arith;
   kept = c.loop-read.invariant.kept;
@@ -56,4 +63,17 @@ returns-clause-advances g c =
           (g.S.Source.left c.args.source.now) (g.S.Source.left c.loop-read.source) (g.S.Source.left w.next_line.new.source)
           (g.S.Source.faults c.args.source.now) (g.S.Source.faults c.loop-read.source) (g.S.Source.faults w.next_line.new.source)
           c.loop-read.invariant.advances w.next_line.ensures.advances)
+    ]
+
+pub returns-in_err-line-clause-due : goal.returns-in_err-line-clause-due
+returns-in_err-line-clause-due g c some at needs =
+    due_given_on c.from_residual.result c.in_err-line.field-0.0 c.next_line.result c.from_residual.ensures c.in_err-line.was
+    (due_here c.args.lines.now c.loop-read.lines c.loop-read.read c.next_line.result c.loop-read.invariant.undue c.loop-read.invariant.begins c.next_line.ensures.due at needs)
+
+pub returns-clause-due : goal.returns-clause-due
+returns-clause-due g c some at needs =
+    elim c.loop-read-test.branch [
+      | else-loop-read-test w ↦ absurd (omega (arith, some, c.loop-read.invariant.undue at needs, w.loop-read-test.false))
+      | then-loop-read-test+in_ok-line+then-is_end w ↦
+          absurd (never_given c.args.lines.now c.loop-read.lines c.loop-read.read w.next_line.result w.in_ok-line.line c.loop-read.invariant.undue c.loop-read.invariant.begins w.next_line.ensures.due w.in_ok-line.was at needs)
     ]

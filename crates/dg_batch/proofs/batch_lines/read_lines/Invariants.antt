@@ -1,5 +1,5 @@
 use Rattle.std.proofs.Common.{◌≡◌, ◌-◌, ◌+◌, ◌*◌, ◌≤◌, vec_len, length, take}
-use Rattle.dg_io.specs.LinesState.{told}
+use Rattle.dg_io.specs.LinesState.{NeedsByte, told}
 use Rattle.dg_graph.specs.declared.limits.TheConstants.{NAMES_MAX}
 use Rattle.dg_append.specs.declared.front.Front.TheVariants.{Whole}
 use Rattle.dg_io.specs.Frame.{Advances}
@@ -10,6 +10,8 @@ abbrev pub invariant-loop-read : goal.invariant-loop-read
 invariant-loop-read g l = record {
   gathering : Gathering (told l.fn.lines (g.S.Source.left l.fn.source)) (told l.lines (g.S.Source.left l.source)) l.read l.front l.fn.names l.names l.changes.items;
   advances : Advances l.fn.lines (g.S.Source.left l.fn.source) (g.S.Source.faults l.fn.source) l.lines (g.S.Source.left l.source) (g.S.Source.faults l.source);
+  begins : l.read ≡ 0 → l.lines ≡ l.fn.lines;
+  undue : l.fn.lines.taken ≡ l.fn.lines.limit → NeedsByte l.fn.lines → l.read ≡ 0;
   bound : vec_len l.changes ≤ l.read;
   most : l.read ≤ l.count;
   kept : take (length l.fn.names) l.names ≡ l.fn.names;

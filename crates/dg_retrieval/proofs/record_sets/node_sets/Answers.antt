@@ -1,16 +1,36 @@
 use Rattle.std.proofs.Common.{ap, length, ◌∙◌}
 use Rattle.std.proofs.lemmas.List.{length-map}
+use Rattle.std.proofs.lemmas.Option.{IfSome_then}
+use Rattle.dg_plan.specs.HistoryGraph.{all_columns}
 use Rattle.dg_planner.specs.Trees.{grafts_in}
 use Rattle.dg_retrieval.specs.Beginnings.{leads_in}
-use Rattle.dg_retrieval.proofs.NodeSetLeads.{from_nothing, sets_are}
+use Rattle.dg_retrieval.proofs.CallRecords.{damage_told, of_both, sets_failed}
+use Rattle.dg_retrieval.proofs.NodeSetLeads.{from_nothing, sets_are, sets_named}
 use Rattle.dg_retrieval.proofs.record_sets.node_sets.Goals as goal
 
-pub returns-clause-count : goal.returns-clause-count
-returns-clause-count g c =
-    let leads = leads_in c.in_ok-leads.field-0.leads in
-    ap length c.in_ok-sets_led.ensures ∙ length-map leads from_nothing ∙ c.in_ok-leads.ensures.leads.count
+pub returns-in_err-leads-clause-over : goal.returns-in_err-leads-clause-over
+returns-in_err-leads-clause-over g c =
+    IfSome_then (g.D.Disk.image c.args.disk.now) c.in_err-leads.ensures.over (λ im at z over.
+    let a = at z over in
+    sets_failed c.from_residual-in_err-leads.result c.in_err-leads.field-0.0 c.from_residual-in_err-leads.ensures a.shared a.never)
 
-pub returns-clause-sets : goal.returns-clause-sets
-returns-clause-sets g c =
-    sets_are c.args.index.now.opening c.args.planner.now.edges c.requires.edges c.args.nodes.now c.requires.leaves (grafts_in c.in_ok-leads.field-0.tree) c.args.names c.deref.result.now
-    (leads_in c.in_ok-leads.field-0.leads) (g.D.Disk.image c.args.disk.now) c.in_ok-leads.ensures.leads.there _ c.in_ok-sets_led.ensures
+pub returns-in_err-leads-clause-damage : goal.returns-in_err-leads-clause-damage
+returns-in_err-leads-clause-damage g c =
+    damage_told c.args.name_count c.args.planner.now.edges c.args.index.now.opening all_columns c.args.nodes.now (g.D.Disk.image c.args.disk.now) c.from_residual-in_err-leads.result c.in_err-leads.field-0.0 c.from_residual-in_err-leads.ensures c.in_err-leads.ensures.damage
+
+pub returns-clause-done : goal.returns-clause-done
+returns-clause-done g c =
+    let leads = leads_in c.in_ok-leads.field-0.leads in
+    let done = c.in_ok-leads.ensures.done in
+    record {
+      count = ap length c.in_ok-sets_led.ensures ∙ length-map leads from_nothing ∙ done.leads.count;
+      named = sets_named c.args.name_count leads done.named _ c.in_ok-sets_led.ensures;
+    }
+
+pub returns-clause-over : goal.returns-clause-over
+returns-clause-over g c =
+    let image = g.D.Disk.image c.args.disk.now in
+    let sets =
+    sets_are c.args.index.now.opening c.args.planner.now.edges c.requires.edges c.args.nodes.now c.requires.leaves (grafts_in c.in_ok-leads.field-0.tree) c.args.name_count c.deref.result.now
+    (leads_in c.in_ok-leads.field-0.leads) image c.in_ok-leads.ensures.done.leads.there _ c.in_ok-sets_led.ensures in
+    of_both image sets c.in_ok-leads.ensures.over (λ im s at z over. record { sets = s z over; most = (at z over).shared; never = tt })

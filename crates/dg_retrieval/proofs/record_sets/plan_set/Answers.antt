@@ -1,28 +1,28 @@
 use Rattle.std.proofs.Common.{◌∙◌, subst, sym}
-use Rattle.dg_retrieval.proofs.NodeSetPlans.{from_nothing, set_damaged, set_is, set_led, set_takes}
-use Rattle.dg_retrieval.proofs.TreeLeadReads.{fault_handed}
+use Rattle.std.proofs.lemmas.Option.{IfSome_then}
+use Rattle.dg_retrieval.specs.NamesThere.{NamesAreThere}
+use Rattle.dg_retrieval.proofs.CallRecords.{plan_told, set_failed, set_given}
+use Rattle.dg_retrieval.proofs.NodeSetPlans.{from_nothing, set_led}
 use Rattle.dg_retrieval.proofs.record_sets.plan_set.Goals as goal
-use Rattle.dg_retrieval.specs.ValueRange.{ValuesFit}
 
-pub returns-in_err-lead-clause-damage : goal.returns-in_err-lead-clause-damage
-returns-in_err-lead-clause-damage g c key col is =
-    set_damaged c.args.names (g.D.Disk.image c.args.disk.now) c.args.index.now.opening c.args.planner.now.edges c.requires.edges c.args.node c.in_err-lead.field-0.0 key col
-    (fault_handed c.from_residual.result c.in_err-lead.field-0.0 c.from_residual.ensures is) c.in_err-lead.ensures.damage
+pub returns-in_err-lead-clause-over : goal.returns-in_err-lead-clause-over
+returns-in_err-lead-clause-over g c =
+    IfSome_then (g.D.Disk.image c.args.disk.now) c.in_err-lead.ensures.over (λ im at z over. set_failed c.from_residual.result c.in_err-lead.field-0.0 c.from_residual.ensures (at z over))
+
+pub returns-in_err-lead-clause-led : goal.returns-in_err-lead-clause-led
+returns-in_err-lead-clause-led g c =
+    plan_told c.args.name_count (g.D.Disk.image c.args.disk.now) c.args.index.now.opening c.args.planner.now.edges c.requires.edges c.args.node
+    c.from_residual.result c.in_err-lead.field-0.0 c.from_residual.ensures c.in_err-lead.ensures.damage
 
 pub returns-clause-led : goal.returns-clause-led
 returns-clause-led g c =
-    set_led c.args.names (g.D.Disk.image c.args.disk.now) c.args.index.now.opening c.args.planner.now.edges c.requires.edges c.args.node c.in_ok-lead.lead.delta c.in_ok-lead.ensures.led _
+    set_led c.args.name_count (g.D.Disk.image c.args.disk.now) c.args.index.now.opening c.args.planner.now.edges c.requires.edges c.args.node c.in_ok-lead.lead.delta c.in_ok-lead.ensures.done.led _
     (c.into_sets-set.ensures.plus ∙ from_nothing c.in_ok-lead.lead.delta c.into_sets-set.ensures.delta)
 
-pub returns-clause-set : goal.returns-clause-set
-returns-clause-set g c =
-    set_is c.args.names (g.D.Disk.image c.args.disk.now) c.args.index.now.opening c.args.planner.now.edges c.requires.edges c.args.node c.in_ok-lead.lead.delta c.in_ok-lead.ensures.set _
+pub returns-clause-over : goal.returns-clause-over
+returns-clause-over g c =
+    set_given c.args.name_count (g.D.Disk.image c.args.disk.now) c.args.index.now.opening c.args.planner.now.edges c.requires.edges c.args.node _ _ c.in_ok-lead.lead c.in_ok-lead.ensures.done.plan c.in_ok-lead.ensures.over _
     (c.into_sets-set.ensures.plus ∙ from_nothing c.in_ok-lead.lead.delta c.into_sets-set.ensures.delta)
 
-pub returns-clause-takes : goal.returns-clause-takes
-returns-clause-takes g c =
-    set_takes c.args.names (g.D.Disk.image c.args.disk.now) c.args.index.now.opening c.args.planner.now.edges c.requires.edges c.args.node c.in_ok-lead.lead.weight _ _ c.in_ok-lead.ensures.plan
-    c.in_ok-lead.ensures.takes
-
-pub returns-clause-fit : goal.returns-clause-fit
-returns-clause-fit g c few = subst ValuesFit (sym c.into_sets-set.ensures.plus) (c.in_ok-lead.ensures.fit few)
+pub returns-clause-named : goal.returns-clause-named
+returns-clause-named g c = subst (NamesAreThere c.args.name_count) (sym c.into_sets-set.ensures.plus) c.in_ok-lead.ensures.done.named

@@ -6,29 +6,39 @@ use Rattle.dg_index.specs.OpenedIndex.{event_total}
 use Rattle.dg_plan.specs.IndexGraph.{arcs_of}
 use Rattle.dg_planner.specs.Trees.{grafts_in}
 use Rattle.dg_retrieval.specs.Beginnings.{leads_in}
+use Rattle.dg_retrieval.proofs.CallRecords.{damage_told, of_both, retrieve_failed}
 use Rattle.dg_retrieval.proofs.RetrievalGraphs.{index_over, leads_come, singles_many}
 use Rattle.dg_retrieval.proofs.retrieval.retrieve.Goals as goal
 
-pub returns-clause-count : goal.returns-clause-count
-returns-clause-count g c = (
-  c.in_ok-tree.ensures.leads.count,
-  singles_many (arcs_of c.args.planner.now.edges) (Root ∷ []) c.args.targets.now c.in_ok-tree.field-0.tree.singles.items c.in_ok-tree.ensures.singles,
-)
+pub returns-in_err-tree-clause-over : goal.returns-in_err-tree-clause-over
+returns-in_err-tree-clause-over g c =
+    IfSome_then (g.D.Disk.image c.args.disk.now) c.in_err-tree.ensures.over
+    (λ im at z now over. retrieve_failed c.from_residual.result c.in_err-tree.field-0.0 c.from_residual.ensures (at z (index_over over)))
 
-pub returns-clause-tree : goal.returns-clause-tree
-returns-clause-tree g c = (grafts_in c.in_ok-tree.field-0.tree, c.in_ok-tree.ensures.tree, c.in_ok-tree.ensures.weight, c.in_ok-tree.ensures.leads.bases)
+pub returns-in_err-tree-clause-damage : goal.returns-in_err-tree-clause-damage
+returns-in_err-tree-clause-damage g c =
+    damage_told c.args.name_count c.args.planner.now.edges c.args.index.now.opening c.args.cols c.args.targets.now (g.D.Disk.image c.args.disk.now) c.from_residual.result c.in_err-tree.field-0.0 c.from_residual.ensures c.in_err-tree.ensures.damage
 
-pub returns-clause-offered : goal.returns-clause-offered
-returns-clause-offered g c = c.in_ok-tree.ensures.leads.offered
+pub returns-clause-done : goal.returns-clause-done
+returns-clause-done g c =
+    let done = c.in_ok-tree.ensures.done in
+    record {
+      count = done.leads.count;
+      singles_count = singles_many (arcs_of c.args.planner.now.edges) (Root ∷ []) c.args.targets.now c.in_ok-tree.field-0.tree.singles.items done.singles;
+      tree = (grafts_in c.in_ok-tree.field-0.tree, done.tree, done.weight, done.leads.bases);
+      singles = done.singles;
+      sum = done.sum;
+      offered = done.leads.offered;
+      named = done.named;
+    }
 
-pub returns-clause-graphs : goal.returns-clause-graphs
-returns-clause-graphs g c =
+pub returns-clause-over : goal.returns-clause-over
+returns-clause-over g c =
     let o = c.args.index.now.opening in
-    leads_come o c.args.cols c.args.planner.now.edges (nat_lt 0 (event_total o.batches), c.requires.edges.0, c.requires.edges.1, c.requires.edges.2) c.args.targets.now (grafts_in c.in_ok-tree.field-0.tree) c.args.names
-    c.args.recent.now c.args.times.now (leads_in c.in_ok-tree.field-0.leads) (g.D.Disk.image c.args.disk.now) c.in_ok-tree.ensures.leads.there
-
-pub returns-in_err-tree-clause-most : goal.returns-in_err-tree-clause-most
-returns-in_err-tree-clause-most g c = IfSome_then (g.D.Disk.image c.args.disk.now) c.write_along_tree.ensures.most (λ im at z now over. at z (index_over over))
-
-pub returns-clause-most : goal.returns-clause-most
-returns-clause-most g c = IfSome_then (g.D.Disk.image c.args.disk.now) c.write_along_tree.ensures.most (λ im at z now over. at z (index_over over))
+    let image = g.D.Disk.image c.args.disk.now in
+    let graphs =
+    leads_come o c.args.cols c.args.planner.now.edges (nat_lt 0 (event_total o.batches), c.requires.edges.0, c.requires.edges.1, c.requires.edges.2) c.args.targets.now (grafts_in c.in_ok-tree.field-0.tree) c.args.name_count
+    c.args.recent.now c.args.times.now (leads_in c.in_ok-tree.field-0.leads) image c.in_ok-tree.ensures.done.leads.there in
+    of_both image graphs c.in_ok-tree.ensures.over (λ im come at z now over.
+    let a = at z (index_over over) in
+    record { graphs = λ held are_held points. come z now held over are_held points; takes = a.takes; most = a.most; never = tt })

@@ -1,34 +1,52 @@
 use Rattle.std.proofs.Common.{◌≡◌, ℕ, List, Ok, Some, Option, subst, sym}
-use Rattle.std.specs.Prelude.{IfSome}
+use Rattle.std.specs.Prelude.{IfSome, length}
 use Rattle.dg_file.specs.Index.{IndexState}
 use Rattle.dg_graph.specs.declared.event.Event.{Event}
-use Rattle.dg_index.specs.OpenedIndex.{opening}
+use Rattle.dg_index.specs.OpenedIndex.{Opening, opening}
 use Rattle.dg_now.specs.Now.{NowState}
+use Rattle.dg_start.specs.Calls.{current_bytes}
 use Rattle.dg_start.specs.SessionStart.{Starts}
 use Rattle.dg_start.specs.StoredHistory.{IsSoundHistory, started_with}
+use Rattle.dg_start.proofs.SessionStartOpenings.{keeps_sound}
+use Rattle.dg_start.proofs.SessionStartSets.{plan_handed}
 use Rattle.dg_start.proofs.opening.open_index.Goals as goal
 
-pub returns-clause-started : goal.returns-clause-started
-returns-clause-started g c =
+pub returns-clause-done : goal.returns-clause-done
+returns-clause-done g c =
     let names : List (List ℕ) = c.args.names in
     let now : NowState = c.in_ok-now.field-0.now in
     let recent : List Event = c.in_ok-now.field-0.recent.items in
     let told : Option (List ℕ) = g.D.Disk.image c.args.disk.now in
-    subst (λ (i : IndexState). IfSome told (λ image. Starts image (Ok (started_with (Some i.opening) names now.graph recent))))
-    {x = c.args.index} {y = c.read_current.new.index} (sym {a = c.read_current.new.index} {b = c.args.index} c.read_current.ensures.same) c.in_ok-now.ensures.started
+    let same : c.read_current.new.index ≡ c.args.index = c.read_current.ensures.same in
+    let started : IfSome told (λ image. Starts image (Ok (started_with (Some c.read_current.new.index.opening) names now.graph recent))) =
+    subst (λ (i : IndexState). IfSome told (λ image. Starts image (Ok (started_with (Some i.opening) names now.graph recent)))) {x = c.args.index} {y = c.read_current.new.index}
+    (sym {a = c.read_current.new.index} {b = c.args.index} same) c.in_ok-now.ensures.done.started in
+    let sound : IsSoundHistory (Some c.read_current.new.index.opening) names now recent =
+    subst (λ (i : IndexState). IsSoundHistory (Some i.opening) names now recent) {x = c.args.index} {y = c.read_current.new.index} (sym {a = c.read_current.new.index} {b = c.args.index} same)
+    (record {
+      pending = c.in_ok-now.ensures.done.none;
+      counted = (c.requires.counted_names, c.in_ok-now.ensures.done.many);
+      values = c.in_ok-now.ensures.done.values;
+      named = c.in_ok-now.ensures.done.named;
+      recent_named = c.in_ok-now.ensures.done.recent_named;
+      fit = c.in_ok-now.ensures.done.fit;
+      goes_on = c.in_ok-now.ensures.done.goes_on;
+    }) in
+    record {
+      started = started;
+      stands = keeps_sound c.law_images_start_as_they_stand.ensures told (Some c.read_current.new.index.opening) names now recent started sound;
+      made = c.in_ok-now.ensures.done.made;
+      sound = sound;
+      held =
+          subst (λ (told : Option (List ℕ)). IfSome told (λ image. opening image ≡ Ok (record { index = c.read_current.new.index.opening; names = names })))
+          {x = g.D.Disk.image c.args.disk.now} {y = g.D.Disk.image c.read_current.new.disk} (sym {a = g.D.Disk.image c.read_current.new.disk} {b = g.D.Disk.image c.args.disk.now} c.read_current.ensures.disk.same_image)
+          (subst (λ (i : IndexState). IfSome (g.D.Disk.image c.args.disk.now) (λ image. opening image ≡ Ok (record { index = i.opening; names = names })))
+          {x = c.args.index} {y = c.read_current.new.index} (sym {a = c.read_current.new.index} {b = c.args.index} same) c.requires.image);
+    }
 
-pub returns-clause-sound : goal.returns-clause-sound
-returns-clause-sound g c =
+pub returns-in_err-now-clause-takes : goal.returns-in_err-now-clause-takes
+returns-in_err-now-clause-takes g c =
+    let o : Opening = c.args.index.opening in
     let names : List (List ℕ) = c.args.names in
-    let now : NowState = c.in_ok-now.field-0.now in
-    let recent : List Event = c.in_ok-now.field-0.recent.items in
-    subst (λ (i : IndexState). IsSoundHistory (Some i.opening) names now recent) {x = c.args.index} {y = c.read_current.new.index} (sym {a = c.read_current.new.index} {b = c.args.index} c.read_current.ensures.same)
-    (record { pending = c.in_ok-now.ensures.none; counted = (c.requires.counted_names, c.in_ok-now.ensures.many); values = c.in_ok-now.ensures.values; fit = c.in_ok-now.ensures.fit; goes_on = c.in_ok-now.ensures.goes_on })
-
-pub returns-clause-held : goal.returns-clause-held
-returns-clause-held g c =
-    let names : List (List ℕ) = c.args.names in
-    subst (λ (told : Option (List ℕ)). IfSome told (λ image. opening image ≡ Ok (record { index = c.read_current.new.index.opening; names = names })))
-    {x = g.D.Disk.image c.args.disk.now} {y = g.D.Disk.image c.read_current.new.disk} (sym {a = g.D.Disk.image c.read_current.new.disk} {b = g.D.Disk.image c.args.disk.now} c.read_current.ensures.disk.same_image)
-    (subst (λ (i : IndexState). IfSome (g.D.Disk.image c.args.disk.now) (λ image. opening image ≡ Ok (record { index = i.opening; names = names })))
-    {x = c.args.index} {y = c.read_current.new.index} (sym {a = c.read_current.new.index} {b = c.args.index} c.read_current.ensures.same) c.requires.image)
+    plan_handed (g.D.Disk.image c.args.disk.now) c.from_residual.result c.in_err-now.field-0.0 c.read_current.result (current_bytes o) o (length names) (g.D.Disk.taken c.args.disk.now) (g.D.Disk.taken c.read_current.new.disk)
+    c.from_residual.ensures c.read_current.ensures.takes

@@ -4,7 +4,7 @@ use Rattle.dg_start.proofs.EventSourceOutcomes.{err_is}
 use Rattle.dg_verify.specs.declared.stop.Stop.{Stop}
 use Rattle.dg_verify.specs.Stops.{stop_of_record}
 use Rattle.dg_verify.specs.Verification.{IsStop, keyed, opened_with}
-use Rattle.dg_verify.proofs.VerificationRecords.{events_refused}
+use Rattle.dg_verify.proofs.VerificationRecords.{events_are, events_refused}
 use Rattle.dg_verify.proofs.records.read_events.Goals as goal
 
 pub returns-in_err-read_record-clause-stopped : goal.returns-in_err-read_record-clause-stopped
@@ -15,3 +15,14 @@ returns-in_err-read_record-clause-stopped g c =
     c.from_residual.ensures
     (λ image h. events_refused image c.args.names.now o (record { key = c.args.key; count = c.args.count; ends = record { first = 0; last = 0 } }) c.len.result c.len.ensures.len
     c.in_err-read_record.field-0.0 (c.in_err-read_record.ensures.refused image h))
+
+pub returns-clause-read : goal.returns-clause-read
+returns-clause-read g c image h =
+    events_are image c.args.names.now c.args.index.now.opening (record { key = c.args.key; count = c.args.count; ends = record { first = 0; last = 0 } }) c.len.result c.len.ensures.len
+    c.in_ok-read_record.field-0.items (c.in_ok-read_record.ensures.done.read image h)
+
+pub returns-clause-fit : goal.returns-clause-fit
+returns-clause-fit g c = c.in_ok-read_record.ensures.done.fit
+
+pub returns-clause-many : goal.returns-clause-many
+returns-clause-many g c = c.in_ok-read_record.ensures.done.many

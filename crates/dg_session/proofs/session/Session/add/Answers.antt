@@ -4,20 +4,21 @@ use Rattle.dg_io.specs.LinesState.{told}
 use Rattle.dg_machine.specs.declared.reply.Reply.{Reply}
 use Rattle.dg_machine.specs.Answer.{headed}
 use Rattle.dg_session.specs.SessionState.{SessionState}
-use Rattle.dg_pool.specs.Graphs.{slot_graph}
-use Rattle.dg_batch.specs.HandlesStay.{HandlesStay}
 use Rattle.dg_session.specs.BatchCommand.{command_with, batch_head}
 use Rattle.dg_session.specs.Damage.{Batch_of, DamageIn, MeetsNone}
+use Rattle.dg_batch.specs.declared.halt.Halt.TheVariants as halt
+use Rattle.dg_batch.specs.declared.stop.Stop.TheVariants as stop
 use Rattle.dg_batch.specs.Halt.{batch_halt}
+use Rattle.dg_session.proofs.LimitStops.{not_ok, same_fault}
 use Rattle.dg_session.specs.Parts.{Parts}
 use Rattle.dg_session.specs.Reads.{Reads, ReadsIn}
 use Rattle.dg_session.specs.Session.{Accepts, ComesTo}
 use Rattle.dg_session.specs.contracts.session.Session.{the_view}
-use Rattle.dg_session.proofs.BatchCommandReads.{ReadsNoMore, added_reads, added_undamaged, failed_damage, failed_reads, reads_no_more, unread_damage, unread_reads}
+use Rattle.dg_session.proofs.BatchCommandReads.{ReadsNoMore, added_reads, added_undamaged, failed_damage, failed_reads, reads_no_more, refused_reads, unread_damage, unread_reads}
 use Rattle.dg_session.proofs.BatchCommandForms.{Lines_of}
-use Rattle.dg_session.proofs.BatchCommandStep.{IsAsked, batch_added, batch_failed, failed_stays, is_asked, is_ready, kept_handles, takes_failed, unread_comes, with_handles, with_history}
+use Rattle.dg_session.proofs.BatchCommandStep.{IsAsked, added_slots, batch_added, batch_failed, failed_stays, is_asked, may_add, kept_handles, takes_failed, unread_comes, with_handles, with_history}
 use Rattle.dg_session.proofs.SessionSteps.{Comes, handed_out}
-use Rattle.dg_start.specs.declared.stored_history.StoredHistory.{StoredHistory}
+use Rattle.dg_append.specs.declared.live.Live.{Live}
 use Rattle.dg_session.proofs.session.Session.add.Goals as goal
 
 pub returns-in_err-batch-clause-comes : goal.returns-in_err-batch-clause-comes
@@ -28,7 +29,7 @@ returns-in_err-batch-clause-comes g c =
     let after : Option (List ScriptLine) = told c.read_batch.new.lines (g.S.Source.left c.read_batch.new.source) in
     let image : Option (List ℕ) = g.D.Disk.image c.args.disk.now in
     handed_out c.from_residual.result c.in_err-batch.field-0.0 (Comes (command_with c.args.which c.args.count) c.args.count before after c.args.self.now.parts image q image) c.from_residual.ensures
-    (unread_comes c.args.which c.args.count c.args.self.now.parts q c.self.inside.history.names c.read_batch.new.names before after image c.in_err-batch.field-0.0 c.barred-barred.result
+    (unread_comes c.args.which c.args.count c.args.self.now.parts q c.self.inside.held.live.history.names c.read_batch.new.names before after image c.in_err-batch.field-0.0 c.barred-barred.result
     (λ same. ap (λ ns. let x : Parts = record p { names = ns } in x) same ∙ (ap (λ (x : SessionState). x.parts) c.self.view_is)) c.barred-barred.ensures c.in_err-batch.ensures.reads
     (λ h. c.read_batch.ensures.no_store (c.in_err-batch.was ∙ ap (λ x. Err x) h)))
 
@@ -37,7 +38,7 @@ returns-in_err-batch-clause-damaged g c =
     let before : Option (List ScriptLine) = told c.args.lines.now (g.S.Source.left c.args.source.now) in
     let after : Option (List ScriptLine) = told c.read_batch.new.lines (g.S.Source.left c.read_batch.new.source) in
     handed_out c.from_residual.result c.in_err-batch.field-0.0 (λ r. DamageIn (command_with c.args.which c.args.count) c.args.self.now.parts (g.D.Disk.image c.args.disk.now) r) c.from_residual.ensures
-    (unread_damage c.args.which c.args.count c.args.self.now.parts c.self.inside.history.names c.read_batch.new.names before after c.barred-barred.result (g.D.Disk.image c.args.disk.now) c.in_err-batch.field-0.0
+    (unread_damage c.args.which c.args.count c.args.self.now.parts c.self.inside.held.live.history.names c.read_batch.new.names before after c.barred-barred.result (g.D.Disk.image c.args.disk.now) c.in_err-batch.field-0.0
     c.barred-barred.ensures c.in_err-batch.ensures.reads)
 
 pub returns-in_err-batch-clause-reads : goal.returns-in_err-batch-clause-reads
@@ -45,135 +46,144 @@ returns-in_err-batch-clause-reads g c =
     handed_out c.from_residual.result c.in_err-batch.field-0.0 (λ r. ReadsIn (command_with c.args.which c.args.count) c.args.self.now.parts (g.D.Disk.image c.args.disk.now) r (g.D.Disk.taken c.args.disk.now) (g.D.Disk.taken c.args.disk.now)) c.from_residual.ensures
     (unread_reads (Lines_of c.args.which) c.args.count c.args.self.now.parts (g.D.Disk.image c.args.disk.now) c.in_err-batch.field-0.0 (g.D.Disk.taken c.args.disk.now))
 
-pub add_changes-requires-clause-ready : goal.add_changes-requires-clause-ready
-add_changes-requires-clause-ready g c =
+pub add_changes-requires-clause-may : goal.add_changes-requires-clause-may
+add_changes-requires-clause-may g c =
     let p : Parts = (the_view c.self.inside).parts in
-    let old : StoredHistory = record { index = c.self.inside.history.index; names = c.read_batch.new.names; now = c.self.inside.history.now; recent = c.self.inside.history.recent } in
+    let old : Live = record { history = record c.self.inside.held.live.history { names = c.read_batch.new.names }; pool = c.self.inside.held.live.pool } in
     let before : Option (List ScriptLine) = told c.args.lines.now (g.S.Source.left c.args.source.now) in
     let after : Option (List ScriptLine) = told c.read_batch.new.lines (g.S.Source.left c.read_batch.new.source) in
     let got : List ScriptLine = c.in_ok-batch.ensures.reads.got in
-    let asked : IsAsked (Lines_of c.args.which) got p c.args.count c.len-known.result c.self.inside.limits.file_bytes old c.in_ok-batch.batch =
-    is_asked c.args.which p c.args.self.now.parts c.args.count c.len-known.result old c.in_ok-batch.batch before after c.barred-barred.result (ap (λ (x : SessionState). x.parts) c.self.view_is) c.barred-barred.ensures
-    refl c.len-known.ensures.len refl refl c.self.invariant.0.events c.requires.some c.requires.few c.in_ok-batch.ensures.reads in
-    (is_ready (Lines_of c.args.which) got p c.args.count c.len-known.result c.self.inside.limits.file_bytes old c.in_ok-batch.batch asked c.self.invariant.1)
+    let asked : IsAsked (Lines_of c.args.which) got p c.args.count c.self.inside.limits.file_bytes old c.in_ok-batch.batch =
+    is_asked c.args.which p c.args.self.now.parts c.args.count old c.in_ok-batch.batch before after c.barred-barred.result (ap (λ (x : SessionState). x.parts) c.self.view_is) c.barred-barred.ensures
+    refl refl refl c.self.invariant.0.events c.requires.some c.requires.few c.in_ok-batch.ensures.reads in
+    may_add (Lines_of c.args.which) got p c.args.count c.self.inside.limits.file_bytes old c.in_ok-batch.batch asked c.self.invariant.1.live.sound c.self.invariant.1.live.pool
 
 pub returns-in_err-added-clause-comes : goal.returns-in_err-added-clause-comes
 returns-in_err-added-clause-comes g c =
     let p : Parts = (the_view c.self.inside).parts in
-    let old : StoredHistory = record { index = c.self.inside.history.index; names = c.read_batch.new.names; now = c.self.inside.history.now; recent = c.self.inside.history.recent } in
+    let old : Live = record { history = record c.self.inside.held.live.history { names = c.read_batch.new.names }; pool = c.self.inside.held.live.pool } in
     let before : Option (List ScriptLine) = told c.args.lines.now (g.S.Source.left c.args.source.now) in
     let after : Option (List ScriptLine) = told c.read_batch.new.lines (g.S.Source.left c.read_batch.new.source) in
     let got : List ScriptLine = c.in_ok-batch.ensures.reads.got in
-    let asked : IsAsked (Lines_of c.args.which) got p c.args.count c.len-known.result c.self.inside.limits.file_bytes old c.in_ok-batch.batch =
-    is_asked c.args.which p c.args.self.now.parts c.args.count c.len-known.result old c.in_ok-batch.batch before after c.barred-barred.result (ap (λ (x : SessionState). x.parts) c.self.view_is) c.barred-barred.ensures
-    refl c.len-known.ensures.len refl refl c.self.invariant.0.events c.requires.some c.requires.few c.in_ok-batch.ensures.reads in
+    let asked : IsAsked (Lines_of c.args.which) got p c.args.count c.self.inside.limits.file_bytes old c.in_ok-batch.batch =
+    is_asked c.args.which p c.args.self.now.parts c.args.count old c.in_ok-batch.batch before after c.barred-barred.result (ap (λ (x : SessionState). x.parts) c.self.view_is) c.barred-barred.ensures
+    refl refl refl c.self.invariant.0.events c.requires.some c.requires.few c.in_ok-batch.ensures.reads in
     let image : Option (List ℕ) = g.D.Disk.image c.args.disk.now in
     let then_image : Option (List ℕ) = g.D.Disk.image c.add_changes.new.disk in
-    let q : Parts = with_handles (with_history p c.add_changes.new.history) c.add_changes.new.handles c.add_changes.new.pool in
+    let q : Parts = with_handles (with_history p c.add_changes.new.held.live.history) c.add_changes.new.held.handles c.add_changes.new.held.live.pool.value in
     handed_out c.from_residual-in_err-added.result (batch_halt c.in_err-added.field-0.0) (Comes (command_with c.args.which c.args.count) c.args.count before after c.args.self.now.parts image q then_image) c.from_residual-in_err-added.ensures (
       got,
       takes_failed c.args.count before got after c.in_err-added.field-0.0 c.in_ok-batch.ensures.reads.follows,
       subst (λ (x : Parts). ComesTo (command_with c.args.which c.args.count) got x image q then_image (Err (batch_halt c.in_err-added.field-0.0))) (ap (λ (x : SessionState). x.parts) c.self.view_is)
-          (batch_failed (Lines_of c.args.which) got p c.args.count c.len-known.result c.self.inside.limits.file_bytes old c.in_ok-batch.batch asked c.add_changes.new.history image then_image
+          (batch_failed (Lines_of c.args.which) got p c.args.count c.self.inside.limits.file_bytes old c.in_ok-batch.batch asked c.add_changes.new.held.live image then_image
           c.in_err-added.field-0.0 c.in_err-added.ensures.fails q
-          (failed_stays (Lines_of c.args.which) got p c.args.count c.len-known.result c.self.inside.limits.file_bytes old c.in_ok-batch.batch asked c.add_changes.new.history image then_image
-          c.in_err-added.field-0.0 c.self.inside.handles c.add_changes.new.handles c.self.inside.pool.value c.add_changes.new.pool c.in_err-added.ensures.back (subst (λ p. HandlesStay c.in_err-added.field-0.0 c.self.inside.handles c.add_changes.new.handles p c.add_changes.new.pool) c.deref_mut.ensures.value c.in_err-added.ensures.handles_back) refl)),
+          (failed_stays (Lines_of c.args.which) got p c.args.count c.self.inside.limits.file_bytes old c.in_ok-batch.batch asked c.add_changes.new.held.live image then_image
+          c.in_err-added.field-0.0 c.self.inside.held.handles c.add_changes.new.held.handles c.in_err-added.ensures.back c.in_err-added.ensures.handles refl)),
     )
 
 pub returns-in_err-added-clause-damaged : goal.returns-in_err-added-clause-damaged
 returns-in_err-added-clause-damaged g c =
     let p : Parts = (the_view c.self.inside).parts in
-    let old : StoredHistory = record { index = c.self.inside.history.index; names = c.read_batch.new.names; now = c.self.inside.history.now; recent = c.self.inside.history.recent } in
+    let old : Live = record { history = record c.self.inside.held.live.history { names = c.read_batch.new.names }; pool = c.self.inside.held.live.pool } in
     let before : Option (List ScriptLine) = told c.args.lines.now (g.S.Source.left c.args.source.now) in
     let after : Option (List ScriptLine) = told c.read_batch.new.lines (g.S.Source.left c.read_batch.new.source) in
     let got : List ScriptLine = c.in_ok-batch.ensures.reads.got in
-    let asked : IsAsked (Lines_of c.args.which) got p c.args.count c.len-known.result c.self.inside.limits.file_bytes old c.in_ok-batch.batch =
-    is_asked c.args.which p c.args.self.now.parts c.args.count c.len-known.result old c.in_ok-batch.batch before after c.barred-barred.result (ap (λ (x : SessionState). x.parts) c.self.view_is) c.barred-barred.ensures
-    refl c.len-known.ensures.len refl refl c.self.invariant.0.events c.requires.some c.requires.few c.in_ok-batch.ensures.reads in
+    let asked : IsAsked (Lines_of c.args.which) got p c.args.count c.self.inside.limits.file_bytes old c.in_ok-batch.batch =
+    is_asked c.args.which p c.args.self.now.parts c.args.count old c.in_ok-batch.batch before after c.barred-barred.result (ap (λ (x : SessionState). x.parts) c.self.view_is) c.barred-barred.ensures
+    refl refl refl c.self.invariant.0.events c.requires.some c.requires.few c.in_ok-batch.ensures.reads in
     let image : Option (List ℕ) = g.D.Disk.image c.args.disk.now in
     let then_image : Option (List ℕ) = g.D.Disk.image c.add_changes.new.disk in
     handed_out c.from_residual-in_err-added.result (batch_halt c.in_err-added.field-0.0) (λ r. DamageIn (command_with c.args.which c.args.count) c.args.self.now.parts image r) c.from_residual-in_err-added.ensures
     (subst (λ (x : Parts). DamageIn (command_with c.args.which c.args.count) x image (Err (batch_halt c.in_err-added.field-0.0))) (ap (λ (x : SessionState). x.parts) c.self.view_is)
-    (failed_damage (Lines_of c.args.which) got p c.args.count c.len-known.result c.self.inside.limits.file_bytes old c.in_ok-batch.batch asked image then_image c.in_err-added.field-0.0
+    (failed_damage (Lines_of c.args.which) got p c.args.count c.self.inside.limits.file_bytes old c.in_ok-batch.batch asked image then_image c.in_err-added.field-0.0
     c.in_err-added.ensures.fails))
 
 pub returns-in_err-added-clause-reads : goal.returns-in_err-added-clause-reads
 returns-in_err-added-clause-reads g c =
     let p : Parts = (the_view c.self.inside).parts in
-    let old : StoredHistory = record { index = c.self.inside.history.index; names = c.read_batch.new.names; now = c.self.inside.history.now; recent = c.self.inside.history.recent } in
+    let old : Live = record { history = record c.self.inside.held.live.history { names = c.read_batch.new.names }; pool = c.self.inside.held.live.pool } in
     let before : Option (List ScriptLine) = told c.args.lines.now (g.S.Source.left c.args.source.now) in
     let after : Option (List ScriptLine) = told c.read_batch.new.lines (g.S.Source.left c.read_batch.new.source) in
     let got : List ScriptLine = c.in_ok-batch.ensures.reads.got in
-    let asked : IsAsked (Lines_of c.args.which) got p c.args.count c.len-known.result c.self.inside.limits.file_bytes old c.in_ok-batch.batch =
-    is_asked c.args.which p c.args.self.now.parts c.args.count c.len-known.result old c.in_ok-batch.batch before after c.barred-barred.result (ap (λ (x : SessionState). x.parts) c.self.view_is) c.barred-barred.ensures
-    refl c.len-known.ensures.len refl refl c.self.invariant.0.events c.requires.some c.requires.few c.in_ok-batch.ensures.reads in
+    let asked : IsAsked (Lines_of c.args.which) got p c.args.count c.self.inside.limits.file_bytes old c.in_ok-batch.batch =
+    is_asked c.args.which p c.args.self.now.parts c.args.count old c.in_ok-batch.batch before after c.barred-barred.result (ap (λ (x : SessionState). x.parts) c.self.view_is) c.barred-barred.ensures
+    refl refl refl c.self.invariant.0.events c.requires.some c.requires.few c.in_ok-batch.ensures.reads in
     let image : Option (List ℕ) = g.D.Disk.image c.args.disk.now in
     let then_image : Option (List ℕ) = g.D.Disk.image c.add_changes.new.disk in
     let taken : ℕ = g.D.Disk.taken c.args.disk.now in
     let then_taken : ℕ = g.D.Disk.taken c.add_changes.new.disk in
     let older : ReadsNoMore p image c.args.count taken then_taken =
-    reads_no_more (Lines_of c.args.which) got p c.args.count c.len-known.result c.self.inside.limits.file_bytes old c.in_ok-batch.batch asked image taken then_taken
-    c.add_changes.ensures.takes c.add_changes.ensures.unread in
+    reads_no_more (Lines_of c.args.which) got p c.args.count c.self.inside.limits.file_bytes old c.in_ok-batch.batch asked image c.add_changes.result taken then_taken c.add_changes.ensures.reads in
     handed_out c.from_residual-in_err-added.result (batch_halt c.in_err-added.field-0.0) (λ r. ReadsIn (command_with c.args.which c.args.count) c.args.self.now.parts image r taken then_taken) c.from_residual-in_err-added.ensures
-    (failed_reads (Lines_of c.args.which) c.args.count c.args.self.now.parts image c.in_err-added.field-0.0 taken then_taken (subst (λ (x : Parts). ReadsNoMore x image c.args.count taken then_taken) (ap (λ (x : SessionState). x.parts) c.self.view_is) older) c.in_err-added.ensures.nothing)
+    (failed_reads (Lines_of c.args.which) c.args.count c.args.self.now.parts image c.in_err-added.field-0.0 taken then_taken (subst (λ (x : Parts). ReadsNoMore x image c.args.count taken then_taken) (ap (λ (x : SessionState). x.parts) c.self.view_is) older) (refused_reads (Lines_of c.args.which) got p c.args.count c.self.inside.limits.file_bytes old c.in_ok-batch.batch asked image c.in_err-added.field-0.0 taken then_taken c.in_err-added.ensures.reads))
 
 pub returns-clause-comes : goal.returns-clause-comes
 returns-clause-comes g c =
     let p : Parts = (the_view c.self.inside).parts in
-    let old : StoredHistory = record { index = c.self.inside.history.index; names = c.read_batch.new.names; now = c.self.inside.history.now; recent = c.self.inside.history.recent } in
+    let old : Live = record { history = record c.self.inside.held.live.history { names = c.read_batch.new.names }; pool = c.self.inside.held.live.pool } in
     let before : Option (List ScriptLine) = told c.args.lines.now (g.S.Source.left c.args.source.now) in
     let after : Option (List ScriptLine) = told c.read_batch.new.lines (g.S.Source.left c.read_batch.new.source) in
     let got : List ScriptLine = c.in_ok-batch.ensures.reads.got in
-    let asked : IsAsked (Lines_of c.args.which) got p c.args.count c.len-known.result c.self.inside.limits.file_bytes old c.in_ok-batch.batch =
-    is_asked c.args.which p c.args.self.now.parts c.args.count c.len-known.result old c.in_ok-batch.batch before after c.barred-barred.result (ap (λ (x : SessionState). x.parts) c.self.view_is) c.barred-barred.ensures
-    refl c.len-known.ensures.len refl refl c.self.invariant.0.events c.requires.some c.requires.few c.in_ok-batch.ensures.reads in
+    let asked : IsAsked (Lines_of c.args.which) got p c.args.count c.self.inside.limits.file_bytes old c.in_ok-batch.batch =
+    is_asked c.args.which p c.args.self.now.parts c.args.count old c.in_ok-batch.batch before after c.barred-barred.result (ap (λ (x : SessionState). x.parts) c.self.view_is) c.barred-barred.ensures
+    refl refl refl c.self.invariant.0.events c.requires.some c.requires.few c.in_ok-batch.ensures.reads in
     let image : Option (List ℕ) = g.D.Disk.image c.args.disk.now in
     let then_image : Option (List ℕ) = g.D.Disk.image c.add_changes.new.disk in
-    let q : Parts = with_handles (with_history p c.add_changes.new.history) c.add_changes.new.handles c.add_changes.new.pool in
+    let q : Parts = with_handles (with_history p c.add_changes.new.held.live.history) c.add_changes.new.held.handles c.add_changes.new.held.live.pool.value in
     let reply : headed (batch_head c.args.which c.in_ok-added.added.events c.in_ok-added.added.total c.in_ok-added.added.last) ≡ c.headed.result = sym (c.headed.ensures ∙ ap headed c.head.ensures) in (
       got,
       c.in_ok-batch.ensures.reads.follows,
       subst (λ (r : Reply). Accepts (command_with c.args.which c.args.count) got c.args.self.now.parts image q then_image r) reply
           (subst (λ (x : Parts). Accepts (command_with c.args.which c.args.count) got x image q then_image (headed (batch_head c.args.which c.in_ok-added.added.events c.in_ok-added.added.total c.in_ok-added.added.last))) (ap (λ (x : SessionState). x.parts) c.self.view_is)
           (subst (λ (y : Parts). Accepts (command_with c.args.which c.args.count) got p image y then_image (headed (batch_head c.args.which c.in_ok-added.added.events c.in_ok-added.added.total c.in_ok-added.added.last)))
-          (sym (kept_handles (with_history p c.add_changes.new.history) c.self.inside.handles c.add_changes.new.handles c.self.inside.pool.value c.add_changes.new.pool c.in_ok-added.ensures.handles (λ s. c.in_ok-added.ensures.graphs s ∙ ap (λ p. slot_graph p s) c.deref_mut.ensures.value)))
-          (batch_added (Lines_of c.args.which) got p c.args.count c.len-known.result c.self.inside.limits.file_bytes old c.in_ok-batch.batch asked c.add_changes.new.history image then_image
+          (sym (kept_handles (with_history p c.add_changes.new.held.live.history) c.self.inside.held.handles c.add_changes.new.held.handles c.self.inside.held.live.pool.value c.add_changes.new.held.live.pool.value c.in_ok-added.ensures.handles (added_slots (Lines_of c.args.which) got p c.args.count c.self.inside.limits.file_bytes old c.in_ok-batch.batch asked c.add_changes.new.held.live image then_image c.in_ok-added.added c.in_ok-added.ensures.adds)))
+          (batch_added (Lines_of c.args.which) got p c.args.count c.self.inside.limits.file_bytes old c.in_ok-batch.batch asked c.add_changes.new.held.live image then_image
           c.in_ok-added.added c.in_ok-added.ensures.adds))),
     )
 
 pub returns-clause-reads : goal.returns-clause-reads
 returns-clause-reads g c =
     let p : Parts = (the_view c.self.inside).parts in
-    let old : StoredHistory = record { index = c.self.inside.history.index; names = c.read_batch.new.names; now = c.self.inside.history.now; recent = c.self.inside.history.recent } in
+    let old : Live = record { history = record c.self.inside.held.live.history { names = c.read_batch.new.names }; pool = c.self.inside.held.live.pool } in
     let before : Option (List ScriptLine) = told c.args.lines.now (g.S.Source.left c.args.source.now) in
     let after : Option (List ScriptLine) = told c.read_batch.new.lines (g.S.Source.left c.read_batch.new.source) in
     let got : List ScriptLine = c.in_ok-batch.ensures.reads.got in
-    let asked : IsAsked (Lines_of c.args.which) got p c.args.count c.len-known.result c.self.inside.limits.file_bytes old c.in_ok-batch.batch =
-    is_asked c.args.which p c.args.self.now.parts c.args.count c.len-known.result old c.in_ok-batch.batch before after c.barred-barred.result (ap (λ (x : SessionState). x.parts) c.self.view_is) c.barred-barred.ensures
-    refl c.len-known.ensures.len refl refl c.self.invariant.0.events c.requires.some c.requires.few c.in_ok-batch.ensures.reads in
+    let asked : IsAsked (Lines_of c.args.which) got p c.args.count c.self.inside.limits.file_bytes old c.in_ok-batch.batch =
+    is_asked c.args.which p c.args.self.now.parts c.args.count old c.in_ok-batch.batch before after c.barred-barred.result (ap (λ (x : SessionState). x.parts) c.self.view_is) c.barred-barred.ensures
+    refl refl refl c.self.invariant.0.events c.requires.some c.requires.few c.in_ok-batch.ensures.reads in
     let image : Option (List ℕ) = g.D.Disk.image c.args.disk.now in
     let then_image : Option (List ℕ) = g.D.Disk.image c.add_changes.new.disk in
     let taken : ℕ = g.D.Disk.taken c.args.disk.now in
     let then_taken : ℕ = g.D.Disk.taken c.add_changes.new.disk in
     let older : ReadsNoMore p image c.args.count taken then_taken =
-    reads_no_more (Lines_of c.args.which) got p c.args.count c.len-known.result c.self.inside.limits.file_bytes old c.in_ok-batch.batch asked image taken then_taken
-    c.add_changes.ensures.takes c.add_changes.ensures.unread in
+    reads_no_more (Lines_of c.args.which) got p c.args.count c.self.inside.limits.file_bytes old c.in_ok-batch.batch asked image c.add_changes.result taken then_taken c.add_changes.ensures.reads in
     subst (λ (r : Reply). Reads (command_with c.args.which c.args.count) c.args.self.now.parts image r.head taken then_taken) (sym (c.headed.ensures ∙ ap headed c.head.ensures))
-    (added_reads (Lines_of c.args.which) c.args.count c.args.self.now.parts image c.add_changes.new.history.now.graph c.in_ok-added.added.events c.in_ok-added.added.total c.in_ok-added.added.last taken then_taken
+    (added_reads (Lines_of c.args.which) c.args.count c.args.self.now.parts image c.add_changes.new.held.live.history.now.graph c.in_ok-added.added.events c.in_ok-added.added.total c.in_ok-added.added.last taken then_taken
     (subst (λ (x : Parts). ReadsNoMore x image c.args.count taken then_taken) (ap (λ (x : SessionState). x.parts) c.self.view_is) older))
 
 pub returns-clause-undamaged : goal.returns-clause-undamaged
 returns-clause-undamaged g c =
     let p : Parts = (the_view c.self.inside).parts in
-    let old : StoredHistory = record { index = c.self.inside.history.index; names = c.read_batch.new.names; now = c.self.inside.history.now; recent = c.self.inside.history.recent } in
+    let old : Live = record { history = record c.self.inside.held.live.history { names = c.read_batch.new.names }; pool = c.self.inside.held.live.pool } in
     let before : Option (List ScriptLine) = told c.args.lines.now (g.S.Source.left c.args.source.now) in
     let after : Option (List ScriptLine) = told c.read_batch.new.lines (g.S.Source.left c.read_batch.new.source) in
     let got : List ScriptLine = c.in_ok-batch.ensures.reads.got in
-    let asked : IsAsked (Lines_of c.args.which) got p c.args.count c.len-known.result c.self.inside.limits.file_bytes old c.in_ok-batch.batch =
-    is_asked c.args.which p c.args.self.now.parts c.args.count c.len-known.result old c.in_ok-batch.batch before after c.barred-barred.result (ap (λ (x : SessionState). x.parts) c.self.view_is) c.barred-barred.ensures
-    refl c.len-known.ensures.len refl refl c.self.invariant.0.events c.requires.some c.requires.few c.in_ok-batch.ensures.reads in
+    let asked : IsAsked (Lines_of c.args.which) got p c.args.count c.self.inside.limits.file_bytes old c.in_ok-batch.batch =
+    is_asked c.args.which p c.args.self.now.parts c.args.count old c.in_ok-batch.batch before after c.barred-barred.result (ap (λ (x : SessionState). x.parts) c.self.view_is) c.barred-barred.ensures
+    refl refl refl c.self.invariant.0.events c.requires.some c.requires.few c.in_ok-batch.ensures.reads in
     let image : Option (List ℕ) = g.D.Disk.image c.args.disk.now in
     let then_image : Option (List ℕ) = g.D.Disk.image c.add_changes.new.disk in
     subst (λ (x : Parts). MeetsNone (Batch_of c.args.count) x image) (ap (λ (x : SessionState). x.parts) c.self.view_is)
-    (added_undamaged (Lines_of c.args.which) got p c.args.count c.len-known.result c.self.inside.limits.file_bytes old c.in_ok-batch.batch asked image then_image c.add_changes.new.history c.in_ok-added.added
-    c.in_ok-added.ensures.adds c.in_ok-added.ensures.whole)
+    (added_undamaged (Lines_of c.args.which) got p c.args.count c.self.inside.limits.file_bytes old c.in_ok-batch.batch asked image then_image c.add_changes.new.held.live c.in_ok-added.added
+    c.in_ok-added.ensures.adds)
+
+pub returns-in_err-batch-clause-due : goal.returns-in_err-batch-clause-due
+returns-in_err-batch-clause-due g c some at needs =
+    handed_out c.from_residual.result c.in_err-batch.field-0.0 (λ r. r ≡ Err (halt.Stop stop.Limit)) c.from_residual.ensures
+    (ap (λ h. Err h) (same_fault c.read_batch.result (halt.Stop stop.Limit) c.in_err-batch.field-0.0 (c.read_batch.ensures.due some at needs) c.in_err-batch.was))
+
+pub returns-in_err-added-clause-due : goal.returns-in_err-added-clause-due
+returns-in_err-added-clause-due g c some at needs = absurd (not_ok c.read_batch.result c.in_ok-batch.batch (halt.Stop stop.Limit) (c.read_batch.ensures.due some at needs) c.in_ok-batch.was)
+
+pub returns-clause-due : goal.returns-clause-due
+returns-clause-due g c some at needs = absurd (not_ok c.read_batch.result c.in_ok-batch.batch (halt.Stop stop.Limit) (c.read_batch.ensures.due some at needs) c.in_ok-batch.was)

@@ -1,6 +1,9 @@
-use Rattle.std.proofs.Common.{[], ◌∷◌, sym, ◌∙◌, ap, subst}
-use Rattle.std.proofs.lemmas.List.Elements.{All-nil, All-same}
+use Rattle.std.proofs.Common.{ℕ, [], ◌∷◌, length, sym, ◌∙◌, ap, subst}
+use Rattle.std.proofs.lemmas.List.Elements.{All-cons, All-nil, All-same}
+use Rattle.std.specs.List.{All}
 use Rattle.dg_graph.specs.Composition.{applied}
+use Rattle.dg_retrieval.specs.NamesThere.{NamesAreThere}
+use Rattle.dg_session.proofs.GraphNames.{there_after, there_base}
 use Rattle.dg_graph.specs.Elements.{shown}
 use Rattle.dg_handles.specs.Handles.{slot_graphs}
 use Rattle.dg_machine.specs.declared.stands.Stands.TheVariants.{Base}
@@ -22,16 +25,24 @@ invariant_of-self c =
     let pool = c.deref_mut.result.now in
     let here = c.deref_mut.ensures.value in
     let r = c.add_base in
+    let n : ℕ = length s.held.live.history.names in
     let view : Parts = (the_view s).parts in
     let node = c.args.node in
     let cols = c.args.cols in
     let free = found_free view node (ap (λ (x : SessionState). refused_by x.parts 0 (node_needs node)) c.self.view_is ∙ c.requires.free) in (
       c.self.invariant.0,
-      c.self.invariant.1,
-      r.ensures.now ∙ ap graph_now here ∙ c.self.invariant.2,
-      r.ensures.tied,
-      node_after r.result view.index s.handles r.new.self node cols r.ensures.table r.ensures.err free.0 free.1 c.self.invariant.4,
+      record {
+        live = record { sound = c.self.invariant.1.live.sound; pool = r.ensures.now ∙ ap graph_now here ∙ c.self.invariant.1.live.pool };
+        handles = record {
+          tied = r.ensures.tied;
+          nodes = node_after r.result view.index s.held.handles r.new.self node cols r.ensures.table r.ensures.err free.0 free.1 c.self.invariant.1.handles.nodes;
+          adjacency = adjacency_after r.result s.held.handles r.new.self pool r.new.pool ((s.held.handles.next, Base node cols) ∷ []) (shown (applied c.args.delta.now []) cols ∷ []) s.held.adjacency
+              r.ensures.table r.ensures.graphs r.ensures.err r.ensures.graphs_err (subst (λ p. KeepsAdjacency s.held.handles.table (slot_graphs p s.held.handles.slots) s.held.adjacency) (sym here) c.self.invariant.1.handles.adjacency);
+          named = there_after n r.result s.held.handles r.new.self pool r.new.pool (shown (applied c.args.delta.now []) cols ∷ []) r.ensures.graphs r.ensures.err r.ensures.graphs_err
+              (subst (λ p. All (NamesAreThere n) (slot_graphs p s.held.handles.slots)) (sym here) c.self.invariant.1.handles.named)
+              (All-cons (NamesAreThere n) (shown (applied c.args.delta.now []) cols) [] (there_base n c.args.delta.now cols (subst (λ (x : SessionState). NamesAreThere (length x.parts.names) c.args.delta.now.plus) (sym c.self.view_is) c.requires.named))
+              (All-nil (NamesAreThere n)));
+        };
+      },
       All-same (IsGraphOver view.index r.new.self.table) c.forget.new.self [] c.forget.ensures (All-nil (IsGraphOver view.index r.new.self.table)),
-      adjacency_after r.result s.handles r.new.self pool r.new.pool ((s.handles.next, Base node cols) ∷ []) (shown (applied c.args.delta.now []) cols ∷ []) s.adjacency
-          r.ensures.table r.ensures.graphs r.ensures.err r.ensures.graphs_err (subst (λ p. KeepsAdjacency s.handles.table (slot_graphs p s.handles.slots) s.adjacency) (sym here) c.self.invariant.6),
     )

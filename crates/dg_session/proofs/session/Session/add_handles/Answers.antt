@@ -1,5 +1,8 @@
 use Rattle.std.proofs.Common.{◌≡◌, ℕ, ◌+◌, ◌++◌, List, Option, length, map, sym, ◌∙◌, ap, subst}
+use Rattle.std.specs.List.{All}
 use Rattle.std.proofs.lemmas.List.{length-map}
+use Rattle.dg_retrieval.specs.NamesThere.{NamesAreThere}
+use Rattle.dg_session.proofs.GraphNames.{there_after, there_held, there_led}
 use Rattle.dg_graph.specs.declared.element.Element.{Element}
 use Rattle.dg_handles.specs.Handles.{slot_graphs, held_by, numbered, overlays_on}
 use Rattle.dg_machine.specs.declared.stands.Stands.{Stands}
@@ -30,8 +33,8 @@ returns-clause-added c =
     let number : c.add.new.self.next ≡ view.next + length new = next ∙ ap (λ n. view.next + n) (sym many) in
     let lists : slot_graphs c.add.new.pool c.add.new.self.slots ≡ view.graphs ++ map (led_to view.graph (listed_by view) cols) leads =
     graphs
-    ∙ ap (λ p. slot_graphs p c.self.inside.handles.slots ++ map (led_to (graph_now p) (held_by c.self.inside.handles.table (slot_graphs p c.self.inside.handles.slots)) cols) leads) c.deref_mut.ensures.value
-    ∙ ap (λ (g : List Element). view.graphs ++ map (led_to g (listed_by view) cols) leads) c.self.invariant.2 in
+    ∙ ap (λ p. slot_graphs p c.self.inside.held.handles.slots ++ map (led_to (graph_now p) (held_by c.self.inside.held.handles.table (slot_graphs p c.self.inside.held.handles.slots)) cols) leads) c.deref_mut.ensures.value
+    ∙ ap (λ (g : List Element). view.graphs ++ map (led_to g (listed_by view) cols) leads) c.self.invariant.1.live.pool in
     let first : q ≡ with_new_handles view new (map (led_to view.graph (listed_by view) cols) leads) = (λ i. record view { table = table i; graphs = lists i; next = number i }) in
     first ∙ ap (λ (x : SessionState). with_new_handles x.parts new (map (led_to x.parts.graph (listed_by x.parts) cols) leads)) c.self.view_is)
     c.add.ensures.table c.add.ensures.next c.add.ensures.graphs
@@ -39,18 +42,28 @@ returns-clause-added c =
 pub invariant_of-self : goal.invariant_of-self
 invariant_of-self c =
     let index = (the_view c.self.inside).parts.index in
-    let old = c.self.inside.handles in
+    let old = c.self.inside.held.handles in
     let pool = c.deref_mut.result.now in
     let here = c.deref_mut.ensures.value in
+    let n : ℕ = length c.self.inside.held.live.history.names in
+    let before : All (NamesAreThere n) (slot_graphs pool old.slots) = subst (λ p. All (NamesAreThere n) (slot_graphs p old.slots)) (sym here) c.self.invariant.1.handles.named in
     let bases : List (Option ℕ) = bases_of (leads_in c.args.leads.now) in (
       c.self.invariant.0,
-      c.self.invariant.1,
-      c.add.ensures.now ∙ ap graph_now here ∙ c.self.invariant.2,
-      c.add.ensures.tied,
-      nodes_after c.add.result index old c.add.new.self c.args.cols c.args.times.now bases c.add.ensures.table c.add.ensures.err c.self.invariant.4,
-      kept_after c.add.result index old c.add.new.self c.self.inside.planner c.args.cols c.args.times.now bases c.add.ensures.table c.add.ensures.err c.self.invariant.5,
-      adjacency_after c.add.result old c.add.new.self pool c.add.new.pool (numbered old.next (overlays_on c.args.cols c.args.times.now bases))
-          (map (led_to (graph_now pool) (held_by old.table (slot_graphs pool old.slots)) c.args.cols) (leads_in c.args.leads.now)) c.self.inside.adjacency
-          c.add.ensures.table c.add.ensures.graphs c.add.ensures.err c.add.ensures.graphs_err
-          (subst (λ p. KeepsAdjacency old.table (slot_graphs p old.slots) c.self.inside.adjacency) (sym here) c.self.invariant.6),
+      record {
+        live = record { sound = c.self.invariant.1.live.sound; pool = c.add.ensures.now ∙ ap graph_now here ∙ c.self.invariant.1.live.pool };
+        handles = record {
+          tied = c.add.ensures.tied;
+          nodes = nodes_after c.add.result index old c.add.new.self c.args.cols c.args.times.now bases c.add.ensures.table c.add.ensures.err c.self.invariant.1.handles.nodes;
+          adjacency = adjacency_after c.add.result old c.add.new.self pool c.add.new.pool (numbered old.next (overlays_on c.args.cols c.args.times.now bases))
+              (map (led_to (graph_now pool) (held_by old.table (slot_graphs pool old.slots)) c.args.cols) (leads_in c.args.leads.now)) c.self.inside.held.adjacency
+              c.add.ensures.table c.add.ensures.graphs c.add.ensures.err c.add.ensures.graphs_err
+              (subst (λ p. KeepsAdjacency old.table (slot_graphs p old.slots) c.self.inside.held.adjacency) (sym here) c.self.invariant.1.handles.adjacency);
+          named = there_after n c.add.result old c.add.new.self pool c.add.new.pool
+              (map (led_to (graph_now pool) (held_by old.table (slot_graphs pool old.slots)) c.args.cols) (leads_in c.args.leads.now)) c.add.ensures.graphs c.add.ensures.err c.add.ensures.graphs_err before
+              (there_led n (graph_now pool) (held_by old.table (slot_graphs pool old.slots)) c.args.cols
+              (subst (NamesAreThere n) (sym (ap graph_now here ∙ c.self.invariant.1.live.pool)) c.self.invariant.1.live.sound.named) (there_held n old.table (slot_graphs pool old.slots) before) (leads_in c.args.leads.now)
+              (subst (λ (x : SessionState). All (λ (l : GraphLead). NamesAreThere (length x.parts.names) l.delta.plus) (leads_in c.args.leads.now)) (sym c.self.view_is) c.requires.named));
+        };
+      },
+      kept_after c.add.result index old c.add.new.self c.self.inside.planner c.args.cols c.args.times.now bases c.add.ensures.table c.add.ensures.err c.self.invariant.2,
     )

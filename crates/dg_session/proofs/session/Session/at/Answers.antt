@@ -16,7 +16,7 @@ use Rattle.dg_session.specs.Reads.{ReadsIn, bases_of, listed_by, with_new_handle
 use Rattle.dg_session.specs.Session.{ComesTo}
 use Rattle.dg_session.proofs.SessionInstantStep.{at_answers, at_fails}
 use Rattle.dg_session.proofs.DamageStep.{damage_in, tells_no_damage}
-use Rattle.dg_session.proofs.SessionRetrievals.{reads_failing, retrieval_failed}
+use Rattle.dg_session.proofs.SessionRetrievals.{most_of, never_of, reads_failing, retrieval_failed, retrieved_of}
 use Rattle.dg_session.proofs.SessionSteps.{handed_out, lacking_denies, refused_denies, refused_not_read}
 use Rattle.dg_session.proofs.session.Session.at.Goals as goal
 
@@ -30,7 +30,7 @@ returns-in_err-leads-clause-comes g c =
     handed_out c.from_residual.result (retrieval_halt c.in_err-leads.field-0.0)
     (ComesTo (command.At c.args.t c.args.cols) [] c.args.self.now.parts (g.D.Disk.image c.args.disk.now) c.retrieve.new.self.parts (g.D.Disk.image c.retrieve.new.disk)) c.from_residual.ensures
     (retrieval_failed (command.At c.args.t c.args.cols) c.args.self.now.parts c.retrieve.new.self.parts (g.D.Disk.image c.args.disk.now) (g.D.Disk.image c.retrieve.new.disk) c.in_err-leads.field-0.0 refl refl (λ m. refl)
-    (sym c.refused_retrieval.ensures ∙ c.in_default.is) (ap (λ (x : SessionState). x.parts) c.retrieve.ensures.same) c.retrieve.ensures.disk.same_image c.in_err-leads.ensures.never)
+    (sym c.refused_retrieval.ensures ∙ c.in_default.is) (ap (λ (x : SessionState). x.parts) c.retrieve.ensures.same) c.retrieve.ensures.disk.same_image (never_of c.args.self.now.parts (c.args.t ∷ []) c.args.cols (g.D.Disk.image c.args.disk.now) (g.D.Disk.taken c.args.disk.now) (g.D.Disk.taken c.retrieve.new.disk) c.in_err-leads.field-0.0 c.in_err-leads.ensures.over))
 
 pub returns-in_err-leads-clause-reads : goal.returns-in_err-leads-clause-reads
 returns-in_err-leads-clause-reads g c =
@@ -38,7 +38,7 @@ returns-in_err-leads-clause-reads g c =
     (λ r. ReadsIn (command.At c.args.t c.args.cols) c.args.self.now.parts (g.D.Disk.image c.args.disk.now) r (g.D.Disk.taken c.args.disk.now) (g.D.Disk.taken c.retrieve.new.disk)) c.from_residual.ensures
     (reads_failing (command.At c.args.t c.args.cols) c.args.self.now.parts (g.D.Disk.image c.args.disk.now) c.in_err-leads.field-0.0 (g.D.Disk.taken c.args.disk.now) (g.D.Disk.taken c.retrieve.new.disk)
     (λ h refuses late. at_fails c.args.self.now.parts c.args.t c.args.cols (g.D.Disk.image c.args.disk.now) h (g.D.Disk.taken c.args.disk.now) (g.D.Disk.taken c.retrieve.new.disk) refuses late
-    (sym c.refused_retrieval.ensures ∙ c.in_default.is) c.retrieve.ensures.most))
+    (sym c.refused_retrieval.ensures ∙ c.in_default.is) (most_of c.args.self.now.parts (c.args.t ∷ []) c.args.cols (g.D.Disk.image c.args.disk.now) (g.D.Disk.taken c.args.disk.now) (g.D.Disk.taken c.retrieve.new.disk) c.retrieve.result c.retrieve.ensures.over)))
 
 pub returns-in_err-add_handles-clause-comes : goal.returns-in_err-add_handles-clause-comes
 returns-in_err-add_handles-clause-comes g c =
@@ -52,7 +52,7 @@ returns-in_err-add_handles-clause-reads g c =
     handed_out c.from_residual-in_err-add_handles.result (halt.Refusal refusal.OutOfMemory)
     (λ r. ReadsIn (command.At c.args.t c.args.cols) c.args.self.now.parts (g.D.Disk.image c.args.disk.now) r (g.D.Disk.taken c.args.disk.now) (g.D.Disk.taken c.retrieve.new.disk)) c.from_residual-in_err-add_handles.ensures
     (at_fails c.args.self.now.parts c.args.t c.args.cols (g.D.Disk.image c.args.disk.now) (head.Refused refusal.OutOfMemory) (g.D.Disk.taken c.args.disk.now) (g.D.Disk.taken c.retrieve.new.disk) refl refl
-    (sym c.refused_retrieval.ensures ∙ c.in_default.is) c.retrieve.ensures.most)
+    (sym c.refused_retrieval.ensures ∙ c.in_default.is) (most_of c.args.self.now.parts (c.args.t ∷ []) c.args.cols (g.D.Disk.image c.args.disk.now) (g.D.Disk.taken c.args.disk.now) (g.D.Disk.taken c.retrieve.new.disk) c.retrieve.result c.retrieve.ensures.over))
 
 pub returns-clause-comes : goal.returns-clause-comes
 returns-clause-comes g c =
@@ -63,7 +63,7 @@ returns-clause-comes g c =
     let same : c.retrieve.new.self.parts ≡ p = ap (λ (x : SessionState). x.parts) c.retrieve.ensures.same in
     let number : c.next-handle.result ≡ p.next = c.next-handle.ensures.next ∙ ap (λ (x : SessionState). x.parts.next) (c.self.view_is ∙ c.retrieve.ensures.same) in
     at_answers p c.add_handles.new.self.parts c.args.t cols (g.D.Disk.image c.args.disk.now) (g.D.Disk.image c.retrieve.new.disk) r.weight r.singles.items (bases_of (leads_in r.leads)) (map (led_to p.graph (listed_by p) cols) (leads_in r.leads)) c.headed.result
-    (sym c.refused_retrieval.ensures ∙ c.in_default.is) c.retrieve.ensures.disk.same_image c.in_ok-leads.ensures.retrieved
+    (sym c.refused_retrieval.ensures ∙ c.in_default.is) c.retrieve.ensures.disk.same_image (retrieved_of c.args.self.now.parts (c.args.t ∷ []) c.args.cols (g.D.Disk.image c.args.disk.now) (g.D.Disk.taken c.args.disk.now) (g.D.Disk.taken c.retrieve.new.disk) c.in_ok-leads.field-0 c.in_ok-leads.ensures.over)
     (c.in_ok-add_handles.ensures.added ∙ (λ i. with_new_handles (same i) (overlays_on cols times (bases_of (leads_in r.leads))) (map (led_to (same i).graph (listed_by (same i)) cols) (leads_in r.leads))))
     (c.headed.ensures ∙ ap (λ n. headed (head.At n r.weight)) number)
 
@@ -88,4 +88,4 @@ returns-clause-damaged g c =
     subst (λ (x : Reply). DamageIs (command.At c.args.t c.args.cols) c.args.self.now.parts (g.D.Disk.image c.args.disk.now) x.head) (sym c.headed.ensures) tt
 
 pub returns-clause-undamaged : goal.returns-clause-undamaged
-returns-clause-undamaged g c = c.in_ok-leads.ensures.whole
+returns-clause-undamaged g c = c.in_ok-leads.ensures.damage

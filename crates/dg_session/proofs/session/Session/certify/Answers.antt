@@ -14,6 +14,8 @@ use Rattle.dg_machine.specs.declared.reply.Refusal.TheVariants as refusal
 use Rattle.dg_machine.specs.CommandGrammar.{plan_line_in}
 use Rattle.dg_plan.specs.CertificateLines.{judged}
 use Rattle.dg_batch.specs.declared.halt.Halt.TheVariants as halt
+use Rattle.dg_batch.specs.declared.stop.Stop.TheVariants as stop
+use Rattle.dg_session.proofs.LimitStops.{not_ok, same_fault}
 use Rattle.dg_session.specs.Parts.{Parts}
 use Rattle.dg_retrieval.specs.KeptGraph.{kept_edges}
 use Rattle.dg_session.proofs.KeptPlannerGraphs.{graph_for}
@@ -41,7 +43,7 @@ returns-in_err-index-clause-comes g c image =
     let p : Parts = c.args.self.now.parts in
     let same = ap (λ (x : SessionState). x.parts) c.self.view_is in
     let refused =
-    subst (λ r. IfErr r (λ refusal. (q : Parts) → q.index ≡ index_opening c.self.inside.history.index → (handles : ℕ) → refused_by q 0 (retrieval_needs (c.args.t ∷ []) handles) ≡ Some refusal)) c.in_err-index.was c.index_at-index.ensures.refused in
+    subst (λ r. IfErr r (λ refusal. (q : Parts) → q.index ≡ index_opening c.self.inside.held.live.history.index → (handles : ℕ) → refused_by q 0 (retrieval_needs (c.args.t ∷ []) handles) ≡ Some refusal)) c.in_err-index.was c.index_at-index.ensures.refused in
     handed_out c.from_residual-in_err-index.result (halt.Refusal c.in_err-index.field-0.0) (Comes (command.Certify c.args.t c.args.cols c.args.count) c.args.count before after p image p image) c.from_residual-in_err-index.ensures
     (w.0, w.1, certificate_out p c.args.t c.args.cols c.args.count c.in_ok-written.written.read w.0 image c.in_err-index.field-0.0 w.2.read_is (omega (arith, c.if-written-count.false)) (refused p (ap (λ (x : Parts). x.index) (sym same)) 0))
 
@@ -51,7 +53,7 @@ returns-then-not-written-clause-comes g c image =
     let p : Parts = c.args.self.now.parts in
     let same = ap (λ (x : SessionState). x.parts) c.self.view_is in
     let o = c.in_ok-index.index.now.opening in
-    let there : p.index ≡ Some o = ap (λ (x : Parts). x.index) (sym same) ∙ subst (λ r. IfOk r (λ x. index_opening c.self.inside.history.index ≡ Some x.now.opening)) c.in_ok-index.was c.index_at-index.ensures.index in
+    let there : p.index ≡ Some o = ap (λ (x : Parts). x.index) (sym same) ∙ subst (λ r. IfOk r (λ x. index_opening c.self.inside.held.live.history.index ≡ Some x.now.opening)) c.in_ok-index.was c.index_at-index.ensures.index in
     let inside : in_range (span_held (Some o)) c.args.t ≡ true = subst (λ r. IfOk r (λ x. in_range (span_held (Some x.now.opening)) c.args.t ≡ true)) c.in_ok-index.was c.index_at-index.ensures.there in
     let enough = enough_read w.0 c.in_ok-written.written.read c.args.count w.2.read_is (omega (arith, c.if-written-count.false)) in
     (w.0, w.1, certificate_lacks p c.args.t c.args.cols c.args.count w.0 image o there inside enough)
@@ -64,7 +66,7 @@ returns-in_err-keep-clause-comes g c image =
     let p : Parts = c.args.self.now.parts in
     let same = ap (λ (x : SessionState). x.parts) c.self.view_is in
     let o = c.in_ok-index.index.now.opening in
-    let there : p.index ≡ Some o = ap (λ (x : Parts). x.index) (sym same) ∙ subst (λ r. IfOk r (λ x. index_opening c.self.inside.history.index ≡ Some x.now.opening)) c.in_ok-index.was c.index_at-index.ensures.index in
+    let there : p.index ≡ Some o = ap (λ (x : Parts). x.index) (sym same) ∙ subst (λ r. IfOk r (λ x. index_opening c.self.inside.held.live.history.index ≡ Some x.now.opening)) c.in_ok-index.was c.index_at-index.ensures.index in
     let inside : in_range (span_held (Some o)) c.args.t ≡ true = subst (λ r. IfOk r (λ x. in_range (span_held (Some x.now.opening)) c.args.t ≡ true)) c.in_ok-index.was c.index_at-index.ensures.there in
     let enough = enough_read w.0 c.in_ok-written.written.read c.args.count w.2.read_is (omega (arith, c.if-written-count.false)) in
     handed_out c.from_residual-in_err-keep.result (halt.Refusal refusal.OutOfMemory) (Comes (command.Certify c.args.t c.args.cols c.args.count) c.args.count before after p image _ image) c.from_residual-in_err-keep.ensures (
@@ -82,7 +84,7 @@ returns-in_err-verdict-clause-comes g c image =
     let p : Parts = c.args.self.now.parts in
     let same = ap (λ (x : SessionState). x.parts) c.self.view_is in
     let o = c.in_ok-index.index.now.opening in
-    let there : p.index ≡ Some o = ap (λ (x : Parts). x.index) (sym same) ∙ subst (λ r. IfOk r (λ x. index_opening c.self.inside.history.index ≡ Some x.now.opening)) c.in_ok-index.was c.index_at-index.ensures.index in
+    let there : p.index ≡ Some o = ap (λ (x : Parts). x.index) (sym same) ∙ subst (λ r. IfOk r (λ x. index_opening c.self.inside.held.live.history.index ≡ Some x.now.opening)) c.in_ok-index.was c.index_at-index.ensures.index in
     let inside : in_range (span_held (Some o)) c.args.t ≡ true = subst (λ r. IfOk r (λ x. in_range (span_held (Some x.now.opening)) c.args.t ≡ true)) c.in_ok-index.was c.index_at-index.ensures.there in
     let enough = enough_read w.0 c.in_ok-written.written.read c.args.count w.2.read_is (omega (arith, c.if-written-count.false)) in
     handed_out c.from_residual-in_err-verdict.result (halt.Refusal refusal.OutOfMemory) (Comes (command.Certify c.args.t c.args.cols c.args.count) c.args.count before after p image _ image) c.from_residual-in_err-verdict.ensures (
@@ -98,11 +100,11 @@ returns-clause-comes g c image =
     let p : Parts = c.args.self.now.parts in
     let same = ap (λ (x : SessionState). x.parts) c.self.view_is in
     let o = c.in_ok-index.index.now.opening in
-    let there : p.index ≡ Some o = ap (λ (x : Parts). x.index) (sym same) ∙ subst (λ r. IfOk r (λ x. index_opening c.self.inside.history.index ≡ Some x.now.opening)) c.in_ok-index.was c.index_at-index.ensures.index in
+    let there : p.index ≡ Some o = ap (λ (x : Parts). x.index) (sym same) ∙ subst (λ r. IfOk r (λ x. index_opening c.self.inside.held.live.history.index ≡ Some x.now.opening)) c.in_ok-index.was c.index_at-index.ensures.index in
     let inside : in_range (span_held (Some o)) c.args.t ≡ true = subst (λ r. IfOk r (λ x. in_range (span_held (Some x.now.opening)) c.args.t ≡ true)) c.in_ok-index.was c.index_at-index.ensures.there in
     let enough = enough_read w.0 c.in_ok-written.written.read c.args.count w.2.read_is (omega (arith, c.if-written-count.false)) in
     let cols = c.args.cols in
-    let graph = graph_for o c.self.inside.handles.table cols c.keep.new.self c.planner-planner.result.now c.keep.ensures.kept c.planner-planner.ensures.planner in
+    let graph = graph_for o c.self.inside.held.handles.table cols c.keep.new.self c.planner-planner.result.now c.keep.ensures.kept c.planner-planner.ensures.planner in
     let edges : c.planner-planner.result.now.edges ≡ kept_edges o (event_total o.batches) cols (bases_in cols p.table) =
     graph.edges ∙ ap (λ (x : Parts). kept_edges o (event_total o.batches) cols (bases_in cols x.table)) same in
     let recent : c.deref.result.now ≡ p.recent = c.deref.ensures.value ∙ ap (λ (x : Parts). x.recent) same in
@@ -114,3 +116,26 @@ returns-clause-comes g c image =
           (c.in_ok-verdict.ensures ∙ (λ i. judged (edges i) (graph.nodes i) (point_over o (recent i) c.args.t) (said i)))
           c.headed.ensures),
     )
+
+pub returns-in_err-written-clause-due : goal.returns-in_err-written-clause-due
+returns-in_err-written-clause-due g c some at needs =
+    handed_out c.from_residual.result (halt.Stop c.in_err-written.field-0.0) (λ r. r ≡ Err (halt.Stop stop.Limit)) c.from_residual.ensures
+    (ap (λ s. Err (halt.Stop s)) (same_fault c.read_plan_lines.result stop.Limit c.in_err-written.field-0.0 (c.read_plan_lines.ensures.due some at needs) c.in_err-written.was))
+
+pub returns-then-written-count-clause-due : goal.returns-then-written-count-clause-due
+returns-then-written-count-clause-due g c some at needs = absurd (not_ok c.read_plan_lines.result c.in_ok-written.written stop.Limit (c.read_plan_lines.ensures.due some at needs) c.in_ok-written.was)
+
+pub returns-in_err-index-clause-due : goal.returns-in_err-index-clause-due
+returns-in_err-index-clause-due g c some at needs = absurd (not_ok c.read_plan_lines.result c.in_ok-written.written stop.Limit (c.read_plan_lines.ensures.due some at needs) c.in_ok-written.was)
+
+pub returns-then-not-written-clause-due : goal.returns-then-not-written-clause-due
+returns-then-not-written-clause-due g c some at needs = absurd (not_ok c.read_plan_lines.result c.in_ok-written.written stop.Limit (c.read_plan_lines.ensures.due some at needs) c.in_ok-written.was)
+
+pub returns-in_err-keep-clause-due : goal.returns-in_err-keep-clause-due
+returns-in_err-keep-clause-due g c some at needs = absurd (not_ok c.read_plan_lines.result c.in_ok-written.written stop.Limit (c.read_plan_lines.ensures.due some at needs) c.in_ok-written.was)
+
+pub returns-in_err-verdict-clause-due : goal.returns-in_err-verdict-clause-due
+returns-in_err-verdict-clause-due g c some at needs = absurd (not_ok c.read_plan_lines.result c.in_ok-written.written stop.Limit (c.read_plan_lines.ensures.due some at needs) c.in_ok-written.was)
+
+pub returns-clause-due : goal.returns-clause-due
+returns-clause-due g c some at needs = absurd (not_ok c.read_plan_lines.result c.in_ok-written.written stop.Limit (c.read_plan_lines.ensures.due some at needs) c.in_ok-written.was)

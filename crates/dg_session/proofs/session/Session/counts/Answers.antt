@@ -1,8 +1,11 @@
-use Rattle.std.proofs.Common.{◌∙◌, ap, false, refl}
+use Rattle.std.proofs.Common.{subst, ◌∙◌, length, ap, false, refl}
 use Rattle.dg_machine.specs.declared.command.Command.TheVariants as command
 use Rattle.dg_machine.specs.declared.command.Query.TheVariants as query
 use Rattle.dg_machine.specs.declared.reply.Head.TheVariants as head
 use Rattle.dg_machine.specs.Answer.{counting, headed}
+use Rattle.std.specs.List.{All}
+use Rattle.dg_retrieval.specs.NamesThere.{NamesAreThere}
+use Rattle.dg_session.specs.SessionState.{SessionState}
 use Rattle.dg_session.proofs.AnswerQueries.{counts_asks}
 use Rattle.dg_session.proofs.SessionQueryStep.{ask_answers, ask_unknown}
 use Rattle.dg_session.proofs.session.Session.counts.Goals as goal
@@ -17,3 +20,4 @@ returns-clause-comes c image =
     let h = c.args.handle in
     ask_answers (command.Ask h query.Counts) h false (counting h) (counts_asks h) c.args.self.now.parts c.in_ok-graph_of.field-0 image c.headed.result c.in_ok-graph_of.ensures.live refl c.in_ok-graph_of.ensures.graph
     (c.headed.ensures ∙ ap (λ x. headed (head.Counts h x)) c.counts-counts.ensures)
+    (subst (λ (x : SessionState). All (NamesAreThere (length x.parts.names)) x.parts.graphs) c.self.view_is c.self.invariant.1.handles.named)

@@ -33,7 +33,7 @@ returns-clause-comes g c =
     let none : refused_by c.args.self.now.parts 0 (needs (making c.args.params)) ≡ None = sym c.refused_creation.ensures ∙ c.in_default.is in
     let names : c.args.self.now.parts.names ≡ [] =
     ap (λ (p : Parts). p.names) (sym (ap (λ (x : SessionState). x.parts) c.self.view_is))
-    ∙ no_names (index_opening c.self.inside.history.index) c.self.inside.history.names c.self.inside.history.now.graph c.self.inside.history.recent.items c.self.invariant.1.counted
+    ∙ no_names (index_opening c.self.inside.held.live.history.index) c.self.inside.held.live.history.names c.self.inside.held.live.history.now.graph c.self.inside.held.live.history.recent.items c.self.invariant.1.live.sound.counted
     (ap (λ (p : Parts). is_some p.index) (ap (λ (x : SessionState). x.parts) c.self.view_is) ∙ (creation_free c.args.self.now.parts c.args.params none).0) in
     create_answers c.args.self.now.parts new c.args.params (g.D.Disk.image c.args.disk.now) (g.D.Disk.image c.create.new.disk) c.in_ok-index.index.opening c.headed.result none
     c.in_ok-index.ensures.image c.in_ok-index.ensures.opened c.in_ok-index.ensures.made names (ap (λ (p : Parts). let x : Parts = record p { index = Some c.in_ok-index.index.opening } in x) (ap (λ (x : SessionState). x.parts) c.self.view_is)) c.headed.ensures

@@ -1,4 +1,4 @@
-use Rattle.std.proofs.Common.{◌≡◌, List, length, map, refl, ◌∙◌, ap, rules, false}
+use Rattle.std.proofs.Common.{subst, ◌≡◌, List, length, map, refl, ◌∙◌, ap, rules, false}
 use Rattle.dg_graph.specs.declared.element.Element.{Element}
 use Rattle.dg_machine.specs.declared.command.Command.TheVariants as command
 use Rattle.dg_machine.specs.declared.command.Query.TheVariants as query
@@ -7,6 +7,9 @@ use Rattle.dg_machine.specs.declared.reply.BodyLine.TheVariants as line
 use Rattle.dg_machine.specs.declared.reply.Head.TheVariants as head
 use Rattle.dg_machine.specs.declared.reply.Reply.{Reply}
 use Rattle.dg_machine.specs.Answer.{listing}
+use Rattle.std.specs.List.{All}
+use Rattle.dg_retrieval.specs.NamesThere.{NamesAreThere}
+use Rattle.dg_session.specs.SessionState.{SessionState}
 use Rattle.dg_session.proofs.AnswerQueries.{list_asks}
 use Rattle.dg_session.proofs.SessionQueryStep.{ask_answers, ask_lacks, ask_unknown}
 use Rattle.dg_session.proofs.session.Session.list.Goals as goal
@@ -31,3 +34,4 @@ returns-clause-comes c image =
     let count : c.len.result ≡ length graph = len ∙ ap length is in
     ask_answers (command.Ask h query.List) h false (listing h) (list_asks h) c.args.self.now.parts graph image (record { head = head.List h c.len.result; body = c.from_elements.result }) c.in_ok-graph.ensures.live refl c.in_ok-graph.ensures.graph
     (λ i. let r : Reply = record { head = head.List h (count i); body = (c.from_elements.ensures ∙ ap (map line) is) i } in r)
+    (subst (λ (x : SessionState). All (NamesAreThere (length x.parts.names)) x.parts.graphs) c.self.view_is c.self.invariant.1.handles.named)

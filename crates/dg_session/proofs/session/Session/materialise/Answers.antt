@@ -16,7 +16,7 @@ use Rattle.dg_session.specs.Parts.{Parts}
 use Rattle.dg_session.specs.Reads.{ReadsIn, with_new_handles}
 use Rattle.dg_session.specs.Session.{ComesTo}
 use Rattle.dg_session.proofs.DamageStep.{node_damage_in, tells_no_damage}
-use Rattle.dg_session.proofs.SessionNodeStep.{node_answers, node_fails}
+use Rattle.dg_session.proofs.SessionNodeStep.{node_answers, node_fails, node_held_of, node_most_of, node_never_of}
 use Rattle.dg_session.proofs.SessionRetrievals.{reads_failing, retrieval_failed}
 use Rattle.dg_session.proofs.SessionSteps.{handed_out, lacking_denies, refused_denies, refused_not_read}
 use Rattle.dg_session.proofs.session.Session.materialise.Goals as goal
@@ -35,14 +35,14 @@ returns-in_err-delta-clause-comes g c =
     handed_out c.from_residual.result (retrieval_halt c.in_err-delta.field-0.0)
     (ComesTo (command.Materialise c.args.node c.args.cols) [] c.args.self.now.parts (g.D.Disk.image c.args.disk.now) c.lead_to_node.new.self.parts (g.D.Disk.image c.lead_to_node.new.disk)) c.from_residual.ensures
     (retrieval_failed (command.Materialise c.args.node c.args.cols) c.args.self.now.parts c.lead_to_node.new.self.parts (g.D.Disk.image c.args.disk.now) (g.D.Disk.image c.lead_to_node.new.disk) c.in_err-delta.field-0.0 refl refl (λ m. refl) (sym c.refused_node.ensures ∙ c.in_default.is)
-    (ap (λ (x : SessionState). x.parts) c.lead_to_node.ensures.same) c.lead_to_node.ensures.disk.same_image c.in_err-delta.ensures.never)
+    (ap (λ (x : SessionState). x.parts) c.lead_to_node.ensures.same) c.lead_to_node.ensures.disk.same_image (node_never_of c.args.self.now.parts c.args.node c.args.cols (g.D.Disk.image c.args.disk.now) (g.D.Disk.taken c.args.disk.now) (g.D.Disk.taken c.lead_to_node.new.disk) c.in_err-delta.field-0.0 c.in_err-delta.ensures.over))
 
 pub returns-in_err-delta-clause-reads : goal.returns-in_err-delta-clause-reads
 returns-in_err-delta-clause-reads g c =
     handed_out c.from_residual.result (retrieval_halt c.in_err-delta.field-0.0)
     (λ r. ReadsIn (command.Materialise c.args.node c.args.cols) c.args.self.now.parts (g.D.Disk.image c.args.disk.now) r (g.D.Disk.taken c.args.disk.now) (g.D.Disk.taken c.lead_to_node.new.disk)) c.from_residual.ensures
     (reads_failing (command.Materialise c.args.node c.args.cols) c.args.self.now.parts (g.D.Disk.image c.args.disk.now) c.in_err-delta.field-0.0 (g.D.Disk.taken c.args.disk.now) (g.D.Disk.taken c.lead_to_node.new.disk)
-    (λ h refuses late. node_fails c.args.self.now.parts c.args.node c.args.cols (g.D.Disk.image c.args.disk.now) h (g.D.Disk.taken c.args.disk.now) (g.D.Disk.taken c.lead_to_node.new.disk) refuses late (sym c.refused_node.ensures ∙ c.in_default.is) c.lead_to_node.ensures.most))
+    (λ h refuses late. node_fails c.args.self.now.parts c.args.node c.args.cols (g.D.Disk.image c.args.disk.now) h (g.D.Disk.taken c.args.disk.now) (g.D.Disk.taken c.lead_to_node.new.disk) refuses late (sym c.refused_node.ensures ∙ c.in_default.is) (node_most_of c.args.self.now.parts c.args.node c.args.cols (g.D.Disk.image c.args.disk.now) (g.D.Disk.taken c.args.disk.now) (g.D.Disk.taken c.lead_to_node.new.disk) c.lead_to_node.result c.lead_to_node.ensures.over)))
 
 pub returns-in_err-delta-clause-damaged : goal.returns-in_err-delta-clause-damaged
 returns-in_err-delta-clause-damaged g c =
@@ -61,7 +61,7 @@ pub returns-in_err-add_base-clause-reads : goal.returns-in_err-add_base-clause-r
 returns-in_err-add_base-clause-reads g c =
     handed_out c.from_residual-in_err-add_base.result (halt.Refusal refusal.OutOfMemory)
     (λ r. ReadsIn (command.Materialise c.args.node c.args.cols) c.args.self.now.parts (g.D.Disk.image c.args.disk.now) r (g.D.Disk.taken c.args.disk.now) (g.D.Disk.taken c.lead_to_node.new.disk)) c.from_residual-in_err-add_base.ensures
-    (node_fails c.args.self.now.parts c.args.node c.args.cols (g.D.Disk.image c.args.disk.now) (head.Refused refusal.OutOfMemory) (g.D.Disk.taken c.args.disk.now) (g.D.Disk.taken c.lead_to_node.new.disk) refl refl (sym c.refused_node.ensures ∙ c.in_default.is) c.lead_to_node.ensures.most)
+    (node_fails c.args.self.now.parts c.args.node c.args.cols (g.D.Disk.image c.args.disk.now) (head.Refused refusal.OutOfMemory) (g.D.Disk.taken c.args.disk.now) (g.D.Disk.taken c.lead_to_node.new.disk) refl refl (sym c.refused_node.ensures ∙ c.in_default.is) (node_most_of c.args.self.now.parts c.args.node c.args.cols (g.D.Disk.image c.args.disk.now) (g.D.Disk.taken c.args.disk.now) (g.D.Disk.taken c.lead_to_node.new.disk) c.lead_to_node.result c.lead_to_node.ensures.over))
 
 pub returns-in_err-add_base-clause-damaged : goal.returns-in_err-add_base-clause-damaged
 returns-in_err-add_base-clause-damaged g c =
@@ -76,7 +76,7 @@ returns-clause-comes g c =
     let same : c.lead_to_node.new.self.parts ≡ p = (ap (λ (x : SessionState). x.parts) c.lead_to_node.ensures.same) in
     let number : c.next-handle.result ≡ p.next = c.next-handle.ensures.next ∙ ap (λ (x : SessionState). x.parts.next) (c.self.view_is ∙ c.lead_to_node.ensures.same) in
     node_answers p c.add_base.new.self.parts c.args.node cols (g.D.Disk.image c.args.disk.now) (g.D.Disk.image c.lead_to_node.new.disk) r.weight (shown (applied r.delta []) cols) c.headed.result
-    (sym c.refused_node.ensures ∙ c.in_default.is) c.lead_to_node.ensures.disk.same_image c.in_ok-delta.ensures.held
+    (sym c.refused_node.ensures ∙ c.in_default.is) c.lead_to_node.ensures.disk.same_image (node_held_of c.args.self.now.parts c.args.node c.args.cols (g.D.Disk.image c.args.disk.now) (g.D.Disk.taken c.args.disk.now) (g.D.Disk.taken c.lead_to_node.new.disk) c.in_ok-delta.field-0 c.in_ok-delta.ensures.over)
     (c.in_ok-add_base.ensures.added ∙ (λ i. with_new_handles (same i) (Base c.args.node cols ∷ []) (shown (applied r.delta []) cols ∷ [])))
     (c.headed.ensures ∙ ap (λ n. headed (head.Materialised n r.weight)) number)
 
@@ -85,4 +85,4 @@ returns-clause-damaged g c =
     subst (λ (x : Reply). DamageIs (command.Materialise c.args.node c.args.cols) c.args.self.now.parts (g.D.Disk.image c.args.disk.now) x.head) (sym c.headed.ensures) tt
 
 pub returns-clause-undamaged : goal.returns-clause-undamaged
-returns-clause-undamaged g c = c.in_ok-delta.ensures.whole
+returns-clause-undamaged g c = c.in_ok-delta.ensures.damage

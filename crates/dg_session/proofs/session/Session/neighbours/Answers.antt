@@ -1,4 +1,4 @@
-use Rattle.std.proofs.Common.{[], true, refl, sym, ◌∙◌, ap, subst}
+use Rattle.std.proofs.Common.{[], true, length, refl, sym, ◌∙◌, ap, subst}
 use Rattle.std.specs.Prelude.{is_some}
 use Rattle.dg_handles.specs.Handles.{graph_among, slot_graphs}
 use Rattle.dg_machine.specs.declared.command.Command.TheVariants as command
@@ -7,6 +7,8 @@ use Rattle.dg_machine.specs.Answer.{neighbours_reply}
 use Rattle.dg_machine.specs.MachineState.{stands_at}
 use Rattle.dg_machine.specs.Needs.{is_base}
 use Rattle.dg_batch.specs.declared.halt.Halt.TheVariants as halt
+use Rattle.std.specs.List.{All}
+use Rattle.dg_retrieval.specs.NamesThere.{NamesAreThere}
 use Rattle.dg_session.specs.Parts.{Parts}
 use Rattle.dg_session.specs.Session.{Accepts, ComesTo}
 use Rattle.dg_session.specs.SessionState.{SessionState}
@@ -28,7 +30,7 @@ returns-in_err-graph-clause-comes c image =
 pub neighbours-requires : goal.neighbours-requires
 neighbours-requires c =
     let s = c.self.inside in
-    record { kept = serves c.args.handle s.handles.table (slot_graphs s.pool.value s.handles.slots) c.in_ok-graph.graph s.adjacency (ap (λ p. graph_among c.args.handle s.handles.table (slot_graphs p s.handles.slots)) (sym c.deref.ensures) ∙ c.in_ok-graph.ensures.graph) c.self.invariant.6 }
+    record { kept = serves c.args.handle s.held.handles.table (slot_graphs s.held.live.pool.value s.held.handles.slots) c.in_ok-graph.graph s.held.adjacency (ap (λ p. graph_among c.args.handle s.held.handles.table (slot_graphs p s.held.handles.slots)) (sym c.deref.ensures) ∙ c.in_ok-graph.ensures.graph) c.self.invariant.1.handles.adjacency }
 
 pub returns-in_err-neighbours-clause-comes : goal.returns-in_err-neighbours-clause-comes
 returns-in_err-neighbours-clause-comes c image =
@@ -62,20 +64,25 @@ returns-clause-comes c image =
     let live = ap (λ (x : SessionState). is_some (stands_at h x.parts.table)) (sym c.self.view_is) ∙ c.in_ok-graph.ensures.live in
     let overlay = ap (λ (x : SessionState). is_base (stands_at h x.parts.table)) (sym c.self.view_is) ∙ c.in_ok-graph.ensures.overlay in
     let found = ap (λ (x : SessionState). graph_among h x.parts.table x.parts.graphs) (sym c.self.view_is)
-    ∙ ap (λ p. graph_among h c.self.inside.handles.table (slot_graphs p c.self.inside.handles.slots)) (sym c.deref.ensures) ∙ c.in_ok-graph.ensures.graph in
+    ∙ ap (λ p. graph_among h c.self.inside.held.handles.table (slot_graphs p c.self.inside.held.handles.slots)) (sym c.deref.ensures) ∙ c.in_ok-graph.ensures.graph in
     subst (λ (x : Parts). Accepts (command.Ask h (query.Neighbours id)) [] p image x image reply) (sym (ap (λ (x : SessionState). x.parts) c.self.view_is))
     (ask_answers (command.Ask h (query.Neighbours id)) h true (neighbours_reply h id) (neighbours_asks h id) p graph image reply live overlay found
-    (c.in_ok-neighbours_reply.ensures graph (c.deref-2.ensures.value ∙ c.in_ok-neighbours.ensures.neighbours)))
+    (c.in_ok-neighbours_reply.ensures graph (c.deref-2.ensures.value ∙ c.in_ok-neighbours.ensures.neighbours))
+    (subst (λ (x : SessionState). All (NamesAreThere (length x.parts.names)) x.parts.graphs) c.self.view_is c.self.invariant.1.handles.named))
 
 pub invariant_of-self : goal.invariant_of-self
 invariant_of-self c =
     let s = c.self.inside in (
       c.self.invariant.0,
-      c.self.invariant.1,
+      record {
+        live = record { sound = c.self.invariant.1.live.sound; pool = c.self.invariant.1.live.pool };
+        handles = record {
+          tied = c.self.invariant.1.handles.tied;
+          nodes = c.self.invariant.1.handles.nodes;
+          adjacency = kept_turned_to c.args.handle s.held.handles.table (slot_graphs s.held.live.pool.value s.held.handles.slots) c.in_ok-graph.graph s.held.adjacency c.neighbours.new.self
+              (ap (λ p. graph_among c.args.handle s.held.handles.table (slot_graphs p s.held.handles.slots)) (sym c.deref.ensures) ∙ c.in_ok-graph.ensures.graph) c.self.invariant.1.handles.adjacency c.neighbours.ensures.kept;
+          named = c.self.invariant.1.handles.named;
+        };
+      },
       c.self.invariant.2,
-      c.self.invariant.3,
-      c.self.invariant.4,
-      c.self.invariant.5,
-      kept_turned_to c.args.handle s.handles.table (slot_graphs s.pool.value s.handles.slots) c.in_ok-graph.graph s.adjacency c.neighbours.new.self
-          (ap (λ p. graph_among c.args.handle s.handles.table (slot_graphs p s.handles.slots)) (sym c.deref.ensures) ∙ c.in_ok-graph.ensures.graph) c.self.invariant.6 c.neighbours.ensures.kept,
     )

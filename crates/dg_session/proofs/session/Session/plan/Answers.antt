@@ -45,7 +45,7 @@ returns-clause-comes c image =
     let reply = c.in_ok-plan_reply.field-0 in
     let same = ap (λ (x : SessionState). x.parts) c.self.view_is in
     let there = ap (λ (x : Parts). x.index) (sym same) ∙ c.in_ok-index.ensures.index in
-    let graph = graph_for o c.self.inside.handles.table cols c.keep.new.self c.planner-planner.result.now c.keep.ensures.kept c.planner-planner.ensures.planner in
+    let graph = graph_for o c.self.inside.held.handles.table cols c.keep.new.self c.planner-planner.result.now c.keep.ensures.kept c.planner-planner.ensures.planner in
     let edges = graph.edges ∙ ap (λ (x : Parts). kept_edges o (event_total o.batches) cols (bases_in cols x.table)) same in
     let recent = c.deref.ensures.value ∙ ap (λ (x : Parts). x.recent) same in
     subst (λ (x : Parts). Accepts (command.Plan c.args.t cols) [] p image x image reply) (sym same)

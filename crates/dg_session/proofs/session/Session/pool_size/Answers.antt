@@ -9,11 +9,11 @@ use Rattle.dg_session.proofs.session.Session.pool_size.Goals as goal
 pub returns : goal.returns
 returns c = record {
   comes = λ image.
-      let pool = c.self.inside.pool.value in
-      let slots = c.self.inside.handles.slots in
+      let pool = c.self.inside.held.live.pool.value in
+      let slots = c.self.inside.held.handles.slots in
       let live = c.live-live.ensures.live ∙ ap (λ (x : SessionState). length x.parts.table) c.self.view_is in
-      let size = c.union_len-size.ensures ∙ ap (λ p. length (union_of p)) c.deref.ensures ∙ ap length (c.law_union_of_handles.ensures pool c.self.inside.handles c.self.invariant.3)
-      ∙ ap (λ g. length (union_of_sets (g ∷ slot_graphs pool slots))) c.self.invariant.2
+      let size = c.union_len-size.ensures ∙ ap (λ p. length (union_of p)) c.deref.ensures ∙ ap length (c.law_union_of_handles.ensures pool c.self.inside.held.handles c.self.invariant.1.handles.tied)
+      ∙ ap (λ g. length (union_of_sets (g ∷ slot_graphs pool slots))) c.self.invariant.1.live.pool
       ∙ ap (λ (x : SessionState). length (union_of_sets (x.parts.graph ∷ x.parts.graphs))) c.self.view_is in
       pool_answers c.args.self.now.parts c.live-live.result c.union_len-size.result image c.headed.result live size c.headed.ensures;
 }

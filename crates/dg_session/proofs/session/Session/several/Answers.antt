@@ -19,7 +19,7 @@ use Rattle.dg_session.specs.Reads.{IsRetrieved, ReadsIn, bases_of, listed_by, wi
 use Rattle.dg_session.specs.Session.{ComesTo, StandsFor, refused_by, retrieval_needs}
 use Rattle.dg_session.proofs.SessionSeveralStep.{needed, several_answers, several_fails}
 use Rattle.dg_session.proofs.DamageStep.{damage_in, tells_no_damage}
-use Rattle.dg_session.proofs.SessionRetrievals.{reads_failing, retrieval_failed}
+use Rattle.dg_session.proofs.SessionRetrievals.{most_of, never_of, reads_failing, retrieval_failed, retrieved_of}
 use Rattle.dg_session.proofs.SessionSteps.{handed_out, lacking_denies, refused_denies, refused_not_read}
 use Rattle.dg_session.proofs.session.Session.several.Goals as goal
 
@@ -40,7 +40,7 @@ returns-in_err-retrieved-clause-comes g c =
     handed_out c.from_residual.result (retrieval_halt c.in_err-retrieved.field-0.0)
     (ComesTo (command.Several c.args.cols c.args.times c.args.count) [] p (g.D.Disk.image c.args.disk.now) c.retrieve.new.self.parts (g.D.Disk.image c.retrieve.new.disk)) c.from_residual.ensures
     (retrieval_failed (command.Several c.args.cols c.args.times c.args.count) p c.retrieve.new.self.parts (g.D.Disk.image c.args.disk.now) (g.D.Disk.image c.retrieve.new.disk) c.in_err-retrieved.field-0.0 refl refl (λ m. refl)
-    (needed p c.args.cols c.args.times c.args.count number c.requires.some ∙ none) (ap (λ (x : SessionState). x.parts) c.retrieve.ensures.same) c.retrieve.ensures.disk.same_image c.in_err-retrieved.ensures.never)
+    (needed p c.args.cols c.args.times c.args.count number c.requires.some ∙ none) (ap (λ (x : SessionState). x.parts) c.retrieve.ensures.same) c.retrieve.ensures.disk.same_image (never_of c.args.self.now.parts c.first_of-asked.result.now c.args.cols (g.D.Disk.image c.args.disk.now) (g.D.Disk.taken c.args.disk.now) (g.D.Disk.taken c.retrieve.new.disk) c.in_err-retrieved.field-0.0 c.in_err-retrieved.ensures.over))
 
 pub returns-in_err-retrieved-clause-reads : goal.returns-in_err-retrieved-clause-reads
 returns-in_err-retrieved-clause-reads g c =
@@ -52,7 +52,7 @@ returns-in_err-retrieved-clause-reads g c =
     (λ r. ReadsIn (command.Several c.args.cols c.args.times c.args.count) p (g.D.Disk.image c.args.disk.now) r (g.D.Disk.taken c.args.disk.now) (g.D.Disk.taken c.retrieve.new.disk)) c.from_residual.ensures
     (reads_failing (command.Several c.args.cols c.args.times c.args.count) p (g.D.Disk.image c.args.disk.now) c.in_err-retrieved.field-0.0 (g.D.Disk.taken c.args.disk.now) (g.D.Disk.taken c.retrieve.new.disk)
     (λ h refuses late. several_fails p c.args.cols c.args.times c.args.count number c.requires.some none (g.D.Disk.image c.args.disk.now) h (g.D.Disk.taken c.args.disk.now) (g.D.Disk.taken c.retrieve.new.disk) refuses late
-    (subst (λ ts. IfSome (g.D.Disk.image c.args.disk.now) (λ image. (m : MachineState) → StandsFor p image m → TakesAtMostTree (edges_in m c.args.cols) (points_for m ts) (g.D.Disk.taken c.args.disk.now) (g.D.Disk.taken c.retrieve.new.disk))) asked c.retrieve.ensures.most)))
+    (subst (λ ts. IfSome (g.D.Disk.image c.args.disk.now) (λ image. (m : MachineState) → StandsFor p image m → TakesAtMostTree (edges_in m c.args.cols) (points_for m ts) (g.D.Disk.taken c.args.disk.now) (g.D.Disk.taken c.retrieve.new.disk))) asked (most_of c.args.self.now.parts c.first_of-asked.result.now c.args.cols (g.D.Disk.image c.args.disk.now) (g.D.Disk.taken c.args.disk.now) (g.D.Disk.taken c.retrieve.new.disk) c.retrieve.result c.retrieve.ensures.over))))
 
 pub returns-in_err-lines-clause-comes : goal.returns-in_err-lines-clause-comes
 returns-in_err-lines-clause-comes g c =
@@ -74,7 +74,7 @@ returns-in_err-lines-clause-reads g c =
     handed_out c.from_residual-in_err-lines.result (halt.Refusal refusal.OutOfMemory)
     (λ r. ReadsIn (command.Several c.args.cols c.args.times c.args.count) p (g.D.Disk.image c.args.disk.now) r (g.D.Disk.taken c.args.disk.now) (g.D.Disk.taken c.retrieve.new.disk)) c.from_residual-in_err-lines.ensures
     (several_fails p c.args.cols c.args.times c.args.count number c.requires.some none (g.D.Disk.image c.args.disk.now) (head.Refused refusal.OutOfMemory) (g.D.Disk.taken c.args.disk.now) (g.D.Disk.taken c.retrieve.new.disk) refl refl
-    (subst (λ ts. IfSome (g.D.Disk.image c.args.disk.now) (λ image. (m : MachineState) → StandsFor p image m → TakesAtMostTree (edges_in m c.args.cols) (points_for m ts) (g.D.Disk.taken c.args.disk.now) (g.D.Disk.taken c.retrieve.new.disk))) asked c.retrieve.ensures.most))
+    (subst (λ ts. IfSome (g.D.Disk.image c.args.disk.now) (λ image. (m : MachineState) → StandsFor p image m → TakesAtMostTree (edges_in m c.args.cols) (points_for m ts) (g.D.Disk.taken c.args.disk.now) (g.D.Disk.taken c.retrieve.new.disk))) asked (most_of c.args.self.now.parts c.first_of-asked.result.now c.args.cols (g.D.Disk.image c.args.disk.now) (g.D.Disk.taken c.args.disk.now) (g.D.Disk.taken c.retrieve.new.disk) c.retrieve.result c.retrieve.ensures.over)))
 
 pub returns-in_err-add_handles-clause-comes : goal.returns-in_err-add_handles-clause-comes
 returns-in_err-add_handles-clause-comes g c =
@@ -96,7 +96,7 @@ returns-in_err-add_handles-clause-reads g c =
     handed_out c.from_residual-in_err-add_handles.result (halt.Refusal refusal.OutOfMemory)
     (λ r. ReadsIn (command.Several c.args.cols c.args.times c.args.count) p (g.D.Disk.image c.args.disk.now) r (g.D.Disk.taken c.args.disk.now) (g.D.Disk.taken c.retrieve.new.disk)) c.from_residual-in_err-add_handles.ensures
     (several_fails p c.args.cols c.args.times c.args.count number c.requires.some none (g.D.Disk.image c.args.disk.now) (head.Refused refusal.OutOfMemory) (g.D.Disk.taken c.args.disk.now) (g.D.Disk.taken c.retrieve.new.disk) refl refl
-    (subst (λ ts. IfSome (g.D.Disk.image c.args.disk.now) (λ image. (m : MachineState) → StandsFor p image m → TakesAtMostTree (edges_in m c.args.cols) (points_for m ts) (g.D.Disk.taken c.args.disk.now) (g.D.Disk.taken c.retrieve.new.disk))) asked c.retrieve.ensures.most))
+    (subst (λ ts. IfSome (g.D.Disk.image c.args.disk.now) (λ image. (m : MachineState) → StandsFor p image m → TakesAtMostTree (edges_in m c.args.cols) (points_for m ts) (g.D.Disk.taken c.args.disk.now) (g.D.Disk.taken c.retrieve.new.disk))) asked (most_of c.args.self.now.parts c.first_of-asked.result.now c.args.cols (g.D.Disk.image c.args.disk.now) (g.D.Disk.taken c.args.disk.now) (g.D.Disk.taken c.retrieve.new.disk) c.retrieve.result c.retrieve.ensures.over)))
 
 pub returns-clause-comes : goal.returns-clause-comes
 returns-clause-comes g c =
@@ -110,9 +110,9 @@ returns-clause-comes g c =
     let cols = c.args.cols in
     several_answers p c.args.cols c.args.times c.args.count number c.requires.some none c.add_handles.new.self.parts (g.D.Disk.image c.args.disk.now) (g.D.Disk.image c.retrieve.new.disk) r.weight r.sum r.singles.items (bases_of (leads_in r.leads)) (map (led_to p.graph (listed_by p) cols) (leads_in r.leads)) c.in_ok-lines.lines.items _
     c.retrieve.ensures.disk.same_image
-    (subst (λ ts. IfSome (g.D.Disk.image c.args.disk.now) (λ image. (m : MachineState) → StandsFor p image m → IsRetrieved m ts c.args.cols r.weight r.singles.items (bases_of (leads_in r.leads)) (map (led_to p.graph (listed_by p) cols) (leads_in r.leads)))) asked c.in_ok-retrieved.ensures.retrieved)
+    (subst (λ ts. IfSome (g.D.Disk.image c.args.disk.now) (λ image. (m : MachineState) → StandsFor p image m → IsRetrieved m ts c.args.cols r.weight r.singles.items (bases_of (leads_in r.leads)) (map (led_to p.graph (listed_by p) cols) (leads_in r.leads)))) asked (retrieved_of c.args.self.now.parts c.first_of-asked.result.now c.args.cols (g.D.Disk.image c.args.disk.now) (g.D.Disk.taken c.args.disk.now) (g.D.Disk.taken c.retrieve.new.disk) c.in_ok-retrieved.retrieved c.in_ok-retrieved.ensures.over))
     (c.in_ok-add_handles.ensures.added ∙ (λ i. with_new_handles (same i) (overlays_on cols (asked i) (bases_of (leads_in r.leads))) (map (led_to (same i).graph (listed_by (same i)) cols) (leads_in r.leads))))
-    c.in_ok-retrieved.ensures.sum
+    c.in_ok-retrieved.ensures.done.sum
     (c.in_ok-lines.ensures ∙ (let singles : c.deref.result.now ≡ r.singles.items = c.deref.ensures.value in λ i. handle_lines (next i) (asked i) (singles i)))
     (let body = c.from_vec.ensures in λ i. record { head = head.Several r.weight r.sum; body = body i })
 
@@ -144,4 +144,4 @@ returns-in_err-add_handles-clause-damaged g c =
 
 pub returns-clause-undamaged : goal.returns-clause-undamaged
 returns-clause-undamaged g c =
-    subst (λ ts. MeetsNone (Graphs ts c.args.cols) c.args.self.now.parts (g.D.Disk.image c.args.disk.now)) c.first_of-asked.ensures.times c.in_ok-retrieved.ensures.whole
+    subst (λ ts. MeetsNone (Graphs ts c.args.cols) c.args.self.now.parts (g.D.Disk.image c.args.disk.now)) c.first_of-asked.ensures.times c.in_ok-retrieved.ensures.damage

@@ -6,5 +6,5 @@ use Rattle.dg_start.specs.StoredHistory.{index_opening}
 
 pub returns-clause-sound : goal.returns-clause-sound
 returns-clause-sound g c =
-    sound_over c.args.self.now.parts c.in-Some.index.opening c.self.inside.history.names (g.D.Disk.image c.args.disk.now) c.verify.result
+    sound_over c.args.self.now.parts c.in-Some.index.opening c.self.inside.held.live.history.names (g.D.Disk.image c.args.disk.now) c.verify.result
     (ap (λ (x : SessionState). x.parts.index) (sym c.self.view_is) ∙ ap index_opening c.in-Some.is) (ap (λ (x : SessionState). x.parts.names) c.self.view_is) c.verify.ensures.sound

@@ -1,9 +1,11 @@
-use Rattle.std.proofs.Common.{List, Option}
+use Rattle.std.proofs.Common.{◌≡◌, ℕ, Option, false}
 use Rattle.std.specs.Prelude.{IfErr, IfSome}
 use Rattle.dg_history.specs.History.{History}
 use Rattle.dg_index.specs.ImageOfHistory.{StandsAs}
-use Rattle.dg_session.proofs.SessionStartChecks.{IsNoFault, begins_unchecked, checked_begins, checked_held, checked_new, checked_never, checked_refused, checked_standing, checked_stands, checked_takes, never_started}
+use Rattle.dg_session.proofs.SessionStartChecks.{IsNoFault, begins_unchecked, checked_begins, checked_held, checked_new, checked_never, checked_refused, checked_standing, checked_stands, never_started}
 use Rattle.dg_session.proofs.SessionSteps.{handed_out}
+use Rattle.dg_session.proofs.StartReads.{failing_reads, not_both}
+use Rattle.dg_start.specs.Calls.{TakesStart}
 use Rattle.dg_session.specs.declared.session_fault.SessionFault.TheVariants as fault
 use Rattle.dg_session.proofs.session.Session.start.Goals as goal
 
@@ -48,7 +50,15 @@ returns-then-checked-clause-checked g c =
     c.begin.ensures.disk.same_image c.in_ok-session.ensures.held c.checked.ensures.sound
 
 pub returns-then-checked-clause-takes : goal.returns-then-checked-clause-takes
-returns-then-checked-clause-takes g c = checked_takes _ c.args.checked c.checked.result c.if-checked.true
+returns-then-checked-clause-takes g c off = absurd (not_both c.args.checked c.if-checked.true off)
+
+pub returns-in_err-session-clause-takes : goal.returns-in_err-session-clause-takes
+returns-in_err-session-clause-takes g c =
+    let told = g.D.Disk.image c.args.disk.now in
+    let before : ℕ = g.D.Disk.taken c.args.disk.now in
+    let after : ℕ = g.D.Disk.taken c.begin.new.disk in
+    handed_out c.from_residual.result (fault.Start c.in_err-session.field-0.0) (λ r. c.args.checked ≡ false → IfSome told (λ image. TakesStart r image before after)) c.from_residual.ensures
+    (λ off. failing_reads _ _ _ _ before after c.in_err-session.field-0.0 (fault.Start c.in_err-session.field-0.0) told c.in_err-session.ensures.takes)
 
 pub returns-then-checked-clause-refused : goal.returns-then-checked-clause-refused
 returns-then-checked-clause-refused g c =

@@ -1,4 +1,4 @@
-use Rattle.std.proofs.Common.{Err, Result, sym, subst, ◌∙◌, ap}
+use Rattle.std.proofs.Common.{Err, Result, length, sym, subst, ◌∙◌, ap}
 use Rattle.std.specs.Prelude.{IfOk, OnOk}
 use Rattle.std.proofs.lemmas.Bool.{false≢true}
 use Rattle.dg_io.specs.LinesState.{told}
@@ -8,12 +8,15 @@ use Rattle.dg_machine.specs.Answer.{is_refusal}
 use Rattle.dg_machine.specs.Run.{is_store_read}
 use Rattle.dg_batch.specs.declared.halt.Halt.{Halt}
 use Rattle.dg_batch.specs.declared.halt.Halt.TheVariants as halt
+use Rattle.dg_batch.specs.declared.stop.Stop.TheVariants as stop
+use Rattle.dg_session.proofs.ReplyNames.{head_names}
+use Rattle.dg_session.proofs.LimitStops.{not_ok, not_refused, stop_is}
 use Rattle.dg_session.specs.Damage.{DamageIs, MeetsNone, reads_for}
 use Rattle.dg_session.specs.Reads.{Reads, reply_head}
 use Rattle.dg_session.proofs.DamageStep.{damage_in_reply}
-use Rattle.dg_session.proofs.ReadsStep.{accepted_reads, reads_in_reply, store_read_is}
+use Rattle.dg_session.proofs.ReadsStep.{accepted_reads, reads_in_reply, reads_stopped, store_read_is}
 use Rattle.dg_session.proofs.SessionPoolStep.{refused_sweeps}
-use Rattle.dg_session.proofs.SessionSteps.{answered, refused_so}
+use Rattle.dg_session.proofs.SessionSteps.{answered, refused_so, reply_named}
 use Rattle.dg_session.proofs.VerifiedStep.{refused_verifies, verified_reply}
 use Rattle.dg_session.specs.Sweeps.{SweepsPool}
 use Rattle.dg_session.specs.Verified.{VerifiesFile}
@@ -101,5 +104,34 @@ returns-clause-swept g c =
       | in-Err-Refusal w ↦ rw w.result-is
           (refused_sweeps c.args.command.now c.carry_out.result old c.carry_out.new.self.pool w.headed.result.head (halt.Refusal w.in-Err-Refusal.refusal)
           (w.in-Err-Refusal.is ∙ ap (λ h. Err h) w.in-Err-Refusal.field-0-is) c.carry_out.ensures.unswept)
+      | in-Err-Stop w ↦ rw w.result-is tt
+    ]
+
+pub returns-clause-reads_to_stop : goal.returns-clause-reads_to_stop
+returns-clause-reads_to_stop g c =
+    elim c.match-carry_out.branch [
+      | in-Ok w ↦ rw w.result-is tt
+      | in-Err-Refusal w ↦ rw w.result-is tt
+      | in-Err-Stop w ↦ rw w.result-is
+          (reads_stopped c.args.command.now c.args.self.now.parts (g.D.Disk.image c.args.disk.now) c.carry_out.result w.in-Err-Stop.stop (g.D.Disk.taken c.args.disk.now) (g.D.Disk.taken c.carry_out.new.disk)
+          (w.in-Err-Stop.is ∙ ap (λ h. Err h) w.in-Err-Stop.field-0-is) c.carry_out.ensures.reads)
+    ]
+
+pub returns-clause-due : goal.returns-clause-due
+returns-clause-due g c some at needs =
+    let due = c.carry_out.ensures.due some at needs in
+    elim c.match-carry_out.branch [
+      | in-Ok w ↦ absurd (not_ok c.carry_out.result w.in-Ok.reply (halt.Stop stop.Limit) due w.in-Ok.is)
+      | in-Err-Refusal w ↦ absurd (not_refused c.carry_out.result w.in-Err-Refusal.refusal due (w.in-Err-Refusal.is ∙ ap (λ h. Err h) w.in-Err-Refusal.field-0-is))
+      | in-Err-Stop w ↦ rw w.result-is (ap (λ s. Err s) (stop_is c.carry_out.result w.in-Err-Stop.stop due (w.in-Err-Stop.is ∙ ap (λ h. Err h) w.in-Err-Stop.field-0-is)))
+    ]
+
+pub returns-clause-named : goal.returns-clause-named
+returns-clause-named g c =
+    elim c.match-carry_out.branch [
+      | in-Ok w ↦ rw w.result-is
+          (reply_named c.args.command.now (told c.args.lines.now (g.S.Source.left c.args.source.now)) (told c.carry_out.new.lines (g.S.Source.left c.carry_out.new.source))
+          c.args.self.now.parts (g.D.Disk.image c.args.disk.now) c.carry_out.new.self.parts (g.D.Disk.image c.carry_out.new.disk) c.carry_out.result w.in-Ok.reply c.carry_out.ensures.comes w.in-Ok.is)
+      | in-Err-Refusal w ↦ rw w.result-is (head_names (length c.carry_out.new.self.parts.names) (head.Refused w.in-Err-Refusal.refusal) w.headed.result w.headed.ensures)
       | in-Err-Stop w ↦ rw w.result-is tt
     ]

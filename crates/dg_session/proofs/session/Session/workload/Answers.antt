@@ -8,11 +8,10 @@ use Rattle.dg_machine.specs.Answer.{headed}
 use Rattle.dg_machine.specs.Needs.{needs}
 use Rattle.dg_query.specs.Queries.{counts_of}
 use Rattle.dg_query.specs.declared.answers.Counts.{Counts}
-use Rattle.dg_pool.specs.Graphs.{graph_now, slot_graph}
-use Rattle.dg_batch.specs.HandlesStay.{HandlesStay}
+use Rattle.dg_pool.specs.Graphs.{graph_now}
 use Rattle.dg_session.specs.BatchCommand.{barred}
 use Rattle.dg_session.specs.declared.batch_command.BatchCommand.TheVariants.{Load}
-use Rattle.dg_batch.specs.declared.batch_lines.BatchLines.{BatchLines}
+use Rattle.dg_append.specs.declared.batch.Batch.{Batch}
 use Rattle.dg_batch.specs.declared.halt.Halt.TheVariants as halt
 use Rattle.dg_session.specs.Damage.{Batch_of, DamageIn, MeetsNone}
 use Rattle.dg_batch.specs.Halt.{batch_halt}
@@ -22,11 +21,11 @@ use Rattle.dg_session.specs.Session.{Accepts, ComesTo}
 use Rattle.dg_session.specs.SessionState.{SessionState}
 use Rattle.dg_session.specs.contracts.session.Session.{the_view}
 use Rattle.dg_session.proofs.BatchCommandForms.{Seed, head_over}
-use Rattle.dg_session.proofs.BatchCommandReads.{ReadsNoMore, added_reads, added_undamaged, failed_damage, failed_reads, reads_no_more, unread_reads}
-use Rattle.dg_session.proofs.BatchCommandStep.{IsAsked, batch_added, batch_failed, failed_stays, is_generated, is_ready, kept_handles, none_bars, with_handles, with_history}
+use Rattle.dg_session.proofs.BatchCommandReads.{ReadsNoMore, added_reads, added_undamaged, failed_damage, failed_reads, reads_no_more, refused_reads, unread_reads}
+use Rattle.dg_session.proofs.BatchCommandStep.{IsAsked, added_slots, batch_added, batch_failed, failed_stays, is_generated, may_add, kept_handles, none_bars, with_handles, with_history}
 use Rattle.dg_session.proofs.DamageStep.{tells_no_damage}
 use Rattle.dg_session.proofs.SessionSteps.{handed_out, lacking_denies, refused_denies, refused_not_read}
-use Rattle.dg_start.specs.declared.stored_history.StoredHistory.{StoredHistory}
+use Rattle.dg_append.specs.declared.live.Live.{Live}
 use Rattle.dg_session.proofs.session.Session.workload.Goals as goal
 
 pub returns-in-Some-clause-comes : goal.returns-in-Some-clause-comes
@@ -62,101 +61,101 @@ returns-in_err-batch-clause-reads g c =
     handed_out c.from_residual.result (halt.Refusal refusal.OutOfMemory) (λ r. ReadsIn (command.Workload c.args.seed c.args.count) c.args.self.now.parts (g.D.Disk.image c.args.disk.now) r (g.D.Disk.taken c.args.disk.now) (g.D.Disk.taken c.args.disk.now)) c.from_residual.ensures
     (unread_reads (Seed c.args.seed) c.args.count c.args.self.now.parts (g.D.Disk.image c.args.disk.now) (halt.Refusal refusal.OutOfMemory) (g.D.Disk.taken c.args.disk.now))
 
-pub add_changes-requires-clause-ready : goal.add_changes-requires-clause-ready
-add_changes-requires-clause-ready g c =
+pub add_changes-requires-clause-may : goal.add_changes-requires-clause-may
+add_changes-requires-clause-may g c =
     let p : Parts = (the_view c.self.inside).parts in
-    let old : StoredHistory = record { index = c.self.inside.history.index; names = c.generated_batch.new.names; now = c.self.inside.history.now; recent = c.self.inside.history.recent } in
-    let b : BatchLines = c.in_ok-batch.batch in
-    let asked : IsAsked (Seed c.args.seed) [] p c.args.count c.len-known.result c.self.inside.limits.file_bytes old b =
-    is_generated c.args.seed p c.args.self.now.parts c.args.count c.len-known.result old b c.barred.result (ap (λ (x : SessionState). x.parts) c.self.view_is) c.barred.ensures c.in_default.is
-    refl c.len-known.ensures.len refl refl c.self.invariant.0.events c.requires.some c.requires.few c.in_ok-batch.ensures.generated in
-    is_ready (Seed c.args.seed) [] p c.args.count c.len-known.result c.self.inside.limits.file_bytes old b asked c.self.invariant.1
+    let old : Live = record { history = record c.self.inside.held.live.history { names = c.generated_batch.new.names }; pool = c.self.inside.held.live.pool } in
+    let b : Batch = c.in_ok-batch.batch in
+    let asked : IsAsked (Seed c.args.seed) [] p c.args.count c.self.inside.limits.file_bytes old b =
+    is_generated c.args.seed p c.args.self.now.parts c.args.count old b c.barred.result (ap (λ (x : SessionState). x.parts) c.self.view_is) c.barred.ensures c.in_default.is
+    refl refl refl c.self.invariant.0.events c.requires.some c.requires.few c.in_ok-batch.ensures.generated in
+    may_add (Seed c.args.seed) [] p c.args.count c.self.inside.limits.file_bytes old b asked c.self.invariant.1.live.sound c.self.invariant.1.live.pool
 
 pub returns-in_err-added-clause-comes : goal.returns-in_err-added-clause-comes
 returns-in_err-added-clause-comes g c =
     let p : Parts = (the_view c.self.inside).parts in
-    let old : StoredHistory = record { index = c.self.inside.history.index; names = c.generated_batch.new.names; now = c.self.inside.history.now; recent = c.self.inside.history.recent } in
-    let b : BatchLines = c.in_ok-batch.batch in
-    let asked : IsAsked (Seed c.args.seed) [] p c.args.count c.len-known.result c.self.inside.limits.file_bytes old b =
-    is_generated c.args.seed p c.args.self.now.parts c.args.count c.len-known.result old b c.barred.result (ap (λ (x : SessionState). x.parts) c.self.view_is) c.barred.ensures c.in_default.is
-    refl c.len-known.ensures.len refl refl c.self.invariant.0.events c.requires.some c.requires.few c.in_ok-batch.ensures.generated in
+    let old : Live = record { history = record c.self.inside.held.live.history { names = c.generated_batch.new.names }; pool = c.self.inside.held.live.pool } in
+    let b : Batch = c.in_ok-batch.batch in
+    let asked : IsAsked (Seed c.args.seed) [] p c.args.count c.self.inside.limits.file_bytes old b =
+    is_generated c.args.seed p c.args.self.now.parts c.args.count old b c.barred.result (ap (λ (x : SessionState). x.parts) c.self.view_is) c.barred.ensures c.in_default.is
+    refl refl refl c.self.invariant.0.events c.requires.some c.requires.few c.in_ok-batch.ensures.generated in
     let image : Option (List ℕ) = g.D.Disk.image c.args.disk.now in
     let then_image : Option (List ℕ) = g.D.Disk.image c.add_changes.new.disk in
-    let q : Parts = with_handles (with_history p c.add_changes.new.history) c.add_changes.new.handles c.add_changes.new.pool in
+    let q : Parts = with_handles (with_history p c.add_changes.new.held.live.history) c.add_changes.new.held.handles c.add_changes.new.held.live.pool.value in
     handed_out c.from_residual-in_err-added.result (batch_halt c.in_err-added.field-0.0) (ComesTo (command.Workload c.args.seed c.args.count) [] c.args.self.now.parts image q then_image) c.from_residual-in_err-added.ensures
     (subst (λ (x : Parts). ComesTo (command.Workload c.args.seed c.args.count) [] x image q then_image (Err (batch_halt c.in_err-added.field-0.0))) (ap (λ (x : SessionState). x.parts) c.self.view_is)
-    (batch_failed (Seed c.args.seed) [] p c.args.count c.len-known.result c.self.inside.limits.file_bytes old b asked c.add_changes.new.history image then_image c.in_err-added.field-0.0 c.in_err-added.ensures.fails q
-    (failed_stays (Seed c.args.seed) [] p c.args.count c.len-known.result c.self.inside.limits.file_bytes old b asked c.add_changes.new.history image then_image c.in_err-added.field-0.0 c.self.inside.handles c.add_changes.new.handles c.self.inside.pool.value c.add_changes.new.pool
-    c.in_err-added.ensures.back (subst (λ p. HandlesStay c.in_err-added.field-0.0 c.self.inside.handles c.add_changes.new.handles p c.add_changes.new.pool) c.deref_mut.ensures.value c.in_err-added.ensures.handles_back) refl)))
+    (batch_failed (Seed c.args.seed) [] p c.args.count c.self.inside.limits.file_bytes old b asked c.add_changes.new.held.live image then_image c.in_err-added.field-0.0 c.in_err-added.ensures.fails q
+    (failed_stays (Seed c.args.seed) [] p c.args.count c.self.inside.limits.file_bytes old b asked c.add_changes.new.held.live image then_image c.in_err-added.field-0.0 c.self.inside.held.handles c.add_changes.new.held.handles
+    c.in_err-added.ensures.back c.in_err-added.ensures.handles refl)))
 
 pub returns-in_err-added-clause-damaged : goal.returns-in_err-added-clause-damaged
 returns-in_err-added-clause-damaged g c =
     let p : Parts = (the_view c.self.inside).parts in
-    let old : StoredHistory = record { index = c.self.inside.history.index; names = c.generated_batch.new.names; now = c.self.inside.history.now; recent = c.self.inside.history.recent } in
-    let b : BatchLines = c.in_ok-batch.batch in
-    let asked : IsAsked (Seed c.args.seed) [] p c.args.count c.len-known.result c.self.inside.limits.file_bytes old b =
-    is_generated c.args.seed p c.args.self.now.parts c.args.count c.len-known.result old b c.barred.result (ap (λ (x : SessionState). x.parts) c.self.view_is) c.barred.ensures c.in_default.is
-    refl c.len-known.ensures.len refl refl c.self.invariant.0.events c.requires.some c.requires.few c.in_ok-batch.ensures.generated in
+    let old : Live = record { history = record c.self.inside.held.live.history { names = c.generated_batch.new.names }; pool = c.self.inside.held.live.pool } in
+    let b : Batch = c.in_ok-batch.batch in
+    let asked : IsAsked (Seed c.args.seed) [] p c.args.count c.self.inside.limits.file_bytes old b =
+    is_generated c.args.seed p c.args.self.now.parts c.args.count old b c.barred.result (ap (λ (x : SessionState). x.parts) c.self.view_is) c.barred.ensures c.in_default.is
+    refl refl refl c.self.invariant.0.events c.requires.some c.requires.few c.in_ok-batch.ensures.generated in
     let image : Option (List ℕ) = g.D.Disk.image c.args.disk.now in
     let then_image : Option (List ℕ) = g.D.Disk.image c.add_changes.new.disk in
     handed_out c.from_residual-in_err-added.result (batch_halt c.in_err-added.field-0.0) (λ r. DamageIn (command.Workload c.args.seed c.args.count) c.args.self.now.parts image r) c.from_residual-in_err-added.ensures
     (subst (λ (x : Parts). DamageIn (command.Workload c.args.seed c.args.count) x image (Err (batch_halt c.in_err-added.field-0.0))) (ap (λ (x : SessionState). x.parts) c.self.view_is)
-    (failed_damage (Seed c.args.seed) [] p c.args.count c.len-known.result c.self.inside.limits.file_bytes old b asked image then_image c.in_err-added.field-0.0 c.in_err-added.ensures.fails))
+    (failed_damage (Seed c.args.seed) [] p c.args.count c.self.inside.limits.file_bytes old b asked image then_image c.in_err-added.field-0.0 c.in_err-added.ensures.fails))
 
 pub returns-in_err-added-clause-reads : goal.returns-in_err-added-clause-reads
 returns-in_err-added-clause-reads g c =
     let p : Parts = (the_view c.self.inside).parts in
-    let old : StoredHistory = record { index = c.self.inside.history.index; names = c.generated_batch.new.names; now = c.self.inside.history.now; recent = c.self.inside.history.recent } in
-    let b : BatchLines = c.in_ok-batch.batch in
-    let asked : IsAsked (Seed c.args.seed) [] p c.args.count c.len-known.result c.self.inside.limits.file_bytes old b =
-    is_generated c.args.seed p c.args.self.now.parts c.args.count c.len-known.result old b c.barred.result (ap (λ (x : SessionState). x.parts) c.self.view_is) c.barred.ensures c.in_default.is
-    refl c.len-known.ensures.len refl refl c.self.invariant.0.events c.requires.some c.requires.few c.in_ok-batch.ensures.generated in
+    let old : Live = record { history = record c.self.inside.held.live.history { names = c.generated_batch.new.names }; pool = c.self.inside.held.live.pool } in
+    let b : Batch = c.in_ok-batch.batch in
+    let asked : IsAsked (Seed c.args.seed) [] p c.args.count c.self.inside.limits.file_bytes old b =
+    is_generated c.args.seed p c.args.self.now.parts c.args.count old b c.barred.result (ap (λ (x : SessionState). x.parts) c.self.view_is) c.barred.ensures c.in_default.is
+    refl refl refl c.self.invariant.0.events c.requires.some c.requires.few c.in_ok-batch.ensures.generated in
     let image : Option (List ℕ) = g.D.Disk.image c.args.disk.now in
     let taken : ℕ = g.D.Disk.taken c.args.disk.now in
     let then_taken : ℕ = g.D.Disk.taken c.add_changes.new.disk in
     let older : ReadsNoMore p image c.args.count taken then_taken =
-    reads_no_more (Seed c.args.seed) [] p c.args.count c.len-known.result c.self.inside.limits.file_bytes old b asked image taken then_taken c.add_changes.ensures.takes c.add_changes.ensures.unread in
+    reads_no_more (Seed c.args.seed) [] p c.args.count c.self.inside.limits.file_bytes old b asked image c.add_changes.result taken then_taken c.add_changes.ensures.reads in
     handed_out c.from_residual-in_err-added.result (batch_halt c.in_err-added.field-0.0) (λ r. ReadsIn (command.Workload c.args.seed c.args.count) c.args.self.now.parts image r taken then_taken) c.from_residual-in_err-added.ensures
-    (failed_reads (Seed c.args.seed) c.args.count c.args.self.now.parts image c.in_err-added.field-0.0 taken then_taken (subst (λ (x : Parts). ReadsNoMore x image c.args.count taken then_taken) (ap (λ (x : SessionState). x.parts) c.self.view_is) older) c.in_err-added.ensures.nothing)
+    (failed_reads (Seed c.args.seed) c.args.count c.args.self.now.parts image c.in_err-added.field-0.0 taken then_taken (subst (λ (x : Parts). ReadsNoMore x image c.args.count taken then_taken) (ap (λ (x : SessionState). x.parts) c.self.view_is) older) (refused_reads (Seed c.args.seed) [] p c.args.count c.self.inside.limits.file_bytes old b asked image c.in_err-added.field-0.0 taken then_taken c.in_err-added.ensures.reads))
 
 pub returns-clause-comes : goal.returns-clause-comes
 returns-clause-comes g c =
     let p : Parts = (the_view c.self.inside).parts in
-    let old : StoredHistory = record { index = c.self.inside.history.index; names = c.generated_batch.new.names; now = c.self.inside.history.now; recent = c.self.inside.history.recent } in
-    let b : BatchLines = c.in_ok-batch.batch in
-    let asked : IsAsked (Seed c.args.seed) [] p c.args.count c.len-known.result c.self.inside.limits.file_bytes old b =
-    is_generated c.args.seed p c.args.self.now.parts c.args.count c.len-known.result old b c.barred.result (ap (λ (x : SessionState). x.parts) c.self.view_is) c.barred.ensures c.in_default.is
-    refl c.len-known.ensures.len refl refl c.self.invariant.0.events c.requires.some c.requires.few c.in_ok-batch.ensures.generated in
+    let old : Live = record { history = record c.self.inside.held.live.history { names = c.generated_batch.new.names }; pool = c.self.inside.held.live.pool } in
+    let b : Batch = c.in_ok-batch.batch in
+    let asked : IsAsked (Seed c.args.seed) [] p c.args.count c.self.inside.limits.file_bytes old b =
+    is_generated c.args.seed p c.args.self.now.parts c.args.count old b c.barred.result (ap (λ (x : SessionState). x.parts) c.self.view_is) c.barred.ensures c.in_default.is
+    refl refl refl c.self.invariant.0.events c.requires.some c.requires.few c.in_ok-batch.ensures.generated in
     let image : Option (List ℕ) = g.D.Disk.image c.args.disk.now in
     let then_image : Option (List ℕ) = g.D.Disk.image c.add_changes.new.disk in
-    let q : Parts = with_handles (with_history p c.add_changes.new.history) c.add_changes.new.handles c.add_changes.new.pool in
+    let q : Parts = with_handles (with_history p c.add_changes.new.held.live.history) c.add_changes.new.held.handles c.add_changes.new.held.live.pool.value in
     let added = c.in_ok-added.added in
-    let graph : List Element = c.add_changes.new.history.now.graph in
-    let counts : c.counts_now-counts.result ≡ counts_of graph = c.counts_now-counts.ensures ∙ ap (λ p. counts_of (graph_now p)) c.deref.ensures ∙ ap counts_of c.add_changes.ensures.pool in
+    let graph : List Element = c.add_changes.new.held.live.history.now.graph in
+    let counts : c.counts_now-counts.result ≡ counts_of graph = c.counts_now-counts.ensures ∙ ap (λ p. counts_of (graph_now p)) c.deref.ensures ∙ ap counts_of c.add_changes.ensures.held.live.pool in
     let said : Reply = headed (head_over (Seed c.args.seed) graph added.events added.total added.last) in
     let reply : said ≡ c.headed.result = sym (c.headed.ensures ∙ ap (λ (n : Counts). headed (head.Generated added.events added.last n.nodes n.edges)) counts) in
     subst (λ (r : Reply). Accepts (command.Workload c.args.seed c.args.count) [] c.args.self.now.parts image q then_image r) reply
     (subst (λ (x : Parts). Accepts (command.Workload c.args.seed c.args.count) [] x image q then_image said) (ap (λ (x : SessionState). x.parts) c.self.view_is)
     (subst (λ (y : Parts). Accepts (command.Workload c.args.seed c.args.count) [] p image y then_image said)
-    (sym (kept_handles (with_history p c.add_changes.new.history) c.self.inside.handles c.add_changes.new.handles c.self.inside.pool.value c.add_changes.new.pool c.in_ok-added.ensures.handles (λ s. c.in_ok-added.ensures.graphs s ∙ ap (λ p. slot_graph p s) c.deref_mut.ensures.value)))
-    (batch_added (Seed c.args.seed) [] p c.args.count c.len-known.result c.self.inside.limits.file_bytes old b asked c.add_changes.new.history image then_image added c.in_ok-added.ensures.adds)))
+    (sym (kept_handles (with_history p c.add_changes.new.held.live.history) c.self.inside.held.handles c.add_changes.new.held.handles c.self.inside.held.live.pool.value c.add_changes.new.held.live.pool.value c.in_ok-added.ensures.handles (added_slots (Seed c.args.seed) [] p c.args.count c.self.inside.limits.file_bytes old b asked c.add_changes.new.held.live image then_image c.in_ok-added.added c.in_ok-added.ensures.adds)))
+    (batch_added (Seed c.args.seed) [] p c.args.count c.self.inside.limits.file_bytes old b asked c.add_changes.new.held.live image then_image added c.in_ok-added.ensures.adds)))
 
 pub returns-clause-reads : goal.returns-clause-reads
 returns-clause-reads g c =
     let p : Parts = (the_view c.self.inside).parts in
-    let old : StoredHistory = record { index = c.self.inside.history.index; names = c.generated_batch.new.names; now = c.self.inside.history.now; recent = c.self.inside.history.recent } in
-    let b : BatchLines = c.in_ok-batch.batch in
-    let asked : IsAsked (Seed c.args.seed) [] p c.args.count c.len-known.result c.self.inside.limits.file_bytes old b =
-    is_generated c.args.seed p c.args.self.now.parts c.args.count c.len-known.result old b c.barred.result (ap (λ (x : SessionState). x.parts) c.self.view_is) c.barred.ensures c.in_default.is
-    refl c.len-known.ensures.len refl refl c.self.invariant.0.events c.requires.some c.requires.few c.in_ok-batch.ensures.generated in
+    let old : Live = record { history = record c.self.inside.held.live.history { names = c.generated_batch.new.names }; pool = c.self.inside.held.live.pool } in
+    let b : Batch = c.in_ok-batch.batch in
+    let asked : IsAsked (Seed c.args.seed) [] p c.args.count c.self.inside.limits.file_bytes old b =
+    is_generated c.args.seed p c.args.self.now.parts c.args.count old b c.barred.result (ap (λ (x : SessionState). x.parts) c.self.view_is) c.barred.ensures c.in_default.is
+    refl refl refl c.self.invariant.0.events c.requires.some c.requires.few c.in_ok-batch.ensures.generated in
     let image : Option (List ℕ) = g.D.Disk.image c.args.disk.now in
     let taken : ℕ = g.D.Disk.taken c.args.disk.now in
     let then_taken : ℕ = g.D.Disk.taken c.add_changes.new.disk in
     let added = c.in_ok-added.added in
-    let graph : List Element = c.add_changes.new.history.now.graph in
-    let counts : c.counts_now-counts.result ≡ counts_of graph = c.counts_now-counts.ensures ∙ ap (λ p. counts_of (graph_now p)) c.deref.ensures ∙ ap counts_of c.add_changes.ensures.pool in
+    let graph : List Element = c.add_changes.new.held.live.history.now.graph in
+    let counts : c.counts_now-counts.result ≡ counts_of graph = c.counts_now-counts.ensures ∙ ap (λ p. counts_of (graph_now p)) c.deref.ensures ∙ ap counts_of c.add_changes.ensures.held.live.pool in
     let older : ReadsNoMore p image c.args.count taken then_taken =
-    reads_no_more (Seed c.args.seed) [] p c.args.count c.len-known.result c.self.inside.limits.file_bytes old b asked image taken then_taken c.add_changes.ensures.takes c.add_changes.ensures.unread in
+    reads_no_more (Seed c.args.seed) [] p c.args.count c.self.inside.limits.file_bytes old b asked image c.add_changes.result taken then_taken c.add_changes.ensures.reads in
     subst (λ (r : Reply). Reads (command.Workload c.args.seed c.args.count) c.args.self.now.parts image r.head taken then_taken) (sym (c.headed.ensures ∙ ap (λ (n : Counts). headed (head.Generated added.events added.last n.nodes n.edges)) counts))
     (added_reads (Seed c.args.seed) c.args.count c.args.self.now.parts image graph added.events added.total added.last taken then_taken
     (subst (λ (x : Parts). ReadsNoMore x image c.args.count taken then_taken) (ap (λ (x : SessionState). x.parts) c.self.view_is) older))
@@ -164,13 +163,13 @@ returns-clause-reads g c =
 pub returns-clause-undamaged : goal.returns-clause-undamaged
 returns-clause-undamaged g c =
     let p : Parts = (the_view c.self.inside).parts in
-    let old : StoredHistory = record { index = c.self.inside.history.index; names = c.generated_batch.new.names; now = c.self.inside.history.now; recent = c.self.inside.history.recent } in
-    let b : BatchLines = c.in_ok-batch.batch in
-    let asked : IsAsked (Seed c.args.seed) [] p c.args.count c.len-known.result c.self.inside.limits.file_bytes old b =
-    is_generated c.args.seed p c.args.self.now.parts c.args.count c.len-known.result old b c.barred.result (ap (λ (x : SessionState). x.parts) c.self.view_is) c.barred.ensures c.in_default.is
-    refl c.len-known.ensures.len refl refl c.self.invariant.0.events c.requires.some c.requires.few c.in_ok-batch.ensures.generated in
+    let old : Live = record { history = record c.self.inside.held.live.history { names = c.generated_batch.new.names }; pool = c.self.inside.held.live.pool } in
+    let b : Batch = c.in_ok-batch.batch in
+    let asked : IsAsked (Seed c.args.seed) [] p c.args.count c.self.inside.limits.file_bytes old b =
+    is_generated c.args.seed p c.args.self.now.parts c.args.count old b c.barred.result (ap (λ (x : SessionState). x.parts) c.self.view_is) c.barred.ensures c.in_default.is
+    refl refl refl c.self.invariant.0.events c.requires.some c.requires.few c.in_ok-batch.ensures.generated in
     let image : Option (List ℕ) = g.D.Disk.image c.args.disk.now in
     let then_image : Option (List ℕ) = g.D.Disk.image c.add_changes.new.disk in
     subst (λ (x : Parts). MeetsNone (Batch_of c.args.count) x image) (ap (λ (x : SessionState). x.parts) c.self.view_is)
-    (added_undamaged (Seed c.args.seed) [] p c.args.count c.len-known.result c.self.inside.limits.file_bytes old b asked image then_image c.add_changes.new.history c.in_ok-added.added
-    c.in_ok-added.ensures.adds c.in_ok-added.ensures.whole)
+    (added_undamaged (Seed c.args.seed) [] p c.args.count c.self.inside.limits.file_bytes old b asked image then_image c.add_changes.new.held.live c.in_ok-added.added
+    c.in_ok-added.ensures.adds)

@@ -1,0 +1,134 @@
+-- What a batch needs before the first write, and how it is put into the file and into the pool, or why not.
+use Rattle.std.specs.Prelude.{◌≡◌, ◌≤◌, ◌<◌, ℕ, List, [], Option, take}
+use Rattle.dg_append.specs.declared.batch_commit.MadeBatch.{MadeBatch}
+use Rattle.dg_append.specs.declared.fault.BatchFault.{BatchFault}
+use Rattle.dg_append.specs.declared.fault.BatchFault.TheVariants as fault
+use Rattle.dg_append.specs.declared.live.Live.{Live}
+use Rattle.dg_append.specs.declared.nets.Nets.{Nets}
+use Rattle.dg_append.specs.declared.next_batch.NextBatch.{NextBatch}
+use Rattle.dg_append.specs.AddedBatches.{recent_behind}
+use Rattle.dg_append.specs.BatchNets.{led_by}
+use Rattle.dg_append.specs.BatchSegments.{IsBuiltOver, MakesSegment, StopsSegment}
+use Rattle.dg_append.specs.LiveHistories.{IsForgotten, IsLive}
+use Rattle.dg_cells.specs.Rows.{AllHave, Row}
+use Rattle.dg_file.specs.Images.{BothTold, GainsBatch, GainsBatchOrNot, GainsSegment}
+use Rattle.dg_graph.specs.declared.element.Element.{Element}
+use Rattle.dg_graph.specs.declared.event.Event.{Event}
+use Rattle.dg_graph.specs.Elements.{IsSet}
+use Rattle.dg_graph.specs.Replay.{replay_from}
+use Rattle.dg_index.specs.FileOfHistory.{Segment}
+use Rattle.dg_index.specs.IndexGrowth.{index_with, needed_for}
+use Rattle.dg_index.specs.OpenedIndex.{Opening, event_total}
+use Rattle.dg_pool.specs.Graphs.{PoolState, SameGraphs, graph_now, slot_graph}
+
+-- ---- before the first write
+
+-- Each element that one of the nets brings has a cell.
+pub record HaveCells (rows : List (Option Row)) (nets : Nets) : Type 0 where
+  pub earlier : AllHave rows nets.earlier.plus
+  pub later : AllHave rows nets.later.plus
+
+-- the nets lead each graph past the events
+abbrev pub LeadPast : Nets → List Event → Type 0
+LeadPast nets events = (set : List Element) → IsSet set → led_by nets.earlier nets.later set ≡ replay_from set events
+
+-- All that the batch needs is made: its segment, the events behind the last closed list once it is there, and its nets
+-- with their cells in the pool.
+pub record MakesBatch (before : Option (List ℕ)) (o : Opening) (next : NextBatch) (old new : PoolState) (made : MadeBatch) : Type 0 where
+  pub segment : MakesSegment before o next (graph_now old) made.segment
+  pub left : made.left.items ≡ recent_behind o.params (event_total o.batches) next.recent.now next.events.now
+  pub cells : HaveCells new.rows made.nets
+  pub leads : LeadPast made.nets next.events.now
+
+-- ---- the segment in the file
+
+-- The segment is in the file, and the index has it.
+pub record KeepsSegment (limit : ℕ) (o new : Opening) (s : Segment) (before after : Option (List ℕ)) : Type 0 where
+  pub index : new ≡ index_with o s
+  pub gained : BothTold before after (GainsBatch s)
+  pub opened : BothTold before after (GainsSegment o s new)
+  pub fits : needed_for o s ≤ limit
+
+-- why the segment is not kept in the file, and what becomes of the index and of the image
+abbrev pub StopsKeeping : ℕ → Opening → Opening → Segment → Option (List ℕ) → Option (List ℕ) → BatchFault → Type 0
+StopsKeeping limit o new s before after (fault.BadChange line reason) = ⊥
+StopsKeeping limit o new s before after (fault.FileFull needed most) =
+    (needed ≡ needed_for o s) × (most ≡ limit) × (limit < needed) × (new ≡ o) × (after ≡ before)
+StopsKeeping limit o new s before after (fault.Damaged key col) = ⊥
+StopsKeeping limit o new s before after fault.Read = ⊥
+StopsKeeping limit o new s before after fault.Memory = (new ≡ o) × (after ≡ before)
+StopsKeeping limit o new s before after fault.Store = BothTold before after (GainsBatchOrNot s) × (needed_for o s ≤ limit)
+
+-- ---- the batch in the file and in memory
+
+-- The batch is in the file, and the index has its segment.
+pub record KeepsBatch (limit : ℕ) (o new : Opening) (next : NextBatch) (graph : List Element) (before after : Option (List ℕ)) : Type 0 where
+  pub segment : Segment
+  pub made : MakesSegment before o next graph segment
+  pub kept : KeepsSegment limit o new segment before after
+
+-- What is in memory has gone on with the batch: these are the events behind the last closed list, the current graph of
+-- the pool is past its events, and no other graph has changed.
+pub record PassesBatch (o : Opening) (next : NextBatch) (left : List Event) (old new : PoolState) : Type 0 where
+  pub left_is : left ≡ recent_behind o.params (event_total o.batches) next.recent.now next.events.now
+  pub now : graph_now new ≡ replay_from (graph_now old) next.events.now
+  pub slots : (s : ℕ) → slot_graph new s ≡ slot_graph old s
+
+-- The file has too little room for the segment of the batch: this many bytes would be in use.
+pub record OverfillsFile (limit : ℕ) (o : Opening) (next : NextBatch) (graph : List Element) (before : Option (List ℕ)) (needed : ℕ) : Type 0 where
+  pub segment : Segment
+  pub built : IsBuiltOver before o next graph segment
+  pub needed_is : needed ≡ needed_for o segment
+  pub over : limit < needed
+
+-- The disk failed while the segment of the batch was put into the file.
+pub record BreaksFile (limit : ℕ) (o : Opening) (next : NextBatch) (graph : List Element) (before after : Option (List ℕ)) : Type 0 where
+  pub segment : Segment
+  pub built : IsBuiltOver before o next graph segment
+  pub gains : BothTold before after (GainsBatchOrNot segment)
+  pub fits : needed_for o segment ≤ limit
+
+-- why the batch is not put into the file, and what becomes of the image
+abbrev pub StopsBatch : ℕ → Opening → NextBatch → List Element → Option (List ℕ) → Option (List ℕ) → BatchFault → Type 0
+StopsBatch limit o next graph before after (fault.BadChange line reason) = ⊥
+StopsBatch limit o next graph before after (fault.FileFull needed most) =
+    (after ≡ before) × (most ≡ limit) × OverfillsFile limit o next graph before needed
+StopsBatch limit o next graph before after (fault.Damaged key col) =
+    (after ≡ before) × StopsSegment before o next graph (fault.Damaged key col)
+StopsBatch limit o next graph before after fault.Read = after ≡ before
+StopsBatch limit o next graph before after fault.Memory = after ≡ before
+StopsBatch limit o next graph before after fault.Store = BreaksFile limit o next graph before after
+
+-- the index is what it was, except after a failure of a write or sync
+abbrev pub IndexStays : BatchFault → Opening → Opening → Type 0
+IndexStays (fault.BadChange line reason) old new = new ≡ old
+IndexStays (fault.FileFull needed most) old new = new ≡ old
+IndexStays (fault.Damaged key col) old new = new ≡ old
+IndexStays fault.Read old new = new ≡ old
+IndexStays fault.Memory old new = new ≡ old
+IndexStays fault.Store old new = Unit {0}
+
+-- So it is, and no graph of the pool has changed.
+pub record StaysBehind (f : BatchFault) (old new : Opening) (before after : PoolState) : Type 0 where
+  pub index : IndexStays f old new
+  pub graphs : SameGraphs before after
+
+-- ---- after a fault
+
+-- The names are those that were known, nothing is pending, and all else is as it was.
+pub record IsCut (known : ℕ) (old new : Live) : Type 0 where
+  pub index : new.history.index ≡ old.history.index
+  pub names : new.history.names ≡ take known old.history.names
+  pub graph : new.history.now.graph ≡ old.history.now.graph
+  pub pending : new.history.now.pending ≡ []
+  pub recent : new.history.recent.items ≡ old.history.recent.items
+  pub pool : new.pool.value ≡ old.pool.value
+
+-- what a batch that is not added leaves behind is taken back; after a failure of a write or sync nothing is kept
+abbrev pub GivesBack : BatchFault → ℕ → Live → Live → Type 0
+GivesBack (fault.BadChange line reason) known old new = IsCut known old new
+GivesBack (fault.FileFull needed most) known old new = IsCut known old new
+GivesBack (fault.Damaged key col) known old new = IsCut known old new
+GivesBack fault.Read known old new = IsCut known old new
+GivesBack fault.Memory known old new = IsCut known old new
+GivesBack fault.Store known old new = IsLive new × IsForgotten new

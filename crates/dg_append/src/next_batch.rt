@@ -1,0 +1,17 @@
+//! A batch whose events are known, with what it follows.
+
+use dg_graph::Event;
+use dg_names::Names;
+
+/// A batch whose events are known, with the names and the events that it follows.
+#[derive(Drop)]
+pub(crate) struct NextBatch<'a> {
+    /// How many names there were before those of the batch.
+    pub(crate) known: u32,
+    /// These names, and those of the batch.
+    pub(crate) names: &'a Names,
+    /// The events behind the last closed list.
+    pub(crate) recent: &'a [Event],
+    /// The events of the batch.
+    pub(crate) events: &'a [Event],
+}

@@ -1,0 +1,37 @@
+-- The names that elements and events have are there: the number of each is below the number of names.
+use Rattle.std.specs.Prelude.{◌≡◌, ◌<◌, ℕ, true, List, Option, IfSome}
+use Rattle.std.specs.List.{All}
+use Rattle.dg_graph.specs.declared.element.Element.{Element}
+use Rattle.dg_graph.specs.declared.element.Element.TheVariants as element
+use Rattle.dg_graph.specs.declared.event.Body.{Body}
+use Rattle.dg_graph.specs.declared.event.Body.TheVariants as body
+use Rattle.dg_graph.specs.declared.event.Event.{Event}
+use Rattle.dg_graph.specs.Elements.{has}
+
+-- the key and the value that an element has, if it has them, are among so many names
+abbrev pub HasNamesThere : ℕ → Element → Type 0
+HasNamesThere name_count (element.Node id) = Unit {0}
+HasNamesThere name_count (element.Edge id src dst directed) = Unit {0}
+HasNamesThere name_count (element.NodeAttr id key value) = (key < name_count) × (value < name_count)
+HasNamesThere name_count (element.EdgeAttr id key value) = (key < name_count) × (value < name_count)
+
+-- so are those of all elements of the set
+abbrev pub NamesAreThere : ℕ → List Element → Type 0
+NamesAreThere name_count set = (x : Element) → has set x ≡ true → HasNamesThere name_count x
+
+-- so are those of a value's change
+abbrev pub ChangeHasNamesThere : ℕ → ℕ → Option ℕ → Option ℕ → Type 0
+ChangeHasNamesThere name_count key old new = (key < name_count) × IfSome old (λ n. n < name_count) × IfSome new (λ n. n < name_count)
+
+-- and of an event's body
+abbrev pub BodyHasNamesThere : ℕ → Body → Type 0
+BodyHasNamesThere name_count (body.NodeAdded id) = Unit {0}
+BodyHasNamesThere name_count (body.NodeRemoved id) = Unit {0}
+BodyHasNamesThere name_count (body.EdgeAdded id src dst directed) = Unit {0}
+BodyHasNamesThere name_count (body.EdgeRemoved id src dst directed) = Unit {0}
+BodyHasNamesThere name_count (body.NodeAttr id key old new) = ChangeHasNamesThere name_count key old new
+BodyHasNamesThere name_count (body.EdgeAttr id key old new) = ChangeHasNamesThere name_count key old new
+
+-- and of all these events
+abbrev pub EventNamesAreThere : ℕ → List Event → Type 0
+EventNamesAreThere name_count events = All (λ (e : Event). BodyHasNamesThere name_count e.body) events
