@@ -1,0 +1,490 @@
+"""Any bytes as an index file: which are refused at the start, which are blank, and what is answered over the others.
+
+  python3 .ci/damage.py PROGRAM FOLDER [SEED COUNT]
+
+The file of five changes is cut at each length, and each of its bytes is changed; and files in use are damaged in 2,000
+random ways, or in COUNT ways of another SEED. What is due of each is judged by .ci/judge.py, which knows nothing of the
+program: whether the file is no index, is refused by its header or a directory, whether a start goes on with it, and
+whether its records are what its own events determine. A run over it ends with that refusal of the start, or answers each
+command, in the grammar of replies; `verify` says exactly what is due; a column that is named as damaged is in no spelling;
+and no byte in use is written but the last gate. With `--checked` a run is refused exactly where the file is not sound.
+Over a sound file, which may stand for another history than before, all replies are those of the model over the events in
+the file.
+
+Over a file that is not sound, and without `--checked`, a reply may rest on damage. A value may then stand under a name of
+the file that no key may be, since of a delta's column only that is asked that its names are there; such lines are counted.
+"""
+
+import random
+import re
+import sys
+
+import judge
+import model
+from runs import CREATE, FIVE, HEADER, Program, Tests, in_use, lines
+
+SEED, DAMAGES = 20, 2000
+ADDED = 24  # changes of the last batch, which completes nodes of the small indexes
+REFUSED, INDEX = b"deltagraph: the index is refused\n", "index"
+
+KEY = r"(?:list \d+|piece \d+|top \d+|down \d+ \d+)"
+NODE = r"(?:root|now|recent|leaf \d+|list \d+|inner \d+ \d+)"
+ELEMENT = r"node \d+|edge \d+ \d+ \d+ (?:dir|undir)|[ne]attr \d+ .*"
+VALUE = r"(?:[ne]attr \d+|attr) (.*)"
+KEY_TEXT = r"[^\0- ]{1,64}"
+# The head and a line of the body of each command's reply.
+REPLIES = {
+    "create": (r"ok create", None),
+    "append": (r"ok append \d+ \d+ \d+", None),
+    "at": (r"ok at \d+ \d+", None),
+    "several": (r"ok several \d+ \d+", r"handle \d+ \d+ \d+"),
+    "materialise": (r"ok materialise \d+ \d+", None),
+    "list": (r"ok list \d+ (\d+)", ELEMENT),
+    "counts": (r"ok counts \d+ \d+ \d+ \d+ \d+", None),
+    "node": (r"ok node \d+ \d+ (?:yes \d+|no)", r"attr .*"),
+    "neighbours": (r"ok neighbours \d+ \d+ (\d+)", r"(?:out|in|both) \d+ \d+"),
+    "release": (r"ok release \d+", None),
+    "clean": (r"ok clean(?: all \d+)?", None),
+    "pool": (r"ok pool \d+ \d+", None),
+    "plan": (r"ok plan \d+ \d+", rf"step \d+ {NODE} \d+|potential {NODE} \d+"),
+    "certify": (rf"ok certify (?:line \d+|step \d+|potential {NODE}|not-tight|valid)", None),
+    "verify": (rf"ok verify (?:sound \d+|unsound {KEY} [sne])", None),
+    "tree": (r"ok tree \d+ \d+ (?:intersection|union|balanced) \d+ \d+ (\d+)", rf"record {KEY} \d+ \d+ \d+"),
+}
+# The refusals that a file can meet: never that a read fails, and never want of memory.
+REFUSALS = {
+    "no-index": r"refused 2 no-index",
+    "bad-change": r"refused 6 bad-change \d+ \d+",
+    "out-of-range": r"refused 7 out-of-range (?:\d+ \d+|empty)",
+    "unknown-handle": r"refused 8 unknown-handle \d+",
+    "unknown-node": r"refused 11 unknown-node",
+    "not-an-overlay": r"refused 17 not-an-overlay \d+",
+    "damaged": rf"refused 15 damaged {KEY} [sne]",
+}
+
+
+def reply_fault(command, reply):
+    """What is wrong with the form of a reply, if something is."""
+    word = command.split()[0]
+    if len(reply) == 1 and any(re.fullmatch(form, reply[0]) for form in REFUSALS.values()):
+        return None
+    head, body = REPLIES[word]
+    found = re.fullmatch(head, reply[0]) if reply else None
+    if found is None:
+        return f"no reply to {word}: {reply[:1]}"
+    if found.groups() and int(found.group(1)) != len(reply) - 1:
+        return f"{len(reply) - 1} lines and not {found.group(1)}"
+    wrong = [line for line in reply[1:] if body is None or not re.fullmatch(body, line, re.DOTALL)]
+    return f"no line of a reply to {word}: {wrong[0]!r}" if wrong else None
+
+
+def questions(times, leaves):
+    """A script over a history that has these instants and so many leaves."""
+    first, last = times[0], times[-1]
+    draw = random.Random(len(times))
+    asked = [first, last, *(draw.choice(times) for _ in range(3))]
+    script = ["verify", "tree"]
+    for handle, time in enumerate(asked, 1):
+        script += [f"at {time} {draw.choice(['s', 'sn', 'se', 'sne'])}", f"list {handle}"]
+    script += [f"several sne {' '.join(map(str, asked))}", f"plan {asked[2]} sne", f"plan {first} s"]
+    script += ["counts 2", "node 2 5", "neighbours 3 5", f"materialise leaf {max(1, leaves // 2)} sne"]
+    script += [f"materialise inner 1 {max(1, leaves // 8)} s", "pool", "clean all"]
+    batch = [f"{last + 2 + i} +node {7000 + i}" for i in range(ADDED)]
+    return script + [f"append 1\n{last + 1} +node 777", "\n".join([f"append {ADDED}", *batch]), "verify"]
+
+
+class Model:
+    """The replies of a model to such a script, over the history of a judgement."""
+
+    def __init__(self, judgement):
+        self.history, self.names = judgement.history, judgement.opened.names
+        self.handles, self.bases, self.graphs, self.next = {}, {}, {}, 1
+        self.total = len(self.history.events)
+        self.last = self.history.events[-1][0] if self.history.events else None
+
+    def index(self, columns):
+        """The graph of the index, with the handles that serve for these columns."""
+        usable = tuple((handle, node) for handle, (node, held) in sorted(self.bases.items()) if set(columns) <= set(held))
+        if (columns, usable) not in self.graphs:
+            self.graphs[columns, usable] = model.Graph(self.history, columns, bases=usable)
+        return self.graphs[columns, usable]
+
+    def give(self, graph):
+        self.handles[self.next] = graph
+        self.next += 1
+        return self.next - 1
+
+    def is_in_range(self, time):
+        return self.history.events and self.history.events[0][0] <= time <= self.history.events[-1][0]
+
+    def out_of_range(self):
+        ends = f"{self.history.events[0][0]} {self.history.events[-1][0]}" if self.history.events else "empty"
+        return [f"refused 7 out-of-range {ends}"]
+
+    def graph_at(self, time, columns):
+        return model.cut(model.replay(e for e in self.history.events if e[0] <= time), columns)
+
+    def reply(self, command):
+        line, *changes = command.split("\n")
+        word, *words = line.split(" ")
+        return self.append(changes) if changes else getattr(self, word)(*words)
+
+    def append(self, changes):
+        """Adds nodes that are not there. All replies behind it are told by numbers of events alone."""
+        first, last = (int(change.split(" ")[0]) for change in (changes[0], changes[-1]))
+        if self.last is not None and first <= self.last:
+            return ["refused 6 bad-change 1 1"]
+        self.last, self.total = last, self.total + len(changes)
+        return [f"ok append {len(changes)} {self.total} {last}"]
+
+    def verify(self):
+        return [f"ok verify sound {records_of(self.history, self.total)}"]
+
+    def tree(self):
+        history, sizes = self.history, self.history.sizes
+        records = [f"record {key} {s} {n} {e}" for key, (s, n, e) in sorted(sizes.items(), key=model.key_order)]
+        events = len(history.events)
+        head = f"{history.size} {history.arity} {history.function} {events} {events // history.size} {len(sizes)}"
+        return [f"ok tree {head}", *records]
+
+    def at(self, time, columns):
+        if not self.is_in_range(int(time)):
+            return self.out_of_range()
+        weight = self.index(columns).costs[model.point(self.history, int(time))][0]
+        return [f"ok at {self.give(self.graph_at(int(time), columns))} {weight}"]
+
+    def several(self, columns, *times):
+        times = [int(time) for time in times]
+        if not all(map(self.is_in_range, times)):
+            return self.out_of_range()
+        graph, targets = self.index(columns), [model.point(self.history, time) for time in times]
+        singles = [graph.costs[target][0] for target in targets]
+        given = [self.give(self.graph_at(time, columns)) for time in times]
+        rows = [f"handle {handle} {time} {single}" for handle, time, single in zip(given, times, singles)]
+        return [f"ok several {graph.tree_weight(targets)} {sum(singles)}", *rows]
+
+    def plan(self, time, columns):
+        if not self.is_in_range(int(time)):
+            return self.out_of_range()
+        rows, weight, steps = self.index(columns).plan(model.point(self.history, int(time)))
+        return [f"ok plan {weight} {steps}", *rows]
+
+    def materialise(self, kind, *words):
+        *numbers, columns = words
+        height, index = (0, int(numbers[0])) if kind == "leaf" else map(int, numbers)
+        if not 1 <= index * self.history.arity**height <= len(self.history.events) // self.history.size or index == 0:
+            return ["refused 11 unknown-node"]
+        node = f"inner {height} {index}" if height else f"leaf {index}"
+        weight = model.Graph(self.history, columns, memory=False).costs[node][0]
+        self.bases[self.next] = node, columns
+        return [f"ok materialise {self.give(model.cut(self.history.node(height, index, {}), columns))} {weight}"]
+
+    def list(self, handle):
+        graph = self.handles.get(int(handle))
+        if graph is None:
+            return [f"refused 8 unknown-handle {handle}"]
+        return [f"ok list {handle} {len(graph)}", *listing(graph, self.names)]
+
+    def counts(self, handle):
+        graph = self.handles.get(int(handle))
+        if graph is None:
+            return [f"refused 8 unknown-handle {handle}"]
+        return [f"ok counts {handle} " + " ".join(str(sum(x[0] == kind for x in graph)) for kind in range(4))]
+
+    def node(self, handle, node):
+        graph, number = self.handles.get(int(handle)), int(node)
+        if graph is None:
+            return [f"refused 8 unknown-handle {handle}"]
+        if (model.NODE, number) not in graph:
+            return [f"ok node {handle} {node} no"]
+        found = sorted(x for x in graph if x[:2] == (model.NODE_ATTR, number))
+        values = [f"attr {text(self.names[key])} {text(self.names[value])}" for _, _, key, value in found]
+        return [f"ok node {handle} {node} yes {len(model.neighbours(graph, number))}", *values]
+
+    def neighbours(self, handle, node):
+        graph = self.handles.get(int(handle))
+        if graph is None:
+            return [f"refused 8 unknown-handle {handle}"]
+        rows = model.neighbours(graph, int(node))
+        return [f"ok neighbours {handle} {node} {len(rows)}", *rows]
+
+    def held(self):
+        return len(set.union(model.replay(self.history.events), *self.handles.values()))
+
+    def pool(self):
+        return [f"ok pool {len(self.handles)} {self.held()}"]
+
+    def clean(self, what):
+        return [f"ok clean all {self.held()}"]
+
+
+def records_of(history, events):
+    """How many lists, tops and downs the index of so many events has."""
+    leaves = count = events // history.size
+    height = 1
+    while history.arity**height <= leaves:
+        count += 1 + leaves // history.arity**height * history.arity
+        height += 1
+    return count
+
+
+def text(name):
+    return name.decode(errors="replace")
+
+
+def listing(graph, names):
+    """The lines of a graph's elements, where a name may be any bytes."""
+    return model.listing(graph, {number: Name(name) for number, name in enumerate(names)})
+
+
+class Name:
+    def __init__(self, name):
+        self.name = name
+
+    def decode(self):
+        return text(self.name)
+
+
+class Damage:
+    def __init__(self, tests, program):
+        self.tests, self.program = tests, program
+        self.tally, self.before = {}, b""
+
+    def count(self, came):
+        self.counted(came, 1)
+
+    def counted(self, came, number):
+        if number:
+            self.tally[came] = self.tally.get(came, 0) + number
+
+    def look(self, name, image, script, before):
+        """What comes of a file of these bytes, with and without `--checked`; and what was in use before it was damaged."""
+        self.before = before
+        due = judge.Judgement(image)
+        for words in ((), ("--checked",)):
+            ran, after = self.program.over(image, lines(script), words)
+            fault = self.fault_of(due, image, script, words, ran, after)
+            self.tests.check(f"{name}{', checked' if words else ''}", fault is None, fault)
+
+    def fault_of(self, due, image, script, words, ran, after):
+        """What is wrong with a run, if something is."""
+        if ran.status not in (0, 7):
+            return f"status {ran.status}, {ran.errors}"
+        replies, rest = ran.commands()
+        if ran.status == 7:
+            if ran.replies or after != image:
+                return "a refused file, but something was done"
+            return self.fault_of_refusal(due, words, ran)
+        if rest or ran.errors or len(replies) != len(script):
+            return f"{len(replies)} of {len(script)} replies, {rest[:80]}, {ran.errors}"
+        faults = [fault for fault in map(reply_fault, script, replies) if fault]
+        if faults:
+            return faults[0]
+        if due.is_blank:
+            self.count("blank")
+            return self.fault_of_blank(script, replies, image, after)
+        if due.said:
+            return f"status 0, and not: {due.said}"
+        if due.start_fault():
+            return f"status 0, and not: {due.start_fault()}"
+        closed = due.opened.used - 1
+        if not in_use(image) or after[:closed] != image[:closed] or (after != image and in_use(after) is None):
+            return "what was in use is written over"
+        if due.is_sound:
+            self.count("sound" if in_use(image) == self.before else "sound, another history")
+            return self.fault_of_replies(due, script, replies)
+        self.count("answered, unsound")
+        if words:
+            return f"status 0, and {due.soundness}"
+        if replies[0] != [f"ok verify {due.soundness}"]:
+            return f"{replies[0]}, and not {due.soundness}"
+        return self.fault_of_damaged(due, script, replies)
+
+    def fault_of_blank(self, script, replies, image, after):
+        asking = ("verify", "tree", "at", "plan", "append")
+        answers = [reply for command, reply in zip(script, replies) if command.split()[0] in asking]
+        is_none = all(reply == ["refused 2 no-index"] for reply in answers)
+        return None if is_none and after == image else "an index in a blank file"
+
+    def fault_of_refusal(self, due, words, ran):
+        said = ran.errors.decode(errors="replace").splitlines()
+        name = f"deltagraph: {self.program.place(INDEX)}: "
+        if len(said) != 2 or said[0] != "deltagraph: the index is refused" or not said[1].startswith(name):
+            return f"another reason: {ran.errors}"
+        reason = said[1][len(name) :]
+        if due.is_blank or due.is_sound:
+            return f"a file that is {'blank' if due.is_blank else 'sound'} is refused: {reason}"
+        if due.said:
+            self.count("refused as " + re.sub(r":.*| \d+", "", due.said))
+            return None if reason == due.said else f"{reason}, and not {due.said}"
+        fault = due.start_fault()
+        if fault:
+            self.count("refused as " + re.sub(r" (?:record|at event) .*|:.*", "", fault))
+            return None if reason == fault else f"{reason}, and not {fault}"
+        _, *key, column = due.soundness.split(" ")
+        unsound = f"unsound at record {' '.join(key)}, column {column}: it is not what the events of the file determine"
+        self.count("refused as unsound")
+        return None if words and reason == unsound else f"{reason}, and not {unsound}"
+
+    def fault_of_damaged(self, due, script, replies):
+        names = [text(name) for name in due.opened.names]
+        values = {f"{key} {value}" for key in names for value in names}
+        keyed = {f"{key} {value}" for key in names for value in names if re.fullmatch(KEY_TEXT, key)}
+        for command, reply in zip(script, replies):
+            said = [found.group(1) for found in (re.fullmatch(VALUE, line, re.DOTALL) for line in reply) if found]
+            if not values.issuperset(said):
+                return f"{command}: {said}, which are no names"
+            self.counted("lines with a name that is no key", sum(value not in keyed for value in said))
+            found = re.fullmatch(rf"refused 15 damaged ({KEY}) ([sne])", reply[0])
+            if found and not due.is_damaged(found.group(1), judge.LETTERS.index(found.group(2))):
+                return f"{command}: {reply[0]}, and it is spelled"
+        return None
+
+    def fault_of_replies(self, due, script, replies):
+        """Over a sound file all replies are the model's."""
+        answers = Model(due)
+        for command, reply in zip(script, replies):
+            wanted = answers.reply(command)
+            if reply != wanted:
+                return f"{command}: {reply}, and not {wanted}"
+        return None
+
+
+class File:
+    """A file in use: its bytes, a script of questions over it, and where its directories say sizes."""
+
+    def __init__(self, seed, parameters, batches, behind=b""):
+        rng = random.Random(seed)
+        history, changes, at = model.History(*parameters), model.Changes(rng), []
+        for batch, size in enumerate(batches):
+            changes.time += 1 if batch else 0
+            names = []
+            history.add([changes.next(names)[1] for _ in range(size)], names)
+            at.append(history.file())
+        self.image, self.earlier = history.file() + behind, at[:-1]
+        times = [event[0] for event in history.events] or [1]
+        self.script = questions(times, len(history.events) // history.size)
+        opened = judge.Opened(self.image)
+        self.sizes = [row.place + 8 * i for row in opened.rows.values() for i in range(3)]
+
+
+FILES = [
+    (1, (2, 2, "intersection"), [5], b""),
+    (2, (2, 2, "union"), [9, 1, 4, 2], b""),
+    (3, (3, 2, "balanced"), [20, 7, 1, 1, 12], b""),
+    (4, (4, 3, "intersection"), [30, 30, 30], b""),
+    (5, (64, 4, "union"), [12, 5, 9], b""),
+    (6, (50, 2, "balanced"), [1], b""),
+    (7, (16, 4, "balanced"), [200, 40, 3], b""),
+    (8, (8, 2, "union"), [90, 1, 1, 60], b"\1" * 300),
+    (9, (1000, 2, "intersection"), [150], b""),
+    (10, (5, 4, "intersection"), [], b""),
+]
+
+
+def damaged(draw, image, file, others):
+    """The bytes of a file with some damage more, and what kind of damage it is."""
+    image = bytearray(image)
+    kind = draw.choice(["byte", "byte", "bit", "run", "blocks", "zeros", "tail", "cut", "sizes", "field", "earlier"])
+    at = draw.randrange(len(image))
+    if kind == "byte":
+        image[at] = draw.choice([0, 1, 255, image[at] ^ 128, (image[at] + 1) % 256, draw.randrange(256)])
+    elif kind == "bit":
+        image[at] ^= 1 << draw.randrange(8)
+    elif kind == "run":
+        size = draw.choice([2, 3, 8, 16, 64])
+        image[at : at + size] = bytes(draw.randrange(256) for _ in image[at : at + size])
+    elif kind == "blocks":
+        size = draw.choice([1, *(n for n in (8, 16, 64, 512, 4096) if 2 * n <= len(image))])
+        a, b = (size * draw.randrange(len(image) // size) for _ in range(2))
+        image[a : a + size], image[b : b + size] = image[b : b + size], image[a : a + size]
+    elif kind == "zeros":
+        size = draw.choice([4, 64, 512, 4096])
+        begin = at // size * size
+        image[begin : begin + size] = bytes(len(image[begin : begin + size]))
+    elif kind == "tail":
+        image[at:] = draw.choice(others).image[draw.choice([0, at]) :]
+    elif kind == "cut":
+        image[at:] = bytes(draw.randrange(256) for _ in range(draw.choice([0, 0, 1, 50])))
+    elif kind == "sizes" and file.sizes and len(image) == len(file.image):
+        move_bytes(image, *(draw.choice(file.sizes) for _ in range(2)), draw.choice([1, 4, 16, 19, 30, 36]))
+    elif kind == "field" and file.sizes and len(image) == len(file.image):
+        place = draw.choice(file.sizes)
+        image[place : place + 8] = draw.choice([0, 1, 2**31, 2**48, 2**63, 2**64 - 1]).to_bytes(8, "big")
+    elif kind == "earlier" and file.earlier:
+        earlier = draw.choice(file.earlier)
+        image[at:] = earlier[at:] or bytes(image[at:])
+    return bytes(image), kind
+
+
+def move_bytes(image, giver, taker, count):
+    """Moves bytes from one size to another, so that their sum stays."""
+    for place, change in ((giver, -count), (taker, count)):
+        size = int.from_bytes(image[place : place + 8], "big") + change
+        image[place : place + 8] = (max(size, 0) % 2**64).to_bytes(8, "big")
+
+
+def five_changes(tests, damage):
+    """The file of five changes, cut at each length, and with each byte changed. Of its header and of the first fields of
+    its segment it is said here what is due; of all else by the judgement."""
+    run, image = damage.program.over(None, lines([CREATE, FIVE]))
+    tests.same("five changes", (run.status, run.replies, len(image)), (0, b"ok create\nend\nok load 5 5 50\nend\n", 496))
+    script = questions([10, 20, 30, 40, 50], 2)
+    damaged_at = "damaged at offset 18: the segment there breaks the format"
+    foreign = "foreign: it is no index of this program"
+
+    def begins(name, bytes_of_file, due):
+        """`due` is a reply to `at 20 s`, or why the start is refused."""
+        ran, after = damage.program.over(bytes_of_file, b"at 20 s\n")
+        name_then = damage.program.place(INDEX)
+        said = f"deltagraph: the index is refused\ndeltagraph: {name_then}: {due}\n".encode()
+        wanted = (0, f"{due}\nend\n".encode(), b"") if due.split()[0] in ("ok", "refused") else (7, b"", said)
+        tests.same(name, (ran.status, ran.replies, ran.errors), wanted)
+        tests.check(f"{name}: the file is as it was", after == bytes_of_file)
+
+    for length in range(497):
+        due = "refused 2 no-index" if length < HEADER else damaged_at if length < 496 else "ok at 1 26"
+        begins(f"cut at {length}", image[:length], due)
+        damage.look(f"cut at {length}", image[:length], script, in_use(image))
+    header = {**{at: foreign for at in [*range(10), 12, 13, 14]}, **{at: damaged_at for at in [10, 11, 15]}}
+    header[16] = "ok at 1 26"  # union in place of intersection, of which the start reads nothing
+    header[17] = "refused 7 out-of-range empty"
+    fields = {at: damaged_at for at in range(18, 50)}
+    fields.update({at: damaged_at for at in range(58, 64)})
+    for at, due in {**header, **fields}.items():
+        changed = bytearray(image)
+        changed[at] = (changed[at] + 1) % 256
+        begins(f"one more at byte {at}", bytes(changed), due)
+    for at in range(496):
+        for value in {(image[at] + 1) % 256, image[at] ^ 128, 0, 255} - {image[at]}:
+            changed = bytearray(image)
+            changed[at] = value
+            damage.look(f"byte {at} is {value}", bytes(changed), script, in_use(image))
+
+
+def main():
+    tests = Tests("damage")
+    damage = Damage(tests, Program(*sys.argv[1:3]))
+    five_changes(tests, damage)
+    print("five changes:", ", ".join(f"{count} {came}" for came, count in sorted(damage.tally.items())), flush=True)
+    damage.tally = {}
+    files = [File(*file) for file in FILES]
+    for file in files:
+        damage.look("a file in use", file.image, file.script, in_use(file.image))
+    seed, count = map(int, sys.argv[3:5]) if len(sys.argv) > 3 else (SEED, DAMAGES)
+    draw = random.Random(seed)
+    for number in range(count):
+        file = draw.choice(files)
+        image, kind = file.image, ""
+        while image == file.image:
+            image, kind = damaged(draw, file.image, file, files)
+        if draw.random() < 0.2 and image:
+            again, other = damaged(draw, image, file, files)
+            image, kind = again, f"{kind} and {other}"
+        damage.look(f"damage {number}, {kind}", image, file.script, in_use(file.image))
+    print("files in use:", ", ".join(f"{count} {came}" for came, count in sorted(damage.tally.items())), flush=True)
+    return tests.end(f", {damage.program.runs} runs")
+
+
+if __name__ == "__main__":
+    sys.exit(main())

@@ -1,0 +1,318 @@
+"""A disk that is full, a file that may not grow or be written any more, and memory that lacks: what a run says, and that
+nothing is lost.
+
+  python3 .ci/limits.py PROGRAM FOLDER
+
+Each run ends with the status that docs/SCRIPT.md names, and its replies are a front of those that are due, with want of
+memory in place of a command's that is then as if it were not in the script. The file holds the batches that were answered,
+byte for byte as a model of the file has them, and the next run, with room, adds the others.
+"""
+
+import os
+import random
+import resource
+import shutil
+import signal
+import subprocess
+import sys
+import tempfile
+
+import model
+from runs import Program, Ran, Tests, content, in_use, lines, put
+
+FAILED = "the index file failed"
+TOO_LARGE = "{}: File too large (os error 27)"
+NO_SPACE = "{}: No space left on device (os error 28)"
+READ_ONLY = "{} may not be written: Read-only file system (os error 30)"
+NOT_PERMITTED = "{}: Operation not permitted (os error 1)"
+PAGE = 4096  # bytes
+STEP = 7  # bytes between two limits of a file's size
+MEMORIES = [*range(4, 12), 12, 14, 16, 18, 20, 24, 28, 32, 40, 48, 56, 64, 80, 96, 112, 128, 160, 200, 256, 320, 400]  # MB
+NOT_LOADED = 127  # the status that the system's loader ends with, where it finds no room for the C library
+TOLD = ["refused 16 out-of-memory"]
+
+
+def batches(seed, sizes, value=""):
+    """Commands that make a history in batches of these sizes, and what is in use of the file after each. With a value each
+    batch sets it at a node of its own, so that it takes more room."""
+    rng = random.Random(seed)
+    history, changes = model.History(4, 2, "balanced"), model.Changes(rng)
+    commands, states = ["create 4 2 balanced"], [b"", in_use(history.file())]
+    for batch, size in enumerate(sizes):
+        changes.time += 1 if batch else 0
+        names = []
+        made = [changes.next(names) for _ in range(size)]
+        if value:
+            node, text = 1000 + batch, (value + str(batch)).encode()
+            key = changes.name(b"long", names)
+            made.append((f"{changes.time} +node {node}", (changes.time, "+", (model.NODE, node))))
+            number = changes.name(text, names)
+            event = changes.time, model.NODE_ATTR, node, key, None, number
+            made.append((f"{changes.time} nset {node} long {text.decode()}", event))
+        history.add([event for _, event in made], names)
+        commands.append("\n".join([f"{'append' if batch else 'load'} {len(made)}", *(line for line, _ in made)]))
+        states.append(in_use(history.file()))
+    return commands, states
+
+
+class Limits:
+    def __init__(self, tests, program):
+        self.tests, self.program = tests, program
+        self.known = {}
+
+    def limited(self, index, script, prepare=None, words=()):
+        """A run whose process is prepared so before it begins."""
+        command = [self.program.path, *words, index]
+        ran = subprocess.run(command, input=script, capture_output=True, preexec_fn=prepare)
+        return Ran(ran.returncode, ran.stdout, ran.stderr)
+
+    def look(self, name, index, commands, states, ran, reason, by_signal=None):
+        """A run that may have ended before its time for this reason: the file holds what was answered, or the next batch
+        too. And the rest is added by a run with room."""
+        said = "".join(f"deltagraph: {line}\n" for line in (FAILED, reason.format(index))).encode()
+        answered = ran.replies.count(b"end\n")
+        if answered == len(commands):
+            self.tests.same(f"{name}: a whole run", (ran.status, ran.errors), (0, b""))
+        elif by_signal:
+            self.tests.same(f"{name}: it ends by the signal", ran.status, -by_signal)
+        else:
+            self.tests.same(f"{name}: it ends", (ran.status, ran.errors), (5, said))
+        due = b"".join(self.replies(commands)[:answered])
+        self.tests.same(f"{name}: its replies", ran.replies, due)
+        held = in_use(content(index) or b"")
+        whole = [k for k in (answered, answered + 1) if k < len(states) and states[k] == held]
+        self.tests.check(f"{name}: the file holds what was answered", whole, (answered, len(held or b"")))
+        return whole[0] if whole else 0
+
+    def replies(self, commands):
+        """What is due to each of these commands, from a run with room over a new file."""
+        key = tuple(commands)
+        if key not in self.known:
+            ran, _ = self.program.over(None, lines(commands))
+            self.known[key] = [part + b"end\n" for part in ran.replies.split(b"end\n")[:-1]]
+        return self.known[key]
+
+    def goes_on(self, name, index, commands, states, held):
+        """A run with room adds what is left, and the file is sound."""
+        ran = self.program.run(index, lines([*commands[held:], "verify"]))
+        self.tests.same(f"{name}: the rest is added", in_use(content(index)), states[-1])
+        last = ran.commands()[0][-1:]
+        self.tests.check(f"{name}: it is sound", ran.status == 0 and last and last[0][0].startswith("ok verify sound"), last)
+
+    # ---- the file
+
+    def size_of_file(self):
+        """No file may pass a number of bytes, with the signal for it ignored or not."""
+        commands, states = batches(3, [6, 4, 1, 9, 5])
+        index = self.program.place("limited")
+        limits = range(0, len(states[-1]) + STEP + 1, STEP)
+        for is_ignored in (True, False):
+            for limit in limits if is_ignored else limits[::8]:
+
+                def prepare():
+                    signal.signal(signal.SIGXFSZ, signal.SIG_IGN if is_ignored else signal.SIG_DFL)
+                    resource.setrlimit(resource.RLIMIT_FSIZE, (limit, limit))
+
+                put(index, None)
+                ran = self.limited(index, lines(commands), prepare)
+                name = f"a file of at most {limit} bytes{'' if is_ignored else ', with the signal'}"
+                held = self.look(name, index, commands, states, ran, TOO_LARGE, None if is_ignored else signal.SIGXFSZ)
+                self.goes_on(name, index, commands, states, held)
+        print(f"the size of a file: {len(limits)} limits, and each eighth with the signal", flush=True)
+
+    def full_disk(self):
+        """A device with so many pages left for the file, and one that takes no file more."""
+        folder = self.program.place("full")
+        os.mkdir(folder)
+        if not mounted(folder, "size=128k"):
+            print("no mounts here: no device is filled")
+            return
+        try:
+            commands, states = batches(4, [8, 30, 3, 40, 12], "v" * 1000)
+            index, other = os.path.join(folder, "index"), os.path.join(folder, "other")
+            for pages in range(len(states[-1]) // PAGE + 3):
+                put(index, None)
+                put(other, bytes(128 * 1024 - pages * PAGE))
+                ran = self.limited(index, lines(commands))
+                name = f"a disk with {pages} pages left"
+                held = self.look(name, index, commands, states, ran, NO_SPACE)
+                put(other, None)
+                self.goes_on(name, index, commands, states, held)
+            print(f"a full disk: {len(states[-1]) // PAGE + 3} rooms", flush=True)
+        finally:
+            subprocess.run(["umount", folder], check=True)
+        if mounted(folder, "nr_inodes=1"):
+            try:
+                ran = self.limited(os.path.join(folder, "index"), b"pool\n")
+                said = f"deltagraph: {FAILED}\ndeltagraph: {NO_SPACE.format(os.path.join(folder, 'index'))}\n".encode()
+                self.tests.same("a disk that takes no file", (ran.status, ran.replies, ran.errors), (5, b"", said))
+            finally:
+                subprocess.run(["umount", folder], check=True)
+
+    def disk_that_is_read(self):
+        """A file on a device that is only read: what asks is answered, and the first batch ends the run."""
+        folder = self.program.place("read")
+        os.mkdir(folder)
+        if not mounted(folder, "size=128k"):
+            return
+        try:
+            commands, states = batches(6, [6, 4, 9])
+            index = os.path.join(folder, "index")
+            self.program.run(index, lines(commands[:3]))
+            before = content(index)
+            if subprocess.run(["mount", "-o", "remount,ro", folder], capture_output=True).returncode != 0:
+                return
+            ran = self.limited(index, lines(["verify", "counts 1", *commands[3:]]))
+            said = f"deltagraph: {FAILED}\ndeltagraph: {READ_ONLY.format(index)}\n".encode()
+            self.tests.same("a disk that is read", (ran.status, ran.errors, content(index)), (5, said, before))
+            replies = ran.commands()[0]
+            self.tests.check("a disk that is read: it is sound", replies[0][0].startswith("ok verify sound"), replies)
+            self.tests.same("a disk that is read: no more is answered", replies[1:], [["refused 8 unknown-handle 1"]])
+            self.tests.same("a disk that is read, the file", in_use(before), states[3])
+        finally:
+            subprocess.run(["umount", folder], check=True)
+
+    def no_more_writes(self):
+        """A file that may not be written from some moment of a run on. That it cannot be changed by anyone is known of a
+        file system on a device, and only its owner may say so."""
+        commands, states = batches(5, [6, 4, 1, 9])
+        with tempfile.TemporaryDirectory() as folder:
+            for before in range(1, len(commands)):
+                index = os.path.join(folder, f"index{before}")
+                pipe = subprocess.PIPE
+                process = subprocess.Popen([self.program.path, index], stdin=pipe, stdout=pipe, stderr=pipe)
+                answers = [self.ask(process, command) for command in commands[:before]]
+                self.tests.same(f"written {before} times", b"".join(answers), b"".join(self.replies(commands)[:before]))
+                if not is_frozen(index, True):
+                    process.communicate()
+                    print("no file here that nobody may write: none turns so within a run")
+                    return
+                try:
+                    name = f"no writes after {before} commands"
+                    sound = self.ask(process, "verify")
+                    self.tests.check(f"{name}: it is read", sound.startswith(b"ok verify sound"), sound)
+                    more, said = process.communicate(lines(commands[before:]))
+                    ran = Ran(process.returncode, b"".join(answers) + more, said)
+                    self.tests.same(f"{name}: it is as it was", in_use(content(index)), states[before])
+                finally:
+                    is_frozen(index, False)
+                held = self.look(name, index, commands, states, ran, NOT_PERMITTED)
+                self.goes_on(name, index, commands, states, held)
+
+    def ask(self, process, command):
+        """Carries out one command, and gives its reply."""
+        process.stdin.write(lines([command]))
+        process.stdin.flush()
+        reply = b""
+        while not reply.endswith(b"end\n"):
+            line = process.stdout.readline()
+            if not line:
+                return reply
+            reply += line
+        return reply
+
+    # ---- memory
+
+    def memory(self, name, script, image, words=()):
+        """Runs with so much memory each. `image` is what the file is before."""
+        index = self.program.place("little")
+        tally = {}
+        for size in MEMORIES:
+
+            def prepare():
+                resource.setrlimit(resource.RLIMIT_AS, (size * 10**6, size * 10**6))
+
+            put(index, image)
+            ran = self.limited(index, lines(script), prepare, words)
+            after = content(index)
+            case = f"{name}, {size} MB"
+            replies, rest = ran.commands()
+            if ran.status == NOT_LOADED:
+                came = "not loaded"
+            elif ran.status == 6:
+                found = ran.replies, ran.errors, after or b""
+                wanted = b"", b"deltagraph: out of memory\n", image or b""
+                self.tests.check(f"{case}: nothing is done", found == wanted, found[:2])
+                came = "status 6"
+            else:
+                self.tests.same(f"{case}: status", (ran.status, ran.errors, rest), (0, b"", b""))
+                refused = [i for i, reply in enumerate(replies) if reply == TOLD]
+                due, file = self.without(script, image, words, refused)
+                others = [reply for i, reply in enumerate(replies) if i not in refused]
+                self.tests.check(f"{case}: all else is answered", others == due, refused)
+                self.tests.check(f"{case}: the file", after == file)
+                never = [script[i] for i in refused if script[i].split()[0] in ("counts", "release", "clean", "pool")]
+                self.tests.same(f"{case}: what is never refused", never, [])
+                came = f"{len(refused)} refused" if refused else "whole"
+            tally.setdefault(came, []).append(size)
+        ends = [f"{came} at {', '.join(map(str, sizes))} MB" for came, sizes in tally.items()]
+        print(f"{name}: {'; '.join(ends)}", flush=True)
+        self.tests.check(f"{name}: a run is whole", "whole" in tally)
+
+    def without(self, script, image, words, refused):
+        """The replies and the file of a run with room over the script without these commands."""
+        key = tuple(script), tuple(refused), words, hash(image)
+        if key not in self.known:
+            left = [command for i, command in enumerate(script) if i not in refused]
+            ran, after = self.program.over(image, lines(left), words)
+            self.tests.same("a run with room", (ran.status, ran.errors), (0, b""))
+            self.known[key] = ran.commands()[0], after
+        return self.known[key]
+
+
+def mounted(folder, options):
+    if shutil.which("mount") is None:
+        return False
+    return subprocess.run(["mount", "-t", "tmpfs", "-o", options, "none", folder], capture_output=True).returncode == 0
+
+
+def is_frozen(path, on):
+    """Lets nobody write the file, or lets them again; whether that is so."""
+    if shutil.which("chattr") is None:
+        return False
+    if subprocess.run(["chattr", "+i" if on else "-i", path], capture_output=True).returncode != 0:
+        return False
+    if on:
+        try:
+            os.close(os.open(path, os.O_WRONLY))
+        except PermissionError:
+            return True
+        subprocess.run(["chattr", "-i", path], check=True)
+    return not on
+
+
+MAKE = ["create 1024 4 union", "workload 7 60000", "append 2\n90000 +node 1000000\n90001 nset 1000000 k v"]
+ASK = [
+    "at 20000 sne",
+    "counts 1",
+    "several sne 5000 10000 15000 25000",
+    "materialise inner 1 1 s",
+    "neighbours 1 5",
+    "list 2",
+    "verify",
+    "release 1",
+    "clean all",
+    "pool",
+    "append 1\n100000 +node 1000001",
+    "at 100000 s",
+    "counts 7",
+]
+
+
+def main():
+    tests = Tests("limits")
+    limits = Limits(tests, Program(*sys.argv[1:3]))
+    limits.size_of_file()
+    limits.full_disk()
+    limits.disk_that_is_read()
+    limits.no_more_writes()
+    limits.memory("a new file", MAKE + ASK, None)
+    _, made = limits.program.over(None, lines(MAKE))
+    limits.memory("a file of 60,002 events", ASK, made)
+    limits.memory("a file of 60,002 events that is checked", ASK[:3], made, ("--checked",))
+    limits.memory("an empty file", ["pool", "create 2 2 union", "load 1\n1 +node 1", "at 1 s", "list 1"], None)
+    return tests.end()
+
+
+if __name__ == "__main__":
+    sys.exit(main())
