@@ -1,16 +1,18 @@
 -- What becomes of a batch that is prepared behind an index.
-use Rattle.std.proofs.Common.{◌≡◌, ℕ, ◌+◌, ◌≤◌, List, [], ◌∷◌, ◌++◌, Option, Some, None, length, take, drop, sym, ◌∙◌, ap, subst, arith, length-append}
+use Rattle.std.proofs.Common.{◌≡◌, ◌⊎◌, inr, ℕ, ◌+◌, ◌≤◌, List, [], ◌∷◌, ◌++◌, Option, Some, None, Ok, Err, length, take, drop, sym, ◌∙◌, ap, subst, arith, length-append}
 use Rattle.std.specs.Prelude.{IfSome, is_some}
 use Rattle.std.specs.List.{All}
 use Rattle.std.proofs.lemmas.List.{take-append-drop}
 use Rattle.std.proofs.lemmas.Option.{same_Some}
+use Rattle.dg_append.proofs.BatchCrashes.{done_leaves, failed_leaves}
 use Rattle.dg_append.proofs.BatchSegmentIndex.{all_behind, new_counted, new_goes_on, new_names, new_total}
 use Rattle.dg_append.proofs.CompletedChanges.{events_fit}
-use Rattle.dg_append.proofs.FrontEvents.{IsPrepared, come_whole, comes_to_segment, known_few, more_event_names, more_names}
-use Rattle.dg_append.specs.AddedBatches.{AddsBatch, ComesToSegment, FailsBatch, IsOverHistory, IsReady, IsSegmentOver, MayAdd, MeetsNoDamage, ReadsNothing, TakesOlder, recent_behind}
+use Rattle.dg_append.proofs.FrontEvents.{IsPrepared, come_whole, comes_to_segment, here, known_few, more_event_names, more_names}
+use Rattle.dg_append.specs.AddedBatches.{AddsBatch, AddsBatchOrNot, AddsBehindOrNot, ComesToSegment, FailsBatch, IsOverHistory, IsReady, IsSegmentOver, MayAdd, MeetsNoDamage, ReadsNothing, TakesOlder, batch_with, recent_behind}
 use Rattle.dg_append.specs.BatchSegments.{IsBuiltOver, IsNext, IsSegmentBehind, MayFollow, StandsForKept, TakesSinglesOver}
-use Rattle.dg_append.specs.KeptBatches.{KeepsBatch, OverfillsFile, PassesBatch, StopsBatch}
-use Rattle.dg_append.specs.LiveHistories.{IsLive}
+use Rattle.dg_append.specs.KeptBatches.{GainsNextOrNot, KeepsBatch, OverfillsFile, PassesBatch, StopsBatch}
+use Rattle.dg_append.specs.DiskLeft.{LeavesDisk}
+use Rattle.dg_append.specs.LiveHistories.{IsLiveHistory}
 use Rattle.dg_append.specs.declared.batch.AddedBatch.{AddedBatch}
 use Rattle.dg_append.specs.declared.batch.Batch.{Batch}
 use Rattle.dg_append.specs.declared.fault.BatchFault.{BatchFault}
@@ -19,6 +21,7 @@ use Rattle.dg_append.specs.declared.live.Live.{Live}
 use Rattle.dg_append.specs.declared.next_batch.NextBatch.{NextBatch}
 use Rattle.dg_append.specs.OlderGroups.{IsBatchDamage, older_children}
 use Rattle.dg_columns.specs.NamesInRange.{NamesFit}
+use Rattle.dg_disk.specs.declared.disk.Disk.{Ghosts}
 use Rattle.dg_file.specs.Images.{BothTold, GainsSegment}
 use Rattle.dg_graph.specs.declared.element.Element.{Element}
 use Rattle.dg_graph.specs.declared.event.Event.{Event}
@@ -26,8 +29,10 @@ use Rattle.dg_graph.specs.Elements.{IsSet}
 use Rattle.dg_graph.specs.ExactEvents.{AreChangesOf}
 use Rattle.dg_graph.specs.Replay.{replay_from}
 use Rattle.dg_history.specs.declared.node.NodeId.TheVariants.{Root}
-use Rattle.dg_history.specs.History.{History, events_of, last_time_from}
+use Rattle.dg_history.specs.History.{Batch as BatchOf, History, events_of, last_time_from, with_batch}
+use Rattle.dg_history.specs.LegalHistory.{IsLegal}
 use Rattle.dg_index.specs.FileOfHistory.{Segment, segment_of}
+use Rattle.dg_index.specs.ImageOfHistory.{IsImageOf}
 use Rattle.dg_index.specs.IndexGrowth.{index_with}
 use Rattle.dg_index.specs.OpenedIndex.{Opening, event_total, may_be_named}
 use Rattle.dg_plan.specs.IndexGraph.{arcs_of}
@@ -78,9 +83,9 @@ module _ (o : Opening) (batch : Batch) (h : StoredHistory) (graph : List Element
       (subst (λ m. AreSingles (arcs_of (record_edges o)) (Root ∷ []) (older_children o m) singles) (sym (ap length n.events_are ∙ many)) are)
 
   -- what was read for a batch that is kept, and for one that is not
-  pub takes_kept : (limit : ℕ) (opened : Opening) (before after : Option (List ℕ)) (taken then_taken : ℕ) → KeepsBatch limit o opened next graph before after → length events ≡ length batch.changes.items
-      → TakesSinglesOver before o next graph taken then_taken → TakesOlder before o batch h taken then_taken
-  takes_kept limit opened before after taken then_taken k = takes_over before taken then_taken
+  pub takes_kept : {D : Type 0} (g : Ghosts D) (limit : ℕ) (opened : Opening) (before after : D) (taken then_taken : ℕ) → KeepsBatch g limit o opened next graph before after → length events ≡ length batch.changes.items
+      → TakesSinglesOver (g.image before) o next graph taken then_taken → TakesOlder (g.image before) o batch h taken then_taken
+  takes_kept g limit opened before after taken then_taken k = takes_over (g.image before) taken then_taken
 
   pub takes_stopped : (limit : ℕ) (before after : Option (List ℕ)) (f : BatchFault) (taken then_taken : ℕ) → StopsBatch limit o next graph before after f → length events ≡ length batch.changes.items
       → TakesSinglesOver before o next graph taken then_taken → TakesOlder before o batch h taken then_taken
@@ -121,6 +126,31 @@ module _ (o : Opening) (batch : Batch) (h : StoredHistory) (graph : List Element
   not_added limit before after fault.Memory p stops = stops
   not_added limit before after fault.Store p stops = record { events = events; segment = stops.segment; comes = comes before stops.segment p stops.built; gains = stops.gains; fits = stops.fits }
 
+  -- what a crash may leave of it
+  adds_or_not : IsPrepared o batch h events → (a c : List ℕ) → GainsNextOrNot o next graph a c → AddsBehindOrNot o batch h a c
+  adds_or_not p a c gain = λ z over.
+      inr (
+        events,
+        p.whole,
+        come_whole o batch h events p,
+        λ legal. subst (λ (b : BatchOf). IsImageOf z c ⊎ IsImageOf (with_batch z b) c) batch_is
+            (gain z (stands_for z a over) (subst (λ (b : BatchOf). IsLegal (with_batch z b)) (sym batch_is) legal)),
+      )
+    where
+      batch_is : batch_with next.known next.names.now next.events.now ≡ batch_with batch.known h.names events
+      batch_is i = record { names = new_names_are i; events = n.events_are i }
+
+  module _ {D : Type 0} (g : Ghosts D) (limit : ℕ) (old new : D) (is : index_opening h.index ≡ Some o) (p : IsPrepared o batch h events) (image : IfSome (g.image old) (IsHeldBy (index_opening h.index) (take batch.known h.names))) where
+    widened : (a c : List ℕ) → IsHeldBy (index_opening h.index) (take batch.known h.names) a → GainsNextOrNot o next graph a c → AddsBatchOrNot batch h a c
+    widened a c held gain = here (index_opening h.index) o (λ (o : Opening). AddsBehindOrNot o batch h a c) is (adds_or_not p a c gain)
+
+    -- what is left of the disk by a batch that is kept, and by one that is not
+    pub added_leaves : {A B : Type 0} (opened : Opening) (x : A) (y : B) → KeepsBatch g limit o opened next graph old new → LeavesDisk g (GainsNextOrNot o next graph) old new (Ok x) → LeavesDisk g (AddsBatchOrNot batch h) old new (Ok y)
+    added_leaves opened x y k = done_leaves g old new (IsHeldBy (index_opening h.index) (take batch.known h.names)) (GainsNextOrNot o next graph) (AddsBatchOrNot batch h) widened image x y
+
+    pub not_added_leaves : {A B : Type 0} (f : BatchFault) → StopsBatch limit o next graph (g.image old) (g.image new) f → LeavesDisk {A = A} g (GainsNextOrNot o next graph) old new (Err f) → LeavesDisk {A = B} g (AddsBatchOrNot batch h) old new (Err f)
+    not_added_leaves f stops = failed_leaves g old new (IsHeldBy (index_opening h.index) (take batch.known h.names)) (GainsNextOrNot o next graph) (AddsBatchOrNot batch h) widened image f
+
   -- it may be put behind the index
   pub next_is : IsSet h.now.graph → IsReady o batch h → IsPrepared o batch h events → IsNext o next graph
   next_is set r p = record {
@@ -128,7 +158,8 @@ module _ (o : Opening) (batch : Batch) (h : StoredHistory) (graph : List Element
     within = subst (λ (x : ℕ × List (List ℕ)). x.0 ≤ length x.1) (let e : (batch.known, h.names) ≡ (next.known, next.names.now) = λ i. (sym n.known_is i, sym n.names_are i) in e) r.within;
     counted = ap (λ (ns : List (List ℕ)). length ns) known_names ∙ r.sound.counted.0;
     named = (λ i. may_be_named (known_names i) (new_names_are i)) ∙ r.named p.whole;
-    recent_fit = subst (λ (es : List Event). All (λ (e : Event). NamesFit e.body) es) (sym n.recent_is) r.sound.fit;
+    recent_fit = subst (λ (es : List Event). All (λ (e : Event). NamesFit e.body) es) (sym n.recent_is)
+        (events_fit (length h.names) h.recent.items p.few_names (more_event_names (length (take batch.known h.names)) (length h.names) h.recent.items (known_few batch.known h.names) r.sound.recent_named));
     fit = subst (λ (es : List Event). All (λ (e : Event). NamesFit e.body) es) (sym n.events_are) (events_fit (length h.names) events p.few_names p.there);
     set = subst IsSet (sym graph_is) set;
     changes = subst (λ (x : List Element × List Event). AreChangesOf x.0 x.1) (let e : (h.now.graph, events) ≡ (graph, next.events.now) = λ i. (sym graph_is i, sym n.events_are i) in e) p.changes_are;
@@ -165,8 +196,8 @@ pub record WentOn (old new : Live) (opened : Opening) (events left : List Event)
   pub pending : new.history.now.pending ≡ []
   pub recent_are : new.history.recent.items ≡ left
 
-module _ (o opened : Opening) (limit : ℕ) (batch : Batch) (old new : Live) (before after : Option (List ℕ)) (events left : List Event) (next : NextBatch) (pool : PoolState) (pool_is : pool ≡ old.pool.value)
-    (graph_is : graph_now pool ≡ old.history.now.graph) (n : IsNextOf batch old.history events next) (p : IsPrepared o batch old.history events) (k : KeepsBatch limit o opened next (graph_now pool) before after)
+module _ {D : Type 0} (g : Ghosts D) (o opened : Opening) (limit : ℕ) (batch : Batch) (old new : Live) (before after : D) (events left : List Event) (next : NextBatch) (pool : PoolState) (pool_is : pool ≡ old.pool.value)
+    (graph_is : graph_now pool ≡ old.history.now.graph) (n : IsNextOf batch old.history events next) (p : IsPrepared o batch old.history events) (k : KeepsBatch g limit o opened next (graph_now pool) before after)
     (passes : PassesBatch o next left pool new.pool.value) (w : WentOn old new opened events left) where
   abbrev h : StoredHistory
   h = old.history
@@ -195,7 +226,7 @@ module _ (o opened : Opening) (limit : ℕ) (batch : Batch) (old new : Live) (be
   all_names = ap (λ (l : List (List ℕ)). take batch.known h.names ++ l) behind.names_are ∙ take-append-drop batch.known h.names ∙ sym w.names_are
 
   -- the history with the batch is sound, and its graph is that of the pool
-  pub live_after : IsReady o batch h → IsLive new
+  pub live_after : IsReady o batch h → IsLiveHistory new
   live_after r = record {
     sound = record {
       pending = w.pending;
@@ -230,23 +261,23 @@ module _ (o opened : Opening) (limit : ℕ) (batch : Batch) (old new : Live) (be
       )
 
   -- the batch is in the file and in memory
-  pub adds : (added : AddedBatch) → IfSome before (λ image. IsHeldBy (Some o) (take batch.known h.names) image) → is_some after ≡ is_some before
+  pub adds : (added : AddedBatch) → IfSome (g.image before) (λ image. IsHeldBy (Some o) (take batch.known h.names) image) → is_some (g.image after) ≡ is_some (g.image before)
       → added ≡ record { events = length events; total = event_total o.batches + length events; last = last_time_from 0 events }
-      → AddsBatch o limit batch old new before after added
+      → AddsBatch o limit batch old new (g.image before) (g.image after) added
   adds added image same told = record {
     events = events;
     segment = segment;
-    comes = comes o batch h (graph_now pool) events next graph_is n before segment p k.made.built;
-    whole = whole_over o batch h (graph_now pool) events next graph_is n before p.many k.made.whole;
+    comes = comes o batch h (graph_now pool) events next graph_is n (g.image before) segment p k.made.built;
+    whole = whole_over o batch h (graph_now pool) events next graph_is n (g.image before) p.many k.made.whole;
     index = index_is;
     names = w.names_are;
     graph = w.graph_is;
     recent = recent_is;
     slots = λ s. passes.slots s ∙ ap (λ (x : PoolState). slot_graph x s) pool_is;
     gains = k.kept.gained;
-    held = subst (λ (x : Option Opening × List (List ℕ)). IfSome after (λ image. IsHeldBy x.0 x.1 image))
+    held = subst (λ (x : Option Opening × List (List ℕ)). IfSome (g.image after) (λ image. IsHeldBy x.0 x.1 image))
         (let e : (Some opened, take batch.known h.names ++ segment.names) ≡ (index_opening new.history.index, new.history.names) = λ i. (sym w.index i, all_names i) in e)
-        (gains_held before after o opened segment (take batch.known h.names) same image k.kept.opened);
+        (gains_held (g.image before) (g.image after) o opened segment (take batch.known h.names) same image k.kept.opened);
     fits = k.kept.fits;
     told = told;
   }

@@ -1,9 +1,10 @@
 -- What is kept of a history, over an image that stands for it.
-use Rattle.std.proofs.Common.{◌≡◌, ℕ, ◌≤◌, List as ListOf, [], ◌∷◌, ◌++◌, Option, Some, None, Result, Ok, Err, length, drop, map, min, inl, inr, sym, ◌∙◌, ap, subst, arith, length-take}
+use Rattle.std.proofs.Common.{◌≡◌, ℕ, slice_get, ◌≤◌, List as ListOf, [], ◌∷◌, ◌++◌, Option, Some, None, Result, Ok, Err, length, drop, map, min, inl, inr, sym, ◌∙◌, ap, subst, arith, length-take}
 use Rattle.std.specs.Prelude.{IfErr, IfOk, IfSome}
 use Rattle.std.specs.Global.{Vec}
-use Rattle.std.specs.List.{sum}
-use Rattle.std.proofs.lemmas.Option.{same_Some}
+use Rattle.std.specs.List.{Contains, sum}
+use Rattle.std.proofs.lemmas.List.Elements.{Contains-get_or}
+use Rattle.std.proofs.lemmas.Option.{get_or_from_slice_get, same_Some, slice_get_within}
 use Rattle.dg_append.proofs.OlderGroupSets.{Gives, some_map}
 use Rattle.dg_append.specs.AddedBatches.{batch_with}
 use Rattle.dg_append.specs.BatchSegments.{IsBuiltOver, IsNext, IsPast, IsSegmentBehind, IsUnmade, MakesSegment, StandsForKept, StopsSegment, TakesSinglesOver}
@@ -71,6 +72,10 @@ module _ (z : History) (image : ListOf ℕ) (o : Opening) (next : NextBatch) (gr
 
 -- ---- what is made from the older children
 
+-- a key that has a place among these is one of them
+key_among : (keys : ListOf Key) (place : ℕ) (key : Key) → slice_get keys place ≡ Some key → Contains keys key
+key_among keys place key is = subst (Contains keys) (get_or_from_slice_get keys place key key is) (Contains-get_or keys place key (slice_get_within keys place key is))
+
 -- The sets are those of the older children of the batch, behind an index that is as it was.
 module _ (told : Option (ListOf ℕ)) (o other : Opening) (next : NextBatch) (graph : ListOf Element) (sets given : ListOf (ListOf Element)) (index : other ≡ o) (taken : given ≡ sets)
     (n : IsNext o next graph) (are : IfSome told (λ image. (z : History) → IsIndexOver z image o next.known → sets ≡ sets_of z (older_children o (length next.events.now))))
@@ -106,7 +111,7 @@ module _ (told : Option (ListOf ℕ)) (o other : Opening) (next : NextBatch) (gr
           ∙ ap (λ (x : Opening). segment_of x.params (events_of z) (batch_with next.known next.names.now events)) index)
 
   -- a segment that is not made over the image of a history lacked memory
-  pub unmade_over : (r : Result Segment BatchFault) → IfErr r (λ f. IsUnmade other (length events) f)
+  pub unmade_over : (r : Result Segment BatchFault) → IfErr r (IsUnmade other next graph given)
       → IfErr r (λ f. (past : ListOf Event) → IsPast other past next.recent.now graph events given → f ≡ fault.Memory)
       → IfErr r (StopsSegment told o next graph)
   unmade_over (Ok s) unmade never = tt
@@ -115,7 +120,7 @@ module _ (told : Option (ListOf ℕ)) (o other : Opening) (next : NextBatch) (gr
   unmade_over (Err (fault.Damaged key col)) unmade never = (damage told whole, none told are)
     where
       due : IsDueDelta o (length events) key
-      due = subst (λ (x : Opening). IsDueDelta x (length events) key) index unmade.1
+      due = subst (λ (x : Opening). IsDueDelta x (length events) key) index (key_among _ unmade.1.place key unmade.1.there)
 
       damage : (told : Option (ListOf ℕ)) → IfSome told (λ image. AreUndamaged next.known o image (in_groups children)) → IfSome told (λ image. IsBatchDamage next.known o image (length events) key col)
       damage None whole = tt

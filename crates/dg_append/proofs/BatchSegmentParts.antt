@@ -6,7 +6,9 @@ use Rattle.dg_append.proofs.HistoryTimes.{begins_after, last_of_both}
 use Rattle.dg_append.specs.AddedBatches.{recent_behind}
 use Rattle.dg_append.specs.BatchSegments.{BeginsBehind, IsPast}
 use Rattle.dg_append.specs.OlderGroups.{older_children}
+use Rattle.dg_build.specs.GivenDeltas.{AreGiven, AreNewLeaves, taken_back}
 use Rattle.dg_build.specs.SpelledRecords.{RisesFrom, last_in_rows}
+use Rattle.dg_graph.specs.Composition.{Delta}
 use Rattle.dg_graph.specs.declared.element.Element.{Element}
 use Rattle.dg_graph.specs.declared.event.Event.{Event}
 use Rattle.dg_graph.specs.Replay.{replay}
@@ -51,6 +53,19 @@ module _ (o : Opening) (p : Params) (before : ℕ) (params : p ≡ o.params) (co
 
   pub range_of : are_parameters o.params.l o.params.k ≡ true → InRange p.l p.k
   range_of parameters = subst (λ (q : Params). InRange q.l q.k) (sym params) (in_range o.params.l o.params.k parameters)
+
+  -- the deltas are given behind the index, from its current graph
+  pub given_here : (low high : ℕ) (set graph : List Element) (recent events : List Event) (sets : List (List Element)) (deltas : List Delta) → low ≡ leaves p before → high ≡ leaves p (before + length events)
+      → (low / p.k < high / p.k → set ≡ graph) → AreGiven p before set recent events sets deltas → AreGiven o.params (event_total o.batches) graph recent events sets deltas
+  given_here low high set graph recent events sets deltas low_is high_is taken given =
+      subst (λ (x : Params × ℕ). AreGiven x.0 x.1 graph recent events sets deltas) (let e : (p, before) ≡ (o.params, event_total o.batches) = λ i. (params i, counted i) in e)
+      (record {
+        new = given.new;
+        new_leaves = λ due.
+            subst (λ (now : List Element). AreNewLeaves p.l (leaves p (before + length events) - leaves p before) (taken_back now recent) (recent ++ events) given.new)
+            (taken (subst (λ n. n / p.k < high / p.k) (sym low_is) (subst (λ n. leaves p before / p.k < n / p.k) (sym high_is) due))) (given.new_leaves due);
+        are = given.are;
+      })
 
   module _ (past recent : List Event) (graph : List Element) (events : List Event) (sets : List (List Element)) (is : IsPast o past recent graph events sets) where
     pub past_long : length past ≡ before

@@ -1,13 +1,16 @@
 -- What becomes of a batch whose segment is made and put into the file.
-use Rattle.std.proofs.Common.{◌≡◌, ℕ, true, List, Option, Some, None, Result, Ok, Err, sym, subst}
+use Rattle.std.proofs.Common.{◌≡◌, ◌∙◌, ℕ, true, List, Option, Some, None, Result, Ok, Err, ap, sym, subst}
 use Rattle.std.specs.Prelude.{IfErr, IfSome, IsErr, IsErrAnd}
 use Rattle.std.proofs.lemmas.Bool.{false≢true}
-use Rattle.dg_append.specs.BatchSegments.{IsBuiltOver, MakesSegment, StopsSegment}
-use Rattle.dg_append.specs.KeptBatches.{IndexStays, KeepsBatch, KeepsSegment, StopsBatch, StopsKeeping}
+use Rattle.dg_append.specs.BatchSegments.{MakesSegment, StopsSegment}
+use Rattle.dg_append.specs.KeptBatches.{IndexStays, KeepsBatch, StopsBatch, StopsKeeping}
 use Rattle.dg_append.specs.declared.fault.BatchFault.{BatchFault}
 use Rattle.dg_append.specs.declared.fault.BatchFault.TheVariants as fault
 use Rattle.dg_append.specs.declared.next_batch.NextBatch.{NextBatch}
-use Rattle.dg_file.specs.Images.{Fits, IsOpenedAs}
+use Rattle.dg_disk.specs.Calls.{ReadsDisk}
+use Rattle.dg_disk.specs.declared.disk.Disk.{Ghosts}
+use Rattle.dg_file.specs.Calls.{CommitsSegment}
+use Rattle.dg_file.specs.Images.{BothTold, Fits, GainsBatch, GainsBatchOrNot, GainsSegment, IsOpenedAs}
 use Rattle.dg_graph.specs.declared.element.Element.{Element}
 use Rattle.dg_index.specs.FileOfHistory.{Segment}
 use Rattle.dg_index.specs.OpenedIndex.{Opening, may_be_named}
@@ -33,17 +36,6 @@ stops_made limit o next graph before after fault.Read same stops = same
 stops_made limit o next graph before after fault.Memory same stops = same
 stops_made limit o next graph before after fault.Store same stops = absurd stops
 
--- the segment was made, and not kept
-kept_not : (limit : ℕ) (o new : Opening) (next : NextBatch) (graph : List Element) (before after : Option (List ℕ)) (s : Segment) (f : BatchFault)
-    → IsBuiltOver before o next graph s → StopsKeeping limit o new s before after f → StopsBatch limit o next graph before after f
-kept_not limit o new next graph before after s (fault.BadChange line reason) built stops = absurd stops
-kept_not limit o new next graph before after s (fault.FileFull needed most) built stops =
-    (stops.4, stops.1, record { segment = s; built = built; needed_is = stops.0; over = stops.2 })
-kept_not limit o new next graph before after s (fault.Damaged key col) built stops = absurd stops
-kept_not limit o new next graph before after s fault.Read built stops = absurd stops
-kept_not limit o new next graph before after s fault.Memory built stops = stops.1
-kept_not limit o new next graph before after s fault.Store built stops = record { segment = s; built = built; gains = stops.0; fits = stops.1 }
-
 -- the index is what it was, where the segment was not made
 pub made_stays : (f : BatchFault) (old new : Opening) → new ≡ old → IndexStays f old new
 made_stays (fault.BadChange line reason) old new same = same
@@ -53,28 +45,41 @@ made_stays fault.Read old new same = same
 made_stays fault.Memory old new same = same
 made_stays fault.Store old new same = tt
 
-keeping_stays : (f : BatchFault) (limit : ℕ) (o new : Opening) (s : Segment) (before after : Option (List ℕ)) → StopsKeeping limit o new s before after f → IndexStays f o new
-keeping_stays (fault.BadChange line reason) limit o new s before after stops = absurd stops
-keeping_stays (fault.FileFull needed most) limit o new s before after stops = stops.3
-keeping_stays (fault.Damaged key col) limit o new s before after stops = absurd stops
-keeping_stays fault.Read limit o new s before after stops = absurd stops
-keeping_stays fault.Memory limit o new s before after stops = stops.0
-keeping_stays fault.Store limit o new s before after stops = tt
+-- The segment is made behind an index that is as it was, by calls that read, and then it is not kept, or kept.
+module _ {D : Type 0} (g : Ghosts D) (limit : ℕ) (o new : Opening) (next : NextBatch) (graph : List Element) (s : Segment) (before middle after : D) (reads : ReadsDisk g before middle) (made : MakesSegment (g.image before) o next graph s) where
+  pub stops_kept : (f : BatchFault) → StopsKeeping g limit o s new middle after f → StopsBatch limit o next graph (g.image before) (g.image after) f
+  stops_kept (fault.BadChange line reason) stops = absurd stops
+  stops_kept (fault.FileFull needed most) stops = (ap g.image stops.4 ∙ reads.same_image, stops.1, record { segment = s; built = made.built; needed_is = stops.0; over = stops.2 })
+  stops_kept (fault.Damaged key col) stops = absurd stops
+  stops_kept fault.Read stops = absurd stops
+  stops_kept fault.Memory stops = ap g.image stops.1 ∙ reads.same_image
+  stops_kept fault.Store stops = record {
+    segment = s;
+    built = made.built;
+    gains = subst (λ (x : Option (List ℕ)). BothTold x (g.image after) (GainsBatchOrNot s)) reads.same_image stops.part;
+    fits = stops.fits;
+  }
 
--- The segment is made behind an index that is as it was, over an image that is.
-module _ (limit : ℕ) (o old new : Opening) (next : NextBatch) (graph : List Element) (before middle after : Option (List ℕ)) (s : Segment) (index : old ≡ o) (same : middle ≡ before) (made : MakesSegment before o next graph s) where
-  both : ◌≡◌ {A = Opening × Option (List ℕ)} (old, middle) (o, before)
-  both i = (index i, same i)
+  pub stays_kept : (f : BatchFault) → StopsKeeping g limit o s new middle after f → IndexStays f o new
+  stays_kept (fault.BadChange line reason) stops = absurd stops
+  stays_kept (fault.FileFull needed most) stops = stops.3
+  stays_kept (fault.Damaged key col) stops = absurd stops
+  stays_kept fault.Read stops = absurd stops
+  stays_kept fault.Memory stops = stops.0
+  stays_kept fault.Store stops = tt
 
-  pub stops_kept : (f : BatchFault) → StopsKeeping limit old new s middle after f → StopsBatch limit o next graph before after f
-  stops_kept f stops = kept_not limit o new next graph before after s f made.built (subst (λ (x : Opening × Option (List ℕ)). StopsKeeping limit x.0 new s x.1 after f) both stops)
-
-  pub stays_kept : (f : BatchFault) → StopsKeeping limit old new s middle after f → IndexStays f o new
-  stays_kept f stops = keeping_stays f limit o new s before after (subst (λ (x : Opening × Option (List ℕ)). StopsKeeping limit x.0 new s x.1 after f) both stops)
-
-  -- the segment was made and kept
-  pub keeps_batch : KeepsSegment limit old new s middle after → KeepsBatch limit o new next graph before after
-  keeps_batch kept = record { segment = s; made = made; kept = subst (λ (x : Opening × Option (List ℕ)). KeepsSegment limit x.0 new s x.1 after) both kept }
+  pub keeps_batch : CommitsSegment g limit o s new middle after → KeepsBatch g limit o new next graph before after
+  keeps_batch kept = record {
+    segment = s;
+    made = made;
+    kept = record {
+      index = kept.index;
+      opened = subst (λ (x : Option (List ℕ)). BothTold x (g.image after) (GainsSegment o s new)) reads.same_image kept.opened;
+      gained = subst (λ (x : Option (List ℕ)). BothTold x (g.image after) (GainsBatch s)) reads.same_image kept.gained;
+      fits = kept.fits;
+      settled = kept.settled;
+    };
+  }
 
 -- ---- the image before the batch
 

@@ -13,3 +13,4 @@ pub mod OlderGroupNodes
 pub mod HistoryLastTime
 pub mod OlderGroupDeltas
 pub mod BatchSegmentParts
+pub mod BatchCrashes

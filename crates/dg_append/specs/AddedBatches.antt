@@ -1,5 +1,5 @@
 -- How the next batch is added to a history.
-use Rattle.std.specs.Prelude.{◌≡◌, ◌+◌, ◌-◌, ◌*◌, ◌<◌, ◌≤◌, ℕ, true, List, [], ◌∷◌, ◌++◌, Option, Some, Result, Ok, Err, IfErr, IfSome, length, take, drop}
+use Rattle.std.specs.Prelude.{◌≡◌, ◌⊎◌, ◌+◌, ◌-◌, ◌*◌, ◌<◌, ◌≤◌, ℕ, true, List, [], ◌∷◌, ◌++◌, Option, Some, Result, Ok, Err, IfErr, IfSome, length, take, drop}
 use Rattle.std.specs.List.{All, sum}
 use Rattle.dg_append.specs.declared.batch.AddedBatch.{AddedBatch}
 use Rattle.dg_append.specs.declared.batch.Batch.{Batch}
@@ -23,7 +23,8 @@ use Rattle.dg_history.specs.declared.limits.TheConstants.{BATCH_LINES_MAX, EVENT
 use Rattle.dg_history.specs.declared.node.Key.{Key}
 use Rattle.dg_history.specs.declared.node.NodeId.TheVariants.{Root}
 use Rattle.dg_history.specs.declared.params.Params.{Params}
-use Rattle.dg_history.specs.History.{Batch as BatchOf, History, events_of, last_time_from}
+use Rattle.dg_history.specs.History.{Batch as BatchOf, History, events_of, last_time_from, with_batch}
+use Rattle.dg_history.specs.LegalHistory.{IsLegal}
 use Rattle.dg_index.specs.FileOfHistory.{Segment, segment_of}
 use Rattle.dg_index.specs.Hierarchy.{leaves}
 use Rattle.dg_index.specs.ImageOfHistory.{IsImageOf}
@@ -119,6 +120,20 @@ pub record AddsBatch (o : Opening) (limit : ℕ) (batch : Batch) (old new : Live
   pub held : IfSome after (λ image. IsHeldBy (index_opening new.history.index) new.history.names image)
   pub fits : needed_for o segment ≤ limit
   pub told : added ≡ record { events = length events; total = event_total o.batches + length events; last = last_time_from 0 events }
+
+-- What a crash may leave while the lines are added behind this index as a batch: over the image of a history of which
+-- this is kept, an image of it; or the lines come to a batch, and where that may follow the history, an image without it
+-- or with it.
+abbrev pub AddsBehindOrNot : Opening → Batch → StoredHistory → List ℕ → List ℕ → Type 0
+AddsBehindOrNot o batch h before after =
+    (z : History) → IsOverHistory z before o batch.known h
+    → IsImageOf z after
+    ⊎ ((events : List Event) × (batch.front ≡ Whole) × ComeTo o h.now.graph batch (Ok events)
+    × (IsLegal (with_batch z (batch_with batch.known h.names events)) → IsImageOf z after ⊎ IsImageOf (with_batch z (batch_with batch.known h.names events)) after))
+
+-- the same behind the index of the history
+abbrev pub AddsBatchOrNot : Batch → StoredHistory → List ℕ → List ℕ → Type 0
+AddsBatchOrNot batch h before after = IfSome (index_opening h.index) (λ o. AddsBehindOrNot o batch h before after)
 
 -- ---- why nothing is added
 

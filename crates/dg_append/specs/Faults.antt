@@ -1,9 +1,9 @@
 -- Why a batch was not added, by why its changes were not completed or its older children not read; and what the disk
 -- counted in the call.
-use Rattle.std.specs.Prelude.{◌≡◌, ℕ}
+use Rattle.std.specs.Prelude.{◌≡◌}
 use Rattle.dg_append.specs.declared.fault.BatchFault.{BatchFault}
 use Rattle.dg_append.specs.declared.fault.BatchFault.TheVariants as fault
-use Rattle.dg_disk.specs.Counts.{Rose}
+use Rattle.dg_disk.specs.Calls.{Fails, FailsToWrite}
 use Rattle.dg_disk.specs.declared.disk.Disk.{Ghosts}
 use Rattle.dg_now.specs.declared.fault.PrepareFault.{PrepareFault}
 use Rattle.dg_now.specs.declared.fault.PrepareFault.TheVariants as prepare_fault
@@ -22,14 +22,14 @@ of_retrieval (retrieval_fault.Damaged key col) = fault.Damaged key col
 of_retrieval retrieval_fault.Memory = fault.Memory
 
 -- a read failed, and no write and no sync
-abbrev pub OnlyReadFailed : {D : Type 0} → (D → ℕ) → (D → ℕ) → D → D → Type 0
-OnlyReadFailed faults write_faults old new = Rose (faults old) (faults new) × (write_faults new ≡ write_faults old)
+abbrev pub OnlyReadFailed : {D : Type 0} → Ghosts D → D → D → Type 0
+OnlyReadFailed disk old new = Fails disk old new × (disk.write_faults new ≡ disk.write_faults old)
 
 -- what the disk counted in the call: where a write or sync failed, that it did; where a read failed, that nothing else did
 abbrev pub HasCause : {D : Type 0} → Ghosts D → BatchFault → D → D → Type 0
 HasCause disk (fault.BadChange line reason) old new = Unit {0}
 HasCause disk (fault.FileFull needed most) old new = Unit {0}
 HasCause disk (fault.Damaged key col) old new = Unit {0}
-HasCause disk fault.Read old new = OnlyReadFailed disk.faults disk.write_faults old new
+HasCause disk fault.Read old new = OnlyReadFailed disk old new
 HasCause disk fault.Memory old new = Unit {0}
-HasCause disk fault.Store old new = Rose (disk.write_faults old) (disk.write_faults new)
+HasCause disk fault.Store old new = FailsToWrite disk old new

@@ -1,30 +1,35 @@
 -- What a batch needs before the first write, and how it is put into the file and into the pool, or why not.
-use Rattle.std.specs.Prelude.{◌≡◌, ◌≤◌, ◌<◌, ℕ, List, [], Option, take}
+use Rattle.std.specs.Prelude.{◌≡◌, ◌⊎◌, ◌≤◌, ◌<◌, ℕ, List, [], Option, take}
 use Rattle.dg_append.specs.declared.batch_commit.MadeBatch.{MadeBatch}
 use Rattle.dg_append.specs.declared.fault.BatchFault.{BatchFault}
 use Rattle.dg_append.specs.declared.fault.BatchFault.TheVariants as fault
 use Rattle.dg_append.specs.declared.live.Live.{Live}
 use Rattle.dg_append.specs.declared.nets.Nets.{Nets}
 use Rattle.dg_append.specs.declared.next_batch.NextBatch.{NextBatch}
-use Rattle.dg_append.specs.AddedBatches.{recent_behind}
+use Rattle.dg_append.specs.AddedBatches.{batch_with, recent_behind}
 use Rattle.dg_append.specs.BatchNets.{led_by}
-use Rattle.dg_append.specs.BatchSegments.{IsBuiltOver, MakesSegment, StopsSegment}
-use Rattle.dg_append.specs.LiveHistories.{IsForgotten, IsLive}
+use Rattle.dg_append.specs.BatchSegments.{IsBuiltOver, MakesSegment, StandsForKept, StopsSegment}
+use Rattle.dg_append.specs.LiveHistories.{IsForgotten, IsLiveHistory}
 use Rattle.dg_cells.specs.Rows.{AllHave, Row}
-use Rattle.dg_file.specs.Images.{BothTold, GainsBatch, GainsBatchOrNot, GainsSegment}
+use Rattle.dg_disk.specs.declared.disk.Disk.{Ghosts}
+use Rattle.dg_file.specs.Calls.{CommitsPart, CommitsSegment}
+use Rattle.dg_file.specs.Images.{BothTold, GainsBatchOrNot}
 use Rattle.dg_graph.specs.declared.element.Element.{Element}
 use Rattle.dg_graph.specs.declared.event.Event.{Event}
 use Rattle.dg_graph.specs.Elements.{IsSet}
 use Rattle.dg_graph.specs.Replay.{replay_from}
+use Rattle.dg_history.specs.History.{History, with_batch}
+use Rattle.dg_history.specs.LegalHistory.{IsLegal}
 use Rattle.dg_index.specs.FileOfHistory.{Segment}
-use Rattle.dg_index.specs.IndexGrowth.{index_with, needed_for}
+use Rattle.dg_index.specs.ImageOfHistory.{IsImageOf}
+use Rattle.dg_index.specs.IndexGrowth.{needed_for}
 use Rattle.dg_index.specs.OpenedIndex.{Opening, event_total}
 use Rattle.dg_pool.specs.Graphs.{PoolState, SameGraphs, graph_now, slot_graph}
 
 -- ---- before the first write
 
 -- Each element that one of the nets brings has a cell.
-pub record HaveCells (rows : List (Option Row)) (nets : Nets) : Type 0 where
+pub record HaveCellsFor (rows : List (Option Row)) (nets : Nets) : Type 0 where
   pub earlier : AllHave rows nets.earlier.plus
   pub later : AllHave rows nets.later.plus
 
@@ -37,35 +42,28 @@ LeadPast nets events = (set : List Element) → IsSet set → led_by nets.earlie
 pub record MakesBatch (before : Option (List ℕ)) (o : Opening) (next : NextBatch) (old new : PoolState) (made : MadeBatch) : Type 0 where
   pub segment : MakesSegment before o next (graph_now old) made.segment
   pub left : made.left.items ≡ recent_behind o.params (event_total o.batches) next.recent.now next.events.now
-  pub cells : HaveCells new.rows made.nets
+  pub cells : HaveCellsFor new.rows made.nets
   pub leads : LeadPast made.nets next.events.now
 
 -- ---- the segment in the file
 
--- The segment is in the file, and the index has it.
-pub record KeepsSegment (limit : ℕ) (o new : Opening) (s : Segment) (before after : Option (List ℕ)) : Type 0 where
-  pub index : new ≡ index_with o s
-  pub gained : BothTold before after (GainsBatch s)
-  pub opened : BothTold before after (GainsSegment o s new)
-  pub fits : needed_for o s ≤ limit
-
--- why the segment is not kept in the file, and what becomes of the index and of the image
-abbrev pub StopsKeeping : ℕ → Opening → Opening → Segment → Option (List ℕ) → Option (List ℕ) → BatchFault → Type 0
-StopsKeeping limit o new s before after (fault.BadChange line reason) = ⊥
-StopsKeeping limit o new s before after (fault.FileFull needed most) =
+-- why the segment is not kept in the file, and what becomes of the index and of the disk
+abbrev pub StopsKeeping : {D : Type 0} → Ghosts D → ℕ → Opening → Segment → Opening → D → D → BatchFault → Type 0
+StopsKeeping g limit o s new before after (fault.BadChange line reason) = ⊥
+StopsKeeping g limit o s new before after (fault.FileFull needed most) =
     (needed ≡ needed_for o s) × (most ≡ limit) × (limit < needed) × (new ≡ o) × (after ≡ before)
-StopsKeeping limit o new s before after (fault.Damaged key col) = ⊥
-StopsKeeping limit o new s before after fault.Read = ⊥
-StopsKeeping limit o new s before after fault.Memory = (new ≡ o) × (after ≡ before)
-StopsKeeping limit o new s before after fault.Store = BothTold before after (GainsBatchOrNot s) × (needed_for o s ≤ limit)
+StopsKeeping g limit o s new before after (fault.Damaged key col) = ⊥
+StopsKeeping g limit o s new before after fault.Read = ⊥
+StopsKeeping g limit o s new before after fault.Memory = (new ≡ o) × (after ≡ before)
+StopsKeeping g limit o s new before after fault.Store = CommitsPart g limit o s before after
 
 -- ---- the batch in the file and in memory
 
 -- The batch is in the file, and the index has its segment.
-pub record KeepsBatch (limit : ℕ) (o new : Opening) (next : NextBatch) (graph : List Element) (before after : Option (List ℕ)) : Type 0 where
+pub record KeepsBatch {D : Type 0} (g : Ghosts D) (limit : ℕ) (o new : Opening) (next : NextBatch) (graph : List Element) (before after : D) : Type 0 where
   pub segment : Segment
-  pub made : MakesSegment before o next graph segment
-  pub kept : KeepsSegment limit o new segment before after
+  pub made : MakesSegment (g.image before) o next graph segment
+  pub kept : CommitsSegment g limit o segment new before after
 
 -- What is in memory has gone on with the batch: these are the events behind the last closed list, the current graph of
 -- the pool is past its events, and no other graph has changed.
@@ -73,6 +71,13 @@ pub record PassesBatch (o : Opening) (next : NextBatch) (left : List Event) (old
   pub left_is : left ≡ recent_behind o.params (event_total o.batches) next.recent.now next.events.now
   pub now : graph_now new ≡ replay_from (graph_now old) next.events.now
   pub slots : (s : ℕ) → slot_graph new s ≡ slot_graph old s
+
+-- What a crash may leave while the batch is put into the file: over the image of a history of which these are kept, and
+-- which the batch may follow, an image of it without the batch or with it.
+abbrev pub GainsNextOrNot : Opening → NextBatch → List Element → List ℕ → List ℕ → Type 0
+GainsNextOrNot o next graph before after =
+    (z : History) → StandsForKept z before o next graph → IsLegal (with_batch z (batch_with next.known next.names.now next.events.now))
+    → IsImageOf z after ⊎ IsImageOf (with_batch z (batch_with next.known next.names.now next.events.now)) after
 
 -- The file has too little room for the segment of the batch: this many bytes would be in use.
 pub record OverfillsFile (limit : ℕ) (o : Opening) (next : NextBatch) (graph : List Element) (before : Option (List ℕ)) (needed : ℕ) : Type 0 where
@@ -131,4 +136,4 @@ GivesBack (fault.FileFull needed most) known old new = IsCut known old new
 GivesBack (fault.Damaged key col) known old new = IsCut known old new
 GivesBack fault.Read known old new = IsCut known old new
 GivesBack fault.Memory known old new = IsCut known old new
-GivesBack fault.Store known old new = IsLive new × IsForgotten new
+GivesBack fault.Store known old new = IsLiveHistory new × IsForgotten new

@@ -1,6 +1,7 @@
 pub mod Fronts
 pub mod OlderGroups
 pub mod Faults
+pub mod DiskLeft
 pub mod LiveHistories
 pub mod AddedBatches
 pub mod BatchSegments

@@ -5,7 +5,7 @@ use Rattle.dg_pool.specs.Graphs.{graph_now, slot_graph}
 use Rattle.dg_start.specs.StoredHistory.{IsSoundHistory, index_opening}
 
 -- What is kept of the history is sound, and the current graph of the pool is that of the history.
-pub record IsLive (l : Live) : Type 0 where
+pub record IsLiveHistory (l : Live) : Type 0 where
   pub sound : IsSoundHistory (index_opening l.history.index) l.history.names l.history.now l.history.recent.items
   pub pool : graph_now l.pool.value ≡ l.history.now.graph
 

@@ -1,11 +1,10 @@
 //! Adding the next batch to a history: in the file, and in memory.
 
 ghost use Rattle.std.specs.Prelude.{◌≡◌, ◌≤◌, ◌<◌, ◌^◌, IfOk, IfErr, IfSome, take};
-ghost use Rattle.dg_append.specs.AddedBatches.{AddsBatch, FailsBatch, IsBack, MayAdd, TakesBatch};
-ghost use Rattle.dg_append.specs.Faults.{HasCause};
+ghost use Rattle.dg_append.specs.AddedBatches.{AddsBatch, AddsBatchOrNot, FailsBatch, IsBack, MayAdd, TakesBatch};
+ghost use Rattle.dg_append.specs.DiskLeft.{LeavesDisk};
 ghost use Rattle.dg_append.specs.KeptBatches.{GivesBack};
-ghost use Rattle.dg_append.specs.LiveHistories.{IsLive};
-ghost use Rattle.dg_disk.specs.Frame.{GoesOn};
+ghost use Rattle.dg_append.specs.LiveHistories.{IsLiveHistory};
 ghost use Rattle.dg_history.specs.declared.limits.TheConstants.{FILE_BYTES_MAX};
 ghost use Rattle.dg_index.specs.OpenedIndex.{earliest_in};
 ghost use Rattle.dg_now.specs.Now.{earliest_time_after};
@@ -70,7 +69,8 @@ fn give_back(alloc: Global, known: u32, fault: BatchFault, live: &mut Live)
 
 /// Adds the batch to the history, and takes the current graph of the pool on with it: no other graph changes. The file
 /// may have `limit` bytes in use. Where the batch completes an interior node with older children, their sets are read
-/// first, in groups of 32, each by one tree over the records alone. All memory is taken before the first write.
+/// first, in groups of 32, each by one tree over the records alone. All memory is taken before the first write. A crash
+/// at any moment leaves the history without the batch or with it.
 ///
 /// `BatchFault::BadChange` for the least line that is refused, with nothing read; `BatchFault::FileFull` with the
 /// bytes that would be in use, where they are more than `limit`; `BatchFault::Damaged`, `BatchFault::Read` where the
@@ -95,13 +95,14 @@ pub fn add_batch<R: Threads, D: Disk>(
     ensures fails { IfErr result (λ fault. IfSome (index_opening live.old.history.index) (λ o.
         FailsBatch o limit batch live.old.history (D.image disk.old) (D.image disk.new) fault)) }
     ensures back { IfErr result (λ fault. IsBack fault batch.known live.old live.new) }
-    ensures live { IsLive live.new }
+    ensures live { IsLiveHistory live.new }
 
-    // the bytes read, the causes, and what it leaves
+    // the bytes read
     ensures reads { IfSome (index_opening live.old.history.index) (λ o.
         TakesBatch o batch live.old.history (D.image disk.old) result (D.taken disk.old) (D.taken disk.new)) }
-    ensures causes { IfErr result (λ fault. HasCause D.Disk fault disk.old disk.new) }
-    ensures disk { GoesOn D.image D.faults D.write_faults disk.old disk.new }
+
+    // why it fails, what it leaves of the disk, and what a crash leaves
+    ensures disk { LeavesDisk D.Disk (AddsBatchOrNot batch live.old.history) disk.old disk.new result }
 {
     let Batch {
         known,

@@ -2,10 +2,9 @@
 
 ghost use Rattle.std.specs.Prelude.{◌≡◌, ◌≤◌, Some, take, IfOk, IfErr, IfSome, IsErrOf};
 ghost use Rattle.dg_append.specs.BatchSegments.{IsNext, StopsSegment, TakesSinglesOver};
-ghost use Rattle.dg_append.specs.Faults.{HasCause};
-ghost use Rattle.dg_append.specs.KeptBatches.{KeepsBatch, MakesBatch, PassesBatch, StaysBehind, StopsBatch};
-ghost use Rattle.dg_disk.specs.Counts.{Rose};
-ghost use Rattle.dg_disk.specs.Frame.{GoesOn, OnlyReads};
+ghost use Rattle.dg_append.specs.DiskLeft.{LeavesDisk};
+ghost use Rattle.dg_append.specs.KeptBatches.{GainsNextOrNot, KeepsBatch, MakesBatch, PassesBatch, StaysBehind, StopsBatch};
+ghost use Rattle.dg_disk.specs.Calls.{Fails, ReadsDisk};
 ghost use Rattle.dg_file.specs.Images.{IsOpenedAs};
 ghost use Rattle.dg_history.specs.declared.limits.TheConstants.{FILE_BYTES_MAX};
 ghost use Rattle.dg_pool.specs.Graphs.{SameGraphs, graph_now};
@@ -54,12 +53,12 @@ fn make_batch<R: Threads, D: Disk>(
 
     // why it is not made
     ensures fails { IfErr result (StopsSegment (D.image disk.old) index.old.opening next.now (graph_now pool.old)) }
-    ensures cause { IsErrOf result BatchFault.Read → Rose (D.faults disk.old) (D.faults disk.new) }
+    ensures cause { IsErrOf result BatchFault.Read → Fails D.Disk disk.old disk.new }
 
     // what it leaves
     ensures same { index.new ≡ index.old }
     ensures graphs { SameGraphs pool.old pool.new }
-    ensures disk { OnlyReads D.image D.faults D.write_faults disk.old disk.new }
+    ensures disk { ReadsDisk D.Disk disk.old disk.new }
 {
     let left = recent_behind(alloc, index, next.recent, next.events)?;
     let segment = make_segment(rt, alloc, index, next, pool, disk)?;
@@ -93,7 +92,7 @@ pub(crate) fn keep_batch<R: Threads, D: Disk>(
     requires next { IsNext index.old.opening next.now (graph_now pool.old) }
 
     // the batch in the file and in memory
-    ensures kept { IfOk result (λ _. KeepsBatch limit index.old.opening index.new.opening next.now (graph_now pool.old) (D.image disk.old) (D.image disk.new)) }
+    ensures kept { IfOk result (λ _. KeepsBatch D.Disk limit index.old.opening index.new.opening next.now (graph_now pool.old) disk.old disk.new) }
     ensures passed { IfOk result (λ left. PassesBatch index.old.opening next.now left.items pool.old pool.new) }
 
     // the bytes read
@@ -102,10 +101,9 @@ pub(crate) fn keep_batch<R: Threads, D: Disk>(
     // why it is not kept
     ensures fails { IfErr result (StopsBatch limit index.old.opening next.now (graph_now pool.old) (D.image disk.old) (D.image disk.new)) }
     ensures back { IfErr result (λ fault. StaysBehind fault index.old.opening index.new.opening pool.old pool.new) }
-    ensures causes { IfErr result (λ fault. HasCause D.Disk fault disk.old disk.new) }
 
-    // what it leaves
-    ensures disk { GoesOn D.image D.faults D.write_faults disk.old disk.new }
+    // what it leaves of the disk, and what a crash leaves
+    ensures disk { LeavesDisk D.Disk (GainsNextOrNot index.old.opening next.now (graph_now pool.old)) disk.old disk.new result }
 {
     let made = make_batch(rt, alloc, index, next, pool, disk)?;
     keep_segment(index, disk, made.segment, limit)?;

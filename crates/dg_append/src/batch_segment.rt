@@ -2,8 +2,7 @@
 
 ghost use Rattle.std.specs.Prelude.{◌≡◌, IfOk, IfErr, IfSome, IsErrOf};
 ghost use Rattle.dg_append.specs.BatchSegments.{IsNext, MakesSegment, StopsSegment, TakesSinglesOver};
-ghost use Rattle.dg_disk.specs.Counts.{Rose};
-ghost use Rattle.dg_disk.specs.Frame.{OnlyReads};
+ghost use Rattle.dg_disk.specs.Calls.{Fails, ReadsDisk};
 ghost use Rattle.dg_file.specs.Images.{IsOpenedAs};
 ghost use Rattle.dg_pool.specs.Graphs.{graph_now};
 
@@ -40,11 +39,11 @@ pub(crate) fn make_segment<R: Threads, D: Disk>(
 
     // why it is not made
     ensures fails { IfErr result (StopsSegment (D.image disk.old) index.old.opening next.now (graph_now pool.now)) }
-    ensures cause { IsErrOf result BatchFault.Read → Rose (D.faults disk.old) (D.faults disk.new) }
+    ensures cause { IsErrOf result BatchFault.Read → Fails D.Disk disk.old disk.new }
 
     // what it leaves
     ensures same { index.new ≡ index.old }
-    ensures disk { OnlyReads D.image D.faults D.write_faults disk.old disk.new }
+    ensures disk { ReadsDisk D.Disk disk.old disk.new }
 {
     let older = older_sets(rt, alloc, index, disk, next.known, next.events.len() as u64)?;
     segment_of(alloc, index, next, pool, &older)

@@ -1,6 +1,6 @@
 //! A history and the pool of its current graph, which go on together.
 
-ghost use Rattle.dg_append.specs.LiveHistories.{IsForgotten, IsLive};
+ghost use Rattle.dg_append.specs.LiveHistories.{IsForgotten, IsLiveHistory};
 
 use dg_pool::Pool;
 use dg_start::StoredHistory;
@@ -21,7 +21,7 @@ impl Live {
     /// Forgets the history and all graphs. Takes no memory.
     pub fn forget(&mut self, alloc: Global)
         ensures none { IsForgotten self.new }
-        ensures live { IsLive self.new }
+        ensures live { IsLiveHistory self.new }
     {
         drop(mem::replace(&mut self.history, StoredHistory::empty(alloc)));
         drop(mem::replace(&mut *self.pool, Pool::new(alloc)));

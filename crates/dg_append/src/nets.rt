@@ -3,7 +3,7 @@
 
 ghost use Rattle.std.specs.Prelude.{◌≡◌, ℕ, IfOk, OnOk};
 ghost use Rattle.dg_append.specs.BatchNets.{led_by};
-ghost use Rattle.dg_append.specs.KeptBatches.{HaveCells, LeadPast};
+ghost use Rattle.dg_append.specs.KeptBatches.{HaveCellsFor, LeadPast};
 ghost use Rattle.dg_pool.specs.Graphs.{SameGraphs, graph_now, slot_graph};
 
 use dg_graph::Event;
@@ -31,7 +31,7 @@ fn nets_of(alloc: Global, events: &[Event]) -> Result<Nets, AllocError>
 // Makes a cell in the pool for each element that one of the nets brings. No graph changes.
 fn make_cells(pool: &mut Pool, nets: &Nets) -> Result<(), AllocError>
     ensures graphs { SameGraphs pool.old pool.new }
-    ensures cells { OnOk result (HaveCells pool.new.rows nets.now) }
+    ensures cells { OnOk result (HaveCellsFor pool.new.rows nets.now) }
 {
     let earlier = nets.earlier.plus();
     let later = nets.later.plus();
@@ -49,7 +49,7 @@ pub(crate) fn make_nets(
     pool: &mut Pool,
 ) -> Result<Nets, AllocError>
     ensures graphs { SameGraphs pool.old pool.new }
-    ensures cells { IfOk result (λ nets. HaveCells pool.new.rows nets) }
+    ensures cells { IfOk result (λ nets. HaveCellsFor pool.new.rows nets) }
     ensures leads { IfOk result (λ nets. LeadPast nets events.now) }
 {
     let nets = nets_of(alloc, events)?;
@@ -59,7 +59,7 @@ pub(crate) fn make_nets(
 
 /// Takes the current graph of the pool on by the nets, the earlier first. No other graph changes.
 pub(crate) fn pass_batch(pool: &mut Pool, nets: &Nets)
-    requires cells { HaveCells pool.old.rows nets.now }
+    requires cells { HaveCellsFor pool.old.rows nets.now }
     ensures now { graph_now pool.new ≡ led_by nets.now.earlier nets.now.later (graph_now pool.old) }
     ensures slots { (s : ℕ) → slot_graph pool.new s ≡ slot_graph pool.old s }
 {

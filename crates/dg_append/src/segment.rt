@@ -1,13 +1,13 @@
 //! The segment of a batch: it is made, and put into the index file.
 
-ghost use Rattle.std.specs.Prelude.{◌≡◌, ◌≤◌, ◌<◌, ◌+◌, ◌/◌, ◌++◌, List, [], Some, length, drop, slice_get, IfOk, IfErr, IfSome, IsErrOf, OnOk};
+ghost use Rattle.std.specs.Prelude.{◌≡◌, ◌≤◌, ◌<◌, ◌+◌, ◌/◌, ◌++◌, List, [], Some, length, drop, slice_get, IfOk, IfErr, IfSome, OnOk};
 ghost use Rattle.dg_append.specs.AddedBatches.{batch_with};
 ghost use Rattle.dg_append.specs.BatchSegments.{IsNext, IsPast, IsSegmentBehind, IsUnmade};
-ghost use Rattle.dg_append.specs.KeptBatches.{KeepsSegment, StopsKeeping};
+ghost use Rattle.dg_append.specs.KeptBatches.{StopsKeeping};
 ghost use Rattle.dg_append.specs.OlderGroups.{leaves_after, leaves_before, older_children};
-ghost use Rattle.dg_disk.specs.Counts.{Rose};
-ghost use Rattle.dg_disk.specs.Frame.{OnlyWrites};
-ghost use Rattle.dg_file.specs.Images.{Fits};
+ghost use Rattle.dg_disk.specs.Calls.{LeftByCrash, WritesDisk};
+ghost use Rattle.dg_file.specs.Calls.{CommitsSegment};
+ghost use Rattle.dg_file.specs.Images.{Fits, GainsBatchOrNot};
 ghost use Rattle.dg_graph.specs.declared.event.Event.{Event};
 ghost use Rattle.dg_history.specs.declared.limits.TheConstants.{EVENTS_MAX, FILE_BYTES_MAX};
 ghost use Rattle.dg_history.specs.History.{first_time_of, last_time_from};
@@ -115,8 +115,8 @@ fn begun(alloc: Global, names: &Names, known: u32, events: &[Event]) -> Result<S
 /// The segment of the batch behind the index. The current graph of `pool` is that before the batch, and `older` has the
 /// sets of the older children of the interior nodes that the batch completes.
 ///
-/// `Damaged` names a due delta that has more elements than its column can count, and its structure; `Memory` says that
-/// memory ran out.
+/// `Damaged` names the first due delta that has more elements than its column can count, and its structure; `Memory` says
+/// that memory ran out.
 pub(crate) fn segment_of(
     alloc: Global,
     index: &Index,
@@ -129,7 +129,7 @@ pub(crate) fn segment_of(
     ensures behind { IfOk result (λ s. IsSegmentBehind index.now.opening (drop next.now.known next.now.names.now) next.now.recent.now next.now.events.now s) }
     ensures is { IfOk result (λ s. (past : List Event) → IsPast index.now.opening past next.now.recent.now (graph_now pool.now) next.now.events.now older.now
         → s ≡ segment_of index.now.opening.params past (batch_with next.now.known next.now.names.now next.now.events.now)) }
-    ensures fails { IfErr result (λ fault. IsUnmade index.now.opening (length next.now.events.now) fault) }
+    ensures fails { IfErr result (IsUnmade index.now.opening next.now (graph_now pool.now) older.now) }
     ensures never { IfErr result (λ fault. (past : List Event) → IsPast index.now.opening past next.now.recent.now (graph_now pool.now) next.now.events.now older.now
         → fault ≡ BatchFault.Memory) }
 {
@@ -179,14 +179,14 @@ pub(crate) fn keep_segment<D: Disk>(
     requires due { IsDue index.old.opening segment }
     requires limit { limit ≤ FILE_BYTES_MAX }
     requires image { IfSome (D.image disk.old) (λ image. Fits image index.old.opening segment) }
-    ensures kept { OnOk result (KeepsSegment limit index.old.opening index.new.opening segment (D.image disk.old) (D.image disk.new)) }
+    ensures kept { OnOk result (CommitsSegment D.Disk limit index.old.opening segment index.new.opening disk.old disk.new) }
 
     // why it is not kept
-    ensures fails { IfErr result (λ fault. StopsKeeping limit index.old.opening index.new.opening segment (D.image disk.old) (D.image disk.new) fault) }
-    ensures cause { IsErrOf result BatchFault.Store → Rose (D.write_faults disk.old) (D.write_faults disk.new) }
+    ensures fails { IfErr result (StopsKeeping D.Disk limit index.old.opening segment index.new.opening disk.old disk.new) }
 
-    // what it leaves
-    ensures disk { OnlyWrites D.image D.faults D.write_faults D.taken disk.old disk.new }
+    // what it leaves, and what a crash leaves
+    ensures disk { WritesDisk D.Disk disk.old disk.new }
+    ensures crash { LeftByCrash D.Disk disk.old disk.new (GainsBatchOrNot segment) }
 {
     let prepared = index.prepare(segment)?;
     match index.commit(disk, prepared, limit) {

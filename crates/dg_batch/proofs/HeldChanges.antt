@@ -1,11 +1,10 @@
 -- What a session lives on once a batch was added, or was not.
-use Rattle.std.proofs.Common.{◌≡◌, ℕ, ◌<◌, ◌≤◌, List, [], Option, Some, None, Result, Ok, Err, true, length, take, refl, sym, ap, ◌∙◌, subst, arith}
+use Rattle.std.proofs.Common.{◌≡◌, ℕ, ◌<◌, ◌≤◌, List, Option, true, length, take, refl, sym, ap, subst, arith}
 use Rattle.std.specs.Prelude.{IfSome, is_some}
 use Rattle.std.specs.List.{All}
 use Rattle.std.proofs.lemmas.List.{length-take}
-use Rattle.std.proofs.lemmas.List.Elements.{All-nil}
 use Rattle.dg_append.specs.AddedBatches.{AddsBatch, IsAsKnown, IsBack, MayAdd}
-use Rattle.dg_append.specs.LiveHistories.{IsForgotten, IsLive}
+use Rattle.dg_append.specs.LiveHistories.{IsLiveHistory}
 use Rattle.dg_append.specs.declared.batch.AddedBatch.{AddedBatch}
 use Rattle.dg_append.specs.declared.batch.Batch.{Batch}
 use Rattle.dg_append.specs.declared.fault.BatchFault.{BatchFault}
@@ -13,14 +12,11 @@ use Rattle.dg_append.specs.declared.fault.BatchFault.TheVariants as fault
 use Rattle.dg_append.specs.declared.live.Live.{Live}
 use Rattle.dg_ask.proofs.KeptAdjacencies.{graphs_same, kept_on}
 use Rattle.dg_ask.specs.HeldIndex.{HasNodes}
-use Rattle.dg_ask.specs.KeptAdjacency.{KeepsAdjacency}
 use Rattle.dg_batch.proofs.HeldGraphs.{names_more}
 use Rattle.dg_batch.proofs.HeldIndexNodes.{nodes_after}
-use Rattle.dg_batch.specs.HandlesStay.{HandlesStay}
 use Rattle.dg_batch.specs.Held.{HoldsHandles, IsHeld, graphs_held}
 use Rattle.dg_batch.specs.declared.held.Held.{Held}
-use Rattle.dg_graph.specs.declared.element.Element.{Element}
-use Rattle.dg_handles.specs.Handles.{IsTied, TieIsKept, slot_graphs}
+use Rattle.dg_handles.specs.Handles.{TieIsKept}
 use Rattle.dg_index.specs.OpenedIndex.{Opening}
 use Rattle.dg_pool.specs.Graphs.{slot_graph}
 use Rattle.dg_retrieval.specs.NamesThere.{NamesAreThere}
@@ -42,7 +38,7 @@ module _ (tie : TieIsKept) (batch : Batch) (old : Held) (new : Live) (may : MayA
   }
 
   pub held_added : (limit : ℕ) (before after : Option (List ℕ)) (added : AddedBatch) → IfSome (index_opening old.live.history.index) (λ o. 0 < o.params.l)
-      → IfSome (index_opening old.live.history.index) (λ o. AddsBatch o limit batch old.live new before after added) → IsLive new → IsHeld Over
+      → IfSome (index_opening old.live.history.index) (λ o. AddsBatch o limit batch old.live new before after added) → IsLiveHistory new → IsHeld Over
   held_added limit before after added pos adds live =
       let d : AddsBatch may.index limit batch old.live new before after added =
       subst (λ (i : Option Opening). IfSome i (λ o. AddsBatch o limit batch old.live new before after added)) may.there adds in
@@ -56,14 +52,14 @@ module _ (tie : TieIsKept) (batch : Batch) (old : Held) (new : Live) (may : MayA
   known_is : (n : ℕ) (names : List (List ℕ)) → n ≤ length names → n ≤ length (take n names)
   known_is n names le = omega (arith, le, length-take n names)
 
-  as_known : IsAsKnown batch.known old.live new → IsLive new → IsHeld Over
+  as_known : IsAsKnown batch.known old.live new → IsLiveHistory new → IsHeld Over
   as_known back live = record {
     live = live;
     handles = handles_over (length new.history.names) back.graphs.slots (subst (λ (i : Option Opening). HasNodes i old.handles.table) (sym back.index) holds.nodes)
         (subst (λ (ns : List (List ℕ)). batch.known ≤ length ns) (sym back.names) (known_is batch.known old.live.history.names may.ready.within));
   }
 
-  pub held_back : (f : BatchFault) → (f ≡ fault.Store → ⊥) → IsBack f batch.known old.live new → IsLive new → IsHeld Over
+  pub held_back : (f : BatchFault) → (f ≡ fault.Store → ⊥) → IsBack f batch.known old.live new → IsLiveHistory new → IsHeld Over
   held_back (fault.BadChange line reason) kept back live = as_known back live
   held_back (fault.FileFull needed most) kept back live = as_known back live
   held_back (fault.Damaged key col) kept back live = as_known back live

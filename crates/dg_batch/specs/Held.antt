@@ -1,7 +1,7 @@
 -- What a session lives on: a history with its graphs in one pool, and the handles on these.
 use Rattle.std.specs.Prelude.{ℕ, List, length}
 use Rattle.std.specs.List.{All}
-use Rattle.dg_append.specs.LiveHistories.{IsLive}
+use Rattle.dg_append.specs.LiveHistories.{IsLiveHistory}
 use Rattle.dg_ask.specs.HeldIndex.{HasNodes}
 use Rattle.dg_ask.specs.KeptAdjacency.{KeepsAdjacency}
 use Rattle.dg_batch.specs.declared.held.Held.{Held}
@@ -24,5 +24,5 @@ pub record HoldsHandles (name_count : ℕ) (h : Held) : Type 0 where
 
 -- The history is sound, with its current graph in the pool, and the handles are held over it.
 pub record IsHeld (h : Held) : Type 0 where
-  pub live : IsLive h.live
+  pub live : IsLiveHistory h.live
   pub handles : HoldsHandles (length h.live.history.names) h

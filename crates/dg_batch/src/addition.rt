@@ -1,11 +1,10 @@
 //! Adding a batch to the history of a session, under the graphs of its handles.
 
 ghost use Rattle.std.specs.Prelude.{◌≡◌, ◌≤◌, ◌<◌, true, false, IfErr, IfOk, IfSome, take};
-ghost use Rattle.dg_append.specs.AddedBatches.{AddsBatch, FailsBatch, IsBack, MayAdd, TakesBatch};
-ghost use Rattle.dg_append.specs.Faults.{HasCause};
+ghost use Rattle.dg_append.specs.AddedBatches.{AddsBatch, AddsBatchOrNot, FailsBatch, IsBack, MayAdd, TakesBatch};
+ghost use Rattle.dg_append.specs.DiskLeft.{LeavesDisk};
 ghost use Rattle.dg_batch.specs.HandlesStay.{HandlesStay};
 ghost use Rattle.dg_batch.specs.Held.{HoldsHandles, IsHeld};
-ghost use Rattle.dg_disk.specs.Frame.{GoesOn};
 ghost use Rattle.dg_history.specs.declared.limits.TheConstants.{FILE_BYTES_MAX};
 ghost use Rattle.dg_start.specs.StoredHistory.{IsHeldBy, index_opening};
 
@@ -44,13 +43,12 @@ pub fn add_changes<R: Threads, D: Disk>(
     ensures handles { HandlesStay result held.old.handles held.new.handles }
     ensures held { IsHeld held.new }
 
-    // the bytes read, and why it fails
+    // the bytes read
     ensures reads { IfSome (index_opening held.old.live.history.index) (λ o.
         TakesBatch o batch held.old.live.history (D.image disk.old) result (D.taken disk.old) (D.taken disk.new)) }
-    ensures causes { IfErr result (λ fault. HasCause D.Disk fault disk.old disk.new) }
 
-    // what it leaves
-    ensures disk { GoesOn D.image D.faults D.write_faults disk.old disk.new }
+    // why it fails, what it leaves of the disk, and what a crash leaves
+    ensures disk { LeavesDisk D.Disk (AddsBatchOrNot batch held.old.live.history) disk.old disk.new result }
 {
     law_tie_is_kept();
     have_lists(&held.live.history);

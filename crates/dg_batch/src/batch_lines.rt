@@ -1,12 +1,11 @@
 //! The lines of a batch, with their changes up to the first line that is none.
-ghost use Rattle.std.specs.Prelude.{◌≡◌, ◌≢◌, ◌+◌, ◌*◌, ◌≤◌, ◌<◌, List, Ok, Err, None, true, false, take, length, IfOk, IfSome, IsErrOf, IsTrue, vec_len};
-ghost use Rattle.dg_io.specs.Told.{CountRose};
-ghost use Rattle.dg_io.specs.LinesState.{told, LineComes, NeedsByte, to_come};
+ghost use Rattle.std.specs.Prelude.{◌≡◌, ◌+◌, ◌*◌, ◌≤◌, ◌<◌, List, Ok, Err, None, true, false, take, length, IfOk, IfSome, IsErrOf, IsTrue, vec_len};
+ghost use Rattle.dg_io.specs.Calls.{FailsToRead, TakesFrom};
+ghost use Rattle.dg_io.specs.LinesState.{told, LineComes, NeedsByte};
 ghost use Rattle.dg_graph.specs.declared.limits.TheConstants.{NAMES_MAX};
 ghost use Rattle.dg_history.specs.ChangeGrammar.{change_by_text_in};
 ghost use Rattle.dg_graph.specs.Lines.{ScriptLine};
 ghost use Rattle.dg_machine.specs.Script.{Follows};
-ghost use Rattle.dg_io.specs.Frame.{Advances};
 ghost use Rattle.dg_batch.specs.BatchLines.{KeepsChange, ReadsAs, ReadsBatch, IsShort, IsShortBatch, first_refusal, line_read};
 
 use crate::halt::Halt;
@@ -42,9 +41,8 @@ struct BatchLines {
 pub(crate) fn next_line<S: Source>(lines: &mut Lines, source: &mut S) -> Result<Line, Stop>
     ensures comes { IfOk result (λ line. LineComes line
         (told lines.old (S.left source.old)) (told lines.new (S.left source.new)) lines.new.text) }
-    ensures advances { Advances lines.old (S.left source.old) (S.faults source.old)
-        lines.new (S.left source.new) (S.faults source.new) }
-    ensures read { IsErrOf result Stop.Read → CountRose (S.faults source.old) (S.faults source.new) }
+    ensures advances { TakesFrom S.Source lines.old source.old lines.new source.new }
+    ensures read { IsErrOf result Stop.Read → FailsToRead S.Source source.old source.new }
     ensures limit { IsErrOf result Stop.Limit → (lines.new.taken ≡ lines.new.limit) × NeedsByte lines.new }
     ensures due { lines.old.taken ≡ lines.old.limit → NeedsByte lines.old → result ≡ Err Stop.Limit }
     ensures end { result ≡ Ok Line.End → IsTrue lines.new.ended }
@@ -112,14 +110,13 @@ fn read_lines<S: Source>(
     ensures ended { IfOk result (λ batch. batch.read < count → IsTrue lines.new.ended) }
 
     // why it stops
-    ensures read { IsErrOf result Stop.Read → CountRose (S.faults source.old) (S.faults source.new) }
+    ensures read { IsErrOf result Stop.Read → FailsToRead S.Source source.old source.new }
     ensures limit { IsErrOf result Stop.Limit → (lines.new.taken ≡ lines.new.limit) × NeedsByte lines.new }
     ensures due { 1 ≤ count → lines.old.taken ≡ lines.old.limit → NeedsByte lines.old → result ≡ Err Stop.Limit }
     ensures no_store { IsErrOf result Stop.Store → ⊥ }
 
     // what it takes
-    ensures advances { Advances lines.old (S.left source.old) (S.faults source.old)
-        lines.new (S.left source.new) (S.faults source.new) }
+    ensures advances { TakesFrom S.Source lines.old source.old lines.new source.new }
 {
     let mut changes = Vec::new(alloc);
     let mut front = if is_wanted && changes.reserve(count as usize).is_ok() {
@@ -178,14 +175,13 @@ pub fn read_batch<S: Source>(
     ensures ended { IfSome barred (λ r. IsShort r → ⊥) → IsShortBatch result → IsTrue lines.new.ended }
 
     // why it stops
-    ensures read { IsErrOf result (Halt.Stop Stop.Read) → CountRose (S.faults source.old) (S.faults source.new) }
+    ensures read { IsErrOf result (Halt.Stop Stop.Read) → FailsToRead S.Source source.old source.new }
     ensures limit { IsErrOf result (Halt.Stop Stop.Limit) → (lines.new.taken ≡ lines.new.limit) × NeedsByte lines.new }
     ensures due { 1 ≤ count → lines.old.taken ≡ lines.old.limit → NeedsByte lines.old → result ≡ Err (Halt.Stop Stop.Limit) }
     ensures no_store { IsErrOf result (Halt.Stop Stop.Store) → ⊥ }
 
     // what it takes
-    ensures advances { Advances lines.old (S.left source.old) (S.faults source.old)
-        lines.new (S.left source.new) (S.faults source.new) }
+    ensures advances { TakesFrom S.Source lines.old source.old lines.new source.new }
 {
     let known = names.len();
     match read_lines(alloc, count, barred.is_none(), names, lines, source) {

@@ -1,9 +1,8 @@
 //! The plan lines that follow a command.
 
-ghost use Rattle.std.specs.Prelude.{◌≡◌, ◌++◌, [], ◌∷◌, ◌≤◌, ◌<◌, List, Err, true, map, length, IfOk, IsErrOf, IsTrue};
-ghost use Rattle.dg_io.specs.Told.{CountRose};
+ghost use Rattle.std.specs.Prelude.{◌≡◌, ◌++◌, [], ◌∷◌, ◌≤◌, ◌<◌, List, Err, true, IfOk, IsErrOf, IsTrue};
+ghost use Rattle.dg_io.specs.Calls.{FailsToRead, TakesFrom};
 ghost use Rattle.dg_io.specs.LinesState.{told, NeedsByte};
-ghost use Rattle.dg_io.specs.Frame.{Advances};
 ghost use Rattle.dg_graph.specs.Lines.{ScriptLine};
 ghost use Rattle.dg_machine.specs.CommandGrammar.{plan_line_in};
 ghost use Rattle.dg_machine.specs.Script.{Follows};
@@ -58,14 +57,13 @@ pub fn read_plan_lines<S: Source>(
     ensures ended { IfOk result (λ written. written.read < count → IsTrue lines.new.ended) }
 
     // why it stops
-    ensures read { IsErrOf result Stop.Read → CountRose (S.faults source.old) (S.faults source.new) }
+    ensures read { IsErrOf result Stop.Read → FailsToRead S.Source source.old source.new }
     ensures limit { IsErrOf result Stop.Limit → (lines.new.taken ≡ lines.new.limit) × NeedsByte lines.new }
     ensures due { 1 ≤ count → lines.old.taken ≡ lines.old.limit → NeedsByte lines.old → result ≡ Err Stop.Limit }
     ensures no_store { IsErrOf result Stop.Store → ⊥ }
 
     // what it takes
-    ensures advances { Advances lines.old (S.left source.old) (S.faults source.old)
-        lines.new (S.left source.new) (S.faults source.new) }
+    ensures advances { TakesFrom S.Source lines.old source.old lines.new source.new }
 {
     let mut said = Vec::new(alloc);
     let mut is_whole = is_wanted && said.reserve(count as usize).is_ok();

@@ -39,3 +39,18 @@ pub record LeavesOnly {D : Type 0} (moment : D → ℕ) (left_since : D → ℕ 
   pub within : (c : List ℕ) → left_since new (moment old) c → P c
   -- the same for whoever began to watch at an earlier moment
   pub since : (t : ℕ) (c : List ℕ) → t ≤ moment old → left_since new t c → left_since old t c ⊎ P c
+
+-- Over a disk that tells its image, and of which a crash now leaves the image and nothing else, a crash at
+-- any moment up to the later state leaves bytes that have P of the image.
+abbrev pub CrashLeaves : {D : Type 0} → (D → Option (List ℕ)) → (D → List ℕ → Type 0) → (D → ℕ) → (D → ℕ → List ℕ → Type 0) → D → D → (List ℕ → List ℕ → Type 0) → Type 0
+CrashLeaves image may_leave moment left_since old new P =
+    IfSome (image old) (λ bytes. ((c : List ℕ) → may_leave old c → c ≡ bytes) → LeavesOnly moment left_since old new (P bytes))
+
+-- the bytes before the offset are as they were, and nothing is cut
+pub record Behind (offset : ℕ) (old new : List ℕ) : Type 0 where
+  pub same : take offset new ≡ take offset old
+  pub kept : length old ≤ length new
+
+-- what a crash might have left before, with writes from the offset on torn
+abbrev pub TornBehind : ℕ → (List ℕ → Type 0) → List ℕ → Type 0
+TornBehind offset leaves c = (d : List ℕ) × leaves d × Behind offset d c

@@ -30,3 +30,7 @@ with_piece offset piece image = option_map (put_at offset piece) image
 -- The image after a failed write of len bytes at the offset: some bytes stand there, that many or fewer.
 abbrev pub WritesPart : ℕ → ℕ → Option (List ℕ) → Option (List ℕ) → Type 0
 WritesPart offset len old new = (bytes : List ℕ) × (length bytes ≤ len) × (new ≡ with_piece offset bytes old)
+
+-- some bytes stand at the offset, that many or fewer; those before and behind them are as they were
+abbrev pub PartWritten : ℕ → ℕ → List ℕ → List ℕ → Type 0
+PartWritten offset len before after = (bytes : List ℕ) × (length bytes ≤ len) × (after ≡ put_at offset bytes before)

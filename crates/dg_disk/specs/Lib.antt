@@ -5,3 +5,4 @@ pub mod Crash
 pub mod Deeds
 pub mod Memory
 pub mod Entries
+pub mod Calls

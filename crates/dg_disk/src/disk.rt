@@ -1,7 +1,7 @@
 //! The disk: bytes that are read and written at any offset, and what each call leaves of them.
 ghost use Rattle.std.specs.Prelude.{◌≡◌, ◌≤◌, ℕ, List, length, IfOk, OnOk, OnErr, IfSome, Option};
 ghost use Rattle.dg_disk.specs.Counts.{Rose, raised_by};
-ghost use Rattle.dg_disk.specs.Crash.{IsSettled, LeavesNoMore, LeavesSame, LeavesTorn, Passes};
+ghost use Rattle.dg_disk.specs.Crash.{IsSettled, LeavesTorn, Passes};
 ghost use Rattle.dg_disk.specs.Frame.{OnlyReads, OnlyWrites, ReadsAndSyncs};
 ghost use Rattle.dg_disk.specs.Image.{HasOffset, HasRange, IsLengthOf, IsRangeOf, WritesPart, with_piece};
 
@@ -44,11 +44,10 @@ pub trait Disk {
         ensures cause { OnErr result (Rose (faults self.old) (faults self.new)) }
 
         // frame
-        ensures frame { OnlyReads image faults write_faults self.old self.new }
+        ensures frame { OnlyReads image faults write_faults may_leave moment left_since self.old self.new }
         ensures same_taken { taken self.new ≡ taken self.old }
 
         // crashes
-        ensures same_crash { LeavesSame (may_leave self.old) (may_leave self.new) }
         ensures time { Passes (moment self.old) (moment self.new) (left_since self.old) (left_since self.new) (may_leave self.new) };
 
     /// Fills `into` with the bytes of the image from the offset on. `Failed` where the disk failed or
@@ -63,10 +62,9 @@ pub trait Disk {
         ensures none_taken { OnErr result (taken self.new ≡ taken self.old) }
 
         // frame
-        ensures frame { OnlyReads image faults write_faults self.old self.new }
+        ensures frame { OnlyReads image faults write_faults may_leave moment left_since self.old self.new }
 
         // crashes
-        ensures same_crash { LeavesSame (may_leave self.old) (may_leave self.new) }
         ensures time { Passes (moment self.old) (moment self.new) (left_since self.old) (left_since self.new) (may_leave self.new) };
 
     /// Puts the piece at the offset, over what is there and past the end. `Failed` where the disk
@@ -97,11 +95,10 @@ pub trait Disk {
         ensures write_cause { OnErr result (Rose (write_faults self.old) (write_faults self.new)) }
 
         // frame
-        ensures frame { ReadsAndSyncs image faults write_faults self.old self.new }
+        ensures frame { ReadsAndSyncs image faults write_faults may_leave moment left_since self.old self.new }
         ensures same_taken { taken self.new ≡ taken self.old }
 
         // crashes
-        ensures crash { LeavesNoMore (may_leave self.old) (may_leave self.new) }
         ensures time { Passes (moment self.old) (moment self.new) (left_since self.old) (left_since self.new) (may_leave self.new) };
 
     // The image, where it is told, is among what a crash may leave.

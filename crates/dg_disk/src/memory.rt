@@ -3,7 +3,7 @@ ghost use Rattle.std.specs.Prelude.{◌≡◌, ◌+◌, ◌<◌, ◌≤◌, [], 
 ghost use Rattle.std.specs.Result.{is_err};
 ghost use Rattle.std.specs.Vec.{vec_capacity};
 ghost use Rattle.dg_disk.specs.Counts.{Rose, raised_by};
-ghost use Rattle.dg_disk.specs.Crash.{IsSettled, LeavesNoMore, LeavesSame, LeavesTorn, Passes};
+ghost use Rattle.dg_disk.specs.Crash.{IsSettled, LeavesTorn, Passes};
 ghost use Rattle.dg_disk.specs.Frame.{OnlyReads, OnlyWrites, ReadsAndSyncs};
 ghost use Rattle.dg_disk.specs.Deeds.{Synced, Wrote};
 ghost use Rattle.dg_disk.specs.Entries.{deed_of, deeds_of};
@@ -178,11 +178,10 @@ impl Disk for MemoryDisk {
         ensures cause { OnErr result (Rose self.old.faults self.new.faults) }
 
         // frame
-        ensures frame { OnlyReads (λ d. Some (image_of d)) (λ d. d.faults) (λ d. d.write_faults) self.old self.new }
+        ensures frame { OnlyReads (λ d. Some (image_of d)) (λ d. d.faults) (λ d. d.write_faults) MayLeave moment_of LeftSince self.old self.new }
         ensures same_taken { self.new.taken ≡ self.old.taken }
 
         // crashes
-        ensures same_crash { LeavesSame (MayLeave self.old) (MayLeave self.new) }
         ensures time { Passes (moment_of self.old) (moment_of self.new) (LeftSince self.old) (LeftSince self.new) (MayLeave self.new) }
     {
         if self.calls.next_fails() {
@@ -204,10 +203,9 @@ impl Disk for MemoryDisk {
         ensures none_taken { OnErr result (self.new.taken ≡ self.old.taken) }
 
         // frame
-        ensures frame { OnlyReads (λ d. Some (image_of d)) (λ d. d.faults) (λ d. d.write_faults) self.old self.new }
+        ensures frame { OnlyReads (λ d. Some (image_of d)) (λ d. d.faults) (λ d. d.write_faults) MayLeave moment_of LeftSince self.old self.new }
 
         // crashes
-        ensures same_crash { LeavesSame (MayLeave self.old) (MayLeave self.new) }
         ensures time { Passes (moment_of self.old) (moment_of self.new) (LeftSince self.old) (LeftSince self.new) (MayLeave self.new) }
     {
         if self.calls.next_fails() {
@@ -265,11 +263,10 @@ impl Disk for MemoryDisk {
         ensures write_cause { OnErr result (Rose self.old.write_faults self.new.write_faults) }
 
         // frame
-        ensures frame { ReadsAndSyncs (λ d. Some (image_of d)) (λ d. d.faults) (λ d. d.write_faults) self.old self.new }
+        ensures frame { ReadsAndSyncs (λ d. Some (image_of d)) (λ d. d.faults) (λ d. d.write_faults) MayLeave moment_of LeftSince self.old self.new }
         ensures same_taken { self.new.taken ≡ self.old.taken }
 
         // crashes
-        ensures crash { LeavesNoMore (MayLeave self.old) (MayLeave self.new) }
         ensures time { Passes (moment_of self.old) (moment_of self.new) (LeftSince self.old) (LeftSince self.new) (MayLeave self.new) }
     {
         if self.calls.next_fails() {

@@ -3,7 +3,7 @@ use Rattle.std.proofs.Common.{◌≡◌, ℕ, ◌+◌, ◌-◌, ◌<◌, ◌≤�
 use Rattle.std.specs.Prelude.{◌≢◌, ◌&&◌, ◌||◌, ◌==◌, not, nat_lt, IfSome}
 use Rattle.std.proofs.lemmas.Bool.{cases_lt, lt-ltb, ltb-true, eqb-true, eq-eqb, ne_eqb, false≢true}
 use Rattle.std.proofs.lemmas.List.{drop_all}
-use Rattle.dg_disk.specs.Image.{HasOffset, WritesPart, put_at, with_piece}
+use Rattle.dg_disk.specs.Image.{HasOffset, PartWritten, WritesPart, put_at, with_piece}
 use Rattle.dg_history.specs.declared.params.Params.{Params}
 use Rattle.dg_history.specs.History.{are_parameters, empty_history}
 use Rattle.dg_index.specs.ImageOfHistory.{IsImageOf, is_blank}
@@ -89,6 +89,16 @@ module _ (params : Params) where
 
   third : are_parameters params.l params.k ≡ true → (a b : List ℕ) → Written params a b → IsImageOf (empty_history params) (put_at 0 (1 ∷ []) b)
   third e a b w = image_made params (1 ∷ drop 1 b) e (ap (λ (l : List ℕ). 1 ∷ drop 1 l) w.is)
+
+  -- the same where a crash cut the write short
+  pub torn_first : (a c : List ℕ) → is_blank a ≡ true → PartWritten 0 1 a c → IsMadeInPart params a c
+  torn_first a c blank part = subst (IsMadeInPart params a) (sym part.2) (first_part a part.0 blank part.1)
+
+  pub torn_second : (a b c : List ℕ) → Closed a b → PartWritten 1 17 b c → IsMadeInPart params a c
+  torn_second a b c closed part = subst (IsMadeInPart params a) (sym part.2) (inl (second_part a b part.0 closed part.1))
+
+  pub torn_third : are_parameters params.l params.k ≡ true → (a b c : List ℕ) → Written params a b → PartWritten 0 1 b c → IsMadeInPart params a c
+  torn_third e a b c written part = subst (IsMadeInPart params a) (sym part.2) (third_part e a b part.0 written part.1)
 
   abbrev Blank : List ℕ → Type 0
   Blank a = is_blank a ≡ true

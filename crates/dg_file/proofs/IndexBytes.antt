@@ -1,8 +1,7 @@
 -- An opening takes no more bytes than the image has, however far it came with a segment (each lemma is for an end
 -- at one of its reads), and what several reads, one behind another, leave as it was.
-use Rattle.std.proofs.Common.{◌≡◌, ℕ, ◌+◌, ◌-◌, ◌≤◌, List, Option, refl, ◌∙◌, arith}
+use Rattle.std.proofs.Common.{◌≡◌, ℕ, ◌+◌, ◌-◌, ◌≤◌, refl, arith}
 use Rattle.dg_disk.specs.Counts.{raised_by, Rose}
-use Rattle.dg_disk.specs.Frame.{OnlyReads}
 use Rattle.dg_index.specs.OpenedIndex.{Opening}
 use Rattle.dg_file.specs.Images.{taken_after}
 use Rattle.dg_file.specs.Index.{opening_bytes}
@@ -60,11 +59,3 @@ behind_reads directory start one two three l d g = omega (arith, raised_most 16 
 -- a count that rose behind two others that did not fall
 pub rose_after : (a b c d : ℕ) → a ≤ b → b ≤ c → Rose c d → Rose a d
 rose_after a b c d one two rose = omega (arith, rose)
-
--- one read behind another
-pub reads_then : {D : Type 0} {image : D → Option (List ℕ)} {faults write_faults : D → ℕ} (a b c : D) → OnlyReads image faults write_faults a b → OnlyReads image faults write_faults b c → OnlyReads image faults write_faults a c
-reads_then a b c one two = record {
-  same_image = two.same_image ∙ one.same_image;
-  counted = omega (arith, one.counted, two.counted);
-  no_write_failed = two.no_write_failed ∙ one.no_write_failed;
-}

@@ -12,5 +12,6 @@ pub mod OpenedBytes
 pub mod ImageColumns
 pub mod ImageSegments
 pub mod GrowthCreations
+pub mod GrowthCrashes
 pub mod OpenedIndexLists
 pub mod InvariantLists

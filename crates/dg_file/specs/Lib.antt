@@ -7,3 +7,4 @@ pub mod Invariant
 pub mod Growth
 pub mod IndexLaws
 pub mod Faults
+pub mod Calls

@@ -1,8 +1,8 @@
 //! Writing a segment behind the closed gate that ends the file, and opening that gate.
 
 ghost use Rattle.std.specs.Prelude.{◌≡◌, ◌≤◌, ◌<◌, ◌+◌, ◌-◌, ◌^◌, ◌++◌, ◌∷◌, [], length, OnOk, OnErr, IfOk};
-ghost use Rattle.dg_disk.specs.Frame.{OnlyWrites};
-ghost use Rattle.dg_disk.specs.Counts.{Rose};
+ghost use Rattle.dg_disk.specs.Calls.{FailsToWrite, IsOnDevice, LeftByCrash, WritesDisk};
+ghost use Rattle.dg_disk.specs.Crash.{LeavesOnly, TornBehind};
 ghost use Rattle.dg_disk.specs.Image.{HasOffset};
 ghost use Rattle.dg_index.specs.FileOfHistory.{blobs, head_of, segment_bytes};
 ghost use Rattle.dg_file.specs.Growth.{Moved, KeepsFront, Grown, Gated, GatedOrNot};
@@ -19,8 +19,11 @@ fn put<D: Disk>(disk: &mut D, offset: u64, piece: &[u8]) -> Result<u64, Failed>
     ensures behind { IfOk result (λ n. n ≡ offset + length piece.now) }
     ensures written { OnOk result (Moved (D.image disk.old) (D.image disk.new) (Grown offset piece.now)) }
     ensures part { Moved (D.image disk.old) (D.image disk.new) (KeepsFront offset) }
-    ensures cause { OnErr result (Rose (D.write_faults disk.old) (D.write_faults disk.new)) }
-    ensures frame { OnlyWrites D.image D.faults D.write_faults D.taken disk.old disk.new }
+    ensures cause { OnErr result (FailsToWrite D.Disk disk.old disk.new) }
+    ensures frame { WritesDisk D.Disk disk.old disk.new }
+
+    // crashes
+    ensures crash { LeavesOnly D.moment D.left_since disk.old disk.new (TornBehind offset (D.may_leave disk.old)) }
 {
     if piece.is_empty() {
         return Ok(offset);
@@ -37,8 +40,11 @@ fn put_columns<D: Disk>(disk: &mut D, offset: u64, segment: &Segment) -> Result<
     ensures behind { IfOk result (λ n. n ≡ offset + length (blobs segment.now)) }
     ensures written { OnOk result (Moved (D.image disk.old) (D.image disk.new) (Grown offset (blobs segment.now))) }
     ensures part { Moved (D.image disk.old) (D.image disk.new) (KeepsFront offset) }
-    ensures cause { OnErr result (Rose (D.write_faults disk.old) (D.write_faults disk.new)) }
-    ensures frame { OnlyWrites D.image D.faults D.write_faults D.taken disk.old disk.new }
+    ensures cause { OnErr result (FailsToWrite D.Disk disk.old disk.new) }
+    ensures frame { WritesDisk D.Disk disk.old disk.new }
+
+    // crashes
+    ensures crash { LeavesOnly D.moment D.left_since disk.old disk.new (TornBehind offset (D.may_leave disk.old)) }
 {
     let deltas_offset = put(disk, offset, segment.list_columns())?;
     let piece_offset = put(disk, deltas_offset, segment.delta_columns())?;
@@ -57,8 +63,12 @@ fn write_segment<D: Disk>(
     requires fits { offset + length (segment_bytes segment.now) + 1 < 2 ^ 64 }
     ensures written { OnOk result (Moved (D.image disk.old) (D.image disk.new) (Grown offset (segment_bytes segment.now ++ 0 ∷ []))) }
     ensures part { Moved (D.image disk.old) (D.image disk.new) (KeepsFront offset) }
-    ensures cause { OnErr result (Rose (D.write_faults disk.old) (D.write_faults disk.new)) }
-    ensures frame { OnlyWrites D.image D.faults D.write_faults D.taken disk.old disk.new }
+    ensures cause { OnErr result (FailsToWrite D.Disk disk.old disk.new) }
+    ensures frame { WritesDisk D.Disk disk.old disk.new }
+
+    // crashes
+    ensures settled { OnOk result (IsOnDevice D.Disk disk.new) }
+    ensures crash { LeavesOnly D.moment D.left_since disk.old disk.new (TornBehind offset (D.may_leave disk.old)) }
 {
     let columns_offset = put(disk, offset, head)?;
     let gate_offset = put_columns(disk, columns_offset, segment)?;
@@ -81,8 +91,12 @@ pub(crate) fn append<D: Disk>(
     requires fits { used + length (segment_bytes segment.now) + 1 < 2 ^ 64 }
     ensures written { OnOk result (Moved (D.image disk.old) (D.image disk.new) (Gated (used - 1) 1 (segment_bytes segment.now))) }
     ensures part { OnErr result (Moved (D.image disk.old) (D.image disk.new) (GatedOrNot used (segment_bytes segment.now))) }
-    ensures cause { OnErr result (Rose (D.write_faults disk.old) (D.write_faults disk.new)) }
-    ensures frame { OnlyWrites D.image D.faults D.write_faults D.taken disk.old disk.new }
+    ensures cause { OnErr result (FailsToWrite D.Disk disk.old disk.new) }
+    ensures frame { WritesDisk D.Disk disk.old disk.new }
+
+    // crashes
+    ensures settled { OnOk result (IsOnDevice D.Disk disk.new) }
+    ensures crash { LeftByCrash D.Disk disk.old disk.new (GatedOrNot used (segment_bytes segment.now)) }
 {
     write_segment(disk, used, head, segment)?;
     put_down(disk, used - 1, &[OPEN])

@@ -1,8 +1,7 @@
 //! Writing the header of a new index.
 
-ghost use Rattle.std.specs.Prelude.{◌≡◌, ◌≤◌, true, OnOk, OnErr, IfSome};
-ghost use Rattle.dg_disk.specs.Frame.{OnlyWrites};
-ghost use Rattle.dg_disk.specs.Counts.{Rose};
+ghost use Rattle.std.specs.Prelude.{◌≡◌, true, OnOk, OnErr, IfSome};
+ghost use Rattle.dg_disk.specs.Calls.{FailsToWrite, IsOnDevice, LeftByCrash, WritesDisk};
 ghost use Rattle.dg_history.specs.History.{are_parameters, empty_history};
 ghost use Rattle.dg_index.specs.ImageOfHistory.{IsImageOf, is_blank};
 ghost use Rattle.dg_file.specs.Growth.{Moved};
@@ -20,8 +19,12 @@ pub(crate) fn write_header<D: Disk>(disk: &mut D, params: Params) -> Result<(), 
     requires blank { IfSome (D.image disk.old) (λ image. is_blank image ≡ true) }
     ensures image { OnOk result (Moved (D.image disk.old) (D.image disk.new) (λ before after. IsImageOf (empty_history params) after)) }
     ensures part { OnErr result (Moved (D.image disk.old) (D.image disk.new) (IsMadeInPart params)) }
-    ensures cause { OnErr result (Rose (D.write_faults disk.old) (D.write_faults disk.new)) }
-    ensures frame { OnlyWrites D.image D.faults D.write_faults D.taken disk.old disk.new }
+    ensures cause { OnErr result (FailsToWrite D.Disk disk.old disk.new) }
+    ensures frame { WritesDisk D.Disk disk.old disk.new }
+
+    // crashes
+    ensures settled { OnOk result (IsOnDevice D.Disk disk.new) }
+    ensures crash { LeftByCrash D.Disk disk.old disk.new (IsMadeInPart params) }
 {
     put_down(disk, 0, &[CLOSED])?;
     put_down(disk, 1, &header_behind_gate(params))?;

@@ -1,9 +1,8 @@
 //! Calls of a disk, put together.
 
-ghost use Rattle.std.specs.Prelude.{◌≡◌, ◌≤◌, ℕ, ◌+◌, length, OnOk, OnErr, IfOk, List};
-ghost use Rattle.dg_disk.specs.Frame.{OnlyWrites};
-ghost use Rattle.dg_disk.specs.Counts.{Rose, raised_by};
-ghost use Rattle.dg_disk.specs.Image.{HasOffset, WritesPart, with_piece};
+ghost use Rattle.std.specs.Prelude.{◌≡◌, length, OnOk, OnErr};
+ghost use Rattle.dg_disk.specs.Calls.{FailsToWrite, IsOnDevice, LeftByCrash, WritesDisk};
+ghost use Rattle.dg_disk.specs.Image.{HasOffset, PartWritten, WritesPart, with_piece};
 
 use dg_disk::{Disk, Failed};
 
@@ -13,8 +12,12 @@ pub(crate) fn put_down<D: Disk>(disk: &mut D, offset: u64, piece: &[u8]) -> Resu
     requires { HasOffset (D.image disk.old) offset }
     ensures written { OnOk result (D.image disk.new ≡ with_piece offset piece.now (D.image disk.old)) }
     ensures part { OnErr result (WritesPart offset (length piece.now) (D.image disk.old) (D.image disk.new)) }
-    ensures cause { OnErr result (Rose (D.write_faults disk.old) (D.write_faults disk.new)) }
-    ensures frame { OnlyWrites D.image D.faults D.write_faults D.taken disk.old disk.new }
+    ensures cause { OnErr result (FailsToWrite D.Disk disk.old disk.new) }
+    ensures frame { WritesDisk D.Disk disk.old disk.new }
+
+    // crashes
+    ensures settled { OnOk result (IsOnDevice D.Disk disk.new) }
+    ensures crash { LeftByCrash D.Disk disk.old disk.new (PartWritten offset (length piece.now)) }
 {
     disk.write_at(offset, piece)?;
     disk.sync()

@@ -1,25 +1,26 @@
 //! An index over a disk: it is made, reopened, read, and given a batch.
 
-ghost use Rattle.std.specs.Prelude.{◌≡◌, ◌≢◌, ◌≤◌, ◌<◌, ◌+◌, ◌-◌, ◌^◌, ℕ, List, [], ◌∷◌, ◌++◌, true, false, drop, length, map, min, take, Some, None, Ok, Err, is_some, slice_get, IsSome, IfSome, IfOk, IfErr, OnOk, OnErr, IsErrOf};
+ghost use Rattle.std.specs.Prelude.{◌≡◌, ◌≤◌, ◌<◌, ◌+◌, ◌-◌, ℕ, [], true, drop, length, take, Some, None, Ok, Err, is_some, slice_get, IfSome, IfOk, IfErr, OnOk, OnErr, IsErrOf};
 ghost use Rattle.std.specs.Map.{lookup};
-ghost use Rattle.dg_disk.specs.Counts.{Rose, raised_by};
-ghost use Rattle.dg_disk.specs.Frame.{OnlyReads, OnlyWrites, ReadsAndSyncs};
+ghost use Rattle.dg_disk.specs.Calls.{Fails, FailsToWrite, IsOnDevice, LeftByCrash, ReadsDisk, SyncsDisk, WritesDisk};
+ghost use Rattle.dg_disk.specs.Counts.{raised_by};
 ghost use Rattle.dg_history.specs.declared.limits.TheConstants.{EVENTS_MAX, FILE_BYTES_MAX};
 ghost use Rattle.dg_graph.specs.declared.limits.TheConstants.{NAMES_MAX, TIME_MAX};
 ghost use Rattle.dg_history.specs.History.{are_parameters, empty_history};
 ghost use Rattle.dg_history.specs.Keys.{same_key};
 ghost use Rattle.dg_index.specs.FileOfHistory.{head_of};
 ghost use Rattle.dg_index.specs.ImageOfHistory.{is_blank, IsImageOf};
-ghost use Rattle.dg_index.specs.IndexGrowth.{AreInTurn, IsDue, columns_in, index_with, last_time_in, name_total, needed_for};
+ghost use Rattle.dg_index.specs.IndexGrowth.{AreInTurn, IsDue, columns_in, last_time_in, name_total};
 ghost use Rattle.dg_index.specs.IndexKeys.{AreKept};
 ghost use Rattle.dg_index.specs.OpenedIndex.{column_at, bare, directory_of, earliest_in, event_total, first_in, keys_next, last_list, list_count, may_be_listed, may_follow, opened_of, opening, rows_in, span_in};
 ghost use Rattle.dg_disk.specs.Image.{HasRange, IsLengthOf};
 ghost use Rattle.dg_shape.specs.Additions.{bytes_of_rows, Suits};
 ghost use Rattle.dg_shape.specs.Points.{ListsRise};
+ghost use Rattle.dg_file.specs.Calls.{CommitsPart, CommitsSegment, IsOverLimit};
 ghost use Rattle.dg_file.specs.Directories.{directory_due, FindsDirectory, TakesDirectory};
 ghost use Rattle.dg_file.specs.Headers.{IsOpenedSoFar, Misses};
 ghost use Rattle.dg_file.specs.Index.{HasSegmentRoom, opening_bytes};
-ghost use Rattle.dg_file.specs.Images.{BothTold, Fits, GainsBatch, GainsBatchOrNot, GainsSegment, IsMadeInPart, IsOpenedAs, RefusesOpening, taken_after};
+ghost use Rattle.dg_file.specs.Images.{BothTold, Fits, GainsBatchOrNot, IsMadeInPart, IsOpenedAs, RefusesOpening, taken_after};
 ghost use Rattle.dg_file.specs.Invariant.{listed_after, with_rows};
 ghost use Rattle.dg_file.specs.OpeningBytes.{StaysWithinOpening, TakesUpToOpening, blank_bytes};
 
@@ -233,11 +234,15 @@ impl Index {
 
         // errors
         ensures part { IsErrOf result CreateFault.Disk → BothTold (D.image disk.old) (D.image disk.new) (λ old new. IsMadeInPart params old new) }
-        ensures cause { IsErrOf result CreateFault.Disk → Rose (D.write_faults disk.old) (D.write_faults disk.new) }
-        ensures memory { IsErrOf result CreateFault.Memory → (D.image disk.new ≡ D.image disk.old) × (D.faults disk.new ≡ D.faults disk.old) × (D.write_faults disk.new ≡ D.write_faults disk.old) }
+        ensures cause { IsErrOf result CreateFault.Disk → FailsToWrite D.Disk disk.old disk.new }
+        ensures memory { IsErrOf result CreateFault.Memory → disk.new ≡ disk.old }
 
         // frame
-        ensures frame { OnlyWrites D.image D.faults D.write_faults D.taken disk.old disk.new }
+        ensures frame { WritesDisk D.Disk disk.old disk.new }
+
+        // crashes
+        ensures settled { OnOk result (IsOnDevice D.Disk disk.new) }
+        ensures crash { LeftByCrash D.Disk disk.old disk.new (IsMadeInPart params) }
     {
         let mut index = Index::empty(alloc, params);
         index.reserve(1)?;
@@ -265,13 +270,17 @@ impl Index {
 
         // errors
         ensures refused { IfErr result (λ fault. IfSome (D.image disk.old) (λ image. RefusesOpening fault (opening image))) }
-        ensures cause { IsErrOf result ReopenFault.Disk → Rose (D.faults disk.old) (D.faults disk.new) }
+        ensures cause { IsErrOf result ReopenFault.Disk → Fails D.Disk disk.old disk.new }
         ensures bounded { OnErr result (IfSome (D.image disk.old) (λ image. D.taken disk.new ≤ D.taken disk.old + length image)) }
         ensures within { OnErr result (IfSome (D.image disk.old) (λ image. TakesUpToOpening image (D.taken disk.old) (D.taken disk.new))) }
         ensures blank { IsErrOf result ReopenFault.Blank → IfSome (D.image disk.old) (λ image. D.taken disk.new ≡ taken_after (blank_bytes image) (D.taken disk.old)) }
 
         // frame
-        ensures frame { ReadsAndSyncs D.image D.faults D.write_faults disk.old disk.new }
+        ensures frame { SyncsDisk D.Disk disk.old disk.new }
+
+        // crashes
+        ensures settled { OnOk result (IsOnDevice D.Disk disk.new) }
+        ensures settled_blank { IsErrOf result ReopenFault.Blank → IsOnDevice D.Disk disk.new }
     {
         let found = read_header(disk)?;
         let mut index = Index::empty(alloc, found.params);
@@ -297,12 +306,12 @@ impl Index {
 
         // errors
         ensures refused { IfErr result (λ fault. IfSome (D.image disk.old) (λ image. RefusesOpening fault (opening image))) }
-        ensures cause { IsErrOf result ReopenFault.Disk → Rose (D.faults disk.old) (D.faults disk.new) }
+        ensures cause { IsErrOf result ReopenFault.Disk → Fails D.Disk disk.old disk.new }
         ensures bounded { OnErr result ((t : ℕ) → D.taken disk.old ≡ raised_by (opening_bytes self.old.opening) t → D.taken disk.new ≤ t + len) }
         ensures stays { OnErr result (IfSome (D.image disk.old) (λ image. StaysWithinOpening image self.old.opening (D.taken disk.old) (D.taken disk.new))) }
 
         // frame
-        ensures frame { OnlyReads D.image D.faults D.write_faults disk.old disk.new }
+        ensures frame { ReadsDisk D.Disk disk.old disk.new }
     {
         let mut gate = gate;
         while gate == OPEN {
@@ -326,10 +335,10 @@ impl Index {
         // errors
         ensures refused { IfErr result (λ fault. IfSome (D.image disk.old) (λ image. Misses self.now.opening.used (directory_due (record { index = self.now.opening; names = names.old }) lengths.columns (take lengths.directory (drop (self.now.opening.used + 16) image)) ≡ None) fault)) }
         ensures bounded { OnErr result (D.taken disk.new ≤ D.taken disk.old + lengths.directory) }
-        ensures cause { IsErrOf result ReopenFault.Disk → Rose (D.faults disk.old) (D.faults disk.new) }
+        ensures cause { IsErrOf result ReopenFault.Disk → Fails D.Disk disk.old disk.new }
 
         // frame
-        ensures frame { OnlyReads D.image D.faults D.write_faults disk.old disk.new }
+        ensures frame { ReadsDisk D.Disk disk.old disk.new }
     {
         let offset = self.used;
         let text = read_range(
@@ -366,12 +375,12 @@ impl Index {
 
         // errors
         ensures refused { IfErr result (λ fault. IfSome (D.image disk.old) (λ image. RefusesOpening fault (opening image))) }
-        ensures cause { IsErrOf result ReopenFault.Disk → Rose (D.faults disk.old) (D.faults disk.new) }
+        ensures cause { IsErrOf result ReopenFault.Disk → Fails D.Disk disk.old disk.new }
         ensures bounded { OnErr result ((t : ℕ) → D.taken disk.old ≡ raised_by (opening_bytes self.old.opening) t → D.taken disk.new ≤ t + len) }
         ensures stays { OnErr result (IfSome (D.image disk.old) (λ image. StaysWithinOpening image self.old.opening (D.taken disk.old) (D.taken disk.new))) }
 
         // frame
-        ensures frame { OnlyReads D.image D.faults D.write_faults disk.old disk.new }
+        ensures frame { ReadsDisk D.Disk disk.old disk.new }
     {
         let offset = self.used;
         let lengths = read_lengths(disk, offset, len)?;
@@ -404,12 +413,12 @@ impl Index {
         ensures taken { IfOk result (λ bytes. D.taken disk.new ≡ taken_after (length bytes.items) (D.taken disk.old)) }
 
         // errors
-        ensures cause { IsErrOf result FetchFault.Disk → Rose (D.faults disk.old) (D.faults disk.new) }
+        ensures cause { IsErrOf result FetchFault.Disk → Fails D.Disk disk.old disk.new }
         ensures none_taken { OnErr result (D.taken disk.new ≡ D.taken disk.old) }
 
         // frame
         ensures same { self.new ≡ self.old }
-        ensures frame { OnlyReads D.image D.faults D.write_faults disk.old disk.new }
+        ensures frame { ReadsDisk D.Disk disk.old disk.new }
     {
         let entry = self.catalogue.entry(key).unwrap();
         let len = column_length(&entry, col);
@@ -458,19 +467,15 @@ impl Index {
         requires limit { limit ≤ FILE_BYTES_MAX }
         requires due { IsDue self.old.opening prepared.segment }
         requires image { IfSome (D.image disk.old) (λ image. Fits image self.old.opening prepared.segment) }
-        ensures ok { OnOk result (self.new.opening ≡ index_with self.old.opening prepared.segment) }
-        ensures opened { OnOk result (BothTold (D.image disk.old) (D.image disk.new) (GainsSegment self.old.opening prepared.segment self.new.opening)) }
-        ensures history { OnOk result (BothTold (D.image disk.old) (D.image disk.new) (GainsBatch prepared.segment)) }
-        ensures fits { OnOk result (needed_for self.old.opening prepared.segment ≤ limit) }
+        ensures done { OnOk result (CommitsSegment D.Disk limit self.old.opening prepared.segment self.new.opening disk.old disk.new) }
 
         // errors
-        ensures full { (n : ℕ) → result ≡ Err (CommitFault.FileFull n) → (n ≡ needed_for self.old.opening prepared.segment) × (limit < n) × (self.new ≡ self.old) × (D.image disk.new ≡ D.image disk.old) × (D.faults disk.new ≡ D.faults disk.old) × (D.write_faults disk.new ≡ D.write_faults disk.old) }
-        ensures part { IsErrOf result CommitFault.Disk → BothTold (D.image disk.old) (D.image disk.new) (GainsBatchOrNot prepared.segment) }
-        ensures disk_fits { IsErrOf result CommitFault.Disk → needed_for self.old.opening prepared.segment ≤ limit }
-        ensures cause { IsErrOf result CommitFault.Disk → Rose (D.write_faults disk.old) (D.write_faults disk.new) }
+        ensures full { (n : ℕ) → result ≡ Err (CommitFault.FileFull n) → IsOverLimit limit self.old prepared.segment self.new disk.old disk.new n }
+        ensures part { IsErrOf result CommitFault.Disk → CommitsPart D.Disk limit self.old.opening prepared.segment disk.old disk.new }
 
-        // frame
-        ensures frame { OnlyWrites D.image D.faults D.write_faults D.taken disk.old disk.new }
+        // what it leaves, and what a crash leaves
+        ensures frame { WritesDisk D.Disk disk.old disk.new }
+        ensures crash { LeftByCrash D.Disk disk.old disk.new (GainsBatchOrNot prepared.segment) }
     {
         self.add(disk, &prepared, limit)
     }
@@ -486,19 +491,15 @@ impl Index {
         requires limit { limit ≤ FILE_BYTES_MAX }
         requires due { IsDue self.old.opening prepared.now.segment }
         requires image { IfSome (D.image disk.old) (λ image. Fits image self.old.opening prepared.now.segment) }
-        ensures ok { OnOk result (self.new.opening ≡ index_with self.old.opening prepared.now.segment) }
-        ensures opened { OnOk result (BothTold (D.image disk.old) (D.image disk.new) (GainsSegment self.old.opening prepared.now.segment self.new.opening)) }
-        ensures history { OnOk result (BothTold (D.image disk.old) (D.image disk.new) (GainsBatch prepared.now.segment)) }
-        ensures fits { OnOk result (needed_for self.old.opening prepared.now.segment ≤ limit) }
+        ensures done { OnOk result (CommitsSegment D.Disk limit self.old.opening prepared.now.segment self.new.opening disk.old disk.new) }
 
         // errors
-        ensures full { (n : ℕ) → result ≡ Err (CommitFault.FileFull n) → (n ≡ needed_for self.old.opening prepared.now.segment) × (limit < n) × (self.new ≡ self.old) × (D.image disk.new ≡ D.image disk.old) × (D.faults disk.new ≡ D.faults disk.old) × (D.write_faults disk.new ≡ D.write_faults disk.old) }
-        ensures part { IsErrOf result CommitFault.Disk → BothTold (D.image disk.old) (D.image disk.new) (GainsBatchOrNot prepared.now.segment) }
-        ensures disk_fits { IsErrOf result CommitFault.Disk → needed_for self.old.opening prepared.now.segment ≤ limit }
-        ensures cause { IsErrOf result CommitFault.Disk → Rose (D.write_faults disk.old) (D.write_faults disk.new) }
+        ensures full { (n : ℕ) → result ≡ Err (CommitFault.FileFull n) → IsOverLimit limit self.old prepared.now.segment self.new disk.old disk.new n }
+        ensures part { IsErrOf result CommitFault.Disk → CommitsPart D.Disk limit self.old.opening prepared.now.segment disk.old disk.new }
 
-        // frame
-        ensures frame { OnlyWrites D.image D.faults D.write_faults D.taken disk.old disk.new }
+        // what it leaves, and what a crash leaves
+        ensures frame { WritesDisk D.Disk disk.old disk.new }
+        ensures crash { LeftByCrash D.Disk disk.old disk.new (GainsBatchOrNot prepared.now.segment) }
     {
         let used = self.used;
         let segment = prepared.segment();

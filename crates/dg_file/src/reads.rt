@@ -1,11 +1,11 @@
 //! Reading the header, the lengths and the gates of the segments, and ranges of the file.
 
-ghost use Rattle.std.specs.Prelude.{◌≡◌, ◌≤◌, ◌+◌, ◌-◌, ℕ, true, false, None, Some, Ok, Err, length, take, drop, slice_index, IfOk, IfErr, OnOk, OnErr, IsErrOf, IfSome};
-ghost use Rattle.dg_disk.specs.Counts.{Rose, raised_by};
-ghost use Rattle.dg_disk.specs.Frame.{OnlyReads, ReadsAndSyncs};
+ghost use Rattle.std.specs.Prelude.{◌≡◌, ◌≤◌, ◌+◌, ◌-◌, true, false, None, Some, Ok, Err, length, take, drop, slice_index, IfOk, IfErr, OnOk, OnErr, IsErrOf, IfSome};
+ghost use Rattle.dg_disk.specs.Calls.{Fails, IsOnDevice, ReadsDisk, SyncsDisk};
+ghost use Rattle.dg_disk.specs.Counts.{raised_by};
 ghost use Rattle.dg_disk.specs.Image.{HasRange, IsLengthOf};
 ghost use Rattle.dg_history.specs.History.{are_parameters};
-ghost use Rattle.dg_index.specs.ImageText.{params_in, is_within};
+ghost use Rattle.dg_index.specs.ImageText.{is_within};
 ghost use Rattle.dg_index.specs.OpenedIndex.{opening};
 ghost use Rattle.dg_file.specs.Directories.{segment_lengths_at, fit_in};
 ghost use Rattle.dg_file.specs.Headers.{IsFoundIn, Misses};
@@ -38,13 +38,17 @@ pub(crate) fn read_header<D: Disk>(disk: &mut D) -> Result<Found, ReopenFault>
 
     // errors
     ensures refused { IfErr result (λ fault. IfSome (D.image disk.old) (λ image. RefusesOpening fault (opening image))) }
-    ensures cause { IsErrOf result ReopenFault.Disk → Rose (D.faults disk.old) (D.faults disk.new) }
+    ensures cause { IsErrOf result ReopenFault.Disk → Fails D.Disk disk.old disk.new }
     ensures bounded { OnErr result (IfSome (D.image disk.old) (λ image. D.taken disk.new ≤ D.taken disk.old + length image)) }
     ensures within { OnErr result (IfSome (D.image disk.old) (λ image. TakesUpToOpening image (D.taken disk.old) (D.taken disk.new))) }
     ensures blank { IsErrOf result ReopenFault.Blank → IfSome (D.image disk.old) (λ image. D.taken disk.new ≡ taken_after (blank_bytes image) (D.taken disk.old)) }
 
     // frame
-    ensures frame { ReadsAndSyncs D.image D.faults D.write_faults disk.old disk.new }
+    ensures frame { SyncsDisk D.Disk disk.old disk.new }
+
+    // crashes
+    ensures settled { OnOk result (IsOnDevice D.Disk disk.new) }
+    ensures settled_blank { IsErrOf result ReopenFault.Blank → IsOnDevice D.Disk disk.new }
 {
     disk.sync()?;
     let len = disk.len()?;
@@ -83,10 +87,10 @@ pub(crate) fn read_lengths<D: Disk>(
     ensures refused { IfErr result (λ fault. IfSome (D.image disk.old) (λ image. Misses offset (is_within image offset ≡ false) fault)) }
     ensures bounded { OnErr result (D.taken disk.new ≤ D.taken disk.old + (len - offset)) }
     ensures short { OnErr result (D.taken disk.new ≤ D.taken disk.old + 16) }
-    ensures cause { IsErrOf result ReopenFault.Disk → Rose (D.faults disk.old) (D.faults disk.new) }
+    ensures cause { IsErrOf result ReopenFault.Disk → Fails D.Disk disk.old disk.new }
 
     // frame
-    ensures frame { OnlyReads D.image D.faults D.write_faults disk.old disk.new }
+    ensures frame { ReadsDisk D.Disk disk.old disk.new }
 {
     if len - offset <= LENGTHS_BYTES as u64 {
         return Err(ReopenFault::Damaged(offset));
@@ -110,10 +114,10 @@ pub(crate) fn read_byte<D: Disk>(disk: &mut D, offset: u64) -> Result<u8, Failed
 
     // errors
     ensures none_taken { OnErr result (D.taken disk.new ≡ D.taken disk.old) }
-    ensures cause { OnErr result (Rose (D.faults disk.old) (D.faults disk.new)) }
+    ensures cause { OnErr result (Fails D.Disk disk.old disk.new) }
 
     // frame
-    ensures frame { OnlyReads D.image D.faults D.write_faults disk.old disk.new }
+    ensures frame { ReadsDisk D.Disk disk.old disk.new }
 {
     let mut byte = [0];
     disk.read_at(offset, &mut byte)?;
@@ -133,11 +137,11 @@ pub(crate) fn read_range<D: Disk>(
     ensures taken { OnOk result (D.taken disk.new ≡ taken_after len (D.taken disk.old)) }
 
     // errors
-    ensures cause { IsErrOf result FetchFault.Disk → Rose (D.faults disk.old) (D.faults disk.new) }
+    ensures cause { IsErrOf result FetchFault.Disk → Fails D.Disk disk.old disk.new }
     ensures none_taken { OnErr result (D.taken disk.new ≡ D.taken disk.old) }
 
     // frame
-    ensures frame { OnlyReads D.image D.faults D.write_faults disk.old disk.new }
+    ensures frame { ReadsDisk D.Disk disk.old disk.new }
 {
     if len == 0 {
         return Ok(Vec::new(alloc));

@@ -3,8 +3,8 @@
 ghost use Rattle.std.specs.Prelude.{◌≡◌, ◌++◌, [], ◌∷◌, List, map, sum_by, None, IfOk, IfSome, OnOk, IsErrOf, IsTrue};
 ghost use Rattle.std.specs.List.{All, Contains};
 ghost use Rattle.std.specs.Option.{ForSome};
-ghost use Rattle.dg_disk.specs.Counts.{Rose};
-ghost use Rattle.dg_disk.specs.Frame.{OnlyReads};
+ghost use Rattle.dg_disk.specs.Calls.{Fails, ReadsDisk};
+ghost use Rattle.dg_disk.specs.Calls.{ReadsDisk};
 ghost use Rattle.dg_file.specs.Images.{IsOpenedAs};
 ghost use Rattle.dg_graph.specs.declared.element.Column.{Column};
 ghost use Rattle.dg_history.specs.declared.node.Key.{Key};
@@ -89,11 +89,11 @@ fn take_step<D: Disk>(
     ensures most { ForSome (D.image disk.old) (λ image. TakesAtMost (sum_by (asked_length (kept_in image index.old.opening) cols) (entered_by via)) (D.taken disk.old) (D.taken disk.new)) }
 
     // errors
-    ensures cause { IsErrOf result FetchFault.Disk → Rose (D.faults disk.old) (D.faults disk.new) }
+    ensures cause { IsErrOf result FetchFault.Disk → Fails D.Disk disk.old disk.new }
 
     // frame
     ensures same { index.new ≡ index.old }
-    ensures frame { OnlyReads D.image D.faults D.write_faults disk.old disk.new }
+    ensures frame { ReadsDisk D.Disk disk.old disk.new }
 {
     match via {
         Via::Now | Via::Base(_) | Via::Recent(_) => Ok(()),
@@ -130,11 +130,11 @@ pub fn fetch_walk<D: Disk>(
     ensures most { IfSome (D.image disk.old) (λ image. TakesAtMost (entered_length (kept_in image index.old.opening) cols walk.now) (D.taken disk.old) (D.taken disk.new)) }
 
     // errors
-    ensures cause { IsErrOf result FetchFault.Disk → Rose (D.faults disk.old) (D.faults disk.new) }
+    ensures cause { IsErrOf result FetchFault.Disk → Fails D.Disk disk.old disk.new }
 
     // frame
     ensures same { index.new ≡ index.old }
-    ensures frame { OnlyReads D.image D.faults D.write_faults disk.old disk.new }
+    ensures frame { ReadsDisk D.Disk disk.old disk.new }
 {
     let mut parts = Vec::new(alloc);
     for edge in walk {

@@ -3,8 +3,8 @@
 ghost use Rattle.std.specs.Prelude.{◌≡◌, true, length, is_some, IfOk, IfSome, OnOk, OnErr, IsErrOf};
 ghost use Rattle.std.specs.Map.{lookup};
 ghost use Rattle.std.specs.Option.{ForSome};
-ghost use Rattle.dg_disk.specs.Counts.{Rose};
-ghost use Rattle.dg_disk.specs.Frame.{OnlyReads};
+ghost use Rattle.dg_disk.specs.Calls.{Fails, ReadsDisk};
+ghost use Rattle.dg_disk.specs.Calls.{ReadsDisk};
 ghost use Rattle.dg_file.specs.Images.{IsOpenedAs};
 ghost use Rattle.dg_graph.specs.declared.element.Column.{Column};
 ghost use Rattle.dg_history.specs.Keys.{same_key};
@@ -35,11 +35,11 @@ fn read_column<D: Disk>(
 
     // errors
     ensures none_taken { OnErr result (D.taken disk.new ≡ D.taken disk.old) }
-    ensures cause { IsErrOf result FetchFault.Disk → Rose (D.faults disk.old) (D.faults disk.new) }
+    ensures cause { IsErrOf result FetchFault.Disk → Fails D.Disk disk.old disk.new }
 
     // frame
     ensures same { index.new ≡ index.old }
-    ensures frame { OnlyReads D.image D.faults D.write_faults disk.old disk.new }
+    ensures frame { ReadsDisk D.Disk disk.old disk.new }
 {
     if asks(cols, col) {
         index.fetch(disk, key, col)
@@ -64,11 +64,11 @@ pub(crate) fn read_record<D: Disk>(
     ensures most { ForSome (D.image disk.old) (λ image. TakesAtMost (asked_length (kept_in image index.old.opening) cols key) (D.taken disk.old) (D.taken disk.new)) }
 
     // errors
-    ensures cause { IsErrOf result FetchFault.Disk → Rose (D.faults disk.old) (D.faults disk.new) }
+    ensures cause { IsErrOf result FetchFault.Disk → Fails D.Disk disk.old disk.new }
 
     // frame
     ensures same { index.new ≡ index.old }
-    ensures frame { OnlyReads D.image D.faults D.write_faults disk.old disk.new }
+    ensures frame { ReadsDisk D.Disk disk.old disk.new }
 {
     let structure = read_column(alloc, index, disk, key, Column::Structure, cols)?;
     let node_attr = read_column(alloc, index, disk, key, Column::NodeAttr, cols)?;

@@ -2,6 +2,7 @@
 -- are read behind those held.
 use Rattle.std.proofs.Common.{◌≡◌, ℕ, ◌+◌, ◌<◌, ◌≤◌, Bool, true, false, ◌||◌, nat_eq, nat_lt, if◌then◌else◌, ◌⊎◌, inl, inr, List, [], ◌∷◌, ◌++◌, length, take, drop, Option, None, Some, refl, sym, ap, ◌∙◌, subst, arith, append_assoc, append-nil, length-drop}
 use Rattle.std.specs.Option.{option_map}
+use Rattle.std.specs.Prelude.{IsTrue}
 use Rattle.std.specs.Str.Lines.{strip_carriage_return}
 use Rattle.std.proofs.lemmas.Bool.{cases_Bool, ltb-true, ltb-false, eqb-true, cond_both, eqb-false}
 use Rattle.dg_graph.specs.declared.limits.TheConstants.{LINE_BYTES_MAX}
@@ -190,3 +191,14 @@ pub told_read : (old mid new : LinesState) (piece : List ℕ) (count : ℕ) (had
     → Gives had piece has → (count ≡ 0 → IsAtEnd had) → told old had ≡ told new has
 told_read old mid new piece count had has same going held long ended gives end =
     told_same old mid same had ∙ ap (told mid) gives ∙ told_piece mid new piece count has going held long ended (λ none. subst IsAtEnd gives (end none))
+
+-- the lines to come of two that hold the same
+pub ahead_like : (old new : LinesState) → old.held ≡ new.held → old.long ≡ new.long → old.ended ≡ new.ended → (left : List ℕ) → ahead old left ≡ ahead new left
+ahead_like old new held long ended left = λ i. lines_on (long i) (if ended i then held i else held i ++ left)
+
+-- a read behind the bytes held, whatever the source goes on with
+pub took_read : (old mid new : LinesState) (piece : List ℕ) (count : ℕ) → ((left : List ℕ) → ahead old left ≡ ahead mid left) → mid.ended ≡ false → new.held ≡ mid.held ++ piece → new.long ≡ mid.long → new.ended ≡ nat_eq count 0
+    → length piece ≡ count → (more : List ℕ) → (IsTrue new.ended → more ≡ []) → ahead old (piece ++ more) ≡ ahead new more
+took_read old mid new piece count same going held long ended many more none =
+    same (piece ++ more) ∙ ahead_read mid new piece more count going held long ended
+    (λ at_end. ap (λ p. p ++ more) (no_bytes piece (omega (arith, many, at_end))) ∙ none (ended ∙ ap (λ n. nat_eq n 0) at_end))

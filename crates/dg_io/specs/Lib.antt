@@ -5,3 +5,4 @@ pub mod MemoryForms
 pub mod Feed
 pub mod Buffer
 pub mod Standard
+pub mod Calls

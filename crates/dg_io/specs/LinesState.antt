@@ -1,13 +1,13 @@
 -- What a cutter of lines holds, and what its calls give. A clause speaks of the lines to come, since
 -- the first bytes of a line that is dropped are gone.
-use Rattle.std.specs.Prelude.{◌≡◌, ◌≢◌, ℕ, ◌+◌, ◌-◌, ◌<◌, ◌≤◌, Bool, false, IsTrue, List, [], ◌∷◌, ◌++◌, length, IfSome, if◌then◌else◌, Option}
+use Rattle.std.specs.Prelude.{◌≡◌, ◌≢◌, ℕ, ◌+◌, ◌-◌, ◌<◌, ◌≤◌, Bool, false, IsTrue, List, [], ◌∷◌, ◌++◌, length, IfSome, if◌then◌else◌, Option, Some}
 use Rattle.std.specs.Option.{option_map}
 use Rattle.dg_graph.specs.declared.limits.TheConstants.{LINE_BYTES_MAX}
 use Rattle.dg_graph.specs.Lines.{ScriptLine, Text, Long, lines_of}
 use Rattle.dg_io.specs.declared.lines.Line.{Line}
 use Rattle.dg_io.specs.declared.lines.Line.TheVariants as line
 use Rattle.dg_io.specs.Feed.{has_feed, past_feed}
-use Rattle.dg_io.specs.Told.{IsAtEnd}
+use Rattle.dg_io.specs.Told.{Gives, IsAtEnd}
 
 pub record LinesState : Type 0 where
   pub held : List ℕ  -- the bytes taken from the source and not yet given as lines
@@ -63,3 +63,18 @@ pub record Cuts (answer : Line) (old new : LinesState) : Type 0 where
   pub ended : new.ended ≡ old.ended
   pub taken : new.taken ≡ old.taken
   pub limit : new.limit ≡ old.limit
+
+-- Bytes were taken from the source, as many as are counted. Whatever the source may go on with behind them, and it goes on
+-- with nothing once a read has given the end of input, this holds of the lines to come before and after.
+abbrev pub Took : LinesState → Option (List ℕ) → LinesState → Option (List ℕ) → (List ScriptLine → List ScriptLine → Type 0) → Type 0
+Took old left new then_left P =
+    (got : List ℕ) × Gives left got then_left × (new.taken ≡ old.taken + length got)
+    × ((more : List ℕ) → (IsTrue new.ended → more ≡ []) → P (ahead old (got ++ more)) (ahead new more))
+
+-- no line was lost and none was made, whatever the source goes on with
+abbrev pub TookNone : LinesState → Option (List ℕ) → LinesState → Option (List ℕ) → Type 0
+TookNone old left new then_left = Took old left new then_left (λ before after. before ≡ after)
+
+-- the line was the first of those to come, whatever the source goes on with
+abbrev pub TookLine : Line → LinesState → Option (List ℕ) → LinesState → Option (List ℕ) → Type 0
+TookLine line old left new then_left = Took old left new then_left (λ before after. LineComes line (Some before) (Some after) new.text)

@@ -1,11 +1,11 @@
 //! Lines cut from a source, however its bytes come, and what is lost of them: nothing.
 ghost use Rattle.std.specs.Prelude.{◌≡◌, ◌≢◌, ◌+◌, ◌-◌, ◌<◌, ◌≤◌, ◌||◌, nat_eq, nat_lt, true, false, IsTrue, List, ℕ, [], length, take, slice_range, None, Some, Ok, Err, IfOk, IfSome, IfNone, OnOk, OnErr, IsErrOf, if◌then◌else◌};
 ghost use Rattle.std.specs.Str.Lines.{strip_carriage_return};
-ghost use Rattle.dg_io.specs.Told.{Gives, IsAtEnd, CountRose};
-ghost use Rattle.dg_io.specs.Frame.{Advances};
+ghost use Rattle.dg_io.specs.Calls.{FailsToRead, TakesFrom};
+ghost use Rattle.dg_io.specs.Told.{Gives, IsAtEnd};
 ghost use Rattle.dg_io.specs.Feed.{has_feed, IsFirstFeed, FindsFeed};
 ghost use Rattle.dg_io.specs.declared.lines.LineFault.TheVariants.{Read};
-ghost use Rattle.dg_io.specs.LinesState.{LinesState, told, ahead, to_come, LineComes, NeedsByte, EndsWith, Cuts};
+ghost use Rattle.dg_io.specs.LinesState.{TookLine, TookNone, LinesState, told, ahead, to_come, LineComes, NeedsByte, EndsWith, Cuts};
 
 use crate::source::{Failed, Source};
 use dg_graph::LINE_BYTES_MAX;
@@ -117,7 +117,8 @@ impl Lines {
         &self.buffer[self.text_start..self.text_end]
     }
 
-    /// The next line. It reads from the source only where no whole line is held.
+    /// The next line. It reads from the source only where no whole line is held, and gives a line once
+    /// it is whole in the bytes that were taken: whatever the source goes on with, it is the same.
     ///
     /// `LineFault::Read` where a read failed, `LineFault::Limit` where another byte is needed and as
     /// many as the limit allows were taken. A byte is needed where no whole line is held and no read has
@@ -127,18 +128,19 @@ impl Lines {
             (told self.old (S.left source.old)) (told self.new (S.left source.new)) self.new.text) }
         ensures progress { IfOk result (λ line. line ≢ Line.End → to_come self.new < to_come self.old) }
         ensures end { result ≡ Ok Line.End → IsTrue self.new.ended }
+        ensures whole { IfOk result (λ line. TookLine line self.old (S.left source.old) self.new (S.left source.new)) }
 
         // errors
+        ensures kept { OnErr result (TookNone self.old (S.left source.old) self.new (S.left source.new)) }
         ensures err { OnErr result (told self.old (S.left source.old) ≡ told self.new (S.left source.new)) }
-        ensures read { IsErrOf result LineFault.Read → CountRose (S.faults source.old) (S.faults source.new) }
+        ensures read { IsErrOf result LineFault.Read → FailsToRead S.Source source.old source.new }
         ensures limit { IsErrOf result LineFault.Limit
             → (self.new.taken ≡ self.new.limit) × NeedsByte self.new }
         ensures due { self.old.taken ≡ self.old.limit → NeedsByte self.old
             → result ≡ Err LineFault.Limit }
 
         // frame
-        ensures advances { Advances self.old (S.left source.old) (S.faults source.old)
-            self.new (S.left source.new) (S.faults source.new) }
+        ensures advances { TakesFrom S.Source self.old source.old self.new source.new }
         ensures within { (self.new.taken ≤ self.new.limit)
             × (IsTrue self.new.ended → self.new.taken < self.new.limit) }
         ensures quiet { (NeedsByte self.old → ⊥)
@@ -204,18 +206,18 @@ impl Lines {
     fn fill<S: Source>(&mut self, source: &mut S) -> Result<(), LineFault>
         requires { NeedsByte self.old }
         ensures told { told self.old (S.left source.old) ≡ told self.new (S.left source.new) }
+        ensures took { TookNone self.old (S.left source.old) self.new (S.left source.new) }
         ensures falls { OnOk result ((self.new.limit - self.new.taken) + (if self.new.ended then 0 else 1)
             < self.old.limit - self.old.taken + 1) }
 
         // errors
-        ensures read { IsErrOf result LineFault.Read → CountRose (S.faults source.old) (S.faults source.new) }
+        ensures read { IsErrOf result LineFault.Read → FailsToRead S.Source source.old source.new }
         ensures limit { IsErrOf result LineFault.Limit
             → (self.new.taken ≡ self.new.limit) × NeedsByte self.new }
         ensures due { self.old.taken ≡ self.old.limit → result ≡ Err LineFault.Limit }
 
         // frame
-        ensures advances { Advances self.old (S.left source.old) (S.faults source.old)
-            self.new (S.left source.new) (S.faults source.new) }
+        ensures advances { TakesFrom S.Source self.old source.old self.new source.new }
         ensures at_end { EndsWith self.new (S.left source.new) }
         ensures within { (self.new.taken ≤ self.new.limit)
             × (IsTrue self.new.ended → self.new.taken < self.new.limit) }
@@ -330,7 +332,7 @@ fn read_behind<S: Source>(
         Gives (S.left source.old) (slice_range buffer.new held (held + c)) (S.left source.new)) }
     ensures end { IfOk result (λ c. c ≡ 0 → IsAtEnd (S.left source.old)) }
     ensures err { OnErr result (S.left source.new ≡ S.left source.old) }
-    ensures cause { OnErr result (CountRose (S.faults source.old) (S.faults source.new)) }
+    ensures cause { OnErr result (FailsToRead S.Source source.old source.new) }
     ensures counted { S.faults source.old ≤ S.faults source.new }
 {
     let free = buffer.len() - held;

@@ -1,8 +1,8 @@
 //! The text of a reply, line by line, into a sink.
 ghost use Rattle.std.specs.Prelude.{◌≡◌, ◌≤◌, ◌++◌, [], ◌∷◌, map, take, codes, decimal, OnOk, OnErr};
 ghost use Rattle.dg_machine.specs.ReplyText.{text, body_text, column_word, head_words, function_word, key_words, refusal_words, soundness_words, verdict_words};
-ghost use Rattle.dg_io.specs.Frame.{CountsOn};
-ghost use Rattle.dg_io.specs.Told.{grown, GrowsByPart, CountRose};
+ghost use Rattle.dg_io.specs.Calls.{FailsToPut, PutsOn, PutsPart};
+ghost use Rattle.dg_io.specs.Told.{grown};
 ghost use Rattle.dg_line.specs.Buffered.{IsBuffered, word_bytes};
 
 use crate::body_line::hold_body_line;
@@ -28,9 +28,9 @@ const REFUSED: Word<'static> = Word::Text(b"refused");
 #[inline(never)]
 pub fn write_reply<K: Sink>(sink: &mut K, names: &Names, reply: &Reply) -> Result<(), Failed>
     ensures ok { OnOk result (K.written sink.new ≡ grown (K.written sink.old) (text names.now reply.now)) }
-    ensures err { OnErr result (GrowsByPart (K.written sink.old) (text names.now reply.now) (K.written sink.new)) }
-    ensures cause { OnErr result (CountRose (K.faults sink.old) (K.faults sink.new)) }
-    ensures counted { CountsOn (K.faults sink.old) (K.faults sink.new) }
+    ensures err { OnErr result (PutsPart K.Sink sink.old (text names.now reply.now) sink.new) }
+    ensures cause { OnErr result (FailsToPut K.Sink sink.old sink.new) }
+    ensures counted { PutsOn K.Sink sink.old sink.new }
 {
     let mut buffer = ReplyBuffer::new();
     let head = head_line(&reply.head);
@@ -47,9 +47,9 @@ fn put_body<K: Sink>(
     lines: &BodyLines,
 ) -> Result<(), Failed>
     ensures ok { OnOk result (IsBuffered (K.written sink.old) (buffer.old ++ body_text names.now lines.now) (K.written sink.new) buffer.new) }
-    ensures err { OnErr result (GrowsByPart (K.written sink.old) (buffer.old ++ body_text names.now lines.now) (K.written sink.new)) }
-    ensures cause { OnErr result (CountRose (K.faults sink.old) (K.faults sink.new)) }
-    ensures counted { CountsOn (K.faults sink.old) (K.faults sink.new) }
+    ensures err { OnErr result (PutsPart K.Sink sink.old (buffer.old ++ body_text names.now lines.now) sink.new) }
+    ensures cause { OnErr result (FailsToPut K.Sink sink.old sink.new) }
+    ensures counted { PutsOn K.Sink sink.old sink.new }
 {
     for number in 0..lines.len() {
         buffer.make_room(sink)?;

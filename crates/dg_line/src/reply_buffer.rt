@@ -1,8 +1,8 @@
 //! Words and lines on their way to a sink, held until a buffer is full.
 ghost use Rattle.std.specs.Prelude.{◌≡◌, ◌+◌, ◌≤◌, ℕ, List, [], ◌++◌, decimal, length, map, OnOk, OnErr};
 ghost use Rattle.dg_machine.specs.ReplyText.{text_line};
-ghost use Rattle.dg_io.specs.Frame.{CountsOn};
-ghost use Rattle.dg_io.specs.Told.{grown, GrowsByPart, CountRose};
+ghost use Rattle.dg_io.specs.Calls.{FailsToPut, PutsOn, PutsPart};
+ghost use Rattle.dg_io.specs.Told.{grown};
 ghost use Rattle.dg_line.specs.Buffered.{IsBuffered, word_bytes};
 
 use dg_graph::NAME_BYTES_MAX;
@@ -64,9 +64,9 @@ impl ReplyBuffer {
     /// `Failed` where a write failed: then a part of what was held and of the line is written.
     pub fn put_line<K: Sink>(&mut self, sink: &mut K, words: &[Word]) -> Result<(), Failed>
         ensures ok { OnOk result (IsBuffered (K.written sink.old) (self.old ++ text_line (map word_bytes words.now)) (K.written sink.new) self.new) }
-        ensures err { OnErr result (GrowsByPart (K.written sink.old) (self.old ++ text_line (map word_bytes words.now)) (K.written sink.new)) }
-        ensures cause { OnErr result (CountRose (K.faults sink.old) (K.faults sink.new)) }
-        ensures counted { CountsOn (K.faults sink.old) (K.faults sink.new) }
+        ensures err { OnErr result (PutsPart K.Sink sink.old (self.old ++ text_line (map word_bytes words.now)) sink.new) }
+        ensures cause { OnErr result (FailsToPut K.Sink sink.old sink.new) }
+        ensures counted { PutsOn K.Sink sink.old sink.new }
     {
         let mut between = b"".as_slice();
         for word in words {
@@ -82,9 +82,9 @@ impl ReplyBuffer {
     pub fn make_room<K: Sink>(&mut self, sink: &mut K) -> Result<(), Failed>
         ensures ok { OnOk result (IsBuffered (K.written sink.old) self.old (K.written sink.new) self.new) }
         ensures room { OnOk result (length self.new + BODY_LINE_BYTES ≤ BUFFER_BYTES) }
-        ensures err { OnErr result (GrowsByPart (K.written sink.old) self.old (K.written sink.new)) }
-        ensures cause { OnErr result (CountRose (K.faults sink.old) (K.faults sink.new)) }
-        ensures counted { CountsOn (K.faults sink.old) (K.faults sink.new) }
+        ensures err { OnErr result (PutsPart K.Sink sink.old self.old sink.new) }
+        ensures cause { OnErr result (FailsToPut K.Sink sink.old sink.new) }
+        ensures counted { PutsOn K.Sink sink.old sink.new }
     {
         if self.held <= HELD_BYTES {
             return Ok(());
@@ -139,10 +139,10 @@ impl ReplyBuffer {
         ensures empty { OnOk result (self.new ≡ []) }
 
         // A write failed.
-        ensures err { OnErr result (GrowsByPart (K.written sink.old) self.old (K.written sink.new)) }
+        ensures err { OnErr result (PutsPart K.Sink sink.old self.old sink.new) }
         ensures kept { OnErr result (self.new ≡ self.old) }
-        ensures cause { OnErr result (CountRose (K.faults sink.old) (K.faults sink.new)) }
-        ensures counted { CountsOn (K.faults sink.old) (K.faults sink.new) }
+        ensures cause { OnErr result (FailsToPut K.Sink sink.old sink.new) }
+        ensures counted { PutsOn K.Sink sink.old sink.new }
     {
         write_whole(sink, &self.bytes[..self.held])?;
         self.held = 0;
@@ -151,9 +151,9 @@ impl ReplyBuffer {
 
     fn put_word<K: Sink>(&mut self, sink: &mut K, word: &Word) -> Result<(), Failed>
         ensures ok { OnOk result (IsBuffered (K.written sink.old) (self.old ++ word_bytes word.now) (K.written sink.new) self.new) }
-        ensures err { OnErr result (GrowsByPart (K.written sink.old) (self.old ++ word_bytes word.now) (K.written sink.new)) }
-        ensures cause { OnErr result (CountRose (K.faults sink.old) (K.faults sink.new)) }
-        ensures counted { CountsOn (K.faults sink.old) (K.faults sink.new) }
+        ensures err { OnErr result (PutsPart K.Sink sink.old (self.old ++ word_bytes word.now) sink.new) }
+        ensures cause { OnErr result (FailsToPut K.Sink sink.old sink.new) }
+        ensures counted { PutsOn K.Sink sink.old sink.new }
     {
         match word {
             Word::Text(text) => self.put(sink, text),
@@ -167,9 +167,9 @@ impl ReplyBuffer {
     // Puts bytes behind those held. Where there is no room, what is held is written first.
     fn put<K: Sink>(&mut self, sink: &mut K, piece: &[u8]) -> Result<(), Failed>
         ensures ok { OnOk result (IsBuffered (K.written sink.old) (self.old ++ piece.now) (K.written sink.new) self.new) }
-        ensures err { OnErr result (GrowsByPart (K.written sink.old) (self.old ++ piece.now) (K.written sink.new)) }
-        ensures cause { OnErr result (CountRose (K.faults sink.old) (K.faults sink.new)) }
-        ensures counted { CountsOn (K.faults sink.old) (K.faults sink.new) }
+        ensures err { OnErr result (PutsPart K.Sink sink.old (self.old ++ piece.now) sink.new) }
+        ensures cause { OnErr result (FailsToPut K.Sink sink.old sink.new) }
+        ensures counted { PutsOn K.Sink sink.old sink.new }
     {
         if piece.len() <= self.room() {
             self.hold(piece);

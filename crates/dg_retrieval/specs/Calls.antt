@@ -2,9 +2,8 @@
 use Rattle.std.specs.Prelude.{◌≡◌, ℕ, List, [], ◌∷◌, Option, Result, Ok, Err, IfErr, IfOk, IfSome, IsErrOf, length, map}
 use Rattle.std.specs.Global.{Vec}
 use Rattle.std.specs.List.{All, sum}
-use Rattle.dg_disk.specs.Counts.{Rose}
+use Rattle.dg_disk.specs.Calls.{Fails, ReadsDisk}
 use Rattle.dg_disk.specs.declared.disk.Disk.{Ghosts}
-use Rattle.dg_disk.specs.Frame.{OnlyReads}
 use Rattle.dg_file.specs.Index.{IndexState}
 use Rattle.dg_fold.specs.BytesRead.{AreParts, Takes, TakesAtMost, kept_in, named_along}
 use Rattle.dg_fold.specs.Trees.{Grow, LeadsToTarget}
@@ -40,8 +39,8 @@ use Rattle.dg_retrieval.specs.TreeParts.{IsTreeWalk}
 -- The index and the image are as they were, and where the call says that a read failed, one did.
 pub record ReadsRecords {A D : Type 0} (g : Ghosts D) (before after : IndexState) (old new : D) (result : Result A RetrievalFault) : Type 0 where
   pub same : after ≡ before
-  pub disk : OnlyReads g.image g.faults g.write_faults old new
-  pub cause : IsErrOf result fault.Disk → Rose (g.faults old) (g.faults new)
+  pub disk : ReadsDisk g old new
+  pub cause : IsErrOf result fault.Disk → Fails g old new
 
 -- What the call tells of damage in this image: what is given has met none among the columns that the tree of the
 -- targets enters; a fault that is damage names the first.

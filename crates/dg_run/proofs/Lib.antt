@@ -1,6 +1,9 @@
 pub mod LinesStateEnds
 pub mod PromisedEnds
 pub mod TurnLines
+pub mod StepIndexes
+pub mod CrashRuns
 pub mod ServedRuns
+pub mod WrittenReplies
 pub mod StatusStarts
 pub mod PromisedRuns

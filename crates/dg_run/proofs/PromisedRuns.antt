@@ -25,11 +25,14 @@ use Rattle.dg_run.specs.declared.status.Status.{Status}
 use Rattle.dg_run.specs.declared.status.Status.TheVariants as status
 use Rattle.dg_run.specs.Outside.{Outside, IsUntouched}
 use Rattle.dg_run.specs.Promised.{Completes, Promised, WhereItStands}
-use Rattle.dg_run.specs.Served.{Gained, Remains, Served}
+use Rattle.dg_run.specs.GainedReplies.{GainsReplies}
+use Rattle.dg_run.specs.Served.{Gained, LeftInRun, Remains, Served}
 use Rattle.dg_run.specs.Statuses.{ending_of, is_unbegun, IsBegun}
 use Rattle.dg_run.specs.Turns.{ScriptAnswered}
+use Rattle.dg_run.proofs.CrashRuns.{Leads, Stays, in_run_first}
 use Rattle.dg_run.proofs.PromisedEnds.{completes_of}
-use Rattle.dg_run.proofs.ServedRuns.{at_some, if_some, remains_from, served_nothing}
+use Rattle.dg_run.proofs.ServedRuns.{at_some, ended_faults, grown-nil, if_some, left_from, remains_from, served_nothing}
+use Rattle.dg_run.proofs.WrittenReplies.{none_gained}
 use Rattle.dg_run.proofs.StatusStarts.{EndsFor, where_some, ends_for, unbegun, unbegun_gains, untouched_end, disk_failed, lies, refused_so, ends_so, never_so, begins_ok}
 
 untouched_here : (start : Outside) → IsUntouched start start
@@ -40,10 +43,11 @@ abbrev pub IsLeft : Status → Outside → Outside → List ℕ → Type 0
 IsLeft s start now image = AreBytes image → IsStanding image ⊎ (IsUntouched start now × ((is_unbegun s ≡ true) ⊎ (s ≡ status.DiskFault)))
 
 -- the words are not of the written form
-words_promise : (limits : Limits) (checked : Bool) (start : Outside) → Promised limits false checked status.Words start start
-words_promise limits checked start = record {
-  served = if_some start.image (λ x. (index : Option History) → StandsAs index x → Served (machine_at limits index) status.Words start start)
-      (λ x is index stands. served_nothing status.Words (machine_at limits index) start start x is stands (untouched_here start) (λ e. cc) (λ nil. nil) (omega arith));
+words_promise : (limits : Limits) (checked : Bool) (start : Outside) (crashes : (List ℕ → List ℕ → Type 0) → Type 0) → Stays start.image crashes → Promised limits false checked status.Words start start crashes
+words_promise limits checked start crashes stays = record {
+  served = if_some start.image (λ x. (index : Option History) → StandsAs index x → Served (machine_at limits index) status.Words start start crashes)
+      (λ x is index stands. served_nothing status.Words (machine_at limits index) start start x crashes is stands (untouched_here start) stays (λ e. cc) (λ nil. nil) (omega arith));
+  replies = none_gained status.Words start.written start.written (grown-nil start.written);
   checked = λ e. if_some start.image (IsLeft status.Words start start) (λ x is bytes. inr (untouched_here start, inl refl));
   told = refl;
   words = λ e. refl;
@@ -62,14 +66,16 @@ words_promise limits checked start = record {
   completes = λ good. absurd (cc);
 }
 
-pub bad_words : (limits : Limits) (are_written checked : Bool) (start : Outside) → are_written ≡ false → Promised limits are_written checked status.Words start start
-bad_words limits are_written checked start is = subst (λ (b : Bool). Promised limits b checked status.Words start start) (sym is) (words_promise limits checked start)
+pub bad_words : (limits : Limits) (are_written checked : Bool) (start : Outside) (crashes : (List ℕ → List ℕ → Type 0) → Type 0) → Stays start.image crashes → are_written ≡ false
+    → Promised limits are_written checked status.Words start start crashes
+bad_words limits are_written checked start crashes stays is = subst (λ (b : Bool). Promised limits b checked status.Words start start crashes) (sym is) (words_promise limits checked start crashes stays)
 
 -- there was no memory to read the words
-pub unread_words : (limits : Limits) (are_written checked : Bool) (start : Outside) → Promised limits are_written checked status.NoMemory start start
-unread_words limits are_written checked start = record {
-  served = if_some start.image (λ x. (index : Option History) → StandsAs index x → Served (machine_at limits index) status.NoMemory start start)
-      (λ x is index stands. served_nothing status.NoMemory (machine_at limits index) start start x is stands (untouched_here start) (λ e. cc) (λ nil. nil) (omega arith));
+pub unread_words : (limits : Limits) (are_written checked : Bool) (start : Outside) (crashes : (List ℕ → List ℕ → Type 0) → Type 0) → Stays start.image crashes → Promised limits are_written checked status.NoMemory start start crashes
+unread_words limits are_written checked start crashes stays = record {
+  served = if_some start.image (λ x. (index : Option History) → StandsAs index x → Served (machine_at limits index) status.NoMemory start start crashes)
+      (λ x is index stands. served_nothing status.NoMemory (machine_at limits index) start start x crashes is stands (untouched_here start) stays (λ e. cc) (λ nil. nil) (omega arith));
+  replies = none_gained status.NoMemory start.written start.written (grown-nil start.written);
   checked = λ e. if_some start.image (IsLeft status.NoMemory start start) (λ x is bytes. inr (untouched_here start, inl refl));
   told = refl;
   words = λ e. absurd (cc);
@@ -92,18 +98,19 @@ unread_words limits are_written checked start = record {
 }
 
 -- no session begins
-pub no_session : BeginsAreDetermined → (limits : Limits) (checked : Bool) (s : Status) (f : SessionFault) (start now : Outside) → s ≡ ending_of f → IsUntouched start now → start.disk_faults ≤ now.disk_faults
+pub no_session : BeginsAreDetermined → (limits : Limits) (checked : Bool) (s : Status) (f : SessionFault) (start now : Outside) (crashes : (List ℕ → List ℕ → Type 0) → Type 0) → Stays start.image crashes → s ≡ ending_of f → IsUntouched start now → start.disk_faults ≤ now.disk_faults
     → (f ≡ Start fault.Disk → DiskRose start.disk_faults now.disk_faults)
     → IfSome start.image (λ image. RefusesSession checked f image)
     → IfSome start.image (λ image. (index : Option History) → StandsAs index image → (f ≡ Start fault.Disk) ⊎ (f ≡ Start fault.Memory))
-    → Promised limits true checked s start now
-no_session determined limits checked s f start now is same counted cause refuses never =
+    → Promised limits true checked s start now crashes
+no_session determined limits checked s f start now crashes stays is same counted cause refuses never =
     let end : EndsFor s f = ends_for s f is in
     let not = unbegun s f end in
     let failed : s ≡ status.DiskFault → DiskRose start.disk_faults now.disk_faults = λ e. cause (disk_failed s f end e) in record {
-      served = if_some start.image (λ x. (index : Option History) → StandsAs index x → Served (machine_at limits index) s start now)
-          (λ x here index stands. served_nothing s (machine_at limits index) start now x here stands same not.done
-          (λ nil. unbegun_gains s f start.written now.written end nil) counted);
+      served = if_some start.image (λ x. (index : Option History) → StandsAs index x → Served (machine_at limits index) s start now crashes)
+          (λ x here index stands. served_nothing s (machine_at limits index) start now x crashes here stands same stays not.done
+          (λ nil. unbegun_gains s f start.written now.written end nil) (ended_faults s start.disk_faults now.disk_faults counted failed));
+      replies = none_gained s start.written now.written (unbegun_gains s f start.written now.written end (same.written ∙ grown-nil start.written));
       checked = λ e. if_some start.image (IsLeft s start now) (λ x here bytes. inr (same, untouched_end s f end));
       told = ap (λ (o : Option (List ℕ)). is_some o) same.image;
       words = λ e. absurd (not.words e);
@@ -159,18 +166,19 @@ history_takes A E x before after None t = tt
 history_takes A E x before after (Some image) t = t.history
 
 -- a session began over what was there at the start, with as many failed writes or more, and answered the script
-pub session_promise : BeginsAreDetermined → (limits : Limits) (checked : Bool) (session : Parts) (s : Status) (start mid now : Outside)
+pub session_promise : BeginsAreDetermined → (limits : Limits) (checked : Bool) (session : Parts) (s : Status) (start mid now : Outside) (begun_crashes crashes : (List ℕ → List ℕ → Type 0) → Type 0)
     → mid.left ≡ start.left → mid.source_faults ≡ start.source_faults → mid.written ≡ start.written → mid.sink_faults ≡ start.sink_faults → mid.image ≡ start.image
     → (DiskRose mid.write_faults now.write_faults → DiskRose start.write_faults now.write_faults) → start.disk_faults ≤ mid.disk_faults
     → IfSome start.image (λ image. Begins checked image (Ok (started_with session.index session.names session.graph session.recent)))
     → IfSome start.image (λ image. (index : Option History) → StandsAs index image → StandsFor session image (machine_at limits index))
     → (checked ≡ true → IfSome start.image (λ image. AreBytes image → IsStanding image))
-    → (checked ≡ false → IfSome start.image (StartTakes start.bytes_read mid.bytes_read))
-    → ScriptAnswered limits.script_bytes session s mid now → Promised limits true checked s start now
-session_promise determined limits checked session s start mid now left source written sink image writes counted begins stands standing takes answered =
+    → (checked ≡ false → IfSome start.image (StartTakes start.bytes_read mid.bytes_read)) → Leads start.image begun_crashes crashes
+    → ScriptAnswered limits.script_bytes session s mid now begun_crashes → Promised limits true checked s start now crashes
+session_promise determined limits checked session s start mid now begun_crashes crashes left source written sink image writes counted begins stands standing takes leads answered =
     let not = begun_not s answered.begun in
-    let served : WhereItStands start.image (λ index. Served (machine_at limits index) s start now) =
-    if_some start.image (λ x. (index : Option History) → StandsAs index x → Served (machine_at limits index) s start now)
+    let untouched : IsUntouched start mid = record { left = left; source_faults = source; written = written; sink_faults = sink; image = image } in
+    let served : WhereItStands start.image (λ index. Served (machine_at limits index) s start now crashes) =
+    if_some start.image (λ x. (index : Option History) → StandsAs index x → Served (machine_at limits index) s start now crashes)
     (λ x here index as_index.
     let one = answered.served x (machine_at limits index) (image ∙ here) (at_some start.image (λ y. (i : Option History) → StandsAs i y → StandsFor session y (machine_at limits i)) x stands here index as_index) in record {
       entries = one.entries;
@@ -183,9 +191,11 @@ session_promise determined limits checked session s start mid now left source wr
       stands =
           where_some now.image (λ i. Remains s (last_state (machine_at limits index) one.answers) one.more mid now i)
           (λ i. Remains s (last_state (machine_at limits index) one.answers) one.more start now i)
-          (λ i. remains_from s (last_state (machine_at limits index) one.answers) one.more start mid now i
-          (record { left = left; source_faults = source; written = written; sink_faults = sink; image = image })) one.stands;
+          (λ i. remains_from s (last_state (machine_at limits index) one.answers) one.more start mid now i untouched) one.stands;
       failed = omega (arith, counted, one.failed);
+      crash =
+          leads x here (LeftInRun s (machine_at limits index) one.entries one.answers one.more mid now) (LeftInRun s (machine_at limits index) one.entries one.answers one.more start now)
+          (inl (in_run_first (machine_at limits index) one.answers x as_index)) (λ c. left_from s (machine_at limits index) one.entries one.answers one.more start mid now x c untouched) one.crash;
     }) in
     let done : s ≡ status.Done → IfSome start.left (λ script. length script < limits.script_bytes) =
     λ e. subst (λ (o : Option (List ℕ)). IfSome o (λ script. length script < limits.script_bytes)) left (answered.done e) in
@@ -196,6 +206,7 @@ session_promise determined limits checked session s start mid now left source wr
     let sink_fault : s ≡ status.SinkFault → CountRose start.sink_faults now.sink_faults =
     λ e. subst (λ (n : ℕ). CountRose n now.sink_faults) sink (answered.sink_fault e) in record {
       served = served;
+      replies = subst (λ (o : Option (List ℕ)). GainsReplies s o now.written) written answered.replies;
       checked = λ e. where_some start.image (λ x. AreBytes x → IsStanding x) (IsLeft s start now) (λ x h bytes. inl (h bytes)) (standing e);
       told = answered.told ∙ ap (λ (o : Option (List ℕ)). is_some o) image;
       words = λ e. absurd (not.0 e);

@@ -1,5 +1,5 @@
 -- The run so far, how each turn lengthens it, and what is owed where it ends.
-use Rattle.std.proofs.Common.{◌≡◌, ◌≤◌, ℕ, ◌+◌, Bool, true, false, cond, List, [], ◌∷◌, ◌++◌, Option, Some, None, IfSome, Result, Ok, Err, OnOk, OnErr, is_some, length, take, refl, sym, ◌∙◌, ap, subst, append_assoc, arith, length-append}
+use Rattle.std.proofs.Common.{◌≡◌, ◌≤◌, inl, inr, ℕ, ◌+◌, Bool, true, false, cond, List, [], ◌∷◌, ◌++◌, Option, Some, None, IfSome, Result, Ok, Err, OnOk, OnErr, is_some, length, take, refl, sym, ◌∙◌, ap, subst, append_assoc, arith, length-append}
 use Rattle.std.specs.Option.{option_map}
 use Rattle.std.specs.Result.{is_err}
 use Rattle.std.proofs.lemmas.List.{append-nil}
@@ -26,30 +26,32 @@ use Rattle.dg_start.specs.StoredHistory.{KeepsHistory}
 use Rattle.dg_run.specs.declared.status.Status.{Status}
 use Rattle.dg_run.specs.declared.status.Status.TheVariants as status
 use Rattle.dg_run.specs.Outside.{Outside, IsUntouched}
-use Rattle.dg_run.specs.Served.{Served, Gained, Remains, Kept, Cut_off}
-use Rattle.dg_run.specs.Turns.{Breaks, Replies, asked}
+use Rattle.dg_run.specs.Served.{Served, Gained, faults_of, LeftInRun, Remains, Kept, Cut_off}
+use Rattle.dg_run.specs.Turns.{Breaks, CutsEntry, LeavesTurn, Replies, asked}
+use Rattle.dg_run.proofs.CrashRuns.{Adds, LeftSoFar, Stays, Widens, at_last, so_far_image, so_far_longer, turn_in_run}
 
 -- The run from m so far over the image now, which was `first` at its start: the entries answered, and those
--- to come. So many calls of the disk failed before it, and so many by now.
-pub record Going (m : MachineState) (first left before : Option (List ℕ)) (f : ℕ) (session : Parts) (image : List ℕ) (more : Option (List Entry)) (written : Option (List ℕ)) (n : ℕ) : Type 0 where
+-- to come. So many calls of the disk failed before it, and so many by now. `crashes` holds of what a crash within it leaves.
+pub record Going (m : MachineState) (first left before : Option (List ℕ)) (f : ℕ) (session : Parts) (image : List ℕ) (more : Option (List Entry)) (written : Option (List ℕ)) (n : ℕ) (crashes : (List ℕ → List ℕ → Type 0) → Type 0) : Type 0 where
   pub entries : List Entry
   pub answers : List Answered
   pub run : Run m entries answers
   pub stands : StandsFor session image (last_state m answers)
   pub front : option_map script left ≡ option_map (λ rest. entries ++ rest) more
   pub gained : written ≡ grown before (texts_of answers)
-  pub unmade : (last_state m answers).index ≡ None → first ≡ Some image
+  pub unmade : (last_state m answers).index ≡ None → (m.index ≡ None) × (first ≡ Some image)
   pub failed : raised_by (failed_reads answers) f ≤ n
+  pub crash : crashes (LeftSoFar m entries answers)
 
 map-nothing : {A : Type 0} (o : Option (List A)) → o ≡ option_map (λ rest. [] ++ rest) o
 map-nothing None = refl
 map-nothing (Some xs) = refl
 
-grown-nil : (o : Option (List ℕ)) → o ≡ grown o []
+pub grown-nil : (o : Option (List ℕ)) → o ≡ grown o []
 grown-nil None = refl
 grown-nil (Some xs) = ap (λ ys. Some ys) (sym (append-nil xs))
 
-grown-append : (o : Option (List ℕ)) (a b : List ℕ) → grown (grown o a) b ≡ grown o (a ++ b)
+pub grown-append : (o : Option (List ℕ)) (a b : List ℕ) → grown (grown o a) b ≡ grown o (a ++ b)
 grown-append None a b = refl
 grown-append (Some xs) a b = ap (λ ys. Some ys) (append_assoc xs a b)
 
@@ -82,17 +84,18 @@ failed_on true answers a f n k is failed counts = omega (arith, one_more true an
 failed_on false answers a f n k is failed counts = omega (arith, one_more false answers a is, failed, counts.counted)
 
 -- before the first turn
-going_first : (m : MachineState) (first left before : Option (List ℕ)) (f : ℕ) (session : Parts) (image : List ℕ) → first ≡ Some image → StandsFor session image m
-    → Going m first left before f session image (option_map script left) before f
-going_first m first left before f session image is stands = record {
+going_first : (m : MachineState) (first left before : Option (List ℕ)) (f : ℕ) (session : Parts) (image : List ℕ) (crashes : (List ℕ → List ℕ → Type 0) → Type 0) → first ≡ Some image → StandsFor session image m
+    → Stays first crashes → Going m first left before f session image (option_map script left) before f crashes
+going_first m first left before f session image crashes is stands stays = record {
   entries = [];
   answers = [];
   run = tt;
   stands = stands;
   front = map-nothing (option_map script left);
   gained = grown-nil before;
-  unmade = λ none. is;
+  unmade = λ none. (none, is);
   failed = omega arith;
+  crash = stays image is (LeftSoFar m [] []) (so_far_image m [] [] session image image image stands refl);
 }
 
 -- what a session keeps of the index and the names of the machine's history
@@ -121,9 +124,12 @@ session_text new now k r stands = ap (λ (names : List (List ℕ)). text names r
 
 -- a turn with a reply that was written
 going_on : (m : MachineState) (first left before : Option (List ℕ)) (f : ℕ) (old new : Parts) (image now : List ℕ) (more rest : Option (List Entry)) (written : Option (List ℕ)) (n k : ℕ) (e : Entry) (r : Reply)
-    → Going m first left before f old image more written n → more ≡ option_map (λ es. e ∷ es) rest → Replies e old image new now r
-    → (new.index ≡ None → (old.index ≡ None) × (now ≡ image)) → IsCounted r n k → Going m first left before f new now rest (grown written (text new.names r)) k
-going_on m first left before f old new image now more rest written n k e r going is replies same counts =
+    (x : List ℕ) (crashes then_crashes : (List ℕ → List ℕ → Type 0) → Type 0) → first ≡ Some x
+    → Going m first left before f old image more written n crashes → more ≡ option_map (λ es. e ∷ es) rest → Replies e old image new now r
+    → (new.index ≡ None → (old.index ≡ None) × (now ≡ image)) → IsCounted r n k
+    → ((P R : List ℕ → List ℕ → Type 0) → ((c : List ℕ) → P x c → R x c) → ((c : List ℕ) → LeavesTurn e old r image c → R x c) → crashes P → then_crashes R)
+    → Going m first left before f new now rest (grown written (text new.names r)) k then_crashes
+going_on m first left before f old new image now more rest written n k e r x crashes then_crashes begins going is replies same counts adds =
     let next = replies (last_state m going.answers) going.stands in
     let a : Answered = record { reply = r; state = next.0 } in
     let last : last_state m (going.answers ++ a ∷ []) ≡ next.0 = last_more m going.answers a in record {
@@ -139,16 +145,22 @@ going_on m first left before f old new image now more rest written n k e r going
       unmade = λ none.
           let here : next.0.index ≡ None = ap (λ (k : MachineState). k.index) (sym last) ∙ none in
           let was = same (no_index_of new now next.0 next.2 here) in
-          going.unmade (none_of (last_state m going.answers).index (sym (kept_index (last_state m going.answers).index old going.stands.kept) ∙ was.0)) ∙ ap (λ x. Some x) (sym was.1);
+          let first_none = going.unmade (none_of (last_state m going.answers).index (sym (kept_index (last_state m going.answers).index old going.stands.kept) ∙ was.0)) in
+          (first_none.0, first_none.1 ∙ ap (λ x. Some x) (sym was.1));
       failed = failed_on (is_store_read r.head) going.answers a f n k refl going.failed counts;
+      crash =
+          adds (LeftSoFar m going.entries going.answers) (LeftSoFar m (going.entries ++ e ∷ []) (going.answers ++ a ∷ [])) (λ c so_far. so_far_longer m going.entries going.answers e a x c so_far)
+          (λ c left. turn_in_run m going.entries going.answers a e old x image c
+          (λ none. let was = going.unmade none in (was.0, some_injective image x (sym was.1 ∙ begins))) going.stands next.1 left) going.crash;
     }
 
 -- ---- over a disk that may tell its image
 
 -- the run so far, from every machine that the session stood for over the first image, where the images are told
-abbrev pub GoingOver : Option (List ℕ) → Option (List ℕ) → Option (List ℕ) → ℕ → Parts → Parts → Option (List ℕ) → Option (List Entry) → Option (List ℕ) → ℕ → Type 0
-GoingOver first left before f start session image more written n =
-    (x y : List ℕ) → first ≡ Some x → image ≡ Some y → (m : MachineState) → StandsFor start x m → Going m first left before f session y more written n
+abbrev pub GoingOver : Option (List ℕ) → Option (List ℕ) → Option (List ℕ) → ℕ → Parts → Parts → Option (List ℕ) → Option (List Entry) → Option (List ℕ) → ℕ
+    → ((List ℕ → List ℕ → Type 0) → Type 0) → Type 0
+GoingOver first left before f start session image more written n crashes =
+    (x y : List ℕ) → first ≡ Some x → image ≡ Some y → (m : MachineState) → StandsFor start x m → Going m first left before f session y more written n crashes
 
 -- an option that is told where another is
 told_as : (a b : Option (List ℕ)) (x : List ℕ) → is_some b ≡ is_some a → a ≡ Some x → (y : List ℕ) × (b ≡ Some y)
@@ -156,17 +168,19 @@ told_as a None x same is = absurd (let none : false ≡ true = same ∙ ap (λ (
 told_as a (Some y) x same is = (y, refl)
 
 -- before the first turn
-pub over_first : (first left before : Option (List ℕ)) (f : ℕ) (session : Parts) (more : Option (List Entry))
-    → option_map script left ≡ more → GoingOver first left before f session session first more before f
-over_first first left before f session more is = λ x y a b m stands.
+pub over_first : (first left before : Option (List ℕ)) (f : ℕ) (session : Parts) (more : Option (List Entry)) (crashes : (List ℕ → List ℕ → Type 0) → Type 0)
+    → option_map script left ≡ more → Stays first crashes → GoingOver first left before f session session first more before f crashes
+over_first first left before f session more crashes is stays = λ x y a b m stands.
     let one : x ≡ y = some_injective x y (sym a ∙ b) in
-    subst (λ (es : Option (List Entry)). Going m first left before f session y es before f) is
-    (going_first m first left before f session y b (subst (λ (z : List ℕ). StandsFor session z m) one stands))
+    subst (λ (es : Option (List Entry)). Going m first left before f session y es before f crashes) is
+    (going_first m first left before f session y crashes b (subst (λ (z : List ℕ). StandsFor session z m) one stands) stays)
 
--- the run so far, where more calls of the disk may have failed since
-failed_later : (m : MachineState) (first left before : Option (List ℕ)) (f : ℕ) (session : Parts) (image : List ℕ) (more : Option (List Entry)) (written : Option (List ℕ)) (n k : ℕ)
-    → n ≤ k → Going m first left before f session image more written n → Going m first left before f session image more written k
-failed_later m first left before f session image more written n k le going = record {
+-- the run so far, where more calls of the disk may have failed since, and a crash within them leaves the image
+going_later : (m : MachineState) (first left before : Option (List ℕ)) (f : ℕ) (session : Parts) (image : List ℕ) (more : Option (List Entry)) (written : Option (List ℕ)) (n k : ℕ)
+    (x : List ℕ) (crashes then_crashes : (List ℕ → List ℕ → Type 0) → Type 0) → n ≤ k
+    → ((P R : List ℕ → List ℕ → Type 0) → ((c : List ℕ) → P x c → R x c) → ((c : List ℕ) → c ≡ image → R x c) → crashes P → then_crashes R)
+    → Going m first left before f session image more written n crashes → Going m first left before f session image more written k then_crashes
+going_later m first left before f session image more written n k x crashes then_crashes le adds going = record {
   entries = going.entries;
   answers = going.answers;
   run = going.run;
@@ -175,40 +189,73 @@ failed_later m first left before f session image more written n k le going = rec
   gained = going.gained;
   unmade = going.unmade;
   failed = omega (arith, le, going.failed);
+  crash =
+      adds (LeftSoFar m going.entries going.answers) (LeftSoFar m going.entries going.answers) (λ c so_far. so_far)
+      (λ c same. so_far_image m going.entries going.answers session x image c going.stands same) going.crash;
 }
 
 -- a turn with no reply
 pub over_skip : (first left before : Option (List ℕ)) (f : ℕ) (start old new : Parts) (image now : Option (List ℕ)) (more rest : Option (List Entry)) (written : Option (List ℕ)) (n k : ℕ)
-    → GoingOver first left before f start old image more written n → more ≡ rest → new ≡ old → now ≡ image → n ≤ k
-    → GoingOver first left before f start new now rest written k
-over_skip first left before f start old new image now more rest written n k going same kept stays le = λ x y a b m stands.
-    subst (λ (es : Option (List Entry)). Going m first left before f new y es written k) same
-    (subst (λ (s : Parts). Going m first left before f s y more written k) (sym kept)
-    (failed_later m first left before f old y more written n k le (going x y a (sym stays ∙ b) m stands)))
+    (crashes then_crashes : (List ℕ → List ℕ → Type 0) → Type 0)
+    → GoingOver first left before f start old image more written n crashes → more ≡ rest → new ≡ old → now ≡ image → n ≤ k → Adds first image crashes then_crashes (λ was left. left ≡ was)
+    → GoingOver first left before f start new now rest written k then_crashes
+over_skip first left before f start old new image now more rest written n k crashes then_crashes going same kept stays le adds = λ x y a b m stands.
+    subst (λ (es : Option (List Entry)). Going m first left before f new y es written k then_crashes) same
+    (subst (λ (s : Parts). Going m first left before f s y more written k then_crashes) (sym kept)
+    (going_later m first left before f old y more written n k x crashes then_crashes le (adds x y a (sym stays ∙ b)) (going x y a (sym stays ∙ b) m stands)))
 
 -- a turn with a reply that was written
 pub over_on : (first left before : Option (List ℕ)) (f : ℕ) (start old new : Parts) (image now : Option (List ℕ)) (more rest : Option (List Entry)) (written after : Option (List ℕ)) (n k : ℕ) (e : Entry) (r : Reply)
-    → GoingOver first left before f start old image more written n → is_some image ≡ is_some first → more ≡ option_map (λ es. e ∷ es) rest
+    (crashes then_crashes : (List ℕ → List ℕ → Type 0) → Type 0)
+    → GoingOver first left before f start old image more written n crashes → is_some image ≡ is_some first → more ≡ option_map (λ es. e ∷ es) rest
     → WhereBothTold image now (λ x y. Replies e old x new y r) → (new.index ≡ None → (old.index ≡ None) × (now ≡ image)) → after ≡ grown written (text new.names r)
-    → IsCounted r n k → GoingOver first left before f start new now rest after k
-over_on first left before f start old new image now more rest written after n k e r going told is replies same gained counts = λ x z a c m stands.
+    → IsCounted r n k → Adds first image crashes then_crashes (LeavesTurn e old r) → GoingOver first left before f start new now rest after k then_crashes
+over_on first left before f start old new image now more rest written after n k e r crashes then_crashes going told is replies same gained counts adds = λ x z a c m stands.
     let mid = told_as first image x told a in
-    subst (λ (w : Option (List ℕ)). Going m first left before f new z rest w k) (sym gained)
-    (going_on m first left before f old new mid.0 z more rest written n k e r (going x mid.0 a mid.1 m stands) is (replies mid.0 z mid.1 c)
-    (λ none. let was = same none in (was.0, some_injective z mid.0 (sym c ∙ was.1 ∙ mid.1))) counts)
+    subst (λ (w : Option (List ℕ)). Going m first left before f new z rest w k then_crashes) (sym gained)
+    (going_on m first left before f old new mid.0 z more rest written n k e r x crashes then_crashes a (going x mid.0 a mid.1 m stands) is (replies mid.0 z mid.1 c)
+    (λ none. let was = same none in (was.0, some_injective z mid.0 (sym c ∙ was.1 ∙ mid.1))) counts (adds x mid.0 a mid.1))
 
 -- ---- what is owed where the run ends
 
 -- what is owed from every machine that the session stood for over the first image
-abbrev pub ServedOver : Parts → Status → Outside → Outside → Type 0
-ServedOver session s start now = (image : List ℕ) (m : MachineState) → start.image ≡ Some image → StandsFor session image m → Served m s start now
+abbrev pub ServedOver : Parts → Status → Outside → Outside → ((List ℕ → List ℕ → Type 0) → Type 0) → Type 0
+ServedOver session s start now crashes = (image : List ℕ) (m : MachineState) → start.image ≡ Some image → StandsFor session image m → Served m s start now crashes
+
+-- what a crash may leave of the run so far it may leave of the run
+left_so_far : (s : Status) (m : MachineState) (entries : List Entry) (answers : List Answered) (more : Option (List Entry)) (start now : Outside) (first c : List ℕ)
+    → LeftSoFar m entries answers first c → LeftInRun s m entries answers more start now first c
+left_so_far s m entries answers more start now first c (inl stands) = inl stands
+left_so_far s m entries answers more start now first c (inr byte) = inr (inl byte)
+
+-- a status that does not tell of the disk tells of no failed call of it
+calm_faults : (s : Status) → (s ≡ status.DiskFault → ⊥) → faults_of s ≡ 0
+calm_faults status.Done calm = refl
+calm_faults status.Words calm = refl
+calm_faults status.SourceFault calm = refl
+calm_faults status.SinkFault calm = refl
+calm_faults status.DiskFault calm = absurd (calm refl)
+calm_faults status.NoMemory calm = refl
+calm_faults (status.Refused fault) calm = refl
+calm_faults status.ScriptLimit calm = refl
+
+-- the failed calls that a status tells of were counted, where that of the disk comes of one
+pub ended_faults : (s : Status) (f n : ℕ) → f ≤ n → (s ≡ status.DiskFault → DiskRose f n) → raised_by (faults_of s) f ≤ n
+ended_faults status.Done f n le rose = omega (arith, le)
+ended_faults status.Words f n le rose = omega (arith, le)
+ended_faults status.SourceFault f n le rose = omega (arith, le)
+ended_faults status.SinkFault f n le rose = omega (arith, le)
+ended_faults status.DiskFault f n le rose = rose refl
+ended_faults status.NoMemory f n le rose = omega (arith, le)
+ended_faults (status.Refused fault) f n le rose = omega (arith, le)
+ended_faults status.ScriptLimit f n le rose = omega (arith, le)
 
 -- a run that ends between two entries
-pub over_cut : (s : Status) (start now : Outside) (begun session : Parts) (more : Option (List Entry))
-    → GoingOver start.image start.left start.written start.disk_faults begun session now.image more now.written now.disk_faults → is_some now.image ≡ is_some start.image
+pub over_cut : (s : Status) (start now : Outside) (begun session : Parts) (more : Option (List Entry)) (crashes : (List ℕ → List ℕ → Type 0) → Type 0)
+    → GoingOver start.image start.left start.written start.disk_faults begun session now.image more now.written now.disk_faults crashes → Widens crashes → is_some now.image ≡ is_some start.image
     → (s ≡ status.DiskFault → ⊥) → (s ≡ status.Done → IfSome more (λ rest. rest ≡ [])) → ((due : List ℕ) → now.written ≡ grown start.written due → Gained s start.written due now.written)
-    → ServedOver begun s start now
-over_cut s start now begun session more going told calm whole gained = λ x m a stands.
+    → ServedOver begun s start now crashes
+over_cut s start now begun session more crashes going widens told calm whole gained = λ x m a stands.
     let here = told_as start.image now.image x told a in
     let run = going x here.0 a here.1 m stands in record {
       entries = run.entries;
@@ -219,7 +266,8 @@ over_cut s start now begun session more going told calm whole gained = λ x m a 
       whole = whole;
       gained = gained (texts_of run.answers) run.gained;
       stands = subst (λ (o : Option (List ℕ)). IfSome o (λ image. Remains s (last_state m run.answers) more start now image)) (sym here.1) (Kept run.stands.image_stands (λ e. absurd (calm e)));
-      failed = run.failed;
+      failed = omega (arith, calm_faults s calm, run.failed);
+      crash = widens (LeftSoFar m run.entries run.answers) (LeftInRun s m run.entries run.answers more start now) (λ first c left. left_so_far s m run.entries run.answers more start now first c left) run.crash;
     }
 
 comes_first : (more rest : Option (List Entry)) (e : Entry) → more ≡ option_map (λ es. e ∷ es) rest → (es : List Entry) × IfSome more (λ all. all ≡ e ∷ es)
@@ -228,9 +276,11 @@ comes_first more (Some es) e is = (es, subst (λ (o : Option (List Entry)). IfSo
 
 -- a run that a failure of the disk cuts off within an entry
 pub over_broken : (start now : Outside) (begun session : Parts) (image : Option (List ℕ)) (more rest : Option (List Entry)) (n : ℕ)
-    → GoingOver start.image start.left start.written start.disk_faults begun session image more now.written n → is_some image ≡ is_some start.image
-    → is_some now.image ≡ is_some image → Breaks more rest session image now.image → n ≤ now.disk_faults → ServedOver begun status.DiskFault start now
-over_broken start now begun session image more rest n going told then_told breaks le = λ x m a stands.
+    (crashes turn_crashes then_crashes : (List ℕ → List ℕ → Type 0) → Type 0)
+    → GoingOver start.image start.left start.written start.disk_faults begun session image more now.written n crashes → is_some image ≡ is_some start.image
+    → is_some now.image ≡ is_some image → (breaks : Breaks more rest session image now.image turn_crashes) → DiskRose n now.disk_faults
+    → Adds start.image image crashes then_crashes (CutsEntry breaks.0 session) → ServedOver begun status.DiskFault start now then_crashes
+over_broken start now begun session image more rest n crashes turn_crashes then_crashes going told then_told breaks rose adds = λ x m a stands.
     let mid = told_as start.image image x told a in
     let here = told_as image now.image mid.0 then_told mid.1 in
     let run = going x mid.0 a mid.1 m stands in
@@ -246,12 +296,16 @@ over_broken start now begun session image more rest n going told then_told break
       gained = run.gained;
       stands =
           subst (λ (o : Option (List ℕ)). IfSome o (λ image. Remains status.DiskFault (last_state m run.answers) more start now image)) (sym here.1)
-          (Cut_off e first.0 mid.0 refl first.1 run.stands.image_stands run.unmade cut);
-      failed = omega (arith, le, run.failed);
+          (Cut_off e first.0 mid.0 refl first.1 run.stands.image_stands (λ none. (run.unmade none).1) cut);
+      failed = omega (arith, rose, run.failed);
+      crash =
+          adds x mid.0 a mid.1 (LeftSoFar m run.entries run.answers) (LeftInRun status.DiskFault m run.entries run.answers more start now)
+          (λ c left. left_so_far status.DiskFault m run.entries run.answers more start now x c left)
+          (λ c torn. inr (inr (Cut_off e first.0 mid.0 refl first.1 run.stands.image_stands (λ none. (run.unmade none).1) (torn (last_state m run.answers) run.stands)))) run.crash;
     }
 
 -- a proper prefix of a later piece is one of all pieces
-part_later : (before written after : Option (List ℕ)) (due piece : List ℕ) → written ≡ grown before due
+pub part_later : (before written after : Option (List ℕ)) (due piece : List ℕ) → written ≡ grown before due
     → GrowsByPart written piece after → GrowsByPart before (due ++ piece) after
 part_later before written after due piece is part = (
   length due + part.0,
@@ -262,16 +316,18 @@ part_later before written after due piece is part = (
 
 -- the reply of the last turn was written in part
 pub over_part : (start now : Outside) (begun old new : Parts) (image : Option (List ℕ)) (more rest : Option (List Entry)) (written : Option (List ℕ)) (n : ℕ) (e : Entry) (r : Reply)
-    → GoingOver start.image start.left start.written start.disk_faults begun old image more written n → is_some image ≡ is_some start.image
+    (crashes then_crashes : (List ℕ → List ℕ → Type 0) → Type 0)
+    → GoingOver start.image start.left start.written start.disk_faults begun old image more written n crashes → is_some image ≡ is_some start.image
     → is_some now.image ≡ is_some image → more ≡ option_map (λ es. e ∷ es) rest → WhereBothTold image now.image (λ x y. Replies e old x new y r)
-    → (new.index ≡ None → (old.index ≡ None) × (now.image ≡ image)) → GrowsByPart written (text new.names r) now.written → IsCounted r n now.disk_faults → ServedOver begun status.SinkFault start now
+    → (new.index ≡ None → (old.index ≡ None) × (now.image ≡ image)) → GrowsByPart written (text new.names r) now.written → IsCounted r n now.disk_faults
+    → Adds start.image image crashes then_crashes (LeavesTurn e old r) → Widens then_crashes → ServedOver begun status.SinkFault start now then_crashes
 unfolding going_on
-over_part start now begun old new image more rest written n e r going told then_told is replies same part counts = λ x m a stands.
+over_part start now begun old new image more rest written n e r crashes then_crashes going told then_told is replies same part counts adds widens = λ x m a stands.
     let mid = told_as start.image image x told a in
     let here = told_as image now.image mid.0 then_told mid.1 in
     let run = going x mid.0 a mid.1 m stands in
-    let next = going_on m start.image start.left start.written start.disk_faults old new mid.0 here.0 more rest written n now.disk_faults e r run is (replies mid.0 here.0 mid.1 here.1)
-    (λ none. let was = same none in (was.0, some_injective here.0 mid.0 (sym here.1 ∙ was.1 ∙ mid.1))) counts in
+    let next = going_on m start.image start.left start.written start.disk_faults old new mid.0 here.0 more rest written n now.disk_faults e r x crashes then_crashes a run is (replies mid.0 here.0 mid.1 here.1)
+    (λ none. let was = same none in (was.0, some_injective here.0 mid.0 (sym here.1 ∙ was.1 ∙ mid.1))) counts (adds x mid.0 a mid.1) in
     let k = replies mid.0 here.0 mid.1 here.1 (last_state m run.answers) run.stands in
     let all : texts_of run.answers ++ text new.names r ≡ texts_of next.answers =
     ap (λ bytes. texts_of run.answers ++ bytes) (session_text new here.0 k.0 r k.2) ∙ sym (texts_more run.answers (record { reply = r; state = k.0 })) in record {
@@ -287,7 +343,10 @@ over_part start now begun old new image more rest written n e r going told then_
       stands =
           subst (λ (o : Option (List ℕ)). IfSome o (λ image. Remains status.SinkFault (last_state m next.answers) rest start now image)) (sym here.1)
           (Kept next.stands.image_stands (λ e. cc));
-      failed = next.failed;
+      failed = omega (arith, next.failed);
+      crash =
+          widens (LeftSoFar m next.entries next.answers) (LeftInRun status.SinkFault m next.entries next.answers rest start now)
+          (λ first c left. left_so_far status.SinkFault m next.entries next.answers rest start now first c left) next.crash;
     }
 
 pub if_some : (o : Option (List ℕ)) (P : List ℕ → Type 0) → ((x : List ℕ) → o ≡ Some x → P x) → IfSome o P
@@ -307,10 +366,10 @@ untouched_from start mid now a b = record {
 }
 
 -- nothing was answered
-pub served_nothing : (s : Status) (m : MachineState) (start now : Outside) (image : List ℕ) → start.image ≡ Some image → StandsAs m.index image
-    → IsUntouched start now
-    → (s ≡ status.Done → ⊥) → (now.written ≡ grown start.written [] → Gained s start.written [] now.written) → start.disk_faults ≤ now.disk_faults → Served m s start now
-served_nothing s m start now image is stands same undone gained counted = record {
+pub served_nothing : (s : Status) (m : MachineState) (start now : Outside) (image : List ℕ) (crashes : (List ℕ → List ℕ → Type 0) → Type 0)
+    → start.image ≡ Some image → StandsAs m.index image → IsUntouched start now → Stays start.image crashes
+    → (s ≡ status.Done → ⊥) → (now.written ≡ grown start.written [] → Gained s start.written [] now.written) → raised_by (faults_of s) start.disk_faults ≤ now.disk_faults → Served m s start now crashes
+served_nothing s m start now image crashes is stands same stays undone gained counted = record {
   entries = [];
   answers = [];
   run = tt;
@@ -321,6 +380,7 @@ served_nothing s m start now image is stands same undone gained counted = record
   stands =
       subst (λ (o : Option (List ℕ)). IfSome o (λ i. Remains s m (option_map script start.left) start now i)) (sym (same.image ∙ is)) (Kept stands (λ e. same));
   failed = omega (arith, counted);
+  crash = stays image is (LeftInRun s m [] [] (option_map script start.left) start now) (inl (at_last m [] image stands));
 }
 
 -- the same from an earlier start, from which nothing was touched
@@ -329,6 +389,13 @@ pub remains_from : (s : Status) (m : MachineState) (more : Option (List Entry)) 
 remains_from s m more start mid now image same (Kept stands untouched) = Kept stands (λ e. untouched_from start mid now same (untouched e))
 remains_from s m more start mid now image same (Cut_off e rest before failed first stands unmade cut) =
     Cut_off e rest before failed first stands (λ none. sym same.image ∙ unmade none) cut
+
+-- the same of what a crash may leave
+pub left_from : (s : Status) (m : MachineState) (entries : List Entry) (answers : List Answered) (more : Option (List Entry)) (start mid now : Outside) (first c : List ℕ) → IsUntouched start mid
+    → LeftInRun s m entries answers more mid now first c → LeftInRun s m entries answers more start now first c
+left_from s m entries answers more start mid now first c same (inl stands) = inl stands
+left_from s m entries answers more start mid now first c same (inr (inl byte)) = inr (inl byte)
+left_from s m entries answers more start mid now first c same (inr (inr remains)) = inr (inr (remains_from s (last_state m answers) more start mid now c same remains))
 
 -- before anything is read, the entries to come are those of the script
 pub asked_first : (r : LinesState) (left : Option (List ℕ)) (limit : ℕ)

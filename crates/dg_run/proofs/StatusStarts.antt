@@ -9,7 +9,7 @@ use Rattle.dg_run.specs.declared.status.Status.{Status}
 use Rattle.dg_run.specs.declared.status.Status.TheVariants as status
 use Rattle.dg_io.specs.Told.{grown}
 use Rattle.dg_run.specs.Served.{Gained}
-use Rattle.dg_run.specs.Statuses.{ending_of, is_unbegun}
+use Rattle.dg_run.specs.Statuses.{IsBegun, ending_of, is_unbegun}
 
 pub where_some : (o : Option (List ℕ)) (P Q : List ℕ → Type 0) → ((x : List ℕ) → P x → Q x) → IfSome o P → IfSome o Q
 where_some None P Q each all = tt
@@ -52,6 +52,12 @@ pub untouched_end : (s : Status) (f : SessionFault) → EndsFor s f → (is_unbe
 untouched_end s f (By_disk is disk) = inr is
 untouched_end s f (By_memory is memory) = inl (ap is_unbegun is)
 untouched_end s f (By_image is disk memory) = inl (ap is_unbegun is)
+
+-- no run of these begins
+pub never_begins : (s : Status) (f : SessionFault) (P : Type 0) → EndsFor s f → IsBegun s → s ≢ status.DiskFault → P
+never_begins s f P (By_disk is disk) begun other = absurd (other is)
+never_begins s f P (By_memory is memory) begun other = absurd (subst IsBegun is begun)
+never_begins s f P (By_image is disk memory) begun other = absurd (subst IsBegun is begun)
 
 -- the run ends so by a failure of the disk alone
 pub disk_failed : (s : Status) (f : SessionFault) → EndsFor s f → s ≡ status.DiskFault → f ≡ Start fault.Disk

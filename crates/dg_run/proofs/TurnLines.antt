@@ -1,22 +1,30 @@
 -- How a turn follows from its line.
-use Rattle.std.proofs.Common.{◌≡◌, ℕ, List, ◌∷◌, Option, Some, refl, sym, ◌∙◌, ap, subst}
+use Rattle.std.proofs.Common.{◌≡◌, ℕ, false, true, IfSome, List, [], ◌∷◌, Option, None, Some, Result, Ok, Err, length, refl, sym, ◌∙◌, ap, subst, arith, ◌≤◌}
+use Rattle.std.specs.Prelude.{IfErr, IsErr, IsErrAnd}
+use Rattle.std.proofs.lemmas.Bool.{false≢true}
 use Rattle.std.specs.Option.{option_map}
+use Rattle.dg_disk.specs.Calls.{LeftByCrash}
+use Rattle.dg_disk.specs.declared.disk.Disk as disk
+use Rattle.dg_io.specs.declared.source.Source as source
 use Rattle.dg_machine.specs.declared.command.Command.{Command}
 use Rattle.dg_machine.specs.declared.reply.Head.TheVariants as head
+use Rattle.dg_machine.specs.declared.reply.Refusal.{Refusal}
 use Rattle.dg_machine.specs.declared.reply.Refusal.TheVariants as refusal
 use Rattle.dg_machine.specs.declared.reply.Reply.{Reply}
 use Rattle.dg_machine.specs.Answer.{headed}
 use Rattle.dg_graph.specs.Lines.{ScriptLine, Text, Long}
-use Rattle.dg_machine.specs.Run.{Step, Leaves_grammar, Too_long}
+use Rattle.dg_machine.specs.Run.{Step, Leaves_grammar, Too_long, is_store_read}
 use Rattle.dg_machine.specs.Script as script
-use Rattle.dg_machine.proofs.ScriptEntries.{told_other, told_asked}
-use Rattle.dg_io.specs.LinesState.{Comes}
+use Rattle.dg_machine.proofs.ScriptEntries.{told_asked, told_other, told_skip}
+use Rattle.dg_io.specs.LinesState.{Comes, LinesState, NoneLeft}
 use Rattle.dg_line.specs.declared.command.Syntax.{Syntax}
-use Rattle.dg_session.specs.Session.{WhereBothTold}
+use Rattle.dg_session.specs.Calls.{IsStopped}
 use Rattle.dg_session.specs.Parts.{Parts}
-use Rattle.dg_session.specs.Session.{Steps, Stops}
+use Rattle.dg_session.specs.Session.{HoldsImage, Steps, Stops, WhereBothTold}
+use Rattle.dg_run.specs.Calls.{MakesTurn}
 use Rattle.dg_run.specs.declared.turn.Meaning.TheVariants as meaning
-use Rattle.dg_run.specs.Turns.{Breaks, IsUnasked, Means, Replies}
+use Rattle.dg_run.specs.declared.turn.Turn.{Turn}
+use Rattle.dg_run.specs.Turns.{Breaks, IsUnasked, LeavesTurn, Means, NamesTurn, Replies, TellsFailedReads, Turns, asked}
 
 some_injective : (x y : List ℕ) → Some x ≡ Some y → x ≡ y
 some_injective x y same = cc
@@ -28,18 +36,19 @@ same_told image P each x y is then_is =
     subst (λ (z : List ℕ). P x z) (some_injective x y both) (each x)
 
 -- some entry comes first, and is given the reply
-abbrev pub IsReplied : Option (List ScriptLine) → Option (List ScriptLine) → Parts → Option (List ℕ) → Parts → Option (List ℕ) → ℕ → ℕ → Reply → Type 0
-IsReplied start after old image new now taken then_taken reply =
+abbrev pub IsReplied : Option (List ScriptLine) → Option (List ScriptLine) → Parts → Option (List ℕ) → Parts → Option (List ℕ) → ℕ → ℕ → ((List ℕ → List ℕ → Type 0) → Type 0) → Reply → Type 0
+IsReplied start after old image new now taken then_taken crashes reply =
     (e : script.Entry)
     × (option_map script.entries_of start ≡ option_map (λ more. e ∷ more) (option_map script.entries_of after))
     × WhereBothTold image now (λ x y. Replies e old x new y reply)
     × (IsUnasked e → (new ≡ old) × (now ≡ image) × (then_taken ≡ taken))
+    × crashes (LeavesTurn e old reply)
 
 -- the turn at a line that is in no command
-pub leaves_turn : (start after : Option (List ScriptLine)) (line text : List ℕ) (syntax : Syntax) (column : ℕ) (session : Parts) (image : Option (List ℕ)) (taken : ℕ) (reply : Reply)
+pub leaves_turn : (start after : Option (List ScriptLine)) (line text : List ℕ) (syntax : Syntax) (column : ℕ) (session : Parts) (image : Option (List ℕ)) (taken : ℕ) (crashes : (List ℕ → List ℕ → Type 0) → Type 0) (reply : Reply)
     → text ≡ line → column ≡ syntax.0 → Comes (Text line) start after → Means (meaning.Other syntax) text
-    → reply ≡ headed (head.Refused (refusal.Syntax column)) → IsReplied start after session image session image taken taken reply
-leaves_turn start after line text syntax column session image taken reply same at comes means is =
+    → reply ≡ headed (head.Refused (refusal.Syntax column)) → crashes (λ first left. left ≡ first) → IsReplied start after session image session image taken taken crashes reply
+leaves_turn start after line text syntax column session image taken crashes reply same at comes means is crash =
     let means_line = subst (λ (l : List ℕ). Means (meaning.Other syntax) l) same means in
     let said : reply ≡ headed (head.Refused (refusal.Syntax syntax.0)) = is ∙ ap (λ (k : ℕ). headed (head.Refused (refusal.Syntax k))) at in (
       script.No_command line,
@@ -50,38 +59,93 @@ leaves_turn start after line text syntax column session image taken reply same a
         stands,
       )),
       λ unasked. (refl, refl, refl),
+      crash,
     )
 
 -- the turn at a command
-pub command_turn : (start before after : Option (List ScriptLine)) (line text : List ℕ) (command : Command) (old new : Parts) (image now : Option (List ℕ)) (taken then_taken : ℕ) (reply : Reply)
+pub command_turn : (start before after : Option (List ScriptLine)) (line text : List ℕ) (command : Command) (old new : Parts) (image now : Option (List ℕ)) (taken then_taken : ℕ) (crashes : (List ℕ → List ℕ → Type 0) → Type 0) (reply : Reply)
     → text ≡ line → Comes (Text line) start before → Means (meaning.Command command) text
-    → Steps command before after old image new now reply → IsReplied start after old image new now taken then_taken reply
-command_turn start before after line text command old new image now taken then_taken reply same comes means steps = (
+    → Steps command before after old image new now reply crashes → IsReplied start after old image new now taken then_taken crashes reply
+command_turn start before after line text command old new image now taken then_taken crashes reply same comes means steps = (
   script.Asked command steps.0,
   told_asked start before after (Text line) command steps.0 comes
       (subst (λ (l : List ℕ). Means (meaning.Command command) l) same means) steps.1,
   steps.2,
   λ unasked. absurd unasked,
+  steps.5,
 )
 
 -- the turn at a command that the disk's failure cut off
-pub broken_turn : (start before after : Option (List ScriptLine)) (line text : List ℕ) (command : Command) (old : Parts) (image now : Option (List ℕ))
+pub broken_turn : (start before after : Option (List ScriptLine)) (line text : List ℕ) (command : Command) (old : Parts) (image now : Option (List ℕ)) (crashes : (List ℕ → List ℕ → Type 0) → Type 0)
     → text ≡ line → Comes (Text line) start before → Means (meaning.Command command) text
-    → Stops command before after old image now → Breaks (option_map script.entries_of start) (option_map script.entries_of after) old image now
-broken_turn start before after line text command old image now same comes means stops = (
+    → Stops command before after old image now crashes → Breaks (option_map script.entries_of start) (option_map script.entries_of after) old image now crashes
+broken_turn start before after line text command old image now crashes same comes means stops = (
   script.Asked command stops.0,
   told_asked start before after (Text line) command stops.0 comes
       (subst (λ (l : List ℕ). Means (meaning.Command command) l) same means) stops.1,
   stops.3,
+  stops.4,
 )
 
 -- the turn at a line that is too long
-pub long_turn : (start after : Option (List ScriptLine)) (session : Parts) (image : Option (List ℕ)) (taken : ℕ) (reply : Reply)
-    → Comes Long start after → reply ≡ headed (head.Refused refusal.LineLong) → IsReplied start after session image session image taken taken reply
-long_turn start after session image taken reply comes is = (
+pub long_turn : (start after : Option (List ScriptLine)) (session : Parts) (image : Option (List ℕ)) (taken : ℕ) (crashes : (List ℕ → List ℕ → Type 0) → Type 0) (reply : Reply)
+    → Comes Long start after → reply ≡ headed (head.Refused refusal.LineLong) → crashes (λ first left. left ≡ first) → IsReplied start after session image session image taken taken crashes reply
+long_turn start after session image taken crashes reply comes is crash = (
   script.Long_line,
   told_other start after Long script.Long_line comes refl,
   same_told image (λ x y. Replies script.Long_line session x session y reply)
       (λ x m stands. (m, subst (λ (r : Reply). Step m script.Long_line r m) (sym is) Too_long, stands)),
   λ unasked. (refl, refl, refl),
+  crash,
 )
+
+-- the turn at a line that is skipped
+pub skipped_turn : (start after : Option (List ScriptLine)) (line text : List ℕ) → text ≡ line → Comes (Text line) start after → Means meaning.Skipped text
+    → option_map script.entries_of start ≡ option_map script.entries_of after
+skipped_turn start after line text same comes means = told_skip start after (Text line) comes (subst (λ (l : List ℕ). Means meaning.Skipped l) same means)
+
+-- at the end of the script no entry is to come
+pub none_asked : (lines : Option (List ScriptLine)) → NoneLeft lines → IfSome (option_map script.entries_of lines) (λ rest. rest ≡ [])
+none_asked None none = tt
+none_asked (Some lines) none = ap script.entries_of none
+
+-- a refusal of a line says of no read that it failed
+pub tells_no_read : (reply : Reply) (r : Refusal) (P : Type 0) → reply ≡ headed (head.Refused r) → is_store_read (head.Refused r) ≡ false → is_store_read reply.head ≡ true → P
+tells_no_read reply r P is none e = absurd (false≢true (sym none ∙ ap (λ (x : Reply). is_store_read x.head) (sym is) ∙ e))
+
+-- what a `?` hands out
+pub handed_on : {A E : Type 0} (r : Result A E) (x : E) (P : E → Type 0) → IsErr r × IsErrAnd r (λ y. y ≡ x) → P x → IfErr r P
+handed_on (Ok a) x P h p = tt
+handed_on (Err e) x P h p = subst P (sym h.1) p
+
+-- ---- the turn, and why there is none
+
+module _ {S D : Type 0} {s : source.Ghosts S} {d : disk.Ghosts D} where
+  -- a turn that leaves session and disk
+  pub makes_here : {entries : Option (List script.Entry)} {session : Parts} {at : D} {then_lines : LinesState} {then_from : S} (made : Turn) → HoldsImage session (d.image at)
+      → Turns made entries (asked then_lines (s.left then_from)) session (d.image at) session (d.image at) (d.taken at) (d.taken at) (LeftByCrash d at at) → TellsFailedReads made (d.faults at) (d.faults at)
+      → NamesTurn made (length session.names) → MakesTurn s d entries session at then_lines then_from session at made
+  makes_here made holds turn reads named = record { turn = turn; held = holds; no_index = λ none. (none, refl); store_read = reads; named = named; settled = λ on. on }
+
+  -- what is cut off, in other words
+  pub stopped_in : {from : S} {old : Parts} {before : D} {then_lines : LinesState} {then_from : S} {new : Parts} {after : D} {cut : Type 0} (other : Type 0) (why : _) → (cut → other)
+      → IsStopped s d from old before then_lines then_from new after cut why → IsStopped s d from old before then_lines then_from new after other why
+  stopped_in other why tell stopped = record {
+    as_before = stopped.as_before;
+    read = stopped.read;
+    limit = stopped.limit;
+    store = λ e. tell (stopped.store e);
+    store_cause = stopped.store_cause;
+  }
+
+-- what is stopped is stopped from an earlier state of the source on
+pub stopped_on : {S D A : Type 0} (s : source.Ghosts S) (d : disk.Ghosts D) (first from : S) (old : Parts) (before : D) (then_lines : LinesState) (then_from : S) (new : Parts) (after : D) (cut : Type 0) (r : Result A _)
+    → s.faults first ≤ s.faults from → IfErr r (IsStopped s d from old before then_lines then_from new after cut) → IfErr r (IsStopped s d first old before then_lines then_from new after cut)
+stopped_on s d first from old before then_lines then_from new after cut (Ok x) counted stopped = tt
+stopped_on s d first from old before then_lines then_from new after cut (Err why) counted stopped = record {
+  as_before = stopped.as_before;
+  read = λ e. let rose = stopped.read e in omega (arith, counted, rose);
+  limit = stopped.limit;
+  store = stopped.store;
+  store_cause = stopped.store_cause;
+}

@@ -1,5 +1,8 @@
 -- What a run begins and ends with outside the program.
 use Rattle.std.specs.Prelude.{◌≡◌, ℕ, List, Option}
+use Rattle.dg_disk.specs.declared.disk.Disk as disk
+use Rattle.dg_io.specs.declared.sink.Sink as sink
+use Rattle.dg_io.specs.declared.source.Source as source
 
 -- What can be told of the source, the sink and the disk at one moment. `None` is what an object does not
 -- tell of itself.
@@ -14,17 +17,16 @@ pub record Outside : Type 0 where
   pub bytes_read : ℕ  -- the bytes read from the disk
 
 -- what these three objects tell, by the ghost members of each
-abbrev pub outside : {S K D : Type 0} → (S → Option (List ℕ)) → (S → ℕ) → (K → Option (List ℕ)) → (K → ℕ)
-    → (D → Option (List ℕ)) → (D → ℕ) → (D → ℕ) → (D → ℕ) → S → K → D → Outside
-outside left source_faults written sink_faults image disk_faults write_faults taken source sink disk = record {
-  left = left source;
-  source_faults = source_faults source;
-  written = written sink;
-  sink_faults = sink_faults sink;
-  image = image disk;
-  disk_faults = disk_faults disk;
-  write_faults = write_faults disk;
-  bytes_read = taken disk;
+abbrev pub outside : {S K D : Type 0} → source.Ghosts S → sink.Ghosts K → disk.Ghosts D → S → K → D → Outside
+outside s k d from to on = record {
+  left = s.left from;
+  source_faults = s.faults from;
+  written = k.written to;
+  sink_faults = k.faults to;
+  image = d.image on;
+  disk_faults = d.faults on;
+  write_faults = d.write_faults on;
+  bytes_read = d.taken on;
 }
 
 -- nothing was read from the source or written to the sink, and the image is as it was

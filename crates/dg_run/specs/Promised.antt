@@ -17,6 +17,7 @@ use Rattle.dg_machine.specs.MachineState.{machine_at}
 use Rattle.dg_run.specs.declared.status.Status.{Status}
 use Rattle.dg_run.specs.declared.status.Status.TheVariants as status
 use Rattle.dg_run.specs.Outside.{Outside, IsUntouched}
+use Rattle.dg_run.specs.GainedReplies.{GainsReplies}
 use Rattle.dg_run.specs.Served.{HasNoEntry, Served}
 use Rattle.dg_run.specs.Statuses.{is_unbegun}
 
@@ -39,15 +40,19 @@ pub record Completes (limits : Limits) (s : Status) (script : List ℕ) : Type 0
 
 -- What a run within these limits promises that ended so, over source, sink and disk as they were at its
 -- start; the words on its command line were of the written form, or were not, and said `--checked`, or did not.
-pub record Promised (limits : Limits) (are_written are_checked : Bool) (s : Status) (start now : Outside) : Type 0 where
+-- `crashes P` says that a crash at any moment of the run leaves an index file that has P of the one at the start, where
+-- that one was on the device.
+pub record Promised (limits : Limits) (are_written are_checked : Bool) (s : Status) (start now : Outside) (crashes : (List ℕ → List ℕ → Type 0) → Type 0) : Type 0 where
   -- The headline. Where the image stands for a history or for no index, the sink gained the texts of the
   -- replies of a run of the machine that keeps only the events and a table of handles, and the image stands
   -- for what that run came to.
-  pub served : WhereItStands start.image (λ index. Served (machine_at limits index) s start now)
+  pub served : WhereItStands start.image (λ index. Served (machine_at limits index) s start now crashes)
   -- With `--checked` no premise on the image is left but that it is one of bytes: it stands for a history or for no
   -- index, so that the headline holds over it, or the run did not begin.
   pub checked : are_checked ≡ true
       → IfSome start.image (λ image. AreBytes image → IsStanding image ⊎ (IsUntouched start now × ((is_unbegun s ≡ true) ⊎ (s ≡ status.DiskFault))))
+  -- Whatever the image is, what is written is texts of replies.
+  pub replies : GainsReplies s start.written now.written
   -- Whether the disk tells its image stays the same.
   pub told : is_some now.image ≡ is_some start.image
   -- Status 2 comes only where the words are not of the written form; such words end with it, or with want of memory to

@@ -4,19 +4,21 @@ use Rattle.std.specs.Prelude.{◌≡◌, ℕ, ◌<◌, true, List, [], ◌∷◌
 use Rattle.std.specs.Option.{option_map}
 use Rattle.dg_machine.specs.declared.reply.Reply.{Reply}
 use Rattle.dg_machine.specs.CutImage.{IsCut}
-use Rattle.dg_graph.specs.Lines.{ScriptLine, Text}
+use Rattle.dg_graph.specs.Lines.{Text}
 use Rattle.dg_machine.specs.MachineState.{MachineState}
 use Rattle.dg_machine.specs.CommandGrammar.{CountIsInRange, IsColumn}
 use Rattle.dg_machine.specs.Run.{Step, is_store_read}
 use Rattle.dg_machine.specs.Script as script
-use Rattle.dg_io.specs.LinesState.{LinesState, told, Comes}
-use Rattle.dg_session.specs.Session.{WhereBothTold, StandsFor}
+use Rattle.dg_io.specs.LinesState.{LinesState, told}
+use Rattle.dg_session.specs.Session.{LeavesAnswered, WhereBothTold, StandsFor}
 use Rattle.dg_session.specs.Parts.{Parts}
+use Rattle.dg_session.specs.ReplyNames.{ReplyNamesAreThere}
 use Rattle.dg_disk.specs.Counts.{Rose as DiskRose}
 use Rattle.dg_io.specs.Told.{Gives, CountRose}
 use Rattle.dg_run.specs.declared.status.Status.{Status}
 use Rattle.dg_run.specs.declared.status.Status.TheVariants as status
 use Rattle.dg_run.specs.Outside.{Outside}
+use Rattle.dg_run.specs.GainedReplies.{GainsReplies}
 use Rattle.dg_run.specs.Served.{HasNoEntry, Served}
 use Rattle.dg_run.specs.Statuses.{IsBegun}
 use Rattle.dg_run.specs.declared.turn.Meaning.{Meaning}
@@ -52,17 +54,27 @@ IsUnasked (script.Asked c lines) = ⊥
 IsUnasked (script.No_command line) = Unit {0}
 IsUnasked script.Long_line = Unit {0}
 
+-- what a crash within the turn at the entry may leave, where it has this reply: a line that asks for nothing leaves the image
+abbrev pub LeavesTurn : script.Entry → Parts → Reply → List ℕ → List ℕ → Type 0
+LeavesTurn (script.Asked c lines) old reply = LeavesAnswered c lines old reply
+LeavesTurn (script.No_command line) old reply = λ before left. left ≡ before
+LeavesTurn script.Long_line old reply = λ before left. left ≡ before
+
 -- what the turn says of the entries to come, of the session and its image, and of the bytes read of the disk, before it
--- and after it: a turn with no reply, or at a line that asks for nothing, changes and reads nothing over any image
-abbrev pub Turns : Turn → Option (List script.Entry) → Option (List script.Entry) → Parts → Option (List ℕ) → Parts → Option (List ℕ) → ℕ → ℕ → Type 0
-Turns turn.End before after old image new now taken then_taken =
+-- and after it, and of what a crash within it leaves: a turn with no reply, or at a line that asks for nothing, changes and
+-- reads nothing over any image
+abbrev pub Turns : Turn → Option (List script.Entry) → Option (List script.Entry) → Parts → Option (List ℕ) → Parts → Option (List ℕ) → ℕ → ℕ → ((List ℕ → List ℕ → Type 0) → Type 0) → Type 0
+Turns turn.End before after old image new now taken then_taken crashes =
     IfSome before (λ rest. rest ≡ []) × (before ≡ after) × (new ≡ old) × (now ≡ image) × (then_taken ≡ taken)
-Turns turn.Skipped before after old image new now taken then_taken =
+    × crashes (λ first left. left ≡ first)
+Turns turn.Skipped before after old image new now taken then_taken crashes =
     (before ≡ after) × (new ≡ old) × (now ≡ image) × (then_taken ≡ taken)
-Turns (turn.Replied reply) before after old image new now taken then_taken =
+    × crashes (λ first left. left ≡ first)
+Turns (turn.Replied reply) before after old image new now taken then_taken crashes =
     (e : script.Entry) × (before ≡ option_map (λ more. e ∷ more) after)
     × WhereBothTold image now (λ x y. Replies e old x new y reply)
     × (IsUnasked e → (new ≡ old) × (now ≡ image) × (then_taken ≡ taken))
+    × crashes (LeavesTurn e old reply)
 
 -- a reply that says that a read of the index file failed comes only where a call of the disk did
 abbrev pub TellsFailedReads : Turn → ℕ → ℕ → Type 0
@@ -70,11 +82,22 @@ TellsFailedReads turn.End before after = Unit {0}
 TellsFailedReads turn.Skipped before after = Unit {0}
 TellsFailedReads (turn.Replied reply) before after = is_store_read reply.head ≡ true → DiskRose before after
 
--- the disk failed within the first of the entries to come, and the image is that of a cut
-abbrev pub Breaks : Option (List script.Entry) → Option (List script.Entry) → Parts → Option (List ℕ) → Option (List ℕ) → Type 0
-Breaks before after old image now =
+-- from every state that the session stands for over its image, the bytes are those of a cut within the entry
+abbrev pub CutsEntry : script.Entry → Parts → List ℕ → List ℕ → Type 0
+CutsEntry e old image now = (m : MachineState) → StandsFor old image m → IsCut m e image now
+
+-- the names in the reply of a turn are among so many
+abbrev pub NamesTurn : Turn → ℕ → Type 0
+NamesTurn turn.End name_count = Unit {0}
+NamesTurn turn.Skipped name_count = Unit {0}
+NamesTurn (turn.Replied reply) name_count = ReplyNamesAreThere name_count reply
+
+-- the disk failed within the first of the entries to come, and the image is that of a cut, as is what a crash leaves
+abbrev pub Breaks : Option (List script.Entry) → Option (List script.Entry) → Parts → Option (List ℕ) → Option (List ℕ) → ((List ℕ → List ℕ → Type 0) → Type 0) → Type 0
+Breaks before after old image now crashes =
     (e : script.Entry) × (before ≡ option_map (λ more. e ∷ more) after)
-    × WhereBothTold image now (λ x y. (m : MachineState) → StandsFor old x m → IsCut m e x y)
+    × WhereBothTold image now (λ x y. CutsEntry e old x y)
+    × crashes (λ first left. CutsEntry e old first left)
 
 -- each turn but the last takes something
 abbrev pub TurnTakes : Turn → ℕ → ℕ → Type 0
@@ -88,18 +111,6 @@ EndsAt turn.End r = IsTrue r.ended
 EndsAt turn.Skipped r = Unit {0}
 EndsAt (turn.Replied reply) r = Unit {0}
 
--- the same where the first line was just taken: before it the entries were those of it and the
--- lines to come
-abbrev pub TurnsAt : Turn → List ℕ → Option (List ScriptLine) → Option (List ScriptLine) → Parts → Option (List ℕ) → Parts → Option (List ℕ) → ℕ → ℕ → Type 0
-TurnsAt turn line before after old image new now taken then_taken =
-    (start : Option (List ScriptLine)) → Comes (Text line) start before
-    → Turns turn (option_map script.entries_of start) (option_map script.entries_of after) old image new now taken then_taken
-
-abbrev pub BreaksAt : List ℕ → Option (List ScriptLine) → Option (List ScriptLine) → Parts → Option (List ℕ) → Option (List ℕ) → Type 0
-BreaksAt line before after old image now =
-    (start : Option (List ScriptLine)) → Comes (Text line) start before
-    → Breaks (option_map script.entries_of start) (option_map script.entries_of after) old image now
-
 -- the turn is not the last
 abbrev pub GoesOnward : Turn → Type 0
 GoesOnward turn.End = ⊥
@@ -107,8 +118,9 @@ GoesOnward turn.Skipped = Unit {0}
 GoesOnward (turn.Replied reply) = Unit {0}
 
 -- What the run from a started session comes to: how it ended, and what it leaves of source, sink and disk.
-pub record ScriptAnswered (limit : ℕ) (session : Parts) (s : Status) (start now : Outside) : Type 0 where
-  pub served : (image : List ℕ) (m : MachineState) → start.image ≡ Some image → StandsFor session image m → Served m s start now
+pub record ScriptAnswered (limit : ℕ) (session : Parts) (s : Status) (start now : Outside) (crashes : (List ℕ → List ℕ → Type 0) → Type 0) : Type 0 where
+  pub served : (image : List ℕ) (m : MachineState) → start.image ≡ Some image → StandsFor session image m → Served m s start now crashes
+  pub replies : GainsReplies s start.written now.written
   pub told : is_some now.image ≡ is_some start.image
   pub begun : IsBegun s
   pub done : s ≡ status.Done → IfSome start.left (λ script. length script < limit)

@@ -1,10 +1,12 @@
 //! The run: the words, a session over the disk, and each reply before the next line is read.
-ghost use Rattle.std.specs.Prelude.{◌≡◌, IfSome, map, string_bytes, true};
+ghost use Rattle.std.specs.Prelude.{◌≢◌, map, string_bytes, true};
+ghost use Rattle.dg_disk.specs.Calls.{IsOnDevice, LeftByCrash, StaysOnDevice};
 ghost use Rattle.dg_machine.specs.MachineState.{IsWithin};
-ghost use Rattle.dg_start.specs.StoredHistory.{IsHeldBy};
+ghost use Rattle.dg_session.specs.Session.{HoldsImage};
 ghost use Rattle.dg_run.specs.Outside.{outside};
 ghost use Rattle.dg_words.specs.WrittenForm.{is_checked, is_written_form};
 ghost use Rattle.dg_run.specs.Promised.{Promised};
+ghost use Rattle.dg_run.specs.Statuses.{IsBegun};
 ghost use Rattle.dg_run.specs.Turns.{ScriptAnswered};
 
 use crate::status::Status;
@@ -22,6 +24,10 @@ use std::thread::Threads;
 /// Reads the words, and carries out the commands of the script one by one over the index file that
 /// the disk holds, which is verified first where the words say `--checked`. Each reply is written before
 /// the next line is read. It is `serve_with` at the standard limits.
+///
+/// Where the index file is on the device at the start, a crash at any moment leaves one that stands for the history of
+/// a state of the run, with the two exceptions of `specs/Served.antt`. Behind a run that began and did not end by the
+/// disk, what the file holds is on the device.
 pub fn serve<R: Threads + Sync, S: Source, K: Sink, D: Disk>(
     rt: &R,
     alloc: Global,
@@ -32,8 +38,10 @@ pub fn serve<R: Threads + Sync, S: Source, K: Sink, D: Disk>(
 ) -> Status
     ensures promise { Promised (record { script_bytes = SCRIPT_BYTES_MAX; events = EVENTS_MAX; file_bytes = FILE_BYTES_MAX; first_handle = FIRST_HANDLE })
         (is_written_form (map string_bytes words.now)) (is_checked (map string_bytes words.now)) result
-        (outside S.left S.faults K.written K.faults D.image D.faults D.write_faults D.taken source.old sink.old disk.old)
-        (outside S.left S.faults K.written K.faults D.image D.faults D.write_faults D.taken source.new sink.new disk.new) }
+        (outside S.Source K.Sink D.Disk source.old sink.old disk.old)
+        (outside S.Source K.Sink D.Disk source.new sink.new disk.new)
+        (LeftByCrash D.Disk disk.old disk.new) }
+    ensures on_device { IsBegun result → result ≢ Status.DiskFault → IsOnDevice D.Disk disk.new }
 {
     serve_with(rt, alloc, words, Limits::standard(), source, sink, disk)
 }
@@ -50,8 +58,10 @@ pub fn serve_with<R: Threads + Sync, S: Source, K: Sink, D: Disk>(
 ) -> Status
     requires limits { IsWithin limits }
     ensures promise { Promised limits (is_written_form (map string_bytes words.now)) (is_checked (map string_bytes words.now)) result
-        (outside S.left S.faults K.written K.faults D.image D.faults D.write_faults D.taken source.old sink.old disk.old)
-        (outside S.left S.faults K.written K.faults D.image D.faults D.write_faults D.taken source.new sink.new disk.new) }
+        (outside S.Source K.Sink D.Disk source.old sink.old disk.old)
+        (outside S.Source K.Sink D.Disk source.new sink.new disk.new)
+        (LeftByCrash D.Disk disk.old disk.new) }
+    ensures on_device { IsBegun result → result ≢ Status.DiskFault → IsOnDevice D.Disk disk.new }
 {
     match read_words(alloc, words) {
         Ok(Some(read)) => run_session(rt, alloc, read.checked, limits, source, sink, disk),
@@ -72,8 +82,10 @@ fn run_session<R: Threads + Sync, S: Source, K: Sink, D: Disk>(
 ) -> Status
     requires limits { IsWithin limits }
     ensures promise { Promised limits true checked result
-        (outside S.left S.faults K.written K.faults D.image D.faults D.write_faults D.taken source.old sink.old disk.old)
-        (outside S.left S.faults K.written K.faults D.image D.faults D.write_faults D.taken source.new sink.new disk.new) }
+        (outside S.Source K.Sink D.Disk source.old sink.old disk.old)
+        (outside S.Source K.Sink D.Disk source.new sink.new disk.new)
+        (LeftByCrash D.Disk disk.old disk.new) }
+    ensures on_device { IsBegun result → result ≢ Status.DiskFault → IsOnDevice D.Disk disk.new }
 {
     // Its clause says that an image comes to one beginning.
     law_begins_are_determined();
@@ -103,10 +115,12 @@ fn answer_script<R: Threads + Sync, S: Source, K: Sink, D: Disk>(
     sink: &mut K,
     disk: &mut D,
 ) -> Status
-    requires { IfSome (D.image disk.old) (λ image. IsHeldBy session.old.parts.index session.old.parts.names image) }
+    requires { HoldsImage session.old.parts (D.image disk.old) }
     ensures answered { ScriptAnswered limit session.old.parts result
-        (outside S.left S.faults K.written K.faults D.image D.faults D.write_faults D.taken source.old sink.old disk.old)
-        (outside S.left S.faults K.written K.faults D.image D.faults D.write_faults D.taken source.new sink.new disk.new) }
+        (outside S.Source K.Sink D.Disk source.old sink.old disk.old)
+        (outside S.Source K.Sink D.Disk source.new sink.new disk.new)
+        (LeftByCrash D.Disk disk.old disk.new) }
+    ensures on_device { result ≢ Status.DiskFault → StaysOnDevice D.Disk disk.old disk.new }
 {
     let mut lines = Lines::new(limit);
     loop {

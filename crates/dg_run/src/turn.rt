@@ -1,14 +1,13 @@
 //! One turn over the script: a line, the command that it is, and its reply.
-ghost use Rattle.std.specs.Prelude.{◌≡◌, None, IfOk, IfSome, OnOk, IsErrOf};
-ghost use Rattle.dg_disk.specs.Counts.{Rose as DiskRose};
-ghost use Rattle.dg_disk.specs.Frame.{GoesOn};
-ghost use Rattle.dg_io.specs.Frame.{Advances};
-ghost use Rattle.dg_io.specs.Told.{CountRose};
-ghost use Rattle.dg_io.specs.LinesState.{told, to_come, NeedsByte};
+ghost use Rattle.std.specs.Prelude.{◌≡◌, ◌≢◌, IfErr, IfOk};
+ghost use Rattle.dg_disk.specs.Calls.{LeftByCrash, ReadsDisk, UsesDisk};
+ghost use Rattle.dg_io.specs.Calls.{TakesFrom};
+ghost use Rattle.dg_io.specs.LinesState.{told, to_come};
 ghost use Rattle.dg_machine.specs.Answer.{headed};
-ghost use Rattle.dg_session.specs.Session.{IsAsBefore};
-ghost use Rattle.dg_start.specs.StoredHistory.{IsHeldBy};
-ghost use Rattle.dg_run.specs.Turns.{Breaks, BreaksAt, EndsAt, TurnTakes, GoesOnward, HasRanges, Means, TellsFailedReads, Turns, TurnsAt, asked};
+ghost use Rattle.dg_session.specs.Calls.{IsStopped};
+ghost use Rattle.dg_session.specs.Session.{HoldsImage};
+ghost use Rattle.dg_run.specs.Calls.{AtLine, MakesTurn};
+ghost use Rattle.dg_run.specs.Turns.{Breaks, EndsAt, GoesOnward, HasRanges, Means, TurnTakes, asked};
 
 use dg_disk::Disk;
 use dg_io::{Line, LineFault, Lines, Source};
@@ -57,25 +56,19 @@ pub fn next_turn<R: Threads + Sync, S: Source, D: Disk>(
     source: &mut S,
     disk: &mut D,
 ) -> Result<Turn, Stop>
-    requires { IfSome (D.image disk.old) (λ image. IsHeldBy session.old.parts.index session.old.parts.names image) }
-    ensures turn { IfOk result (λ turn. Turns turn (asked lines.old (S.left source.old)) (asked lines.new (S.left source.new)) session.old.parts (D.image disk.old) session.new.parts (D.image disk.new) (D.taken disk.old) (D.taken disk.new)) }
-    ensures held { OnOk result (IfSome (D.image disk.new) (λ image. IsHeldBy session.new.parts.index session.new.parts.names image)) }
-    ensures no_index { OnOk result (session.new.parts.index ≡ None → (session.old.parts.index ≡ None) × (D.image disk.new ≡ D.image disk.old)) }
+    requires { HoldsImage session.old.parts (D.image disk.old) }
+    ensures turn { IfOk result (MakesTurn S.Source D.Disk (asked lines.old (S.left source.old)) session.old.parts disk.old
+        lines.new source.new session.new.parts disk.new) }
     ensures falls { IfOk result (λ turn. TurnTakes turn (to_come lines.old) (to_come lines.new)) }
     ensures end { IfOk result (λ turn. EndsAt turn lines.new) }
-    ensures store_read { IfOk result (λ turn. TellsFailedReads turn (D.faults disk.old) (D.faults disk.new)) }
-
-    // why it stops
-    ensures stop { IsErrOf result Stop.Read → IsAsBefore session.old.parts (D.image disk.old) session.new.parts (D.image disk.new) }
-    ensures stop_limit { IsErrOf result Stop.Limit → IsAsBefore session.old.parts (D.image disk.old) session.new.parts (D.image disk.new) }
-    ensures store { IsErrOf result Stop.Store → Breaks (asked lines.old (S.left source.old)) (asked lines.new (S.left source.new)) session.old.parts (D.image disk.old) (D.image disk.new) }
-    ensures read { IsErrOf result Stop.Read → CountRose (S.faults source.old) (S.faults source.new) }
-    ensures limit { IsErrOf result Stop.Limit → (lines.new.taken ≡ lines.new.limit) × NeedsByte lines.new }
-    ensures store_cause { IsErrOf result Stop.Store → DiskRose (D.write_faults disk.old) (D.write_faults disk.new) }
+    ensures stops { IfErr result (IsStopped S.Source D.Disk source.old session.old.parts disk.old lines.new source.new session.new.parts disk.new
+        (Breaks (asked lines.old (S.left source.old)) (asked lines.new (S.left source.new)) session.old.parts (D.image disk.old) (D.image disk.new)
+        (LeftByCrash D.Disk disk.old disk.new))) }
+    ensures unwritten { IfErr result (λ why. why ≢ Stop.Store → ReadsDisk D.Disk disk.old disk.new) }
 
     // what it takes and leaves
-    ensures lines { Advances lines.old (S.left source.old) (S.faults source.old) lines.new (S.left source.new) (S.faults source.new) }
-    ensures disk { GoesOn D.image D.faults D.write_faults disk.old disk.new }
+    ensures lines { TakesFrom S.Source lines.old source.old lines.new source.new }
+    ensures disk { UsesDisk D.Disk disk.old disk.new }
 {
     match lines.next(source) {
         Ok(Line::End) => Ok(Turn::End),
@@ -95,24 +88,19 @@ fn turn_of<R: Threads + Sync, S: Source, D: Disk>(
     source: &mut S,
     disk: &mut D,
 ) -> Result<Turn, Stop>
-    requires { IfSome (D.image disk.old) (λ image. IsHeldBy session.old.parts.index session.old.parts.names image) }
-    ensures turn { IfOk result (λ turn. TurnsAt turn lines.old.text (told lines.old (S.left source.old)) (told lines.new (S.left source.new)) session.old.parts (D.image disk.old) session.new.parts (D.image disk.new) (D.taken disk.old) (D.taken disk.new)) }
+    requires { HoldsImage session.old.parts (D.image disk.old) }
+    ensures turn { AtLine lines.old.text (told lines.old (S.left source.old)) (λ entries. IfOk result
+        (MakesTurn S.Source D.Disk entries session.old.parts disk.old lines.new source.new session.new.parts disk.new)) }
     ensures goes_on { IfOk result (λ turn. GoesOnward turn) }
-    ensures store_read { IfOk result (λ turn. TellsFailedReads turn (D.faults disk.old) (D.faults disk.new)) }
-    ensures held { OnOk result (IfSome (D.image disk.new) (λ image. IsHeldBy session.new.parts.index session.new.parts.names image)) }
-    ensures no_index { OnOk result (session.new.parts.index ≡ None → (session.old.parts.index ≡ None) × (D.image disk.new ≡ D.image disk.old)) }
-
-    // why it stops
-    ensures stop { IsErrOf result Stop.Read → IsAsBefore session.old.parts (D.image disk.old) session.new.parts (D.image disk.new) }
-    ensures stop_limit { IsErrOf result Stop.Limit → IsAsBefore session.old.parts (D.image disk.old) session.new.parts (D.image disk.new) }
-    ensures store { IsErrOf result Stop.Store → BreaksAt lines.old.text (told lines.old (S.left source.old)) (told lines.new (S.left source.new)) session.old.parts (D.image disk.old) (D.image disk.new) }
-    ensures read { IsErrOf result Stop.Read → CountRose (S.faults source.old) (S.faults source.new) }
-    ensures limit { IsErrOf result Stop.Limit → (lines.new.taken ≡ lines.new.limit) × NeedsByte lines.new }
-    ensures store_cause { IsErrOf result Stop.Store → DiskRose (D.write_faults disk.old) (D.write_faults disk.new) }
+    ensures stops { AtLine lines.old.text (told lines.old (S.left source.old)) (λ entries. IfErr result
+        (IsStopped S.Source D.Disk source.old session.old.parts disk.old lines.new source.new session.new.parts disk.new
+        (Breaks entries (asked lines.new (S.left source.new)) session.old.parts (D.image disk.old) (D.image disk.new)
+        (LeftByCrash D.Disk disk.old disk.new)))) }
+    ensures unwritten { IfErr result (λ why. why ≢ Stop.Store → ReadsDisk D.Disk disk.old disk.new) }
 
     // what it takes and leaves
-    ensures lines { Advances lines.old (S.left source.old) (S.faults source.old) lines.new (S.left source.new) (S.faults source.new) }
-    ensures disk { GoesOn D.image D.faults D.write_faults disk.old disk.new }
+    ensures lines { TakesFrom S.Source lines.old source.old lines.new source.new }
+    ensures disk { UsesDisk D.Disk disk.old disk.new }
 {
     match meaning_of(lines.text()) {
         Meaning::Skipped => Ok(Turn::Skipped),

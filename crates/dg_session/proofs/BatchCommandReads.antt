@@ -45,7 +45,7 @@ use Rattle.dg_session.proofs.PartStates.{is_of}
 use Rattle.dg_session.proofs.SessionSteps.{refused_not_read}
 use Rattle.dg_session.specs.BatchCommand.{barred, command_with}
 use Rattle.dg_batch.specs.BatchLines.{IsBarred, ReadsBatch, first_refusal}
-use Rattle.dg_session.specs.Damage.{Batch_of, DamageIn, DamageIs, MeetsNone, NamesBatchDamage}
+use Rattle.dg_session.specs.Damage.{Batch_of, DamageIn, DamageIs, MeetsNone, NamesBatchDamage, reads_for}
 use Rattle.dg_session.specs.declared.batch_command.BatchCommand.{BatchCommand}
 use Rattle.dg_session.specs.declared.batch_command.BatchCommand.TheVariants.{Load, Append}
 use Rattle.dg_append.specs.declared.batch.Batch.{Batch}
@@ -237,3 +237,8 @@ module _ (from : Origin) (got : List ScriptLine) (p : Parts) (count limit : ℕ)
         there,
         subst (λ (n : ℕ). MeetsNoDamage told o n count) a.known_is (subst (λ (n : ℕ). MeetsNoDamage told o b.known n) many d.whole),
       )
+
+-- what a command that adds a batch reads records for
+pub reads_of : (which : BatchCommand) (count : ℕ) → reads_for (command_with which count) ≡ Batch_of count
+reads_of Load count = refl
+reads_of Append count = refl

@@ -336,7 +336,7 @@ module _ (from : Origin) (got : List ScriptLine) (p : Parts) (count limit : ℕ)
   free_of : (image : List ℕ) (m : MachineState) → StandsFor p image m → refused m (adding from count) got ≡ None
   free_of image m s = sym (refused_is p image m (adding from count) got s) ∙ a.not_refused
 
-  steps_as : (image : List ℕ) (m : MachineState) → StandsFor p image m → (x : Answered) → answer m (adding from count) got no_plan ≡ x → Step m (Asked (adding from count) got) x.reply x.state
+  pub steps_as : (image : List ℕ) (m : MachineState) → StandsFor p image m → (x : Answered) → answer m (adding from count) got no_plan ≡ x → Step m (Asked (adding from count) got) x.reply x.state
   steps_as image m s x is = accepted_steps m (adding from count) got no_plan x (free_of image m s) (unplanned from m count) is
 
   -- ---- the batch may be added
@@ -412,7 +412,7 @@ module _ (from : Origin) (got : List ScriptLine) (p : Parts) (count limit : ℕ)
   many_of : (image : List ℕ) (m : MachineState) (z : History) → IsOf p free.index image m z → event_total free.index.batches ≡ length (events_of z)
   many_of image m z h = ap (λ (x : Opening). event_total x.batches) h.opened ∙ count_is z h.stands.legal
 
-  completed_is : (image : List ℕ) (m : MachineState) (z : History) (due : Result (List Event) (ℕ × ℕ)) → IsOf p free.index image m z → ComeTo free.index c.now.graph b due
+  pub completed_is : (image : List ℕ) (m : MachineState) (z : History) (due : Result (List Event) (ℕ × ℕ)) → IsOf p free.index image m z → ComeTo free.index c.now.graph b due
       → completed 1 (earliest_next (span_of (events_of z))) (replay (events_of z)) (changes_after (names_of z) Due) ≡ due
   completed_is image m z due h come =
       let time : earliest_in 0 free.index.batches ≡ earliest_next (span_of (events_of z)) =
@@ -486,19 +486,19 @@ module _ (from : Origin) (got : List ScriptLine) (p : Parts) (count limit : ℕ)
         ∙ ap (λ (k : ℕ). refuse m (refusal.FileFull k m.limits.file_bytes)) (sym needed) ∙ ap (λ (k : ℕ). refuse m (refusal.FileFull n k)) (sym limits))
 
     -- the first line of the reply
-    abbrev said : Reply
+    abbrev pub said : Reply
     said = headed (head_over from (replay_from c.now.graph events) (length events) (event_total free.index.batches + length events) (last_time_from 0 events))
 
     -- there is room: the answer, and the legal history with the batch
-    record IsAdded (m : MachineState) (z : History) : Type 0 where
-      answered : answer m (adding from count) got no_plan ≡ record { reply = said; state = record m { index = Some (with_batch z New) } }
-      legal : IsLegal (with_batch z New)
+    pub record IsAdded (m : MachineState) (z : History) : Type 0 where
+      pub answered : answer m (adding from count) got no_plan ≡ record { reply = said; state = record m { index = Some (with_batch z New) } }
+      pub legal : IsLegal (with_batch z New)
       names : c.names ≡ names_of (with_batch z New)
       graph : replay_from c.now.graph events ≡ replay (events_of (with_batch z New))
       recent : recent_behind free.index.params (event_total free.index.batches) c.recent.items events ≡ recent_of z.params (events_of (with_batch z New))
       rises : Rises (earliest_next (span_of (events_of z))) events
 
-    is_added : needed_for free.index segment ≤ limit → (image : List ℕ) → told ≡ Some image → (m : MachineState) (z : History) → StandsFor p image m → IsOf p free.index image m z → IsAdded m z
+    pub is_added : needed_for free.index segment ≤ limit → (image : List ℕ) → told ≡ Some image → (m : MachineState) (z : History) → StandsFor p image m → IsOf p free.index image m z → IsAdded m z
     is_added fits image at m z s h =
         let next : IsNext z Due b.changes.items c.names events = is_next image m z h in
         let same : batch_next z c.names events ≡ New = ap (λ (k : ℕ). batch_with k c.names events) (sym (known_of image m z h)) in

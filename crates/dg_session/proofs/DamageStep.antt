@@ -1,6 +1,6 @@
 -- Which reply tells of a damage, which damage it is, and where there is none.
 use Rattle.std.proofs.Common.{◌≡◌, ℕ, Bool, true, false, List, [], ◌∷◌, Option, Some, None, Result, Ok, Err, length, refl, sym, ◌∙◌, subst}
-use Rattle.std.specs.Prelude.{◌||◌, IfSome, OnOk, is_some}
+use Rattle.std.specs.Prelude.{◌||◌, IfSome, IsErr, OnOk, is_some}
 use Rattle.std.proofs.lemmas.Bool.{false≢true}
 use Rattle.dg_graph.specs.declared.element.Column.{Column}
 use Rattle.dg_graph.specs.declared.element.Columns.{Columns}
@@ -33,7 +33,6 @@ use Rattle.dg_session.specs.Damage.{DamageIn, DamageIs, Graphs, damage_told, IsM
 use Rattle.dg_batch.specs.Halt.{retrieval_halt}
 use Rattle.dg_session.specs.Parts.{Parts}
 use Rattle.dg_ask.specs.HeldIndex.{points_over}
-use Rattle.dg_session.specs.Reads.{reply_head}
 use Rattle.dg_session.specs.Session.{Accepts, ComesTo, Denies, damage_of, is_of_read}
 
 -- ---- no damage
@@ -52,7 +51,7 @@ none_refused None P e = tt
 none_refused (Some r) P e = absurd (false≢true (sym e))
 
 -- nor does a reply that is no refusal
-accepted_tells_none : (c : Command) (p : Parts) (image : Option (List ℕ)) (h : Head) → is_refusal h ≡ false → DamageIs c p image h
+pub accepted_tells_none : (c : Command) (p : Parts) (image : Option (List ℕ)) (h : Head) → is_refusal h ≡ false → DamageIs c p image h
 accepted_tells_none c p image h e = none_refused (refusal_of h) (λ d. IsMetBy (reads_for c) p image d.0 d.1) e
 
 not_true : (b : Bool) → (b ≡ true → ⊥) → b ≡ false
@@ -114,14 +113,8 @@ node_damage_in c p image node cols retrieval_fault.Disk is damage = tt
 node_damage_in c p image node cols retrieval_fault.Memory is damage = tt
 node_damage_in c p image node cols (retrieval_fault.Damaged key col) is damage = subst (λ (x : ReadsFor). IsMetBy x p image key col) (sym is) damage
 
--- the reply, where there is one
-pub damage_in_reply : (c : Command) (p : Parts) (image : Option (List ℕ)) (r : Result Reply Halt) (h : Head) → reply_head r ≡ Some h → DamageIn c p image r → DamageIs c p image h
-damage_in_reply c p image r h is damage = subst (λ (o : Option Head). IfSome o (λ x. DamageIs c p image x)) is damage
-
 -- ---- what is read, and is not damaged
 
--- a retrieval over what the session has in memory
--- a node that is to be held
 -- a command that reads no records
 pub reads_undamaged : (c : Command) (p : Parts) (image : Option (List ℕ)) → (needs c).reads ≡ false → MeetsNone (reads_for c) p image
 reads_undamaged (command.Create l k function) p image e = tt
@@ -141,11 +134,12 @@ reads_undamaged command.Verify p image e = tt
 reads_undamaged command.Tree p image e = tt
 reads_undamaged (command.Workload seed count) p image e = absurd (false≢true (sym e))
 
--- the command that comes to this
-pub met_none : {A E : Type 0} (c x : Command) (p : Parts) (image : Option (List ℕ)) (r : Result A E) → c ≡ x → OnOk r (MeetsNone (reads_for x) p image) → OnOk r (MeetsNone (reads_for c) p image)
-met_none c x p image r is whole = subst (λ y. OnOk r (MeetsNone (reads_for y) p image)) (sym is) whole
-
 -- the command that reads nothing that may be damaged
 pub met_nothing : {A E : Type 0} (c : Command) (p : Parts) (image : Option (List ℕ)) (r : Result A E) → MeetsNone (reads_for c) p image → OnOk r (MeetsNone (reads_for c) p image)
 met_nothing c p image (Ok x) none = none
 met_nothing c p image (Err e) none = tt
+
+-- one that is refused or stopped owes nothing of it
+pub none_met : {A E : Type 0} (r : Result A E) (P : Type 0) → IsErr r → OnOk r P
+none_met (Ok x) P h = cc
+none_met (Err e) P h = tt

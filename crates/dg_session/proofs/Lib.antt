@@ -26,3 +26,8 @@ pub mod GraphNames
 pub mod StartReads
 pub mod LimitStops
 pub mod ReplyNames
+pub mod CommandDisks
+pub mod CommandCrashes
+pub mod CreationCrashes
+pub mod BatchCommandCrashes
+pub mod CarriedSteps

@@ -3,7 +3,6 @@ use Rattle.std.proofs.Common.{◌≡◌, ℕ, Bool, true, false, not, List, Opti
 use Rattle.std.specs.Prelude.{◌&&◌, is_some}
 use Rattle.std.proofs.lemmas.Bool.{false≢true}
 use Rattle.dg_graph.specs.Lines.{ScriptLine}
-use Rattle.dg_machine.proofs.Refusals.{store_read_refuses}
 use Rattle.dg_machine.specs.declared.command.Command.{Command}
 use Rattle.dg_machine.specs.declared.reply.Head.{Head}
 use Rattle.dg_machine.specs.declared.reply.Head.TheVariants as head
@@ -15,14 +14,13 @@ use Rattle.dg_machine.specs.Run.{is_store_read}
 use Rattle.dg_session.proofs.SessionRetrievals.{every_some}
 use Rattle.dg_batch.specs.declared.halt.Halt.{Halt}
 use Rattle.dg_batch.specs.declared.halt.Halt.TheVariants as halt
-use Rattle.dg_batch.specs.declared.stop.Stop.{Stop}
 use Rattle.dg_batch.specs.declared.stop.Stop.TheVariants as stop
 use Rattle.dg_fold.specs.BytesRead.{TakesAtMost}
 use Rattle.dg_machine.specs.MachineState.{MachineState}
 use Rattle.std.specs.List.{sum}
 use Rattle.dg_session.specs.Parts.{Parts}
-use Rattle.dg_session.specs.Reads.{Reads, ReadsIn, ReadsOlder, ReadsToStop, reply_head}
-use Rattle.dg_session.specs.Session.{Accepts, ComesTo, Denies, StandsFor, is_at_hand}
+use Rattle.dg_session.specs.Reads.{Reads, ReadsIn, ReadsOlder}
+use Rattle.dg_session.specs.Session.{ComesTo, Denies, StandsFor, is_at_hand}
 
 -- ---- bytes
 
@@ -43,18 +41,6 @@ reads_nothing c p image r before after no_reads same = by r
           (λ bytes m s singles are. let most : TakesAtMost (sum singles) before before = omega arith in subst (TakesAtMost (sum singles) before) (sym same) most);
       nothing = λ e. same;
     }
-
-some_is : (x y : Head) → (let o : Option Head = Some x in o) ≡ Some y → x ≡ y
-some_is x y e = cc
-
-pub reads_in_reply : (c : Command) (p : Parts) (image : Option (List ℕ)) (r : Result Reply Halt) (h : Head) (before after : ℕ) → reply_head r ≡ Some h → ReadsIn c p image r before after → Reads c p image h before after
-reads_in_reply c p image (Ok reply) h before after is reads = subst (λ x. Reads c p image x before after) (some_is reply.head h is) reads
-reads_in_reply c p image (Err (halt.Refusal r)) h before after is reads = subst (λ x. Reads c p image x before after) (some_is (head.Refused r) h is) reads
-reads_in_reply c p image (Err (halt.Stop s)) h before after is reads = let e : (let x : Option Head = None in x) ≡ Some h = is in cc
-
--- what it has read where it stops
-pub reads_stopped : (c : Command) (p : Parts) (image : Option (List ℕ)) (r : Result Reply Halt) (s : Stop) (before after : ℕ) → r ≡ Err (halt.Stop s) → ReadsIn c p image r before after → ReadsToStop c p image s before after
-reads_stopped c p image r s before after is reads = subst (λ (x : Result Reply Halt). ReadsIn c p image x before after) is reads
 
 -- ---- at hand
 
@@ -79,13 +65,6 @@ pub fails_no_read : (c : Command) (got : List ScriptLine) (p : Parts) (before : 
 fails_no_read c got p before q after r no_reads comes is =
     let d : Denies c got p before q after refusal.StoreRead = subst (ComesTo c got p before q after) is comes in
     let may = d.reads refl in false≢true (sym no_reads ∙ may.0)
-
--- a reply that is no refusal does not say that a read failed
-pub accepted_reads : (c : Command) (got : List ScriptLine) (p : Parts) (before : Option (List ℕ)) (q : Parts) (after : Option (List ℕ)) (r : Result Reply Halt) (reply : Reply)
-    → ComesTo c got p before q after r → r ≡ Ok reply → is_store_read reply.head ≡ true → ⊥
-accepted_reads c got p before q after r reply comes is e =
-    let a : Accepts c got p before q after reply = subst (ComesTo c got p before q after) is comes in
-    store_read_refuses reply.head a.accepted e
 
 -- the refusal of a reply that says so
 pub store_read_is : (r : Refusal) → is_store_read (head.Refused r) ≡ true → r ≡ refusal.StoreRead

@@ -47,17 +47,17 @@ creation_free p params none =
     not_false' true e = refl
     not_false' false e = sym e
 
-none_there : (p : Parts) (image : List ℕ) (m : MachineState) (params : Params) → StandsFor p image m → refused_by p 0 (needs (making params)) ≡ None → m.index ≡ None
+pub none_there : (p : Parts) (image : List ℕ) (m : MachineState) (params : Params) → StandsFor p image m → refused_by p 0 (needs (making params)) ≡ None → m.index ≡ None
 none_there p image m params s none = no_index m.index (ap is_some (sym (are_of m.index p s.kept).index_is) ∙ (creation_free p params none).0)
 
 -- the state with the new index
-abbrev made_in : MachineState → Params → MachineState
+abbrev pub made_in : MachineState → Params → MachineState
 made_in m params = record m { index = Some (empty_history params) }
 
-free_of : (p : Parts) (image : List ℕ) (m : MachineState) (params : Params) → StandsFor p image m → refused_by p 0 (needs (making params)) ≡ None → refused m (making params) [] ≡ None
+pub free_of : (p : Parts) (image : List ℕ) (m : MachineState) (params : Params) → StandsFor p image m → refused_by p 0 (needs (making params)) ≡ None → refused m (making params) [] ≡ None
 free_of p image m params s none = sym (refused_is p image m (making params) [] s) ∙ none
 
-answer_is : (p : Parts) (image : List ℕ) (m : MachineState) (params : Params) → StandsFor p image m → refused_by p 0 (needs (making params)) ≡ None
+pub answer_is : (p : Parts) (image : List ℕ) (m : MachineState) (params : Params) → StandsFor p image m → refused_by p 0 (needs (making params)) ≡ None
     → answer m (making params) [] no_plan ≡ record { reply = headed head.Created; state = made_in m params }
 answer_is p image m params s none =
     accepted_is m (making params) [] no_plan (record { reply = headed head.Created; state = made_in m params }) (free_of p image m params s none) refl
@@ -101,7 +101,7 @@ create_answers p q params before after o reply none made opened o_is no_names is
 }
 
 -- the disk failed
-create_cuts : (p : Parts) (params : Params) (before after : List ℕ) → refused_by p 0 (needs (making params)) ≡ None → IsMadeInPart params before after
+pub create_cuts : (p : Parts) (params : Params) (before after : List ℕ) → refused_by p 0 (needs (making params)) ≡ None → IsMadeInPart params before after
     → CutsOff (making params) [] p before after
 create_cuts p params before after none part m s = by_part part
   where

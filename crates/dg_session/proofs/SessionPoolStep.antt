@@ -1,6 +1,6 @@
 -- The answers of commands that clean the pool, or tell its size.
-use Rattle.std.proofs.Common.{◌≡◌, ℕ, false, List, [], ◌∷◌, Option, None, Result, Err, length, refl, sym, ◌∙◌, ap, subst}
-use Rattle.std.specs.Prelude.{IfErr, IfSome}
+use Rattle.std.proofs.Common.{◌≡◌, ℕ, false, List, [], ◌∷◌, Option, None, length, refl, sym, ◌∙◌, ap, subst}
+use Rattle.std.specs.Prelude.{IfSome}
 use Rattle.dg_machine.specs.declared.command.Command.{Command}
 use Rattle.dg_machine.specs.declared.command.Command.TheVariants as command
 use Rattle.dg_machine.specs.declared.reply.Head.{Head}
@@ -9,7 +9,6 @@ use Rattle.dg_machine.specs.declared.reply.Reply.{Reply}
 use Rattle.dg_machine.specs.Answer.{accepted, headed, is_refusal, say}
 use Rattle.dg_machine.specs.MachineState.{MachineState, elements_held, union_of_sets}
 use Rattle.dg_machine.specs.Needs.{needs}
-use Rattle.dg_batch.specs.declared.halt.Halt.{Halt}
 use Rattle.dg_machine.specs.Planning.{no_plan}
 use Rattle.dg_pool.specs.Graphs.{PoolState}
 use Rattle.dg_session.proofs.ReplyNames.{head_names}
@@ -19,7 +18,7 @@ use Rattle.dg_session.proofs.SessionSteps.{IsUnplanned, moved}
 use Rattle.dg_session.specs.Decided.{IsHeadOf}
 use Rattle.dg_session.specs.Parts.{Parts}
 use Rattle.dg_session.specs.Session.{Accepts, StandsFor, refused_by}
-use Rattle.dg_session.specs.Sweeps.{All_cells, IsNoSweep, No_cell, Some_cells, Sweep, SweepsAs, SweepsNothing, SweepsPool, sweep_of}
+use Rattle.dg_session.specs.Sweeps.{All_cells, IsNoSweep, No_cell, Some_cells, Sweep, SweepsAs}
 use Rattle.dg_start.specs.StoredHistory.{IsHeldBy}
 
 -- a command that needs nothing and changes nothing that the machine knows
@@ -64,11 +63,8 @@ pool_answers p live size image reply live_is size_is is =
 
 -- ---- of all commands
 
-nothing_swept : (s : Sweep) (old new : PoolState) (h : Head) → IsNoSweep s → SweepsAs s old new h
+-- a command that sweeps nothing owes nothing of it
+pub nothing_swept : (s : Sweep) (old new : PoolState) (h : Head) → IsNoSweep s → SweepsAs s old new h
 nothing_swept (Some_cells cells) old new h none = absurd none
 nothing_swept All_cells old new h none = absurd none
 nothing_swept No_cell old new h none = tt
-
--- a refusal says nothing of a sweep, where the command that it is of makes none
-pub refused_sweeps : (c : Command) (r : Result Reply Halt) (old new : PoolState) (h : Head) (halt : Halt) → r ≡ Err halt → IfErr r (λ x. SweepsNothing c) → SweepsPool c old new h
-refused_sweeps c r old new h halt is none = nothing_swept (sweep_of c) old new h (subst (λ (x : Result Reply Halt). IfErr x (λ y. SweepsNothing c)) is none)

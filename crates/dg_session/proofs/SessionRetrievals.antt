@@ -327,6 +327,25 @@ pub every_some : {A : Type 0} (o : Option A) (P : A → Type 0) → ((x : A) →
 every_some None P f = tt
 every_some (Some x) P f = f x
 
+-- one that is refused before has read nothing
+pub reads_unasked : (c : Command) (p : Parts) (image : Option (List ℕ)) (r : Refusal) (at : ℕ) → ((m : MachineState) (got : List ScriptLine) → ReadsBy m c got (head.Refused r) at at)
+    → Reads c p image (head.Refused r) at at
+reads_unasked c p image r at each = record {
+  told = λ e. every_some image (λ bytes. (m : MachineState) → StandsFor p bytes m → (got : List ScriptLine) → ReadsBy m c got (head.Refused r) at at) (λ bytes m s got. each m got);
+  early = λ e. refl;
+  nothing = λ e. refl;
+}
+
+-- one that is answered has read exactly what its reply tells
+pub reads_exactly : (c : Command) (p : Parts) (image : Option (List ℕ)) (h : Head) (before after : ℕ) → (needs c).reads ≡ true → is_early h ≡ false
+    → ((m : MachineState) (got : List ScriptLine) → Takes (weight_told h) before after → ReadsBy m c got h before after)
+    → IfSome image (λ bytes. (m : MachineState) → StandsFor p bytes m → Takes (weight_told h) before after) → Reads c p image h before after
+reads_exactly c p image h before after reads late as_told takes = record {
+  told = λ e. if_some image (λ bytes. (m : MachineState) → StandsFor p bytes m → Takes (weight_told h) before after) _ (λ bytes t m s got. as_told m got (t m s)) takes;
+  early = λ e. absurd (false≢true (sym late ∙ e));
+  nothing = λ e. absurd (false≢true (sym e ∙ reads));
+}
+
 -- a command that reads and fails has read at most what its answer would tell
 pub reads_failed : (c : Command) (p : Parts) (image : Option (List ℕ)) (h : Head) (before after : ℕ) → (needs c).reads ≡ true → is_refusal h ≡ true → is_early h ≡ false
     → ((m : MachineState) (got : List ScriptLine) → ReadsAsTold (is_refusal h) m c got h before after → ReadsBy m c got h before after)

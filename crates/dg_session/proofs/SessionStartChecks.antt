@@ -169,20 +169,17 @@ pub checked_begins : (checked : Bool) (s : SessionState) (r : Result SessionStat
 checked_begins checked s (Ok q) told mid same image starts sound = begins_sound checked s.parts q.parts told mid (ap (λ (x : SessionState). x.parts) same) image starts sound
 checked_begins checked s (Err f) told mid same image starts sound = tt
 
-pub checked_new : (limits : Limits) (s : SessionState) (r : Result SessionState SessionFault) → IfOk r (λ q. q ≡ s) → IsNew limits s.parts → IfOk r (λ q. IsNew limits q.parts)
-checked_new limits s (Ok q) same new = subst (λ (x : SessionState). IsNew limits x.parts) (sym same) new
-checked_new limits s (Err f) same new = tt
+pub checked_new : (limits : Limits) (s : SessionState) (r : Result SessionState SessionFault) (mid after : Option (List ℕ)) → IfOk r (λ q. q ≡ s) → after ≡ mid
+    → IsNew limits s.parts → IfSome mid (λ image. IsHeldBy s.parts.index s.parts.names image) → IfOk r (λ q. IsNew limits q.parts × IfSome after (λ image. IsHeldBy q.parts.index q.parts.names image))
+checked_new limits s (Ok q) mid after same image new held =
+    (subst (λ (x : SessionState). IsNew limits x.parts) (sym same) new, held_still s.parts q.parts mid after (ap (λ (x : SessionState). x.parts) same) image held)
+checked_new limits s (Err f) mid after same image new held = tt
 
 pub checked_stands : (limits : Limits) (s : SessionState) (r : Result SessionState SessionFault) (told : Option (List ℕ)) → IfOk r (λ q. q ≡ s)
     → IfSome told (λ image. (index : Option History) → StandsAs index image → StandsFor s.parts image (machine_at limits index))
     → IfOk r (λ q. IfSome told (λ image. (index : Option History) → StandsAs index image → StandsFor q.parts image (machine_at limits index)))
 checked_stands limits s (Ok q) told same stands = stands_still limits s.parts q.parts told (ap (λ (x : SessionState). x.parts) same) stands
 checked_stands limits s (Err f) told same stands = tt
-
-pub checked_held : (s : SessionState) (r : Result SessionState SessionFault) (mid after : Option (List ℕ)) → IfOk r (λ q. q ≡ s) → after ≡ mid → IfSome mid (λ image. IsHeldBy s.parts.index s.parts.names image)
-    → IfOk r (λ q. IfSome after (λ image. IsHeldBy q.parts.index q.parts.names image))
-checked_held s (Ok q) mid after same image held = held_still s.parts q.parts mid after (ap (λ (x : SessionState). x.parts) same) image held
-checked_held s (Err f) mid after same image held = tt
 
 pub checked_standing : (P : Type 0) → SoundFilesStand → (s : SessionState) (r : Result SessionState SessionFault) (told mid : Option (List ℕ)) → mid ≡ told → IfSome mid (λ image. IsHeldBy s.parts.index s.parts.names image)
     → OnOk r (IfSome mid IsSoundImage) → OnOk r (P → IfSome told (λ image. AreBytes image → IsStanding image))

@@ -21,7 +21,6 @@ use Rattle.dg_machine.specs.Planning.{Planned, IsPlanned, no_plan}
 use Rattle.dg_machine.specs.Run.{Step, Answers, Fails_to_read, Lacks_memory}
 use Rattle.dg_machine.specs.Script.{Asked}
 use Rattle.dg_batch.proofs.BatchLineCollection.{follows_none}
-use Rattle.dg_session.specs.ReplyNames.{ReplyNamesAreThere}
 use Rattle.dg_session.proofs.PartStates.{one_image, refused_is, stands_on}
 use Rattle.dg_ask.specs.HeldIndex.{events_held, span_held, has_node_held}
 use Rattle.dg_session.specs.Parts.{Parts}
@@ -29,7 +28,7 @@ use Rattle.dg_batch.specs.declared.halt.Halt.{Halt}
 use Rattle.dg_batch.specs.declared.halt.Halt.TheVariants as halt
 use Rattle.dg_batch.specs.declared.stop.Stop.TheVariants as stop
 use Rattle.dg_session.specs.Decided.{IsHeadOf}
-use Rattle.dg_session.specs.Session.{ComesTo, Decides, Denies, IsDecided, MayRead, Moves, StandsFor, Steps, TakesLines, WhereBothTold, is_of_read, is_too_full, refused_by}
+use Rattle.dg_session.specs.Session.{Accepts, ComesTo, Decides, Denies, IsDecided, LeavesAnswered, LeavesCommand, MayRead, Moves, StandsFor, Steps, TakesLines, WhereBothTold, is_of_read, is_too_full, refused_by}
 
 -- ---- of the machine
 
@@ -206,6 +205,16 @@ handed_out (Err e) x P h p = subst (λ y. P (Err y)) (sym h.1) p
 abbrev pub Comes : Command → ℕ → Option (List ScriptLine) → Option (List ScriptLine) → Parts → Option (List ℕ) → Parts → Option (List ℕ) → Result Reply Halt → Type 0
 Comes c count lines_before lines_after old before new after r = (got : List ScriptLine) × TakesLines count lines_before got lines_after r × ComesTo c got old before new after r
 
+-- and what a crash may leave of it
+abbrev pub Carried : Command → ℕ → Option (List ScriptLine) → Option (List ScriptLine) → Parts → Option (List ℕ) → Parts → Option (List ℕ) → Result Reply Halt → ((List ℕ → List ℕ → Type 0) → Type 0) → Type 0
+Carried c count lines_before lines_after old before new after r crashes =
+    (got : List ScriptLine) × TakesLines count lines_before got lines_after r × ComesTo c got old before new after r × crashes (LeavesCommand c got old r)
+
+-- what a crash leaves is what it may leave of any lines
+pub with_crash : (c : Command) (count : ℕ) (lines then_lines : Option (List ScriptLine)) (p : Parts) (a : Option (List ℕ)) (q : Parts) (b : Option (List ℕ)) (r : Result Reply Halt) (crashes : (List ℕ → List ℕ → Type 0) → Type 0)
+    → Comes c count lines then_lines p a q b r → ((got : List ScriptLine) → crashes (LeavesCommand c got p r)) → Carried c count lines then_lines p a q b r crashes
+with_crash c count lines then_lines p a q b r crashes comes left = (comes.0, comes.1, comes.2, left comes.0)
+
 takes_none : {A : Type 0} (lines : Option (List ScriptLine)) (r : Result A Halt) → TakesLines 0 lines [] lines r
 takes_none lines (Ok x) = follows_none lines
 takes_none lines (Err (halt.Refusal r)) = follows_none lines
@@ -214,11 +223,11 @@ takes_none lines (Err (halt.Stop stop.Limit)) = tt
 takes_none lines (Err (halt.Stop stop.Store)) = follows_none lines
 
 -- no lines follow the command
-pub alone : (c x : Command) (lines : Option (List ScriptLine)) (old : Parts) (before : Option (List ℕ)) (new : Parts) (after : Option (List ℕ)) (r : Result Reply Halt) → c ≡ x → following x ≡ 0
-    → ComesTo x [] old before new after r → Comes c (following c) lines lines old before new after r
-alone c x lines old before new after r is none h =
-    subst (λ (y : Command). Comes y (following y) lines lines old before new after r) (sym is)
-    ([], subst (λ (n : ℕ). TakesLines n lines [] lines r) (sym none) (takes_none lines r), h)
+pub alone : (c x : Command) (lines : Option (List ScriptLine)) (old : Parts) (before : Option (List ℕ)) (new : Parts) (after : Option (List ℕ)) (r : Result Reply Halt) (crashes : (List ℕ → List ℕ → Type 0) → Type 0)
+    → c ≡ x → following x ≡ 0 → ComesTo x [] old before new after r → crashes (LeavesCommand x [] old r) → Carried c (following c) lines lines old before new after r crashes
+alone c x lines old before new after r crashes is none h left =
+    subst (λ (y : Command). Carried y (following y) lines lines old before new after r crashes) (sym is)
+    ([], subst (λ (n : ℕ). TakesLines n lines [] lines r) (sym none) (takes_none lines r), h, left)
 
 -- a reply that is no refusal tells of no read
 tells_of_none : (reply : Reply) (P : Type 0) (r : Refusal) → is_refusal reply.head ≡ false → reply.head ≡ head.Refused r → P
@@ -233,34 +242,30 @@ fitting : (c : Command) (got : List ScriptLine) (old : Parts) (h : Head) (o : Op
 fitting c got old h None accepts free fits = (free, fits)
 fitting c got old h (Some r) accepts free fits = absurd (false≢true (sym accepts))
 
--- the reply, where there is one
-pub reply_named : (c : Command) (lines_before lines_after : Option (List ScriptLine)) (old : Parts) (before : Option (List ℕ)) (new : Parts) (after : Option (List ℕ)) (r : Result Reply Halt) (reply : Reply)
-    → Comes c (following c) lines_before lines_after old before new after r → r ≡ Ok reply → ReplyNamesAreThere (length new.names) reply
-reply_named c lines_before lines_after old before new after r reply h is = (subst (Comes c (following c) lines_before lines_after old before new after) is h).2.named
-
-pub answered : (c : Command) (lines_before lines_after : Option (List ScriptLine)) (old : Parts) (before : Option (List ℕ)) (new : Parts) (after : Option (List ℕ)) (r : Result Reply Halt) (reply : Reply)
-    → Comes c (following c) lines_before lines_after old before new after r → r ≡ Ok reply → Steps c lines_before lines_after old before new after reply
-answered c lines_before lines_after old before new after r reply h is =
-    let k = subst (Comes c (following c) lines_before lines_after old before new after) is h in (
+pub answered : (c : Command) (lines_before lines_after : Option (List ScriptLine)) (old : Parts) (before : Option (List ℕ)) (new : Parts) (after : Option (List ℕ)) (reply : Reply) (crashes : (List ℕ → List ℕ → Type 0) → Type 0)
+    → Carried c (following c) lines_before lines_after old before new after (Ok reply) crashes → Steps c lines_before lines_after old before new after reply crashes
+answered c lines_before lines_after old before new after reply crashes k =
+    let a : Accepts c k.0 old before new after reply = k.2 in (
       k.0,
       k.1,
-      k.2.moves,
-      λ why is of_read. tells_of_none reply (MayRead c k.0 old) why k.2.accepted is,
-      fitting c k.0 old reply.head (refusal_of reply.head) k.2.accepted k.2.free k.2.fits,
+      a.moves,
+      λ why is of_read. tells_of_none reply (MayRead c k.0 old) why a.accepted is,
+      fitting c k.0 old reply.head (refusal_of reply.head) a.accepted a.free a.fits,
+      k.3,
     )
 
-pub refused_so : (c : Command) (lines_before lines_after : Option (List ScriptLine)) (old : Parts) (before : Option (List ℕ)) (new : Parts) (after : Option (List ℕ)) (r : Result Reply Halt) (why : Refusal) (reply : Reply)
-    → Comes c (following c) lines_before lines_after old before new after r → r ≡ Err (halt.Refusal why) → reply ≡ headed (head.Refused why)
-    → Steps c lines_before lines_after old before new after reply
-refused_so c lines_before lines_after old before new after r why reply h is reply_is =
-    let k = subst (Comes c (following c) lines_before lines_after old before new after) is h in (
+pub refused_so : (c : Command) (lines_before lines_after : Option (List ScriptLine)) (old : Parts) (before : Option (List ℕ)) (new : Parts) (after : Option (List ℕ)) (why : Refusal) (crashes : (List ℕ → List ℕ → Type 0) → Type 0)
+    → ((got : List ScriptLine) → crashes (LeavesCommand c got old (Err (halt.Refusal why))) → crashes (LeavesAnswered c got old (headed (head.Refused why))))
+    → Carried c (following c) lines_before lines_after old before new after (Err (halt.Refusal why)) crashes
+    → Steps c lines_before lines_after old before new after (headed (head.Refused why)) crashes
+refused_so c lines_before lines_after old before new after why crashes widen k =
+    let n : Denies c k.0 old before new after why = k.2 in (
       k.0,
       k.1,
-      subst (λ (x : Reply). WhereBothTold before after (λ y z. Moves c k.0 old y new z x)) (sym reply_is) k.2.moves,
-      λ r is of_read.
-          let both : head.Refused why ≡ head.Refused r = ap (λ (x : Reply). x.head) (sym reply_is) ∙ is in
-          k.2.reads (ap is_of_read (sym (same_refusal r why both)) ∙ of_read),
-      subst (λ (x : Reply). Decides c k.0 old x.head (refusal_of x.head)) (sym reply_is) k.2.decided,
+      n.moves,
+      λ r is of_read. n.reads (ap is_of_read (sym (same_refusal r why is)) ∙ of_read),
+      n.decided,
+      widen k.0 k.3,
     )
 
 -- ---- the order of refusals
@@ -298,10 +303,10 @@ refuses_so (head.Generated events last nodes edges) r is = absurd (none-some r i
 
 -- Whatever the image is, a step answers with the first refusal that follows from what the session keeps, unless memory
 -- lacks for the lines of the command.
-pub order_kept : (c : Command) (lines_before lines_after : Option (List ScriptLine)) (old : Parts) (before : Option (List ℕ)) (new : Parts) (after : Option (List ℕ)) (reply : Reply)
-    → (s : Steps c lines_before lines_after old before new after reply) (r : Refusal) → refused_by old (length s.0) (needs c) ≡ Some r
+pub order_kept : (c : Command) (lines_before lines_after : Option (List ScriptLine)) (old : Parts) (before : Option (List ℕ)) (new : Parts) (after : Option (List ℕ)) (reply : Reply) (crashes : (List ℕ → List ℕ → Type 0) → Type 0)
+    → (s : Steps c lines_before lines_after old before new after reply crashes) (r : Refusal) → refused_by old (length s.0) (needs c) ≡ Some r
     → (reply.head ≡ head.Refused r) ⊎ ((is_followed c ≡ true) × (reply.head ≡ head.Refused refusal.OutOfMemory))
-order_kept c lines_before lines_after old before new after reply s r is = by (first_decided c s.0 old reply.head (refusal_of reply.head) r is s.4)
+order_kept c lines_before lines_after old before new after reply crashes s r is = by (first_decided c s.0 old reply.head (refusal_of reply.head) r is s.4)
   where
     by : (refusal_of reply.head ≡ Some r) ⊎ ((is_followed c ≡ true) × (refusal_of reply.head ≡ Some refusal.OutOfMemory))
         → (reply.head ≡ head.Refused r) ⊎ ((is_followed c ≡ true) × (reply.head ≡ head.Refused refusal.OutOfMemory))

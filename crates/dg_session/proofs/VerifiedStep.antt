@@ -24,7 +24,6 @@ use Rattle.dg_session.proofs.ReplyNames.{head_names}
 use Rattle.dg_session.proofs.SessionRetrievals.{every_some}
 use Rattle.dg_session.proofs.PartStates.{IsOf, hit, is_of, miss, one_image, one_told, stands_on}
 use Rattle.dg_session.proofs.SessionSteps.{failing_accepted, lacking_denies, moved}
-use Rattle.dg_batch.specs.declared.halt.Halt.{Halt}
 use Rattle.dg_session.specs.Damage.{DamageIn}
 use Rattle.dg_session.specs.Decided.{IsHeadOf}
 use Rattle.dg_batch.specs.Halt.{verify_halt}
@@ -125,6 +124,7 @@ none_verified true p image = tt
 pub refused_verifies : (c : Command) (p : Parts) (image : Option (List ℕ)) (r : Refusal) → VerifiesFile c p image (head.Refused r)
 refused_verifies c p image r = none_verified (is_verify c) p image
 
--- the reply, where there is one
-pub verified_reply : (c : Command) (p : Parts) (image : Option (List ℕ)) (r : Result Reply Halt) (reply : Reply) → r ≡ Ok reply → IfOk r (λ (x : Reply). VerifiesFile c p image x.head) → VerifiesFile c p image reply.head
-verified_reply c p image r reply is h = subst (λ (y : Result Reply Halt). IfOk y (λ (x : Reply). VerifiesFile c p image x.head)) is h
+-- a command that does not verify says nothing of it
+pub unverified : (verifies : Bool) (p : Parts) (image : Option (List ℕ)) (told : Option Soundness) → verifies ≡ false → VerifiesBy verifies p image told
+unverified false p image told e = tt
+unverified true p image told e = absurd (false≢true (sym e))

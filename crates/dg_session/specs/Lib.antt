@@ -5,7 +5,9 @@ pub mod Verified
 pub mod SessionStart
 pub mod Decided
 pub mod ReplyNames
+pub mod Crashes
 pub mod Session
 pub mod BatchCommand
 pub mod Reads
 pub mod Damage
+pub mod Calls

@@ -26,6 +26,7 @@ use Rattle.dg_machine.specs.Script.{Asked, Follows}
 use Rattle.dg_batch.specs.declared.halt.Halt.{Halt}
 use Rattle.dg_batch.specs.declared.halt.Halt.TheVariants as halt
 use Rattle.dg_batch.specs.declared.stop.Stop.TheVariants as stop
+use Rattle.dg_session.specs.Crashes.{IsFirstByte, is_create}
 use Rattle.dg_session.specs.Decided.{IsHeadOf, is_late}
 use Rattle.dg_session.specs.Parts.{Parts}
 use Rattle.dg_session.specs.ReplyNames.{ReplyNamesAreThere}
@@ -49,6 +50,10 @@ pub record StandsFor (session : Parts) (image : List ℕ) (m : MachineState) : T
   pub next : session.next ≡ m.next
   pub no_handles : m.index ≡ None → m.table ≡ []
 
+-- the session holds the image, where the disk tells it: it is as the last call left it
+abbrev pub HoldsImage : Parts → Option (List ℕ) → Type 0
+HoldsImage session image = IfSome image (λ bytes. IsHeldBy session.index session.names bytes)
+
 -- the fact holds of the two images, where the disk tells them
 abbrev pub WhereBothTold : Option (List ℕ) → Option (List ℕ) → (List ℕ → List ℕ → Type 0) → Type 0
 WhereBothTold a b P = (x y : List ℕ) → a ≡ Some x → b ≡ Some y → P x y
@@ -63,6 +68,17 @@ Moves command got old before new after reply =
 -- stands for
 abbrev pub CutsOff : Command → List ScriptLine → Parts → List ℕ → List ℕ → Type 0
 CutsOff command got old before after = (m : MachineState) → StandsFor old before m → IsCut m (Asked command got) before after
+
+-- What a crash may leave of a command with these lines that is answered so: from every state that the session stood for
+-- over the image, the bytes stand for its history, or for that of the state to which the machine goes with this reply; or
+-- an index was to be made where there was none, over a file that has just the bytes of a header, of which the first may be
+-- any.
+abbrev pub LeavesAnswered : Command → List ScriptLine → Parts → Reply → List ℕ → List ℕ → Type 0
+LeavesAnswered command got old reply before left =
+    (m : MachineState) → StandsFor old before m
+    → StandsAs m.index left
+    ⊎ ((k : MachineState) × Step m (Asked command got) reply k × StandsAs k.index left)
+    ⊎ ((is_create command ≡ true) × (m.index ≡ None) × IsFirstByte before left)
 
 -- so many more events, or the names that so many lines may bring, are too many
 abbrev pub is_too_full : Parts → ℕ → Bool
@@ -125,21 +141,24 @@ Decides command got old h None = (refused_by old (length got) (needs command) �
 Decides command got old h (Some r) = IsDecided command got old r
 
 -- The command and the lines that follow it make such a step, where the disk tells its image. Whatever the image is, a reply
--- that tells of a read takes the index of no refusal by what the session keeps, and the reply is decided by that.
-abbrev pub Steps : Command → Option (List ScriptLine) → Option (List ScriptLine) → Parts → Option (List ℕ) → Parts → Option (List ℕ) → Reply → Type 0
-Steps command lines_before lines_after old before new after reply =
+-- that tells of a read takes the index of no refusal by what the session keeps, and the reply is decided by that. And
+-- `crashes` holds of what a crash may leave: it says that a crash at any moment of the step leaves that.
+abbrev pub Steps : Command → Option (List ScriptLine) → Option (List ScriptLine) → Parts → Option (List ℕ) → Parts → Option (List ℕ) → Reply → ((List ℕ → List ℕ → Type 0) → Type 0) → Type 0
+Steps command lines_before lines_after old before new after reply crashes =
     (got : List ScriptLine) × Follows (following command) lines_before got lines_after
     × WhereBothTold before after (λ image then_image. Moves command got old image new then_image reply)
     × ((r : Refusal) → reply.head ≡ head.Refused r → is_of_read r ≡ true → MayRead command got old)
     × Decides command got old reply.head (refusal_of reply.head)
+    × crashes (LeavesAnswered command got old reply)
 
 -- The command and the lines that follow it were cut off so, where the disk tells its image. The command is not refused by
--- what the session keeps, whatever the image is.
-abbrev pub Stops : Command → Option (List ScriptLine) → Option (List ScriptLine) → Parts → Option (List ℕ) → Option (List ℕ) → Type 0
-Stops command lines_before lines_after old before after =
+-- what the session keeps, whatever the image is. And `crashes` holds of what a crash may leave, the same that a failure may.
+abbrev pub Stops : Command → Option (List ScriptLine) → Option (List ScriptLine) → Parts → Option (List ℕ) → Option (List ℕ) → ((List ℕ → List ℕ → Type 0) → Type 0) → Type 0
+Stops command lines_before lines_after old before after crashes =
     (got : List ScriptLine) × Follows (following command) lines_before got lines_after
     × (refused_by old (length got) (needs command) ≡ None)
     × WhereBothTold before after (λ image then_image. CutsOff command got old image then_image)
+    × crashes (λ image left. CutsOff command got old image left)
 
 -- what a retrieval of these instants needs, as so many handles
 abbrev pub retrieval_needs : List ℕ → ℕ → Needs
@@ -155,7 +174,7 @@ pub record Accepts (command : Command) (got : List ScriptLine) (old : Parts) (be
   pub accepted : is_refusal reply.head ≡ false
   pub free : refused_by old (length got) (needs command) ≡ None
   pub fits : IsHeadOf command reply.head
-  pub held : IfSome before (λ image. IsHeldBy old.index old.names image) → IfSome after (λ image. IsHeldBy new.index new.names image)
+  pub held : HoldsImage old before → HoldsImage new after
   pub no_index : new.index ≡ None → (old.index ≡ None) × (after ≡ before)
   pub quiet : is_writing command ≡ false → after ≡ before
   pub named : ReplyNamesAreThere (length new.names) reply
@@ -181,6 +200,15 @@ ComesTo command got old before new after (Err (halt.Stop stop.Limit)) = IsAsBefo
 ComesTo command got old before new after (Err (halt.Stop stop.Store)) =
     (is_writing command ≡ true) × (refused_by old (length got) (needs command) ≡ None)
     × WhereBothTold before after (λ image then_image. CutsOff command got old image then_image)
+
+-- What a crash may leave of the command and these lines, by what they come to: a refusal, and a stop for the lines, leave the
+-- image alone.
+abbrev pub LeavesCommand : Command → List ScriptLine → Parts → Result Reply Halt → List ℕ → List ℕ → Type 0
+LeavesCommand command got old (Ok reply) = LeavesAnswered command got old reply
+LeavesCommand command got old (Err (halt.Refusal r)) = λ before left. left ≡ before
+LeavesCommand command got old (Err (halt.Stop stop.Read)) = λ before left. left ≡ before
+LeavesCommand command got old (Err (halt.Stop stop.Limit)) = λ before left. left ≡ before
+LeavesCommand command got old (Err (halt.Stop stop.Store)) = λ before left. CutsOff command got old before left
 
 -- the lines are those that follow, unless the script ended within them
 abbrev pub TakesLines : {A : Type 0} → ℕ → Option (List ScriptLine) → List ScriptLine → Option (List ScriptLine) → Result A Halt → Type 0

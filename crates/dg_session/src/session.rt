@@ -1,35 +1,27 @@
 //! The session over one index file: what it keeps, and the step that carries out a command.
 
-ghost use Rattle.std.specs.Prelude.{◌≡◌, ◌⊎◌, ℕ, ◌+◌, ◌<◌, ◌≤◌, IfErr, IfSome, IsErrOf, OnOk, List, [], Ok, Err, Option, None, Some, is_some, true, false, not, length, IfOk};
+ghost use Rattle.std.specs.Prelude.{◌≡◌, ◌⊎◌, ℕ, ◌+◌, ◌<◌, ◌≤◌, IfErr, IfSome, IsErrOf, OnOk, List, [], Ok, Err, Option, None, Some, is_some, true, false, not, IfOk};
 ghost use Rattle.dg_columns.specs.ColumnLaws.{AreBytes};
-ghost use Rattle.dg_append.specs.Faults.{OnlyReadFailed};
-ghost use Rattle.dg_disk.specs.Counts.{Rose as DiskRose};
-ghost use Rattle.dg_disk.specs.Frame.{GoesOn, ReadsAndSyncs};
-ghost use Rattle.dg_io.specs.Frame.{Advances};
-ghost use Rattle.dg_io.specs.Told.{CountRose};
-ghost use Rattle.dg_io.specs.LinesState.{told, NeedsByte};
+ghost use Rattle.dg_disk.specs.Calls.{Fails, IsOnDevice, ReadsDisk, SyncsDisk, UsesDisk};
+ghost use Rattle.dg_io.specs.Calls.{TakesFrom};
+ghost use Rattle.dg_io.specs.LinesState.{NeedsByte};
 ghost use Rattle.dg_handles.specs.Handles.{IsTied, slot_graphs};
 ghost use Rattle.dg_history.specs.declared.limits.TheConstants.{EVENTS_MAX};
-ghost use Rattle.dg_graph.specs.Lines.{ScriptLine};
-ghost use Rattle.dg_machine.specs.Answer.{headed, is_refusal};
+ghost use Rattle.dg_machine.specs.Answer.{headed};
 ghost use Rattle.dg_machine.specs.CommandGrammar.{CountIsInRange};
 ghost use Rattle.dg_machine.specs.Needs.{following, is_writing};
 ghost use Rattle.dg_history.specs.History.{History};
 ghost use Rattle.dg_index.specs.ImageOfHistory.{StandsAs};
-ghost use Rattle.dg_machine.specs.MachineState.{IsWithin, MachineState, machine_at};
-ghost use Rattle.dg_machine.specs.Run.{is_store_read};
+ghost use Rattle.dg_machine.specs.MachineState.{IsWithin, machine_at};
 ghost use Rattle.dg_pool.specs.Graphs.{graph_now};
 ghost use Rattle.dg_ask.specs.HeldIndex.{events_held, span_held};
-ghost use Rattle.dg_session.specs.Damage.{DamageIn, DamageIs, Graphs, MeetsNone, reads_for};
-ghost use Rattle.dg_session.specs.Reads.{Reads, ReadsIn, ReadsToStop};
-ghost use Rattle.dg_session.specs.ReplyNames.{ReplyNamesAreThere};
-ghost use Rattle.dg_session.specs.Session.{ComesTo, IsAsBefore, is_at_hand, StandsFor, Steps, Stops, TakesLines};
+ghost use Rattle.dg_session.specs.Calls.{AnswersCommand, CarriesOut, StopsCommand};
+ghost use Rattle.dg_session.specs.Session.{ComesTo, HoldsImage, is_at_hand, StandsFor};
 ghost use Rattle.dg_session.specs.SessionState.{handles_of};
 ghost use Rattle.dg_session.specs.SessionStart.{Begins, IsNew, IsStanding, RefusesSession};
 ghost use Rattle.dg_session.specs.Sweeps.{SweepsNothing, SweepsPool};
-ghost use Rattle.dg_session.specs.Verified.{VerifiesFile};
 ghost use Rattle.dg_start.specs.Calls.{TakesStart};
-ghost use Rattle.dg_start.specs.StoredHistory.{IsHeldBy, IsSoundHistory, index_opening, started_with};
+ghost use Rattle.dg_start.specs.StoredHistory.{index_opening, started_with};
 ghost use Rattle.dg_batch.specs.declared.stop.Stop.TheVariants as stop;
 
 mod bases;
@@ -124,10 +116,9 @@ impl Session {
         // the session
         ensures started { IfOk result (λ session. IfSome (D.image disk.old) (λ image.
             Begins checked image (Ok (started_with session.parts.index session.parts.names session.parts.graph session.parts.recent)))) }
-        ensures new { IfOk result (λ session. IsNew limits session.parts) }
+        ensures new { IfOk result (λ session. IsNew limits session.parts × HoldsImage session.parts (D.image disk.new)) }
         ensures stands { IfOk result (λ session. IfSome (D.image disk.old) (λ image. (index : Option History)
             → StandsAs index image → StandsFor session.parts image (machine_at limits index))) }
-        ensures held { IfOk result (λ session. IfSome (D.image disk.new) (λ image. IsHeldBy session.parts.index session.parts.names image)) }
         ensures checked { OnOk result (checked ≡ true → IfSome (D.image disk.old) (λ image. AreBytes image → IsStanding image)) }
 
         // the bytes read, where it is not checked
@@ -137,10 +128,11 @@ impl Session {
         ensures refused { IfErr result (λ fault. IfSome (D.image disk.old) (λ image. RefusesSession checked fault image)) }
         ensures never { IfErr result (λ fault. IfSome (D.image disk.old) (λ image. (index : Option History)
             → StandsAs index image → (fault ≡ SessionFault.Start StartFault.Disk) ⊎ (fault ≡ SessionFault.Start StartFault.Memory))) }
-        ensures cause { IsErrOf result (SessionFault.Start StartFault.Disk) → DiskRose (D.faults disk.old) (D.faults disk.new) }
+        ensures cause { IsErrOf result (SessionFault.Start StartFault.Disk) → Fails D.Disk disk.old disk.new }
 
         // what it leaves
-        ensures disk { ReadsAndSyncs D.image D.faults D.write_faults disk.old disk.new }
+        ensures disk { SyncsDisk D.Disk disk.old disk.new }
+        ensures settled { OnOk result (IsOnDevice D.Disk disk.new) }
     {
         law_images_are_opened();
         law_standing_files_are_sound();
@@ -183,6 +175,10 @@ impl Session {
     /// disk failed while an index was made or a batch was added, which a command that is refused does
     /// not come to: the image is then as before the command or as after it, and the session may have no
     /// index.
+    ///
+    /// Where what the disk held was on the device, what it holds after a reply is too, and a crash at any moment of the
+    /// step leaves the history before the command or the one after it. There is one exception: while an index is made
+    /// over a file that has just the bytes of a header, the first of them may be any.
     pub fn step<R: Threads + Sync, S: Source, D: Disk>(
         &mut self,
         rt: &R,
@@ -192,43 +188,19 @@ impl Session {
         disk: &mut D,
     ) -> Result<Reply, Stop>
         requires command { CountIsInRange command.now }
-        requires image { IfSome (D.image disk.old) (λ image. IsHeldBy self.old.parts.index self.old.parts.names image) }
+        requires image { HoldsImage self.old.parts (D.image disk.old) }
 
-        // the reply
-        ensures step { IfOk result (λ reply. Steps command.now
-            (told lines.old (S.left source.old)) (told lines.new (S.left source.new))
-            self.old.parts (D.image disk.old) self.new.parts (D.image disk.new) reply) }
-        ensures held { OnOk result (IfSome (D.image disk.new) (λ image. IsHeldBy self.new.parts.index self.new.parts.names image)) }
-        ensures refused { IfOk result (λ reply. is_refusal reply.head ≡ true
-            → IsAsBefore self.old.parts (D.image disk.old) self.new.parts (D.image disk.new)) }
-        ensures named { IfOk result (ReplyNamesAreThere (length self.new.parts.names)) }
-        ensures quiet { is_writing command.now ≡ false → D.image disk.new ≡ D.image disk.old }
-        ensures no_index { OnOk result (self.new.parts.index ≡ None → (self.old.parts.index ≡ None) × (D.image disk.new ≡ D.image disk.old)) }
-
-        // why it stops
-        ensures stop { IsErrOf result Stop.Read → IsAsBefore self.old.parts (D.image disk.old) self.new.parts (D.image disk.new) }
-        ensures stop_limit { IsErrOf result Stop.Limit → IsAsBefore self.old.parts (D.image disk.old) self.new.parts (D.image disk.new) }
-        ensures store { IsErrOf result Stop.Store → Stops command.now
-            (told lines.old (S.left source.old)) (told lines.new (S.left source.new))
-            self.old.parts (D.image disk.old) (D.image disk.new) }
-        ensures store_cause { IsErrOf result Stop.Store → DiskRose (D.write_faults disk.old) (D.write_faults disk.new) }
-        ensures store_command { IsErrOf result Stop.Store → is_writing command.now ≡ true }
-        ensures read { IsErrOf result Stop.Read → CountRose (S.faults source.old) (S.faults source.new) }
-        ensures limit { IsErrOf result Stop.Limit → (lines.new.taken ≡ lines.new.limit) × NeedsByte lines.new }
+        // the reply, or why there is none
+        ensures answers { IfOk result (AnswersCommand S.Source D.Disk command.now lines.old source.old lines.new source.new
+            self.old disk.old self.new disk.new) }
+        ensures stops { IfErr result (StopsCommand S.Source D.Disk command.now lines.old source.old lines.new source.new
+            self.old disk.old self.new disk.new) }
         ensures due { 1 ≤ following command.now → lines.old.taken ≡ lines.old.limit → NeedsByte lines.old → result ≡ Err Stop.Limit }
-        ensures store_read { IfOk result (λ reply. is_store_read reply.head ≡ true
-            → OnlyReadFailed D.faults D.write_faults disk.old disk.new) }
-        ensures damaged { IfOk result (λ reply. DamageIs command.now self.old.parts (D.image disk.old) reply.head) }
-        ensures undamaged { IfOk result (λ reply. is_refusal reply.head ≡ false → MeetsNone (reads_for command.now) self.old.parts (D.image disk.old)) }
-        ensures verified { IfOk result (λ reply. VerifiesFile command.now self.old.parts (D.image disk.old) reply.head) }
-        ensures swept { IfOk result (λ reply. SweepsPool command.now self.old.pool self.new.pool reply.head) }
 
         // what it takes and leaves
-        ensures reads { IfOk result (λ reply. Reads command.now self.old.parts (D.image disk.old) reply.head (D.taken disk.old) (D.taken disk.new)) }
-        ensures reads_to_stop { IfErr result (λ stop. ReadsToStop command.now self.old.parts (D.image disk.old) stop (D.taken disk.old) (D.taken disk.new)) }
-        ensures lines { Advances lines.old (S.left source.old) (S.faults source.old)
-            lines.new (S.left source.new) (S.faults source.new) }
-        ensures disk { GoesOn D.image D.faults D.write_faults disk.old disk.new }
+        ensures quiet { is_writing command.now ≡ false → ReadsDisk D.Disk disk.old disk.new }
+        ensures lines { TakesFrom S.Source lines.old source.old lines.new source.new }
+        ensures disk { UsesDisk D.Disk disk.old disk.new }
     {
         match self.carry_out(rt, command, lines, source, disk) {
             Ok(reply) => Ok(reply),
@@ -247,31 +219,16 @@ impl Session {
         disk: &mut D,
     ) -> Result<Reply, Halt>
         requires command { CountIsInRange command.now }
-        requires image { IfSome (D.image disk.old) (λ image. IsHeldBy self.old.parts.index self.old.parts.names image) }
+        requires image { HoldsImage self.old.parts (D.image disk.old) }
 
         // what it comes to
-        ensures comes { (got : List ScriptLine)
-            × TakesLines (following command.now) (told lines.old (S.left source.old)) got (told lines.new (S.left source.new)) result
-            × ComesTo command.now got self.old.parts (D.image disk.old) self.new.parts (D.image disk.new) result }
-
-        // why it stops
-        ensures store { IsErrOf result (Halt.Stop Stop.Store) → DiskRose (D.write_faults disk.old) (D.write_faults disk.new) }
-        ensures read { IsErrOf result (Halt.Stop Stop.Read) → CountRose (S.faults source.old) (S.faults source.new) }
-        ensures limit { IsErrOf result (Halt.Stop Stop.Limit) → (lines.new.taken ≡ lines.new.limit) × NeedsByte lines.new }
+        ensures carries { CarriesOut S.Source D.Disk command.now lines.old source.old lines.new source.new
+            self.old disk.old self.new disk.new result }
         ensures due { 1 ≤ following command.now → lines.old.taken ≡ lines.old.limit → NeedsByte lines.old → result ≡ Err (Halt.Stop Stop.Limit) }
-        ensures store_read { IsErrOf result (Halt.Refusal Refusal.StoreRead)
-            → OnlyReadFailed D.faults D.write_faults disk.old disk.new }
-        ensures damaged { DamageIn command.now self.old.parts (D.image disk.old) result }
-        ensures undamaged { OnOk result (MeetsNone (reads_for command.now) self.old.parts (D.image disk.old)) }
-        ensures verified { IfOk result (λ reply. VerifiesFile command.now self.old.parts (D.image disk.old) reply.head) }
-        ensures swept { IfOk result (λ reply. SweepsPool command.now self.old.pool self.new.pool reply.head) }
-        ensures unswept { IfErr result (λ halt. SweepsNothing command.now) }
 
         // what it takes and leaves
-        ensures reads { ReadsIn command.now self.old.parts (D.image disk.old) result (D.taken disk.old) (D.taken disk.new) }
-        ensures lines { Advances lines.old (S.left source.old) (S.faults source.old)
-            lines.new (S.left source.new) (S.faults source.new) }
-        ensures disk { GoesOn D.image D.faults D.write_faults disk.old disk.new }
+        ensures lines { TakesFrom S.Source lines.old source.old lines.new source.new }
+        ensures disk { UsesDisk D.Disk disk.old disk.new }
     {
         match *command {
             Command::Create { l, k, function } => self.create(disk, Params { l, k, function }),

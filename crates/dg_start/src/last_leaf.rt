@@ -1,8 +1,7 @@
 //! The graph behind the last closed list of an index, by the records along its plan.
 
 ghost use Rattle.std.specs.Prelude.{◌≡◌, ◌≤◌, ◌+◌, ◌*◌, Ok, IfOk, IfErr, IfSome, IsErrOf};
-ghost use Rattle.dg_disk.specs.Counts.{Rose};
-ghost use Rattle.dg_disk.specs.Frame.{OnlyReads};
+ghost use Rattle.dg_disk.specs.Calls.{Fails, ReadsDisk};
 ghost use Rattle.dg_file.specs.Images.{IsOpenedAs};
 ghost use Rattle.dg_history.specs.declared.limits.TheConstants.{EVENTS_MAX};
 ghost use Rattle.dg_retrieval.specs.KeptGraph.{record_edges, record_nodes};
@@ -86,11 +85,11 @@ pub fn last_set<R: Threads + Sync, D: Disk>(
 
     // why there is none
     ensures refused { IfErr result (λ fault. IfSome (D.image disk.old) (λ image. RefusesPlan names image index.old.opening fault)) }
-    ensures cause { IsErrOf result StartFault.Disk → Rose (D.faults disk.old) (D.faults disk.new) }
+    ensures cause { IsErrOf result StartFault.Disk → Fails D.Disk disk.old disk.new }
 
     // what it leaves
     ensures same { index.new ≡ index.old }
-    ensures disk { OnlyReads D.image D.faults D.write_faults disk.old disk.new }
+    ensures disk { ReadsDisk D.Disk disk.old disk.new }
 {
     let planner = planner_of(alloc, index)?;
     let leaf = last_leaf(index);

@@ -1,9 +1,9 @@
 //! Opening an index file.
 
-ghost use Rattle.std.specs.Prelude.{◌≡◌, ◌⊎◌, List, [], Ok, Err, Option, None, Some, IfErr, IfOk, IfSome, IsErrOf, MatchOption, OnErr, length};
+ghost use Rattle.std.specs.Prelude.{◌≡◌, ◌⊎◌, [], Ok, Err, Option, None, Some, IfErr, IfOk, IfSome, IsErrOf, MatchOption, OnErr, OnOk, length};
 ghost use Rattle.std.specs.Fn.{FnOnceReturnsAt};
-ghost use Rattle.dg_disk.specs.Counts.{Rose, raised_by};
-ghost use Rattle.dg_disk.specs.Frame.{OnlyReads, ReadsAndSyncs};
+ghost use Rattle.dg_disk.specs.Calls.{Fails, IsOnDevice, ReadsDisk, SyncsDisk};
+ghost use Rattle.dg_disk.specs.Counts.{raised_by};
 ghost use Rattle.dg_file.specs.Images.{taken_after};
 ghost use Rattle.dg_file.specs.Index.{opening_bytes};
 ghost use Rattle.dg_file.specs.OpeningBytes.{TakesUpToOpening, blank_bytes};
@@ -68,11 +68,11 @@ fn read_current<R: Threads + Sync, D: Disk, T: Drop, F: FnOnce(&Set) -> T>(
 
     // why there are none
     ensures refused { IfErr result (λ fault. IfSome (D.image disk.old) (λ image. RefusesStart fault image)) }
-    ensures cause { IsErrOf result StartFault.Disk → Rose (D.faults disk.old) (D.faults disk.new) }
+    ensures cause { IsErrOf result StartFault.Disk → Fails D.Disk disk.old disk.new }
 
     // what it leaves
     ensures same { index.new ≡ index.old }
-    ensures disk { OnlyReads D.image D.faults D.write_faults disk.old disk.new }
+    ensures disk { ReadsDisk D.Disk disk.old disk.new }
 {
     index.facts();
     let sources = recent_sources(alloc, index)?;
@@ -117,10 +117,11 @@ fn reopen<D: Disk>(
 
     // why there is none
     ensures refused { IfErr result (λ fault. IfSome (D.image disk.old) (λ image. RefusesStart fault image)) }
-    ensures cause { IsErrOf result StartFault.Disk → Rose (D.faults disk.old) (D.faults disk.new) }
+    ensures cause { IsErrOf result StartFault.Disk → Fails D.Disk disk.old disk.new }
 
     // what it leaves
-    ensures disk { ReadsAndSyncs D.image D.faults D.write_faults disk.old disk.new }
+    ensures disk { SyncsDisk D.Disk disk.old disk.new }
+    ensures settled { OnOk result (IsOnDevice D.Disk disk.new) }
 {
     match Index::reopen(alloc, disk, names) {
         Ok(index) => Ok(Some(index)),
@@ -154,10 +155,10 @@ fn open_index<R: Threads + Sync, D: Disk, T: Drop, F: FnOnce(&Set) -> T>(
 
     // why there is none
     ensures refused { IfErr result (λ fault. IfSome (D.image disk.old) (λ image. RefusesStart fault image)) }
-    ensures cause { IsErrOf result StartFault.Disk → Rose (D.faults disk.old) (D.faults disk.new) }
+    ensures cause { IsErrOf result StartFault.Disk → Fails D.Disk disk.old disk.new }
 
     // what it leaves
-    ensures disk { OnlyReads D.image D.faults D.write_faults disk.old disk.new }
+    ensures disk { ReadsDisk D.Disk disk.old disk.new }
 {
     law_images_start_as_they_stand();
     let Current { now, recent, made } = read_current(rt, alloc, &mut index, disk, &names, make)?;
@@ -183,7 +184,7 @@ fn open_index<R: Threads + Sync, D: Disk, T: Drop, F: FnOnce(&Set) -> T>(
 /// `StartFault::BadRecent` with the number of the first recent event that no change comes to or that is out of its
 /// time; `StartFault::Disk` where the disk failed, `StartFault::Memory` for want of memory. Over an image of a history
 /// a start that fails reads no more than one that does not; of a blank file the 18 bytes of a header are read where it
-/// has as many, else none.
+/// has as many, else none. After a start all that the disk has is on the device.
 pub fn open<R: Threads + Sync, D: Disk, T: Drop, F: FnOnce(&Set) -> T>(
     rt: &R,
     alloc: Global,
@@ -202,10 +203,11 @@ pub fn open<R: Threads + Sync, D: Disk, T: Drop, F: FnOnce(&Set) -> T>(
     ensures refused { IfErr result (λ fault. IfSome (D.image disk.old) (λ image. RefusesStart fault image)) }
     ensures never { IfErr result (λ fault. IfSome (D.image disk.old) (λ image. (z : Option History) → StandsAs z image
         → (fault ≡ StartFault.Disk) ⊎ (fault ≡ StartFault.Memory))) }
-    ensures cause { IsErrOf result StartFault.Disk → Rose (D.faults disk.old) (D.faults disk.new) }
+    ensures cause { IsErrOf result StartFault.Disk → Fails D.Disk disk.old disk.new }
 
     // what it leaves
-    ensures disk { ReadsAndSyncs D.image D.faults D.write_faults disk.old disk.new }
+    ensures disk { SyncsDisk D.Disk disk.old disk.new }
+    ensures settled { OnOk result (IsOnDevice D.Disk disk.new) }
 {
     law_images_start_as_they_stand();
     let mut names = Names::new(alloc);

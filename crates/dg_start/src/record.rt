@@ -4,8 +4,7 @@ ghost use Rattle.std.specs.Prelude.{◌≡◌, ◌≤◌, Ok, IfOk, IfErr, IfSom
 ghost use Rattle.std.specs.List.{All};
 ghost use Rattle.std.specs.Map.{lookup};
 ghost use Rattle.dg_columns.specs.Ranges.{BodyFits};
-ghost use Rattle.dg_disk.specs.Counts.{Rose};
-ghost use Rattle.dg_disk.specs.Frame.{OnlyReads};
+ghost use Rattle.dg_disk.specs.Calls.{Fails, ReadsDisk};
 ghost use Rattle.dg_file.specs.Images.{IsOpenedAs};
 ghost use Rattle.dg_fold.specs.BytesRead.{asked_length, kept_in};
 ghost use Rattle.dg_graph.specs.declared.limits.TheConstants.{NAMES_MAX};
@@ -47,10 +46,10 @@ fn read_column<D: Disk>(
     ensures takes { WhereTold (D.image disk.old)
         (λ image. TakesOrFails result (length (kept_in image index.old.opening key col)) (D.taken disk.old) (D.taken disk.new)) }
     ensures same { index.new ≡ index.old }
-    ensures cause { IsErrOf result RecordFault.Disk → Rose (D.faults disk.old) (D.faults disk.new) }
+    ensures cause { IsErrOf result RecordFault.Disk → Fails D.Disk disk.old disk.new }
 
     // what it leaves
-    ensures disk { OnlyReads D.image D.faults D.write_faults disk.old disk.new }
+    ensures disk { ReadsDisk D.Disk disk.old disk.new }
 {
     let bytes = index.fetch(disk, key, col)?;
     match read_events(alloc, &bytes, col, names) {
@@ -81,10 +80,10 @@ pub fn read_record<D: Disk>(
     ensures takes { WhereTold (D.image disk.old)
         (λ image. TakesOrFails result (asked_length (kept_in image index.old.opening) all_columns source.key) (D.taken disk.old) (D.taken disk.new)) }
     ensures same { index.new ≡ index.old }
-    ensures cause { IsErrOf result RecordFault.Disk → Rose (D.faults disk.old) (D.faults disk.new) }
+    ensures cause { IsErrOf result RecordFault.Disk → Fails D.Disk disk.old disk.new }
 
     // what it leaves
-    ensures disk { OnlyReads D.image D.faults D.write_faults disk.old disk.new }
+    ensures disk { ReadsDisk D.Disk disk.old disk.new }
 {
     let EventSource { key, count, .. } = source;
     let structure = read_column(alloc, index, disk, names, key, Column::Structure)?;

@@ -2,8 +2,7 @@
 
 ghost use Rattle.std.specs.Prelude.{◌≤◌, IfOk, IfErr, IfSome, IsErrOf, ◌≡◌};
 ghost use Rattle.std.specs.List.{All};
-ghost use Rattle.dg_disk.specs.Counts.{Rose};
-ghost use Rattle.dg_disk.specs.Frame.{OnlyReads};
+ghost use Rattle.dg_disk.specs.Calls.{Fails, ReadsDisk};
 ghost use Rattle.dg_file.specs.Images.{IsOpenedAs};
 ghost use Rattle.dg_graph.specs.declared.limits.TheConstants.{NAMES_MAX};
 ghost use Rattle.dg_start.specs.Calls.{AreReadEvents, TakesOrFails};
@@ -43,11 +42,11 @@ pub fn read_sources<D: Disk>(
     // why there are none
     ensures refused { IfErr result (λ fault. WhereTold (D.image disk.old)
         (λ image. IsReason fault (events_in_sources image names index.old.opening (sources_in sources.now)))) }
-    ensures cause { IsErrOf result StartFault.Disk → Rose (D.faults disk.old) (D.faults disk.new) }
+    ensures cause { IsErrOf result StartFault.Disk → Fails D.Disk disk.old disk.new }
 
     // what it leaves
     ensures same { index.new ≡ index.old }
-    ensures disk { OnlyReads D.image D.faults D.write_faults disk.old disk.new }
+    ensures disk { ReadsDisk D.Disk disk.old disk.new }
 {
     let mut events = Vec::new(alloc);
     for source in sources {

@@ -1,8 +1,7 @@
 //! Comparing the tops and downs of an index with those that its events determine.
 
 ghost use Rattle.std.specs.Prelude.{◌≡◌, IfErr, IfSome, IsErrOf, None, OnOk, length};
-ghost use Rattle.dg_disk.specs.Counts.{Rose};
-ghost use Rattle.dg_disk.specs.Frame.{OnlyReads};
+ghost use Rattle.dg_disk.specs.Calls.{Fails, ReadsDisk};
 ghost use Rattle.dg_file.specs.Images.{IsOpenedAs};
 ghost use Rattle.dg_start.specs.EventSources.{WhereTold};
 ghost use Rattle.dg_verify.specs.Deltas.{first_unlike, has_kind, unlike_of};
@@ -49,11 +48,11 @@ fn compare_delta<D: Disk>(
         (λ image. unlike_of image index.old.opening kind key structure.now node_attrs.now edge_attrs.now ≡ None)) }
     ensures stopped { IfErr result (λ stop. WhereTold (D.image disk.old)
         (λ image. IsWrong stop (keyed_column key (unlike_of image index.old.opening kind key structure.now node_attrs.now edge_attrs.now)))) }
-    ensures cause { IsErrOf result Stop.Disk → Rose (D.faults disk.old) (D.faults disk.new) }
+    ensures cause { IsErrOf result Stop.Disk → Fails D.Disk disk.old disk.new }
 
     // what it leaves
     ensures same { index.new ≡ index.old }
-    ensures disk { OnlyReads D.image D.faults D.write_faults disk.old disk.new }
+    ensures disk { ReadsDisk D.Disk disk.old disk.new }
 {
     if has_kind(kind, key) {
         compare_columns(index, disk, key, structure, node_attrs, edge_attrs)
@@ -76,11 +75,11 @@ pub fn compare_deltas<D: Disk>(
         (λ image. first_unlike image index.old.opening kind due.now.keys.items due.now.segment.deltas ≡ None)) }
     ensures stopped { IfErr result (λ stop. WhereTold (D.image disk.old)
         (λ image. IsWrong stop (first_unlike image index.old.opening kind due.now.keys.items due.now.segment.deltas))) }
-    ensures cause { IsErrOf result Stop.Disk → Rose (D.faults disk.old) (D.faults disk.new) }
+    ensures cause { IsErrOf result Stop.Disk → Fails D.Disk disk.old disk.new }
 
     // what it leaves
     ensures same { index.new ≡ index.old }
-    ensures disk { OnlyReads D.image D.faults D.write_faults disk.old disk.new }
+    ensures disk { ReadsDisk D.Disk disk.old disk.new }
 {
     let rows = due.segment.delta_rows();
     let mut columns = due.segment.delta_columns();

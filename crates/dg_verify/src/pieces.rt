@@ -1,15 +1,13 @@
 //! Reading the recent pieces of an index, and comparing the older ones.
 
-ghost use Rattle.std.specs.Prelude.{◌≡◌, ◌+◌, ◌≤◌, [], IfErr, IfOk, IfSome, IsErrOf, Ok, OnOk, Some, drop, length, slice_get, take, true};
+ghost use Rattle.std.specs.Prelude.{◌≡◌, ◌+◌, ◌≤◌, [], IfErr, IfSome, IsErrOf, Ok, OnOk, Some, drop, length, slice_get, take};
 ghost use Rattle.std.specs.List.{All};
 ghost use Rattle.dg_columns.specs.NamesInRange.{NamesFit};
-ghost use Rattle.dg_disk.specs.Counts.{Rose};
-ghost use Rattle.dg_disk.specs.Frame.{OnlyReads};
+ghost use Rattle.dg_disk.specs.Calls.{Fails, ReadsDisk};
 ghost use Rattle.dg_file.specs.Images.{IsOpenedAs};
 ghost use Rattle.dg_graph.specs.declared.event.Event.{Event};
-ghost use Rattle.dg_history.specs.declared.limits.TheConstants.{EVENTS_MAX};
 ghost use Rattle.dg_index.specs.OpenedIndex.{event_total, opening};
-ghost use Rattle.dg_sound.specs.OwnEvents.{has_batch_ends, is_recent, list_total, piece_length, piece_start, with_older, with_piece_events, with_pieces, with_recent};
+ghost use Rattle.dg_sound.specs.OwnEvents.{has_batch_ends, is_recent, piece_length, piece_start, with_older, with_piece_events, with_pieces, with_recent};
 ghost use Rattle.dg_start.specs.EventSources.{WhereTold};
 ghost use Rattle.dg_verify.specs.EventTests.{IsRead, IsStopBehind, tested};
 ghost use Rattle.dg_verify.specs.Verification.{AreSoFar, IsStop, opened_with};
@@ -93,11 +91,11 @@ fn compare_older<D: Disk>(
         (λ image. with_older image (opened_with index.old.opening []) events.now number before batch ≡ Ok events.now)) }
     ensures stopped { IfErr result (λ stop. WhereTold (D.image disk.old)
         (λ image. IsStop stop (with_older image (opened_with index.old.opening []) events.now number before batch))) }
-    ensures cause { IsErrOf result Stop.Disk → Rose (D.faults disk.old) (D.faults disk.new) }
+    ensures cause { IsErrOf result Stop.Disk → Fails D.Disk disk.old disk.new }
 
     // what it leaves
     ensures same { index.new ≡ index.old }
-    ensures disk { OnlyReads D.image D.faults D.write_faults disk.old disk.new }
+    ensures disk { ReadsDisk D.Disk disk.old disk.new }
 {
     let key = Key::Piece(number);
     if !has_batch_ends(before, batch, events) {
@@ -132,11 +130,11 @@ fn add_recent<D: Disk>(
     ensures many { OnOk result (length own.new.events.items ≡ length own.old.events.items + piece_length index.old.opening before batch) }
     ensures stopped { IfErr result (λ stop. WhereTold (D.image disk.old)
         (λ image. IsStopBehind names.now own.new stop (tested names.now own.old (with_recent image (opened_with index.old.opening names.now) own.old.events.items number before batch)))) }
-    ensures cause { IsErrOf result Stop.Disk → Rose (D.faults disk.old) (D.faults disk.new) }
+    ensures cause { IsErrOf result Stop.Disk → Fails D.Disk disk.old disk.new }
 
     // what it leaves
     ensures same { index.new ≡ index.old }
-    ensures disk { OnlyReads D.image D.faults D.write_faults disk.old disk.new }
+    ensures disk { ReadsDisk D.Disk disk.old disk.new }
 {
     index.facts();
     let key = Key::Piece(number);
@@ -171,11 +169,11 @@ fn add_piece<D: Disk>(
     ensures so_far { OnOk result (AreSoFar index.old.opening (before + batch.events) own.new.events.items) }
     ensures stopped { IfErr result (λ stop. WhereTold (D.image disk.old)
         (λ image. IsStopBehind names.now own.new stop (tested names.now own.old (with_piece_events image (opened_with index.old.opening names.now) own.old.events.items number before batch)))) }
-    ensures cause { IsErrOf result Stop.Disk → Rose (D.faults disk.old) (D.faults disk.new) }
+    ensures cause { IsErrOf result Stop.Disk → Fails D.Disk disk.old disk.new }
 
     // what it leaves
     ensures same { index.new ≡ index.old }
-    ensures disk { OnlyReads D.image D.faults D.write_faults disk.old disk.new }
+    ensures disk { ReadsDisk D.Disk disk.old disk.new }
 {
     index.facts();
     if is_recent(index, before, batch) {
@@ -211,11 +209,11 @@ pub fn add_pieces<D: Disk>(
     // why there are none
     ensures stopped { IfErr result (λ stop. WhereTold (D.image disk.old)
         (λ image. IsStopBehind names.now own.new stop (tested names.now own.old (with_pieces image (opened_with index.old.opening names.now) own.old.events.items 0 0 index.old.opening.batches)))) }
-    ensures cause { IsErrOf result Stop.Disk → Rose (D.faults disk.old) (D.faults disk.new) }
+    ensures cause { IsErrOf result Stop.Disk → Fails D.Disk disk.old disk.new }
 
     // what it leaves
     ensures same { index.new ≡ index.old }
-    ensures disk { OnlyReads D.image D.faults D.write_faults disk.old disk.new }
+    ensures disk { ReadsDisk D.Disk disk.old disk.new }
 {
     index.facts();
     let mut before = 0;

@@ -4,8 +4,7 @@ ghost use Rattle.std.specs.Prelude.{◌≡◌, ◌<◌, ◌^◌, true, IfErr, If
 ghost use Rattle.std.specs.List.{All};
 ghost use Rattle.std.specs.Map.{lookup};
 ghost use Rattle.dg_columns.specs.NamesInRange.{NamesFit};
-ghost use Rattle.dg_disk.specs.Counts.{Rose};
-ghost use Rattle.dg_disk.specs.Frame.{OnlyReads};
+ghost use Rattle.dg_disk.specs.Calls.{Fails, ReadsDisk};
 ghost use Rattle.dg_file.specs.Images.{IsOpenedAs};
 ghost use Rattle.dg_graph.specs.declared.event.Event.{Event};
 ghost use Rattle.dg_history.specs.Keys.{same_key};
@@ -45,11 +44,11 @@ pub fn read_events<D: Disk>(
     ensures many { IfOk result (λ events. length events.items ≡ count) }
     ensures stopped { IfErr result (λ stop. WhereTold (D.image disk.old)
         (λ image. IsStop stop (keyed key (events_of_record image (opened_with index.old.opening names.now) key count)))) }
-    ensures cause { IsErrOf result Stop.Disk → Rose (D.faults disk.old) (D.faults disk.new) }
+    ensures cause { IsErrOf result Stop.Disk → Fails D.Disk disk.old disk.new }
 
     // what it leaves
     ensures same { index.new ≡ index.old }
-    ensures disk { OnlyReads D.image D.faults D.write_faults disk.old disk.new }
+    ensures disk { ReadsDisk D.Disk disk.old disk.new }
 {
     // The bounds of the times are for the recent events alone.
     let ends = Ends { first: 0, last: 0 };
@@ -68,11 +67,11 @@ fn is_column<D: Disk>(
     requires image { IfSome (D.image disk.old) (λ image. IsOpenedAs image index.old.opening) }
     ensures is { IfOk result (λ is. WhereTold (D.image disk.old)
         (λ image. is ≡ bytes_eq (column_at image (entry_at index.old.opening key) col) due.now)) }
-    ensures cause { IsErrOf result FetchFault.Disk → Rose (D.faults disk.old) (D.faults disk.new) }
+    ensures cause { IsErrOf result FetchFault.Disk → Fails D.Disk disk.old disk.new }
 
     // what it leaves
     ensures same { index.new ≡ index.old }
-    ensures disk { OnlyReads D.image D.faults D.write_faults disk.old disk.new }
+    ensures disk { ReadsDisk D.Disk disk.old disk.new }
 {
     if index.entry(key).is_none() {
         return Ok(due.is_empty());
@@ -96,11 +95,11 @@ pub fn compare_columns<D: Disk>(
         (λ image. unlike image index.old.opening key structure.now node_attrs.now edge_attrs.now ≡ None)) }
     ensures stopped { IfErr result (λ stop. WhereTold (D.image disk.old)
         (λ image. IsWrong stop (keyed_column key (unlike image index.old.opening key structure.now node_attrs.now edge_attrs.now)))) }
-    ensures cause { IsErrOf result Stop.Disk → Rose (D.faults disk.old) (D.faults disk.new) }
+    ensures cause { IsErrOf result Stop.Disk → Fails D.Disk disk.old disk.new }
 
     // what it leaves
     ensures same { index.new ≡ index.old }
-    ensures disk { OnlyReads D.image D.faults D.write_faults disk.old disk.new }
+    ensures disk { ReadsDisk D.Disk disk.old disk.new }
 {
     let is_structure = is_column(index, disk, key, Column::Structure, structure)?;
     if !is_structure {

@@ -3,8 +3,7 @@
 ghost use Rattle.std.specs.Prelude.{◌≡◌, ◌≤◌, [], IfErr, IfOk, IfSome, IsErrOf, List, None, Ok, OnOk, Result, length, map, true};
 ghost use Rattle.std.specs.List.{All};
 ghost use Rattle.dg_columns.specs.NamesInRange.{NamesFit};
-ghost use Rattle.dg_disk.specs.Counts.{Rose};
-ghost use Rattle.dg_disk.specs.Frame.{OnlyReads};
+ghost use Rattle.dg_disk.specs.Calls.{Fails, ReadsDisk};
 ghost use Rattle.dg_build.specs.declared.fault.BuildFault.TheVariants.{Memory};
 ghost use Rattle.dg_graph.specs.declared.element.Column.{Column};
 ghost use Rattle.dg_graph.specs.declared.event.Event.{Event};
@@ -63,11 +62,11 @@ fn read_all<D: Disk>(
     // why there are none
     ensures stopped { IfErr result (λ stop. WhereTold (D.image disk.old)
         (λ image. IsStopBehind names.now own.new stop (own_events image (opened_with index.old.opening names.now)))) }
-    ensures cause { IsErrOf result Stop.Disk → Rose (D.faults disk.old) (D.faults disk.new) }
+    ensures cause { IsErrOf result Stop.Disk → Fails D.Disk disk.old disk.new }
 
     // what it leaves
     ensures same { index.new ≡ index.old }
-    ensures disk { OnlyReads D.image D.faults D.write_faults disk.old disk.new }
+    ensures disk { ReadsDisk D.Disk disk.old disk.new }
 {
     add_lists(alloc, index, disk, names, own)?;
     add_pieces(alloc, index, disk, names, own)
@@ -152,11 +151,11 @@ fn compare_all<R: Threads, D: Disk>(
         (λ image. soundness_of image (opened_with index.old.opening names.now) ≡ Sound total)) }
     ensures stopped { IfErr result (λ stop. WhereTold (D.image disk.old)
         (λ image. IsUnsound stop (soundness_of image (opened_with index.old.opening names.now)))) }
-    ensures cause { IsErrOf result Stop.Disk → Rose (D.faults disk.old) (D.faults disk.new) }
+    ensures cause { IsErrOf result Stop.Disk → Fails D.Disk disk.old disk.new }
 
     // what it leaves
     ensures same { index.new ≡ index.old }
-    ensures disk { OnlyReads D.image D.faults D.write_faults disk.old disk.new }
+    ensures disk { ReadsDisk D.Disk disk.old disk.new }
 {
     index.facts();
     let mut own = OwnEvents::new(alloc);
@@ -192,11 +191,11 @@ pub fn verify<R: Threads, D: Disk>(
 ) -> Result<Soundness, VerifyFault>
     requires image { IfSome (D.image disk.old) (λ image. opening image ≡ Ok (record { index = index.old.opening; names = names.now })) }
     ensures sound { IfOk result (λ s. IfSome (D.image disk.old) (λ image. s ≡ soundness_of image (record { index = index.old.opening; names = names.now }))) }
-    ensures cause { IsErrOf result VerifyFault.Disk → Rose (D.faults disk.old) (D.faults disk.new) }
+    ensures cause { IsErrOf result VerifyFault.Disk → Fails D.Disk disk.old disk.new }
 
     // what it leaves
     ensures same { index.new ≡ index.old }
-    ensures disk { OnlyReads D.image D.faults D.write_faults disk.old disk.new }
+    ensures disk { ReadsDisk D.Disk disk.old disk.new }
 {
     match compare_all(rt, alloc, index, disk, names) {
         Ok(total) => Ok(Soundness::Sound(total)),

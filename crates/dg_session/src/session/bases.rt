@@ -1,24 +1,18 @@
 //! Sets of nodes that handles hold.
 
-ghost use Rattle.std.specs.Prelude.{◌≡◌, ℕ, ◌+◌, ◌<◌, IfErr, IfSome, IsErrOf, OnErr, OnOk, List, [], ◌∷◌, Ok, Option, None, Some, IfOk, length};
-ghost use Rattle.dg_disk.specs.Counts.{Rose as DiskRose};
-ghost use Rattle.dg_disk.specs.Frame.{OnlyReads};
-ghost use Rattle.dg_fold.specs.BytesRead.{Takes, TakesAtMost};
+ghost use Rattle.std.specs.Prelude.{◌≡◌, ◌+◌, ◌<◌, IfSome, IsErrOf, OnErr, OnOk, [], ◌∷◌, Ok, Option, None, Some, IfOk, length};
+ghost use Rattle.dg_disk.specs.Calls.{Fails, ReadsDisk};
 ghost use Rattle.dg_graph.specs.Composition.{applied};
 ghost use Rattle.dg_graph.specs.Elements.{shown};
 ghost use Rattle.dg_machine.specs.declared.limits.TheConstants.{HANDLE_MAX, LIVE_HANDLES_MAX};
 ghost use Rattle.dg_machine.specs.Answer.{headed};
 ghost use Rattle.dg_machine.specs.declared.stands.Stands.TheVariants as Stands;
 ghost use Rattle.dg_machine.specs.MachineState.{MachineState};
-ghost use Rattle.dg_history.specs.declared.node.NodeId.TheVariants.{Root};
-ghost use Rattle.dg_plan.specs.IndexGraph.{arcs_of};
-ghost use Rattle.dg_plan.specs.Walks.{IsPlan, weight_of};
-ghost use Rattle.dg_machine.specs.Planning.{record_edges_in};
 ghost use Rattle.dg_retrieval.specs.NamesThere.{NamesAreThere};
-ghost use Rattle.dg_session.specs.Damage.{DamageIn, MeetsNone, Node_set, TellsNodeDamage};
-ghost use Rattle.dg_session.specs.Reads.{HoldsNodeFor, ReadsIn, with_new_handles};
-ghost use Rattle.dg_session.specs.Session.{ComesTo, StandsFor, node_needs, refused_by};
-ghost use Rattle.dg_start.specs.StoredHistory.{IsHeldBy};
+ghost use Rattle.dg_session.specs.Calls.{ReadsFile};
+ghost use Rattle.dg_session.specs.Damage.{TellsNodeDamage};
+ghost use Rattle.dg_session.specs.Reads.{HoldsNodeFor, with_new_handles};
+ghost use Rattle.dg_session.specs.Session.{ComesTo, HoldsImage, StandsFor, node_needs, refused_by};
 ghost use Rattle.dg_batch.specs.declared.stop.Stop.TheVariants as stop;
 
 use super::{Session, headed};
@@ -64,7 +58,7 @@ impl Session {
         disk: &mut D,
     ) -> Result<NodeLead, RetrievalFault>
         requires free { refused_by self.old.parts 0 (node_needs node) ≡ None }
-        requires image { IfSome (D.image disk.old) (λ image. IsHeldBy self.old.parts.index self.old.parts.names image) }
+        requires image { HoldsImage self.old.parts (D.image disk.old) }
 
         // what is led to, of which the second holds over an image that stands for a state
         ensures named { IfOk result (λ r. NamesAreThere (length self.old.parts.names) r.delta.plus) }
@@ -72,12 +66,12 @@ impl Session {
             → HoldsNodeFor m node cols (D.taken disk.old) (D.taken disk.new) result) }
 
         // why nothing is
-        ensures cause { IsErrOf result RetrievalFault.Disk → DiskRose (D.faults disk.old) (D.faults disk.new) }
+        ensures cause { IsErrOf result RetrievalFault.Disk → Fails D.Disk disk.old disk.new }
         ensures damage { TellsNodeDamage self.old.parts (D.image disk.old) (node, cols) result }
 
         // what it leaves
         ensures same { self.new ≡ self.old }
-        ensures disk { OnlyReads D.image D.faults D.write_faults disk.old disk.new }
+        ensures disk { ReadsDisk D.Disk disk.old disk.new }
     {
         let Some(index) = &mut self.held.live.history.index else {
             unreachable!()
@@ -119,20 +113,18 @@ impl Session {
         cols: Columns,
         disk: &mut D,
     ) -> Result<Reply, Halt>
-        requires image { IfSome (D.image disk.old) (λ image. IsHeldBy self.old.parts.index self.old.parts.names image) }
+        requires image { HoldsImage self.old.parts (D.image disk.old) }
 
         // what it comes to
         ensures comes { ComesTo (Command.Materialise node cols) [] self.old.parts (D.image disk.old) self.new.parts (D.image disk.new) result }
         ensures no_stop { (stop : Stop) → result ≡ Err (Halt.Stop stop) → ⊥ }
 
         // why it is refused for a read
-        ensures store_read { IsErrOf result (Halt.Refusal Refusal.StoreRead) → DiskRose (D.faults disk.old) (D.faults disk.new) }
-        ensures damaged { DamageIn (Command.Materialise node cols) self.old.parts (D.image disk.old) result }
-        ensures undamaged { OnOk result (MeetsNone (Node_set node cols) self.old.parts (D.image disk.old)) }
+        ensures store_read { IsErrOf result (Halt.Refusal Refusal.StoreRead) → Fails D.Disk disk.old disk.new }
 
         // what it reads and leaves
-        ensures reads { ReadsIn (Command.Materialise node cols) self.old.parts (D.image disk.old) result (D.taken disk.old) (D.taken disk.new) }
-        ensures disk { OnlyReads D.image D.faults D.write_faults disk.old disk.new }
+        ensures file { ReadsFile D.Disk (Command.Materialise node cols) self.old.parts disk.old disk.new result }
+        ensures disk { ReadsDisk D.Disk disk.old disk.new }
     {
         if let Some(refusal) = self.refused_node(node) {
             return Err(Halt::Refusal(refusal));

@@ -1,22 +1,18 @@
 //! Commands that write: an index is made, a batch is added.
 
-ghost use Rattle.std.specs.Prelude.{◌≡◌, ◌+◌, ◌<◌, ◌≤◌, IfSome, IsErrOf, OnOk, List, [], Ok, Err, Option, None, Some, is_some};
+ghost use Rattle.std.specs.Prelude.{◌≡◌, ◌+◌, ◌<◌, ◌≤◌, IsErrOf, List, [], Ok, Err, Option, None, Some};
 ghost use Rattle.dg_append.specs.Faults.{OnlyReadFailed};
-ghost use Rattle.dg_disk.specs.Counts.{Rose as DiskRose};
-ghost use Rattle.dg_disk.specs.Frame.{GoesOn};
-ghost use Rattle.dg_io.specs.Frame.{Advances};
-ghost use Rattle.dg_io.specs.Told.{CountRose};
+ghost use Rattle.dg_disk.specs.Calls.{FailsToWrite, LeftByCrash};
+ghost use Rattle.dg_io.specs.Calls.{TakesFrom};
 ghost use Rattle.dg_io.specs.LinesState.{told, NeedsByte};
 ghost use Rattle.dg_history.specs.declared.limits.TheConstants.{BATCH_LINES_MAX};
 ghost use Rattle.dg_graph.specs.Lines.{ScriptLine};
 ghost use Rattle.dg_machine.specs.Answer.{headed};
 ghost use Rattle.dg_machine.specs.Needs.{needs};
+ghost use Rattle.dg_session.specs.Calls.{HaltsByCause, ReadsFile, TreatsDisk};
 ghost use Rattle.dg_session.specs.BatchCommand.{barred, command_with};
-ghost use Rattle.dg_ask.specs.HeldIndex.{events_held};
-ghost use Rattle.dg_session.specs.Damage.{Batch_of, DamageIn, MeetsNone};
 ghost use Rattle.dg_session.specs.Reads.{ReadsIn};
-ghost use Rattle.dg_session.specs.Session.{ComesTo, TakesLines, is_too_full, refused_by};
-ghost use Rattle.dg_start.specs.StoredHistory.{IsHeldBy};
+ghost use Rattle.dg_session.specs.Session.{ComesTo, HoldsImage, LeavesCommand, TakesLines, is_too_full, refused_by};
 
 use super::{Session, headed};
 use crate::batch_command::BatchCommand;
@@ -49,19 +45,20 @@ impl Session {
 
     // An empty index with these parameters.
     pub(super) fn create<D: Disk>(&mut self, disk: &mut D, params: Params) -> Result<Reply, Halt>
-        requires image { IfSome (D.image disk.old) (λ image. IsHeldBy self.old.parts.index self.old.parts.names image) }
+        requires image { HoldsImage self.old.parts (D.image disk.old) }
 
         // what it comes to
         ensures comes { ComesTo (Command.Create params.l params.k params.function) [] self.old.parts (D.image disk.old) self.new.parts (D.image disk.new) result }
 
         // why it stops
-        ensures store { IsErrOf result (Halt.Stop Stop.Store) → DiskRose (D.write_faults disk.old) (D.write_faults disk.new) }
+        ensures store { IsErrOf result (Halt.Stop Stop.Store) → FailsToWrite D.Disk disk.old disk.new }
         ensures no_read { IsErrOf result (Halt.Stop Stop.Read) → ⊥ }
         ensures no_limit { IsErrOf result (Halt.Stop Stop.Limit) → ⊥ }
 
-        // what it reads and leaves
+        // what it reads and leaves, and what a crash leaves
         ensures reads { ReadsIn (Command.Create params.l params.k params.function) self.old.parts (D.image disk.old) result (D.taken disk.old) (D.taken disk.new) }
-        ensures disk { GoesOn D.image D.faults D.write_faults disk.old disk.new }
+        ensures disk { TreatsDisk D.Disk disk.old disk.new result }
+        ensures crash { LeftByCrash D.Disk disk.old disk.new (LeavesCommand (Command.Create params.l params.k params.function) [] self.old.parts result) }
     {
         if let Some(refusal) = self.refused_creation(params) {
             return Err(Halt::Refusal(refusal));
@@ -112,28 +109,22 @@ impl Session {
     ) -> Result<Reply, Halt>
         requires some { 1 ≤ count }
         requires few { count ≤ BATCH_LINES_MAX }
-        requires image { IfSome (D.image disk.old) (λ image. IsHeldBy self.old.parts.index self.old.parts.names image) }
+        requires image { HoldsImage self.old.parts (D.image disk.old) }
 
-        // what it comes to
+        // what it comes to, and what a crash leaves
         ensures comes { (got : List ScriptLine)
             × TakesLines count (told lines.old (S.left source.old)) got (told lines.new (S.left source.new)) result
-            × ComesTo (command_with which count) got self.old.parts (D.image disk.old) self.new.parts (D.image disk.new) result }
+            × ComesTo (command_with which count) got self.old.parts (D.image disk.old) self.new.parts (D.image disk.new) result
+            × LeftByCrash D.Disk disk.old disk.new (LeavesCommand (command_with which count) got self.old.parts result) }
 
-        // why it stops
-        ensures store { IsErrOf result (Halt.Stop Stop.Store) → DiskRose (D.write_faults disk.old) (D.write_faults disk.new) }
-        ensures read { IsErrOf result (Halt.Stop Stop.Read) → CountRose (S.faults source.old) (S.faults source.new) }
-        ensures limit { IsErrOf result (Halt.Stop Stop.Limit) → (lines.new.taken ≡ lines.new.limit) × NeedsByte lines.new }
+        // why it halts
+        ensures causes { HaltsByCause S.Source D.Disk source.old disk.old lines.new source.new disk.new result }
         ensures due { 1 ≤ count → lines.old.taken ≡ lines.old.limit → NeedsByte lines.old → result ≡ Err (Halt.Stop Stop.Limit) }
-        ensures store_read { IsErrOf result (Halt.Refusal Refusal.StoreRead)
-            → OnlyReadFailed D.faults D.write_faults disk.old disk.new }
-        ensures damaged { DamageIn (command_with which count) self.old.parts (D.image disk.old) result }
-        ensures undamaged { OnOk result (MeetsNone (Batch_of count) self.old.parts (D.image disk.old)) }
 
         // what it takes and leaves
-        ensures reads { ReadsIn (command_with which count) self.old.parts (D.image disk.old) result (D.taken disk.old) (D.taken disk.new) }
-        ensures lines { Advances lines.old (S.left source.old) (S.faults source.old)
-            lines.new (S.left source.new) (S.faults source.new) }
-        ensures disk { GoesOn D.image D.faults D.write_faults disk.old disk.new }
+        ensures file { ReadsFile D.Disk (command_with which count) self.old.parts disk.old disk.new result }
+        ensures lines { TakesFrom S.Source lines.old source.old lines.new source.new }
+        ensures disk { TreatsDisk D.Disk disk.old disk.new result }
     {
         let barred = self.barred(which, count);
         let batch = read_batch(
@@ -166,23 +157,22 @@ impl Session {
     ) -> Result<Reply, Halt>
         requires some { 1 ≤ count }
         requires few { count ≤ BATCH_LINES_MAX }
-        requires image { IfSome (D.image disk.old) (λ image. IsHeldBy self.old.parts.index self.old.parts.names image) }
+        requires image { HoldsImage self.old.parts (D.image disk.old) }
 
         // what it comes to
         ensures comes { ComesTo (Command.Workload seed count) [] self.old.parts (D.image disk.old) self.new.parts (D.image disk.new) result }
 
         // why it stops
-        ensures store { IsErrOf result (Halt.Stop Stop.Store) → DiskRose (D.write_faults disk.old) (D.write_faults disk.new) }
+        ensures store { IsErrOf result (Halt.Stop Stop.Store) → FailsToWrite D.Disk disk.old disk.new }
         ensures no_read { IsErrOf result (Halt.Stop Stop.Read) → ⊥ }
         ensures no_limit { IsErrOf result (Halt.Stop Stop.Limit) → ⊥ }
         ensures store_read { IsErrOf result (Halt.Refusal Refusal.StoreRead)
-            → OnlyReadFailed D.faults D.write_faults disk.old disk.new }
-        ensures damaged { DamageIn (Command.Workload seed count) self.old.parts (D.image disk.old) result }
-        ensures undamaged { OnOk result (MeetsNone (Batch_of count) self.old.parts (D.image disk.old)) }
+            → OnlyReadFailed D.Disk disk.old disk.new }
 
-        // what it takes and leaves
-        ensures reads { ReadsIn (Command.Workload seed count) self.old.parts (D.image disk.old) result (D.taken disk.old) (D.taken disk.new) }
-        ensures disk { GoesOn D.image D.faults D.write_faults disk.old disk.new }
+        // what it takes and leaves, and what a crash leaves
+        ensures file { ReadsFile D.Disk (Command.Workload seed count) self.old.parts disk.old disk.new result }
+        ensures disk { TreatsDisk D.Disk disk.old disk.new result }
+        ensures crash { LeftByCrash D.Disk disk.old disk.new (LeavesCommand (Command.Workload seed count) [] self.old.parts result) }
     {
         // It is barred by what bars a load.
         if let Some(refusal) = self.barred(BatchCommand::Load, count) {

@@ -1,15 +1,14 @@
 //! How a session begins: from the file that the disk has, checked or not.
 
-ghost use Rattle.std.specs.Prelude.{◌≡◌, ◌⊎◌, ℕ, ◌+◌, ◌<◌, IfErr, IfSome, IsErrOf, OnOk, List, Ok, Option, None, not, IfOk};
-ghost use Rattle.dg_disk.specs.Counts.{Rose as DiskRose};
-ghost use Rattle.dg_disk.specs.Frame.{OnlyReads, ReadsAndSyncs};
-ghost use Rattle.dg_append.specs.LiveHistories.{IsLive};
+ghost use Rattle.std.specs.Prelude.{◌≡◌, ◌⊎◌, ℕ, ◌+◌, ◌<◌, IfErr, IfSome, IsErrOf, OnOk, Ok, Option, None, not, IfOk};
+ghost use Rattle.dg_disk.specs.Calls.{Fails, IsOnDevice, ReadsDisk, SyncsDisk};
+ghost use Rattle.dg_append.specs.LiveHistories.{IsLiveHistory};
 ghost use Rattle.dg_graph.specs.Replay.{replay_from};
 ghost use Rattle.dg_history.specs.History.{History};
 ghost use Rattle.dg_index.specs.ImageOfHistory.{StandsAs};
 ghost use Rattle.dg_machine.specs.MachineState.{IsWithin, machine_at};
 ghost use Rattle.dg_pool.specs.Graphs.{graph_now, slot_graph};
-ghost use Rattle.dg_session.specs.Session.{StandsFor};
+ghost use Rattle.dg_session.specs.Session.{HoldsImage, StandsFor};
 ghost use Rattle.dg_session.specs.SessionStart.{FailsCheck, IsNew, IsSoundImage};
 ghost use Rattle.dg_start.specs.Calls.{TakesStart};
 ghost use Rattle.dg_start.specs.SessionStart.{RefusesStart, Starts};
@@ -47,7 +46,7 @@ impl Session {
         ensures new { IfOk result (λ session. IsNew limits session.parts) }
         ensures stands { IfOk result (λ session. IfSome (D.image disk.old) (λ image. (index : Option History)
             → StandsAs index image → StandsFor session.parts image (machine_at limits index))) }
-        ensures held { IfOk result (λ session. IfSome (D.image disk.new) (λ image. IsHeldBy session.parts.index session.parts.names image)) }
+        ensures held { IfOk result (λ session. HoldsImage session.parts (D.image disk.new)) }
 
         // the bytes read
         ensures takes { IfSome (D.image disk.old) (λ image. TakesStart result image (D.taken disk.old) (D.taken disk.new)) }
@@ -56,10 +55,11 @@ impl Session {
         ensures refused { IfErr result (λ fault. IfSome (D.image disk.old) (λ image. RefusesStart fault image)) }
         ensures never { IfErr result (λ fault. IfSome (D.image disk.old) (λ image. (index : Option History)
             → StandsAs index image → (fault ≡ StartFault.Disk) ⊎ (fault ≡ StartFault.Memory))) }
-        ensures cause { IsErrOf result StartFault.Disk → DiskRose (D.faults disk.old) (D.faults disk.new) }
+        ensures cause { IsErrOf result StartFault.Disk → Fails D.Disk disk.old disk.new }
 
         // what it leaves
-        ensures disk { ReadsAndSyncs D.image D.faults D.write_faults disk.old disk.new }
+        ensures disk { SyncsDisk D.Disk disk.old disk.new }
+        ensures settled { OnOk result (IsOnDevice D.Disk disk.new) }
     {
         let handles = Handles::new(alloc, limits.first_handle)?;
         match open_overlaid(rt, alloc, disk) {
@@ -83,7 +83,7 @@ impl Session {
         rt: &R,
         disk: &mut D,
     ) -> Result<Session, SessionFault>
-        requires image { IfSome (D.image disk.old) (λ image. IsHeldBy self.parts.index self.parts.names image) }
+        requires image { HoldsImage self.parts (D.image disk.old) }
 
         // the session
         ensures same { IfOk result (λ session. session ≡ self) }
@@ -91,10 +91,10 @@ impl Session {
 
         // why there is none
         ensures fails { IfErr result (λ fault. IfSome (D.image disk.old) (λ image. FailsCheck fault image)) }
-        ensures cause { IsErrOf result (SessionFault.Start StartFault.Disk) → DiskRose (D.faults disk.old) (D.faults disk.new) }
+        ensures cause { IsErrOf result (SessionFault.Start StartFault.Disk) → Fails D.Disk disk.old disk.new }
 
         // what it leaves
-        ensures disk { OnlyReads D.image D.faults D.write_faults disk.old disk.new }
+        ensures disk { ReadsDisk D.Disk disk.old disk.new }
     {
         match self.check(rt, disk) {
             Ok(()) => Ok(self),
@@ -112,16 +112,16 @@ impl Session {
         rt: &R,
         disk: &mut D,
     ) -> Result<(), SessionFault>
-        requires image { IfSome (D.image disk.old) (λ image. IsHeldBy self.old.parts.index self.old.parts.names image) }
+        requires image { HoldsImage self.old.parts (D.image disk.old) }
         ensures sound { OnOk result (IfSome (D.image disk.old) (λ image. IsSoundImage image)) }
 
         // why not
         ensures fails { IfErr result (λ fault. IfSome (D.image disk.old) (λ image. FailsCheck fault image)) }
-        ensures cause { IsErrOf result (SessionFault.Start StartFault.Disk) → DiskRose (D.faults disk.old) (D.faults disk.new) }
+        ensures cause { IsErrOf result (SessionFault.Start StartFault.Disk) → Fails D.Disk disk.old disk.new }
 
         // what it leaves
         ensures same { self.new ≡ self.old }
-        ensures disk { OnlyReads D.image D.faults D.write_faults disk.old disk.new }
+        ensures disk { ReadsDisk D.Disk disk.old disk.new }
     {
         if !self.has_index() {
             return Ok(());
@@ -144,9 +144,8 @@ fn open_overlaid<R: Threads + Sync, D: Disk>(
         Starts image (Ok (started_with (index_opening made.history.index) made.history.names made.history.now.graph made.history.recent.items)))) }
     ensures stands { IfOk result (λ made. IfSome (D.image disk.old) (λ image. (z : Option History) → StandsAs z image
         → KeepsHistory z (index_opening made.history.index) made.history.names made.history.now.graph made.history.recent.items)) }
-    ensures live { IfOk result IsLive }
+    ensures live { IfOk result (λ made. IsLiveHistory made × ((s : ℕ) → slot_graph made.pool.value s ≡ None)) }
     ensures held { IfOk result (λ made. IfSome (D.image disk.new) (λ image. IsHeldBy (index_opening made.history.index) made.history.names image)) }
-    ensures none { IfOk result (λ made. (s : ℕ) → slot_graph made.pool.value s ≡ None) }
 
     // the bytes read
     ensures takes { IfSome (D.image disk.old) (λ image. TakesStart result image (D.taken disk.old) (D.taken disk.new)) }
@@ -155,10 +154,11 @@ fn open_overlaid<R: Threads + Sync, D: Disk>(
     ensures refused { IfErr result (λ fault. IfSome (D.image disk.old) (λ image. RefusesStart fault image)) }
     ensures never { IfErr result (λ fault. IfSome (D.image disk.old) (λ image. (index : Option History)
         → StandsAs index image → (fault ≡ StartFault.Disk) ⊎ (fault ≡ StartFault.Memory))) }
-    ensures cause { IsErrOf result StartFault.Disk → DiskRose (D.faults disk.old) (D.faults disk.new) }
+    ensures cause { IsErrOf result StartFault.Disk → Fails D.Disk disk.old disk.new }
 
     // what it leaves
-    ensures disk { ReadsAndSyncs D.image D.faults D.write_faults disk.old disk.new }
+    ensures disk { SyncsDisk D.Disk disk.old disk.new }
+    ensures settled { OnOk result (IsOnDevice D.Disk disk.new) }
 {
     match open(
         rt,

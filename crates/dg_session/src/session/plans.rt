@@ -1,14 +1,14 @@
 //! Plans, certificates, and the listing of the records.
 
 ghost use Rattle.std.specs.Prelude.{◌≡◌, ℕ, ◌<◌, ◌≤◌, IfErr, IsErrOf, List, [], ◌∷◌, Ok, Err, Option, None, Some, true, false, IfOk};
-ghost use Rattle.dg_io.specs.Frame.{Advances};
-ghost use Rattle.dg_io.specs.Told.{CountRose};
+ghost use Rattle.dg_io.specs.Calls.{FailsToRead, TakesFrom};
 ghost use Rattle.dg_io.specs.LinesState.{told, NeedsByte};
 ghost use Rattle.dg_history.specs.declared.limits.TheConstants.{BATCH_LINES_MAX};
 ghost use Rattle.dg_graph.specs.Lines.{ScriptLine};
 ghost use Rattle.dg_machine.specs.Answer.{headed};
 ghost use Rattle.dg_history.specs.History.{in_range};
 ghost use Rattle.dg_ask.specs.HeldIndex.{span_held};
+ghost use Rattle.dg_session.specs.Calls.{IsAtLimit};
 ghost use Rattle.dg_session.specs.Parts.{Parts};
 ghost use Rattle.dg_session.specs.Session.{ComesTo, TakesLines, refused_by, retrieval_needs};
 ghost use Rattle.dg_start.specs.StoredHistory.{index_opening};
@@ -54,14 +54,13 @@ impl Session {
             × ComesTo (Command.Certify t cols count) got self.old.parts image self.new.parts image result }
 
         // why it stops
-        ensures read { IsErrOf result (Halt.Stop Stop.Read) → CountRose (S.faults source.old) (S.faults source.new) }
-        ensures limit { IsErrOf result (Halt.Stop Stop.Limit) → (lines.new.taken ≡ lines.new.limit) × NeedsByte lines.new }
+        ensures read { IsErrOf result (Halt.Stop Stop.Read) → FailsToRead S.Source source.old source.new }
+        ensures limit { IsErrOf result (Halt.Stop Stop.Limit) → IsAtLimit lines.new }
         ensures due { 1 ≤ count → lines.old.taken ≡ lines.old.limit → NeedsByte lines.old → result ≡ Err (Halt.Stop Stop.Limit) }
         ensures no_store { IsErrOf result (Halt.Stop Stop.Store) → ⊥ }
 
         // what it takes
-        ensures lines { Advances lines.old (S.left source.old) (S.faults source.old)
-            lines.new (S.left source.new) (S.faults source.new) }
+        ensures lines { TakesFrom S.Source lines.old source.old lines.new source.new }
     {
         let index = index_at(&self.held.live.history.index, t);
         let written = read_plan_lines(self.alloc, count, index.is_ok(), lines, source)?;

@@ -1,9 +1,8 @@
 //! Graphs as of instants, each as a new handle.
 
-ghost use Rattle.std.specs.Prelude.{◌≡◌, ◌+◌, ◌<◌, ◌≤◌, IfErr, IfSome, IsErrOf, OnErr, OnOk, [], ◌∷◌, Ok, Option, None, Some, not, length, map, take, IfOk};
+ghost use Rattle.std.specs.Prelude.{◌≡◌, ◌+◌, ◌<◌, ◌≤◌, IfSome, IsErrOf, OnErr, OnOk, [], Ok, Option, None, Some, not, length, map, take, IfOk};
 ghost use Rattle.std.specs.List.{All, list_any, sum};
-ghost use Rattle.dg_disk.specs.Counts.{Rose as DiskRose};
-ghost use Rattle.dg_disk.specs.Frame.{OnlyReads};
+ghost use Rattle.dg_disk.specs.Calls.{Fails, ReadsDisk};
 ghost use Rattle.dg_handles.specs.Handles.{BeginsOn, overlays_on};
 ghost use Rattle.dg_machine.specs.declared.command.TheConstants.{TIMES_MAX};
 ghost use Rattle.dg_machine.specs.declared.limits.TheConstants.{HANDLE_MAX, LIVE_HANDLES_MAX};
@@ -12,10 +11,10 @@ ghost use Rattle.dg_history.specs.History.{in_range};
 ghost use Rattle.dg_machine.specs.MachineState.{MachineState};
 ghost use Rattle.dg_retrieval.specs.Beginnings.{leads_in, led_to};
 ghost use Rattle.dg_retrieval.specs.NamesThere.{NamesAreThere};
-ghost use Rattle.dg_session.specs.Damage.{DamageIn, Graphs, MeetsNone, TellsGraphDamage};
-ghost use Rattle.dg_session.specs.Reads.{HasRetrieved, ReadsIn, RetrievesFor, bases_of, listed_by, with_new_handles};
-ghost use Rattle.dg_session.specs.Session.{ComesTo, StandsFor, refused_by, retrieval_needs};
-ghost use Rattle.dg_start.specs.StoredHistory.{IsHeldBy};
+ghost use Rattle.dg_session.specs.Calls.{ReadsFile};
+ghost use Rattle.dg_session.specs.Damage.{Graphs, TellsGraphDamage};
+ghost use Rattle.dg_session.specs.Reads.{HasRetrieved, RetrievesFor, bases_of, listed_by, with_new_handles};
+ghost use Rattle.dg_session.specs.Session.{ComesTo, HoldsImage, StandsFor, refused_by, retrieval_needs};
 ghost use Rattle.dg_batch.specs.declared.stop.Stop.TheVariants as stop;
 
 use super::plans::in_range;
@@ -67,7 +66,7 @@ impl Session {
         requires some { 1 ≤ length times.now }
         requires few { length times.now ≤ TIMES_MAX }
         requires free { refused_by self.old.parts 0 (retrieval_needs times.now (length times.now)) ≡ None }
-        requires image { IfSome (D.image disk.old) (λ image. IsHeldBy self.old.parts.index self.old.parts.names image) }
+        requires image { HoldsImage self.old.parts (D.image disk.old) }
 
         // what is retrieved, of which the second holds over an image that stands for a state
         ensures done { IfOk result (HasRetrieved self.old.parts times.now cols) }
@@ -75,12 +74,12 @@ impl Session {
             → RetrievesFor m self.old.parts times.now cols (D.taken disk.old) (D.taken disk.new) result) }
 
         // why nothing is
-        ensures cause { IsErrOf result RetrievalFault.Disk → DiskRose (D.faults disk.old) (D.faults disk.new) }
+        ensures cause { IsErrOf result RetrievalFault.Disk → Fails D.Disk disk.old disk.new }
         ensures damage { TellsGraphDamage self.old.parts (D.image disk.old) (times.now, cols) result }
 
         // what it leaves
         ensures same { self.new ≡ self.old }
-        ensures disk { OnlyReads D.image D.faults D.write_faults disk.old disk.new }
+        ensures disk { ReadsDisk D.Disk disk.old disk.new }
     {
         let Some(index) = &mut self.held.live.history.index else {
             unreachable!()
@@ -130,20 +129,18 @@ impl Session {
         cols: Columns,
         disk: &mut D,
     ) -> Result<Reply, Halt>
-        requires image { IfSome (D.image disk.old) (λ image. IsHeldBy self.old.parts.index self.old.parts.names image) }
+        requires image { HoldsImage self.old.parts (D.image disk.old) }
 
         // what it comes to
         ensures comes { ComesTo (Command.At t cols) [] self.old.parts (D.image disk.old) self.new.parts (D.image disk.new) result }
         ensures no_stop { (stop : Stop) → result ≡ Err (Halt.Stop stop) → ⊥ }
 
         // why it is refused for a read
-        ensures store_read { IsErrOf result (Halt.Refusal Refusal.StoreRead) → DiskRose (D.faults disk.old) (D.faults disk.new) }
-        ensures damaged { DamageIn (Command.At t cols) self.old.parts (D.image disk.old) result }
-        ensures undamaged { OnOk result (MeetsNone (Graphs (t ∷ []) cols) self.old.parts (D.image disk.old)) }
+        ensures store_read { IsErrOf result (Halt.Refusal Refusal.StoreRead) → Fails D.Disk disk.old disk.new }
 
         // what it reads and leaves
-        ensures reads { ReadsIn (Command.At t cols) self.old.parts (D.image disk.old) result (D.taken disk.old) (D.taken disk.new) }
-        ensures disk { OnlyReads D.image D.faults D.write_faults disk.old disk.new }
+        ensures file { ReadsFile D.Disk (Command.At t cols) self.old.parts disk.old disk.new result }
+        ensures disk { ReadsDisk D.Disk disk.old disk.new }
     {
         let times = [t];
         if let Some(refusal) = self.refused_retrieval(&times) {
@@ -166,20 +163,18 @@ impl Session {
     ) -> Result<Reply, Halt>
         requires some { 1 ≤ count }
         requires few { count ≤ TIMES_MAX }
-        requires image { IfSome (D.image disk.old) (λ image. IsHeldBy self.old.parts.index self.old.parts.names image) }
+        requires image { HoldsImage self.old.parts (D.image disk.old) }
 
         // what it comes to
         ensures comes { ComesTo (Command.Several cols times count) [] self.old.parts (D.image disk.old) self.new.parts (D.image disk.new) result }
         ensures no_stop { (stop : Stop) → result ≡ Err (Halt.Stop stop) → ⊥ }
 
         // why it is refused for a read
-        ensures store_read { IsErrOf result (Halt.Refusal Refusal.StoreRead) → DiskRose (D.faults disk.old) (D.faults disk.new) }
-        ensures damaged { DamageIn (Command.Several cols times count) self.old.parts (D.image disk.old) result }
-        ensures undamaged { OnOk result (MeetsNone (Graphs (take count times) cols) self.old.parts (D.image disk.old)) }
+        ensures store_read { IsErrOf result (Halt.Refusal Refusal.StoreRead) → Fails D.Disk disk.old disk.new }
 
         // what it reads and leaves
-        ensures reads { ReadsIn (Command.Several cols times count) self.old.parts (D.image disk.old) result (D.taken disk.old) (D.taken disk.new) }
-        ensures disk { OnlyReads D.image D.faults D.write_faults disk.old disk.new }
+        ensures file { ReadsFile D.Disk (Command.Several cols times count) self.old.parts disk.old disk.new result }
+        ensures disk { ReadsDisk D.Disk disk.old disk.new }
     {
         let asked = first_of(&times, count);
         if let Some(refusal) = self.refused_retrieval(asked) {

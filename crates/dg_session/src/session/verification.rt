@@ -1,14 +1,11 @@
 //! What the events of the file themselves determine, and whether the file is that.
 
-ghost use Rattle.std.specs.Prelude.{◌≡◌, ◌<◌, IfSome, IsErrOf, [], Ok, Some, is_some, true, IfOk};
-ghost use Rattle.dg_disk.specs.Counts.{Rose as DiskRose};
-ghost use Rattle.dg_disk.specs.Frame.{OnlyReads};
+ghost use Rattle.std.specs.Prelude.{◌≡◌, ◌<◌, IsErrOf, [], Ok, Some, is_some, true, IfOk};
+ghost use Rattle.dg_disk.specs.Calls.{Fails, ReadsDisk};
 ghost use Rattle.dg_machine.specs.Answer.{headed};
-ghost use Rattle.dg_session.specs.Damage.{DamageIn};
-ghost use Rattle.dg_session.specs.Reads.{ReadsIn};
-ghost use Rattle.dg_session.specs.Session.{ComesTo};
+ghost use Rattle.dg_session.specs.Calls.{ReadsFile};
+ghost use Rattle.dg_session.specs.Session.{ComesTo, HoldsImage};
 ghost use Rattle.dg_session.specs.Verified.{IsOfFile, VerifiesFile};
-ghost use Rattle.dg_start.specs.StoredHistory.{IsHeldBy};
 ghost use Rattle.dg_batch.specs.declared.stop.Stop.TheVariants as stop;
 
 use super::{Session, headed};
@@ -27,7 +24,7 @@ impl Session {
         rt: &R,
         disk: &mut D,
     ) -> Result<Reply, Halt>
-        requires image { IfSome (D.image disk.old) (λ image. IsHeldBy self.old.parts.index self.old.parts.names image) }
+        requires image { HoldsImage self.old.parts (D.image disk.old) }
 
         // what it comes to
         ensures comes { ComesTo Command.Verify [] self.old.parts (D.image disk.old) self.new.parts (D.image disk.new) result }
@@ -35,12 +32,11 @@ impl Session {
         ensures verified { IfOk result (λ reply. VerifiesFile Command.Verify self.old.parts (D.image disk.old) reply.head) }
 
         // why it is refused for a read
-        ensures store_read { IsErrOf result (Halt.Refusal Refusal.StoreRead) → DiskRose (D.faults disk.old) (D.faults disk.new) }
-        ensures damaged { DamageIn Command.Verify self.old.parts (D.image disk.old) result }
+        ensures store_read { IsErrOf result (Halt.Refusal Refusal.StoreRead) → Fails D.Disk disk.old disk.new }
 
         // what it reads and leaves
-        ensures reads { ReadsIn Command.Verify self.old.parts (D.image disk.old) result (D.taken disk.old) (D.taken disk.new) }
-        ensures disk { OnlyReads D.image D.faults D.write_faults disk.old disk.new }
+        ensures file { ReadsFile D.Disk Command.Verify self.old.parts disk.old disk.new result }
+        ensures disk { ReadsDisk D.Disk disk.old disk.new }
     {
         law_standing_files_are_sound();
         let _ = self.index()?;
@@ -55,13 +51,13 @@ impl Session {
         disk: &mut D,
     ) -> Result<Soundness, VerifyFault>
         requires there { is_some self.old.parts.index ≡ true }
-        requires image { IfSome (D.image disk.old) (λ image. IsHeldBy self.old.parts.index self.old.parts.names image) }
+        requires image { HoldsImage self.old.parts (D.image disk.old) }
         ensures sound { IfOk result (λ soundness. IsOfFile self.old.parts (D.image disk.old) soundness) }
-        ensures cause { IsErrOf result VerifyFault.Disk → DiskRose (D.faults disk.old) (D.faults disk.new) }
+        ensures cause { IsErrOf result VerifyFault.Disk → Fails D.Disk disk.old disk.new }
 
         // what it leaves
         ensures same { self.new ≡ self.old }
-        ensures disk { OnlyReads D.image D.faults D.write_faults disk.old disk.new }
+        ensures disk { ReadsDisk D.Disk disk.old disk.new }
     {
         let Some(index) = &mut self.held.live.history.index else {
             unreachable!()

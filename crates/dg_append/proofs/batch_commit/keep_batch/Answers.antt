@@ -1,28 +1,27 @@
-use Rattle.std.proofs.Common.{◌∙◌, ℕ, List, Option, take, drop, sym, ap, subst, arith}
-use Rattle.std.specs.Prelude.{is_some}
+use Rattle.std.proofs.Common.{◌≡◌, inl, Some, Err, ◌∙◌, List, take, drop, sym, ap, subst, arith}
+use Rattle.dg_append.proofs.BatchCrashes.{cause_made, kept_leaves, not_kept_leaves, reads_leave}
 use Rattle.dg_append.proofs.BatchSegmentIndex.{segment_due}
 use Rattle.dg_append.proofs.FrontEvents.{may_name_parts}
-use Rattle.dg_append.proofs.KeptBatchOutcomes.{err_is, fits_here, keeps_batch, made_stays, opened_as, stays_kept, stops_kept, stops_made}
+use Rattle.dg_append.proofs.KeptBatchOutcomes.{err_as, err_is, fits_here, keeps_batch, made_stays, opened_as, stays_kept, stops_kept, stops_made}
 use Rattle.dg_append.proofs.batch_commit.keep_batch.Goals as goal
 use Rattle.dg_append.specs.BatchNets.{led_by}
 use Rattle.dg_append.specs.BatchSegments.{TakesSinglesOver}
+use Rattle.dg_append.specs.declared.fault.BatchFault.{BatchFault}
+use Rattle.dg_append.specs.DiskLeft.{LeavesDisk}
+use Rattle.dg_append.specs.KeptBatches.{GainsNextOrNot, StopsKeeping}
 use Rattle.dg_append.specs.declared.next_batch.NextBatch.{NextBatch}
-use Rattle.dg_disk.specs.Frame.{GoesOn, OnlyReads, OnlyWrites}
+use Rattle.dg_file.specs.Calls.{CommitsSegment}
 use Rattle.dg_file.specs.Index.{IndexState}
 use Rattle.dg_graph.specs.declared.element.Element.{Element}
 use Rattle.dg_index.specs.FileOfHistory.{Segment}
 use Rattle.dg_index.specs.IndexGrowth.{IsDue}
 use Rattle.dg_index.specs.OpenedIndex.{Opening}
 use Rattle.dg_pool.specs.Graphs.{graph_now}
+use Rattle.dg_start.specs.StoredHistory.{IsHeldBy}
 
--- a call that reads, and then one that writes
-goes_on : {D : Type 0} (image : D → Option (List ℕ)) (faults write_faults taken : D → ℕ) (old middle new : D) → OnlyReads image faults write_faults old middle
-    → OnlyWrites image faults write_faults taken middle new → GoesOn image faults write_faults old new
-goes_on image faults write_faults taken old middle new reads writes = record {
-  told = writes.told ∙ ap (λ (x : Option (List ℕ)). is_some x) reads.same_image;
-  counted = omega (arith, reads.counted, writes.counted);
-  writes_counted = omega (arith, reads.no_write_failed, writes.writes_counted);
-}
+-- what is said of a segment behind an index is said of it behind one that is the same
+behind : {x y : IndexState} (P : Opening → Type 0) → x ≡ y → P x.opening → P y.opening
+behind P same p = subst P (ap (λ (x : IndexState). x.opening) same) p
 
 pub make_batch-requires-clause-image : goal.make_batch-requires-clause-image
 make_batch-requires-clause-image g c =
@@ -60,26 +59,25 @@ returns-in_err-made-clause-back g c =
 pub returns-in_err-keep_segment-clause-fails : goal.returns-in_err-keep_segment-clause-fails
 returns-in_err-keep_segment-clause-fails g c =
     err_is c.from_residual-in_err-keep_segment.result c.in_err-keep_segment.field-0.0 _ c.from_residual-in_err-keep_segment.ensures
-    (stops_kept c.args.limit c.args.index.now.opening c.make_batch.new.index.opening c.keep_segment.new.index.opening c.args.next.now (graph_now c.args.pool.now)
-    (g.D.Disk.image c.args.disk.now) (g.D.Disk.image c.make_batch.new.disk) (g.D.Disk.image c.keep_segment.new.disk) c.in_ok-made.made.segment
-    (ap (λ (x : IndexState). x.opening) c.make_batch.ensures.same) c.make_batch.ensures.disk.same_image c.in_ok-made.ensures.made.segment c.in_err-keep_segment.field-0.0 c.in_err-keep_segment.ensures.fails)
+    (stops_kept g.D.Disk c.args.limit c.args.index.now.opening c.keep_segment.new.index.opening c.args.next.now (graph_now c.args.pool.now) c.in_ok-made.made.segment c.args.disk.now c.make_batch.new.disk c.keep_segment.new.disk
+    c.make_batch.ensures.disk c.in_ok-made.ensures.made.segment c.in_err-keep_segment.field-0.0
+    (behind (λ (o : Opening). StopsKeeping g.D.Disk c.args.limit o c.in_ok-made.made.segment c.keep_segment.new.index.opening c.make_batch.new.disk c.keep_segment.new.disk c.in_err-keep_segment.field-0.0) c.make_batch.ensures.same c.in_err-keep_segment.ensures.fails))
 
 pub returns-in_err-keep_segment-clause-back : goal.returns-in_err-keep_segment-clause-back
 returns-in_err-keep_segment-clause-back g c =
     err_is c.from_residual-in_err-keep_segment.result c.in_err-keep_segment.field-0.0 _ c.from_residual-in_err-keep_segment.ensures
     (record {
-      index =
-          stays_kept c.args.limit c.args.index.now.opening c.make_batch.new.index.opening c.keep_segment.new.index.opening c.args.next.now (graph_now c.args.pool.now)
-          (g.D.Disk.image c.args.disk.now) (g.D.Disk.image c.make_batch.new.disk) (g.D.Disk.image c.keep_segment.new.disk) c.in_ok-made.made.segment
-          (ap (λ (x : IndexState). x.opening) c.make_batch.ensures.same) c.make_batch.ensures.disk.same_image c.in_ok-made.ensures.made.segment c.in_err-keep_segment.field-0.0 c.in_err-keep_segment.ensures.fails;
+      index = stays_kept g.D.Disk c.args.limit c.args.index.now.opening c.keep_segment.new.index.opening c.args.next.now (graph_now c.args.pool.now) c.in_ok-made.made.segment c.args.disk.now c.make_batch.new.disk c.keep_segment.new.disk
+          c.make_batch.ensures.disk c.in_ok-made.ensures.made.segment c.in_err-keep_segment.field-0.0
+          (behind (λ (o : Opening). StopsKeeping g.D.Disk c.args.limit o c.in_ok-made.made.segment c.keep_segment.new.index.opening c.make_batch.new.disk c.keep_segment.new.disk c.in_err-keep_segment.field-0.0) c.make_batch.ensures.same c.in_err-keep_segment.ensures.fails);
       graphs = c.make_batch.ensures.graphs;
     })
 
 pub returns-clause-kept : goal.returns-clause-kept
 returns-clause-kept g c =
-    keeps_batch c.args.limit c.args.index.now.opening c.make_batch.new.index.opening c.keep_segment.new.index.opening c.args.next.now (graph_now c.args.pool.now)
-    (g.D.Disk.image c.args.disk.now) (g.D.Disk.image c.make_batch.new.disk) (g.D.Disk.image c.keep_segment.new.disk) c.in_ok-made.made.segment
-    (ap (λ (x : IndexState). x.opening) c.make_batch.ensures.same) c.make_batch.ensures.disk.same_image c.in_ok-made.ensures.made.segment c.in_ok-keep_segment.ensures.kept
+    keeps_batch g.D.Disk c.args.limit c.args.index.now.opening c.keep_segment.new.index.opening c.args.next.now (graph_now c.args.pool.now) c.in_ok-made.made.segment c.args.disk.now c.make_batch.new.disk c.keep_segment.new.disk
+    c.make_batch.ensures.disk c.in_ok-made.ensures.made.segment
+    (behind (λ (o : Opening). CommitsSegment g.D.Disk c.args.limit o c.in_ok-made.made.segment c.keep_segment.new.index.opening c.make_batch.new.disk c.keep_segment.new.disk) c.make_batch.ensures.same c.in_ok-keep_segment.ensures.kept)
 
 pub returns-clause-passed : goal.returns-clause-passed
 returns-clause-passed g c = record {
@@ -95,9 +93,21 @@ returns-in_err-keep_segment-clause-most g c =
     subst (λ n. TakesSinglesOver (g.D.Disk.image c.args.disk.now) c.args.index.now.opening c.args.next.now (graph_now c.args.pool.now) (g.D.Disk.taken c.args.disk.now) n)
     (sym c.keep_segment.ensures.disk.nothing_read) c.make_batch.ensures.most
 
+pub returns-in_err-made-clause-disk : goal.returns-in_err-made-clause-disk
+returns-in_err-made-clause-disk g c =
+    err_as c.from_residual.result c.in_err-made.field-0.0 (LeavesDisk g.D.Disk (GainsNextOrNot c.args.index.now.opening c.args.next.now (graph_now c.args.pool.now)) c.args.disk.now c.make_batch.new.disk) c.from_residual.ensures
+    (reads_leave g.D.Disk c.args.disk.now c.make_batch.new.disk g.met.D.Disk.only_now c.make_batch.ensures.disk
+    (IsHeldBy (Some c.args.index.now.opening) (take c.args.next.now.known c.args.next.now.names.now)) (GainsNextOrNot c.args.index.now.opening c.args.next.now (graph_now c.args.pool.now))
+    (λ a held z kept legal. inl kept.0) c.requires.image c.in_err-made.field-0.0
+    (cause_made g.D.Disk c.args.disk.now c.make_batch.new.disk c.make_batch.ensures.disk (g.D.Disk.image c.args.disk.now) c.args.index.now.opening c.args.next.now (graph_now c.args.pool.now) c.in_err-made.field-0.0
+    c.in_err-made.ensures.fails (λ read. c.in_err-made.ensures.cause (ap (λ (f : BatchFault). Err f) read))))
+
 pub returns-in_err-keep_segment-clause-disk : goal.returns-in_err-keep_segment-clause-disk
 returns-in_err-keep_segment-clause-disk g c =
-    goes_on g.D.Disk.image g.D.Disk.faults g.D.Disk.write_faults g.D.Disk.taken c.args.disk.now c.make_batch.new.disk c.keep_segment.new.disk c.make_batch.ensures.disk c.keep_segment.ensures.disk
+    err_as c.from_residual-in_err-keep_segment.result c.in_err-keep_segment.field-0.0 (LeavesDisk g.D.Disk (GainsNextOrNot c.args.index.now.opening c.args.next.now (graph_now c.args.pool.now)) c.args.disk.now c.keep_segment.new.disk) c.from_residual-in_err-keep_segment.ensures
+    (not_kept_leaves g.D.Disk c.args.limit c.args.index.now.opening c.keep_segment.new.index.opening c.args.next.now (graph_now c.args.pool.now) c.in_ok-made.made.segment c.args.disk.now c.make_batch.new.disk c.keep_segment.new.disk
+    c.make_batch.ensures.disk c.keep_segment.ensures.disk c.in_ok-made.ensures.made.segment.built c.keep_segment.ensures.crash c.in_err-keep_segment.field-0.0
+    (behind (λ (o : Opening). StopsKeeping g.D.Disk c.args.limit o c.in_ok-made.made.segment c.keep_segment.new.index.opening c.make_batch.new.disk c.keep_segment.new.disk c.in_err-keep_segment.field-0.0) c.make_batch.ensures.same c.in_err-keep_segment.ensures.fails))
 
 pub returns-clause-most : goal.returns-clause-most
 returns-clause-most g c =
@@ -106,4 +116,6 @@ returns-clause-most g c =
 
 pub returns-clause-disk : goal.returns-clause-disk
 returns-clause-disk g c =
-    goes_on g.D.Disk.image g.D.Disk.faults g.D.Disk.write_faults g.D.Disk.taken c.args.disk.now c.make_batch.new.disk c.keep_segment.new.disk c.make_batch.ensures.disk c.keep_segment.ensures.disk
+    kept_leaves g.D.Disk c.args.limit c.args.index.now.opening c.keep_segment.new.index.opening c.args.next.now (graph_now c.args.pool.now) c.in_ok-made.made.segment c.args.disk.now c.make_batch.new.disk c.keep_segment.new.disk
+    c.make_batch.ensures.disk c.keep_segment.ensures.disk c.in_ok-made.ensures.made.segment.built c.keep_segment.ensures.crash c.in_ok-made.made.left
+    (behind (λ (o : Opening). CommitsSegment g.D.Disk c.args.limit o c.in_ok-made.made.segment c.keep_segment.new.index.opening c.make_batch.new.disk c.keep_segment.new.disk) c.make_batch.ensures.same c.in_ok-keep_segment.ensures.kept)

@@ -1,4 +1,4 @@
-use Rattle.std.proofs.Common.{◌≡◌, ◌+◌, ◌-◌, ◌∙◌, ℕ, List, Option, Ok, Err, inr, length, take, drop, refl, ap, subst, arith, rules, sym, length-append}
+use Rattle.std.proofs.Common.{◌≡◌, ◌++◌, ◌+◌, ◌-◌, ◌∙◌, ℕ, List, Option, Ok, Err, inr, length, take, drop, refl, ap, subst, arith, rules, sym, length-append}
 use Rattle.std.proofs.lemmas.List.Elements.{All-drop, All-take}
 use Rattle.dg_append.proofs.KeptBatchOutcomes.{err_as}
 use Rattle.dg_append.proofs.OlderGroupSets.{CallDamage, CallGives, Called, Gives, GroupsAreRead, all_given, all_whole, every_some, first_damage, group_long, none_more_read, none_read, one_read, size_next, some_both, some_map}
@@ -20,6 +20,7 @@ use Rattle.dg_retrieval.specs.declared.fault.RetrievalFault.{RetrievalFault}
 use Rattle.dg_retrieval.specs.declared.fault.RetrievalFault.TheVariants as fault
 use Rattle.std.specs.List.{Contains}
 use Rattle.std.specs.Prelude.{IfSome}
+use Rattle.dg_disk.proofs.FrameLemmas.{reads_none, reads_then}
 
 -- the nodes of the group
 slice_is : (nodes : List NodeId) (done size : ℕ) (next : ℕ) → size ≡ next → take (done + size - done) (drop done nodes) ≡ take next (drop done nodes)
@@ -47,7 +48,7 @@ loop-done-init g c = record {
   count = search rules;
   read = every_some (g.D.Disk.image c.args.disk.now) _ (none_read c.args.index.now.opening c.args.name_count c.args.nodes.now _ (g.D.Disk.taken c.args.disk.now) (search rules));
   same = refl;
-  disk = record { same_image = refl; counted = omega arith; no_write_failed = refl };
+  disk = reads_none;
 }
 
 pub node_sets-requires-clause-image : goal.node_sets-requires-clause-image
@@ -84,7 +85,7 @@ loop-done-preserved g c =
     let long : length c.in_ok-more.more.items ≡ n = c.in_ok-more.ensures.done.count ∙ ap (λ (l : List NodeId). length l) slice ∙ group_long o names nodes done c.loop-done-test.true in
     record {
       within = omega (arith, c.loop-done-test.true, c.min-size.ensures);
-      count = ap (λ (l : List (List Element)). length l) c.in_ok-append.ensures.items ∙ length-append c.loop-done.sets.items c.in_ok-more.more.items ∙ (λ i. c.loop-done.invariant.count i + (long ∙ sym c.min-size.ensures) i);
+      count = ap (λ (l : List (List Element)). length l) {y = c.loop-done.sets.items ++ c.in_ok-more.more.items} c.in_ok-append.ensures.items ∙ length-append c.loop-done.sets.items c.in_ok-more.more.items ∙ (λ i. c.loop-done.invariant.count i + (long ∙ sym c.min-size.ensures) i);
       read = subst (λ (d : ℕ). IfSome told (GroupsAreRead o names nodes (done + d) c.append.new.self.items (g.D.Disk.taken c.args.disk.now) (g.D.Disk.taken c.node_sets.new.disk))) (sym c.min-size.ensures)
           (some_both told (λ image. GroupsAreRead o names nodes done c.loop-done.sets.items (g.D.Disk.taken c.args.disk.now) (g.D.Disk.taken c.loop-done.disk) image)
           (λ image. Gives o names group (g.D.Disk.taken c.loop-done.disk) (g.D.Disk.taken c.node_sets.new.disk) (Ok c.in_ok-more.more) image × IsUndamaged names (record_edges o) o all_columns group image)
@@ -92,11 +93,7 @@ loop-done-preserved g c =
           (λ image r h. one_read o names nodes done c.loop-done-test.true c.loop-done.sets.items c.append.new.self.items c.in_ok-more.more (g.D.Disk.taken c.args.disk.now) (g.D.Disk.taken c.loop-done.disk) (g.D.Disk.taken c.node_sets.new.disk) image r h.0 h.1 c.in_ok-append.ensures.items)
           c.loop-done.invariant.read (both_told told _ _ gives damage));
       same = c.node_sets.ensures.reads.same ∙ c.loop-done.invariant.same;
-      disk = record {
-        same_image = c.node_sets.ensures.reads.disk.same_image ∙ c.loop-done.invariant.disk.same_image;
-        counted = omega (arith, c.node_sets.ensures.reads.disk.counted, c.loop-done.invariant.disk.counted);
-        no_write_failed = c.node_sets.ensures.reads.disk.no_write_failed ∙ c.loop-done.invariant.disk.no_write_failed;
-      };
+      disk = reads_then c.loop-done.invariant.disk c.node_sets.ensures.reads.disk;
     }
 
 pub returns-in_err-more-clause-over : goal.returns-in_err-more-clause-over

@@ -2,7 +2,7 @@ use Rattle.std.proofs.Common.{◌≡◌, ◌≤◌, ◌-◌, length}
 use Rattle.std.specs.Prelude.{IfSome}
 use Rattle.dg_append.proofs.OlderGroupSets.{GroupsAreRead}
 use Rattle.dg_append.proofs.older_sets.read_groups.Given as goal
-use Rattle.dg_disk.specs.Frame.{OnlyReads}
+use Rattle.dg_disk.specs.Calls.{ReadsDisk}
 
 abbrev pub invariant-loop-done : goal.invariant-loop-done
 invariant-loop-done g l = record {
@@ -10,7 +10,7 @@ invariant-loop-done g l = record {
   count : length l.sets.items ≡ l.done;
   read : IfSome (g.D.Disk.image l.initial.disk) (GroupsAreRead l.fn.index.opening l.name_count l.nodes l.done l.sets.items (g.D.Disk.taken l.initial.disk) (g.D.Disk.taken l.disk));
   same : l.index ≡ l.fn.index;
-  disk : OnlyReads g.D.Disk.image g.D.Disk.faults g.D.Disk.write_faults l.initial.disk l.disk;
+  disk : ReadsDisk g.D.Disk l.initial.disk l.disk;
 }
 
 abbrev pub decreases-loop-done : goal.decreases-loop-done

@@ -1,8 +1,9 @@
-use Rattle.std.proofs.Common.{◌∙◌, ℕ, length, map}
+use Rattle.std.proofs.Common.{◌∙◌, ℕ, length, map, refl, subst}
 use Rattle.dg_append.proofs.BatchSegmentIndex.{tail_rises}
 use Rattle.dg_append.proofs.FrontEvents.{InRange}
-use Rattle.dg_append.proofs.BatchSegmentParts.{as_many_deltas, as_many_lists, begins_after_lists, listed_by, older_long, past_graph, past_long, past_recent, past_sets, range_of, recent_long}
+use Rattle.dg_append.proofs.BatchSegmentParts.{as_many_deltas, as_many_lists, begins_after_lists, given_here, listed_by, older_long, past_graph, past_long, past_recent, past_sets, range_of, recent_long}
 use Rattle.dg_append.proofs.segment.segment_of.Goals as goal
+use Rattle.dg_build.specs.GivenDeltas.{AreGiven, IsFaultOfSuch}
 use Rattle.dg_history.specs.declared.params.Params.{Params}
 use Rattle.dg_history.specs.History.{first_time_of}
 use Rattle.dg_index.specs.FileOfHistory.{segment_of}
@@ -72,3 +73,22 @@ returns-clause-never c past is =
     is.changes
     (past_sets o p n c.params-params.ensures c.events_len-before.ensures.events past c.args.next.now.recent.now (graph_now c.args.pool.now) c.args.next.now.events.now c.args.older.now is)
     in cc (none, c.in-Err-Wide.field-0-is)
+
+pub returns-clause-fails : goal.returns-clause-fails
+returns-clause-fails c =
+    let o : Opening = c.args.index.now.opening in
+    let p : Params = c.params-params.result in
+    let n : ℕ = c.events_len-before.result in
+    let wide = subst (IsFaultOfSuch (AreGiven p n c.in_ok-graph.graph c.args.next.now.recent.now c.args.next.now.events.now c.args.older.now) 0) c.in-Err-Wide.field-0-is c.in-Err-Wide.ensures.first in (
+      refl,
+      record {
+        place = c.in-Err-Wide.delta_index;
+        first = record {
+          deltas = wide.deltas;
+          are = given_here o p n c.params-params.ensures c.events_len-before.ensures.events c.leaves.result c.leaves-2.result c.in_ok-graph.graph (graph_now c.args.pool.now) c.args.next.now.recent.now c.args.next.now.events.now c.args.older.now wide.deltas
+              c.leaves.ensures.leaves c.leaves-2.ensures.leaves c.in_ok-graph.ensures wide.are;
+          first = wide.first;
+        };
+        there = c.in_ok-key-in-Err-Wide.ensures;
+      },
+    )

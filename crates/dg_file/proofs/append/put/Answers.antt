@@ -1,6 +1,7 @@
 use Rattle.std.proofs.Common.{◌≡◌, ◌≤◌, [], length, refl, sym, ◌∙◌}
 use Rattle.std.proofs.lemmas.Bool.{eqb-true}
 use Rattle.std.proofs.lemmas.List.{nil_from_length}
+use Rattle.dg_disk.proofs.CrashLeavesOnly.{nothing_behind, writes_behind}
 use Rattle.dg_file.proofs.GrowthMoves.{moved_same, moved_put, moved_part, none_grows, none_keeps, put_grows, put_keeps}
 use Rattle.dg_file.proofs.append.put.Goals as goal
 
@@ -23,3 +24,15 @@ returns-clause-written g c =
 pub returns-clause-part : goal.returns-clause-part
 returns-clause-part g c =
     moved_put _ _ c.args.offset c.args.piece.now (λ a. c.args.offset ≤ length a) _ (λ a le. put_keeps c.args.offset c.args.piece.now a le) c.requires.offset c.in_ok-write_at.ensures.written
+
+pub returns-then-is_empty-clause-crash : goal.returns-then-is_empty-clause-crash
+returns-then-is_empty-clause-crash g c =
+    nothing_behind g.D.Disk.moment g.D.Disk.left_since g.D.Disk.may_leave g.met.D.Disk.only_now c.args.disk.now c.args.offset
+
+pub returns-in_err-write_at-clause-crash : goal.returns-in_err-write_at-clause-crash
+returns-in_err-write_at-clause-crash g c =
+    writes_behind g.D.Disk.moment g.D.Disk.left_since g.D.Disk.may_leave g.met.D.Disk.only_now c.args.disk.now c.write_at.new.self c.args.offset (length c.args.piece.now) c.write_at.ensures.crash c.write_at.ensures.time
+
+pub returns-clause-crash : goal.returns-clause-crash
+returns-clause-crash g c =
+    writes_behind g.D.Disk.moment g.D.Disk.left_since g.D.Disk.may_leave g.met.D.Disk.only_now c.args.disk.now c.write_at.new.self c.args.offset (length c.args.piece.now) c.write_at.ensures.crash c.write_at.ensures.time

@@ -1,5 +1,6 @@
 use Rattle.std.proofs.Common.{◌≡◌, ℕ, ◌+◌, ◌++◌, List, length, ap, subst, ◌∙◌, arith, length-append}
 use Rattle.std.proofs.lemmas.Result.{IfOk-weaker, on_ok_weaker}
+use Rattle.dg_disk.proofs.CrashLeavesOnly.{behind_then}
 use Rattle.dg_index.specs.FileOfHistory.{Segment, blobs, bytes_of, delta_blobs, list_blobs}
 use Rattle.dg_file.specs.Growth.{Moved, Grown}
 use Rattle.dg_file.proofs.GrowthMoves.{offset_behind, keep_then, grow_then}
@@ -48,3 +49,12 @@ returns-clause-written g c =
     on_ok_weaker c.put-3.result (λ third. subst (λ (l : List ℕ). Moved (g.D.Disk.image c.args.disk.now) (g.D.Disk.image c.put-3.new.disk) (Grown c.args.offset l)) text
     (grow_then _ _ _ c.args.offset c.in_ok-deltas_offset.deltas_offset _ _ c.in_ok-deltas_offset.ensures.behind c.in_ok-deltas_offset.ensures.written
     (grow_then _ _ _ c.in_ok-deltas_offset.deltas_offset c.in_ok-piece_offset.piece_offset _ _ c.in_ok-piece_offset.ensures.behind c.in_ok-piece_offset.ensures.written third))) c.put-3.ensures.written
+
+pub returns-in_err-piece_offset-clause-crash : goal.returns-in_err-piece_offset-clause-crash
+returns-in_err-piece_offset-clause-crash g c =
+    behind_then g.D.Disk.moment g.D.Disk.left_since g.D.Disk.may_leave g.met.D.Disk.counts_now c.args.disk.now c.put.new.disk c.put-2.new.disk c.args.offset c.in_ok-deltas_offset.deltas_offset (omega (arith, c.in_ok-deltas_offset.ensures.behind)) c.put.ensures.crash c.put-2.ensures.crash
+
+pub returns-clause-crash : goal.returns-clause-crash
+returns-clause-crash g c =
+    behind_then g.D.Disk.moment g.D.Disk.left_since g.D.Disk.may_leave g.met.D.Disk.counts_now c.args.disk.now c.put.new.disk c.put-3.new.disk c.args.offset c.in_ok-deltas_offset.deltas_offset (omega (arith, c.in_ok-deltas_offset.ensures.behind)) c.put.ensures.crash
+    (behind_then g.D.Disk.moment g.D.Disk.left_since g.D.Disk.may_leave g.met.D.Disk.counts_now c.put.new.disk c.put-2.new.disk c.put-3.new.disk c.in_ok-deltas_offset.deltas_offset c.in_ok-piece_offset.piece_offset (omega (arith, c.in_ok-piece_offset.ensures.behind)) c.put-2.ensures.crash c.put-3.ensures.crash)

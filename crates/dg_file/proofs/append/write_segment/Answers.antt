@@ -1,4 +1,6 @@
 use Rattle.std.proofs.Common.{◌≡◌, ℕ, ◌+◌, ◌++◌, ◌∷◌, List, [], length, sym, ap, subst, ◌∙◌, append_assoc, arith, length-append}
+use Rattle.dg_disk.proofs.CrashLeavesOnly.{behind_then, keeps_on}
+use Rattle.dg_disk.specs.Crash.{LeavesOnly, TornBehind}
 use Rattle.dg_index.specs.FileOfHistory.{Segment, blobs, head_of, segment_bytes}
 use Rattle.dg_file.specs.Growth.{Moved, Grown, KeepsFront}
 use Rattle.dg_file.proofs.GrowthMoves.{offset_behind, keep_then, grow_then, on_ok_any}
@@ -49,3 +51,19 @@ returns-clause-written g c =
     let spelled : Moved (g.D.Disk.image c.args.disk.now) (g.D.Disk.image c.put-2.new.disk) (Grown c.args.offset (segment_bytes s ++ 0 ∷ [])) =
     subst (λ (l : List ℕ). Moved (g.D.Disk.image c.args.disk.now) (g.D.Disk.image c.put-2.new.disk) (Grown c.args.offset l)) text all in
     on_ok_any c.sync.result (subst (λ z. Moved (g.D.Disk.image c.args.disk.now) z (Grown c.args.offset (segment_bytes s ++ 0 ∷ []))) (sym c.sync.ensures.frame.same_image) spelled)
+
+pub returns-in_err-gate_offset-clause-crash : goal.returns-in_err-gate_offset-clause-crash
+returns-in_err-gate_offset-clause-crash g c =
+    behind_then g.D.Disk.moment g.D.Disk.left_since g.D.Disk.may_leave g.met.D.Disk.counts_now c.args.disk.now c.put.new.disk c.put_columns.new.disk c.args.offset c.in_ok-columns_offset.columns_offset (omega (arith, c.in_ok-columns_offset.ensures.behind)) c.put.ensures.crash c.put_columns.ensures.crash
+
+pub returns-in_err-put-clause-crash : goal.returns-in_err-put-clause-crash
+returns-in_err-put-clause-crash g c =
+    behind_then g.D.Disk.moment g.D.Disk.left_since g.D.Disk.may_leave g.met.D.Disk.counts_now c.args.disk.now c.put.new.disk c.put-2.new.disk c.args.offset c.in_ok-columns_offset.columns_offset (omega (arith, c.in_ok-columns_offset.ensures.behind)) c.put.ensures.crash
+    (behind_then g.D.Disk.moment g.D.Disk.left_since g.D.Disk.may_leave g.met.D.Disk.counts_now c.put.new.disk c.put_columns.new.disk c.put-2.new.disk c.in_ok-columns_offset.columns_offset c.in_ok-gate_offset.gate_offset (omega (arith, c.in_ok-gate_offset.ensures.behind)) c.put_columns.ensures.crash c.put-2.ensures.crash)
+
+pub returns-clause-crash : goal.returns-clause-crash
+returns-clause-crash g c =
+    let run : LeavesOnly g.D.Disk.moment g.D.Disk.left_since c.args.disk.now c.put-2.new.disk (TornBehind c.args.offset (g.D.Disk.may_leave c.args.disk.now)) =
+    behind_then g.D.Disk.moment g.D.Disk.left_since g.D.Disk.may_leave g.met.D.Disk.counts_now c.args.disk.now c.put.new.disk c.put-2.new.disk c.args.offset c.in_ok-columns_offset.columns_offset (omega (arith, c.in_ok-columns_offset.ensures.behind)) c.put.ensures.crash
+    (behind_then g.D.Disk.moment g.D.Disk.left_since g.D.Disk.may_leave g.met.D.Disk.counts_now c.put.new.disk c.put_columns.new.disk c.put-2.new.disk c.in_ok-columns_offset.columns_offset c.in_ok-gate_offset.gate_offset (omega (arith, c.in_ok-gate_offset.ensures.behind)) c.put_columns.ensures.crash c.put-2.ensures.crash) in
+    keeps_on g.D.Disk.moment g.D.Disk.left_since c.args.disk.now c.put-2.new.disk c.sync.new.self (TornBehind c.args.offset (g.D.Disk.may_leave c.args.disk.now)) run c.sync.ensures.frame.later c.sync.ensures.frame.since

@@ -1,5 +1,6 @@
 use Rattle.std.proofs.Common.{refl, sym, subst, ◌∙◌, arith}
 use Rattle.dg_disk.specs.Image.{IsLengthOf, IsRangeOf}
+use Rattle.dg_disk.proofs.CrashTold.{settled_on}
 use Rattle.dg_file.proofs.ImageParts.{range_within, blank_short_image, blank_closed_image, foreign_image, found_image}
 use Rattle.dg_file.proofs.OpenedBytes.{foreign_reads}
 use Rattle.dg_file.proofs.reads.read_header.Goals as goal
@@ -36,3 +37,15 @@ returns-in-None-clause-within g c =
     let h = subst (λ x. IsRangeOf x 0 c.read_at.new.into) (c.len.ensures.frame.same_image ∙ c.sync.ensures.frame.same_image) c.in_ok-read_at.ensures.read in
     foreign_reads _ _ _
     (foreign_image _ c.in_ok-len.len c.read_at.new.into (omega (arith, c.read_at.auto.into)) (omega (arith, c.if-len.false)) (sym c.is_closed.ensures ∙ c.if-is_closed.false) (sym c.params_of.ensures.params ∙ c.in-None.is) l h)
+
+pub returns-then-len-clause-settled_blank : goal.returns-then-len-clause-settled_blank
+returns-then-len-clause-settled_blank g c = λ _.
+    settled_on _ _ _ _ c.len.ensures.frame.same_image c.len.ensures.frame.leaves c.in_ok-sync.ensures.settled
+
+pub returns-then-is_closed-clause-settled_blank : goal.returns-then-is_closed-clause-settled_blank
+returns-then-is_closed-clause-settled_blank g c = λ _.
+    settled_on _ _ _ _ c.read_at.ensures.frame.same_image c.read_at.ensures.frame.leaves (settled_on _ _ _ _ c.len.ensures.frame.same_image c.len.ensures.frame.leaves c.in_ok-sync.ensures.settled)
+
+pub returns-in-Some-clause-settled : goal.returns-in-Some-clause-settled
+returns-in-Some-clause-settled g c =
+    settled_on _ _ _ _ c.read_at.ensures.frame.same_image c.read_at.ensures.frame.leaves (settled_on _ _ _ _ c.len.ensures.frame.same_image c.len.ensures.frame.leaves c.in_ok-sync.ensures.settled)

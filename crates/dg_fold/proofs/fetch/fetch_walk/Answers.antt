@@ -1,6 +1,7 @@
-use Rattle.std.proofs.Common.{sym, ap, subst, arith, ◌∙◌}
+use Rattle.std.proofs.Common.{sym, ap, subst, ◌∙◌}
 use Rattle.std.specs.Option.{IfSome}
 use Rattle.std.proofs.lemmas.List.{take_all}
+use Rattle.dg_disk.proofs.FrameLemmas.{reads_then}
 use Rattle.dg_file.specs.Images.{IsOpenedAs}
 use Rattle.dg_index.specs.OpenedIndex.{Opening}
 use Rattle.dg_fold.specs.BytesRead.{AreParts, kept_in, named_along}
@@ -31,11 +32,7 @@ loop-edge-preserved g c = record {
       c.loop-edge.parts.items (g.D.Disk.taken c.args.disk.now) (g.D.Disk.taken c.loop-edge.disk) (g.D.Disk.taken c.take_step.new.disk) c.loop-edge.invariant.so_far
       c.take_step.new.parts.items c.in_ok-take_step.ensures.named c.in_ok-take_step.ensures.parts c.in_ok-take_step.ensures.takes;
   same = c.take_step.ensures.same ∙ c.loop-edge.invariant.same;
-  frame = record {
-    same_image = c.take_step.ensures.frame.same_image ∙ c.loop-edge.invariant.frame.same_image;
-    counted = omega (arith, c.take_step.ensures.frame.counted, c.loop-edge.invariant.frame.counted);
-    no_write_failed = c.take_step.ensures.frame.no_write_failed ∙ c.loop-edge.invariant.frame.no_write_failed;
-  };
+  frame = reads_then c.loop-edge.invariant.frame c.take_step.ensures.frame;
 }
 
 pub returns-clause-parts : goal.returns-clause-parts

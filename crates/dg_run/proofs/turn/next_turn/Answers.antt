@@ -1,13 +1,62 @@
+use Rattle.std.proofs.Common.{Err, length, refl, ◌∙◌, ap}
+use Rattle.std.specs.Option.{option_map}
+use Rattle.dg_disk.specs.Calls.{LeftByCrash}
 use Rattle.dg_io.specs.LinesState.{told}
 use Rattle.dg_io.proofs.FrameLemmas.{advances_both}
-use Rattle.dg_run.proofs.TurnLines.{long_turn}
+use Rattle.dg_machine.specs.declared.reply.Head.TheVariants as head
+use Rattle.dg_machine.specs.declared.reply.Refusal.TheVariants as refusal
+use Rattle.dg_machine.specs.Script.{entries_of}
+use Rattle.dg_session.proofs.ReplyNames.{head_names}
+use Rattle.dg_run.proofs.CrashRuns.{unread_leaves}
+use Rattle.dg_run.proofs.TurnLines.{long_turn, makes_here, none_asked, stopped_on, tells_no_read}
+use Rattle.dg_run.specs.declared.turn.Turn.TheVariants as turn
+use Rattle.dg_run.specs.Turns.{Breaks, asked}
 use Rattle.dg_run.proofs.turn.next_turn.Goals as goal
+
+pub returns-in-Ok-End-clause-turn : goal.returns-in-Ok-End-clause-turn
+returns-in-Ok-End-clause-turn g c =
+    let line = rw c.in-Ok-End.field-0-is at c.in-Ok-End.ensures.line in
+    makes_here {then_lines = c.next.new.self} turn.End c.requires (none_asked (told c.args.lines.now (g.S.Source.left c.args.source.now)) line.0, ap (option_map entries_of) line.1, refl, refl, refl, unread_leaves g.D.Disk g.met.D.Disk.only_now c.args.disk.now) tt tt
 
 pub returns-in-Ok-TooLong-clause-turn : goal.returns-in-Ok-TooLong-clause-turn
 returns-in-Ok-TooLong-clause-turn g c =
-    long_turn (told c.args.lines.now (g.S.Source.left c.args.source.now)) (told c.next.new.self (g.S.Source.left c.next.new.source))
-    _ _ _ c.refused.result (rw c.in-Ok-TooLong.field-0-is at c.in-Ok-TooLong.ensures.line) c.refused.ensures
+    makes_here {then_lines = c.next.new.self} (turn.Replied c.refused.result) c.requires
+    (long_turn (told c.args.lines.now (g.S.Source.left c.args.source.now)) (told c.next.new.self (g.S.Source.left c.next.new.source))
+    _ _ _ (LeftByCrash g.D.Disk c.args.disk.now c.args.disk.now) c.refused.result (rw c.in-Ok-TooLong.field-0-is at c.in-Ok-TooLong.ensures.line) c.refused.ensures (unread_leaves g.D.Disk g.met.D.Disk.only_now c.args.disk.now))
+    (tells_no_read c.refused.result refusal.LineLong _ c.refused.ensures refl) (head_names (length c.args.session.now.parts.names) (head.Refused refusal.LineLong) c.refused.result c.refused.ensures)
+
+pub returns-in-Ok-Text-clause-turn : goal.returns-in-Ok-Text-clause-turn
+returns-in-Ok-Text-clause-turn g c =
+    let line = rw c.in-Ok-Text.field-0-is at c.in-Ok-Text.ensures.line in
+    c.turn_of.ensures.turn (told c.args.lines.now (g.S.Source.left c.args.source.now)) line.0
+
+pub returns-in-Ok-Text-clause-stops : goal.returns-in-Ok-Text-clause-stops
+returns-in-Ok-Text-clause-stops g c =
+    let line = rw c.in-Ok-Text.field-0-is at c.in-Ok-Text.ensures.line in
+    stopped_on g.S.Source g.D.Disk c.args.source.now c.next.new.source c.args.session.now.parts c.args.disk.now c.turn_of.new.lines c.turn_of.new.source c.turn_of.new.session.parts c.turn_of.new.disk
+    (Breaks (asked c.args.lines.now (g.S.Source.left c.args.source.now)) (asked c.turn_of.new.lines (g.S.Source.left c.turn_of.new.source)) c.args.session.now.parts (g.D.Disk.image c.args.disk.now) (g.D.Disk.image c.turn_of.new.disk)
+    (LeftByCrash g.D.Disk c.args.disk.now c.turn_of.new.disk))
+    c.turn_of.result c.next.ensures.advances.counted
+    (c.turn_of.ensures.stops (told c.args.lines.now (g.S.Source.left c.args.source.now)) line.0)
 
 pub returns-in-Ok-Text-clause-lines : goal.returns-in-Ok-Text-clause-lines
 returns-in-Ok-Text-clause-lines g c =
     advances_both c.args.lines.now c.next.new.self _ _ _ _ _ _ _ c.next.ensures.advances c.turn_of.ensures.lines
+
+pub returns-in-Err-Read-clause-stops : goal.returns-in-Err-Read-clause-stops
+returns-in-Err-Read-clause-stops g c = record {
+  as_before = λ e. record { same = refl; same_image = refl };
+  read = λ e. c.next.ensures.read (c.in-Err-Read.is ∙ ap (λ x. Err x) c.in-Err-Read.field-0-is);
+  limit = λ e. cc;
+  store = λ e. cc;
+  store_cause = λ e. cc;
+}
+
+pub returns-in-Err-Limit-clause-stops : goal.returns-in-Err-Limit-clause-stops
+returns-in-Err-Limit-clause-stops g c = record {
+  as_before = λ e. record { same = refl; same_image = refl };
+  read = λ e. cc;
+  limit = λ e. c.next.ensures.limit (c.in-Err-Limit.is ∙ ap (λ x. Err x) c.in-Err-Limit.field-0-is);
+  store = λ e. cc;
+  store_cause = λ e. cc;
+}

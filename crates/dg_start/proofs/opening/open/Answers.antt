@@ -1,6 +1,8 @@
 use Rattle.std.proofs.Common.{◌≡◌, ◌⊎◌, ℕ, true, List, [], Ok, Err, None, Option, length, refl, ap, subst, sym, ◌∙◌}
 use Rattle.std.specs.Prelude.{IfSome}
 use Rattle.dg_disk.specs.Counts.{raised_by}
+use Rattle.dg_disk.proofs.CrashTold.{settled_on}
+use Rattle.dg_disk.proofs.FrameLemmas.{syncs_then_reads}
 use Rattle.dg_file.specs.Index.{IndexState, opening_bytes}
 use Rattle.dg_file.proofs.OpenedBytes.{blank_is}
 use Rattle.dg_graph.specs.declared.event.Event.{Event}
@@ -109,3 +111,10 @@ returns-clause-done g c =
       sound = d.sound;
       held = d.held;
     }
+
+pub returns-clause-settled : goal.returns-clause-settled
+returns-clause-settled g c =
+    settled_on _ _ _ _ c.open_index.ensures.disk.same_image c.open_index.ensures.disk.leaves c.in_ok-index.ensures.settled
+
+pub returns-clause-disk : goal.returns-clause-disk
+returns-clause-disk g c = syncs_then_reads c.reopen.ensures.disk c.open_index.ensures.disk

@@ -1,5 +1,6 @@
 use Rattle.std.proofs.Common.{◌≡◌, ℕ, List, Result, Ok, Err, None, refl, sym, ◌∙◌, ap, subst, arith}
 use Rattle.std.specs.Prelude.{IfSome, length}
+use Rattle.dg_disk.proofs.FrameLemmas.{reads_then}
 use Rattle.dg_file.specs.Index.{IndexState}
 use Rattle.dg_graph.specs.declared.element.Element.{Element}
 use Rattle.dg_graph.specs.declared.event.Event.{Event}
@@ -186,3 +187,6 @@ returns-clause-takes g c =
     (seen_before (g.D.Disk.image c.read_sources.new.disk) told c.read_sources.new.index.opening o c.len-2.result n (λ image p m. TakesAlongPlan set (plan_bytes p) image p m now after)
     c.read_sources.ensures.disk.same_image same c.len-2.ensures.len c.in_ok-set.ensures.takes) in
     along
+
+pub returns-clause-disk : goal.returns-clause-disk
+returns-clause-disk g c = reads_then c.read_sources.ensures.disk c.last_set.ensures.disk

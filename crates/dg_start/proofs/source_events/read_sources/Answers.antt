@@ -1,6 +1,7 @@
-use Rattle.std.proofs.Common.{◌≡◌, ◌≤◌, ◌++◌, List, Ok, length, get_or, sym, ◌∙◌, ap, subst, arith}
+use Rattle.std.proofs.Common.{◌≡◌, ◌≤◌, ◌++◌, List, Ok, length, get_or, sym, ◌∙◌, ap, subst}
 use Rattle.std.specs.List.{All}
 use Rattle.std.proofs.lemmas.List.Elements.{All-append}
+use Rattle.dg_disk.proofs.FrameLemmas.{reads_then}
 use Rattle.dg_columns.specs.NamesInRange.{NamesFit}
 use Rattle.dg_file.specs.Images.{IsOpenedAs}
 use Rattle.dg_file.specs.Index.{IndexState}
@@ -53,11 +54,7 @@ loop-source-preserved g c =
     added_so c.loop-source.events.items c.in_ok-more.more.items c.extend_from_slice.new.self.items c.deref.result.now c.in_ok-extend_from_slice.ensures.items c.deref.ensures.value in
     record {
       same = c.read_record.ensures.same ∙ c.loop-source.invariant.same;
-      frame = record {
-        same_image = c.read_record.ensures.disk.same_image ∙ c.loop-source.invariant.frame.same_image;
-        counted = omega (arith, c.read_record.ensures.disk.counted, c.loop-source.invariant.frame.counted);
-        no_write_failed = c.read_record.ensures.disk.no_write_failed ∙ c.loop-source.invariant.frame.no_write_failed;
-      };
+      frame = reads_then c.loop-source.invariant.frame c.read_record.ensures.disk;
       so_far =
           source_read told c.args.names o all c.loop-source.source-index (source_of item) next c.loop-source.events.items c.in_ok-more.more.items c.extend_from_slice.new.self.items
           (g.D.Disk.taken c.args.disk.now) (g.D.Disk.taken c.loop-source.disk) (g.D.Disk.taken c.read_record.new.disk) c.loop-source.invariant.so_far

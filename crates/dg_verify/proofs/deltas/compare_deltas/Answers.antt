@@ -1,5 +1,6 @@
 use Rattle.std.proofs.Common.{◌≡◌, ℕ, ◌<◌, List, [], None, length, slice_index_or, sym, ◌∙◌, ap, subst, arith}
 use Rattle.std.proofs.lemmas.List.{length-map}
+use Rattle.dg_disk.proofs.FrameLemmas.{reads_then}
 use Rattle.dg_file.specs.Index.{IndexState}
 use Rattle.dg_history.specs.declared.node.Key.{Key}
 use Rattle.dg_index.specs.declared.entry.Row.{Row}
@@ -80,11 +81,7 @@ loop-number-preserved g c =
     let lt : i < length keys = omega (arith, c.loop-number-test.true, ap length c.delta_rows-rows.ensures, length-map due record_row, c.requires.many) in
     record {
       same = c.compare_delta.ensures.same ∙ c.loop-number.invariant.same;
-      frame = record {
-        same_image = c.compare_delta.ensures.disk.same_image ∙ c.loop-number.invariant.frame.same_image;
-        counted = omega (arith, c.compare_delta.ensures.disk.counted, c.loop-number.invariant.frame.counted);
-        no_write_failed = c.compare_delta.ensures.disk.no_write_failed ∙ c.loop-number.invariant.frame.no_write_failed;
-      };
+      frame = reads_then c.loop-number.invariant.frame c.compare_delta.ensures.disk;
       left = behind_record due i row columns at c.loop-number.invariant.left c.split_at.result.1.now c.split_at.ensures.back c.split_at-in-loop-number.result.1.now c.split_at-in-loop-number.ensures.back
           c.split_at-in-loop-number-2.result.1.now c.split_at-in-loop-number-2.ensures.back;
       so_far =

@@ -1,5 +1,5 @@
 use Rattle.std.proofs.Common.{◌≡◌, drop}
-use Rattle.dg_disk.specs.Frame.{OnlyReads}
+use Rattle.dg_disk.specs.Calls.{ReadsDisk}
 use Rattle.dg_index.specs.FileOfHistory.{delta_blobs}
 use Rattle.dg_verify.proofs.DeltaComparisons.{DeltasGoOn}
 use Rattle.dg_verify.proofs.deltas.compare_deltas.Given as goal
@@ -7,7 +7,7 @@ use Rattle.dg_verify.proofs.deltas.compare_deltas.Given as goal
 abbrev pub invariant-loop-number : goal.invariant-loop-number
 invariant-loop-number g l = record {
   same : l.index ≡ l.fn.index;
-  frame : OnlyReads g.D.Disk.image g.D.Disk.faults g.D.Disk.write_faults l.fn.disk l.disk;
+  frame : ReadsDisk g.D.Disk l.fn.disk l.disk;
   left : l.columns ≡ delta_blobs (drop l.number l.due.segment.deltas);
   so_far : DeltasGoOn (g.D.Disk.image l.fn.disk) l.fn.index.opening l.kind l.due.keys.items l.due.segment.deltas l.number;
 }

@@ -1,5 +1,6 @@
 use Rattle.std.proofs.Common.{◌≡◌, ◌+◌, length, ◌∙◌, ap, arith}
 use Rattle.std.specs.Prelude.{Ok}
+use Rattle.dg_disk.proofs.FrameLemmas.{reads_then}
 use Rattle.dg_file.specs.Index.{IndexState}
 use Rattle.dg_index.specs.OpenedIndex.{Opening}
 use Rattle.dg_sound.specs.OwnEvents.{listed_events, with_list}
@@ -32,11 +33,7 @@ loop-number-preserved g c =
     let same_opening : c.loop-number.index.opening ≡ o = ap (λ (i : IndexState). i.opening) c.loop-number.invariant.same in
     record {
       same = c.add_list.ensures.same ∙ c.loop-number.invariant.same;
-      frame = record {
-        same_image = c.add_list.ensures.disk.same_image ∙ c.loop-number.invariant.frame.same_image;
-        counted = omega (arith, c.add_list.ensures.disk.counted, c.loop-number.invariant.frame.counted);
-        no_write_failed = c.add_list.ensures.disk.no_write_failed ∙ c.loop-number.invariant.frame.no_write_failed;
-      };
+      frame = reads_then c.loop-number.invariant.frame c.add_list.ensures.disk;
       read = c.in_ok-add_list.ensures.read;
       many = many_more c.loop-number.number o.params.l _ _ c.loop-number.invariant.many (c.in_ok-add_list.ensures.many ∙ (λ j. length c.loop-number.own.events.items + (same_opening j).params.l));
       so_far =

@@ -1,5 +1,5 @@
 use Rattle.std.proofs.Common.{◌≡◌, ◌*◌, length}
-use Rattle.dg_disk.specs.Frame.{OnlyReads}
+use Rattle.dg_disk.specs.Calls.{ReadsDisk}
 use Rattle.dg_verify.specs.EventTests.{IsRead}
 use Rattle.dg_verify.specs.Verification.{opened_with}
 use Rattle.dg_verify.proofs.EventTestLists.{ListsGoOn}
@@ -8,7 +8,7 @@ use Rattle.dg_verify.proofs.lists.add_lists.Given as goal
 abbrev pub invariant-loop-number : goal.invariant-loop-number
 invariant-loop-number g l = record {
   same : l.index ≡ l.fn.index;
-  frame : OnlyReads g.D.Disk.image g.D.Disk.faults g.D.Disk.write_faults l.fn.disk l.disk;
+  frame : ReadsDisk g.D.Disk l.fn.disk l.disk;
   read : IsRead l.own;
   many : length l.own.events.items ≡ l.number * l.fn.index.opening.params.l;
   so_far : ListsGoOn (g.D.Disk.image l.fn.disk) (opened_with l.fn.index.opening l.names) l.total l.number l.own;

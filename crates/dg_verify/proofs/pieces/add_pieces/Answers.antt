@@ -1,4 +1,5 @@
 use Rattle.std.proofs.Common.{◌≡◌, ◌+◌, ◌-◌, ◌<◌, ◌≤◌, Some, Ok, length, slice_get, sym, ◌∙◌, ap, subst, arith}
+use Rattle.dg_disk.proofs.FrameLemmas.{reads_then}
 use Rattle.dg_file.specs.Index.{IndexState}
 use Rattle.dg_index.specs.OpenedIndex.{Opening, event_total}
 use Rattle.dg_sound.specs.OwnEvents.{with_piece_events, with_pieces}
@@ -63,11 +64,7 @@ loop-batch-preserved g c =
     let there : slice_get o.batches c.loop-batch.number ≡ Some c.in-Some.batch = ap (λ (p : Opening). slice_get p.batches c.loop-batch.number) (sym same) ∙ sym c.batch.ensures ∙ c.in-Some.is in
     record {
       same = c.add_piece.ensures.same ∙ c.loop-batch.invariant.same;
-      frame = record {
-        same_image = c.add_piece.ensures.disk.same_image ∙ c.loop-batch.invariant.frame.same_image;
-        counted = omega (arith, c.add_piece.ensures.disk.counted, c.loop-batch.invariant.frame.counted);
-        no_write_failed = c.add_piece.ensures.disk.no_write_failed ∙ c.loop-batch.invariant.frame.no_write_failed;
-      };
+      frame = reads_then c.loop-batch.invariant.frame c.add_piece.ensures.disk;
       read = c.in_ok-add_piece.ensures.read;
       many = subst (λ (p : Opening). AreSoFar p (c.loop-batch.before + c.in-Some.batch.events) c.add_piece.new.own.events.items) same c.in_ok-add_piece.ensures.so_far;
       so_far =

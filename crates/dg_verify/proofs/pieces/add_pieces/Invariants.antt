@@ -1,5 +1,5 @@
 use Rattle.std.proofs.Common.{◌≡◌, ◌-◌, length}
-use Rattle.dg_disk.specs.Frame.{OnlyReads}
+use Rattle.dg_disk.specs.Calls.{ReadsDisk}
 use Rattle.dg_verify.specs.EventTests.{IsRead}
 use Rattle.dg_verify.specs.Verification.{AreSoFar, opened_with}
 use Rattle.dg_verify.proofs.EventTestPieces.{PiecesGoOn}
@@ -8,7 +8,7 @@ use Rattle.dg_verify.proofs.pieces.add_pieces.Given as goal
 abbrev pub invariant-loop-batch : goal.invariant-loop-batch
 invariant-loop-batch g l = record {
   same : l.index ≡ l.fn.index;
-  frame : OnlyReads g.D.Disk.image g.D.Disk.faults g.D.Disk.write_faults l.fn.disk l.disk;
+  frame : ReadsDisk g.D.Disk l.fn.disk l.disk;
   read : IsRead l.own;
   many : AreSoFar l.fn.index.opening l.before l.own.events.items;
   so_far : PiecesGoOn (g.D.Disk.image l.fn.disk) (opened_with l.fn.index.opening l.names) l.fn.own l.number l.before l.own;

@@ -18,7 +18,8 @@ use Rattle.dg_file.proofs.ImageParts.{fit_facts, range_within}
 use Rattle.dg_file.proofs.HeaderSegments.{outside, broken, next_on, taken_next}
 use Rattle.dg_file.proofs.InvariantBatches.{bytes_with}
 use Rattle.dg_file.proofs.GrowthMoves.{on_err_any}
-use Rattle.dg_file.proofs.IndexBytes.{behind_most, behind_reads, directory_most, found_reads, gate_most, gate_reads, lengths_most, reads_then, rose_after}
+use Rattle.dg_disk.proofs.FrameLemmas.{reads_then}
+use Rattle.dg_file.proofs.IndexBytes.{behind_most, behind_reads, directory_most, found_reads, gate_most, gate_reads, lengths_most, rose_after}
 use Rattle.dg_file.proofs.OpenedBytes.{stays_at_lengths, stays_in_segment}
 use Rattle.dg_disk.specs.Counts.{raised_by}
 use Rattle.dg_file.proofs.index.Index.read_next.Goals as goal
@@ -198,19 +199,19 @@ returns-in_err-gate-clause-cause g c =
 
 pub returns-in_err-found-clause-frame : goal.returns-in_err-found-clause-frame
 returns-in_err-found-clause-frame g c =
-    reads_then c.args.disk.now c.read_lengths.new.disk c.read_found.new.disk c.read_lengths.ensures.frame c.read_found.ensures.frame
+    reads_then c.read_lengths.ensures.frame c.read_found.ensures.frame
 
 pub returns-in_err-gate-clause-frame : goal.returns-in_err-gate-clause-frame
 returns-in_err-gate-clause-frame g c =
-    reads_then c.args.disk.now c.read_found.new.disk c.read_byte.new.disk (reads_then c.args.disk.now c.read_lengths.new.disk c.read_found.new.disk c.read_lengths.ensures.frame c.read_found.ensures.frame) c.read_byte.ensures.frame
+    reads_then (reads_then c.read_lengths.ensures.frame c.read_found.ensures.frame) c.read_byte.ensures.frame
 
 pub returns-in_err-reserve-clause-frame : goal.returns-in_err-reserve-clause-frame
 returns-in_err-reserve-clause-frame g c =
-    reads_then c.args.disk.now c.read_found.new.disk c.read_byte.new.disk (reads_then c.args.disk.now c.read_lengths.new.disk c.read_found.new.disk c.read_lengths.ensures.frame c.read_found.ensures.frame) c.read_byte.ensures.frame
+    reads_then (reads_then c.read_lengths.ensures.frame c.read_found.ensures.frame) c.read_byte.ensures.frame
 
 pub returns-clause-frame : goal.returns-clause-frame
 returns-clause-frame g c =
-    reads_then c.args.disk.now c.read_found.new.disk c.read_byte.new.disk (reads_then c.args.disk.now c.read_lengths.new.disk c.read_found.new.disk c.read_lengths.ensures.frame c.read_found.ensures.frame) c.read_byte.ensures.frame
+    reads_then (reads_then c.read_lengths.ensures.frame c.read_found.ensures.frame) c.read_byte.ensures.frame
 
 pub returns-in_err-lengths-clause-stays : goal.returns-in_err-lengths-clause-stays
 returns-in_err-lengths-clause-stays g c =

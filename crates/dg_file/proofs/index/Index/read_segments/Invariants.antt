@@ -1,7 +1,7 @@
 use Rattle.std.proofs.Common.{◌≡◌, ℕ, ◌≤◌, ◌-◌, length}
 use Rattle.std.specs.Prelude.{IfSome}
+use Rattle.dg_disk.specs.Calls.{ReadsDisk}
 use Rattle.dg_disk.specs.Counts.{raised_by}
-use Rattle.dg_disk.specs.Frame.{OnlyReads}
 use Rattle.dg_file.specs.Headers.{IsOpenedSoFar}
 use Rattle.dg_index.specs.IndexGrowth.{name_total}
 use Rattle.dg_file.specs.Index.{opening_bytes}
@@ -10,7 +10,7 @@ use Rattle.dg_file.proofs.index.Index.read_segments.Given as goal
 abbrev pub invariant-loop-gate : goal.invariant-loop-gate
 invariant-loop-gate g l = record {
   so_far : IfSome (g.D.Disk.image l.fn.disk) (λ image. IsOpenedSoFar image l.self.opening l.names l.gate);
-  frame : OnlyReads g.D.Disk.image g.D.Disk.faults g.D.Disk.write_faults l.fn.disk l.disk;
+  frame : ReadsDisk g.D.Disk l.fn.disk l.disk;
   within : l.self.opening.used ≤ l.len;
   counted_names : length l.names ≡ name_total l.self.opening.batches;
   taken : (t : ℕ) → g.D.Disk.taken l.fn.disk ≡ raised_by (opening_bytes l.fn.self.opening) t → g.D.Disk.taken l.disk ≡ raised_by (opening_bytes l.self.opening) t;

@@ -1,5 +1,6 @@
 use Rattle.std.proofs.Common.{◌≡◌, ◌+◌, ◌≤◌, length, sym, ap, subst, ◌∙◌, arith}
 use Rattle.std.specs.Prelude.{IfSome}
+use Rattle.dg_disk.proofs.CrashTold.{settled_on}
 use Rattle.dg_index.specs.OpenedIndex.{Opening}
 use Rattle.dg_file.specs.Headers.{IsFoundIn}
 use Rattle.dg_file.specs.Index.{opening_bytes}
@@ -43,3 +44,11 @@ returns-in_err-read_segments-clause-blank g c is =
     never_blank told c.from_residual-in_err-read_segments.result c.in_err-read_segments.field-0.0 c.in_ok-found.found
     (λ image. g.D.Disk.taken c.read_segments.new.disk ≡ taken_after (blank_bytes image) (g.D.Disk.taken c.args.disk.now)) c.from_residual-in_err-read_segments.ensures c.in_ok-found.ensures.found
     (subst (λ x. IfSome x (λ image. RefusesOpening c.in_err-read_segments.field-0.0 (opening image))) c.read_header.ensures.frame.same_image c.in_err-read_segments.ensures.refused) is
+
+pub returns-clause-settled : goal.returns-clause-settled
+returns-clause-settled g c =
+    settled_on _ _ _ _ c.read_segments.ensures.frame.same_image c.read_segments.ensures.frame.leaves c.in_ok-found.ensures.settled
+
+pub returns-in_err-read_segments-clause-settled_blank : goal.returns-in_err-read_segments-clause-settled_blank
+returns-in_err-read_segments-clause-settled_blank g c = λ _.
+    settled_on _ _ _ _ c.read_segments.ensures.frame.same_image c.read_segments.ensures.frame.leaves c.in_ok-found.ensures.settled

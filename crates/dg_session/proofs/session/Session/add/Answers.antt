@@ -5,20 +5,28 @@ use Rattle.dg_machine.specs.declared.reply.Reply.{Reply}
 use Rattle.dg_machine.specs.Answer.{headed}
 use Rattle.dg_session.specs.SessionState.{SessionState}
 use Rattle.dg_session.specs.BatchCommand.{command_with, batch_head}
-use Rattle.dg_session.specs.Damage.{Batch_of, DamageIn, MeetsNone}
+use Rattle.dg_session.specs.Damage.{Batch_of, DamageIn, MeetsNone, reads_for}
 use Rattle.dg_batch.specs.declared.halt.Halt.TheVariants as halt
 use Rattle.dg_batch.specs.declared.stop.Stop.TheVariants as stop
 use Rattle.dg_batch.specs.Halt.{batch_halt}
 use Rattle.dg_session.proofs.LimitStops.{not_ok, same_fault}
 use Rattle.dg_session.specs.Parts.{Parts}
 use Rattle.dg_session.specs.Reads.{Reads, ReadsIn}
-use Rattle.dg_session.specs.Session.{Accepts, ComesTo}
+use Rattle.dg_session.specs.Session.{Accepts, ComesTo, LeavesAnswered, LeavesCommand}
 use Rattle.dg_session.specs.contracts.session.Session.{the_view}
-use Rattle.dg_session.proofs.BatchCommandReads.{ReadsNoMore, added_reads, added_undamaged, failed_damage, failed_reads, reads_no_more, refused_reads, unread_damage, unread_reads}
+use Rattle.dg_session.proofs.BatchCommandReads.{ReadsNoMore, added_reads, added_undamaged, failed_damage, failed_reads, reads_no_more, reads_of, refused_reads, unread_damage, unread_reads}
+use Rattle.dg_batch.specs.declared.halt.Halt.{Halt}
+use Rattle.dg_disk.proofs.FrameLemmas.{reads_none}
+use Rattle.dg_disk.specs.Calls.{LeftByCrash}
+use Rattle.dg_session.proofs.BatchCommandCrashes.{added_left, failed_left}
+use Rattle.dg_session.proofs.CommandCrashes.{reading_left}
+use Rattle.dg_session.proofs.CommandDisks.{added_treats, failed_treats, fails_as, reading_treats}
+use Rattle.dg_session.specs.Calls.{TreatsDisk}
 use Rattle.dg_session.proofs.BatchCommandForms.{Lines_of}
 use Rattle.dg_session.proofs.BatchCommandStep.{IsAsked, added_slots, batch_added, batch_failed, failed_stays, is_asked, may_add, kept_handles, takes_failed, unread_comes, with_handles, with_history}
-use Rattle.dg_session.proofs.SessionSteps.{Comes, handed_out}
+use Rattle.dg_session.proofs.SessionSteps.{Carried, handed_out, with_crash}
 use Rattle.dg_append.specs.declared.live.Live.{Live}
+use Rattle.dg_session.proofs.DamageStep.{accepted_tells_none, none_met}
 use Rattle.dg_session.proofs.session.Session.add.Goals as goal
 
 pub returns-in_err-batch-clause-comes : goal.returns-in_err-batch-clause-comes
@@ -28,23 +36,13 @@ returns-in_err-batch-clause-comes g c =
     let before : Option (List ScriptLine) = told c.args.lines.now (g.S.Source.left c.args.source.now) in
     let after : Option (List ScriptLine) = told c.read_batch.new.lines (g.S.Source.left c.read_batch.new.source) in
     let image : Option (List ℕ) = g.D.Disk.image c.args.disk.now in
-    handed_out c.from_residual.result c.in_err-batch.field-0.0 (Comes (command_with c.args.which c.args.count) c.args.count before after c.args.self.now.parts image q image) c.from_residual.ensures
-    (unread_comes c.args.which c.args.count c.args.self.now.parts q c.self.inside.held.live.history.names c.read_batch.new.names before after image c.in_err-batch.field-0.0 c.barred-barred.result
-    (λ same. ap (λ ns. let x : Parts = record p { names = ns } in x) same ∙ (ap (λ (x : SessionState). x.parts) c.self.view_is)) c.barred-barred.ensures c.in_err-batch.ensures.reads
-    (λ h. c.read_batch.ensures.no_store (c.in_err-batch.was ∙ ap (λ x. Err x) h)))
-
-pub returns-in_err-batch-clause-damaged : goal.returns-in_err-batch-clause-damaged
-returns-in_err-batch-clause-damaged g c =
-    let before : Option (List ScriptLine) = told c.args.lines.now (g.S.Source.left c.args.source.now) in
-    let after : Option (List ScriptLine) = told c.read_batch.new.lines (g.S.Source.left c.read_batch.new.source) in
-    handed_out c.from_residual.result c.in_err-batch.field-0.0 (λ r. DamageIn (command_with c.args.which c.args.count) c.args.self.now.parts (g.D.Disk.image c.args.disk.now) r) c.from_residual.ensures
-    (unread_damage c.args.which c.args.count c.args.self.now.parts c.self.inside.held.live.history.names c.read_batch.new.names before after c.barred-barred.result (g.D.Disk.image c.args.disk.now) c.in_err-batch.field-0.0
-    c.barred-barred.ensures c.in_err-batch.ensures.reads)
-
-pub returns-in_err-batch-clause-reads : goal.returns-in_err-batch-clause-reads
-returns-in_err-batch-clause-reads g c =
-    handed_out c.from_residual.result c.in_err-batch.field-0.0 (λ r. ReadsIn (command_with c.args.which c.args.count) c.args.self.now.parts (g.D.Disk.image c.args.disk.now) r (g.D.Disk.taken c.args.disk.now) (g.D.Disk.taken c.args.disk.now)) c.from_residual.ensures
-    (unread_reads (Lines_of c.args.which) c.args.count c.args.self.now.parts (g.D.Disk.image c.args.disk.now) c.in_err-batch.field-0.0 (g.D.Disk.taken c.args.disk.now))
+    let h : Halt = c.in_err-batch.field-0.0 in
+    let other : h ≡ halt.Stop stop.Store → ⊥ = λ e. c.read_batch.ensures.no_store (c.in_err-batch.was ∙ ap (λ x. Err x) e) in
+    handed_out c.from_residual.result h (λ r. Carried (command_with c.args.which c.args.count) c.args.count before after c.args.self.now.parts image q image r (LeftByCrash g.D.Disk c.args.disk.now c.args.disk.now)) c.from_residual.ensures
+    (with_crash (command_with c.args.which c.args.count) c.args.count before after c.args.self.now.parts image q image (Err h) (LeftByCrash g.D.Disk c.args.disk.now c.args.disk.now)
+    (unread_comes c.args.which c.args.count c.args.self.now.parts q c.self.inside.held.live.history.names c.read_batch.new.names before after image h c.barred-barred.result
+    (λ same. ap (λ ns. let x : Parts = record p { names = ns } in x) same ∙ (ap (λ (x : SessionState). x.parts) c.self.view_is)) c.barred-barred.ensures c.in_err-batch.ensures.reads other)
+    (λ got. reading_left g.D.Disk g.met.D.Disk.only_now c.args.disk.now c.args.disk.now reads_none (command_with c.args.which c.args.count) got c.args.self.now.parts (Err h) (λ e. other (fails_as h (halt.Stop stop.Store) e))))
 
 pub add_changes-requires-clause-may : goal.add_changes-requires-clause-may
 add_changes-requires-clause-may g c =
@@ -71,7 +69,8 @@ returns-in_err-added-clause-comes g c =
     let image : Option (List ℕ) = g.D.Disk.image c.args.disk.now in
     let then_image : Option (List ℕ) = g.D.Disk.image c.add_changes.new.disk in
     let q : Parts = with_handles (with_history p c.add_changes.new.held.live.history) c.add_changes.new.held.handles c.add_changes.new.held.live.pool.value in
-    handed_out c.from_residual-in_err-added.result (batch_halt c.in_err-added.field-0.0) (Comes (command_with c.args.which c.args.count) c.args.count before after c.args.self.now.parts image q then_image) c.from_residual-in_err-added.ensures (
+    handed_out c.from_residual-in_err-added.result (batch_halt c.in_err-added.field-0.0)
+    (λ r. Carried (command_with c.args.which c.args.count) c.args.count before after c.args.self.now.parts image q then_image r (LeftByCrash g.D.Disk c.args.disk.now c.add_changes.new.disk)) c.from_residual-in_err-added.ensures (
       got,
       takes_failed c.args.count before got after c.in_err-added.field-0.0 c.in_ok-batch.ensures.reads.follows,
       subst (λ (x : Parts). ComesTo (command_with c.args.which c.args.count) got x image q then_image (Err (batch_halt c.in_err-added.field-0.0))) (ap (λ (x : SessionState). x.parts) c.self.view_is)
@@ -79,43 +78,10 @@ returns-in_err-added-clause-comes g c =
           c.in_err-added.field-0.0 c.in_err-added.ensures.fails q
           (failed_stays (Lines_of c.args.which) got p c.args.count c.self.inside.limits.file_bytes old c.in_ok-batch.batch asked c.add_changes.new.held.live image then_image
           c.in_err-added.field-0.0 c.self.inside.held.handles c.add_changes.new.held.handles c.in_err-added.ensures.back c.in_err-added.ensures.handles refl)),
+      subst (λ (x : Parts). LeftByCrash g.D.Disk c.args.disk.now c.add_changes.new.disk (LeavesCommand (command_with c.args.which c.args.count) got x (Err (batch_halt c.in_err-added.field-0.0)))) (ap (λ (x : SessionState). x.parts) c.self.view_is)
+          (failed_left (Lines_of c.args.which) got p c.args.count c.self.inside.limits.file_bytes old c.in_ok-batch.batch asked g.D.Disk c.args.disk.now c.add_changes.new.disk g.met.D.Disk.only_now
+          c.in_err-added.field-0.0 c.in_err-added.ensures.fails c.in_err-added.ensures.disk.unwritten c.in_err-added.ensures.disk.crash),
     )
-
-pub returns-in_err-added-clause-damaged : goal.returns-in_err-added-clause-damaged
-returns-in_err-added-clause-damaged g c =
-    let p : Parts = (the_view c.self.inside).parts in
-    let old : Live = record { history = record c.self.inside.held.live.history { names = c.read_batch.new.names }; pool = c.self.inside.held.live.pool } in
-    let before : Option (List ScriptLine) = told c.args.lines.now (g.S.Source.left c.args.source.now) in
-    let after : Option (List ScriptLine) = told c.read_batch.new.lines (g.S.Source.left c.read_batch.new.source) in
-    let got : List ScriptLine = c.in_ok-batch.ensures.reads.got in
-    let asked : IsAsked (Lines_of c.args.which) got p c.args.count c.self.inside.limits.file_bytes old c.in_ok-batch.batch =
-    is_asked c.args.which p c.args.self.now.parts c.args.count old c.in_ok-batch.batch before after c.barred-barred.result (ap (λ (x : SessionState). x.parts) c.self.view_is) c.barred-barred.ensures
-    refl refl refl c.self.invariant.0.events c.requires.some c.requires.few c.in_ok-batch.ensures.reads in
-    let image : Option (List ℕ) = g.D.Disk.image c.args.disk.now in
-    let then_image : Option (List ℕ) = g.D.Disk.image c.add_changes.new.disk in
-    handed_out c.from_residual-in_err-added.result (batch_halt c.in_err-added.field-0.0) (λ r. DamageIn (command_with c.args.which c.args.count) c.args.self.now.parts image r) c.from_residual-in_err-added.ensures
-    (subst (λ (x : Parts). DamageIn (command_with c.args.which c.args.count) x image (Err (batch_halt c.in_err-added.field-0.0))) (ap (λ (x : SessionState). x.parts) c.self.view_is)
-    (failed_damage (Lines_of c.args.which) got p c.args.count c.self.inside.limits.file_bytes old c.in_ok-batch.batch asked image then_image c.in_err-added.field-0.0
-    c.in_err-added.ensures.fails))
-
-pub returns-in_err-added-clause-reads : goal.returns-in_err-added-clause-reads
-returns-in_err-added-clause-reads g c =
-    let p : Parts = (the_view c.self.inside).parts in
-    let old : Live = record { history = record c.self.inside.held.live.history { names = c.read_batch.new.names }; pool = c.self.inside.held.live.pool } in
-    let before : Option (List ScriptLine) = told c.args.lines.now (g.S.Source.left c.args.source.now) in
-    let after : Option (List ScriptLine) = told c.read_batch.new.lines (g.S.Source.left c.read_batch.new.source) in
-    let got : List ScriptLine = c.in_ok-batch.ensures.reads.got in
-    let asked : IsAsked (Lines_of c.args.which) got p c.args.count c.self.inside.limits.file_bytes old c.in_ok-batch.batch =
-    is_asked c.args.which p c.args.self.now.parts c.args.count old c.in_ok-batch.batch before after c.barred-barred.result (ap (λ (x : SessionState). x.parts) c.self.view_is) c.barred-barred.ensures
-    refl refl refl c.self.invariant.0.events c.requires.some c.requires.few c.in_ok-batch.ensures.reads in
-    let image : Option (List ℕ) = g.D.Disk.image c.args.disk.now in
-    let then_image : Option (List ℕ) = g.D.Disk.image c.add_changes.new.disk in
-    let taken : ℕ = g.D.Disk.taken c.args.disk.now in
-    let then_taken : ℕ = g.D.Disk.taken c.add_changes.new.disk in
-    let older : ReadsNoMore p image c.args.count taken then_taken =
-    reads_no_more (Lines_of c.args.which) got p c.args.count c.self.inside.limits.file_bytes old c.in_ok-batch.batch asked image c.add_changes.result taken then_taken c.add_changes.ensures.reads in
-    handed_out c.from_residual-in_err-added.result (batch_halt c.in_err-added.field-0.0) (λ r. ReadsIn (command_with c.args.which c.args.count) c.args.self.now.parts image r taken then_taken) c.from_residual-in_err-added.ensures
-    (failed_reads (Lines_of c.args.which) c.args.count c.args.self.now.parts image c.in_err-added.field-0.0 taken then_taken (subst (λ (x : Parts). ReadsNoMore x image c.args.count taken then_taken) (ap (λ (x : SessionState). x.parts) c.self.view_is) older) (refused_reads (Lines_of c.args.which) got p c.args.count c.self.inside.limits.file_bytes old c.in_ok-batch.batch asked image c.in_err-added.field-0.0 taken then_taken c.in_err-added.ensures.reads))
 
 pub returns-clause-comes : goal.returns-clause-comes
 returns-clause-comes g c =
@@ -139,43 +105,12 @@ returns-clause-comes g c =
           (sym (kept_handles (with_history p c.add_changes.new.held.live.history) c.self.inside.held.handles c.add_changes.new.held.handles c.self.inside.held.live.pool.value c.add_changes.new.held.live.pool.value c.in_ok-added.ensures.handles (added_slots (Lines_of c.args.which) got p c.args.count c.self.inside.limits.file_bytes old c.in_ok-batch.batch asked c.add_changes.new.held.live image then_image c.in_ok-added.added c.in_ok-added.ensures.adds)))
           (batch_added (Lines_of c.args.which) got p c.args.count c.self.inside.limits.file_bytes old c.in_ok-batch.batch asked c.add_changes.new.held.live image then_image
           c.in_ok-added.added c.in_ok-added.ensures.adds))),
+      subst (λ (r : Reply). LeftByCrash g.D.Disk c.args.disk.now c.add_changes.new.disk (LeavesAnswered (command_with c.args.which c.args.count) got c.args.self.now.parts r)) reply
+          (subst (λ (x : Parts). LeftByCrash g.D.Disk c.args.disk.now c.add_changes.new.disk
+          (LeavesAnswered (command_with c.args.which c.args.count) got x (headed (batch_head c.args.which c.in_ok-added.added.events c.in_ok-added.added.total c.in_ok-added.added.last)))) (ap (λ (x : SessionState). x.parts) c.self.view_is)
+          (added_left (Lines_of c.args.which) got p c.args.count c.self.inside.limits.file_bytes old c.in_ok-batch.batch asked g.D.Disk c.args.disk.now c.add_changes.new.disk c.add_changes.new.held.live
+          c.in_ok-added.added c.in_ok-added.ensures.adds c.in_ok-added.ensures.disk.crash)),
     )
-
-pub returns-clause-reads : goal.returns-clause-reads
-returns-clause-reads g c =
-    let p : Parts = (the_view c.self.inside).parts in
-    let old : Live = record { history = record c.self.inside.held.live.history { names = c.read_batch.new.names }; pool = c.self.inside.held.live.pool } in
-    let before : Option (List ScriptLine) = told c.args.lines.now (g.S.Source.left c.args.source.now) in
-    let after : Option (List ScriptLine) = told c.read_batch.new.lines (g.S.Source.left c.read_batch.new.source) in
-    let got : List ScriptLine = c.in_ok-batch.ensures.reads.got in
-    let asked : IsAsked (Lines_of c.args.which) got p c.args.count c.self.inside.limits.file_bytes old c.in_ok-batch.batch =
-    is_asked c.args.which p c.args.self.now.parts c.args.count old c.in_ok-batch.batch before after c.barred-barred.result (ap (λ (x : SessionState). x.parts) c.self.view_is) c.barred-barred.ensures
-    refl refl refl c.self.invariant.0.events c.requires.some c.requires.few c.in_ok-batch.ensures.reads in
-    let image : Option (List ℕ) = g.D.Disk.image c.args.disk.now in
-    let then_image : Option (List ℕ) = g.D.Disk.image c.add_changes.new.disk in
-    let taken : ℕ = g.D.Disk.taken c.args.disk.now in
-    let then_taken : ℕ = g.D.Disk.taken c.add_changes.new.disk in
-    let older : ReadsNoMore p image c.args.count taken then_taken =
-    reads_no_more (Lines_of c.args.which) got p c.args.count c.self.inside.limits.file_bytes old c.in_ok-batch.batch asked image c.add_changes.result taken then_taken c.add_changes.ensures.reads in
-    subst (λ (r : Reply). Reads (command_with c.args.which c.args.count) c.args.self.now.parts image r.head taken then_taken) (sym (c.headed.ensures ∙ ap headed c.head.ensures))
-    (added_reads (Lines_of c.args.which) c.args.count c.args.self.now.parts image c.add_changes.new.held.live.history.now.graph c.in_ok-added.added.events c.in_ok-added.added.total c.in_ok-added.added.last taken then_taken
-    (subst (λ (x : Parts). ReadsNoMore x image c.args.count taken then_taken) (ap (λ (x : SessionState). x.parts) c.self.view_is) older))
-
-pub returns-clause-undamaged : goal.returns-clause-undamaged
-returns-clause-undamaged g c =
-    let p : Parts = (the_view c.self.inside).parts in
-    let old : Live = record { history = record c.self.inside.held.live.history { names = c.read_batch.new.names }; pool = c.self.inside.held.live.pool } in
-    let before : Option (List ScriptLine) = told c.args.lines.now (g.S.Source.left c.args.source.now) in
-    let after : Option (List ScriptLine) = told c.read_batch.new.lines (g.S.Source.left c.read_batch.new.source) in
-    let got : List ScriptLine = c.in_ok-batch.ensures.reads.got in
-    let asked : IsAsked (Lines_of c.args.which) got p c.args.count c.self.inside.limits.file_bytes old c.in_ok-batch.batch =
-    is_asked c.args.which p c.args.self.now.parts c.args.count old c.in_ok-batch.batch before after c.barred-barred.result (ap (λ (x : SessionState). x.parts) c.self.view_is) c.barred-barred.ensures
-    refl refl refl c.self.invariant.0.events c.requires.some c.requires.few c.in_ok-batch.ensures.reads in
-    let image : Option (List ℕ) = g.D.Disk.image c.args.disk.now in
-    let then_image : Option (List ℕ) = g.D.Disk.image c.add_changes.new.disk in
-    subst (λ (x : Parts). MeetsNone (Batch_of c.args.count) x image) (ap (λ (x : SessionState). x.parts) c.self.view_is)
-    (added_undamaged (Lines_of c.args.which) got p c.args.count c.self.inside.limits.file_bytes old c.in_ok-batch.batch asked image then_image c.add_changes.new.held.live c.in_ok-added.added
-    c.in_ok-added.ensures.adds)
 
 pub returns-in_err-batch-clause-due : goal.returns-in_err-batch-clause-due
 returns-in_err-batch-clause-due g c some at needs =
@@ -187,3 +122,104 @@ returns-in_err-added-clause-due g c some at needs = absurd (not_ok c.read_batch.
 
 pub returns-clause-due : goal.returns-clause-due
 returns-clause-due g c some at needs = absurd (not_ok c.read_batch.result c.in_ok-batch.batch (halt.Stop stop.Limit) (c.read_batch.ensures.due some at needs) c.in_ok-batch.was)
+
+pub returns-in_err-batch-clause-file : goal.returns-in_err-batch-clause-file
+returns-in_err-batch-clause-file g c = record {
+  damaged =
+      let before : Option (List ScriptLine) = told c.args.lines.now (g.S.Source.left c.args.source.now) in
+      let after : Option (List ScriptLine) = told c.read_batch.new.lines (g.S.Source.left c.read_batch.new.source) in
+      handed_out c.from_residual.result c.in_err-batch.field-0.0 (λ r. DamageIn (command_with c.args.which c.args.count) c.args.self.now.parts (g.D.Disk.image c.args.disk.now) r) c.from_residual.ensures
+      (unread_damage c.args.which c.args.count c.args.self.now.parts c.self.inside.held.live.history.names c.read_batch.new.names before after c.barred-barred.result (g.D.Disk.image c.args.disk.now) c.in_err-batch.field-0.0
+      c.barred-barred.ensures c.in_err-batch.ensures.reads);
+  undamaged = none_met c.from_residual.result (MeetsNone (reads_for (command_with c.args.which c.args.count)) c.args.self.now.parts (g.D.Disk.image c.args.disk.now)) c.from_residual.ensures.0;
+  reads =
+      handed_out c.from_residual.result c.in_err-batch.field-0.0 (λ r. ReadsIn (command_with c.args.which c.args.count) c.args.self.now.parts (g.D.Disk.image c.args.disk.now) r (g.D.Disk.taken c.args.disk.now) (g.D.Disk.taken c.args.disk.now)) c.from_residual.ensures
+      (unread_reads (Lines_of c.args.which) c.args.count c.args.self.now.parts (g.D.Disk.image c.args.disk.now) c.in_err-batch.field-0.0 (g.D.Disk.taken c.args.disk.now));
+}
+
+pub returns-in_err-added-clause-file : goal.returns-in_err-added-clause-file
+returns-in_err-added-clause-file g c = record {
+  damaged =
+      let p : Parts = (the_view c.self.inside).parts in
+      let old : Live = record { history = record c.self.inside.held.live.history { names = c.read_batch.new.names }; pool = c.self.inside.held.live.pool } in
+      let before : Option (List ScriptLine) = told c.args.lines.now (g.S.Source.left c.args.source.now) in
+      let after : Option (List ScriptLine) = told c.read_batch.new.lines (g.S.Source.left c.read_batch.new.source) in
+      let got : List ScriptLine = c.in_ok-batch.ensures.reads.got in
+      let asked : IsAsked (Lines_of c.args.which) got p c.args.count c.self.inside.limits.file_bytes old c.in_ok-batch.batch =
+      is_asked c.args.which p c.args.self.now.parts c.args.count old c.in_ok-batch.batch before after c.barred-barred.result (ap (λ (x : SessionState). x.parts) c.self.view_is) c.barred-barred.ensures
+      refl refl refl c.self.invariant.0.events c.requires.some c.requires.few c.in_ok-batch.ensures.reads in
+      let image : Option (List ℕ) = g.D.Disk.image c.args.disk.now in
+      let then_image : Option (List ℕ) = g.D.Disk.image c.add_changes.new.disk in
+      handed_out c.from_residual-in_err-added.result (batch_halt c.in_err-added.field-0.0) (λ r. DamageIn (command_with c.args.which c.args.count) c.args.self.now.parts image r) c.from_residual-in_err-added.ensures
+      (subst (λ (x : Parts). DamageIn (command_with c.args.which c.args.count) x image (Err (batch_halt c.in_err-added.field-0.0))) (ap (λ (x : SessionState). x.parts) c.self.view_is)
+      (failed_damage (Lines_of c.args.which) got p c.args.count c.self.inside.limits.file_bytes old c.in_ok-batch.batch asked image then_image c.in_err-added.field-0.0
+      c.in_err-added.ensures.fails));
+  undamaged = none_met c.from_residual-in_err-added.result (MeetsNone (reads_for (command_with c.args.which c.args.count)) c.args.self.now.parts (g.D.Disk.image c.args.disk.now)) c.from_residual-in_err-added.ensures.0;
+  reads =
+      let p : Parts = (the_view c.self.inside).parts in
+      let old : Live = record { history = record c.self.inside.held.live.history { names = c.read_batch.new.names }; pool = c.self.inside.held.live.pool } in
+      let before : Option (List ScriptLine) = told c.args.lines.now (g.S.Source.left c.args.source.now) in
+      let after : Option (List ScriptLine) = told c.read_batch.new.lines (g.S.Source.left c.read_batch.new.source) in
+      let got : List ScriptLine = c.in_ok-batch.ensures.reads.got in
+      let asked : IsAsked (Lines_of c.args.which) got p c.args.count c.self.inside.limits.file_bytes old c.in_ok-batch.batch =
+      is_asked c.args.which p c.args.self.now.parts c.args.count old c.in_ok-batch.batch before after c.barred-barred.result (ap (λ (x : SessionState). x.parts) c.self.view_is) c.barred-barred.ensures
+      refl refl refl c.self.invariant.0.events c.requires.some c.requires.few c.in_ok-batch.ensures.reads in
+      let image : Option (List ℕ) = g.D.Disk.image c.args.disk.now in
+      let then_image : Option (List ℕ) = g.D.Disk.image c.add_changes.new.disk in
+      let taken : ℕ = g.D.Disk.taken c.args.disk.now in
+      let then_taken : ℕ = g.D.Disk.taken c.add_changes.new.disk in
+      let older : ReadsNoMore p image c.args.count taken then_taken =
+      reads_no_more (Lines_of c.args.which) got p c.args.count c.self.inside.limits.file_bytes old c.in_ok-batch.batch asked image c.add_changes.result taken then_taken c.add_changes.ensures.reads in
+      handed_out c.from_residual-in_err-added.result (batch_halt c.in_err-added.field-0.0) (λ r. ReadsIn (command_with c.args.which c.args.count) c.args.self.now.parts image r taken then_taken) c.from_residual-in_err-added.ensures
+      (failed_reads (Lines_of c.args.which) c.args.count c.args.self.now.parts image c.in_err-added.field-0.0 taken then_taken (subst (λ (x : Parts). ReadsNoMore x image c.args.count taken then_taken) (ap (λ (x : SessionState). x.parts) c.self.view_is) older) (refused_reads (Lines_of c.args.which) got p c.args.count c.self.inside.limits.file_bytes old c.in_ok-batch.batch asked image c.in_err-added.field-0.0 taken then_taken c.in_err-added.ensures.reads));
+}
+
+pub returns-clause-file : goal.returns-clause-file
+returns-clause-file g c = record {
+  damaged = accepted_tells_none (command_with c.args.which c.args.count) c.args.self.now.parts (g.D.Disk.image c.args.disk.now) c.headed.result.head (returns-clause-comes g c).2.accepted;
+  undamaged =
+      subst (λ x. MeetsNone x c.args.self.now.parts (g.D.Disk.image c.args.disk.now)) (sym (reads_of c.args.which c.args.count)) (let p : Parts = (the_view c.self.inside).parts in
+      let old : Live = record { history = record c.self.inside.held.live.history { names = c.read_batch.new.names }; pool = c.self.inside.held.live.pool } in
+      let before : Option (List ScriptLine) = told c.args.lines.now (g.S.Source.left c.args.source.now) in
+      let after : Option (List ScriptLine) = told c.read_batch.new.lines (g.S.Source.left c.read_batch.new.source) in
+      let got : List ScriptLine = c.in_ok-batch.ensures.reads.got in
+      let asked : IsAsked (Lines_of c.args.which) got p c.args.count c.self.inside.limits.file_bytes old c.in_ok-batch.batch =
+      is_asked c.args.which p c.args.self.now.parts c.args.count old c.in_ok-batch.batch before after c.barred-barred.result (ap (λ (x : SessionState). x.parts) c.self.view_is) c.barred-barred.ensures
+      refl refl refl c.self.invariant.0.events c.requires.some c.requires.few c.in_ok-batch.ensures.reads in
+      let image : Option (List ℕ) = g.D.Disk.image c.args.disk.now in
+      let then_image : Option (List ℕ) = g.D.Disk.image c.add_changes.new.disk in
+      subst (λ (x : Parts). MeetsNone (Batch_of c.args.count) x image) (ap (λ (x : SessionState). x.parts) c.self.view_is)
+      (added_undamaged (Lines_of c.args.which) got p c.args.count c.self.inside.limits.file_bytes old c.in_ok-batch.batch asked image then_image c.add_changes.new.held.live c.in_ok-added.added
+      c.in_ok-added.ensures.adds));
+  reads =
+      let p : Parts = (the_view c.self.inside).parts in
+      let old : Live = record { history = record c.self.inside.held.live.history { names = c.read_batch.new.names }; pool = c.self.inside.held.live.pool } in
+      let before : Option (List ScriptLine) = told c.args.lines.now (g.S.Source.left c.args.source.now) in
+      let after : Option (List ScriptLine) = told c.read_batch.new.lines (g.S.Source.left c.read_batch.new.source) in
+      let got : List ScriptLine = c.in_ok-batch.ensures.reads.got in
+      let asked : IsAsked (Lines_of c.args.which) got p c.args.count c.self.inside.limits.file_bytes old c.in_ok-batch.batch =
+      is_asked c.args.which p c.args.self.now.parts c.args.count old c.in_ok-batch.batch before after c.barred-barred.result (ap (λ (x : SessionState). x.parts) c.self.view_is) c.barred-barred.ensures
+      refl refl refl c.self.invariant.0.events c.requires.some c.requires.few c.in_ok-batch.ensures.reads in
+      let image : Option (List ℕ) = g.D.Disk.image c.args.disk.now in
+      let then_image : Option (List ℕ) = g.D.Disk.image c.add_changes.new.disk in
+      let taken : ℕ = g.D.Disk.taken c.args.disk.now in
+      let then_taken : ℕ = g.D.Disk.taken c.add_changes.new.disk in
+      let older : ReadsNoMore p image c.args.count taken then_taken =
+      reads_no_more (Lines_of c.args.which) got p c.args.count c.self.inside.limits.file_bytes old c.in_ok-batch.batch asked image c.add_changes.result taken then_taken c.add_changes.ensures.reads in
+      subst (λ (r : Reply). Reads (command_with c.args.which c.args.count) c.args.self.now.parts image r.head taken then_taken) (sym (c.headed.ensures ∙ ap headed c.head.ensures))
+      (added_reads (Lines_of c.args.which) c.args.count c.args.self.now.parts image c.add_changes.new.held.live.history.now.graph c.in_ok-added.added.events c.in_ok-added.added.total c.in_ok-added.added.last taken then_taken
+      (subst (λ (x : Parts). ReadsNoMore x image c.args.count taken then_taken) (ap (λ (x : SessionState). x.parts) c.self.view_is) older));
+}
+
+pub returns-in_err-batch-clause-disk : goal.returns-in_err-batch-clause-disk
+returns-in_err-batch-clause-disk g c =
+    handed_out c.from_residual.result c.in_err-batch.field-0.0 (TreatsDisk g.D.Disk c.args.disk.now c.args.disk.now) c.from_residual.ensures
+    (reading_treats g.D.Disk c.args.disk.now c.args.disk.now (Err c.in_err-batch.field-0.0) reads_none)
+
+pub returns-in_err-added-clause-disk : goal.returns-in_err-added-clause-disk
+returns-in_err-added-clause-disk g c =
+    handed_out c.from_residual-in_err-added.result (batch_halt c.in_err-added.field-0.0) (TreatsDisk g.D.Disk c.args.disk.now c.add_changes.new.disk) c.from_residual-in_err-added.ensures
+    (failed_treats g.D.Disk c.args.disk.now c.add_changes.new.disk c.in_err-added.field-0.0 c.in_err-added.ensures.disk)
+
+pub returns-clause-disk : goal.returns-clause-disk
+returns-clause-disk g c = added_treats g.D.Disk c.args.disk.now c.add_changes.new.disk c.in_ok-added.added c.headed.result c.in_ok-added.ensures.disk

@@ -6,9 +6,15 @@ use Rattle.std.specs.Prelude.{is_some}
 use Rattle.dg_machine.specs.Needs.{needs}
 use Rattle.dg_batch.specs.Halt.{creation_halt}
 use Rattle.dg_session.specs.Parts.{Parts}
-use Rattle.dg_session.specs.Session.{ComesTo, refused_by}
+use Rattle.dg_session.specs.Session.{ComesTo, LeavesCommand, refused_by}
 use Rattle.dg_start.specs.StoredHistory.{index_opening}
 use Rattle.dg_session.specs.contracts.session.Session.{the_view}
+use Rattle.dg_disk.proofs.FrameLemmas.{reads_none}
+use Rattle.dg_disk.specs.Calls.{LeftByCrash}
+use Rattle.dg_session.proofs.CommandCrashes.{reading_left}
+use Rattle.dg_session.proofs.CreationCrashes.{created_left, uncreated_left}
+use Rattle.dg_session.proofs.CommandDisks.{made_treats, unmade_treats, reading_treats}
+use Rattle.dg_session.specs.Calls.{TreatsDisk}
 use Rattle.dg_session.proofs.SessionCreationStep.{create_answers, create_fails, creation_free, making, no_names}
 use Rattle.dg_session.proofs.ReadsStep.{reads_nothing}
 use Rattle.dg_session.proofs.SessionSteps.{handed_out, refused_denies}
@@ -24,7 +30,7 @@ returns-in_err-index-clause-comes g c =
     handed_out c.from_residual.result (creation_halt c.in_err-index.field-0.0) (ComesTo (making c.args.params) [] c.args.self.now.parts (g.D.Disk.image c.args.disk.now) c.args.self.now.parts (g.D.Disk.image c.create.new.disk)) c.from_residual.ensures
     (create_fails c.args.self.now.parts c.args.self.now.parts c.args.params (g.D.Disk.image c.args.disk.now) (g.D.Disk.image c.create.new.disk) c.in_err-index.field-0.0
     (sym c.refused_creation.ensures ∙ c.in_default.is) refl
-    (λ h. (c.create.ensures.memory (c.in_err-index.was ∙ ap (λ f. Err f) h)).0) (λ h. c.create.ensures.part (c.in_err-index.was ∙ ap (λ f. Err f) h)))
+    (λ h. ap (g.D.Disk.image) (c.create.ensures.memory (c.in_err-index.was ∙ ap (λ f. Err f) h))) (λ h. c.create.ensures.part (c.in_err-index.was ∙ ap (λ f. Err f) h)))
 
 pub returns-clause-comes : goal.returns-clause-comes
 returns-clause-comes g c =
@@ -50,3 +56,29 @@ returns-in_err-index-clause-reads g c =
 pub returns-clause-reads : goal.returns-clause-reads
 returns-clause-reads g c =
     reads_nothing (making c.args.params) c.args.self.now.parts (g.D.Disk.image c.args.disk.now) (Ok c.headed.result) (g.D.Disk.taken c.args.disk.now) (g.D.Disk.taken c.create.new.disk) refl c.create.ensures.frame.nothing_read
+
+pub returns-in-Some-clause-disk : goal.returns-in-Some-clause-disk
+returns-in-Some-clause-disk g c = reading_treats g.D.Disk c.args.disk.now c.args.disk.now (Err (halt.Refusal c.in-Some.refusal)) reads_none
+
+pub returns-in_err-index-clause-disk : goal.returns-in_err-index-clause-disk
+returns-in_err-index-clause-disk g c =
+    handed_out c.from_residual.result (creation_halt c.in_err-index.field-0.0) (TreatsDisk g.D.Disk c.args.disk.now c.create.new.disk) c.from_residual.ensures
+    (unmade_treats g.D.Disk c.args.disk.now c.create.new.disk c.in_err-index.field-0.0 c.create.ensures.frame
+    (λ h. c.create.ensures.memory (c.in_err-index.was ∙ ap (λ f. Err f) h)))
+
+pub returns-clause-disk : goal.returns-clause-disk
+returns-clause-disk g c = made_treats g.D.Disk c.args.disk.now c.create.new.disk c.headed.result c.create.ensures.frame c.in_ok-index.ensures.settled
+
+pub returns-in-Some-clause-crash : goal.returns-in-Some-clause-crash
+returns-in-Some-clause-crash g c =
+    reading_left g.D.Disk g.met.D.Disk.only_now c.args.disk.now c.args.disk.now reads_none (making c.args.params) [] c.args.self.now.parts (Err (halt.Refusal c.in-Some.refusal)) (λ e. cc)
+
+pub returns-in_err-index-clause-crash : goal.returns-in_err-index-clause-crash
+returns-in_err-index-clause-crash g c =
+    handed_out c.from_residual.result (creation_halt c.in_err-index.field-0.0) (λ r. LeftByCrash g.D.Disk c.args.disk.now c.create.new.disk (LeavesCommand (making c.args.params) [] c.args.self.now.parts r)) c.from_residual.ensures
+    (uncreated_left c.args.self.now.parts c.args.params (sym c.refused_creation.ensures ∙ c.in_default.is) g.D.Disk c.args.disk.now c.create.new.disk c.create.ensures.crash g.met.D.Disk.only_now c.in_err-index.field-0.0
+    (λ h. c.create.ensures.memory (c.in_err-index.was ∙ ap (λ f. Err f) h)))
+
+pub returns-clause-crash : goal.returns-clause-crash
+returns-clause-crash g c =
+    created_left c.args.self.now.parts c.args.params (sym c.refused_creation.ensures ∙ c.in_default.is) g.D.Disk c.args.disk.now c.create.new.disk c.create.ensures.crash c.headed.result c.headed.ensures

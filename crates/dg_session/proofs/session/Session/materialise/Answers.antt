@@ -1,4 +1,4 @@
-use Rattle.std.proofs.Common.{◌≡◌, [], ◌∷◌, refl, sym, ◌∙◌, ap, subst}
+use Rattle.std.proofs.Common.{◌≡◌, [], ◌∷◌, refl, sym, ◌∙◌, ap, subst, arith}
 use Rattle.dg_graph.specs.Composition.{applied}
 use Rattle.dg_graph.specs.Elements.{shown}
 use Rattle.dg_machine.specs.declared.command.Command.TheVariants as command
@@ -10,25 +10,20 @@ use Rattle.dg_machine.specs.Answer.{headed}
 use Rattle.dg_machine.specs.Needs.{needs}
 use Rattle.dg_session.specs.SessionState.{SessionState}
 use Rattle.dg_batch.specs.declared.halt.Halt.TheVariants as halt
-use Rattle.dg_session.specs.Damage.{DamageIn, DamageIs}
+use Rattle.dg_session.specs.Damage.{DamageIn, DamageIs, MeetsNone, reads_for}
 use Rattle.dg_batch.specs.Halt.{retrieval_halt}
 use Rattle.dg_session.specs.Parts.{Parts}
-use Rattle.dg_session.specs.Reads.{ReadsIn, with_new_handles}
+use Rattle.dg_session.specs.Reads.{ReadsIn, with_new_handles, Reads}
 use Rattle.dg_session.specs.Session.{ComesTo}
-use Rattle.dg_session.proofs.DamageStep.{node_damage_in, tells_no_damage}
-use Rattle.dg_session.proofs.SessionNodeStep.{node_answers, node_fails, node_held_of, node_most_of, node_never_of}
-use Rattle.dg_session.proofs.SessionRetrievals.{reads_failing, retrieval_failed}
+use Rattle.dg_session.proofs.DamageStep.{node_damage_in, tells_no_damage, none_met}
+use Rattle.dg_session.proofs.SessionNodeStep.{node_answers, node_fails, node_held_of, node_most_of, node_never_of, node_taken_of}
+use Rattle.dg_session.proofs.SessionRetrievals.{reads_failing, retrieval_failed, reads_exactly, reads_unasked}
 use Rattle.dg_session.proofs.SessionSteps.{handed_out, lacking_denies, refused_denies, refused_not_read}
 use Rattle.dg_session.proofs.session.Session.materialise.Goals as goal
 
 pub returns-in-Some-clause-comes : goal.returns-in-Some-clause-comes
 returns-in-Some-clause-comes g c =
     refused_denies (command.Materialise c.args.node c.args.cols) [] c.args.self.now.parts c.args.self.now.parts (g.D.Disk.image c.args.disk.now) (g.D.Disk.image c.args.disk.now) c.in-Some.refusal refl refl (sym c.refused_node.ensures ∙ c.in-Some.is)
-
-pub returns-in-Some-clause-damaged : goal.returns-in-Some-clause-damaged
-returns-in-Some-clause-damaged g c =
-    tells_no_damage (command.Materialise c.args.node c.args.cols) c.args.self.now.parts (g.D.Disk.image c.args.disk.now) c.in-Some.refusal
-    (refused_not_read c.args.self.now.parts 0 (needs (command.Materialise c.args.node c.args.cols)) c.in-Some.refusal (sym c.refused_node.ensures ∙ c.in-Some.is))
 
 pub returns-in_err-delta-clause-comes : goal.returns-in_err-delta-clause-comes
 returns-in_err-delta-clause-comes g c =
@@ -37,36 +32,12 @@ returns-in_err-delta-clause-comes g c =
     (retrieval_failed (command.Materialise c.args.node c.args.cols) c.args.self.now.parts c.lead_to_node.new.self.parts (g.D.Disk.image c.args.disk.now) (g.D.Disk.image c.lead_to_node.new.disk) c.in_err-delta.field-0.0 refl refl (λ m. refl) (sym c.refused_node.ensures ∙ c.in_default.is)
     (ap (λ (x : SessionState). x.parts) c.lead_to_node.ensures.same) c.lead_to_node.ensures.disk.same_image (node_never_of c.args.self.now.parts c.args.node c.args.cols (g.D.Disk.image c.args.disk.now) (g.D.Disk.taken c.args.disk.now) (g.D.Disk.taken c.lead_to_node.new.disk) c.in_err-delta.field-0.0 c.in_err-delta.ensures.over))
 
-pub returns-in_err-delta-clause-reads : goal.returns-in_err-delta-clause-reads
-returns-in_err-delta-clause-reads g c =
-    handed_out c.from_residual.result (retrieval_halt c.in_err-delta.field-0.0)
-    (λ r. ReadsIn (command.Materialise c.args.node c.args.cols) c.args.self.now.parts (g.D.Disk.image c.args.disk.now) r (g.D.Disk.taken c.args.disk.now) (g.D.Disk.taken c.lead_to_node.new.disk)) c.from_residual.ensures
-    (reads_failing (command.Materialise c.args.node c.args.cols) c.args.self.now.parts (g.D.Disk.image c.args.disk.now) c.in_err-delta.field-0.0 (g.D.Disk.taken c.args.disk.now) (g.D.Disk.taken c.lead_to_node.new.disk)
-    (λ h refuses late. node_fails c.args.self.now.parts c.args.node c.args.cols (g.D.Disk.image c.args.disk.now) h (g.D.Disk.taken c.args.disk.now) (g.D.Disk.taken c.lead_to_node.new.disk) refuses late (sym c.refused_node.ensures ∙ c.in_default.is) (node_most_of c.args.self.now.parts c.args.node c.args.cols (g.D.Disk.image c.args.disk.now) (g.D.Disk.taken c.args.disk.now) (g.D.Disk.taken c.lead_to_node.new.disk) c.lead_to_node.result c.lead_to_node.ensures.over)))
-
-pub returns-in_err-delta-clause-damaged : goal.returns-in_err-delta-clause-damaged
-returns-in_err-delta-clause-damaged g c =
-    handed_out c.from_residual.result (retrieval_halt c.in_err-delta.field-0.0)
-    (λ r. DamageIn (command.Materialise c.args.node c.args.cols) c.args.self.now.parts (g.D.Disk.image c.args.disk.now) r) c.from_residual.ensures
-    (node_damage_in (command.Materialise c.args.node c.args.cols) c.args.self.now.parts (g.D.Disk.image c.args.disk.now) c.args.node c.args.cols c.in_err-delta.field-0.0 refl c.in_err-delta.ensures.damage)
-
 pub returns-in_err-add_base-clause-comes : goal.returns-in_err-add_base-clause-comes
 returns-in_err-add_base-clause-comes g c =
     handed_out c.from_residual-in_err-add_base.result (halt.Refusal refusal.OutOfMemory)
     (ComesTo (command.Materialise c.args.node c.args.cols) [] c.args.self.now.parts (g.D.Disk.image c.args.disk.now) c.add_base.new.self.parts (g.D.Disk.image c.lead_to_node.new.disk)) c.from_residual-in_err-add_base.ensures
     (lacking_denies (command.Materialise c.args.node c.args.cols) [] c.args.self.now.parts c.add_base.new.self.parts (g.D.Disk.image c.args.disk.now) (g.D.Disk.image c.lead_to_node.new.disk)
     (c.in_err-add_base.ensures.err ∙ (ap (λ (x : SessionState). x.parts) c.lead_to_node.ensures.same)) c.lead_to_node.ensures.disk.same_image refl (sym c.refused_node.ensures ∙ c.in_default.is))
-
-pub returns-in_err-add_base-clause-reads : goal.returns-in_err-add_base-clause-reads
-returns-in_err-add_base-clause-reads g c =
-    handed_out c.from_residual-in_err-add_base.result (halt.Refusal refusal.OutOfMemory)
-    (λ r. ReadsIn (command.Materialise c.args.node c.args.cols) c.args.self.now.parts (g.D.Disk.image c.args.disk.now) r (g.D.Disk.taken c.args.disk.now) (g.D.Disk.taken c.lead_to_node.new.disk)) c.from_residual-in_err-add_base.ensures
-    (node_fails c.args.self.now.parts c.args.node c.args.cols (g.D.Disk.image c.args.disk.now) (head.Refused refusal.OutOfMemory) (g.D.Disk.taken c.args.disk.now) (g.D.Disk.taken c.lead_to_node.new.disk) refl refl (sym c.refused_node.ensures ∙ c.in_default.is) (node_most_of c.args.self.now.parts c.args.node c.args.cols (g.D.Disk.image c.args.disk.now) (g.D.Disk.taken c.args.disk.now) (g.D.Disk.taken c.lead_to_node.new.disk) c.lead_to_node.result c.lead_to_node.ensures.over))
-
-pub returns-in_err-add_base-clause-damaged : goal.returns-in_err-add_base-clause-damaged
-returns-in_err-add_base-clause-damaged g c =
-    handed_out c.from_residual-in_err-add_base.result (halt.Refusal refusal.OutOfMemory)
-    (λ r. DamageIn (command.Materialise c.args.node c.args.cols) c.args.self.now.parts (g.D.Disk.image c.args.disk.now) r) c.from_residual-in_err-add_base.ensures tt
 
 pub returns-clause-comes : goal.returns-clause-comes
 returns-clause-comes g c =
@@ -80,9 +51,46 @@ returns-clause-comes g c =
     (c.in_ok-add_base.ensures.added ∙ (λ i. with_new_handles (same i) (Base c.args.node cols ∷ []) (shown (applied r.delta []) cols ∷ [])))
     (c.headed.ensures ∙ ap (λ n. headed (head.Materialised n r.weight)) number)
 
-pub returns-clause-damaged : goal.returns-clause-damaged
-returns-clause-damaged g c =
-    subst (λ (x : Reply). DamageIs (command.Materialise c.args.node c.args.cols) c.args.self.now.parts (g.D.Disk.image c.args.disk.now) x.head) (sym c.headed.ensures) tt
+pub returns-in-Some-clause-file : goal.returns-in-Some-clause-file
+returns-in-Some-clause-file g c = record {
+  damaged =
+      tells_no_damage (command.Materialise c.args.node c.args.cols) c.args.self.now.parts (g.D.Disk.image c.args.disk.now) c.in-Some.refusal
+      (refused_not_read c.args.self.now.parts 0 (needs (command.Materialise c.args.node c.args.cols)) c.in-Some.refusal (sym c.refused_node.ensures ∙ c.in-Some.is));
+  undamaged = tt;
+  reads = reads_unasked (command.Materialise c.args.node c.args.cols) c.args.self.now.parts (g.D.Disk.image c.args.disk.now) c.in-Some.refusal (g.D.Disk.taken c.args.disk.now) (λ m got plan planned. omega arith);
+}
 
-pub returns-clause-undamaged : goal.returns-clause-undamaged
-returns-clause-undamaged g c = c.in_ok-delta.ensures.damage
+pub returns-in_err-delta-clause-file : goal.returns-in_err-delta-clause-file
+returns-in_err-delta-clause-file g c = record {
+  damaged =
+      handed_out c.from_residual.result (retrieval_halt c.in_err-delta.field-0.0)
+      (λ r. DamageIn (command.Materialise c.args.node c.args.cols) c.args.self.now.parts (g.D.Disk.image c.args.disk.now) r) c.from_residual.ensures
+      (node_damage_in (command.Materialise c.args.node c.args.cols) c.args.self.now.parts (g.D.Disk.image c.args.disk.now) c.args.node c.args.cols c.in_err-delta.field-0.0 refl c.in_err-delta.ensures.damage);
+  undamaged = none_met c.from_residual.result (MeetsNone (reads_for (command.Materialise c.args.node c.args.cols)) c.args.self.now.parts (g.D.Disk.image c.args.disk.now)) c.from_residual.ensures.0;
+  reads =
+      handed_out c.from_residual.result (retrieval_halt c.in_err-delta.field-0.0)
+      (λ r. ReadsIn (command.Materialise c.args.node c.args.cols) c.args.self.now.parts (g.D.Disk.image c.args.disk.now) r (g.D.Disk.taken c.args.disk.now) (g.D.Disk.taken c.lead_to_node.new.disk)) c.from_residual.ensures
+      (reads_failing (command.Materialise c.args.node c.args.cols) c.args.self.now.parts (g.D.Disk.image c.args.disk.now) c.in_err-delta.field-0.0 (g.D.Disk.taken c.args.disk.now) (g.D.Disk.taken c.lead_to_node.new.disk)
+      (λ h refuses late. node_fails c.args.self.now.parts c.args.node c.args.cols (g.D.Disk.image c.args.disk.now) h (g.D.Disk.taken c.args.disk.now) (g.D.Disk.taken c.lead_to_node.new.disk) refuses late (sym c.refused_node.ensures ∙ c.in_default.is) (node_most_of c.args.self.now.parts c.args.node c.args.cols (g.D.Disk.image c.args.disk.now) (g.D.Disk.taken c.args.disk.now) (g.D.Disk.taken c.lead_to_node.new.disk) c.lead_to_node.result c.lead_to_node.ensures.over)));
+}
+
+pub returns-in_err-add_base-clause-file : goal.returns-in_err-add_base-clause-file
+returns-in_err-add_base-clause-file g c = record {
+  damaged =
+      handed_out c.from_residual-in_err-add_base.result (halt.Refusal refusal.OutOfMemory)
+      (λ r. DamageIn (command.Materialise c.args.node c.args.cols) c.args.self.now.parts (g.D.Disk.image c.args.disk.now) r) c.from_residual-in_err-add_base.ensures tt;
+  undamaged = none_met c.from_residual-in_err-add_base.result (MeetsNone (reads_for (command.Materialise c.args.node c.args.cols)) c.args.self.now.parts (g.D.Disk.image c.args.disk.now)) c.from_residual-in_err-add_base.ensures.0;
+  reads =
+      handed_out c.from_residual-in_err-add_base.result (halt.Refusal refusal.OutOfMemory)
+      (λ r. ReadsIn (command.Materialise c.args.node c.args.cols) c.args.self.now.parts (g.D.Disk.image c.args.disk.now) r (g.D.Disk.taken c.args.disk.now) (g.D.Disk.taken c.lead_to_node.new.disk)) c.from_residual-in_err-add_base.ensures
+      (node_fails c.args.self.now.parts c.args.node c.args.cols (g.D.Disk.image c.args.disk.now) (head.Refused refusal.OutOfMemory) (g.D.Disk.taken c.args.disk.now) (g.D.Disk.taken c.lead_to_node.new.disk) refl refl (sym c.refused_node.ensures ∙ c.in_default.is) (node_most_of c.args.self.now.parts c.args.node c.args.cols (g.D.Disk.image c.args.disk.now) (g.D.Disk.taken c.args.disk.now) (g.D.Disk.taken c.lead_to_node.new.disk) c.lead_to_node.result c.lead_to_node.ensures.over));
+}
+
+pub returns-clause-file : goal.returns-clause-file
+returns-clause-file g c = record {
+  damaged = subst (λ (x : Reply). DamageIs (command.Materialise c.args.node c.args.cols) c.args.self.now.parts (g.D.Disk.image c.args.disk.now) x.head) (sym c.headed.ensures) tt;
+  undamaged = c.in_ok-delta.ensures.damage;
+  reads =
+      subst (λ (x : Reply). Reads (command.Materialise c.args.node c.args.cols) c.args.self.now.parts (g.D.Disk.image c.args.disk.now) x.head (g.D.Disk.taken c.args.disk.now) (g.D.Disk.taken c.lead_to_node.new.disk)) (sym c.headed.ensures)
+      (reads_exactly (command.Materialise c.args.node c.args.cols) c.args.self.now.parts (g.D.Disk.image c.args.disk.now) _ (g.D.Disk.taken c.args.disk.now) (g.D.Disk.taken c.lead_to_node.new.disk) refl refl (λ m got takes. takes) (node_taken_of c.args.self.now.parts c.args.node c.args.cols (g.D.Disk.image c.args.disk.now) (g.D.Disk.taken c.args.disk.now) (g.D.Disk.taken c.lead_to_node.new.disk) c.in_ok-delta.field-0 c.in_ok-delta.ensures.over));
+}

@@ -2,7 +2,8 @@ use Rattle.std.proofs.Common.{◌≡◌, ℕ, Option, false}
 use Rattle.std.specs.Prelude.{IfErr, IfSome}
 use Rattle.dg_history.specs.History.{History}
 use Rattle.dg_index.specs.ImageOfHistory.{StandsAs}
-use Rattle.dg_session.proofs.SessionStartChecks.{IsNoFault, begins_unchecked, checked_begins, checked_held, checked_new, checked_never, checked_refused, checked_standing, checked_stands, never_started}
+use Rattle.dg_session.proofs.SessionStartChecks.{IsNoFault, begins_unchecked, checked_begins, checked_new, checked_never, checked_refused, checked_standing, checked_stands, never_started}
+use Rattle.dg_session.proofs.CommandDisks.{answers_stay}
 use Rattle.dg_session.proofs.SessionSteps.{handed_out}
 use Rattle.dg_session.proofs.StartReads.{failing_reads, not_both}
 use Rattle.dg_start.specs.Calls.{TakesStart}
@@ -33,16 +34,15 @@ returns-then-checked-clause-started g c =
 
 pub returns-then-checked-clause-new : goal.returns-then-checked-clause-new
 returns-then-checked-clause-new g c =
-    checked_new c.args.limits c.in_ok-session.session c.checked.result c.checked.ensures.same c.in_ok-session.ensures.new
+    checked_new c.args.limits c.in_ok-session.session c.checked.result (g.D.Disk.image c.begin.new.disk) (g.D.Disk.image c.checked.new.disk)
+    c.checked.ensures.same c.checked.ensures.disk.same_image c.in_ok-session.ensures.new c.in_ok-session.ensures.held
+
+pub returns-then-checked-clause-settled : goal.returns-then-checked-clause-settled
+returns-then-checked-clause-settled g c = answers_stay g.D.Disk c.checked.result c.begin.new.disk c.checked.new.disk c.checked.ensures.disk c.in_ok-session.ensures.settled
 
 pub returns-then-checked-clause-stands : goal.returns-then-checked-clause-stands
 returns-then-checked-clause-stands g c =
     checked_stands c.args.limits c.in_ok-session.session c.checked.result (g.D.Disk.image c.args.disk.now) c.checked.ensures.same c.in_ok-session.ensures.stands
-
-pub returns-then-checked-clause-held : goal.returns-then-checked-clause-held
-returns-then-checked-clause-held g c =
-    checked_held c.in_ok-session.session c.checked.result (g.D.Disk.image c.begin.new.disk) (g.D.Disk.image c.checked.new.disk)
-    c.checked.ensures.same c.checked.ensures.disk.same_image c.in_ok-session.ensures.held
 
 pub returns-then-checked-clause-checked : goal.returns-then-checked-clause-checked
 returns-then-checked-clause-checked g c =

@@ -14,6 +14,7 @@ use Rattle.dg_session.specs.SessionState.{SessionState}
 use Rattle.dg_session.specs.Verified.{VerifiesFile}
 use Rattle.dg_session.proofs.SessionSteps.{handed_out, refused_denies}
 use Rattle.dg_session.proofs.VerifiedStep.{failed_damage, failed_reads, verify_answers, verify_failed, verify_reads, verify_refused}
+use Rattle.dg_session.proofs.DamageStep.{met_nothing}
 use Rattle.dg_session.proofs.session.Session.verify.Goals as goal
 
 pub returns-in_err-index-clause-comes : goal.returns-in_err-index-clause-comes
@@ -21,17 +22,6 @@ returns-in_err-index-clause-comes g c =
     handed_out c.from_residual.result (halt.Refusal refusal.NoIndex) (ComesTo command.Verify [] c.args.self.now.parts (g.D.Disk.image c.args.disk.now) c.args.self.now.parts (g.D.Disk.image c.args.disk.now))
     (c.from_residual.ensures.0, subst (λ r. IsErrAnd c.from_residual.result (λ y. y ≡ halt.Refusal r)) c.in_err-index.ensures.none.1 c.from_residual.ensures.1)
     (refused_denies command.Verify [] c.args.self.now.parts c.args.self.now.parts (g.D.Disk.image c.args.disk.now) (g.D.Disk.image c.args.disk.now) refusal.NoIndex refl refl (verify_refused c.args.self.now.parts (ap is_some c.in_err-index.ensures.none.0)))
-
-pub returns-in_err-index-clause-reads : goal.returns-in_err-index-clause-reads
-returns-in_err-index-clause-reads g c =
-    handed_out c.from_residual.result (halt.Refusal refusal.NoIndex) (λ r. ReadsIn command.Verify c.args.self.now.parts (g.D.Disk.image c.args.disk.now) r (g.D.Disk.taken c.args.disk.now) (g.D.Disk.taken c.args.disk.now))
-    (c.from_residual.ensures.0, subst (λ r. IsErrAnd c.from_residual.result (λ y. y ≡ halt.Refusal r)) c.in_err-index.ensures.none.1 c.from_residual.ensures.1)
-    (verify_reads c.args.self.now.parts (g.D.Disk.image c.args.disk.now) (head.Refused refusal.NoIndex) (g.D.Disk.taken c.args.disk.now) (g.D.Disk.taken c.args.disk.now) (λ e. refl))
-
-pub returns-in_err-index-clause-damaged : goal.returns-in_err-index-clause-damaged
-returns-in_err-index-clause-damaged g c =
-    handed_out c.from_residual.result (halt.Refusal refusal.NoIndex) (λ r. DamageIn command.Verify c.args.self.now.parts (g.D.Disk.image c.args.disk.now) r)
-    (c.from_residual.ensures.0, subst (λ r. IsErrAnd c.from_residual.result (λ y. y ≡ halt.Refusal r)) c.in_err-index.ensures.none.1 c.from_residual.ensures.1) tt
 
 pub soundness-requires-clause-there : goal.soundness-requires-clause-there
 soundness-requires-clause-there g c = ap is_some c.in_ok-index.ensures.index
@@ -41,29 +31,41 @@ returns-in_err-soundness-clause-comes g c =
     handed_out c.from_residual-in_err-soundness.result (verify_halt c.in_err-soundness.field-0.0) (ComesTo command.Verify [] c.args.self.now.parts (g.D.Disk.image c.args.disk.now) c.soundness.new.self.parts (g.D.Disk.image c.soundness.new.disk)) c.from_residual-in_err-soundness.ensures
     (verify_failed c.args.self.now.parts c.soundness.new.self.parts (g.D.Disk.image c.args.disk.now) (g.D.Disk.image c.soundness.new.disk) c.in_err-soundness.field-0.0 (ap is_some c.in_ok-index.ensures.index) (ap (λ (x : SessionState). x.parts) c.soundness.ensures.same) c.soundness.ensures.disk.same_image)
 
-pub returns-in_err-soundness-clause-reads : goal.returns-in_err-soundness-clause-reads
-returns-in_err-soundness-clause-reads g c =
-    handed_out c.from_residual-in_err-soundness.result (verify_halt c.in_err-soundness.field-0.0) (λ r. ReadsIn command.Verify c.args.self.now.parts (g.D.Disk.image c.args.disk.now) r (g.D.Disk.taken c.args.disk.now) (g.D.Disk.taken c.soundness.new.disk)) c.from_residual-in_err-soundness.ensures
-    (failed_reads c.args.self.now.parts (g.D.Disk.image c.args.disk.now) c.in_err-soundness.field-0.0 (g.D.Disk.taken c.args.disk.now) (g.D.Disk.taken c.soundness.new.disk))
-
-pub returns-in_err-soundness-clause-damaged : goal.returns-in_err-soundness-clause-damaged
-returns-in_err-soundness-clause-damaged g c =
-    handed_out c.from_residual-in_err-soundness.result (verify_halt c.in_err-soundness.field-0.0) (λ r. DamageIn command.Verify c.args.self.now.parts (g.D.Disk.image c.args.disk.now) r) c.from_residual-in_err-soundness.ensures (failed_damage c.args.self.now.parts (g.D.Disk.image c.args.disk.now) c.in_err-soundness.field-0.0)
-
 pub returns-clause-comes : goal.returns-clause-comes
 returns-clause-comes g c =
     verify_answers c.law_standing_files_are_sound.ensures c.args.self.now.parts c.soundness.new.self.parts (g.D.Disk.image c.args.disk.now) (g.D.Disk.image c.soundness.new.disk) c.in_ok-soundness.soundness c.headed.result
     (ap (λ (x : SessionState). x.parts) c.soundness.ensures.same) c.soundness.ensures.disk.same_image c.in_ok-soundness.ensures.sound c.headed.ensures
 
-pub returns-clause-reads : goal.returns-clause-reads
-returns-clause-reads g c =
-    subst (λ (r : Reply). Reads command.Verify c.args.self.now.parts (g.D.Disk.image c.args.disk.now) r.head (g.D.Disk.taken c.args.disk.now) (g.D.Disk.taken c.soundness.new.disk)) (sym c.headed.ensures)
-    (verify_reads c.args.self.now.parts (g.D.Disk.image c.args.disk.now) (head.Verified c.in_ok-soundness.soundness) (g.D.Disk.taken c.args.disk.now) (g.D.Disk.taken c.soundness.new.disk) (λ e. absurd (false≢true e)))
-
-pub returns-clause-damaged : goal.returns-clause-damaged
-returns-clause-damaged g c =
-    subst (λ (r : Reply). DamageIs command.Verify c.args.self.now.parts (g.D.Disk.image c.args.disk.now) r.head) (sym c.headed.ensures) tt
-
 pub returns-clause-verified : goal.returns-clause-verified
 returns-clause-verified g c =
     subst (λ (r : Reply). VerifiesFile command.Verify c.args.self.now.parts (g.D.Disk.image c.args.disk.now) r.head) (sym c.headed.ensures) c.in_ok-soundness.ensures.sound
+
+pub returns-in_err-index-clause-file : goal.returns-in_err-index-clause-file
+returns-in_err-index-clause-file g c = record {
+  damaged =
+      handed_out c.from_residual.result (halt.Refusal refusal.NoIndex) (λ r. DamageIn command.Verify c.args.self.now.parts (g.D.Disk.image c.args.disk.now) r)
+      (c.from_residual.ensures.0, subst (λ r. IsErrAnd c.from_residual.result (λ y. y ≡ halt.Refusal r)) c.in_err-index.ensures.none.1 c.from_residual.ensures.1) tt;
+  undamaged = met_nothing command.Verify c.args.self.now.parts (g.D.Disk.image c.args.disk.now) c.from_residual.result tt;
+  reads =
+      handed_out c.from_residual.result (halt.Refusal refusal.NoIndex) (λ r. ReadsIn command.Verify c.args.self.now.parts (g.D.Disk.image c.args.disk.now) r (g.D.Disk.taken c.args.disk.now) (g.D.Disk.taken c.args.disk.now))
+      (c.from_residual.ensures.0, subst (λ r. IsErrAnd c.from_residual.result (λ y. y ≡ halt.Refusal r)) c.in_err-index.ensures.none.1 c.from_residual.ensures.1)
+      (verify_reads c.args.self.now.parts (g.D.Disk.image c.args.disk.now) (head.Refused refusal.NoIndex) (g.D.Disk.taken c.args.disk.now) (g.D.Disk.taken c.args.disk.now) (λ e. refl));
+}
+
+pub returns-in_err-soundness-clause-file : goal.returns-in_err-soundness-clause-file
+returns-in_err-soundness-clause-file g c = record {
+  damaged = handed_out c.from_residual-in_err-soundness.result (verify_halt c.in_err-soundness.field-0.0) (λ r. DamageIn command.Verify c.args.self.now.parts (g.D.Disk.image c.args.disk.now) r) c.from_residual-in_err-soundness.ensures (failed_damage c.args.self.now.parts (g.D.Disk.image c.args.disk.now) c.in_err-soundness.field-0.0);
+  undamaged = met_nothing command.Verify c.args.self.now.parts (g.D.Disk.image c.args.disk.now) c.from_residual-in_err-soundness.result tt;
+  reads =
+      handed_out c.from_residual-in_err-soundness.result (verify_halt c.in_err-soundness.field-0.0) (λ r. ReadsIn command.Verify c.args.self.now.parts (g.D.Disk.image c.args.disk.now) r (g.D.Disk.taken c.args.disk.now) (g.D.Disk.taken c.soundness.new.disk)) c.from_residual-in_err-soundness.ensures
+      (failed_reads c.args.self.now.parts (g.D.Disk.image c.args.disk.now) c.in_err-soundness.field-0.0 (g.D.Disk.taken c.args.disk.now) (g.D.Disk.taken c.soundness.new.disk));
+}
+
+pub returns-clause-file : goal.returns-clause-file
+returns-clause-file g c = record {
+  damaged = subst (λ (r : Reply). DamageIs command.Verify c.args.self.now.parts (g.D.Disk.image c.args.disk.now) r.head) (sym c.headed.ensures) tt;
+  undamaged = tt;
+  reads =
+      subst (λ (r : Reply). Reads command.Verify c.args.self.now.parts (g.D.Disk.image c.args.disk.now) r.head (g.D.Disk.taken c.args.disk.now) (g.D.Disk.taken c.soundness.new.disk)) (sym c.headed.ensures)
+      (verify_reads c.args.self.now.parts (g.D.Disk.image c.args.disk.now) (head.Verified c.in_ok-soundness.soundness) (g.D.Disk.taken c.args.disk.now) (g.D.Disk.taken c.soundness.new.disk) (λ e. absurd (false≢true e)));
+}

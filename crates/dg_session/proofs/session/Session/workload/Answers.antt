@@ -13,17 +13,23 @@ use Rattle.dg_session.specs.BatchCommand.{barred}
 use Rattle.dg_session.specs.declared.batch_command.BatchCommand.TheVariants.{Load}
 use Rattle.dg_append.specs.declared.batch.Batch.{Batch}
 use Rattle.dg_batch.specs.declared.halt.Halt.TheVariants as halt
-use Rattle.dg_session.specs.Damage.{Batch_of, DamageIn, MeetsNone}
+use Rattle.dg_session.specs.Damage.{Batch_of, DamageIn, MeetsNone, DamageIs, reads_for}
 use Rattle.dg_batch.specs.Halt.{batch_halt}
 use Rattle.dg_session.specs.Parts.{Parts}
 use Rattle.dg_session.specs.Reads.{Reads, ReadsIn}
-use Rattle.dg_session.specs.Session.{Accepts, ComesTo}
+use Rattle.dg_session.specs.Session.{Accepts, ComesTo, LeavesAnswered, LeavesCommand}
 use Rattle.dg_session.specs.SessionState.{SessionState}
 use Rattle.dg_session.specs.contracts.session.Session.{the_view}
+use Rattle.dg_disk.proofs.FrameLemmas.{reads_none}
+use Rattle.dg_disk.specs.Calls.{LeftByCrash}
+use Rattle.dg_session.proofs.BatchCommandCrashes.{added_left, failed_left}
+use Rattle.dg_session.proofs.CommandCrashes.{reading_left}
+use Rattle.dg_session.proofs.CommandDisks.{added_treats, failed_treats, reading_treats}
+use Rattle.dg_session.specs.Calls.{TreatsDisk}
 use Rattle.dg_session.proofs.BatchCommandForms.{Seed, head_over}
 use Rattle.dg_session.proofs.BatchCommandReads.{ReadsNoMore, added_reads, added_undamaged, failed_damage, failed_reads, reads_no_more, refused_reads, unread_reads}
 use Rattle.dg_session.proofs.BatchCommandStep.{IsAsked, added_slots, batch_added, batch_failed, failed_stays, is_generated, may_add, kept_handles, none_bars, with_handles, with_history}
-use Rattle.dg_session.proofs.DamageStep.{tells_no_damage}
+use Rattle.dg_session.proofs.DamageStep.{tells_no_damage, none_met}
 use Rattle.dg_session.proofs.SessionSteps.{handed_out, lacking_denies, refused_denies, refused_not_read}
 use Rattle.dg_append.specs.declared.live.Live.{Live}
 use Rattle.dg_session.proofs.session.Session.workload.Goals as goal
@@ -31,14 +37,6 @@ use Rattle.dg_session.proofs.session.Session.workload.Goals as goal
 pub returns-in-Some-clause-comes : goal.returns-in-Some-clause-comes
 returns-in-Some-clause-comes g c =
     refused_denies (command.Workload c.args.seed c.args.count) [] c.args.self.now.parts c.args.self.now.parts (g.D.Disk.image c.args.disk.now) (g.D.Disk.image c.args.disk.now) c.in-Some.refusal refl refl (sym c.barred.ensures ∙ c.in-Some.is)
-
-pub returns-in-Some-clause-damaged : goal.returns-in-Some-clause-damaged
-returns-in-Some-clause-damaged g c =
-    tells_no_damage (command.Workload c.args.seed c.args.count) c.args.self.now.parts (g.D.Disk.image c.args.disk.now) c.in-Some.refusal
-    (refused_not_read c.args.self.now.parts 0 (needs (command.Workload c.args.seed c.args.count)) c.in-Some.refusal (sym c.barred.ensures ∙ c.in-Some.is))
-
-pub returns-in-Some-clause-reads : goal.returns-in-Some-clause-reads
-returns-in-Some-clause-reads g c = unread_reads (Seed c.args.seed) c.args.count c.args.self.now.parts (g.D.Disk.image c.args.disk.now) (halt.Refusal c.in-Some.refusal) (g.D.Disk.taken c.args.disk.now)
 
 pub generated_batch-requires-clause-room : goal.generated_batch-requires-clause-room
 generated_batch-requires-clause-room g c =
@@ -51,15 +49,6 @@ returns-in_err-batch-clause-comes g c =
     let q : Parts = record p { names = c.generated_batch.new.names } in
     handed_out c.from_residual.result (halt.Refusal refusal.OutOfMemory) (ComesTo (command.Workload c.args.seed c.args.count) [] c.args.self.now.parts (g.D.Disk.image c.args.disk.now) q (g.D.Disk.image c.args.disk.now)) c.from_residual.ensures
     (lacking_denies (command.Workload c.args.seed c.args.count) [] c.args.self.now.parts q (g.D.Disk.image c.args.disk.now) (g.D.Disk.image c.args.disk.now) (ap (λ ns. let x : Parts = record p { names = ns } in x) c.in_err-batch.ensures.same ∙ (ap (λ (x : SessionState). x.parts) c.self.view_is)) refl refl (sym c.barred.ensures ∙ c.in_default.is))
-
-pub returns-in_err-batch-clause-damaged : goal.returns-in_err-batch-clause-damaged
-returns-in_err-batch-clause-damaged g c =
-    handed_out c.from_residual.result (halt.Refusal refusal.OutOfMemory) (λ r. DamageIn (command.Workload c.args.seed c.args.count) c.args.self.now.parts (g.D.Disk.image c.args.disk.now) r) c.from_residual.ensures tt
-
-pub returns-in_err-batch-clause-reads : goal.returns-in_err-batch-clause-reads
-returns-in_err-batch-clause-reads g c =
-    handed_out c.from_residual.result (halt.Refusal refusal.OutOfMemory) (λ r. ReadsIn (command.Workload c.args.seed c.args.count) c.args.self.now.parts (g.D.Disk.image c.args.disk.now) r (g.D.Disk.taken c.args.disk.now) (g.D.Disk.taken c.args.disk.now)) c.from_residual.ensures
-    (unread_reads (Seed c.args.seed) c.args.count c.args.self.now.parts (g.D.Disk.image c.args.disk.now) (halt.Refusal refusal.OutOfMemory) (g.D.Disk.taken c.args.disk.now))
 
 pub add_changes-requires-clause-may : goal.add_changes-requires-clause-may
 add_changes-requires-clause-may g c =
@@ -88,36 +77,6 @@ returns-in_err-added-clause-comes g c =
     (failed_stays (Seed c.args.seed) [] p c.args.count c.self.inside.limits.file_bytes old b asked c.add_changes.new.held.live image then_image c.in_err-added.field-0.0 c.self.inside.held.handles c.add_changes.new.held.handles
     c.in_err-added.ensures.back c.in_err-added.ensures.handles refl)))
 
-pub returns-in_err-added-clause-damaged : goal.returns-in_err-added-clause-damaged
-returns-in_err-added-clause-damaged g c =
-    let p : Parts = (the_view c.self.inside).parts in
-    let old : Live = record { history = record c.self.inside.held.live.history { names = c.generated_batch.new.names }; pool = c.self.inside.held.live.pool } in
-    let b : Batch = c.in_ok-batch.batch in
-    let asked : IsAsked (Seed c.args.seed) [] p c.args.count c.self.inside.limits.file_bytes old b =
-    is_generated c.args.seed p c.args.self.now.parts c.args.count old b c.barred.result (ap (λ (x : SessionState). x.parts) c.self.view_is) c.barred.ensures c.in_default.is
-    refl refl refl c.self.invariant.0.events c.requires.some c.requires.few c.in_ok-batch.ensures.generated in
-    let image : Option (List ℕ) = g.D.Disk.image c.args.disk.now in
-    let then_image : Option (List ℕ) = g.D.Disk.image c.add_changes.new.disk in
-    handed_out c.from_residual-in_err-added.result (batch_halt c.in_err-added.field-0.0) (λ r. DamageIn (command.Workload c.args.seed c.args.count) c.args.self.now.parts image r) c.from_residual-in_err-added.ensures
-    (subst (λ (x : Parts). DamageIn (command.Workload c.args.seed c.args.count) x image (Err (batch_halt c.in_err-added.field-0.0))) (ap (λ (x : SessionState). x.parts) c.self.view_is)
-    (failed_damage (Seed c.args.seed) [] p c.args.count c.self.inside.limits.file_bytes old b asked image then_image c.in_err-added.field-0.0 c.in_err-added.ensures.fails))
-
-pub returns-in_err-added-clause-reads : goal.returns-in_err-added-clause-reads
-returns-in_err-added-clause-reads g c =
-    let p : Parts = (the_view c.self.inside).parts in
-    let old : Live = record { history = record c.self.inside.held.live.history { names = c.generated_batch.new.names }; pool = c.self.inside.held.live.pool } in
-    let b : Batch = c.in_ok-batch.batch in
-    let asked : IsAsked (Seed c.args.seed) [] p c.args.count c.self.inside.limits.file_bytes old b =
-    is_generated c.args.seed p c.args.self.now.parts c.args.count old b c.barred.result (ap (λ (x : SessionState). x.parts) c.self.view_is) c.barred.ensures c.in_default.is
-    refl refl refl c.self.invariant.0.events c.requires.some c.requires.few c.in_ok-batch.ensures.generated in
-    let image : Option (List ℕ) = g.D.Disk.image c.args.disk.now in
-    let taken : ℕ = g.D.Disk.taken c.args.disk.now in
-    let then_taken : ℕ = g.D.Disk.taken c.add_changes.new.disk in
-    let older : ReadsNoMore p image c.args.count taken then_taken =
-    reads_no_more (Seed c.args.seed) [] p c.args.count c.self.inside.limits.file_bytes old b asked image c.add_changes.result taken then_taken c.add_changes.ensures.reads in
-    handed_out c.from_residual-in_err-added.result (batch_halt c.in_err-added.field-0.0) (λ r. ReadsIn (command.Workload c.args.seed c.args.count) c.args.self.now.parts image r taken then_taken) c.from_residual-in_err-added.ensures
-    (failed_reads (Seed c.args.seed) c.args.count c.args.self.now.parts image c.in_err-added.field-0.0 taken then_taken (subst (λ (x : Parts). ReadsNoMore x image c.args.count taken then_taken) (ap (λ (x : SessionState). x.parts) c.self.view_is) older) (refused_reads (Seed c.args.seed) [] p c.args.count c.self.inside.limits.file_bytes old b asked image c.in_err-added.field-0.0 taken then_taken c.in_err-added.ensures.reads))
-
 pub returns-clause-comes : goal.returns-clause-comes
 returns-clause-comes g c =
     let p : Parts = (the_view c.self.inside).parts in
@@ -140,36 +99,142 @@ returns-clause-comes g c =
     (sym (kept_handles (with_history p c.add_changes.new.held.live.history) c.self.inside.held.handles c.add_changes.new.held.handles c.self.inside.held.live.pool.value c.add_changes.new.held.live.pool.value c.in_ok-added.ensures.handles (added_slots (Seed c.args.seed) [] p c.args.count c.self.inside.limits.file_bytes old b asked c.add_changes.new.held.live image then_image c.in_ok-added.added c.in_ok-added.ensures.adds)))
     (batch_added (Seed c.args.seed) [] p c.args.count c.self.inside.limits.file_bytes old b asked c.add_changes.new.held.live image then_image added c.in_ok-added.ensures.adds)))
 
-pub returns-clause-reads : goal.returns-clause-reads
-returns-clause-reads g c =
+pub returns-in-Some-clause-file : goal.returns-in-Some-clause-file
+returns-in-Some-clause-file g c = record {
+  damaged =
+      tells_no_damage (command.Workload c.args.seed c.args.count) c.args.self.now.parts (g.D.Disk.image c.args.disk.now) c.in-Some.refusal
+      (refused_not_read c.args.self.now.parts 0 (needs (command.Workload c.args.seed c.args.count)) c.in-Some.refusal (sym c.barred.ensures ∙ c.in-Some.is));
+  undamaged = tt;
+  reads = unread_reads (Seed c.args.seed) c.args.count c.args.self.now.parts (g.D.Disk.image c.args.disk.now) (halt.Refusal c.in-Some.refusal) (g.D.Disk.taken c.args.disk.now);
+}
+
+pub returns-in_err-batch-clause-file : goal.returns-in_err-batch-clause-file
+returns-in_err-batch-clause-file g c = record {
+  damaged = handed_out c.from_residual.result (halt.Refusal refusal.OutOfMemory) (λ r. DamageIn (command.Workload c.args.seed c.args.count) c.args.self.now.parts (g.D.Disk.image c.args.disk.now) r) c.from_residual.ensures tt;
+  undamaged = none_met c.from_residual.result (MeetsNone (reads_for (command.Workload c.args.seed c.args.count)) c.args.self.now.parts (g.D.Disk.image c.args.disk.now)) c.from_residual.ensures.0;
+  reads =
+      handed_out c.from_residual.result (halt.Refusal refusal.OutOfMemory) (λ r. ReadsIn (command.Workload c.args.seed c.args.count) c.args.self.now.parts (g.D.Disk.image c.args.disk.now) r (g.D.Disk.taken c.args.disk.now) (g.D.Disk.taken c.args.disk.now)) c.from_residual.ensures
+      (unread_reads (Seed c.args.seed) c.args.count c.args.self.now.parts (g.D.Disk.image c.args.disk.now) (halt.Refusal refusal.OutOfMemory) (g.D.Disk.taken c.args.disk.now));
+}
+
+pub returns-in_err-added-clause-file : goal.returns-in_err-added-clause-file
+returns-in_err-added-clause-file g c = record {
+  damaged =
+      let p : Parts = (the_view c.self.inside).parts in
+      let old : Live = record { history = record c.self.inside.held.live.history { names = c.generated_batch.new.names }; pool = c.self.inside.held.live.pool } in
+      let b : Batch = c.in_ok-batch.batch in
+      let asked : IsAsked (Seed c.args.seed) [] p c.args.count c.self.inside.limits.file_bytes old b =
+      is_generated c.args.seed p c.args.self.now.parts c.args.count old b c.barred.result (ap (λ (x : SessionState). x.parts) c.self.view_is) c.barred.ensures c.in_default.is
+      refl refl refl c.self.invariant.0.events c.requires.some c.requires.few c.in_ok-batch.ensures.generated in
+      let image : Option (List ℕ) = g.D.Disk.image c.args.disk.now in
+      let then_image : Option (List ℕ) = g.D.Disk.image c.add_changes.new.disk in
+      handed_out c.from_residual-in_err-added.result (batch_halt c.in_err-added.field-0.0) (λ r. DamageIn (command.Workload c.args.seed c.args.count) c.args.self.now.parts image r) c.from_residual-in_err-added.ensures
+      (subst (λ (x : Parts). DamageIn (command.Workload c.args.seed c.args.count) x image (Err (batch_halt c.in_err-added.field-0.0))) (ap (λ (x : SessionState). x.parts) c.self.view_is)
+      (failed_damage (Seed c.args.seed) [] p c.args.count c.self.inside.limits.file_bytes old b asked image then_image c.in_err-added.field-0.0 c.in_err-added.ensures.fails));
+  undamaged = none_met c.from_residual-in_err-added.result (MeetsNone (reads_for (command.Workload c.args.seed c.args.count)) c.args.self.now.parts (g.D.Disk.image c.args.disk.now)) c.from_residual-in_err-added.ensures.0;
+  reads =
+      let p : Parts = (the_view c.self.inside).parts in
+      let old : Live = record { history = record c.self.inside.held.live.history { names = c.generated_batch.new.names }; pool = c.self.inside.held.live.pool } in
+      let b : Batch = c.in_ok-batch.batch in
+      let asked : IsAsked (Seed c.args.seed) [] p c.args.count c.self.inside.limits.file_bytes old b =
+      is_generated c.args.seed p c.args.self.now.parts c.args.count old b c.barred.result (ap (λ (x : SessionState). x.parts) c.self.view_is) c.barred.ensures c.in_default.is
+      refl refl refl c.self.invariant.0.events c.requires.some c.requires.few c.in_ok-batch.ensures.generated in
+      let image : Option (List ℕ) = g.D.Disk.image c.args.disk.now in
+      let taken : ℕ = g.D.Disk.taken c.args.disk.now in
+      let then_taken : ℕ = g.D.Disk.taken c.add_changes.new.disk in
+      let older : ReadsNoMore p image c.args.count taken then_taken =
+      reads_no_more (Seed c.args.seed) [] p c.args.count c.self.inside.limits.file_bytes old b asked image c.add_changes.result taken then_taken c.add_changes.ensures.reads in
+      handed_out c.from_residual-in_err-added.result (batch_halt c.in_err-added.field-0.0) (λ r. ReadsIn (command.Workload c.args.seed c.args.count) c.args.self.now.parts image r taken then_taken) c.from_residual-in_err-added.ensures
+      (failed_reads (Seed c.args.seed) c.args.count c.args.self.now.parts image c.in_err-added.field-0.0 taken then_taken (subst (λ (x : Parts). ReadsNoMore x image c.args.count taken then_taken) (ap (λ (x : SessionState). x.parts) c.self.view_is) older) (refused_reads (Seed c.args.seed) [] p c.args.count c.self.inside.limits.file_bytes old b asked image c.in_err-added.field-0.0 taken then_taken c.in_err-added.ensures.reads));
+}
+
+pub returns-clause-file : goal.returns-clause-file
+returns-clause-file g c = record {
+  damaged = subst (λ (x : Reply). DamageIs (command.Workload c.args.seed c.args.count) c.args.self.now.parts (g.D.Disk.image c.args.disk.now) x.head) (sym c.headed.ensures) tt;
+  undamaged =
+      let p : Parts = (the_view c.self.inside).parts in
+      let old : Live = record { history = record c.self.inside.held.live.history { names = c.generated_batch.new.names }; pool = c.self.inside.held.live.pool } in
+      let b : Batch = c.in_ok-batch.batch in
+      let asked : IsAsked (Seed c.args.seed) [] p c.args.count c.self.inside.limits.file_bytes old b =
+      is_generated c.args.seed p c.args.self.now.parts c.args.count old b c.barred.result (ap (λ (x : SessionState). x.parts) c.self.view_is) c.barred.ensures c.in_default.is
+      refl refl refl c.self.invariant.0.events c.requires.some c.requires.few c.in_ok-batch.ensures.generated in
+      let image : Option (List ℕ) = g.D.Disk.image c.args.disk.now in
+      let then_image : Option (List ℕ) = g.D.Disk.image c.add_changes.new.disk in
+      subst (λ (x : Parts). MeetsNone (Batch_of c.args.count) x image) (ap (λ (x : SessionState). x.parts) c.self.view_is)
+      (added_undamaged (Seed c.args.seed) [] p c.args.count c.self.inside.limits.file_bytes old b asked image then_image c.add_changes.new.held.live c.in_ok-added.added
+      c.in_ok-added.ensures.adds);
+  reads =
+      let p : Parts = (the_view c.self.inside).parts in
+      let old : Live = record { history = record c.self.inside.held.live.history { names = c.generated_batch.new.names }; pool = c.self.inside.held.live.pool } in
+      let b : Batch = c.in_ok-batch.batch in
+      let asked : IsAsked (Seed c.args.seed) [] p c.args.count c.self.inside.limits.file_bytes old b =
+      is_generated c.args.seed p c.args.self.now.parts c.args.count old b c.barred.result (ap (λ (x : SessionState). x.parts) c.self.view_is) c.barred.ensures c.in_default.is
+      refl refl refl c.self.invariant.0.events c.requires.some c.requires.few c.in_ok-batch.ensures.generated in
+      let image : Option (List ℕ) = g.D.Disk.image c.args.disk.now in
+      let taken : ℕ = g.D.Disk.taken c.args.disk.now in
+      let then_taken : ℕ = g.D.Disk.taken c.add_changes.new.disk in
+      let added = c.in_ok-added.added in
+      let graph : List Element = c.add_changes.new.held.live.history.now.graph in
+      let counts : c.counts_now-counts.result ≡ counts_of graph = c.counts_now-counts.ensures ∙ ap (λ p. counts_of (graph_now p)) c.deref.ensures ∙ ap counts_of c.add_changes.ensures.held.live.pool in
+      let older : ReadsNoMore p image c.args.count taken then_taken =
+      reads_no_more (Seed c.args.seed) [] p c.args.count c.self.inside.limits.file_bytes old b asked image c.add_changes.result taken then_taken c.add_changes.ensures.reads in
+      subst (λ (r : Reply). Reads (command.Workload c.args.seed c.args.count) c.args.self.now.parts image r.head taken then_taken) (sym (c.headed.ensures ∙ ap (λ (n : Counts). headed (head.Generated added.events added.last n.nodes n.edges)) counts))
+      (added_reads (Seed c.args.seed) c.args.count c.args.self.now.parts image graph added.events added.total added.last taken then_taken
+      (subst (λ (x : Parts). ReadsNoMore x image c.args.count taken then_taken) (ap (λ (x : SessionState). x.parts) c.self.view_is) older));
+}
+
+pub returns-in-Some-clause-disk : goal.returns-in-Some-clause-disk
+returns-in-Some-clause-disk g c = reading_treats g.D.Disk c.args.disk.now c.args.disk.now (Err (halt.Refusal c.in-Some.refusal)) reads_none
+
+pub returns-in_err-batch-clause-disk : goal.returns-in_err-batch-clause-disk
+returns-in_err-batch-clause-disk g c =
+    handed_out c.from_residual.result (halt.Refusal refusal.OutOfMemory) (TreatsDisk g.D.Disk c.args.disk.now c.args.disk.now) c.from_residual.ensures
+    (reading_treats g.D.Disk c.args.disk.now c.args.disk.now (Err (halt.Refusal refusal.OutOfMemory)) reads_none)
+
+pub returns-in_err-added-clause-disk : goal.returns-in_err-added-clause-disk
+returns-in_err-added-clause-disk g c =
+    handed_out c.from_residual-in_err-added.result (batch_halt c.in_err-added.field-0.0) (TreatsDisk g.D.Disk c.args.disk.now c.add_changes.new.disk) c.from_residual-in_err-added.ensures
+    (failed_treats g.D.Disk c.args.disk.now c.add_changes.new.disk c.in_err-added.field-0.0 c.in_err-added.ensures.disk)
+
+pub returns-clause-disk : goal.returns-clause-disk
+returns-clause-disk g c = added_treats g.D.Disk c.args.disk.now c.add_changes.new.disk c.in_ok-added.added c.headed.result c.in_ok-added.ensures.disk
+
+pub returns-in-Some-clause-crash : goal.returns-in-Some-clause-crash
+returns-in-Some-clause-crash g c =
+    reading_left g.D.Disk g.met.D.Disk.only_now c.args.disk.now c.args.disk.now reads_none (command.Workload c.args.seed c.args.count) [] c.args.self.now.parts (Err (halt.Refusal c.in-Some.refusal)) (λ e. cc)
+
+pub returns-in_err-batch-clause-crash : goal.returns-in_err-batch-clause-crash
+returns-in_err-batch-clause-crash g c =
+    handed_out c.from_residual.result (halt.Refusal refusal.OutOfMemory) (λ r. LeftByCrash g.D.Disk c.args.disk.now c.args.disk.now (LeavesCommand (command.Workload c.args.seed c.args.count) [] c.args.self.now.parts r)) c.from_residual.ensures
+    (reading_left g.D.Disk g.met.D.Disk.only_now c.args.disk.now c.args.disk.now reads_none (command.Workload c.args.seed c.args.count) [] c.args.self.now.parts (Err (halt.Refusal refusal.OutOfMemory)) (λ e. cc))
+
+pub returns-in_err-added-clause-crash : goal.returns-in_err-added-clause-crash
+returns-in_err-added-clause-crash g c =
     let p : Parts = (the_view c.self.inside).parts in
     let old : Live = record { history = record c.self.inside.held.live.history { names = c.generated_batch.new.names }; pool = c.self.inside.held.live.pool } in
     let b : Batch = c.in_ok-batch.batch in
     let asked : IsAsked (Seed c.args.seed) [] p c.args.count c.self.inside.limits.file_bytes old b =
     is_generated c.args.seed p c.args.self.now.parts c.args.count old b c.barred.result (ap (λ (x : SessionState). x.parts) c.self.view_is) c.barred.ensures c.in_default.is
     refl refl refl c.self.invariant.0.events c.requires.some c.requires.few c.in_ok-batch.ensures.generated in
-    let image : Option (List ℕ) = g.D.Disk.image c.args.disk.now in
-    let taken : ℕ = g.D.Disk.taken c.args.disk.now in
-    let then_taken : ℕ = g.D.Disk.taken c.add_changes.new.disk in
+    handed_out c.from_residual-in_err-added.result (batch_halt c.in_err-added.field-0.0)
+    (λ r. LeftByCrash g.D.Disk c.args.disk.now c.add_changes.new.disk (LeavesCommand (command.Workload c.args.seed c.args.count) [] c.args.self.now.parts r)) c.from_residual-in_err-added.ensures
+    (subst (λ (x : Parts). LeftByCrash g.D.Disk c.args.disk.now c.add_changes.new.disk (LeavesCommand (command.Workload c.args.seed c.args.count) [] x (Err (batch_halt c.in_err-added.field-0.0)))) (ap (λ (x : SessionState). x.parts) c.self.view_is)
+    (failed_left (Seed c.args.seed) [] p c.args.count c.self.inside.limits.file_bytes old b asked g.D.Disk c.args.disk.now c.add_changes.new.disk g.met.D.Disk.only_now
+    c.in_err-added.field-0.0 c.in_err-added.ensures.fails c.in_err-added.ensures.disk.unwritten c.in_err-added.ensures.disk.crash))
+
+pub returns-clause-crash : goal.returns-clause-crash
+returns-clause-crash g c =
+    let p : Parts = (the_view c.self.inside).parts in
+    let old : Live = record { history = record c.self.inside.held.live.history { names = c.generated_batch.new.names }; pool = c.self.inside.held.live.pool } in
+    let b : Batch = c.in_ok-batch.batch in
+    let asked : IsAsked (Seed c.args.seed) [] p c.args.count c.self.inside.limits.file_bytes old b =
+    is_generated c.args.seed p c.args.self.now.parts c.args.count old b c.barred.result (ap (λ (x : SessionState). x.parts) c.self.view_is) c.barred.ensures c.in_default.is
+    refl refl refl c.self.invariant.0.events c.requires.some c.requires.few c.in_ok-batch.ensures.generated in
     let added = c.in_ok-added.added in
     let graph : List Element = c.add_changes.new.held.live.history.now.graph in
     let counts : c.counts_now-counts.result ≡ counts_of graph = c.counts_now-counts.ensures ∙ ap (λ p. counts_of (graph_now p)) c.deref.ensures ∙ ap counts_of c.add_changes.ensures.held.live.pool in
-    let older : ReadsNoMore p image c.args.count taken then_taken =
-    reads_no_more (Seed c.args.seed) [] p c.args.count c.self.inside.limits.file_bytes old b asked image c.add_changes.result taken then_taken c.add_changes.ensures.reads in
-    subst (λ (r : Reply). Reads (command.Workload c.args.seed c.args.count) c.args.self.now.parts image r.head taken then_taken) (sym (c.headed.ensures ∙ ap (λ (n : Counts). headed (head.Generated added.events added.last n.nodes n.edges)) counts))
-    (added_reads (Seed c.args.seed) c.args.count c.args.self.now.parts image graph added.events added.total added.last taken then_taken
-    (subst (λ (x : Parts). ReadsNoMore x image c.args.count taken then_taken) (ap (λ (x : SessionState). x.parts) c.self.view_is) older))
-
-pub returns-clause-undamaged : goal.returns-clause-undamaged
-returns-clause-undamaged g c =
-    let p : Parts = (the_view c.self.inside).parts in
-    let old : Live = record { history = record c.self.inside.held.live.history { names = c.generated_batch.new.names }; pool = c.self.inside.held.live.pool } in
-    let b : Batch = c.in_ok-batch.batch in
-    let asked : IsAsked (Seed c.args.seed) [] p c.args.count c.self.inside.limits.file_bytes old b =
-    is_generated c.args.seed p c.args.self.now.parts c.args.count old b c.barred.result (ap (λ (x : SessionState). x.parts) c.self.view_is) c.barred.ensures c.in_default.is
-    refl refl refl c.self.invariant.0.events c.requires.some c.requires.few c.in_ok-batch.ensures.generated in
-    let image : Option (List ℕ) = g.D.Disk.image c.args.disk.now in
-    let then_image : Option (List ℕ) = g.D.Disk.image c.add_changes.new.disk in
-    subst (λ (x : Parts). MeetsNone (Batch_of c.args.count) x image) (ap (λ (x : SessionState). x.parts) c.self.view_is)
-    (added_undamaged (Seed c.args.seed) [] p c.args.count c.self.inside.limits.file_bytes old b asked image then_image c.add_changes.new.held.live c.in_ok-added.added
-    c.in_ok-added.ensures.adds)
+    let said : Reply = headed (head_over (Seed c.args.seed) graph added.events added.total added.last) in
+    let reply : said ≡ c.headed.result = sym (c.headed.ensures ∙ ap (λ (n : Counts). headed (head.Generated added.events added.last n.nodes n.edges)) counts) in
+    subst (λ (r : Reply). LeftByCrash g.D.Disk c.args.disk.now c.add_changes.new.disk (LeavesAnswered (command.Workload c.args.seed c.args.count) [] c.args.self.now.parts r)) reply
+    (subst (λ (x : Parts). LeftByCrash g.D.Disk c.args.disk.now c.add_changes.new.disk (LeavesAnswered (command.Workload c.args.seed c.args.count) [] x said)) (ap (λ (x : SessionState). x.parts) c.self.view_is)
+    (added_left (Seed c.args.seed) [] p c.args.count c.self.inside.limits.file_bytes old b asked g.D.Disk c.args.disk.now c.add_changes.new.disk c.add_changes.new.held.live added c.in_ok-added.ensures.adds c.in_ok-added.ensures.disk.crash))

@@ -1,0 +1,191 @@
+-- What a crash may leave of a run so far, and how each turn adds to it.
+use Rattle.std.proofs.Common.{◌≡◌, ◌⊎◌, inl, inr, ℕ, List, [], ◌∷◌, ◌++◌, Option, Some, None, IfSome, length, refl, sym, ◌∙◌, ap, subst, arith, length-append}
+use Rattle.std.specs.Prelude.{Bool, false, true, ◌||◌}
+use Rattle.std.specs.List.{list_any}
+use Rattle.std.proofs.Math.Nat.{le_refl}
+use Rattle.std.proofs.Math.Bool.{or-true}
+use Rattle.std.proofs.lemmas.List.{take-append-le, take_all}
+use Rattle.std.proofs.lemmas.List.Folds.{list_any-append}
+use Rattle.dg_disk.specs.Calls.{IsOnDevice, LeftByCrash, ReadsDisk, StaysOnDevice, SyncsDisk}
+use Rattle.dg_disk.specs.Crash.{LeavesOnly}
+use Rattle.dg_disk.specs.declared.disk.Disk.{Ghosts}
+use Rattle.dg_disk.proofs.CrashLeavesOnly.{joins, keeps_on, starts_at, widens}
+use Rattle.dg_disk.proofs.CrashTold.{settled_on}
+use Rattle.dg_disk.proofs.FrameLemmas.{reads_none}
+use Rattle.dg_index.specs.ImageOfHistory.{StandsAs}
+use Rattle.dg_machine.specs.Answer.{Answered}
+use Rattle.dg_machine.specs.MachineState.{MachineState}
+use Rattle.dg_machine.specs.Run.{Step, last_state}
+use Rattle.dg_machine.specs.Script.{Asked, Entry, Long_line, No_command}
+use Rattle.dg_machine.proofs.Runs.{last_more}
+use Rattle.dg_session.specs.Crashes.{IsFirstByte}
+use Rattle.dg_session.specs.Parts.{Parts}
+use Rattle.dg_session.specs.Session.{StandsFor}
+use Rattle.dg_run.specs.Served.{StandsInRun, makes_index}
+use Rattle.dg_run.specs.Turns.{LeavesTurn}
+use Rattle.dg_run.proofs.StepIndexes.{one_index}
+
+-- ---- the states of a run
+
+-- the states of a run are among those of a longer one
+in_longer : (m : MachineState) (answers : List Answered) (a : Answered) (c : List ℕ) → StandsInRun m answers c → StandsInRun m (answers ++ a ∷ []) c
+in_longer m answers a c s = (
+  s.0,
+  omega (arith, s.1, length-append answers (a ∷ [])),
+  subst (λ (l : List Answered). StandsAs (last_state m l).index c) (sym (take-append-le s.0 answers (a ∷ []) s.1)) s.2,
+)
+
+-- and so is its last
+pub at_last : (m : MachineState) (answers : List Answered) (c : List ℕ) → StandsAs (last_state m answers).index c → StandsInRun m answers c
+at_last m answers c s = (
+  length answers,
+  le_refl (length answers),
+  subst (λ (l : List Answered). StandsAs (last_state m l).index c) (sym (take_all (length answers) answers (le_refl (length answers)))) s,
+)
+
+-- and its first
+pub in_run_first : (m : MachineState) (answers : List Answered) (c : List ℕ) → StandsAs m.index c → StandsInRun m answers c
+in_run_first m answers c s = (0, omega arith, s)
+
+-- what a crash may leave of a run so far over these entries, which began over these bytes
+abbrev pub LeftSoFar : MachineState → List Entry → List Answered → List ℕ → List ℕ → Type 0
+LeftSoFar m entries answers first c = StandsInRun m answers c ⊎ ((list_any makes_index entries ≡ true) × (m.index ≡ None) × IsFirstByte first c)
+
+-- what it may leave of the run so far it may leave of the longer one
+pub so_far_longer : (m : MachineState) (entries : List Entry) (answers : List Answered) (e : Entry) (a : Answered) (first c : List ℕ) → LeftSoFar m entries answers first c
+    → LeftSoFar m (entries ++ e ∷ []) (answers ++ a ∷ []) first c
+so_far_longer m entries answers e a first c (inl s) = inl (in_longer m answers a c s)
+so_far_longer m entries answers e a first c (inr byte) =
+    inr (list_any-append makes_index entries (e ∷ []) ∙ ap (λ (b : Bool). b || list_any makes_index (e ∷ [])) byte.0, byte.1, byte.2)
+
+-- the image that the session holds stands for the last state
+pub so_far_image : (m : MachineState) (entries : List Entry) (answers : List Answered) (session : Parts) (first image c : List ℕ) → StandsFor session image (last_state m answers) → c ≡ image
+    → LeftSoFar m entries answers first c
+so_far_image m entries answers session first image c stands same = inl (at_last m answers c (subst (StandsAs (last_state m answers).index) (sym same) stands.image_stands))
+
+-- the last of the entries makes an index
+made_last : (entries : List Entry) (e : Entry) → makes_index e ≡ true → list_any makes_index (entries ++ e ∷ []) ≡ true
+made_last entries e made =
+    list_any-append makes_index entries (e ∷ []) ∙ ap (λ (b : Bool). list_any makes_index entries || (b || false)) made ∙ or-true (list_any makes_index entries)
+
+-- what a crash may leave of a turn, over the image that it had, is left in the longer run
+pub turn_in_run : (m : MachineState) (entries : List Entry) (answers : List Answered) (a : Answered) (e : Entry) (old : Parts) (first image c : List ℕ)
+    → ((last_state m answers).index ≡ None → (m.index ≡ None) × (image ≡ first)) → StandsFor old image (last_state m answers) → Step (last_state m answers) e a.reply a.state
+    → LeavesTurn e old a.reply image c → LeftSoFar m (entries ++ e ∷ []) (answers ++ a ∷ []) first c
+turn_in_run m entries answers a (Asked command lines) old first image c unmade stands step left =
+    elim (left (last_state m answers) stands) [
+      | inl was ↦ inl (in_longer m answers a c (at_last m answers c was))
+      | inr rest ↦ elim rest [
+        | inl now ↦
+            let same : now.0.index ≡ a.state.index = one_index (last_state m answers) (Asked command lines) a.reply a.reply now.0 a.state refl now.1 step in
+            inl (at_last m (answers ++ a ∷ []) c (subst (λ (i : Option _). StandsAs i c) (same ∙ ap (λ (n : MachineState). n.index) (sym (last_more m answers a))) now.2))
+        | inr byte ↦
+            let none = unmade byte.1 in
+            inr (made_last entries (Asked command lines) byte.0, none.0, subst (λ (bytes : List ℕ). IsFirstByte bytes c) none.1 byte.2)
+      ]
+    ]
+turn_in_run m entries answers a (No_command line) old first image c unmade stands step left =
+    so_far_longer m entries answers (No_command line) a first c (so_far_image m entries answers old first image c stands left)
+turn_in_run m entries answers a Long_line old first image c unmade stands step left = so_far_longer m entries answers Long_line a first c (so_far_image m entries answers old first image c stands left)
+
+-- ---- calls of a disk, one behind another
+
+-- what is said of a crash within some calls holds of what has P where it holds of the image, which a crash leaves
+abbrev pub Stays : Option (List ℕ) → ((List ℕ → List ℕ → Type 0) → Type 0) → Type 1
+Stays image crashes = (x : List ℕ) → image ≡ Some x → (P : List ℕ → List ℕ → Type 0) → P x x → crashes P
+
+-- what has P has Q
+abbrev pub Widens : ((List ℕ → List ℕ → Type 0) → Type 0) → Type 1
+Widens crashes = (P Q : List ℕ → List ℕ → Type 0) → ((a c : List ℕ) → P a c → Q a c) → crashes P → crashes Q
+
+-- behind some calls there are others, within which a crash leaves what has Q of the image between them: all of it has R
+-- of the first image
+abbrev pub Adds : Option (List ℕ) → Option (List ℕ) → ((List ℕ → List ℕ → Type 0) → Type 0) → ((List ℕ → List ℕ → Type 0) → Type 0) → (List ℕ → List ℕ → Type 0) → Type 1
+Adds first image crashes then_crashes Q =
+    (x y : List ℕ) → first ≡ Some x → image ≡ Some y → (P R : List ℕ → List ℕ → Type 0) → ((c : List ℕ) → P x c → R x c) → ((c : List ℕ) → Q y c → R x c) → crashes P → then_crashes R
+
+-- the calls have others before them, within which a crash leaves the image
+abbrev pub Leads : Option (List ℕ) → ((List ℕ → List ℕ → Type 0) → Type 0) → ((List ℕ → List ℕ → Type 0) → Type 0) → Type 1
+Leads image crashes all_crashes =
+    (x : List ℕ) → image ≡ Some x → (P R : List ℕ → List ℕ → Type 0) → R x x → ((c : List ℕ) → P x c → R x c) → crashes P → all_crashes R
+
+told_at : (o : Option (List ℕ)) (P : List ℕ → Type 0) (x : List ℕ) → IfSome o P → o ≡ Some x → P x
+told_at o P x all is = let here : IfSome (Some x) P = subst (λ (p : Option (List ℕ)). IfSome p P) is all in here
+
+told_from : (o : Option (List ℕ)) (P : List ℕ → Type 0) (x : List ℕ) → o ≡ Some x → P x → IfSome o P
+told_from o P x is has = subst (λ (p : Option (List ℕ)). IfSome p P) (sym is) has
+
+module _ {D : Type 0} (g : Ghosts D) where
+  -- since the present moment there is no other
+  abbrev pub OnlyNow : Type 0
+  OnlyNow = (disk : D) (c : List ℕ) → g.left_since disk (g.moment disk) c → g.may_leave disk c
+
+  -- a crash leaves these bytes
+  abbrev Leaves : D → List ℕ → Type 0
+  Leaves at bytes = (c : List ℕ) → g.may_leave at c → c ≡ bytes
+
+  -- from one disk to another a crash leaves what has P of these bytes
+  abbrev Within : D → D → (List ℕ → List ℕ → Type 0) → List ℕ → Type 0
+  Within old new P bytes = Leaves old bytes → LeavesOnly g.moment g.left_since old new (P bytes)
+
+  -- no call
+  pub stays_here : OnlyNow → (at : D) → Stays (g.image at) (LeftByCrash g at at)
+  stays_here only at x is P has = told_from (g.image at) (Within at at P) x is (starts_at g.moment g.left_since g.may_leave only at x (P x) has)
+
+  -- calls that read and sync
+  pub stays_over : OnlyNow → (old new : D) → SyncsDisk g old new → Stays (g.image old) (LeftByCrash g old new)
+  stays_over only old new syncs x is P has =
+      told_from (g.image old) (Within old new P) x is
+      (λ whole. keeps_on g.moment g.left_since old old new (P x) (starts_at g.moment g.left_since g.may_leave only old x (P x) has whole) syncs.later syncs.since)
+
+  -- what is on the device stays so where the disk is only read
+  pub reads_settled : (old new : D) → ReadsDisk g old new → StaysOnDevice g old new
+  reads_settled old new reads on = settled_on (g.image old) (g.image new) (g.may_leave old) (g.may_leave new) reads.same_image reads.leaves on
+
+  -- calls that read
+  pub reads_leave : OnlyNow → (old new : D) → ReadsDisk g old new → LeftByCrash g old new (λ first left. left ≡ first)
+  reads_leave only old new reads = by (g.image old) refl
+    where
+      syncs : SyncsDisk g old new
+      syncs = record {
+        same_image = reads.same_image;
+        counted = reads.counted;
+        writes_counted = omega (arith, reads.no_write_failed);
+        later = omega (arith, reads.same_moment);
+        leaves = reads.leaves;
+        since = λ t c le left. reads.since t c left;
+      }
+
+      by : (o : Option (List ℕ)) → g.image old ≡ o → LeftByCrash g old new (λ first left. left ≡ first)
+      by None is = subst (λ (p : Option (List ℕ)). IfSome p (Within old new (λ first left. left ≡ first))) (sym is) tt
+      by (Some x) is = stays_over only old new syncs x is (λ first left. left ≡ first) refl
+
+  -- no call
+  pub unread_leaves : OnlyNow → (at : D) → LeftByCrash g at at (λ first left. left ≡ first)
+  unread_leaves only at = reads_leave only at at reads_none
+
+  pub widens_left : (old new : D) → Widens (LeftByCrash g old new)
+  widens_left old new P Q to run = by (g.image old) run
+    where
+      by : (o : Option (List ℕ)) → IfSome o (Within old new P) → IfSome o (Within old new Q)
+      by None run = tt
+      by (Some a) run = λ whole. widens g.moment g.left_since old new (P a) (Q a) (to a) (run whole)
+
+  -- a turn more
+  pub adds_turn : (start mid new : D) (Q : List ℕ → List ℕ → Type 0) → StaysOnDevice g start mid → LeftByCrash g mid new Q → Adds (g.image start) (g.image mid) (LeftByCrash g start mid) (LeftByCrash g start new) Q
+  adds_turn start mid new Q stays turn x y is at P R keeps comes run =
+      told_from (g.image start) (Within start new R) x is
+      (λ whole.
+      let on : Leaves mid y = told_at (g.image mid) (Leaves mid) y (stays (told_from (g.image start) (Leaves start) x is whole)) at in
+      joins g.moment g.left_since start mid new (R x)
+      (widens g.moment g.left_since start mid (P x) (R x) keeps (told_at (g.image start) (Within start mid P) x run is whole))
+      (widens g.moment g.left_since mid new (Q y) (R x) comes (told_at (g.image mid) (Within mid new Q) y turn at on)))
+
+  -- a start before, behind which the image is on the device
+  pub leads_on : OnlyNow → (start mid new : D) → SyncsDisk g start mid → IsOnDevice g mid → Leads (g.image start) (LeftByCrash g mid new) (LeftByCrash g start new)
+  leads_on only start mid new syncs settled x is P R has keeps run =
+      let at : g.image mid ≡ Some x = syncs.same_image ∙ is in
+      told_from (g.image start) (Within start new R) x is
+      (λ whole. joins g.moment g.left_since start mid new (R x)
+      (keeps_on g.moment g.left_since start start mid (R x) (starts_at g.moment g.left_since g.may_leave only start x (R x) has whole) syncs.later syncs.since)
+      (widens g.moment g.left_since mid new (P x) (R x) keeps (told_at (g.image mid) (Within mid new P) x run at (told_at (g.image mid) (Leaves mid) x settled at))))

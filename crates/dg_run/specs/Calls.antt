@@ -1,0 +1,34 @@
+-- What a turn over the script comes to, over the ghost members of the source and of the disk, the entries to come before
+-- the turn, and the session and the disk before it and after it.
+use Rattle.std.specs.Prelude.{◌≡◌, ℕ, List, Option, None, length}
+use Rattle.std.specs.Option.{option_map}
+use Rattle.dg_disk.specs.Calls.{LeftByCrash, StaysOnDevice}
+use Rattle.dg_disk.specs.declared.disk.Disk as disk
+use Rattle.dg_graph.specs.Lines.{ScriptLine, Text}
+use Rattle.dg_io.specs.declared.source.Source as source
+use Rattle.dg_io.specs.LinesState.{Comes, LinesState}
+use Rattle.dg_machine.specs.Script.{Entry, entries_of}
+use Rattle.dg_run.specs.declared.turn.Turn.{Turn}
+use Rattle.dg_run.specs.Turns.{NamesTurn, TellsFailedReads, Turns, asked}
+use Rattle.dg_session.specs.Parts.{Parts}
+use Rattle.dg_session.specs.Session.{HoldsImage}
+
+-- The turn is this one.
+pub record MakesTurn {S D : Type 0} (s : source.Ghosts S) (d : disk.Ghosts D) (entries : Option (List Entry)) (old : Parts) (before : D)
+    (then_lines : LinesState) (then_from : S) (new : Parts) (after : D) (made : Turn) : Type 0 where
+  -- What it does to the entries to come, to the session and its image, and in reply, what it reads, and what a crash leaves.
+  pub turn : Turns made entries (asked then_lines (s.left then_from)) old (d.image before) new (d.image after) (d.taken before) (d.taken after) (LeftByCrash d before after)
+  -- The session holds the image.
+  pub held : HoldsImage new (d.image after)
+  -- Where there is no index behind it, there was none, and the image is as it was.
+  pub no_index : new.index ≡ None → (old.index ≡ None) × (d.image after ≡ d.image before)
+  -- It says that a read failed only where a call of the disk did.
+  pub store_read : TellsFailedReads made (d.faults before) (d.faults after)
+  -- The names in its reply are among those of the session.
+  pub named : NamesTurn made (length new.names)
+  -- Where what the disk held was on the device, what it holds is.
+  pub settled : StaysOnDevice d before after
+
+-- The fact holds of the entries that were to come before this line was taken, where these lines are to come behind it.
+abbrev pub AtLine : List ℕ → Option (List ScriptLine) → (Option (List Entry) → Type 0) → Type 0
+AtLine line behind P = (start : Option (List ScriptLine)) → Comes (Text line) start behind → P (option_map entries_of start)
