@@ -1,2 +1,3 @@
 pub mod WholeLines
 pub mod WholeEntriesFront
+pub mod Rows
