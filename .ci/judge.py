@@ -92,6 +92,8 @@ class Opened:
         def row(key, where, ends):
             nonlocal offset
             sizes = [big(text, where + 8 * i, 8) for i in range(3)]
+            if ends and sum(sizes) > 12 + 36 * self.size:
+                raise Unread
             self.rows[key] = Row(offset, sizes, ends, start + where)
             offset += sum(sizes)
 

@@ -18,12 +18,13 @@ import sys
 import tempfile
 
 import model
-from runs import Program, Ran, Tests, content, in_use, lines, put
+from runs import CREATE, FIVE, Program, Ran, Tests, content, in_use, lines, put
 
 FAILED = "the index file failed"
 TOO_LARGE = "{}: File too large (os error 27)"
 NO_SPACE = "{}: No space left on device (os error 28)"
 READ_ONLY = "{} may not be written: Read-only file system (os error 30)"
+BROKEN = "damaged at offset 18: the segment there breaks the format"
 NOT_PERMITTED = "{}: Operation not permitted (os error 1)"
 PAGE = 4096  # bytes
 STEP = 7  # bytes between two limits of a file's size
@@ -100,6 +101,30 @@ class Limits:
         self.tests.check(f"{name}: it is sound", ran.status == 0 and last and last[0][0].startswith("ok verify sound"), last)
 
     # ---- the file
+
+    def long_list(self):
+        """A list of two events has at most 84 bytes. One that claims more is refused at the start, without memory for it: the
+        file is sparse. One of 84 bytes is met by the plan that enters it."""
+        index = self.program.place("index")
+        _, image = self.program.over(None, lines([CREATE, FIVE]))
+        behind = 297  # the end of the first list's 42 bytes
+        for more in (42, 43, 10**9, 10**12):
+            sizes = bytearray(image[:behind])
+            for place in (26, 91):  # the columns of the segment, and the structure of the list
+                sizes[place : place + 8] = (int.from_bytes(sizes[place : place + 8], "big") + more).to_bytes(8, "big")
+            with open(index, "wb") as file:
+                file.write(sizes)
+                file.seek(behind + more)
+                file.write(image[behind:])
+
+            def prepare():
+                resource.setrlimit(resource.RLIMIT_AS, (64 << 20, 64 << 20))
+
+            ran = self.limited(index, lines(["at 10 s", "at 50 s"]), prepare)
+            said = f"deltagraph: the index is refused\ndeltagraph: {index}: {BROKEN}\n".encode()
+            due = (7, b"", said) if more > 42 else (0, b"refused 15 damaged list 0 s\nend\nok at 1 0\nend\n", b"")
+            self.tests.same(f"a list of {42 + more} bytes", (ran.status, ran.replies, ran.errors), due)
+        put(index, None)
 
     def size_of_file(self):
         """No file may pass a number of bytes, with the signal for it ignored or not."""
@@ -302,6 +327,7 @@ ASK = [
 def main():
     tests = Tests("limits")
     limits = Limits(tests, Program(*sys.argv[1:3]))
+    limits.long_list()
     limits.size_of_file()
     limits.full_disk()
     limits.disk_that_is_read()

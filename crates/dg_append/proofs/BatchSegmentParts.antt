@@ -83,5 +83,5 @@ module _ (o : Opening) (p : Params) (before : ℕ) (params : p ≡ o.params) (co
     past_sets = is.sets_are ∙ (λ i. map (set_of (sym params i) past) (sym (older_are (length events)) i))
 
 -- the last time of the recent events and those behind them is that of these
-pub listed_by : (floor : ℕ) (recent events : List Event) (rows : List Row) → 1 ≤ length events → may_be_listed floor (last_time_from floor (recent ++ events)) rows ≡ true → may_be_listed floor (last_time_from 0 events) rows ≡ true
-listed_by floor recent events rows some may = ap (λ t. may_be_listed floor t rows) (sym (last_of_both floor recent events some)) ∙ may
+pub listed_by : (most floor : ℕ) (recent events : List Event) (rows : List Row) → 1 ≤ length events → may_be_listed most floor (last_time_from floor (recent ++ events)) rows ≡ true → may_be_listed most floor (last_time_from 0 events) rows ≡ true
+listed_by most floor recent events rows some may = ap (λ t. may_be_listed most floor t rows) (sym (last_of_both floor recent events some)) ∙ may

@@ -8,7 +8,7 @@ use Rattle.dg_graph.specs.declared.limits.TheConstants.{NAMES_MAX}
 use Rattle.dg_history.specs.declared.node.Key.{Key}
 use Rattle.dg_graph.specs.Names.{are_new}
 use Rattle.dg_index.specs.ImageText.{four_at, eight_at, names_at}
-use Rattle.dg_index.specs.OpenedIndex.{may_be_named, Opening, Opened, Directory, list_count, delta_count, keys_next, list_at, record_at, rows_at, rows_in, directory_with, may_follow, may_be_listed, may_stand, if_it_may, event_total, earliest_in, last_list, first_in}
+use Rattle.dg_index.specs.OpenedIndex.{may_be_named, Opening, Opened, Directory, list_count, delta_count, keys_next, list_at, record_at, rows_at, rows_in, directory_with, may_follow, list_bytes_max, may_be_listed, may_stand, if_it_may, event_total, earliest_in, last_list, first_in}
 use Rattle.dg_index.specs.declared.entry.BatchEntry.{BatchEntry}
 use Rattle.dg_index.specs.declared.entry.Row.{Row}
 use Rattle.dg_index.proofs.IndexRecordColumns.{Each}
@@ -103,7 +103,7 @@ module _ (x : Opened) (columns : ℕ) (bytes : List ℕ) where
           let D = delta_count x.index (eight_at bytes 0) in
           let d : Directory = said L D bytes t in
           due_by le t n ∙ not_named d (has_rows L D bytes t.1) (bytes_of_rows (rows_in d) == columns) (may_follow (event_total x.index.batches) (earliest_in 0 x.index.batches) d.batch) (may_be_named x.names d.names)
-          (may_be_listed (last_list (first_in d.batch.ends.first x.index.batches) x.index.records) d.batch.ends.last d.lists) (wrong t n)
+          (may_be_listed (list_bytes_max x.index.params.l) (last_list (first_in d.batch.ends.first x.index.batches) x.index.records) d.batch.ends.last d.lists) (wrong t n)
 
   pub due_stale : 28 ≤ length bytes → ((t : List (List ℕ) × ℕ) → names_at (four_at bytes 24) bytes 28 ≡ Some t → are_new x.names t.0 ≡ false) → directory_due x columns bytes ≡ None
   due_stale le stale = due_unnamed le (λ t n. ap (λ b. b && nat_le (length x.names + length t.0) NAMES_MAX) (stale t n))
@@ -168,7 +168,7 @@ module _ (x : Opened) (columns : ℕ) (bytes : List ℕ) (le : 28 ≤ length byt
   is_named = may_be_named x.names taken.names
 
   abbrev is_listed : Bool
-  is_listed = may_be_listed (last_list (first_in (eight_at bytes 8) x.index.batches) x.index.records) (eight_at bytes 16) (rows_at list_at 40 lists bytes (end + 4))
+  is_listed = may_be_listed (list_bytes_max x.index.params.l) (last_list (first_in (eight_at bytes 8) x.index.batches) x.index.records) (eight_at bytes 16) (rows_at list_at 40 lists bytes (end + 4))
 
   abbrev test : Option Directory
   test = cond ok (if_it_may (fits && (follows && (is_named && is_listed))) (said lists deltas bytes (taken.names, end))) None
@@ -199,28 +199,28 @@ module _ (x : Opened) (columns : ℕ) (bytes : List ℕ) (le : 28 ≤ length byt
   pub due_measured : (rows : List Row) → rows ≡ rows_in (said lists deltas bytes (taken.names, end)) → (bytes_of_rows rows == columns) ≡ false → directory_due x columns bytes ≡ None
   due_measured rows r e = due_at ∙ not_measured (said lists deltas bytes (taken.names, end)) ok fits follows is_named is_listed (ap (λ (l : List Row). bytes_of_rows l == columns) (sym r) ∙ e)
 
-  listed_same : (rows : List Row) (first : ℕ) → rows ≡ rows_in (said lists deltas bytes (taken.names, end)) → first ≡ last_list (first_in batch.ends.first x.index.batches) x.index.records
-      → may_be_listed (last_list (first_in (eight_at bytes 8) x.index.batches) x.index.records) (eight_at bytes 16) (rows_at list_at 40 lists bytes (end + 4)) ≡ may_be_listed first batch.ends.last (take lists rows)
-  listed_same rows first r f =
+  listed_same : (rows : List Row) (most first : ℕ) → most ≡ list_bytes_max x.index.params.l → rows ≡ rows_in (said lists deltas bytes (taken.names, end)) → first ≡ last_list (first_in batch.ends.first x.index.batches) x.index.records
+      → may_be_listed (list_bytes_max x.index.params.l) (last_list (first_in (eight_at bytes 8) x.index.batches) x.index.records) (eight_at bytes 16) (rows_at list_at 40 lists bytes (end + 4)) ≡ may_be_listed most first batch.ends.last (take lists rows)
+  listed_same rows most first m r f =
       let from : first ≡ last_list (first_in (eight_at bytes 8) x.index.batches) x.index.records = f ∙ ap (λ (b : BatchEntry). last_list (first_in b.ends.first x.index.batches) x.index.records) batch_is in
       let last : batch.ends.last ≡ eight_at bytes 16 = ap (λ (b : BatchEntry). b.ends.last) batch_is in
       let all = first_rows lists bytes (end + 4) _ rows r in
-      λ i. may_be_listed (sym from i) (sym last i) (sym all i)
+      λ i. may_be_listed (sym m i) (sym from i) (sym last i) (sym all i)
 
-  pub due_listed : (rows : List Row) (first : ℕ) → rows ≡ rows_in (said lists deltas bytes (taken.names, end)) → first ≡ last_list (first_in batch.ends.first x.index.batches) x.index.records → may_be_listed first batch.ends.last (take lists rows) ≡ false → directory_due x columns bytes ≡ None
-  due_listed rows first r f e = due_at ∙ not_listed (said lists deltas bytes (taken.names, end)) ok fits follows is_named is_listed (listed_same rows first r f ∙ e)
+  pub due_listed : (rows : List Row) (most first : ℕ) → most ≡ list_bytes_max x.index.params.l → rows ≡ rows_in (said lists deltas bytes (taken.names, end)) → first ≡ last_list (first_in batch.ends.first x.index.batches) x.index.records → may_be_listed most first batch.ends.last (take lists rows) ≡ false → directory_due x columns bytes ≡ None
+  due_listed rows most first m r f e = due_at ∙ not_listed (said lists deltas bytes (taken.names, end)) ok fits follows is_named is_listed (listed_same rows most first m r f ∙ e)
 
-  pub due_taken : (found : FoundDirectory) (first : ℕ) → 2 ≤ x.index.params.l → event_total x.index.batches + batch.events ≤ EVENTS_MAX → length x.names + count ≤ NAMES_MAX → found.batch ≡ batch → found.rows.items ≡ rows_in (said lists deltas bytes (taken.names, end))
+  pub due_taken : (found : FoundDirectory) (most first : ℕ) → most ≡ list_bytes_max x.index.params.l → 2 ≤ x.index.params.l → event_total x.index.batches + batch.events ≤ EVENTS_MAX → length x.names + count ≤ NAMES_MAX → found.batch ≡ batch → found.rows.items ≡ rows_in (said lists deltas bytes (taken.names, end))
       → found.keys.items ≡ keys_next x.index batch.events → has_rows lists deltas bytes end ≡ true → may_follow (event_total x.index.batches) (earliest_in 0 x.index.batches) batch ≡ true → (bytes_of_rows found.rows.items == columns) ≡ true
-      → first ≡ last_list (first_in batch.ends.first x.index.batches) x.index.records → may_be_listed first batch.ends.last (take lists found.rows.items) ≡ true → TakesDirectory x.index columns bytes x.names new found
-  due_taken found first large few room fb r k tables follow measured f listed =
+      → first ≡ last_list (first_in batch.ends.first x.index.batches) x.index.records → may_be_listed most first batch.ends.last (take lists found.rows.items) ≡ true → TakesDirectory x.index columns bytes x.names new found
+  due_taken found most first m large few room fb r k tables follow measured f listed =
       let named : may_be_named x.names taken.names ≡ true = and_from (are_new x.names taken.names) _ taken.fresh (le-leb (length x.names + length taken.names) NAMES_MAX (omega (arith, long, room))) in
       let ends = both (length bytes == end + 32 + 40 * lists + 24 * deltas) _ tables in
       let all = ap length taken.gained ∙ length-append x.names taken.names in
       let number : found.batch.names ≡ count = ap (λ (b : BatchEntry). b.names) (fb ∙ batch_is) in
       record {
         directory = said lists deltas bytes (taken.names, end);
-        due = due_at ∙ it_stands (said lists deltas bytes (taken.names, end)) ok fits follows is_named is_listed tables (ap (λ (l : List Row). bytes_of_rows l == columns) (sym r) ∙ measured) (follows_same ∙ follow) named (listed_same found.rows.items first r f ∙ listed);
+        due = due_at ∙ it_stands (said lists deltas bytes (taken.names, end)) ok fits follows is_named is_listed tables (ap (λ (l : List Row). bytes_of_rows l == columns) (sym r) ∙ measured) (follows_same ∙ follow) named (listed_same found.rows.items most first m r f ∙ listed);
         batch = fb ∙ sym batch_same;
         rows = r;
         keys = k ∙ ap (λ (b : BatchEntry). keys_next x.index b.events) (sym fb);
@@ -233,10 +233,10 @@ module _ (x : Opened) (columns : ℕ) (bytes : List ℕ) (le : 28 ≤ length byt
             let rows : List Row = rows_in (said lists deltas bytes (taken.names, end)) in
             let from : eight_at bytes 8 ≡ found.batch.ends.first = ap (λ (b : BatchEntry). b.ends.first) (sym (fb ∙ batch_is)) in
             let last : eight_at bytes 16 ≡ found.batch.ends.last = ap (λ (b : BatchEntry). b.ends.last) (sym (fb ∙ batch_is)) in
-            let read : may_be_listed (last_list (first_in (eight_at bytes 8) o.batches) o.records) (eight_at bytes 16) rows ≡ true =
-            listed_read (last_list (first_in (eight_at bytes 8) o.batches) o.records) (eight_at bytes 16) (rows_at list_at 40 lists bytes (end + 4)) deltas bytes (end + 8 + 40 * lists) (end + 8 + 40 * lists + 24 * deltas)
-            (listed_same found.rows.items first r f ∙ listed) in
-            (λ i. may_be_listed (last_list (first_in (sym from i) o.batches) o.records) (sym last i) (r i)) ∙ read;
+            let read : may_be_listed (list_bytes_max o.params.l) (last_list (first_in (eight_at bytes 8) o.batches) o.records) (eight_at bytes 16) rows ≡ true =
+            listed_read (list_bytes_max o.params.l) (last_list (first_in (eight_at bytes 8) o.batches) o.records) (eight_at bytes 16) (rows_at list_at 40 lists bytes (end + 4)) deltas bytes (end + 8 + 40 * lists) (end + 8 + 40 * lists + 24 * deltas)
+            (listed_same found.rows.items most first m r f ∙ listed) in
+            (λ i. may_be_listed (list_bytes_max o.params.l) (last_list (first_in (sym from i) o.batches) o.records) (sym last i) (r i)) ∙ read;
         counted = omega (arith, all, long, number);
         few = omega (arith, all, long, room);
         long = omega (arith, eqb-true (length bytes) (end + 32 + 40 * lists + 24 * deltas) ends.0, names_past count bytes 28 (taken.names, end) taken.read);

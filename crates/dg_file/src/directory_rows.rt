@@ -1,8 +1,8 @@
 //! The rows of a directory: one for each list, for each delta and for the piece.
 
-ghost use Rattle.std.specs.Prelude.{◌≡◌, ◌≤◌, ◌+◌, ◌*◌, ◌++◌, ◌∷◌, [], ◌==◌, ◌&&◌, length, IfOk, OnOk};
+ghost use Rattle.std.specs.Prelude.{◌≡◌, ◌≤◌, ◌+◌, ◌*◌, ◌++◌, ◌∷◌, [], ◌==◌, ◌&&◌, length, nat_le, IfOk, OnOk};
 ghost use Rattle.dg_index.specs.ImageText.{four_at};
-ghost use Rattle.dg_index.specs.OpenedIndex.{lengths_at, list_at, record_at, rows_at, may_be_listed};
+ghost use Rattle.dg_index.specs.OpenedIndex.{lengths_at, list_at, list_bytes_max, record_at, rows_at, may_be_listed, total};
 ghost use Rattle.dg_shape.specs.Additions.{bytes_of_rows};
 
 use dg_index::{Ends, Row};
@@ -133,15 +133,36 @@ pub(crate) fn is_measured(rows: &[Row], columns: u64) -> bool
     left == 0
 }
 
+/// The most bytes that the columns of a list of so many events take together.
+pub(crate) fn list_bytes_max(events: u32) -> u64
+    ensures { result ≡ list_bytes_max events }
+{
+    12 + 36 * events as u64
+}
+
+// Whether the three lengths come to at most so many bytes.
+fn is_at_most(lengths: [u64; 3], most: u64) -> bool
+    ensures { result ≡ nat_le (total lengths) most }
+{
+    let [structure, node_attrs, edge_attrs] = lengths;
+    structure <= most
+        && node_attrs <= most - structure
+        && edge_attrs <= most - structure - node_attrs
+}
+
 /// Whether the lists begin at the first time or later and end at the last or earlier, each not before the
-/// one before it.
-pub(crate) fn may_be_listed(rows: &[Row], first: u64, last: u64) -> bool
-    ensures { result ≡ may_be_listed first last rows.now }
+/// one before it, and the columns of each have at most `most` bytes.
+pub(crate) fn may_be_listed(rows: &[Row], most: u64, first: u64, last: u64) -> bool
+    ensures { result ≡ may_be_listed most first last rows.now }
 {
     let mut floor = first;
     for row in rows {
         if let Some(ends) = row.ends {
-            if ends.first < floor || ends.last < ends.first || last < ends.last {
+            if ends.first < floor
+                || ends.last < ends.first
+                || last < ends.last
+                || !is_at_most(row.lengths, most)
+            {
                 return false;
             }
             floor = ends.last;

@@ -12,7 +12,7 @@ ghost use Rattle.dg_index.specs.FileOfHistory.{head_of};
 ghost use Rattle.dg_index.specs.ImageOfHistory.{is_blank, IsImageOf};
 ghost use Rattle.dg_index.specs.IndexGrowth.{AreInTurn, IsDue, columns_in, last_time_in, name_total};
 ghost use Rattle.dg_index.specs.IndexKeys.{AreKept};
-ghost use Rattle.dg_index.specs.OpenedIndex.{column_at, bare, directory_of, earliest_in, event_total, first_in, keys_next, last_list, list_count, may_be_listed, may_follow, opened_of, opening, rows_in, span_in};
+ghost use Rattle.dg_index.specs.OpenedIndex.{column_at, bare, directory_of, earliest_in, event_total, first_in, keys_next, last_list, list_count, list_bytes_max, may_be_listed, may_follow, opened_of, opening, rows_in, span_in};
 ghost use Rattle.dg_disk.specs.Image.{HasRange, IsLengthOf};
 ghost use Rattle.dg_shape.specs.Additions.{bytes_of_rows, Suits};
 ghost use Rattle.dg_shape.specs.Points.{ListsRise};
@@ -28,7 +28,7 @@ use crate::append::append;
 use crate::creation::write_header;
 use crate::directory_batch::{batch_at, may_follow};
 use crate::directory_names::{DirectoryFault, NAMES_OFFSET, read_names};
-use crate::directory_rows::{has_rows, is_measured, may_be_listed, rows_in};
+use crate::directory_rows::{has_rows, is_measured, list_bytes_max, may_be_listed, rows_in};
 use crate::fault::{CommitFault, CreateFault, FetchFault, ReopenFault};
 use crate::found_directory::FoundDirectory;
 use crate::header::{HEADER_BYTES, OPEN};
@@ -160,7 +160,7 @@ impl Index {
         requires keys { keys.now ≡ keys_next self.old.opening batch.events }
         requires rows { Suits keys.now rows.now }
         requires follows { may_follow (event_total self.old.opening.batches) (earliest_in 0 self.old.opening.batches) batch ≡ true }
-        requires listed { may_be_listed (last_list (first_in batch.ends.first self.old.opening.batches) self.old.opening.records) batch.ends.last rows.now ≡ true }
+        requires listed { may_be_listed (list_bytes_max self.old.opening.params.l) (last_list (first_in batch.ends.first self.old.opening.batches) self.old.opening.records) batch.ends.last rows.now ≡ true }
         requires names { name_total self.old.opening.batches + batch.names ≤ NAMES_MAX }
         requires behind { self.old.opening.used ≤ offset }
         requires used { offset + bytes_of_rows rows.now + 1 ≡ used }
@@ -212,7 +212,8 @@ impl Index {
             return Err(DirectoryFault::Broken);
         }
         let floor = self.floor(batch.ends.first);
-        if !may_be_listed(&rows[..lists as usize], floor, batch.ends.last) {
+        let most = list_bytes_max(self.params.l);
+        if !may_be_listed(&rows[..lists as usize], most, floor, batch.ends.last) {
             return Err(DirectoryFault::Broken);
         }
         Ok(FoundDirectory { batch, keys, rows })

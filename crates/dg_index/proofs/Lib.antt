@@ -5,6 +5,7 @@ pub mod HierarchyCounts
 pub mod HierarchyStability
 pub mod ImageTextRanges
 pub mod ImageTextNames
+pub mod ListBytes
 pub mod OpenedIndexDirectories
 pub mod OpenedIndexHistories
 pub mod IndexRecordColumns

@@ -11,7 +11,7 @@ use Rattle.dg_graph.specs.Columns.{four, eight}
 use Rattle.dg_index.specs.FileOfHistory.{name_bytes, Stored, StoredList, Segment, bytes_of, lengths_bytes, list_bytes, directory, blobs, stored_in, segment_bytes}
 use Rattle.dg_graph.specs.Names.{are_new}
 use Rattle.dg_index.specs.ImageText.{four_at, eight_at, names_at, gate_behind, is_within}
-use Rattle.dg_index.specs.OpenedIndex.{may_be_named, Opened, Directory, lengths_at, list_at, record_at, rows_at, rows_in, total, lengths_of, list_row, record_row, directory_of, directory_with, directory_in, list_count, delta_count, may_follow, may_be_listed, within, may_stand, if_it_may, directory_next, event_total, earliest_in, last_list, first_in, read_on, go_on_with, with_directory, with_segment, MayStand}
+use Rattle.dg_index.specs.OpenedIndex.{may_be_named, Opened, Directory, lengths_at, list_at, record_at, rows_at, rows_in, total, lengths_of, list_row, record_row, directory_of, directory_with, directory_in, list_count, delta_count, may_follow, list_bytes_max, may_be_listed, within, may_stand, if_it_may, directory_next, event_total, earliest_in, last_list, first_in, read_on, go_on_with, with_directory, with_segment, MayStand}
 use Rattle.dg_index.specs.declared.entry.BatchEntry.{BatchEntry}
 use Rattle.dg_index.specs.declared.entry.Row.{Row}
 use Rattle.dg_index.proofs.ImageTextRanges.{eight_read, four_read, behind}
@@ -118,15 +118,16 @@ pub lists_small : (all : List StoredList) → AreTimed all → AreSmall (map (λ
 lists_small [] timed small = tt
 lists_small (x ∷ all) timed small = ((timed.0, timed.1, small.0), lists_small all timed.2 small.1)
 
-pub timed : (first last : ℕ) (all : List StoredList) → last ≤ TIME_MAX → may_be_listed first last (map list_row all) ≡ true → AreTimed all
-timed first last [] le e = tt
-timed first last (x ∷ all) le e =
-    let a = both (within first last (Some (record { first = x.first; last = x.last }))) _ e in
+pub timed : (most first last : ℕ) (all : List StoredList) → last ≤ TIME_MAX → may_be_listed most first last (map list_row all) ≡ true → AreTimed all
+timed most first last [] le e = tt
+timed most first last (x ∷ all) le e =
+    let a = both (within most first last (total (lengths_of x.columns)) (Some (record { first = x.first; last = x.last }))) _ e in
     let b = both (nat_le first x.first) _ a.0 in
     let c = both (nat_le x.first x.last) _ b.1 in
+    let d = both (nat_le x.last last) _ c.1 in
     let in_turn : x.first ≤ x.last = leb-true _ _ c.0 in
-    let ends : x.last ≤ last = leb-true _ _ c.1 in
-    (omega (arith, in_turn, ends, le), omega (arith, ends, le), timed x.last last all le a.1)
+    let ends : x.last ≤ last = leb-true _ _ d.0 in
+    (omega (arith, in_turn, ends, le), omega (arith, ends, le), timed most x.last last all le a.1)
 
 -- the rows tell the bytes of all columns
 rows_total : (all : List Stored) → sum_by (λ (r : Row). total r.lengths) (map record_row all) ≡ length (flat_map bytes_of all)
@@ -195,7 +196,7 @@ module _ (x : Opened) (s : Segment) (may : MayStand x s) (few : length (blobs s)
       let small = all_small (stored_in s) few in
       let parts = small_parts (map (λ (x : StoredList). x.columns) s.lists) (s.deltas ++ s.piece ∷ []) small in
       let others = small_parts s.deltas (s.piece ∷ []) parts.1 in
-      let in_times = timed (last_list (first_in s.first x.index.batches) x.index.records) s.last s.lists f.in_time may.listed in
+      let in_times = timed (list_bytes_max x.index.params.l) (last_list (first_in s.first x.index.batches) x.index.records) s.last s.lists f.in_time may.listed in
       let e0 = eight_step b 0 8 s.events (eight s.first ++ (eight s.last ++ (four (length s.names) ++ (names ++ back s)))) (omega (arith, f.few)) refl refl in
       let e1 = eight_step b 8 16 s.first (eight s.last ++ (four (length s.names) ++ (names ++ back s))) (omega (arith, f.rises, f.in_time)) refl e0.1 in
       let e2 = eight_step b 16 24 s.last (four (length s.names) ++ (names ++ back s)) (omega (arith, f.in_time)) refl e1.1 in
