@@ -11,7 +11,7 @@ use Rattle.dg_append.specs.Faults.{HasCause, of_prepare}
 use Rattle.dg_append.specs.KeptBatches.{GainsNextOrNot, StopsKeeping}
 use Rattle.dg_disk.proofs.CrashReads.{reads_first, told_reads}
 use Rattle.dg_disk.proofs.CrashTold.{told_widens}
-use Rattle.dg_disk.proofs.FrameLemmas.{reads_then_writes}
+use Rattle.dg_disk.proofs.FrameLemmas.{reads_then_writes, reads_use}
 use Rattle.dg_disk.specs.Calls.{Fails, LeftByCrash, ReadsDisk, UsesDisk, WritesDisk}
 use Rattle.dg_disk.specs.declared.disk.Disk.{Ghosts}
 use Rattle.dg_file.specs.Calls.{CommitsSegment}
@@ -25,13 +25,6 @@ use Rattle.dg_now.specs.declared.fault.PrepareFault.TheVariants as prepare_fault
 
 module _ {D : Type 0} (g : Ghosts D) where
   -- ---- calls that read
-
-  reads_use : {old new : D} → ReadsDisk g old new → UsesDisk g old new
-  reads_use reads = record {
-    told = ap (λ (x : Option (List ℕ)). is_some x) reads.same_image;
-    counted = reads.counted;
-    writes_counted = omega (arith, reads.no_write_failed);
-  }
 
   -- calls that read, and no other, where nothing is put into the file
   pub reads_leave : {A : Type 0} (old new : D) → ((disk : D) (c : List ℕ) → g.left_since disk (g.moment disk) c → g.may_leave disk c) → ReadsDisk g old new

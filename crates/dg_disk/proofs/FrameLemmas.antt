@@ -1,6 +1,9 @@
--- Calls one behind another, as one call: none, reads behind reads, reads behind syncs, writes behind reads.
+-- Calls one behind another, as one call: none, reads behind reads, reads behind syncs, writes behind reads. And what calls
+-- that only read are besides: calls that use the disk, which leave on the device what is there.
 use Rattle.std.proofs.Common.{ℕ, List, Option, refl, ap, ◌∙◌, arith}
 use Rattle.std.specs.Prelude.{is_some}
+use Rattle.dg_disk.proofs.CrashTold.{settled_on}
+use Rattle.dg_disk.specs.Crash.{IsSettled}
 use Rattle.dg_disk.specs.Frame.{GoesOn, OnlyReads, OnlyWrites, ReadsAndSyncs}
 
 module _ {D : Type 0} {image : D → Option (List ℕ)} {faults write_faults : D → ℕ} {may_leave : D → List ℕ → Type 0} {moment : D → ℕ} {left_since : D → ℕ → List ℕ → Type 0} where
@@ -48,3 +51,15 @@ module _ {D : Type 0} {image : D → Option (List ℕ)} {faults write_faults : D
     counted = omega (arith, one.counted, two.counted);
     writes_counted = omega (arith, one.no_write_failed, two.writes_counted);
   }
+
+  -- calls that read use the disk
+  pub reads_use : {a b : D} → OnlyReads image faults write_faults may_leave moment left_since a b → GoesOn image faults write_faults a b
+  reads_use reads = record {
+    told = ap (λ (x : Option (List ℕ)). is_some x) reads.same_image;
+    counted = reads.counted;
+    writes_counted = omega (arith, reads.no_write_failed);
+  }
+
+  -- what is on the device stays there under calls that read
+  pub reads_stay : (a b : D) → OnlyReads image faults write_faults may_leave moment left_since a b → IsSettled (image a) (may_leave a) → IsSettled (image b) (may_leave b)
+  reads_stay a b reads settled = settled_on (image a) (image b) (may_leave a) (may_leave b) reads.same_image reads.leaves settled

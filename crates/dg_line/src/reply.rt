@@ -21,10 +21,10 @@ const OK: Word<'static> = Word::Text(b"ok");
 
 const REFUSED: Word<'static> = Word::Text(b"refused");
 
+// Its frame is large, and stands on the stack only while it runs.
 /// Writes the text of a reply: the head line, the lines of the body, and `end`. The names are those
 /// whose numbers the reply has; a number that none of them has stands for the empty text. It takes
 /// no memory. `Failed` where a write failed: then a part of the text is written, and never all of it.
-// Its frame is large, and stands on the stack only while it runs.
 #[inline(never)]
 pub fn write_reply<K: Sink>(sink: &mut K, names: &Names, reply: &Reply) -> Result<(), Failed>
     ensures ok { OnOk result (K.written sink.new ≡ grown (K.written sink.old) (text names.now reply.now)) }

@@ -5,9 +5,9 @@ use dg_history::NodeId;
 /// The most instants of one command.
 pub const TIMES_MAX: usize = 32;
 
-/// What is asked of a handle. Nothing is read for it, and nothing changes.
-// A new one also needs: its verb in `CommandGrammar`, its reply in `Answer`, its text in `ReplyText`, and the files that
+// A new query also needs: its verb in `CommandGrammar`, its reply in `Answer`, its text in `ReplyText`, and the files that
 // docs/CONTRIBUTING.md lists under "A query of a handle".
+/// What is asked of a handle. Nothing is read for it, and nothing changes.
 #[derive(Clone, Copy)]
 pub enum Query {
     /// List the elements.
@@ -20,9 +20,9 @@ pub enum Query {
     Neighbours(u64),
 }
 
-/// A command of the script. docs/SCRIPT.md has its grammar.
-// A new one also needs: its verb and words in `CommandGrammar`, its rows in `needs` and `accepted`, and the files that
+// A new command also needs: its verb and words in `CommandGrammar`, its rows in `needs` and `accepted`, and the files that
 // docs/CONTRIBUTING.md lists, under a command that reads or one that writes.
+/// A command of the script. docs/SCRIPT.md has its grammar.
 #[derive(Clone, Copy)]
 pub enum Command {
     /// Make an empty index with this leaf list size, arity and differential function.

@@ -19,9 +19,9 @@ pub struct Reply {
     pub body: BodyLines,
 }
 
-/// The first line of a reply.
-// A new one also needs: the command that it answers, in `Answer`; its words in `ReplyText` and dg_line; the command that
+// A new first line also needs: the command that it answers, in `Answer`; its words in `ReplyText` and dg_line; the command that
 // it fits, in dg_session's `IsHeadOf`.
+/// The first line of a reply.
 #[derive(Clone, Copy)]
 pub enum Head {
     /// An index was made.
@@ -125,9 +125,9 @@ pub enum Head {
     Refused(Refusal),
 }
 
-/// Why a command was refused. docs/SCRIPT.md has the order in which these are tested.
-// A new one also needs: its place and its premise in `refusals` (`Needs`) and in dg_session's `refusals_by`; its words in
+// A new refusal also needs: its place and its premise in `refusals` (`Needs`) and in dg_session's `refusals_by`; its words in
 // `ReplyText` and dg_line; and where it comes of a change, of the file or of memory, its line in `is_late`.
+/// Why a command was refused. docs/SCRIPT.md has the order in which these are tested.
 #[derive(Clone, Copy)]
 pub enum Refusal {
     /// 1: the line is no command; the column at which it leaves the grammar, from 1.
