@@ -10,3 +10,4 @@ pub mod GeneratedChangeRanges
 pub mod LinesDue
 pub mod HeldGraphs
 pub mod HeldChanges
+pub mod LinesTaken

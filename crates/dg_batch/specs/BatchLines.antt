@@ -11,7 +11,6 @@ use Rattle.dg_graph.specs.Lines.{ScriptLine, Text, Long}
 use Rattle.dg_graph.specs.declared.limits.TheConstants.{NAMES_MAX}
 use Rattle.dg_machine.specs.declared.reply.Refusal.{Refusal}
 use Rattle.dg_machine.specs.declared.reply.Refusal.TheVariants as refusal
-use Rattle.dg_machine.specs.Script.{Follows}
 use Rattle.dg_append.specs.declared.batch.Batch.{Batch}
 use Rattle.dg_append.specs.declared.front.Front.{Front}
 use Rattle.dg_append.specs.declared.front.Front.TheVariants.{Whole, Form, Unkept}
@@ -58,9 +57,9 @@ abbrev pub first_refusal : ℕ → ℕ → Option Refusal → Option Refusal
 first_refusal read count barred = if nat_lt read count then Some (refusal.ShortBatch read count) else barred
 
 -- As many lines as were asked for were read, and nothing bars the batch. The names have grown by theirs.
-pub record IsBatch (count : ℕ) (barred : Option Refusal) (before after : Option (List ScriptLine)) (names new : List (List ℕ)) (batch : Batch) : Type 0 where
+pub record IsBatch (count : ℕ) (barred : Option Refusal) (AreTaken : List ScriptLine → Type 0) (names new : List (List ℕ)) (batch : Batch) : Type 0 where
   pub got : List ScriptLine
-  pub follows : Follows count before got after
+  pub taken : AreTaken got
   pub known : batch.known ≡ length names
   pub reads : ReadsAs got (length got) batch.front names new batch.changes.items
   pub free : first_refusal (length got) count barred ≡ None
@@ -70,17 +69,18 @@ pub record IsBatch (count : ℕ) (barred : Option Refusal) (before after : Optio
   pub few : batch.front ≡ Whole → length new ≤ NAMES_MAX
 
 -- The lines that were read are refused so, and the names are as they were.
-pub record IsBarred (count : ℕ) (barred : Option Refusal) (before after : Option (List ScriptLine)) (names new : List (List ℕ)) (r : Refusal) : Type 0 where
+pub record IsBarred (count : ℕ) (barred : Option Refusal) (AreTaken : List ScriptLine → Type 0) (names new : List (List ℕ)) (r : Refusal) : Type 0 where
   pub got : List ScriptLine
-  pub follows : Follows count before got after
+  pub taken : AreTaken got
   pub refused : first_refusal (length got) count barred ≡ Some r
   pub same : new ≡ names
 
--- what the lines that follow the command come to, if they are read
-abbrev pub ReadsBatch : ℕ → Option Refusal → Option (List ScriptLine) → Option (List ScriptLine) → List (List ℕ) → List (List ℕ) → Result Batch Halt → Type 0
-ReadsBatch count barred before after names new (Ok batch) = IsBatch count barred before after names new batch
-ReadsBatch count barred before after names new (Err (halt.Refusal r)) = IsBarred count barred before after names new r
-ReadsBatch count barred before after names new (Err (halt.Stop s)) = new ≡ names
+-- What the lines that follow the command come to: which lines are taken, or that the script is cut within them, is said by
+-- the two words.
+abbrev pub ReadsBatch : ℕ → Option Refusal → (List ScriptLine → Type 0) → Type 0 → List (List ℕ) → List (List ℕ) → Result Batch Halt → Type 0
+ReadsBatch count barred AreTaken IsCut names new (Ok batch) = IsBatch count barred AreTaken names new batch
+ReadsBatch count barred AreTaken IsCut names new (Err (halt.Refusal r)) = IsBarred count barred AreTaken names new r
+ReadsBatch count barred AreTaken IsCut names new (Err (halt.Stop s)) = (new ≡ names) × IsCut
 
 -- the refusal is for too few lines
 abbrev pub IsShort : Refusal → Type 0

@@ -1,11 +1,11 @@
 //! The lines of a batch, with their changes up to the first line that is none.
-ghost use Rattle.std.specs.Prelude.{◌≡◌, ◌+◌, ◌*◌, ◌≤◌, ◌<◌, List, Ok, Err, None, true, false, take, length, IfOk, IfSome, IsErrOf, IsTrue, vec_len};
+ghost use Rattle.std.specs.Prelude.{◌≡◌, ◌+◌, ◌*◌, ◌≤◌, ◌<◌, List, Ok, Err, None, true, false, take, length, IfOk, IfSome, IsErrOf, IsTrue, OnErr, vec_len};
 ghost use Rattle.dg_io.specs.Calls.{FailsToRead, TakesFrom};
-ghost use Rattle.dg_io.specs.LinesState.{told, LineComes, NeedsByte};
+ghost use Rattle.dg_cuts.specs.TakenLines.{CutsWithin, TakesBehind};
+ghost use Rattle.dg_io.specs.LinesState.{told, LineComes, NeedsByte, TookLine, TookNone};
 ghost use Rattle.dg_graph.specs.declared.limits.TheConstants.{NAMES_MAX};
 ghost use Rattle.dg_history.specs.ChangeGrammar.{change_by_text_in};
 ghost use Rattle.dg_graph.specs.Lines.{ScriptLine};
-ghost use Rattle.dg_machine.specs.Script.{Follows};
 ghost use Rattle.dg_batch.specs.BatchLines.{KeepsChange, ReadsAs, ReadsBatch, IsShort, IsShortBatch, first_refusal, line_read};
 
 use crate::halt::Halt;
@@ -41,11 +41,14 @@ struct BatchLines {
 pub(crate) fn next_line<S: Source>(lines: &mut Lines, source: &mut S) -> Result<Line, Stop>
     ensures comes { IfOk result (λ line. LineComes line
         (told lines.old (S.left source.old)) (told lines.new (S.left source.new)) lines.new.text) }
-    ensures advances { TakesFrom S.Source lines.old source.old lines.new source.new }
-    ensures read { IsErrOf result Stop.Read → FailsToRead S.Source source.old source.new }
-    ensures limit { IsErrOf result Stop.Limit → (lines.new.taken ≡ lines.new.limit) × NeedsByte lines.new }
-    ensures due { lines.old.taken ≡ lines.old.limit → NeedsByte lines.old → result ≡ Err Stop.Limit }
+    ensures whole { IfOk result (λ line. TookLine line lines.old (S.left source.old) lines.new (S.left source.new)) }
     ensures end { result ≡ Ok Line.End → IsTrue lines.new.ended }
+    ensures advances { TakesFrom S.Source lines.old source.old lines.new source.new }
+    ensures kept { OnErr result (TookNone lines.old (S.left source.old) lines.new (S.left source.new)) }
+    ensures read { IsErrOf result Stop.Read → FailsToRead S.Source source.old source.new }
+    ensures limit { IsErrOf result Stop.Limit → lines.new.taken ≡ lines.new.limit }
+    ensures needs { OnErr result (NeedsByte lines.new) }
+    ensures due { lines.old.taken ≡ lines.old.limit → NeedsByte lines.old → result ≡ Err Stop.Limit }
     ensures no_store { IsErrOf result Stop.Store → ⊥ }
 {
     let line = lines.next(source)?;
@@ -101,7 +104,7 @@ fn read_lines<S: Source>(
 
     // the lines
     ensures reads { IfOk result (λ batch. (got : List ScriptLine)
-        × Follows count (told lines.old (S.left source.old)) got (told lines.new (S.left source.new))
+        × TakesBehind count lines.old (S.left source.old) lines.new (S.left source.new) got
         × ReadsAs got batch.read batch.front names.old names.new batch.changes.items) }
     ensures most { IfOk result (λ batch. batch.read ≤ count) }
     ensures within { IfOk result (λ batch. vec_len batch.changes ≤ batch.read) }
@@ -111,7 +114,8 @@ fn read_lines<S: Source>(
 
     // why it stops
     ensures read { IsErrOf result Stop.Read → FailsToRead S.Source source.old source.new }
-    ensures limit { IsErrOf result Stop.Limit → (lines.new.taken ≡ lines.new.limit) × NeedsByte lines.new }
+    ensures limit { IsErrOf result Stop.Limit → lines.new.taken ≡ lines.new.limit }
+    ensures cut { OnErr result (CutsWithin count lines.old (S.left source.old) lines.new (S.left source.new)) }
     ensures due { 1 ≤ count → lines.old.taken ≡ lines.old.limit → NeedsByte lines.old → result ≡ Err Stop.Limit }
     ensures no_store { IsErrOf result Stop.Store → ⊥ }
 
@@ -170,13 +174,13 @@ pub fn read_batch<S: Source>(
     requires room { barred ≡ None → length names.old + 2 * count ≤ NAMES_MAX }
 
     // the lines
-    ensures reads { ReadsBatch count barred (told lines.old (S.left source.old)) (told lines.new (S.left source.new))
-        names.old names.new result }
+    ensures reads { ReadsBatch count barred (TakesBehind count lines.old (S.left source.old) lines.new (S.left source.new))
+        (CutsWithin count lines.old (S.left source.old) lines.new (S.left source.new)) names.old names.new result }
     ensures ended { IfSome barred (λ r. IsShort r → ⊥) → IsShortBatch result → IsTrue lines.new.ended }
 
     // why it stops
     ensures read { IsErrOf result (Halt.Stop Stop.Read) → FailsToRead S.Source source.old source.new }
-    ensures limit { IsErrOf result (Halt.Stop Stop.Limit) → (lines.new.taken ≡ lines.new.limit) × NeedsByte lines.new }
+    ensures limit { IsErrOf result (Halt.Stop Stop.Limit) → lines.new.taken ≡ lines.new.limit }
     ensures due { 1 ≤ count → lines.old.taken ≡ lines.old.limit → NeedsByte lines.old → result ≡ Err (Halt.Stop Stop.Limit) }
     ensures no_store { IsErrOf result (Halt.Stop Stop.Store) → ⊥ }
 

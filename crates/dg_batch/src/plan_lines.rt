@@ -1,11 +1,11 @@
 //! The plan lines that follow a command.
 
-ghost use Rattle.std.specs.Prelude.{◌≡◌, ◌++◌, [], ◌∷◌, ◌≤◌, ◌<◌, List, Err, true, IfOk, IsErrOf, IsTrue};
+ghost use Rattle.std.specs.Prelude.{◌≡◌, ◌++◌, [], ◌∷◌, ◌≤◌, ◌<◌, List, Err, true, IfOk, IsErrOf, IsTrue, OnErr};
 ghost use Rattle.dg_io.specs.Calls.{FailsToRead, TakesFrom};
-ghost use Rattle.dg_io.specs.LinesState.{told, NeedsByte};
+ghost use Rattle.dg_cuts.specs.TakenLines.{CutsWithin, TakesBehind};
+ghost use Rattle.dg_io.specs.LinesState.{NeedsByte};
 ghost use Rattle.dg_graph.specs.Lines.{ScriptLine};
 ghost use Rattle.dg_machine.specs.CommandGrammar.{plan_line_in};
-ghost use Rattle.dg_machine.specs.Script.{Follows};
 ghost use Rattle.dg_batch.specs.BatchLines.{line_read};
 ghost use Rattle.dg_batch.specs.PlanLines.{ReadsPlanLines};
 
@@ -43,6 +43,7 @@ fn keep_line(line: Line, text: &[u8], said: &mut Vec<Option<PlanLine>>) -> bool
 ///
 /// `Stop::Read` where a read failed, `Stop::Limit` where another byte is needed and as many as the limit
 /// allows were taken.
+#[tactic(auto, using(crate::proofs::LinesTaken::taken_none))]
 pub fn read_plan_lines<S: Source>(
     alloc: Global,
     count: u32,
@@ -52,13 +53,14 @@ pub fn read_plan_lines<S: Source>(
 ) -> Result<PlanLines, Stop>
     // the lines
     ensures reads { IfOk result (λ written. (got : List ScriptLine)
-        × Follows count (told lines.old (S.left source.old)) got (told lines.new (S.left source.new))
+        × TakesBehind count lines.old (S.left source.old) lines.new (S.left source.new) got
         × ReadsPlanLines got written) }
     ensures ended { IfOk result (λ written. written.read < count → IsTrue lines.new.ended) }
 
     // why it stops
     ensures read { IsErrOf result Stop.Read → FailsToRead S.Source source.old source.new }
-    ensures limit { IsErrOf result Stop.Limit → (lines.new.taken ≡ lines.new.limit) × NeedsByte lines.new }
+    ensures limit { IsErrOf result Stop.Limit → lines.new.taken ≡ lines.new.limit }
+    ensures cut { OnErr result (CutsWithin count lines.old (S.left source.old) lines.new (S.left source.new)) }
     ensures due { 1 ≤ count → lines.old.taken ≡ lines.old.limit → NeedsByte lines.old → result ≡ Err Stop.Limit }
     ensures no_store { IsErrOf result Stop.Store → ⊥ }
 

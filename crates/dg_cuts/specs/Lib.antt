@@ -1,1 +1,2 @@
 pub mod WholeEntries
+pub mod TakenLines

@@ -24,9 +24,13 @@ whole_within (suc k) (line ∷ rest) =
     if nat_lt (length rest) (wanted (meaning line)) then []
     else (first_entry (meaning line) rest).0 ++ whole_within k (first_entry (meaning line) rest).1
 
+-- the entries that stand whole in these lines
+abbrev pub whole_in : List ScriptLine → List Entry
+whole_in lines = whole_within (length lines) lines
+
 -- the entries that stand whole, with their line feeds, in the bytes
 abbrev pub whole_entries : List ℕ → List Entry
-whole_entries bytes = whole_within (length (lines_of (up_to_feed bytes))) (lines_of (up_to_feed bytes))
+whole_entries bytes = whole_in (lines_of (up_to_feed bytes))
 
 -- they are the first entries of the script, however it goes on
 abbrev pub WholeEntriesAreAFront : Type 0

@@ -41,6 +41,7 @@ advances_none lines left faults = record {
   kept = omega arith;
   taken = ([], gives_nothing left, omega arith);
   at_end = λ at. at;
+  ended = λ was. was;
   within = λ was. was;
   same_limit = refl;
   counted = omega arith;
@@ -53,6 +54,7 @@ advances_both first mid last had left has faults_first faults_mid faults_last p 
   kept = omega (arith, p.kept, q.kept);
   taken = taken_more had left has first.taken mid.taken last.taken p.taken q.taken;
   at_end = λ at. q.at_end (p.at_end at);
+  ended = λ was. q.ended (p.ended was);
   within = λ was. q.within (p.within was);
   same_limit = q.same_limit ∙ p.same_limit;
   counted = omega (arith, p.counted, q.counted);

@@ -3,3 +3,4 @@ pub mod BufferLemmas
 pub mod LinesStateLemmas
 pub mod ToldLemmas
 pub mod FrameLemmas
+pub mod GivenLines

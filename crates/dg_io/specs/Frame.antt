@@ -9,6 +9,7 @@ pub record Advances (old : LinesState) (left : Option (List ℕ)) (faults : ℕ)
   pub kept : to_come new ≤ to_come old
   pub taken : (bytes : List ℕ) × Gives left bytes then_left × (new.taken ≡ old.taken + length bytes)
   pub at_end : EndsWith old left → EndsWith new then_left
+  pub ended : IsTrue old.ended → IsTrue new.ended
   pub within : (IsTrue old.ended → old.taken < old.limit) → IsTrue new.ended → new.taken < new.limit
   pub same_limit : new.limit ≡ old.limit
   pub counted : faults ≤ then_faults

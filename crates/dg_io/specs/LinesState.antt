@@ -78,3 +78,16 @@ TookNone old left new then_left = Took old left new then_left (λ before after. 
 -- the line was the first of those to come, whatever the source goes on with
 abbrev pub TookLine : Line → LinesState → Option (List ℕ) → LinesState → Option (List ℕ) → Type 0
 TookLine line old left new then_left = Took old left new then_left (λ before after. LineComes line (Some before) (Some after) new.text)
+
+-- the line that the answer gives, with this text, where it gives one
+abbrev pub line_given : Line → List ℕ → List ScriptLine
+line_given (line.Text n) text = Text text ∷ []
+line_given line.TooLong text = Long ∷ []
+line_given line.End text = []
+
+-- Where no read has given the end of input yet: bytes were taken from the source, as many as are counted, and these lines
+-- were given of the lines to come, whatever the source goes on with.
+abbrev pub GaveLines : List ScriptLine → LinesState → Option (List ℕ) → LinesState → Option (List ℕ) → Type 0
+GaveLines given old left new then_left =
+    new.ended ≡ false → (got : List ℕ) × Gives left got then_left × (new.taken ≡ old.taken + length got)
+    × ((more : List ℕ) → ahead old (got ++ more) ≡ given ++ ahead new more)

@@ -120,9 +120,9 @@ impl Lines {
     /// The next line. It reads from the source only where no whole line is held, and gives a line once
     /// it is whole in the bytes that were taken: whatever the source goes on with, it is the same.
     ///
-    /// `LineFault::Read` where a read failed, `LineFault::Limit` where another byte is needed and as
-    /// many as the limit allows were taken. A byte is needed where no whole line is held and no read has
-    /// given the end of input. After a fault a later call goes on with the same line.
+    /// `LineFault::Read` where another byte is needed and a read failed, `LineFault::Limit` where another
+    /// byte is needed and as many as the limit allows were taken. A byte is needed where no whole line is
+    /// held and no read has given the end of input. After a fault a later call goes on with the same line.
     pub fn next<S: Source>(&mut self, source: &mut S) -> Result<Line, LineFault>
         ensures line { IfOk result (λ line. LineComes line
             (told self.old (S.left source.old)) (told self.new (S.left source.new)) self.new.text) }
@@ -134,8 +134,8 @@ impl Lines {
         ensures kept { OnErr result (TookNone self.old (S.left source.old) self.new (S.left source.new)) }
         ensures err { OnErr result (told self.old (S.left source.old) ≡ told self.new (S.left source.new)) }
         ensures read { IsErrOf result LineFault.Read → FailsToRead S.Source source.old source.new }
-        ensures limit { IsErrOf result LineFault.Limit
-            → (self.new.taken ≡ self.new.limit) × NeedsByte self.new }
+        ensures limit { IsErrOf result LineFault.Limit → self.new.taken ≡ self.new.limit }
+        ensures needs { OnErr result (NeedsByte self.new) }
         ensures due { self.old.taken ≡ self.old.limit → NeedsByte self.old
             → result ≡ Err LineFault.Limit }
 
@@ -212,8 +212,8 @@ impl Lines {
 
         // errors
         ensures read { IsErrOf result LineFault.Read → FailsToRead S.Source source.old source.new }
-        ensures limit { IsErrOf result LineFault.Limit
-            → (self.new.taken ≡ self.new.limit) × NeedsByte self.new }
+        ensures limit { IsErrOf result LineFault.Limit → self.new.taken ≡ self.new.limit }
+        ensures needs { OnErr result (NeedsByte self.new) }
         ensures due { self.old.taken ≡ self.old.limit → result ≡ Err LineFault.Limit }
 
         // frame

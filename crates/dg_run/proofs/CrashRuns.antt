@@ -10,7 +10,6 @@ use Rattle.dg_disk.specs.Calls.{IsOnDevice, LeftByCrash, ReadsDisk, StaysOnDevic
 use Rattle.dg_disk.specs.Crash.{LeavesOnly}
 use Rattle.dg_disk.specs.declared.disk.Disk.{Ghosts}
 use Rattle.dg_disk.proofs.CrashLeavesOnly.{joins, keeps_on, starts_at, widens}
-use Rattle.dg_disk.proofs.CrashTold.{settled_on}
 use Rattle.dg_disk.proofs.FrameLemmas.{reads_none}
 use Rattle.dg_index.specs.ImageOfHistory.{StandsAs}
 use Rattle.dg_machine.specs.Answer.{Answered}
@@ -47,32 +46,30 @@ at_last m answers c s = (
 pub in_run_first : (m : MachineState) (answers : List Answered) (c : List ℕ) → StandsAs m.index c → StandsInRun m answers c
 in_run_first m answers c s = (0, omega arith, s)
 
--- what a crash may leave of a run so far over these entries, which began over these bytes
-abbrev pub LeftSoFar : MachineState → List Entry → List Answered → List ℕ → List ℕ → Type 0
-LeftSoFar m entries answers first c = StandsInRun m answers c ⊎ ((list_any makes_index entries ≡ true) × (m.index ≡ None) × IsFirstByte first c)
+-- what a crash may leave of a run so far, which began over these bytes
+abbrev pub LeftSoFar : MachineState → List Answered → List ℕ → List ℕ → Type 0
+LeftSoFar m answers first c = StandsInRun m answers c ⊎ ((list_any makes_index answers ≡ true) × (m.index ≡ None) × IsFirstByte first c)
 
 -- what it may leave of the run so far it may leave of the longer one
-pub so_far_longer : (m : MachineState) (entries : List Entry) (answers : List Answered) (e : Entry) (a : Answered) (first c : List ℕ) → LeftSoFar m entries answers first c
-    → LeftSoFar m (entries ++ e ∷ []) (answers ++ a ∷ []) first c
-so_far_longer m entries answers e a first c (inl s) = inl (in_longer m answers a c s)
-so_far_longer m entries answers e a first c (inr byte) =
-    inr (list_any-append makes_index entries (e ∷ []) ∙ ap (λ (b : Bool). b || list_any makes_index (e ∷ [])) byte.0, byte.1, byte.2)
+pub so_far_longer : (m : MachineState) (answers : List Answered) (a : Answered) (first c : List ℕ) → LeftSoFar m answers first c → LeftSoFar m (answers ++ a ∷ []) first c
+so_far_longer m answers a first c (inl s) = inl (in_longer m answers a c s)
+so_far_longer m answers a first c (inr byte) =
+    inr (list_any-append makes_index answers (a ∷ []) ∙ ap (λ (b : Bool). b || list_any makes_index (a ∷ [])) byte.0, byte.1, byte.2)
 
 -- the image that the session holds stands for the last state
-pub so_far_image : (m : MachineState) (entries : List Entry) (answers : List Answered) (session : Parts) (first image c : List ℕ) → StandsFor session image (last_state m answers) → c ≡ image
-    → LeftSoFar m entries answers first c
-so_far_image m entries answers session first image c stands same = inl (at_last m answers c (subst (StandsAs (last_state m answers).index) (sym same) stands.image_stands))
+pub so_far_image : (m : MachineState) (answers : List Answered) (session : Parts) (first image c : List ℕ) → StandsFor session image (last_state m answers) → c ≡ image → LeftSoFar m answers first c
+so_far_image m answers session first image c stands same = inl (at_last m answers c (subst (StandsAs (last_state m answers).index) (sym same) stands.image_stands))
 
--- the last of the entries makes an index
-made_last : (entries : List Entry) (e : Entry) → makes_index e ≡ true → list_any makes_index (entries ++ e ∷ []) ≡ true
-made_last entries e made =
-    list_any-append makes_index entries (e ∷ []) ∙ ap (λ (b : Bool). list_any makes_index entries || (b || false)) made ∙ or-true (list_any makes_index entries)
+-- the last of the answers made an index
+made_last : (answers : List Answered) (a : Answered) → makes_index a ≡ true → list_any makes_index (answers ++ a ∷ []) ≡ true
+made_last answers a made =
+    list_any-append makes_index answers (a ∷ []) ∙ ap (λ (b : Bool). list_any makes_index answers || (b || false)) made ∙ or-true (list_any makes_index answers)
 
 -- what a crash may leave of a turn, over the image that it had, is left in the longer run
-pub turn_in_run : (m : MachineState) (entries : List Entry) (answers : List Answered) (a : Answered) (e : Entry) (old : Parts) (first image c : List ℕ)
+pub turn_in_run : (m : MachineState) (answers : List Answered) (a : Answered) (e : Entry) (old : Parts) (first image c : List ℕ)
     → ((last_state m answers).index ≡ None → (m.index ≡ None) × (image ≡ first)) → StandsFor old image (last_state m answers) → Step (last_state m answers) e a.reply a.state
-    → LeavesTurn e old a.reply image c → LeftSoFar m (entries ++ e ∷ []) (answers ++ a ∷ []) first c
-turn_in_run m entries answers a (Asked command lines) old first image c unmade stands step left =
+    → LeavesTurn e old a.reply image c → LeftSoFar m (answers ++ a ∷ []) first c
+turn_in_run m answers a (Asked command lines) old first image c unmade stands step left =
     elim (left (last_state m answers) stands) [
       | inl was ↦ inl (in_longer m answers a c (at_last m answers c was))
       | inr rest ↦ elim rest [
@@ -81,12 +78,12 @@ turn_in_run m entries answers a (Asked command lines) old first image c unmade s
             inl (at_last m (answers ++ a ∷ []) c (subst (λ (i : Option _). StandsAs i c) (same ∙ ap (λ (n : MachineState). n.index) (sym (last_more m answers a))) now.2))
         | inr byte ↦
             let none = unmade byte.1 in
-            inr (made_last entries (Asked command lines) byte.0, none.0, subst (λ (bytes : List ℕ). IsFirstByte bytes c) none.1 byte.2)
+            inr (made_last answers a byte.0, none.0, subst (λ (bytes : List ℕ). IsFirstByte bytes c) none.1 byte.2)
       ]
     ]
-turn_in_run m entries answers a (No_command line) old first image c unmade stands step left =
-    so_far_longer m entries answers (No_command line) a first c (so_far_image m entries answers old first image c stands left)
-turn_in_run m entries answers a Long_line old first image c unmade stands step left = so_far_longer m entries answers Long_line a first c (so_far_image m entries answers old first image c stands left)
+turn_in_run m answers a (No_command line) old first image c unmade stands step left =
+    so_far_longer m answers a first c (so_far_image m answers old first image c stands left)
+turn_in_run m answers a Long_line old first image c unmade stands step left = so_far_longer m answers a first c (so_far_image m answers old first image c stands left)
 
 -- ---- calls of a disk, one behind another
 
@@ -137,10 +134,6 @@ module _ {D : Type 0} (g : Ghosts D) where
   stays_over only old new syncs x is P has =
       told_from (g.image old) (Within old new P) x is
       (λ whole. keeps_on g.moment g.left_since old old new (P x) (starts_at g.moment g.left_since g.may_leave only old x (P x) has whole) syncs.later syncs.since)
-
-  -- what is on the device stays so where the disk is only read
-  pub reads_settled : (old new : D) → ReadsDisk g old new → StaysOnDevice g old new
-  reads_settled old new reads on = settled_on (g.image old) (g.image new) (g.may_leave old) (g.may_leave new) reads.same_image reads.leaves on
 
   -- calls that read
   pub reads_leave : OnlyNow → (old new : D) → ReadsDisk g old new → LeftByCrash g old new (λ first left. left ≡ first)

@@ -1,5 +1,5 @@
 -- The run so far, how each turn lengthens it, and what is owed where it ends.
-use Rattle.std.proofs.Common.{◌≡◌, ◌≤◌, inl, inr, ℕ, ◌+◌, Bool, true, false, cond, List, [], ◌∷◌, ◌++◌, Option, Some, None, IfSome, Result, Ok, Err, OnOk, OnErr, is_some, length, take, refl, sym, ◌∙◌, ap, subst, append_assoc, arith, length-append}
+use Rattle.std.proofs.Common.{◌≡◌, ◌≤◌, ◌⊎◌, inl, inr, ℕ, ◌+◌, Bool, true, false, cond, List, [], ◌∷◌, ◌++◌, Option, Some, None, IfSome, Result, Ok, Err, OnOk, OnErr, is_some, length, take, refl, sym, ◌∙◌, ap, subst, append_assoc, arith, length-append}
 use Rattle.std.specs.Option.{option_map}
 use Rattle.std.specs.Result.{is_err}
 use Rattle.std.proofs.lemmas.List.{append-nil}
@@ -7,10 +7,12 @@ use Rattle.std.proofs.lemmas.List.Concat.{flat_map-append}
 use Rattle.std.proofs.lemmas.List.Sums.{sum_by-append, sum_by-cons}
 use Rattle.std.proofs.Math.Seq.{take-append-add}
 use Rattle.dg_disk.specs.Counts.{Rose as DiskRose, raised_by}
+use Rattle.dg_fold.specs.BytesRead.{TakesAtMost}
 use Rattle.dg_history.specs.History.{History}
 use Rattle.dg_index.specs.ImageOfHistory.{StandsAs}
 use Rattle.dg_index.specs.OpenedIndex.{opened_of}
-use Rattle.dg_io.specs.Told.{grown, GrowsByPart}
+use Rattle.dg_io.specs.Told.{Gives, grown, GrowsByPart}
+use Rattle.dg_io.proofs.FrameLemmas.{gives_nothing}
 use Rattle.dg_io.specs.LinesState.{LinesState}
 use Rattle.dg_machine.specs.declared.reply.Reply.{Reply}
 use Rattle.dg_machine.specs.Answer.{Answered}
@@ -26,13 +28,16 @@ use Rattle.dg_start.specs.StoredHistory.{KeepsHistory}
 use Rattle.dg_run.specs.declared.status.Status.{Status}
 use Rattle.dg_run.specs.declared.status.Status.TheVariants as status
 use Rattle.dg_run.specs.Outside.{Outside, IsUntouched}
-use Rattle.dg_run.specs.Served.{Served, Gained, faults_of, LeftInRun, Remains, Kept, Cut_off}
-use Rattle.dg_run.specs.Turns.{Breaks, CutsEntry, LeavesTurn, Replies, asked}
+use Rattle.dg_run.specs.RunWeights.{EndWeighs, ReadsNoMore, RunWeighs, Weighs}
+use Rattle.dg_run.specs.Served.{Served, Gained, faults_of, LeftInRun, Remains, Kept, Cut_off, TakenFrom}
+use Rattle.dg_run.specs.Turns.{Breaks, CutsEntry, LeavesTurn, ReadsTurn, Replies, asked}
+use Rattle.dg_run.proofs.RunWeights.{cut_weighs, takes_both, takes_none, turn_weighs, weighs_more}
 use Rattle.dg_run.proofs.CrashRuns.{Adds, LeftSoFar, Stays, Widens, at_last, so_far_image, so_far_longer, turn_in_run}
 
 -- The run from m so far over the image now, which was `first` at its start: the entries answered, and those
--- to come. So many calls of the disk failed before it, and so many by now. `crashes` holds of what a crash within it leaves.
-pub record Going (m : MachineState) (first left before : Option (List ℕ)) (f : ℕ) (session : Parts) (image : List ℕ) (more : Option (List Entry)) (written : Option (List ℕ)) (n : ℕ) (crashes : (List ℕ → List ℕ → Type 0) → Type 0) : Type 0 where
+-- to come. So many calls of the disk failed before it, and so many by now. `Took` holds of the entries whose lines were
+-- taken, the bytes read are counted from `from` to `at`, and `crashes` holds of what a crash within it leaves.
+pub record Going (m : MachineState) (first left before : Option (List ℕ)) (f : ℕ) (session : Parts) (image : List ℕ) (more : Option (List Entry)) (written : Option (List ℕ)) (n : ℕ) (Took : List Entry → Type 0) (from at : ℕ) (crashes : (List ℕ → List ℕ → Type 0) → Type 0) : Type 0 where
   pub entries : List Entry
   pub answers : List Answered
   pub run : Run m entries answers
@@ -41,7 +46,9 @@ pub record Going (m : MachineState) (first left before : Option (List ℕ)) (f :
   pub gained : written ≡ grown before (texts_of answers)
   pub unmade : (last_state m answers).index ≡ None → (m.index ≡ None) × (first ≡ Some image)
   pub failed : raised_by (failed_reads answers) f ≤ n
-  pub crash : crashes (LeftSoFar m entries answers)
+  pub took : Took entries
+  pub reads : (k : ℕ) → RunWeighs m entries answers k → TakesAtMost k from at
+  pub crash : crashes (LeftSoFar m answers)
 
 map-nothing : {A : Type 0} (o : Option (List A)) → o ≡ option_map (λ rest. [] ++ rest) o
 map-nothing None = refl
@@ -84,9 +91,9 @@ failed_on true answers a f n k is failed counts = omega (arith, one_more true an
 failed_on false answers a f n k is failed counts = omega (arith, one_more false answers a is, failed, counts.counted)
 
 -- before the first turn
-going_first : (m : MachineState) (first left before : Option (List ℕ)) (f : ℕ) (session : Parts) (image : List ℕ) (crashes : (List ℕ → List ℕ → Type 0) → Type 0) → first ≡ Some image → StandsFor session image m
-    → Stays first crashes → Going m first left before f session image (option_map script left) before f crashes
-going_first m first left before f session image crashes is stands stays = record {
+going_first : (m : MachineState) (first left before : Option (List ℕ)) (f : ℕ) (session : Parts) (image : List ℕ) (Took : List Entry → Type 0) (from : ℕ) (crashes : (List ℕ → List ℕ → Type 0) → Type 0) → Took [] → first ≡ Some image → StandsFor session image m
+    → Stays first crashes → Going m first left before f session image (option_map script left) before f Took from from crashes
+going_first m first left before f session image Took from crashes took is stands stays = record {
   entries = [];
   answers = [];
   run = tt;
@@ -95,7 +102,9 @@ going_first m first left before f session image crashes is stands stays = record
   gained = grown-nil before;
   unmade = λ none. (none, is);
   failed = omega arith;
-  crash = stays image is (LeftSoFar m [] []) (so_far_image m [] [] session image image image stands refl);
+  took = took;
+  reads = λ k none. takes_none k from from none refl;
+  crash = stays image is (LeftSoFar m []) (so_far_image m [] session image image image stands refl);
 }
 
 -- what a session keeps of the index and the names of the machine's history
@@ -124,12 +133,13 @@ session_text new now k r stands = ap (λ (names : List (List ℕ)). text names r
 
 -- a turn with a reply that was written
 going_on : (m : MachineState) (first left before : Option (List ℕ)) (f : ℕ) (old new : Parts) (image now : List ℕ) (more rest : Option (List Entry)) (written : Option (List ℕ)) (n k : ℕ) (e : Entry) (r : Reply)
-    (x : List ℕ) (crashes then_crashes : (List ℕ → List ℕ → Type 0) → Type 0) → first ≡ Some x
-    → Going m first left before f old image more written n crashes → more ≡ option_map (λ es. e ∷ es) rest → Replies e old image new now r
+    (x : List ℕ) (Took Then : List Entry → Type 0) (from at then_at : ℕ) (crashes then_crashes : (List ℕ → List ℕ → Type 0) → Type 0) → first ≡ Some x
+    → Going m first left before f old image more written n Took from at crashes → more ≡ option_map (λ es. e ∷ es) rest → Replies e old image new now r
     → (new.index ≡ None → (old.index ≡ None) × (now ≡ image)) → IsCounted r n k
     → ((P R : List ℕ → List ℕ → Type 0) → ((c : List ℕ) → P x c → R x c) → ((c : List ℕ) → LeavesTurn e old r image c → R x c) → crashes P → then_crashes R)
-    → Going m first left before f new now rest (grown written (text new.names r)) k then_crashes
-going_on m first left before f old new image now more rest written n k e r x crashes then_crashes begins going is replies same counts adds =
+    → ((es : List Entry) → Took es → Then (es ++ e ∷ [])) → ((m : MachineState) → StandsFor old image m → (l : ℕ) → Weighs m e r.head l → TakesAtMost l at then_at)
+    → Going m first left before f new now rest (grown written (text new.names r)) k Then from then_at then_crashes
+going_on m first left before f old new image now more rest written n k e r x Took Then from at then_at crashes then_crashes begins going is replies same counts adds takes weighs =
     let next = replies (last_state m going.answers) going.stands in
     let a : Answered = record { reply = r; state = next.0 } in
     let last : last_state m (going.answers ++ a ∷ []) ≡ next.0 = last_more m going.answers a in record {
@@ -148,9 +158,14 @@ going_on m first left before f old new image now more rest written n k e r x cra
           let first_none = going.unmade (none_of (last_state m going.answers).index (sym (kept_index (last_state m going.answers).index old going.stands.kept) ∙ was.0)) in
           (first_none.0, first_none.1 ∙ ap (λ x. Some x) (sym was.1));
       failed = failed_on (is_store_read r.head) going.answers a f n k refl going.failed counts;
+      took = takes going.entries going.took;
+      reads = λ all w.
+          let parts = weighs_more m going.entries going.answers e a all going.run w in
+          subst (λ (j : ℕ). TakesAtMost j from then_at) (sym parts.4)
+          (takes_both parts.0 parts.1 from at then_at (going.reads parts.0 parts.2) (weighs (last_state m going.answers) going.stands parts.1 parts.3));
       crash =
-          adds (LeftSoFar m going.entries going.answers) (LeftSoFar m (going.entries ++ e ∷ []) (going.answers ++ a ∷ [])) (λ c so_far. so_far_longer m going.entries going.answers e a x c so_far)
-          (λ c left. turn_in_run m going.entries going.answers a e old x image c
+          adds (LeftSoFar m going.answers) (LeftSoFar m (going.answers ++ a ∷ [])) (λ c so_far. so_far_longer m going.answers a x c so_far)
+          (λ c left. turn_in_run m going.answers a e old x image c
           (λ none. let was = going.unmade none in (was.0, some_injective image x (sym was.1 ∙ begins))) going.stands next.1 left) going.crash;
     }
 
@@ -158,9 +173,9 @@ going_on m first left before f old new image now more rest written n k e r x cra
 
 -- the run so far, from every machine that the session stood for over the first image, where the images are told
 abbrev pub GoingOver : Option (List ℕ) → Option (List ℕ) → Option (List ℕ) → ℕ → Parts → Parts → Option (List ℕ) → Option (List Entry) → Option (List ℕ) → ℕ
-    → ((List ℕ → List ℕ → Type 0) → Type 0) → Type 0
-GoingOver first left before f start session image more written n crashes =
-    (x y : List ℕ) → first ≡ Some x → image ≡ Some y → (m : MachineState) → StandsFor start x m → Going m first left before f session y more written n crashes
+    → (List Entry → Type 0) → ℕ → ℕ → ((List ℕ → List ℕ → Type 0) → Type 0) → Type 0
+GoingOver first left before f start session image more written n Took from at crashes =
+    (x y : List ℕ) → first ≡ Some x → image ≡ Some y → (m : MachineState) → StandsFor start x m → Going m first left before f session y more written n Took from at crashes
 
 -- an option that is told where another is
 told_as : (a b : Option (List ℕ)) (x : List ℕ) → is_some b ≡ is_some a → a ≡ Some x → (y : List ℕ) × (b ≡ Some y)
@@ -168,19 +183,19 @@ told_as a None x same is = absurd (let none : false ≡ true = same ∙ ap (λ (
 told_as a (Some y) x same is = (y, refl)
 
 -- before the first turn
-pub over_first : (first left before : Option (List ℕ)) (f : ℕ) (session : Parts) (more : Option (List Entry)) (crashes : (List ℕ → List ℕ → Type 0) → Type 0)
-    → option_map script left ≡ more → Stays first crashes → GoingOver first left before f session session first more before f crashes
-over_first first left before f session more crashes is stays = λ x y a b m stands.
+pub over_first : (first left before : Option (List ℕ)) (f : ℕ) (session : Parts) (more : Option (List Entry)) (Took : List Entry → Type 0) (from : ℕ) (crashes : (List ℕ → List ℕ → Type 0) → Type 0)
+    → Took [] → option_map script left ≡ more → Stays first crashes → GoingOver first left before f session session first more before f Took from from crashes
+over_first first left before f session more Took from crashes took is stays = λ x y a b m stands.
     let one : x ≡ y = some_injective x y (sym a ∙ b) in
-    subst (λ (es : Option (List Entry)). Going m first left before f session y es before f crashes) is
-    (going_first m first left before f session y crashes b (subst (λ (z : List ℕ). StandsFor session z m) one stands) stays)
+    subst (λ (es : Option (List Entry)). Going m first left before f session y es before f Took from from crashes) is
+    (going_first m first left before f session y Took from crashes took b (subst (λ (z : List ℕ). StandsFor session z m) one stands) stays)
 
 -- the run so far, where more calls of the disk may have failed since, and a crash within them leaves the image
 going_later : (m : MachineState) (first left before : Option (List ℕ)) (f : ℕ) (session : Parts) (image : List ℕ) (more : Option (List Entry)) (written : Option (List ℕ)) (n k : ℕ)
-    (x : List ℕ) (crashes then_crashes : (List ℕ → List ℕ → Type 0) → Type 0) → n ≤ k
+    (x : List ℕ) (Took Then : List Entry → Type 0) (from at then_at : ℕ) (crashes then_crashes : (List ℕ → List ℕ → Type 0) → Type 0) → n ≤ k → then_at ≡ at → ((es : List Entry) → Took es → Then es)
     → ((P R : List ℕ → List ℕ → Type 0) → ((c : List ℕ) → P x c → R x c) → ((c : List ℕ) → c ≡ image → R x c) → crashes P → then_crashes R)
-    → Going m first left before f session image more written n crashes → Going m first left before f session image more written k then_crashes
-going_later m first left before f session image more written n k x crashes then_crashes le adds going = record {
+    → Going m first left before f session image more written n Took from at crashes → Going m first left before f session image more written k Then from then_at then_crashes
+going_later m first left before f session image more written n k x Took Then from at then_at crashes then_crashes le unread takes adds going = record {
   entries = going.entries;
   answers = going.answers;
   run = going.run;
@@ -189,44 +204,48 @@ going_later m first left before f session image more written n k x crashes then_
   gained = going.gained;
   unmade = going.unmade;
   failed = omega (arith, le, going.failed);
+  took = takes going.entries going.took;
+  reads = λ j w. subst (λ (t : ℕ). TakesAtMost j from t) (sym unread) (going.reads j w);
   crash =
-      adds (LeftSoFar m going.entries going.answers) (LeftSoFar m going.entries going.answers) (λ c so_far. so_far)
-      (λ c same. so_far_image m going.entries going.answers session x image c going.stands same) going.crash;
+      adds (LeftSoFar m going.answers) (LeftSoFar m going.answers) (λ c so_far. so_far)
+      (λ c same. so_far_image m going.answers session x image c going.stands same) going.crash;
 }
 
 -- a turn with no reply
 pub over_skip : (first left before : Option (List ℕ)) (f : ℕ) (start old new : Parts) (image now : Option (List ℕ)) (more rest : Option (List Entry)) (written : Option (List ℕ)) (n k : ℕ)
-    (crashes then_crashes : (List ℕ → List ℕ → Type 0) → Type 0)
-    → GoingOver first left before f start old image more written n crashes → more ≡ rest → new ≡ old → now ≡ image → n ≤ k → Adds first image crashes then_crashes (λ was left. left ≡ was)
-    → GoingOver first left before f start new now rest written k then_crashes
-over_skip first left before f start old new image now more rest written n k crashes then_crashes going same kept stays le adds = λ x y a b m stands.
-    subst (λ (es : Option (List Entry)). Going m first left before f new y es written k then_crashes) same
-    (subst (λ (s : Parts). Going m first left before f s y more written k then_crashes) (sym kept)
-    (going_later m first left before f old y more written n k x crashes then_crashes le (adds x y a (sym stays ∙ b)) (going x y a (sym stays ∙ b) m stands)))
+    (Took Then : List Entry → Type 0) (from at then_at : ℕ) (crashes then_crashes : (List ℕ → List ℕ → Type 0) → Type 0)
+    → GoingOver first left before f start old image more written n Took from at crashes → more ≡ rest → new ≡ old → now ≡ image → n ≤ k → then_at ≡ at → ((es : List Entry) → Took es → Then es) → Adds first image crashes then_crashes (λ was left. left ≡ was)
+    → GoingOver first left before f start new now rest written k Then from then_at then_crashes
+over_skip first left before f start old new image now more rest written n k Took Then from at then_at crashes then_crashes going same kept stays le unread takes adds = λ x y a b m stands.
+    subst (λ (es : Option (List Entry)). Going m first left before f new y es written k Then from then_at then_crashes) same
+    (subst (λ (s : Parts). Going m first left before f s y more written k Then from then_at then_crashes) (sym kept)
+    (going_later m first left before f old y more written n k x Took Then from at then_at crashes then_crashes le unread takes (adds x y a (sym stays ∙ b)) (going x y a (sym stays ∙ b) m stands)))
 
 -- a turn with a reply that was written
 pub over_on : (first left before : Option (List ℕ)) (f : ℕ) (start old new : Parts) (image now : Option (List ℕ)) (more rest : Option (List Entry)) (written after : Option (List ℕ)) (n k : ℕ) (e : Entry) (r : Reply)
-    (crashes then_crashes : (List ℕ → List ℕ → Type 0) → Type 0)
-    → GoingOver first left before f start old image more written n crashes → is_some image ≡ is_some first → more ≡ option_map (λ es. e ∷ es) rest
+    (Took Then : List Entry → Type 0) (from at then_at : ℕ) (crashes then_crashes : (List ℕ → List ℕ → Type 0) → Type 0)
+    → GoingOver first left before f start old image more written n Took from at crashes → is_some image ≡ is_some first → more ≡ option_map (λ es. e ∷ es) rest
     → WhereBothTold image now (λ x y. Replies e old x new y r) → (new.index ≡ None → (old.index ≡ None) × (now ≡ image)) → after ≡ grown written (text new.names r)
-    → IsCounted r n k → Adds first image crashes then_crashes (LeavesTurn e old r) → GoingOver first left before f start new now rest after k then_crashes
-over_on first left before f start old new image now more rest written after n k e r crashes then_crashes going told is replies same gained counts adds = λ x z a c m stands.
+    → IsCounted r n k → Adds first image crashes then_crashes (LeavesTurn e old r) → ((es : List Entry) → Took es → Then (es ++ e ∷ [])) → ReadsTurn e old image r at then_at
+    → GoingOver first left before f start new now rest after k Then from then_at then_crashes
+over_on first left before f start old new image now more rest written after n k e r Took Then from at then_at crashes then_crashes going told is replies same gained counts adds takes reads = λ x z a c m stands.
     let mid = told_as first image x told a in
-    subst (λ (w : Option (List ℕ)). Going m first left before f new z rest w k then_crashes) (sym gained)
-    (going_on m first left before f old new mid.0 z more rest written n k e r x crashes then_crashes a (going x mid.0 a mid.1 m stands) is (replies mid.0 z mid.1 c)
-    (λ none. let was = same none in (was.0, some_injective z mid.0 (sym c ∙ was.1 ∙ mid.1))) counts (adds x mid.0 a mid.1))
+    subst (λ (w : Option (List ℕ)). Going m first left before f new z rest w k Then from then_at then_crashes) (sym gained)
+    (going_on m first left before f old new mid.0 z more rest written n k e r x Took Then from at then_at crashes then_crashes a (going x mid.0 a mid.1 m stands) is (replies mid.0 z mid.1 c)
+    (λ none. let was = same none in (was.0, some_injective z mid.0 (sym c ∙ was.1 ∙ mid.1))) counts (adds x mid.0 a mid.1) takes
+    (λ j here l w. turn_weighs e old image mid.0 j r l at then_at mid.1 here reads w))
 
 -- ---- what is owed where the run ends
 
 -- what is owed from every machine that the session stood for over the first image
 abbrev pub ServedOver : Parts → Status → Outside → Outside → ((List ℕ → List ℕ → Type 0) → Type 0) → Type 0
-ServedOver session s start now crashes = (image : List ℕ) (m : MachineState) → start.image ≡ Some image → StandsFor session image m → Served m s start now crashes
+ServedOver session s start now crashes = (image : List ℕ) (m : MachineState) → start.image ≡ Some image → StandsFor session image m → (x : Served m s start now crashes) × ReadsNoMore (λ n. n ≡ 0) x
 
 -- what a crash may leave of the run so far it may leave of the run
-left_so_far : (s : Status) (m : MachineState) (entries : List Entry) (answers : List Answered) (more : Option (List Entry)) (start now : Outside) (first c : List ℕ)
-    → LeftSoFar m entries answers first c → LeftInRun s m entries answers more start now first c
-left_so_far s m entries answers more start now first c (inl stands) = inl stands
-left_so_far s m entries answers more start now first c (inr byte) = inr (inl byte)
+left_so_far : (s : Status) (m : MachineState) (answers : List Answered) (more : Option (List Entry)) (start now : Outside) (first c : List ℕ)
+    → LeftSoFar m answers first c → LeftInRun s m answers more start now first c
+left_so_far s m answers more start now first c (inl stands) = inl stands
+left_so_far s m answers more start now first c (inr byte) = inr (inl byte)
 
 -- a status that does not tell of the disk tells of no failed call of it
 calm_faults : (s : Status) → (s ≡ status.DiskFault → ⊥) → faults_of s ≡ 0
@@ -238,6 +257,17 @@ calm_faults status.DiskFault calm = absurd (calm refl)
 calm_faults status.NoMemory calm = refl
 calm_faults (status.Refused fault) calm = refl
 calm_faults status.ScriptLimit calm = refl
+
+-- and a run that ends so has read nothing behind its replies
+calm_end : (s : Status) (m : MachineState) (more : Option (List Entry)) (n : ℕ) → (s ≡ status.DiskFault → ⊥) → EndWeighs s m more n → n ≡ 0
+calm_end status.Done m more n calm end = end
+calm_end status.Words m more n calm end = end
+calm_end status.SourceFault m more n calm end = end
+calm_end status.SinkFault m more n calm end = end
+calm_end status.DiskFault m more n calm end = absurd (calm refl)
+calm_end status.NoMemory m more n calm end = end
+calm_end (status.Refused fault) m more n calm end = end
+calm_end status.ScriptLimit m more n calm end = end
 
 -- the failed calls that a status tells of were counted, where that of the disk comes of one
 pub ended_faults : (s : Status) (f n : ℕ) → f ≤ n → (s ≡ status.DiskFault → DiskRose f n) → raised_by (faults_of s) f ≤ n
@@ -251,58 +281,71 @@ ended_faults (status.Refused fault) f n le rose = omega (arith, le)
 ended_faults status.ScriptLimit f n le rose = omega (arith, le)
 
 -- a run that ends between two entries
-pub over_cut : (s : Status) (start now : Outside) (begun session : Parts) (more : Option (List Entry)) (crashes : (List ℕ → List ℕ → Type 0) → Type 0)
-    → GoingOver start.image start.left start.written start.disk_faults begun session now.image more now.written now.disk_faults crashes → Widens crashes → is_some now.image ≡ is_some start.image
+pub over_cut : (s : Status) (start now : Outside) (begun session : Parts) (more : Option (List Entry)) (Took : List Entry → Type 0) (crashes : (List ℕ → List ℕ → Type 0) → Type 0)
+    → GoingOver start.image start.left start.written start.disk_faults begun session now.image more now.written now.disk_faults Took start.bytes_read now.bytes_read crashes → Widens crashes → is_some now.image ≡ is_some start.image
     → (s ≡ status.DiskFault → ⊥) → (s ≡ status.Done → IfSome more (λ rest. rest ≡ [])) → ((due : List ℕ) → now.written ≡ grown start.written due → Gained s start.written due now.written)
-    → ServedOver begun s start now crashes
-over_cut s start now begun session more crashes going widens told calm whole gained = λ x m a stands.
+    → ((es : List Entry) → Took es → TakenFrom s es start.left now.left) → ServedOver begun s start now crashes
+over_cut s start now begun session more Took crashes going widens told calm whole gained takes = λ x m a stands.
     let here = told_as start.image now.image x told a in
-    let run = going x here.0 a here.1 m stands in record {
-      entries = run.entries;
-      answers = run.answers;
-      run = run.run;
-      more = more;
-      front = run.front;
-      whole = whole;
-      gained = gained (texts_of run.answers) run.gained;
-      stands = subst (λ (o : Option (List ℕ)). IfSome o (λ image. Remains s (last_state m run.answers) more start now image)) (sym here.1) (Kept run.stands.image_stands (λ e. absurd (calm e)));
-      failed = omega (arith, calm_faults s calm, run.failed);
-      crash = widens (LeftSoFar m run.entries run.answers) (LeftInRun s m run.entries run.answers more start now) (λ first c left. left_so_far s m run.entries run.answers more start now first c left) run.crash;
-    }
+    let run = going x here.0 a here.1 m stands in (
+      record {
+        entries = run.entries;
+        answers = run.answers;
+        run = run.run;
+        more = more;
+        front = run.front;
+        whole = whole;
+        gained = gained (texts_of run.answers) run.gained;
+        stands = subst (λ (o : Option (List ℕ)). IfSome o (λ image. Remains s (last_state m run.answers) more start now image)) (sym here.1) (Kept run.stands.image_stands (λ e. absurd (calm e)));
+        failed = omega (arith, calm_faults s calm, run.failed);
+        takes = takes run.entries run.took;
+        crash = widens (LeftSoFar m run.answers) (LeftInRun s m run.answers more start now) (λ first c left. left_so_far s m run.answers more start now first c left) run.crash;
+      },
+      record { reads = λ opening n last none w end. let reads = run.reads n w in omega (arith, none, calm_end s (last_state m run.answers) more last calm end, reads) },
+    )
 
 comes_first : (more rest : Option (List Entry)) (e : Entry) → more ≡ option_map (λ es. e ∷ es) rest → (es : List Entry) × IfSome more (λ all. all ≡ e ∷ es)
 comes_first more None e is = ([], subst (λ (o : Option (List Entry)). IfSome o (λ all. all ≡ e ∷ [])) (sym is) tt)
 comes_first more (Some es) e is = (es, subst (λ (o : Option (List Entry)). IfSome o (λ all. all ≡ e ∷ es)) (sym is) refl)
 
 -- a run that a failure of the disk cuts off within an entry
-pub over_broken : (start now : Outside) (begun session : Parts) (image : Option (List ℕ)) (more rest : Option (List Entry)) (n : ℕ)
-    (crashes turn_crashes then_crashes : (List ℕ → List ℕ → Type 0) → Type 0)
-    → GoingOver start.image start.left start.written start.disk_faults begun session image more now.written n crashes → is_some image ≡ is_some start.image
-    → is_some now.image ≡ is_some image → (breaks : Breaks more rest session image now.image turn_crashes) → DiskRose n now.disk_faults
-    → Adds start.image image crashes then_crashes (CutsEntry breaks.0 session) → ServedOver begun status.DiskFault start now then_crashes
-over_broken start now begun session image more rest n crashes turn_crashes then_crashes going told then_told breaks rose adds = λ x m a stands.
+pub over_broken : (start now : Outside) (begun session : Parts) (image : Option (List ℕ)) (more rest : Option (List Entry)) (n at : ℕ)
+    (Took Turn_took : List Entry → Type 0) (crashes turn_crashes then_crashes : (List ℕ → List ℕ → Type 0) → Type 0)
+    → GoingOver start.image start.left start.written start.disk_faults begun session image more now.written n Took start.bytes_read at crashes → is_some image ≡ is_some start.image
+    → is_some now.image ≡ is_some image → (breaks : Breaks Turn_took more rest session image now.image at now.bytes_read turn_crashes) → DiskRose n now.disk_faults
+    → Adds start.image image crashes then_crashes (CutsEntry breaks.0 session) → ((es : List Entry) → Took es → TakenFrom status.DiskFault es start.left now.left) → ServedOver begun status.DiskFault start now then_crashes
+over_broken start now begun session image more rest n at Took Turn_took crashes turn_crashes then_crashes going told then_told breaks rose adds takes = λ x m a stands.
     let mid = told_as start.image image x told a in
     let here = told_as image now.image mid.0 then_told mid.1 in
     let run = going x mid.0 a mid.1 m stands in
     let e = breaks.0 in
     let first = comes_first more rest e breaks.1 in
-    let cut : IsCut (last_state m run.answers) e mid.0 here.0 = breaks.2 mid.0 here.0 mid.1 here.1 (last_state m run.answers) run.stands in record {
-      entries = run.entries;
-      answers = run.answers;
-      run = run.run;
-      more = more;
-      front = run.front;
-      whole = λ done. cc;
-      gained = run.gained;
-      stands =
-          subst (λ (o : Option (List ℕ)). IfSome o (λ image. Remains status.DiskFault (last_state m run.answers) more start now image)) (sym here.1)
-          (Cut_off e first.0 mid.0 refl first.1 run.stands.image_stands (λ none. (run.unmade none).1) cut);
-      failed = omega (arith, rose, run.failed);
-      crash =
-          adds x mid.0 a mid.1 (LeftSoFar m run.entries run.answers) (LeftInRun status.DiskFault m run.entries run.answers more start now)
-          (λ c left. left_so_far status.DiskFault m run.entries run.answers more start now x c left)
-          (λ c torn. inr (inr (Cut_off e first.0 mid.0 refl first.1 run.stands.image_stands (λ none. (run.unmade none).1) (torn (last_state m run.answers) run.stands)))) run.crash;
-    }
+    let cut : IsCut (last_state m run.answers) e mid.0 here.0 = breaks.2 mid.0 here.0 mid.1 here.1 (last_state m run.answers) run.stands in (
+      record {
+        entries = run.entries;
+        answers = run.answers;
+        run = run.run;
+        more = more;
+        front = run.front;
+        whole = λ done. cc;
+        gained = run.gained;
+        stands =
+            subst (λ (o : Option (List ℕ)). IfSome o (λ image. Remains status.DiskFault (last_state m run.answers) more start now image)) (sym here.1)
+            (Cut_off e first.0 mid.0 refl first.1 run.stands.image_stands (λ none. (run.unmade none).1) cut);
+        failed = omega (arith, rose, run.failed);
+        takes = takes run.entries run.took;
+        crash =
+            adds x mid.0 a mid.1 (LeftSoFar m run.answers) (LeftInRun status.DiskFault m run.answers more start now)
+            (λ c left. left_so_far status.DiskFault m run.answers more start now x c left)
+            (λ c torn. inr (inr (Cut_off e first.0 mid.0 refl first.1 run.stands.image_stands (λ none. (run.unmade none).1) (torn (last_state m run.answers) run.stands)))) run.crash;
+      },
+      record {
+        reads = λ opening k last none w end.
+            let late = cut_weighs e rest more session image mid.0 (last_state m run.answers) last at now.bytes_read breaks.1 mid.1 run.stands breaks.5 end in
+            let all = takes_both k last start.bytes_read at now.bytes_read (run.reads k w) late in
+            omega (arith, none, all);
+      },
+    )
 
 -- a proper prefix of a later piece is one of all pieces
 pub part_later : (before written after : Option (List ℕ)) (due piece : List ℕ) → written ≡ grown before due
@@ -315,39 +358,45 @@ part_later before written after due piece is part = (
 )
 
 -- the reply of the last turn was written in part
-pub over_part : (start now : Outside) (begun old new : Parts) (image : Option (List ℕ)) (more rest : Option (List Entry)) (written : Option (List ℕ)) (n : ℕ) (e : Entry) (r : Reply)
-    (crashes then_crashes : (List ℕ → List ℕ → Type 0) → Type 0)
-    → GoingOver start.image start.left start.written start.disk_faults begun old image more written n crashes → is_some image ≡ is_some start.image
+pub over_part : (start now : Outside) (begun old new : Parts) (image : Option (List ℕ)) (more rest : Option (List Entry)) (written : Option (List ℕ)) (n at : ℕ) (e : Entry) (r : Reply)
+    (Took Then : List Entry → Type 0) (crashes then_crashes : (List ℕ → List ℕ → Type 0) → Type 0)
+    → GoingOver start.image start.left start.written start.disk_faults begun old image more written n Took start.bytes_read at crashes → is_some image ≡ is_some start.image
     → is_some now.image ≡ is_some image → more ≡ option_map (λ es. e ∷ es) rest → WhereBothTold image now.image (λ x y. Replies e old x new y r)
     → (new.index ≡ None → (old.index ≡ None) × (now.image ≡ image)) → GrowsByPart written (text new.names r) now.written → IsCounted r n now.disk_faults
-    → Adds start.image image crashes then_crashes (LeavesTurn e old r) → Widens then_crashes → ServedOver begun status.SinkFault start now then_crashes
+    → Adds start.image image crashes then_crashes (LeavesTurn e old r) → Widens then_crashes → ((es : List Entry) → Took es → Then (es ++ e ∷ [])) → ReadsTurn e old image r at now.bytes_read
+    → ((es : List Entry) → Then es → TakenFrom status.SinkFault es start.left now.left) → ServedOver begun status.SinkFault start now then_crashes
 unfolding going_on
-over_part start now begun old new image more rest written n e r crashes then_crashes going told then_told is replies same part counts adds widens = λ x m a stands.
+over_part start now begun old new image more rest written n at e r Took Then crashes then_crashes going told then_told is replies same part counts adds widens takes reads ends = λ x m a stands.
     let mid = told_as start.image image x told a in
     let here = told_as image now.image mid.0 then_told mid.1 in
     let run = going x mid.0 a mid.1 m stands in
-    let next = going_on m start.image start.left start.written start.disk_faults old new mid.0 here.0 more rest written n now.disk_faults e r x crashes then_crashes a run is (replies mid.0 here.0 mid.1 here.1)
-    (λ none. let was = same none in (was.0, some_injective here.0 mid.0 (sym here.1 ∙ was.1 ∙ mid.1))) counts (adds x mid.0 a mid.1) in
+    let next = going_on m start.image start.left start.written start.disk_faults old new mid.0 here.0 more rest written n now.disk_faults e r x Took Then start.bytes_read at now.bytes_read crashes then_crashes a run is (replies mid.0 here.0 mid.1 here.1)
+    (λ none. let was = same none in (was.0, some_injective here.0 mid.0 (sym here.1 ∙ was.1 ∙ mid.1))) counts (adds x mid.0 a mid.1) takes
+    (λ j there l w. turn_weighs e old image mid.0 j r l at now.bytes_read mid.1 there reads w) in
     let k = replies mid.0 here.0 mid.1 here.1 (last_state m run.answers) run.stands in
     let all : texts_of run.answers ++ text new.names r ≡ texts_of next.answers =
-    ap (λ bytes. texts_of run.answers ++ bytes) (session_text new here.0 k.0 r k.2) ∙ sym (texts_more run.answers (record { reply = r; state = k.0 })) in record {
-      entries = next.entries;
-      answers = next.answers;
-      run = next.run;
-      more = rest;
-      front = next.front;
-      whole = λ done. cc;
-      gained =
-          subst (λ (due : List ℕ). GrowsByPart start.written due now.written) all
-          (part_later start.written written now.written (texts_of run.answers) (text new.names r) run.gained part);
-      stands =
-          subst (λ (o : Option (List ℕ)). IfSome o (λ image. Remains status.SinkFault (last_state m next.answers) rest start now image)) (sym here.1)
-          (Kept next.stands.image_stands (λ e. cc));
-      failed = omega (arith, next.failed);
-      crash =
-          widens (LeftSoFar m next.entries next.answers) (LeftInRun status.SinkFault m next.entries next.answers rest start now)
-          (λ first c left. left_so_far status.SinkFault m next.entries next.answers rest start now first c left) next.crash;
-    }
+    ap (λ bytes. texts_of run.answers ++ bytes) (session_text new here.0 k.0 r k.2) ∙ sym (texts_more run.answers (record { reply = r; state = k.0 })) in (
+      record {
+        entries = next.entries;
+        answers = next.answers;
+        run = next.run;
+        more = rest;
+        front = next.front;
+        whole = λ done. cc;
+        gained =
+            subst (λ (due : List ℕ). GrowsByPart start.written due now.written) all
+            (part_later start.written written now.written (texts_of run.answers) (text new.names r) run.gained part);
+        stands =
+            subst (λ (o : Option (List ℕ)). IfSome o (λ image. Remains status.SinkFault (last_state m next.answers) rest start now image)) (sym here.1)
+            (Kept next.stands.image_stands (λ e. cc));
+        failed = omega (arith, next.failed);
+        takes = ends next.entries next.took;
+        crash =
+            widens (LeftSoFar m next.answers) (LeftInRun status.SinkFault m next.answers rest start now)
+            (λ first c left. left_so_far status.SinkFault m next.answers rest start now first c left) next.crash;
+      },
+      record { reads = λ opening k last none w end. let all = next.reads k w in omega (arith, none, end, all) },
+    )
 
 pub if_some : (o : Option (List ℕ)) (P : List ℕ → Type 0) → ((x : List ℕ) → o ≡ Some x → P x) → IfSome o P
 if_some None P each = tt
@@ -366,22 +415,30 @@ untouched_from start mid now a b = record {
 }
 
 -- nothing was answered
-pub served_nothing : (s : Status) (m : MachineState) (start now : Outside) (image : List ℕ) (crashes : (List ℕ → List ℕ → Type 0) → Type 0)
+pub served_nothing : (s : Status) (m : MachineState) (Opens : ℕ → Type 0) (start now : Outside) (image : List ℕ) (crashes : (List ℕ → List ℕ → Type 0) → Type 0)
     → start.image ≡ Some image → StandsAs m.index image → IsUntouched start now → Stays start.image crashes
-    → (s ≡ status.Done → ⊥) → (now.written ≡ grown start.written [] → Gained s start.written [] now.written) → raised_by (faults_of s) start.disk_faults ≤ now.disk_faults → Served m s start now crashes
-served_nothing s m start now image crashes is stands same stays undone gained counted = record {
-  entries = [];
-  answers = [];
-  run = tt;
-  more = option_map script start.left;
-  front = map-nothing (option_map script start.left);
-  whole = λ done. absurd (undone done);
-  gained = gained (same.written ∙ grown-nil start.written);
-  stands =
-      subst (λ (o : Option (List ℕ)). IfSome o (λ i. Remains s m (option_map script start.left) start now i)) (sym (same.image ∙ is)) (Kept stands (λ e. same));
-  failed = omega (arith, counted);
-  crash = stays image is (LeftInRun s m [] [] (option_map script start.left) start now) (inl (at_last m [] image stands));
-}
+    → (s ≡ status.Done → ⊥) → (now.written ≡ grown start.written [] → Gained s start.written [] now.written) → raised_by (faults_of s) start.disk_faults ≤ now.disk_faults → ((s ≡ status.SourceFault) ⊎ (s ≡ status.ScriptLimit) → ⊥)
+    → ((n : ℕ) → Opens n → TakesAtMost n start.bytes_read now.bytes_read) → (x : Served m s start now crashes) × ReadsNoMore Opens x
+served_nothing s m Opens start now image crashes is stands same stays undone gained counted uncut opens = (
+  record {
+    entries = [];
+    answers = [];
+    run = tt;
+    more = option_map script start.left;
+    front = map-nothing (option_map script start.left);
+    whole = λ done. absurd (undone done);
+    gained = gained (same.written ∙ grown-nil start.written);
+    stands =
+        subst (λ (o : Option (List ℕ)). IfSome o (λ i. Remains s m (option_map script start.left) start now i)) (sym (same.image ∙ is)) (Kept stands (λ e. same));
+    failed = omega (arith, counted);
+    takes = record {
+      taken = ([], subst (λ (o : Option (List ℕ)). Gives start.left [] o) (sym same.left) (gives_nothing start.left), inl ([], refl));
+      cut = λ is. absurd (uncut is);
+    };
+    crash = stays image is (LeftInRun s m [] (option_map script start.left) start now) (inl (at_last m [] image stands));
+  },
+  record { reads = λ opening n last opened w end. let reads = opens opening opened in omega (arith, reads) },
+)
 
 -- the same from an earlier start, from which nothing was touched
 pub remains_from : (s : Status) (m : MachineState) (more : Option (List Entry)) (start mid now : Outside) (image : List ℕ) → IsUntouched start mid → Remains s m more mid now image
@@ -391,11 +448,11 @@ remains_from s m more start mid now image same (Cut_off e rest before failed fir
     Cut_off e rest before failed first stands (λ none. sym same.image ∙ unmade none) cut
 
 -- the same of what a crash may leave
-pub left_from : (s : Status) (m : MachineState) (entries : List Entry) (answers : List Answered) (more : Option (List Entry)) (start mid now : Outside) (first c : List ℕ) → IsUntouched start mid
-    → LeftInRun s m entries answers more mid now first c → LeftInRun s m entries answers more start now first c
-left_from s m entries answers more start mid now first c same (inl stands) = inl stands
-left_from s m entries answers more start mid now first c same (inr (inl byte)) = inr (inl byte)
-left_from s m entries answers more start mid now first c same (inr (inr remains)) = inr (inr (remains_from s (last_state m answers) more start mid now c same remains))
+pub left_from : (s : Status) (m : MachineState) (answers : List Answered) (more : Option (List Entry)) (start mid now : Outside) (first c : List ℕ) → IsUntouched start mid
+    → LeftInRun s m answers more mid now first c → LeftInRun s m answers more start now first c
+left_from s m answers more start mid now first c same (inl stands) = inl stands
+left_from s m answers more start mid now first c same (inr (inl byte)) = inr (inl byte)
+left_from s m answers more start mid now first c same (inr (inr remains)) = inr (inr (remains_from s (last_state m answers) more start mid now c same remains))
 
 -- before anything is read, the entries to come are those of the script
 pub asked_first : (r : LinesState) (left : Option (List ℕ)) (limit : ℕ)

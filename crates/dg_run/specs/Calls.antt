@@ -2,6 +2,7 @@
 -- the turn, and the session and the disk before it and after it.
 use Rattle.std.specs.Prelude.{◌≡◌, ℕ, List, Option, None, length}
 use Rattle.std.specs.Option.{option_map}
+use Rattle.dg_cuts.specs.TakenLines.{CutsEntries, GaveEntries}
 use Rattle.dg_disk.specs.Calls.{LeftByCrash, StaysOnDevice}
 use Rattle.dg_disk.specs.declared.disk.Disk as disk
 use Rattle.dg_graph.specs.Lines.{ScriptLine, Text}
@@ -13,11 +14,19 @@ use Rattle.dg_run.specs.Turns.{NamesTurn, TellsFailedReads, Turns, asked}
 use Rattle.dg_session.specs.Parts.{Parts}
 use Rattle.dg_session.specs.Session.{HoldsImage}
 
--- The turn is this one.
-pub record MakesTurn {S D : Type 0} (s : source.Ghosts S) (d : disk.Ghosts D) (entries : Option (List Entry)) (old : Parts) (before : D)
+-- the lines that were taken are those of these entries
+abbrev pub TakesEntries : {S : Type 0} → source.Ghosts S → List ScriptLine → LinesState → S → LinesState → S → List Entry → Type 0
+TakesEntries s front lines from then_lines then_from entries = GaveEntries front entries lines (s.left from) then_lines (s.left then_from)
+
+-- the script was cut, and no entry stands whole in the lines that were taken
+abbrev pub CutsTurn : {S : Type 0} → source.Ghosts S → List ScriptLine → LinesState → S → LinesState → S → Type 0
+CutsTurn s front lines from then_lines then_from = CutsEntries front lines (s.left from) then_lines (s.left then_from)
+
+-- The turn is this one. `front` has the line of the turn, where it was taken before.
+pub record MakesTurn {S D : Type 0} (s : source.Ghosts S) (d : disk.Ghosts D) (entries : Option (List Entry)) (front : List ScriptLine) (lines : LinesState) (from : S) (old : Parts) (before : D)
     (then_lines : LinesState) (then_from : S) (new : Parts) (after : D) (made : Turn) : Type 0 where
   -- What it does to the entries to come, to the session and its image, and in reply, what it reads, and what a crash leaves.
-  pub turn : Turns made entries (asked then_lines (s.left then_from)) old (d.image before) new (d.image after) (d.taken before) (d.taken after) (LeftByCrash d before after)
+  pub turn : Turns made (TakesEntries s front lines from then_lines then_from) entries (asked then_lines (s.left then_from)) old (d.image before) new (d.image after) (d.taken before) (d.taken after) (LeftByCrash d before after)
   -- The session holds the image.
   pub held : HoldsImage new (d.image after)
   -- Where there is no index behind it, there was none, and the image is as it was.

@@ -18,6 +18,7 @@ use Rattle.dg_run.specs.declared.status.Status.{Status}
 use Rattle.dg_run.specs.declared.status.Status.TheVariants as status
 use Rattle.dg_run.specs.Outside.{Outside, IsUntouched}
 use Rattle.dg_run.specs.GainedReplies.{GainsReplies}
+use Rattle.dg_run.specs.RunWeights.{OpensBy, ReadsNoMore}
 use Rattle.dg_run.specs.Served.{HasNoEntry, Served}
 use Rattle.dg_run.specs.Statuses.{is_unbegun}
 
@@ -45,8 +46,9 @@ pub record Completes (limits : Limits) (s : Status) (script : List ℕ) : Type 0
 pub record Promised (limits : Limits) (are_written are_checked : Bool) (s : Status) (start now : Outside) (crashes : (List ℕ → List ℕ → Type 0) → Type 0) : Type 0 where
   -- The headline. Where the image stands for a history or for no index, the sink gained the texts of the
   -- replies of a run of the machine that keeps only the events and a table of handles, and the image stands
-  -- for what that run came to.
-  pub served : WhereItStands start.image (λ index. Served (machine_at limits index) s start now crashes)
+  -- for what that run came to. `Served` has field by field what is owed then. No more bytes were read of the file than
+  -- `ReadsNoMore` says of that run.
+  pub served : WhereItStands start.image (λ index. (x : Served (machine_at limits index) s start now crashes) × ReadsNoMore (OpensBy are_checked index start.image) x)
   -- With `--checked` no premise on the image is left but that it is one of bytes: it stands for a history or for no
   -- index, so that the headline holds over it, or the run did not begin.
   pub checked : are_checked ≡ true

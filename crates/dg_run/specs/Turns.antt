@@ -12,6 +12,7 @@ use Rattle.dg_machine.specs.Script as script
 use Rattle.dg_io.specs.LinesState.{LinesState, told}
 use Rattle.dg_session.specs.Session.{LeavesAnswered, WhereBothTold, StandsFor}
 use Rattle.dg_session.specs.Parts.{Parts}
+use Rattle.dg_session.specs.Reads.{Reads, ReadsToWrite}
 use Rattle.dg_session.specs.ReplyNames.{ReplyNamesAreThere}
 use Rattle.dg_disk.specs.Counts.{Rose as DiskRose}
 use Rattle.dg_io.specs.Told.{Gives, CountRose}
@@ -19,6 +20,7 @@ use Rattle.dg_run.specs.declared.status.Status.{Status}
 use Rattle.dg_run.specs.declared.status.Status.TheVariants as status
 use Rattle.dg_run.specs.Outside.{Outside}
 use Rattle.dg_run.specs.GainedReplies.{GainsReplies}
+use Rattle.dg_run.specs.RunWeights.{ReadsNoMore}
 use Rattle.dg_run.specs.Served.{HasNoEntry, Served}
 use Rattle.dg_run.specs.Statuses.{IsBegun}
 use Rattle.dg_run.specs.declared.turn.Meaning.{Meaning}
@@ -60,21 +62,27 @@ LeavesTurn (script.Asked c lines) old reply = LeavesAnswered c lines old reply
 LeavesTurn (script.No_command line) old reply = λ before left. left ≡ before
 LeavesTurn script.Long_line old reply = λ before left. left ≡ before
 
--- what the turn says of the entries to come, of the session and its image, and of the bytes read of the disk, before it
+-- the bytes read at the entry, where it has this reply: a line that asks for nothing reads nothing
+abbrev pub ReadsTurn : script.Entry → Parts → Option (List ℕ) → Reply → ℕ → ℕ → Type 0
+ReadsTurn (script.Asked c lines) old image reply taken then_taken = Reads c old image reply.head taken then_taken
+ReadsTurn (script.No_command line) old image reply taken then_taken = then_taken ≡ taken
+ReadsTurn script.Long_line old image reply taken then_taken = then_taken ≡ taken
+
+-- What the turn says of the entries to come, of the session and its image, and of the bytes read of the disk, before it
 -- and after it, and of what a crash within it leaves: a turn with no reply, or at a line that asks for nothing, changes and
--- reads nothing over any image
-abbrev pub Turns : Turn → Option (List script.Entry) → Option (List script.Entry) → Parts → Option (List ℕ) → Parts → Option (List ℕ) → ℕ → ℕ → ((List ℕ → List ℕ → Type 0) → Type 0) → Type 0
-Turns turn.End before after old image new now taken then_taken crashes =
+-- reads nothing over any image. `Took es` says that the lines that were taken are those of these entries.
+abbrev pub Turns : Turn → (List script.Entry → Type 0) → Option (List script.Entry) → Option (List script.Entry) → Parts → Option (List ℕ) → Parts → Option (List ℕ) → ℕ → ℕ → ((List ℕ → List ℕ → Type 0) → Type 0) → Type 0
+Turns turn.End Took before after old image new now taken then_taken crashes =
     IfSome before (λ rest. rest ≡ []) × (before ≡ after) × (new ≡ old) × (now ≡ image) × (then_taken ≡ taken)
     × crashes (λ first left. left ≡ first)
-Turns turn.Skipped before after old image new now taken then_taken crashes =
+Turns turn.Skipped Took before after old image new now taken then_taken crashes =
     (before ≡ after) × (new ≡ old) × (now ≡ image) × (then_taken ≡ taken)
-    × crashes (λ first left. left ≡ first)
-Turns (turn.Replied reply) before after old image new now taken then_taken crashes =
+    × crashes (λ first left. left ≡ first) × Took []
+Turns (turn.Replied reply) Took before after old image new now taken then_taken crashes =
     (e : script.Entry) × (before ≡ option_map (λ more. e ∷ more) after)
     × WhereBothTold image now (λ x y. Replies e old x new y reply)
-    × (IsUnasked e → (new ≡ old) × (now ≡ image) × (then_taken ≡ taken))
-    × crashes (LeavesTurn e old reply)
+    × (IsUnasked e → (new ≡ old) × (now ≡ image))
+    × crashes (LeavesTurn e old reply) × Took (e ∷ []) × ReadsTurn e old image reply taken then_taken
 
 -- a reply that says that a read of the index file failed comes only where a call of the disk did
 abbrev pub TellsFailedReads : Turn → ℕ → ℕ → Type 0
@@ -92,12 +100,18 @@ NamesTurn turn.End name_count = Unit {0}
 NamesTurn turn.Skipped name_count = Unit {0}
 NamesTurn (turn.Replied reply) name_count = ReplyNamesAreThere name_count reply
 
+-- the bytes read at the entry, within which the disk failed
+abbrev pub ReadsBroken : script.Entry → Parts → Option (List ℕ) → ℕ → ℕ → Type 0
+ReadsBroken (script.Asked c lines) old image taken then_taken = ReadsToWrite c old image taken then_taken
+ReadsBroken (script.No_command line) old image taken then_taken = ⊥
+ReadsBroken script.Long_line old image taken then_taken = ⊥
+
 -- the disk failed within the first of the entries to come, and the image is that of a cut, as is what a crash leaves
-abbrev pub Breaks : Option (List script.Entry) → Option (List script.Entry) → Parts → Option (List ℕ) → Option (List ℕ) → ((List ℕ → List ℕ → Type 0) → Type 0) → Type 0
-Breaks before after old image now crashes =
+abbrev pub Breaks : (List script.Entry → Type 0) → Option (List script.Entry) → Option (List script.Entry) → Parts → Option (List ℕ) → Option (List ℕ) → ℕ → ℕ → ((List ℕ → List ℕ → Type 0) → Type 0) → Type 0
+Breaks Took before after old image now taken then_taken crashes =
     (e : script.Entry) × (before ≡ option_map (λ more. e ∷ more) after)
     × WhereBothTold image now (λ x y. CutsEntry e old x y)
-    × crashes (λ first left. CutsEntry e old first left)
+    × crashes (λ first left. CutsEntry e old first left) × Took (e ∷ []) × ReadsBroken e old image taken then_taken
 
 -- each turn but the last takes something
 abbrev pub TurnTakes : Turn → ℕ → ℕ → Type 0
@@ -119,7 +133,7 @@ GoesOnward (turn.Replied reply) = Unit {0}
 
 -- What the run from a started session comes to: how it ended, and what it leaves of source, sink and disk.
 pub record ScriptAnswered (limit : ℕ) (session : Parts) (s : Status) (start now : Outside) (crashes : (List ℕ → List ℕ → Type 0) → Type 0) : Type 0 where
-  pub served : (image : List ℕ) (m : MachineState) → start.image ≡ Some image → StandsFor session image m → Served m s start now crashes
+  pub served : (image : List ℕ) (m : MachineState) → start.image ≡ Some image → StandsFor session image m → (x : Served m s start now crashes) × ReadsNoMore (λ n. n ≡ 0) x
   pub replies : GainsReplies s start.written now.written
   pub told : is_some now.image ≡ is_some start.image
   pub begun : IsBegun s

@@ -1,12 +1,13 @@
 //! One turn over the script: a line, the command that it is, and its reply.
-ghost use Rattle.std.specs.Prelude.{◌≡◌, ◌≢◌, IfErr, IfOk};
+ghost use Rattle.std.specs.Prelude.{◌≡◌, ◌≢◌, [], ◌∷◌, IfErr, IfOk};
 ghost use Rattle.dg_disk.specs.Calls.{LeftByCrash, ReadsDisk, UsesDisk};
 ghost use Rattle.dg_io.specs.Calls.{TakesFrom};
 ghost use Rattle.dg_io.specs.LinesState.{told, to_come};
 ghost use Rattle.dg_machine.specs.Answer.{headed};
 ghost use Rattle.dg_session.specs.Calls.{IsStopped};
 ghost use Rattle.dg_session.specs.Session.{HoldsImage};
-ghost use Rattle.dg_run.specs.Calls.{AtLine, MakesTurn};
+ghost use Rattle.dg_graph.specs.Lines.{Text};
+ghost use Rattle.dg_run.specs.Calls.{AtLine, CutsTurn, MakesTurn, TakesEntries};
 ghost use Rattle.dg_run.specs.Turns.{Breaks, EndsAt, GoesOnward, HasRanges, Means, TurnTakes, asked};
 
 use dg_disk::Disk;
@@ -57,13 +58,14 @@ pub fn next_turn<R: Threads + Sync, S: Source, D: Disk>(
     disk: &mut D,
 ) -> Result<Turn, Stop>
     requires { HoldsImage session.old.parts (D.image disk.old) }
-    ensures turn { IfOk result (MakesTurn S.Source D.Disk (asked lines.old (S.left source.old)) session.old.parts disk.old
+    ensures turn { IfOk result (MakesTurn S.Source D.Disk (asked lines.old (S.left source.old)) [] lines.old source.old session.old.parts disk.old
         lines.new source.new session.new.parts disk.new) }
     ensures falls { IfOk result (λ turn. TurnTakes turn (to_come lines.old) (to_come lines.new)) }
     ensures end { IfOk result (λ turn. EndsAt turn lines.new) }
     ensures stops { IfErr result (IsStopped S.Source D.Disk source.old session.old.parts disk.old lines.new source.new session.new.parts disk.new
-        (Breaks (asked lines.old (S.left source.old)) (asked lines.new (S.left source.new)) session.old.parts (D.image disk.old) (D.image disk.new)
-        (LeftByCrash D.Disk disk.old disk.new))) }
+        (CutsTurn S.Source [] lines.old source.old lines.new source.new)
+        (Breaks (TakesEntries S.Source [] lines.old source.old lines.new source.new) (asked lines.old (S.left source.old)) (asked lines.new (S.left source.new))
+        session.old.parts (D.image disk.old) (D.image disk.new) (D.taken disk.old) (D.taken disk.new) (LeftByCrash D.Disk disk.old disk.new))) }
     ensures unwritten { IfErr result (λ why. why ≢ Stop.Store → ReadsDisk D.Disk disk.old disk.new) }
 
     // what it takes and leaves
@@ -90,12 +92,13 @@ fn turn_of<R: Threads + Sync, S: Source, D: Disk>(
 ) -> Result<Turn, Stop>
     requires { HoldsImage session.old.parts (D.image disk.old) }
     ensures turn { AtLine lines.old.text (told lines.old (S.left source.old)) (λ entries. IfOk result
-        (MakesTurn S.Source D.Disk entries session.old.parts disk.old lines.new source.new session.new.parts disk.new)) }
+        (MakesTurn S.Source D.Disk entries (Text lines.old.text ∷ []) lines.old source.old session.old.parts disk.old lines.new source.new session.new.parts disk.new)) }
     ensures goes_on { IfOk result (λ turn. GoesOnward turn) }
     ensures stops { AtLine lines.old.text (told lines.old (S.left source.old)) (λ entries. IfErr result
         (IsStopped S.Source D.Disk source.old session.old.parts disk.old lines.new source.new session.new.parts disk.new
-        (Breaks entries (asked lines.new (S.left source.new)) session.old.parts (D.image disk.old) (D.image disk.new)
-        (LeftByCrash D.Disk disk.old disk.new)))) }
+        (CutsTurn S.Source (Text lines.old.text ∷ []) lines.old source.old lines.new source.new)
+        (Breaks (TakesEntries S.Source (Text lines.old.text ∷ []) lines.old source.old lines.new source.new) entries (asked lines.new (S.left source.new))
+        session.old.parts (D.image disk.old) (D.image disk.new) (D.taken disk.old) (D.taken disk.new) (LeftByCrash D.Disk disk.old disk.new)))) }
     ensures unwritten { IfErr result (λ why. why ≢ Stop.Store → ReadsDisk D.Disk disk.old disk.new) }
 
     // what it takes and leaves

@@ -33,7 +33,7 @@ use Rattle.dg_session.proofs.BatchCommandStep.{IsAdded, IsAsked, completed_is, i
 use Rattle.dg_session.proofs.CommandCrashes.{OnlyNow, reads_leave, wider}
 use Rattle.dg_session.proofs.PartStates.{IsOf, is_of}
 use Rattle.dg_session.proofs.SessionSteps.{is_accepted}
-use Rattle.dg_session.specs.Crashes.{IsFirstByte, is_create}
+use Rattle.dg_session.specs.Crashes.{IsFirstByte, is_created}
 use Rattle.dg_session.specs.Parts.{Parts}
 use Rattle.dg_session.specs.Session.{CutsOff, LeavesAnswered, LeavesCommand, StandsFor}
 use Rattle.dg_start.specs.StoredHistory.{index_opening}
@@ -95,7 +95,7 @@ module _ (from : Origin) (got : List ScriptLine) (p : Parts) (count limit : ℕ)
         h = (is_of p index image m asked.free.there s).1
 
         by : IsImageOf z left ⊎ IsImageOf (more_of z) left
-            → StandsAs m.index left ⊎ ((k : MachineState) × Step m (Asked (adding from count) got) reply k × StandsAs k.index left) ⊎ ((is_create (adding from count) ≡ true) × (m.index ≡ None) × IsFirstByte image left)
+            → StandsAs m.index left ⊎ ((k : MachineState) × Step m (Asked (adding from count) got) reply k × StandsAs k.index left) ⊎ ((is_created reply.head ≡ true) × (m.index ≡ None) × IsFirstByte image left)
         by (inl same) = inl (subst (λ (i : Option History). StandsAs i left) (sym h.index) same)
         by (inr more) = inr (inl (record m { index = Some (more_of z) }, step_of image at m z s h, more))
 

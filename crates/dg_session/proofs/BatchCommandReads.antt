@@ -55,7 +55,8 @@ use Rattle.dg_batch.specs.declared.halt.Halt.TheVariants as halt
 use Rattle.dg_batch.specs.declared.stop.Stop.TheVariants as stop
 use Rattle.dg_batch.specs.Halt.{batch_halt}
 use Rattle.dg_session.specs.Parts.{Parts}
-use Rattle.dg_session.specs.Reads.{Reads, ReadsBy, ReadsIn, ReadsOlder, ReadsToWrite, is_early, older_for}
+use Rattle.dg_session.specs.BatchReads.{is_early, older_for}
+use Rattle.dg_session.specs.Reads.{Reads, ReadsBy, ReadsIn, ReadsOlder, ReadsToWrite}
 use Rattle.dg_session.specs.Session.{StandsFor, is_of_read}
 use Rattle.dg_start.specs.declared.stored_history.StoredHistory.{StoredHistory}
 use Rattle.dg_start.specs.StoredHistory.{index_opening}
@@ -121,24 +122,24 @@ added_reads from count p image graph events total last before after older =
 -- ---- why nothing is told of a read
 
 -- the lines are no batch to be completed
-barred_no_read : (which : BatchCommand) (count : ℕ) (p : Parts) (names grown : List (List ℕ)) (before after : Option (List ScriptLine)) (bar : Option Refusal) (r : Refusal)
-    → bar ≡ barred which p count → IsBarred count bar before after names grown r → is_of_read r ≡ false
-barred_no_read which count p names grown before after bar r bar_is b =
+barred_no_read : (which : BatchCommand) (count : ℕ) (p : Parts) (names grown : List (List ℕ)) (taken : List ScriptLine → Type 0) (bar : Option Refusal) (r : Refusal)
+    → bar ≡ barred which p count → IsBarred count bar taken names grown r → is_of_read r ≡ false
+barred_no_read which count p names grown taken bar r bar_is b =
     refused_not_read p (length b.got) (needs (command_with which count)) r
     (refused_first which p count (length b.got) ∙ ap (first_refusal (length b.got) count) (sym bar_is) ∙ b.refused)
 
-pub unread_damage : (which : BatchCommand) (count : ℕ) (p : Parts) (names grown : List (List ℕ)) (before after : Option (List ScriptLine)) (bar : Option Refusal) (image : Option (List ℕ)) (h : Halt)
-    → bar ≡ barred which p count → ReadsBatch count bar before after names grown (Err h) → DamageIn (command_with which count) p image (Err h)
-unread_damage which count p names grown before after bar image (halt.Refusal r) bar_is b =
-    tells_no_damage (command_with which count) p image r (barred_no_read which count p names grown before after bar r bar_is b)
-unread_damage which count p names grown before after bar image (halt.Stop s) bar_is b = tt
+pub unread_damage : (which : BatchCommand) (count : ℕ) (p : Parts) (names grown : List (List ℕ)) (taken : List ScriptLine → Type 0) (cut : Type 0) (bar : Option Refusal) (image : Option (List ℕ)) (h : Halt)
+    → bar ≡ barred which p count → ReadsBatch count bar taken cut names grown (Err h) → DamageIn (command_with which count) p image (Err h)
+unread_damage which count p names grown taken cut bar image (halt.Refusal r) bar_is b =
+    tells_no_damage (command_with which count) p image r (barred_no_read which count p names grown taken bar r bar_is b)
+unread_damage which count p names grown taken cut bar image (halt.Stop s) bar_is b = tt
 
-pub unread_is_no_read : (which : BatchCommand) (count : ℕ) (p : Parts) (names grown : List (List ℕ)) (before after : Option (List ScriptLine)) (bar : Option Refusal) (h : Halt)
-    → bar ≡ barred which p count → ReadsBatch count bar before after names grown (Err h) → h ≡ halt.Refusal refusal.StoreRead → ⊥
-unread_is_no_read which count p names grown before after bar (halt.Refusal r) bar_is b is =
+pub unread_is_no_read : (which : BatchCommand) (count : ℕ) (p : Parts) (names grown : List (List ℕ)) (taken : List ScriptLine → Type 0) (cut : Type 0) (bar : Option Refusal) (h : Halt)
+    → bar ≡ barred which p count → ReadsBatch count bar taken cut names grown (Err h) → h ≡ halt.Refusal refusal.StoreRead → ⊥
+unread_is_no_read which count p names grown taken cut bar (halt.Refusal r) bar_is b is =
     let e : r ≡ refusal.StoreRead = cc in
-    false≢true (sym (barred_no_read which count p names grown before after bar r bar_is b) ∙ ap is_of_read e)
-unread_is_no_read which count p names grown before after bar (halt.Stop s) bar_is b is = cc
+    false≢true (sym (barred_no_read which count p names grown taken bar r bar_is b) ∙ ap is_of_read e)
+unread_is_no_read which count p names grown taken cut bar (halt.Stop s) bar_is b is = cc
 
 -- the refusal of a failed read comes from a failed read
 pub read_fault : (f : BatchFault) → batch_halt f ≡ halt.Refusal refusal.StoreRead → f ≡ fault.Read

@@ -51,7 +51,7 @@ use Rattle.dg_history.specs.GeneratedChanges.{batch_of_changes, generated}
 use Rattle.dg_machine.specs.Needs.{needs, refused}
 use Rattle.dg_machine.specs.Planning.{no_plan}
 use Rattle.dg_machine.specs.Run.{Step}
-use Rattle.dg_machine.specs.Script.{Asked, Follows}
+use Rattle.dg_machine.specs.Script.{Asked}
 use Rattle.dg_session.proofs.BatchCommandForms.{Lines_of, Origin, Seed, accepted_made, adding, adds, asked_fit, asked_from, behind_head, fits_head, head_over, lacks, ok_head, reads_records, unplanned, with_made, writes}
 use Rattle.dg_batch.proofs.LegalHistoryRanges.{ChangeFits, what_named}
 use Rattle.dg_batch.proofs.GeneratedChangeRanges.{generated_length}
@@ -138,37 +138,37 @@ none_bars Append p count some h =
     let c = passes (nat_lt 0 count && is_too_full p count) (refusal.HistoryFull (events_held p.index) count) _ a.1 in
     free_by p count some a.0 c.0
 
-pub barred_denies : (which : BatchCommand) (count : ℕ) (old new : Parts) (names grown : List (List ℕ)) (before after : Option (List ScriptLine)) (image : Option (List ℕ)) (r : Refusal)
-    → new ≡ old → (b : IsBarred count (barred which old count) before after names grown r)
+pub barred_denies : (which : BatchCommand) (count : ℕ) (old new : Parts) (names grown : List (List ℕ)) (taken : List ScriptLine → Type 0) (image : Option (List ℕ)) (r : Refusal)
+    → new ≡ old → (b : IsBarred count (barred which old count) taken names grown r)
     → Denies (command_with which count) b.got old image new image r
-barred_denies which count old new names grown before after image r same b =
+barred_denies which count old new names grown taken image r same b =
     refused_denies (command_with which count) b.got old new image image r same refl (refused_first which old count (length b.got) ∙ b.refused)
 
 -- what the lines come to that are no batch to be completed
-unread : (which : BatchCommand) (count : ℕ) (old new : Parts) (names grown : List (List ℕ)) (before after : Option (List ScriptLine)) (image : Option (List ℕ)) (h : Halt)
-    → (grown ≡ names → new ≡ old) → ReadsBatch count (barred which old count) before after names grown (Err h) → (h ≡ halt.Stop stop.Store → ⊥)
-    → Comes (command_with which count) count before after old image new image (Err h)
-unread which count old new names grown before after image (halt.Refusal r) back b no_store =
-    (b.got, b.follows, barred_denies which count old new names grown before after image r (back b.same) b)
-unread which count old new names grown before after image (halt.Stop stop.Read) back b no_store = ([], tt, record { same = back b; same_image = refl })
-unread which count old new names grown before after image (halt.Stop stop.Limit) back b no_store = ([], tt, record { same = back b; same_image = refl })
-unread which count old new names grown before after image (halt.Stop stop.Store) back b no_store = absurd (no_store refl)
+unread : (which : BatchCommand) (count : ℕ) (old new : Parts) (names grown : List (List ℕ)) (taken : List ScriptLine → Type 0) (cut : Type 0) (image : Option (List ℕ)) (h : Halt)
+    → (grown ≡ names → new ≡ old) → ReadsBatch count (barred which old count) taken cut names grown (Err h) → (h ≡ halt.Stop stop.Store → ⊥)
+    → Comes (command_with which count) taken cut old image new image (Err h)
+unread which count old new names grown taken cut image (halt.Refusal r) back b no_store =
+    (b.got, b.taken, barred_denies which count old new names grown taken image r (back b.same) b)
+unread which count old new names grown taken cut image (halt.Stop stop.Read) back b no_store = ([], b.1, record { same = back b.0; same_image = refl })
+unread which count old new names grown taken cut image (halt.Stop stop.Limit) back b no_store = ([], b.1, record { same = back b.0; same_image = refl })
+unread which count old new names grown taken cut image (halt.Stop stop.Store) back b no_store = absurd (no_store refl)
 
-pub unread_comes : (which : BatchCommand) (count : ℕ) (old new : Parts) (names grown : List (List ℕ)) (before after : Option (List ScriptLine)) (image : Option (List ℕ)) (h : Halt) (bar : Option Refusal)
-    → (grown ≡ names → new ≡ old) → bar ≡ barred which old count → ReadsBatch count bar before after names grown (Err h) → (h ≡ halt.Stop stop.Store → ⊥)
-    → Comes (command_with which count) count before after old image new image (Err h)
-unread_comes which count old new names grown before after image h bar back bar_is b no_store =
-    unread which count old new names grown before after image h back (subst (λ (r : Option Refusal). ReadsBatch count r before after names grown (Err h)) bar_is b) no_store
+pub unread_comes : (which : BatchCommand) (count : ℕ) (old new : Parts) (names grown : List (List ℕ)) (taken : List ScriptLine → Type 0) (cut : Type 0) (image : Option (List ℕ)) (h : Halt) (bar : Option Refusal)
+    → (grown ≡ names → new ≡ old) → bar ≡ barred which old count → ReadsBatch count bar taken cut names grown (Err h) → (h ≡ halt.Stop stop.Store → ⊥)
+    → Comes (command_with which count) taken cut old image new image (Err h)
+unread_comes which count old new names grown taken cut image h bar back bar_is b no_store =
+    unread which count old new names grown taken cut image h back (subst (λ (r : Option Refusal). ReadsBatch count r taken cut names grown (Err h)) bar_is b) no_store
 
 -- a batch that was read and is not added
-pub takes_failed : (count : ℕ) (before : Option (List ScriptLine)) (got : List ScriptLine) (after : Option (List ScriptLine)) (f : BatchFault)
-    → Follows count before got after → TakesLines {A = Reply} count before got after (Err (batch_halt f))
-takes_failed count before got after (fault.BadChange line reason) h = h
-takes_failed count before got after (fault.FileFull n most) h = h
-takes_failed count before got after (fault.Damaged key col) h = h
-takes_failed count before got after fault.Read h = h
-takes_failed count before got after fault.Memory h = h
-takes_failed count before got after fault.Store h = h
+pub takes_failed : (taken : List ScriptLine → Type 0) (cut : Type 0) (got : List ScriptLine) (f : BatchFault)
+    → taken got → TakesLines {A = Reply} taken cut got (Err (batch_halt f))
+takes_failed taken cut got (fault.BadChange line reason) h = h
+takes_failed taken cut got (fault.FileFull n most) h = h
+takes_failed taken cut got (fault.Damaged key col) h = h
+takes_failed taken cut got fault.Read h = h
+takes_failed taken cut got fault.Memory h = h
+takes_failed taken cut got fault.Store h = h
 
 -- ---- what was read, and the history that it is to be added to
 
@@ -199,10 +199,10 @@ pub record IsAsked (from : Origin) (got : List ScriptLine) (p : Parts) (count li
   pub few_names : b.front ≡ Whole → length l.history.names ≤ NAMES_MAX
 
 -- it is so of lines that were read, where the session's parts are those that it was called with
-pub is_asked : (which : BatchCommand) (p called : Parts) (count : ℕ) (l : Live) (b : Batch) (before after : Option (List ScriptLine)) (bar : Option Refusal)
+pub is_asked : (which : BatchCommand) (p called : Parts) (count : ℕ) (l : Live) (b : Batch) (taken : List ScriptLine → Type 0) (bar : Option Refusal)
     → p ≡ called → bar ≡ barred which called count → p.index ≡ index_opening l.history.index → l.history.now.graph ≡ p.graph → l.history.recent.items ≡ p.recent → p.limits.events ≤ EVENTS_MAX → 1 ≤ count → count ≤ BATCH_LINES_MAX
-    → (r : IsBatch count bar before after p.names l.history.names b) → IsAsked (Lines_of which) r.got p count p.limits.file_bytes l b
-is_asked which p called count l b before after bar same bar_is index graph recent few_events some few r =
+    → (r : IsBatch count bar taken p.names l.history.names b) → IsAsked (Lines_of which) r.got p count p.limits.file_bytes l b
+is_asked which p called count l b taken bar same bar_is index graph recent few_events some few r =
     let bar_here : bar ≡ barred which p count = bar_is ∙ ap (λ (x : Parts). barred which x count) (sym same) in
     let first : first_refusal (length r.got) count (barred which p count) ≡ None = ap (first_refusal (length r.got) count) (sym bar_here) ∙ r.free in
     let none = none_first (length r.got) count (barred which p count) first in

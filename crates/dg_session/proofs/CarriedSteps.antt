@@ -11,7 +11,7 @@ use Rattle.dg_disk.proofs.FrameLemmas as frames
 use Rattle.dg_disk.specs.declared.disk.Disk as disk
 use Rattle.dg_graph.specs.Lines.{ScriptLine}
 use Rattle.dg_io.specs.declared.source.Source as source
-use Rattle.dg_io.specs.LinesState.{LinesState, told}
+use Rattle.dg_io.specs.LinesState.{LinesState}
 use Rattle.dg_machine.proofs.Refusals.{store_read_refuses}
 use Rattle.dg_machine.specs.Answer.{headed}
 use Rattle.dg_machine.specs.declared.command.Command.{Command}
@@ -21,15 +21,16 @@ use Rattle.dg_machine.specs.declared.reply.Refusal.TheVariants as refusal
 use Rattle.dg_machine.specs.declared.reply.Reply.{Reply}
 use Rattle.dg_machine.specs.Needs.{following, is_writing, needs}
 use Rattle.dg_session.proofs.CommandCrashes.{OnlyNow, reading_left, refused_left}
-use Rattle.dg_session.proofs.CommandDisks.{every_answer, every_err, reads_stay}
+use Rattle.dg_session.proofs.CommandDisks.{every_answer, every_err}
 use Rattle.dg_session.proofs.DamageStep.{met_nothing, never_for_damage, reads_undamaged}
 use Rattle.dg_session.proofs.ReadsStep.{fails_no_read, followed_by_none, reads_none, reads_nothing, store_read_is}
 use Rattle.dg_session.proofs.ReplyNames.{head_names}
 use Rattle.dg_session.proofs.SessionPoolStep.{nothing_swept}
 use Rattle.dg_session.proofs.SessionSteps.{Carried, alone, answered, refused_so}
 use Rattle.dg_session.proofs.VerifiedStep.{refused_verifies, unverified}
-use Rattle.dg_session.specs.Calls.{AnswersCommand, CarriesOut, HaltsByCause, ReadsFile, StopsCommand, TreatsDisk}
+use Rattle.dg_session.specs.Calls.{AnswersCommand, CarriesOut, CutsFollowing, HaltsByCause, ReadsFile, StopsCommand, TakesFollowing, TreatsDisk}
 use Rattle.dg_session.specs.Parts.{Parts}
+use Rattle.dg_session.specs.Reads.{ReadsToStop}
 use Rattle.dg_session.specs.Session.{Accepts, ComesTo, CutsOff, Denies, HoldsImage, IsAsBefore, Stops, WhereBothTold, is_at_hand, refused_by}
 use Rattle.dg_session.specs.SessionState.{SessionState}
 use Rattle.dg_session.specs.Sweeps.{SweepsNothing, SweepsPool, sweep_of}
@@ -47,16 +48,26 @@ stopped_before c got p a q b stop.Read comes not_store = comes
 stopped_before c got p a q b stop.Limit comes not_store = comes
 stopped_before c got p a q b stop.Store comes not_store = absurd (not_store refl)
 
-module _ (c : Command) (lines then_lines : Option (List ScriptLine)) (p : Parts) (a : Option (List ℕ)) (q : Parts) (b : Option (List ℕ)) (crashes : (List ℕ → List ℕ → Type 0) → Type 0) where
-  cut_writes : (why : Stop) → Carried c (following c) lines then_lines p a q b (Err (halt.Stop why)) crashes → why ≡ stop.Store → is_writing c ≡ true
+module _ (c : Command) (taken : List ScriptLine → Type 0) (short : Type 0) (p : Parts) (a : Option (List ℕ)) (q : Parts) (b : Option (List ℕ)) (crashes : (List ℕ → List ℕ → Type 0) → Type 0) where
+  cut_writes : (why : Stop) → Carried c taken short p a q b (Err (halt.Stop why)) crashes → why ≡ stop.Store → is_writing c ≡ true
   cut_writes why comes is =
-      let k = subst (λ (w : Stop). Carried c (following c) lines then_lines p a q b (Err (halt.Stop w)) crashes) is comes in
+      let k = subst (λ (w : Stop). Carried c taken short p a q b (Err (halt.Stop w)) crashes) is comes in
       let cut : (is_writing c ≡ true) × (refused_by p (length k.0) (needs c) ≡ None) × WhereBothTold a b (λ x y. CutsOff c k.0 p x y) = k.2 in cut.0
 
-  cut_stops : (why : Stop) → Carried c (following c) lines then_lines p a q b (Err (halt.Stop why)) crashes → why ≡ stop.Store → Stops c lines then_lines p a b crashes
+  cut_stops : (why : Stop) → Carried c taken short p a q b (Err (halt.Stop why)) crashes → why ≡ stop.Store → Stops c taken p a b crashes
   cut_stops why comes is =
-      let k = subst (λ (w : Stop). Carried c (following c) lines then_lines p a q b (Err (halt.Stop w)) crashes) is comes in
+      let k = subst (λ (w : Stop). Carried c taken short p a q b (Err (halt.Stop w)) crashes) is comes in
       let cut : (is_writing c ≡ true) × (refused_by p (length k.0) (needs c) ≡ None) × WhereBothTold a b (λ x y. CutsOff c k.0 p x y) = k.2 in (k.0, k.1, cut.1, cut.2, k.3)
+
+  cut_short : (why : Stop) → Carried c taken short p a q b (Err (halt.Stop why)) crashes → why ≢ stop.Store → short
+  cut_short stop.Read comes other = comes.1
+  cut_short stop.Limit comes other = comes.1
+  cut_short stop.Store comes other = absurd (other refl)
+
+unread_stop : (c : Command) (p : Parts) (image : Option (List ℕ)) (why : Stop) (before after : ℕ) → ReadsToStop c p image why before after → why ≢ stop.Store → after ≡ before
+unread_stop c p image stop.Read before after reads other = reads
+unread_stop c p image stop.Limit before after reads other = reads
+unread_stop c p image stop.Store before after reads other = absurd (other refl)
 
 same_stop : (a b : Stop) → halt.Stop a ≡ halt.Stop b → a ≡ b
 same_stop a b is = cc
@@ -92,7 +103,7 @@ module _ {S D : Type 0} {s : source.Ghosts S} {d : disk.Ghosts D} {c : Command} 
   accepted_answers r reply is holds carries =
       let k = subst (CarriesOut s d c lines from then_lines then_from old before new after) is carries in
       let a : Accepts c k.comes.0 old.parts (d.image before) new.parts (d.image after) reply = k.comes.2 in record {
-        step = answered c (told lines (s.left from)) (told then_lines (s.left then_from)) old.parts (d.image before) new.parts (d.image after) reply (LeftByCrash d before after) k.comes;
+        step = answered c (TakesFollowing s c lines from then_lines then_from) (CutsFollowing s c lines from then_lines then_from) old.parts (d.image before) new.parts (d.image after) reply (LeftByCrash d before after) k.comes;
         held = a.held holds;
         refused = λ e. absurd (false≢true (sym a.accepted ∙ e));
         named = a.named;
@@ -114,7 +125,7 @@ module _ {S D : Type 0} {s : source.Ghosts S} {d : disk.Ghosts D} {c : Command} 
       let k = subst (CarriesOut s d c lines from then_lines then_from old before new after) is carries in
       let n : Denies c k.comes.0 old.parts (d.image before) new.parts (d.image after) why = k.comes.2 in
       subst (AnswersCommand s d c lines from then_lines then_from old before new after) (sym reply_is) (record {
-        step = refused_so c (told lines (s.left from)) (told then_lines (s.left then_from)) old.parts (d.image before) new.parts (d.image after) why (LeftByCrash d before after)
+        step = refused_so c (TakesFollowing s c lines from then_lines then_from) (CutsFollowing s c lines from then_lines then_from) old.parts (d.image before) new.parts (d.image after) why (LeftByCrash d before after)
             (λ got left. refused_left d before after c got old.parts (headed (head.Refused why)) left) k.comes;
         held = still_held old.parts new.parts (d.image before) (d.image after) n.as_before holds;
         refused = λ e. n.as_before;
@@ -126,7 +137,7 @@ module _ {S D : Type 0} {s : source.Ghosts S} {d : disk.Ghosts D} {c : Command} 
         verified = refused_verifies c old.parts (d.image before) why;
         swept = nothing_swept (sweep_of c) old.pool new.pool (head.Refused why) k.unswept;
         reads = k.file.reads;
-        settled = reads_stay d before after (k.unwritten (λ e. cc));
+        settled = frames.reads_stay before after (k.unwritten (λ e. cc));
         unwritten = λ refuses. k.unwritten (λ e. cc);
       })
 
@@ -135,16 +146,18 @@ module _ {S D : Type 0} {s : source.Ghosts S} {d : disk.Ghosts D} {c : Command} 
       → CarriesOut s d c lines from then_lines then_from old before new after r → StopsCommand s d c lines from then_lines then_from old before new after why
   stopped_so r why is carries =
       let k = subst (CarriesOut s d c lines from then_lines then_from old before new after) is carries in
-      let had = told lines (s.left from) in
-      let has = told then_lines (s.left then_from) in record {
+      let takes = TakesFollowing s c lines from then_lines then_from in
+      let short = CutsFollowing s c lines from then_lines then_from in record {
         stopped = record {
           as_before = stopped_before c k.comes.0 old.parts (d.image before) new.parts (d.image after) why k.comes.2;
           read = λ e. k.causes.read (ap (λ (x : Stop). Err (halt.Stop x)) e);
           limit = λ e. k.causes.limit (ap (λ (x : Stop). Err (halt.Stop x)) e);
-          store = cut_stops c had has old.parts (d.image before) new.parts (d.image after) (LeftByCrash d before after) why k.comes;
+          unread = unread_stop c old.parts (d.image before) why (d.taken before) (d.taken after) k.file.reads;
+          lines = cut_short c takes short old.parts (d.image before) new.parts (d.image after) (LeftByCrash d before after) why k.comes;
+          store = cut_stops c takes short old.parts (d.image before) new.parts (d.image after) (LeftByCrash d before after) why k.comes;
           store_cause = λ e. k.causes.store (ap (λ (x : Stop). Err (halt.Stop x)) e);
         };
-        store_command = cut_writes c had has old.parts (d.image before) new.parts (d.image after) (LeftByCrash d before after) why k.comes;
+        store_command = cut_writes c takes short old.parts (d.image before) new.parts (d.image after) (LeftByCrash d before after) why k.comes;
         reads = k.file.reads;
         unwritten = λ other. k.unwritten (λ e. other (same_stop why stop.Store e));
       }
@@ -155,7 +168,7 @@ module _ {S D : Type 0} {s : source.Ghosts S} {d : disk.Ghosts D} {lines : Lines
     {old : SessionState} {before : D} {new : SessionState} {after : D} (r : Result Reply Halt) where
   -- of a command that neither verifies nor sweeps
   pub others_carry : (c x : Command) → c ≡ x → is_verify x ≡ false → SweepsNothing x
-      → Carried x (following x) (told lines (s.left from)) (told then_lines (s.left then_from)) old.parts (d.image before) new.parts (d.image after) r (LeftByCrash d before after)
+      → Carried x (TakesFollowing s x lines from then_lines then_from) (CutsFollowing s x lines from then_lines then_from) old.parts (d.image before) new.parts (d.image after) r (LeftByCrash d before after)
       → HaltsByCause s d from before then_lines then_from after r → ReadsFile d x old.parts before after r → TreatsDisk d before after r → (is_writing x ≡ false → ReadsDisk d before after)
       → CarriesOut s d c lines from then_lines then_from old before new after r
   others_carry c x is plain still comes causes file treats reads_only =
@@ -179,7 +192,7 @@ module _ {S D : Type 0} {s : source.Ghosts S} {d : disk.Ghosts D} {lines : Lines
       → CarriesOut s d c lines from lines from old before new after r
   reading_carries only c x is alone_is still comes no_stop verified cause frame file =
       subst (λ (y : Command). CarriesOut s d y lines from lines from old before new after r) (sym is) (record {
-        comes = alone x x (told lines (s.left from)) old.parts (d.image before) new.parts (d.image after) r (LeftByCrash d before after) refl alone_is comes
+        comes = alone x lines (s.left from) old.parts (d.image before) new.parts (d.image after) r (LeftByCrash d before after) alone_is (no_stop stop.Read, no_stop stop.Limit) comes
             (reading_left d only before after frame x [] old.parts r (no_stop stop.Store));
         causes = record {
           store = λ e. absurd (no_stop stop.Store e);
@@ -193,7 +206,7 @@ module _ {S D : Type 0} {s : source.Ghosts S} {d : disk.Ghosts D} {lines : Lines
         unswept = every_err r (λ h. SweepsNothing x) (λ h. still);
         reads_only = λ e. frame;
         unwritten = every_err r (λ h. (h ≡ halt.Stop stop.Store → ⊥) → ReadsDisk d before after) (λ h other. frame);
-        settled = every_answer r (StaysOnDevice d before after) (reads_stay d before after frame);
+        settled = every_answer r (StaysOnDevice d before after) (frames.reads_stay before after frame);
       })
 
 module _ {S D : Type 0} {s : source.Ghosts S} {d : disk.Ghosts D} {lines : LinesState} {from : S} {old : SessionState} {at : D} {new : SessionState} (r : Result Reply Halt) where
@@ -202,7 +215,7 @@ module _ {S D : Type 0} {s : source.Ghosts S} {d : disk.Ghosts D} {lines : Lines
       → ((why : Stop) → r ≡ Err (halt.Stop why) → ⊥) → IfOk r (λ (reply : Reply). SweepsPool c old.pool new.pool reply.head) → IfErr r (λ h. SweepsNothing c)
       → CarriesOut s d c lines from lines from old at new at r
   hand_carries only c hand plain comes no_stop swept unswept = record {
-    comes = alone c c (told lines (s.left from)) old.parts (d.image at) new.parts (d.image at) r (LeftByCrash d at at) refl (followed_by_none c hand) comes
+    comes = alone c lines (s.left from) old.parts (d.image at) new.parts (d.image at) r (LeftByCrash d at at) (followed_by_none c hand) (no_stop stop.Read, no_stop stop.Limit) comes
         (reading_left d only at at frames.reads_none c [] old.parts r (no_stop stop.Store));
     causes = record {
       store = λ e. absurd (no_stop stop.Store e);

@@ -1,6 +1,6 @@
 -- What commands do to the disk, by what the calls below them leave of it.
-use Rattle.std.proofs.Common.{◌≡◌, ℕ, List, Option, Result, Ok, Err, arith, refl, sym, ap, subst}
-use Rattle.std.specs.Prelude.{IfErr, OnOk, is_some}
+use Rattle.std.proofs.Common.{◌≡◌, ℕ, List, Result, Ok, Err, refl, sym, ap, subst}
+use Rattle.std.specs.Prelude.{IfErr, OnOk}
 use Rattle.dg_append.specs.declared.fault.BatchFault.{BatchFault}
 use Rattle.dg_append.specs.declared.fault.BatchFault.TheVariants as batch_fault
 use Rattle.dg_append.specs.DiskLeft.{LeavesDisk}
@@ -8,8 +8,7 @@ use Rattle.dg_batch.specs.declared.halt.Halt.{Halt}
 use Rattle.dg_batch.specs.declared.halt.Halt.TheVariants as halt
 use Rattle.dg_batch.specs.declared.stop.Stop.TheVariants as stop
 use Rattle.dg_batch.specs.Halt.{batch_halt, creation_halt}
-use Rattle.dg_disk.proofs.CrashTold.{settled_on}
-use Rattle.dg_disk.proofs.FrameLemmas.{reads_none}
+use Rattle.dg_disk.proofs.FrameLemmas.{reads_none, reads_stay, reads_use}
 use Rattle.dg_disk.specs.Calls.{IsOnDevice, ReadsDisk, StaysOnDevice, UsesDisk, WritesDisk}
 use Rattle.dg_disk.specs.declared.disk.Disk.{Ghosts}
 use Rattle.dg_file.specs.declared.fault.CreateFault.{CreateFault}
@@ -32,19 +31,8 @@ pub fails_as : (h k : Halt) → (let x : Result Reply Halt = Err h in x) ≡ Err
 fails_as h k is = cc
 
 module _ {D : Type 0} (g : Ghosts D) where
-  reads_use : {old new : D} → ReadsDisk g old new → UsesDisk g old new
-  reads_use reads = record {
-    told = ap (λ (x : Option (List ℕ)). is_some x) reads.same_image;
-    counted = reads.counted;
-    writes_counted = omega (arith, reads.no_write_failed);
-  }
-
   writes_use : {old new : D} → WritesDisk g old new → UsesDisk g old new
   writes_use writes = record { told = writes.told; counted = writes.counted; writes_counted = writes.writes_counted }
-
-  -- what is on the device stays there under calls that read
-  pub reads_stay : (old new : D) → ReadsDisk g old new → StaysOnDevice g old new
-  reads_stay old new reads settled = settled_on (g.image old) (g.image new) (g.may_leave old) (g.may_leave new) reads.same_image reads.leaves settled
 
   pub answers_stay : {A E : Type 0} (r : Result A E) (old new : D) → ReadsDisk g old new → IsOnDevice g old → OnOk r (IsOnDevice g new)
   answers_stay r old new reads settled = every_answer r (IsOnDevice g new) (reads_stay old new reads settled)

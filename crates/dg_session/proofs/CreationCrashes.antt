@@ -21,7 +21,7 @@ use Rattle.dg_machine.specs.Script.{Asked}
 use Rattle.dg_session.proofs.CommandCrashes.{OnlyNow, reads_leave, wider}
 use Rattle.dg_session.proofs.SessionCreationStep.{answer_is, create_cuts, free_of, made_in, making, none_there}
 use Rattle.dg_session.proofs.SessionSteps.{accepted_steps}
-use Rattle.dg_session.specs.Crashes.{IsFirstByte, is_create}
+use Rattle.dg_session.specs.Crashes.{IsFirstByte, is_created}
 use Rattle.dg_session.specs.Parts.{Parts}
 use Rattle.dg_session.specs.Session.{CutsOff, LeavesAnswered, LeavesCommand, refused_by}
 
@@ -40,7 +40,7 @@ module _ (p : Parts) (params : Params) (none : refused_by p 0 (needs (making par
       step = accepted_steps m (making params) [] no_plan new (free_of p a m params s none) refl (answer_is p a m params s none)
 
       by : IsMadeInPart params a left
-          → StandsAs m.index left ⊎ ((k : MachineState) × Step m (Asked (making params) []) (headed head.Created) k × StandsAs k.index left) ⊎ ((is_create (making params) ≡ true) × (m.index ≡ None) × IsFirstByte a left)
+          → StandsAs m.index left ⊎ ((k : MachineState) × Step m (Asked (making params) []) (headed head.Created) k × StandsAs k.index left) ⊎ ((is_created head.Created ≡ true) × (m.index ≡ None) × IsFirstByte a left)
       by (inl blank) = inl (subst (λ (i : Option History). StandsAs i left) (sym gone) blank)
       by (inr (inl made)) = inr (inl (made_in m params, step, made))
       by (inr (inr byte)) = inr (inr (refl, gone, byte))

@@ -51,7 +51,7 @@ use Rattle.dg_session.specs.Parts.{Parts}
 use Rattle.dg_retrieval.specs.KeptGraph.{holding, index_edges, kept_edges, kept_nodes, record_edges, shape_with}
 use Rattle.dg_ask.specs.HeldIndex.{catalogue_of, point_over, span_held}
 use Rattle.dg_ask.specs.Plans.{IsPlanReply}
-use Rattle.dg_session.specs.Reads.{older_for}
+use Rattle.dg_session.specs.BatchReads.{older_for}
 use Rattle.dg_session.specs.Session.{Accepts, Denies, StandsFor, refusals_by, refused_by, retrieval_needs}
 
 -- ---- what is refused
@@ -224,12 +224,12 @@ pub certificate_lacks : (p : Parts) (t : ℕ) (cols : Columns) (count : ℕ) (go
 certificate_lacks p t cols count got image o there inside enough =
     lacking_denies (command.Certify t cols count) got p p image image refl refl refl (enough_refused p t cols count (length got) enough ∙ free_at p t o there inside)
 
--- the script ended within its lines
-pub certificate_stopped : (p : Parts) (t : ℕ) (cols : Columns) (count : ℕ) (before after : Option (List ScriptLine)) (image : Option (List ℕ)) (s : Stop) → (s ≡ stop.Store → ⊥)
-    → Comes (command.Certify t cols count) count before after p image p image (Err (halt.Stop s))
-certificate_stopped p t cols count before after image stop.Read no_store = ([], tt, record { same = refl; same_image = refl })
-certificate_stopped p t cols count before after image stop.Limit no_store = ([], tt, record { same = refl; same_image = refl })
-certificate_stopped p t cols count before after image stop.Store no_store = absurd (no_store refl)
+-- the script was cut within its lines
+pub certificate_stopped : (p : Parts) (t : ℕ) (cols : Columns) (count : ℕ) (taken : List ScriptLine → Type 0) (cut : Type 0) (image : Option (List ℕ)) (s : Stop) → cut → (s ≡ stop.Store → ⊥)
+    → Comes (command.Certify t cols count) taken cut p image p image (Err (halt.Stop s))
+certificate_stopped p t cols count taken cut image stop.Read short no_store = ([], short, record { same = refl; same_image = refl })
+certificate_stopped p t cols count taken cut image stop.Limit short no_store = ([], short, record { same = refl; same_image = refl })
+certificate_stopped p t cols count taken cut image stop.Store short no_store = absurd (no_store refl)
 
 -- enough lines were read of those that were counted
 pub enough_read : (got : List ScriptLine) (read count : ℕ) → length got ≡ read → count ≤ read → nat_lt (length got) count ≡ false

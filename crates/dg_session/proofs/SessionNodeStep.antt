@@ -43,7 +43,8 @@ use Rattle.dg_session.specs.Decided.{IsHeadOf}
 use Rattle.dg_session.specs.Parts.{Parts}
 use Rattle.dg_retrieval.specs.Calls.{LeadsToNode, LeadsToNodeOver}
 use Rattle.dg_retrieval.specs.NamesThere.{NamesAreThere}
-use Rattle.dg_session.specs.Reads.{HoldsNodeFor, IsNodeHeld, Reads, is_early, with_new_handles}
+use Rattle.dg_session.specs.BatchReads.{is_early}
+use Rattle.dg_session.specs.Reads.{HoldsNodeFor, IsNodeHeld, Reads, with_new_handles}
 use Rattle.dg_session.specs.Session.{Accepts, StandsFor, is_reached, node_needs, refused_by}
 
 -- ---- what is refused

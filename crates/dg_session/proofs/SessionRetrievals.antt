@@ -57,7 +57,8 @@ use Rattle.dg_ask.specs.HeldIndex.{point_over, points_over, span_held}
 use Rattle.dg_session.specs.Decided.{IsHeadOf}
 use Rattle.dg_session.specs.Parts.{Parts}
 use Rattle.dg_session.specs.ReplyNames.{ReplyNamesAreThere}
-use Rattle.dg_session.specs.Reads.{HasRetrieved, IsRetrieved, RetrievesFor, Reads, ReadsAsTold, ReadsBy, ReadsIn, bases_of, is_early, listed_by, with_new_handles}
+use Rattle.dg_session.specs.BatchReads.{is_early}
+use Rattle.dg_session.specs.Reads.{HasRetrieved, IsRetrieved, RetrievesFor, Reads, ReadsAsTold, ReadsBy, ReadsIn, bases_of, listed_by, with_new_handles}
 use Rattle.dg_start.specs.StoredHistory.{IsHeldBy, index_opening}
 use Rattle.dg_session.specs.Session.{Accepts, ComesTo, Moves, StandsFor, WhereBothTold, is_reached, refused_by, retrieval_needs}
 

@@ -28,7 +28,8 @@ use Rattle.dg_session.proofs.SessionRetrievals.{handles_stand, if_some, moved_wi
 use Rattle.dg_session.proofs.PartStates.{one_image, one_told}
 use Rattle.dg_session.specs.Decided.{IsHeadOf}
 use Rattle.dg_session.specs.Parts.{Parts}
-use Rattle.dg_session.specs.Reads.{IsRetrieved, Reads, is_early, with_new_handles}
+use Rattle.dg_session.specs.BatchReads.{is_early}
+use Rattle.dg_session.specs.Reads.{IsRetrieved, Reads, with_new_handles}
 use Rattle.dg_session.specs.Session.{Accepts, StandsFor, refused_by, retrieval_needs}
 
 module _ (p : Parts) (cols : Columns) (times : List ℕ) (count : ℕ) (number : length (take count times) ≡ count) (some : 1 ≤ count) where

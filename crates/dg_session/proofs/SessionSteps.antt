@@ -20,7 +20,9 @@ use Rattle.dg_machine.specs.Needs.{Needs, earliest, following, is_followed, is_w
 use Rattle.dg_machine.specs.Planning.{Planned, IsPlanned, no_plan}
 use Rattle.dg_machine.specs.Run.{Step, Answers, Fails_to_read, Lacks_memory}
 use Rattle.dg_machine.specs.Script.{Asked}
-use Rattle.dg_batch.proofs.BatchLineCollection.{follows_none}
+use Rattle.dg_batch.proofs.LinesTaken.{taken_without_any}
+use Rattle.dg_cuts.specs.TakenLines.{CutsWithin, TakesBehind}
+use Rattle.dg_io.specs.LinesState.{LinesState}
 use Rattle.dg_session.proofs.PartStates.{one_image, refused_is, stands_on}
 use Rattle.dg_ask.specs.HeldIndex.{events_held, span_held, has_node_held}
 use Rattle.dg_session.specs.Parts.{Parts}
@@ -202,32 +204,37 @@ handed_out (Err e) x P h p = subst (λ y. P (Err y)) (sym h.1) p
 -- ---- the command and the lines that follow it
 
 -- what the command comes to with the lines that it takes
-abbrev pub Comes : Command → ℕ → Option (List ScriptLine) → Option (List ScriptLine) → Parts → Option (List ℕ) → Parts → Option (List ℕ) → Result Reply Halt → Type 0
-Comes c count lines_before lines_after old before new after r = (got : List ScriptLine) × TakesLines count lines_before got lines_after r × ComesTo c got old before new after r
+abbrev pub Comes : Command → (List ScriptLine → Type 0) → Type 0 → Parts → Option (List ℕ) → Parts → Option (List ℕ) → Result Reply Halt → Type 0
+Comes c taken cut old before new after r = (got : List ScriptLine) × TakesLines taken cut got r × ComesTo c got old before new after r
 
 -- and what a crash may leave of it
-abbrev pub Carried : Command → ℕ → Option (List ScriptLine) → Option (List ScriptLine) → Parts → Option (List ℕ) → Parts → Option (List ℕ) → Result Reply Halt → ((List ℕ → List ℕ → Type 0) → Type 0) → Type 0
-Carried c count lines_before lines_after old before new after r crashes =
-    (got : List ScriptLine) × TakesLines count lines_before got lines_after r × ComesTo c got old before new after r × crashes (LeavesCommand c got old r)
+abbrev pub Carried : Command → (List ScriptLine → Type 0) → Type 0 → Parts → Option (List ℕ) → Parts → Option (List ℕ) → Result Reply Halt → ((List ℕ → List ℕ → Type 0) → Type 0) → Type 0
+Carried c taken cut old before new after r crashes =
+    (got : List ScriptLine) × TakesLines taken cut got r × ComesTo c got old before new after r × crashes (LeavesCommand c got old r)
 
 -- what a crash leaves is what it may leave of any lines
-pub with_crash : (c : Command) (count : ℕ) (lines then_lines : Option (List ScriptLine)) (p : Parts) (a : Option (List ℕ)) (q : Parts) (b : Option (List ℕ)) (r : Result Reply Halt) (crashes : (List ℕ → List ℕ → Type 0) → Type 0)
-    → Comes c count lines then_lines p a q b r → ((got : List ScriptLine) → crashes (LeavesCommand c got p r)) → Carried c count lines then_lines p a q b r crashes
-with_crash c count lines then_lines p a q b r crashes comes left = (comes.0, comes.1, comes.2, left comes.0)
+pub with_crash : (c : Command) (taken : List ScriptLine → Type 0) (cut : Type 0) (p : Parts) (a : Option (List ℕ)) (q : Parts) (b : Option (List ℕ)) (r : Result Reply Halt) (crashes : (List ℕ → List ℕ → Type 0) → Type 0)
+    → Comes c taken cut p a q b r → ((got : List ScriptLine) → crashes (LeavesCommand c got p r)) → Carried c taken cut p a q b r crashes
+with_crash c taken cut p a q b r crashes comes left = (comes.0, comes.1, comes.2, left comes.0)
 
-takes_none : {A : Type 0} (lines : Option (List ScriptLine)) (r : Result A Halt) → TakesLines 0 lines [] lines r
-takes_none lines (Ok x) = follows_none lines
-takes_none lines (Err (halt.Refusal r)) = follows_none lines
-takes_none lines (Err (halt.Stop stop.Read)) = tt
-takes_none lines (Err (halt.Stop stop.Limit)) = tt
-takes_none lines (Err (halt.Stop stop.Store)) = follows_none lines
+-- it is not stopped for a line
+abbrev pub HasItsLines : Result Reply Halt → Type 0
+HasItsLines r = (r ≡ Err (halt.Stop stop.Read) → ⊥) × (r ≡ Err (halt.Stop stop.Limit) → ⊥)
+
+takes_none : (taken : List ScriptLine → Type 0) (cut : Type 0) (got : List ScriptLine) (r : Result Reply Halt) → taken got → HasItsLines r → TakesLines taken cut got r
+takes_none taken cut got (Ok x) took has = took
+takes_none taken cut got (Err (halt.Refusal r)) took has = took
+takes_none taken cut got (Err (halt.Stop stop.Read)) took has = absurd (has.0 refl)
+takes_none taken cut got (Err (halt.Stop stop.Limit)) took has = absurd (has.1 refl)
+takes_none taken cut got (Err (halt.Stop stop.Store)) took has = took
 
 -- no lines follow the command
-pub alone : (c x : Command) (lines : Option (List ScriptLine)) (old : Parts) (before : Option (List ℕ)) (new : Parts) (after : Option (List ℕ)) (r : Result Reply Halt) (crashes : (List ℕ → List ℕ → Type 0) → Type 0)
-    → c ≡ x → following x ≡ 0 → ComesTo x [] old before new after r → crashes (LeavesCommand x [] old r) → Carried c (following c) lines lines old before new after r crashes
-alone c x lines old before new after r crashes is none h left =
-    subst (λ (y : Command). Carried y (following y) lines lines old before new after r crashes) (sym is)
-    ([], subst (λ (n : ℕ). TakesLines n lines [] lines r) (sym none) (takes_none lines r), h, left)
+pub alone : (x : Command) (lines : LinesState) (left : Option (List ℕ)) (old : Parts) (before : Option (List ℕ)) (new : Parts) (after : Option (List ℕ)) (r : Result Reply Halt) (crashes : (List ℕ → List ℕ → Type 0) → Type 0)
+    → following x ≡ 0 → HasItsLines r → ComesTo x [] old before new after r → crashes (LeavesCommand x [] old r)
+    → Carried x (TakesBehind (following x) lines left lines left) (CutsWithin (following x) lines left lines left) old before new after r crashes
+alone x lines left old before new after r crashes none has h crash =
+    let took : TakesBehind (following x) lines left lines left [] = subst (λ (n : ℕ). TakesBehind n lines left lines left []) (sym none) (taken_without_any lines left) in
+    ([], takes_none (TakesBehind (following x) lines left lines left) (CutsWithin (following x) lines left lines left) [] r took has, h, crash)
 
 -- a reply that is no refusal tells of no read
 tells_of_none : (reply : Reply) (P : Type 0) (r : Refusal) → is_refusal reply.head ≡ false → reply.head ≡ head.Refused r → P
@@ -242,9 +249,9 @@ fitting : (c : Command) (got : List ScriptLine) (old : Parts) (h : Head) (o : Op
 fitting c got old h None accepts free fits = (free, fits)
 fitting c got old h (Some r) accepts free fits = absurd (false≢true (sym accepts))
 
-pub answered : (c : Command) (lines_before lines_after : Option (List ScriptLine)) (old : Parts) (before : Option (List ℕ)) (new : Parts) (after : Option (List ℕ)) (reply : Reply) (crashes : (List ℕ → List ℕ → Type 0) → Type 0)
-    → Carried c (following c) lines_before lines_after old before new after (Ok reply) crashes → Steps c lines_before lines_after old before new after reply crashes
-answered c lines_before lines_after old before new after reply crashes k =
+pub answered : (c : Command) (taken : List ScriptLine → Type 0) (cut : Type 0) (old : Parts) (before : Option (List ℕ)) (new : Parts) (after : Option (List ℕ)) (reply : Reply) (crashes : (List ℕ → List ℕ → Type 0) → Type 0)
+    → Carried c taken cut old before new after (Ok reply) crashes → Steps c taken old before new after reply crashes
+answered c taken cut old before new after reply crashes k =
     let a : Accepts c k.0 old before new after reply = k.2 in (
       k.0,
       k.1,
@@ -254,11 +261,11 @@ answered c lines_before lines_after old before new after reply crashes k =
       k.3,
     )
 
-pub refused_so : (c : Command) (lines_before lines_after : Option (List ScriptLine)) (old : Parts) (before : Option (List ℕ)) (new : Parts) (after : Option (List ℕ)) (why : Refusal) (crashes : (List ℕ → List ℕ → Type 0) → Type 0)
+pub refused_so : (c : Command) (taken : List ScriptLine → Type 0) (cut : Type 0) (old : Parts) (before : Option (List ℕ)) (new : Parts) (after : Option (List ℕ)) (why : Refusal) (crashes : (List ℕ → List ℕ → Type 0) → Type 0)
     → ((got : List ScriptLine) → crashes (LeavesCommand c got old (Err (halt.Refusal why))) → crashes (LeavesAnswered c got old (headed (head.Refused why))))
-    → Carried c (following c) lines_before lines_after old before new after (Err (halt.Refusal why)) crashes
-    → Steps c lines_before lines_after old before new after (headed (head.Refused why)) crashes
-refused_so c lines_before lines_after old before new after why crashes widen k =
+    → Carried c taken cut old before new after (Err (halt.Refusal why)) crashes
+    → Steps c taken old before new after (headed (head.Refused why)) crashes
+refused_so c taken cut old before new after why crashes widen k =
     let n : Denies c k.0 old before new after why = k.2 in (
       k.0,
       k.1,
@@ -303,10 +310,10 @@ refuses_so (head.Generated events last nodes edges) r is = absurd (none-some r i
 
 -- Whatever the image is, a step answers with the first refusal that follows from what the session keeps, unless memory
 -- lacks for the lines of the command.
-pub order_kept : (c : Command) (lines_before lines_after : Option (List ScriptLine)) (old : Parts) (before : Option (List ℕ)) (new : Parts) (after : Option (List ℕ)) (reply : Reply) (crashes : (List ℕ → List ℕ → Type 0) → Type 0)
-    → (s : Steps c lines_before lines_after old before new after reply crashes) (r : Refusal) → refused_by old (length s.0) (needs c) ≡ Some r
+pub order_kept : (c : Command) (taken : List ScriptLine → Type 0) (old : Parts) (before : Option (List ℕ)) (new : Parts) (after : Option (List ℕ)) (reply : Reply) (crashes : (List ℕ → List ℕ → Type 0) → Type 0)
+    → (s : Steps c taken old before new after reply crashes) (r : Refusal) → refused_by old (length s.0) (needs c) ≡ Some r
     → (reply.head ≡ head.Refused r) ⊎ ((is_followed c ≡ true) × (reply.head ≡ head.Refused refusal.OutOfMemory))
-order_kept c lines_before lines_after old before new after reply crashes s r is = by (first_decided c s.0 old reply.head (refusal_of reply.head) r is s.4)
+order_kept c taken old before new after reply crashes s r is = by (first_decided c s.0 old reply.head (refusal_of reply.head) r is s.4)
   where
     by : (refusal_of reply.head ≡ Some r) ⊎ ((is_followed c ≡ true) × (refusal_of reply.head ≡ Some refusal.OutOfMemory))
         → (reply.head ≡ head.Refused r) ⊎ ((is_followed c ≡ true) × (reply.head ≡ head.Refused refusal.OutOfMemory))

@@ -28,7 +28,8 @@ use Rattle.dg_session.specs.Damage.{DamageIn}
 use Rattle.dg_session.specs.Decided.{IsHeadOf}
 use Rattle.dg_batch.specs.Halt.{verify_halt}
 use Rattle.dg_session.specs.Parts.{Parts}
-use Rattle.dg_session.specs.Reads.{Reads, ReadsBy, ReadsIn, is_early}
+use Rattle.dg_session.specs.BatchReads.{is_early}
+use Rattle.dg_session.specs.Reads.{Reads, ReadsBy, ReadsIn}
 use Rattle.dg_session.specs.Session.{Accepts, ComesTo, StandsFor, refused_by}
 use Rattle.dg_session.specs.Verified.{IsOfFile, VerifiesBy, VerifiesFile, is_verify}
 use Rattle.dg_start.specs.StoredHistory.{IsHeldBy}

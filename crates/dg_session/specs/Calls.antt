@@ -7,12 +7,13 @@ use Rattle.dg_batch.specs.declared.halt.Halt.{Halt}
 use Rattle.dg_batch.specs.declared.halt.Halt.TheVariants as halt
 use Rattle.dg_batch.specs.declared.stop.Stop.{Stop}
 use Rattle.dg_batch.specs.declared.stop.Stop.TheVariants as stop
+use Rattle.dg_cuts.specs.TakenLines.{CutsWithin, TakesBehind}
 use Rattle.dg_disk.specs.Calls.{FailsToWrite, LeftByCrash, ReadsDisk, StaysOnDevice, UsesDisk}
 use Rattle.dg_disk.specs.declared.disk.Disk as disk
 use Rattle.dg_graph.specs.Lines.{ScriptLine}
 use Rattle.dg_io.specs.Calls.{FailsToRead}
 use Rattle.dg_io.specs.declared.source.Source as source
-use Rattle.dg_io.specs.LinesState.{LinesState, NeedsByte, told}
+use Rattle.dg_io.specs.LinesState.{LinesState}
 use Rattle.dg_machine.specs.Answer.{is_refusal}
 use Rattle.dg_machine.specs.declared.command.Command.{Command}
 use Rattle.dg_machine.specs.declared.reply.Refusal.TheVariants as refusal
@@ -28,9 +29,13 @@ use Rattle.dg_session.specs.SessionState.{SessionState}
 use Rattle.dg_session.specs.Sweeps.{SweepsNothing, SweepsPool}
 use Rattle.dg_session.specs.Verified.{VerifiesFile}
 
--- as many bytes were taken as the limit allows, and another is needed
-abbrev pub IsAtLimit : LinesState → Type 0
-IsAtLimit lines = (lines.taken ≡ lines.limit) × NeedsByte lines
+-- these lines were taken behind the command
+abbrev pub TakesFollowing : {S : Type 0} → source.Ghosts S → Command → LinesState → S → LinesState → S → List ScriptLine → Type 0
+TakesFollowing s command lines from then_lines then_from = TakesBehind (following command) lines (s.left from) then_lines (s.left then_from)
+
+-- the script was cut within the lines that follow the command
+abbrev pub CutsFollowing : {S : Type 0} → source.Ghosts S → Command → LinesState → S → LinesState → S → Type 0
+CutsFollowing s command lines from then_lines then_from = CutsWithin (following command) lines (s.left from) then_lines (s.left then_from)
 
 -- What a command that may write does to the disk: where it comes to no reply, and is not stopped for the file, the disk was
 -- only read; and where it is answered, what the disk holds stays on the device.
@@ -44,7 +49,7 @@ pub record AnswersCommand {S D : Type 0} (s : source.Ghosts S) (d : disk.Ghosts 
     (old : SessionState) (before : D) (new : SessionState) (after : D) (reply : Reply) : Type 0 where
   -- The machine may give the reply, from every state that the session stands for, and go on to one that it then stands for.
   -- A crash at any moment of the step leaves the history of the one or of the other.
-  pub step : Steps command (told lines (s.left from)) (told then_lines (s.left then_from)) old.parts (d.image before) new.parts (d.image after) reply (LeftByCrash d before after)
+  pub step : Steps command (TakesFollowing s command lines from then_lines then_from) old.parts (d.image before) new.parts (d.image after) reply (LeftByCrash d before after)
   -- The session holds the image.
   pub held : HoldsImage new.parts (d.image after)
   -- A refusal leaves what the session keeps and the image.
@@ -70,15 +75,18 @@ pub record AnswersCommand {S D : Type 0} (s : source.Ghosts S) (d : disk.Ghosts 
   -- Where it is refused, the disk was only read.
   pub unwritten : is_refusal reply.head ≡ true → ReadsDisk d before after
 
--- A command, or a turn over a script, is stopped for this reason. `cut` is what holds where the file could not be
--- written.
+-- A command, or a turn over a script, is stopped for this reason. `short` is what holds where a line could not be had, and
+-- `cut` where the file could not be written.
 pub record IsStopped {S D : Type 0} (s : source.Ghosts S) (d : disk.Ghosts D) (from : S) (old : Parts) (before : D) (then_lines : LinesState) (then_from : S) (new : Parts) (after : D)
-    (cut : Type 0) (why : Stop) : Type 0 where
+    (short cut : Type 0) (why : Stop) : Type 0 where
   -- Unless the file could not be written, session and image are as they were.
   pub as_before : why ≢ stop.Store → IsAsBefore old (d.image before) new (d.image after)
-  -- A read of the source failed; or the limit was reached, and another byte is needed.
+  -- A read of the source failed; or the limit was reached. Then another byte is needed.
   pub read : why ≡ stop.Read → FailsToRead s from then_from
-  pub limit : why ≡ stop.Limit → IsAtLimit then_lines
+  pub limit : why ≡ stop.Limit → then_lines.taken ≡ then_lines.limit
+  pub lines : why ≢ stop.Store → short
+  -- Then nothing was read of the disk.
+  pub unread : why ≢ stop.Store → d.taken after ≡ d.taken before
   -- A write or a sync of the disk failed.
   pub store : why ≡ stop.Store → cut
   pub store_cause : why ≡ stop.Store → FailsToWrite d before after
@@ -86,10 +94,11 @@ pub record IsStopped {S D : Type 0} (s : source.Ghosts S) (d : disk.Ghosts D) (f
 -- The command is not answered, for this reason.
 pub record StopsCommand {S D : Type 0} (s : source.Ghosts S) (d : disk.Ghosts D) (command : Command) (lines : LinesState) (from : S) (then_lines : LinesState) (then_from : S)
     (old : SessionState) (before : D) (new : SessionState) (after : D) (why : Stop) : Type 0 where
-  -- Where the file could not be written, the command is not refused by what the session keeps, and the image is what it
-  -- may leave where the disk failed; so is what a crash at any moment leaves.
+  -- Where a line could not be had, the script was cut within the lines that follow the command. Where the file could not be
+  -- written, the command is not refused by what the session keeps, and the image is what it may leave where the disk
+  -- failed; so is what a crash at any moment leaves.
   pub stopped : IsStopped s d from old.parts before then_lines then_from new.parts after
-      (Stops command (told lines (s.left from)) (told then_lines (s.left then_from)) old.parts (d.image before) (d.image after) (LeftByCrash d before after)) why
+      (CutsFollowing s command lines from then_lines then_from) (Stops command (TakesFollowing s command lines from then_lines then_from) old.parts (d.image before) (d.image after) (LeftByCrash d before after)) why
   -- It is one that writes.
   pub store_command : why ≡ stop.Store → is_writing command ≡ true
   -- Nothing was read of the disk, or no more than the older children of the batch.
@@ -110,14 +119,14 @@ pub record ReadsFile {D : Type 0} (d : disk.Ghosts D) (command : Command) (old :
 pub record HaltsByCause {S D : Type 0} (s : source.Ghosts S) (d : disk.Ghosts D) (from : S) (before : D) (then_lines : LinesState) (then_from : S) (after : D) (result : Result Reply Halt) : Type 0 where
   pub store : result ≡ Err (halt.Stop stop.Store) → FailsToWrite d before after
   pub read : result ≡ Err (halt.Stop stop.Read) → FailsToRead s from then_from
-  pub limit : result ≡ Err (halt.Stop stop.Limit) → IsAtLimit then_lines
+  pub limit : result ≡ Err (halt.Stop stop.Limit) → then_lines.taken ≡ then_lines.limit
   pub store_read : result ≡ Err (halt.Refusal refusal.StoreRead) → OnlyReadFailed d before after
 
 -- The command comes to this: it is answered by no refusal, or refused, or stopped.
 pub record CarriesOut {S D : Type 0} (s : source.Ghosts S) (d : disk.Ghosts D) (command : Command) (lines : LinesState) (from : S) (then_lines : LinesState) (then_from : S)
     (old : SessionState) (before : D) (new : SessionState) (after : D) (result : Result Reply Halt) : Type 0 where
   pub comes : (got : List ScriptLine)
-      × TakesLines (following command) (told lines (s.left from)) got (told then_lines (s.left then_from)) result
+      × TakesLines (TakesFollowing s command lines from then_lines then_from) (CutsFollowing s command lines from then_lines then_from) got result
       × ComesTo command got old.parts (d.image before) new.parts (d.image after) result
       × LeftByCrash d before after (LeavesCommand command got old.parts result)
   -- why it is stopped, or refused for a read

@@ -1,12 +1,12 @@
 -- What a crash within the making of an index may leave beside an image of a history.
 use Rattle.std.specs.Prelude.{◌≡◌, ℕ, Bool, true, false, List, length, drop}
-use Rattle.dg_machine.specs.declared.command.Command.{Command}
-use Rattle.dg_machine.specs.declared.command.Command.TheVariants as command
+use Rattle.dg_machine.specs.declared.reply.Head.{Head}
+use Rattle.dg_machine.specs.declared.reply.Head.TheVariants as head
 
--- the command makes an index
-abbrev pub is_create : Command → Bool
-is_create (command.Create l k function) = true
-is_create c = false
+-- the reply says that an index was made
+abbrev pub is_created : Head → Bool
+is_created head.Created = true
+is_created h = false
 
 -- both are just the bytes of a header, and differ at most in the first
 abbrev pub IsFirstByte : List ℕ → List ℕ → Type 0

@@ -8,6 +8,7 @@ pub mod ReplyNames
 pub mod Crashes
 pub mod Session
 pub mod BatchCommand
+pub mod BatchReads
 pub mod Reads
 pub mod Damage
 pub mod Calls

@@ -10,14 +10,10 @@ use Rattle.dg_graph.specs.Lines.{ScriptLine}
 use Rattle.dg_handles.specs.Handles.{BeginsOn, held_by, numbered, overlays_on}
 use Rattle.dg_history.specs.declared.node.NodeId.{NodeId}
 use Rattle.dg_history.specs.declared.node.NodeId.TheVariants.{Root}
-use Rattle.dg_history.specs.History.{events_of}
-use Rattle.dg_index.specs.Hierarchy.{leaves}
-use Rattle.dg_index.specs.OlderNodes.{older}
 use Rattle.dg_machine.specs.declared.command.Command.{Command}
 use Rattle.dg_machine.specs.declared.command.Command.TheVariants as command
 use Rattle.dg_machine.specs.declared.reply.Head.{Head}
 use Rattle.dg_machine.specs.declared.reply.Head.TheVariants as head
-use Rattle.dg_machine.specs.declared.reply.Refusal.TheVariants as refusal
 use Rattle.dg_machine.specs.declared.reply.Reply.{Reply}
 use Rattle.dg_machine.specs.declared.stands.Stands.{Stands}
 use Rattle.dg_machine.specs.declared.stands.Stands.TheVariants.{Base}
@@ -38,6 +34,7 @@ use Rattle.dg_batch.specs.declared.halt.Halt.{Halt}
 use Rattle.dg_batch.specs.declared.halt.Halt.TheVariants as halt
 use Rattle.dg_batch.specs.declared.stop.Stop.{Stop}
 use Rattle.dg_batch.specs.declared.stop.Stop.TheVariants as stop
+use Rattle.dg_session.specs.BatchReads.{is_early, older_for}
 use Rattle.dg_session.specs.Parts.{Parts}
 use Rattle.dg_session.specs.Session.{StandsFor}
 
@@ -101,26 +98,11 @@ ReadsAsTold false m c got h before after = Takes (weight_told h) before after
 ReadsAsTold true m c got h before after =
     (p : Planned) → IsPlannedBy (refused m c got) m c p → TakesAtMost (weight_told (answer m c got p).reply.head) before after
 
--- the older children of the interior nodes that a batch of so many lines completes
-abbrev pub older_for : MachineState → ℕ → List NodeId
-older_for m count =
-    let z = history_in m.index in
-    older z.params.k (leaves z.params (length (events_of z))) (leaves z.params (length (events_of z) + count))
-
 -- A batch of so many lines has read at most what the single plans of those children weigh together, over the records
 -- alone.
 abbrev pub ReadsOlder : MachineState → ℕ → ℕ → ℕ → Type 0
 ReadsOlder m count before after =
     (singles : List ℕ) → AreSingles (arcs_of (record_edges_in m all_columns)) (Root ∷ []) (older_for m count) singles → TakesAtMost (sum singles) before after
-
--- the batch is refused before anything is read
-abbrev pub is_early : Head → Bool
-is_early (head.Refused refusal.NoIndex) = true
-is_early (head.Refused refusal.AlreadyLoaded) = true
-is_early (head.Refused (refusal.ShortBatch read asked)) = true
-is_early (head.Refused (refusal.HistoryFull held asked)) = true
-is_early (head.Refused (refusal.BadChange number reason)) = true
-is_early h = false
 
 -- what a command that adds a batch, or a retrieval, reads over an image that stands for the state; what `verify`
 -- reads is not promised

@@ -20,13 +20,13 @@ use Rattle.dg_machine.specs.declared.stands.Stands.TheVariants.{Overlay, Base}
 use Rattle.dg_machine.specs.Answer.{headed, is_refusal, refusal_of}
 use Rattle.dg_machine.specs.CutImage.{IsCut}
 use Rattle.dg_machine.specs.MachineState.{MachineState, dependent_on, stands_at, graphs_of, history_in}
-use Rattle.dg_machine.specs.Needs.{Needs, can_be_held, earliest, following, is_base, is_followed, is_writing, needs, nothing_more, of, when}
+use Rattle.dg_machine.specs.Needs.{Needs, can_be_held, earliest, is_base, is_followed, is_writing, needs, nothing_more, of, when}
 use Rattle.dg_machine.specs.Run.{Step, is_failed_read}
-use Rattle.dg_machine.specs.Script.{Asked, Follows}
+use Rattle.dg_machine.specs.Script.{Asked}
 use Rattle.dg_batch.specs.declared.halt.Halt.{Halt}
 use Rattle.dg_batch.specs.declared.halt.Halt.TheVariants as halt
 use Rattle.dg_batch.specs.declared.stop.Stop.TheVariants as stop
-use Rattle.dg_session.specs.Crashes.{IsFirstByte, is_create}
+use Rattle.dg_session.specs.Crashes.{IsFirstByte, is_created}
 use Rattle.dg_session.specs.Decided.{IsHeadOf, is_late}
 use Rattle.dg_session.specs.Parts.{Parts}
 use Rattle.dg_session.specs.ReplyNames.{ReplyNamesAreThere}
@@ -71,14 +71,14 @@ CutsOff command got old before after = (m : MachineState) → StandsFor old befo
 
 -- What a crash may leave of a command with these lines that is answered so: from every state that the session stood for
 -- over the image, the bytes stand for its history, or for that of the state to which the machine goes with this reply; or
--- an index was to be made where there was none, over a file that has just the bytes of a header, of which the first may be
+-- an index was made where there was none, over a file that has just the bytes of a header, of which the first may be
 -- any.
 abbrev pub LeavesAnswered : Command → List ScriptLine → Parts → Reply → List ℕ → List ℕ → Type 0
 LeavesAnswered command got old reply before left =
     (m : MachineState) → StandsFor old before m
     → StandsAs m.index left
     ⊎ ((k : MachineState) × Step m (Asked command got) reply k × StandsAs k.index left)
-    ⊎ ((is_create command ≡ true) × (m.index ≡ None) × IsFirstByte before left)
+    ⊎ ((is_created reply.head ≡ true) × (m.index ≡ None) × IsFirstByte before left)
 
 -- so many more events, or the names that so many lines may bring, are too many
 abbrev pub is_too_full : Parts → ℕ → Bool
@@ -143,9 +143,9 @@ Decides command got old h (Some r) = IsDecided command got old r
 -- The command and the lines that follow it make such a step, where the disk tells its image. Whatever the image is, a reply
 -- that tells of a read takes the index of no refusal by what the session keeps, and the reply is decided by that. And
 -- `crashes` holds of what a crash may leave: it says that a crash at any moment of the step leaves that.
-abbrev pub Steps : Command → Option (List ScriptLine) → Option (List ScriptLine) → Parts → Option (List ℕ) → Parts → Option (List ℕ) → Reply → ((List ℕ → List ℕ → Type 0) → Type 0) → Type 0
-Steps command lines_before lines_after old before new after reply crashes =
-    (got : List ScriptLine) × Follows (following command) lines_before got lines_after
+abbrev pub Steps : Command → (List ScriptLine → Type 0) → Parts → Option (List ℕ) → Parts → Option (List ℕ) → Reply → ((List ℕ → List ℕ → Type 0) → Type 0) → Type 0
+Steps command AreTaken old before new after reply crashes =
+    (got : List ScriptLine) × AreTaken got
     × WhereBothTold before after (λ image then_image. Moves command got old image new then_image reply)
     × ((r : Refusal) → reply.head ≡ head.Refused r → is_of_read r ≡ true → MayRead command got old)
     × Decides command got old reply.head (refusal_of reply.head)
@@ -153,9 +153,9 @@ Steps command lines_before lines_after old before new after reply crashes =
 
 -- The command and the lines that follow it were cut off so, where the disk tells its image. The command is not refused by
 -- what the session keeps, whatever the image is. And `crashes` holds of what a crash may leave, the same that a failure may.
-abbrev pub Stops : Command → Option (List ScriptLine) → Option (List ScriptLine) → Parts → Option (List ℕ) → Option (List ℕ) → ((List ℕ → List ℕ → Type 0) → Type 0) → Type 0
-Stops command lines_before lines_after old before after crashes =
-    (got : List ScriptLine) × Follows (following command) lines_before got lines_after
+abbrev pub Stops : Command → (List ScriptLine → Type 0) → Parts → Option (List ℕ) → Option (List ℕ) → ((List ℕ → List ℕ → Type 0) → Type 0) → Type 0
+Stops command AreTaken old before after crashes =
+    (got : List ScriptLine) × AreTaken got
     × (refused_by old (length got) (needs command) ≡ None)
     × WhereBothTold before after (λ image then_image. CutsOff command got old image then_image)
     × crashes (λ image left. CutsOff command got old image left)
@@ -210,10 +210,10 @@ LeavesCommand command got old (Err (halt.Stop stop.Read)) = λ before left. left
 LeavesCommand command got old (Err (halt.Stop stop.Limit)) = λ before left. left ≡ before
 LeavesCommand command got old (Err (halt.Stop stop.Store)) = λ before left. CutsOff command got old before left
 
--- the lines are those that follow, unless the script ended within them
-abbrev pub TakesLines : {A : Type 0} → ℕ → Option (List ScriptLine) → List ScriptLine → Option (List ScriptLine) → Result A Halt → Type 0
-TakesLines count before got after (Ok reply) = Follows count before got after
-TakesLines count before got after (Err (halt.Refusal r)) = Follows count before got after
-TakesLines count before got after (Err (halt.Stop stop.Read)) = Unit {0}
-TakesLines count before got after (Err (halt.Stop stop.Limit)) = Unit {0}
-TakesLines count before got after (Err (halt.Stop stop.Store)) = Follows count before got after
+-- these are the lines that were taken; or the script was cut within them
+abbrev pub TakesLines : {A : Type 0} → (List ScriptLine → Type 0) → Type 0 → List ScriptLine → Result A Halt → Type 0
+TakesLines AreTaken IsCut got (Ok reply) = AreTaken got
+TakesLines AreTaken IsCut got (Err (halt.Refusal r)) = AreTaken got
+TakesLines AreTaken IsCut got (Err (halt.Stop stop.Read)) = IsCut
+TakesLines AreTaken IsCut got (Err (halt.Stop stop.Limit)) = IsCut
+TakesLines AreTaken IsCut got (Err (halt.Stop stop.Store)) = AreTaken got

@@ -4,7 +4,8 @@ ghost use Rattle.std.specs.Prelude.{◌≡◌, ◌+◌, ◌<◌, ◌≤◌, IsEr
 ghost use Rattle.dg_append.specs.Faults.{OnlyReadFailed};
 ghost use Rattle.dg_disk.specs.Calls.{FailsToWrite, LeftByCrash};
 ghost use Rattle.dg_io.specs.Calls.{TakesFrom};
-ghost use Rattle.dg_io.specs.LinesState.{told, NeedsByte};
+ghost use Rattle.dg_cuts.specs.TakenLines.{CutsWithin, TakesBehind};
+ghost use Rattle.dg_io.specs.LinesState.{NeedsByte};
 ghost use Rattle.dg_history.specs.declared.limits.TheConstants.{BATCH_LINES_MAX};
 ghost use Rattle.dg_graph.specs.Lines.{ScriptLine};
 ghost use Rattle.dg_machine.specs.Answer.{headed};
@@ -113,7 +114,7 @@ impl Session {
 
         // what it comes to, and what a crash leaves
         ensures comes { (got : List ScriptLine)
-            × TakesLines count (told lines.old (S.left source.old)) got (told lines.new (S.left source.new)) result
+            × TakesLines (TakesBehind count lines.old (S.left source.old) lines.new (S.left source.new)) (CutsWithin count lines.old (S.left source.old) lines.new (S.left source.new)) got result
             × ComesTo (command_with which count) got self.old.parts (D.image disk.old) self.new.parts (D.image disk.new) result
             × LeftByCrash D.Disk disk.old disk.new (LeavesCommand (command_with which count) got self.old.parts result) }
 

@@ -2,13 +2,13 @@
 
 ghost use Rattle.std.specs.Prelude.{◌≡◌, ℕ, ◌<◌, ◌≤◌, IfErr, IsErrOf, List, [], ◌∷◌, Ok, Err, Option, None, Some, true, false, IfOk};
 ghost use Rattle.dg_io.specs.Calls.{FailsToRead, TakesFrom};
-ghost use Rattle.dg_io.specs.LinesState.{told, NeedsByte};
+ghost use Rattle.dg_cuts.specs.TakenLines.{CutsWithin, TakesBehind};
+ghost use Rattle.dg_io.specs.LinesState.{NeedsByte};
 ghost use Rattle.dg_history.specs.declared.limits.TheConstants.{BATCH_LINES_MAX};
 ghost use Rattle.dg_graph.specs.Lines.{ScriptLine};
 ghost use Rattle.dg_machine.specs.Answer.{headed};
 ghost use Rattle.dg_history.specs.History.{in_range};
 ghost use Rattle.dg_ask.specs.HeldIndex.{span_held};
-ghost use Rattle.dg_session.specs.Calls.{IsAtLimit};
 ghost use Rattle.dg_session.specs.Parts.{Parts};
 ghost use Rattle.dg_session.specs.Session.{ComesTo, TakesLines, refused_by, retrieval_needs};
 ghost use Rattle.dg_start.specs.StoredHistory.{index_opening};
@@ -50,12 +50,12 @@ impl Session {
 
         // what it comes to
         ensures comes { (image : Option (List ℕ)) → (got : List ScriptLine)
-            × TakesLines count (told lines.old (S.left source.old)) got (told lines.new (S.left source.new)) result
+            × TakesLines (TakesBehind count lines.old (S.left source.old) lines.new (S.left source.new)) (CutsWithin count lines.old (S.left source.old) lines.new (S.left source.new)) got result
             × ComesTo (Command.Certify t cols count) got self.old.parts image self.new.parts image result }
 
         // why it stops
         ensures read { IsErrOf result (Halt.Stop Stop.Read) → FailsToRead S.Source source.old source.new }
-        ensures limit { IsErrOf result (Halt.Stop Stop.Limit) → IsAtLimit lines.new }
+        ensures limit { IsErrOf result (Halt.Stop Stop.Limit) → lines.new.taken ≡ lines.new.limit }
         ensures due { 1 ≤ count → lines.old.taken ≡ lines.old.limit → NeedsByte lines.old → result ≡ Err (Halt.Stop Stop.Limit) }
         ensures no_store { IsErrOf result (Halt.Stop Stop.Store) → ⊥ }
 

@@ -1,23 +1,23 @@
 use Rattle.std.proofs.Common.{refl, ◌∙◌, ap, Err, arith}
 use Rattle.dg_disk.specs.Calls.{LeftByCrash}
 use Rattle.dg_run.proofs.CrashRuns.{leads_on, stays_over}
-use Rattle.dg_run.proofs.PromisedRuns.{history_takes, no_session, session_promise}
+use Rattle.dg_run.proofs.PromisedRuns.{no_session, session_promise}
 use Rattle.dg_run.proofs.StatusStarts.{ends_for, never_begins}
 use Rattle.dg_run.proofs.run.run_session.Goals as goal
 
 pub returns-in-Err : goal.returns-in-Err
 returns-in-Err g c = record {
-  promise = no_session c.law_begins_are_determined.ensures c.args.limits c.args.checked c.from.result c.in-Err.fault _ _ _ (stays_over g.D.Disk g.met.D.Disk.only_now c.args.disk.now c.start.new.disk c.start.ensures.disk) c.from.ensures
+  promise = no_session _ c.law_begins_are_determined.ensures c.args.limits c.args.checked c.from.result c.in-Err.fault _ _ _ (stays_over g.D.Disk g.met.D.Disk.only_now c.args.disk.now c.start.new.disk c.start.ensures.disk) c.from.ensures
       (record { left = refl; source_faults = refl; written = refl; sink_faults = refl; image = c.start.ensures.disk.same_image }) (omega (arith, c.start.ensures.disk.counted))
-      (λ e. c.start.ensures.cause (c.in-Err.is ∙ ap (λ x. Err x) e)) c.in-Err.ensures.refused c.in-Err.ensures.never;
+      (λ e. c.start.ensures.cause (c.in-Err.is ∙ ap (λ x. Err x) e)) c.in-Err.ensures.refused c.in-Err.ensures.never c.in-Err.ensures.takes;
   on_device = never_begins c.from.result c.in-Err.fault _ (ends_for c.from.result c.in-Err.fault c.from.ensures);
 }
 
 pub returns-in-Ok : goal.returns-in-Ok
 returns-in-Ok g c = record {
-  promise = session_promise c.law_begins_are_determined.ensures c.args.limits c.args.checked c.in-Ok.session.parts c.answer_script.result _ _ _ (LeftByCrash g.D.Disk c.start.new.disk c.answer_script.new.disk) _ refl refl refl refl c.start.ensures.disk.same_image
+  promise = session_promise c.in-Ok.session c.law_begins_are_determined.ensures c.args.limits c.args.checked c.in-Ok.session.parts c.answer_script.result _ _ _ (LeftByCrash g.D.Disk c.start.new.disk c.answer_script.new.disk) _ refl refl refl refl c.start.ensures.disk.same_image
       (λ rose. omega (arith, rose, c.start.ensures.disk.writes_counted)) (omega (arith, c.start.ensures.disk.counted))
-      c.in-Ok.ensures.started c.in-Ok.ensures.stands c.in-Ok.ensures.checked (λ off. history_takes _ _ c.in-Ok.session _ _ _ (c.in-Ok.ensures.takes off))
+      c.in-Ok.ensures.started c.in-Ok.ensures.stands c.in-Ok.ensures.checked c.in-Ok.ensures.takes
       (leads_on g.D.Disk g.met.D.Disk.only_now c.args.disk.now c.start.new.disk c.answer_script.new.disk c.start.ensures.disk c.in-Ok.ensures.settled) c.answer_script.ensures.answered;
   on_device = λ begun other. c.answer_script.ensures.on_device other c.in-Ok.ensures.settled;
 }

@@ -1,6 +1,6 @@
 use Rattle.std.proofs.Common.{◌≡◌, ℕ, List, Option, Err, refl, sym, ◌∙◌, ap, subst}
 use Rattle.dg_graph.specs.Lines.{ScriptLine}
-use Rattle.dg_io.specs.LinesState.{told}
+use Rattle.dg_cuts.specs.TakenLines.{CutsWithin, TakesBehind}
 use Rattle.dg_machine.specs.declared.reply.Reply.{Reply}
 use Rattle.dg_machine.specs.Answer.{headed}
 use Rattle.dg_session.specs.SessionState.{SessionState}
@@ -33,14 +33,14 @@ pub returns-in_err-batch-clause-comes : goal.returns-in_err-batch-clause-comes
 returns-in_err-batch-clause-comes g c =
     let p : Parts = (the_view c.self.inside).parts in
     let q : Parts = record p { names = c.read_batch.new.names } in
-    let before : Option (List ScriptLine) = told c.args.lines.now (g.S.Source.left c.args.source.now) in
-    let after : Option (List ScriptLine) = told c.read_batch.new.lines (g.S.Source.left c.read_batch.new.source) in
+    let takes : List ScriptLine → Type 0 = TakesBehind c.args.count c.args.lines.now (g.S.Source.left c.args.source.now) c.read_batch.new.lines (g.S.Source.left c.read_batch.new.source) in
+    let short : Type 0 = CutsWithin c.args.count c.args.lines.now (g.S.Source.left c.args.source.now) c.read_batch.new.lines (g.S.Source.left c.read_batch.new.source) in
     let image : Option (List ℕ) = g.D.Disk.image c.args.disk.now in
     let h : Halt = c.in_err-batch.field-0.0 in
     let other : h ≡ halt.Stop stop.Store → ⊥ = λ e. c.read_batch.ensures.no_store (c.in_err-batch.was ∙ ap (λ x. Err x) e) in
-    handed_out c.from_residual.result h (λ r. Carried (command_with c.args.which c.args.count) c.args.count before after c.args.self.now.parts image q image r (LeftByCrash g.D.Disk c.args.disk.now c.args.disk.now)) c.from_residual.ensures
-    (with_crash (command_with c.args.which c.args.count) c.args.count before after c.args.self.now.parts image q image (Err h) (LeftByCrash g.D.Disk c.args.disk.now c.args.disk.now)
-    (unread_comes c.args.which c.args.count c.args.self.now.parts q c.self.inside.held.live.history.names c.read_batch.new.names before after image h c.barred-barred.result
+    handed_out c.from_residual.result h (λ r. Carried (command_with c.args.which c.args.count) takes short c.args.self.now.parts image q image r (LeftByCrash g.D.Disk c.args.disk.now c.args.disk.now)) c.from_residual.ensures
+    (with_crash (command_with c.args.which c.args.count) takes short c.args.self.now.parts image q image (Err h) (LeftByCrash g.D.Disk c.args.disk.now c.args.disk.now)
+    (unread_comes c.args.which c.args.count c.args.self.now.parts q c.self.inside.held.live.history.names c.read_batch.new.names takes short image h c.barred-barred.result
     (λ same. ap (λ ns. let x : Parts = record p { names = ns } in x) same ∙ (ap (λ (x : SessionState). x.parts) c.self.view_is)) c.barred-barred.ensures c.in_err-batch.ensures.reads other)
     (λ got. reading_left g.D.Disk g.met.D.Disk.only_now c.args.disk.now c.args.disk.now reads_none (command_with c.args.which c.args.count) got c.args.self.now.parts (Err h) (λ e. other (fails_as h (halt.Stop stop.Store) e))))
 
@@ -48,11 +48,11 @@ pub add_changes-requires-clause-may : goal.add_changes-requires-clause-may
 add_changes-requires-clause-may g c =
     let p : Parts = (the_view c.self.inside).parts in
     let old : Live = record { history = record c.self.inside.held.live.history { names = c.read_batch.new.names }; pool = c.self.inside.held.live.pool } in
-    let before : Option (List ScriptLine) = told c.args.lines.now (g.S.Source.left c.args.source.now) in
-    let after : Option (List ScriptLine) = told c.read_batch.new.lines (g.S.Source.left c.read_batch.new.source) in
+    let takes : List ScriptLine → Type 0 = TakesBehind c.args.count c.args.lines.now (g.S.Source.left c.args.source.now) c.read_batch.new.lines (g.S.Source.left c.read_batch.new.source) in
+    let short : Type 0 = CutsWithin c.args.count c.args.lines.now (g.S.Source.left c.args.source.now) c.read_batch.new.lines (g.S.Source.left c.read_batch.new.source) in
     let got : List ScriptLine = c.in_ok-batch.ensures.reads.got in
     let asked : IsAsked (Lines_of c.args.which) got p c.args.count c.self.inside.limits.file_bytes old c.in_ok-batch.batch =
-    is_asked c.args.which p c.args.self.now.parts c.args.count old c.in_ok-batch.batch before after c.barred-barred.result (ap (λ (x : SessionState). x.parts) c.self.view_is) c.barred-barred.ensures
+    is_asked c.args.which p c.args.self.now.parts c.args.count old c.in_ok-batch.batch takes c.barred-barred.result (ap (λ (x : SessionState). x.parts) c.self.view_is) c.barred-barred.ensures
     refl refl refl c.self.invariant.0.events c.requires.some c.requires.few c.in_ok-batch.ensures.reads in
     may_add (Lines_of c.args.which) got p c.args.count c.self.inside.limits.file_bytes old c.in_ok-batch.batch asked c.self.invariant.1.live.sound c.self.invariant.1.live.pool
 
@@ -60,19 +60,19 @@ pub returns-in_err-added-clause-comes : goal.returns-in_err-added-clause-comes
 returns-in_err-added-clause-comes g c =
     let p : Parts = (the_view c.self.inside).parts in
     let old : Live = record { history = record c.self.inside.held.live.history { names = c.read_batch.new.names }; pool = c.self.inside.held.live.pool } in
-    let before : Option (List ScriptLine) = told c.args.lines.now (g.S.Source.left c.args.source.now) in
-    let after : Option (List ScriptLine) = told c.read_batch.new.lines (g.S.Source.left c.read_batch.new.source) in
+    let takes : List ScriptLine → Type 0 = TakesBehind c.args.count c.args.lines.now (g.S.Source.left c.args.source.now) c.read_batch.new.lines (g.S.Source.left c.read_batch.new.source) in
+    let short : Type 0 = CutsWithin c.args.count c.args.lines.now (g.S.Source.left c.args.source.now) c.read_batch.new.lines (g.S.Source.left c.read_batch.new.source) in
     let got : List ScriptLine = c.in_ok-batch.ensures.reads.got in
     let asked : IsAsked (Lines_of c.args.which) got p c.args.count c.self.inside.limits.file_bytes old c.in_ok-batch.batch =
-    is_asked c.args.which p c.args.self.now.parts c.args.count old c.in_ok-batch.batch before after c.barred-barred.result (ap (λ (x : SessionState). x.parts) c.self.view_is) c.barred-barred.ensures
+    is_asked c.args.which p c.args.self.now.parts c.args.count old c.in_ok-batch.batch takes c.barred-barred.result (ap (λ (x : SessionState). x.parts) c.self.view_is) c.barred-barred.ensures
     refl refl refl c.self.invariant.0.events c.requires.some c.requires.few c.in_ok-batch.ensures.reads in
     let image : Option (List ℕ) = g.D.Disk.image c.args.disk.now in
     let then_image : Option (List ℕ) = g.D.Disk.image c.add_changes.new.disk in
     let q : Parts = with_handles (with_history p c.add_changes.new.held.live.history) c.add_changes.new.held.handles c.add_changes.new.held.live.pool.value in
     handed_out c.from_residual-in_err-added.result (batch_halt c.in_err-added.field-0.0)
-    (λ r. Carried (command_with c.args.which c.args.count) c.args.count before after c.args.self.now.parts image q then_image r (LeftByCrash g.D.Disk c.args.disk.now c.add_changes.new.disk)) c.from_residual-in_err-added.ensures (
+    (λ r. Carried (command_with c.args.which c.args.count) takes short c.args.self.now.parts image q then_image r (LeftByCrash g.D.Disk c.args.disk.now c.add_changes.new.disk)) c.from_residual-in_err-added.ensures (
       got,
-      takes_failed c.args.count before got after c.in_err-added.field-0.0 c.in_ok-batch.ensures.reads.follows,
+      takes_failed takes short got c.in_err-added.field-0.0 c.in_ok-batch.ensures.reads.taken,
       subst (λ (x : Parts). ComesTo (command_with c.args.which c.args.count) got x image q then_image (Err (batch_halt c.in_err-added.field-0.0))) (ap (λ (x : SessionState). x.parts) c.self.view_is)
           (batch_failed (Lines_of c.args.which) got p c.args.count c.self.inside.limits.file_bytes old c.in_ok-batch.batch asked c.add_changes.new.held.live image then_image
           c.in_err-added.field-0.0 c.in_err-added.ensures.fails q
@@ -87,18 +87,18 @@ pub returns-clause-comes : goal.returns-clause-comes
 returns-clause-comes g c =
     let p : Parts = (the_view c.self.inside).parts in
     let old : Live = record { history = record c.self.inside.held.live.history { names = c.read_batch.new.names }; pool = c.self.inside.held.live.pool } in
-    let before : Option (List ScriptLine) = told c.args.lines.now (g.S.Source.left c.args.source.now) in
-    let after : Option (List ScriptLine) = told c.read_batch.new.lines (g.S.Source.left c.read_batch.new.source) in
+    let takes : List ScriptLine → Type 0 = TakesBehind c.args.count c.args.lines.now (g.S.Source.left c.args.source.now) c.read_batch.new.lines (g.S.Source.left c.read_batch.new.source) in
+    let short : Type 0 = CutsWithin c.args.count c.args.lines.now (g.S.Source.left c.args.source.now) c.read_batch.new.lines (g.S.Source.left c.read_batch.new.source) in
     let got : List ScriptLine = c.in_ok-batch.ensures.reads.got in
     let asked : IsAsked (Lines_of c.args.which) got p c.args.count c.self.inside.limits.file_bytes old c.in_ok-batch.batch =
-    is_asked c.args.which p c.args.self.now.parts c.args.count old c.in_ok-batch.batch before after c.barred-barred.result (ap (λ (x : SessionState). x.parts) c.self.view_is) c.barred-barred.ensures
+    is_asked c.args.which p c.args.self.now.parts c.args.count old c.in_ok-batch.batch takes c.barred-barred.result (ap (λ (x : SessionState). x.parts) c.self.view_is) c.barred-barred.ensures
     refl refl refl c.self.invariant.0.events c.requires.some c.requires.few c.in_ok-batch.ensures.reads in
     let image : Option (List ℕ) = g.D.Disk.image c.args.disk.now in
     let then_image : Option (List ℕ) = g.D.Disk.image c.add_changes.new.disk in
     let q : Parts = with_handles (with_history p c.add_changes.new.held.live.history) c.add_changes.new.held.handles c.add_changes.new.held.live.pool.value in
     let reply : headed (batch_head c.args.which c.in_ok-added.added.events c.in_ok-added.added.total c.in_ok-added.added.last) ≡ c.headed.result = sym (c.headed.ensures ∙ ap headed c.head.ensures) in (
       got,
-      c.in_ok-batch.ensures.reads.follows,
+      c.in_ok-batch.ensures.reads.taken,
       subst (λ (r : Reply). Accepts (command_with c.args.which c.args.count) got c.args.self.now.parts image q then_image r) reply
           (subst (λ (x : Parts). Accepts (command_with c.args.which c.args.count) got x image q then_image (headed (batch_head c.args.which c.in_ok-added.added.events c.in_ok-added.added.total c.in_ok-added.added.last))) (ap (λ (x : SessionState). x.parts) c.self.view_is)
           (subst (λ (y : Parts). Accepts (command_with c.args.which c.args.count) got p image y then_image (headed (batch_head c.args.which c.in_ok-added.added.events c.in_ok-added.added.total c.in_ok-added.added.last)))
@@ -126,10 +126,10 @@ returns-clause-due g c some at needs = absurd (not_ok c.read_batch.result c.in_o
 pub returns-in_err-batch-clause-file : goal.returns-in_err-batch-clause-file
 returns-in_err-batch-clause-file g c = record {
   damaged =
-      let before : Option (List ScriptLine) = told c.args.lines.now (g.S.Source.left c.args.source.now) in
-      let after : Option (List ScriptLine) = told c.read_batch.new.lines (g.S.Source.left c.read_batch.new.source) in
+      let takes : List ScriptLine → Type 0 = TakesBehind c.args.count c.args.lines.now (g.S.Source.left c.args.source.now) c.read_batch.new.lines (g.S.Source.left c.read_batch.new.source) in
+      let short : Type 0 = CutsWithin c.args.count c.args.lines.now (g.S.Source.left c.args.source.now) c.read_batch.new.lines (g.S.Source.left c.read_batch.new.source) in
       handed_out c.from_residual.result c.in_err-batch.field-0.0 (λ r. DamageIn (command_with c.args.which c.args.count) c.args.self.now.parts (g.D.Disk.image c.args.disk.now) r) c.from_residual.ensures
-      (unread_damage c.args.which c.args.count c.args.self.now.parts c.self.inside.held.live.history.names c.read_batch.new.names before after c.barred-barred.result (g.D.Disk.image c.args.disk.now) c.in_err-batch.field-0.0
+      (unread_damage c.args.which c.args.count c.args.self.now.parts c.self.inside.held.live.history.names c.read_batch.new.names takes short c.barred-barred.result (g.D.Disk.image c.args.disk.now) c.in_err-batch.field-0.0
       c.barred-barred.ensures c.in_err-batch.ensures.reads);
   undamaged = none_met c.from_residual.result (MeetsNone (reads_for (command_with c.args.which c.args.count)) c.args.self.now.parts (g.D.Disk.image c.args.disk.now)) c.from_residual.ensures.0;
   reads =
@@ -142,11 +142,11 @@ returns-in_err-added-clause-file g c = record {
   damaged =
       let p : Parts = (the_view c.self.inside).parts in
       let old : Live = record { history = record c.self.inside.held.live.history { names = c.read_batch.new.names }; pool = c.self.inside.held.live.pool } in
-      let before : Option (List ScriptLine) = told c.args.lines.now (g.S.Source.left c.args.source.now) in
-      let after : Option (List ScriptLine) = told c.read_batch.new.lines (g.S.Source.left c.read_batch.new.source) in
+      let takes : List ScriptLine → Type 0 = TakesBehind c.args.count c.args.lines.now (g.S.Source.left c.args.source.now) c.read_batch.new.lines (g.S.Source.left c.read_batch.new.source) in
+      let short : Type 0 = CutsWithin c.args.count c.args.lines.now (g.S.Source.left c.args.source.now) c.read_batch.new.lines (g.S.Source.left c.read_batch.new.source) in
       let got : List ScriptLine = c.in_ok-batch.ensures.reads.got in
       let asked : IsAsked (Lines_of c.args.which) got p c.args.count c.self.inside.limits.file_bytes old c.in_ok-batch.batch =
-      is_asked c.args.which p c.args.self.now.parts c.args.count old c.in_ok-batch.batch before after c.barred-barred.result (ap (λ (x : SessionState). x.parts) c.self.view_is) c.barred-barred.ensures
+      is_asked c.args.which p c.args.self.now.parts c.args.count old c.in_ok-batch.batch takes c.barred-barred.result (ap (λ (x : SessionState). x.parts) c.self.view_is) c.barred-barred.ensures
       refl refl refl c.self.invariant.0.events c.requires.some c.requires.few c.in_ok-batch.ensures.reads in
       let image : Option (List ℕ) = g.D.Disk.image c.args.disk.now in
       let then_image : Option (List ℕ) = g.D.Disk.image c.add_changes.new.disk in
@@ -158,11 +158,11 @@ returns-in_err-added-clause-file g c = record {
   reads =
       let p : Parts = (the_view c.self.inside).parts in
       let old : Live = record { history = record c.self.inside.held.live.history { names = c.read_batch.new.names }; pool = c.self.inside.held.live.pool } in
-      let before : Option (List ScriptLine) = told c.args.lines.now (g.S.Source.left c.args.source.now) in
-      let after : Option (List ScriptLine) = told c.read_batch.new.lines (g.S.Source.left c.read_batch.new.source) in
+      let takes : List ScriptLine → Type 0 = TakesBehind c.args.count c.args.lines.now (g.S.Source.left c.args.source.now) c.read_batch.new.lines (g.S.Source.left c.read_batch.new.source) in
+      let short : Type 0 = CutsWithin c.args.count c.args.lines.now (g.S.Source.left c.args.source.now) c.read_batch.new.lines (g.S.Source.left c.read_batch.new.source) in
       let got : List ScriptLine = c.in_ok-batch.ensures.reads.got in
       let asked : IsAsked (Lines_of c.args.which) got p c.args.count c.self.inside.limits.file_bytes old c.in_ok-batch.batch =
-      is_asked c.args.which p c.args.self.now.parts c.args.count old c.in_ok-batch.batch before after c.barred-barred.result (ap (λ (x : SessionState). x.parts) c.self.view_is) c.barred-barred.ensures
+      is_asked c.args.which p c.args.self.now.parts c.args.count old c.in_ok-batch.batch takes c.barred-barred.result (ap (λ (x : SessionState). x.parts) c.self.view_is) c.barred-barred.ensures
       refl refl refl c.self.invariant.0.events c.requires.some c.requires.few c.in_ok-batch.ensures.reads in
       let image : Option (List ℕ) = g.D.Disk.image c.args.disk.now in
       let then_image : Option (List ℕ) = g.D.Disk.image c.add_changes.new.disk in
@@ -180,11 +180,11 @@ returns-clause-file g c = record {
   undamaged =
       subst (λ x. MeetsNone x c.args.self.now.parts (g.D.Disk.image c.args.disk.now)) (sym (reads_of c.args.which c.args.count)) (let p : Parts = (the_view c.self.inside).parts in
       let old : Live = record { history = record c.self.inside.held.live.history { names = c.read_batch.new.names }; pool = c.self.inside.held.live.pool } in
-      let before : Option (List ScriptLine) = told c.args.lines.now (g.S.Source.left c.args.source.now) in
-      let after : Option (List ScriptLine) = told c.read_batch.new.lines (g.S.Source.left c.read_batch.new.source) in
+      let takes : List ScriptLine → Type 0 = TakesBehind c.args.count c.args.lines.now (g.S.Source.left c.args.source.now) c.read_batch.new.lines (g.S.Source.left c.read_batch.new.source) in
+      let short : Type 0 = CutsWithin c.args.count c.args.lines.now (g.S.Source.left c.args.source.now) c.read_batch.new.lines (g.S.Source.left c.read_batch.new.source) in
       let got : List ScriptLine = c.in_ok-batch.ensures.reads.got in
       let asked : IsAsked (Lines_of c.args.which) got p c.args.count c.self.inside.limits.file_bytes old c.in_ok-batch.batch =
-      is_asked c.args.which p c.args.self.now.parts c.args.count old c.in_ok-batch.batch before after c.barred-barred.result (ap (λ (x : SessionState). x.parts) c.self.view_is) c.barred-barred.ensures
+      is_asked c.args.which p c.args.self.now.parts c.args.count old c.in_ok-batch.batch takes c.barred-barred.result (ap (λ (x : SessionState). x.parts) c.self.view_is) c.barred-barred.ensures
       refl refl refl c.self.invariant.0.events c.requires.some c.requires.few c.in_ok-batch.ensures.reads in
       let image : Option (List ℕ) = g.D.Disk.image c.args.disk.now in
       let then_image : Option (List ℕ) = g.D.Disk.image c.add_changes.new.disk in
@@ -194,11 +194,11 @@ returns-clause-file g c = record {
   reads =
       let p : Parts = (the_view c.self.inside).parts in
       let old : Live = record { history = record c.self.inside.held.live.history { names = c.read_batch.new.names }; pool = c.self.inside.held.live.pool } in
-      let before : Option (List ScriptLine) = told c.args.lines.now (g.S.Source.left c.args.source.now) in
-      let after : Option (List ScriptLine) = told c.read_batch.new.lines (g.S.Source.left c.read_batch.new.source) in
+      let takes : List ScriptLine → Type 0 = TakesBehind c.args.count c.args.lines.now (g.S.Source.left c.args.source.now) c.read_batch.new.lines (g.S.Source.left c.read_batch.new.source) in
+      let short : Type 0 = CutsWithin c.args.count c.args.lines.now (g.S.Source.left c.args.source.now) c.read_batch.new.lines (g.S.Source.left c.read_batch.new.source) in
       let got : List ScriptLine = c.in_ok-batch.ensures.reads.got in
       let asked : IsAsked (Lines_of c.args.which) got p c.args.count c.self.inside.limits.file_bytes old c.in_ok-batch.batch =
-      is_asked c.args.which p c.args.self.now.parts c.args.count old c.in_ok-batch.batch before after c.barred-barred.result (ap (λ (x : SessionState). x.parts) c.self.view_is) c.barred-barred.ensures
+      is_asked c.args.which p c.args.self.now.parts c.args.count old c.in_ok-batch.batch takes c.barred-barred.result (ap (λ (x : SessionState). x.parts) c.self.view_is) c.barred-barred.ensures
       refl refl refl c.self.invariant.0.events c.requires.some c.requires.few c.in_ok-batch.ensures.reads in
       let image : Option (List ℕ) = g.D.Disk.image c.args.disk.now in
       let then_image : Option (List ℕ) = g.D.Disk.image c.add_changes.new.disk in

@@ -3,7 +3,7 @@ use Rattle.std.proofs.lemmas.Bool.{false≢true}
 use Rattle.dg_disk.proofs.FrameLemmas as frames
 use Rattle.dg_disk.specs.Calls.{LeftByCrash}
 use Rattle.dg_session.proofs.CommandCrashes.{reading_left}
-use Rattle.dg_io.specs.LinesState.{told}
+use Rattle.dg_cuts.specs.TakenLines.{CutsWithin, TakesBehind}
 use Rattle.dg_machine.specs.declared.command.Command.TheVariants as command
 use Rattle.dg_machine.specs.CommandGrammar.{CountIsInRange}
 use Rattle.dg_session.specs.Session.{is_at_hand}
@@ -77,7 +77,7 @@ returns-in-Workload-clause-carries g c =
     let x = command.Workload c.in-Workload.seed c.in-Workload.count in
     let r = c.workload in
     others_carry r.result c.args.command.now x c.in-Workload.is refl tt
-    (alone x x (told c.args.lines.now (g.S.Source.left c.args.source.now)) c.args.self.now.parts (g.D.Disk.image c.args.disk.now) r.new.self.parts (g.D.Disk.image r.new.disk) r.result (LeftByCrash g.D.Disk c.args.disk.now r.new.disk) refl refl r.ensures.comes r.ensures.crash)
+    (alone x c.args.lines.now (g.S.Source.left c.args.source.now) c.args.self.now.parts (g.D.Disk.image c.args.disk.now) r.new.self.parts (g.D.Disk.image r.new.disk) r.result (LeftByCrash g.D.Disk c.args.disk.now r.new.disk) refl (λ e. r.ensures.no_read e, λ e. r.ensures.no_limit e) r.ensures.comes r.ensures.crash)
     (record { store = r.ensures.store; read = λ e. absurd (r.ensures.no_read e); limit = λ e. absurd (r.ensures.no_limit e); store_read = r.ensures.store_read }) r.ensures.file r.ensures.disk (λ e. absurd (false≢true (sym e)))
 
 pub returns-in-Create-clause-carries : goal.returns-in-Create-clause-carries
@@ -87,7 +87,7 @@ returns-in-Create-clause-carries g c =
     let image = g.D.Disk.image c.args.disk.now in
     let r = c.create in
     others_carry r.result c.args.command.now x c.in-Create.is refl tt
-    (alone x x (told c.args.lines.now (g.S.Source.left c.args.source.now)) p image r.new.self.parts (g.D.Disk.image r.new.disk) r.result (LeftByCrash g.D.Disk c.args.disk.now r.new.disk) refl refl r.ensures.comes r.ensures.crash)
+    (alone x c.args.lines.now (g.S.Source.left c.args.source.now) p image r.new.self.parts (g.D.Disk.image r.new.disk) r.result (LeftByCrash g.D.Disk c.args.disk.now r.new.disk) refl (λ e. r.ensures.no_read e, λ e. r.ensures.no_limit e) r.ensures.comes r.ensures.crash)
     (record {
       store = r.ensures.store;
       read = λ e. absurd (r.ensures.no_read e);
@@ -103,10 +103,10 @@ returns-in-Certify-clause-carries g c =
     let image = g.D.Disk.image c.args.disk.now in
     let r = c.certify in
     let comes = r.ensures.comes image in
-    let lines = told c.args.lines.now (g.S.Source.left c.args.source.now) in
-    let then_lines = told r.new.lines (g.S.Source.left r.new.source) in
+    let takes = TakesBehind c.in-Certify.count c.args.lines.now (g.S.Source.left c.args.source.now) r.new.lines (g.S.Source.left r.new.source) in
+    let short = CutsWithin c.in-Certify.count c.args.lines.now (g.S.Source.left c.args.source.now) r.new.lines (g.S.Source.left r.new.source) in
     others_carry r.result c.args.command.now x c.in-Certify.is refl tt
-    (with_crash x c.in-Certify.count lines then_lines p image r.new.self.parts image r.result (LeftByCrash g.D.Disk c.args.disk.now c.args.disk.now) comes
+    (with_crash x takes short p image r.new.self.parts image r.result (LeftByCrash g.D.Disk c.args.disk.now c.args.disk.now) comes
     (λ got. reading_left g.D.Disk g.met.D.Disk.only_now c.args.disk.now c.args.disk.now frames.reads_none x got p r.result r.ensures.no_store))
     (record {
       store = λ e. absurd (r.ensures.no_store e);

@@ -6,9 +6,9 @@ use Rattle.dg_machine.specs.Planning.{bases_in}
 use Rattle.dg_ask.specs.HeldIndex.{point_over, span_held}
 use Rattle.dg_session.specs.Session.{Accepts, Denies, refused_by, retrieval_needs}
 use Rattle.dg_start.specs.StoredHistory.{index_opening}
-use Rattle.std.proofs.Common.{◌≡◌, ℕ, true, [], ◌∷◌, Some, Err, List, Option, map, sym, ◌∙◌, ap, subst, arith}
+use Rattle.std.proofs.Common.{◌≡◌, ℕ, true, [], ◌∷◌, Some, Err, List, map, sym, ◌∙◌, ap, subst, arith}
 use Rattle.dg_graph.specs.Lines.{ScriptLine}
-use Rattle.dg_io.specs.LinesState.{told}
+use Rattle.dg_cuts.specs.TakenLines.{CutsWithin, TakesBehind}
 use Rattle.dg_machine.specs.declared.command.Command.TheVariants as command
 use Rattle.dg_machine.specs.declared.reply.Refusal.TheVariants as refusal
 use Rattle.dg_machine.specs.CommandGrammar.{plan_line_in}
@@ -25,10 +25,10 @@ use Rattle.dg_session.proofs.session.Session.certify.Goals as goal
 
 pub returns-in_err-written-clause-comes : goal.returns-in_err-written-clause-comes
 returns-in_err-written-clause-comes g c image =
-    let before : Option (List ScriptLine) = told c.args.lines.now (g.S.Source.left c.args.source.now) in
-    let after : Option (List ScriptLine) = told c.read_plan_lines.new.lines (g.S.Source.left c.read_plan_lines.new.source) in
-    handed_out c.from_residual.result (halt.Stop c.in_err-written.field-0.0) (Comes (command.Certify c.args.t c.args.cols c.args.count) c.args.count before after c.args.self.now.parts image c.args.self.now.parts image) c.from_residual.ensures
-    (certificate_stopped c.args.self.now.parts c.args.t c.args.cols c.args.count before after image c.in_err-written.field-0.0 (λ e. c.read_plan_lines.ensures.no_store (c.in_err-written.was ∙ ap (λ x. Err x) e)))
+    let takes : List ScriptLine → Type 0 = TakesBehind c.args.count c.args.lines.now (g.S.Source.left c.args.source.now) c.read_plan_lines.new.lines (g.S.Source.left c.read_plan_lines.new.source) in
+    let short : Type 0 = CutsWithin c.args.count c.args.lines.now (g.S.Source.left c.args.source.now) c.read_plan_lines.new.lines (g.S.Source.left c.read_plan_lines.new.source) in
+    handed_out c.from_residual.result (halt.Stop c.in_err-written.field-0.0) (Comes (command.Certify c.args.t c.args.cols c.args.count) takes short c.args.self.now.parts image c.args.self.now.parts image) c.from_residual.ensures
+    (certificate_stopped c.args.self.now.parts c.args.t c.args.cols c.args.count takes short image c.in_err-written.field-0.0 c.in_err-written.ensures.cut (λ e. c.read_plan_lines.ensures.no_store (c.in_err-written.was ∙ ap (λ x. Err x) e)))
 
 pub returns-then-written-count-clause-comes : goal.returns-then-written-count-clause-comes
 returns-then-written-count-clause-comes g c image =
@@ -37,14 +37,14 @@ returns-then-written-count-clause-comes g c image =
 
 pub returns-in_err-index-clause-comes : goal.returns-in_err-index-clause-comes
 returns-in_err-index-clause-comes g c image =
-    let before : Option (List ScriptLine) = told c.args.lines.now (g.S.Source.left c.args.source.now) in
-    let after : Option (List ScriptLine) = told c.read_plan_lines.new.lines (g.S.Source.left c.read_plan_lines.new.source) in
+    let takes : List ScriptLine → Type 0 = TakesBehind c.args.count c.args.lines.now (g.S.Source.left c.args.source.now) c.read_plan_lines.new.lines (g.S.Source.left c.read_plan_lines.new.source) in
+    let short : Type 0 = CutsWithin c.args.count c.args.lines.now (g.S.Source.left c.args.source.now) c.read_plan_lines.new.lines (g.S.Source.left c.read_plan_lines.new.source) in
     let w = c.in_ok-written.ensures.reads in
     let p : Parts = c.args.self.now.parts in
     let same = ap (λ (x : SessionState). x.parts) c.self.view_is in
     let refused =
     subst (λ r. IfErr r (λ refusal. (q : Parts) → q.index ≡ index_opening c.self.inside.held.live.history.index → (handles : ℕ) → refused_by q 0 (retrieval_needs (c.args.t ∷ []) handles) ≡ Some refusal)) c.in_err-index.was c.index_at-index.ensures.refused in
-    handed_out c.from_residual-in_err-index.result (halt.Refusal c.in_err-index.field-0.0) (Comes (command.Certify c.args.t c.args.cols c.args.count) c.args.count before after p image p image) c.from_residual-in_err-index.ensures
+    handed_out c.from_residual-in_err-index.result (halt.Refusal c.in_err-index.field-0.0) (Comes (command.Certify c.args.t c.args.cols c.args.count) takes short p image p image) c.from_residual-in_err-index.ensures
     (w.0, w.1, certificate_out p c.args.t c.args.cols c.args.count c.in_ok-written.written.read w.0 image c.in_err-index.field-0.0 w.2.read_is (omega (arith, c.if-written-count.false)) (refused p (ap (λ (x : Parts). x.index) (sym same)) 0))
 
 pub returns-then-not-written-clause-comes : goal.returns-then-not-written-clause-comes
@@ -60,8 +60,8 @@ returns-then-not-written-clause-comes g c image =
 
 pub returns-in_err-keep-clause-comes : goal.returns-in_err-keep-clause-comes
 returns-in_err-keep-clause-comes g c image =
-    let before : Option (List ScriptLine) = told c.args.lines.now (g.S.Source.left c.args.source.now) in
-    let after : Option (List ScriptLine) = told c.read_plan_lines.new.lines (g.S.Source.left c.read_plan_lines.new.source) in
+    let takes : List ScriptLine → Type 0 = TakesBehind c.args.count c.args.lines.now (g.S.Source.left c.args.source.now) c.read_plan_lines.new.lines (g.S.Source.left c.read_plan_lines.new.source) in
+    let short : Type 0 = CutsWithin c.args.count c.args.lines.now (g.S.Source.left c.args.source.now) c.read_plan_lines.new.lines (g.S.Source.left c.read_plan_lines.new.source) in
     let w = c.in_ok-written.ensures.reads in
     let p : Parts = c.args.self.now.parts in
     let same = ap (λ (x : SessionState). x.parts) c.self.view_is in
@@ -69,7 +69,7 @@ returns-in_err-keep-clause-comes g c image =
     let there : p.index ≡ Some o = ap (λ (x : Parts). x.index) (sym same) ∙ subst (λ r. IfOk r (λ x. index_opening c.self.inside.held.live.history.index ≡ Some x.now.opening)) c.in_ok-index.was c.index_at-index.ensures.index in
     let inside : in_range (span_held (Some o)) c.args.t ≡ true = subst (λ r. IfOk r (λ x. in_range (span_held (Some x.now.opening)) c.args.t ≡ true)) c.in_ok-index.was c.index_at-index.ensures.there in
     let enough = enough_read w.0 c.in_ok-written.written.read c.args.count w.2.read_is (omega (arith, c.if-written-count.false)) in
-    handed_out c.from_residual-in_err-keep.result (halt.Refusal refusal.OutOfMemory) (Comes (command.Certify c.args.t c.args.cols c.args.count) c.args.count before after p image _ image) c.from_residual-in_err-keep.ensures (
+    handed_out c.from_residual-in_err-keep.result (halt.Refusal refusal.OutOfMemory) (Comes (command.Certify c.args.t c.args.cols c.args.count) takes short p image _ image) c.from_residual-in_err-keep.ensures (
       w.0,
       w.1,
       subst (λ (x : Parts). Denies (command.Certify c.args.t c.args.cols c.args.count) w.0 p image x image refusal.OutOfMemory) (sym same)
@@ -78,8 +78,8 @@ returns-in_err-keep-clause-comes g c image =
 
 pub returns-in_err-verdict-clause-comes : goal.returns-in_err-verdict-clause-comes
 returns-in_err-verdict-clause-comes g c image =
-    let before : Option (List ScriptLine) = told c.args.lines.now (g.S.Source.left c.args.source.now) in
-    let after : Option (List ScriptLine) = told c.read_plan_lines.new.lines (g.S.Source.left c.read_plan_lines.new.source) in
+    let takes : List ScriptLine → Type 0 = TakesBehind c.args.count c.args.lines.now (g.S.Source.left c.args.source.now) c.read_plan_lines.new.lines (g.S.Source.left c.read_plan_lines.new.source) in
+    let short : Type 0 = CutsWithin c.args.count c.args.lines.now (g.S.Source.left c.args.source.now) c.read_plan_lines.new.lines (g.S.Source.left c.read_plan_lines.new.source) in
     let w = c.in_ok-written.ensures.reads in
     let p : Parts = c.args.self.now.parts in
     let same = ap (λ (x : SessionState). x.parts) c.self.view_is in
@@ -87,7 +87,7 @@ returns-in_err-verdict-clause-comes g c image =
     let there : p.index ≡ Some o = ap (λ (x : Parts). x.index) (sym same) ∙ subst (λ r. IfOk r (λ x. index_opening c.self.inside.held.live.history.index ≡ Some x.now.opening)) c.in_ok-index.was c.index_at-index.ensures.index in
     let inside : in_range (span_held (Some o)) c.args.t ≡ true = subst (λ r. IfOk r (λ x. in_range (span_held (Some x.now.opening)) c.args.t ≡ true)) c.in_ok-index.was c.index_at-index.ensures.there in
     let enough = enough_read w.0 c.in_ok-written.written.read c.args.count w.2.read_is (omega (arith, c.if-written-count.false)) in
-    handed_out c.from_residual-in_err-verdict.result (halt.Refusal refusal.OutOfMemory) (Comes (command.Certify c.args.t c.args.cols c.args.count) c.args.count before after p image _ image) c.from_residual-in_err-verdict.ensures (
+    handed_out c.from_residual-in_err-verdict.result (halt.Refusal refusal.OutOfMemory) (Comes (command.Certify c.args.t c.args.cols c.args.count) takes short p image _ image) c.from_residual-in_err-verdict.ensures (
       w.0,
       w.1,
       subst (λ (x : Parts). Denies (command.Certify c.args.t c.args.cols c.args.count) w.0 p image x image refusal.OutOfMemory) (sym same)
