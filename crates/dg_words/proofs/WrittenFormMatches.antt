@@ -1,11 +1,12 @@
--- What the matches of the written form have: a value for the index, and a flag that is true or false.
+-- What the matches of the written form have: a value for the index, a flag that is true or false, and a number that is
+-- not above the most.
 use Rattle.std.proofs.Common.{◌≡◌, ◌∙◌, ◌⊎◌, ◌<◌, ◌≤◌, ◌||◌, ℕ, zero, suc, Bool, true, false, true≢false, not, List, [], ◌∷◌, map, length, codes, Option, Some, None, IfSome, is_some, refl, sym, ap, subst, inl, inr, arith, eq-eqb, eqb-true, nat_eq}
-use Rattle.std.specs.Prelude.{option_map, option_and_then, slice_get, slice_index, slice_index_or, All}
+use Rattle.std.specs.Prelude.{option_map, option_and_then, if◌then◌else◌, slice_get, slice_index, slice_index_or, All}
 use Rattle.std.specs.List.{list_all}
 use Rattle.std.specs.Str.{bytes_eq}
 use Rattle.std.specs.Borrow.{Bor}
 use Rattle.std.proofs.lemmas.Slice.Eq.{bytes_eq-Decides}
-use Rattle.clap.specs.Words.{Accepts, App, HasMatchesOf, IsParsedFrom, IsPlain, IsPlainArg, Rule, Text, app_of, args_of, first_of, first_value, found_of, groups_of, is_simple, matched_of, matches_of, one_of, one_text, parser_of, read_as, reading_of, rows_of, rule_of}
+use Rattle.clap.specs.Words.{Accepts, App, HasMatchesOf, IsParsedFrom, IsPlain, IsPlainArg, IsUnsignedIn, Rule, Text, app_of, args_of, first_of, first_value, found_of, groups_of, is_simple, matched_of, matches_of, one_of, one_text, parser_of, read_as, reading_of, rows_of, rule_of}
 use Rattle.clap.specs.Built.{IsAuto}
 use Rattle.clap.specs.Facts.{Entry, EntryPasses, PassesArg, ValuesPass, least_values, parser_of_value, unwrap_or_range}
 use Rattle.clap.specs.Simple.{IsSimple, is_ready, is_ready_leaf}
@@ -22,8 +23,8 @@ use Rattle.clap.specs.declared.parser.matches.MatchedArg.{MatchedArg}
 use Rattle.clap.proofs.CallerLemmas.{entry_by_id, required_has_value, same_rules_by_id}
 use Rattle.clap.proofs.SimpleLemmas.{ready_simple}
 use Rattle.clap.proofs.WalkLemmas.{both, first_value-rows, one_text-rows}
-use Rattle.dg_words.specs.Parsed.{Finds, FlagReadsAs}
-use Rattle.dg_words.specs.WrittenForm.{checked_rule, form, index_of, index_rule, is_checked, is_true}
+use Rattle.dg_words.specs.Parsed.{Finds, FlagReadsAs, NumberReadsAs}
+use Rattle.dg_words.specs.WrittenForm.{cache_max, cache_of, cache_rule, checked_rule, form, index_of, index_rule, is_checked, is_true, number_of}
 
 -- ---- tests
 
@@ -48,36 +49,50 @@ one_is : (a b : Bool) → (a || b) ≡ true → (a ≡ true) ⊎ (b ≡ true)
 one_is true b e = inl refl
 one_is false b e = inr e
 
--- ---- the two arguments
+-- ---- the three arguments
 
 -- the arguments of a command of the written form
 record Args (c : Command) : Type 0 where
   pub index : Arg
   pub flag : Arg
-  pub are : args_of c ≡ index ∷ flag ∷ []
+  pub cache : Arg
+  pub are : args_of c ≡ index ∷ flag ∷ cache ∷ []
   pub index_is : rule_of index ≡ index_rule
   pub flag_is : rule_of flag ≡ checked_rule
+  pub cache_is : rule_of cache ≡ cache_rule
 
-two_of : (xs : List Arg) → map rule_of xs ≡ index_rule ∷ checked_rule ∷ []
-    → (a : Arg) × (b : Arg) × (xs ≡ a ∷ b ∷ []) × (rule_of a ≡ index_rule) × (rule_of b ≡ checked_rule)
-two_of [] e = absurd (distinct 0 2 refl (ap length e))
-two_of (a ∷ []) e = absurd (distinct 1 2 refl (ap length e))
-two_of (a ∷ b ∷ []) e =
-    (a, b, refl, ap (λ rs. slice_index_or rs 0 index_rule) e, ap (λ rs. slice_index_or rs 1 index_rule) e)
-two_of (a ∷ b ∷ x ∷ xs) e =
-    let bad : suc (suc (suc (length (map rule_of xs)))) ≡ 2 = ap length e in
+three_of : (xs : List Arg) → map rule_of xs ≡ index_rule ∷ checked_rule ∷ cache_rule ∷ []
+    → (a : Arg) × (b : Arg) × (z : Arg) × (xs ≡ a ∷ b ∷ z ∷ []) × (rule_of a ≡ index_rule) × (rule_of b ≡ checked_rule) × (rule_of z ≡ cache_rule)
+three_of [] e = absurd (distinct 0 3 refl (ap length e))
+three_of (a ∷ []) e = absurd (distinct 1 3 refl (ap length e))
+three_of (a ∷ b ∷ []) e = absurd (distinct 2 3 refl (ap length e))
+three_of (a ∷ b ∷ z ∷ []) e =
+    (a, b, z, refl, ap (λ rs. slice_index_or rs 0 index_rule) e, ap (λ rs. slice_index_or rs 1 index_rule) e, ap (λ rs. slice_index_or rs 2 index_rule) e)
+three_of (a ∷ b ∷ z ∷ x ∷ xs) e =
+    let bad : suc (suc (suc (suc (length (map rule_of xs))))) ≡ 3 = ap length e in
     absurd (omega arith)
 
 args : (c : Command) → app_of c ≡ form → Args c
 args c e =
-    let two = two_of (args_of c) (ap (λ (a : App). a.top.rules) e) in
-    record { index = two.0; flag = two.1; are = two.2; index_is = two.3; flag_is = two.4 }
+    let three = three_of (args_of c) (ap (λ (a : App). a.top.rules) e) in
+    record {
+      index = three.0;
+      flag = three.1;
+      cache = three.2;
+      are = three.3;
+      index_is = three.4;
+      flag_is = three.5;
+      cache_is = three.6;
+    }
 
 index_id : (c : Command) (s : Args c) → s.index.id.now ≡ codes "INDEX"
 index_id c s = ap (λ (r : Rule). r.id) s.index_is
 
 flag_id : (c : Command) (s : Args c) → s.flag.id.now ≡ codes "checked"
 flag_id c s = ap (λ (r : Rule). r.id) s.flag_is
+
+cache_id : (c : Command) (s : Args c) → s.cache.id.now ≡ codes "cache"
+cache_id c s = ap (λ (r : Rule). r.id) s.cache_is
 
 -- an argument that is simple and free excludes nothing, and its value is not cut
 plain : (a : Arg) → is_simple_arg a ≡ true → is_free_arg a ≡ true → IsPlainArg a × (a.val_delim ≡ None)
@@ -90,10 +105,11 @@ plain a simple free =
     let f2 = both (is_empty a.conflicts.items) _ f1.1 in
     ((off a.exclusive f1.0, empty_is a.conflicts.items f2.0, empty_is a.overrides.items s1.0, empty_is a.groups.items s3.0), none_is a.val_delim s4.0)
 
-plain_pair : (a b : Arg) → IsPlainArg a → IsPlainArg b → All IsPlainArg (a ∷ b ∷ [])
-plain_pair a b p q zero d lt = p
-plain_pair a b p q (suc zero) d lt = q
-plain_pair a b p q (suc (suc k)) d lt = absurd (omega arith)
+plain_three : (a b z : Arg) → IsPlainArg a → IsPlainArg b → IsPlainArg z → All IsPlainArg (a ∷ b ∷ z ∷ [])
+plain_three a b z p q r zero d lt = p
+plain_three a b z p q r (suc zero) d lt = q
+plain_three a b z p q r (suc (suc zero)) d lt = r
+plain_three a b z p q r (suc (suc (suc k))) d lt = absurd (omega arith)
 
 plain_rule : (a : Arg) (r : Rule) → rule_of a ≡ r → r.is_simple ≡ true → r.is_free ≡ true → IsPlainArg a × (a.val_delim ≡ None)
 plain_rule a r is simple free = plain a (ap (λ (x : Rule). x.is_simple) is ∙ simple) (ap (λ (x : Rule). x.is_free) is ∙ free)
@@ -103,7 +119,7 @@ simple_form c e = ready_simple c (ap (λ (a : App). is_ready a.top) e) (ap (λ (
 
 plain_form : (c : Command) → app_of c ≡ form → Args c → IsPlain c
 plain_form c e s = (
-  subst (All IsPlainArg) (sym s.are) (plain_pair s.index s.flag (plain_rule s.index index_rule s.index_is refl refl).0 (plain_rule s.flag checked_rule s.flag_is refl refl).0),
+  subst (All IsPlainArg) (sym s.are) (plain_three s.index s.flag s.cache (plain_rule s.index index_rule s.index_is refl refl).0 (plain_rule s.flag checked_rule s.flag_is refl refl).0 (plain_rule s.cache cache_rule s.cache_is refl refl).0),
   (simple_form c e).groups,
 )
 
@@ -112,25 +128,33 @@ plain_form c e s = (
 head : List ℕ → ℕ
 head t = slice_index t 0
 
-apart : codes "INDEX" ≡ codes "checked" → ⊥
-unfolding head
-apart e = distinct 73 99 refl (ap head e)
+-- the place of the argument of this id
+abbrev place : Text → ℕ
+place id = if bytes_eq id (codes "INDEX") then 0 else if bytes_eq id (codes "checked") then 1 else 2
 
-pair_unique : (a b : Arg) → a.id.now ≡ codes "INDEX" → b.id.now ≡ codes "checked" → (k : ℕ) (d : Arg) → k < 2 → (j : ℕ) (e : Arg) → j < 2
-    → (slice_index_or (a ∷ b ∷ []) j e).id.now ≡ (slice_index_or (a ∷ b ∷ []) k d).id.now → j ≡ k
-pair_unique a b ia ib zero d lt zero e low same = refl
-pair_unique a b ia ib zero d lt (suc zero) e low same = absurd (apart (sym ia ∙ sym same ∙ ib))
-pair_unique a b ia ib (suc zero) d lt zero e low same = absurd (apart (sym ia ∙ same ∙ ib))
-pair_unique a b ia ib (suc zero) d lt (suc zero) e low same = refl
-pair_unique a b ia ib (suc (suc k)) d lt j e low same = absurd (omega arith)
-pair_unique a b ia ib k d lt (suc (suc j)) e low same = absurd (omega arith)
+abbrev id_at : List Arg → ℕ → Arg → Text
+id_at xs k d = (slice_index_or xs k d).id.now
 
-unique : (c : Command) (s : Args c) (k : ℕ) (d : Arg) → k < 2
-    → (j : ℕ) (e : Arg) → j < length (args_of c) → bytes_eq (slice_index_or (args_of c) j e).id.now (slice_index_or (args_of c) k d).id.now ≡ true → j ≡ k
+abbrev arguments : (c : Command) → Args c → List Arg
+arguments c s = s.index ∷ s.flag ∷ s.cache ∷ []
+
+place_is : (c : Command) (s : Args c) (k : ℕ) (d : Arg) → k < 3 → place (id_at (arguments c s) k d) ≡ k
+place_is c s zero d lt = ap place (index_id c s)
+place_is c s (suc zero) d lt = ap place (flag_id c s)
+place_is c s (suc (suc zero)) d lt = ap place (cache_id c s)
+place_is c s (suc (suc (suc k))) d lt = absurd (omega arith)
+
+one_place : (x y : Text) (j k : ℕ) → place x ≡ j → place y ≡ k → bytes_eq x y ≡ true → j ≡ k
+one_place x y j k at there same =
+    let equal : x ≡ y = (bytes_eq-Decides x y).0 same in
+    sym at ∙ ap place equal ∙ there
+
+unique : (c : Command) (s : Args c) (k : ℕ) (d : Arg) → k < 3
+    → (j : ℕ) (e : Arg) → j < length (args_of c) → bytes_eq (id_at (args_of c) j e) (id_at (args_of c) k d) ≡ true → j ≡ k
 unique c s k d lt =
-    subst (λ (ys : List Arg). (j : ℕ) (e : Arg) → j < length ys → bytes_eq (slice_index_or ys j e).id.now (slice_index_or ys k d).id.now ≡ true → j ≡ k)
+    subst (λ (ys : List Arg). (j : ℕ) (e : Arg) → j < length ys → bytes_eq (id_at ys j e) (id_at ys k d) ≡ true → j ≡ k)
     (sym s.are)
-    (λ j e low same. pair_unique s.index s.flag (index_id c s) (flag_id c s) k d lt j e low ((bytes_eq-Decides _ _).0 same))
+    (λ j e low same. one_place (id_at (arguments c s) j e) (id_at (arguments c s) k d) j k (place_is c s j e low) (place_is c s k d lt) same)
 
 -- the id is neither that of help nor that of the version
 own : (a : Arg) (id : Text) → a.id.now ≡ id → nat_eq (head id) 104 ≡ false → nat_eq (head id) 118 ≡ false → IsAuto a → ⊥
@@ -160,83 +184,147 @@ index_there c m e s p =
     (λ empty. distinct 73 0 refl (ap head (sym id ∙ empty)))
     (own (slice_index_or (args_of c) 0 a) (codes "INDEX") id refl refl))
 
+-- ---- an argument with a parser
+
+-- the argument of this id, whose values are of this parser and read as they are written
+record Takes (c : Command) (id : Text) (q : ValueParser) : Type 0 where
+  pub place : ℕ
+  pub arg : Arg
+  pub low : place < length (args_of c)
+  pub id_is : (slice_index_or (args_of c) place arg).id.now ≡ id
+  pub parser : (slice_index_or (args_of c) place arg).value_parser ≡ Some q
+  pub alone : (j : ℕ) (e : Arg) → j < length (args_of c) → bytes_eq (id_at (args_of c) j e) (id_at (args_of c) place arg) ≡ true → j ≡ place
+  pub own : IsAuto (slice_index_or (args_of c) place arg) → ⊥
+  pub named : id ≡ [] → ⊥
+  pub as_written : reading_of q ≡ AsWritten
+
+-- an argument of the built command with this id takes what this one takes
+taken_parser : (c : Command) (m : ArgMatches) (id : Text) (q : ValueParser) → Takes c id q → (p : IsParsedFrom c m) (j : ℕ) (x : Arg) → j < length (args_of p.built)
+    → slice_index_or (args_of p.built) j x ≡ x → bytes_eq x.id.now id ≡ true → parser_of x ≡ q
+taken_parser c m id q t p j x high at same =
+    let rules = same_rules_by_id c m p t.place t.arg t.low t.alone t.own j x high at (subst (λ (u : Text). bytes_eq x.id.now u ≡ true) (sym t.id_is) same) in
+    ap parser_of_value (rules.parser q t.parser)
+
+-- what the parser accepts has this property
+abbrev Gives : ValueParser → (Text → Type 0) → Type 0
+Gives q P = (ignores : Bool) (text : Text) → Accepts ignores q text → P text
+
+abbrev IsEntryOf : (Text → Type 0) → MatchedArg → Type 0
+IsEntryOf P x = (x.reading ≡ AsWritten) × All (λ v. P v.now) x.vals.items
+
+taken_value : (c : Command) (m : ArgMatches) (id : Text) (q : ValueParser) (P : Text → Type 0) → Takes c id q → Gives q P → (p : IsParsedFrom c m)
+    → (own_id text : Text) → own_id ≡ id → PassesArg p.built own_id text → P text
+taken_value c m id q P t gives p own_id text key pass =
+    let is = taken_parser c m id q t p pass.0 pass.1 pass.2 pass.3 (subst (λ (u : Text). bytes_eq pass.1.id.now u ≡ true) key pass.4.0) in
+    gives pass.1.ignore_case text (subst (λ (w : ValueParser). Accepts pass.1.ignore_case w text) is pass.4.1)
+
+taken_entry : (c : Command) (m : ArgMatches) (id : Text) (q : ValueParser) (P : Text → Type 0) → Takes c id q → Gives q P → (p : IsParsedFrom c m)
+    → groups_of p.built ≡ [] → (e : Entry) → e.0.now ≡ id → EntryPasses p.built e → IsEntryOf P e.1
+taken_entry c m id q P t gives p none e key pass =
+    let no_groups : length (groups_of p.built) ≡ 0 = ap length none in
+    let no_group : e.1.is_group ≡ true → ⊥ = λ g. elim (pass.3 g) [
+      | inl empty ↦ t.named (sym key ∙ empty)
+      | inr has ↦ omega arith
+    ] in
+    let reading : e.1.reading ≡ AsWritten = elim pass.4 [
+      | inl g ↦ absurd (no_group g)
+      | inr h ↦ sym h.4.1 ∙ (ap reading_of (taken_parser c m id q t p h.0 h.1 h.2 h.3 (subst (λ (u : Text). bytes_eq h.1.id.now u ≡ true) key h.4.0)) ∙ t.as_written)
+    ] in
+    let values : All (λ v. P v.now) e.1.vals.items = elim pass.0 [
+      | inl g ↦ absurd (no_group g)
+      | inr vals ↦ λ k d lt. taken_value c m id q P t gives p e.0.now (slice_index_or e.1.vals.items k d).now key (vals k d lt)
+    ] in
+    (reading, values)
+
+first_text : (P : Text → Type 0) (how : Reading) (vs : List (Bor Text)) → how ≡ AsWritten → All (λ v. P v.now) vs → IfSome (option_map (λ s. read_as how s.now) (slice_get vs 0)) P
+first_text P how [] is all = tt
+first_text P how (v ∷ vs) is all = subst (λ (h : Reading). P (read_as h v.now)) (sym is) (all 0 v (omega arith))
+
+abbrev text_of : Option MatchedArg → Option Text
+text_of = option_and_then (λ a. option_map (λ s. read_as a.reading s.now) (slice_get a.vals.items 0))
+
+-- the text that is given to the argument, where one is, has what each text has that its parser accepts
+taken_text : (c : Command) (m : ArgMatches) (id : Text) (q : ValueParser) (P : Text → Type 0) → Takes c id q → Gives q P → (p : IsParsedFrom c m)
+    → groups_of p.built ≡ [] → ValuesPass p.built (found_of m) → IfSome (one_text (found_of m) id) P
+taken_text c m id q P t gives p none values = go (matched_of (found_of m) id) refl
+  where
+    entry_of : (x : MatchedArg) → ((e : Entry) × (e.1 ≡ x) × (bytes_eq e.0.now id ≡ true) × EntryPasses p.built e) → IsEntryOf P x
+    entry_of x got = subst (IsEntryOf P) got.1 (taken_entry c m id q P t gives p none got.0 ((bytes_eq-Decides got.0.0.now id).0 got.2) got.3)
+
+    go : (o : Option MatchedArg) → matched_of (found_of m) id ≡ o → IfSome (one_text (found_of m) id) P
+    go None e = subst (λ (o : Option MatchedArg). IfSome (text_of o) P) (sym e) tt
+    go (Some x) e =
+        let entry = entry_of x (entry_by_id (EntryPasses p.built) (found_of m).entries.items id x values e) in
+        subst (λ (o : Option MatchedArg). IfSome (text_of o) P) (sym e) (first_text P x.reading x.vals.items entry.0 entry.1)
+
 -- ---- the flag
 
 abbrev IsFlagText : Text → Type 0
 IsFlagText text = (text ≡ codes "true") ⊎ (text ≡ codes "false")
 
-abbrev IsFlagEntry : MatchedArg → Type 0
-IsFlagEntry x = (x.reading ≡ AsWritten) × All (λ v. IsFlagText v.now) x.vals.items
+flag_text : Gives vp.Bool IsFlagText
+flag_text ignores text read = elim (one_is (bytes_eq text (codes "true")) (bytes_eq text (codes "false")) read) [
+  | inl h ↦ inl ((bytes_eq-Decides text (codes "true")).0 h)
+  | inr h ↦ inr ((bytes_eq-Decides text (codes "false")).0 h)
+]
 
--- an argument of the built command with the flag's id takes what the flag takes
-flag_parser : (c : Command) (m : ArgMatches) → Args c → (p : IsParsedFrom c m) (j : ℕ) (x : Arg) → j < length (args_of p.built) → slice_index_or (args_of p.built) j x ≡ x
-    → bytes_eq x.id.now (codes "checked") ≡ true → parser_of x ≡ vp.Bool
+flag_takes : (c : Command) → Args c → Takes c (codes "checked") vp.Bool
 unfolding head
-flag_parser c m s p j x high at same =
+flag_takes c s =
     let b = s.flag in
     let here : slice_index_or (args_of c) 1 b ≡ b = ap (λ (xs : List Arg). slice_index_or xs 1 b) s.are in
     let id : (slice_index_or (args_of c) 1 b).id.now ≡ codes "checked" = ap (λ (y : Arg). y.id.now) here ∙ flag_id c s in
-    let rules = same_rules_by_id c m p 1 b (subst (λ (xs : List Arg). 1 < length xs) (sym s.are) (omega arith))
-    (unique c s 1 b (omega arith))
-    (own (slice_index_or (args_of c) 1 b) (codes "checked") id refl refl)
-    j x high at (subst (λ (t : Text). bytes_eq x.id.now t ≡ true) (sym id) same) in
-    ap parser_of_value (rules.parser vp.Bool (ap (λ (y : Arg). y.value_parser) here ∙ ap (λ (r : Rule). r.parser) s.flag_is))
-
-flag_value : (c : Command) (m : ArgMatches) → Args c → (p : IsParsedFrom c m) (id text : Text) → id ≡ codes "checked" → PassesArg p.built id text → IsFlagText text
-flag_value c m s p id text key pass =
-    let is_bool = flag_parser c m s p pass.0 pass.1 pass.2 pass.3 (subst (λ (t : Text). bytes_eq pass.1.id.now t ≡ true) key pass.4.0) in
-    let read : Accepts pass.1.ignore_case vp.Bool text = subst (λ (q : ValueParser). Accepts pass.1.ignore_case q text) is_bool pass.4.1 in
-    elim (one_is (bytes_eq text (codes "true")) (bytes_eq text (codes "false")) read) [
-      | inl h ↦ inl ((bytes_eq-Decides text (codes "true")).0 h)
-      | inr h ↦ inr ((bytes_eq-Decides text (codes "false")).0 h)
-    ]
-
-flag_entry : (c : Command) (m : ArgMatches) → Args c → (p : IsParsedFrom c m) → groups_of p.built ≡ [] → (e : Entry) → e.0.now ≡ codes "checked" → EntryPasses p.built e → IsFlagEntry e.1
-unfolding head
-flag_entry c m s p none e key pass =
-    let no_groups : length (groups_of p.built) ≡ 0 = ap length none in
-    let no_group : e.1.is_group ≡ true → ⊥ = λ g. elim (pass.3 g) [
-      | inl empty ↦ distinct 99 0 refl (ap head (sym key ∙ empty))
-      | inr has ↦ omega arith
-    ] in
-    let reading : e.1.reading ≡ AsWritten = elim pass.4 [
-      | inl g ↦ absurd (no_group g)
-      | inr h ↦ sym h.4.1 ∙ ap reading_of (flag_parser c m s p h.0 h.1 h.2 h.3 (subst (λ (t : Text). bytes_eq h.1.id.now t ≡ true) key h.4.0))
-    ] in
-    let values : All (λ v. IsFlagText v.now) e.1.vals.items = elim pass.0 [
-      | inl g ↦ absurd (no_group g)
-      | inr vals ↦ λ k d lt. flag_value c m s p e.0.now (slice_index_or e.1.vals.items k d).now key (vals k d lt)
-    ] in
-    (reading, values)
-
-first_text : (how : Reading) (vs : List (Bor Text)) → how ≡ AsWritten → All (λ v. IsFlagText v.now) vs → IfSome (option_map (λ s. read_as how s.now) (slice_get vs 0)) IsFlagText
-first_text how [] is all = tt
-first_text how (v ∷ vs) is all = subst (λ (h : Reading). IsFlagText (read_as h v.now)) (sym is) (all 0 v (omega arith))
-
-abbrev text_of : Option MatchedArg → Option Text
-text_of = option_and_then (λ a. option_map (λ s. read_as a.reading s.now) (slice_get a.vals.items 0))
-
-flag_text : (c : Command) (m : ArgMatches) → Args c → (p : IsParsedFrom c m) → groups_of p.built ≡ [] → ValuesPass p.built (found_of m) → IfSome (one_text (found_of m) (codes "checked")) IsFlagText
-flag_text c m s p none values = go (matched_of (found_of m) (codes "checked")) refl
-  where
-    flagged : (x : MatchedArg) → ((e : Entry) × (e.1 ≡ x) × (bytes_eq e.0.now (codes "checked") ≡ true) × EntryPasses p.built e) → IsFlagEntry x
-    flagged x got = subst IsFlagEntry got.1 (flag_entry c m s p none got.0 ((bytes_eq-Decides got.0.0.now (codes "checked")).0 got.2) got.3)
-
-    go : (o : Option MatchedArg) → matched_of (found_of m) (codes "checked") ≡ o → IfSome (one_text (found_of m) (codes "checked")) IsFlagText
-    go None e = subst (λ (o : Option MatchedArg). IfSome (text_of o) IsFlagText) (sym e) tt
-    go (Some x) e =
-        let flag = flagged x (entry_by_id (EntryPasses p.built) (found_of m).entries.items (codes "checked") x values e) in
-        subst (λ (o : Option MatchedArg). IfSome (text_of o) IsFlagText) (sym e) (first_text x.reading x.vals.items flag.0 flag.1)
+    record {
+      place = 1;
+      arg = b;
+      low = subst (λ (xs : List Arg). 1 < length xs) (sym s.are) (omega arith);
+      id_is = id;
+      parser = ap (λ (y : Arg). y.value_parser) here ∙ ap (λ (r : Rule). r.parser) s.flag_is;
+      alone = unique c s 1 b (omega arith);
+      own = own (slice_index_or (args_of c) 1 b) (codes "checked") id refl refl;
+      named = λ empty. distinct 99 0 refl (ap head empty);
+      as_written = refl;
+    }
 
 reads_as : (o : Option Text) → IfSome o IsFlagText → FlagReadsAs o (is_true o)
 reads_as None h = refl
 reads_as (Some t) (inl h) = inl (h, ap (λ (u : Text). bytes_eq u (codes "true")) h)
 reads_as (Some t) (inr h) = inr (h, ap (λ (u : Text). bytes_eq u (codes "true")) h)
 
+-- ---- the option
+
+abbrev IsCacheText : Text → Type 0
+IsCacheText = IsUnsignedIn 0 cache_max
+
+cache_text : Gives (vp.Unsigned 0 cache_max) IsCacheText
+cache_text ignores text read = read
+
+cache_takes : (c : Command) → Args c → Takes c (codes "cache") (vp.Unsigned 0 cache_max)
+unfolding head
+cache_takes c s =
+    let b = s.cache in
+    let here : slice_index_or (args_of c) 2 b ≡ b = ap (λ (xs : List Arg). slice_index_or xs 2 b) s.are in
+    let id : (slice_index_or (args_of c) 2 b).id.now ≡ codes "cache" = ap (λ (y : Arg). y.id.now) here ∙ cache_id c s in
+    record {
+      place = 2;
+      arg = b;
+      low = subst (λ (xs : List Arg). 2 < length xs) (sym s.are) (omega arith);
+      id_is = id;
+      parser = ap (λ (y : Arg). y.value_parser) here ∙ ap (λ (r : Rule). r.parser) s.cache_is;
+      alone = unique c s 2 b (omega arith);
+      own = own (slice_index_or (args_of c) 2 b) (codes "cache") id refl refl;
+      named = λ empty. distinct 99 0 refl (ap head empty);
+      as_written = refl;
+    }
+
+number_reads : (o : Option Text) → IfSome o IsCacheText → NumberReadsAs o (number_of o)
+number_reads None h = refl
+number_reads (Some t) h = (h, refl)
+
 -- ---- the matches
 
 pub finds : (c : Command) (m : ArgMatches) (words : List Text) → app_of c ≡ form → IsParsedFrom c m → HasMatchesOf (app_of c) words m → Finds words m
-unfolding index_of is_checked
+unfolding cache_of index_of is_checked
 finds c m words e p h =
     let s = args c e in
     let parsed = p.parsed (p.from.globals ∙ (simple_form c e).globals) in
@@ -244,9 +332,14 @@ finds c m words e p h =
     let index : first_value (found_of m) (codes "INDEX") ≡ index_of words = first_value-rows (found_of m) (codes "INDEX") ∙ ap (first_of (codes "INDEX")) rows in
     let flag : one_text (found_of m) (codes "checked") ≡ one_of (codes "checked") (matches_of form words) =
     one_text-rows (found_of m) (codes "checked") ∙ ap (one_of (codes "checked")) rows in
+    let cache : one_text (found_of m) (codes "cache") ≡ one_of (codes "cache") (matches_of form words) =
+    one_text-rows (found_of m) (codes "cache") ∙ ap (one_of (codes "cache")) rows in
+    let no_groups = (p.from.plain (plain_form c e s)).1 in
     record {
       index = index;
       has_index = subst (λ (o : Option Text). is_some o ≡ true) index (index_there c m e s p);
       flag = subst (λ (o : Option Text). FlagReadsAs (one_text (found_of m) (codes "checked")) (is_true o)) flag
-          (reads_as (one_text (found_of m) (codes "checked")) (flag_text c m s p (p.from.plain (plain_form c e s)).1 parsed.values));
+          (reads_as (one_text (found_of m) (codes "checked")) (taken_text c m (codes "checked") vp.Bool IsFlagText (flag_takes c s) flag_text p no_groups parsed.values));
+      cache = subst (λ (o : Option Text). NumberReadsAs (one_text (found_of m) (codes "cache")) (number_of o)) cache
+          (number_reads (one_text (found_of m) (codes "cache")) (taken_text c m (codes "cache") (vp.Unsigned 0 cache_max) IsCacheText (cache_takes c s) cache_text p no_groups parsed.values));
     }

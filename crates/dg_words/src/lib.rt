@@ -1,4 +1,4 @@
-//! The words of a command line of `deltagraph [--checked] INDEX`, as `clap` reads them.
+//! The words of a command line of `deltagraph [--cache N] [--checked] INDEX`, as `clap` reads them.
 #![tactic(auto)]
 
 mod form;

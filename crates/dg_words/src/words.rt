@@ -1,9 +1,10 @@
-//! What the words of a command line say: the index, and whether it is checked.
-ghost use Rattle.std.specs.Prelude.{◌≡◌, false, true, map, string_bytes, IfOk, MatchOption, Some};
-ghost use Rattle.dg_words.specs.WrittenForm.{index_of, is_checked, is_written_form};
+//! What the words of a command line say: the index, whether it is checked, and how many of its ranges are kept in
+//! memory.
+ghost use Rattle.std.specs.Prelude.{◌≡◌, ◌≤◌, false, true, map, string_bytes, IfOk, MatchOption, Some};
+ghost use Rattle.dg_words.specs.WrittenForm.{cache_max, cache_of, index_of, is_checked, is_written_form};
 ghost use Rattle.dg_words.specs.Parsed.{Finds};
 
-use crate::form::{CHECKED, INDEX, command};
+use crate::form::{CACHE, CHECKED, INDEX, command};
 use clap::ArgMatches;
 use clap::error::ErrorKind;
 use std::alloc::{AllocError, Global};
@@ -15,13 +16,17 @@ pub struct Words {
     pub index: String,
     /// Whether the flag `--checked` is given.
     pub checked: bool,
+    /// How many ranges of the file are kept in memory at most, up to 65,536. 0 keeps none, and is the number
+    /// where `--cache` is not given.
+    pub cache: u32,
 }
 
 /// What the words after the program's name say, and none exactly where they are not of the written form.
 /// `AllocError` for want of memory.
 pub fn read_words(alloc: Global, words: &[String]) -> Result<Option<Words>, AllocError>
     ensures read { let given = map string_bytes words.now in IfOk result (λ read. MatchOption read (is_written_form given ≡ false)
-        (λ said. (is_written_form given ≡ true) × (index_of given ≡ Some (string_bytes said.index)) × (said.checked ≡ is_checked given))) }
+        (λ said. (is_written_form given ≡ true) × (index_of given ≡ Some (string_bytes said.index)) × (said.checked ≡ is_checked given)
+        × (said.cache ≡ cache_of given) × (said.cache ≤ cache_max))) }
 {
     let Some(matches) = parse(alloc, words)? else {
         return Ok(None);
@@ -31,6 +36,7 @@ pub fn read_words(alloc: Global, words: &[String]) -> Result<Option<Words>, Allo
     Ok(Some(Words {
         index: String::from_str(alloc, index)?,
         checked: matches.get_flag(CHECKED),
+        cache: matches.get_one::<u32>(CACHE).unwrap_or(0),
     }))
 }
 
