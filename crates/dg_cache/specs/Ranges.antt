@@ -1,10 +1,5 @@
 -- What is kept of a file.
-use Rattle.std.specs.Prelude.{◌≡◌, ℕ, Bool, List, [], ◌∷◌, length, take, drop}
-
--- the ranges, each by the offset of its first byte, and whether any may be kept
-pub record CacheState : Type 0 where
-  pub ranges : List (ℕ × List ℕ)
-  pub keeps : Bool
+use Rattle.std.specs.Prelude.{◌≡◌, ℕ, List, [], ◌∷◌, length, take, drop}
 
 -- the bytes stand in the image from the offset on
 abbrev pub StandsIn : List ℕ → ℕ × List ℕ → Type 0

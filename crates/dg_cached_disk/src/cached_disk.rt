@@ -1,12 +1,12 @@
 //! A disk over another one. What ties the bytes that are kept to that disk is the ghost field `kept`, which may name its
 //! image, since the disk is a field beside it.
-ghost use Rattle.std.specs.Prelude.{◌≡◌, ◌≤◌, true, IfOk};
+ghost use Rattle.std.specs.Prelude.{◌≡◌, ◌≤◌, [], true};
 ghost use Rattle.dg_disk.specs.Counts.{raised_by};
 ghost use Rattle.dg_cached_disk.specs.Standing.{stand};
 
 use dg_cache::RangeCache;
 use dg_disk::{Disk, Failed};
-use std::alloc::{AllocError, Global};
+use std::alloc::Global;
 
 /// A disk that keeps in memory what was read of another one last, and gives it from there. A write drops
 /// all that is kept. As bytes read it counts those, too, that it gives from memory.
@@ -17,21 +17,22 @@ pub struct CachedDisk<D: Disk> {
     ranges: RangeCache,
     // the bytes given from memory, held at the last value of a u64
     given: u64,
-    ghost kept: { stand (D.image disk) ranges.ranges ≡ true },
+    ghost kept: { stand (D.image disk) ranges ≡ true },
 }
 
 impl<D: Disk + Drop> CachedDisk<D> {
-    /// Over the disk, with at most so many ranges in memory. `AllocError` for want of memory.
-    pub fn new(alloc: Global, disk: D, most: u32) -> Result<CachedDisk<D>, AllocError>
-        ensures image { IfOk result (λ c. D.image c.disk ≡ D.image disk) }
-        ensures taken { IfOk result (λ c. raised_by c.given (D.taken c.disk) ≡ raised_by 0 (D.taken disk)) }
+    /// Over the disk, with room for these ranges, of which there is none yet.
+    pub fn new(alloc: Global, disk: D, ranges: RangeCache) -> CachedDisk<D>
+        requires { ranges ≡ [] }
+        ensures image { D.image result.disk ≡ D.image disk }
+        ensures taken { raised_by result.given (D.taken result.disk) ≡ raised_by 0 (D.taken disk) }
     {
-        Ok(CachedDisk {
+        CachedDisk {
             disk,
             alloc,
-            ranges: RangeCache::new(alloc, most)?,
+            ranges,
             given: 0,
-        })
+        }
     }
 
     /// The disk of which it keeps what was read.
@@ -63,16 +64,14 @@ impl<D: Disk> Disk for CachedDisk<D> {
     }
 
     fn read_at(&mut self, offset: u64, into: &mut [u8]) -> Result<(), Failed> {
-        let len = into.len() as u64;
-        if let Ok(Some(bytes)) = self.ranges.find(offset, len) {
-            into.copy_from_slice(&bytes);
-            self.given = self.given.saturating_add(len);
+        if self.ranges.give(offset, into) {
+            self.given = self.given.saturating_add(into.len() as u64);
             return Ok(());
         }
         self.disk.read_at(offset, into)?;
         // What finds no memory is not kept.
         if let Ok(bytes) = Vec::from_slice(self.alloc, into) {
-            self.ranges.keep(offset, &bytes);
+            self.ranges.keep(offset, bytes);
         }
         Ok(())
     }
