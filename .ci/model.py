@@ -474,11 +474,15 @@ def attributes(graph, node, names):
     return [f"attr {names[key].decode()} {names[value].decode()}" for _, _, key, value in found]
 
 
+# The runs of a history keep so many ranges of its file, one after another, and owe the same replies.
+CACHES = (), ("--cache", "1"), ("--cache", "64"), ("--cache", "65536")
+
+
 class Case:
     """One history, over several runs of the program."""
 
     def __init__(self, program, index, seed):
-        self.program, self.index, self.seed = program, index, seed
+        self.program, self.index, self.seed, self.runs = program, index, seed, seed
         self.script, self.due = [], []
         self.handles, self.next = {}, 1  # the graphs of this run's live handles, and the number of the next one
         self.bases, self.rests = {}, {}  # the nodes that handles hold, with their columns; and what each handle rests on
@@ -488,7 +492,8 @@ class Case:
 
     def run(self, file, status=0, checked=False):
         script = "".join(line + "\n" for line in self.script)
-        words = [self.index, "--checked"] if checked else [self.index]
+        words = [self.index, *CACHES[self.runs % len(CACHES)], *(["--checked"] if checked else [])]
+        self.runs += 1
         ran = subprocess.run([self.program, *words], input=script.encode(), capture_output=True)
         due = "".join(line + "\n" for line in self.due)
         with open(self.index, "rb") as made:

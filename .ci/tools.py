@@ -1254,7 +1254,7 @@ def words_are_told(tests: Tests) -> None:
         (["edges2script", "--form", "s"], ["snap", "sociopatterns"]),
         (["tools/growth", "--sv"], ["--svg"]),
         (["snapshot", "index", "la"], ["last"]),
-        (["deltagraph", "--"], ["--checked"]),
+        (["deltagraph", "--"], ["--cache", "--checked"]),
     ):
         words = " ".join(f"'{word}'" for word in line)
         ask = f"COMP_WORDS=({words}); COMP_CWORD={len(line) - 1}; _deltagraph {line[0]} '{line[-1]}' '{line[-2]}'; "

@@ -32,7 +32,7 @@ _deltagraph_values() {
 
 _deltagraph_options() {
     case $1 in
-        deltagraph) echo --checked ;;
+        deltagraph) echo --cache --checked ;;
         edges2script)
             echo --help --form --columns --header --source --target --time --end --weight --values --separator \
                 --no-quotes --join-lines --comments --encoding --nodes --node-columns --node-header --times --scale \

@@ -1,7 +1,9 @@
-//! `deltagraph [--checked] INDEX` carries out a script of commands, read from standard input, over the
+//! `deltagraph [--cache N] [--checked] INDEX` carries out a script of commands, read from standard input, over the
 //! index file of that name, and writes the reply to each of them. With `--checked` it refuses a file that is
-//! not exactly what its own events determine.
+//! not exactly what its own events determine; with `--cache N` it keeps up to N ranges of the file in memory.
 #![tactic(auto)]
+
+ghost use Rattle.std.specs.Prelude.{◌≡◌, [], IfSome};
 
 mod descriptors;
 #[cfg(test)]
@@ -9,10 +11,13 @@ mod tests;
 mod words;
 
 use descriptors::hold_standard;
+use dg_cache::RangeCache;
+use dg_cached_disk::CachedDisk;
 use dg_file_disk::FileDisk;
 use dg_io::{StdSink, StdSource};
 use dg_run::{Status, serve};
-use dg_words::read_words;
+use dg_words::{Words, read_words};
+use std::num::NonZeroUsize;
 use std::process::ExitCode;
 use words::words_after_name;
 
@@ -21,8 +26,8 @@ fn main(rt: HostRuntime) -> ExitCode {
         Ok(words) => words,
         Err(status) => return ends(&rt, status),
     };
-    let index = match index_of(&rt, words.as_slice()) {
-        Ok(index) => index,
+    let read = match read(&rt, words.as_slice()) {
+        Ok(read) => read,
         Err(status) => return ends(&rt, status),
     };
     // Held to the end, so that no file that is opened gets the number of a standard descriptor that is closed.
@@ -34,9 +39,22 @@ fn main(rt: HostRuntime) -> ExitCode {
             return code;
         }
     };
-    let mut disk = FileDisk::new(&rt, index);
     let mut source = StdSource::new(rt.stdin());
     let mut sink = StdSink::new(rt.stdout());
+    let ranges = ranges_of(&rt, read.cache);
+    let mut file = FileDisk::new(&rt, read.index);
+    let Some(ranges) = ranges else {
+        let status = serve(
+            &rt,
+            rt.alloc(),
+            words.as_slice(),
+            &mut source,
+            &mut sink,
+            &mut file,
+        );
+        return ends_over(&rt, status, &file);
+    };
+    let mut disk = CachedDisk::new(rt.alloc(), file, ranges);
     let status = serve(
         &rt,
         rt.alloc(),
@@ -45,19 +63,31 @@ fn main(rt: HostRuntime) -> ExitCode {
         &mut sink,
         &mut disk,
     );
-    let code = ends(&rt, status);
-    say_reason(&rt, status, &disk);
-    code
+    ends_over(&rt, status, disk.disk())
 }
 
-// The index that the words name. `Status::Words` where they are not of the written form, and `Status::NoMemory` for want
-// of memory.
-fn index_of(rt: &HostRuntime, words: &[String]) -> Result<String, Status> {
+// What the words say. `Status::Words` where they are not of the written form, and `Status::NoMemory` for want of memory.
+fn read(rt: &HostRuntime, words: &[String]) -> Result<Words, Status> {
     match read_words(rt.alloc(), words) {
-        Ok(Some(read)) => Ok(read.index),
+        Ok(Some(read)) => Ok(read),
         Ok(None) => Err(Status::Words),
         Err(_) => Err(Status::NoMemory),
     }
+}
+
+// Room for so many ranges of the file. None where it is for no range, or for want of memory, which then refuses nothing.
+fn ranges_of(rt: &HostRuntime, most: u32) -> Option<RangeCache>
+    ensures { IfSome result (λ ranges. ranges ≡ []) }
+{
+    let most = NonZeroUsize::new(most as usize)?;
+    RangeCache::new(rt.alloc(), most).ok()
+}
+
+// Says the line of the status and the reason behind it, and is its code.
+fn ends_over(rt: &HostRuntime, status: Status, file: &FileDisk<&HostRuntime>) -> ExitCode {
+    let code = ends(rt, status);
+    say_reason(rt, status, file);
+    code
 }
 
 // The code of a status, whose line is said. The code is the answer, also where standard error takes no line.
@@ -69,11 +99,11 @@ fn ends(rt: &HostRuntime, status: Status) -> ExitCode {
 }
 
 // Says behind the line of the status what was wrong with the index file, where something was.
-fn say_reason(rt: &HostRuntime, status: Status, disk: &FileDisk<&HostRuntime>) {
-    let _ = match (status, disk.failure()) {
+fn say_reason(rt: &HostRuntime, status: Status, file: &FileDisk<&HostRuntime>) {
+    let _ = match (status, file.failure()) {
         (Status::DiskFault, Some(failure)) => eprintln!(rt; "deltagraph: {failure}"),
         (Status::Refused(fault), _) => {
-            let path = disk.path();
+            let path = file.path();
             eprintln!(rt; "deltagraph: {path}: {fault}")
         }
         _ => Ok(()),

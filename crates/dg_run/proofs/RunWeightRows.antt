@@ -1,5 +1,5 @@
 -- Worked examples, computed by the definition: what replies account for.
-use Rattle.std.specs.Prelude.{◌≡◌, ℕ, true, false, [], ◌∷◌, refl}
+use Rattle.std.specs.Prelude.{false, [], ◌∷◌, refl}
 use Rattle.dg_graph.specs.declared.element.Columns.{Columns}
 use Rattle.dg_machine.specs.declared.command.Command.TheVariants as command
 use Rattle.dg_machine.specs.declared.reply.Head.TheVariants as head

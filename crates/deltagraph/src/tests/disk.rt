@@ -23,7 +23,7 @@ fn len_of<D: Disk>(disk: &mut D) -> Result<u64, Failed> {
     disk.len()
 }
 
-fn read<D: Disk>(disk: &mut D, offset: u64) -> Result<[u8; 3], Failed>
+pub(super) fn read<D: Disk>(disk: &mut D, offset: u64) -> Result<[u8; 3], Failed>
     requires { HasRange (D.image disk.old) offset 3 }
 {
     let mut into = [0; 3];
@@ -33,7 +33,7 @@ fn read<D: Disk>(disk: &mut D, offset: u64) -> Result<[u8; 3], Failed>
     }
 }
 
-fn write<D: Disk>(disk: &mut D, offset: u64, piece: &[u8]) -> Result<(), Failed>
+pub(super) fn write<D: Disk>(disk: &mut D, offset: u64, piece: &[u8]) -> Result<(), Failed>
     requires { HasOffset (D.image disk.old) offset }
 {
     disk.write_at(offset, piece)
