@@ -758,9 +758,57 @@ def check_damage(program, index, seed):
     case.run(with_damage())
 
 
+def damaged_pairs(history, keys):
+    """Each two of these records, of which the earlier one is damaged in a later column than the other."""
+    held = [[column for column in range(3) if history.places[key][column][1] > 0] for key in keys]
+    places = [(i, j) for i in range(len(keys)) for j in range(i + 1, len(keys)) if held[i] and held[j]]
+    return [((keys[i], held[i][-1]), (keys[j], held[j][0])) for i, j in places if held[i][-1] > held[j][0]]
+
+
+def check_first_damage(program, index, seed):
+    """A file with damage in two of the records of one plan of four or more: the earlier record is named, wherever the work
+    is cut for threads. Says of how many plans this was tried: that of an instant, and that of a start."""
+    rng = random.Random(seed)
+    history, changes, names = History(2, 2, rng.choice(FUNCTIONS)), Changes(rng), []
+    history.add([changes.next(names)[1] for _ in range(rng.randrange(40, 80))], names)
+    records, graph = Graph(history, "sne", memory=False), Graph(history, "sne")
+    start = records.entered([f"leaf {len(history.events) // 2}"])
+
+    def with_damage(pair):
+        text = bytearray(history.file())
+        for key, column in pair:
+            text[history.places[key][column][0]] = 255
+        with open(index, "wb") as made:
+            made.write(text)
+        return bytes(text), pair[0][0], "sne"[pair[0][1]]
+
+    plans = {time: graph.entered([point(history, time)]) for time in sorted({event[0] for event in history.events})}
+    met = [(time, keys) for time, keys in plans.items() if len(keys) >= 4]
+    found = [(time, pair) for time, keys in met for pair in damaged_pairs(history, [key for key in keys if key not in start])]
+    if found:
+        time, pair = rng.choice(found)
+        text, key, column = with_damage(pair)
+        case = Case(program, index, seed)
+        case.script.append(f"at {time} sne")
+        case.reply(f"refused 15 damaged {key} {column}")
+        case.run(text)
+    met = damaged_pairs(history, start) if len(start) >= 4 else []
+    if met:
+        _, key, column = with_damage(rng.choice(met))
+        ran = subprocess.run([program, index], input=b"tree\n", capture_output=True)
+        due = f"deltagraph: the index is refused\ndeltagraph: {index}: damaged in record {key}, column {column}\n"
+        if ran.returncode != 7 or ran.stderr.decode() != due:
+            sys.exit(f"seed {seed}: status {ran.returncode}, {ran.stderr.decode()}")
+    return bool(found), bool(met)
+
+
 if __name__ == "__main__":
     program, folder, first, last = *sys.argv[1:3], *map(int, sys.argv[3:5])
     for seed in range(first, last):
         check(program, os.path.join(folder, "index"), seed)
     for seed in [*range(first, last), *MET_BY_A_BATCH]:
         check_damage(program, os.path.join(folder, "damaged"), seed)
+    found = [check_first_damage(program, os.path.join(folder, "damaged"), seed) for seed in range(first, last)]
+    for plan, tried in zip(("an instant", "a start"), zip(*found)):
+        if sum(tried) < (last - first) // 4:
+            sys.exit(f"only {sum(tried)} plans of {plan} have two records that can be damaged")
