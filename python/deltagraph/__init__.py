@@ -167,13 +167,16 @@ __all__ = [
 ]
 
 
-def open(index: Union[str, "os.PathLike[str]"], program: Program = None, checked: bool = False) -> Store:
+def open(
+    index: Union[str, "os.PathLike[str]"], program: Program = None, checked: bool = False, cache: int = 0
+) -> Store:
     """A session over an index file, best in a `with`.
 
     `program` is the program or its words; without it $DELTAGRAPH, `deltagraph` on the PATH, or the one built in the
     checkout that this package lies in. With `checked` the file is verified first, and refused where it is not sound.
+    `cache` ranges of the file, 0 to 65,536, are kept in memory, which changes no answer.
 
     A file that is not there is made by `Store.create`, and by nothing else. Raises `ProgramMissing`, `WrongProgram`,
     `IndexRefused` for a file that is no index or a damaged one, and other `ProgramEnded`.
     """
-    return Store(index, program, checked)
+    return Store(index, program, checked, cache)

@@ -55,6 +55,7 @@ def words() -> argparse.Namespace:
     parser.add_argument("index", metavar="INDEX", help="the index file")
     parser.add_argument("--strict", action="store_true", help="end with status 1 at the first refusal")
     parser.add_argument("--checked", action="store_true", help="verify the file first")
+    parser.add_argument("--cache", type=int, default=0, metavar="N", help="keep N ranges of the file in memory (0)")
     parser.add_argument("--program", metavar="FILE", help="the program; else $DELTAGRAPH, or deltagraph on the PATH")
     return parser.parse_args()
 
@@ -69,7 +70,7 @@ def main() -> int:
     if not typed:
         lines = Script(iter(sys.stdin.buffer))
     try:
-        with open_store(options.index, options.program, options.checked) as store:
+        with open_store(options.index, options.program, options.checked, options.cache) as store:
             if typed:
                 if isinstance(sys.stdin, TextIOWrapper):
                     sys.stdin.reconfigure(errors="surrogateescape")

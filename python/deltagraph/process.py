@@ -110,8 +110,8 @@ class Reply:
 class Process:
     """A run of the program over an index file. It serves one thread at a time."""
 
-    def __init__(self, program: Sequence[str], index: str, checked: bool = False) -> None:
-        words = [*program, *(["--checked"] if checked else []), index]
+    def __init__(self, program: Sequence[str], index: str, checked: bool = False, cache: int = 0) -> None:
+        words = [*program, *(["--cache", str(cache)] if cache else []), *(["--checked"] if checked else []), index]
         pipe = subprocess.PIPE
         try:
             # In a session of its own, so that an interrupt at the keyboard does not end it within a command.

@@ -47,10 +47,12 @@ class Store:
     One thread at a time may use it.
     """
 
-    def __init__(self, index: Union[str, "os.PathLike[str]"], program: Program = None, checked: bool = False) -> None:
+    def __init__(
+        self, index: Union[str, "os.PathLike[str]"], program: Program = None, checked: bool = False, cache: int = 0
+    ) -> None:
         self.index = os.fspath(index)
         self.calendar: Optional[Calendar] = read_calendar(self.index)
-        self._program, self._checked = find_program(program), checked
+        self._program, self._checked, self._cache = find_program(program), checked, cache
         self._process: Optional[Process] = None
         self._closed = False
         # The program makes a file that is not there, and a question should make none.
@@ -59,7 +61,7 @@ class Store:
 
     def _start(self) -> Process:
         # An absolute name does not begin with `-`, which would be taken for an option.
-        self._process = Process(self._program, os.path.abspath(self.index), self._checked)
+        self._process = Process(self._program, os.path.abspath(self.index), self._checked, self._cache)
         try:
             self._told(self._process.send("pool"))
         except ProgramEnded as ended:

@@ -48,8 +48,8 @@ class Case(unittest.TestCase):
         self.folder = Path(held.name)
         self.index = self.folder / "history.dg"
 
-    def open(self, index: Optional[Path] = None, checked: bool = False) -> deltagraph.Store:
-        return deltagraph.open(index or self.index, program(), checked)
+    def open(self, index: Optional[Path] = None, checked: bool = False, cache: int = 0) -> deltagraph.Store:
+        return deltagraph.open(index or self.index, program(), checked, cache)
 
     def by_rote(self, replies: dict[str, Any]) -> deltagraph.Store:
         """A store whose program gives these replies, by the first word of the command."""

@@ -63,7 +63,7 @@ class Histories(Case):
             self.assertEqual(loaded[::2], (len(changes), len(changes)))
             self.assertEqual((loaded.last, told[-1], len(told)), (model.time, len(changes), loaded.batches))
             self.asked(store, model, pick)
-        with self.open(index, checked=seed % 7 == 0) as store:
+        with self.open(index, checked=seed % 7 == 0, cache=(0, 1, 64)[seed % 3]) as store:
             for _ in range(pick.randrange(3)):
                 changes = model.grow(pick.randrange(1, 15))
                 loaded = store.append(changes)

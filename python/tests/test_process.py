@@ -261,6 +261,16 @@ class Disks(Case):
         self.assertTrue((self.folder / "--checked").exists())
 
 
+    def test_a_cache_that_is_too_large(self) -> None:
+        with self.open() as store:
+            store.create()
+        for cache in (-1, 65537):
+            with self.assertRaises(deltagraph.WrongWords):
+                self.open(cache=cache)
+        with self.open(cache=65536) as store:
+            self.assertIsNone(store.span())
+
+
 class WrongPrograms(Case):
     def test_programs_that_are_others(self) -> None:
         self.index.touch()
