@@ -32,6 +32,7 @@ TABLE = [
 ]
 NEVER_REFUSED = ["counts", "release", "clean", "pool"]
 CHECKED = ("--checked",)
+UNCACHED, CACHED = ("--cache", "0"), ("--cache", "64")
 MAKE = [CREATE, FIVE]
 SCRIPTS = {
     "several": ["several s 20 30 20", "several s 30 20"],
@@ -147,10 +148,11 @@ class Faults:
         return None if self.probe(after) in (self.probe(before), self.probe(behind)) else "the file holds neither history"
 
     def in_turn(self, name, script, image, words=()):
-        """Each call of each kind fails in turn, and with `allocs` all growths from one on."""
+        """Each call of each kind fails in turn, and with `allocs` all growths from one on. Gives how many failures of each
+        kind came to what."""
         most = self.calls(script, image, words)
         self.tests.check(f"{name}: its calls are seen", most["alloc"] > 10 and most["sync"] > 0, most)
-        ends, count = [], 0
+        ends, met, count = [], {}, 0
         for kind, known, more in TABLE:
             tally = {}
             for number in range(1, most[known] + 1):
@@ -160,7 +162,18 @@ class Faults:
                 tally[came] = tally.get(came, 0) + 1
                 count += 1
             ends += [f"{number} {came} by {kind}" for came, number in sorted(tally.items(), key=str)]
+            met[kind] = tally
         print(f"{name}: {count} failures: {', '.join(ends)}", flush=True)
+        return met
+
+    def cache(self, name, script, image):
+        """With a cache a growth is refused by the same commands, and those of the cache itself by none."""
+        plain = self.in_turn(f"{name}, no cache", script, image, UNCACHED)
+        cached = self.in_turn(f"{name}, a cache", script, image, CACHED)
+        for came in ("refused", "status 6"):
+            self.tests.same(f"{name}: {came} by alloc with a cache", cached["alloc"].get(came), plain["alloc"].get(came))
+        more = cached["alloc"].get("no effect", 0) - plain["alloc"].get("no effect", 0)
+        self.tests.check(f"{name}: growths of the cache", more > 0, more)
 
     def cuts(self, name, script):
         """The source fails behind each byte, and the sink when it has taken each number of bytes."""
@@ -226,6 +239,7 @@ def main():
     faults.in_turn("a longer history", LONGER, None)
     _, longer = faults.without(LONGER[:2], None)
     faults.in_turn("a longer history, a checked file", LONGER[2:], longer, CHECKED)
+    faults.cache("a longer history, retrieved", LONGER[2:5] + LONGER[2:4] + LONGER[6:], longer)
     for name, script in SCRIPTS.items():
         faults.cuts(name, MAKE + script)
         faults.pieces(name, MAKE + script, None)
