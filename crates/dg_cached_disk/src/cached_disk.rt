@@ -21,11 +21,11 @@ pub struct CachedDisk<D: Disk> {
 }
 
 impl<D: Disk + Drop> CachedDisk<D> {
-    /// Over the disk, with room for these ranges, of which there is none yet.
+    /// Over the disk, of which nothing is asked, with room for these ranges, of which there is none yet.
     pub fn new(alloc: Global, disk: D, ranges: RangeCache) -> CachedDisk<D>
         requires { ranges ≡ [] }
-        ensures image { D.image result.disk ≡ D.image disk }
-        ensures taken { raised_by result.given (D.taken result.disk) ≡ raised_by 0 (D.taken disk) }
+        ensures disk { result.disk ≡ disk }
+        ensures given { result.given ≡ 0 }
     {
         CachedDisk {
             disk,

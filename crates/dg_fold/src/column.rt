@@ -187,8 +187,9 @@ fn exact_delta(
     Ok(turned(alloc, delta, way))
 }
 
-/// The delta of a part, taken in this way up to an instant, in place of its own.
-pub(crate) fn part_delta_as<R: Threads>(
+/// The delta of a part, taken in this way up to an instant, in place of its own. `Damaged` names the first column that is
+/// damaged, exactly where one is.
+pub fn part_delta_as<R: Threads>(
     rt: &R,
     alloc: Global,
     name_count: u32,

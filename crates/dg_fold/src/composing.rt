@@ -43,10 +43,10 @@ fn deltas_for(alloc: Global, writings: &[Writing], target: usize) -> Result<Vec<
     Ok(deltas)
 }
 
-// The composition of the deltas. They are cut where what they name is halved, and a first delta that stands alone is
-// merged and not copied: so a first delta that names more than all others is gone over once, and no element of the
-// others is copied more often than about twice the logarithm of how many are named.
-fn composed(alloc: Global, deltas: &[&Delta]) -> Result<Delta, AllocError>
+/// The composition of the deltas, in order. They are cut where what they name is halved, and a first delta that stands alone is
+/// merged and not copied: so a first delta that names more than all others is gone over once, and no element of the
+/// others is copied more often than about twice the logarithm of how many are named. An `Err` says that memory ran out.
+pub fn composed(alloc: Global, deltas: &[&Delta]) -> Result<Delta, AllocError>
     ensures { IfOk result (λ d. Composes d (map (λ e. e.now) deltas.now)) }
 {
     if deltas.len() <= 1 {

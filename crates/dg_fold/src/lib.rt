@@ -18,7 +18,8 @@ mod tree;
 mod tree_step;
 mod writing;
 
-pub use composing::{compose_for, is_for};
+pub use column::part_delta_as;
+pub use composing::{compose_for, composed, is_for};
 pub use dg_delta::Delta;
 pub use fault::FoldFault;
 pub use fetch::fetch_walk;

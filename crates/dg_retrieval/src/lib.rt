@@ -17,3 +17,4 @@ pub use graph_lead::{Beginning, Leads};
 pub use node_lead::{NodeLead, retrieve_node};
 pub use record_sets::{ALL_COLUMNS, node_sets, plan_set};
 pub use retrieval::{Retrieved, retrieve};
+pub use tree_parts::{TreeParts, read_tree};
