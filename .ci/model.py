@@ -640,11 +640,17 @@ def check(program, index, seed):
         os.remove(index)
     rng = random.Random(seed)
     size, arity, function = rng.choice([2, 2, 3, 4, 5, 8]), rng.choice([2, 2, 3, 4]), rng.choice(FUNCTIONS)
+    # More than 32 older children at once, which are read by more than one tree.
+    is_wide = rng.randrange(12) == 0
+    if is_wide:
+        size, arity = 2, 36
     history, changes, case = History(size, arity, function), Changes(rng), Case(program, index, seed)
     case.script.append(f"create {size} {arity} {function}")
     case.reply("ok create")
     for batch in range(rng.randrange(1, 9)):
         count = rng.choice([1, 1, 2, 3, 5, 8, 13, 40, rng.randrange(1, 90)])
+        if is_wide and batch == 0:
+            count = rng.randrange(66, 72)
         word = "append" if batch else "load"
         changes.time += 1 if batch else 0
         names, lines, events = [], [], []

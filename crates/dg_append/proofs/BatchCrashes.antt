@@ -1,6 +1,5 @@
 -- What calls that may put a batch into the file leave of the disk, and what a crash leaves.
-use Rattle.std.proofs.Common.{◌≡◌, ℕ, List, Option, IfSome, Ok, Err, ap, refl, sym, subst, arith}
-use Rattle.std.specs.Prelude.{is_some}
+use Rattle.std.proofs.Common.{◌≡◌, ℕ, List, Option, IfSome, Ok, Err, refl, sym, subst, arith}
 use Rattle.dg_append.specs.AddedBatches.{batch_with}
 use Rattle.dg_append.specs.BatchSegments.{IsBuiltOver, StandsForKept, StopsSegment}
 use Rattle.dg_append.specs.declared.fault.BatchFault.{BatchFault}
@@ -12,7 +11,7 @@ use Rattle.dg_append.specs.KeptBatches.{GainsNextOrNot, StopsKeeping}
 use Rattle.dg_disk.proofs.CrashReads.{reads_first, told_reads}
 use Rattle.dg_disk.proofs.CrashTold.{told_widens}
 use Rattle.dg_disk.proofs.FrameLemmas.{reads_then_writes, reads_use}
-use Rattle.dg_disk.specs.Calls.{Fails, LeftByCrash, ReadsDisk, UsesDisk, WritesDisk}
+use Rattle.dg_disk.specs.Calls.{Fails, LeftByCrash, ReadsDisk, WritesDisk}
 use Rattle.dg_disk.specs.declared.disk.Disk.{Ghosts}
 use Rattle.dg_file.specs.Calls.{CommitsSegment}
 use Rattle.dg_file.specs.Images.{GainsBatchOrNot}

@@ -5,20 +5,26 @@ use Rattle.std.specs.Global.{Vec}
 use Rattle.std.specs.List.{Contains, sum}
 use Rattle.std.proofs.lemmas.List.Elements.{Contains-get_or}
 use Rattle.std.proofs.lemmas.Option.{get_or_from_slice_get, same_Some, slice_get_within}
-use Rattle.dg_append.proofs.OlderGroupSets.{Gives, some_map}
+use Rattle.dg_append.proofs.OlderChildSteps.{leaf_led}
+use Rattle.dg_append.proofs.OlderGroupSets.{some_map}
 use Rattle.dg_append.specs.AddedBatches.{batch_with}
 use Rattle.dg_append.specs.BatchSegments.{IsBuiltOver, IsNext, IsPast, IsSegmentBehind, IsUnmade, MakesSegment, StandsForKept, StopsSegment, TakesSinglesOver}
 use Rattle.dg_append.specs.declared.fault.BatchFault.{BatchFault}
 use Rattle.dg_append.specs.declared.fault.BatchFault.TheVariants as fault
 use Rattle.dg_append.specs.declared.next_batch.NextBatch.{NextBatch}
 use Rattle.dg_append.specs.Faults.{of_retrieval}
-use Rattle.dg_append.specs.OlderGroups.{AreUndamaged, IsBatchDamage, IsDueDelta, IsFirstOfGroups, in_groups, older_children}
+use Rattle.dg_append.specs.OlderChildSteps.{GivesOlderSteps}
+use Rattle.dg_append.specs.OlderGroups.{AreUndamaged, IsBatchDamage, IsDueDelta, IsFirstOfGroups, in_groups, leaves_after, leaves_before, older_children}
+use Rattle.dg_build.specs.InteriorDeltas.{steps_to}
+use Rattle.dg_build.specs.OlderSteps.{last_leaf, older_in_time}
 use Rattle.dg_fold.specs.BytesRead.{TakesAtMost}
 use Rattle.dg_fold.proofs.LegalHistories.{legal_is_indexed}
+use Rattle.dg_graph.specs.Composition.{Delta}
 use Rattle.dg_graph.specs.declared.element.Column.{Column}
 use Rattle.dg_graph.specs.declared.element.Element.{Element}
 use Rattle.dg_graph.specs.declared.event.Event.{Event}
 use Rattle.dg_graph.specs.Effect.{forwards}
+use Rattle.dg_graph.specs.Elements.{IsSet}
 use Rattle.dg_graph.specs.ExactEvents.{AreChangesOf}
 use Rattle.dg_graph.specs.Replay.{replay_from}
 use Rattle.dg_history.specs.declared.node.Key.{Key}
@@ -27,7 +33,7 @@ use Rattle.dg_history.specs.declared.node.NodeId.TheVariants.{Root}
 use Rattle.dg_history.specs.declared.params.Params.{Params}
 use Rattle.dg_history.specs.History.{Batch, History, events_of}
 use Rattle.dg_index.specs.FileOfHistory.{Segment, segment_of}
-use Rattle.dg_index.specs.Hierarchy.{set_of}
+use Rattle.dg_index.specs.Hierarchy.{leaves, set_of}
 use Rattle.dg_index.specs.IndexRecords.{recent_of}
 use Rattle.dg_index.specs.OpenedIndex.{Opening, event_total, opened_of}
 use Rattle.dg_plan.specs.IndexGraph.{arcs_of}
@@ -36,12 +42,23 @@ use Rattle.dg_retrieval.specs.KeptGraph.{record_edges}
 use Rattle.dg_retrieval.specs.declared.fault.RetrievalFault.{RetrievalFault}
 use Rattle.dg_retrieval.specs.declared.fault.RetrievalFault.TheVariants as retrieval
 use Rattle.dg_retrieval.specs.Retrieval.{IsNoDamage}
-use Rattle.dg_retrieval.specs.NodeSets.{IsIndexOver, sets_of}
+use Rattle.dg_retrieval.specs.NodeSets.{IsIndexOver}
 use Rattle.dg_retrieval.proofs.KeptGraphWeights.{opened_events, opened_params}
 
 changes_joined : (set : ListOf Element) (xs ys : ListOf Event) → AreChangesOf set xs → AreChangesOf (replay_from set xs) ys → AreChangesOf set (xs ++ ys)
 changes_joined set [] ys first more = more
 changes_joined set (e ∷ xs) ys first more = (first.0, changes_joined (forwards set e) xs ys first.1 more)
+
+-- the steps are those of the older children of the batch, over the history
+abbrev pub AreRead : Opening → NextBatch → History → ListOf Delta → Type 0
+AreRead o next z steps =
+    steps ≡ steps_to (map (set_of z.params (events_of z)) (older_in_time o.params.k (leaves_before o) (leaves_after o (length next.events.now)))) (last_leaf z.params (events_of z))
+
+-- what a call that reads the steps of the older children tells, over an image of which the history is kept
+abbrev pub GivesKept : Opening → NextBatch → ListOf Element → ℕ → ℕ → Result (Vec Delta) RetrievalFault → ListOf ℕ → Type 0
+GivesKept o next graph taken then_taken r image =
+    (z : History) → StandsForKept z image o next graph
+    → GivesOlderSteps z (record_edges o) (older_children o (length next.events.now)) (older_in_time o.params.k (leaves_before o) (leaves_after o (length next.events.now))) taken then_taken r
 
 module _ (z : History) (image : ListOf ℕ) (o : Opening) (next : NextBatch) (graph : ListOf Element) (is : StandsForKept z image o next graph) where
   opened : o ≡ (opened_of z).index
@@ -57,15 +74,22 @@ module _ (z : History) (image : ListOf ℕ) (o : Opening) (next : NextBatch) (gr
     names = sym (length-take next.known next.names.now ∙ (let e : min next.known (length next.names.now) ≡ next.known = omega (arith, within) in e)) ∙ ap length is.1.names_are;
   }
 
-  pub past_is : (sets : ListOf (ListOf Element)) → AreChangesOf graph next.events.now → sets ≡ sets_of z (older_children o (length next.events.now))
-      → IsPast o (events_of z) next.recent.now graph next.events.now sets
-  past_is sets changes are = record {
-    long = sym (ap (λ (x : Opening). event_total x.batches) opened ∙ opened_events z);
+  long : event_total o.batches ≡ length (events_of z)
+  long = ap (λ (x : Opening). event_total x.batches) opened ∙ opened_events z
+
+  pub past_is : (steps : ListOf Delta) → AreChangesOf graph next.events.now → AreRead o next z steps → IsPast o (events_of z) next.recent.now graph next.events.now steps
+  past_is steps changes are = record {
+    long = sym long;
     recent_is = is.1.recent_are ∙ ap (λ (p : Params). recent_of p (events_of z)) (sym params);
     graph_is = is.1.graph_is;
     changes = changes_joined [] (events_of z) next.events.now (legal_is_indexed z is.0.legal).0.changes (subst (λ (set : ListOf Element). AreChangesOf set next.events.now) is.1.graph_is changes);
-    sets_are = are ∙ ap (λ (p : Params). map (set_of p (events_of z)) (older_children o (length next.events.now))) (sym params);
+    steps_are = are
+        ∙ (λ i. steps_to (map (set_of (sym params i) (events_of z)) (older_in_time o.params.k (leaves o.params (long i)) (leaves_after o (length next.events.now)))) (last_leaf (sym params i) (events_of z)));
   }
+
+  -- the current graph, led back over the recent events, is the last leaf
+  pub leaf_over : (leaf : ListOf Element) → ((set : ListOf Element) → IsSet set → AreChangesOf set next.recent.now → graph ≡ replay_from set next.recent.now → leaf ≡ set) → leaf ≡ last_leaf z.params (events_of z)
+  leaf_over leaf leads = leaf_led z.params (events_of z) next.recent.now graph leaf is.1.recent_are is.1.graph_is (legal_is_indexed z is.0.legal).0.changes leads
 
   pub segment_over : (b : Batch) (s : Segment) → s ≡ segment_of o.params (events_of z) b → s ≡ segment_of z.params (events_of z) b
   segment_over b s made = made ∙ ap (λ (p : Params). segment_of p (events_of z) b) params
@@ -76,9 +100,9 @@ module _ (z : History) (image : ListOf ℕ) (o : Opening) (next : NextBatch) (gr
 key_among : (keys : ListOf Key) (place : ℕ) (key : Key) → slice_get keys place ≡ Some key → Contains keys key
 key_among keys place key is = subst (Contains keys) (get_or_from_slice_get keys place key key is) (Contains-get_or keys place key (slice_get_within keys place key is))
 
--- The sets are those of the older children of the batch, behind an index that is as it was.
-module _ (told : Option (ListOf ℕ)) (o other : Opening) (next : NextBatch) (graph : ListOf Element) (sets given : ListOf (ListOf Element)) (index : other ≡ o) (taken : given ≡ sets)
-    (n : IsNext o next graph) (are : IfSome told (λ image. (z : History) → IsIndexOver z image o next.known → sets ≡ sets_of z (older_children o (length next.events.now))))
+-- The steps are those of the older children of the batch, behind an index that is as it was.
+module _ (told : Option (ListOf ℕ)) (o other : Opening) (next : NextBatch) (graph : ListOf Element) (steps given : ListOf Delta) (index : other ≡ o) (taken : given ≡ steps)
+    (n : IsNext o next graph) (are : IfSome told (λ image. (z : History) → StandsForKept z image o next graph → AreRead o next z steps))
     (whole : IfSome told (λ image. AreUndamaged next.known o image (in_groups (older_children o (length next.events.now))))) where
   abbrev events : ListOf Event
   events = next.events.now
@@ -86,10 +110,10 @@ module _ (told : Option (ListOf ℕ)) (o other : Opening) (next : NextBatch) (gr
   abbrev children : ListOf NodeId
   children = older_children o (length events)
 
-  past_given : (z : History) (image : ListOf ℕ) → StandsForKept z image o next graph → (IsIndexOver z image o next.known → sets ≡ sets_of z children) → IsPast other (events_of z) next.recent.now graph events given
-  past_given z image is sets_are =
+  past_given : (z : History) (image : ListOf ℕ) → StandsForKept z image o next graph → AreRead o next z steps → IsPast other (events_of z) next.recent.now graph events given
+  past_given z image is steps_are =
       subst (λ (x : Opening). IsPast x (events_of z) next.recent.now graph events given) (sym index)
-      (past_is z image o next graph is given n.changes (taken ∙ sets_are (index_over z image o next graph is n.within)))
+      (past_is z image o next graph is given n.changes (taken ∙ steps_are))
 
   abbrev Made : Segment → Type 0
   Made s = (past : ListOf Event) → IsPast other past next.recent.now graph events given → s ≡ segment_of other.params past (batch_with next.known next.names.now events)
@@ -103,11 +127,11 @@ module _ (told : Option (ListOf ℕ)) (o other : Opening) (next : NextBatch) (gr
     whole = whole;
   }
     where
-      by : (told : Option (ListOf ℕ)) → IfSome told (λ image. (z : History) → IsIndexOver z image o next.known → sets ≡ sets_of z children) → IsBuiltOver told o next graph s
+      by : (told : Option (ListOf ℕ)) → IfSome told (λ image. (z : History) → StandsForKept z image o next graph → AreRead o next z steps) → IsBuiltOver told o next graph s
       by None are = tt
       by (Some image) are = λ z is.
           segment_over z image o next graph is (batch_with next.known next.names.now events) s
-          (made (events_of z) (past_given z image is (are z))
+          (made (events_of z) (past_given z image is (are z is))
           ∙ ap (λ (x : Opening). segment_of x.params (events_of z) (batch_with next.known next.names.now events)) index)
 
   -- a segment that is not made over the image of a history lacked memory
@@ -126,40 +150,38 @@ module _ (told : Option (ListOf ℕ)) (o other : Opening) (next : NextBatch) (gr
       damage None whole = tt
       damage (Some image) whole = inr (whole, unmade.0, due)
 
-      none : (told : Option (ListOf ℕ)) → IfSome told (λ image. (z : History) → IsIndexOver z image o next.known → sets ≡ sets_of z children)
+      none : (told : Option (ListOf ℕ)) → IfSome told (λ image. (z : History) → StandsForKept z image o next graph → AreRead o next z steps)
           → IfSome told (λ image. (z : History) → StandsForKept z image o next graph → ⊥)
       none None are = tt
       none (Some image) are = λ z is.
-          let memory : fault.Damaged key col ≡ fault.Memory = never (events_of z) (past_given z image is (are z)) in cc
+          let memory : fault.Damaged key col ≡ fault.Memory = never (events_of z) (past_given z image is (are z is)) in cc
   unmade_over (Err fault.Read) unmade never = tt
   unmade_over (Err fault.Memory) unmade never = tt
   unmade_over (Err fault.Store) unmade never = unmade
 
--- What the call that read the older children tells, over an image of which the history is kept.
-module _ (o : Opening) (next : NextBatch) (graph : ListOf Element) (within : next.known ≤ length next.names.now) (told : Option (ListOf ℕ)) (taken then_taken : ℕ) (r : Result (Vec (ListOf Element)) RetrievalFault)
-    (gives : IfSome told (Gives o next.known (older_children o (length next.events.now)) taken then_taken r)) where
-  pub kept_takes : TakesSinglesOver told o next graph taken then_taken
-  kept_takes =
-      some_map told (Gives o next.known (older_children o (length next.events.now)) taken then_taken r)
-      (λ image. (z : History) → StandsForKept z image o next graph → (singles : ListOf ℕ) → AreSingles (arcs_of (record_edges o)) (Root ∷ []) (older_children o (length next.events.now)) singles → TakesAtMost (sum singles) taken then_taken)
-      (λ image g z is. (g z (index_over z image o next graph is within)).most) gives
+-- at most what the single plans weigh is read
+pub kept_takes : (o : Opening) (next : NextBatch) (graph : ListOf Element) (told : Option (ListOf ℕ)) (taken then_taken : ℕ) (r : Result (Vec Delta) RetrievalFault)
+    → IfSome told (GivesKept o next graph taken then_taken r) → TakesSinglesOver told o next graph taken then_taken
+kept_takes o next graph told taken then_taken r gives =
+    some_map told (GivesKept o next graph taken then_taken r)
+    (λ image. (z : History) → StandsForKept z image o next graph → (singles : ListOf ℕ) → AreSingles (arcs_of (record_edges o)) (Root ∷ []) (older_children o (length next.events.now)) singles → TakesAtMost (sum singles) taken then_taken)
+    (λ image g z is. (g z is).most) gives
 
--- the sets are given
-pub sets_given : (o : Opening) (names : ℕ) (nodes : ListOf NodeId) (told : Option (ListOf ℕ)) (taken then_taken : ℕ) (sets : Vec (ListOf Element)) → IfSome told (Gives o names nodes taken then_taken (Ok sets))
-    → IfSome told (λ image. (z : History) → IsIndexOver z image o names → sets.items ≡ sets_of z nodes)
-sets_given o names nodes told taken then_taken sets gives =
-    some_map told (Gives o names nodes taken then_taken (Ok sets)) (λ image. (z : History) → IsIndexOver z image o names → sets.items ≡ sets_of z nodes) (λ image g z over. (g z over).sets) gives
+-- the steps are given
+pub steps_given : (o : Opening) (next : NextBatch) (graph : ListOf Element) (told : Option (ListOf ℕ)) (taken then_taken : ℕ) (steps : Vec Delta) → IfSome told (GivesKept o next graph taken then_taken (Ok steps))
+    → IfSome told (λ image. (z : History) → StandsForKept z image o next graph → AreRead o next z steps.items)
+steps_given o next graph told taken then_taken steps gives =
+    some_map told (GivesKept o next graph taken then_taken (Ok steps)) (λ image. (z : History) → StandsForKept z image o next graph → AreRead o next z steps.items) (λ image g z is. (g z is).steps) gives
 
 named_damage : (key : Key) (col : Column) → IsNoDamage (retrieval.Damaged key col) → ⊥
 named_damage key col (inl disk) = cc
 named_damage key col (inr memory) = cc
 
--- the sets of the older children were not read
-pub unread_over : (o : Opening) (next : NextBatch) (graph : ListOf Element) (told : Option (ListOf ℕ)) (taken then_taken : ℕ) (f : RetrievalFault) → next.known ≤ length next.names.now
-    → IfSome told (Gives o next.known (older_children o (length next.events.now)) taken then_taken (Err f)) → IfSome told (λ image. IsFirstOfGroups next.known o image (in_groups (older_children o (length next.events.now))) f)
+-- the steps of the older children were not read
+pub unread_over : (o : Opening) (next : NextBatch) (graph : ListOf Element) (told : Option (ListOf ℕ)) (taken then_taken : ℕ) (f : RetrievalFault)
+    → IfSome told (GivesKept o next graph taken then_taken (Err f)) → IfSome told (λ image. IsFirstOfGroups next.known o image (in_groups (older_children o (length next.events.now))) f)
     → StopsSegment told o next graph (of_retrieval f)
-unread_over o next graph told taken then_taken retrieval.Disk within gives first = tt
-unread_over o next graph told taken then_taken retrieval.Memory within gives first = tt
-unread_over o next graph None taken then_taken (retrieval.Damaged key col) within gives first = (tt, tt)
-unread_over o next graph (Some image) taken then_taken (retrieval.Damaged key col) within gives first =
-    (inl first, λ z is. named_damage key col (gives z (index_over z image o next graph is within)).never)
+unread_over o next graph told taken then_taken retrieval.Disk gives first = tt
+unread_over o next graph told taken then_taken retrieval.Memory gives first = tt
+unread_over o next graph None taken then_taken (retrieval.Damaged key col) gives first = (tt, tt)
+unread_over o next graph (Some image) taken then_taken (retrieval.Damaged key col) gives first = (inl first, λ z is. named_damage key col (gives z is).never)

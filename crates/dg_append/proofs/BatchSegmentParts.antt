@@ -1,25 +1,24 @@
 -- The parts of which the segment of a batch is made.
-use Rattle.std.proofs.Common.{◌≡◌, ℕ, ◌+◌, ◌-◌, ◌*◌, ◌/◌, ◌<◌, ◌≤◌, true, List, ◌++◌, length, map, sym, ap, subst, ◌∙◌, drop, mul_comm}
+use Rattle.std.proofs.Common.{◌≡◌, ℕ, ◌+◌, ◌-◌, ◌*◌, ◌≤◌, true, List, ◌++◌, length, map, sym, ap, subst, ◌∙◌, drop, mul_comm}
 use Rattle.std.proofs.Math.Nat.{mul-sub}
 use Rattle.dg_append.proofs.FrontEvents.{InRange, in_range}
 use Rattle.dg_append.proofs.HistoryTimes.{begins_after, last_of_both}
 use Rattle.dg_append.specs.AddedBatches.{recent_behind}
 use Rattle.dg_append.specs.BatchSegments.{BeginsBehind, IsPast}
-use Rattle.dg_append.specs.OlderGroups.{older_children}
-use Rattle.dg_build.specs.GivenDeltas.{AreGiven, AreNewLeaves, taken_back}
+use Rattle.dg_append.specs.OlderGroups.{leaves_after, leaves_before}
+use Rattle.dg_build.specs.GivenDeltas.{AreGiven, gone_back, taken_back}
+use Rattle.dg_build.specs.OlderSteps.{AreOlderSteps, IsTopDue, older_in_time}
 use Rattle.dg_build.specs.SpelledRecords.{RisesFrom, last_in_rows}
 use Rattle.dg_graph.specs.Composition.{Delta}
 use Rattle.dg_graph.specs.declared.element.Element.{Element}
 use Rattle.dg_graph.specs.declared.event.Event.{Event}
 use Rattle.dg_graph.specs.Replay.{replay}
-use Rattle.dg_history.specs.declared.node.NodeId.{NodeId}
 use Rattle.dg_history.specs.declared.params.Params.{Params}
 use Rattle.dg_history.specs.History.{are_parameters, last_time_from}
 use Rattle.dg_index.specs.declared.entry.Row.{Row}
 use Rattle.dg_index.specs.FileOfHistory.{StoredList}
-use Rattle.dg_index.specs.Hierarchy.{leaves, set_of}
+use Rattle.dg_index.specs.Hierarchy.{leaves}
 use Rattle.dg_index.specs.IndexRecords.{deltas_due, recent_of}
-use Rattle.dg_index.specs.OlderNodes.{older}
 use Rattle.dg_index.specs.OpenedIndex.{Opening, delta_count, event_total, list_count, list_row, may_be_listed}
 use Rattle.dg_start.specs.StoredHistory.{recent_count}
 
@@ -42,11 +41,8 @@ module _ (o : Opening) (p : Params) (before : ℕ) (params : p ≡ o.params) (co
       less_times (leaves p (before + length events)) (leaves p before) p.l ∙ (λ i. leaves (params i) (counted i + length events) * (params i).l - leaves (params i) (counted i) * (params i).l) in
       subst (λ n. BeginsBehind (last_in_rows 0 (map list_row lists)) (drop n (recent ++ events))) many (begins_after floor lists _ rises)
 
-  pub older_are : (count : ℕ) → older p.k (leaves p before) (leaves p (before + count)) ≡ older_children o count
-  older_are count = λ i. older (params i).k (leaves (params i) (counted i)) (leaves (params i) (counted i + count))
-
-  pub older_long : (count long : ℕ) → long ≡ length (older_children o count) → long ≡ length (older p.k (leaves p before) (leaves p (before + count)))
-  older_long count long is = is ∙ ap (λ (l : List NodeId). length l) (sym (older_are count))
+  pub older_long : (count long : ℕ) → long ≡ length (older_in_time o.params.k (leaves_before o) (leaves_after o count)) → long ≡ length (older_in_time p.k (leaves p before) (leaves p (before + count)))
+  older_long count long is = is ∙ (λ i. length (older_in_time (sym params i).k (leaves (sym params i) (sym counted i)) (leaves (sym params i) (sym counted i + count))))
 
   pub recent_long : (long : ℕ) → long ≡ recent_count o → long ≡ before - leaves p before * p.l
   recent_long long is = is ∙ (λ i. sym counted i - leaves (sym params i) (sym counted i) * (sym params i).l)
@@ -54,33 +50,38 @@ module _ (o : Opening) (p : Params) (before : ℕ) (params : p ≡ o.params) (co
   pub range_of : are_parameters o.params.l o.params.k ≡ true → InRange p.l p.k
   range_of parameters = subst (λ (q : Params). InRange q.l q.k) (sym params) (in_range o.params.l o.params.k parameters)
 
+  -- what is due behind the index is due here
+  top_here : (low high count : ℕ) → low ≡ leaves p before → high ≡ leaves p (before + count) → IsTopDue p.k (leaves p before) (leaves p (before + count)) → IsTopDue p.k low high
+  top_here low high count low_is high_is due =
+      subst (λ (x : ℕ × ℕ). IsTopDue p.k x.0 x.1) (let e : (leaves p before, leaves p (before + count)) ≡ (low, high) = λ i. (sym low_is i, sym high_is i) in e) due
+
   -- the deltas are given behind the index, from its current graph
-  pub given_here : (low high : ℕ) (set graph : List Element) (recent events : List Event) (sets : List (List Element)) (deltas : List Delta) → low ≡ leaves p before → high ≡ leaves p (before + length events)
-      → (low / p.k < high / p.k → set ≡ graph) → AreGiven p before set recent events sets deltas → AreGiven o.params (event_total o.batches) graph recent events sets deltas
-  given_here low high set graph recent events sets deltas low_is high_is taken given =
-      subst (λ (x : Params × ℕ). AreGiven x.0 x.1 graph recent events sets deltas) (let e : (p, before) ≡ (o.params, event_total o.batches) = λ i. (params i, counted i) in e)
+  pub given_here : (low high : ℕ) (set graph : List Element) (recent events : List Event) (steps deltas : List Delta) → low ≡ leaves p before → high ≡ leaves p (before + length events)
+      → (IsTopDue p.k low high → set ≡ graph) → AreGiven p before set recent events steps deltas → AreGiven o.params (event_total o.batches) graph recent events steps deltas
+  given_here low high set graph recent events steps deltas low_is high_is taken given =
+      subst (λ (x : Params × ℕ). AreGiven x.0 x.1 graph recent events steps deltas) (let e : (p, before) ≡ (o.params, event_total o.batches) = λ i. (params i, counted i) in e)
       (record {
         new = given.new;
-        new_leaves = λ due.
-            subst (λ (now : List Element). AreNewLeaves p.l (leaves p (before + length events) - leaves p before) (taken_back now recent) (recent ++ events) given.new)
-            (taken (subst (λ n. n / p.k < high / p.k) (sym low_is) (subst (λ n. leaves p before / p.k < n / p.k) (sym high_is) due))) (given.new_leaves due);
+        new_leaves = given.new_leaves;
+        base = given.base;
+        base_is = λ due. given.base_is due ∙ ap (λ (now : List Element). gone_back steps (taken_back now recent)) (taken (top_here low high (length events) low_is high_is due));
         are = given.are;
       })
 
-  module _ (past recent : List Event) (graph : List Element) (events : List Event) (sets : List (List Element)) (is : IsPast o past recent graph events sets) where
+  module _ (past recent : List Event) (graph : List Element) (events : List Event) (steps : List Delta) (is : IsPast o past recent graph events steps) where
     pub past_long : length past ≡ before
     past_long = is.long ∙ sym counted
 
     pub past_recent : recent ≡ recent_of p past
     past_recent = is.recent_is ∙ ap (λ (q : Params). recent_of q past) (sym params)
 
-    pub past_graph : (low high : ℕ) (set : List Element) → low ≡ leaves p before → high ≡ leaves p (before + length events) → (low / p.k < high / p.k → set ≡ graph)
-        → leaves p before / p.k < leaves p (before + length events) / p.k → set ≡ replay past
-    past_graph low high set low_is high_is taken due =
-        taken (subst (λ n. n / p.k < high / p.k) (sym low_is) (subst (λ n. leaves p before / p.k < n / p.k) (sym high_is) due)) ∙ is.graph_is
+    pub past_graph : (low high : ℕ) (set : List Element) → low ≡ leaves p before → high ≡ leaves p (before + length events) → (IsTopDue p.k low high → set ≡ graph)
+        → IsTopDue p.k (leaves p before) (leaves p (before + length events)) → set ≡ replay past
+    past_graph low high set low_is high_is taken due = taken (top_here low high (length events) low_is high_is due) ∙ is.graph_is
 
-    pub past_sets : sets ≡ map (set_of p past) (older p.k (leaves p before) (leaves p (before + length events)))
-    past_sets = is.sets_are ∙ (λ i. map (set_of (sym params i) past) (sym (older_are (length events)) i))
+    pub past_steps : AreOlderSteps p past (leaves p (before + length events)) steps
+    past_steps =
+        subst (λ (x : Params × ℕ). AreOlderSteps x.0 past (leaves x.0 (x.1 + length events)) steps) (let e : (o.params, event_total o.batches) ≡ (p, before) = λ i. (sym params i, sym counted i) in e) is.steps_are
 
 -- the last time of the recent events and those behind them is that of these
 pub listed_by : (most floor : ℕ) (recent events : List Event) (rows : List Row) → 1 ≤ length events → may_be_listed most floor (last_time_from floor (recent ++ events)) rows ≡ true → may_be_listed most floor (last_time_from 0 events) rows ≡ true

@@ -1,5 +1,7 @@
 pub mod FrontRefusals
 pub mod OlderNodeHeights
+pub mod OlderChildTimes
+pub mod OlderChildSteps
 pub mod OlderGroupSets
 pub mod CompletedChanges
 pub mod HistoryTimes

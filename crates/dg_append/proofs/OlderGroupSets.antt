@@ -82,7 +82,7 @@ pub groups_next : (nodes : ListOf NodeId) → 1 ≤ length nodes → in_groups n
 groups_next nodes some =
     ap (λ n. groups GROUP_MAX n nodes) (one_more (length nodes) some ∙ ap (λ n. suc (count_of_groups n)) (sym (length-drop GROUP_MAX nodes)))
 
-none_left : (nodes : ListOf NodeId) (done : ℕ) → length nodes ≤ done → in_groups (drop done nodes) ≡ []
+pub none_left : (nodes : ListOf NodeId) (done : ℕ) → length nodes ≤ done → in_groups (drop done nodes) ≡ []
 none_left nodes done le =
     ap (λ n. groups GROUP_MAX n (drop done nodes)) (ap count_of_groups (length-drop done nodes ∙ (let e : length nodes - done ≡ 0 = omega (arith, le) in e)) ∙ (let e : count_of_groups 0 ≡ 0 = omega arith in e))
 

@@ -7,9 +7,11 @@ use Rattle.dg_append.specs.declared.next_batch.NextBatch.{NextBatch}
 use Rattle.dg_append.specs.AddedBatches.{MeetsNoDamage, batch_with, recent_behind}
 use Rattle.dg_append.specs.OlderGroups.{IsBatchDamage, leaves_after, leaves_before, older_children}
 use Rattle.dg_build.specs.GivenDeltas.{AreGiven, IsFirstWide}
+use Rattle.dg_build.specs.OlderSteps.{AreOlderSteps}
 use Rattle.dg_build.specs.SpelledRecords.{RisesFrom, last_in_rows}
 use Rattle.dg_columns.specs.NamesInRange.{NamesFit}
 use Rattle.dg_fold.specs.BytesRead.{TakesAtMost}
+use Rattle.dg_graph.specs.Composition.{Delta}
 use Rattle.dg_graph.specs.declared.element.Column.TheVariants.{Structure}
 use Rattle.dg_graph.specs.declared.element.Element.{Element}
 use Rattle.dg_graph.specs.declared.event.Event.{Event}
@@ -22,7 +24,6 @@ use Rattle.dg_history.specs.declared.node.Key.{Key}
 use Rattle.dg_history.specs.declared.node.NodeId.TheVariants.{Root}
 use Rattle.dg_history.specs.History.{History, events_of, first_time_of, last_time_from}
 use Rattle.dg_index.specs.FileOfHistory.{Segment, segment_of}
-use Rattle.dg_index.specs.Hierarchy.{set_of}
 use Rattle.dg_index.specs.ImageOfHistory.{IsImageOf}
 use Rattle.dg_index.specs.IndexGrowth.{name_total}
 use Rattle.dg_index.specs.IndexRecords.{deltas_due, recent_of}
@@ -77,14 +78,14 @@ pub record IsSegmentBehind (o : Opening) (names : ListOf (ListOf ℕ)) (recent e
   pub listed : may_be_listed (list_bytes_max o.params.l) (floor_of o (first_time_of events)) (last_time_from 0 events) (map list_row s.lists) ≡ true
   pub behind : BeginsBehind (last_in_rows 0 (map list_row s.lists)) (recent_behind o.params (event_total o.batches) recent events)
 
--- These are all events of an index, of which these are recent; this graph is theirs, these sets are those of their
+-- These are all events of an index, of which these are recent; this graph is theirs, these are the exact steps of their
 -- older children, and these events may follow them.
-pub record IsPast (o : Opening) (past recent : ListOf Event) (graph : ListOf Element) (events : ListOf Event) (sets : ListOf (ListOf Element)) : Type 0 where
+pub record IsPast (o : Opening) (past recent : ListOf Event) (graph : ListOf Element) (events : ListOf Event) (steps : ListOf Delta) : Type 0 where
   pub long : length past ≡ event_total o.batches
   pub recent_is : recent ≡ recent_of o.params past
   pub graph_is : graph ≡ replay past
   pub changes : AreChangesOf [] (past ++ events)
-  pub sets_are : sets ≡ map (set_of o.params past) (older_children o (length events))
+  pub steps_are : AreOlderSteps o.params past (leaves_after o (length events)) steps
 
 -- the image stands for a history of which this graph is kept, and the names and recent events that the batch follows
 abbrev pub StandsForKept : History → ListOf ℕ → Opening → NextBatch → ListOf Element → Type 0
@@ -112,21 +113,21 @@ TakesSinglesOver before o next graph taken then_taken =
 
 -- ---- why it is not made
 
--- Of the deltas that the batch gives from the current graph and from these sets of its older children, in the order of
+-- Of the deltas that the batch gives from the current graph and from these steps of its older children, in the order of
 -- its segment, the first that has more elements than its column can count has this key.
-pub record IsFirstWideDelta (o : Opening) (next : NextBatch) (graph : ListOf Element) (sets : ListOf (ListOf Element)) (key : Key) : Type 0 where
+pub record IsFirstWideDelta (o : Opening) (next : NextBatch) (graph : ListOf Element) (steps : ListOf Delta) (key : Key) : Type 0 where
   pub place : ℕ
-  pub first : IsFirstWide (AreGiven o.params (event_total o.batches) graph next.recent.now next.events.now sets) 0 place
+  pub first : IsFirstWide (AreGiven o.params (event_total o.batches) graph next.recent.now next.events.now steps) 0 place
   pub there : slice_get (deltas_due o.params.k (leaves_before o) (leaves_after o (length next.events.now))) place ≡ Some key
 
--- why the segment of the batch is not made from these sets of its older children
-abbrev pub IsUnmade : Opening → NextBatch → ListOf Element → ListOf (ListOf Element) → BatchFault → Type 0
-IsUnmade o next graph sets (fault.BadChange line reason) = ⊥
-IsUnmade o next graph sets (fault.FileFull needed most) = ⊥
-IsUnmade o next graph sets (fault.Damaged key col) = (col ≡ Structure) × IsFirstWideDelta o next graph sets key
-IsUnmade o next graph sets fault.Read = ⊥
-IsUnmade o next graph sets fault.Memory = Unit {0}
-IsUnmade o next graph sets fault.Store = ⊥
+-- why the segment of the batch is not made from these steps of its older children
+abbrev pub IsUnmade : Opening → NextBatch → ListOf Element → ListOf Delta → BatchFault → Type 0
+IsUnmade o next graph steps (fault.BadChange line reason) = ⊥
+IsUnmade o next graph steps (fault.FileFull needed most) = ⊥
+IsUnmade o next graph steps (fault.Damaged key col) = (col ≡ Structure) × IsFirstWideDelta o next graph steps key
+IsUnmade o next graph steps fault.Read = ⊥
+IsUnmade o next graph steps fault.Memory = Unit {0}
+IsUnmade o next graph steps fault.Store = ⊥
 
 -- Why the segment is not made over an image: a column is damaged, which is so over no image of a history that is
 -- kept; a read failed; or memory lacked.

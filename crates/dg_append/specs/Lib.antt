@@ -1,5 +1,6 @@
 pub mod Fronts
 pub mod OlderGroups
+pub mod OlderChildSteps
 pub mod Faults
 pub mod DiskLeft
 pub mod LiveHistories

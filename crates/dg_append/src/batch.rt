@@ -68,9 +68,9 @@ fn give_back(alloc: Global, known: u32, fault: BatchFault, live: &mut Live)
 }
 
 /// Adds the batch to the history, and takes the current graph of the pool on with it: no other graph changes. The file
-/// may have `limit` bytes in use. Where the batch completes an interior node with older children, their sets are read
-/// first, in groups of 32, each by one tree over the records alone. All memory is taken before the first write. A crash
-/// at any moment leaves the history without the batch or with it.
+/// may have `limit` bytes in use. Where the batch completes an interior node with older children, the records that
+/// lead to them are read first, in groups of 32, each by one tree over the records alone. All memory is taken before the
+/// first write. A crash at any moment leaves the history without the batch or with it.
 ///
 /// `BatchFault::BadChange` for the least line that is refused, with nothing read; `BatchFault::FileFull` with the
 /// bytes that would be in use, where they are more than `limit`; `BatchFault::Damaged`, `BatchFault::Read` where the

@@ -8,7 +8,7 @@ ghost use Rattle.dg_pool.specs.Graphs.{graph_now};
 
 use crate::fault::BatchFault;
 use crate::next_batch::NextBatch;
-use crate::older_sets::older_sets;
+use crate::older_steps::older_steps;
 use crate::segment::segment_of;
 use dg_disk::Disk;
 use dg_file::Index;
@@ -17,8 +17,8 @@ use dg_segment::Segment;
 use std::alloc::Global;
 use std::thread::Threads;
 
-/// The segment of the batch behind the index. The current graph of `pool` is that before the batch. The sets of the
-/// older children of the interior nodes that the batch completes are read.
+/// The segment of the batch behind the index. The current graph of `pool` is that before the batch. The records that lead
+/// to the older children of the interior nodes that the batch completes are read.
 ///
 /// `Damaged` and `Read` where the older children cannot be read, or a due delta cannot be written; `Memory` for want
 /// of memory.
@@ -45,6 +45,6 @@ pub(crate) fn make_segment<R: Threads, D: Disk>(
     ensures same { index.new ≡ index.old }
     ensures disk { ReadsDisk D.Disk disk.old disk.new }
 {
-    let older = older_sets(rt, alloc, index, disk, next.known, next.events.len() as u64)?;
+    let older = older_steps(rt, alloc, index, next, pool, disk)?;
     segment_of(alloc, index, next, pool, &older)
 }

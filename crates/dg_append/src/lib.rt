@@ -14,6 +14,7 @@ mod nets;
 mod next_batch;
 mod older_children;
 mod older_sets;
+mod older_steps;
 mod recent;
 mod segment;
 

@@ -1,53 +1,45 @@
-//! The sets of the older children, by trees over the records of the index alone.
+//! The steps of the older children by their sets, where one tree does not give them: the sets are read group after group,
+//! each group by a tree over the records of the index alone.
 
-ghost use Rattle.std.specs.Prelude.{◌≡◌, ◌+◌, ◌≤◌, length, IfOk, IfSome};
+ghost use Rattle.std.specs.Prelude.{◌≡◌, ◌≤◌, ◌<◌, ◌+◌, List, drop, get_or, length, map, IfOk, IfSome, IsTrue};
 ghost use Rattle.std.specs.List.{All, Contains};
-ghost use Rattle.dg_append.specs.OlderGroups.{TellsGroupDamage, older_children};
+ghost use Rattle.dg_append.specs.BatchSegments.{StandsForKept};
+ghost use Rattle.dg_append.specs.OlderChildSteps.{GivesOlderSteps};
+ghost use Rattle.dg_append.specs.OlderGroups.{TellsGroupDamage};
+ghost use Rattle.dg_build.specs.InteriorDeltas.{steps_to};
 ghost use Rattle.dg_file.specs.Images.{IsOpenedAs};
-ghost use Rattle.dg_history.specs.declared.limits.TheConstants.{EVENTS_MAX};
+ghost use Rattle.dg_graph.specs.declared.element.Element.{Element};
+ghost use Rattle.dg_graph.specs.Elements.{IsSet};
+ghost use Rattle.dg_graph.specs.ExactEvents.{AreChangesOf};
+ghost use Rattle.dg_graph.specs.Replay.{replay_from};
+ghost use Rattle.dg_history.specs.declared.node.NodeId.{NodeId};
 ghost use Rattle.dg_history.specs.History.{History};
-ghost use Rattle.dg_index.specs.OpenedIndex.{event_total};
+ghost use Rattle.dg_pool.specs.Graphs.{graph_now};
 ghost use Rattle.dg_retrieval.specs.Calls.{GivesSetsOver, ReadsRecords};
-ghost use Rattle.dg_retrieval.specs.KeptGraph.{record_edges, record_nodes, shape_with};
+ghost use Rattle.dg_retrieval.specs.KeptGraph.{record_edges, record_nodes};
 ghost use Rattle.dg_retrieval.specs.NodeSets.{HasNoEvents, IsIndexOver};
 
-use crate::older_children::older_children;
+use crate::next_batch::NextBatch;
+use dg_delta::Delta;
 use dg_disk::Disk;
 use dg_file::Index;
-use dg_history::{NodeId, Params};
+use dg_graph::Event;
+use dg_history::NodeId;
+use dg_list::net_back;
 use dg_planner::Planner;
-use dg_retrieval::{ALL_COLUMNS, RetrievalFault, node_sets};
+use dg_pool::Pool;
+use dg_retrieval::{RetrievalFault, node_sets};
 use dg_set::Set;
-use dg_shape::Shape;
 use std::alloc::{AllocError, Global};
 use std::thread::Threads;
 
-/// The most nodes whose sets are taken by one tree.
+/// The most older children that are reached by one tree.
 pub const GROUP_MAX: u32 = 32;
 
 /// The limit as a number, since code and definitions alike name the constant. Does nothing.
 pub fn group_limit()
     ensures { GROUP_MAX ≡ 32 }
 {}
-
-// The shape of the index.
-fn shape_of(index: &Index) -> Shape
-    ensures { result ≡ shape_with index.now.opening.params (event_total index.now.opening.batches) }
-{
-    let Params { l, k, .. } = index.params();
-    let events = index.events_len();
-    Shape { l, k, events }
-}
-
-// The graph of the records of the index alone, with all their columns.
-fn record_planner(alloc: Global, index: &Index) -> Result<Planner, AllocError>
-    ensures nodes { IfOk result (λ p. p.nodes ≡ record_nodes index.now.opening) }
-    ensures edges { IfOk result (λ p. p.edges ≡ record_edges index.now.opening) }
-{
-    index.facts();
-    let shape = shape_of(index);
-    Planner::new(alloc, shape, index.catalogue(), ALL_COLUMNS, &[], false)
-}
 
 // The sets of the nodes, group after group, each by one tree.
 fn read_groups<R: Threads, D: Disk>(
@@ -88,39 +80,117 @@ fn read_groups<R: Threads, D: Disk>(
     Ok(sets)
 }
 
-/// The sets of the older children of the interior nodes that a batch of so many events completes behind the index, by
-/// height and number. They are read in groups of `GROUP_MAX`, each by one tree over the records alone, with all their
-/// columns. Where there are none nothing is planned or read. The history has `name_count` names.
+// The set of the last leaf, from the current graph and the events behind that leaf.
+fn last_leaf(alloc: Global, pool: &Pool, recent: &[Event]) -> Result<Set, AllocError>
+    ensures { IfOk result (λ leaf. (set : List Element) → IsSet set → AreChangesOf set recent.now → graph_now pool.now ≡ replay_from set recent.now → leaf ≡ set) }
+{
+    let now = pool.now_set(alloc)?;
+    let back = net_back(alloc, recent)?;
+    back.apply(&now)
+}
+
+// Whether the two are one node.
+fn is_same(left: NodeId, right: NodeId) -> bool
+    ensures same { IsTrue result → left ≡ right }
+    ensures all { left ≡ right → IsTrue result }
+{
+    left == right
+}
+
+// The set of a node that is among these, whose sets these are; or the other set.
+fn set_of_node<'a>(nodes: &[NodeId], sets: &'a [Set], node: NodeId, other: &'a Set) -> &'a Set
+    requires { length sets.now ≡ length nodes.now }
+    ensures { (f : NodeId → List Element) → sets.now ≡ map f nodes.now → Contains nodes.now node → result.now ≡ f node }
+{
+    for i in (0..nodes.len()).rev() {
+        let other_node = &nodes[i];
+        if is_same(*other_node, node) {
+            return &sets[i];
+        }
+    }
+    other
+}
+
+// The set to which the step from the node at the index, of those in time, leads: that of the next one, or `end`.
+fn next_set<'a>(
+    nodes: &[NodeId],
+    sets: &'a [Set],
+    in_time: &[NodeId],
+    index: usize,
+    end: &'a Set,
+) -> &'a Set
+    requires sets { length sets.now ≡ length nodes.now }
+    requires index { index < length in_time.now }
+    ensures { (f : NodeId → List Element) → sets.now ≡ map f nodes.now → All (Contains nodes.now) in_time.now
+        → result.now ≡ get_or (map f (drop (index + 1) in_time.now)) 0 end.now }
+{
+    if index + 1 < in_time.len() {
+        set_of_node(nodes, sets, in_time[index + 1], end)
+    } else {
+        end
+    }
+}
+
+// The exact step from each of the nodes in time to the next, and from the last to the set `end`.
+fn steps_between(
+    alloc: Global,
+    nodes: &[NodeId],
+    sets: &[Set],
+    in_time: &[NodeId],
+    end: &Set,
+) -> Result<Vec<Delta>, AllocError>
+    requires { length sets.now ≡ length nodes.now }
+    ensures count { IfOk result (λ steps. length steps.items ≡ length in_time.now) }
+    ensures steps { IfOk result (λ steps. (f : NodeId → List Element) → sets.now ≡ map f nodes.now → All (Contains nodes.now) in_time.now
+        → steps.items ≡ steps_to (map f in_time.now) end.now) }
+{
+    let mut steps = Vec::with_capacity(alloc, in_time.len())?;
+    for i in 0..in_time.len() {
+        let from = set_of_node(nodes, sets, in_time[i], end);
+        let to = next_set(nodes, sets, in_time, i, end);
+        let step = Delta::between(from, to)?;
+        steps.push(step)?;
+    }
+    Ok(steps)
+}
+
+/// The exact steps from each of the nodes in time to the next, and from the last to the last leaf, by the sets of all the
+/// nodes and of that leaf, which is led back to from the current graph of `pool`. The sets are read in groups of
+/// `GROUP_MAX`, each by one tree over the records alone, with all their columns.
 ///
 /// `Disk` where a read failed, `Damaged` with the first column that is in no spelling in the first group that has one,
 /// and `Memory`.
-pub(crate) fn older_sets<R: Threads, D: Disk>(
+pub(crate) fn steps_by_sets<R: Threads, D: Disk>(
     rt: &R,
     alloc: Global,
     index: &mut Index,
+    next: &NextBatch,
+    pool: &Pool,
     disk: &mut D,
-    name_count: u32,
-    count: u64,
-) -> Result<Vec<Set>, RetrievalFault>
-    requires few { event_total index.old.opening.batches + count ≤ EVENTS_MAX }
+    planner: &Planner,
+    nodes: &[NodeId],
+    in_time: &[NodeId],
+) -> Result<Vec<Delta>, RetrievalFault>
     requires image { IfSome (D.image disk.old) (λ image. IsOpenedAs image index.old.opening) }
+    requires edges { planner.now.edges ≡ record_edges index.old.opening }
+    requires graph { planner.now.nodes ≡ record_nodes index.old.opening }
+    requires nodes { All (Contains planner.now.nodes) nodes.now }
+    requires leaves { All HasNoEvents nodes.now }
+    requires known { next.now.known ≤ length next.now.names.now }
+    requires in_time { All (Contains nodes.now) in_time.now }
 
-    // the sets, and over an image of a history which they are and the bytes read: at most those of the single plans
-    ensures count { IfOk result (λ sets. length sets.items ≡ length (older_children index.old.opening count)) }
-    ensures over { IfSome (D.image disk.old) (λ image. (z : History) → IsIndexOver z image index.old.opening name_count
-        → GivesSetsOver z (record_edges index.old.opening) (older_children index.old.opening count) (D.taken disk.old) (D.taken disk.new) result) }
+    // the steps, and over an image of a history which they are and the bytes read
+    ensures count { IfOk result (λ steps. length steps.items ≡ length in_time.now) }
+    ensures over { IfSome (D.image disk.old) (λ image. (z : History) → StandsForKept z image index.old.opening next.now (graph_now pool.now)
+        → GivesOlderSteps z (record_edges index.old.opening) nodes.now in_time.now (D.taken disk.old) (D.taken disk.new) result) }
 
     // over whatever image: where the records are damaged
-    ensures damage { IfSome (D.image disk.old) (λ image. TellsGroupDamage name_count index.old.opening image (older_children index.old.opening count) result) }
+    ensures damage { IfSome (D.image disk.old) (λ image. TellsGroupDamage next.now.known index.old.opening image nodes.now result) }
 
     // what it leaves, and why a read failed
     ensures reads { ReadsRecords D.Disk index.old index.new disk.old disk.new result }
 {
-    index.facts();
-    let nodes = older_children(alloc, index, count)?;
-    if nodes.is_empty() {
-        return Ok(Vec::new(alloc));
-    }
-    let planner = record_planner(alloc, index)?;
-    read_groups(rt, alloc, index, disk, name_count, &planner, &nodes)
+    let sets = read_groups(rt, alloc, index, disk, next.known, planner, nodes)?;
+    let leaf = last_leaf(alloc, pool, next.recent)?;
+    Ok(steps_between(alloc, nodes, &sets, in_time, &leaf)?)
 }

@@ -4,7 +4,8 @@ ghost use Rattle.std.specs.Prelude.{◌≡◌, ◌≤◌, ◌<◌, ◌+◌, ◌/
 ghost use Rattle.dg_append.specs.AddedBatches.{batch_with};
 ghost use Rattle.dg_append.specs.BatchSegments.{IsNext, IsPast, IsSegmentBehind, IsUnmade};
 ghost use Rattle.dg_append.specs.KeptBatches.{StopsKeeping};
-ghost use Rattle.dg_append.specs.OlderGroups.{leaves_after, leaves_before, older_children};
+ghost use Rattle.dg_append.specs.OlderGroups.{leaves_after, leaves_before};
+ghost use Rattle.dg_build.specs.OlderSteps.{IsTopDue, older_in_time};
 ghost use Rattle.dg_disk.specs.Calls.{LeftByCrash, WritesDisk};
 ghost use Rattle.dg_file.specs.Calls.{CommitsSegment};
 ghost use Rattle.dg_file.specs.Images.{Fits, GainsBatchOrNot};
@@ -19,7 +20,8 @@ ghost use Rattle.dg_pool.specs.Graphs.{graph_now};
 
 use crate::fault::BatchFault;
 use crate::next_batch::NextBatch;
-use dg_build::{BuildFault, build};
+use dg_build::{BuildFault, build, is_top_due};
+use dg_delta::Delta;
 use dg_disk::Disk;
 use dg_file::{CommitFault, Index};
 use dg_graph::{Column, Event};
@@ -64,7 +66,8 @@ fn add_names(segment: &mut Segment, names: &Names, known: u32) -> Result<(), All
     Ok(())
 }
 
-// The current graph of the pool, where so many leaves complete an interior node behind so many; else any set.
+// The current graph of the pool, where so many leaves behind so many complete an interior node that is the first of its
+// height; else any set.
 fn completed_set(
     alloc: Global,
     pool: &Pool,
@@ -72,10 +75,10 @@ fn completed_set(
     before: u32,
     after: u32,
 ) -> Result<Set, AllocError>
-    requires { 1 ≤ arity }
-    ensures { IfOk result (λ set. before / arity < after / arity → set ≡ graph_now pool.now) }
+    requires { 2 ≤ arity }
+    ensures { IfOk result (λ set. IsTopDue arity before after → set ≡ graph_now pool.now) }
 {
-    if before / arity < after / arity {
+    if is_top_due(arity, before, after) {
         pool.now_set(alloc)
     } else {
         Ok(Set::new(alloc))
@@ -113,7 +116,7 @@ fn begun(alloc: Global, names: &Names, known: u32, events: &[Event]) -> Result<S
 }
 
 /// The segment of the batch behind the index. The current graph of `pool` is that before the batch, and `older` has the
-/// sets of the older children of the interior nodes that the batch completes.
+/// exact steps of the older children of the interior nodes that the batch completes, in the order of time.
 ///
 /// `Damaged` names the first due delta that has more elements than its column can count, and its structure; `Memory` says
 /// that memory ran out.
@@ -122,10 +125,11 @@ pub(crate) fn segment_of(
     index: &Index,
     next: &NextBatch,
     pool: &Pool,
-    older: &[Set],
+    older: &[Delta],
 ) -> Result<Segment, BatchFault>
     requires next { IsNext index.now.opening next.now (graph_now pool.now) }
-    requires older { length older.now ≡ length (older_children index.now.opening (length next.now.events.now)) }
+    requires older { length older.now
+        ≡ length (older_in_time index.now.opening.params.k (leaves_before index.now.opening) (leaves_after index.now.opening (length next.now.events.now))) }
     ensures behind { IfOk result (λ s. IsSegmentBehind index.now.opening (drop next.now.known next.now.names.now) next.now.recent.now next.now.events.now s) }
     ensures is { IfOk result (λ s. (past : List Event) → IsPast index.now.opening past next.now.recent.now (graph_now pool.now) next.now.events.now older.now
         → s ≡ segment_of index.now.opening.params past (batch_with next.now.known next.now.names.now next.now.events.now)) }

@@ -1,17 +1,17 @@
 -- What is written of the deltas that a batch gives, and the first of them that is too wide.
 use Rattle.std.proofs.Common.{◌≡◌, ℕ, zero, suc, ◌+◌, ◌-◌, ◌*◌, ◌/◌, ◌<◌, ◌≤◌, Bool, true, false, cond, List, [], ◌∷◌, ◌++◌, length, get_or, map, take, drop, Option, Some, None, is_some, refl, sym, ap, subst, ◌∙◌, arith, append-nil, append_assoc, length-append, lt-ltb, le-ltb, ⊎_elim, eq-or-lt_of_le}
 use Rattle.std.proofs.lemmas.Bool.{false≢true}
-use Rattle.std.proofs.lemmas.List.{map-append, length-map, drop-drop, get_or_append_left, get_or_push}
+use Rattle.std.proofs.lemmas.List.{map-append, length-map, get_or_append_left, get_or_push}
 use Rattle.dg_graph.specs.declared.element.Element.{Element}
 use Rattle.dg_history.specs.declared.params.Params.{Params}
 use Rattle.dg_graph.specs.Composition.{Delta, chained, nothing}
 use Rattle.dg_index.specs.FileOfHistory.{Segment, Stored}
 use Rattle.dg_build.specs.declared.fault.BuildFault.{BuildFault}
 use Rattle.dg_build.specs.declared.fault.BuildFault.TheVariants.{Memory, Wide}
-use Rattle.dg_build.specs.InteriorDeltas.{downs_by, inner_by, last_way, set_by, stored_delta, top_to}
+use Rattle.dg_build.specs.InteriorDeltas.{downs_by, inner_by, last_way, stored_delta, top_to}
 use Rattle.dg_build.specs.SpelledRecords.{first_wide, is_wide, IsFaultOfDeltas}
-use Rattle.dg_build.specs.GivenDeltas.{AreAdded, IsFaultOfSuch, Nodes, given_above, given_on, later_downs, later_steps, risen, row_between}
-use Rattle.dg_build.proofs.InteriorDeltaHeights.{half}
+use Rattle.dg_build.specs.GivenDeltas.{AreAdded, IsFaultOfSuch, Nodes, first_by, given_above, given_on, later_downs, later_steps, risen, row_between}
+use Rattle.dg_build.proofs.OlderSteps.{half}
 
 -- ---- some deltas, and then others
 
@@ -144,70 +144,77 @@ module _ (p : Params) (more : ℕ) (start last : Delta) (all row steps : List De
 -- ---- height after height
 
 -- those of the first node, and then those of the others
-pub whole_height : (p : Params) (q end : ℕ) (sets : List (List Element)) (new : Nodes) (row rest : List Delta) → row ≡ row_between p q end sets new → rest ≡ drop (p.k - 1) row
-    → (top_to (q / p.k) (set_by p row sets new.first) ++ downs_by p row) ++ later_downs p (end / p.k - q / p.k - 1) rest ≡ given_above p q end sets new
-whole_height p q end sets new row rest row_is rest_is =
+pub whole_height : (p : Params) (q end : ℕ) (older : List Delta) (base : List Element) (new : Nodes) (row rest : List Delta) → row ≡ row_between p q end older new → rest ≡ drop (p.k - 1) row
+    → (top_to (q / p.k) (first_by p older new.up row base) ++ downs_by p row) ++ later_downs p (end / p.k - q / p.k - 1) rest ≡ given_above p q end older base new
+whole_height p q end older base new row rest row_is rest_is =
     let n : ℕ = end / p.k - q / p.k - 1 in
-    let left : rest ≡ drop (p.k - 1) (row_between p q end sets new) = rest_is ∙ ap (drop (p.k - 1)) row_is in
-    append_assoc (top_to (q / p.k) (set_by p row sets new.first)) (downs_by p row) (later_downs p n rest)
-    ∙ (λ i. top_to (q / p.k) (set_by p (row_is i) sets new.first) ++ (downs_by p (row_is i) ++ later_downs p n (left i)))
+    let left : rest ≡ drop (p.k - 1) (row_between p q end older new) = rest_is ∙ ap (drop (p.k - 1)) row_is in
+    append_assoc (top_to (q / p.k) (first_by p older new.up row base)) (downs_by p row) (later_downs p n rest)
+    ∙ (λ i. top_to (q / p.k) (first_by p older new.up (row_is i) base) ++ (downs_by p (row_is i) ++ later_downs p n (left i)))
 
-pub record HeightsGiven (p : Params) (m after q end at : ℕ) (sets : List (List Element)) (start new : Nodes) (old now : List Stored) : Type 0 where
+pub record HeightsGiven (p : Params) (m after q end : ℕ) (all left : List Delta) (base : List Element) (start new : Nodes) (old now : List Stored) : Type 0 where
   pub turns : ℕ
   pub enough : end ≤ turns
-  pub left : IsLeft (given_on p after m after sets start) (given_on p turns q end (drop at sets) new) old now
+  pub rest : IsLeft (given_on p after m after all base start) (given_on p turns q end left base new) old now
 
-pub heights_given_first : (p : Params) (m after : ℕ) (sets : List (List Element)) (start : Nodes) (old : List Stored) → HeightsGiven p m after m after 0 sets start start old old
-heights_given_first p m after sets start old = record { turns = after; enough = omega arith; left = all_left (given_on p after m after sets start) old }
+pub heights_given_first : (p : Params) (m after : ℕ) (all left : List Delta) (base : List Element) (start : Nodes) (old : List Stored) → left ≡ all → HeightsGiven p m after m after all left base start start old old
+heights_given_first p m after all left base start old is = record {
+  turns = after;
+  enough = omega arith;
+  rest = subst (λ (l : List Delta). IsLeft (given_on p after m after all base start) (given_on p after m after l base start) old old) (sym is) (all_left (given_on p after m after all base start) old);
+}
+
+-- how many of the older steps are of the heights above
+abbrev above_these : Params → ℕ → List Delta → ℕ
+above_these p q left = length left - (q - q / p.k * p.k)
 
 -- where a node is due
-due_here : (p : Params) (turns q end : ℕ) (sets : List (List Element)) (new : Nodes) → q / p.k < end / p.k
-    → given_on p (suc turns) q end sets new ≡ given_above p q end (take (q - q / p.k * p.k) sets) new ++ given_on p turns (q / p.k) (end / p.k) (drop (q - q / p.k * p.k) sets) (risen p q end (take (q - q / p.k * p.k) sets) new)
-due_here p turns q end sets new due =
+due_here : (p : Params) (turns q end : ℕ) (left : List Delta) (base : List Element) (new : Nodes) → q / p.k < end / p.k
+    → given_on p (suc turns) q end left base new
+    ≡ given_above p q end (drop (above_these p q left) left) base new ++ given_on p turns (q / p.k) (end / p.k) (take (above_these p q left) left) base (risen p q end (drop (above_these p q left) left) new)
+due_here p turns q end left base new due =
     let k : ℕ = p.k in
-    let older : ℕ = q - q / k * k in
-    (λ i. cond (lt-ltb (q / k) (end / k) due i) (given_above p q end (take older sets) new ++ given_on p turns (q / k) (end / k) (drop older sets) (risen p q end (take older sets) new)) [])
+    let n : ℕ = above_these p q left in
+    (λ i. cond (lt-ltb (q / k) (end / k) due i) (given_above p q end (drop n left) base new ++ given_on p turns (q / k) (end / k) (take n left) base (risen p q end (drop n left) new)) [])
 
 -- where none is
-pub none_given : (p : Params) (turns q end : ℕ) (sets : List (List Element)) (new : Nodes) → end / p.k ≤ q / p.k → given_on p turns q end sets new ≡ []
-none_given p zero q end sets new le = refl
-none_given p (suc turns) q end sets new le =
+pub none_given : (p : Params) (turns q end : ℕ) (left : List Delta) (base : List Element) (new : Nodes) → end / p.k ≤ q / p.k → given_on p turns q end left base new ≡ []
+none_given p zero q end left base new le = refl
+none_given p (suc turns) q end left base new le =
     let k : ℕ = p.k in
-    let older : ℕ = q - q / k * k in
-    (λ i. cond (le-ltb (q / k) (end / k) le i) (given_above p q end (take older sets) new ++ given_on p turns (q / k) (end / k) (drop older sets) (risen p q end (take older sets) new)) [])
+    let n : ℕ = above_these p q left in
+    (λ i. cond (le-ltb (q / k) (end / k) le i) (given_above p q end (drop n left) base new ++ given_on p turns (q / k) (end / k) (take n left) base (risen p q end (drop n left) new)) [])
 
-module _ (p : Params) (m after q end at : ℕ) (sets : List (List Element)) (start new : Nodes) (old now : List Stored) (so : HeightsGiven p m after q end at sets start new old now) where
-  abbrev all : List Delta
-  all = given_on p after m after sets start
+module _ (p : Params) (m after q end : ℕ) (all left : List Delta) (base : List Element) (start new : Nodes) (old now : List Stored) (so : HeightsGiven p m after q end all left base start new old now) where
+  abbrev whole : List Delta
+  whole = given_on p after m after all base start
 
   abbrev k : ℕ
   k = p.k
 
-  -- the deltas of the height above, by the sets that are taken for it, and then the others
-  parts : (next : ℕ) → next ≡ at + (q - q / k * k) → 2 ≤ k → q / k < end / k
-      → given_on p so.turns q end (drop at sets) new ≡ given_above p q end (take (next - at) (drop at sets)) new ++ given_on p (so.turns - 1) (q / k) (end / k) (drop next sets) (risen p q end (take (next - at) (drop at sets)) new)
-  parts next is_next two due =
-      let older : ℕ = q - q / k * k in
-      let width : older ≡ next - at = omega (arith, is_next) in
-      let rest : drop older (drop at sets) ≡ drop next sets = drop-drop older at sets ∙ ap (λ n. drop n sets) (sym is_next) in
+  -- the deltas of the height above, by the steps that are taken for it, and then the others
+  parts : (here rest : List Delta) → here ≡ drop (above_these p q left) left → rest ≡ take (above_these p q left) left → 2 ≤ k → q / k < end / k
+      → given_on p so.turns q end left base new ≡ given_above p q end here base new ++ given_on p (so.turns - 1) (q / k) (end / k) rest base (risen p q end here new)
+  parts here rest here_is rest_is two due =
       let n : ℕ = so.turns - 1 in
       let e : so.turns ≡ suc n = omega (arith, so.enough, half end k two, due) in
-      ap (λ t. given_on p t q end (drop at sets) new) e ∙ due_here p n q end (drop at sets) new due
-      ∙ (λ i. given_above p q end (take (width i) (drop at sets)) new ++ given_on p n (q / k) (end / k) (rest i) (risen p q end (take (width i) (drop at sets)) new))
+      ap (λ t. given_on p t q end left base new) e ∙ due_here p n q end left base new due
+      ∙ (λ i. given_above p q end (sym here_is i) base new ++ given_on p n (q / k) (end / k) (sym rest_is i) base (risen p q end (sym here_is i) new))
 
-  pub heights_given_on : (next : ℕ) (up : Nodes) (more : List Stored) → next ≡ at + (q - q / k * k) → 2 ≤ k → q / k < end / k → up ≡ risen p q end (take (next - at) (drop at sets)) new
-      → AreAdded (given_above p q end (take (next - at) (drop at sets)) new) now more → HeightsGiven p m after (q / k) (end / k) next sets start up old more
-  heights_given_on next up more is_next two due up_is added = record {
+  pub heights_given_on : (here rest : List Delta) (up : Nodes) (more : List Stored) → here ≡ drop (above_these p q left) left → rest ≡ take (above_these p q left) left → 2 ≤ k → q / k < end / k → up ≡ risen p q end here new
+      → AreAdded (given_above p q end here base new) now more → HeightsGiven p m after (q / k) (end / k) all rest base start up old more
+  heights_given_on here rest up more here_is rest_is two due up_is added = record {
     turns = so.turns - 1;
     enough = omega (arith, so.enough, half end k two, due);
-    left = left_on all (given_on p so.turns q end (drop at sets) new) (given_above p q end (take (next - at) (drop at sets)) new) (given_on p (so.turns - 1) (q / k) (end / k) (drop next sets) up) old now more
-        (parts next is_next two due ∙ ap (λ (n : Nodes). given_above p q end (take (next - at) (drop at sets)) new ++ given_on p (so.turns - 1) (q / k) (end / k) (drop next sets) n) (sym up_is)) added so.left;
+    rest = left_on whole (given_on p so.turns q end left base new) (given_above p q end here base new) (given_on p (so.turns - 1) (q / k) (end / k) rest base up) old now more
+        (parts here rest here_is rest_is two due ∙ ap (λ (n : Nodes). given_above p q end here base new ++ given_on p (so.turns - 1) (q / k) (end / k) rest base n) (sym up_is)) added so.rest;
   }
 
-  pub heights_added : end / k ≤ q / k → AreAdded all old now
-  heights_added le = left_none all (given_on p so.turns q end (drop at sets) new) old now (none_given p so.turns q end (drop at sets) new le) so.left
+  pub heights_added : end / k ≤ q / k → AreAdded whole old now
+  heights_added le = left_none whole (given_on p so.turns q end left base new) old now (none_given p so.turns q end left base new le) so.rest
 
-  pub heights_fault : (next : ℕ) (e : BuildFault) → next ≡ at + (q - q / k * k) → 2 ≤ k → q / k < end / k → IsFaultOfDeltas (length now) (given_above p q end (take (next - at) (drop at sets)) new) e → IsFaultOfDeltas (length old) all e
-  heights_fault next e is_next two due fault =
-      left_fault all (given_on p so.turns q end (drop at sets) new) (given_above p q end (take (next - at) (drop at sets)) new)
-      (given_on p (so.turns - 1) (q / k) (end / k) (drop next sets) (risen p q end (take (next - at) (drop at sets)) new)) old now e (parts next is_next two due) so.left fault
+  pub heights_fault : (here rest : List Delta) (e : BuildFault) → here ≡ drop (above_these p q left) left → rest ≡ take (above_these p q left) left → 2 ≤ k → q / k < end / k
+      → IsFaultOfDeltas (length now) (given_above p q end here base new) e → IsFaultOfDeltas (length old) whole e
+  heights_fault here rest e here_is rest_is two due fault =
+      left_fault whole (given_on p so.turns q end left base new) (given_above p q end here base new)
+      (given_on p (so.turns - 1) (q / k) (end / k) rest base (risen p q end here new)) old now e (parts here rest here_is rest_is two due) so.rest fault

@@ -16,9 +16,12 @@ use Rattle.dg_index.proofs.HierarchyCounts.{numbers_append}
 use Rattle.dg_index.proofs.HierarchySteps.{IsSet-node, IsSet-replay}
 use Rattle.dg_index.proofs.HierarchyStability.{leaf_next, list_cut, replay_append}
 use Rattle.dg_build.specs.InteriorDeltas.{AreNewNodes}
-use Rattle.dg_build.specs.GivenDeltas.{IsExactNet}
+use Rattle.dg_build.specs.GivenDeltas.{IsExactNet, gone_back}
+use Rattle.dg_build.specs.OlderSteps.{AreOlderSteps, first_in_time, last_leaf, older_in_time}
 use Rattle.dg_list.proofs.ExactEventCuts.{changes_behind, changes_cut, changes_front}
-use Rattle.dg_build.proofs.InteriorDeltaHeights.{all_heights, div_one, div_mono}
+use Rattle.dg_build.proofs.InteriorDeltaHeights.{all_heights}
+use Rattle.dg_build.proofs.OlderSteps.{div_one, div_mono}
+use Rattle.dg_build.proofs.StepsBack.{back_to_first}
 
 -- the net of a new list is the step to the next leaf
 pub leaf_step : (p : Params) (before more : List Event) (i : ℕ) (tail cut : List Event) (d : Delta) → 1 ≤ p.l → tail ≡ recent_of p before ++ more → AreChangesOf [] (before ++ more)
@@ -32,14 +35,14 @@ leaf_step p before more i tail cut d some is_tail changes cut_is net =
     let here : AreChangesOf at (closed_list p all j) = changes_front at p.l (drop (j * p.l) all) (changes_behind [] (j * p.l) all changes) in
     net at (IsSet-node p all 0 j) (subst (AreChangesOf at) (sym is) here) ∙ ap (between at) (ap (replay_from at) is ∙ sym (leaf_next p all j))
 
-pub leaf_first : (p : Params) (before more : List Event) (leaf node : List Element) (tail cut : List Event) → 1 ≤ p.l → tail ≡ recent_of p before ++ more
-    → cut ≡ take p.l tail → leaf ≡ set_at p (before ++ more) 0 (leaves p (length before)) → node ≡ replay_from leaf cut → node ≡ set_at p (before ++ more) 0 (leaves p (length before) + 1)
-leaf_first p before more leaf node tail cut some is_tail cut_is leaf_is leads =
+-- and that of the first one to the first new leaf
+pub leaf_first : (p : Params) (before more : List Event) (tail cut : List Event) (d : Delta) → 1 ≤ p.l → tail ≡ recent_of p before ++ more → AreChangesOf [] (before ++ more)
+    → cut ≡ take p.l tail → IsExactNet cut d → d ≡ between (set_at p (before ++ more) 0 (leaves p (length before))) (set_at p (before ++ more) 0 (leaves p (length before) + 1))
+leaf_first p before more tail cut d some is_tail changes cut_is net =
     let all : List Event = before ++ more in
     let m : ℕ = leaves p (length before) in
-    let is : cut ≡ closed_list p all m = cut_is ∙ ap (λ n. take p.l (drop n tail)) (let e : 0 ≡ 0 * p.l = omega arith in e) ∙ (λ x. take p.l (drop (0 * p.l) (is_tail x))) ∙ sym (list_cut p before more 0 (omega (arith, some)))
-    ∙ ap (closed_list p all) (let e : m + 0 ≡ m = omega arith in e) in
-    leads ∙ (λ x. replay_from (leaf_is x) (is x)) ∙ sym (leaf_next p all m)
+    leaf_step p before more 0 tail cut d some is_tail changes (cut_is ∙ ap (λ n. take p.l (drop n tail)) (let e : 0 ≡ 0 * p.l = omega arith in e)) net
+    ∙ ap (λ n. between (set_at p all 0 n) (set_at p all 0 (n + 1))) (let e : m + 0 ≡ m = omega arith in e)
 
 pub record StepsSoFar (p : Params) (all : List Event) (m i : ℕ) (steps : List Delta) : Type 0 where
   pub are : steps ≡ steps_at p all 0 (m + 1) (i - 1)
@@ -58,20 +61,31 @@ steps_next p before more i tail cut d steps steps2 some far is_tail changes cut_
 
 -- ---- the last leaf that was there before
 
-pub leaf_back : (p : Params) (before more recent : List Event) (now leaf : List Element) → 1 ≤ p.l → recent ≡ recent_of p before → now ≡ replay before → AreChangesOf [] (before ++ more)
-    → ((set : List Element) → IsSet set → AreChangesOf set recent → now ≡ replay_from set recent → leaf ≡ set) → leaf ≡ set_at p (before ++ more) 0 (leaves p (length before))
-leaf_back p before more recent now leaf some recent_is now_is changes leads =
+-- the last leaf is as it was
+leaf_kept : (p : Params) (before more : List Event) → set_at p (before ++ more) 0 (leaves p (length before)) ≡ last_leaf p before
+leaf_kept p before more = ap replay (take-append-le (leaves p (length before) * p.l) before more (div-mul-le_self (length before) p.l))
+
+-- from there the current graph is led back to where the deltas from the root start
+pub base_back : (p : Params) (before more recent : List Event) (after : ℕ) (steps : List Delta) (now base : List Element) → 1 ≤ p.l → recent ≡ recent_of p before → now ≡ replay before → AreChangesOf [] (before ++ more) → AreOlderSteps p before after steps
+    → ((set : List Element) → IsSet set → AreChangesOf set recent → now ≡ replay_from set recent → base ≡ gone_back steps set) → base ≡ first_in_time p before after
+base_back p before more recent after steps now base some recent_is now_is changes are leads =
     let n : ℕ = leaves p (length before) * p.l in
-    let at : List Element = replay (take n before) in
+    let at : List Element = last_leaf p before in
     let here : AreChangesOf at recent = subst (AreChangesOf at) (sym recent_is) (changes_behind [] n before (changes_cut [] before more changes).0) in
     let all : now ≡ replay_from at recent = now_is ∙ ap replay (sym (take-append-drop n before)) ∙ replay_append [] (take n before) (drop n before) ∙ ap (replay_from at) (sym recent_is) in
-    leads at (IsSet-replay [] (take n before) tt) here all ∙ ap replay (sym (take-append-le n before more (div-mul-le_self (length before) p.l)))
+    let set : IsSet at = IsSet-replay [] (take n before) tt in
+    leads at set here all ∙ ap (λ (l : List Delta). gone_back l at) are ∙ back_to_first p before (older_in_time p.k (leaves p (length before)) after) at set
 
 -- the new leaves up to those that the batch has
-pub new_up_to : (p : Params) (all : List Event) (n m after : ℕ) (first : List Element) (steps : List Delta) → n ≡ m → m < after → AreNewNodes p all 0 n (n + (after - m)) first steps → AreNewNodes p all 0 m after first steps
-new_up_to p all n m after first steps em lt new =
+pub new_up_to : (p : Params) (before more : List Event) (m after : ℕ) (up : Delta) (steps : List Delta) → leaves p (length before) ≡ m → m < after
+    → AreNewNodes p (before ++ more) 0 (leaves p (length before)) (leaves p (length before) + (after - m)) (set_at p (before ++ more) 0 (leaves p (length before))) up steps
+    → AreNewNodes p (before ++ more) 0 m after (last_leaf p before) up steps
+new_up_to p before more m after up steps em lt new =
+    let all : List Event = before ++ more in
+    let n : ℕ = leaves p (length before) in
     let end : n + (after - m) ≡ after = omega (arith, em, lt) in
-    subst (λ x. AreNewNodes p all 0 x after first steps) em (subst (λ x. AreNewNodes p all 0 n x first steps) end new)
+    subst (λ x. AreNewNodes p all 0 x after (last_leaf p before) up steps) em
+    (subst (λ x. AreNewNodes p all 0 n x (last_leaf p before) up steps) end (subst (λ (s : List Element). AreNewNodes p all 0 n (n + (after - m)) s up steps) (leaf_kept p before more) new))
 
 -- ---- where none is due
 

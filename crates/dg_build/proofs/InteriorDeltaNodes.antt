@@ -1,18 +1,15 @@
 -- The new nodes of the next height.
-use Rattle.std.proofs.Common.{◌≡◌, ℕ, zero, suc, ◌+◌, ◌-◌, ◌*◌, ◌/◌, ◌<◌, ◌≤◌, ◌==◌, Bool, true, false, cond, List, [], ◌∷◌, ◌++◌, length, get_or, map, refl, sym, ap, ◌∙◌, arith, add-mul, append_assoc, length-append}
+use Rattle.std.proofs.Common.{◌≡◌, ℕ, suc, ◌+◌, ◌-◌, ◌*◌, ◌/◌, ◌<◌, ◌≤◌, ◌==◌, Bool, true, false, cond, List, [], ◌∷◌, ◌++◌, length, map, refl, sym, ap, ◌∙◌, arith, add-mul, append_assoc, length-append}
 use Rattle.std.specs.List.{flat_map}
-use Rattle.std.proofs.lemmas.Bool.{ne_eqb}
 use Rattle.std.proofs.lemmas.List.{map-append, length-map}
 use Rattle.dg_graph.specs.declared.element.Element.{Element}
 use Rattle.dg_graph.specs.declared.event.Event.{Event}
 use Rattle.dg_history.specs.declared.params.Params.{Params}
-use Rattle.dg_graph.specs.Composition.{Delta, between, applied}
-use Rattle.dg_delta.proofs.Deltas.{between_leads_on}
+use Rattle.dg_graph.specs.Composition.{Delta, between}
+use Rattle.dg_graph.specs.Elements.{IsSet}
 use Rattle.dg_index.specs.Hierarchy.{numbers, set_at}
 use Rattle.dg_index.specs.FileOfHistory.{Segment, Stored}
-use Rattle.dg_index.proofs.HierarchySteps.{IsSet-node}
-use Rattle.dg_build.specs.InteriorDeltas.{AreMade, AreNewNodes, AreOlderSets, DiffersInDeltas, Rises, deltas_added, downs_of, stored_delta}
-use Rattle.dg_build.proofs.InteriorDeltaSteps.{base_is}
+use Rattle.dg_build.specs.InteriorDeltas.{AreMade, DiffersInDeltas, Rises, deltas_added, downs_of, stored_delta, top_to}
 
 -- ---- segments that differ in their deltas alone
 
@@ -74,35 +71,22 @@ top_within k q end node = omega (arith, top_length (q / k == 0) node)
 
 -- ---- what they are
 
-module _ (p : Params) (events : List Event) (h q end : ℕ) (two : 2 ≤ p.k) (due : q / p.k < end / p.k) (sets : List (List Element)) (first : List Element) (steps : List Delta)
-    (are_new : AreNewNodes p events h q end first steps) (are_older : AreOlderSets p events h q sets) where
-  -- the first new node
-  pub node_there : (inner : Delta) (node : List Element) → inner ≡ between (set_at p events h (q / p.k * p.k + 1)) (set_at p events (suc h) (q / p.k + 1)) → node ≡ applied inner (get_or sets 0 first) → node ≡ set_at p events (suc h) (q / p.k + 1)
-  node_there inner node inner_is node_is =
-      let a : ℕ = q / p.k * p.k + 1 in
-      let base = base_is p events h q end two due sets first steps are_new are_older in
-      node_is ∙ (λ i. applied (inner_is i) (base i)) ∙ between_leads_on (set_at p events h a) (set_at p events (suc h) (q / p.k + 1)) (IsSet-node p events h a) (IsSet-node p events (suc h) (q / p.k + 1))
-
-  pub rises : (up downs : List Delta) (node : List Element) (old mid new : Segment) → node ≡ set_at p events (suc h) (q / p.k + 1) → downs ≡ downs_of p events h (q / p.k + 1)
-      → AreMade p events h (q / p.k + 1) (end / p.k - q / p.k - 1) up mid new
-      → Spells old new (cond (q / p.k == 0) (between [] node ∷ []) []) downs (map stored_delta (flat_map (downs_of p events h) (numbers (q / p.k + 1 + 1) (end / p.k - q / p.k - 1)))) → Rises p events h (q / p.k) (end / p.k) node up old new
-  rises up downs node old mid new there downs_are made spelled =
-      let b : ℕ = q / p.k in
-      let n : ℕ = end / p.k - b - 1 in
-      let top : List Delta = cond (b == 0) (between [] (set_at p events (suc h) 1) ∷ []) [] in
-      let later : List Delta = flat_map (downs_of p events h) (numbers (b + 1 + 1) n) in
-      record {
-        nodes = record {
-          first_is = there;
-          steps_are = made.steps_are;
-        };
-        adds = spelled.adds ∙ (λ i. old.deltas ++ (map stored_delta (by b there i ++ downs_are i) ++ map stored_delta later))
-            ∙ ap (λ (l : List Stored). old.deltas ++ l) (sym (map-append stored_delta (top ++ downs_of p events h (b + 1)) later)) ∙ ap (λ (l : List Delta). old.deltas ++ map stored_delta l) (append_assoc top (downs_of p events h (b + 1)) later)
-            ∙ ap (λ m. old.deltas ++ map stored_delta (top ++ flat_map (downs_of p events h) (numbers (b + 1) m))) (let e : suc n ≡ end / p.k - b = omega (arith, due) in e);
-      }
-    where
-      by : (b : ℕ) → node ≡ set_at p events (suc h) (b + 1) → cond (b == 0) (between [] node ∷ []) [] ≡ cond (b == 0) (between [] (set_at p events (suc h) 1) ∷ []) []
-      by zero is = ap (λ (s : List Element). between [] s ∷ []) is
-      by (suc b) is =
-          let no : (suc b == 0) ≡ false = ne_eqb (suc b) 0 (λ z. absurd (omega (arith, z))) in
-          ap (λ t. cond t (between [] node ∷ []) []) no ∙ ap (λ t. cond t (between [] (set_at p events (suc h) 1) ∷ []) []) (sym no)
+pub rises : (p : Params) (events : List Event) (h q end : ℕ) → q / p.k < end / p.k → (start : List Element) (above : Delta) (up downs : List Delta) (node : List Element) (old mid new : Segment) → IsSet start
+    → above ≡ between start (set_at p events (suc h) (q / p.k + 1)) → top_to (q / p.k) node ≡ top_to (q / p.k) (set_at p events (suc h) 1) → downs ≡ downs_of p events h (q / p.k + 1)
+    → AreMade p events h (q / p.k + 1) (end / p.k - q / p.k - 1) up mid new
+    → Spells old new (top_to (q / p.k) node) downs (map stored_delta (flat_map (downs_of p events h) (numbers (q / p.k + 1 + 1) (end / p.k - q / p.k - 1)))) → Rises p events h (q / p.k) (end / p.k) start above up old new
+rises p events h q end due start above up downs node old mid new start_is there top_is downs_are made spelled =
+    let b : ℕ = q / p.k in
+    let n : ℕ = end / p.k - b - 1 in
+    let top : List Delta = top_to b (set_at p events (suc h) 1) in
+    let later : List Delta = flat_map (downs_of p events h) (numbers (b + 1 + 1) n) in
+    record {
+      nodes = record {
+        start_is = start_is;
+        up_is = there;
+        steps_are = made.steps_are;
+      };
+      adds = spelled.adds ∙ (λ i. old.deltas ++ (map stored_delta (top_is i ++ downs_are i) ++ map stored_delta later))
+          ∙ ap (λ (l : List Stored). old.deltas ++ l) (sym (map-append stored_delta (top ++ downs_of p events h (b + 1)) later)) ∙ ap (λ (l : List Delta). old.deltas ++ map stored_delta l) (append_assoc top (downs_of p events h (b + 1)) later)
+          ∙ ap (λ m. old.deltas ++ map stored_delta (top ++ flat_map (downs_of p events h) (numbers (b + 1) m))) (let e : suc n ≡ end / p.k - b = omega (arith, due) in e);
+    }

@@ -1,3 +1,5 @@
+pub mod OlderSteps
+pub mod StepsBack
 pub mod InteriorDeltaWays
 pub mod InteriorDeltaGroups
 pub mod InteriorDeltaSteps

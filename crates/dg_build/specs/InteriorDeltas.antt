@@ -4,7 +4,8 @@ use Rattle.std.specs.List.{flat_map}
 use Rattle.dg_graph.specs.declared.element.Element.{Element}
 use Rattle.dg_graph.specs.declared.event.Event.{Event}
 use Rattle.dg_history.specs.declared.params.Params.{Params}
-use Rattle.dg_graph.specs.Composition.{Delta, applied, between, nothing}
+use Rattle.dg_graph.specs.Composition.{Delta, between, chained, nothing}
+use Rattle.dg_graph.specs.Elements.{IsSet}
 use Rattle.dg_graph.specs.DifferentialFunction.{inward}
 use Rattle.dg_index.specs.Hierarchy.{numbers, children, set_at}
 use Rattle.dg_index.specs.IndexRecords.{Exact}
@@ -26,14 +27,24 @@ steps_to (set ∷ sets) end = between set (get_or sets 0 end) ∷ steps_to sets 
 abbrev pub downs_of : Params → List Event → ℕ → ℕ → List Delta
 downs_of p events h j = map (λ c. between (set_at p events (suc h) j) (set_at p events h c)) (children p.k j)
 
--- the nodes of a height behind the q-th, up to the last: the set of the first, and the steps from each to the next
-pub record AreNewNodes (p : Params) (events : List Event) (h q last : ℕ) (first : List Element) (steps : List Delta) : Type 0 where
-  pub first_is : first ≡ set_at p events h (q + 1)
+-- The nodes of a height behind the q-th, up to the last: the exact delta from a set to the first of them, and the steps
+-- from each to the next.
+pub record AreNewNodes (p : Params) (events : List Event) (h q last : ℕ) (start : List Element) (up : Delta) (steps : List Delta) : Type 0 where
+  pub start_is : IsSet start
+  pub up_is : up ≡ between start (set_at p events h (q + 1))
   pub steps_are : steps ≡ steps_at p events h (q + 1) (last - q - 1)
 
 -- the sets of the nodes of a height up to the q-th that have no node above them yet
-abbrev pub AreOlderSets : Params → List Event → ℕ → ℕ → List (List Element) → Type 0
-AreOlderSets p events h q sets = sets ≡ map (set_at p events h) (numbers (q / p.k * p.k + 1) (q - q / p.k * p.k))
+abbrev pub older_sets : Params → List Event → ℕ → ℕ → List (List Element)
+older_sets p events h q = map (set_at p events h) (numbers (q / p.k * p.k + 1) (q - q / p.k * p.k))
+
+-- the exact steps between these nodes, and from the last of them to a set
+abbrev pub AreStepsTo : Params → List Event → ℕ → ℕ → List Element → List Delta → Type 0
+AreStepsTo p events h q start steps = steps ≡ steps_to (older_sets p events h q) start
+
+-- the set of the first of these nodes, or the other where there is none
+abbrev pub start_above : Params → List Event → ℕ → ℕ → List Element → List Element
+start_above p events h q start = get_or (older_sets p events h q) 0 start
 
 -- The deltas of the interior nodes behind the q-th, up to the last, whose children are of height h: from the root to
 -- the first node of its height, where it is among them, and from each to its children.
@@ -72,9 +83,9 @@ pub record IsNextNode (p : Params) (events : List Event) (h j more : ℕ) (step 
   pub adds : new.deltas ≡ old.deltas ++ map stored_delta (downs_of p events h (j + 1))
   pub behind : IsBehind p events h (j + 1) (more - 1) last row
 
--- The nodes of the next height are made, and their deltas are added.
-pub record Rises (p : Params) (events : List Event) (h q last : ℕ) (first : List Element) (steps : List Delta) (old new : Segment) : Type 0 where
-  pub nodes : AreNewNodes p events (suc h) q last first steps
+-- The nodes of the next height are made, with the exact delta from this set to the first, and their deltas are added.
+pub record Rises (p : Params) (events : List Event) (h q last : ℕ) (start : List Element) (up : Delta) (steps : List Delta) (old new : Segment) : Type 0 where
+  pub nodes : AreNewNodes p events (suc h) q last start up steps
   pub adds : new.deltas ≡ old.deltas ++ map stored_delta (tops_and_downs p events h q last)
 
 -- ---- the node of the next group, by the steps between its children, which begin the row
@@ -87,9 +98,11 @@ inner_by p row = inward p.function (ways_of (take (p.k - 1) row))
 abbrev pub downs_by : Params → List Delta → List Delta
 downs_by p row = downs (inner_by p row) (ways_of (take (p.k - 1) row))
 
--- its set, where the children are these older ones and then new ones, this one first
-abbrev pub set_by : Params → List Delta → List (List Element) → List Element → List Element
-set_by p row sets child = applied (inner_by p row) (get_or sets 0 child)
+-- that to it from where the next height starts, by the steps of its older children, and the delta from where this height
+-- starts to its first new one
+abbrev pub up_by : List Delta → Delta → Delta → Delta
+up_by [] up inner = chained up inner
+up_by (step ∷ older) up inner = inner
 
 -- the delta from the root to it, where no node of its height is before it
 abbrev pub top_to : ℕ → List Element → List Delta

@@ -1,3 +1,4 @@
 pub mod InteriorDeltas
+pub mod OlderSteps
 pub mod SpelledRecords
 pub mod GivenDeltas

@@ -11,7 +11,9 @@ mod heights;
 mod leaves;
 mod records;
 mod row;
+mod start;
 
 pub use batch::build;
 pub use dg_segment::Segment;
 pub use fault::BuildFault;
+pub use start::is_top_due;

@@ -1,17 +1,22 @@
 -- The tops and downs that events determine, as the segment of all of them behind nothing.
-use Rattle.std.proofs.Common.{◌≡◌, ℕ, zero, suc, ◌+◌, ◌-◌, ◌*◌, ◌/◌, ◌^◌, ◌≤◌, List, [], ◌∷◌, ◌++◌, length, drop, take, map, min, refl, sym, ◌∙◌, ap, arith, length-append}
+use Rattle.std.proofs.Common.{◌≡◌, ℕ, true, zero, suc, ◌+◌, ◌-◌, ◌*◌, ◌/◌, ◌^◌, ◌≤◌, List, [], ◌∷◌, ◌++◌, length, drop, take, map, min, refl, sym, ◌∙◌, ap, arith, length-append}
 use Rattle.std.specs.List.{flat_map}
 use Rattle.std.proofs.lemmas.List.{drop_all}
+use Rattle.dg_build.proofs.OlderSteps.{older_in_time_long}
+use Rattle.dg_build.specs.InteriorDeltas.{steps_to}
+use Rattle.dg_build.specs.OlderSteps.{AreOlderSteps, last_leaf, older_in_time}
 use Rattle.dg_graph.specs.declared.event.Event.{Event}
 use Rattle.dg_history.specs.declared.node.Key.{Key}
 use Rattle.dg_history.specs.declared.node.Key.TheVariants as key
 use Rattle.dg_history.specs.declared.node.NodeId.{NodeId}
 use Rattle.dg_history.specs.declared.params.Params.{Params}
+use Rattle.dg_history.specs.History.{are_parameters}
 use Rattle.dg_index.specs.FileOfHistory.{Segment, segment_of, stored}
-use Rattle.dg_index.specs.Hierarchy.{leaves, numbers}
+use Rattle.dg_index.specs.Hierarchy.{leaves, numbers, set_of}
 use Rattle.dg_index.specs.IndexRecords.{deltas_due, lists_due, recent_of, record_among}
 use Rattle.dg_index.specs.OlderNodes.{node_at, older, older_at}
 use Rattle.dg_verify.proofs.DeltaKeys.{lists_many}
+use Rattle.dg_verify.proofs.OpenedIndexParameters.{in_range}
 
 no_leaves : (p : Params) → leaves p 0 ≡ 0
 no_leaves p = omega arith
@@ -73,6 +78,18 @@ none_older k m = none_flat (older_at k 0 m) (none_at k m) (numbers 1 m)
 -- behind nothing no node has an older child
 pub no_older : (p : Params) (after : ℕ) → older p.k (leaves p 0) after ≡ []
 no_older p after = ap (λ m. older p.k m after) (no_leaves p) ∙ none_older p.k after
+
+pub none_in_time : (p : Params) (after : ℕ) → are_parameters p.l p.k ≡ true → older_in_time p.k (leaves p 0) after ≡ []
+none_in_time p after parameters =
+    empty (older_in_time p.k (leaves p 0) after) (older_in_time_long p.k (leaves p 0) after (in_range p.l p.k parameters).two ∙ ap (λ (l : List NodeId). length l) (no_older p after))
+  where
+    empty : (nodes : List NodeId) → length nodes ≡ 0 → nodes ≡ []
+    empty [] none = refl
+    empty (n ∷ nodes) none = absurd (omega (arith, none))
+
+-- and none has a step
+pub no_older_steps : (p : Params) (after : ℕ) → are_parameters p.l p.k ≡ true → AreOlderSteps p [] after []
+no_older_steps p after parameters = sym (ap (λ (l : List NodeId). steps_to (map (set_of p []) l) (last_leaf p [])) (none_in_time p after parameters))
 
 -- behind nothing no event is recent
 pub none_recent : (p : Params) → [] ≡ recent_of p []

@@ -1,36 +1,34 @@
 use Rattle.std.proofs.Common.{◌∙◌, ℕ, List, Option, Ok, Err, length, sym, ap, subst}
 use Rattle.dg_append.proofs.KeptBatchOutcomes.{err_is}
-use Rattle.dg_append.proofs.BatchSegmentHistory.{kept_takes, made_over, sets_given, unmade_over, unread_over}
+use Rattle.dg_append.proofs.BatchSegmentHistory.{kept_takes, made_over, steps_given, unmade_over, unread_over}
 use Rattle.dg_append.proofs.batch_segment.make_segment.Goals as goal
 use Rattle.dg_append.specs.BatchSegments.{IsNext}
 use Rattle.dg_append.specs.declared.next_batch.NextBatch.{NextBatch}
 use Rattle.dg_append.specs.Faults.{of_retrieval}
-use Rattle.dg_append.specs.OlderGroups.{older_children}
+use Rattle.dg_append.specs.OlderGroups.{leaves_after, leaves_before}
+use Rattle.dg_build.specs.OlderSteps.{older_in_time}
 use Rattle.dg_file.specs.Index.{IndexState}
-use Rattle.dg_graph.specs.declared.element.Element.{Element}
+use Rattle.dg_graph.specs.Composition.{Delta}
 use Rattle.dg_index.specs.OpenedIndex.{Opening}
 use Rattle.dg_pool.specs.Graphs.{graph_now}
 
-pub older_sets-requires-clause-few : goal.older_sets-requires-clause-few
-older_sets-requires-clause-few g c = c.requires.next.follows.room
-
 pub segment_of-requires-clause-next : goal.segment_of-requires-clause-next
-segment_of-requires-clause-next g c = subst (λ (x : IndexState). IsNext x.opening c.args.next.now (graph_now c.args.pool.now)) (sym c.older_sets.ensures.reads.same) c.requires.next
+segment_of-requires-clause-next g c = subst (λ (x : IndexState). IsNext x.opening c.args.next.now (graph_now c.args.pool.now)) (sym c.older_steps.ensures.reads.same) c.requires.next
 
 pub segment_of-requires-clause-older : goal.segment_of-requires-clause-older
 segment_of-requires-clause-older g c =
-    ap (λ (l : List (List Element)). length l) c.deref.ensures.value ∙ c.in_ok-older.ensures.count
-    ∙ ap (λ (x : IndexState). length (older_children x.opening (length c.args.next.now.events.now))) (sym c.older_sets.ensures.reads.same)
+    ap (λ (l : List Delta). length l) c.deref.ensures.value ∙ c.in_ok-older.ensures.count
+    ∙ ap (λ (x : IndexState). length (older_in_time x.opening.params.k (leaves_before x.opening) (leaves_after x.opening (length c.args.next.now.events.now)))) (sym c.older_steps.ensures.reads.same)
 
 pub returns-in_err-older-clause-fails : goal.returns-in_err-older-clause-fails
 returns-in_err-older-clause-fails g c =
     err_is c.from_residual.result (of_retrieval c.in_err-older.field-0.0) _ c.from_residual.ensures
-    (unread_over c.args.index.now.opening c.args.next.now (graph_now c.args.pool.now) (g.D.Disk.image c.args.disk.now) (g.D.Disk.taken c.args.disk.now) (g.D.Disk.taken c.older_sets.new.disk) c.in_err-older.field-0.0
-    c.requires.next.within c.in_err-older.ensures.over c.in_err-older.ensures.damage)
+    (unread_over c.args.index.now.opening c.args.next.now (graph_now c.args.pool.now) (g.D.Disk.image c.args.disk.now) (g.D.Disk.taken c.args.disk.now) (g.D.Disk.taken c.older_steps.new.disk) c.in_err-older.field-0.0
+    c.in_err-older.ensures.over c.in_err-older.ensures.damage)
 
 pub returns-in_err-older-clause-most : goal.returns-in_err-older-clause-most
 returns-in_err-older-clause-most g c =
-    kept_takes c.args.index.now.opening c.args.next.now (graph_now c.args.pool.now) c.requires.next.within (g.D.Disk.image c.args.disk.now) (g.D.Disk.taken c.args.disk.now) (g.D.Disk.taken c.older_sets.new.disk)
+    kept_takes c.args.index.now.opening c.args.next.now (graph_now c.args.pool.now) (g.D.Disk.image c.args.disk.now) (g.D.Disk.taken c.args.disk.now) (g.D.Disk.taken c.older_steps.new.disk)
     (Err c.in_err-older.field-0.0) c.in_err-older.ensures.over
 
 pub returns-clause-made : goal.returns-clause-made
@@ -38,9 +36,9 @@ returns-clause-made g c =
     let told : Option (List ℕ) = g.D.Disk.image c.args.disk.now in
     let o : Opening = c.args.index.now.opening in
     let n : NextBatch = c.args.next.now in
-    made_over told o c.older_sets.new.index.opening n (graph_now c.args.pool.now) c.in_ok-older.older.items c.deref.result.now
-    (ap (λ (x : IndexState). x.opening) c.older_sets.ensures.reads.same) c.deref.ensures.value c.requires.next
-    (sets_given o n.known (older_children o (length n.events.now)) told (g.D.Disk.taken c.args.disk.now) (g.D.Disk.taken c.older_sets.new.disk) c.in_ok-older.older c.in_ok-older.ensures.over)
+    made_over told o c.older_steps.new.index.opening n (graph_now c.args.pool.now) c.in_ok-older.older.items c.deref.result.now
+    (ap (λ (x : IndexState). x.opening) c.older_steps.ensures.reads.same) c.deref.ensures.value c.requires.next
+    (steps_given o n (graph_now c.args.pool.now) told (g.D.Disk.taken c.args.disk.now) (g.D.Disk.taken c.older_steps.new.disk) c.in_ok-older.older c.in_ok-older.ensures.over)
     c.in_ok-older.ensures.damage c.segment_of.result c.segment_of.ensures.behind c.segment_of.ensures.is
 
 pub returns-clause-fails : goal.returns-clause-fails
@@ -48,12 +46,12 @@ returns-clause-fails g c =
     let told : Option (List ℕ) = g.D.Disk.image c.args.disk.now in
     let o : Opening = c.args.index.now.opening in
     let n : NextBatch = c.args.next.now in
-    unmade_over told o c.older_sets.new.index.opening n (graph_now c.args.pool.now) c.in_ok-older.older.items c.deref.result.now
-    (ap (λ (x : IndexState). x.opening) c.older_sets.ensures.reads.same) c.deref.ensures.value c.requires.next
-    (sets_given o n.known (older_children o (length n.events.now)) told (g.D.Disk.taken c.args.disk.now) (g.D.Disk.taken c.older_sets.new.disk) c.in_ok-older.older c.in_ok-older.ensures.over)
+    unmade_over told o c.older_steps.new.index.opening n (graph_now c.args.pool.now) c.in_ok-older.older.items c.deref.result.now
+    (ap (λ (x : IndexState). x.opening) c.older_steps.ensures.reads.same) c.deref.ensures.value c.requires.next
+    (steps_given o n (graph_now c.args.pool.now) told (g.D.Disk.taken c.args.disk.now) (g.D.Disk.taken c.older_steps.new.disk) c.in_ok-older.older c.in_ok-older.ensures.over)
     c.in_ok-older.ensures.damage c.segment_of.result c.segment_of.ensures.fails c.segment_of.ensures.never
 
 pub returns-clause-most : goal.returns-clause-most
 returns-clause-most g c =
-    kept_takes c.args.index.now.opening c.args.next.now (graph_now c.args.pool.now) c.requires.next.within (g.D.Disk.image c.args.disk.now) (g.D.Disk.taken c.args.disk.now) (g.D.Disk.taken c.older_sets.new.disk)
+    kept_takes c.args.index.now.opening c.args.next.now (graph_now c.args.pool.now) (g.D.Disk.image c.args.disk.now) (g.D.Disk.taken c.args.disk.now) (g.D.Disk.taken c.older_steps.new.disk)
     (Ok c.in_ok-older.older) c.in_ok-older.ensures.over

@@ -1,7 +1,7 @@
 use Rattle.std.proofs.Common.{◌∙◌, ℕ, ap, length, map, refl, subst, sym}
 use Rattle.dg_append.proofs.BatchSegmentIndex.{tail_rises}
 use Rattle.dg_append.proofs.FrontEvents.{InRange}
-use Rattle.dg_append.proofs.BatchSegmentParts.{as_many_deltas, as_many_lists, begins_after_lists, given_here, listed_by, older_long, past_graph, past_long, past_recent, past_sets, range_of, recent_long}
+use Rattle.dg_append.proofs.BatchSegmentParts.{as_many_deltas, as_many_lists, begins_after_lists, given_here, listed_by, older_long, past_graph, past_long, past_recent, past_steps, range_of, recent_long}
 use Rattle.dg_append.proofs.segment.segment_of.Goals as goal
 use Rattle.dg_build.specs.GivenDeltas.{AreGiven, IsFaultOfSuch}
 use Rattle.dg_history.specs.declared.params.Params.{Params}
@@ -56,7 +56,7 @@ returns-in-Ok-clause-is c past is =
     (past_graph o p n c.params-params.ensures c.events_len-before.ensures.events past c.args.next.now.recent.now (graph_now c.args.pool.now) c.args.next.now.events.now c.args.older.now is
     c.leaves.result c.leaves-2.result c.in_ok-graph.graph c.leaves.ensures.leaves c.leaves-2.ensures.leaves c.in_ok-graph.ensures)
     is.changes
-    (past_sets o p n c.params-params.ensures c.events_len-before.ensures.events past c.args.next.now.recent.now (graph_now c.args.pool.now) c.args.next.now.events.now c.args.older.now is)
+    (past_steps o p n c.params-params.ensures c.events_len-before.ensures.events past c.args.next.now.recent.now (graph_now c.args.pool.now) c.args.next.now.events.now c.args.older.now is)
     parts.0 parts.1 parts.2
     ∙ (λ i. segment_of (c.params-params.ensures i) past (record { names = parts.3 i; events = c.args.next.now.events.now }))
 
@@ -72,7 +72,7 @@ returns-clause-never c past is =
     (past_graph o p n c.params-params.ensures c.events_len-before.ensures.events past c.args.next.now.recent.now (graph_now c.args.pool.now) c.args.next.now.events.now c.args.older.now is
     c.leaves.result c.leaves-2.result c.in_ok-graph.graph c.leaves.ensures.leaves c.leaves-2.ensures.leaves c.in_ok-graph.ensures)
     is.changes
-    (past_sets o p n c.params-params.ensures c.events_len-before.ensures.events past c.args.next.now.recent.now (graph_now c.args.pool.now) c.args.next.now.events.now c.args.older.now is)
+    (past_steps o p n c.params-params.ensures c.events_len-before.ensures.events past c.args.next.now.recent.now (graph_now c.args.pool.now) c.args.next.now.events.now c.args.older.now is)
     in cc (none, c.in-Err-Wide.field-0-is)
 
 pub returns-clause-fails : goal.returns-clause-fails

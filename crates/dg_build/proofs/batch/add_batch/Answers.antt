@@ -74,7 +74,7 @@ returns-clause-count c =
     omega (arith, ap (λ (s : Segment). length s.deltas) w.is, c.in_ok-add_interior.ensures.count, ap (λ (s : Segment). length s.deltas) c.in_ok-add_lists.ensures, ap (λ (l : List Stored). length l) c.requires.bare.1)
 
 pub returns-clause-is : goal.returns-clause-is
-returns-clause-is c past long is_recent is_now changes sets =
+returns-clause-is c past long is_recent is_now changes steps =
     let p = c.args.params in
     let more = c.args.events.now in
     let front = ap (λ (l : List Event). l ++ more) is_recent in
@@ -83,14 +83,14 @@ returns-clause-is c past long is_recent is_now changes sets =
     let e : c.first_count-cut.result ≡ min (l - length c.args.recent.now) (length c.args.events.now) = omega (arith, c.first_count-cut.ensures) in
     let cut : IsCut l c.args.before c.args.recent.now c.args.events.now c.as_slice-first.result.now c.behind-later.result.now =
     is_cut l c.args.before c.first_count-cut.result c.args.recent.now c.args.events.now c.as_slice-first.result.now c.behind-later.result.now c.requires.list.0 c.requires.recent e (c.as_slice-first.ensures.value ∙ c.in_ok-list.ensures) c.behind-later.ensures in
-    let made = c.in_ok-add_interior.ensures.is past more c.requires.list.0 (ap (λ n. n / p.l) long) is_recent (cut.is ∙ front) is_now changes sets in
+    let made = c.in_ok-add_interior.ensures.is past more c.requires.list.0 (ap (λ n. n / p.l) long) is_recent (cut.is ∙ front) is_now changes steps in
     let none : c.add_lists.new.segment.deltas ≡ [] = ap (λ (s : Segment). s.deltas) c.in_ok-add_lists.ensures ∙ c.requires.bare.1 in
     ap (λ (s : Segment). s.deltas) w.is ∙ made ∙ ap (λ (l : List Stored). l ++ map (written_at p (past ++ more)) (deltas_due p.k (c.args.before / p.l) ((c.args.before + length more) / p.l))) none
 
 pub returns-in_err-add_interior-clause-fault : goal.returns-in_err-add_interior-clause-fault
 returns-in_err-add_interior-clause-fault c =
     let failed = err_from_is_err_and c.from_residual-in_err-add_interior.result c.from_residual-in_err-add_interior.ensures.1 in
-    rw (failed.1, failed.2) (λ past long is_recent is_now changes sets.
+    rw (failed.1, failed.2) (λ past long is_recent is_now changes steps.
     let p = c.args.params in
     let more = c.args.events.now in
     let front = ap (λ (l : List Event). l ++ more) is_recent in
@@ -98,7 +98,7 @@ returns-in_err-add_interior-clause-fault c =
     let e : c.first_count-cut.result ≡ min (l - length c.args.recent.now) (length c.args.events.now) = omega (arith, c.first_count-cut.ensures) in
     let cut : IsCut l c.args.before c.args.recent.now c.args.events.now c.as_slice-first.result.now c.behind-later.result.now =
     is_cut l c.args.before c.first_count-cut.result c.args.recent.now c.args.events.now c.as_slice-first.result.now c.behind-later.result.now c.requires.list.0 c.requires.recent e (c.as_slice-first.ensures.value ∙ c.in_ok-list.ensures) c.behind-later.ensures in
-    c.in_err-add_interior.ensures.fault past more c.requires.list.0 (ap (λ n. n / p.l) long) is_recent (cut.is ∙ front) is_now changes sets
+    c.in_err-add_interior.ensures.fault past more c.requires.list.0 (ap (λ n. n / p.l) long) is_recent (cut.is ∙ front) is_now changes steps
     (omega (arith, length-append past more, long, c.requires.fits)))
 
 pub returns-in_err-add_interior-clause-wide : goal.returns-in_err-add_interior-clause-wide
@@ -117,9 +117,9 @@ returns-clause-given c =
     let none : c.add_lists.new.segment.deltas ≡ [] = ap (λ (s : Segment). s.deltas) c.in_ok-add_lists.ensures ∙ c.requires.bare.1 in
     let w = written_whole c.args.segment.now c.add_lists.new.segment c.add_interior.new.segment c.set_piece.new.segment _ _ c.requires.bare.0 c.in_ok-add_lists.ensures c.in_ok-add_interior.ensures.frame c.in_ok-set_piece.ensures in
     let there : c.add_interior.new.segment.deltas ≡ c.set_piece.new.segment.deltas = ap (λ (s : Segment). s.deltas) (sym w.is) in
-    subst (λ (tail : List Event). AddsSuch (AreGivenBetween c.args.params (c.args.before / l) ((c.args.before + length c.args.events.now) / l) c.args.now.now c.args.recent.now tail c.args.older_sets.now) [] c.set_piece.new.segment.deltas) cut.is
-    (subst (λ (new : List Stored). AddsSuch (AreGivenBetween c.args.params (c.args.before / l) ((c.args.before + length c.args.events.now) / l) c.args.now.now c.args.recent.now (c.as_slice-first.result.now ++ c.behind-later.result.now) c.args.older_sets.now) [] new) there
-    (subst (λ (old : List Stored). AddsSuch (AreGivenBetween c.args.params (c.args.before / l) ((c.args.before + length c.args.events.now) / l) c.args.now.now c.args.recent.now (c.as_slice-first.result.now ++ c.behind-later.result.now) c.args.older_sets.now) old c.add_interior.new.segment.deltas) none
+    subst (λ (tail : List Event). AddsSuch (AreGivenBetween c.args.params (c.args.before / l) ((c.args.before + length c.args.events.now) / l) c.args.now.now c.args.recent.now tail c.args.older_steps.now) [] c.set_piece.new.segment.deltas) cut.is
+    (subst (λ (new : List Stored). AddsSuch (AreGivenBetween c.args.params (c.args.before / l) ((c.args.before + length c.args.events.now) / l) c.args.now.now c.args.recent.now (c.as_slice-first.result.now ++ c.behind-later.result.now) c.args.older_steps.now) [] new) there
+    (subst (λ (old : List Stored). AddsSuch (AreGivenBetween c.args.params (c.args.before / l) ((c.args.before + length c.args.events.now) / l) c.args.now.now c.args.recent.now (c.as_slice-first.result.now ++ c.behind-later.result.now) c.args.older_steps.now) old c.add_interior.new.segment.deltas) none
     c.in_ok-add_interior.ensures.given))
 
 pub returns-in_err-add_interior-clause-first : goal.returns-in_err-add_interior-clause-first
@@ -131,6 +131,6 @@ returns-in_err-add_interior-clause-first c =
     is_cut l c.args.before c.first_count-cut.result c.args.recent.now c.args.events.now c.as_slice-first.result.now c.behind-later.result.now c.requires.list.0 c.requires.recent e (c.as_slice-first.ensures.value ∙ c.in_ok-list.ensures) c.behind-later.ensures in
     let none : c.add_lists.new.segment.deltas ≡ [] = ap (λ (s : Segment). s.deltas) c.in_ok-add_lists.ensures ∙ c.requires.bare.1 in
     rw (failed.1, failed.2)
-    (subst (λ (tail : List Event). IsFaultOfSuch (AreGivenBetween c.args.params (c.args.before / l) ((c.args.before + length c.args.events.now) / l) c.args.now.now c.args.recent.now tail c.args.older_sets.now) 0 c.in_err-add_interior.field-0.0) cut.is
-    (subst (λ (old : List Stored). IsFaultOfSuch (AreGivenBetween c.args.params (c.args.before / l) ((c.args.before + length c.args.events.now) / l) c.args.now.now c.args.recent.now (c.as_slice-first.result.now ++ c.behind-later.result.now) c.args.older_sets.now) (length old) c.in_err-add_interior.field-0.0) none
+    (subst (λ (tail : List Event). IsFaultOfSuch (AreGivenBetween c.args.params (c.args.before / l) ((c.args.before + length c.args.events.now) / l) c.args.now.now c.args.recent.now tail c.args.older_steps.now) 0 c.in_err-add_interior.field-0.0) cut.is
+    (subst (λ (old : List Stored). IsFaultOfSuch (AreGivenBetween c.args.params (c.args.before / l) ((c.args.before + length c.args.events.now) / l) c.args.now.now c.args.recent.now (c.as_slice-first.result.now ++ c.behind-later.result.now) c.args.older_steps.now) (length old) c.in_err-add_interior.field-0.0) none
     c.in_err-add_interior.ensures.first))

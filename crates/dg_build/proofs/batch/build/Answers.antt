@@ -34,10 +34,10 @@ returns-clause-behind c floor rises =
     rises (ap (λ (s : Segment). s.lists) c.in_ok-add_batch.ensures.written)
 
 pub returns-clause-is : goal.returns-clause-is
-returns-clause-is c past long is_recent is_now changes sets e1 e2 e3 =
+returns-clause-is c past long is_recent is_now changes steps e1 e2 e3 =
     let more = c.args.events.now in
     whole c.args.params past more c.args.before (c.args.recent.now ++ more) c.args.recent.now c.args.segment c.add_batch.new.segment c.add_batch.new.segment.deltas c.requires.list.0 long is_recent refl e1 e2 e3
-    (record { is = c.in_ok-add_batch.ensures.written }) (c.in_ok-add_batch.ensures.is past long is_recent is_now changes sets)
+    (record { is = c.in_ok-add_batch.ensures.written }) (c.in_ok-add_batch.ensures.is past long is_recent is_now changes steps)
 
 pub returns-in_err-add_batch-clause-fault : goal.returns-in_err-add_batch-clause-fault
 returns-in_err-add_batch-clause-fault c =

@@ -1,12 +1,12 @@
-use Rattle.std.proofs.Common.{◌<◌, ◌-◌, ◌++◌, [], List, map, refl, ap, sym, subst, ◌∙◌, length, arith, append-nil}
+use Rattle.std.proofs.Common.{◌<◌, ◌++◌, [], List, map, refl, ap, sym, ◌∙◌, length, arith, append-nil}
 use Rattle.std.proofs.lemmas.Result.{MatchResult-weaker, on_ok_weaker}
 use Rattle.dg_graph.specs.declared.element.Element.{Element}
+use Rattle.dg_graph.specs.Composition.{nothing}
 use Rattle.dg_history.specs.declared.node.Key.{Key}
-use Rattle.dg_index.specs.Hierarchy.{leaves}
 use Rattle.dg_build.proofs.InteriorDeltaHeights.{written_at}
 use Rattle.dg_build.proofs.InteriorDeltaNodes.{differs_not}
-use Rattle.dg_build.proofs.InteriorDeltaLeaves.{leaf_back, new_up_to, none_at_all, more_there}
-use Rattle.dg_build.specs.GivenDeltas.{AreGivenBetween, AreNewLeaves, Nodes, given_on}
+use Rattle.dg_build.proofs.InteriorDeltaLeaves.{base_back, new_up_to, none_at_all, more_there}
+use Rattle.dg_build.specs.GivenDeltas.{AreGivenBetween, Nodes, given_on, gone_back, taken_back}
 use Rattle.dg_build.proofs.GivenDeltas.{none_added, none_given, such_fault}
 use Rattle.dg_build.proofs.leaves.add_interior.Goals as goal
 
@@ -27,52 +27,57 @@ returns-then-m-k-clause-count c =
     omega (arith, ap (λ (l : List Key). length l) (none_at_all c.args.params.k c.args.m c.args.after c.requires.arity c.if-m-k.true))
 
 pub returns-then-m-k-clause-is : goal.returns-then-m-k-clause-is
-returns-then-m-k-clause-is c before more some em is_recent is_tail is_now changes sets =
+returns-then-m-k-clause-is c before more some em is_recent is_tail is_now changes steps =
     sym (ap (λ (l : List Key). c.args.segment.now.deltas ++ map (written_at c.args.params (before ++ more)) l) (none_at_all c.args.params.k c.args.m c.args.after c.requires.arity c.if-m-k.true) ∙ append-nil c.args.segment.now.deltas)
 
 pub returns-clause-is : goal.returns-clause-is
 returns-clause-is c =
     on_ok_weaker c.add_heights.result
-    (λ is before more some em is_recent is_tail is_now changes sets.
+    (λ is before more some em is_recent is_tail is_now changes steps.
     let p = c.args.params in
     let lt : c.args.m < c.args.after = more_there p.k c.args.m c.args.after c.requires.arity c.if-m-k.false in
-    let leaf = leaf_back p before more c.args.recent.now c.args.now.now c.in_ok-leaf.leaf some is_recent (is_now c.if-m-k.false) changes c.in_ok-leaf.ensures.is in
-    let new = c.in_ok-fresh.ensures.is before more some is_tail leaf changes in
-    is before more some em (new_up_to p (before ++ more) (leaves p (length before)) c.args.m c.args.after c.in_ok-fresh.fresh.first c.in_ok-fresh.fresh.steps.items em lt new) sets)
+    let new = c.in_ok-fresh.ensures.is before more some is_tail changes in
+    is before more some em (new_up_to p before more c.args.m c.args.after c.in_ok-fresh.fresh.up c.in_ok-fresh.fresh.steps.items em lt new) steps
+    (λ top. base_back p before more c.args.recent.now c.args.after c.args.older_steps.now c.args.now.now c.in_ok-base.base some is_recent (is_now top) changes steps (c.in_ok-base.ensures.is top)))
     c.add_heights.ensures.is
 
 pub returns-clause-fault : goal.returns-clause-fault
 returns-clause-fault c =
     MatchResult-weaker c.add_heights.result c.add_heights.ensures.fault (λ _ none. none)
-    (λ e is before more some em is_recent is_tail is_now changes sets few.
+    (λ e is before more some em is_recent is_tail is_now changes steps few.
     let p = c.args.params in
     let lt : c.args.m < c.args.after = more_there p.k c.args.m c.args.after c.requires.arity c.if-m-k.false in
-    let leaf = leaf_back p before more c.args.recent.now c.args.now.now c.in_ok-leaf.leaf some is_recent (is_now c.if-m-k.false) changes c.in_ok-leaf.ensures.is in
-    let new = c.in_ok-fresh.ensures.is before more some is_tail leaf changes in
-    is before more some em (new_up_to p (before ++ more) (leaves p (length before)) c.args.m c.args.after c.in_ok-fresh.fresh.first c.in_ok-fresh.fresh.steps.items em lt new) sets few)
+    let new = c.in_ok-fresh.ensures.is before more some is_tail changes in
+    is before more some em (new_up_to p before more c.args.m c.args.after c.in_ok-fresh.fresh.up c.in_ok-fresh.fresh.steps.items em lt new) steps
+    (λ top. base_back p before more c.args.recent.now c.args.after c.args.older_steps.now c.args.now.now c.in_ok-base.base some is_recent (is_now top) changes steps (c.in_ok-base.ensures.is top)) few)
 
 pub returns-then-m-k-clause-given : goal.returns-then-m-k-clause-given
 returns-then-m-k-clause-given c =
-    let new : Nodes = record { first = []; steps = [] } in
+    let new : Nodes = record { up = nothing; steps = [] } in
+    let base : List Element = gone_back c.args.older_steps.now (taken_back c.args.now.now c.args.recent.now) in
     record {
       deltas = [];
       are = record {
         new = new;
         new_leaves = λ lt. absurd (omega (arith, lt, c.if-m-k.true));
-        are = sym (none_given c.args.params c.args.after c.args.m c.args.after c.args.older_sets.now new c.if-m-k.true);
+        base = base;
+        base_is = λ _. refl;
+        are = sym (none_given c.args.params c.args.after c.args.m c.args.after c.args.older_steps.now base new c.if-m-k.true);
       };
       added = none_added c.args.segment.now.deltas;
     }
 
 pub returns-clause-given : goal.returns-clause-given
 returns-clause-given c =
-    let new : Nodes = record { first = c.in_ok-fresh.fresh.first; steps = c.in_ok-fresh.fresh.steps.items } in
+    let new : Nodes = record { up = c.in_ok-fresh.fresh.up; steps = c.in_ok-fresh.fresh.steps.items } in
     on_ok_weaker c.add_heights.result
     (λ added. record {
-      deltas = given_on c.args.params c.args.after c.args.m c.args.after c.args.older_sets.now new;
+      deltas = given_on c.args.params c.args.after c.args.m c.args.after c.args.older_steps.now c.in_ok-base.base new;
       are = record {
         new = new;
-        new_leaves = λ _. subst (λ (leaf : List Element). AreNewLeaves c.args.params.l (c.args.after - c.args.m) leaf (c.args.first_list.now ++ c.args.later.now) new) c.in_ok-leaf.ensures.back c.in_ok-fresh.ensures.given;
+        new_leaves = λ _. c.in_ok-fresh.ensures.given;
+        base = c.in_ok-base.base;
+        base_is = c.in_ok-base.ensures.back;
         are = refl;
       };
       added = added;
@@ -81,12 +86,14 @@ returns-clause-given c =
 
 pub returns-clause-first : goal.returns-clause-first
 returns-clause-first c =
-    let new : Nodes = record { first = c.in_ok-fresh.fresh.first; steps = c.in_ok-fresh.fresh.steps.items } in
+    let new : Nodes = record { up = c.in_ok-fresh.fresh.up; steps = c.in_ok-fresh.fresh.steps.items } in
     MatchResult-weaker c.add_heights.result c.add_heights.ensures.first (λ _ none. none)
-    (λ e is. such_fault (AreGivenBetween c.args.params c.args.m c.args.after c.args.now.now c.args.recent.now (c.args.first_list.now ++ c.args.later.now) c.args.older_sets.now)
-    (given_on c.args.params c.args.after c.args.m c.args.after c.args.older_sets.now new) (length c.args.segment.now.deltas) e
+    (λ e is. such_fault (AreGivenBetween c.args.params c.args.m c.args.after c.args.now.now c.args.recent.now (c.args.first_list.now ++ c.args.later.now) c.args.older_steps.now)
+    (given_on c.args.params c.args.after c.args.m c.args.after c.args.older_steps.now c.in_ok-base.base new) (length c.args.segment.now.deltas) e
     (record {
       new = new;
-      new_leaves = λ _. subst (λ (leaf : List Element). AreNewLeaves c.args.params.l (c.args.after - c.args.m) leaf (c.args.first_list.now ++ c.args.later.now) new) c.in_ok-leaf.ensures.back c.in_ok-fresh.ensures.given;
+      new_leaves = λ _. c.in_ok-fresh.ensures.given;
+      base = c.in_ok-base.base;
+      base_is = c.in_ok-base.ensures.back;
       are = refl;
     }) is)

@@ -4,7 +4,7 @@ use Rattle.dg_graph.specs.declared.event.Event.{Event}
 use Rattle.dg_graph.specs.Composition.{applied, reversed}
 use Rattle.dg_graph.specs.ExactEvents.{effect_of}
 use Rattle.dg_delta.proofs.Deltas.{applies_each_in_turn}
-use Rattle.dg_build.proofs.leaves.last_leaf.Goals as goal
+use Rattle.dg_build.proofs.start.last_leaf.Goals as goal
 
 pub returns-clause-is : goal.returns-clause-is
 returns-clause-is c =

@@ -1,6 +1,6 @@
 use Rattle.std.proofs.Common.{◌≡◌, [], List, subst, false}
 use Rattle.std.specs.Prelude.{IfOk}
-use Rattle.dg_append.proofs.older_sets.record_planner.Goals as goal
+use Rattle.dg_append.proofs.older_steps.record_planner.Goals as goal
 use Rattle.dg_plan.specs.declared.edge.Edge.{Edge}
 use Rattle.dg_plan.specs.HistoryGraph.{all_columns}
 use Rattle.dg_plan.specs.IndexGraph.{edges_of}

@@ -1,0 +1,10 @@
+pub mod CrossingSteps
+pub mod CrossingWalks
+pub mod ExactSteps
+pub mod GoingBack
+pub mod NodeStepCalls
+pub mod PartWays
+pub mod RecordEdges
+pub mod SharedPaths
+pub mod StepLaws
+pub mod StepWalks
