@@ -19,7 +19,8 @@ use Rattle.dg_append.specs.declared.fault.BatchFault.{BatchFault}
 use Rattle.dg_append.specs.declared.fault.BatchFault.TheVariants as fault
 use Rattle.dg_append.specs.declared.live.Live.{Live}
 use Rattle.dg_append.specs.declared.next_batch.NextBatch.{NextBatch}
-use Rattle.dg_append.specs.OlderGroups.{IsBatchDamage, older_children}
+use Rattle.dg_append.specs.OlderChildSteps.{IsNamedDamage}
+use Rattle.dg_append.specs.OlderGroups.{older_children}
 use Rattle.dg_columns.specs.NamesInRange.{NamesFit}
 use Rattle.dg_disk.specs.declared.disk.Disk.{Ghosts}
 use Rattle.dg_file.specs.Images.{BothTold, GainsSegment}
@@ -114,7 +115,8 @@ module _ (o : Opening) (batch : Batch) (h : StoredHistory) (graph : List Element
       events = events;
       whole = p.whole;
       come = come_whole o batch h events p;
-      damage = subst (λ (x : ℕ × List Event). IfSome before (λ image. IsBatchDamage x.0 o image (length x.1) key col)) (let e : (next.known, next.events.now) ≡ (batch.known, events) = λ i. (n.known_is i, n.events_are i) in e) stops.1.0;
+      damage = subst (λ (x : ℕ × List Event × List Event × List Element). IfSome before (λ image. IsNamedDamage x.0 image o x.1 x.2 x.3 key col))
+          (let e : (next.known, next.recent.now, next.events.now, graph) ≡ (batch.known, h.recent.items, events, h.now.graph) = λ i. (n.known_is i, n.recent_is i, n.events_are i, graph_is i) in e) stops.1.0;
       never = by before stops.1.1;
     },
   )

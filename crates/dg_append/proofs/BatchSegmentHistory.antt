@@ -13,8 +13,8 @@ use Rattle.dg_append.specs.declared.fault.BatchFault.{BatchFault}
 use Rattle.dg_append.specs.declared.fault.BatchFault.TheVariants as fault
 use Rattle.dg_append.specs.declared.next_batch.NextBatch.{NextBatch}
 use Rattle.dg_append.specs.Faults.{of_retrieval}
-use Rattle.dg_append.specs.OlderChildSteps.{GivesOlderSteps}
-use Rattle.dg_append.specs.OlderGroups.{AreUndamaged, IsBatchDamage, IsDueDelta, IsFirstOfGroups, in_groups, leaves_after, leaves_before, older_children}
+use Rattle.dg_append.specs.OlderChildSteps.{AreLedOlder, GivesOlderSteps, IsFirstWideDelta, IsNamedDamage}
+use Rattle.dg_append.specs.OlderGroups.{AreUndamaged, IsBatchDamage, IsFirstOfGroups, in_groups, leaves_after, leaves_before, older_children}
 use Rattle.dg_build.specs.InteriorDeltas.{steps_to}
 use Rattle.dg_build.specs.OlderSteps.{last_leaf, older_in_time}
 use Rattle.dg_fold.specs.BytesRead.{TakesAtMost}
@@ -100,10 +100,21 @@ module _ (z : History) (image : ListOf ℕ) (o : Opening) (next : NextBatch) (gr
 key_among : (keys : ListOf Key) (place : ℕ) (key : Key) → slice_get keys place ≡ Some key → Contains keys key
 key_among keys place key is = subst (Contains keys) (get_or_from_slice_get keys place key key is) (Contains-get_or keys place key (slice_get_within keys place key is))
 
+-- what is named is damage of the batch
+pub batch_damage : (told : Option (ListOf ℕ)) (names : ℕ) (o : Opening) (recent events : ListOf Event) (graph : ListOf Element) (key : Key) (col : Column) → IfSome told (λ image. IsNamedDamage names image o recent events graph key col)
+    → IfSome told (λ image. IsBatchDamage names o image (length events) key col)
+batch_damage told names o recent events graph key col named =
+    some_map told (λ image. IsNamedDamage names image o recent events graph key col) (λ image. IsBatchDamage names o image (length events) key col) (λ image. by image) named
+  where
+    by : (image : ListOf ℕ) → IsNamedDamage names image o recent events graph key col → IsBatchDamage names o image (length events) key col
+    by image (inl first) = inl first
+    by image (inr wide) = inr (wide.0, wide.1, key_among _ wide.2.first.place key wide.2.first.there)
+
 -- The steps are those of the older children of the batch, behind an index that is as it was.
 module _ (told : Option (ListOf ℕ)) (o other : Opening) (next : NextBatch) (graph : ListOf Element) (steps given : ListOf Delta) (index : other ≡ o) (taken : given ≡ steps)
     (n : IsNext o next graph) (are : IfSome told (λ image. (z : History) → StandsForKept z image o next graph → AreRead o next z steps))
-    (whole : IfSome told (λ image. AreUndamaged next.known o image (in_groups (older_children o (length next.events.now))))) where
+    (whole : IfSome told (λ image. AreUndamaged next.known o image (in_groups (older_children o (length next.events.now)))))
+    (led : IfSome told (λ image. AreLedOlder next.known image o (older_children o (length next.events.now)) (older_in_time o.params.k (leaves_before o) (leaves_after o (length next.events.now))) next.recent.now graph steps)) where
   abbrev events : ListOf Event
   events = next.events.now
 
@@ -141,14 +152,17 @@ module _ (told : Option (ListOf ℕ)) (o other : Opening) (next : NextBatch) (gr
   unmade_over (Ok s) unmade never = tt
   unmade_over (Err (fault.BadChange line reason)) unmade never = unmade
   unmade_over (Err (fault.FileFull needed most)) unmade never = unmade
-  unmade_over (Err (fault.Damaged key col)) unmade never = (damage told whole, none told are)
+  unmade_over (Err (fault.Damaged key col)) unmade never = (damage told whole led, none told are)
     where
-      due : IsDueDelta o (length events) key
-      due = subst (λ (x : Opening). IsDueDelta x (length events) key) index (key_among _ unmade.1.place key unmade.1.there)
+      first : IsFirstWideDelta o next.recent.now events graph steps key
+      first =
+          subst (λ (x : Opening × ListOf Delta). IsFirstWideDelta x.0 next.recent.now events graph x.1 key) (let e : (other, given) ≡ (o, steps) = λ i. (index i, taken i) in e) unmade.1
 
-      damage : (told : Option (ListOf ℕ)) → IfSome told (λ image. AreUndamaged next.known o image (in_groups children)) → IfSome told (λ image. IsBatchDamage next.known o image (length events) key col)
-      damage None whole = tt
-      damage (Some image) whole = inr (whole, unmade.0, due)
+      damage : (told : Option (ListOf ℕ)) → IfSome told (λ image. AreUndamaged next.known o image (in_groups children))
+          → IfSome told (λ image. AreLedOlder next.known image o children (older_in_time o.params.k (leaves_before o) (leaves_after o (length events))) next.recent.now graph steps)
+          → IfSome told (λ image. IsNamedDamage next.known image o next.recent.now events graph key col)
+      damage None whole led = tt
+      damage (Some image) whole led = inr (whole, unmade.0, record { steps = steps; led = led; first = first })
 
       none : (told : Option (ListOf ℕ)) → IfSome told (λ image. (z : History) → StandsForKept z image o next graph → AreRead o next z steps)
           → IfSome told (λ image. (z : History) → StandsForKept z image o next graph → ⊥)

@@ -1,10 +1,12 @@
 -- The exact steps of the older children: by one tree that reaches the last leaf, and by the sets of all of them.
-use Rattle.std.proofs.Common.{◌≡◌, ℕ, zero, suc, ◌+◌, ◌<◌, ◌≤◌, List as ListOf, [], ◌∷◌, ◌++◌, Result, Ok, Err, length, map, take, drop, get_or, inl, refl, sym, ap, subst, ◌∙◌, append_assoc, append-nil, arith, take-append-drop, ◌*◌}
+use Rattle.std.proofs.Common.{◌≡◌, ℕ, Bool, true, false, cond, zero, suc, ◌+◌, ◌<◌, ◌≤◌, List as ListOf, [], ◌∷◌, ◌++◌, Result, Ok, Err, length, map, take, drop, get_or, inl, refl, sym, ap, subst, ◌∙◌, append_assoc, append-nil, arith, take-append-drop, ◌*◌}
 use Rattle.std.specs.List.{All, Contains}
+use Rattle.std.proofs.lemmas.Bool.{true≢false}
 use Rattle.std.proofs.lemmas.List.{take_all}
 use Rattle.std.proofs.lemmas.List.Elements.{All-head, All-tail}
 use Rattle.dg_append.proofs.OlderGroupSets.{groups_next, none_left}
 use Rattle.dg_append.specs.declared.older_sets.TheConstants.{GROUP_MAX}
+use Rattle.dg_append.specs.OlderChildSteps.{set_among}
 use Rattle.dg_append.specs.OlderGroups.{AreUndamaged, IsDamageOfGroups, TellsGroupDamage, in_groups, leaves_before}
 use Rattle.dg_build.specs.InteriorDeltas.{steps_to}
 use Rattle.dg_build.specs.OlderSteps.{last_leaf}
@@ -27,11 +29,13 @@ use Rattle.dg_index.proofs.HierarchyStability.{replay_append}
 use Rattle.dg_list.proofs.ExactEventCuts.{changes_behind}
 use Rattle.dg_plan.specs.declared.edge.Edge.{Edge}
 use Rattle.dg_plan.specs.HistoryGraph.{all_columns}
+use Rattle.dg_plan.specs.InstantPoint.{same_node}
 use Rattle.dg_retrieval.specs.Calls.{TellsDamage}
 use Rattle.dg_retrieval.specs.declared.fault.RetrievalFault.{RetrievalFault}
 use Rattle.dg_retrieval.specs.declared.fault.RetrievalFault.TheVariants as fault
 use Rattle.dg_retrieval.specs.KeptGraph.{record_edges}
 use Rattle.dg_retrieval.specs.NodeSets.{IsIndexOver, sets_of}
+use Rattle.dg_retrieval.proofs.BeginningBases.{same_is, same_itself}
 use Rattle.dg_retrieval.proofs.KeptGraphWeights.{opened_events, opened_params}
 use Rattle.dg_steps.specs.NodeSteps.{steps_among}
 
@@ -48,19 +52,57 @@ drop_out [] (suc i) far = refl
 drop_out (x ∷ xs) zero far = absurd (omega (arith, far))
 drop_out (x ∷ xs) (suc i) far = drop_out xs i (omega (arith, far))
 
-pub all_at : {A : Type 0} (P : A → Type 0) (xs : ListOf A) (i : ℕ) (other : A) → i < length xs → All P xs → P (get_or xs i other)
-all_at P [] i other within all = absurd (omega (arith, within))
-all_at P (x ∷ xs) zero other within all = All-head P x xs all
-all_at P (x ∷ xs) (suc i) other within all = all_at P xs i other (omega (arith, within)) (All-tail P x xs all)
+-- ---- the set of a node among others
 
--- the set of the node at an index, of the sets of all
-pub mapped_at : {A B : Type 0} (f : A → B) (xs : ListOf A) (ys : ListOf B) (i : ℕ) (x other : A) (y none : B) → i < length xs → ys ≡ map f xs → get_or xs i other ≡ x → y ≡ get_or ys i none → y ≡ f x
-mapped_at {A} {B} f xs ys i x other y none within are x_is y_is = y_is ∙ (λ j. get_or (are j) i none) ∙ at xs i within ∙ ap f x_is
-  where
-    at : (xs : ListOf A) (i : ℕ) → i < length xs → get_or (map f xs) i none ≡ f (get_or xs i other)
-    at [] i within = absurd (omega (arith, within))
-    at (z ∷ xs) zero within = refl
-    at (z ∷ xs) (suc i) within = at xs i (omega (arith, within))
+module _ (node : NodeId) (other : ListOf Element) where
+  -- at the node
+  pub among_hit : (nodes : ListOf NodeId) (sets : ListOf (ListOf Element)) (i : ℕ) (d : NodeId) (none : ListOf Element) → length sets ≡ length nodes → i < length nodes → get_or nodes i d ≡ node
+      → set_among (drop i nodes) (drop i sets) other node ≡ get_or sets i none
+  among_hit [] sets i d none long within is = absurd (omega (arith, within))
+  among_hit (n ∷ nodes) [] i d none long within is = absurd (omega (arith, long))
+  among_hit (n ∷ nodes) (s ∷ sets) zero d none long within is = ap (λ (b : Bool). cond b s (set_among nodes sets other node)) (ap (λ (m : NodeId). same_node m node) is ∙ same_itself node)
+  among_hit (n ∷ nodes) (s ∷ sets) (suc i) d none long within is = among_hit nodes sets i d none (omega (arith, long)) (omega (arith, within)) is
+
+  -- at another node
+  passed : (nodes : ListOf NodeId) (sets : ListOf (ListOf Element)) (i : ℕ) (d : NodeId) → length sets ≡ length nodes → i < length nodes → (get_or nodes i d ≡ node → ⊥)
+      → set_among (drop (suc i) nodes) (drop (suc i) sets) other node ≡ set_among (drop i nodes) (drop i sets) other node
+  passed [] sets i d long within is = absurd (omega (arith, within))
+  passed (n ∷ nodes) [] i d long within is = absurd (omega (arith, long))
+  passed (n ∷ nodes) (s ∷ sets) zero d long within is = by (same_node n node) refl
+    where
+      by : (b : Bool) → same_node n node ≡ b → set_among nodes sets other node ≡ cond b s (set_among nodes sets other node)
+      by true same = absurd (is (same_is n node same))
+      by false same = refl
+  passed (n ∷ nodes) (s ∷ sets) (suc i) d long within is = passed nodes sets i d (omega (arith, long)) (omega (arith, within)) is
+
+  pub among_miss : (nodes : ListOf NodeId) (sets : ListOf (ListOf Element)) (i : ℕ) (d : NodeId) → length sets ≡ length nodes → i < length nodes → (get_or nodes i d ≡ node → ⊥)
+      → set_among (drop (i + 1) nodes) (drop (i + 1) sets) other node ≡ set_among (drop i nodes) (drop i sets) other node
+  among_miss nodes sets i d long within is = (λ j. set_among (drop (one j) nodes) (drop (one j) sets) other node) ∙ passed nodes sets i d long within is
+    where
+      one : i + 1 ≡ suc i
+      one = omega arith
+
+  -- behind all nodes
+  pub among_none : (nodes : ListOf NodeId) (sets : ListOf (ListOf Element)) (i : ℕ) → length nodes ≤ i → set_among (drop i nodes) sets other node ≡ other
+  among_none nodes sets i far = ap (λ (l : ListOf NodeId). set_among l sets other node) (drop_out nodes i far)
+
+  -- of sets that are made of the nodes
+  pub among_mapped : (f : NodeId → ListOf Element) (nodes : ListOf NodeId) → Contains nodes node → set_among nodes (map f nodes) other node ≡ f node
+  among_mapped f [] there = absurd (let h = there.1 in omega (arith, h))
+  among_mapped f (n ∷ nodes) there = by (same_node n node) refl (λ later. among_mapped f nodes later)
+    where
+      later_there : (k : ℕ) → k < suc (length nodes) → get_or (n ∷ nodes) k node ≡ node → same_node n node ≡ false → Contains nodes node
+      later_there zero within is same = absurd (true≢false (sym (ap (λ (m : NodeId). same_node m node) is ∙ same_itself node) ∙ same))
+      later_there (suc k) within is same = (k, omega (arith, within), is)
+
+      by : (b : Bool) → same_node n node ≡ b → (Contains nodes node → set_among nodes (map f nodes) other node ≡ f node) → cond b (f n) (set_among nodes (map f nodes) other node) ≡ f node
+      by true same more = ap f (same_is n node same)
+      by false same more = more (later_there there.0 there.1 there.2 same)
+
+pub all_among : (f : NodeId → ListOf Element) (nodes : ListOf NodeId) (other : ListOf Element) (in_time : ListOf NodeId) → All (Contains nodes) in_time → map (set_among nodes (map f nodes) other) in_time ≡ map f in_time
+all_among f nodes other [] all = refl
+all_among f nodes other (n ∷ in_time) all =
+    λ i. among_mapped n other f nodes (All-head (Contains nodes) n in_time all) i ∷ all_among f nodes other in_time (All-tail (Contains nodes) n in_time all) i
 
 -- ---- steps by one tree
 

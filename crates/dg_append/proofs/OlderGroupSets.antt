@@ -1,11 +1,12 @@
 -- Sets of nodes that are read group after group.
-use Rattle.std.proofs.Common.{◌≡◌, ℕ, zero, suc, ◌+◌, ◌-◌, ◌/◌, ◌<◌, ◌≤◌, List as ListOf, [], ◌∷◌, ◌++◌, Option, Some, None, Result, Ok, Err, length, take, drop, min, inl, inr, refl, sym, ap, subst, ◌∙◌, arith, length-drop, length-take, take-add, drop-drop}
+use Rattle.std.proofs.Common.{◌≡◌, ℕ, zero, suc, ◌+◌, ◌-◌, ◌/◌, ◌<◌, ◌≤◌, List as ListOf, [], ◌∷◌, ◌++◌, Option, Some, None, Result, Ok, Err, length, take, drop, min, inl, inr, refl, sym, ap, subst, ◌∙◌, arith, length-drop, length-take, take-add, drop-drop, append_assoc, append-nil}
 use Rattle.std.specs.Prelude.{IfSome}
 use Rattle.std.specs.Global.{Vec}
 use Rattle.std.specs.List.{AllZip, sum}
 use Rattle.std.proofs.lemmas.List.{map-append, take_all}
 use Rattle.std.proofs.lemmas.List.Sums.{sum_by-append, sum_by-take-le}
 use Rattle.dg_append.specs.declared.older_sets.TheConstants.{GROUP_MAX}
+use Rattle.dg_append.specs.OlderChildSteps.{AreLedByGroups}
 use Rattle.dg_append.specs.OlderGroups.{AreUndamaged, IsDamageOfGroups, IsFirstOfGroups, groups, in_groups}
 use Rattle.dg_fold.specs.BytesRead.{TakesAtMost}
 use Rattle.dg_graph.specs.declared.element.Element.{Element}
@@ -22,7 +23,7 @@ use Rattle.dg_retrieval.specs.declared.fault.RetrievalFault.{RetrievalFault}
 use Rattle.dg_retrieval.specs.declared.fault.RetrievalFault.TheVariants as fault
 use Rattle.dg_retrieval.specs.KeptGraph.{record_edges}
 use Rattle.dg_retrieval.specs.NodeSets.{IsIndexOver, IsUndamaged, sets_of}
-use Rattle.dg_retrieval.specs.Calls.{GivesSetsOver, TellsDamage}
+use Rattle.dg_retrieval.specs.Calls.{AreLedByTree, GivesSetsOver, TellsDamage}
 use Rattle.dg_retrieval.specs.Retrieval.{IsFirstDamage, IsNoDamage}
 
 -- ---- the first of some elements, and those behind them
@@ -105,11 +106,18 @@ every_some (Some image) P f = f image
 pub record GroupsAreRead (o : Opening) (names : ℕ) (nodes : ListOf NodeId) (done : ℕ) (sets : ListOf (ListOf Element)) (taken then_taken : ℕ) (image : ListOf ℕ) : Type 0 where
   pub whole : AreUndamaged names o image (in_groups (drop done nodes)) → AreUndamaged names o image (in_groups nodes)
   pub damage : (f : RetrievalFault) → IsFirstOfGroups names o image (in_groups (drop done nodes)) f → IsFirstOfGroups names o image (in_groups nodes) f
+  pub led : (rest : ListOf (ListOf Element)) → AreLedByGroups names image o (in_groups (drop done nodes)) rest → AreLedByGroups names image o (in_groups nodes) (sets ++ rest)
   pub sets_are : (z : History) → IsIndexOver z image o names → sets ≡ sets_of z (take done nodes)
   pub most : (z : History) → IsIndexOver z image o names → (singles : ListOf ℕ) → AreSingles (arcs_of (record_edges o)) (Root ∷ []) nodes singles → TakesAtMost (sum (take done singles)) taken then_taken
 
 pub none_read : (o : Opening) (names : ℕ) (nodes : ListOf NodeId) (sets : ListOf (ListOf Element)) (taken : ℕ) → sets ≡ [] → (image : ListOf ℕ) → GroupsAreRead o names nodes 0 sets taken taken image
-none_read o names nodes sets taken none image = record { whole = λ w. w; damage = λ f d. d; sets_are = λ z over. none; most = λ z over singles are. omega arith }
+none_read o names nodes sets taken none image = record {
+  whole = λ w. w;
+  damage = λ f d. d;
+  led = λ rest l. subst (λ (all : ListOf (ListOf Element)). AreLedByGroups names image o (in_groups nodes) all) (λ i. sym none i ++ rest) l;
+  sets_are = λ z over. none;
+  most = λ z over singles are. omega arith;
+}
 
 -- what a call over these groups tells in an image
 abbrev pub Gives : Opening → ℕ → ListOf NodeId → ℕ → ℕ → Result (Vec (ListOf Element)) RetrievalFault → ListOf ℕ → Type 0
@@ -139,11 +147,14 @@ module _ (o : Opening) (names : ℕ) (nodes : ListOf NodeId) (done : ℕ) (more 
   -- one group more
   pub one_read : (sets all : ListOf (ListOf Element)) (group : Vec (ListOf Element)) (taken middle last : ℕ) (image : ListOf ℕ)
       → GroupsAreRead o names nodes done sets taken middle image → Gives o names (take size_next (drop done nodes)) middle last (Ok group) image
-      → IsUndamaged names (record_edges o) o all_columns (take size_next (drop done nodes)) image → all ≡ sets ++ group.items
+      → AreLedByTree names image o (take size_next (drop done nodes)) group.items → IsUndamaged names (record_edges o) o all_columns (take size_next (drop done nodes)) image → all ≡ sets ++ group.items
       → GroupsAreRead o names nodes (done + size_next) all taken last image
-  one_read sets all group taken middle last image r g undamaged are = record {
+  one_read sets all group taken middle last image r g led undamaged are = record {
     whole = λ rest. r.whole (subst (AreUndamaged names o image) (sym groups_are) (undamaged, rest));
     damage = λ f rest. r.damage f (later f rest);
+    led = λ rest l.
+        subst (λ (x : ListOf (ListOf Element)). AreLedByGroups names image o (in_groups nodes) x) (sym (append_assoc sets group.items rest) ∙ (λ i. sym are i ++ rest))
+        (r.led (group.items ++ rest) (subst (λ (gs : ListOf (ListOf NodeId)). AreLedByGroups names image o gs (group.items ++ rest)) (sym groups_are) (group.items, rest, refl, led, l)));
     sets_are = λ z over.
         are ∙ (λ i. r.sets_are z over i ++ (g z over).sets i) ∙ sym (map-append (set_of z.params (events_of z)) (take done nodes) (take size_next (drop done nodes)))
         ∙ ap (sets_of z) (sym (take-add done size_next nodes));
@@ -190,6 +201,11 @@ module _ (o : Opening) (names : ℕ) (nodes : ListOf NodeId) (done : ℕ) (sets 
     never = tt;
   }
 
+  pub all_led : AreLedByGroups names image o (in_groups nodes) sets.items
+  all_led =
+      subst (λ (x : ListOf (ListOf Element)). AreLedByGroups names image o (in_groups nodes) x) (append-nil sets.items)
+      (r.led [] (subst (λ (gs : ListOf (ListOf NodeId)). AreLedByGroups names image o gs []) (sym (none_left nodes done over)) refl))
+
   pub all_whole : AreUndamaged names o image (in_groups nodes)
   all_whole = r.whole (subst (AreUndamaged names o image) (sym (none_left nodes done over)) tt)
 
@@ -216,3 +232,6 @@ CallGives names taken then_taken r image x = (z : History) → IsIndexOver z ima
 
 abbrev pub CallDamage : ℕ → Result (Vec (ListOf Element)) RetrievalFault → ListOf ℕ → Called → Type 0
 CallDamage names r image x = TellsDamage names x.1 x.0 all_columns x.2 image r
+
+abbrev pub CallLeads : ℕ → ListOf (ListOf Element) → ListOf ℕ → Called → Type 0
+CallLeads names sets image x = AreLedByTree names image x.0 x.2 sets

@@ -9,7 +9,8 @@ use Rattle.dg_append.specs.declared.front.Front.TheVariants.{Whole}
 use Rattle.dg_append.specs.declared.live.Live.{Live}
 use Rattle.dg_append.specs.Fronts.{ComeTo}
 use Rattle.dg_append.specs.LiveHistories.{IsForgotten}
-use Rattle.dg_append.specs.OlderGroups.{AreUndamaged, IsBatchDamage, in_groups, older_children}
+use Rattle.dg_append.specs.OlderChildSteps.{IsNamedDamage}
+use Rattle.dg_append.specs.OlderGroups.{AreUndamaged, in_groups, older_children}
 use Rattle.dg_file.specs.Images.{BothTold, GainsBatch, GainsBatchOrNot}
 use Rattle.dg_fold.specs.BytesRead.{TakesAtMost}
 use Rattle.dg_graph.specs.declared.element.Column.{Column}
@@ -158,7 +159,7 @@ pub record MeetsDamage (o : Opening) (batch : Batch) (old : StoredHistory) (befo
   pub events : List Event
   pub whole : batch.front ≡ Whole
   pub come : ComeTo o old.now.graph batch (Ok events)
-  pub damage : IfSome before (λ image. IsBatchDamage batch.known o image (length events) key col)
+  pub damage : IfSome before (λ image. IsNamedDamage batch.known image o old.recent.items events old.now.graph key col)
   pub never : IfSome before (λ image. (z : History) → IsOverHistory z image o batch.known old → ⊥)
 
 -- The lines come to a batch, and a read failed while its older children were read: so it comes only behind lines that

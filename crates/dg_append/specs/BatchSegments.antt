@@ -1,12 +1,12 @@
 -- The segment of a batch as it is made behind an index, over any image, and why it is not made or not kept.
-use Rattle.std.specs.Prelude.{◌≡◌, ◌≤◌, ◌<◌, ◌+◌, ◌++◌, ℕ, true, List as ListOf, [], ◌∷◌, Option, Some, IfSome, length, map, take, drop, slice_get}
+use Rattle.std.specs.Prelude.{◌≡◌, ◌≤◌, ◌<◌, ◌+◌, ◌++◌, ℕ, true, List as ListOf, [], ◌∷◌, Option, Some, IfSome, length, map, take, drop}
 use Rattle.std.specs.List.{All, sum}
 use Rattle.dg_append.specs.declared.fault.BatchFault.{BatchFault}
 use Rattle.dg_append.specs.declared.fault.BatchFault.TheVariants as fault
 use Rattle.dg_append.specs.declared.next_batch.NextBatch.{NextBatch}
 use Rattle.dg_append.specs.AddedBatches.{MeetsNoDamage, batch_with, recent_behind}
-use Rattle.dg_append.specs.OlderGroups.{IsBatchDamage, leaves_after, leaves_before, older_children}
-use Rattle.dg_build.specs.GivenDeltas.{AreGiven, IsFirstWide}
+use Rattle.dg_append.specs.OlderChildSteps.{IsFirstWideDelta, IsNamedDamage}
+use Rattle.dg_append.specs.OlderGroups.{leaves_after, older_children}
 use Rattle.dg_build.specs.OlderSteps.{AreOlderSteps}
 use Rattle.dg_build.specs.SpelledRecords.{RisesFrom, last_in_rows}
 use Rattle.dg_columns.specs.NamesInRange.{NamesFit}
@@ -20,13 +20,12 @@ use Rattle.dg_graph.specs.Elements.{IsSet}
 use Rattle.dg_graph.specs.ExactEvents.{AreChangesOf}
 use Rattle.dg_graph.specs.Replay.{replay}
 use Rattle.dg_history.specs.declared.limits.TheConstants.{BATCH_LINES_MAX, EVENTS_MAX}
-use Rattle.dg_history.specs.declared.node.Key.{Key}
 use Rattle.dg_history.specs.declared.node.NodeId.TheVariants.{Root}
 use Rattle.dg_history.specs.History.{History, events_of, first_time_of, last_time_from}
 use Rattle.dg_index.specs.FileOfHistory.{Segment, segment_of}
 use Rattle.dg_index.specs.ImageOfHistory.{IsImageOf}
 use Rattle.dg_index.specs.IndexGrowth.{name_total}
-use Rattle.dg_index.specs.IndexRecords.{deltas_due, recent_of}
+use Rattle.dg_index.specs.IndexRecords.{recent_of}
 use Rattle.dg_index.specs.OpenedIndex.{Opening, delta_count, earliest_in, event_total, list_count, list_bytes_max, list_row, may_be_listed, may_be_named}
 use Rattle.dg_plan.specs.IndexGraph.{arcs_of}
 use Rattle.dg_plan.specs.Walks.{AreSingles}
@@ -113,18 +112,11 @@ TakesSinglesOver before o next graph taken then_taken =
 
 -- ---- why it is not made
 
--- Of the deltas that the batch gives from the current graph and from these steps of its older children, in the order of
--- its segment, the first that has more elements than its column can count has this key.
-pub record IsFirstWideDelta (o : Opening) (next : NextBatch) (graph : ListOf Element) (steps : ListOf Delta) (key : Key) : Type 0 where
-  pub place : ℕ
-  pub first : IsFirstWide (AreGiven o.params (event_total o.batches) graph next.recent.now next.events.now steps) 0 place
-  pub there : slice_get (deltas_due o.params.k (leaves_before o) (leaves_after o (length next.events.now))) place ≡ Some key
-
 -- why the segment of the batch is not made from these steps of its older children
 abbrev pub IsUnmade : Opening → NextBatch → ListOf Element → ListOf Delta → BatchFault → Type 0
 IsUnmade o next graph steps (fault.BadChange line reason) = ⊥
 IsUnmade o next graph steps (fault.FileFull needed most) = ⊥
-IsUnmade o next graph steps (fault.Damaged key col) = (col ≡ Structure) × IsFirstWideDelta o next graph steps key
+IsUnmade o next graph steps (fault.Damaged key col) = (col ≡ Structure) × IsFirstWideDelta o next.recent.now next.events.now graph steps key
 IsUnmade o next graph steps fault.Read = ⊥
 IsUnmade o next graph steps fault.Memory = Unit {0}
 IsUnmade o next graph steps fault.Store = ⊥
@@ -135,7 +127,7 @@ abbrev pub StopsSegment : Option (ListOf ℕ) → Opening → NextBatch → List
 StopsSegment before o next graph (fault.BadChange line reason) = ⊥
 StopsSegment before o next graph (fault.FileFull needed most) = ⊥
 StopsSegment before o next graph (fault.Damaged key col) =
-    IfSome before (λ image. IsBatchDamage next.known o image (length next.events.now) key col)
+    IfSome before (λ image. IsNamedDamage next.known image o next.recent.now next.events.now graph key col)
     × IfSome before (λ image. (z : History) → StandsForKept z image o next graph → ⊥)
 StopsSegment before o next graph fault.Read = Unit {0}
 StopsSegment before o next graph fault.Memory = Unit {0}

@@ -4,8 +4,9 @@
 ghost use Rattle.std.specs.Prelude.{◌≡◌, ◌≤◌, ◌<◌, ◌+◌, List, drop, get_or, length, map, IfOk, IfSome, IsTrue};
 ghost use Rattle.std.specs.List.{All, Contains};
 ghost use Rattle.dg_append.specs.BatchSegments.{StandsForKept};
-ghost use Rattle.dg_append.specs.OlderChildSteps.{GivesOlderSteps};
-ghost use Rattle.dg_append.specs.OlderGroups.{TellsGroupDamage};
+ghost use Rattle.dg_append.specs.OlderChildSteps.{AreLedByGroups, AreLedBySets, GivesOlderSteps, set_among};
+ghost use Rattle.dg_append.specs.OlderGroups.{TellsGroupDamage, in_groups};
+ghost use Rattle.dg_build.specs.GivenDeltas.{taken_back};
 ghost use Rattle.dg_build.specs.InteriorDeltas.{steps_to};
 ghost use Rattle.dg_file.specs.Images.{IsOpenedAs};
 ghost use Rattle.dg_graph.specs.declared.element.Element.{Element};
@@ -62,7 +63,8 @@ fn read_groups<R: Threads, D: Disk>(
     ensures over { IfSome (D.image disk.old) (λ image. (z : History) → IsIndexOver z image index.old.opening name_count
         → GivesSetsOver z (record_edges index.old.opening) nodes.now (D.taken disk.old) (D.taken disk.new) result) }
 
-    // over whatever image: where the records are damaged
+    // over whatever image: which sets the records lead to, and where these are damaged
+    ensures led { IfSome (D.image disk.old) (λ image. IfOk result (λ sets. AreLedByGroups name_count image index.old.opening (in_groups nodes.now) sets.items)) }
     ensures damage { IfSome (D.image disk.old) (λ image. TellsGroupDamage name_count index.old.opening image nodes.now result) }
 
     // what it leaves, and why a read failed
@@ -82,9 +84,12 @@ fn read_groups<R: Threads, D: Disk>(
 
 // The set of the last leaf, from the current graph and the events behind that leaf.
 fn last_leaf(alloc: Global, pool: &Pool, recent: &[Event]) -> Result<Set, AllocError>
-    ensures { IfOk result (λ leaf. (set : List Element) → IsSet set → AreChangesOf set recent.now → graph_now pool.now ≡ replay_from set recent.now → leaf ≡ set) }
+    ensures back { IfOk result (λ leaf. leaf ≡ taken_back (graph_now pool.now) recent.now) }
+    ensures is { IfOk result (λ leaf. (set : List Element) → IsSet set → AreChangesOf set recent.now → graph_now pool.now ≡ replay_from set recent.now → leaf ≡ set) }
 {
     let now = pool.now_set(alloc)?;
+    // Its clause says that the set rises.
+    now.items();
     let back = net_back(alloc, recent)?;
     back.apply(&now)
 }
@@ -100,11 +105,10 @@ fn is_same(left: NodeId, right: NodeId) -> bool
 // The set of a node that is among these, whose sets these are; or the other set.
 fn set_of_node<'a>(nodes: &[NodeId], sets: &'a [Set], node: NodeId, other: &'a Set) -> &'a Set
     requires { length sets.now ≡ length nodes.now }
-    ensures { (f : NodeId → List Element) → sets.now ≡ map f nodes.now → Contains nodes.now node → result.now ≡ f node }
+    ensures { result.now ≡ set_among nodes.now sets.now other.now node }
 {
-    for i in (0..nodes.len()).rev() {
-        let other_node = &nodes[i];
-        if is_same(*other_node, node) {
+    for i in 0..nodes.len() {
+        if is_same(nodes[i], node) {
             return &sets[i];
         }
     }
@@ -121,8 +125,7 @@ fn next_set<'a>(
 ) -> &'a Set
     requires sets { length sets.now ≡ length nodes.now }
     requires index { index < length in_time.now }
-    ensures { (f : NodeId → List Element) → sets.now ≡ map f nodes.now → All (Contains nodes.now) in_time.now
-        → result.now ≡ get_or (map f (drop (index + 1) in_time.now)) 0 end.now }
+    ensures { result.now ≡ get_or (map (set_among nodes.now sets.now end.now) (drop (index + 1) in_time.now)) 0 end.now }
 {
     if index + 1 < in_time.len() {
         set_of_node(nodes, sets, in_time[index + 1], end)
@@ -141,8 +144,7 @@ fn steps_between(
 ) -> Result<Vec<Delta>, AllocError>
     requires { length sets.now ≡ length nodes.now }
     ensures count { IfOk result (λ steps. length steps.items ≡ length in_time.now) }
-    ensures steps { IfOk result (λ steps. (f : NodeId → List Element) → sets.now ≡ map f nodes.now → All (Contains nodes.now) in_time.now
-        → steps.items ≡ steps_to (map f in_time.now) end.now) }
+    ensures steps { IfOk result (λ steps. steps.items ≡ steps_to (map (set_among nodes.now sets.now end.now) in_time.now) end.now) }
 {
     let mut steps = Vec::with_capacity(alloc, in_time.len())?;
     for i in 0..in_time.len() {
@@ -184,7 +186,9 @@ pub(crate) fn steps_by_sets<R: Threads, D: Disk>(
     ensures over { IfSome (D.image disk.old) (λ image. (z : History) → StandsForKept z image index.old.opening next.now (graph_now pool.now)
         → GivesOlderSteps z (record_edges index.old.opening) nodes.now in_time.now (D.taken disk.old) (D.taken disk.new) result) }
 
-    // over whatever image: where the records are damaged
+    // over whatever image: which steps the records lead to, and where these are damaged
+    ensures led { IfSome (D.image disk.old) (λ image. IfOk result (λ steps.
+        AreLedBySets next.now.known image index.old.opening nodes.now in_time.now (taken_back (graph_now pool.now) next.now.recent.now) steps.items)) }
     ensures damage { IfSome (D.image disk.old) (λ image. TellsGroupDamage next.now.known index.old.opening image nodes.now result) }
 
     // what it leaves, and why a read failed

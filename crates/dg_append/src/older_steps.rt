@@ -3,7 +3,7 @@
 ghost use Rattle.std.specs.Prelude.{◌≡◌, ◌≤◌, ◌++◌, ◌∷◌, [], List, length, IfOk, IfSome, IsTrue};
 ghost use Rattle.std.specs.List.{All, Contains};
 ghost use Rattle.dg_append.specs.BatchSegments.{IsNext, StandsForKept};
-ghost use Rattle.dg_append.specs.OlderChildSteps.{GivesOlderSteps};
+ghost use Rattle.dg_append.specs.OlderChildSteps.{AreLedByOneTree, AreLedOlder, GivesOlderSteps};
 ghost use Rattle.dg_append.specs.OlderGroups.{TellsGroupDamage, leaves_after, leaves_before, older_children};
 ghost use Rattle.dg_build.specs.OlderSteps.{older_in_time};
 ghost use Rattle.dg_file.specs.Images.{IsOpenedAs};
@@ -97,7 +97,8 @@ fn steps_by_tree<R: Threads, D: Disk>(
     ensures over { IfSome (D.image disk.old) (λ image. (z : History) → IsIndexOver z image index.old.opening known
         → GivesOlderSteps z (record_edges index.old.opening) nodes.now in_time.now (D.taken disk.old) (D.taken disk.new) result) }
 
-    // over whatever image: where the records are damaged
+    // over whatever image: which steps the records lead to, and where these are damaged
+    ensures led { IfSome (D.image disk.old) (λ image. IfOk result (λ steps. AreLedByOneTree known image index.old.opening nodes.now in_time.now steps.items)) }
     ensures damage { IfSome (D.image disk.old) (λ image. TellsGroupDamage known index.old.opening image nodes.now result) }
 
     // what it leaves, and why a read failed
@@ -131,7 +132,9 @@ fn steps_of<R: Threads, D: Disk>(
     ensures over { IfSome (D.image disk.old) (λ image. (z : History) → StandsForKept z image index.old.opening next.now (graph_now pool.now)
         → GivesOlderSteps z (record_edges index.old.opening) nodes.now in_time.now (D.taken disk.old) (D.taken disk.new) result) }
 
-    // over whatever image: where the records are damaged
+    // over whatever image: which steps the records lead to, and where these are damaged
+    ensures led { IfSome (D.image disk.old) (λ image. IfOk result (λ steps.
+        AreLedOlder next.now.known image index.old.opening nodes.now in_time.now next.now.recent.now (graph_now pool.now) steps.items)) }
     ensures damage { IfSome (D.image disk.old) (λ image. TellsGroupDamage next.now.known index.old.opening image nodes.now result) }
 
     // what it leaves, and why a read failed
@@ -151,8 +154,8 @@ fn steps_of<R: Threads, D: Disk>(
 ///
 /// They are read in groups of `GROUP_MAX`, by height and number, each by one tree over the records alone, with all their
 /// columns. Where one group has all of them and the last leaf is among them, the steps are those of its tree, and no set is
-/// made. Else the sets of all are: where so many are asked for at once, or where a batch gives a whole interior node of new
-/// leaves, no record that is read leads from the last older child to the last leaf.
+/// made. Else the sets of all of them are made: the nodes of several groups are in no one tree, and where the last leaf is
+/// not among them, no record that is read leads to it.
 ///
 /// `Disk` where a read failed, `Damaged` with the first column that is in no spelling in the first group that has one,
 /// and `Memory`.
@@ -175,7 +178,11 @@ pub(crate) fn older_steps<R: Threads, D: Disk>(
         (older_in_time index.old.opening.params.k (leaves_before index.old.opening) (leaves_after index.old.opening (length next.now.events.now)))
         (D.taken disk.old) (D.taken disk.new) result) }
 
-    // over whatever image: where the records are damaged
+    // over whatever image: which steps the records lead to, and where these are damaged
+    ensures led { IfSome (D.image disk.old) (λ image. IfOk result (λ steps.
+        AreLedOlder next.now.known image index.old.opening (older_children index.old.opening (length next.now.events.now))
+        (older_in_time index.old.opening.params.k (leaves_before index.old.opening) (leaves_after index.old.opening (length next.now.events.now)))
+        next.now.recent.now (graph_now pool.now) steps.items)) }
     ensures damage { IfSome (D.image disk.old) (λ image. TellsGroupDamage next.now.known index.old.opening image (older_children index.old.opening (length next.now.events.now)) result) }
 
     // what it leaves, and why a read failed

@@ -27,7 +27,7 @@ use Rattle.dg_retrieval.proofs.KeptGraphTrees.{each_edge}
 
 -- ---- nodes
 
-same_itself : (n : NodeId) → same_node n n ≡ true
+pub same_itself : (n : NodeId) → same_node n n ≡ true
 same_itself node.Root = refl
 same_itself node.Now = refl
 same_itself node.Recent = refl
@@ -35,7 +35,7 @@ same_itself (node.Leaf j) = eq-eqb j j refl
 same_itself (node.List i) = eq-eqb i i refl
 same_itself (node.Inner h j) = and_from (h == h) (j == j) (eq-eqb h h refl) (eq-eqb j j refl)
 
-same_is : (a b : NodeId) → same_node a b ≡ true → a ≡ b
+pub same_is : (a b : NodeId) → same_node a b ≡ true → a ≡ b
 same_is node.Root node.Root e = refl
 same_is node.Now node.Now e = refl
 same_is node.Recent node.Recent e = refl

@@ -18,8 +18,9 @@ use Rattle.dg_history.specs.History.{History, events_of}
 use Rattle.dg_index.specs.Hierarchy.{set_of}
 use Rattle.dg_index.specs.OpenedIndex.{Opening}
 use Rattle.dg_plan.specs.declared.edge.Edge.{Edge}
+use Rattle.dg_plan.specs.HistoryGraph.{all_columns}
 use Rattle.dg_plan.specs.IndexGraph.{arcs_of}
-use Rattle.dg_plan.specs.Walks.{AreSingles, IsPlan, IsTree, tree_weight, weight_of}
+use Rattle.dg_plan.specs.Walks.{AreSingles, Graft, IsPlan, IsTree, tree_weight, weight_of}
 use Rattle.dg_planner.specs.Trees.{grafts_in}
 use Rattle.dg_retrieval.specs.Beginnings.{GraphLead, IsOffered, base_handle, leads_in, led_to}
 use Rattle.dg_retrieval.specs.declared.fault.RetrievalFault.{RetrievalFault}
@@ -28,10 +29,11 @@ use Rattle.dg_retrieval.specs.declared.node_lead.NodeLead.{NodeLead}
 use Rattle.dg_retrieval.specs.declared.retrieval.Retrieved.{Retrieved}
 use Rattle.dg_retrieval.specs.declared.tree_parts.TreeParts.{TreeParts}
 use Rattle.dg_retrieval.specs.declared.tree_writings.TreeWritings.{TreeWritings}
+use Rattle.dg_retrieval.specs.KeptGraph.{record_edges}
 use Rattle.dg_retrieval.specs.NamesThere.{EventNamesAreThere, NamesAreThere}
 use Rattle.dg_retrieval.specs.NodeSets.{IsLedAlong, IsLedByPlan, IsUndamaged, sets_of}
 use Rattle.dg_retrieval.specs.Retrieval.{AreHeld, ArePoints, IsFirstDamage, IsNoDamage, IsTreeOf, TakesAtMostTree, graphs_at}
-use Rattle.dg_retrieval.specs.TreeLeads.{LeadAlongTree}
+use Rattle.dg_retrieval.specs.TreeLeads.{AreTreeLeads, LeadAlongTree}
 use Rattle.dg_retrieval.specs.TreeParts.{IsTreeWalk}
 
 -- ---- every call
@@ -153,6 +155,15 @@ pub record GivesSetOver (z : History) (edges : List Edge) (node : NodeId) (befor
 pub record AreNodeSets (name_count : ℕ) (nodes : List NodeId) (sets : List (List Element)) : Type 0 where
   pub count : length sets ≡ length nodes
   pub named : All (NamesAreThere name_count) sets
+
+-- In this image the sets are those to which the records of a tree of these nodes lead from the empty set.
+pub record AreLedByTree (name_count : ℕ) (image : List ℕ) (o : Opening) (nodes : List NodeId) (sets : List (List Element)) : Type 0 where
+  pub grafts : List (Graft NodeId)
+  pub tree : IsTree (arcs_of (record_edges o)) (Root ∷ []) nodes grafts
+  pub times : List ℕ  -- not looked at, since no node has events of its own
+  pub leads : List GraphLead
+  pub led : AreTreeLeads name_count [] (record_edges o) o all_columns nodes grafts times leads image
+  pub sets_are : sets ≡ map (λ (l : GraphLead). applied l.delta []) leads
 
 -- With the image and the index of a history: the sets are those of the nodes, at most as many bytes are read as the
 -- single plans weigh together, and no damage is met.

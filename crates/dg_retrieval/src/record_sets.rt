@@ -7,7 +7,7 @@ ghost use Rattle.dg_graph.specs.Composition.{applied};
 ghost use Rattle.dg_history.specs.History.{History};
 ghost use Rattle.dg_plan.specs.HistoryGraph.{all_columns};
 ghost use Rattle.dg_retrieval.specs.Beginnings.{GraphLead, leads_in};
-ghost use Rattle.dg_retrieval.specs.Calls.{AreNodeSets, GivesSetOver, GivesSetsOver, ReadsRecords, TellsDamage, TellsPlan};
+ghost use Rattle.dg_retrieval.specs.Calls.{AreLedByTree, AreNodeSets, GivesSetOver, GivesSetsOver, ReadsRecords, TellsDamage, TellsPlan};
 ghost use Rattle.dg_retrieval.specs.KeptGraph.{record_edges, record_nodes};
 ghost use Rattle.dg_retrieval.specs.NamesThere.{NamesAreThere};
 ghost use Rattle.dg_retrieval.specs.NodeSets.{HasNoEvents, IsIndexOver};
@@ -123,7 +123,8 @@ pub fn node_sets<R: Threads, D: Disk>(
     // over an image of a history: which sets they are, and the bytes read
     ensures over { IfSome (D.image disk.old) (λ image. (z : History) → IsIndexOver z image index.old.opening name_count
         → GivesSetsOver z planner.now.edges nodes.now (D.taken disk.old) (D.taken disk.new) result) }
-    // over whatever image: where the records are damaged
+    // over whatever image: which sets the records lead to, and where these are damaged
+    ensures led { IfSome (D.image disk.old) (λ image. IfOk result (λ sets. AreLedByTree name_count image index.old.opening nodes.now sets.items)) }
     ensures damage { IfSome (D.image disk.old) (λ image. TellsDamage name_count planner.now.edges index.old.opening all_columns nodes.now image result) }
     // what it leaves, and why a read failed
     ensures reads { ReadsRecords D.Disk index.old index.new disk.old disk.new result }

@@ -6,6 +6,7 @@ use Rattle.std.proofs.lemmas.Bool.{false≢true}
 use Rattle.std.proofs.lemmas.List.{length-map}
 use Rattle.dg_append.specs.AddedBatches.{AddsBatch, FailsBatch, IsOverHistory, MeetsDamage, MeetsNoDamage, ReadsNothing, TakesBatch}
 use Rattle.dg_append.specs.Fronts.{ComeTo, IsFront, lines}
+use Rattle.dg_append.proofs.BatchSegmentHistory.{batch_damage}
 use Rattle.dg_append.specs.OlderGroups.{IsBatchDamage, older_children}
 use Rattle.dg_append.specs.declared.batch.AddedBatch.{AddedBatch}
 use Rattle.dg_append.specs.declared.fault.BatchFault.{BatchFault}
@@ -216,7 +217,8 @@ module _ (from : Origin) (got : List ScriptLine) (p : Parts) (count limit : ℕ)
     o,
     there,
     subst (λ (n : ℕ). IfSome told (λ image. IsBatchDamage n o image count key col)) a.known_is
-        (subst (λ (n : ℕ). IfSome told (λ image. IsBatchDamage b.known o image n key col)) (many_events d.events d.whole d.come) d.damage),
+        (subst (λ (n : ℕ). IfSome told (λ image. IsBatchDamage b.known o image n key col)) (many_events d.events d.whole d.come)
+        (batch_damage told b.known o c.recent.items d.events c.now.graph key col d.damage)),
   )
 
   pub failed_damage : (told after : Option (List ℕ)) (f : BatchFault) → IfSome (index_opening c.index) (λ o. FailsBatch o limit b c told after f) → DamageIn (adding from count) p told (Err (batch_halt f))

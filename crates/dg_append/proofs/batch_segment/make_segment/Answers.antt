@@ -39,7 +39,7 @@ returns-clause-made g c =
     made_over told o c.older_steps.new.index.opening n (graph_now c.args.pool.now) c.in_ok-older.older.items c.deref.result.now
     (ap (λ (x : IndexState). x.opening) c.older_steps.ensures.reads.same) c.deref.ensures.value c.requires.next
     (steps_given o n (graph_now c.args.pool.now) told (g.D.Disk.taken c.args.disk.now) (g.D.Disk.taken c.older_steps.new.disk) c.in_ok-older.older c.in_ok-older.ensures.over)
-    c.in_ok-older.ensures.damage c.segment_of.result c.segment_of.ensures.behind c.segment_of.ensures.is
+    c.in_ok-older.ensures.damage c.in_ok-older.ensures.led c.segment_of.result c.segment_of.ensures.behind c.segment_of.ensures.is
 
 pub returns-clause-fails : goal.returns-clause-fails
 returns-clause-fails g c =
@@ -49,7 +49,7 @@ returns-clause-fails g c =
     unmade_over told o c.older_steps.new.index.opening n (graph_now c.args.pool.now) c.in_ok-older.older.items c.deref.result.now
     (ap (λ (x : IndexState). x.opening) c.older_steps.ensures.reads.same) c.deref.ensures.value c.requires.next
     (steps_given o n (graph_now c.args.pool.now) told (g.D.Disk.taken c.args.disk.now) (g.D.Disk.taken c.older_steps.new.disk) c.in_ok-older.older c.in_ok-older.ensures.over)
-    c.in_ok-older.ensures.damage c.segment_of.result c.segment_of.ensures.fails c.segment_of.ensures.never
+    c.in_ok-older.ensures.damage c.in_ok-older.ensures.led c.segment_of.result c.segment_of.ensures.fails c.segment_of.ensures.never
 
 pub returns-clause-most : goal.returns-clause-most
 returns-clause-most g c =

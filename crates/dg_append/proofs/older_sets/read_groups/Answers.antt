@@ -1,8 +1,9 @@
 use Rattle.std.proofs.Common.{◌≡◌, ◌++◌, ◌+◌, ◌-◌, ◌∙◌, ℕ, List, Option, Ok, Err, inr, length, take, drop, refl, ap, subst, arith, rules, sym, length-append}
 use Rattle.std.proofs.lemmas.List.Elements.{All-drop, All-take}
 use Rattle.dg_append.proofs.KeptBatchOutcomes.{err_as}
-use Rattle.dg_append.proofs.OlderGroupSets.{CallDamage, CallGives, Called, Gives, GroupsAreRead, all_given, all_whole, every_some, first_damage, group_long, none_more_read, none_read, one_read, size_next, some_both, some_map}
+use Rattle.dg_append.proofs.OlderGroupSets.{CallDamage, CallGives, CallLeads, Called, Gives, GroupsAreRead, all_given, all_led, all_whole, every_some, first_damage, group_long, none_more_read, none_read, one_read, size_next, some_both, some_map}
 use Rattle.dg_append.proofs.older_sets.read_groups.Goals as goal
+use Rattle.dg_append.specs.OlderChildSteps.{AreLedByGroups}
 use Rattle.dg_append.specs.OlderGroups.{AreUndamaged, IsFirstOfGroups, TellsGroupDamage, in_groups}
 use Rattle.dg_file.specs.Images.{IsOpenedAs}
 use Rattle.dg_file.specs.Index.{IndexState}
@@ -12,7 +13,7 @@ use Rattle.dg_history.specs.History.{History}
 use Rattle.dg_index.specs.OpenedIndex.{Opening}
 use Rattle.dg_plan.specs.declared.edge.Edge.{Edge}
 use Rattle.dg_plan.specs.HistoryGraph.{all_columns}
-use Rattle.dg_retrieval.specs.Calls.{GivesSetsOver}
+use Rattle.dg_retrieval.specs.Calls.{AreLedByTree, GivesSetsOver}
 use Rattle.dg_retrieval.specs.KeptGraph.{record_edges, record_nodes}
 use Rattle.dg_retrieval.specs.NodeSets.{HasNoEvents, IsIndexOver, IsUndamaged}
 use Rattle.dg_retrieval.specs.Retrieval.{IsFirstDamage}
@@ -82,16 +83,18 @@ loop-done-preserved g c =
     let call = call_is c.loop-done.index c.args.index.now c.args.planner.now.edges _ group c.loop-done.invariant.same c.requires.edges slice in
     let gives = told_here (g.D.Disk.image c.loop-done.disk) told (CallGives names (g.D.Disk.taken c.loop-done.disk) (g.D.Disk.taken c.node_sets.new.disk) (Ok c.in_ok-more.more)) _ _ c.loop-done.invariant.disk.same_image call c.in_ok-more.ensures.over in
     let damage = told_here (g.D.Disk.image c.loop-done.disk) told (CallDamage names (Ok c.in_ok-more.more)) _ _ c.loop-done.invariant.disk.same_image call c.in_ok-more.ensures.damage in
+    let led = told_here (g.D.Disk.image c.loop-done.disk) told (CallLeads names c.in_ok-more.more.items) _ _ c.loop-done.invariant.disk.same_image call c.in_ok-more.ensures.led in
     let long : length c.in_ok-more.more.items ≡ n = c.in_ok-more.ensures.done.count ∙ ap (λ (l : List NodeId). length l) slice ∙ group_long o names nodes done c.loop-done-test.true in
     record {
       within = omega (arith, c.loop-done-test.true, c.min-size.ensures);
       count = ap (λ (l : List (List Element)). length l) {y = c.loop-done.sets.items ++ c.in_ok-more.more.items} c.in_ok-append.ensures.items ∙ length-append c.loop-done.sets.items c.in_ok-more.more.items ∙ (λ i. c.loop-done.invariant.count i + (long ∙ sym c.min-size.ensures) i);
       read = subst (λ (d : ℕ). IfSome told (GroupsAreRead o names nodes (done + d) c.append.new.self.items (g.D.Disk.taken c.args.disk.now) (g.D.Disk.taken c.node_sets.new.disk))) (sym c.min-size.ensures)
           (some_both told (λ image. GroupsAreRead o names nodes done c.loop-done.sets.items (g.D.Disk.taken c.args.disk.now) (g.D.Disk.taken c.loop-done.disk) image)
-          (λ image. Gives o names group (g.D.Disk.taken c.loop-done.disk) (g.D.Disk.taken c.node_sets.new.disk) (Ok c.in_ok-more.more) image × IsUndamaged names (record_edges o) o all_columns group image)
+          (λ image. Gives o names group (g.D.Disk.taken c.loop-done.disk) (g.D.Disk.taken c.node_sets.new.disk) (Ok c.in_ok-more.more) image
+          × (AreLedByTree names image o group c.in_ok-more.more.items × IsUndamaged names (record_edges o) o all_columns group image))
           _
-          (λ image r h. one_read o names nodes done c.loop-done-test.true c.loop-done.sets.items c.append.new.self.items c.in_ok-more.more (g.D.Disk.taken c.args.disk.now) (g.D.Disk.taken c.loop-done.disk) (g.D.Disk.taken c.node_sets.new.disk) image r h.0 h.1 c.in_ok-append.ensures.items)
-          c.loop-done.invariant.read (both_told told _ _ gives damage));
+          (λ image r h. one_read o names nodes done c.loop-done-test.true c.loop-done.sets.items c.append.new.self.items c.in_ok-more.more (g.D.Disk.taken c.args.disk.now) (g.D.Disk.taken c.loop-done.disk) (g.D.Disk.taken c.node_sets.new.disk) image r h.0 h.1.0 h.1.1 c.in_ok-append.ensures.items)
+          c.loop-done.invariant.read (both_told told _ _ gives (both_told told _ _ led damage)));
       same = c.node_sets.ensures.reads.same ∙ c.loop-done.invariant.same;
       disk = reads_then c.loop-done.invariant.disk c.node_sets.ensures.reads.disk;
     }
@@ -171,4 +174,10 @@ pub returns-clause-damage : goal.returns-clause-damage
 returns-clause-damage g c =
     some_map (g.D.Disk.image c.args.disk.now) _ (λ image. AreUndamaged c.args.name_count c.args.index.now.opening image (in_groups c.args.nodes.now))
     (λ image r. all_whole c.args.index.now.opening c.args.name_count c.args.nodes.now c.loop-done.done c.loop-done.sets (g.D.Disk.taken c.args.disk.now) (g.D.Disk.taken c.loop-done.disk) c.loop-done-test.false image r)
+    c.loop-done.invariant.read
+
+pub returns-clause-led : goal.returns-clause-led
+returns-clause-led g c =
+    some_map (g.D.Disk.image c.args.disk.now) _ (λ image. AreLedByGroups c.args.name_count image c.args.index.now.opening (in_groups c.args.nodes.now) c.loop-done.sets.items)
+    (λ image r. all_led c.args.index.now.opening c.args.name_count c.args.nodes.now c.loop-done.done c.loop-done.sets (g.D.Disk.taken c.args.disk.now) (g.D.Disk.taken c.loop-done.disk) c.loop-done-test.false image r)
     c.loop-done.invariant.read

@@ -1,6 +1,6 @@
-use Rattle.std.proofs.Common.{◌≡◌, ◌∙◌, ◌==◌, ◌∷◌, [], ℕ, Bool, true, arith, List, ap, eqb-true, length, map, refl, subst, sym}
+use Rattle.std.proofs.Common.{◌≡◌, ◌∙◌, ◌==◌, ◌∷◌, [], ℕ, Bool, true, arith, List, ap, eqb-true, inr, length, map, refl, subst, sym}
 use Rattle.std.specs.List.{All, Contains}
-use Rattle.std.specs.Prelude.{IfSome, vec_len}
+use Rattle.std.specs.Prelude.{IfOk, IfSome, vec_len}
 use Rattle.std.specs.Global.{Vec}
 use Rattle.dg_append.proofs.FrontEvents.{in_range}
 use Rattle.dg_append.proofs.OlderChildSteps.{none_in}
@@ -9,11 +9,13 @@ use Rattle.dg_append.proofs.OlderGroupNodes.{older_bare, older_there}
 use Rattle.dg_append.proofs.OlderGroupSets.{every_some, none_whole}
 use Rattle.dg_append.proofs.older_steps.older_steps.Goals as goal
 use Rattle.dg_append.specs.BatchSegments.{StandsForKept}
-use Rattle.dg_append.specs.OlderChildSteps.{GivesOlderSteps}
-use Rattle.dg_append.specs.OlderGroups.{leaves_after, leaves_before, older_children}
+use Rattle.dg_append.specs.OlderChildSteps.{AreLedByGroups, AreLedOlder, GivesOlderSteps, set_among}
+use Rattle.dg_append.specs.OlderGroups.{in_groups, leaves_after, leaves_before, older_children}
+use Rattle.dg_build.specs.GivenDeltas.{taken_back}
 use Rattle.dg_build.specs.InteriorDeltas.{steps_to}
 use Rattle.dg_build.specs.OlderSteps.{last_leaf, older_in_time}
 use Rattle.dg_graph.specs.Composition.{Delta}
+use Rattle.dg_graph.specs.declared.element.Element.{Element}
 use Rattle.dg_history.specs.declared.node.NodeId.{NodeId}
 use Rattle.dg_history.specs.History.{History, are_parameters, events_of}
 use Rattle.dg_index.specs.Hierarchy.{set_of}
@@ -106,3 +108,27 @@ returns-clause-over g c =
     → GivesOlderSteps z (record_edges o) nodes in_time (g.D.Disk.taken c.args.disk.now) (g.D.Disk.taken c.steps_of.new.disk) c.steps_of.result))
     c.deref.result.now c.in_ok-nodes.nodes.items (older_children o count) c.deref-2.result.now c.in_ok-in_time.in_time.items (times o count) c.deref.ensures.value c.in_ok-nodes.ensures
     c.deref-2.ensures.value c.in_ok-in_time.ensures c.steps_of.ensures.over
+
+pub returns-then-is_empty-clause-led : goal.returns-then-is_empty-clause-led
+returns-then-is_empty-clause-led g c =
+    let o : Opening = c.args.index.now.opening in
+    let count : ℕ = length c.args.next.now.events.now in
+    let bare : older_children o count ≡ [] = sym c.in_ok-nodes.ensures ∙ none_of c.in_ok-nodes.nodes c.is_empty.result c.is_empty.ensures c.if-is_empty.true in
+    let none : times o count ≡ [] = none_in_time o count c.facts.ensures.parameters bare in
+    let leaf : List Element = taken_back (graph_now c.args.pool.now) c.args.next.now.recent.now in
+    every_some (g.D.Disk.image c.args.disk.now) _
+    (λ image. inr (record {
+      sets = [];
+      led = subst (λ (nodes : List NodeId). AreLedByGroups c.args.next.now.known image o (in_groups nodes) []) (sym bare) refl;
+      are = c.new.ensures.items ∙ (λ i. steps_to (map (set_among (older_children o count) [] leaf) (sym none i)) leaf);
+    }))
+
+pub returns-clause-led : goal.returns-clause-led
+returns-clause-led g c =
+    let o : Opening = c.args.index.now.opening in
+    let count : ℕ = length c.args.next.now.events.now in
+    told_of
+    (λ nodes in_time. IfSome (g.D.Disk.image c.args.disk.now)
+    (λ image. IfOk c.steps_of.result (λ steps. AreLedOlder c.args.next.now.known image o nodes in_time c.args.next.now.recent.now (graph_now c.args.pool.now) steps.items)))
+    c.deref.result.now c.in_ok-nodes.nodes.items (older_children o count) c.deref-2.result.now c.in_ok-in_time.in_time.items (times o count) c.deref.ensures.value c.in_ok-nodes.ensures
+    c.deref-2.ensures.value c.in_ok-in_time.ensures c.steps_of.ensures.led

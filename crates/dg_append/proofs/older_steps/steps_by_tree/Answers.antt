@@ -1,4 +1,4 @@
-use Rattle.std.proofs.Common.{◌∷◌, [], ℕ, Result, Ok, Err, List, Option, subst}
+use Rattle.std.proofs.Common.{◌∷◌, [], ℕ, Result, Ok, Err, List, Option, subst, ◌∙◌, ◌++◌}
 use Rattle.std.specs.Prelude.{IfSome}
 use Rattle.std.specs.Global.{Vec}
 use Rattle.std.specs.List.{sum}
@@ -44,3 +44,7 @@ returns-clause-damage g c =
     let told : Option (List ℕ) = g.D.Disk.image c.args.disk.now in
     let o : Opening = c.args.index.now.opening in
     some_map told _ _ (λ image t. group_damage c.args.known o c.args.planner.now.edges c.args.nodes.now image (Ok c.in_ok-steps.steps) c.requires.edges c.requires.some c.requires.few t) c.in_ok-steps.ensures.damage
+
+pub returns-clause-led : goal.returns-clause-led
+returns-clause-led g c =
+    some_map (g.D.Disk.image c.args.disk.now) _ _ (λ image led. (c.in_ok-steps.steps.items, led, c.in_ok-push.ensures.items ∙ (λ i. c.in_ok-steps.steps.items ++ c.new.ensures i ∷ []))) c.in_ok-steps.ensures.led

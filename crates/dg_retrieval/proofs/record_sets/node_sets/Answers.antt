@@ -1,9 +1,16 @@
-use Rattle.std.proofs.Common.{ap, length, ◌∙◌}
+use Rattle.std.proofs.Common.{ap, length, ◌∙◌, ◌∷◌, [], List, subst}
 use Rattle.std.proofs.lemmas.List.{length-map}
 use Rattle.std.proofs.lemmas.Option.{IfSome_then}
+use Rattle.dg_history.specs.declared.node.NodeId.{NodeId}
+use Rattle.dg_history.specs.declared.node.NodeId.TheVariants.{Root}
+use Rattle.dg_index.specs.OpenedIndex.{Opening}
+use Rattle.dg_plan.specs.declared.edge.Edge.{Edge}
 use Rattle.dg_plan.specs.HistoryGraph.{all_columns}
+use Rattle.dg_plan.specs.IndexGraph.{arcs_of}
+use Rattle.dg_plan.specs.Walks.{Graft, IsTree}
 use Rattle.dg_planner.specs.Trees.{grafts_in}
-use Rattle.dg_retrieval.specs.Beginnings.{leads_in}
+use Rattle.dg_retrieval.specs.Beginnings.{GraphLead, leads_in}
+use Rattle.dg_retrieval.specs.TreeLeads.{AreTreeLeads}
 use Rattle.dg_retrieval.proofs.CallRecords.{damage_told, of_both, sets_failed}
 use Rattle.dg_retrieval.proofs.NodeSetLeads.{from_nothing, sets_are, sets_named}
 use Rattle.dg_retrieval.proofs.record_sets.node_sets.Goals as goal
@@ -34,3 +41,20 @@ returns-clause-over g c =
     sets_are c.args.index.now.opening c.args.planner.now.edges c.requires.edges c.args.nodes.now c.requires.leaves (grafts_in c.in_ok-leads.field-0.tree) c.args.name_count c.deref.result.now
     (leads_in c.in_ok-leads.field-0.leads) image c.in_ok-leads.ensures.done.leads.there _ c.in_ok-sets_led.ensures in
     of_both image sets c.in_ok-leads.ensures.over (λ im s at z over. record { sets = s z over; most = (at z over).shared; never = tt })
+
+pub returns-clause-led : goal.returns-clause-led
+returns-clause-led g c =
+    let edges : List Edge = c.args.planner.now.edges in
+    let o : Opening = c.args.index.now.opening in
+    let grafts : List (Graft NodeId) = grafts_in c.in_ok-leads.field-0.tree in
+    let leads : List GraphLead = leads_in c.in_ok-leads.field-0.leads in
+    let done = c.in_ok-leads.ensures.done in
+    IfSome_then (g.D.Disk.image c.args.disk.now) done.leads.there
+    (λ im there. record {
+      grafts = grafts;
+      tree = subst (λ (es : List Edge). IsTree (arcs_of es) (Root ∷ []) c.args.nodes.now grafts) c.requires.edges done.tree;
+      times = c.deref.result.now;
+      leads = leads;
+      led = subst (λ (es : List Edge). AreTreeLeads c.args.name_count [] es o all_columns c.args.nodes.now grafts c.deref.result.now leads im) c.requires.edges there;
+      sets_are = c.in_ok-sets_led.ensures;
+    })
