@@ -33,7 +33,7 @@ module _ {D : Type 0} (g : Ghosts D) where
     causes = cause;
     settled = tt;
     unwritten = λ other. reads;
-    crash = told_reads g.image g.faults g.write_faults g.may_leave g.moment g.left_since old new reads only F P has f;
+    crash = told_reads g.image g.faults g.write_faults g.cached g.may_leave g.moment g.left_since old new reads only F P has f;
   }
 
   -- a segment that is not made comes of no write
@@ -61,7 +61,7 @@ module _ {D : Type 0} (g : Ghosts D) where
         told_widens g.moment g.left_since g.may_leave (g.image before) before after
         (λ a. (z : History) → StandsForKept z a o next graph → s ≡ segment_of z.params (events_of z) (batch_with next.known next.names.now next.events.now))
         (GainsBatchOrNot s) (GainsNextOrNot o next graph) (λ a c made gains z kept legal. gains z (batch_with next.known next.names.now next.events.now) kept.0 legal (made z kept)) built
-        (reads_first g.image g.faults g.write_faults g.may_leave g.moment g.left_since before middle reads after (GainsBatchOrNot s) run)
+        (reads_first g.image g.faults g.write_faults g.cached g.may_leave g.moment g.left_since before middle reads after (GainsBatchOrNot s) run)
 
     cause_kept : (f : BatchFault) → StopsKeeping g limit o s new middle after f → HasCause g f before after
     cause_kept (fault.BadChange line reason) stops = tt

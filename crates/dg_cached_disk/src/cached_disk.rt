@@ -1,6 +1,6 @@
 //! A disk over another one. What ties the bytes that are kept to that disk is the ghost field `kept`, which may name its
 //! image, since the disk is a field beside it.
-ghost use Rattle.std.specs.Prelude.{◌≡◌, ◌≤◌, [], true};
+ghost use Rattle.std.specs.Prelude.{◌≡◌, ◌≤◌, [], false, true};
 ghost use Rattle.dg_disk.specs.Counts.{raised_by};
 ghost use Rattle.dg_cached_disk.specs.Standing.{stand};
 
@@ -8,16 +8,20 @@ use dg_cache::RangeCache;
 use dg_disk::{Disk, Failed};
 use std::alloc::Global;
 
-/// A disk that keeps in memory what was read of another one last, and gives it from there. A write drops
-/// all that is kept. As bytes read it counts those, too, that it gives from memory.
+/// A disk that keeps in memory what was read of another one last, and gives it from there. It keeps nothing of what is
+/// read before repeats are expected of it, and a write drops all that is kept. As bytes read it counts those, too, that it
+/// gives from memory.
 #[derive(Drop)]
 pub struct CachedDisk<D: Disk> {
     disk: D,
     alloc: Global,
     ranges: RangeCache,
+    // whether repeats are expected
+    keeps: bool,
     // the bytes given from memory, held at the last value of a u64
     given: u64,
     ghost kept: { stand (D.image disk) ranges ≡ true },
+    ghost unkept: { keeps ≡ false → ranges ≡ [] },
 }
 
 impl<D: Disk + Drop> CachedDisk<D> {
@@ -26,11 +30,13 @@ impl<D: Disk + Drop> CachedDisk<D> {
         requires { ranges ≡ [] }
         ensures disk { result.disk ≡ disk }
         ensures given { result.given ≡ 0 }
+        ensures keeps { result.keeps ≡ false }
     {
         CachedDisk {
             disk,
             alloc,
             ranges,
+            keeps: false,
             given: 0,
         }
     }
@@ -53,6 +59,8 @@ impl<D: Disk> Disk for CachedDisk<D> {
 
     ghost taken = { λ c. raised_by c.given (D.taken c.disk) };
 
+    ghost cached = { λ c. c.given };
+
     ghost may_leave = { λ c. D.may_leave c.disk };
 
     ghost moment = { λ c. D.moment c.disk };
@@ -64,6 +72,9 @@ impl<D: Disk> Disk for CachedDisk<D> {
     }
 
     fn read_at(&mut self, offset: u64, into: &mut [u8]) -> Result<(), Failed> {
+        if !self.keeps {
+            return self.disk.read_at(offset, into);
+        }
         if self.ranges.give(offset, into) {
             self.given = self.given.saturating_add(into.len() as u64);
             return Ok(());
@@ -83,6 +94,11 @@ impl<D: Disk> Disk for CachedDisk<D> {
 
     fn sync(&mut self) -> Result<(), Failed> {
         self.disk.sync()
+    }
+
+    fn expect_repeats(&mut self) {
+        self.keeps = true;
+        self.disk.expect_repeats();
     }
 
     ghost leaves_image = { λ c. D.leaves_image c.disk };

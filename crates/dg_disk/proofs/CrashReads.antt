@@ -4,7 +4,7 @@ use Rattle.dg_disk.specs.Crash.{LeavesOnly}
 use Rattle.dg_disk.specs.Frame.{OnlyReads}
 use Rattle.dg_disk.proofs.CrashTold.{told_keeps, told_starts}
 
-module _ {D : Type 0} (image : D → Option (List ℕ)) (faults write_faults : D → ℕ) (may_leave : D → List ℕ → Type 0) (moment : D → ℕ) (left_since : D → ℕ → List ℕ → Type 0) (old mid : D) (reads : OnlyReads image faults write_faults may_leave moment left_since old mid) where
+module _ {D : Type 0} (image : D → Option (List ℕ)) (faults write_faults cached : D → ℕ) (may_leave : D → List ℕ → Type 0) (moment : D → ℕ) (left_since : D → ℕ → List ℕ → Type 0) (old mid : D) (reads : OnlyReads image faults write_faults cached may_leave moment left_since old mid) where
   -- calls that read, and no other
   pub told_reads : ((disk : D) (c : List ℕ) → left_since disk (moment disk) c → may_leave disk c)
       → (F : List ℕ → Type 0) (P : List ℕ → List ℕ → Type 0) → ((a : List ℕ) → F a → P a a) → IfSome (image old) F

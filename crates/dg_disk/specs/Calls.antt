@@ -7,19 +7,19 @@ use Rattle.dg_disk.specs.Frame.{GoesOn, OnlyReads, OnlyWrites, ReadsAndSyncs}
 
 -- the call reads and asks
 abbrev pub ReadsDisk : {D : Type 0} → Ghosts D → D → D → Type 0
-ReadsDisk g = OnlyReads g.image g.faults g.write_faults g.may_leave g.moment g.left_since
+ReadsDisk g = OnlyReads g.image g.faults g.write_faults g.cached g.may_leave g.moment g.left_since
 
 -- the call reads, asks and syncs
 abbrev pub SyncsDisk : {D : Type 0} → Ghosts D → D → D → Type 0
-SyncsDisk g = ReadsAndSyncs g.image g.faults g.write_faults g.may_leave g.moment g.left_since
+SyncsDisk g = ReadsAndSyncs g.image g.faults g.write_faults g.cached g.may_leave g.moment g.left_since
 
 -- the call writes and syncs, and reads nothing
 abbrev pub WritesDisk : {D : Type 0} → Ghosts D → D → D → Type 0
-WritesDisk g = OnlyWrites g.image g.faults g.write_faults g.taken
+WritesDisk g = OnlyWrites g.image g.faults g.write_faults g.taken g.cached
 
 -- the call reads, writes and syncs
 abbrev pub UsesDisk : {D : Type 0} → Ghosts D → D → D → Type 0
-UsesDisk g = GoesOn g.image g.faults g.write_faults
+UsesDisk g = GoesOn g.image g.faults g.write_faults g.cached
 
 -- a call of the disk failed in this call
 abbrev pub Fails : {D : Type 0} → Ghosts D → D → D → Type 0

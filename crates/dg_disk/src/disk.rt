@@ -27,6 +27,9 @@ pub trait Disk {
     // The bytes read so far, held at the last value of a u64.
     ghost taken: { Self → ℕ };
 
+    // How many of these bytes the disk gave from memory that it keeps itself, and did not read. It never falls.
+    ghost cached: { Self → ℕ };
+
     // What a crash now may leave.
     ghost may_leave: { Self → List ℕ → Type 0 };
 
@@ -44,7 +47,7 @@ pub trait Disk {
         ensures cause { OnErr result (Rose (faults self.old) (faults self.new)) }
 
         // frame
-        ensures frame { OnlyReads image faults write_faults may_leave moment left_since self.old self.new }
+        ensures frame { OnlyReads image faults write_faults cached may_leave moment left_since self.old self.new }
         ensures same_taken { taken self.new ≡ taken self.old }
 
         // crashes
@@ -62,7 +65,7 @@ pub trait Disk {
         ensures none_taken { OnErr result (taken self.new ≡ taken self.old) }
 
         // frame
-        ensures frame { OnlyReads image faults write_faults may_leave moment left_since self.old self.new }
+        ensures frame { OnlyReads image faults write_faults cached may_leave moment left_since self.old self.new }
 
         // crashes
         ensures time { Passes (moment self.old) (moment self.new) (left_since self.old) (left_since self.new) (may_leave self.new) };
@@ -79,7 +82,7 @@ pub trait Disk {
         ensures write_cause { OnErr result (Rose (write_faults self.old) (write_faults self.new)) }
 
         // frame
-        ensures frame { OnlyWrites image faults write_faults taken self.old self.new }
+        ensures frame { OnlyWrites image faults write_faults taken cached self.old self.new }
 
         // crashes
         ensures crash { LeavesTorn offset (length piece.now) (may_leave self.old) (may_leave self.new) }
@@ -95,11 +98,23 @@ pub trait Disk {
         ensures write_cause { OnErr result (Rose (write_faults self.old) (write_faults self.new)) }
 
         // frame
-        ensures frame { ReadsAndSyncs image faults write_faults may_leave moment left_since self.old self.new }
+        ensures frame { ReadsAndSyncs image faults write_faults cached may_leave moment left_since self.old self.new }
         ensures same_taken { taken self.new ≡ taken self.old }
 
         // crashes
         ensures time { Passes (moment self.old) (moment self.new) (left_since self.old) (left_since self.new) (may_leave self.new) };
+
+    /// Says that what is read from here on may be asked for again. It is a hint: a disk may keep such bytes in
+    /// memory, and most do nothing here.
+    fn expect_repeats(&mut self)
+        // frame
+        ensures frame { OnlyReads image faults write_faults cached may_leave moment left_since self.old self.new }
+        ensures same_taken { taken self.new ≡ taken self.old }
+        ensures none_failed { faults self.new ≡ faults self.old }
+
+        // crashes
+        ensures time { Passes (moment self.old) (moment self.new) (left_since self.old) (left_since self.new) (may_leave self.new) }
+    {}
 
     // The image, where it is told, is among what a crash may leave.
     ghost leaves_image: { (disk : Self) → IfSome (image disk) (may_leave disk) };

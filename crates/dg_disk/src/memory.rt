@@ -162,6 +162,8 @@ impl Disk for MemoryDisk {
 
     ghost taken = { λ d. d.taken };
 
+    ghost cached = { λ d. 0 };
+
     ghost may_leave = { MayLeave };
 
     ghost moment = { moment_of };
@@ -178,7 +180,7 @@ impl Disk for MemoryDisk {
         ensures cause { OnErr result (Rose self.old.faults self.new.faults) }
 
         // frame
-        ensures frame { OnlyReads (λ d. Some (image_of d)) (λ d. d.faults) (λ d. d.write_faults) MayLeave moment_of LeftSince self.old self.new }
+        ensures frame { OnlyReads (λ d. Some (image_of d)) (λ d. d.faults) (λ d. d.write_faults) (λ d. 0) MayLeave moment_of LeftSince self.old self.new }
         ensures same_taken { self.new.taken ≡ self.old.taken }
 
         // crashes
@@ -203,7 +205,7 @@ impl Disk for MemoryDisk {
         ensures none_taken { OnErr result (self.new.taken ≡ self.old.taken) }
 
         // frame
-        ensures frame { OnlyReads (λ d. Some (image_of d)) (λ d. d.faults) (λ d. d.write_faults) MayLeave moment_of LeftSince self.old self.new }
+        ensures frame { OnlyReads (λ d. Some (image_of d)) (λ d. d.faults) (λ d. d.write_faults) (λ d. 0) MayLeave moment_of LeftSince self.old self.new }
 
         // crashes
         ensures time { Passes (moment_of self.old) (moment_of self.new) (LeftSince self.old) (LeftSince self.new) (MayLeave self.new) }
@@ -230,7 +232,7 @@ impl Disk for MemoryDisk {
         ensures write_cause { OnErr result (Rose self.old.write_faults self.new.write_faults) }
 
         // frame
-        ensures frame { OnlyWrites (λ d. Some (image_of d)) (λ d. d.faults) (λ d. d.write_faults) (λ d. d.taken) self.old self.new }
+        ensures frame { OnlyWrites (λ d. Some (image_of d)) (λ d. d.faults) (λ d. d.write_faults) (λ d. d.taken) (λ d. 0) self.old self.new }
 
         // crashes
         ensures crash { LeavesTorn offset (length piece.now) (MayLeave self.old) (MayLeave self.new) }
@@ -263,7 +265,7 @@ impl Disk for MemoryDisk {
         ensures write_cause { OnErr result (Rose self.old.write_faults self.new.write_faults) }
 
         // frame
-        ensures frame { ReadsAndSyncs (λ d. Some (image_of d)) (λ d. d.faults) (λ d. d.write_faults) MayLeave moment_of LeftSince self.old self.new }
+        ensures frame { ReadsAndSyncs (λ d. Some (image_of d)) (λ d. d.faults) (λ d. d.write_faults) (λ d. 0) MayLeave moment_of LeftSince self.old self.new }
         ensures same_taken { self.new.taken ≡ self.old.taken }
 
         // crashes

@@ -91,6 +91,9 @@ impl<R: Files<File = File>> Disk for FileDisk<R> {
 
     ghost taken = { λ d. d.taken };
 
+    // Each byte is read of the file.
+    ghost cached = { λ _. 0 };
+
     // Nothing is known of what a crash leaves of a file.
     ghost may_leave = { λ _ _. ⊤ };
 

@@ -144,6 +144,7 @@ module _ {D : Type 0} (g : Ghosts D) where
         same_image = reads.same_image;
         counted = reads.counted;
         writes_counted = omega (arith, reads.no_write_failed);
+        cache_counted = reads.cache_counted;
         later = omega (arith, reads.same_moment);
         leaves = reads.leaves;
         since = λ t c le left. reads.since t c left;

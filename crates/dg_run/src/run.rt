@@ -90,15 +90,19 @@ fn run_session<R: Threads + Sync, S: Source, K: Sink, D: Disk>(
     // Its clause says that an image comes to one beginning.
     law_begins_are_determined();
     match Session::start(rt, alloc, disk, checked, limits) {
-        Ok(mut session) => answer_script(
-            rt,
-            alloc,
-            limits.script_bytes,
-            &mut session,
-            source,
-            sink,
-            disk,
-        ),
+        Ok(mut session) => {
+            // From here on it is commands that read, and they may ask for the same again.
+            disk.expect_repeats();
+            answer_script(
+                rt,
+                alloc,
+                limits.script_bytes,
+                &mut session,
+                source,
+                sink,
+                disk,
+            )
+        }
         Err(fault) => Status::from(fault),
     }
 }

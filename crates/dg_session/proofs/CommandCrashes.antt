@@ -49,7 +49,7 @@ module _ {D : Type 0} (g : Ghosts D) where
   -- calls that read leave the image
   pub reads_leave : OnlyNow g → (old new : D) → ReadsDisk g old new → (P : List ℕ → List ℕ → Type 0) → ((a : List ℕ) → P a a) → LeftByCrash g old new P
   reads_leave only old new reads P has =
-      told_reads g.image g.faults g.write_faults g.may_leave g.moment g.left_since old new reads only (λ a. Unit {0}) P (λ a f. has a) (any_told (g.image old) (λ a. Unit {0}) (λ a. tt))
+      told_reads g.image g.faults g.write_faults g.cached g.may_leave g.moment g.left_since old new reads only (λ a. Unit {0}) P (λ a f. has a) (any_told (g.image old) (λ a. Unit {0}) (λ a. tt))
 
   pub reading_left : OnlyNow g → (old new : D) → ReadsDisk g old new → (c : Command) (got : List ScriptLine) (p : Parts) (r : Result Reply Halt) → (r ≡ Err (halt.Stop stop.Store) → ⊥)
       → LeftByCrash g old new (LeavesCommand c got p r)

@@ -32,7 +32,7 @@ fails_as h k is = cc
 
 module _ {D : Type 0} (g : Ghosts D) where
   writes_use : {old new : D} → WritesDisk g old new → UsesDisk g old new
-  writes_use writes = record { told = writes.told; counted = writes.counted; writes_counted = writes.writes_counted }
+  writes_use writes = record { told = writes.told; counted = writes.counted; writes_counted = writes.writes_counted; cache_counted = writes.cache_counted }
 
   pub answers_stay : {A E : Type 0} (r : Result A E) (old new : D) → ReadsDisk g old new → IsOnDevice g old → OnOk r (IsOnDevice g new)
   answers_stay r old new reads settled = every_answer r (IsOnDevice g new) (reads_stay old new reads settled)

@@ -1,7 +1,7 @@
 //! Ranges of a file that are kept: which of them goes first, and when one is read of the disk below.
 ghost use Rattle.std.specs.Prelude.{◌≡◌, [], IfOk};
 
-use super::disk::{read, write};
+use super::disk::{expects_repeats, read, write};
 use dg_cache::RangeCache;
 use dg_cached_disk::CachedDisk;
 use dg_disk::MemoryDisk;
@@ -70,9 +70,22 @@ fn writes(abort: &impl Abort, disk: &mut CachedDisk<MemoryDisk>, offset: u64, pi
 }
 
 #[test]
+fn nothing_is_kept_before_repeats_are_expected(rt: HostRuntime) -> Result<(), Fail> {
+    let file = MemoryDisk::new(rt.alloc(), b"abcdef", 6, 100, &[])?;
+    let mut disk = CachedDisk::new(rt.alloc(), file, two(rt.alloc())?);
+    reads(&rt, &mut disk, 1, *b"bcd", 3);
+    reads(&rt, &mut disk, 1, *b"bcd", 6);
+    expects_repeats(&mut disk);
+    reads(&rt, &mut disk, 1, *b"bcd", 9);
+    reads(&rt, &mut disk, 1, *b"bcd", 9);
+    Ok(())
+}
+
+#[test]
 fn a_range_is_read_once_until_a_write(rt: HostRuntime) -> Result<(), Fail> {
     let file = MemoryDisk::new(rt.alloc(), b"abcdef", 6, 100, &[])?;
     let mut disk = CachedDisk::new(rt.alloc(), file, two(rt.alloc())?);
+    expects_repeats(&mut disk);
     reads(&rt, &mut disk, 1, *b"bcd", 3);
     reads(&rt, &mut disk, 1, *b"bcd", 3);
     reads(&rt, &mut disk, 2, *b"cde", 6);

@@ -43,6 +43,10 @@ fn sync<D: Disk>(disk: &mut D) -> Result<(), Failed> {
     disk.sync()
 }
 
+pub(super) fn expects_repeats<D: Disk>(disk: &mut D) {
+    disk.expect_repeats();
+}
+
 // A write at an offset that is within the image or at its end, as a write wants it.
 fn writes(
     abort: &impl Abort,

@@ -34,6 +34,7 @@ returns-in-Ok-clause-frame c =
       same_image = ap Some (image_to first (deeds_of c.self.inside.log.items) new Synced c.in-Ok.ensures.ok ∙ ap image_of c.self.view_is);
       counted = search rules;
       writes_counted = search rules;
+      cache_counted = search rules;
       later = time.later;
       leaves = leaves;
       since = since_sync _ _ _ _ _ _ time leaves (present_counts c.args.self.now);
