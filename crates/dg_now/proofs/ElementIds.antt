@@ -32,18 +32,18 @@ has_id_is (Edge id) (element.Node n) e = absurd (false≢true e)
 has_id_is (Edge id) (element.Edge n s d b) e = ap Edge (eqb-true n id e)
 has_id_is (Edge id) (element.NodeAttr n k v) e = absurd (false≢true e)
 has_id_is (Edge id) (element.EdgeAttr n k v) e = absurd (false≢true e)
-has_id_is (NodeValue id key) (element.Node n) e = absurd (false≢true e)
-has_id_is (NodeValue id key) (element.Edge n s d b) e = absurd (false≢true e)
-has_id_is (NodeValue id key) (element.NodeAttr n k v) e =
+has_id_is (NodeValue key id) (element.Node n) e = absurd (false≢true e)
+has_id_is (NodeValue key id) (element.Edge n s d b) e = absurd (false≢true e)
+has_id_is (NodeValue key id) (element.NodeAttr n k v) e =
     let parts = both (eqb n id) (eqb k key) e in
-    λ i. NodeValue (eqb-true n id parts.0 i) (eqb-true k key parts.1 i)
-has_id_is (NodeValue id key) (element.EdgeAttr n k v) e = absurd (false≢true e)
-has_id_is (EdgeValue id key) (element.Node n) e = absurd (false≢true e)
-has_id_is (EdgeValue id key) (element.Edge n s d b) e = absurd (false≢true e)
-has_id_is (EdgeValue id key) (element.NodeAttr n k v) e = absurd (false≢true e)
-has_id_is (EdgeValue id key) (element.EdgeAttr n k v) e =
+    λ i. NodeValue (eqb-true k key parts.1 i) (eqb-true n id parts.0 i)
+has_id_is (NodeValue key id) (element.EdgeAttr n k v) e = absurd (false≢true e)
+has_id_is (EdgeValue key id) (element.Node n) e = absurd (false≢true e)
+has_id_is (EdgeValue key id) (element.Edge n s d b) e = absurd (false≢true e)
+has_id_is (EdgeValue key id) (element.NodeAttr n k v) e = absurd (false≢true e)
+has_id_is (EdgeValue key id) (element.EdgeAttr n k v) e =
     let parts = both (eqb n id) (eqb k key) e in
-    λ i. EdgeValue (eqb-true n id parts.0 i) (eqb-true k key parts.1 i)
+    λ i. EdgeValue (eqb-true k key parts.1 i) (eqb-true n id parts.0 i)
 
 two : (m n : ℕ) → (eqb m m && eqb n n) ≡ true
 two m n = λ i. eq-eqb m m refl i && eq-eqb n n refl i
@@ -165,8 +165,8 @@ needs_live set (element.NodeAttr n k v) (Node id) h e = subst (λ m. Lives set (
 needs_live set (element.NodeAttr n k v) (Edge id) h e = absurd (false≢true e)
 needs_live set (element.EdgeAttr n k v) (Node id) h e = absurd (false≢true e)
 needs_live set (element.EdgeAttr n k v) (Edge id) h e = subst (λ m. Lives set (Edge m)) (eqb-true n id e) (lives_at set (Edge n) h)
-needs_live set x (NodeValue id key) h e = absurd (false≢true e)
-needs_live set x (EdgeValue id key) h e = absurd (false≢true e)
+needs_live set x (NodeValue key id) h e = absurd (false≢true e)
+needs_live set x (EdgeValue key id) h e = absurd (false≢true e)
 
 pub live_needs : (set : List Element) (x : Element) → ((p : ElementId) → needs_id p x ≡ true → Lives set p) → has_needs set x ≡ true
 live_needs set (element.Node n) l = refl

@@ -366,8 +366,8 @@ node_values_alike id key v w = record { ids = refl; needs = same_needs }
     same_needs : (p : ElementId) → needs_id p (element.NodeAttr id key v) ≡ needs_id p (element.NodeAttr id key w)
     same_needs (Node n) = refl
     same_needs (Edge n) = refl
-    same_needs (NodeValue n k) = refl
-    same_needs (EdgeValue n k) = refl
+    same_needs (NodeValue k n) = refl
+    same_needs (EdgeValue k n) = refl
 
 edge_values_alike : (id key v w : ℕ) → Alike (element.EdgeAttr id key v) (element.EdgeAttr id key w)
 edge_values_alike id key v w = record { ids = refl; needs = same_needs }
@@ -375,8 +375,8 @@ edge_values_alike id key v w = record { ids = refl; needs = same_needs }
     same_needs : (p : ElementId) → needs_id p (element.EdgeAttr id key v) ≡ needs_id p (element.EdgeAttr id key w)
     same_needs (Node n) = refl
     same_needs (Edge n) = refl
-    same_needs (NodeValue n k) = refl
-    same_needs (EdgeValue n k) = refl
+    same_needs (NodeValue k n) = refl
+    same_needs (EdgeValue k n) = refl
 
 moved_from : (make : ℕ → Element) (value other : Option ℕ) (x : Element) → moved make value other ≡ Some x → (v : ℕ) × (x ≡ make v)
 moved_from make value other x e = by (option_eq nat_eq value other) value e

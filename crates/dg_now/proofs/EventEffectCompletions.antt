@@ -39,7 +39,7 @@ none_from (Some x) e = absurd (false≢true (sym e))
 edge_at : (x : Element) (id : ℕ) → element_id_of x ≡ Edge id → (n s d : ℕ) (b : Bool) → x ≡ element.Edge n s d b → n ≡ id
 edge_at x id p n s d b e = let same : Edge n ≡ Edge id = sym (ap element_id_of e) ∙ p in cc
 
-node_attr_at : (x : Element) (id key : ℕ) → element_id_of x ≡ NodeValue id key → Some x ≡ option_map (element.NodeAttr id key) (value_in x)
+node_attr_at : (x : Element) (id key : ℕ) → element_id_of x ≡ NodeValue key id → Some x ≡ option_map (element.NodeAttr id key) (value_in x)
 node_attr_at (element.Node n) id key e = cc
 node_attr_at (element.Edge n s d b) id key e = cc
 node_attr_at (element.NodeAttr n k v) id key e =
@@ -48,7 +48,7 @@ node_attr_at (element.NodeAttr n k v) id key e =
     λ i. Some (element.NodeAttr (ids i) (keys i) v)
 node_attr_at (element.EdgeAttr n k v) id key e = cc
 
-edge_attr_at : (x : Element) (id key : ℕ) → element_id_of x ≡ EdgeValue id key → Some x ≡ option_map (element.EdgeAttr id key) (value_in x)
+edge_attr_at : (x : Element) (id key : ℕ) → element_id_of x ≡ EdgeValue key id → Some x ≡ option_map (element.EdgeAttr id key) (value_in x)
 edge_attr_at (element.Node n) id key e = cc
 edge_attr_at (element.Edge n s d b) id key e = cc
 edge_attr_at (element.NodeAttr n k v) id key e = cc
@@ -88,19 +88,19 @@ module _ (set : List Element) where
       found (Some x) is f = is ∙ ap (λ z. Some z) (node_from x id (at_has set (Node id) x is).1)
 
   -- the value of a key is the element with its id
-  node_value_at : (id key : ℕ) → at set (NodeValue id key) ≡ option_map (element.NodeAttr id key) (node_value set id key)
-  node_value_at id key = by (at set (NodeValue id key)) refl
+  node_value_at : (id key : ℕ) → at set (NodeValue key id) ≡ option_map (element.NodeAttr id key) (node_value set id key)
+  node_value_at id key = by (at set (NodeValue key id)) refl
     where
-      by : (o : Option Element) → at set (NodeValue id key) ≡ o → o ≡ option_map (element.NodeAttr id key) (option_and_then value_in o)
+      by : (o : Option Element) → at set (NodeValue key id) ≡ o → o ≡ option_map (element.NodeAttr id key) (option_and_then value_in o)
       by None e = refl
-      by (Some x) e = node_attr_at x id key (at_has set (NodeValue id key) x e).1
+      by (Some x) e = node_attr_at x id key (at_has set (NodeValue key id) x e).1
 
-  edge_value_at : (id key : ℕ) → at set (EdgeValue id key) ≡ option_map (element.EdgeAttr id key) (edge_value set id key)
-  edge_value_at id key = by (at set (EdgeValue id key)) refl
+  edge_value_at : (id key : ℕ) → at set (EdgeValue key id) ≡ option_map (element.EdgeAttr id key) (edge_value set id key)
+  edge_value_at id key = by (at set (EdgeValue key id)) refl
     where
-      by : (o : Option Element) → at set (EdgeValue id key) ≡ o → o ≡ option_map (element.EdgeAttr id key) (option_and_then value_in o)
+      by : (o : Option Element) → at set (EdgeValue key id) ≡ o → o ≡ option_map (element.EdgeAttr id key) (option_and_then value_in o)
       by None e = refl
-      by (Some x) e = edge_attr_at x id key (at_has set (EdgeValue id key) x e).1
+      by (Some x) e = edge_attr_at x id key (at_has set (EdgeValue key id) x e).1
 
   as_body : (b c : Body) → CanHappen set b → done b ≡ done c → CanHappen set c
   as_body b c h e = subst (CanHappen set) (ok_is b c e) h

@@ -16,6 +16,7 @@ use Rattle.dg_now.specs.declared.element_id.ElementId.TheVariants.{Node, Edge, N
 use Rattle.dg_now.specs.contracts.element_id.ElementIdPartialEq.TheImpl as of_ids
 use Rattle.dg_now.specs.HeldGraph.{element_entry_at, held_at, more_at, fewer_at, has_entry, collected, ids_of, elements_of, KeepsHeld, KeepsUses, HeldGraphIsSound}
 use Rattle.dg_now.specs.ElementIds.{element_id_of, at, needs_id, same_id}
+use Rattle.dg_now.specs.HeldElements.{element_in}
 use Rattle.dg_now.proofs.HeldGraphUses.{count_put, count_out, any_count, count_any}
 use Rattle.dg_now.proofs.ElementIds.{both, either, at_has, at_is, at_from, at_lacks, one_of_each_id, put_graph, out_graph, put_itself, put_keeps, put_from, out_from, out_keeps}
 
@@ -24,30 +25,30 @@ use Rattle.dg_now.proofs.ElementIds.{both, either, at_has, at_is, at_from, at_la
 pub same_id_exact : (p q : ElementId) → same_id p q ≡ true → p ≡ q
 same_id_exact (Node m) (Node n) e = ap Node (eqb-true m n e)
 same_id_exact (Node m) (Edge n) e = absurd (false≢true e)
-same_id_exact (Node m) (NodeValue n d) e = absurd (false≢true e)
-same_id_exact (Node m) (EdgeValue n d) e = absurd (false≢true e)
+same_id_exact (Node m) (NodeValue d n) e = absurd (false≢true e)
+same_id_exact (Node m) (EdgeValue d n) e = absurd (false≢true e)
 same_id_exact (Edge m) (Node n) e = absurd (false≢true e)
 same_id_exact (Edge m) (Edge n) e = ap Edge (eqb-true m n e)
-same_id_exact (Edge m) (NodeValue n d) e = absurd (false≢true e)
-same_id_exact (Edge m) (EdgeValue n d) e = absurd (false≢true e)
-same_id_exact (NodeValue m c) (Node n) e = absurd (false≢true e)
-same_id_exact (NodeValue m c) (Edge n) e = absurd (false≢true e)
-same_id_exact (NodeValue m c) (NodeValue n d) e =
-    let parts = both (eqb m n) (eqb c d) e in
-    λ i. NodeValue (eqb-true m n parts.0 i) (eqb-true c d parts.1 i)
-same_id_exact (NodeValue m c) (EdgeValue n d) e = absurd (false≢true e)
-same_id_exact (EdgeValue m c) (Node n) e = absurd (false≢true e)
-same_id_exact (EdgeValue m c) (Edge n) e = absurd (false≢true e)
-same_id_exact (EdgeValue m c) (NodeValue n d) e = absurd (false≢true e)
-same_id_exact (EdgeValue m c) (EdgeValue n d) e =
-    let parts = both (eqb m n) (eqb c d) e in
-    λ i. EdgeValue (eqb-true m n parts.0 i) (eqb-true c d parts.1 i)
+same_id_exact (Edge m) (NodeValue d n) e = absurd (false≢true e)
+same_id_exact (Edge m) (EdgeValue d n) e = absurd (false≢true e)
+same_id_exact (NodeValue c m) (Node n) e = absurd (false≢true e)
+same_id_exact (NodeValue c m) (Edge n) e = absurd (false≢true e)
+same_id_exact (NodeValue c m) (NodeValue d n) e =
+    let parts = both (eqb c d) (eqb m n) e in
+    λ i. NodeValue (eqb-true c d parts.0 i) (eqb-true m n parts.1 i)
+same_id_exact (NodeValue c m) (EdgeValue d n) e = absurd (false≢true e)
+same_id_exact (EdgeValue c m) (Node n) e = absurd (false≢true e)
+same_id_exact (EdgeValue c m) (Edge n) e = absurd (false≢true e)
+same_id_exact (EdgeValue c m) (NodeValue d n) e = absurd (false≢true e)
+same_id_exact (EdgeValue c m) (EdgeValue d n) e =
+    let parts = both (eqb c d) (eqb m n) e in
+    λ i. EdgeValue (eqb-true c d parts.0 i) (eqb-true m n parts.1 i)
 
 pub same_id_itself : (p : ElementId) → same_id p p ≡ true
 same_id_itself (Node m) = eq-eqb m m refl
 same_id_itself (Edge m) = eq-eqb m m refl
-same_id_itself (NodeValue m c) = λ i. eq-eqb m m refl i && eq-eqb c c refl i
-same_id_itself (EdgeValue m c) = λ i. eq-eqb m m refl i && eq-eqb c c refl i
+same_id_itself (NodeValue c m) = λ i. eq-eqb c c refl i && eq-eqb m m refl i
+same_id_itself (EdgeValue c m) = λ i. eq-eqb c c refl i && eq-eqb m m refl i
 
 pub same_id_from : (p q : ElementId) → p ≡ q → same_id p q ≡ true
 same_id_from p q e = ap (same_id p) (sym e) ∙ same_id_itself p
@@ -56,20 +57,20 @@ same_id_from p q e = ap (same_id p) (sym e) ∙ same_id_itself p
 pub derived_is : (p q : ElementId) → (of_ids.ghosts).eq p q ≡ same_id p q
 derived_is (Node m) (Node n) = refl
 derived_is (Node m) (Edge n) = refl
-derived_is (Node m) (NodeValue n d) = refl
-derived_is (Node m) (EdgeValue n d) = refl
+derived_is (Node m) (NodeValue d n) = refl
+derived_is (Node m) (EdgeValue d n) = refl
 derived_is (Edge m) (Node n) = refl
 derived_is (Edge m) (Edge n) = refl
-derived_is (Edge m) (NodeValue n d) = refl
-derived_is (Edge m) (EdgeValue n d) = refl
-derived_is (NodeValue m c) (Node n) = refl
-derived_is (NodeValue m c) (Edge n) = refl
-derived_is (NodeValue m c) (NodeValue n d) = refl
-derived_is (NodeValue m c) (EdgeValue n d) = refl
-derived_is (EdgeValue m c) (Node n) = refl
-derived_is (EdgeValue m c) (Edge n) = refl
-derived_is (EdgeValue m c) (NodeValue n d) = refl
-derived_is (EdgeValue m c) (EdgeValue n d) = refl
+derived_is (Edge m) (NodeValue d n) = refl
+derived_is (Edge m) (EdgeValue d n) = refl
+derived_is (NodeValue c m) (Node n) = refl
+derived_is (NodeValue c m) (Edge n) = refl
+derived_is (NodeValue c m) (NodeValue d n) = refl
+derived_is (NodeValue c m) (EdgeValue d n) = refl
+derived_is (EdgeValue c m) (Node n) = refl
+derived_is (EdgeValue c m) (Edge n) = refl
+derived_is (EdgeValue c m) (NodeValue d n) = refl
+derived_is (EdgeValue c m) (EdgeValue d n) = refl
 
 pub equal_ids : (p q : ElementId) (b : Bool) → b ≡ (of_ids.ghosts).eq p q → b ≡ true → p ≡ q
 equal_ids p q b is e = same_id_exact p q (sym (derived_is p q) ∙ sym is ∙ e)
@@ -162,7 +163,7 @@ module _ (base : List Element) (entries : List (ElementId × ElementEntry)) wher
   pub held_at_base : (p : ElementId) → has_entry entries p ≡ false → held_at base entries p ≡ at base p
   held_at_base p none = by (element_entry_at entries p) (is_some-lookup (same_id p) entries ∙ none)
     where
-      by : (o : Option ElementEntry) → is_some o ≡ false → option_map_or (λ (c : ElementEntry). c.element) o (at base p) ≡ at base p
+      by : (o : Option ElementEntry) → is_some o ≡ false → option_map_or (λ (c : ElementEntry). element_in p c.held) o (at base p) ≡ at base p
       by None f = refl
       by (Some c) f = absurd (true≢false f)
 

@@ -16,6 +16,7 @@ use Rattle.dg_now.specs.declared.element_id.ElementId.{ElementId}
 use Rattle.dg_now.specs.contracts.element_id.ElementIdPartialEq.TheImpl as of_ids
 use Rattle.dg_now.specs.HeldGraph.{element_entry_at, held_at, more_at, fewer_at, has_entry, ids_of, elements_of, KeepsHeld, KeepsUses, HeldGraphIsSound}
 use Rattle.dg_now.specs.ElementIds.{element_id_of, at, needs_id, same_id}
+use Rattle.dg_now.specs.HeldElements.{element_in}
 use Rattle.dg_now.proofs.HeldGraph.{same_id_exact, derived_is, derived_entry, kept_unknown}
 use Rattle.dg_now.proofs.HeldGraphUses.{count_fits}
 use Rattle.dg_now.proofs.ElementIds.{at_lives, needs_live}
@@ -66,10 +67,15 @@ module _ (old new : List (ElementId × ElementEntry)) (id : ElementId) (c : Elem
       by true s = sym (ap (has_entry old) (sym (same_id_exact id p s)) ∙ there)
       by false s = refl
 
-  pub held_after : (base : List Element) (p : ElementId) → held_at base new p ≡ cond (same_id id p) c.element (held_at base old p)
+  pub held_after : (base : List Element) (p : ElementId) → held_at base new p ≡ cond (same_id id p) (element_in id c.held) (held_at base old p)
   held_after base p =
-      ap (λ o. option_map_or (λ (d : ElementEntry). d.element) o (at base p)) (w p)
-      ∙ read_after (λ (d : ElementEntry). d.element) (at base p) (same_id id p) c (element_entry_at old p)
+      ap (λ o. option_map_or (λ (d : ElementEntry). element_in p d.held) o (at base p)) (w p)
+      ∙ read_after (λ (d : ElementEntry). element_in p d.held) (at base p) (same_id id p) c (element_entry_at old p)
+      ∙ by (same_id id p) refl
+    where
+      by : (b : Bool) → same_id id p ≡ b → cond b (element_in p c.held) (held_at base old p) ≡ cond b (element_in id c.held) (held_at base old p)
+      by true s = ap (λ q. element_in q c.held) (sym (same_id_exact id p s))
+      by false s = refl
 
   pub more_after : (p : ElementId) → more_at new p ≡ cond (same_id id p) c.more (more_at old p)
   more_after p =
@@ -91,8 +97,8 @@ kept_everywhere f id p x e = by (same_id id p) refl
 
 module _ (old new : List (ElementId × ElementEntry)) (id : ElementId) (c : ElementEntry) (w : Writes old new id c) where
   -- what the entry does not change stays
-  pub keeps_held : (base : List Element) → c.element ≡ held_at base old id → KeepsHeld base old new
-  keeps_held base is p = held_after old new id c w base p ∙ kept_everywhere (held_at base old) id p c.element is
+  pub keeps_held : (base : List Element) → element_in id c.held ≡ held_at base old id → KeepsHeld base old new
+  keeps_held base is p = held_after old new id c w base p ∙ kept_everywhere (held_at base old) id p (element_in id c.held) is
 
   pub keeps_uses : c.more ≡ more_at old id → c.fewer ≡ fewer_at old id → KeepsUses old new
   keeps_uses more fewer = record {
@@ -143,11 +149,11 @@ module _ (old new : List (ElementId × ElementEntry)) (id : ElementId) (c : Elem
 
 -- what an id's entry says
 module _ (base : List Element) (entries : List (ElementId × ElementEntry)) (p : ElementId) where
-  pub element_found : (c : ElementEntry) → Some c ≡ element_entry_at entries p → c.element ≡ held_at base entries p
-  element_found c e = ap (λ o. option_map_or (λ (d : ElementEntry). d.element) o (at base p)) e
+  pub element_found : (c : ElementEntry) → Some c ≡ element_entry_at entries p → element_in p c.held ≡ held_at base entries p
+  element_found c e = ap (λ o. option_map_or (λ (d : ElementEntry). element_in p d.held) o (at base p)) e
 
   pub element_missing : None ≡ element_entry_at entries p → at base p ≡ held_at base entries p
-  element_missing e = ap (λ o. option_map_or (λ (d : ElementEntry). d.element) o (at base p)) e
+  element_missing e = ap (λ o. option_map_or (λ (d : ElementEntry). element_in p d.held) o (at base p)) e
 
 module _ (entries : List (ElementId × ElementEntry)) (p : ElementId) where
   pub more_found : (c : ElementEntry) → Some c ≡ element_entry_at entries p → c.more ≡ more_at entries p

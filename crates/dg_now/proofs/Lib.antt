@@ -1,4 +1,5 @@
 pub mod ElementIds
+pub mod HeldElements
 pub mod SortedOrder
 pub mod SortedSearches
 pub mod HeldGraphUses

@@ -178,8 +178,8 @@ edges_rise n m up = same_more 1 (m ∷ 0 ∷ 0 ∷ 0 ∷ []) (n ∷ 0 ∷ 0 ∷ 
 abbrev id_spelled : ElementId → List ℕ
 id_spelled (Node id) = 0 ∷ id ∷ []
 id_spelled (Edge id) = 1 ∷ id ∷ []
-id_spelled (NodeValue id key) = 2 ∷ id ∷ key ∷ []
-id_spelled (EdgeValue id key) = 3 ∷ id ∷ key ∷ []
+id_spelled (NodeValue key id) = 2 ∷ id ∷ key ∷ []
+id_spelled (EdgeValue key id) = 3 ∷ id ∷ key ∷ []
 
 id_begins : (x : Element) → Begins (id_spelled (element_id_of x)) (spelled x)
 id_begins (element.Node n) = ([], refl)
@@ -202,16 +202,16 @@ begins_id (Edge id) (element.Node n) (rest, is) = let kind = nth_is 0 _ (1 ∷ i
 begins_id (Edge id) (element.Edge n s d b) (rest, is) = ap Edge (nth_is 1 (1 ∷ n ∷ s ∷ d ∷ bit b ∷ []) (1 ∷ id ∷ rest) is)
 begins_id (Edge id) (element.NodeAttr n k v) (rest, is) = let kind = nth_is 0 _ (1 ∷ id ∷ rest) is in absurd (omega arith)
 begins_id (Edge id) (element.EdgeAttr n k v) (rest, is) = let kind = nth_is 0 _ (1 ∷ id ∷ rest) is in absurd (omega arith)
-begins_id (NodeValue id key) (element.Node n) (rest, is) = let kind = nth_is 0 _ (2 ∷ id ∷ key ∷ rest) is in absurd (omega arith)
-begins_id (NodeValue id key) (element.Edge n s d b) (rest, is) = let kind = nth_is 0 _ (2 ∷ id ∷ key ∷ rest) is in absurd (omega arith)
-begins_id (NodeValue id key) (element.NodeAttr n k v) (rest, is) =
-    λ i. NodeValue (nth_is 1 (2 ∷ n ∷ k ∷ v ∷ []) (2 ∷ id ∷ key ∷ rest) is i) (nth_is 2 (2 ∷ n ∷ k ∷ v ∷ []) (2 ∷ id ∷ key ∷ rest) is i)
-begins_id (NodeValue id key) (element.EdgeAttr n k v) (rest, is) = let kind = nth_is 0 _ (2 ∷ id ∷ key ∷ rest) is in absurd (omega arith)
-begins_id (EdgeValue id key) (element.Node n) (rest, is) = let kind = nth_is 0 _ (3 ∷ id ∷ key ∷ rest) is in absurd (omega arith)
-begins_id (EdgeValue id key) (element.Edge n s d b) (rest, is) = let kind = nth_is 0 _ (3 ∷ id ∷ key ∷ rest) is in absurd (omega arith)
-begins_id (EdgeValue id key) (element.NodeAttr n k v) (rest, is) = let kind = nth_is 0 _ (3 ∷ id ∷ key ∷ rest) is in absurd (omega arith)
-begins_id (EdgeValue id key) (element.EdgeAttr n k v) (rest, is) =
-    λ i. EdgeValue (nth_is 1 (3 ∷ n ∷ k ∷ v ∷ []) (3 ∷ id ∷ key ∷ rest) is i) (nth_is 2 (3 ∷ n ∷ k ∷ v ∷ []) (3 ∷ id ∷ key ∷ rest) is i)
+begins_id (NodeValue key id) (element.Node n) (rest, is) = let kind = nth_is 0 _ (2 ∷ id ∷ key ∷ rest) is in absurd (omega arith)
+begins_id (NodeValue key id) (element.Edge n s d b) (rest, is) = let kind = nth_is 0 _ (2 ∷ id ∷ key ∷ rest) is in absurd (omega arith)
+begins_id (NodeValue key id) (element.NodeAttr n k v) (rest, is) =
+    λ i. NodeValue (nth_is 2 (2 ∷ n ∷ k ∷ v ∷ []) (2 ∷ id ∷ key ∷ rest) is i) (nth_is 1 (2 ∷ n ∷ k ∷ v ∷ []) (2 ∷ id ∷ key ∷ rest) is i)
+begins_id (NodeValue key id) (element.EdgeAttr n k v) (rest, is) = let kind = nth_is 0 _ (2 ∷ id ∷ key ∷ rest) is in absurd (omega arith)
+begins_id (EdgeValue key id) (element.Node n) (rest, is) = let kind = nth_is 0 _ (3 ∷ id ∷ key ∷ rest) is in absurd (omega arith)
+begins_id (EdgeValue key id) (element.Edge n s d b) (rest, is) = let kind = nth_is 0 _ (3 ∷ id ∷ key ∷ rest) is in absurd (omega arith)
+begins_id (EdgeValue key id) (element.NodeAttr n k v) (rest, is) = let kind = nth_is 0 _ (3 ∷ id ∷ key ∷ rest) is in absurd (omega arith)
+begins_id (EdgeValue key id) (element.EdgeAttr n k v) (rest, is) =
+    λ i. EdgeValue (nth_is 2 (3 ∷ n ∷ k ∷ v ∷ []) (3 ∷ id ∷ key ∷ rest) is i) (nth_is 1 (3 ∷ n ∷ k ∷ v ∷ []) (3 ∷ id ∷ key ∷ rest) is i)
 
 pub id_between : (p : ElementId) (x y z : Element) → element_id_of x ≡ p → element_id_of y ≡ p → before z x ≡ false → before y z ≡ false → element_id_of z ≡ p
 id_between p x y z is at h k = begins_id p z (between (id_spelled p) x y z (has_begins p x is) (has_begins p y at) h k)
@@ -219,8 +219,8 @@ id_between p x y z is at h k = begins_id p z (between (id_spelled p) x y z (has_
 pub id_of_least : (p : ElementId) → element_id_of (least p) ≡ p
 id_of_least (Node id) = refl
 id_of_least (Edge id) = refl
-id_of_least (NodeValue id key) = refl
-id_of_least (EdgeValue id key) = refl
+id_of_least (NodeValue key id) = refl
+id_of_least (EdgeValue key id) = refl
 
 -- no element is before the least one with its id
 not_below : (x : Element) → before x (least (element_id_of x)) ≡ false
@@ -245,8 +245,8 @@ below_least p x e = by (has_id p x) refl
 abbrev value_spelled : ElementId → List ℕ
 value_spelled (Node id) = 2 ∷ id ∷ []
 value_spelled (Edge id) = 3 ∷ id ∷ []
-value_spelled (NodeValue id key) = 2 ∷ id ∷ []
-value_spelled (EdgeValue id key) = 3 ∷ id ∷ []
+value_spelled (NodeValue key id) = 2 ∷ id ∷ []
+value_spelled (EdgeValue key id) = 3 ∷ id ∷ []
 
 value_begins : (p : ElementId) (x : Element) → is_value_at p x ≡ true → Begins (value_spelled p) (spelled x)
 value_begins (Node id) (element.Node n) e = absurd (false≢true e)
@@ -257,8 +257,8 @@ value_begins (Edge id) (element.Node n) e = absurd (false≢true e)
 value_begins (Edge id) (element.Edge n s d b) e = absurd (false≢true e)
 value_begins (Edge id) (element.NodeAttr n k v) e = absurd (false≢true e)
 value_begins (Edge id) (element.EdgeAttr n k v) e = (k ∷ v ∷ [], λ i. 3 ∷ eqb-true n id e i ∷ k ∷ v ∷ [])
-value_begins (NodeValue id key) x e = absurd (false≢true e)
-value_begins (EdgeValue id key) x e = absurd (false≢true e)
+value_begins (NodeValue key id) x e = absurd (false≢true e)
+value_begins (EdgeValue key id) x e = absurd (false≢true e)
 
 begins_node_value : (id : ℕ) (x : Element) → Begins (2 ∷ id ∷ []) (spelled x) → is_value_at (Node id) x ≡ true
 begins_node_value id (element.Node n) (rest, is) = let kind = nth_is 0 _ (2 ∷ id ∷ rest) is in absurd (omega arith)
@@ -278,8 +278,8 @@ value_between (Node id) y z at h k =
     begins_node_value id z (between (2 ∷ id ∷ []) (least_value_at (Node id)) y z (0 ∷ 0 ∷ [], refl) (value_begins (Node id) y at) h k)
 value_between (Edge id) y z at h k =
     begins_edge_value id z (between (3 ∷ id ∷ []) (least_value_at (Edge id)) y z (0 ∷ 0 ∷ [], refl) (value_begins (Edge id) y at) h k)
-value_between (NodeValue id key) y z at h k = absurd (false≢true at)
-value_between (EdgeValue id key) y z at h k = absurd (false≢true at)
+value_between (NodeValue key id) y z at h k = absurd (false≢true at)
+value_between (EdgeValue key id) y z at h k = absurd (false≢true at)
 
 value_not_below : (p : ElementId) (x : Element) → is_value_at p x ≡ true → before x (least_value_at p) ≡ false
 value_not_below (Node id) (element.Node n) e = absurd (false≢true e)
@@ -294,8 +294,8 @@ value_not_below (Edge id) (element.NodeAttr n k v) e = absurd (false≢true e)
 value_not_below (Edge id) (element.EdgeAttr n k v) e =
     ap (λ m. before (element.EdgeAttr n k v) (element.EdgeAttr m 0 0)) (sym (eqb-true n id e))
     ∙ same_more 3 (n ∷ k ∷ v ∷ []) (n ∷ 0 ∷ 0 ∷ []) (same_more n (k ∷ v ∷ []) (0 ∷ 0 ∷ []) (zero_more k (v ∷ []) (0 ∷ []) (zero_more v [] [] refl)))
-value_not_below (NodeValue id key) x e = absurd (false≢true e)
-value_not_below (EdgeValue id key) x e = absurd (false≢true e)
+value_not_below (NodeValue key id) x e = absurd (false≢true e)
+value_not_below (EdgeValue key id) x e = absurd (false≢true e)
 
 pub below_value : (p : ElementId) (x : Element) → IsTrue (before x (least_value_at p)) → is_value_at p x ≡ false
 below_value p x e = by (is_value_at p x) refl

@@ -21,8 +21,8 @@ changed_id (body.NodeAdded id) = element_id.Node id
 changed_id (body.NodeRemoved id) = element_id.Node id
 changed_id (body.EdgeAdded id src dst directed) = element_id.Edge id
 changed_id (body.EdgeRemoved id src dst directed) = element_id.Edge id
-changed_id (body.NodeAttr id key old new) = element_id.NodeValue id key
-changed_id (body.EdgeAttr id key old new) = element_id.EdgeValue id key
+changed_id (body.NodeAttr id key old new) = element_id.NodeValue key id
+changed_id (body.EdgeAttr id key old new) = element_id.EdgeValue key id
 
 -- the element with that id before the event
 abbrev pub element_before : Body → Option Element

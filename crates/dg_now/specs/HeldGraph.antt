@@ -10,6 +10,7 @@ use Rattle.dg_graph.specs.Graph.{IsGraph}
 use Rattle.dg_now.specs.declared.element_entry.ElementEntry.{ElementEntry}
 use Rattle.dg_now.specs.declared.element_id.ElementId.{ElementId}
 use Rattle.dg_now.specs.ElementIds.{element_id_of, at, needs_id, same_id}
+use Rattle.dg_now.specs.HeldElements.{element_in}
 
 -- the entry of an id
 abbrev pub element_entry_at : List (ElementId × ElementEntry) → ElementId → Option ElementEntry
@@ -17,7 +18,7 @@ element_entry_at entries p = lookup (same_id p) entries
 
 -- the element with an id: that of its entry, or else the one at the start
 abbrev pub held_at : List Element → List (ElementId × ElementEntry) → ElementId → Option Element
-held_at base entries p = option_map_or (λ (c : ElementEntry). c.element) (element_entry_at entries p) (at base p)
+held_at base entries p = option_map_or (λ (c : ElementEntry). element_in p c.held) (element_entry_at entries p) (at base p)
 
 -- by how many more elements the one with an id is needed than at the start, and by how many fewer
 abbrev pub more_at : List (ElementId × ElementEntry) → ElementId → ℕ

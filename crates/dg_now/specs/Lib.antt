@@ -1,4 +1,5 @@
 pub mod ElementIds
+pub mod HeldElements
 pub mod Sorted
 pub mod HeldGraph
 pub mod EventEffect

@@ -15,8 +15,8 @@ use Rattle.dg_now.specs.ElementIds.{element_id_of, at}
 abbrev pub least : ElementId → Element
 least (Node id) = element.Node id
 least (Edge id) = element.Edge id 0 0 false
-least (NodeValue id key) = element.NodeAttr id key 0
-least (EdgeValue id key) = element.EdgeAttr id key 0
+least (NodeValue key id) = element.NodeAttr id key 0
+least (EdgeValue key id) = element.EdgeAttr id key 0
 
 -- the items up to the index are before the element, and none from there on is
 pub record IsFirstFrom (x : Element) (items : List Element) (index : ℕ) : Type 0 where
@@ -56,8 +56,8 @@ is_value_at p x = false
 abbrev pub least_value_at : ElementId → Element
 least_value_at (Node id) = element.NodeAttr id 0 0
 least_value_at (Edge id) = element.EdgeAttr id 0 0
-least_value_at (NodeValue id key) = element.NodeAttr id 0 0
-least_value_at (EdgeValue id key) = element.EdgeAttr id 0 0
+least_value_at (NodeValue key id) = element.NodeAttr id 0 0
+least_value_at (EdgeValue key id) = element.EdgeAttr id 0 0
 
 -- the element is an edge with this end
 abbrev pub has_end : ℕ → Element → Bool

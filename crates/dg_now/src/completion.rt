@@ -46,13 +46,13 @@ pub(crate) fn edge_of(graph: &HeldGraph, id: u64) -> Option<Element>
 fn node_value(graph: &HeldGraph, id: u64, key: u32) -> Option<u32>
     ensures { result ≡ node_value graph.now.set id key }
 {
-    value_in(graph.element_at(ElementId::NodeValue(id, key)))
+    value_in(graph.element_at(ElementId::NodeValue { key, id }))
 }
 
 fn edge_value(graph: &HeldGraph, id: u64, key: u32) -> Option<u32>
     ensures { result ≡ edge_value graph.now.set id key }
 {
-    value_in(graph.element_at(ElementId::EdgeValue(id, key)))
+    value_in(graph.element_at(ElementId::EdgeValue { key, id }))
 }
 
 /// The event that the change comes to in the graph, not before the earliest time. `Err` is the first

@@ -4,10 +4,12 @@ ghost use Rattle.std.specs.Prelude.{◌≡◌, ◌+◌, ◌≤◌, ◌<◌, ◌^
 ghost use Rattle.dg_graph.specs.declared.element.Element.{Element};
 ghost use Rattle.dg_graph.specs.Elements.{bit};
 ghost use Rattle.indexmap.specs.IndexMap.{spare};
-ghost use Rattle.dg_now.specs.ElementIds.{needs_id, same_id};
+ghost use Rattle.dg_now.specs.ElementIds.{at, needs_id, same_id};
+ghost use Rattle.dg_now.specs.HeldElements.{element_in};
 ghost use Rattle.dg_now.specs.HeldGraph.{held_at, more_at, fewer_at, has_entry, KeepsEntries, KeepsHeld, KeepsUses};
 
 use crate::element_id::ElementId;
+use crate::held::Held;
 use crate::sorted_graph::SortedGraph;
 use dg_graph::Element;
 use indexmap::IndexMap;
@@ -16,13 +18,23 @@ use std::alloc::AllocError;
 /// What is kept of an element id that changed, or whose number of uses did.
 #[derive(Clone, Copy)]
 pub(crate) struct ElementEntry {
-    /// The element with the id, if there is one now.
-    pub element: Option<Element>,
+    /// What is held under the id now.
+    pub held: Held,
     /// By how many more elements the one with the id is needed than at the start: a node by its edges,
     /// a loop counted once, and by its values; an edge by its values.
     pub more: usize,
     /// By how many fewer it is needed.
     pub fewer: usize,
+}
+
+// What the graph at the start holds under the id.
+fn held_at_start(base: &SortedGraph, id: ElementId) -> Held
+    ensures { element_in id result ≡ at base.now id }
+{
+    match base.element_at(id) {
+        Some(element) => Held::of(&element),
+        None => Held::Nothing,
+    }
 }
 
 // Makes an entry for the id, unless it has one, with the element of the graph at the start. An `Err`
@@ -41,7 +53,7 @@ fn touch(
         return Ok(());
     }
     let entry = ElementEntry {
-        element: base.element_at(id),
+        held: held_at_start(base, id),
         more: 0,
         fewer: 0,
     };
@@ -71,23 +83,19 @@ pub(crate) fn touch_needs(
     }
 }
 
-/// Writes the element of an id that has an entry, or for whose entry there is room.
-pub(crate) fn set_element(
-    elements: &mut IndexMap<ElementId, ElementEntry>,
-    id: ElementId,
-    element: Option<Element>,
-)
+/// Writes what is held under an id that has an entry, or for whose entry there is room.
+pub(crate) fn set_held(elements: &mut IndexMap<ElementId, ElementEntry>, id: ElementId, held: Held)
     requires room { (has_entry elements.old.entries id || nat_lt 0 (spare elements.old)) ≡ true }
-    ensures held { (base : List Element) (p : ElementId) → held_at base elements.new.entries p ≡ cond (same_id id p) element (held_at base elements.old.entries p) }
+    ensures held { (base : List Element) (p : ElementId) → held_at base elements.new.entries p ≡ cond (same_id id p) (element_in id held) (held_at base elements.old.entries p) }
     ensures uses { KeepsUses elements.old.entries elements.new.entries }
     ensures ids { (p : ElementId) → has_entry elements.new.entries p ≡ (same_id id p || has_entry elements.old.entries p) }
 {
     if let Some(entry) = elements.get_mut(&id) {
-        entry.element = element;
+        entry.held = held;
         return;
     }
     let entry = ElementEntry {
-        element,
+        held,
         more: 0,
         fewer: 0,
     };

@@ -1,21 +1,30 @@
 //! What names an element, so that a graph has one at the most; what an event finds before it and leaves.
 ghost use Rattle.std.specs.Prelude.{◌≡◌};
-ghost use Rattle.dg_now.specs.ElementIds.{element_id_of};
+ghost use Rattle.std.specs.Cmp.Rules.{hashing};
+ghost use Rattle.std.specs.Hash as fed;
+ghost use Rattle.std.proofs.Common.{rules};
+ghost use Rattle.dg_now.specs.ElementIds.{element_id_of, id_number, moved};
 ghost use Rattle.dg_now.specs.EventEffect.{changed_id, element_before};
 
 use dg_graph::{Body, Element};
+use std::hash::{Hash, Hasher};
 
-/// What names an element of a graph: one at the most has an id.
-#[derive(Clone, Copy, PartialEq, Eq, Hash)]
+// How far the numbers of the same id are apart from kind to kind and from key to key: 2^64 by the golden
+// ratio, whose multiples lie far apart.
+const STRIDE: u64 = 0x9e37_79b9_7f4a_7c15;
+
+/// What names an element of a graph: one at the most has an id. The key stands first, beside the kind:
+/// so an id takes 16 bytes, and not 24.
+#[derive(Clone, Copy, PartialEq, Eq)]
 pub(crate) enum ElementId {
     /// The node of this id.
     Node(u64),
     /// The edge of this id.
     Edge(u64),
     /// The value that the node of this id has of a key.
-    NodeValue(u64, u32),
+    NodeValue { key: u32, id: u64 },
     /// The value that the edge of this id has of a key.
-    EdgeValue(u64, u32),
+    EdgeValue { key: u32, id: u64 },
 }
 
 impl ElementId {
@@ -26,8 +35,20 @@ impl ElementId {
         match *element {
             Element::Node { id } => ElementId::Node(id),
             Element::Edge { id, .. } => ElementId::Edge(id),
-            Element::NodeAttr { id, key, .. } => ElementId::NodeValue(id, key),
-            Element::EdgeAttr { id, key, .. } => ElementId::EdgeValue(id, key),
+            Element::NodeAttr { id, key, .. } => ElementId::NodeValue { key, id },
+            Element::EdgeAttr { id, key, .. } => ElementId::EdgeValue { key, id },
+        }
+    }
+
+    // The number that is hashed for the id: ids below 2^40 with keys below 2^20 have numbers of their own.
+    fn number(&self) -> u64
+        ensures { result ≡ id_number self.now }
+    {
+        match *self {
+            ElementId::Node(id) => id,
+            ElementId::Edge(id) => moved(id, 1),
+            ElementId::NodeValue { key, id } => moved(id, 2 * key as u64 + 2),
+            ElementId::EdgeValue { key, id } => moved(id, 2 * key as u64 + 3),
         }
     }
 
@@ -38,9 +59,27 @@ impl ElementId {
         match *body {
             Body::NodeAdded { id } | Body::NodeRemoved { id } => ElementId::Node(id),
             Body::EdgeAdded { id, .. } | Body::EdgeRemoved { id, .. } => ElementId::Edge(id),
-            Body::NodeAttr { id, key, .. } => ElementId::NodeValue(id, key),
-            Body::EdgeAttr { id, key, .. } => ElementId::EdgeValue(id, key),
+            Body::NodeAttr { id, key, .. } => ElementId::NodeValue { key, id },
+            Body::EdgeAttr { id, key, .. } => ElementId::EdgeValue { key, id },
         }
+    }
+}
+
+// The id moved on by so many strides.
+fn moved(id: u64, strides: u64) -> u64
+    ensures { result ≡ moved id strides }
+{
+    id.wrapping_add(strides.wrapping_mul(STRIDE))
+}
+
+// One number is hashed, and not one after another for the kind and each field.
+impl Hash for ElementId {
+    ghost hash_input = { λ p. fed.u64 (id_number p) };
+
+    ghost respects_eq = { Prim.search (hashing, rules) };
+
+    fn hash<H: Hasher>(&self, state: &mut H) {
+        state.write_u64(self.number());
     }
 }
 

@@ -6,9 +6,10 @@ ghost use Rattle.dg_graph.specs.Graph.{IsGraph, has_needs};
 ghost use Rattle.dg_now.specs.ElementIds.{element_id_of, at, needs_id, same_id};
 ghost use Rattle.dg_now.specs.HeldGraph.{knows, HasRoom, IsKnown, KeepsIds, KnowsNeeds};
 
-use crate::element_entry::{ElementEntry, count_in, count_out, set_element, touch_needs};
+use crate::element_entry::{ElementEntry, count_in, count_out, set_held, touch_needs};
 use crate::element_id::ElementId;
 use crate::fault::FromFault;
+use crate::held::Held;
 use crate::sorted_graph::SortedGraph;
 use dg_graph::Element;
 use dg_set::Set;
@@ -95,7 +96,7 @@ impl HeldGraph {
         ensures { result ≡ at self.now.set id }
     {
         match self.elements.get(&id) {
-            Some(entry) => entry.element,
+            Some(entry) => entry.held.element(id),
             None => self.base.element_at(id),
         }
     }
@@ -150,10 +151,11 @@ impl HeldGraph {
         ensures known { IsKnown self.new element }
     {
         let id = ElementId::of(&element);
+        let held = Held::of(&element);
         // Their clauses tell that no count is too large.
         self.base.len();
         self.elements.len();
-        set_element(&mut self.elements, id, Some(element));
+        set_held(&mut self.elements, id, held);
         count_in(&mut self.elements, &element);
     }
 
@@ -170,7 +172,7 @@ impl HeldGraph {
         let id = ElementId::of(element);
         // Its clauses tell that no count is too large.
         self.base.len();
-        set_element(&mut self.elements, id, None);
+        set_held(&mut self.elements, id, Held::Nothing);
         count_out(&mut self.elements, element);
     }
 }

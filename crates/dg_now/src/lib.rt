@@ -10,6 +10,7 @@ mod ends;
 mod event_effect;
 mod fault;
 mod graph_test;
+mod held;
 mod held_graph;
 mod now;
 mod search;

@@ -196,14 +196,14 @@ impl Now {
     pub fn node_value(&self, id: u64, key: u32) -> Option<u32>
         ensures { result ≡ node_value self.now.graph id key }
     {
-        value_in(self.element_at(ElementId::NodeValue(id, key)))
+        value_in(self.element_at(ElementId::NodeValue { key, id }))
     }
 
     /// The value of the key at the edge.
     pub fn edge_value(&self, id: u64, key: u32) -> Option<u32>
         ensures { result ≡ edge_value self.now.graph id key }
     {
-        value_in(self.element_at(ElementId::EdgeValue(id, key)))
+        value_in(self.element_at(ElementId::EdgeValue { key, id }))
     }
 }
 

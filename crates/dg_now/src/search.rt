@@ -21,8 +21,8 @@ pub(crate) fn least(id: ElementId) -> Element
             dst: 0,
             directed: false,
         },
-        ElementId::NodeValue(id, key) => Element::NodeAttr { id, key, value: 0 },
-        ElementId::EdgeValue(id, key) => Element::EdgeAttr { id, key, value: 0 },
+        ElementId::NodeValue { key, id } => Element::NodeAttr { id, key, value: 0 },
+        ElementId::EdgeValue { key, id } => Element::EdgeAttr { id, key, value: 0 },
     }
 }
 
@@ -79,12 +79,12 @@ fn first_value(id: ElementId) -> Element
     ensures { result ≡ least_value_at id }
 {
     match id {
-        ElementId::Node(id) | ElementId::NodeValue(id, _) => Element::NodeAttr {
+        ElementId::Node(id) | ElementId::NodeValue { id, .. } => Element::NodeAttr {
             id,
             key: 0,
             value: 0,
         },
-        ElementId::Edge(id) | ElementId::EdgeValue(id, _) => Element::EdgeAttr {
+        ElementId::Edge(id) | ElementId::EdgeValue { id, .. } => Element::EdgeAttr {
             id,
             key: 0,
             value: 0,

@@ -41,7 +41,7 @@ returns-else-entry-gt0-clause-held c = λ base.
 pub returns-then-entry-gt0-clause-uses : goal.returns-then-entry-gt0-clause-uses
 returns-then-entry-gt0-clause-uses c =
     let at = (goal.at.returns-then-entry-gt0-clause-uses c).In-Some in
-    let entry : ElementEntry = record { element = c.in-Some.entry.now.element; more = c.in-Some.entry.now.more - 1; fewer = c.in-Some.entry.now.fewer } in
+    let entry : ElementEntry = record { held = c.in-Some.entry.now.held; more = c.in-Some.entry.now.more - 1; fewer = c.in-Some.entry.now.fewer } in
     let old_more = more at in
     let old_fewer = fewer at in
     counts_down c.args.elements.now.entries (c.get_mut.follows.lender entry).entries c.args.id entry (writes at entry) (omega arith)
@@ -49,7 +49,7 @@ returns-then-entry-gt0-clause-uses c =
 pub returns-else-entry-gt0-clause-uses : goal.returns-else-entry-gt0-clause-uses
 returns-else-entry-gt0-clause-uses c =
     let at = (goal.at.returns-else-entry-gt0-clause-uses c).In-Some in
-    let entry : ElementEntry = record { element = c.in-Some.entry.now.element; more = c.in-Some.entry.now.more; fewer = c.in-Some.entry.now.fewer + 1 } in
+    let entry : ElementEntry = record { held = c.in-Some.entry.now.held; more = c.in-Some.entry.now.more; fewer = c.in-Some.entry.now.fewer + 1 } in
     let old_more = more at in
     let old_fewer = fewer at in
     counts_down c.args.elements.now.entries (c.get_mut.follows.lender entry).entries c.args.id entry (writes at entry) (omega arith)

@@ -21,7 +21,7 @@ missing c =
     sym (sym (derived_entry c.args.elements.now.entries c.args.id) ∙ none_from _ (sym c.contains_key.ensures ∙ c.if-contains_key.false))
 
 abbrev made : (c : In_ok-insert) → ElementEntry
-made c = record { element = c.element_at.result; more = 0; fewer = 0 }
+made c = record { held = c.held_at_start.result; more = 0; fewer = 0 }
 
 writes : (c : In_ok-insert) → Writes c.args.elements.now.entries c.insert.new.self.entries c.args.id (made c)
 writes c = writes_is c.args.elements.now.entries c.insert.new.self.entries c.args.id (made c) c.in_ok-insert.ensures.updates.0
@@ -41,7 +41,7 @@ returns-clause-ids c = λ p there.
 pub returns-clause-held : goal.returns-clause-held
 returns-clause-held c =
     let at = (goal.at.returns-clause-held c).In_ok-insert in
-    keeps_held _ _ c.args.id (made at) (writes at) c.args.base.now (c.element_at.ensures ∙ element_missing c.args.base.now c.args.elements.now.entries c.args.id (missing at))
+    keeps_held _ _ c.args.id (made at) (writes at) c.args.base.now (c.held_at_start.ensures ∙ element_missing c.args.base.now c.args.elements.now.entries c.args.id (missing at))
 
 pub returns-clause-uses : goal.returns-clause-uses
 returns-clause-uses c =

@@ -10,7 +10,7 @@ returns-in-Some c =
     let base = c.self.inside.base in
     let entries = c.self.inside.elements.entries in
     let found : Some c.in-Some.entry.now ≡ element_entry_at entries c.args.id = c.in-Some.ensures.value ∙ derived_entry entries c.args.id in
-    element_found base entries c.args.id c.in-Some.entry.now found
+    c.element.ensures ∙ element_found base entries c.args.id c.in-Some.entry.now found
     ∙ sym (kept_at base entries c.self.invariant.own_ids c.args.id) ∙ ap (λ (h : HeldGraphState). at h.set c.args.id) c.self.view_is
 
 pub returns-in-None : goal.returns-in-None

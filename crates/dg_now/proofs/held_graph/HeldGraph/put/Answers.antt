@@ -4,6 +4,8 @@ use Rattle.dg_graph.specs.Graph.{has_needs}
 use Rattle.dg_now.specs.declared.element_id.ElementId.{ElementId}
 use Rattle.dg_now.specs.HeldGraph.{HeldGraphState, more_at, fewer_at, held_at, elements_of}
 use Rattle.dg_now.specs.ElementIds.{element_id_of, at, needs_id, same_id}
+use Rattle.dg_now.specs.HeldElements.{element_in}
+use Rattle.dg_now.proofs.HeldElements.{held_itself}
 use Rattle.dg_now.proofs.HeldGraph.{Changes, put_elements, put_sound}
 use Rattle.dg_now.proofs.HeldGraphWrites.{more_fits}
 use Rattle.dg_now.proofs.held_graph.HeldGraph.put.Goals as goal
@@ -17,22 +19,23 @@ free c = subst (λ (h : HeldGraphState). at h.set (element_id_of c.args.element)
 
 changes : (c : After-count_in) → Changes c.self.inside.base c.self.inside.elements.entries c.count_in.new.elements.entries (element_id_of c.args.element) (Some c.args.element)
 changes c p =
-    c.count_in.ensures.held c.self.inside.base p ∙ c.set_element.ensures.held c.self.inside.base p
-    ∙ ap (λ id. cond (same_id id p) (Some c.args.element) (held_at c.self.inside.base c.self.inside.elements.entries p)) c.of-id.ensures
+    c.count_in.ensures.held c.self.inside.base p ∙ c.set_held.ensures.held c.self.inside.base p
+    ∙ (λ i. cond (same_id (c.of-id.ensures i) p) (element_in (c.of-id.ensures i) (c.of-held.ensures i)) (held_at c.self.inside.base c.self.inside.elements.entries p))
+    ∙ ap (λ o. cond (same_id (element_id_of c.args.element) p) o (held_at c.self.inside.base c.self.inside.elements.entries p)) (held_itself c.args.element)
 
 uses : (c : After-count_in) (p : ElementId)
     → more_at c.count_in.new.elements.entries p + fewer_at c.self.inside.elements.entries p
     ≡ more_at c.self.inside.elements.entries p + fewer_at c.count_in.new.elements.entries p + bit (needs_id p c.args.element)
 uses c p =
     let moved = c.count_in.ensures.uses p in
-    let more = c.set_element.ensures.uses.more p in
-    let fewer = c.set_element.ensures.uses.fewer p in
+    let more = c.set_held.ensures.uses.more p in
+    let fewer = c.set_held.ensures.uses.fewer p in
     omega arith
 
 pub count_in-requires-clause-fits : goal.count_in-requires-clause-fits
 count_in-requires-clause-fits c = λ p.
-    let more = c.set_element.ensures.uses.more p in
-    let fewer = c.set_element.ensures.uses.fewer p in
+    let more = c.set_held.ensures.uses.more p in
+    let fewer = c.set_held.ensures.uses.fewer p in
     let fits = more_fits c.self.inside.base c.self.inside.elements.entries c.self.invariant p in
     let base = c.len.ensures.len in
     let small = c.len.ensures.small in

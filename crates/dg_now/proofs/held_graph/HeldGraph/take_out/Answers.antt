@@ -4,6 +4,7 @@ use Rattle.dg_graph.specs.Elements.{bit, has, take_out}
 use Rattle.dg_now.specs.declared.element_id.ElementId.{ElementId}
 use Rattle.dg_now.specs.HeldGraph.{HeldGraphState, more_at, fewer_at, held_at, elements_of}
 use Rattle.dg_now.specs.ElementIds.{element_id_of, needs_id, same_id}
+use Rattle.dg_now.proofs.HeldElements.{held_nothing}
 use Rattle.dg_now.proofs.HeldGraph.{Changes, out_elements, out_sound}
 use Rattle.dg_now.proofs.HeldGraphWrites.{fewer_fits}
 use Rattle.dg_now.proofs.held_graph.HeldGraph.take_out.Goals as goal
@@ -17,7 +18,8 @@ free c = subst (λ (h : HeldGraphState). list_any (needs_id (element_id_of c.arg
 
 changes : (c : After-count_out) → Changes c.self.inside.base c.self.inside.elements.entries c.count_out.new.elements.entries (element_id_of c.args.element.now) None
 changes c p =
-    c.count_out.ensures.held c.self.inside.base p ∙ c.set_element.ensures.held c.self.inside.base p
+    c.count_out.ensures.held c.self.inside.base p ∙ c.set_held.ensures.held c.self.inside.base p
+    ∙ ap (λ o. cond (same_id c.of-id.result p) o (held_at c.self.inside.base c.self.inside.elements.entries p)) (held_nothing c.of-id.result)
     ∙ ap (λ id. cond (same_id id p) None (held_at c.self.inside.base c.self.inside.elements.entries p)) c.of-id.ensures
 
 uses : (c : After-count_out) (p : ElementId)
@@ -25,14 +27,14 @@ uses : (c : After-count_out) (p : ElementId)
     ≡ more_at c.count_out.new.elements.entries p + fewer_at c.self.inside.elements.entries p + bit (needs_id p c.args.element.now)
 uses c p =
     let moved = c.count_out.ensures.uses p in
-    let more = c.set_element.ensures.uses.more p in
-    let fewer = c.set_element.ensures.uses.fewer p in
+    let more = c.set_held.ensures.uses.more p in
+    let fewer = c.set_held.ensures.uses.fewer p in
     omega arith
 
 pub count_out-requires-clause-fits : goal.count_out-requires-clause-fits
 count_out-requires-clause-fits c = λ p.
-    let more = c.set_element.ensures.uses.more p in
-    let fewer = c.set_element.ensures.uses.fewer p in
+    let more = c.set_held.ensures.uses.more p in
+    let fewer = c.set_held.ensures.uses.fewer p in
     let fits = fewer_fits c.self.inside.base c.self.inside.elements.entries c.self.invariant p in
     let base = c.len.ensures.len in
     let small = c.len.ensures.small in

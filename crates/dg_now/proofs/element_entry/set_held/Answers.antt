@@ -7,15 +7,15 @@ use Rattle.dg_now.specs.contracts.element_id.ElementIdPartialEq.TheImpl as of_id
 use Rattle.dg_now.specs.HeldGraph.{element_entry_at}
 use Rattle.dg_now.proofs.HeldGraph.{derived_entry}
 use Rattle.dg_now.proofs.HeldGraphWrites.{Writes, from_ok, writes_is, has_after, held_after, keeps_uses, more_found, fewer_found, more_missing, fewer_missing, room_left}
-use Rattle.dg_now.proofs.element_entry.set_element.Goals as goal
-use Rattle.dg_now.proofs.element_entry.set_element.Goals.{In-Some, In_default, After-unwrap}
+use Rattle.dg_now.proofs.element_entry.set_held.Goals as goal
+use Rattle.dg_now.proofs.element_entry.set_held.Goals.{In-Some, In_default, After-unwrap}
 
 -- the entry that was there
 found : (c : In-Some) → Some c.in-Some.entry.now ≡ element_entry_at c.args.elements.now.entries c.args.id
 found c = c.in-Some.ensures.value ∙ derived_entry c.args.elements.now.entries c.args.id
 
 abbrev changed : (c : In-Some) → ElementEntry
-changed c = record { element = c.args.element; more = c.in-Some.entry.now.more; fewer = c.in-Some.entry.now.fewer }
+changed c = record { held = c.args.held; more = c.in-Some.entry.now.more; fewer = c.in-Some.entry.now.fewer }
 
 changed_writes : (c : In-Some) → Writes c.args.elements.now.entries (c.get_mut.follows.lender (changed c)).entries c.args.id (changed c)
 changed_writes c =
@@ -43,7 +43,7 @@ unwrap-requires c =
     c.insert.ensures.succeeds (subst (λ m. 0 < spare m) (sym c.get_mut.follows.holds-at-none) room)
 
 abbrev made : (c : After-unwrap) → ElementEntry
-made c = record { element = c.args.element; more = 0; fewer = 0 }
+made c = record { held = c.args.held; more = 0; fewer = 0 }
 
 made_writes : (c : After-unwrap) → Writes c.args.elements.now.entries c.insert.new.self.entries c.args.id (made c)
 made_writes c =
