@@ -83,7 +83,7 @@ abbrev Below : Element → List Mark → Type 0
 Below z [] = Unit {0}
 Below z (m ∷ rest) = IsTrue (before z m.element)
 
-strictly : (o : Ordering) → is_lt (ordering_reverse o) ≡ false → is_eq o ≡ false → is_lt o ≡ true
+pub strictly : (o : Ordering) → is_lt (ordering_reverse o) ≡ false → is_eq o ≡ false → is_lt o ≡ true
 strictly Less e f = refl
 strictly Equal e f = absurd (true≢false f)
 strictly Greater e f = absurd (true≢false e)

@@ -1,17 +1,12 @@
--- Changes of a set, and the sets that they lead to, where a list of events is cut in two.
---     replay_append      first the events in front, and then those behind
+-- Changes of a set, where a list of events is cut in two.
 --     changes_front, changes_behind      so many of the changes, and those after them
---     changes_cut, changes_append      the changes of one list and then of another
+--     changes_cut      the changes of one list and then of another
 use Rattle.std.proofs.Common.{◌≡◌, ℕ, zero, suc, List, [], ◌∷◌, ◌++◌, take, drop, refl}
 use Rattle.dg_graph.specs.declared.element.Element.{Element}
 use Rattle.dg_graph.specs.declared.event.Event.{Event}
 use Rattle.dg_graph.specs.Effect.{forwards}
 use Rattle.dg_graph.specs.ExactEvents.{AreChangesOf}
 use Rattle.dg_graph.specs.Replay.{replay_from}
-
-pub replay_append : (set : List Element) (xs ys : List Event) → replay_from set (xs ++ ys) ≡ replay_from (replay_from set xs) ys
-replay_append set [] ys = refl
-replay_append set (e ∷ xs) ys = replay_append (forwards set e) xs ys
 
 -- the first so many
 pub changes_front : (set : List Element) (i : ℕ) (events : List Event) → AreChangesOf set events → AreChangesOf set (take i events)
@@ -30,7 +25,3 @@ changes_cut set [] ys changes = (tt, changes)
 changes_cut set (e ∷ xs) ys changes =
     let cut = changes_cut (forwards set e) xs ys changes.1 in
     ((changes.0, cut.0), cut.1)
-
-pub changes_append : (set : List Element) (xs ys : List Event) → AreChangesOf set xs → AreChangesOf (replay_from set xs) ys → AreChangesOf set (xs ++ ys)
-changes_append set [] ys first later = later
-changes_append set (e ∷ xs) ys first later = (first.0, changes_append (forwards set e) xs ys first.1 later)

@@ -4,4 +4,5 @@ pub mod Graph
 pub mod NetLaws
 pub mod EventMarks
 pub mod ExactEventCuts
+pub mod SortedSurplus
 pub mod ExactEventNets

@@ -1,3 +1,4 @@
 pub mod Lists
 pub mod EventMarks
 pub mod NetLaws
+pub mod Surplus

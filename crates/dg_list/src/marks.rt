@@ -21,7 +21,7 @@ pub(crate) struct Mark {
     puts_in: bool,
 }
 
-fn compare(left: &Element, right: &Element) -> Ordering
+pub(crate) fn compare(left: &Element, right: &Element) -> Ordering
     ensures { result ≡ element_cmp left.now right.now }
 {
     left.cmp(right)
